@@ -1,0 +1,12 @@
+-- Instance names (ISO 10303-21, clause 6: tokens, entity instance name).
+use Rattle.std.specs.Prelude.{◌≡◌, ℕ, ◌^◌, ◌<◌, List, ◌∷◌, length}
+use Rattle.p21_semantics.specs.Digits.{AllDigits, number}
+
+-- `#`, and digits of a number of at most 2^64 - 1
+pub record SpellsName (bytes : List ℕ) (value : ℕ) : Type 0 where
+  pub digits : List ℕ
+  pub bytes_are : bytes ≡ 35 ∷ digits
+  pub some_digits : 0 < length digits
+  pub are_digits : AllDigits digits
+  pub value_is : value ≡ number digits
+  pub in_range : value < 2 ^ 64

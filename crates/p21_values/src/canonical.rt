@@ -1,0 +1,30 @@
+ghost use Rattle.std.specs.Prelude.{◌≡◌, ℕ, ◌↔◌, ◌++◌, List, OnOk, OnErr};
+
+use crate::fault::NoMemory;
+
+/// A value with one canonical spelling.
+pub trait Canonical {
+    /// Holds of each value of the type.
+    ghost is_value: { Self → Type 0 };
+
+    /// The two values mean the same.
+    ghost same: { Self → Self → Type 0 };
+
+    /// The bytes spell the value.
+    ghost spells: { List ℕ → Self → Type 0 };
+
+    /// The canonical spelling of the value.
+    ghost spelling: { Self → List ℕ };
+
+    /// Appends the canonical spelling. A refusal leaves `out` as it was.
+    fn write_canonical(&self, out: &mut Vec<u8>) -> Result<(), NoMemory>
+        ensures value { is_value self.now }
+        ensures ok { OnOk result (out.new.items ≡ out.old.items ++ spelling self.now) }
+        ensures err { OnErr result (out.new.items ≡ out.old.items) };
+
+    /// Two values mean the same exactly if their canonical spellings are equal.
+    ghost same_spelling: { (a b : Self) → is_value a → is_value b → same a b ↔ (spelling a ≡ spelling b) };
+
+    /// The canonical spelling spells the value.
+    ghost spells_value: { (a : Self) → is_value a → spells (spelling a) a };
+}
