@@ -1,0 +1,68 @@
+-- The bytes of an open token that lead to a state: what each state says of the bytes behind it.
+use Rattle.std.proofs.Common.{◌≡◌, ℕ, ◌+◌, ◌*◌, ◌^◌, ◌<◌, ◌≤◌, List, [], ◌∷◌, ◌++◌, length, take, Some}
+use Rattle.p21_semantics.specs.Digits.{AllDigits, number}
+use Rattle.p21_semantics.specs.Token.{Token, Spells, MayFollow}
+use Rattle.p21_tokens_automaton.proofs.TextFits.{TextFits}
+use Rattle.p21_tokens_automaton.specs.Meaning.{Means}
+use Rattle.p21_tokens_automaton.specs.Step.{marker_text}
+use Rattle.p21_tokens_automaton.specs.Reading.{Found, ended, closed, marker_of}
+use Rattle.p21_tokens_automaton.specs.declared.mode.Mode.{Mode}
+use Rattle.p21_tokens_automaton.specs.declared.mode.Mode.TheVariants.{Number, Word, Name, Binary, Text}
+use Rattle.p21_tokens_automaton.specs.declared.mode.NumberMode.{NumberMode}
+use Rattle.p21_tokens_automaton.specs.declared.mode.NumberMode.TheVariants as number_mode
+use Rattle.p21_tokens_automaton.specs.declared.mode.WordMode.{WordMode}
+use Rattle.p21_tokens_automaton.specs.declared.mode.WordMode.TheVariants as word_mode
+use Rattle.p21_tokens_automaton.specs.declared.mode.NameMode.{NameMode}
+use Rattle.p21_tokens_automaton.specs.declared.mode.NameMode.TheVariants as name_mode
+use Rattle.p21_tokens_automaton.specs.declared.mode.Action.{Action}
+use Rattle.p21_tokens_automaton.specs.declared.mode.Action.TheVariants.{Pass, Skip, Keep, Put, Give, Close, End, Dash, Refuse}
+
+-- an `E` stands somewhere
+abbrev pub HasExponentMark : List ℕ → Type 0
+HasExponentMark bytes = (before behind : List ℕ) × (bytes ≡ before ++ 69 ∷ behind)
+
+abbrev pub NumberFits : NumberMode → List ℕ → Type 0
+NumberFits number_mode.Sign front = Unit {0}
+NumberFits number_mode.Whole front = Unit {0}
+NumberFits number_mode.Fraction front = Unit {0}
+NumberFits number_mode.Exponent front = HasExponentMark front
+NumberFits number_mode.ExponentSign front = HasExponentMark front
+NumberFits number_mode.ExponentDigits front = HasExponentMark front
+
+abbrev pub WordFits : WordMode → List ℕ → Type 0
+WordFits (word_mode.Marker marker taken) front = (front ≡ take taken (marker_text marker)) × (taken ≤ length (marker_text marker))
+WordFits (word_mode.Marked marker) front = front ≡ marker_text marker
+WordFits other front = Unit {0}
+
+abbrev pub NameFits : NameMode → List ℕ → Type 0
+NameFits name_mode.Hash front = front ≡ 35 ∷ []
+NameFits (name_mode.Digits value) front =
+    (digits : List ℕ) × (front ≡ 35 ∷ digits) × (0 < length digits) × AllDigits digits × (value ≡ number digits) × (value < 2 ^ 64)
+
+-- the bytes of an open token lead to this mode, these kept bytes and these characters
+abbrev pub ModeFits : Mode → List ℕ → List ℕ → List ℕ → Type 0
+ModeFits (Number mode) kept characters front = (kept ≡ front) × NumberFits mode front
+ModeFits (Word mode) kept characters front = (kept ≡ front) × WordFits mode front
+ModeFits (Name mode) kept characters front = NameFits mode front
+ModeFits (Binary mode) kept characters front = kept ≡ front
+ModeFits (Text mode) kept characters front = TextFits mode characters front
+ModeFits other kept characters front = ⊥
+
+-- the token of such a mode, if it has one, is spelled by these bytes
+abbrev pub EndFits : Mode → List ℕ → List ℕ → List ℕ → Type 0
+EndFits mode kept characters front =
+    (found : Found) (token : Token) → ended (record { mode = mode; kept = kept; characters = characters; size = length front }) ≡ Some found → Means found token → Spells token front
+
+-- what an action makes of them
+abbrev pub StepFits : Mode → List ℕ → List ℕ → List ℕ → ℕ → Action → Type 0
+StepFits mode kept characters front byte (Pass next) = ⊥
+StepFits mode kept characters front byte (Skip next) = ModeFits next kept characters (front ++ byte ∷ [])
+StepFits mode kept characters front byte (Keep next) = ModeFits next (kept ++ byte ∷ []) characters (front ++ byte ∷ [])
+StepFits mode kept characters front byte (Put next character) = ModeFits next kept (characters ++ character ∷ []) (front ++ byte ∷ [])
+StepFits mode kept characters front byte (Give one) = ⊥
+StepFits mode kept characters front byte Close =
+    (found : Found) (token : Token) → closed mode (kept ++ byte ∷ []) ≡ Some found → Means found token → Spells token (front ++ byte ∷ [])
+StepFits mode kept characters front byte End =
+    (found : Found) (token : Token) → ended (record { mode = mode; kept = kept; characters = characters; size = length front }) ≡ Some found → Means found token → MayFollow token front byte
+StepFits mode kept characters front byte Dash = (next : Mode) → marker_of kept ≡ Some next → ModeFits next (kept ++ byte ∷ []) characters (front ++ byte ∷ [])
+StepFits mode kept characters front byte (Refuse wrong) = Unit {0}

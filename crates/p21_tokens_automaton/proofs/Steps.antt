@@ -1,0 +1,64 @@
+-- One byte of the reading, by the action that it calls for.
+use Rattle.std.proofs.Common.{◌≡◌, ℕ, ◌+◌, List, [], ◌∷◌, ◌++◌, length, refl, sym, ap, ◌∙◌, Option, Some, None}
+use Rattle.p21_semantics.specs.Token.{Token}
+use Rattle.p21_tokens_automaton.specs.Step.{advance}
+use Rattle.p21_tokens_automaton.specs.Reading.{State, start, pass, skip, keep, put, Answer, nothing_but, before, Goes, Found, known, single_token, ended, closed, marker_of, given_first, dashed, first, act, lex, stopped, open_at}
+use Rattle.p21_tokens_automaton.specs.declared.mode.Mode.{Mode}
+use Rattle.p21_tokens_automaton.specs.declared.mode.Mode.TheVariants.{Between}
+use Rattle.p21_tokens_automaton.specs.declared.mode.Single.{Single}
+use Rattle.p21_tokens_automaton.specs.declared.mode.Wrong.{Wrong}
+use Rattle.p21_tokens_automaton.specs.declared.mode.Action.{Action}
+use Rattle.p21_tokens_automaton.specs.declared.mode.Action.TheVariants.{Pass, Skip, Keep, Put, Give, Close, End, Dash, Refuse}
+
+pub lex-nil : (s : State) → lex s [] ≡ nothing_but (open_at s)
+unfolding lex
+lex-nil s = refl
+
+pub lex-byte : (s : State) (b : ℕ) (bs : List ℕ) → lex s (b ∷ bs) ≡ act (advance s.mode b) s b (λ next. lex next bs)
+unfolding lex
+lex-byte s b bs = refl
+
+by_action : (s : State) (b : ℕ) (bs : List ℕ) (a : Action) → advance s.mode b ≡ a → lex s (b ∷ bs) ≡ act a s b (λ next. lex next bs)
+by_action s b bs a e = lex-byte s b bs ∙ ap (λ (x : Action). act x s b (λ next. lex next bs)) e
+
+pub lex-pass : (s : State) (m : Mode) (b : ℕ) (bs : List ℕ) → advance s.mode b ≡ Pass m → lex s (b ∷ bs) ≡ lex (pass s m) bs
+lex-pass s m b bs e = by_action s b bs (Pass m) e
+
+pub lex-skip : (s : State) (m : Mode) (b : ℕ) (bs : List ℕ) → advance s.mode b ≡ Skip m → lex s (b ∷ bs) ≡ lex (skip s m) bs
+lex-skip s m b bs e = by_action s b bs (Skip m) e
+
+pub lex-keep : (s : State) (m : Mode) (b : ℕ) (bs : List ℕ) → advance s.mode b ≡ Keep m → lex s (b ∷ bs) ≡ lex (keep s m b) bs
+lex-keep s m b bs e = by_action s b bs (Keep m) e
+
+pub lex-put : (s : State) (m : Mode) (c b : ℕ) (bs : List ℕ) → advance s.mode b ≡ Put m c → lex s (b ∷ bs) ≡ lex (put s m c) bs
+lex-put s m c b bs e = by_action s b bs (Put m c) e
+
+pub lex-give : (s : State) (one : Single) (b : ℕ) (bs : List ℕ) → advance s.mode b ≡ Give one → lex s (b ∷ bs) ≡ before (record { found = known (single_token one); size = 1 }) (lex start bs)
+lex-give s one b bs e = by_action s b bs (Give one) e
+
+pub lex-close : (s : State) (f : Found) (b : ℕ) (bs : List ℕ) → advance s.mode b ≡ Close → closed s.mode (s.kept ++ b ∷ []) ≡ Some f → lex s (b ∷ bs) ≡ before (record { found = f; size = s.size + 1 }) (lex start bs)
+lex-close s f b bs e g = by_action s b bs Close e ∙ ap (λ (x : Option Found). given_first x (s.size + 1) (lex start bs)) g
+
+pub lex-dash : (s : State) (m : Mode) (b : ℕ) (bs : List ℕ) → advance s.mode b ≡ Dash → marker_of s.kept ≡ Some m → lex s (b ∷ bs) ≡ lex (keep s m b) bs
+lex-dash s m b bs e g = by_action s b bs Dash e ∙ ap (λ (x : Option Mode). dashed x s b (λ next. lex next bs)) g
+
+pub lex-refuse : (s : State) (w : Wrong) (b : ℕ) (bs : List ℕ) → advance s.mode b ≡ Refuse w → lex s (b ∷ bs) ≡ nothing_but (stopped w)
+lex-refuse s w b bs e = by_action s b bs (Refuse w) e
+
+pub first-act : (a : Action) (b : ℕ) (go : Goes) → first a b go ≡ act a start b go
+first-act (Pass m) b go = refl
+first-act (Skip m) b go = refl
+first-act (Keep m) b go = refl
+first-act (Put m c) b go = refl
+first-act (Give one) b go = refl
+first-act Close b go = refl
+first-act End b go = refl
+first-act Dash b go = refl
+first-act (Refuse w) b go = refl
+
+pub lex-end : (s : State) (f : Found) (b : ℕ) (bs : List ℕ) → advance s.mode b ≡ End → ended s ≡ Some f → lex s (b ∷ bs) ≡ before (record { found = f; size = s.size }) (lex start (b ∷ bs))
+unfolding lex
+lex-end s f b bs e g =
+    by_action s b bs End e
+    ∙ (ap (λ (x : Option Found). given_first x s.size (first (advance Between b) b (λ next. lex next bs))) g
+    ∙ ap (λ (x : Answer). before (record { found = f; size = s.size }) x) (first-act (advance Between b) b (λ next. lex next bs)))

@@ -1,0 +1,4 @@
+pub mod Bytes
+pub mod Step
+pub mod Reading
+pub mod Meaning

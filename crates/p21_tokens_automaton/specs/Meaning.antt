@@ -1,0 +1,35 @@
+-- Which token is found: one that is known, or one of a kind that its bytes spell.
+use Rattle.std.specs.Prelude.{◌≡◌, ℕ, List, [], ◌∷◌, length}
+use Rattle.p21_semantics.specs.Token.{Token, keyword as keyword_token, user_keyword as user_keyword_token, whole as whole_token, real as real_token, item as item_token, bits as bits_token, Spells}
+use Rattle.p21_semantics.specs.Laying.{Lexeme}
+use Rattle.p21_tokens_automaton.specs.Reading.{Kind, keyword, user_keyword, whole, real, item, bits, Found, known, spelled, Sized}
+
+abbrev pub IsOfKind : Kind → Token → Type 0
+IsOfKind keyword (keyword_token word) = Unit {0}
+IsOfKind user_keyword (user_keyword_token word) = Unit {0}
+IsOfKind whole (whole_token number) = Unit {0}
+IsOfKind real (real_token number) = Unit {0}
+IsOfKind item (item_token word) = Unit {0}
+IsOfKind bits (bits_token value) = Unit {0}
+IsOfKind kind other = ⊥
+
+abbrev pub Means : Found → Token → Type 0
+Means (known token) other = token ≡ other
+Means (spelled kind spelling) token = IsOfKind kind token × Spells token spelling
+
+-- what is found of a token and its spelling
+abbrev pub found_of : Token → List ℕ → Found
+found_of (keyword_token word) spelling = spelled keyword spelling
+found_of (user_keyword_token word) spelling = spelled user_keyword spelling
+found_of (whole_token number) spelling = spelled whole spelling
+found_of (real_token number) spelling = spelled real spelling
+found_of (item_token word) spelling = spelled item spelling
+found_of (bits_token value) spelling = spelled bits spelling
+found_of other spelling = known other
+
+-- the tokens are found in turn, with the sizes of their spellings
+abbrev pub MeanAll : List Sized → List Lexeme → Type 0
+MeanAll [] [] = Unit {0}
+MeanAll [] (lexeme ∷ lexemes) = ⊥
+MeanAll (sized ∷ rest) [] = ⊥
+MeanAll (sized ∷ rest) (lexeme ∷ lexemes) = Means sized.found lexeme.token × (lexeme.size ≡ sized.size) × MeanAll rest lexemes
