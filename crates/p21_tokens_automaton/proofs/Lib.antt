@@ -1,3 +1,5 @@
 pub mod Steps
 pub mod TextFits
 pub mod Fits
+pub mod Gaps
+pub mod Waits
