@@ -3,3 +3,5 @@ pub mod TextFits
 pub mod Fits
 pub mod Gaps
 pub mod Waits
+pub mod Complete
+pub mod Sound
