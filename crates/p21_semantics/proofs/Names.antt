@@ -1,9 +1,18 @@
--- A spelling has one number, and a number one canonical spelling.
-use Rattle.std.proofs.Common.{◌≡◌, ℕ, ◌^◌, ◌<◌, ◌↔◌, List, ◌∷◌, ap, sym, subst, ◌∙◌}
-use Rattle.p21_semantics.specs.Digits.{number}
+-- The canonical spelling of a name spells it; a spelling has one number, and a number one canonical spelling.
+use Rattle.std.proofs.Common.{◌≡◌, ℕ, ◌^◌, ◌<◌, ◌↔◌, List, ◌∷◌, refl, ap, sym, subst, ◌∙◌}
+use Rattle.p21_semantics.specs.Digits.{number, plain_digits}
 use Rattle.p21_semantics.specs.Name.{NameForm, SpellsName}
 use Rattle.p21_semantics.specs.Spelling.{name_spelling}
-use Rattle.p21_semantics.proofs.Spellings.{name_spells}
+use Rattle.p21_semantics.proofs.PlainDigits.{plain_are_digits, plain_digits_are, plain_some}
+
+pub name_spells : (n : ℕ) → n < 2 ^ 64 → SpellsName (name_spelling n) n
+name_spells n h =
+    let own = plain_digits_are n in
+    record {
+      form = record { digits = plain_digits n; bytes_are = refl; some_digits = plain_some _ own.0; are_digits = plain_are_digits _ own.0 };
+      value_is = sym own.1;
+      in_range = h;
+    }
 
 pub name_form_once : (bytes : List ℕ) (f g : NameForm bytes) → f.digits ≡ g.digits
 name_form_once bytes f g =

@@ -93,8 +93,7 @@ fn fill_digits(text: &mut [u8; 21], number: u64) -> usize
 
 impl Canonical for Name {
     ghost use Rattle.std.specs.Prelude.{◌≡◌, ◌<◌, ◌^◌};
-    ghost use Rattle.p21_semantics.proofs.Names.{same_names};
-    ghost use Rattle.p21_semantics.proofs.Spellings.{name_spells};
+    ghost use Rattle.p21_semantics.proofs.Names.{name_spells, same_names};
     ghost use Rattle.p21_semantics.specs.Name.{SpellsName};
     ghost use Rattle.p21_semantics.specs.Spelling.{name_spelling};
 
