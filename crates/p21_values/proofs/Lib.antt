@@ -1,2 +1,3 @@
+mod BitsLemmas
 mod DigitLemmas
 mod NameLemmas
