@@ -1,0 +1,3 @@
+mod BitsLemmas
+mod DigitLemmas
+mod NameLemmas

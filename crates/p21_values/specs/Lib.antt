@@ -1,2 +1,4 @@
+pub mod Bits
 pub mod Canonical
 pub mod Fault
+pub mod Name

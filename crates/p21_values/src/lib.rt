@@ -2,10 +2,14 @@
 //! mean the same, and the one canonical spelling of each.
 #![tactic(auto)]
 
+mod bits;
 mod canonical;
 mod fault;
+mod name;
 mod text;
 
+pub use bits::Bits;
 pub use canonical::Canonical;
 pub use fault::{NoMemory, ValueFault};
+pub use name::Name;
 pub use text::Text;
