@@ -1,0 +1,4 @@
+pub mod DigitRuns
+pub mod Readings
+pub mod SignificantDigits
+pub mod StoredWholes

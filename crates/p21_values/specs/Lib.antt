@@ -1,1 +1,4 @@
+pub mod Canonical
+pub mod Digits
 pub mod Fault
+pub mod Whole

@@ -3,7 +3,10 @@
 #![tactic(auto)]
 
 mod canonical;
+mod digits;
 mod fault;
+mod whole;
 
 pub use canonical::Canonical;
 pub use fault::{NoMemory, ValueFault};
+pub use whole::Whole;
