@@ -2,3 +2,4 @@ pub mod Canonical
 pub mod Digits
 pub mod Fault
 pub mod Whole
+pub mod Word

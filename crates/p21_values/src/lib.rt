@@ -6,7 +6,9 @@ mod canonical;
 mod digits;
 mod fault;
 mod whole;
+mod word;
 
 pub use canonical::Canonical;
 pub use fault::{NoMemory, ValueFault};
 pub use whole::Whole;
+pub use word::Word;
