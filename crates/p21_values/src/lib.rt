@@ -4,12 +4,17 @@
 
 mod bits;
 mod canonical;
+mod digits;
 mod fault;
 mod name;
 mod text;
+mod whole;
+mod word;
 
 pub use bits::Bits;
 pub use canonical::Canonical;
 pub use fault::{NoMemory, ValueFault};
 pub use name::Name;
 pub use text::Text;
+pub use whole::Whole;
+pub use word::Word;
