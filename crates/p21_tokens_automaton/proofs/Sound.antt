@@ -6,7 +6,7 @@ use Rattle.std.proofs.lemmas.Bool.Decides.{nat_tests}
 use Rattle.p21_semantics.specs.Token.{Token, item, bits, Spells, IsFollowed, MayFollow}
 use Rattle.p21_semantics.specs.Separator.{Separator, blank, comment, EndsOnce, IsSeparator, separator_bytes, IsSeparatorText}
 use Rattle.p21_semantics.specs.Laying.{Lexeme}
-use Rattle.p21_semantics.specs.Held.{Tail, nothing, unfinished, slash, open_comment, tail_bytes, NoSeparatorFirst}
+use Rattle.p21_semantics.specs.Pending.{Tail, nothing, unfinished, slash, open_comment, tail_bytes, BeginsNoSeparator}
 use Rattle.p21_tokens_automaton.specs.Meaning.{Means, MeanAll}
 use Rattle.p21_tokens_automaton.specs.Bytes.{is_blank}
 use Rattle.p21_tokens_automaton.specs.Step.{advance, between_action}
@@ -56,7 +56,7 @@ TailIs e nothing = e ≡ start
 TailIs e slash = e ≡ gap Slash
 TailIs e (open_comment inside) = ((e ≡ gap Comment) ⊎ (e ≡ gap Star)) × NoEnd inside
 TailIs e (unfinished bytes) =
-    ModeFits e.mode e.kept e.characters bytes × (e.size ≡ length bytes) × (lex start bytes ≡ nothing_but (open_at e)) × NoSeparatorFirst bytes
+    ModeFits e.mode e.kept e.characters bytes × (e.size ≡ length bytes) × (lex start bytes ≡ nothing_but (open_at e)) × BeginsNoSeparator bytes
 
 abbrev pub UpTo : List ℕ → List Lexeme → State → Type 0
 UpTo bytes lexemes e = (tail : Tail) × LaidTo bytes lexemes (tail_bytes tail) × TailIs e tail
@@ -168,7 +168,7 @@ shift front b bs ls e (inr i) =
     let same : (front ++ b ∷ []) ++ bs ≡ front ++ (b ∷ bs) = append_assoc front (b ∷ []) bs in
     inr (record { none = i.none; fits = subst (λ x. ModeFits e.mode e.kept e.characters x) same i.fits; size_is = i.size_is ∙ ap length same })
 
-no-separator-more : (front more : List ℕ) → NoSeparatorFirst front → NoSeparatorFirst (front ++ more)
+no-separator-more : (front more : List ℕ) → BeginsNoSeparator front → BeginsNoSeparator (front ++ more)
 no-separator-more [] more n = absurd n
 no-separator-more (b ∷ front) more n = n
 
@@ -179,9 +179,9 @@ RestAt Between s bytes ls e = s ≡ start → UpTo bytes ls e
 RestAt Slash s bytes ls e = s ≡ gap Slash → UpTo (47 ∷ bytes) ls e
 RestAt Comment s bytes ls e = s ≡ gap Comment → CommentRest bytes ls e
 RestAt Star s bytes ls e = s ≡ gap Star → CommentRest (42 ∷ bytes) ls e
-RestAt other s bytes ls e = (front : List ℕ) → NoSeparatorFirst front → ModeFits s.mode s.kept s.characters front → s.size ≡ length front → TokenRest front bytes ls e
+RestAt other s bytes ls e = (front : List ℕ) → BeginsNoSeparator front → ModeFits s.mode s.kept s.characters front → s.size ≡ length front → TokenRest front bytes ls e
 
-token-rest : (m : Mode) (s : State) (bytes : List ℕ) (ls : List Lexeme) (e : State) (front : List ℕ) → RestAt m s bytes ls e → ModeFits m s.kept s.characters front → NoSeparatorFirst front → ModeFits s.mode s.kept s.characters front → s.size ≡ length front → TokenRest front bytes ls e
+token-rest : (m : Mode) (s : State) (bytes : List ℕ) (ls : List Lexeme) (e : State) (front : List ℕ) → RestAt m s bytes ls e → ModeFits m s.kept s.characters front → BeginsNoSeparator front → ModeFits s.mode s.kept s.characters front → s.size ≡ length front → TokenRest front bytes ls e
 token-rest Between s bytes ls e front r f n g z = absurd f
 token-rest Slash s bytes ls e front r f n g z = absurd f
 token-rest Comment s bytes ls e front r f n g z = absurd f
@@ -240,7 +240,7 @@ Opens (Skip n) = Unit {0}
 Opens (Keep n) = Unit {0}
 Opens other = ⊥
 
-opens-first : (b : ℕ) → Opens (between_action b) → NoSeparatorFirst (b ∷ [])
+opens-first : (b : ℕ) → Opens (between_action b) → BeginsNoSeparator (b ∷ [])
 opens-first b o =
     let no_blank = blank-or b o in (no_blank.0, no_blank.1, λ e. subst (λ (c : ℕ). Opens (between_action c)) e o)
   where
@@ -280,7 +280,7 @@ module _ (first-fits : (b : ℕ) → FirstFits b (between_action b))
     (mode-ends : (m : Mode) (kept characters front : List ℕ) → ModeFits m kept characters front → EndFits m kept characters front) where
   module _ (b : ℕ) (bs : List ℕ) (sound : Sound bs) where
     -- a token that the byte opens
-    opened : (founds : List Sized) (ls : List Lexeme) (e : State) → lex start (b ∷ bs) ≡ read founds e → MeanAll founds ls → NoSeparatorFirst (b ∷ []) → TokenRest (b ∷ []) bs ls e → UpTo (b ∷ bs) ls e
+    opened : (founds : List Sized) (ls : List Lexeme) (e : State) → lex start (b ∷ bs) ≡ read founds e → MeanAll founds ls → BeginsNoSeparator (b ∷ []) → TokenRest (b ∷ []) bs ls e → UpTo (b ∷ bs) ls e
     opened founds ls e r m n (inl i) =
         subst (λ (x : List Lexeme). UpTo (b ∷ bs) x e) (sym i.ls_are)
         (subst (λ (x : List ℕ). UpTo x (i.lexeme ∷ i.others) e) (ap (λ (x : List ℕ). b ∷ x) (sym i.bytes_are))
@@ -335,10 +335,10 @@ module _ (first-fits : (b : ℕ) → FirstFits b (between_action b))
         (λ q z. star-byte b bs ls e (eqb-false b 47 f) (comment-byte b bs ls e (eqb-false b 42 q) (sound (gap Comment) founds ls e z m refl)))) r
 
     -- a byte of or behind a token
-    token-step : (s : State) (founds : List Sized) (ls : List Lexeme) (e : State) (front : List ℕ) → lex s (b ∷ bs) ≡ read founds e → MeanAll founds ls → NoSeparatorFirst front → ModeFits s.mode s.kept s.characters front → s.size ≡ length front → TokenRest front (b ∷ bs) ls e
+    token-step : (s : State) (founds : List Sized) (ls : List Lexeme) (e : State) (front : List ℕ) → lex s (b ∷ bs) ≡ read founds e → MeanAll founds ls → BeginsNoSeparator front → ModeFits s.mode s.kept s.characters front → s.size ≡ length front → TokenRest front (b ∷ bs) ls e
     token-step s founds ls e front r m n f z = at (advance s.mode b) (mode-fits s.mode b s.kept s.characters front f) (sym (lex-byte s b bs) ∙ r)
       where
-        more : NoSeparatorFirst (front ++ b ∷ [])
+        more : BeginsNoSeparator (front ++ b ∷ [])
         more = no-separator-more front (b ∷ []) n
 
         longer : s.size + 1 ≡ length (front ++ b ∷ [])
@@ -428,7 +428,7 @@ module _ (first-fits : (b : ℕ) → FirstFits b (between_action b))
       up-to : (tail : Tail) → TailIs e tail → UpTo (tail_bytes tail) ls e
       up-to tail t = subst (λ (x : List Lexeme). UpTo (tail_bytes tail) x e) (sym none) (tail, ([], refl, no-gap), t)
 
-      in-token : (front : List ℕ) → NoSeparatorFirst front → ModeFits s.mode s.kept s.characters front → s.size ≡ length front → TokenRest front [] ls e
+      in-token : (front : List ℕ) → BeginsNoSeparator front → ModeFits s.mode s.kept s.characters front → s.size ≡ length front → TokenRest front [] ls e
       in-token front n f z =
           let whole : front ≡ front ++ [] = sym (append-nil front) in
           inr (record { none = none; fits = subst (λ (c : List ℕ). ModeFits e.mode e.kept e.characters c) whole (subst (λ (x : State). ModeFits x.mode x.kept x.characters front) same f); size_is = ap (λ (x : State). x.size) (sym same) ∙ (z ∙ ap length whole) })
