@@ -143,12 +143,23 @@ pub enum Single {
     Star,
 }
 
-/// What is left out of the tokens that are read: the scope statement, names of values and names of constants.
+/// What is left out of ISO 10303-21, and refused: the first three by the tokens, the others by the grammar.
 #[derive(Clone, Copy, Debug, PartialEq, Eq)]
 pub enum Absent {
+    /// `&SCOPE`
     Scope,
+    /// `@` names
     ValueName,
+    /// `#` and letters
     ConstantName,
+    /// user-defined keywords in the data section
+    UserKeyword,
+    Anchor,
+    Reference,
+    Signature,
+    NamedSection,
+    SecondSection,
+    NoDataSection,
 }
 
 /// What is wrong at a byte.

@@ -1,0 +1,82 @@
+-- The refusals of the lexer and of one parameter: their numbers and names.
+use Rattle.std.specs.Prelude.{ℕ, List, codes}
+use Rattle.p21_tokens_automaton.specs.declared.mode.Absent.{Absent}
+use Rattle.p21_tokens_automaton.specs.declared.mode.Absent.TheVariants.{Scope, ValueName, ConstantName, UserKeyword, Anchor, Reference, Signature, NamedSection, SecondSection, NoDataSection}
+use Rattle.p21_tokens_automaton.specs.declared.mode.Wrong.{Wrong}
+use Rattle.p21_tokens_automaton.specs.declared.mode.Wrong.TheVariants as wrong
+use Rattle.p21_tokens.specs.declared.fault.TokenFault.{TokenFault}
+use Rattle.p21_tokens.specs.declared.fault.TokenFault.TheVariants.{BadByte, OpenString, OpenComment, BadDirective, BadCodePoint, NotUtf8, BadNumber, NumberRange, BadBinary, NameRange, BadName, NotOneParameter, RecordTooLong, FileTooLong, EndsEarly, LeftOut, NoMemory}
+use Rattle.p21_values.specs.declared.fault.ValueFault.{ValueFault}
+use Rattle.p21_values.specs.declared.fault.ValueFault.TheVariants as value
+
+abbrev pub fault_number : TokenFault → ℕ
+fault_number BadByte = 1
+fault_number OpenString = 2
+fault_number OpenComment = 3
+fault_number BadDirective = 4
+fault_number BadCodePoint = 5
+fault_number NotUtf8 = 6
+fault_number BadNumber = 7
+fault_number NumberRange = 8
+fault_number BadBinary = 9
+fault_number NameRange = 10
+fault_number BadName = 11
+fault_number NotOneParameter = 12
+fault_number RecordTooLong = 22
+fault_number FileTooLong = 23
+fault_number EndsEarly = 24
+fault_number (LeftOut absent) = 26
+fault_number NoMemory = 90
+
+abbrev pub absent_name : Absent → List ℕ
+absent_name Scope = codes "LeftOut(Scope)"
+absent_name ValueName = codes "LeftOut(ValueName)"
+absent_name ConstantName = codes "LeftOut(ConstantName)"
+absent_name UserKeyword = codes "LeftOut(UserKeyword)"
+absent_name Anchor = codes "LeftOut(Anchor)"
+absent_name Reference = codes "LeftOut(Reference)"
+absent_name Signature = codes "LeftOut(Signature)"
+absent_name NamedSection = codes "LeftOut(NamedSection)"
+absent_name SecondSection = codes "LeftOut(SecondSection)"
+absent_name NoDataSection = codes "LeftOut(NoDataSection)"
+
+abbrev pub fault_name : TokenFault → List ℕ
+fault_name BadByte = codes "BadByte"
+fault_name OpenString = codes "OpenString"
+fault_name OpenComment = codes "OpenComment"
+fault_name BadDirective = codes "BadDirective"
+fault_name BadCodePoint = codes "BadCodePoint"
+fault_name NotUtf8 = codes "NotUtf8"
+fault_name BadNumber = codes "BadNumber"
+fault_name NumberRange = codes "NumberRange"
+fault_name BadBinary = codes "BadBinary"
+fault_name NameRange = codes "NameRange"
+fault_name BadName = codes "BadName"
+fault_name NotOneParameter = codes "NotOneParameter"
+fault_name RecordTooLong = codes "RecordTooLong"
+fault_name FileTooLong = codes "FileTooLong"
+fault_name EndsEarly = codes "EndsEarly"
+fault_name (LeftOut absent) = absent_name absent
+fault_name NoMemory = codes "NoMemory"
+
+-- the fault of a byte
+abbrev pub fault_of : Wrong → TokenFault
+fault_of wrong.Byte = BadByte
+fault_of wrong.Directive = BadDirective
+fault_of wrong.CodePoint = BadCodePoint
+fault_of wrong.Utf8 = NotUtf8
+fault_of wrong.Number = BadNumber
+fault_of wrong.Binary = BadBinary
+fault_of wrong.NameRange = NameRange
+fault_of wrong.Name = BadName
+fault_of (wrong.LeftOut absent) = LeftOut absent
+
+-- the fault of a token whose spelling a reader of values refuses
+abbrev pub value_fault : ValueFault → TokenFault
+value_fault value.BadNumber = BadNumber
+value_fault value.NumberRange = NumberRange
+value_fault value.BadBinary = BadBinary
+value_fault value.NameRange = NameRange
+value_fault value.BadName = BadName
+value_fault value.BadWord = BadByte
+value_fault value.NoMemory = NoMemory

@@ -1,0 +1,30 @@
+-- What a lexer holds between two calls.
+use Rattle.std.specs.Prelude.{ℕ, ◌+◌, ◌≤◌, List, Option}
+use Rattle.p21_tokens_automaton.specs.declared.mode.Mode.{Mode}
+use Rattle.p21_tokens_automaton.specs.Reading.{State}
+use Rattle.p21_tokens.specs.declared.fault.TokenFault.{TokenFault}
+
+-- The mode, the kept bytes, the characters and the number of bytes of the open token; the token bytes of the open
+-- statement in front of it; the bytes of the file; their limits; and the refusal
+pub record Held : Type 0 where
+  pub mode : Mode
+  pub kept : List ℕ
+  pub characters : List ℕ
+  pub size : ℕ
+  pub statement : ℕ
+  pub file : ℕ
+  pub statement_limit : ℕ
+  pub file_limit : ℕ
+  pub refused : Option TokenFault
+
+-- the token bytes of the open statement
+abbrev pub pending_of : Held → ℕ
+pending_of held = held.statement + held.size
+
+abbrev pub state_of : Held → State
+state_of held = record { mode = held.mode; kept = held.kept; characters = held.characters; size = held.size }
+
+-- neither count is past its limit
+pub record IsWithin (held : Held) : Type 0 where
+  pub statement : pending_of held ≤ held.statement_limit
+  pub file : held.file ≤ held.file_limit

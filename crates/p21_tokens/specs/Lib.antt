@@ -1,0 +1,5 @@
+pub mod Fault
+pub mod Token
+pub mod Held
+pub mod Steps
+pub mod Histories

@@ -1,0 +1,103 @@
+-- What the parts of the lexer owe: how a byte, a run of bytes and a piece change what is held.
+use Rattle.std.specs.Prelude.{◌≡◌, ◌≢◌, ℕ, ◌+◌, ◌≤◌, ◌<◌, Bool, true, false, ◌==◌, if◌then◌else◌, List, [], ◌∷◌, ◌++◌, length, take, slice_get, Option, Some, None, Result, Ok, Err}
+use Rattle.p21_semantics.specs.Token as meaning
+use Rattle.p21_semantics.specs.Laying.{Lexeme, count_behind}
+use Rattle.p21_tokens_automaton.specs.declared.mode.Mode.{Mode}
+use Rattle.p21_tokens_automaton.specs.declared.mode.Mode.TheVariants.{Between, Slash, Comment, Star}
+use Rattle.p21_tokens_automaton.specs.declared.mode.Action.{Action}
+use Rattle.p21_tokens_automaton.specs.declared.mode.Action.TheVariants.{Pass, Refuse}
+use Rattle.p21_tokens_automaton.specs.Bytes.{is_blank}
+use Rattle.p21_tokens_automaton.specs.Meaning.{Means, MeanAll}
+use Rattle.p21_tokens_automaton.specs.Reading.{State, start, Found, Sized, ended, before, all_of, lex}
+use Rattle.p21_tokens_automaton.specs.Step.{advance}
+use Rattle.p21_tokens.specs.Held.{Held, pending_of, state_of}
+use Rattle.p21_tokens.specs.Token.{meant, waits}
+use Rattle.p21_tokens.specs.declared.fault.TokenFault.{TokenFault}
+use Rattle.p21_tokens.specs.declared.fault.TokenFault.TheVariants.{RecordTooLong, FileTooLong, NoMemory}
+use Rattle.p21_tokens.specs.declared.step.Step.{Step}
+use Rattle.p21_tokens.specs.declared.step.Step.TheVariants.{Took, Gave, Handed}
+use Rattle.p21_tokens.specs.declared.token.Token.{Token}
+
+-- no token is open
+abbrev pub is_gap : Mode → Bool
+is_gap Between = true
+is_gap Slash = true
+is_gap Comment = true
+is_gap Star = true
+is_gap other = false
+
+abbrev pub is_slash : Mode → Bool
+is_slash Slash = true
+is_slash other = false
+
+-- the byte counts as one of a token
+abbrev pub is_token_byte : Mode → Action → Bool
+is_token_byte mode (Pass next) = false
+is_token_byte mode (Refuse wrong) = if is_slash mode then false else true
+is_token_byte mode other = true
+
+-- what the rest of the bytes gives
+abbrev pub rest_of : Held → List ℕ → _
+rest_of held bytes = lex (state_of held) bytes
+
+-- no tokens are laid in bytes that go on so
+abbrev pub IsDeadAt : Held → List ℕ → Type 0
+IsDeadAt held bytes = (rest : List ℕ) (founds : List Sized) (lexemes : List Lexeme) → all_of (rest_of held (bytes ++ rest)) ≡ Some founds → MeanAll founds lexemes → ⊥
+
+-- what is found means the token; a refusal, memory apart, only where it means none
+abbrev pub ReadsFound : Option Found → Result Token TokenFault → Type 0
+ReadsFound None (Ok token) = ⊥
+ReadsFound (Some found) (Ok token) = Means found (meant token)
+ReadsFound found (Err NoMemory) = Unit {0}
+ReadsFound found (Err FileTooLong) = ⊥
+ReadsFound found (Err RecordTooLong) = ⊥
+ReadsFound None (Err fault) = Unit {0}
+ReadsFound (Some found) (Err fault) = (token : meaning.Token) → Means found token → ⊥
+
+-- the limits and the refusal stay
+pub record SameLimits (old new : Held) : Type 0 where
+  pub statement_limit : new.statement_limit ≡ old.statement_limit
+  pub file_limit : new.file_limit ≡ old.file_limit
+  pub refused : new.refused ≡ old.refused
+
+-- why a byte is refused
+abbrev pub RefusesByte : Held → ℕ → TokenFault → Type 0
+RefusesByte held byte NoMemory = is_gap held.mode ≡ true → is_blank byte ≡ true → ⊥
+RefusesByte held byte FileTooLong = held.file_limit ≤ held.file
+RefusesByte held byte RecordTooLong = (held.statement_limit ≤ pending_of held) × (is_token_byte held.mode (advance held.mode byte) ≡ true) × (held.file < held.file_limit)
+RefusesByte held byte fault = IsDeadAt held (byte ∷ [])
+
+-- a byte that gave no token
+pub record Takes (old : Held) (byte : ℕ) (new : Held) : Type 0 where
+  pub file_is : new.file ≡ old.file + 1
+  pub statement_is : new.statement ≡ old.statement
+  pub rest_is : (rest : List ℕ) → rest_of old (byte ∷ rest) ≡ rest_of new rest
+  pub gap : is_gap old.mode ≡ true → is_blank byte ≡ true → is_gap new.mode ≡ true
+
+-- a byte with which a token is given
+pub record Gives (old : Held) (byte : ℕ) (token : meaning.Token) (new : Held) : Type 0 where
+  pub found : Sized
+  pub means : Means found.found token
+  pub at_once : waits token ≡ false
+  pub within : old.statement + found.size ≤ old.statement_limit
+  pub file_is : new.file ≡ old.file + 1
+  pub statement_is : new.statement ≡ count_behind old.statement (record { token = token; size = found.size })
+  pub start_is : state_of new ≡ start
+  pub rest_is : (rest : List ℕ) → rest_of old (byte ∷ rest) ≡ before found (rest_of new rest)
+
+-- a byte that ends the token in front of it, and is not taken
+pub record Hands (old : Held) (byte : ℕ) (token : meaning.Token) (new : Held) : Type 0 where
+  pub found : Found
+  pub means : Means found token
+  pub waited : waits token ≡ true
+  pub ended_is : ended (state_of old) ≡ Some found
+  pub file_is : new.file ≡ old.file
+  pub statement_is : new.statement ≡ old.statement + old.size
+  pub start_is : state_of new ≡ start
+  pub rest_is : (rest : List ℕ) → rest_of old (byte ∷ rest) ≡ before (record { found = found; size = old.size }) (rest_of new (byte ∷ rest))
+
+abbrev pub Steps : Held → ℕ → Result Step TokenFault → Held → Type 0
+Steps old byte (Ok Took) new = SameLimits old new × Takes old byte new
+Steps old byte (Ok (Gave token)) new = SameLimits old new × Gives old byte (meant token) new
+Steps old byte (Ok (Handed token)) new = SameLimits old new × Hands old byte (meant token) new
+Steps old byte (Err fault) new = SameLimits old new × RefusesByte old byte fault

@@ -1,0 +1,16 @@
+//! The tokens of an exchange structure (ISO 10303-21, tokens), read from bytes that come in pieces of any size, and the
+//! canonical spelling of one scalar parameter.
+#![tactic(auto)]
+
+mod fault;
+mod laying;
+mod lexer;
+mod run;
+mod step;
+mod token;
+
+pub use fault::TokenFault;
+pub use laying::one_laying;
+pub use lexer::Lexer;
+pub use p21_tokens_automaton::Absent;
+pub use token::Token;
