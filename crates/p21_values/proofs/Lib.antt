@@ -1,4 +1,6 @@
 pub mod DigitRuns
 pub mod Readings
 pub mod SignificantDigits
+pub mod Significands
+pub mod StoredDecimals
 pub mod StoredWholes

@@ -3,3 +3,4 @@ pub mod Digits
 pub mod Fault
 pub mod Whole
 pub mod Word
+pub mod Decimal

@@ -3,12 +3,14 @@
 #![tactic(auto)]
 
 mod canonical;
+mod decimal;
 mod digits;
 mod fault;
 mod whole;
 mod word;
 
 pub use canonical::Canonical;
+pub use decimal::Decimal;
 pub use fault::{NoMemory, ValueFault};
 pub use whole::Whole;
 pub use word::Word;
