@@ -6,12 +6,16 @@ use Rattle.p21_semantics.specs.Token.{Token, begin, finish, name, text, left, ri
 use Rattle.p21_tokens_automaton.specs.Step.{advance}
 use Rattle.p21_tokens_automaton.specs.declared.mode.Mode.{Mode}
 use Rattle.p21_tokens_automaton.specs.declared.mode.Mode.TheVariants.{Between, Slash, Comment, Star, Number, Word, Name, Binary, Text}
+use Rattle.p21_tokens_automaton.specs.declared.mode.NumberMode.{NumberMode}
 use Rattle.p21_tokens_automaton.specs.declared.mode.NumberMode.TheVariants as number
+use Rattle.p21_tokens_automaton.specs.declared.mode.WordMode.{WordMode}
 use Rattle.p21_tokens_automaton.specs.declared.mode.WordMode.TheVariants as word
 use Rattle.p21_tokens_automaton.specs.declared.mode.Marker.{Marker}
 use Rattle.p21_tokens_automaton.specs.declared.mode.Marker.TheVariants.{Begin, Finish}
+use Rattle.p21_tokens_automaton.specs.declared.mode.NameMode.{NameMode}
 use Rattle.p21_tokens_automaton.specs.declared.mode.NameMode.TheVariants as name_mode
 use Rattle.p21_tokens_automaton.specs.declared.mode.BinaryMode.TheVariants as binary
+use Rattle.p21_tokens_automaton.specs.declared.mode.TextMode.{TextMode}
 use Rattle.p21_tokens_automaton.specs.declared.mode.TextMode.TheVariants as text_mode
 use Rattle.p21_tokens_automaton.specs.declared.mode.Single.{Single}
 use Rattle.p21_tokens_automaton.specs.declared.mode.Single.TheVariants as single
@@ -94,32 +98,38 @@ abbrev pub marker_token : Marker → Token
 marker_token Begin = begin
 marker_token Finish = finish
 
+-- the number that a byte behind it ends
+abbrev pub ended_number : NumberMode → List ℕ → Option Found
+ended_number number.Whole kept = Some (spelled whole kept)
+ended_number number.Fraction kept = Some (spelled real kept)
+ended_number number.ExponentDigits kept = Some (spelled real kept)
+ended_number other kept = None
+
+-- the keyword or marker that a byte behind it ends
+abbrev pub ended_word : WordMode → List ℕ → Option Found
+ended_word word.Keyword kept = Some (spelled keyword kept)
+ended_word (word.Marked marker) kept = Some (known (marker_token marker))
+ended_word word.UserKeyword kept = Some (spelled user_keyword kept)
+ended_word other kept = None
+
+abbrev pub ended_name : NameMode → Option Found
+ended_name name_mode.Hash = None
+ended_name (name_mode.Digits value) = Some (known (name value))
+
+abbrev pub ended_text : TextMode → List ℕ → Option Found
+ended_text text_mode.Apostrophe characters = Some (known (text characters))
+ended_text other characters = None
+
 -- the token that a byte behind it ends
+abbrev pub ended_in : Mode → List ℕ → List ℕ → Option Found
+ended_in (Number mode) kept characters = ended_number mode kept
+ended_in (Word mode) kept characters = ended_word mode kept
+ended_in (Name mode) kept characters = ended_name mode
+ended_in (Text mode) kept characters = ended_text mode characters
+ended_in other kept characters = None
+
 abbrev pub ended : State → Option Found
-ended s =
-    elim s.mode [
-      | Number mode ↦ elim mode [
-        | number.Whole ↦ Some (spelled whole s.kept)
-        | number.Fraction ↦ Some (spelled real s.kept)
-        | number.ExponentDigits ↦ Some (spelled real s.kept)
-        | _ ↦ None
-      ]
-      | Word mode ↦ elim mode [
-        | word.Keyword ↦ Some (spelled keyword s.kept)
-        | word.Marked marker ↦ Some (known (marker_token marker))
-        | word.UserKeyword ↦ Some (spelled user_keyword s.kept)
-        | _ ↦ None
-      ]
-      | Name mode ↦ elim mode [
-        | name_mode.Digits value ↦ Some (known (name value))
-        | _ ↦ None
-      ]
-      | Text mode ↦ elim mode [
-        | text_mode.Apostrophe ↦ Some (known (text s.characters))
-        | _ ↦ None
-      ]
-      | _ ↦ None
-    ]
+ended s = ended_in s.mode s.kept s.characters
 
 -- the token that its own last byte ends
 abbrev pub closed : Mode → List ℕ → Option Found

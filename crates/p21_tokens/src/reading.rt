@@ -1,0 +1,153 @@
+ghost use Rattle.std.specs.Prelude.{◌≡◌, [], Some};
+ghost use Rattle.p21_tokens_automaton.specs.Reading.{closed, ended_number, ended_word, single_token, marker_of};
+ghost use Rattle.p21_tokens.specs.Steps.{ReadsFound};
+ghost use Rattle.p21_tokens.specs.Token.{meant};
+
+use crate::fault::{TokenFault, value_fault};
+use crate::token::Token;
+use p21_tokens_automaton::{Marker, Mode, NumberMode, Single, WordMode};
+use p21_values::{Bits, Decimal, Whole, Word};
+use std::alloc::Global;
+
+/// The number of kept bytes.
+pub(crate) fn read_number(alloc: Global, mode: NumberMode, kept: &[u8]) -> Result<Token, TokenFault>
+    ensures { ReadsFound (ended_number mode kept.now) result }
+{
+    match mode {
+        NumberMode::Whole => read_whole(alloc, kept),
+        NumberMode::Fraction => read_real(alloc, kept),
+        NumberMode::ExponentDigits => read_real(alloc, kept),
+        _ => Err(TokenFault::BadByte),
+    }
+}
+
+fn read_whole(alloc: Global, kept: &[u8]) -> Result<Token, TokenFault>
+    ensures { ReadsFound (Some (spelled whole kept.now)) result }
+{
+    match Whole::read(alloc, kept) {
+        Ok(number) => Ok(Token::Whole(number)),
+        Err(fault) => Err(value_fault(fault)),
+    }
+}
+
+fn read_real(alloc: Global, kept: &[u8]) -> Result<Token, TokenFault>
+    ensures { ReadsFound (Some (spelled real kept.now)) result }
+{
+    match Decimal::read(alloc, kept) {
+        Ok(number) => Ok(Token::Real(number)),
+        Err(fault) => Err(value_fault(fault)),
+    }
+}
+
+/// The keyword of kept bytes, or the first or last token of a file.
+pub(crate) fn read_word(alloc: Global, mode: WordMode, kept: &[u8]) -> Result<Token, TokenFault>
+    ensures { ReadsFound (ended_word mode kept.now) result }
+{
+    match mode {
+        WordMode::Keyword => match Word::read(alloc, kept) {
+            Ok(word) => Ok(Token::Keyword(word)),
+            Err(fault) => Err(value_fault(fault)),
+        },
+        WordMode::UserKeyword => read_user_keyword(alloc, kept),
+        WordMode::Marked(Marker::Begin) => Ok(Token::Begin),
+        WordMode::Marked(Marker::Finish) => Ok(Token::Finish),
+        _ => Err(TokenFault::BadByte),
+    }
+}
+
+/// A keyword behind its `!`.
+fn read_user_keyword(alloc: Global, kept: &[u8]) -> Result<Token, TokenFault>
+    ensures { ReadsFound (Some (spelled user_keyword kept.now)) result }
+{
+    let Some(word) = behind(b'!', kept) else {
+        return Err(TokenFault::BadByte);
+    };
+    match Word::read(alloc, word) {
+        Ok(word) => Ok(Token::UserKeyword(word)),
+        Err(fault) => Err(value_fault(fault)),
+    }
+}
+
+/// What stands behind a first byte, if it is this one.
+fn behind(first: u8, bytes: &[u8]) -> Option<&[u8]>
+    ensures none { IfNone result ((rest : List ℕ) → bytes.now ≡ first ∷ rest → ⊥) }
+    ensures some { IfSome result (λ rest. bytes.now ≡ first ∷ rest.now) }
+{
+    let (byte, rest) = bytes.split_first()?;
+    if *byte == first { Some(rest) } else { None }
+}
+
+/// What stands before a last byte, if it is this one.
+fn before(last: u8, bytes: &[u8]) -> Option<&[u8]>
+    ensures none { IfNone result ((rest : List ℕ) → bytes.now ≡ rest ++ last ∷ [] → ⊥) }
+    ensures some { IfSome result (λ rest. bytes.now ≡ rest.now ++ last ∷ []) }
+{
+    let (byte, rest) = bytes.split_last()?;
+    if *byte == last { Some(rest) } else { None }
+}
+
+ghost use Rattle.std.specs.Prelude.{ℕ, List, ◌∷◌, ◌++◌, IfNone, IfSome};
+ghost use Rattle.p21_tokens_automaton.specs.Reading.{spelled, whole, real, user_keyword, item, bits};
+
+/// The token of kept bytes whose last one ends it: an enumeration item or a binary.
+pub(crate) fn read_closed(alloc: Global, mode: Mode, kept: &[u8]) -> Result<Token, TokenFault>
+    ensures { ReadsFound (closed mode kept.now) result }
+{
+    match mode {
+        Mode::Word(_mode) => read_item(alloc, kept),
+        Mode::Binary(_mode) => read_bits(alloc, kept),
+        _ => Err(TokenFault::BadByte),
+    }
+}
+
+/// An enumeration item between its points.
+fn read_item(alloc: Global, kept: &[u8]) -> Result<Token, TokenFault>
+    ensures { ReadsFound (Some (spelled item kept.now)) result }
+{
+    let Some(rest) = behind(b'.', kept) else {
+        return Err(TokenFault::BadByte);
+    };
+    let Some(word) = before(b'.', rest) else {
+        return Err(TokenFault::BadByte);
+    };
+    match Word::read(alloc, word) {
+        Ok(word) => Ok(Token::Item(word)),
+        Err(fault) => Err(value_fault(fault)),
+    }
+}
+
+fn read_bits(alloc: Global, kept: &[u8]) -> Result<Token, TokenFault>
+    ensures { ReadsFound (Some (spelled bits kept.now)) result }
+{
+    match Bits::read(alloc, kept) {
+        Ok(value) => Ok(Token::Bits(value)),
+        Err(fault) => Err(value_fault(fault)),
+    }
+}
+
+pub(crate) fn single_token(single: Single) -> Token
+    ensures { meant result ≡ single_token single }
+{
+    match single {
+        Single::Left => Token::Left,
+        Single::Right => Token::Right,
+        Single::Comma => Token::Comma,
+        Single::Semicolon => Token::Semicolon,
+        Single::Equals => Token::Equals,
+        Single::Dollar => Token::Dollar,
+        Single::Star => Token::Star,
+    }
+}
+
+/// The first or last token of a file that these bytes begin, where a `-` stands behind them.
+pub(crate) fn marker_of(kept: &[u8]) -> Option<Mode>
+    ensures { result ≡ marker_of kept.now }
+{
+    if kept == b"ISO" {
+        Some(Mode::Word(WordMode::Marker(Marker::Begin, 4)))
+    } else if kept == b"END" {
+        Some(Mode::Word(WordMode::Marker(Marker::Finish, 4)))
+    } else {
+        None
+    }
+}
