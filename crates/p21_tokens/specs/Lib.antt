@@ -2,4 +2,3 @@ pub mod Fault
 pub mod Token
 pub mod Held
 pub mod Steps
-pub mod Histories

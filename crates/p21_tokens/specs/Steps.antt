@@ -8,7 +8,7 @@ use Rattle.p21_tokens_automaton.specs.declared.mode.Action.{Action}
 use Rattle.p21_tokens_automaton.specs.declared.mode.Action.TheVariants.{Pass, Refuse}
 use Rattle.p21_tokens_automaton.specs.Bytes.{is_blank}
 use Rattle.p21_tokens_automaton.specs.Meaning.{Means, MeanAll}
-use Rattle.p21_tokens_automaton.specs.Reading.{State, start, Found, Sized, ended, before, all_of, lex}
+use Rattle.p21_tokens_automaton.specs.Reading.{start, Answer, Found, Sized, ended, before, all_of, lex}
 use Rattle.p21_tokens_automaton.specs.Step.{advance}
 use Rattle.p21_tokens.specs.Held.{Held, pending_of, state_of}
 use Rattle.p21_tokens.specs.Token.{meant, waits}
@@ -37,7 +37,7 @@ is_token_byte mode (Refuse wrong) = if is_slash mode then false else true
 is_token_byte mode other = true
 
 -- what the rest of the bytes gives
-abbrev pub rest_of : Held → List ℕ → _
+abbrev pub rest_of : Held → List ℕ → Answer
 rest_of held bytes = lex (state_of held) bytes
 
 -- no tokens are laid in bytes that go on so

@@ -3,14 +3,11 @@
 #![tactic(auto)]
 
 mod fault;
-mod laying;
-mod lexer;
-mod run;
+mod reading;
+
 mod step;
 mod token;
 
 pub use fault::TokenFault;
-pub use laying::one_laying;
-pub use lexer::Lexer;
 pub use p21_tokens_automaton::Absent;
 pub use token::Token;

@@ -143,9 +143,9 @@ pub(crate) fn single_token(single: Single) -> Token
 pub(crate) fn marker_of(kept: &[u8]) -> Option<Mode>
     ensures { result ≡ marker_of kept.now }
 {
-    if kept == b"ISO" {
+    if kept == b"ISO".as_slice() {
         Some(Mode::Word(WordMode::Marker(Marker::Begin, 4)))
-    } else if kept == b"END" {
+    } else if kept == b"END".as_slice() {
         Some(Mode::Word(WordMode::Marker(Marker::Finish, 4)))
     } else {
         None
