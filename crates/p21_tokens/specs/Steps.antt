@@ -8,7 +8,7 @@ use Rattle.p21_tokens_automaton.specs.declared.mode.Action.{Action}
 use Rattle.p21_tokens_automaton.specs.declared.mode.Action.TheVariants.{Pass, Refuse}
 use Rattle.p21_tokens_automaton.specs.Bytes.{is_blank}
 use Rattle.p21_tokens_automaton.specs.Meaning.{Means, MeanAll}
-use Rattle.p21_tokens_automaton.specs.Reading.{start, Answer, Found, Sized, ended, before, all_of, lex}
+use Rattle.p21_tokens_automaton.specs.Reading.{start, Answer, Found, Sized, ended, closed, before, all_of, lex}
 use Rattle.p21_tokens_automaton.specs.Step.{advance}
 use Rattle.p21_tokens.specs.Held.{Held, pending_of, state_of}
 use Rattle.p21_tokens.specs.Token.{meant, waits}
@@ -59,6 +59,20 @@ pub record SameLimits (old new : Held) : Type 0 where
   pub statement_limit : new.statement_limit ≡ old.statement_limit
   pub file_limit : new.file_limit ≡ old.file_limit
   pub refused : new.refused ≡ old.refused
+
+-- what is held behind a token of which nothing is open any more
+abbrev pub behind_token : Held → ℕ → ℕ → Held
+behind_token old statement file = record old { mode = Between; kept = []; characters = []; size = 0; statement = statement; file = file }
+
+-- a byte that is kept and ends the token
+abbrev pub Closes : Held → ℕ → Result Token TokenFault → Held → Type 0
+Closes old byte (Ok token) new = ReadsFound (closed old.mode (old.kept ++ byte ∷ [])) (Ok token) × (new ≡ behind_token old (old.statement + (old.size + 1)) (old.file + 1))
+Closes old byte (Err fault) new = ReadsFound (closed old.mode (old.kept ++ byte ∷ [])) (Err fault) × SameLimits old new
+
+-- the token that a byte behind it ends
+abbrev pub Ends : Held → Result Token TokenFault → Held → Type 0
+Ends old (Ok token) new = ReadsFound (ended (state_of old)) (Ok token) × (new ≡ behind_token old (old.statement + old.size) old.file)
+Ends old (Err fault) new = ReadsFound (ended (state_of old)) (Err fault) × SameLimits old new
 
 -- why a byte is refused
 abbrev pub RefusesByte : Held → ℕ → TokenFault → Type 0

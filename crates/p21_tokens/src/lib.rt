@@ -3,11 +3,12 @@
 #![tactic(auto)]
 
 mod fault;
+mod lexer;
 mod reading;
-
 mod step;
 mod token;
 
 pub use fault::TokenFault;
+pub use lexer::Lexer;
 pub use p21_tokens_automaton::Absent;
 pub use token::Token;

@@ -1,16 +1,35 @@
 ghost use Rattle.std.specs.Prelude.{◌≡◌, [], Some};
-ghost use Rattle.p21_tokens_automaton.specs.Reading.{closed, ended_number, ended_word, single_token, marker_of};
+ghost use Rattle.p21_tokens_automaton.specs.Reading.{closed, ended_in, ended_number, ended_word, single_token, marker_of};
 ghost use Rattle.p21_tokens.specs.Steps.{ReadsFound};
 ghost use Rattle.p21_tokens.specs.Token.{meant};
 
 use crate::fault::{TokenFault, value_fault};
 use crate::token::Token;
-use p21_tokens_automaton::{Marker, Mode, NumberMode, Single, WordMode};
-use p21_values::{Bits, Decimal, Whole, Word};
+use p21_tokens_automaton::{Marker, Mode, NameMode, NumberMode, Single, TextMode, WordMode};
+use p21_values::{Bits, Decimal, Name, Text, Whole, Word};
 use std::alloc::Global;
+use std::mem;
+
+/// The token that a byte behind it ends. A string's characters move into it.
+pub(crate) fn read_ended(
+    alloc: Global,
+    mode: Mode,
+    kept: &[u8],
+    text: &mut Text,
+) -> Result<Token, TokenFault>
+    ensures { ReadsFound (ended_in mode kept.now text.old) result }
+{
+    match mode {
+        Mode::Number(mode) => read_number(alloc, mode, kept),
+        Mode::Word(mode) => read_word(alloc, mode, kept),
+        Mode::Name(NameMode::Digits(value)) => Ok(Token::Name(Name(value))),
+        Mode::Text(TextMode::Apostrophe) => Ok(Token::Text(mem::replace(text, Text::new(alloc)))),
+        _ => Err(TokenFault::BadByte),
+    }
+}
 
 /// The number of kept bytes.
-pub(crate) fn read_number(alloc: Global, mode: NumberMode, kept: &[u8]) -> Result<Token, TokenFault>
+fn read_number(alloc: Global, mode: NumberMode, kept: &[u8]) -> Result<Token, TokenFault>
     ensures { ReadsFound (ended_number mode kept.now) result }
 {
     match mode {
@@ -40,7 +59,7 @@ fn read_real(alloc: Global, kept: &[u8]) -> Result<Token, TokenFault>
 }
 
 /// The keyword of kept bytes, or the first or last token of a file.
-pub(crate) fn read_word(alloc: Global, mode: WordMode, kept: &[u8]) -> Result<Token, TokenFault>
+fn read_word(alloc: Global, mode: WordMode, kept: &[u8]) -> Result<Token, TokenFault>
     ensures { ReadsFound (ended_word mode kept.now) result }
 {
     match mode {

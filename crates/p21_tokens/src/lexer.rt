@@ -1,0 +1,164 @@
+ghost use Rattle.std.specs.Prelude.{◌≡◌, ◌+◌, ◌<◌, ◌≤◌, [], ◌∷◌, ◌++◌, true, Option, None, Some, OnOk, OnErr, IfOk};
+ghost use Rattle.p21_semantics.specs.Laying.{count_behind};
+ghost use Rattle.p21_tokens_automaton.specs.Reading.{closed, ended, single_token};
+ghost use Rattle.p21_tokens_automaton.specs.declared.mode.Mode.TheVariants.{Between};
+ghost use Rattle.p21_tokens.specs.Held.{pending_of, state_of};
+ghost use Rattle.p21_tokens.specs.Steps.{SameLimits, Steps, Closes, Ends};
+ghost use Rattle.p21_tokens.specs.Token.{meant};
+
+use crate::fault::{TokenFault, fault_of};
+use crate::reading::{marker_of, read_closed, read_ended, single_token};
+use crate::step::{Step, is_token_byte};
+use crate::token::Token;
+use p21_tokens_automaton::{Action, Mode, Single, advance};
+use p21_values::Text;
+use std::alloc::Global;
+use std::marker::Model;
+
+/// Reads tokens from bytes that come in pieces of any size.
+#[derive(Drop)]
+pub struct Lexer {
+    alloc: Global,
+    mode: Mode,
+    kept: Vec<u8>,
+    text: Text,
+    size: u64,
+    statement: u64,
+    file: u64,
+    statement_limit: u64,
+    file_limit: u64,
+    refused: Option<TokenFault>,
+}
+
+impl Model for Lexer {
+    ghost use Rattle.std.specs.Prelude.{◌+◌, ◌≤◌};
+    ghost use Rattle.p21_tokens.specs.Held.{Held};
+
+    ghost Value = { Held };
+
+    ghost view = { λ lexer. record {
+      mode = lexer.mode;
+      kept = lexer.kept.items;
+      characters = lexer.text;
+      size = lexer.size;
+      statement = lexer.statement;
+      file = lexer.file;
+      statement_limit = lexer.statement_limit;
+      file_limit = lexer.file_limit;
+      refused = lexer.refused;
+    } };
+
+    ghost invariant = { λ lexer. (lexer.statement + lexer.size ≤ lexer.statement_limit) × (lexer.file ≤ lexer.file_limit) };
+}
+
+impl Lexer {
+    /// A byte between tokens.
+    fn pass(&mut self, mode: Mode)
+        requires { self.old.file < self.old.file_limit }
+        ensures { self.new ≡ record self.old { mode = mode; file = self.old.file + 1 } }
+    {
+        self.file += 1;
+        self.mode = mode;
+    }
+
+    /// A byte of a token, of which nothing is kept.
+    fn skip(&mut self, mode: Mode)
+        requires file { self.old.file < self.old.file_limit }
+        requires statement { pending_of self.old < self.old.statement_limit }
+        ensures { self.new ≡ record self.old { mode = mode; size = self.old.size + 1; file = self.old.file + 1 } }
+    {
+        self.file += 1;
+        self.size += 1;
+        self.mode = mode;
+    }
+
+    /// A byte of a token that is kept.
+    fn keep(&mut self, mode: Mode, byte: u8) -> Result<(), TokenFault>
+        requires file { self.old.file < self.old.file_limit }
+        requires statement { pending_of self.old < self.old.statement_limit }
+        ensures ok { OnOk result (self.new ≡ record self.old { mode = mode; kept = self.old.kept ++ byte ∷ []; size = self.old.size + 1; file = self.old.file + 1 }) }
+        ensures err { OnErr result ((result ≡ Err TokenFault.NoMemory) × SameLimits self.old self.new) }
+    {
+        if self.kept.push(byte).is_err() {
+            return Err(TokenFault::NoMemory);
+        }
+        self.file += 1;
+        self.size += 1;
+        self.mode = mode;
+        Ok(())
+    }
+
+    /// A byte with which a character of a string is known.
+    fn put(&mut self, mode: Mode, character: char) -> Result<(), TokenFault>
+        requires file { self.old.file < self.old.file_limit }
+        requires statement { pending_of self.old < self.old.statement_limit }
+        ensures ok { OnOk result (self.new ≡ record self.old { mode = mode; characters = self.old.characters ++ character ∷ []; size = self.old.size + 1; file = self.old.file + 1 }) }
+        ensures err { OnErr result ((result ≡ Err TokenFault.NoMemory) × SameLimits self.old self.new) }
+    {
+        if self.text.push(character).is_err() {
+            return Err(TokenFault::NoMemory);
+        }
+        self.file += 1;
+        self.size += 1;
+        self.mode = mode;
+        Ok(())
+    }
+
+    /// A byte that is a token.
+    fn give(&mut self, single: Single) -> Token
+        requires file { self.old.file < self.old.file_limit }
+        requires statement { pending_of self.old < self.old.statement_limit }
+        ensures token { meant result ≡ single_token single }
+        ensures held { self.new ≡ record self.old { mode = Between; kept = []; characters = []; size = 0; statement = count_behind self.old.statement (record { token = single_token single; size = 1 }); file = self.old.file + 1 } }
+    {
+        self.mode = Mode::Between;
+        self.kept.clear();
+        self.text = Text::new(self.alloc);
+        self.file += 1;
+        self.size = 0;
+        if let Single::Semicolon = single {
+            self.statement = 0;
+        } else {
+            self.statement += 1;
+        }
+        single_token(single)
+    }
+
+    /// A byte that is kept and ends the token.
+    fn close(&mut self, byte: u8) -> Result<Token, TokenFault>
+        requires file { self.old.file < self.old.file_limit }
+        requires statement { pending_of self.old < self.old.statement_limit }
+        ensures { Closes self.old byte result self.new }
+    {
+        if self.kept.push(byte).is_err() {
+            return Err(TokenFault::NoMemory);
+        }
+        let token = match read_closed(self.alloc, self.mode, &self.kept) {
+            Ok(token) => token,
+            Err(fault) => return Err(fault),
+        };
+        self.mode = Mode::Between;
+        self.kept.clear();
+        self.text = Text::new(self.alloc);
+        self.file += 1;
+        self.statement += self.size + 1;
+        self.size = 0;
+        Ok(token)
+    }
+
+    /// The token that a byte behind it ends.
+    fn hand(&mut self) -> Result<Token, TokenFault>
+        ensures { Ends self.old result self.new }
+    {
+        let token = match read_ended(self.alloc, self.mode, &self.kept, &mut self.text) {
+            Ok(token) => token,
+            Err(fault) => return Err(fault),
+        };
+        self.mode = Mode::Between;
+        self.kept.clear();
+        self.text = Text::new(self.alloc);
+        self.statement += self.size;
+        self.size = 0;
+        Ok(token)
+    }
+}
