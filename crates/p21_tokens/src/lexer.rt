@@ -1,9 +1,10 @@
-ghost use Rattle.std.specs.Prelude.{◌≡◌, ◌+◌, ◌<◌, ◌≤◌, [], ◌∷◌, ◌++◌, true, Option, None, Some, OnOk, OnErr, IfOk};
+ghost use Rattle.std.specs.Prelude.{◌≡◌, ◌≢◌, ◌+◌, ◌<◌, ◌≤◌, [], ◌∷◌, ◌++◌, true, Option, None, Some, OnOk, OnErr, IfOk};
 ghost use Rattle.p21_semantics.specs.Laying.{count_behind};
 ghost use Rattle.p21_tokens_automaton.specs.Reading.{closed, ended, single_token};
 ghost use Rattle.p21_tokens_automaton.specs.declared.mode.Mode.TheVariants.{Between};
 ghost use Rattle.p21_tokens.specs.Held.{pending_of, state_of};
-ghost use Rattle.p21_tokens.specs.Steps.{SameLimits, Steps, Closes, Ends};
+ghost use Rattle.p21_tokens_automaton.specs.Step.{advance};
+ghost use Rattle.p21_tokens.specs.Steps.{SameLimits, Steps, Closes, Ends, is_token_byte};
 ghost use Rattle.p21_tokens.specs.Token.{meant};
 
 use crate::fault::{TokenFault, fault_of};
@@ -160,5 +161,78 @@ impl Lexer {
         self.statement += self.size;
         self.size = 0;
         Ok(token)
+    }
+
+    /// A byte that the limits allow and that doesn't stand behind an ended token.
+    fn take(&mut self, action: Action, byte: u8) -> Result<Step, TokenFault>
+        requires action { action ≡ advance self.old.mode byte }
+        requires not_end { action ≢ Action.End }
+        requires file { self.old.file < self.old.file_limit }
+        requires statement { is_token_byte self.old.mode action ≡ true → pending_of self.old < self.old.statement_limit }
+        ensures { Steps self.old byte result self.new }
+    {
+        match action {
+            Action::Pass(mode) => {
+                self.pass(mode);
+                Ok(Step::Took)
+            }
+            Action::Skip(mode) => {
+                self.skip(mode);
+                Ok(Step::Took)
+            }
+            Action::Keep(mode) => match self.keep(mode, byte) {
+                Ok(()) => Ok(Step::Took),
+                Err(fault) => Err(fault),
+            },
+            Action::Put(mode, character) => match self.put(mode, character) {
+                Ok(()) => Ok(Step::Took),
+                Err(fault) => Err(fault),
+            },
+            Action::Give(single) => Ok(Step::Gave(self.give(single))),
+            Action::Close => match self.close(byte) {
+                Ok(token) => Ok(Step::Gave(token)),
+                Err(fault) => Err(fault),
+            },
+            Action::Dash => self.dash(byte),
+            Action::Refuse(wrong) => Err(fault_of(wrong)),
+            Action::End => Err(TokenFault::BadByte),
+        }
+    }
+
+    /// The `-` of the first or the last token of a file.
+    fn dash(&mut self, byte: u8) -> Result<Step, TokenFault>
+        requires action { advance self.old.mode byte ≡ Action.Dash }
+        requires file { self.old.file < self.old.file_limit }
+        requires statement { pending_of self.old < self.old.statement_limit }
+        ensures { Steps self.old byte result self.new }
+    {
+        let Some(mode) = marker_of(&self.kept) else {
+            return Err(TokenFault::BadByte);
+        };
+        match self.keep(mode, byte) {
+            Ok(()) => Ok(Step::Took),
+            Err(fault) => Err(fault),
+        }
+    }
+
+    /// Takes a byte, or the token that it ends.
+    fn step(&mut self, byte: u8) -> Result<Step, TokenFault>
+        ensures { Steps self.old byte result self.new }
+    {
+        let action = advance(self.mode, byte);
+        if let Action::End = action {
+            return match self.hand() {
+                Ok(token) => Ok(Step::Handed(token)),
+                Err(fault) => Err(fault),
+            };
+        }
+        if self.file >= self.file_limit {
+            return Err(TokenFault::FileTooLong);
+        }
+        let full = self.statement + self.size >= self.statement_limit;
+        if full && is_token_byte(self.mode, action) {
+            return Err(TokenFault::RecordTooLong);
+        }
+        self.take(action, byte)
     }
 }

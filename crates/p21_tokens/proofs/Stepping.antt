@@ -1,0 +1,323 @@
+-- What each action makes of what is held.
+use Rattle.std.proofs.Common.{eqb, cond, ◌≡◌, ◌≢◌, ℕ, ◌+◌, ◌≤◌, ◌<◌, Bool, true, false, List, [], ◌∷◌, ◌++◌, length, refl, sym, ap, ◌∙◌, subst, arith, Option, Some, None, Result, Ok, Err}
+use Rattle.std.proofs.lemmas.Bool.{cond_both}
+use Rattle.p21_semantics.specs.Laying.{Lexeme, count_behind}
+use Rattle.p21_semantics.specs.Token as meaning
+use Rattle.p21_tokens_automaton.proofs.Steps.{lex-pass, lex-skip, lex-keep, lex-put, lex-give, lex-close, lex-dash, lex-end, lex-byte}
+use Rattle.p21_tokens_automaton.specs.Bytes.{is_blank}
+use Rattle.p21_tokens_automaton.specs.Meaning.{Means, MeanAll}
+use Rattle.p21_tokens_automaton.specs.Reading.{State, start, Answer, nothing_but, stopped, before, Found, known, spelled, keyword, user_keyword, whole, real, item, bits, Sized, closed, ended, ended_in, ended_number, ended_word, ended_name, ended_text, marker_of, single_token, given_first, dashed, first, act, at_end, all_after, all_of, lex}
+use Rattle.p21_tokens_automaton.specs.Step.{advance}
+use Rattle.p21_tokens_automaton.specs.declared.mode.Action.{Action}
+use Rattle.p21_tokens_automaton.specs.declared.mode.Action.TheVariants.{Pass, Skip, Keep, Put, Give, Close, End, Dash, Refuse}
+use Rattle.p21_tokens_automaton.specs.declared.mode.Mode.{Mode}
+use Rattle.p21_tokens_automaton.specs.declared.mode.Mode.TheVariants.{Between, Slash, Comment, Star, Number, Word, Name, Binary, Text}
+use Rattle.p21_tokens_automaton.specs.declared.mode.NumberMode.{NumberMode}
+use Rattle.p21_tokens_automaton.specs.declared.mode.NumberMode.TheVariants as number_mode
+use Rattle.p21_tokens_automaton.specs.declared.mode.WordMode.{WordMode}
+use Rattle.p21_tokens_automaton.specs.declared.mode.WordMode.TheVariants as word_mode
+use Rattle.p21_tokens_automaton.specs.declared.mode.Marker.TheVariants.{Begin, Finish}
+use Rattle.p21_tokens_automaton.specs.declared.mode.NameMode.{NameMode}
+use Rattle.p21_tokens_automaton.specs.declared.mode.NameMode.TheVariants as name_mode
+use Rattle.p21_tokens_automaton.specs.declared.mode.TextMode.{TextMode}
+use Rattle.p21_tokens_automaton.specs.declared.mode.TextMode.TheVariants as text_mode
+use Rattle.p21_tokens_automaton.specs.declared.mode.Single.{Single}
+use Rattle.p21_tokens_automaton.specs.declared.mode.Single.TheVariants as single
+use Rattle.p21_tokens_automaton.specs.declared.mode.Wrong.{Wrong}
+use Rattle.p21_tokens_automaton.specs.declared.mode.Wrong.TheVariants as wrong
+use Rattle.p21_tokens.specs.Fault.{fault_of}
+use Rattle.p21_tokens.specs.Held.{Held, pending_of, state_of}
+use Rattle.p21_tokens.specs.Steps.{is_gap, is_token_byte, rest_of, IsDeadAt, ReadsFound, SameLimits, RefusesByte, Takes, Gives, Hands, Steps, behind_token, Closes, Ends}
+use Rattle.p21_tokens.specs.Token.{meant, waits}
+use Rattle.p21_tokens.specs.declared.fault.TokenFault.{TokenFault}
+use Rattle.p21_tokens.specs.declared.fault.TokenFault.TheVariants as fault
+use Rattle.p21_tokens.specs.declared.step.Step.{Step}
+use Rattle.p21_tokens.specs.declared.step.Step.TheVariants.{Took, Gave, Handed}
+use Rattle.p21_tokens.specs.declared.token.Token.{Token}
+
+-- ---- separators between tokens need nothing
+
+abbrev Passes : Action → Type 0
+Passes (Pass m) = is_gap m ≡ true
+Passes (Refuse w) = Unit {0}
+Passes other = ⊥
+
+blank-passes : (m : Mode) (b : ℕ) → is_gap m ≡ true → is_blank b ≡ true → Passes (advance m b)
+blank-passes Between b g h = rw h refl
+blank-passes Slash b g h = cond_both (eqb b 42) (Pass Comment) (Refuse wrong.Byte) Passes (λ e. refl) (λ e. tt)
+blank-passes Comment b g h = cond_both (eqb b 42) (Pass Star) (Pass Comment) Passes (λ e. refl) (λ e. refl)
+blank-passes Star b g h =
+    cond_both (eqb b 47) (Pass Between) (cond (eqb b 42) (Pass Star) (Pass Comment)) Passes (λ e. refl)
+    (λ e. cond_both (eqb b 42) (Pass Star) (Pass Comment) Passes (λ f. refl) (λ f. refl))
+blank-passes _ b g h = cc
+
+-- ---- refusals
+
+all-first : (found : Found) (size : ℕ) (a : Answer) (founds : List Sized) (lexemes : List Lexeme) → all_of (before (record { found = found; size = size }) a) ≡ Some founds → MeanAll founds lexemes → (token : meaning.Token) × Means found token
+all-first found size a founds lexemes e m = at (at_end a.ending) e
+  where
+    by_list : (ls : List Lexeme) (rest : List Sized) → MeanAll (record { found = found; size = size } ∷ rest) ls → (token : meaning.Token) × Means found token
+    by_list [] rest m = absurd m
+    by_list (l ∷ ls) rest m = (l.token, m.0)
+
+    at : (o : Option (List Sized)) → all_after (record { found = found; size = size } ∷ a.given) o ≡ Some founds → (token : meaning.Token) × Means found token
+    at None e = absurd cc
+    at (Some last) e =
+        let same : founds ≡ record { found = found; size = size } ∷ (a.given ++ last) = cc in
+        by_list lexemes (a.given ++ last) (subst (λ (x : List Sized). MeanAll x lexemes) same m)
+
+not-all : (w : Wrong) (founds : List Sized) → all_of (nothing_but (stopped w)) ≡ Some founds → ⊥
+not-all w founds e = cc
+
+-- no token is found, or one that means nothing
+dead-first : (v : Held) (b : ℕ) (o : Option Found) (size : ℕ) (go : List ℕ → Answer) → ((bs : List ℕ) → rest_of v (b ∷ bs) ≡ given_first o size (go bs)) → ((found : Found) → o ≡ Some found → (token : meaning.Token) → Means found token → ⊥) → IsDeadAt v (b ∷ [])
+dead-first v b None size go e n rest founds lexemes a m = not-all wrong.Byte founds (sym (ap all_of (e rest)) ∙ a)
+dead-first v b (Some found) size go e n rest founds lexemes a m =
+    let x = all-first found size (go rest) founds lexemes (sym (ap all_of (e rest)) ∙ a) m in n found refl x.0 x.1
+
+reads-refuses : (v : Held) (b : ℕ) (o : Option Found) (size : ℕ) (go : List ℕ → Answer) (x : TokenFault) → ((bs : List ℕ) → rest_of v (b ∷ bs) ≡ given_first o size (go bs)) → (is_gap v.mode ≡ true → is_blank b ≡ true → ⊥) → ReadsFound o (Err x) → RefusesByte v b x
+reads-refuses v b o size go x e n r = by_fault x o e r
+  where
+    none : (o : Option Found) → ((bs : List ℕ) → rest_of v (b ∷ bs) ≡ given_first o size (go bs)) → ((found : Found) → o ≡ Some found → (token : meaning.Token) → Means found token → ⊥) → IsDeadAt v (b ∷ [])
+    none o e h = dead-first v b o size go e h
+
+    some-is : (f g : Found) → Some f ≡ Some g → f ≡ g
+    some-is f g e = cc
+
+    of_some : (f : Found) → ((token : meaning.Token) → Means f token → ⊥) → (found : Found) → Some f ≡ Some found → (token : meaning.Token) → Means found token → ⊥
+    of_some f h found q token m = h token (subst (λ (y : Found). Means y token) (sym (some-is f found q)) m)
+
+    of_none : (found : Found) → (let o : Option Found = None in o) ≡ Some found → (token : meaning.Token) → Means found token → ⊥
+    of_none found q = absurd cc
+
+    by_fault : (x : TokenFault) (o : Option Found) → ((bs : List ℕ) → rest_of v (b ∷ bs) ≡ given_first o size (go bs)) → ReadsFound o (Err x) → RefusesByte v b x
+    by_fault fault.NoMemory o e r = n
+    by_fault fault.FileTooLong None e r = absurd r
+    by_fault fault.FileTooLong (Some f) e r = absurd r
+    by_fault fault.RecordTooLong None e r = absurd r
+    by_fault fault.RecordTooLong (Some f) e r = absurd r
+    by_fault fault.BadByte None e r = none None e of_none
+    by_fault fault.BadByte (Some f) e r = none (Some f) e (of_some f r)
+    by_fault _ None e r = none None e of_none
+    by_fault _ (Some f) e r = none (Some f) e (of_some f r)
+
+module _ (v : Held) (b : ℕ) where
+  pub needs-memory : (a : Action) → advance v.mode b ≡ a → (Passes a → ⊥) → is_gap v.mode ≡ true → is_blank b ≡ true → ⊥
+  needs-memory a e n g h = n (subst Passes e (blank-passes v.mode b g h))
+
+  same_limits : (w : Held) → w.statement_limit ≡ v.statement_limit → w.file_limit ≡ v.file_limit → w.refused ≡ v.refused → SameLimits v w
+  same_limits w e f g = record { statement_limit = e; file_limit = f; refused = g }
+
+  pub took-pass : (m : Mode) (w : Held) → advance v.mode b ≡ Pass m → w ≡ record v { mode = m; file = v.file + 1 } → Steps v b (Ok Took) w
+  took-pass m w e q = subst (λ (x : Held). Steps v b (Ok Took) x) (sym q) (
+    same_limits _ refl refl refl,
+    record { file_is = refl; statement_is = refl; rest_is = λ rest. lex-pass (state_of v) m b rest e; gap = λ g h. subst Passes e (blank-passes v.mode b g h) },
+  )
+
+  pub took-skip : (m : Mode) (w : Held) → advance v.mode b ≡ Skip m → w ≡ record v { mode = m; size = v.size + 1; file = v.file + 1 } → Steps v b (Ok Took) w
+  took-skip m w e q = subst (λ (x : Held). Steps v b (Ok Took) x) (sym q) (
+    same_limits _ refl refl refl,
+    record { file_is = refl; statement_is = refl; rest_is = λ rest. lex-skip (state_of v) m b rest e; gap = λ g h. absurd (subst Passes e (blank-passes v.mode b g h)) },
+  )
+
+  pub took-keep : (m : Mode) (w : Held) → advance v.mode b ≡ Keep m → w ≡ record v { mode = m; kept = v.kept ++ b ∷ []; size = v.size + 1; file = v.file + 1 } → Steps v b (Ok Took) w
+  took-keep m w e q = subst (λ (x : Held). Steps v b (Ok Took) x) (sym q) (
+    same_limits _ refl refl refl,
+    record { file_is = refl; statement_is = refl; rest_is = λ rest. lex-keep (state_of v) m b rest e; gap = λ g h. absurd (subst Passes e (blank-passes v.mode b g h)) },
+  )
+
+  pub took-put : (m : Mode) (c : ℕ) (w : Held) → advance v.mode b ≡ Put m c → w ≡ record v { mode = m; characters = v.characters ++ c ∷ []; size = v.size + 1; file = v.file + 1 } → Steps v b (Ok Took) w
+  took-put m c w e q = subst (λ (x : Held). Steps v b (Ok Took) x) (sym q) (
+    same_limits _ refl refl refl,
+    record { file_is = refl; statement_is = refl; rest_is = λ rest. lex-put (state_of v) m c b rest e; gap = λ g h. absurd (subst Passes e (blank-passes v.mode b g h)) },
+  )
+
+  pub took-dash : (m : Mode) (w : Held) → advance v.mode b ≡ Dash → marker_of v.kept ≡ Some m → w ≡ record v { mode = m; kept = v.kept ++ b ∷ []; size = v.size + 1; file = v.file + 1 } → Steps v b (Ok Took) w
+  took-dash m w e f q = subst (λ (x : Held). Steps v b (Ok Took) x) (sym q) (
+    same_limits _ refl refl refl,
+    record { file_is = refl; statement_is = refl; rest_is = λ rest. lex-dash (state_of v) m b rest e f; gap = λ g h. absurd (subst Passes e (blank-passes v.mode b g h)) },
+  )
+
+  pub no-memory : (a : Action) (w : Held) → advance v.mode b ≡ a → (Passes a → ⊥) → SameLimits v w → (r : Result Step TokenFault) → r ≡ Err fault.NoMemory → Steps v b r w
+  no-memory a w e n s r q = subst (λ (x : Result Step TokenFault). Steps v b x w) (sym q) (s, needs-memory a e n)
+
+  refused : (x : Wrong) → advance v.mode b ≡ Refuse x → IsDeadAt v (b ∷ [])
+  refused x e rest founds lexemes a m =
+      not-all x founds (sym (ap all_of (lex-byte (state_of v) b rest ∙ ap (λ (y : Action). act y (state_of v) b (λ next. lex next rest)) e)) ∙ a)
+
+single-at_once : (one : Single) → waits (single_token one) ≡ false
+single-at_once single.Left = refl
+single-at_once single.Right = refl
+single-at_once single.Comma = refl
+single-at_once single.Semicolon = refl
+single-at_once single.Equals = refl
+single-at_once single.Dollar = refl
+single-at_once single.Star = refl
+
+-- ---- tokens that are given
+
+some-is : (f g : Found) → Some f ≡ Some g → f ≡ g
+some-is f g e = cc
+
+-- a token that its last byte ends does not wait, and is no `;`
+record EndsItself (t : meaning.Token) : Type 0 where
+  at_once : waits t ≡ false
+  counts : (n size : ℕ) → count_behind n (record { token = t; size = size }) ≡ n + size
+
+closed-ends : (m : Mode) (kept : List ℕ) (f : Found) (t : meaning.Token) → closed m kept ≡ Some f → Means f t → EndsItself t
+closed-ends (Word m) kept f t e h = by_item t (subst (λ (x : Found). Means x t) (sym (some-is _ f e)) h)
+  where
+    by_item : (t : meaning.Token) → Means (spelled item kept) t → EndsItself t
+    by_item (meaning.item word) h = record { at_once = refl; counts = λ n size. refl }
+    by_item other h = absurd h.0
+closed-ends (Binary m) kept f t e h = by_bits t (subst (λ (x : Found). Means x t) (sym (some-is _ f e)) h)
+  where
+    by_bits : (t : meaning.Token) → Means (spelled bits kept) t → EndsItself t
+    by_bits (meaning.bits value) h = record { at_once = refl; counts = λ n size. refl }
+    by_bits other h = absurd h.0
+closed-ends _ kept f t e h = cc
+
+-- a token that the byte behind it ends waits
+abbrev Waited : Found → Type 0
+Waited f = (t : meaning.Token) → Means f t → waits t ≡ true
+
+known-waits : (t : meaning.Token) → waits t ≡ true → Waited (known t)
+known-waits t w u h = ap waits (sym h) ∙ w
+
+keyword-waits : (kept : List ℕ) → Waited (spelled keyword kept)
+keyword-waits kept (meaning.keyword word) h = refl
+keyword-waits kept other h = absurd h.0
+
+user_keyword-waits : (kept : List ℕ) → Waited (spelled user_keyword kept)
+user_keyword-waits kept (meaning.user_keyword word) h = refl
+user_keyword-waits kept other h = absurd h.0
+
+whole-waits : (kept : List ℕ) → Waited (spelled whole kept)
+whole-waits kept (meaning.whole number) h = refl
+whole-waits kept other h = absurd h.0
+
+real-waits : (kept : List ℕ) → Waited (spelled real kept)
+real-waits kept (meaning.real number) h = refl
+real-waits kept other h = absurd h.0
+
+of_found : (f g : Found) → Some f ≡ Some g → Waited f → Waited g
+of_found f g e w = subst (λ (x : Found). (t : meaning.Token) → Means x t → waits t ≡ true) (some-is f g e) w
+
+ended-waits : (m : Mode) (kept characters : List ℕ) (f : Found) → ended_in m kept characters ≡ Some f → Waited f
+ended-waits (Number m) kept characters f e = by_mode m e
+  where
+    by_mode : (m : NumberMode) → ended_number m kept ≡ Some f → Waited f
+    by_mode number_mode.Whole e = of_found _ f e (whole-waits kept)
+    by_mode number_mode.Fraction e = of_found _ f e (real-waits kept)
+    by_mode number_mode.ExponentDigits e = of_found _ f e (real-waits kept)
+    by_mode _ e = cc
+ended-waits (Word m) kept characters f e = by_mode m e
+  where
+    by_mode : (m : WordMode) → ended_word m kept ≡ Some f → Waited f
+    by_mode word_mode.Keyword e = of_found _ f e (keyword-waits kept)
+    by_mode word_mode.UserKeyword e = of_found _ f e (user_keyword-waits kept)
+    by_mode (word_mode.Marked Begin) e = of_found _ f e (known-waits _ refl)
+    by_mode (word_mode.Marked Finish) e = of_found _ f e (known-waits _ refl)
+    by_mode _ e = cc
+ended-waits (Name m) kept characters f e = by_mode m e
+  where
+    by_mode : (m : NameMode) → ended_name m ≡ Some f → Waited f
+    by_mode (name_mode.Digits value) e = of_found _ f e (known-waits _ refl)
+    by_mode _ e = cc
+ended-waits (Text m) kept characters f e = by_mode m e
+  where
+    by_mode : (m : TextMode) → ended_text m characters ≡ Some f → Waited f
+    by_mode text_mode.Apostrophe e = of_found _ f e (known-waits _ refl)
+    by_mode _ e = cc
+ended-waits _ kept characters f e = cc
+
+module _ (v : Held) (b : ℕ) where
+  pub gave-one : (one : Single) (token : Token) (w : Held) → advance v.mode b ≡ Give one → pending_of v < v.statement_limit → meant token ≡ single_token one
+      → w ≡ behind_token v (count_behind v.statement (record { token = single_token one; size = 1 })) (v.file + 1) → Steps v b (Ok (Gave token)) w
+  gave-one one token w e l t q = subst (λ (x : Held). Steps v b (Ok (Gave token)) x) (sym q) (
+    record { statement_limit = refl; file_limit = refl; refused = refl },
+    record {
+      found = record { found = known (single_token one); size = 1 };
+      means = sym t;
+      at_once = ap waits t ∙ single-at_once one;
+      within = omega arith;
+      file_is = refl;
+      statement_is = ap (λ (x : meaning.Token). count_behind v.statement (record { token = x; size = 1 })) (sym t);
+      start_is = refl;
+      rest_is = λ rest. lex-give (state_of v) one b rest e;
+    },
+  )
+
+  pub gave-closed : (token : Token) (w : Held) → advance v.mode b ≡ Close → pending_of v < v.statement_limit → Closes v b (Ok token) w → Steps v b (Ok (Gave token)) w
+  gave-closed token w e l h = subst (λ (x : Held). Steps v b (Ok (Gave token)) x) (sym h.1) (at (closed v.mode (v.kept ++ b ∷ [])) refl h.0)
+    where
+      behind : Held
+      behind = behind_token v (v.statement + (v.size + 1)) (v.file + 1)
+
+      at : (o : Option Found) → closed v.mode (v.kept ++ b ∷ []) ≡ o → ReadsFound o (Ok token) → Steps v b (Ok (Gave token)) (behind_token v (v.statement + (v.size + 1)) (v.file + 1))
+      at None q r = absurd r
+      at (Some f) q r =
+          let ends = closed-ends v.mode (v.kept ++ b ∷ []) f (meant token) q r in (
+            record { statement_limit = refl; file_limit = refl; refused = refl },
+            record {
+              found = record { found = f; size = v.size + 1 };
+              means = r;
+              at_once = ends.at_once;
+              within = omega arith;
+              file_is = refl;
+              statement_is = sym (ends.counts v.statement (v.size + 1));
+              start_is = refl;
+              rest_is = λ rest. lex-close (state_of v) f b rest e q;
+            },
+          )
+
+  pub handed-ended : (token : Token) (w : Held) → advance v.mode b ≡ End → Ends v (Ok token) w → Steps v b (Ok (Handed token)) w
+  handed-ended token w e h = subst (λ (x : Held). Steps v b (Ok (Handed token)) x) (sym h.1) (at (ended (state_of v)) refl h.0)
+    where
+      at : (o : Option Found) → ended (state_of v) ≡ o → ReadsFound o (Ok token) → Steps v b (Ok (Handed token)) (behind_token v (v.statement + v.size) v.file)
+      at None q r = absurd r
+      at (Some f) q r = (
+        record { statement_limit = refl; file_limit = refl; refused = refl },
+        record {
+          found = f;
+          means = r;
+          waited = ended-waits v.mode v.kept v.characters f q (meant token) r;
+          ended_is = q;
+          file_is = refl;
+          statement_is = refl;
+          start_is = refl;
+          rest_is = λ rest. lex-end (state_of v) f b rest e q;
+        },
+      )
+
+  pub refused-closed : (x : TokenFault) (w : Held) → advance v.mode b ≡ Close → Closes v b (Err x) w → Steps v b (Err x) w
+  refused-closed x w e h = (
+    h.1,
+    reads-refuses v b (closed v.mode (v.kept ++ b ∷ [])) (v.size + 1) (λ bs. lex start bs) x (λ bs. lex-byte (state_of v) b bs ∙ ap (λ (y : Action). act y (state_of v) b (λ next. lex next bs)) e) (needs-memory v b Close e (λ p. p)) h.0,
+  )
+
+  pub refused-ended : (x : TokenFault) (w : Held) → advance v.mode b ≡ End → Ends v (Err x) w → Steps v b (Err x) w
+  refused-ended x w e h = (
+    h.1,
+    reads-refuses v b (ended (state_of v)) v.size (λ bs. first (advance Between b) b (λ next. lex next bs)) x (λ bs. lex-byte (state_of v) b bs ∙ ap (λ (y : Action). act y (state_of v) b (λ next. lex next bs)) e) (needs-memory v b End e (λ p. p)) h.0,
+  )
+
+  pub refused-byte : (x : Wrong) → advance v.mode b ≡ Refuse x → RefusesByte v b (fault_of x)
+  refused-byte wrong.Byte e = refused v b wrong.Byte e
+  refused-byte wrong.Directive e = refused v b wrong.Directive e
+  refused-byte wrong.CodePoint e = refused v b wrong.CodePoint e
+  refused-byte wrong.Utf8 e = refused v b wrong.Utf8 e
+  refused-byte wrong.Number e = refused v b wrong.Number e
+  refused-byte wrong.Binary e = refused v b wrong.Binary e
+  refused-byte wrong.NameRange e = refused v b wrong.NameRange e
+  refused-byte wrong.Name e = refused v b wrong.Name e
+  refused-byte (wrong.LeftOut absent) e = refused v b (wrong.LeftOut absent) e
+
+  -- the `-` behind bytes that begin no marker
+  pub refused-dash : advance v.mode b ≡ Dash → marker_of v.kept ≡ None → IsDeadAt v (b ∷ [])
+  refused-dash e n rest founds lexemes a m =
+      not-all wrong.Byte founds (sym (ap all_of (lex-byte (state_of v) b rest ∙ (ap (λ (y : Action). act y (state_of v) b (λ next. lex next rest)) e
+      ∙ ap (λ (o : Option Mode). dashed o (state_of v) b (λ next. lex next rest)) n))) ∙ a)
+
+pub same-limits_itself : (v : Held) → SameLimits v v
+same-limits_itself v = record { statement_limit = refl; file_limit = refl; refused = refl }

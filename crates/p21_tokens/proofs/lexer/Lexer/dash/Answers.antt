@@ -1,0 +1,16 @@
+use Rattle.std.proofs.Common.{ap, sym, ◌∙◌, ◌≡◌, Option, None, Some}
+use Rattle.p21_tokens_automaton.specs.Reading.{marker_of}
+use Rattle.p21_tokens.specs.Held.{Held}
+use Rattle.p21_tokens.proofs.Stepping.{refused-dash, took-dash, same-limits_itself}
+use Rattle.p21_tokens.proofs.lexer.Lexer.dash.Goals as goal
+
+pub returns-in_default : goal.returns-in_default
+returns-in_default c = (
+  same-limits_itself c.args.self.now,
+  refused-dash c.args.self.now c.args.byte c.requires.action (ap (λ (h : Held). marker_of h.kept) (sym c.self.view_is) ∙ (ap marker_of (sym c.deref.ensures.value) ∙ (sym c.marker_of.ensures ∙ c.in_default.is))),
+)
+
+pub returns-in-Ok : goal.returns-in-Ok
+returns-in-Ok c =
+    took-dash c.args.self.now c.args.byte c.in-Some.mode c.keep.new.self c.requires.action
+    (ap (λ (h : Held). marker_of h.kept) (sym c.self.view_is) ∙ (ap marker_of (sym c.deref.ensures.value) ∙ (sym c.marker_of.ensures ∙ c.in-Some.is))) c.in-Ok.ensures.ok
