@@ -1,3 +1,4 @@
 pub mod Steps
 pub mod TextFits
 pub mod Fits
+pub mod Classes
