@@ -2,3 +2,4 @@ pub mod Steps
 pub mod TextFits
 pub mod Fits
 pub mod Classes
+pub mod TokenRuns
