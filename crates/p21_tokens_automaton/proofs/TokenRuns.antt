@@ -1,5 +1,5 @@
 -- What the reader makes of the spelling of each token other than a string.
-use Rattle.std.proofs.Common.{◌≡◌, ◌≢◌, ℕ, zero, suc, ◌+◌, ◌-◌, ◌*◌, ◌^◌, ◌<◌, ◌≤◌, ◌⊎◌, inl, inr, Bool, true, false, nat_lt, List, [], ◌∷◌, ◌++◌, length, map, replicate, refl, sym, ap, subst, ◌∙◌, append_assoc, append-nil, arith, Option, Some, None}
+use Rattle.std.proofs.Common.{◌≡◌, ◌≢◌, ℕ, zero, suc, ◌+◌, ◌-◌, ◌*◌, ◌^◌, ◌<◌, ◌≤◌, ◌⊎◌, inl, inr, Bool, true, false, codes, List, [], ◌∷◌, ◌++◌, length, map, replicate, refl, sym, ap, subst, ◌∙◌, append_assoc, append-nil, arith, Option, Some, None}
 use Rattle.std.proofs.lemmas.Bool.{eqb-true, ne_eqb, cases_eq}
 use Rattle.std.proofs.lemmas.Bool.Decides.{nat_tests}
 use Rattle.std.proofs.lemmas.List.{length_push}
@@ -95,3 +95,45 @@ waits-user_keyword (c ∷ w) spelling h =
     let goes : Goes Between (33 ∷ c ∷ w) m =
       goes-on Between (Word word.Exclamation) m 33 (c ∷ w) refl (goes-on (Word word.Exclamation) m m c w (rw ((upper-decides c).1 h.1.0) refl) (goes-round IsKeywordByte m (λ d k. rw ((keyword_byte-decides d).1 k) refl) w h.1.1)) in
     waits (token.user_keyword (c ∷ w)) m spelling (subst (λ (x : List ℕ). Goes Between x m) (sym h.0) goes) refl (λ b f. rw (false_from_not _ (keyword_byte-decides b) f.0, ne_eqb b 45 f.1) refl)
+
+-- ---- markers
+
+pub waits-begin : (spelling : List ℕ) → Spells token.begin spelling → Waits token.begin spelling
+unfolding lex
+waits-begin spelling h =
+    subst (λ (x : List ℕ). Waits token.begin x) (sym h)
+    (record { state = behind (Word (word.Marked Begin)) (codes "ISO-10303-21"); reaches = λ rest. refl; ended_is = refl; size_is = refl; ends = λ b f. rw (false_from_not _ (keyword_byte-decides b) f) refl })
+
+pub waits-finish : (spelling : List ℕ) → Spells token.finish spelling → Waits token.finish spelling
+unfolding lex
+waits-finish spelling h =
+    subst (λ (x : List ℕ). Waits token.finish x) (sym h)
+    (record { state = behind (Word (word.Marked Finish)) (codes "END-ISO-10303-21"); reaches = λ rest. refl; ended_is = refl; size_is = refl; ends = λ b f. rw (false_from_not _ (keyword_byte-decides b) f) refl })
+
+-- ---- tokens that their own last byte ends
+
+pub single-run : (one : Single) (spelling : List ℕ) → Spells (single_token one) spelling → (rest : List ℕ) → lex start (spelling ++ rest) ≡ before (record { found = known (single_token one); size = length spelling }) (lex start rest)
+single-run single.Left s h rest = rw h (lex-give start single.Left 40 rest refl)
+single-run single.Right s h rest = rw h (lex-give start single.Right 41 rest refl)
+single-run single.Comma s h rest = rw h (lex-give start single.Comma 44 rest refl)
+single-run single.Semicolon s h rest = rw h (lex-give start single.Semicolon 59 rest refl)
+single-run single.Equals s h rest = rw h (lex-give start single.Equals 61 rest refl)
+single-run single.Dollar s h rest = rw h (lex-give start single.Dollar 36 rest refl)
+single-run single.Star s h rest = rw h (lex-give start single.Star 42 rest refl)
+
+-- bytes that are kept, and one that ends the token
+closes : (m : Mode) (front : List ℕ) (b : ℕ) (f : Found) → Goes Between front m → advance m b ≡ Close → closed m (front ++ b ∷ []) ≡ Some f → (spelling : List ℕ) → spelling ≡ front ++ b ∷ [] → (rest : List ℕ) → lex start (spelling ++ rest) ≡ before (record { found = f; size = length spelling }) (lex start rest)
+closes m front b f goes e c spelling s rest =
+    let P : ℕ → Answer = λ k. before (record { found = f; size = k }) (lex start rest) in
+    ap (λ (x : List ℕ). lex start (x ++ rest)) s
+    ∙ (ap (λ (x : List ℕ). lex start x) (append_assoc front (b ∷ []) rest)
+    ∙ (goes [] (b ∷ rest)
+    ∙ (lex-close (behind m front) f b rest e c ∙ ap P (sym (length_push front b) ∙ ap (λ (x : List ℕ). length x) (sym s)))))
+
+pub item-run : (w spelling : List ℕ) → Spells (token.item w) spelling → (rest : List ℕ) → lex start (spelling ++ rest) ≡ before (record { found = spelled item spelling; size = length spelling }) (lex start rest)
+item-run [] spelling h rest = absurd h.1
+item-run (c ∷ w) spelling h rest =
+    let m : Mode = Word word.Item in
+    let goes : Goes Between (46 ∷ c ∷ w) m =
+      goes-on Between (Word word.Point) m 46 (c ∷ w) refl (goes-on (Word word.Point) m m c w (rw ((upper-decides c).1 h.1.0) refl) (goes-round IsKeywordByte m (λ d k. rw ((keyword_byte-decides d).1 k) refl) w h.1.1)) in
+    closes m (46 ∷ c ∷ w) 46 (spelled item spelling) goes refl (ap (λ (x : List ℕ). Some (spelled item x)) (sym h.0)) spelling h.0 rest
