@@ -1,5 +1,5 @@
 -- What the reader makes of the spelling of each token other than a string.
-use Rattle.std.proofs.Common.{◌≡◌, ◌≢◌, ℕ, zero, suc, ◌+◌, ◌-◌, ◌*◌, ◌^◌, ◌<◌, ◌≤◌, ◌⊎◌, inl, inr, Bool, true, false, codes, List, [], ◌∷◌, ◌++◌, length, map, replicate, refl, sym, ap, subst, ◌∙◌, append_assoc, append-nil, arith, Option, Some, None}
+use Rattle.std.proofs.Common.{◌≡◌, ◌≢◌, ℕ, zero, suc, ◌+◌, ◌-◌, ◌*◌, ◌^◌, ◌<◌, ◌≤◌, ℤ, ◌⊎◌, inl, inr, Bool, true, false, codes, List, [], ◌∷◌, ◌++◌, length, map, replicate, refl, sym, ap, subst, ◌∙◌, append_assoc, append-nil, arith, Option, Some, None}
 use Rattle.std.proofs.lemmas.Bool.{eqb-true, ne_eqb, cases_eq}
 use Rattle.std.proofs.lemmas.Bool.Decides.{nat_tests}
 use Rattle.std.proofs.lemmas.List.{length_push}
@@ -10,7 +10,7 @@ use Rattle.p21_semantics.specs.Binary.{four_bits, SpellsBits}
 use Rattle.p21_semantics.specs.Digits.{IsDigit, AllDigits, number as number_of, hex_digit}
 use Rattle.p21_semantics.specs.Keyword.{IsUpper, IsKeyword, IsKeywordByte}
 use Rattle.p21_semantics.specs.Name.{SpellsName}
-use Rattle.p21_semantics.specs.Number.{Sign, none, plus, minus, sign_bytes, no_exponent, exponent, exponent_bytes, Exponent, IsExponent, RealForm, SpellsReal, SpellsWhole}
+use Rattle.p21_semantics.specs.Number.{Sign, none, plus, minus, sign_bytes, no_exponent, exponent, exponent_bytes, Exponent, IsExponent, RealForm, SpellsReal, SpellsWhole, Decimal}
 use Rattle.p21_semantics.specs.Token.{Token, Spells, MayFollow}
 use Rattle.p21_semantics.specs.Token as token
 use Rattle.p21_tokens_automaton.specs.Bytes.{is_digit, is_upper, is_keyword_byte, is_hex, hex_value}
@@ -137,3 +137,80 @@ item-run (c ∷ w) spelling h rest =
     let goes : Goes Between (46 ∷ c ∷ w) m =
       goes-on Between (Word word.Point) m 46 (c ∷ w) refl (goes-on (Word word.Point) m m c w (rw ((upper-decides c).1 h.1.0) refl) (goes-round IsKeywordByte m (λ d k. rw ((keyword_byte-decides d).1 k) refl) w h.1.1)) in
     closes m (46 ∷ c ∷ w) 46 (spelled item spelling) goes refl (ap (λ (x : List ℕ). Some (spelled item x)) (sym h.0)) spelling h.0 rest
+
+-- ---- numbers
+
+each-digit : (bytes : List ℕ) → AllDigits bytes → Each IsDigit bytes
+each-digit [] h = tt
+each-digit (b ∷ bytes) h = (h.0, each-digit bytes h.1)
+
+-- the modes behind a digit
+stays-behind_digit : (m : NumberMode) → behind_digit (behind_digit m) ≡ behind_digit m
+stays-behind_digit number.Sign = refl
+stays-behind_digit number.Whole = refl
+stays-behind_digit number.Fraction = refl
+stays-behind_digit number.Exponent = refl
+stays-behind_digit number.ExponentSign = refl
+stays-behind_digit number.ExponentDigits = refl
+
+keeps-digit : (m : NumberMode) (b : ℕ) → IsDigit b → advance (Number m) b ≡ Keep (Number (behind_digit m))
+keeps-digit m b h = rw ((digit-decides b).1 h) refl
+
+goes-digits : (m : NumberMode) → behind_digit m ≡ m → (bytes : List ℕ) → AllDigits bytes → Goes (Number m) bytes (Number m)
+goes-digits m e bytes h = goes-round IsDigit (Number m) (λ b d. keeps-digit m b d ∙ ap (λ (n : NumberMode). Keep (Number n)) e) bytes (each-digit bytes h)
+
+goes-first_digits : (m : NumberMode) (bytes : List ℕ) → 0 < length bytes → AllDigits bytes → Goes (Number m) bytes (Number (behind_digit m))
+goes-first_digits m [] some h = absurd (omega arith)
+goes-first_digits m (b ∷ bytes) some h =
+    goes-on (Number m) (Number (behind_digit m)) (Number (behind_digit m)) b bytes (keeps-digit m b h.0) (goes-digits (behind_digit m) (stays-behind_digit m) bytes h.1)
+
+first-digit : (b : ℕ) → IsDigit b → advance Between b ≡ Keep (Number number.Whole)
+first-digit b h = grind (arith, nat_tests)
+
+-- a sign or none, and digits
+goes-whole : (s : Sign) (bytes : List ℕ) → 0 < length bytes → AllDigits bytes → Goes Between (sign_bytes s ++ bytes) (Number number.Whole)
+goes-whole none [] some h = absurd (omega arith)
+goes-whole none (b ∷ bytes) some h = goes-on Between (Number number.Whole) (Number number.Whole) b bytes (first-digit b h.0) (goes-digits number.Whole refl bytes h.1)
+goes-whole plus bytes some h = goes-on Between (Number number.Sign) (Number number.Whole) 43 bytes refl (goes-first_digits number.Sign bytes some h)
+goes-whole minus bytes some h = goes-on Between (Number number.Sign) (Number number.Whole) 45 bytes refl (goes-first_digits number.Sign bytes some h)
+
+pub waits-whole : (z : ℤ) (spelling : List ℕ) → Spells (token.whole z) spelling → Waits (token.whole z) spelling
+waits-whole z spelling h =
+    waits (token.whole z) (Number number.Whole) spelling
+    (subst (λ (x : List ℕ). Goes Between x (Number number.Whole)) (sym h.bytes_are) (goes-whole h.sign h.digits h.some_digits h.are_digits))
+    refl
+    (λ b f. rw (false_from_not _ (digit-decides b) f.0, ne_eqb b 46 f.1) refl)
+
+-- the mode behind what may stand behind a fraction
+abbrev behind_power : Exponent → NumberMode
+behind_power no_exponent = number.Fraction
+behind_power (exponent s digits) = number.ExponentDigits
+
+goes-exponent : (s : Sign) (bytes : List ℕ) → 0 < length bytes → AllDigits bytes → Goes (Number number.Exponent) (sign_bytes s ++ bytes) (Number number.ExponentDigits)
+goes-exponent none bytes some h = goes-first_digits number.Exponent bytes some h
+goes-exponent plus bytes some h = goes-on (Number number.Exponent) (Number number.ExponentSign) (Number number.ExponentDigits) 43 bytes refl (goes-first_digits number.ExponentSign bytes some h)
+goes-exponent minus bytes some h = goes-on (Number number.Exponent) (Number number.ExponentSign) (Number number.ExponentDigits) 45 bytes refl (goes-first_digits number.ExponentSign bytes some h)
+
+goes-power : (p : Exponent) → IsExponent p → Goes (Number number.Fraction) (exponent_bytes p) (Number (behind_power p))
+goes-power no_exponent h = goes-nowhere (Number number.Fraction)
+goes-power (exponent s digits) h = goes-on (Number number.Fraction) (Number number.Exponent) (Number number.ExponentDigits) 69 (sign_bytes s ++ digits) refl (goes-exponent s digits h.0 h.1)
+
+goes-real : (bytes : List ℕ) (form : RealForm bytes) → Goes Between bytes (Number (behind_power form.power))
+goes-real bytes form =
+    let m : Mode = Number (behind_power form.power) in
+    let tail = goes-both (Number number.Fraction) (Number number.Fraction) m form.fraction (exponent_bytes form.power) (goes-digits number.Fraction refl form.fraction form.are_fraction_digits) (goes-power form.power form.is_exponent) in
+    let point = goes-on (Number number.Whole) (Number number.Fraction) m 46 (form.fraction ++ exponent_bytes form.power) refl tail in
+    let all = goes-both Between (Number number.Whole) m (sign_bytes form.sign ++ form.whole) (46 ∷ (form.fraction ++ exponent_bytes form.power)) (goes-whole form.sign form.whole form.some_digits form.are_digits) point in
+    subst (λ (x : List ℕ). Goes Between x m) (append_assoc (sign_bytes form.sign) form.whole (46 ∷ (form.fraction ++ exponent_bytes form.power)) ∙ sym form.bytes_are) all
+
+real-ended : (d : Decimal) (p : Exponent) (spelling : List ℕ) → ended (behind (Number (behind_power p)) spelling) ≡ Some (found_of (token.real d) spelling)
+real-ended d no_exponent spelling = refl
+real-ended d (exponent s digits) spelling = refl
+
+real-ends : (p : Exponent) (b : ℕ) → ¬ IsDigit b → (p ≡ no_exponent → b ≢ 69) → advance (Number (behind_power p)) b ≡ End
+real-ends no_exponent b n e = rw (false_from_not _ (digit-decides b) n, ne_eqb b 69 (e refl)) refl
+real-ends (exponent s digits) b n e = rw (false_from_not _ (digit-decides b) n) refl
+
+pub waits-real : (d : Decimal) (spelling : List ℕ) → Spells (token.real d) spelling → Waits (token.real d) spelling
+waits-real d spelling h =
+    waits (token.real d) (Number (behind_power h.form.power)) spelling (goes-real spelling h.form) (real-ended d h.form.power spelling) (λ b f. real-ends h.form.power b f.0 (λ e. f.1 (h.form, e)))
