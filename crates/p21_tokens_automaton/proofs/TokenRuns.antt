@@ -1,12 +1,12 @@
 -- What the reader makes of the spelling of each token other than a string.
-use Rattle.std.proofs.Common.{◌≡◌, ◌≢◌, ℕ, zero, suc, ◌+◌, ◌-◌, ◌*◌, ◌^◌, ◌<◌, ◌≤◌, ℤ, ◌⊎◌, inl, inr, Bool, true, false, codes, List, [], ◌∷◌, ◌++◌, length, map, replicate, refl, sym, ap, subst, ◌∙◌, append_assoc, append-nil, arith, Option, Some, None}
+use Rattle.std.proofs.Common.{◌≡◌, ◌≢◌, ℕ, zero, suc, ◌+◌, ◌-◌, ◌*◌, ◌^◌, ◌<◌, ◌≤◌, ℤ, ◌⊎◌, inl, inr, Bool, true, false, codes, List, [], ◌∷◌, ◌++◌, length, map, replicate, refl, sym, ap, ap₂, subst, ◌∙◌, lt_of_le_of_lt, lt-ltb, append_assoc, append-nil, arith, Option, Some, None}
 use Rattle.std.proofs.lemmas.Bool.{eqb-true, ne_eqb, cases_eq}
 use Rattle.std.proofs.lemmas.Bool.Decides.{nat_tests}
 use Rattle.std.proofs.lemmas.List.{length_push}
 use Rattle.std.specs.List.{flat_map, AllByRecursion as Each}
 use Rattle.p21_semantics.proofs.DigitRuns.{number_front}
 use Rattle.p21_semantics.proofs.PlainDigits.{number_append}
-use Rattle.p21_semantics.specs.Binary.{four_bits, SpellsBits}
+use Rattle.p21_semantics.specs.Binary.{four_bits, has_bit, SpellsBits}
 use Rattle.p21_semantics.specs.Digits.{IsDigit, AllDigits, number as number_of, hex_digit}
 use Rattle.p21_semantics.specs.Keyword.{IsUpper, IsKeyword, IsKeywordByte}
 use Rattle.p21_semantics.specs.Name.{SpellsName}
@@ -214,3 +214,111 @@ real-ends (exponent s digits) b n e = rw (false_from_not _ (digit-decides b) n) 
 pub waits-real : (d : Decimal) (spelling : List ℕ) → Spells (token.real d) spelling → Waits (token.real d) spelling
 waits-real d spelling h =
     waits (token.real d) (Number (behind_power h.form.power)) spelling (goes-real spelling h.form) (real-ended d h.form.power spelling) (λ b f. real-ends h.form.power b f.0 (λ e. f.1 (h.form, e)))
+
+-- ---- names
+
+-- the state behind `#` and digits, of which only their number is kept
+abbrev behind_digits : List ℕ → State
+behind_digits front = record { mode = Name (name.Digits (number_of front)); kept = []; characters = []; size = suc (length front) }
+
+number-more : (front : List ℕ) (b : ℕ) → number_of (front ++ b ∷ []) ≡ number_of front * 10 + (b - 48)
+number-more front b = number_append front (b ∷ []) ∙ omega arith
+
+skips-digit : (value b : ℕ) → IsDigit b → value * 10 + (b - 48) < 2 ^ 64 → advance (Name (name.Digits value)) b ≡ Skip (Name (name.Digits (value * 10 + (b - 48))))
+skips-digit value b d h = rw ((digit-decides b).1 d, lt-ltb _ _ h) refl
+
+skips-first_digit : (b : ℕ) → IsDigit b → advance (Name name.Hash) b ≡ Skip (Name (name.Digits (0 * 10 + (b - 48))))
+skips-first_digit b d = rw ((digit-decides b).1 d, lt-ltb (0 * 10 + (b - 48)) (2 ^ 64) (omega (arith, d))) refl
+
+name-digits : (bytes front : List ℕ) → AllDigits bytes → number_of (front ++ bytes) < 2 ^ 64 → (rest : List ℕ) → lex (behind_digits front) (bytes ++ rest) ≡ lex (behind_digits (front ++ bytes)) rest
+name-digits [] front h r rest = ap (λ (x : List ℕ). lex (behind_digits x) rest) (sym (append-nil front))
+name-digits (b ∷ bytes) front h r rest =
+    let joined : (front ++ b ∷ []) ++ bytes ≡ front ++ b ∷ bytes = append_assoc front (b ∷ []) bytes in
+    let value = number-more front b in
+    let small : number_of (front ++ b ∷ []) < 2 ^ 64 = lt_of_le_of_lt (number_front (front ++ b ∷ []) bytes) (subst (λ (x : List ℕ). number_of x < 2 ^ 64) (sym joined) r) in
+    let P : ℕ → ℕ → Answer = λ v k. lex (record { mode = Name (name.Digits v); kept = []; characters = []; size = k }) (bytes ++ rest) in
+    lex-skip (behind_digits front) (Name (name.Digits (number_of front * 10 + (b - 48)))) b (bytes ++ rest) (skips-digit (number_of front) b h.0 (subst (λ (v : ℕ). v < 2 ^ 64) value small))
+    ∙ (ap₂ P (sym value) (let e = length_push front b in omega arith)
+    ∙ (name-digits bytes (front ++ b ∷ []) h.1 (subst (λ (x : List ℕ). number_of x < 2 ^ 64) (sym joined) r) rest ∙ ap (λ (x : List ℕ). lex (behind_digits x) rest) joined))
+
+name-run : (bytes : List ℕ) → 0 < length bytes → AllDigits bytes → number_of bytes < 2 ^ 64 → (rest : List ℕ) → lex start (35 ∷ (bytes ++ rest)) ≡ lex (behind_digits bytes) rest
+name-run [] some h r rest = absurd (omega arith)
+name-run (b ∷ bytes) some h r rest =
+    let P : ℕ → Answer = λ v. lex (record { mode = Name (name.Digits v); kept = []; characters = []; size = 2 }) (bytes ++ rest) in
+    let hash : State = record { mode = Name name.Hash; kept = []; characters = []; size = 1 } in
+    lex-skip start (Name name.Hash) 35 (b ∷ (bytes ++ rest)) refl
+    ∙ (lex-skip hash (Name (name.Digits (0 * 10 + (b - 48)))) b (bytes ++ rest) (skips-first_digit b h.0)
+    ∙ (ap P (sym (number-more [] b)) ∙ name-digits bytes (b ∷ []) h.1 r rest))
+
+pub waits-name : (n : ℕ) (spelling : List ℕ) → Spells (token.name n) spelling → Waits (token.name n) spelling
+waits-name n spelling h =
+    let digits = h.form.digits in
+    record {
+      state = behind_digits digits;
+      reaches = λ rest. ap (λ (x : List ℕ). lex start (x ++ rest)) h.form.bytes_are ∙ name-run digits h.form.some_digits h.form.are_digits (subst (λ (v : ℕ). v < 2 ^ 64) h.value_is h.in_range) rest;
+      ended_is = ap (λ (v : ℕ). Some (known (token.name v))) (sym h.value_is);
+      size_is = ap (λ (x : List ℕ). length x) (sym h.form.bytes_are);
+      ends = λ b f. rw (false_from_not _ (digit-decides b) f) refl;
+    }
+
+-- ---- bits
+
+low-half : (n : ℕ) → n < 16 → has_bit 8 n ≡ false → n < 8
+low-half n h e = grind (arith, nat_tests)
+
+low-quarter : (n : ℕ) → n < 8 → has_bit 4 n ≡ false → n < 4
+low-quarter n h e = grind (arith, nat_tests)
+
+low-eighth : (n : ℕ) → n < 4 → has_bit 2 n ≡ false → n < 2
+low-eighth n h e = grind (arith, nat_tests)
+
+first-bit : (a b : Bool) (x y : List Bool) → a ∷ x ≡ b ∷ y → a ≡ b
+first-bit a b x y e = cc
+
+further-bits : (a b : Bool) (x y : List Bool) → a ∷ x ≡ b ∷ y → x ≡ y
+further-bits a b x y e = cc
+
+-- the padding bits of the first hex digit are zero
+room-for_padding : (padding n : ℕ) (digits : List ℕ) (value : List Bool) → padding < 4 → n < 16 → flat_map four_bits (n ∷ digits) ≡ replicate padding false ++ value → padded padding n ≡ true
+room-for_padding zero n digits value p h e = lt-ltb n 16 h
+room-for_padding (suc zero) n digits value p h e = lt-ltb n 8 (low-half n h (first-bit _ _ _ _ e))
+room-for_padding (suc (suc zero)) n digits value p h e = lt-ltb n 4 (low-quarter n (low-half n h (first-bit _ _ _ _ e)) (first-bit _ _ _ _ (further-bits _ _ _ _ e)))
+room-for_padding (suc (suc (suc zero))) n digits value p h e =
+    let rest = further-bits _ _ _ _ e in
+    lt-ltb n 2 (low-eighth n (low-quarter n (low-half n h (first-bit _ _ _ _ e)) (first-bit _ _ _ _ rest)) (first-bit _ _ _ _ (further-bits _ _ _ _ rest)))
+room-for_padding (suc (suc (suc (suc padding)))) n digits value p h e = absurd (omega arith)
+
+no-padding : (padding : ℕ) (value : List Bool) → [] ≡ replicate padding false ++ value → padding ≡ 0
+no-padding zero value e = refl
+no-padding (suc padding) value e = cc
+
+keeps-hex : (n : ℕ) → n < 16 → advance (Binary binary.Hex) (hex_digit n) ≡ Keep (Binary binary.Hex)
+keeps-hex n h = rw ((hex_digit-is_hex n h).0) refl
+
+keeps-first_hex : (padding n : ℕ) → n < 16 → padded padding n ≡ true → advance (Binary (binary.Padding padding)) (hex_digit n) ≡ Keep (Binary binary.Hex)
+keeps-first_hex padding n h e = let own = hex_digit-is_hex n h in rw (own.0, own.1, e) refl
+
+keeps-padding : (padding : ℕ) → padding < 4 → advance (Binary binary.Quote) (48 + padding) ≡ Keep (Binary (binary.Padding padding))
+keeps-padding padding h = grind (arith, nat_tests)
+
+goes-hex : (digits : List ℕ) → Each (λ n. n < 16) digits → Goes (Binary binary.Hex) (map hex_digit digits) (Binary binary.Hex)
+goes-hex [] h = goes-nowhere (Binary binary.Hex)
+goes-hex (n ∷ digits) h = goes-on (Binary binary.Hex) (Binary binary.Hex) (Binary binary.Hex) (hex_digit n) (map hex_digit digits) (keeps-hex n h.0) (goes-hex digits h.1)
+
+goes-quote : (padding : ℕ) → padding < 4 → (bytes : List ℕ) (m : Mode) → Goes (Binary (binary.Padding padding)) bytes m → Goes Between (34 ∷ (48 + padding) ∷ bytes) m
+goes-quote padding h bytes m goes =
+    goes-on Between (Binary binary.Quote) m 34 ((48 + padding) ∷ bytes) refl (goes-on (Binary binary.Quote) (Binary (binary.Padding padding)) m (48 + padding) bytes (keeps-padding padding h) goes)
+
+bits-closes : (padding : ℕ) (digits : List ℕ) (value : List Bool) → padding < 4 → Each (λ n. n < 16) digits → flat_map four_bits digits ≡ replicate padding false ++ value → (spelling : List ℕ) → spelling ≡ 34 ∷ (48 + padding) ∷ (map hex_digit digits ++ (34 ∷ [])) → (rest : List ℕ) → lex start (spelling ++ rest) ≡ before (record { found = spelled bits spelling; size = length spelling }) (lex start rest)
+bits-closes padding [] value p h e spelling s rest =
+    let none_left = no-padding padding value e in
+    let m : Mode = Binary (binary.Padding padding) in
+    closes m (34 ∷ (48 + padding) ∷ []) 34 (spelled bits spelling) (goes-quote padding p [] m (goes-nowhere m)) (rw none_left refl) (ap (λ (x : List ℕ). Some (spelled bits x)) (sym s)) spelling s rest
+bits-closes padding (n ∷ digits) value p h e spelling s rest =
+    let m : Mode = Binary binary.Hex in
+    let first = keeps-first_hex padding n h.0 (room-for_padding padding n digits value p h.0 e) in
+    let goes = goes-on (Binary (binary.Padding padding)) m m (hex_digit n) (map hex_digit digits) first (goes-hex digits h.1) in
+    closes m (34 ∷ (48 + padding) ∷ map hex_digit (n ∷ digits)) 34 (spelled bits spelling) (goes-quote padding p (map hex_digit (n ∷ digits)) m goes) refl (ap (λ (x : List ℕ). Some (spelled bits x)) (sym s)) spelling s rest
+
+pub bits-run : (value : List Bool) (spelling : List ℕ) → Spells (token.bits value) spelling → (rest : List ℕ) → lex start (spelling ++ rest) ≡ before (record { found = spelled bits spelling; size = length spelling }) (lex start rest)
+bits-run value spelling h rest = bits-closes h.padding h.hex_values value h.padding_is h.are_hex_values h.value_is spelling h.bytes_are rest
