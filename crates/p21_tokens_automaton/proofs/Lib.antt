@@ -3,3 +3,4 @@ pub mod TextFits
 pub mod Fits
 pub mod Classes
 pub mod TokenRuns
+pub mod TokenSound
