@@ -221,7 +221,8 @@ waits-real d spelling h =
 abbrev behind_digits : List ℕ → State
 behind_digits front = record { mode = Name (name.Digits (number_of front)); kept = []; characters = []; size = suc (length front) }
 
-number-more : (front : List ℕ) (b : ℕ) → number_of (front ++ b ∷ []) ≡ number_of front * 10 + (b - 48)
+-- one digit more
+pub number-more : (front : List ℕ) (b : ℕ) → number_of (front ++ b ∷ []) ≡ number_of front * 10 + (b - 48)
 number-more front b = number_append front (b ∷ []) ∙ omega arith
 
 skips-digit : (value b : ℕ) → IsDigit b → value * 10 + (b - 48) < 2 ^ 64 → advance (Name (name.Digits value)) b ≡ Skip (Name (name.Digits (value * 10 + (b - 48))))
