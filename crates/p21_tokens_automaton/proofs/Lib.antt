@@ -4,3 +4,4 @@ pub mod Fits
 pub mod Classes
 pub mod TokenRuns
 pub mod TokenSound
+pub mod Once
