@@ -1,19 +1,17 @@
 -- What the reader makes of the spelling of each token other than a string.
-use Rattle.std.proofs.Common.{◌≡◌, ◌≢◌, ℕ, zero, suc, ◌+◌, ◌-◌, ◌*◌, ◌^◌, ◌<◌, ◌≤◌, ℤ, ◌⊎◌, inl, inr, Bool, true, false, codes, List, [], ◌∷◌, ◌++◌, length, map, replicate, refl, sym, ap, ap₂, subst, ◌∙◌, lt_of_le_of_lt, lt-ltb, append_assoc, append-nil, arith, Option, Some, None}
-use Rattle.std.proofs.lemmas.Bool.{eqb-true, ne_eqb, cases_eq}
+use Rattle.std.proofs.Common.{◌≡◌, ◌≢◌, ℕ, zero, suc, ◌+◌, ◌-◌, ◌*◌, ◌^◌, ◌<◌, ℤ, inl, inr, Bool, true, false, codes, List, [], ◌∷◌, ◌++◌, length, map, replicate, refl, sym, ap, ap₂, subst, ◌∙◌, lt_of_le_of_lt, lt-ltb, append_assoc, append-nil, arith, Some}
+use Rattle.std.proofs.lemmas.Bool.{ne_eqb}
 use Rattle.std.proofs.lemmas.Bool.Decides.{nat_tests}
 use Rattle.std.proofs.lemmas.List.{length_push}
 use Rattle.std.specs.List.{flat_map, AllByRecursion as Each}
 use Rattle.p21_semantics.proofs.DigitRuns.{number_front}
 use Rattle.p21_semantics.proofs.PlainDigits.{number_append}
-use Rattle.p21_semantics.specs.Binary.{four_bits, has_bit, SpellsBits}
+use Rattle.p21_semantics.specs.Binary.{four_bits, has_bit}
 use Rattle.p21_semantics.specs.Digits.{IsDigit, AllDigits, number as number_of, hex_digit}
 use Rattle.p21_semantics.specs.Keyword.{IsUpper, IsKeyword, IsKeywordByte}
-use Rattle.p21_semantics.specs.Name.{SpellsName}
-use Rattle.p21_semantics.specs.Number.{Sign, none, plus, minus, sign_bytes, no_exponent, exponent, exponent_bytes, Exponent, IsExponent, RealForm, SpellsReal, SpellsWhole, Decimal}
+use Rattle.p21_semantics.specs.Number.{Sign, none, plus, minus, sign_bytes, no_exponent, exponent, exponent_bytes, Exponent, IsExponent, RealForm, Decimal}
 use Rattle.p21_semantics.specs.Token.{Token, Spells, MayFollow}
 use Rattle.p21_semantics.specs.Token as token
-use Rattle.p21_tokens_automaton.specs.Bytes.{is_digit, is_upper, is_keyword_byte, is_hex, hex_value}
 use Rattle.p21_tokens_automaton.specs.Meaning.{found_of}
 use Rattle.p21_tokens_automaton.specs.Step.{advance, behind_digit, padded}
 use Rattle.p21_tokens_automaton.specs.Reading.{State, start, Answer, before, Found, known, spelled, item, bits, single_token, ended, closed, lex}
@@ -27,10 +25,9 @@ use Rattle.p21_tokens_automaton.specs.declared.mode.NameMode.TheVariants as name
 use Rattle.p21_tokens_automaton.specs.declared.mode.BinaryMode.TheVariants as binary
 use Rattle.p21_tokens_automaton.specs.declared.mode.Single.{Single}
 use Rattle.p21_tokens_automaton.specs.declared.mode.Single.TheVariants as single
-use Rattle.p21_tokens_automaton.specs.declared.mode.Action.{Action}
-use Rattle.p21_tokens_automaton.specs.declared.mode.Action.TheVariants.{Skip, Keep, Give, Close, End}
+use Rattle.p21_tokens_automaton.specs.declared.mode.Action.TheVariants.{Skip, Keep, Close, End}
 use Rattle.p21_tokens_automaton.proofs.Classes.{digit-decides, upper-decides, keyword_byte-decides, hex_digit-is_hex, false_from_not}
-use Rattle.p21_tokens_automaton.proofs.Steps.{lex-byte, lex-keep, lex-skip, lex-give, lex-close}
+use Rattle.p21_tokens_automaton.proofs.Steps.{lex-keep, lex-skip, lex-give, lex-close, lex-end}
 
 -- a token whose last byte doesn't end it: where the reader stands behind its spelling
 pub record Waits (t : Token) (spelling : List ℕ) : Type 0 where
@@ -39,6 +36,12 @@ pub record Waits (t : Token) (spelling : List ℕ) : Type 0 where
   pub ended_is : ended state ≡ Some (found_of t spelling)
   pub size_is : state.size ≡ length spelling
   pub ends : (b : ℕ) → MayFollow t spelling b → advance state.mode b ≡ End
+
+-- the byte behind such a token ends it
+pub waits-ended : (t : Token) (spelling : List ℕ) → Waits t spelling → (b : ℕ) (rest : List ℕ) → MayFollow t spelling b → lex start (spelling ++ b ∷ rest) ≡ before (record { found = found_of t spelling; size = length spelling }) (lex start (b ∷ rest))
+waits-ended t spelling w b rest f =
+    let P : ℕ → Answer = λ n. before (record { found = found_of t spelling; size = n }) (lex start (b ∷ rest)) in
+    w.reaches (b ∷ rest) ∙ lex-end w.state (found_of t spelling) b rest (w.ends b f) w.ended_is ∙ ap P w.size_is
 
 -- ---- runs of kept bytes
 
@@ -93,7 +96,7 @@ waits-user_keyword [] spelling h = absurd h.1
 waits-user_keyword (c ∷ w) spelling h =
     let m : Mode = Word word.UserKeyword in
     let goes : Goes Between (33 ∷ c ∷ w) m =
-      goes-on Between (Word word.Exclamation) m 33 (c ∷ w) refl (goes-on (Word word.Exclamation) m m c w (rw ((upper-decides c).1 h.1.0) refl) (goes-round IsKeywordByte m (λ d k. rw ((keyword_byte-decides d).1 k) refl) w h.1.1)) in
+    goes-on Between (Word word.Exclamation) m 33 (c ∷ w) refl (goes-on (Word word.Exclamation) m m c w (rw ((upper-decides c).1 h.1.0) refl) (goes-round IsKeywordByte m (λ d k. rw ((keyword_byte-decides d).1 k) refl) w h.1.1)) in
     waits (token.user_keyword (c ∷ w)) m spelling (subst (λ (x : List ℕ). Goes Between x m) (sym h.0) goes) refl (λ b f. rw (false_from_not _ (keyword_byte-decides b) f.0, ne_eqb b 45 f.1) refl)
 
 -- ---- markers
@@ -135,7 +138,7 @@ item-run [] spelling h rest = absurd h.1
 item-run (c ∷ w) spelling h rest =
     let m : Mode = Word word.Item in
     let goes : Goes Between (46 ∷ c ∷ w) m =
-      goes-on Between (Word word.Point) m 46 (c ∷ w) refl (goes-on (Word word.Point) m m c w (rw ((upper-decides c).1 h.1.0) refl) (goes-round IsKeywordByte m (λ d k. rw ((keyword_byte-decides d).1 k) refl) w h.1.1)) in
+    goes-on Between (Word word.Point) m 46 (c ∷ w) refl (goes-on (Word word.Point) m m c w (rw ((upper-decides c).1 h.1.0) refl) (goes-round IsKeywordByte m (λ d k. rw ((keyword_byte-decides d).1 k) refl) w h.1.1)) in
     closes m (46 ∷ c ∷ w) 46 (spelled item spelling) goes refl (ap (λ (x : List ℕ). Some (spelled item x)) (sym h.0)) spelling h.0 rest
 
 -- ---- numbers

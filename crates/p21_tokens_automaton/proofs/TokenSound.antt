@@ -1,5 +1,5 @@
 -- One more byte of an open number, keyword, marker, item, name or binary, and what a byte between tokens begins.
-use Rattle.std.proofs.Common.{◌≡◌, ◌≢◌, ℕ, ◌+◌, ◌-◌, ◌*◌, ◌^◌, ◌<◌, ◌≤◌, ◌⊎◌, inl, inr, ⊎_elim, Bool, true, false, eqb, ◌||◌, codes, cond, leb, ltb, ◌&&◌, bytes_eq, slice_get, List, [], ◌∷◌, ◌++◌, length, take, refl, sym, ap, subst, ◌∙◌, append_assoc, append-nil, arith, Option, Some, None}
+use Rattle.std.proofs.Common.{◌≡◌, ◌≢◌, ℕ, ◌+◌, ◌-◌, ◌*◌, ◌^◌, ◌⊎◌, inl, inr, eqb, ◌||◌, codes, cond, leb, ltb, ◌&&◌, bytes_eq, slice_get, List, [], ◌∷◌, ◌++◌, length, take, refl, sym, ap, subst, ◌∙◌, append_assoc, arith, Option, Some, None}
 use Rattle.std.proofs.lemmas.Bool.{eqb-true, eqb-false, ltb-true, ltb-false, cond_both}
 use Rattle.std.proofs.lemmas.Bool.Decides.{not_from_Decides}
 use Rattle.std.proofs.lemmas.List.{take_more, take_all, length_push}
@@ -17,7 +17,7 @@ use Rattle.p21_semantics.specs.Token as token
 use Rattle.p21_tokens_automaton.specs.Bytes.{is_digit, is_upper, is_keyword_byte, is_hex, hex_value, is_blank}
 use Rattle.p21_tokens_automaton.specs.Meaning.{IsOfKind, Means}
 use Rattle.p21_tokens_automaton.specs.Step.{behind_digit, no_digit, number_action, marker_text, marker_action, word_action, name_digit, name_action, padded, binary_action, mark_action, between_action}
-use Rattle.p21_tokens_automaton.specs.Reading.{Found, Kind, keyword, user_keyword, whole, real, item, bits, known, spelled, marker_token, single_token, ended, closed, marker_of}
+use Rattle.p21_tokens_automaton.specs.Reading.{Found, Kind, keyword, user_keyword, whole, real, item, bits, known, spelled, marker_token, single_token, ended}
 use Rattle.p21_tokens_automaton.specs.declared.mode.Mode.{Mode}
 use Rattle.p21_tokens_automaton.specs.declared.mode.Mode.TheVariants.{Between, Slash, Number, Word, Name, Binary, Text}
 use Rattle.p21_tokens_automaton.specs.declared.mode.NumberMode.{NumberMode}
@@ -233,13 +233,13 @@ module _ (b : ℕ) (kept characters front : List ℕ) where
   digit-fits m value digits f h v d =
       let more : ℕ = value * 10 + (b - 48) in
       cond_both (ltb more (2 ^ 64)) (Skip (Name (name_mode.Digits more))) (Refuse wrong.NameRange) (λ a. StepFits (Name m) kept characters front b a) (λ e. (
-          digits ++ b ∷ [],
-          ap (λ (x : List ℕ). x ++ b ∷ []) f,
-          let l = length_push digits b in omega arith,
-          digits_append digits (b ∷ []) h (d, tt),
-          ap (λ (n : ℕ). n * 10 + (b - 48)) v ∙ sym (number-more digits b),
-          ltb-true more (2 ^ 64) e,
-        ))
+        digits ++ b ∷ [],
+        ap (λ (x : List ℕ). x ++ b ∷ []) f,
+        let l = length_push digits b in omega arith,
+        digits_append digits (b ∷ []) h (d, tt),
+        ap (λ (n : ℕ). n * 10 + (b - 48)) v ∙ sym (number-more digits b),
+        ltb-true more (2 ^ 64) e,
+      ))
       (λ e. tt)
 
   name-step : (m : NameMode) → NameFits m front → StepFits (Name m) kept characters front b (name_action m b)
