@@ -5,3 +5,7 @@ pub mod Classes
 pub mod TokenRuns
 pub mod TokenSound
 pub mod Once
+pub mod Gaps
+pub mod Waits
+pub mod Complete
+pub mod Sound

@@ -172,3 +172,21 @@ act (Refuse wrong) s byte go = nothing_but (stopped wrong)
 unfoldable pub lex : State → List ℕ → Answer
 lex s [] = nothing_but (open_at s)
 lex s (byte ∷ bytes) = act (advance s.mode byte) s byte (λ next. lex next bytes)
+
+-- the tokens that the end of the bytes leaves, where it may stand
+abbrev pub closing : Option Found → Mode → ℕ → Option (List Sized)
+closing (Some found) mode size = Some (record { found = found; size = size } ∷ [])
+closing None Between size = Some []
+closing None other size = None
+
+abbrev pub at_end : Ending → Option (List Sized)
+at_end (stopped wrong) = None
+at_end (open_at s) = closing (ended s) s.mode s.size
+
+-- all tokens, the one that the end of the bytes ends among them, if the bytes may end there
+abbrev pub all_after : List Sized → Option (List Sized) → Option (List Sized)
+all_after given None = None
+all_after given (Some last) = Some (given ++ last)
+
+abbrev pub all_of : Answer → Option (List Sized)
+all_of answer = all_after answer.given (at_end answer.ending)
