@@ -1,5 +1,5 @@
 -- What the reader makes of the spelling of each token other than a string.
-use Rattle.std.proofs.Common.{◌≡◌, ◌≢◌, ℕ, zero, suc, ◌+◌, ◌-◌, ◌*◌, ◌^◌, ◌<◌, ℤ, inl, inr, Bool, true, false, codes, List, [], ◌∷◌, ◌++◌, length, map, replicate, refl, sym, ap, ap₂, subst, ◌∙◌, lt_of_le_of_lt, lt-ltb, append_assoc, append-nil, arith, Some}
+use Rattle.std.proofs.Common.{◌≡◌, ◌≢◌, ℕ, zero, suc, ◌+◌, ◌-◌, ◌*◌, ◌^◌, ◌<◌, ℤ, ◌⊎◌, inl, inr, Bool, true, false, codes, List, [], ◌∷◌, ◌++◌, length, map, replicate, refl, sym, ap, ap₂, subst, ◌∙◌, lt_of_le_of_lt, lt-ltb, append_assoc, append-nil, arith, Some}
 use Rattle.std.proofs.lemmas.Bool.{ne_eqb}
 use Rattle.std.proofs.lemmas.Bool.Decides.{nat_tests}
 use Rattle.std.proofs.lemmas.List.{length_push}
@@ -27,21 +27,8 @@ use Rattle.p21_tokens_automaton.specs.declared.mode.Single.{Single}
 use Rattle.p21_tokens_automaton.specs.declared.mode.Single.TheVariants as single
 use Rattle.p21_tokens_automaton.specs.declared.mode.Action.TheVariants.{Skip, Keep, Close, End}
 use Rattle.p21_tokens_automaton.proofs.Classes.{digit-decides, upper-decides, keyword_byte-decides, hex_digit-is_hex, false_from_not}
-use Rattle.p21_tokens_automaton.proofs.Steps.{lex-keep, lex-skip, lex-give, lex-close, lex-end}
-
--- a token whose last byte doesn't end it: where the reader stands behind its spelling
-pub record Waits (t : Token) (spelling : List ℕ) : Type 0 where
-  pub state : State
-  pub reaches : (rest : List ℕ) → lex start (spelling ++ rest) ≡ lex state rest
-  pub ended_is : ended state ≡ Some (found_of t spelling)
-  pub size_is : state.size ≡ length spelling
-  pub ends : (b : ℕ) → MayFollow t spelling b → advance state.mode b ≡ End
-
--- the byte behind such a token ends it
-pub waits-ended : (t : Token) (spelling : List ℕ) → Waits t spelling → (b : ℕ) (rest : List ℕ) → MayFollow t spelling b → lex start (spelling ++ b ∷ rest) ≡ before (record { found = found_of t spelling; size = length spelling }) (lex start (b ∷ rest))
-waits-ended t spelling w b rest f =
-    let P : ℕ → Answer = λ n. before (record { found = found_of t spelling; size = n }) (lex start (b ∷ rest)) in
-    w.reaches (b ∷ rest) ∙ lex-end w.state (found_of t spelling) b rest (w.ends b f) w.ended_is ∙ ap P w.size_is
+use Rattle.p21_tokens_automaton.proofs.Steps.{lex-keep, lex-skip, lex-give, lex-close}
+use Rattle.p21_tokens_automaton.proofs.Waits.{Waits, IsGiven}
 
 -- ---- runs of kept bytes
 
@@ -326,3 +313,25 @@ bits-closes padding (n ∷ digits) value p h e spelling s rest =
 
 pub bits-run : (value : List Bool) (spelling : List ℕ) → Spells (token.bits value) spelling → (rest : List ℕ) → lex start (spelling ++ rest) ≡ before (record { found = spelled bits spelling; size = length spelling }) (lex start rest)
 bits-run value spelling h rest = bits-closes h.padding h.hex_values value h.padding_is h.are_hex_values h.value_is spelling h.bytes_are rest
+
+-- ---- every token
+
+-- every token is read as it is spelled, if strings are
+pub token-readings : ((characters spelling : List ℕ) → Spells (token.text characters) spelling → Waits (token.text characters) spelling) → (t : Token) (spelling : List ℕ) → Spells t spelling → Waits t spelling ⊎ IsGiven t spelling
+token-readings waits-text token.begin spelling h = inl (waits-begin spelling h)
+token-readings waits-text token.finish spelling h = inl (waits-finish spelling h)
+token-readings waits-text (token.keyword w) spelling h = inl (waits-keyword w spelling h)
+token-readings waits-text (token.user_keyword w) spelling h = inl (waits-user_keyword w spelling h)
+token-readings waits-text (token.name n) spelling h = inl (waits-name n spelling h)
+token-readings waits-text (token.whole z) spelling h = inl (waits-whole z spelling h)
+token-readings waits-text (token.real d) spelling h = inl (waits-real d spelling h)
+token-readings waits-text (token.text characters) spelling h = inl (waits-text characters spelling h)
+token-readings waits-text (token.item w) spelling h = inr (record { run = item-run w spelling h })
+token-readings waits-text (token.bits value) spelling h = inr (record { run = bits-run value spelling h })
+token-readings waits-text token.left spelling h = inr (record { run = single-run single.Left spelling h })
+token-readings waits-text token.right spelling h = inr (record { run = single-run single.Right spelling h })
+token-readings waits-text token.comma spelling h = inr (record { run = single-run single.Comma spelling h })
+token-readings waits-text token.semicolon spelling h = inr (record { run = single-run single.Semicolon spelling h })
+token-readings waits-text token.equals spelling h = inr (record { run = single-run single.Equals spelling h })
+token-readings waits-text token.dollar spelling h = inr (record { run = single-run single.Dollar spelling h })
+token-readings waits-text token.star spelling h = inr (record { run = single-run single.Star spelling h })

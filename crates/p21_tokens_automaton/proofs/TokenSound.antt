@@ -1,5 +1,5 @@
 -- One more byte of an open number, keyword, marker, item, name or binary, and what a byte between tokens begins.
-use Rattle.std.proofs.Common.{◌≡◌, ◌≢◌, ℕ, ◌+◌, ◌-◌, ◌*◌, ◌^◌, ◌⊎◌, inl, inr, eqb, ◌||◌, codes, cond, leb, ltb, ◌&&◌, bytes_eq, slice_get, List, [], ◌∷◌, ◌++◌, length, take, refl, sym, ap, subst, ◌∙◌, append_assoc, arith, Option, Some, None}
+use Rattle.std.proofs.Common.{◌≡◌, ◌≢◌, ℕ, ◌+◌, ◌-◌, ◌*◌, ◌^◌, inl, inr, eqb, ◌||◌, codes, cond, leb, ltb, ◌&&◌, bytes_eq, slice_get, List, [], ◌∷◌, ◌++◌, length, take, refl, sym, ap, subst, ◌∙◌, append_assoc, arith, Option, Some, None}
 use Rattle.std.proofs.lemmas.Bool.{eqb-true, eqb-false, ltb-true, ltb-false, cond_both}
 use Rattle.std.proofs.lemmas.Bool.Decides.{not_from_Decides}
 use Rattle.std.proofs.lemmas.List.{take_more, take_all, length_push}
@@ -11,15 +11,14 @@ use Rattle.p21_semantics.specs.Digits.{IsDigit, AllDigits, number as number_of}
 use Rattle.p21_semantics.specs.Keyword.{IsKeywordByte}
 use Rattle.p21_semantics.specs.Name.{SpellsName}
 use Rattle.p21_semantics.specs.Number.{Sign, none, plus, minus, sign_bytes, exponent_bytes}
-use Rattle.p21_semantics.specs.Separator.{IsSeparator, blank}
 use Rattle.p21_semantics.specs.Token.{Token, Spells, MayFollow, HasNoExponent}
 use Rattle.p21_semantics.specs.Token as token
 use Rattle.p21_tokens_automaton.specs.Bytes.{is_digit, is_upper, is_keyword_byte, is_hex, hex_value, is_blank}
 use Rattle.p21_tokens_automaton.specs.Meaning.{IsOfKind, Means}
-use Rattle.p21_tokens_automaton.specs.Step.{behind_digit, no_digit, number_action, marker_text, marker_action, word_action, name_digit, name_action, padded, binary_action, mark_action, between_action}
-use Rattle.p21_tokens_automaton.specs.Reading.{Found, Kind, keyword, user_keyword, whole, real, item, bits, known, spelled, marker_token, single_token, ended}
+use Rattle.p21_tokens_automaton.specs.Step.{behind_digit, no_digit, number_action, marker_text, marker_action, word_action, name_digit, name_action, padded, binary_action, mark_action, between_action, text_action, advance}
+use Rattle.p21_tokens_automaton.specs.Reading.{Found, Kind, keyword, user_keyword, whole, real, item, bits, known, spelled, marker_token, ended}
 use Rattle.p21_tokens_automaton.specs.declared.mode.Mode.{Mode}
-use Rattle.p21_tokens_automaton.specs.declared.mode.Mode.TheVariants.{Between, Slash, Number, Word, Name, Binary, Text}
+use Rattle.p21_tokens_automaton.specs.declared.mode.Mode.TheVariants.{Between, Number, Word, Name, Binary, Text}
 use Rattle.p21_tokens_automaton.specs.declared.mode.NumberMode.{NumberMode}
 use Rattle.p21_tokens_automaton.specs.declared.mode.NumberMode.TheVariants as number
 use Rattle.p21_tokens_automaton.specs.declared.mode.WordMode.{WordMode}
@@ -30,12 +29,14 @@ use Rattle.p21_tokens_automaton.specs.declared.mode.NameMode.{NameMode}
 use Rattle.p21_tokens_automaton.specs.declared.mode.NameMode.TheVariants as name_mode
 use Rattle.p21_tokens_automaton.specs.declared.mode.BinaryMode.{BinaryMode}
 use Rattle.p21_tokens_automaton.specs.declared.mode.BinaryMode.TheVariants as binary
+use Rattle.p21_tokens_automaton.specs.declared.mode.TextMode.{TextMode}
 use Rattle.p21_tokens_automaton.specs.declared.mode.TextMode.TheVariants as text_mode
 use Rattle.p21_tokens_automaton.specs.declared.mode.Absent.TheVariants.{ConstantName}
 use Rattle.p21_tokens_automaton.specs.declared.mode.Wrong.TheVariants as wrong
 use Rattle.p21_tokens_automaton.specs.declared.mode.Action.{Action}
-use Rattle.p21_tokens_automaton.specs.declared.mode.Action.TheVariants.{Pass, Skip, Keep, Put, Give, Close, End, Dash, Refuse}
+use Rattle.p21_tokens_automaton.specs.declared.mode.Action.TheVariants.{Pass, Skip, Keep, Close, End, Dash, Refuse}
 use Rattle.p21_tokens_automaton.proofs.Classes.{digit-decides, blank-decides, keyword_byte-decides}
+use Rattle.p21_tokens_automaton.proofs.Sound.{FirstFits}
 use Rattle.p21_tokens_automaton.proofs.TokenRuns.{number-more}
 use Rattle.p21_tokens_automaton.proofs.Fits.{HasExponentMark, NumberFits, NameFits, ModeFits, EndFits, StepFits}
 
@@ -289,18 +290,6 @@ binary-ends m kept characters front h found t is means = absurd (not-some found 
 
 -- ---- between tokens
 
--- what a byte between tokens begins
-abbrev pub FirstFits : ℕ → Action → Type 0
-FirstFits b (Pass next) = ((next ≡ Between) × IsSeparator (blank b)) ⊎ ((next ≡ Slash) × (b ≡ 47))
-FirstFits b (Skip next) = ModeFits next [] [] (b ∷ [])
-FirstFits b (Keep next) = ModeFits next (b ∷ []) [] (b ∷ [])
-FirstFits b (Put next character) = ⊥
-FirstFits b (Give one) = Spells (single_token one) (b ∷ [])
-FirstFits b Close = ⊥
-FirstFits b End = ⊥
-FirstFits b Dash = ⊥
-FirstFits b (Refuse wrong) = Unit {0}
-
 opens-text : (b : ℕ) → b ≡ 39 → ModeFits (Text text_mode.Inside) [] [] (b ∷ [])
 opens-text b e = ([], ap (λ (c : ℕ). c ∷ []) e, record { units = []; are_units = tt; bytes_are = refl; characters_are = refl })
 
@@ -337,3 +326,25 @@ first-fits b =
     cond_both (is_blank b) (Pass Between) _ (FirstFits b) (λ e. inl (refl, (blank-decides b).0 e)) (λ _.
     cond_both (is_digit b) (Keep (Number number.Whole)) _ (FirstFits b) (λ e. (refl, tt)) (λ _.
     cond_both (is_upper b) (Keep (Word word.Keyword)) (mark_action b) (FirstFits b) (λ e. (refl, tt)) (λ _. mark-fits b)))
+
+-- ---- every mode
+
+-- each byte of an open token fits, if it does in a string
+pub mode-fits : ((m : TextMode) (b : ℕ) (kept characters front : List ℕ) → ModeFits (Text m) kept characters front → StepFits (Text m) kept characters front b (text_action m b))
+    → (m : Mode) (b : ℕ) (kept characters front : List ℕ) → ModeFits m kept characters front → StepFits m kept characters front b (advance m b)
+mode-fits text-fits (Number m) b kept characters front h = number-fits m b kept characters front h
+mode-fits text-fits (Word m) b kept characters front h = word-fits m b kept characters front h
+mode-fits text-fits (Name m) b kept characters front h = name-fits m b kept characters front h
+mode-fits text-fits (Binary m) b kept characters front h = binary-fits m b kept characters front h
+mode-fits text-fits (Text m) b kept characters front h = text-fits m b kept characters front h
+mode-fits text-fits _ b kept characters front h = absurd h
+
+-- the token of an open mode is spelled by its bytes, if a string is
+pub mode-ends : ((m : TextMode) (kept characters front : List ℕ) → ModeFits (Text m) kept characters front → EndFits (Text m) kept characters front)
+    → (m : Mode) (kept characters front : List ℕ) → ModeFits m kept characters front → EndFits m kept characters front
+mode-ends text-ends (Number m) kept characters front h found t is means = number-ends m kept characters front h found t is means
+mode-ends text-ends (Word m) kept characters front h found t is means = word-ends m kept characters front h found t is means
+mode-ends text-ends (Name m) kept characters front h found t is means = name-ends m kept characters front h found t is means
+mode-ends text-ends (Binary m) kept characters front h found t is means = binary-ends m kept characters front h found t is means
+mode-ends text-ends (Text m) kept characters front h found t is means = text-ends m kept characters front h found t is means
+mode-ends text-ends _ kept characters front h found t is means = absurd h
