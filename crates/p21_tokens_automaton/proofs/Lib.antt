@@ -1,6 +1,10 @@
 pub mod Steps
 pub mod TextFits
 pub mod Fits
+pub mod Classes
+pub mod TokenRuns
+pub mod TokenSound
+pub mod Once
 pub mod Gaps
 pub mod Waits
 pub mod Complete

@@ -1,0 +1,350 @@
+-- One more byte of an open number, keyword, marker, item, name or binary, and what a byte between tokens begins.
+use Rattle.std.proofs.Common.{◌≡◌, ◌≢◌, ℕ, ◌+◌, ◌-◌, ◌*◌, ◌^◌, inl, inr, eqb, ◌||◌, codes, cond, leb, ltb, ◌&&◌, bytes_eq, slice_get, List, [], ◌∷◌, ◌++◌, length, take, refl, sym, ap, subst, ◌∙◌, append_assoc, arith, Option, Some, None}
+use Rattle.std.proofs.lemmas.Bool.{eqb-true, eqb-false, ltb-true, ltb-false, cond_both}
+use Rattle.std.proofs.lemmas.Bool.Decides.{not_from_Decides}
+use Rattle.std.proofs.lemmas.List.{take_more, take_all, length_push}
+use Rattle.std.proofs.lemmas.Option.{slice_get_within, get_or_from_slice_get}
+use Rattle.std.proofs.lemmas.Slice.Eq.{bytes_eq-Decides}
+use Rattle.std.specs.List.{AllByRecursion as Each}
+use Rattle.p21_semantics.proofs.PlainDigits.{digits_append}
+use Rattle.p21_semantics.specs.Digits.{IsDigit, AllDigits, number as number_of}
+use Rattle.p21_semantics.specs.Keyword.{IsKeywordByte}
+use Rattle.p21_semantics.specs.Name.{SpellsName}
+use Rattle.p21_semantics.specs.Number.{Sign, none, plus, minus, sign_bytes, exponent_bytes}
+use Rattle.p21_semantics.specs.Token.{Token, Spells, MayFollow, HasNoExponent}
+use Rattle.p21_semantics.specs.Token as token
+use Rattle.p21_tokens_automaton.specs.Bytes.{is_digit, is_upper, is_keyword_byte, is_hex, hex_value, is_blank}
+use Rattle.p21_tokens_automaton.specs.Meaning.{IsOfKind, Means}
+use Rattle.p21_tokens_automaton.specs.Step.{behind_digit, no_digit, number_action, marker_text, marker_action, word_action, name_digit, name_action, padded, binary_action, mark_action, between_action, text_action, advance}
+use Rattle.p21_tokens_automaton.specs.Reading.{Found, Kind, keyword, user_keyword, whole, real, item, bits, known, spelled, marker_token, ended}
+use Rattle.p21_tokens_automaton.specs.declared.mode.Mode.{Mode}
+use Rattle.p21_tokens_automaton.specs.declared.mode.Mode.TheVariants.{Between, Number, Word, Name, Binary, Text}
+use Rattle.p21_tokens_automaton.specs.declared.mode.NumberMode.{NumberMode}
+use Rattle.p21_tokens_automaton.specs.declared.mode.NumberMode.TheVariants as number
+use Rattle.p21_tokens_automaton.specs.declared.mode.WordMode.{WordMode}
+use Rattle.p21_tokens_automaton.specs.declared.mode.WordMode.TheVariants as word
+use Rattle.p21_tokens_automaton.specs.declared.mode.Marker.{Marker}
+use Rattle.p21_tokens_automaton.specs.declared.mode.Marker.TheVariants.{Begin, Finish}
+use Rattle.p21_tokens_automaton.specs.declared.mode.NameMode.{NameMode}
+use Rattle.p21_tokens_automaton.specs.declared.mode.NameMode.TheVariants as name_mode
+use Rattle.p21_tokens_automaton.specs.declared.mode.BinaryMode.{BinaryMode}
+use Rattle.p21_tokens_automaton.specs.declared.mode.BinaryMode.TheVariants as binary
+use Rattle.p21_tokens_automaton.specs.declared.mode.TextMode.{TextMode}
+use Rattle.p21_tokens_automaton.specs.declared.mode.TextMode.TheVariants as text_mode
+use Rattle.p21_tokens_automaton.specs.declared.mode.Absent.TheVariants.{ConstantName}
+use Rattle.p21_tokens_automaton.specs.declared.mode.Wrong.TheVariants as wrong
+use Rattle.p21_tokens_automaton.specs.declared.mode.Action.{Action}
+use Rattle.p21_tokens_automaton.specs.declared.mode.Action.TheVariants.{Pass, Skip, Keep, Close, End, Dash, Refuse}
+use Rattle.p21_tokens_automaton.proofs.Classes.{digit-decides, blank-decides, keyword_byte-decides}
+use Rattle.p21_tokens_automaton.proofs.Sound.{FirstFits}
+use Rattle.p21_tokens_automaton.proofs.TokenRuns.{number-more}
+use Rattle.p21_tokens_automaton.proofs.Fits.{HasExponentMark, NumberFits, NameFits, ModeFits, EndFits, StepFits}
+
+-- ---- what is found
+
+some-is : {A : Type 0} (f g : A) → Some f ≡ Some g → f ≡ g
+some-is f g e = cc
+
+not-some : {A : Type 0} (f : A) → None ≡ Some f → ⊥
+not-some f e = cc
+
+-- ---- numbers
+
+no-exponent_mark : (bytes : List ℕ) → AllDigits bytes → Each (λ b. b ≢ 69) bytes
+no-exponent_mark [] h = tt
+no-exponent_mark (b ∷ bytes) h = let d = h.0 in (λ e. omega arith, no-exponent_mark bytes h.1)
+
+each-both : (P : ℕ → Type 0) (xs ys : List ℕ) → Each P xs → Each P ys → Each P (xs ++ ys)
+each-both P [] ys p q = q
+each-both P (x ∷ xs) ys p q = (p.0, each-both P xs ys p.1 q)
+
+each-at : (P : ℕ → Type 0) (xs : List ℕ) (y : ℕ) (ys : List ℕ) → Each P (xs ++ y ∷ ys) → P y
+each-at P [] y ys p = p.0
+each-at P (x ∷ xs) y ys p = each-at P xs y ys p.1
+
+sign-has_no_mark : (s : Sign) → Each (λ b. b ≢ 69) (sign_bytes s)
+sign-has_no_mark none = tt
+sign-has_no_mark plus = (λ e. omega arith, tt)
+sign-has_no_mark minus = (λ e. omega arith, tt)
+
+has-exponent : (front : List ℕ) → HasExponentMark front → HasNoExponent front → ⊥
+has-exponent front mark plain =
+    let P : ℕ → Type 0 = λ b. b ≢ 69 in
+    let form = plain.0 in
+    let fraction = no-exponent_mark form.fraction form.are_fraction_digits in
+    let tail : Each P (46 ∷ (form.fraction ++ exponent_bytes form.power)) = (λ e. omega arith, each-both P form.fraction (exponent_bytes form.power) fraction (rw (plain.1) tt)) in
+    let all = each-both P (sign_bytes form.sign) _ (sign-has_no_mark form.sign) (each-both P form.whole _ (no-exponent_mark form.whole form.are_digits) tail) in
+    each-at P mark.0 69 mark.1 (subst (Each P) (sym form.bytes_are ∙ mark.2) all) refl
+
+more-behind_mark : (front : List ℕ) (b : ℕ) → HasExponentMark front → HasExponentMark (front ++ b ∷ [])
+more-behind_mark front b h = (h.0, h.1 ++ b ∷ [], ap (λ (x : List ℕ). x ++ b ∷ []) h.2 ∙ append_assoc h.0 (69 ∷ h.1) (b ∷ []))
+
+whole-follows : (t : Token) (front : List ℕ) (b : ℕ) → IsOfKind whole t → (IsDigit b → ⊥) → b ≢ 46 → MayFollow t front b
+whole-follows (token.whole z) front b k n e = (n, e)
+whole-follows _ front b k n e = absurd k
+
+real-follows : (t : Token) (front : List ℕ) (b : ℕ) → IsOfKind real t → (IsDigit b → ⊥) → (HasNoExponent front → b ≢ 69) → MayFollow t front b
+real-follows (token.real d) front b k n e = (n, e)
+real-follows _ front b k n e = absurd k
+
+module _ (b : ℕ) (kept characters front : List ℕ) where
+  keeps : (e : kept ≡ front) → kept ++ b ∷ [] ≡ front ++ b ∷ []
+  keeps e = ap (λ (x : List ℕ). x ++ b ∷ []) e
+
+  -- what stands behind an ended token
+  whole-end : (IsDigit b → ⊥) → b ≢ 46 → StepFits (Number number.Whole) kept characters front b End
+  whole-end n e found t is means = whole-follows t front b (subst (λ f. Means f t) (sym (some-is _ _ is)) means).0 n e
+
+  real-end : (m : NumberMode) → ended (record { mode = Number m; kept = kept; characters = characters; size = length front }) ≡ Some (spelled real kept) → (IsDigit b → ⊥) → (HasNoExponent front → b ≢ 69) → StepFits (Number m) kept characters front b End
+  real-end m own n e found t is means = real-follows t front b (subst (λ f. Means f t) (some-is _ _ (sym is ∙ own)) means).0 n e
+
+  behind_digit-fits : (m : NumberMode) → NumberFits m front → NumberFits (behind_digit m) (front ++ b ∷ [])
+  behind_digit-fits number.Sign h = tt
+  behind_digit-fits number.Whole h = tt
+  behind_digit-fits number.Fraction h = tt
+  behind_digit-fits number.Exponent h = more-behind_mark front b h
+  behind_digit-fits number.ExponentSign h = more-behind_mark front b h
+  behind_digit-fits number.ExponentDigits h = more-behind_mark front b h
+
+  no_digit-fits : (m : NumberMode) → ModeFits (Number m) kept characters front → (IsDigit b → ⊥) → StepFits (Number m) kept characters front b (no_digit m b)
+  no_digit-fits number.Sign h n = tt
+  no_digit-fits number.Whole h n =
+      cond_both (eqb b 46) (Keep (Number number.Fraction)) End (λ a. StepFits (Number number.Whole) kept characters front b a) (λ e. (keeps h.0, tt)) (λ e. whole-end n (eqb-false b 46 e))
+  no_digit-fits number.Fraction h n =
+      cond_both (eqb b 69) (Keep (Number number.Exponent)) End (λ a. StepFits (Number number.Fraction) kept characters front b a)
+      (λ e. (keeps h.0, (front, [], ap (λ (c : ℕ). front ++ c ∷ []) (eqb-true b 69 e))))
+      (λ e. real-end number.Fraction refl n (λ _. eqb-false b 69 e))
+  no_digit-fits number.Exponent h n =
+      cond_both (eqb b 43 || eqb b 45) (Keep (Number number.ExponentSign)) (Refuse wrong.Number) (λ a. StepFits (Number number.Exponent) kept characters front b a) (λ e. (keeps h.0, more-behind_mark front b h.1)) (λ e. tt)
+  no_digit-fits number.ExponentSign h n = tt
+  no_digit-fits number.ExponentDigits h n = real-end number.ExponentDigits refl n (λ none. absurd (has-exponent front h.1 none))
+
+pub number-fits : (m : NumberMode) (b : ℕ) (kept characters front : List ℕ) → ModeFits (Number m) kept characters front → StepFits (Number m) kept characters front b (number_action m b)
+number-fits m b kept characters front h =
+    cond_both (is_digit b) (Keep (Number (behind_digit m))) (no_digit m b) (λ a. StepFits (Number m) kept characters front b a)
+    (λ e. (keeps b kept characters front h.0, behind_digit-fits b kept characters front m h.1))
+    (λ e. no_digit-fits b kept characters front m h (not_from_Decides _ (digit-decides b) e))
+
+spelled-ends : (kind : Kind) (kept front : List ℕ) → kept ≡ front → (found : Found) (t : Token) → Some (spelled kind kept) ≡ Some found → Means found t → Spells t front
+spelled-ends kind kept front e found t is means =
+    subst (λ (x : List ℕ). Spells t x) e (subst (λ f. Means f t) (sym (some-is _ _ is)) means).1
+
+pub number-ends : (m : NumberMode) (kept characters front : List ℕ) → ModeFits (Number m) kept characters front → EndFits (Number m) kept characters front
+number-ends number.Sign kept characters front h found t is means = absurd (not-some found is)
+number-ends number.Whole kept characters front h found t is means = spelled-ends whole kept front h.0 found t is means
+number-ends number.Fraction kept characters front h found t is means = spelled-ends real kept front h.0 found t is means
+number-ends number.Exponent kept characters front h found t is means = absurd (not-some found is)
+number-ends number.ExponentSign kept characters front h found t is means = absurd (not-some found is)
+number-ends number.ExponentDigits kept characters front h found t is means = spelled-ends real kept front h.0 found t is means
+
+-- ---- keywords, markers and items
+
+keyword-follows : (t : Token) (front : List ℕ) (b : ℕ) → IsOfKind keyword t → (IsKeywordByte b → ⊥) → b ≢ 45 → MayFollow t front b
+keyword-follows (token.keyword w) front b k n e = (n, e)
+keyword-follows _ front b k n e = absurd k
+
+user_keyword-follows : (t : Token) (front : List ℕ) (b : ℕ) → IsOfKind user_keyword t → (IsKeywordByte b → ⊥) → b ≢ 45 → MayFollow t front b
+user_keyword-follows (token.user_keyword w) front b k n e = (n, e)
+user_keyword-follows _ front b k n e = absurd k
+
+marker-follows : (marker : Marker) (front : List ℕ) (b : ℕ) → (IsKeywordByte b → ⊥) → MayFollow (marker_token marker) front b
+marker-follows Begin front b n = n
+marker-follows Finish front b n = n
+
+marker-spells : (marker : Marker) (front : List ℕ) → front ≡ marker_text marker → Spells (marker_token marker) front
+marker-spells Begin front e = e
+marker-spells Finish front e = e
+
+module _ (b : ℕ) (kept characters front : List ℕ) where
+  -- a token of this kind, spelled by the kept bytes, that ends before the byte
+  kind-end : (m : Mode) (kind : Kind) → ended (record { mode = m; kept = kept; characters = characters; size = length front }) ≡ Some (spelled kind kept) → ((t : Token) → IsOfKind kind t → MayFollow t front b) → StepFits m kept characters front b End
+  kind-end m kind own follows found t is means = follows t (subst (λ f. Means f t) (some-is _ _ (sym is ∙ own)) means).0
+
+  -- a token that is known
+  known-end : (m : Mode) (u : Token) → ended (record { mode = m; kept = kept; characters = characters; size = length front }) ≡ Some (known u) → MayFollow u front b → StepFits m kept characters front b End
+  known-end m u own follows found t is means = subst (λ v. MayFollow v front b) (subst (λ f. Means f t) (some-is _ _ (sym is ∙ own)) means) follows
+
+  dash-fits : kept ≡ front → b ≡ 45 → StepFits (Word word.Keyword) kept characters front b Dash
+  dash-fits h e next =
+      let P : Option Mode → Type 0 = λ o. o ≡ Some next → ModeFits next (kept ++ b ∷ []) characters (front ++ b ∷ []) in
+      let behind_dash : (text : List ℕ) → kept ≡ text → front ++ b ∷ [] ≡ text ++ 45 ∷ [] = λ text k. ap (λ (x : List ℕ). x ++ b ∷ []) (sym h ∙ k) ∙ ap (λ (c : ℕ). text ++ c ∷ []) e in
+      cond_both (bytes_eq kept (codes "ISO")) (Some (Word (word.Marker Begin 4))) _ P
+      (λ k is. subst (λ m. ModeFits m (kept ++ b ∷ []) characters (front ++ b ∷ [])) (some-is _ _ is) (ap (λ (x : List ℕ). x ++ b ∷ []) h, (behind_dash (codes "ISO") ((bytes_eq-Decides _ _).0 k), omega arith)))
+      (λ _. cond_both (bytes_eq kept (codes "END")) (Some (Word (word.Marker Finish 4))) None P
+      (λ k is. subst (λ m. ModeFits m (kept ++ b ∷ []) characters (front ++ b ∷ [])) (some-is _ _ is) (ap (λ (x : List ℕ). x ++ b ∷ []) h, (behind_dash (codes "END") ((bytes_eq-Decides _ _).0 k), omega arith)))
+      (λ _ is. absurd (not-some next is)))
+
+  marker-fits : (marker : Marker) (taken : ℕ) → kept ≡ front → front ≡ take taken (marker_text marker) → (due : Option ℕ) → slice_get (marker_text marker) taken ≡ due → StepFits (Word (word.Marker marker taken)) kept characters front b (marker_action marker taken b due)
+  marker-fits marker taken h f None due_is = tt
+  marker-fits marker taken h f (Some expected) due_is =
+      let m : Mode = Word (word.Marker marker taken) in
+      let text = marker_text marker in
+      let P : Action → Type 0 = λ a. StepFits m kept characters front b a in
+      let more : Action = Keep (Word (word.Marker marker (taken + 1))) in
+      let last : Action = Keep (Word (word.Marked marker)) in
+      let own : kept ++ b ∷ [] ≡ front ++ b ∷ [] = ap (λ (x : List ℕ). x ++ b ∷ []) h in
+      let within = slice_get_within text taken expected due_is in
+      let at : b ≡ expected → front ++ b ∷ [] ≡ take (taken + 1) text = λ e. ap (λ (x : List ℕ). x ++ b ∷ []) f ∙ (ap (λ (c : ℕ). take taken text ++ c ∷ []) (e ∙ sym (get_or_from_slice_get text taken expected 0 due_is)) ∙ sym (take_more text taken 0 within)) in
+      cond_both (eqb b expected) (cond (ltb (taken + 1) (length text)) more last) (Refuse wrong.Byte) P
+      (λ e. cond_both (ltb (taken + 1) (length text)) more last P
+      (λ l. (own, (at (eqb-true b expected e), omega arith)))
+      (λ l. (own, at (eqb-true b expected e) ∙ take_all (taken + 1) text (ltb-false (taken + 1) (length text) l))))
+      (λ e. tt)
+
+  word-step : (m : WordMode) → ModeFits (Word m) kept characters front → StepFits (Word m) kept characters front b (word_action m b)
+  word-step word.Keyword h =
+      let P : Action → Type 0 = λ a. StepFits (Word word.Keyword) kept characters front b a in
+      cond_both (is_keyword_byte b) (Keep (Word word.Keyword)) (cond (eqb b 45) Dash End) P (λ e. (keeps b kept characters front h.0, tt)) (λ e.
+      cond_both (eqb b 45) Dash End P (λ d. dash-fits h.0 (eqb-true b 45 d))
+      (λ d. kind-end (Word word.Keyword) keyword refl (λ t k. keyword-follows t front b k (not_from_Decides _ (keyword_byte-decides b) e) (eqb-false b 45 d))))
+  word-step (word.Marker marker taken) h = marker-fits marker taken h.0 h.1.0 (slice_get (marker_text marker) taken) refl
+  word-step (word.Marked marker) h =
+      cond_both (is_keyword_byte b) (Refuse wrong.Byte) End (λ a. StepFits (Word (word.Marked marker)) kept characters front b a) (λ e. tt)
+      (λ e. known-end (Word (word.Marked marker)) (marker_token marker) refl (marker-follows marker front b (not_from_Decides _ (keyword_byte-decides b) e)))
+  word-step word.Exclamation h =
+      cond_both (is_upper b) (Keep (Word word.UserKeyword)) (Refuse wrong.Byte) (λ a. StepFits (Word word.Exclamation) kept characters front b a) (λ e. (keeps b kept characters front h.0, tt)) (λ e. tt)
+  word-step word.UserKeyword h =
+      let P : Action → Type 0 = λ a. StepFits (Word word.UserKeyword) kept characters front b a in
+      cond_both (is_keyword_byte b) (Keep (Word word.UserKeyword)) (cond (eqb b 45) (Refuse wrong.Byte) End) P (λ e. (keeps b kept characters front h.0, tt)) (λ e.
+      cond_both (eqb b 45) (Refuse wrong.Byte) End P (λ d. tt)
+      (λ d. kind-end (Word word.UserKeyword) user_keyword refl (λ t k. user_keyword-follows t front b k (not_from_Decides _ (keyword_byte-decides b) e) (eqb-false b 45 d))))
+  word-step word.Point h =
+      cond_both (is_upper b) (Keep (Word word.Item)) (Refuse wrong.Byte) (λ a. StepFits (Word word.Point) kept characters front b a) (λ e. (keeps b kept characters front h.0, tt)) (λ e. tt)
+  word-step word.Item h =
+      let P : Action → Type 0 = λ a. StepFits (Word word.Item) kept characters front b a in
+      let own = keeps b kept characters front h.0 in
+      cond_both (is_keyword_byte b) (Keep (Word word.Item)) (cond (eqb b 46) Close (Refuse wrong.Byte)) P (λ e. (own, tt)) (λ e.
+      cond_both (eqb b 46) Close (Refuse wrong.Byte) P (λ d. spelled-ends item (kept ++ b ∷ []) (front ++ b ∷ []) own) (λ d. tt))
+
+pub word-fits : (m : WordMode) (b : ℕ) (kept characters front : List ℕ) → ModeFits (Word m) kept characters front → StepFits (Word m) kept characters front b (word_action m b)
+word-fits m b kept characters front h = word-step b kept characters front m h
+
+pub word-ends : (m : WordMode) (kept characters front : List ℕ) → ModeFits (Word m) kept characters front → EndFits (Word m) kept characters front
+word-ends word.Keyword kept characters front h found t is means = spelled-ends keyword kept front h.0 found t is means
+word-ends (word.Marked marker) kept characters front h found t is means =
+    subst (λ (u : Token). Spells u front) (subst (λ f. Means f t) (sym (some-is _ _ is)) means) (marker-spells marker front h.1)
+word-ends word.UserKeyword kept characters front h found t is means = spelled-ends user_keyword kept front h.0 found t is means
+word-ends _ kept characters front h found t is means = absurd (not-some found is)
+
+-- ---- names
+
+module _ (b : ℕ) (kept characters front : List ℕ) where
+  -- one digit more
+  digit-fits : (m : NameMode) (value : ℕ) (digits : List ℕ) → front ≡ 35 ∷ digits → AllDigits digits → value ≡ number_of digits → IsDigit b → StepFits (Name m) kept characters front b (name_digit value (b - 48))
+  digit-fits m value digits f h v d =
+      let more : ℕ = value * 10 + (b - 48) in
+      cond_both (ltb more (2 ^ 64)) (Skip (Name (name_mode.Digits more))) (Refuse wrong.NameRange) (λ a. StepFits (Name m) kept characters front b a) (λ e. (
+        digits ++ b ∷ [],
+        ap (λ (x : List ℕ). x ++ b ∷ []) f,
+        let l = length_push digits b in omega arith,
+        digits_append digits (b ∷ []) h (d, tt),
+        ap (λ (n : ℕ). n * 10 + (b - 48)) v ∙ sym (number-more digits b),
+        ltb-true more (2 ^ 64) e,
+      ))
+      (λ e. tt)
+
+  name-step : (m : NameMode) → NameFits m front → StepFits (Name m) kept characters front b (name_action m b)
+  name-step name_mode.Hash h =
+      cond_both (is_digit b) (name_digit 0 (b - 48)) (cond (is_upper b) (Refuse (wrong.LeftOut ConstantName)) (Refuse wrong.Name)) (λ a. StepFits (Name name_mode.Hash) kept characters front b a)
+      (λ e. digit-fits name_mode.Hash 0 [] h tt refl ((digit-decides b).0 e))
+      (λ e. cond_both (is_upper b) (Refuse (wrong.LeftOut ConstantName)) (Refuse wrong.Name) (λ a. StepFits (Name name_mode.Hash) kept characters front b a) (λ _. tt) (λ _. tt))
+  name-step (name_mode.Digits value) h =
+      cond_both (is_digit b) (name_digit value (b - 48)) End (λ a. StepFits (Name (name_mode.Digits value)) kept characters front b a)
+      (λ e. digit-fits (name_mode.Digits value) value h.0 h.1 h.3 h.4 ((digit-decides b).0 e))
+      (λ e. known-end b kept characters front (Name (name_mode.Digits value)) (token.name value) refl (not_from_Decides _ (digit-decides b) e))
+
+pub name-fits : (m : NameMode) (b : ℕ) (kept characters front : List ℕ) → ModeFits (Name m) kept characters front → StepFits (Name m) kept characters front b (name_action m b)
+name-fits m b kept characters front h = name-step b kept characters front m h
+
+pub name-ends : (m : NameMode) (kept characters front : List ℕ) → ModeFits (Name m) kept characters front → EndFits (Name m) kept characters front
+name-ends name_mode.Hash kept characters front h found t is means = absurd (not-some found is)
+name-ends (name_mode.Digits value) kept characters front h found t is means =
+    let own : SpellsName front value = record { form = record { digits = h.0; bytes_are = h.1; some_digits = h.2; are_digits = h.3 }; value_is = h.4; in_range = h.5 } in
+    subst (λ (u : Token). Spells u front) (subst (λ f. Means f t) (sym (some-is _ _ is)) means) own
+
+-- ---- binaries
+
+module _ (b : ℕ) (kept characters front : List ℕ) where
+  close-fits : (m : BinaryMode) → kept ≡ front → StepFits (Binary m) kept characters front b Close
+  close-fits m h = spelled-ends bits (kept ++ b ∷ []) (front ++ b ∷ []) (keeps b kept characters front h)
+
+  binary-step : (m : BinaryMode) → kept ≡ front → StepFits (Binary m) kept characters front b (binary_action m b)
+  binary-step binary.Quote h =
+      cond_both (leb 48 b && leb b 51) (Keep (Binary (binary.Padding (b - 48)))) (Refuse wrong.Binary) (λ a. StepFits (Binary binary.Quote) kept characters front b a) (λ e. keeps b kept characters front h) (λ e. tt)
+  binary-step (binary.Padding padding) h =
+      let P : Action → Type 0 = λ a. StepFits (Binary (binary.Padding padding)) kept characters front b a in
+      let room = padded padding (hex_value b) in
+      cond_both (is_hex b) (cond room (Keep (Binary binary.Hex)) (Refuse wrong.Binary)) (cond (eqb b 34 && eqb padding 0) Close (Refuse wrong.Binary)) P
+      (λ e. cond_both room (Keep (Binary binary.Hex)) (Refuse wrong.Binary) P (λ _. keeps b kept characters front h) (λ _. tt))
+      (λ e. cond_both (eqb b 34 && eqb padding 0) Close (Refuse wrong.Binary) P (λ _. close-fits (binary.Padding padding) h) (λ _. tt))
+  binary-step binary.Hex h =
+      let P : Action → Type 0 = λ a. StepFits (Binary binary.Hex) kept characters front b a in
+      cond_both (is_hex b) (Keep (Binary binary.Hex)) (cond (eqb b 34) Close (Refuse wrong.Binary)) P (λ e. keeps b kept characters front h)
+      (λ e. cond_both (eqb b 34) Close (Refuse wrong.Binary) P (λ _. close-fits binary.Hex h) (λ _. tt))
+
+pub binary-fits : (m : BinaryMode) (b : ℕ) (kept characters front : List ℕ) → ModeFits (Binary m) kept characters front → StepFits (Binary m) kept characters front b (binary_action m b)
+binary-fits m b kept characters front h = binary-step b kept characters front m h
+
+pub binary-ends : (m : BinaryMode) (kept characters front : List ℕ) → ModeFits (Binary m) kept characters front → EndFits (Binary m) kept characters front
+binary-ends m kept characters front h found t is means = absurd (not-some found is)
+
+-- ---- between tokens
+
+opens-text : (b : ℕ) → b ≡ 39 → ModeFits (Text text_mode.Inside) [] [] (b ∷ [])
+opens-text b e = ([], ap (λ (c : ℕ). c ∷ []) e, record { units = []; are_units = tt; bytes_are = refl; characters_are = refl })
+
+-- a test for one byte, and what the others do
+one-byte : (b n : ℕ) (x y : Action) → (b ≡ n → FirstFits b x) → FirstFits b y → FirstFits b (cond (eqb b n) x y)
+one-byte b n x y p q = cond_both (eqb b n) x y (FirstFits b) (λ e. p (eqb-true b n e)) (λ e. q)
+
+module _ (b : ℕ) where
+  single-byte : (n : ℕ) → b ≡ n → b ∷ [] ≡ n ∷ []
+  single-byte n e = ap (λ (c : ℕ). c ∷ []) e
+
+  mark-fits : FirstFits b (mark_action b)
+  mark-fits =
+      one-byte b 44 _ _ (λ e. single-byte 44 e)
+      (one-byte b 35 _ _ (λ e. single-byte 35 e)
+      (one-byte b 40 _ _ (λ e. single-byte 40 e)
+      (one-byte b 41 _ _ (λ e. single-byte 41 e)
+      (one-byte b 39 _ _ (λ e. opens-text b e)
+      (one-byte b 46 _ _ (λ e. (refl, tt))
+      (one-byte b 59 _ _ (λ e. single-byte 59 e)
+      (one-byte b 61 _ _ (λ e. single-byte 61 e)
+      (one-byte b 36 _ _ (λ e. single-byte 36 e)
+      (one-byte b 42 _ _ (λ e. single-byte 42 e)
+      (one-byte b 43 _ _ (λ e. (refl, tt))
+      (one-byte b 45 _ _ (λ e. (refl, tt))
+      (one-byte b 34 _ _ (λ e. refl)
+      (one-byte b 33 _ _ (λ e. (refl, tt))
+      (one-byte b 47 _ _ (λ e. inr (refl, e))
+      (one-byte b 38 _ _ (λ e. tt)
+      (one-byte b 64 _ _ (λ e. tt) tt))))))))))))))))
+
+pub first-fits : (b : ℕ) → FirstFits b (between_action b)
+first-fits b =
+    cond_both (is_blank b) (Pass Between) _ (FirstFits b) (λ e. inl (refl, (blank-decides b).0 e)) (λ _.
+    cond_both (is_digit b) (Keep (Number number.Whole)) _ (FirstFits b) (λ e. (refl, tt)) (λ _.
+    cond_both (is_upper b) (Keep (Word word.Keyword)) (mark_action b) (FirstFits b) (λ e. (refl, tt)) (λ _. mark-fits b)))
+
+-- ---- every mode
+
+-- each byte of an open token fits, if it does in a string
+pub mode-fits : ((m : TextMode) (b : ℕ) (kept characters front : List ℕ) → ModeFits (Text m) kept characters front → StepFits (Text m) kept characters front b (text_action m b))
+    → (m : Mode) (b : ℕ) (kept characters front : List ℕ) → ModeFits m kept characters front → StepFits m kept characters front b (advance m b)
+mode-fits text-fits (Number m) b kept characters front h = number-fits m b kept characters front h
+mode-fits text-fits (Word m) b kept characters front h = word-fits m b kept characters front h
+mode-fits text-fits (Name m) b kept characters front h = name-fits m b kept characters front h
+mode-fits text-fits (Binary m) b kept characters front h = binary-fits m b kept characters front h
+mode-fits text-fits (Text m) b kept characters front h = text-fits m b kept characters front h
+mode-fits text-fits _ b kept characters front h = absurd h
+
+-- the token of an open mode is spelled by its bytes, if a string is
+pub mode-ends : ((m : TextMode) (kept characters front : List ℕ) → ModeFits (Text m) kept characters front → EndFits (Text m) kept characters front)
+    → (m : Mode) (kept characters front : List ℕ) → ModeFits m kept characters front → EndFits m kept characters front
+mode-ends text-ends (Number m) kept characters front h found t is means = number-ends m kept characters front h found t is means
+mode-ends text-ends (Word m) kept characters front h found t is means = word-ends m kept characters front h found t is means
+mode-ends text-ends (Name m) kept characters front h found t is means = name-ends m kept characters front h found t is means
+mode-ends text-ends (Binary m) kept characters front h found t is means = binary-ends m kept characters front h found t is means
+mode-ends text-ends (Text m) kept characters front h found t is means = text-ends m kept characters front h found t is means
+mode-ends text-ends _ kept characters front h found t is means = absurd h
