@@ -1,0 +1,28 @@
+-- Hex digits, their values and the numbers that rows of them stand for.
+use Rattle.std.proofs.Common.{◌≡◌, ℕ, suc, ◌+◌, ◌-◌, ◌*◌, ◌/◌, ◌%◌, ◌^◌, ◌<◌, ◌≤◌, List, [], ◌∷◌, ◌++◌, true, refl, sym, ap, ap₂, ◌∙◌, subst, arith, add-one}
+use Rattle.std.proofs.Math.Nat.{pow-suc}
+use Rattle.std.proofs.lemmas.Bool.Decides.{nat_tests}
+use Rattle.p21_semantics.specs.Digits.{hex_digit, hex_digits}
+use Rattle.p21_tokens_automaton.specs.Bytes.{is_hex, hex_value}
+
+pub hex_value-small : (byte : ℕ) → is_hex byte ≡ true → hex_value byte < 16
+hex_value-small byte h = grind (arith, nat_tests)
+
+pub hex_digit-hex_value : (byte : ℕ) → is_hex byte ≡ true → byte ≡ hex_digit (hex_value byte)
+hex_digit-hex_value byte h = grind (arith, nat_tests)
+
+pub is_hex-hex_digit : (digit : ℕ) → digit < 16 → is_hex (hex_digit digit) ≡ true
+is_hex-hex_digit digit h = grind (arith, nat_tests)
+
+pub hex_value-hex_digit : (digit : ℕ) → digit < 16 → hex_value (hex_digit digit) ≡ digit
+hex_value-hex_digit digit h = grind (arith, nat_tests)
+
+-- one more digit
+pub hex_digits-more : (count value digit : ℕ) → digit < 16 → hex_digits count value ++ hex_digit digit ∷ [] ≡ hex_digits (count + 1) (value * 16 + digit)
+hex_digits-more count value digit h =
+    let all : (value * 16 + digit) / 16 ≡ value = omega arith in
+    let last : (value * 16 + digit) % 16 ≡ digit = omega arith in
+    rw (add-one, all, last) refl
+
+pub more-small : (count value digit : ℕ) → value < 16 ^ count → digit < 16 → value * 16 + digit < 16 ^ (count + 1)
+more-small count value digit h k = rw (add-one, pow-suc) (omega arith)
