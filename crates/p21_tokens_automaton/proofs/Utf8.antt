@@ -36,17 +36,19 @@ two_bytes_at c high last e h k m n =
 
 three_bytes_at : (c high second last : ℕ) → c ≡ high * 4096 + (second - 128) * 64 + (last - 128) → 32 ≤ high * 64 + (second - 128) → high < 16 → 128 ≤ second → second ≤ 191 → 128 ≤ last → last ≤ 191
     → (128 ≤ c) × (encode_utf8 c ≡ (224 + high) ∷ second ∷ last ∷ [])
-three_bytes_at c high second last e h k m n p q =
-    (omega arith,
-      encode-three c (omega arith) (omega arith)
-      ∙ three_equal (224 + c / 4096) (128 + (c / 64) % 64) (128 + c % 64) (224 + high) second last (omega arith) (omega arith) (omega arith))
+three_bytes_at c high second last e h k m n p q = (
+  omega arith,
+  encode-three c (omega arith) (omega arith)
+      ∙ three_equal (224 + c / 4096) (128 + (c / 64) % 64) (128 + c % 64) (224 + high) second last (omega arith) (omega arith) (omega arith),
+)
 
 four_bytes_at : (c high second third last : ℕ) → c ≡ high * 262144 + (second - 128) * 4096 + (third - 128) * 64 + (last - 128) → 16 ≤ high * 64 + (second - 128) → 128 ≤ second → second ≤ 191 → 128 ≤ third → third ≤ 191 → 128 ≤ last → last ≤ 191
     → (128 ≤ c) × (encode_utf8 c ≡ (240 + high) ∷ second ∷ third ∷ last ∷ [])
-four_bytes_at c high second third last e h m n p q r s =
-    (omega arith,
-      encode-four c (omega arith)
-      ∙ four_equal (240 + c / 262144) (128 + (c / 4096) % 64) (128 + (c / 64) % 64) (128 + c % 64) (240 + high) second third last (omega arith) (omega arith) (omega arith) (omega arith))
+four_bytes_at c high second third last e h m n p q r s = (
+  omega arith,
+  encode-four c (omega arith)
+      ∙ four_equal (240 + c / 262144) (128 + (c / 4096) % 64) (128 + (c / 64) % 64) (128 + c % 64) (240 + high) second third last (omega arith) (omega arith) (omega arith) (omega arith),
+)
 
 -- The first byte of a character: what it and the bytes behind it are
 
