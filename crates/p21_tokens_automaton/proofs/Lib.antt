@@ -5,3 +5,4 @@ pub mod TextFits
 pub mod Utf8
 pub mod Fits
 pub mod TextSound
+pub mod TextRuns

@@ -25,3 +25,8 @@ pub groups-from_pair : (high low : ℕ) → 0xD800 ≤ high → high ≤ 0xDBFF 
 groups-from_pair high low h k m n =
     ap (λ x. flat_map (hex_digits 4) x) (encode-from_pair (65536 + (high % 1024) * 1024 + low % 1024) high low refl h k m n)
     ∙ ap (λ x. hex_digits 4 high ++ x) (append-nil (hex_digits 4 low))
+
+pub groups-pair : (c : ℕ) → 65536 ≤ c → utf16_groups c ≡ hex_digits 4 (0xD800 + (c - 65536) / 1024) ++ hex_digits 4 (0xDC00 + (c - 65536) % 1024)
+groups-pair c h =
+    ap (λ x. flat_map (hex_digits 4) x) (encode-pair c h)
+    ∙ ap (λ x. hex_digits 4 (0xD800 + (c - 65536) / 1024) ++ x) (append-nil (hex_digits 4 (0xDC00 + (c - 65536) % 1024)))
