@@ -260,3 +260,148 @@ module _ (group : ℕ → List ℕ) (first next : TextMode) (from_first : (c : �
       (runs-skip next text_mode.EndBackslash inside all all (88 ∷ 48 ∷ 92 ∷ []) 92 g
       (runs-skip text_mode.EndBackslash text_mode.EndMark inside all all (48 ∷ 92 ∷ []) 88 refl
       (runs-skip text_mode.EndMark text_mode.EndZero inside all all (92 ∷ []) 48 refl (last-skip text_mode.EndZero inside all 92 refl))))))))
+
+-- Characters in UTF-8
+
+two-run : (c : ℕ) → IsScalar c → 128 ≤ c → c < 2048 → (a : List ℕ) → Runs text_mode.Inside a ((192 + c / 64) ∷ (128 + c % 64) ∷ []) text_mode.Inside (a ++ c ∷ [])
+two-run c s h k a =
+    let lead = 192 + c / 64 in
+    let last = 128 + c % 64 in
+    let is : utf8_value (lead % 32) last ≡ c = omega arith in
+    runs-skip text_mode.Inside (text_mode.Utf8Last (lead % 32)) text_mode.Inside a (a ++ c ∷ []) (last ∷ []) lead (high-byte lead (omega arith) ∙ two-byte lead (omega arith) (omega arith))
+    (last-put (text_mode.Utf8Last (lead % 32)) text_mode.Inside a last c (last-byte (lead % 32) last c (omega arith) (omega arith) is s))
+
+three-end : (c low top value : ℕ) → IsScalar c → text_action text_mode.Inside (224 + c / 4096) ≡ Skip (Text (text_mode.Utf8Second low top value)) → low ≤ 128 + (c / 64) % 64 → 128 + (c / 64) % 64 ≤ top → value ≡ c / 4096 → c < 65536 → (a : List ℕ)
+    → Runs text_mode.Inside a ((224 + c / 4096) ∷ (128 + (c / 64) % 64) ∷ (128 + c % 64) ∷ []) text_mode.Inside (a ++ c ∷ [])
+three-end c low top value s e from to v below a =
+    let second = 128 + (c / 64) % 64 in
+    let last = 128 + c % 64 in
+    let one : utf8_value value second ≡ c / 64 = omega arith in
+    let is : utf8_value (utf8_value value second) last ≡ c = omega arith in
+    runs-skip text_mode.Inside (text_mode.Utf8Second low top value) text_mode.Inside a (a ++ c ∷ []) (second ∷ last ∷ []) (224 + c / 4096) e
+    (runs-skip (text_mode.Utf8Second low top value) (text_mode.Utf8Last (utf8_value value second)) text_mode.Inside a (a ++ c ∷ []) (last ∷ []) second (second-byte low top value second from to)
+    (last-put (text_mode.Utf8Last (utf8_value value second)) text_mode.Inside a last c (last-byte (utf8_value value second) last c (omega arith) (omega arith) is s)))
+
+-- the first byte of three, by its value: at E0 the second byte is A0 or more, and at ED 9F or less
+inside-at : (b at : ℕ) (action : Action) → b ≡ at → text_action text_mode.Inside at ≡ action → text_action text_mode.Inside b ≡ action
+inside-at b at action e h = ap (λ x. text_action text_mode.Inside x) e ∙ h
+
+three-run : (c : ℕ) → IsScalar c → 2048 ≤ c → c < 65536 → (a : List ℕ) → Runs text_mode.Inside a ((224 + c / 4096) ∷ (128 + (c / 64) % 64) ∷ (128 + c % 64) ∷ []) text_mode.Inside (a ++ c ∷ [])
+three-run c s h k a =
+    elim (cases_lt c 4096) [
+      | inl low ↦ three-end c 0xA0 0xBF 0 s (inside-at (224 + c / 4096) 0xE0 _ (omega arith) refl) (omega arith) (omega arith) (omega arith) k a
+      | inr more ↦ elim (cases_eq (224 + c / 4096) 0xED) [
+        | inl is ↦ three-end c 0x80 0x9F 13 s (inside-at (224 + c / 4096) 0xED _ is refl) (omega arith) (no_surrogate (scalar_cases c s) is) (omega arith) k a
+        | inr other ↦ three-end c 0x80 0xBF ((224 + c / 4096) % 16) s (high-byte (224 + c / 4096) (omega arith) ∙ three-byte (224 + c / 4096) (omega arith) (omega arith) other) (omega arith) (omega arith) (omega arith) k a
+      ]
+    ]
+  where
+    no_surrogate : (c < 55296) ⊎ ((57344 ≤ c) × (c < 1114112)) → 224 + c / 4096 ≡ 0xED → 128 + (c / 64) % 64 ≤ 0x9F
+    no_surrogate (inl h) e = omega arith
+    no_surrogate (inr h) e = omega arith
+
+four-end : (c low top value : ℕ) → IsScalar c → text_action text_mode.Inside (240 + c / 262144) ≡ Skip (Text (text_mode.Utf8Third low top value)) → low ≤ 128 + (c / 4096) % 64 → 128 + (c / 4096) % 64 ≤ top → value ≡ c / 262144 → (a : List ℕ)
+    → Runs text_mode.Inside a ((240 + c / 262144) ∷ (128 + (c / 4096) % 64) ∷ (128 + (c / 64) % 64) ∷ (128 + c % 64) ∷ []) text_mode.Inside (a ++ c ∷ [])
+four-end c low top value s e from to v a =
+    let below : c < 1114112 = scalar-below c s in
+    let second = 128 + (c / 4096) % 64 in
+    let third = 128 + (c / 64) % 64 in
+    let last = 128 + c % 64 in
+    let one : utf8_value value second ≡ c / 4096 = omega arith in
+    let two : utf8_value (utf8_value value second) third ≡ c / 64 = omega arith in
+    let is : utf8_value (utf8_value (utf8_value value second) third) last ≡ c = omega arith in
+    let inside = text_mode.Inside in
+    runs-skip inside (text_mode.Utf8Third low top value) inside a (a ++ c ∷ []) (second ∷ third ∷ last ∷ []) (240 + c / 262144) e
+    (runs-skip (text_mode.Utf8Third low top value) (text_mode.Utf8Second 0x80 0xBF (utf8_value value second)) inside a (a ++ c ∷ []) (third ∷ last ∷ []) second (third-byte low top value second from to)
+    (runs-skip (text_mode.Utf8Second 0x80 0xBF (utf8_value value second)) (text_mode.Utf8Last (utf8_value (utf8_value value second) third)) inside a (a ++ c ∷ []) (last ∷ []) third (second-byte 0x80 0xBF (utf8_value value second) third (omega arith) (omega arith))
+    (last-put (text_mode.Utf8Last (utf8_value (utf8_value value second) third)) inside a last c (last-byte (utf8_value (utf8_value value second) third) last c (omega arith) (omega arith) is s))))
+
+four-run : (c : ℕ) → IsScalar c → 65536 ≤ c → (a : List ℕ) → Runs text_mode.Inside a ((240 + c / 262144) ∷ (128 + (c / 4096) % 64) ∷ (128 + (c / 64) % 64) ∷ (128 + c % 64) ∷ []) text_mode.Inside (a ++ c ∷ [])
+four-run c s h a =
+    let below : c < 1114112 = scalar-below c s in
+    elim (cases_lt c 262144) [
+      | inl low ↦ four-end c 0x90 0xBF 0 s (inside-at (240 + c / 262144) 0xF0 _ (omega arith) refl) (omega arith) (omega arith) (omega arith) a
+      | inr more ↦ elim (cases_lt c 1048576) [
+        | inl middle ↦ four-end c 0x80 0xBF ((240 + c / 262144) % 8) s (high-byte (240 + c / 262144) (omega arith) ∙ four-byte (240 + c / 262144) (omega arith) (omega arith)) (omega arith) (omega arith) (omega arith) a
+        | inr high ↦ four-end c 0x80 0x8F 4 s (inside-at (240 + c / 262144) 0xF4 _ (omega arith) refl) (omega arith) (omega arith) (omega arith) a
+      ]
+    ]
+
+utf8-run : (c : ℕ) → IsScalar c → 128 ≤ c → (a : List ℕ) → Runs text_mode.Inside a (encode_utf8 c) text_mode.Inside (a ++ c ∷ [])
+utf8-run c s h a =
+    elim (cases_lt c 2048) [
+      | inl k ↦ subst (λ x. Runs text_mode.Inside a x text_mode.Inside (a ++ c ∷ [])) (sym (encode-two c h k)) (two-run c s h k a)
+      | inr k ↦ elim (cases_lt c 65536) [
+        | inl m ↦ subst (λ x. Runs text_mode.Inside a x text_mode.Inside (a ++ c ∷ [])) (sym (encode-three c k m)) (three-run c s k m a)
+        | inr m ↦ subst (λ x. Runs text_mode.Inside a x text_mode.Inside (a ++ c ∷ [])) (sym (encode-four c m)) (four-run c s m a)
+      ]
+    ]
+
+-- Units
+
+doubled-run : (byte : ℕ) → IsApostropheOrBackslash byte → (a : List ℕ) → Runs text_mode.Inside a (byte ∷ byte ∷ []) text_mode.Inside (a ++ byte ∷ [])
+doubled-run byte h a =
+    elim h [
+      | inl e ↦ subst (λ x. Runs text_mode.Inside a (x ∷ x ∷ []) text_mode.Inside (a ++ x ∷ [])) (sym e)
+      (runs-skip text_mode.Inside text_mode.Apostrophe text_mode.Inside a (a ++ 39 ∷ []) (39 ∷ []) 39 refl (last-put text_mode.Apostrophe text_mode.Inside a 39 39 refl))
+      | inr e ↦ subst (λ x. Runs text_mode.Inside a (x ∷ x ∷ []) text_mode.Inside (a ++ x ∷ [])) (sym e)
+      (runs-skip text_mode.Inside text_mode.Backslash text_mode.Inside a (a ++ 92 ∷ []) (92 ∷ []) 92 refl (last-put text_mode.Backslash text_mode.Inside a 92 92 refl))
+    ]
+
+arbitrary-run : (c : ℕ) → c < 256 → (a : List ℕ) → Runs text_mode.Inside a (92 ∷ 88 ∷ 92 ∷ hex_digits 2 c) text_mode.Inside (a ++ c ∷ [])
+arbitrary-run c h a =
+    let high : ℕ = c / 16 % 16 in
+    let low : ℕ = c % 16 in
+    let inside = text_mode.Inside in
+    let b = a ++ c ∷ [] in
+    let is_high : high < 16 = omega arith in
+    let is_low : low < 16 = omega arith in
+    let same : high % 16 * 16 + low ≡ c = omega arith in
+    runs-skip inside text_mode.Backslash inside a b (88 ∷ 92 ∷ hex_digit high ∷ hex_digit low ∷ []) 92 refl
+    (runs-skip text_mode.Backslash text_mode.HexMark inside a b (92 ∷ hex_digit high ∷ hex_digit low ∷ []) 88 refl
+    (runs-skip text_mode.HexMark text_mode.Arbitrary inside a b (hex_digit high ∷ hex_digit low ∷ []) 92 refl
+    (runs-skip text_mode.Arbitrary (text_mode.ArbitrarySecond high) inside a b (hex_digit low ∷ []) (hex_digit high) (first_digit high is_high)
+    (last-put (text_mode.ArbitrarySecond high) inside a (hex_digit low) c (second_digit high low c is_low same)))))
+  where
+    first_digit : (high : ℕ) → high < 16 → text_action text_mode.Arbitrary (hex_digit high) ≡ Skip (Text (text_mode.ArbitrarySecond high))
+    first_digit high h = rw (is_hex-hex_digit high h, hex_value-hex_digit high h) refl
+    second_digit : (high low c : ℕ) → low < 16 → high % 16 * 16 + low ≡ c → text_action (text_mode.ArbitrarySecond high) (hex_digit low) ≡ Put (Text text_mode.Inside) c
+    second_digit high low c h e = rw (is_hex-hex_digit low h, hex_value-hex_digit low h, e) refl
+
+unit-run : (unit : StringUnit) → IsStringUnit unit → (a : List ℕ) → Runs text_mode.Inside a (unit_bytes unit) text_mode.Inside (a ++ unit_characters unit)
+unit-run (ignored byte) h a = subst (λ x. Runs text_mode.Inside a (byte ∷ []) text_mode.Inside x) (sym (append-nil a)) (last-skip text_mode.Inside text_mode.Inside a byte (ignored-byte byte h))
+unit-run (plain byte) h a = last-put text_mode.Inside text_mode.Inside a byte byte (plain-byte byte h.0.0 h.0.1 h.1 h.2)
+unit-run (doubled byte) h a = doubled-run byte h a
+unit-run (high_codepoint c) h a = utf8-run c h.1 h.0 a
+unit-run (page byte) h a =
+    runs-skip text_mode.Inside text_mode.Backslash text_mode.Inside a (a ++ (byte + 128) ∷ []) (83 ∷ 92 ∷ byte ∷ []) 92 refl
+    (runs-skip text_mode.Backslash text_mode.PageMark text_mode.Inside a (a ++ (byte + 128) ∷ []) (92 ∷ byte ∷ []) 83 refl
+    (runs-skip text_mode.PageMark text_mode.Page text_mode.Inside a (a ++ (byte + 128) ∷ []) (byte ∷ []) 92 refl
+    (last-put text_mode.Page text_mode.Inside a byte (byte + 128) (page-byte byte h.0 h.1))))
+unit-run alphabet_a h a =
+    subst (λ x. Runs text_mode.Inside a (92 ∷ 80 ∷ 65 ∷ 92 ∷ []) text_mode.Inside x) (sym (append-nil a))
+    (runs-skip text_mode.Inside text_mode.Backslash text_mode.Inside a a (80 ∷ 65 ∷ 92 ∷ []) 92 refl
+    (runs-skip text_mode.Backslash text_mode.AlphabetMark text_mode.Inside a a (65 ∷ 92 ∷ []) 80 refl
+    (runs-skip text_mode.AlphabetMark text_mode.Alphabet text_mode.Inside a a (92 ∷ []) 65 refl (last-skip text_mode.Alphabet text_mode.Inside a 92 refl))))
+unit-run (arbitrary c) h a = arbitrary-run c h a
+unit-run (extended2 cs) h a =
+    extended-run utf16_groups text_mode.Extended2First text_mode.Extended2Next (utf16-run text_mode.Extended2First first2) (utf16-run text_mode.Extended2Next next2) 50 text_mode.Extended2Mark refl refl refl cs h.0 h.1 a
+unit-run (extended4 cs) h a =
+    extended-run (hex_digits 8) text_mode.Extended4First text_mode.Extended4Next (eight-run text_mode.Extended4First first4) (eight-run text_mode.Extended4Next next4) 52 text_mode.Extended4Mark refl refl refl cs h.0 h.1 a
+
+units-run : (units : List StringUnit) → Each IsStringUnit units → (a : List ℕ) → Runs text_mode.Inside a (flat_map unit_bytes units) text_mode.Inside (a ++ flat_map unit_characters units)
+units-run [] h a = subst (λ x. Runs text_mode.Inside a [] text_mode.Inside x) (sym (append-nil a)) (runs-none text_mode.Inside a)
+units-run (unit ∷ units) h a =
+    subst (λ x. Runs text_mode.Inside a (unit_bytes unit ++ flat_map unit_bytes units) text_mode.Inside x) (append_assoc a (unit_characters unit) (flat_map unit_characters units))
+    (runs-join text_mode.Inside text_mode.Inside text_mode.Inside a (a ++ unit_characters unit) ((a ++ unit_characters unit) ++ flat_map unit_characters units) (unit_bytes unit) (flat_map unit_bytes units)
+    (unit-run unit h.0 a) (units-run units h.1 (a ++ unit_characters unit)))
+
+-- what stands between the apostrophes is read up to the second one
+pub text-run : (inside value rest : List ℕ) → Encodes inside value
+    → lex (skip start (Text text_mode.Inside)) (inside ++ 39 ∷ rest) ≡ lex (record { mode = Text text_mode.Apostrophe; kept = []; characters = value; size = length inside + 2 }) rest
+text-run inside value rest e =
+    let units : Runs text_mode.Inside [] inside text_mode.Inside value =
+        subst (λ x. Runs text_mode.Inside [] x text_mode.Inside value) (sym e.bytes_are) (subst (λ x. Runs text_mode.Inside [] (flat_map unit_bytes e.units) text_mode.Inside x) (sym e.characters_are) (units-run e.units e.are_units [])) in
+    units 1 (39 ∷ rest)
+    ∙ (lex-skip (in_text text_mode.Inside value (1 + length inside)) (Text text_mode.Apostrophe) 39 rest refl
+    ∙ resize text_mode.Apostrophe value rest (1 + length inside + 1) (length inside + 2) (omega arith))
