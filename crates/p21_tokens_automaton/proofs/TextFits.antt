@@ -1,5 +1,5 @@
 -- The bytes of an open string that lead to a state.
-use Rattle.std.proofs.Common.{◌≡◌, ℕ, ◌+◌, ◌^◌, ◌<◌, ◌≤◌, List, [], ◌∷◌, ◌++◌, length}
+use Rattle.std.proofs.Common.{◌≡◌, ℕ, ◌^◌, ◌<◌, ◌≤◌, List, [], ◌∷◌, ◌++◌, length}
 use Rattle.std.specs.Char.{IsScalar, encode_utf8}
 use Rattle.std.specs.List.{flat_map, AllByRecursion as Each}
 use Rattle.p21_semantics.specs.Digits.{hex_digit, hex_digits}
@@ -45,14 +45,16 @@ IsPart limit count value = (count ≤ limit) × (value < 16 ^ count)
 abbrev pub IsHighSurrogate : ℕ → Type 0
 IsHighSurrogate value = (0xD800 ≤ value) × (value ≤ 0xDBFF)
 
--- these bytes and any last byte are a character, if their value is one
+-- with any last byte these bytes are the UTF-8 of the number that the reader makes of them
 abbrev pub LeadsToLast : ℕ → List ℕ → Type 0
 LeadsToLast value taken =
     (byte : ℕ) → 0x80 ≤ byte → byte ≤ 0xBF → (128 ≤ utf8_value value byte) × (encode_utf8 (utf8_value value byte) ≡ taken ++ byte ∷ [])
 
+-- with a byte from low to high they lead to the last byte
 abbrev pub LeadsToSecond : ℕ → ℕ → ℕ → List ℕ → Type 0
 LeadsToSecond low high value taken = (byte : ℕ) → low ≤ byte → byte ≤ high → LeadsToLast (utf8_value value byte) (taken ++ byte ∷ [])
 
+-- with a byte from low to high they lead to the last byte but one
 abbrev pub LeadsToThird : ℕ → ℕ → ℕ → List ℕ → Type 0
 LeadsToThird low high value taken = (byte : ℕ) → low ≤ byte → byte ≤ high → LeadsToSecond 0x80 0xBF (utf8_value value byte) (taken ++ byte ∷ [])
 

@@ -1,15 +1,14 @@
 -- A string that its bytes spell is read byte by byte up to its end.
-use Rattle.std.proofs.Common.{◌≡◌, ◌≢◌, ℕ, zero, suc, ◌+◌, ◌-◌, ◌*◌, ◌/◌, ◌%◌, ◌^◌, ◌<◌, ◌≤◌, ◌⊎◌, Bool, true, false, List, [], ◌∷◌, ◌++◌, length, inl, inr, refl, sym, ap, ◌∙◌, subst, append_assoc, append-nil, arith, add-one, length-append, lit<, lit≤, lt-ltb, le-ltb, le-leb, ne_eqb}
-use Rattle.std.specs.Prelude.{◌==◌, nat_lt, nat_le, ◌||◌, ◌&&◌}
+use Rattle.std.proofs.Common.{◌≡◌, ◌≢◌, ℕ, zero, suc, ◌+◌, ◌-◌, ◌*◌, ◌/◌, ◌%◌, ◌^◌, ◌<◌, ◌≤◌, ◌⊎◌, false, List, [], ◌∷◌, ◌++◌, length, inl, inr, refl, sym, ap, ◌∙◌, subst, append_assoc, append-nil, arith, length-append, lit<, lit≤, lt-ltb, le-leb}
+use Rattle.std.specs.Prelude.{◌==◌, nat_le, ◌&&◌}
 use Rattle.std.specs.Char.{IsScalar, encode_utf8}
 use Rattle.std.specs.List.{flat_map, AllByRecursion as Each}
 use Rattle.std.proofs.Math.Nat.{pow-suc}
-use Rattle.std.proofs.lemmas.Bool.{cases_lt, cases_eq, or_from, and_left, and_right}
+use Rattle.std.proofs.lemmas.Bool.{cases_lt, cases_eq}
 use Rattle.std.proofs.lemmas.Bool.Decides.{nat_tests}
-use lib.Utf8.{scalar, scalar_cases}
+use lib.Utf8.{scalar_cases}
 use Rattle.p21_semantics.specs.Digits.{hex_digit, hex_digits}
-use Rattle.p21_semantics.specs.Text.{StringUnit, ignored, plain, doubled, high_codepoint, page, alphabet_a, arbitrary, extended2, extended4, IsGraphic, IsApostropheOrBackslash, IsStringUnit, end_extended, unit_bytes, unit_characters, utf16_groups, Encodes}
-use Rattle.p21_tokens_automaton.specs.Bytes.{is_hex, hex_value}
+use Rattle.p21_semantics.specs.Text.{StringUnit, ignored, plain, doubled, high_codepoint, page, alphabet_a, arbitrary, extended2, extended4, IsApostropheOrBackslash, IsStringUnit, end_extended, unit_bytes, unit_characters, utf16_groups, Encodes}
 use Rattle.p21_tokens_automaton.specs.Step.{text_action, utf8_action, utf8_value, group2, low_group, put_scalar, group_value, long_value}
 use Rattle.p21_tokens_automaton.specs.Reading.{State, start, skip, lex}
 use Rattle.p21_tokens_automaton.specs.declared.mode.Mode.TheVariants.{Text}
@@ -97,19 +96,19 @@ module _ (digits : ℕ → ℕ → TextMode) (first : TextMode) (limit : ℕ) (c
     (one : (digit : ℕ) → digit < 16 → text_action first (hex_digit digit) ≡ Skip (Text (digits 1 digit)))
     (more : (count value digit : ℕ) → count < limit → value < 16 ^ count → digit < 16 → text_action (digits count value) (hex_digit digit) ≡ Skip (Text (digits (count + 1) (value * 16 + digit))))
   where
-  digits-run : (count value : ℕ) → count < limit → value < 16 ^ suc count → Runs first characters (hex_digits (suc count) value) (digits (suc count) value) characters
-  digits-run zero value h k =
-      let same : value % 16 ≡ value = omega arith in
-      subst (λ v. Runs first characters (hex_digit (value % 16) ∷ []) (digits 1 v) characters) same (last-skip first (digits 1 (value % 16)) characters (hex_digit (value % 16)) (one (value % 16) (omega arith)))
-  digits-run (suc count) value h k =
-      let power = pow-suc 16 (suc count) in
-      let small : value / 16 < 16 ^ suc count = omega arith in
-      let same : value / 16 * 16 + value % 16 ≡ value = omega arith in
-      let next : suc count + 1 ≡ suc (suc count) = omega arith in
-      let step : Skip (Text (digits (suc count + 1) (value / 16 * 16 + value % 16))) ≡ Skip (Text (digits (suc (suc count)) value)) = rw (next, same) refl in
-      runs-join first (digits (suc count) (value / 16)) (digits (suc (suc count)) value) characters characters characters (hex_digits (suc count) (value / 16)) (hex_digit (value % 16) ∷ [])
-      (digits-run count (value / 16) (omega arith) small)
-      (last-skip (digits (suc count) (value / 16)) (digits (suc (suc count)) value) characters (hex_digit (value % 16)) (more (suc count) (value / 16) (value % 16) h small (omega arith) ∙ step))
+    digits-run : (count value : ℕ) → count < limit → value < 16 ^ suc count → Runs first characters (hex_digits (suc count) value) (digits (suc count) value) characters
+    digits-run zero value h k =
+        let same : value % 16 ≡ value = omega arith in
+        subst (λ v. Runs first characters (hex_digit (value % 16) ∷ []) (digits 1 v) characters) same (last-skip first (digits 1 (value % 16)) characters (hex_digit (value % 16)) (one (value % 16) (omega arith)))
+    digits-run (suc count) value h k =
+        let power = pow-suc 16 (suc count) in
+        let small : value / 16 < 16 ^ suc count = omega arith in
+        let same : value / 16 * 16 + value % 16 ≡ value = omega arith in
+        let next : suc count + 1 ≡ suc (suc count) = omega arith in
+        let step : Skip (Text (digits (suc count + 1) (value / 16 * 16 + value % 16))) ≡ Skip (Text (digits (suc (suc count)) value)) = rw (next, same) refl in
+        runs-join first (digits (suc count) (value / 16)) (digits (suc (suc count)) value) characters characters characters (hex_digits (suc count) (value / 16)) (hex_digit (value % 16) ∷ [])
+        (digits-run count (value / 16) (omega arith) small)
+        (last-skip (digits (suc count) (value / 16)) (digits (suc (suc count)) value) characters (hex_digit (value % 16)) (more (suc count) (value / 16) (value % 16) h small (omega arith) ∙ step))
 
 -- what the first digit of a group does
 abbrev Begins : (ℕ → ℕ → TextMode) → TextMode → Type 0
@@ -206,6 +205,7 @@ utf16-run m begins c s a = elim (cases_lt c 65536) [ inl h ↦ one h | inr h ↦
         subst (λ x. Runs m a x text_mode.Extended2Next (a ++ c ∷ [])) (sym (groups-one c h))
         (group2-run m text_mode.Extended2Next a (a ++ c ∷ []) c begins h
         (λ digit e. last-put (text_mode.Extended2Digits 3 (c / 16)) text_mode.Extended2Next a digit c (e ∙ group2-scalar c s)))
+
     pair : 65536 ≤ c → Runs m a (utf16_groups c) text_mode.Extended2Next (a ++ c ∷ [])
     pair h =
         let below : c < 1114112 = scalar-below c s in
@@ -234,32 +234,32 @@ eight-run m begins c s a =
 
 module _ (group : ℕ → List ℕ) (first next : TextMode) (from_first : (c : ℕ) → IsScalar c → (a : List ℕ) → Runs first a (group c) next (a ++ c ∷ [])) (from_next : (c : ℕ) → IsScalar c → (a : List ℕ) → Runs next a (group c) next (a ++ c ∷ []))
   where
-  groups-more : (cs : List ℕ) → Each IsScalar cs → (a : List ℕ) → Runs next a (flat_map group cs) next (a ++ cs)
-  groups-more [] h a = subst (λ x. Runs next a [] next x) (sym (append-nil a)) (runs-none next a)
-  groups-more (c ∷ cs) h a =
-      subst (λ x. Runs next a (group c ++ flat_map group cs) next x) (append_assoc a (c ∷ []) cs)
-      (runs-join next next next a (a ++ c ∷ []) ((a ++ c ∷ []) ++ cs) (group c) (flat_map group cs) (from_next c h.0 a) (groups-more cs h.1 (a ++ c ∷ [])))
+    groups-more : (cs : List ℕ) → Each IsScalar cs → (a : List ℕ) → Runs next a (flat_map group cs) next (a ++ cs)
+    groups-more [] h a = subst (λ x. Runs next a [] next x) (sym (append-nil a)) (runs-none next a)
+    groups-more (c ∷ cs) h a =
+        subst (λ x. Runs next a (group c ++ flat_map group cs) next x) (append_assoc a (c ∷ []) cs)
+        (runs-join next next next a (a ++ c ∷ []) ((a ++ c ∷ []) ++ cs) (group c) (flat_map group cs) (from_next c h.0 a) (groups-more cs h.1 (a ++ c ∷ [])))
 
-  groups-run : (cs : List ℕ) → 0 < length cs → Each IsScalar cs → (a : List ℕ) → Runs first a (flat_map group cs) next (a ++ cs)
-  groups-run [] k h a = absurd (omega arith)
-  groups-run (c ∷ cs) k h a =
-      subst (λ x. Runs first a (group c ++ flat_map group cs) next x) (append_assoc a (c ∷ []) cs)
-      (runs-join first next next a (a ++ c ∷ []) ((a ++ c ∷ []) ++ cs) (group c) (flat_map group cs) (from_first c h.0 a) (groups-more cs h.1 (a ++ c ∷ [])))
+    groups-run : (cs : List ℕ) → 0 < length cs → Each IsScalar cs → (a : List ℕ) → Runs first a (flat_map group cs) next (a ++ cs)
+    groups-run [] k h a = absurd (omega arith)
+    groups-run (c ∷ cs) k h a =
+        subst (λ x. Runs first a (group c ++ flat_map group cs) next x) (append_assoc a (c ∷ []) cs)
+        (runs-join first next next a (a ++ c ∷ []) ((a ++ c ∷ []) ++ cs) (group c) (flat_map group cs) (from_first c h.0 a) (groups-more cs h.1 (a ++ c ∷ [])))
 
-  extended-run : (mark : ℕ) (opened : TextMode) → text_action text_mode.HexMark mark ≡ Skip (Text opened) → text_action opened 92 ≡ Skip (Text first) → text_action next 92 ≡ Skip (Text text_mode.EndBackslash) → (cs : List ℕ) → 0 < length cs → Each IsScalar cs → (a : List ℕ)
-      → Runs text_mode.Inside a (92 ∷ 88 ∷ mark ∷ 92 ∷ (flat_map group cs ++ end_extended)) text_mode.Inside (a ++ cs)
-  extended-run mark opened e f g cs k h a =
-      let end : List ℕ = end_extended in
-      let inside = text_mode.Inside in
-      let all = a ++ cs in
-      runs-skip inside text_mode.Backslash inside a all (88 ∷ mark ∷ 92 ∷ (flat_map group cs ++ end)) 92 refl
-      (runs-skip text_mode.Backslash text_mode.HexMark inside a all (mark ∷ 92 ∷ (flat_map group cs ++ end)) 88 refl
-      (runs-skip text_mode.HexMark opened inside a all (92 ∷ (flat_map group cs ++ end)) mark e
-      (runs-skip opened first inside a all (flat_map group cs ++ end) 92 f
-      (runs-join first next inside a all all (flat_map group cs) end (groups-run cs k h a)
-      (runs-skip next text_mode.EndBackslash inside all all (88 ∷ 48 ∷ 92 ∷ []) 92 g
-      (runs-skip text_mode.EndBackslash text_mode.EndMark inside all all (48 ∷ 92 ∷ []) 88 refl
-      (runs-skip text_mode.EndMark text_mode.EndZero inside all all (92 ∷ []) 48 refl (last-skip text_mode.EndZero inside all 92 refl))))))))
+    extended-run : (mark : ℕ) (opened : TextMode) → text_action text_mode.HexMark mark ≡ Skip (Text opened) → text_action opened 92 ≡ Skip (Text first) → text_action next 92 ≡ Skip (Text text_mode.EndBackslash) → (cs : List ℕ) → 0 < length cs → Each IsScalar cs → (a : List ℕ)
+        → Runs text_mode.Inside a (92 ∷ 88 ∷ mark ∷ 92 ∷ (flat_map group cs ++ end_extended)) text_mode.Inside (a ++ cs)
+    extended-run mark opened e f g cs k h a =
+        let end : List ℕ = end_extended in
+        let inside = text_mode.Inside in
+        let all = a ++ cs in
+        runs-skip inside text_mode.Backslash inside a all (88 ∷ mark ∷ 92 ∷ (flat_map group cs ++ end)) 92 refl
+        (runs-skip text_mode.Backslash text_mode.HexMark inside a all (mark ∷ 92 ∷ (flat_map group cs ++ end)) 88 refl
+        (runs-skip text_mode.HexMark opened inside a all (92 ∷ (flat_map group cs ++ end)) mark e
+        (runs-skip opened first inside a all (flat_map group cs ++ end) 92 f
+        (runs-join first next inside a all all (flat_map group cs) end (groups-run cs k h a)
+        (runs-skip next text_mode.EndBackslash inside all all (88 ∷ 48 ∷ 92 ∷ []) 92 g
+        (runs-skip text_mode.EndBackslash text_mode.EndMark inside all all (48 ∷ 92 ∷ []) 88 refl
+        (runs-skip text_mode.EndMark text_mode.EndZero inside all all (92 ∷ []) 48 refl (last-skip text_mode.EndZero inside all 92 refl))))))))
 
 -- Characters in UTF-8
 
@@ -343,9 +343,9 @@ doubled-run : (byte : ℕ) → IsApostropheOrBackslash byte → (a : List ℕ) �
 doubled-run byte h a =
     elim h [
       | inl e ↦ subst (λ x. Runs text_mode.Inside a (x ∷ x ∷ []) text_mode.Inside (a ++ x ∷ [])) (sym e)
-      (runs-skip text_mode.Inside text_mode.Apostrophe text_mode.Inside a (a ++ 39 ∷ []) (39 ∷ []) 39 refl (last-put text_mode.Apostrophe text_mode.Inside a 39 39 refl))
+          (runs-skip text_mode.Inside text_mode.Apostrophe text_mode.Inside a (a ++ 39 ∷ []) (39 ∷ []) 39 refl (last-put text_mode.Apostrophe text_mode.Inside a 39 39 refl))
       | inr e ↦ subst (λ x. Runs text_mode.Inside a (x ∷ x ∷ []) text_mode.Inside (a ++ x ∷ [])) (sym e)
-      (runs-skip text_mode.Inside text_mode.Backslash text_mode.Inside a (a ++ 92 ∷ []) (92 ∷ []) 92 refl (last-put text_mode.Backslash text_mode.Inside a 92 92 refl))
+          (runs-skip text_mode.Inside text_mode.Backslash text_mode.Inside a (a ++ 92 ∷ []) (92 ∷ []) 92 refl (last-put text_mode.Backslash text_mode.Inside a 92 92 refl))
     ]
 
 arbitrary-run : (c : ℕ) → c < 256 → (a : List ℕ) → Runs text_mode.Inside a (92 ∷ 88 ∷ 92 ∷ hex_digits 2 c) text_mode.Inside (a ++ c ∷ [])
@@ -365,6 +365,7 @@ arbitrary-run c h a =
   where
     first_digit : (high : ℕ) → high < 16 → text_action text_mode.Arbitrary (hex_digit high) ≡ Skip (Text (text_mode.ArbitrarySecond high))
     first_digit high h = rw (is_hex-hex_digit high h, hex_value-hex_digit high h) refl
+
     second_digit : (high low c : ℕ) → low < 16 → high % 16 * 16 + low ≡ c → text_action (text_mode.ArbitrarySecond high) (hex_digit low) ≡ Put (Text text_mode.Inside) c
     second_digit high low c h e = rw (is_hex-hex_digit low h, hex_value-hex_digit low h, e) refl
 
@@ -401,7 +402,7 @@ pub text-run : (inside value rest : List ℕ) → Encodes inside value
     → lex (skip start (Text text_mode.Inside)) (inside ++ 39 ∷ rest) ≡ lex (record { mode = Text text_mode.Apostrophe; kept = []; characters = value; size = length inside + 2 }) rest
 text-run inside value rest e =
     let units : Runs text_mode.Inside [] inside text_mode.Inside value =
-        subst (λ x. Runs text_mode.Inside [] x text_mode.Inside value) (sym e.bytes_are) (subst (λ x. Runs text_mode.Inside [] (flat_map unit_bytes e.units) text_mode.Inside x) (sym e.characters_are) (units-run e.units e.are_units [])) in
+    subst (λ x. Runs text_mode.Inside [] x text_mode.Inside value) (sym e.bytes_are) (subst (λ x. Runs text_mode.Inside [] (flat_map unit_bytes e.units) text_mode.Inside x) (sym e.characters_are) (units-run e.units e.are_units [])) in
     units 1 (39 ∷ rest)
     ∙ (lex-skip (in_text text_mode.Inside value (1 + length inside)) (Text text_mode.Apostrophe) 39 rest refl
     ∙ resize text_mode.Apostrophe value rest (1 + length inside + 1) (length inside + 2) (omega arith))

@@ -1,10 +1,9 @@
 -- A string that is read byte by byte up to its end is one that its bytes spell.
-use Rattle.std.proofs.Common.{◌≡◌, ℕ, suc, ◌+◌, ◌-◌, ◌*◌, ◌/◌, ◌%◌, ◌^◌, ◌<◌, ◌≤◌, Bool, true, false, List, [], ◌∷◌, ◌++◌, length, inl, inr, refl, sym, ap, ◌∙◌, subst, append_assoc, append-nil, arith, length-append, eqb, lit<, lit≤, Option, Some, None}
+use Rattle.std.proofs.Common.{◌≡◌, ℕ, ◌+◌, ◌*◌, ◌%◌, ◌^◌, ◌<◌, ◌≤◌, true, false, List, [], ◌∷◌, ◌++◌, length, inl, inr, refl, sym, ap, ◌∙◌, subst, append_assoc, append-nil, arith, length-append, eqb, lit<, lit≤, Some, None}
 use Rattle.std.specs.Prelude.{◌==◌, nat_lt, ◌||◌}
-use Rattle.std.specs.Char.{IsScalar, encode_utf8}
-use Rattle.std.specs.Char.Escape.{encode_utf16}
+use Rattle.std.specs.Char.{IsScalar}
 use Rattle.std.specs.List.{flat_map, AllByRecursion as Each}
-use Rattle.std.proofs.lemmas.Bool.{cond_both, leb-true, leb-false, ltb-true, ltb-false, eqb-true, eqb-false, or_cases, or_parts, and_parts}
+use Rattle.std.proofs.lemmas.Bool.{cond_both, leb-true, ltb-true, ltb-false, eqb-true, eqb-false, or_cases, or_parts, and_parts}
 use Rattle.std.proofs.lemmas.List.{flat_map_more}
 use Rattle.p21_semantics.specs.Digits.{hex_digit, hex_digits}
 use Rattle.p21_semantics.specs.Text.{StringUnit, ignored, plain, doubled, high_codepoint, page, alphabet_a, arbitrary, extended2, extended4, IsApostropheOrBackslash, IsStringUnit, unit_bytes, unit_characters, utf16_groups, Encodes}
@@ -13,7 +12,6 @@ use Rattle.p21_tokens_automaton.specs.Meaning.{Means}
 use Rattle.p21_tokens_automaton.specs.Reading.{Found, known}
 use Rattle.p21_tokens_automaton.specs.Bytes.{is_hex, hex_value}
 use Rattle.p21_tokens_automaton.specs.Step.{text_action, inside_action, utf8_action, utf8_value, utf8_last_action, directive, backslash_action, page_action, hex_mark_action, arbitrary_action, arbitrary_second_action, put_scalar, group2, low_group, group_value, long_value, first2_action, digits2_action, low_first_action, low_digits_action, first4_action, digits4_action}
-use Rattle.p21_tokens_automaton.specs.declared.mode.Mode.{Mode}
 use Rattle.p21_tokens_automaton.specs.declared.mode.Mode.TheVariants.{Text}
 use Rattle.p21_tokens_automaton.specs.declared.mode.TextMode.{TextMode}
 use Rattle.p21_tokens_automaton.specs.declared.mode.TextMode.TheVariants as text_mode
@@ -24,7 +22,7 @@ use Rattle.p21_tokens_automaton.proofs.HexDigits.{hex_value-small, hex_digit-hex
 use Rattle.p21_tokens_automaton.proofs.Utf16.{groups-one, groups-from_pair}
 use Rattle.p21_tokens_automaton.proofs.Utf8.{two-lead, three-lead, four-lead}
 use Rattle.p21_tokens_automaton.proofs.TextFits.{InString, InGroups, BehindGroup, InEnd, IsPart, IsHighSurrogate, LeadsToLast, LeadsToSecond, LeadsToThird, TextFits}
-use Rattle.p21_tokens_automaton.proofs.Fits.{ModeFits, EndFits, StepFits}
+use Rattle.p21_tokens_automaton.proofs.Fits.{EndFits, StepFits}
 
 each-push : {A : Type 0} (P : A → Type 0) (xs : List A) (x : A) → Each P xs → P x → Each P (xs ++ x ∷ [])
 each-push P [] x h p = (p, tt)
@@ -49,11 +47,8 @@ in_string-unit : (characters front : List ℕ) (unit : StringUnit) → IsStringU
 in_string-unit characters front unit h s =
     (s.0 ++ unit_bytes unit, s.1 ∙ ap (λ x. 39 ∷ x) (sym (append-nil (s.0 ++ unit_bytes unit))), Encodes-more s.0 characters s.2 unit h)
 
-in_string-begin : InString [] [] (39 ∷ [])
-in_string-begin = ([], refl, record { units = []; are_units = tt; bytes_are = refl; characters_are = refl })
-
 pub text-fits-first : TextFits text_mode.Inside [] (39 ∷ [])
-text-fits-first = in_string-begin
+text-fits-first = ([], refl, record { units = []; are_units = tt; bytes_are = refl; characters_are = refl })
 
 -- Groups of `\X2\` and `\X4\`
 

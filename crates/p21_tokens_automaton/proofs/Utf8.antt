@@ -1,5 +1,5 @@
 -- Characters in UTF-8 and the numbers that a reader makes of their bytes.
-use Rattle.std.proofs.Common.{◌≡◌, ℕ, ◌+◌, ◌-◌, ◌*◌, ◌/◌, ◌%◌, ◌^◌, ◌<◌, ◌≤◌, List, [], ◌∷◌, refl, subst, ◌∙◌, arith, lt-ltb, le-ltb}
+use Rattle.std.proofs.Common.{◌≡◌, ℕ, ◌+◌, ◌-◌, ◌*◌, ◌/◌, ◌%◌, ◌<◌, ◌≤◌, [], ◌∷◌, refl, subst, ◌∙◌, arith, lt-ltb, le-ltb}
 use Rattle.std.specs.Char.{encode_utf8}
 use Rattle.p21_tokens_automaton.specs.Step.{utf8_value}
 use Rattle.p21_tokens_automaton.proofs.TextFits.{LeadsToLast, LeadsToSecond, LeadsToThird}
