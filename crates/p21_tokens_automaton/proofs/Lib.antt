@@ -1,5 +1,8 @@
 pub mod Steps
+pub mod HexDigits
+pub mod Utf16
 pub mod TextFits
+pub mod Utf8
 pub mod Fits
 pub mod Classes
 pub mod TokenRuns
@@ -9,3 +12,5 @@ pub mod Gaps
 pub mod Waits
 pub mod Complete
 pub mod Sound
+pub mod TextSound
+pub mod TextRuns
