@@ -38,7 +38,7 @@ apostrophe_first equals spelling spells same = let other : first spelling ≡ 61
 apostrophe_first dollar spelling spells same = let other : first spelling ≡ 36 = ap first spells in omega (arith, other, same)
 apostrophe_first star spelling spells same = let other : first spelling ≡ 42 = ap first spells in omega (arith, other, same)
 apostrophe_first (user_keyword word) spelling spells same = let other : first spelling ≡ 33 = ap first spells.0 in omega (arith, other, same)
-apostrophe_first (name n) spelling spells same = let other : first spelling ≡ 35 = ap first spells.bytes_are in omega (arith, other, same)
+apostrophe_first (name n) spelling spells same = let other : first spelling ≡ 35 = ap first spells.form.bytes_are in omega (arith, other, same)
 apostrophe_first (item word) spelling spells same = let other : first spelling ≡ 46 = ap first spells.0 in omega (arith, other, same)
 apostrophe_first (bits value) spelling spells same = let other : first spelling ≡ 34 = ap first spells.bytes_are in omega (arith, other, same)
 apostrophe_first (keyword word) spelling spells same = keyword_first word spells.1 (sym (ap first spells.0) ∙ same)
