@@ -1,6 +1,6 @@
 -- The order of elements and of keywords in canonical records; limits; sameness in the header.
-use Rattle.std.proofs.Common.{◌≡◌, ℕ, zero, suc, ◌+◌, ◌<◌, ◌≤◌, pos, false, List, [], ◌∷◌, get_or, refl, ap, sym, ◌∙◌, arith, lit<, lit≤}
-use Rattle.std.specs.Prelude.{codes, slice_index_or}
+use Rattle.std.proofs.Common.{◌≡◌, ℕ, zero, suc, pos, false, List, [], ◌∷◌, get_or, refl, ap, sym, ◌∙◌, arith, lit<, lit≤}
+use Rattle.std.specs.Prelude.{codes}
 use Rattle.std.specs.Cmp.Lexicographic.{slice_cmp}
 use Rattle.std.specs.List.Sorted.{IsStrictlySortedBy}
 use Rattle.std.specs.Ordering.{nat_cmp, is_lt}
@@ -11,7 +11,7 @@ use Rattle.p21_semantics.specs.Number.{Decimal}
 use Rattle.p21_semantics.specs.Meaning.{Typed}
 use Rattle.p21_semantics.specs.Parameter.{Key, Param, Params, no_params, param, real, whole, text, name, list, typed}
 use Rattle.p21_semantics.specs.Record.{Part, complex}
-use Rattle.p21_semantics.specs.SameFile.{SameParam, same_texts, same_wholes, same_reals}
+use Rattle.p21_semantics.specs.SameFile.{SameParam, same_texts}
 use Rattle.p21_semantics.specs.Schema.{Schema}
 use Rattle.p21_semantics.specs.Value as value
 

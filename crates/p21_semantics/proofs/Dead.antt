@@ -1,5 +1,5 @@
 -- Dead bytes stay dead, and bytes with which accepted bytes begin are not dead.
-use Rattle.std.proofs.Common.{◌≡◌, ℕ, List, [], ◌∷◌, ◌++◌, sym, subst, append_assoc}
+use Rattle.std.proofs.Common.{ℕ, List, ◌++◌, subst, append_assoc}
 use Rattle.std.specs.List.{AllByRecursion as Each}
 use Rattle.p21_semantics.specs.Accepted.{IsAccepted, IsDead}
 use Rattle.p21_semantics.specs.Digits.{IsByte}

@@ -1,5 +1,5 @@
 -- Calls added to a history: none at all, the first, and one after another; and how a lexer takes `1.E2)` in two pieces.
-use Rattle.std.proofs.Common.{◌≡◌, ℕ, pos, List, [], ◌∷◌, ◌++◌, Option, Some, None, refl, ap, sym, ◌∙◌, append_assoc}
+use Rattle.std.proofs.Common.{◌≡◌, ℕ, pos, List, [], ◌∷◌, ◌++◌, Option, Some, None, refl, append_assoc}
 use Rattle.std.proofs.lemmas.List.{append-nil}
 use Rattle.std.specs.Prelude.{codes}
 use Rattle.p21_semantics.specs.History.{History, empty, seen_behind, first_refusal, extended, looked_at, IsOffered}

@@ -1,10 +1,10 @@
 -- The parentheses of parameters and records are balanced.
-use Rattle.std.proofs.Common.{◌≡◌, ℕ, zero, suc, ◌+◌, Bool, true, false, List, [], ◌∷◌, ◌++◌, refl, arith}
+use Rattle.std.proofs.Common.{◌≡◌, ℕ, ◌+◌, Bool, true, false, List, [], ◌∷◌, ◌++◌, refl, arith}
 use Rattle.std.specs.List.{flat_map}
 use Rattle.p21_semantics.specs.OpenNesting.{lefts, rights}
 use Rattle.p21_semantics.specs.Parameter.{Param, list, typed, Params, no_params, param, key_token, param_tokens, params_tokens, more_tokens}
 use Rattle.p21_semantics.specs.Record.{Part, Record, simple, complex, part_tokens, record_tokens}
-use Rattle.p21_semantics.specs.Token.{Token, left, right, keyword, user_keyword}
+use Rattle.p21_semantics.specs.Token.{Token, left, right}
 
 pub lefts-append : (xs ys : List Token) → lefts (xs ++ ys) ≡ lefts xs + lefts ys
 lefts-append [] ys = omega arith

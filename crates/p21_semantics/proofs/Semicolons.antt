@@ -1,8 +1,8 @@
 -- A statement has one `;`, which is its last token; parentheses of parameters and records are balanced.
-use Rattle.std.proofs.Common.{◌≡◌, ℕ, suc, ◌+◌, Bool, true, false, List, [], ◌∷◌, ◌++◌, refl, ap, sym, ◌∙◌, arith, append_assoc}
+use Rattle.std.proofs.Common.{◌≡◌, ℕ, Bool, true, false, List, [], ◌∷◌, ◌++◌, refl}
 use Rattle.std.specs.List.{flat_map, AllByRecursion as Each}
-use Rattle.p21_semantics.specs.OpenNesting.{IsNoSemicolon, EndsWithSemicolon, lefts, rights}
-use Rattle.p21_semantics.specs.Parameter.{Key, Param, dollar, star, whole, real, text, name, item, bits, list, typed, Params, no_params, param, key_token, param_tokens, params_tokens, more_tokens}
+use Rattle.p21_semantics.specs.OpenNesting.{IsNoSemicolon, EndsWithSemicolon}
+use Rattle.p21_semantics.specs.Parameter.{Param, list, typed, Params, no_params, param, key_token, param_tokens, params_tokens, more_tokens}
 use Rattle.p21_semantics.specs.Record.{Part, Record, simple, complex, part_tokens, record_tokens}
 use Rattle.p21_semantics.specs.Statement.{SectionLine, begin, header_start, section_end, data_start, finish, Statement, section, header, instance, section_token, statement_tokens}
 use Rattle.p21_semantics.specs.Token as token
