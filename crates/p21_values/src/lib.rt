@@ -4,6 +4,7 @@
 
 mod bits;
 mod canonical;
+mod decimal;
 mod digits;
 mod fault;
 mod name;
@@ -13,6 +14,7 @@ mod word;
 
 pub use bits::Bits;
 pub use canonical::Canonical;
+pub use decimal::Decimal;
 pub use fault::{NoMemory, ValueFault};
 pub use name::Name;
 pub use text::Text;

@@ -1,5 +1,6 @@
 ghost use Rattle.std.specs.Prelude.{◌≡◌, ◌++◌, OnErr, OnOk};
-ghost use Rattle.p21_semantics.specs.Number.{SpellsWhole};
+ghost use Rattle.p21_semantics.specs.Digits.{AllDigits, number};
+ghost use Rattle.p21_semantics.specs.Number.{SpellsWhole, signed};
 ghost use Rattle.p21_semantics.specs.Spelling.{whole_spelling};
 ghost use Rattle.p21_values.specs.Canonical.{Continues};
 ghost use Rattle.p21_values.specs.declared.fault.ValueFault.TheVariants.{BadNumber};
@@ -49,6 +50,14 @@ impl Whole {
             negative: negative && !significant.is_empty(),
             digits: Vec::from_slice(alloc, significant)?,
         })
+    }
+
+    // The sign, and the digits in ASCII, of which the first is no zero.
+    pub(crate) fn parts(&self) -> (bool, &[u8])
+        ensures value { signed result.0 (number result.1.now) ≡ self.now }
+        ensures digits { AllDigits result.1.now }
+    {
+        (self.negative, &self.digits)
     }
 }
 
