@@ -4,18 +4,19 @@ use Rattle.std.specs.Prelude.{◌≡◌, ◌≢◌, ℕ, ◌-◌, suc, List, [],
 use Rattle.std.specs.List.{AllByRecursion as Each}
 use Rattle.p21_semantics.specs.Token.{Token, name, left, right, semicolon, equals}
 
+-- how many parentheses open
 abbrev pub lefts : List Token → ℕ
 lefts [] = 0
 lefts (left ∷ tokens) = suc (lefts tokens)
 lefts (other ∷ tokens) = lefts tokens
 
+-- how many parentheses close
 abbrev pub rights : List Token → ℕ
 rights [] = 0
 rights (right ∷ tokens) = suc (rights tokens)
 rights (other ∷ tokens) = rights tokens
 
--- the open parentheses of a statement that has begun so, apart from that of a simple record and that around those of
--- an external mapping
+-- the open parentheses of a statement that begins so, apart from those of a simple record and of an external mapping
 abbrev pub open_depth : List Token → ℕ
 open_depth (name n ∷ equals ∷ left ∷ tokens) = lefts tokens - rights tokens - 1
 open_depth tokens = lefts tokens - rights tokens - 1
@@ -26,6 +27,7 @@ EndsWithSemicolon [] = Unit {0}
 EndsWithSemicolon (token ∷ []) = token ≡ semicolon
 EndsWithSemicolon (token ∷ next ∷ tokens) = EndsWithSemicolon (next ∷ tokens)
 
+-- a token that is no `;`
 abbrev pub IsNoSemicolon : Token → Type 0
 IsNoSemicolon token = token ≢ semicolon
 
