@@ -5,9 +5,11 @@
 mod bits;
 mod canonical;
 mod fault;
+mod limits;
 mod name;
 
 pub use bits::Bits;
 pub use canonical::Canonical;
 pub use fault::{NoMemory, ValueFault};
+pub use limits::Limits;
 pub use name::Name;
