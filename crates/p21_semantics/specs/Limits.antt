@@ -1,7 +1,7 @@
--- How many bytes a file, its statements and their canonical form may have (this project's own limits).
+-- Limits on the bytes of records and files (this project's own).
 use Rattle.std.specs.Prelude.{ℕ, ◌^◌, ◌≤◌}
 
--- bytes of a statement's tokens in the source; of a canonical statement with no LF; of the source; of the canonical file
+-- bytes of a statement's tokens in the source; of a canonical line with no LF; of the source; of the canonical file
 pub record Limits : Type 0 where
   pub record_source : ℕ
   pub record_canonical : ℕ
