@@ -1,13 +1,14 @@
-ghost use Rattle.std.specs.Prelude.{◌≡◌, ◌^◌, ◌<◌, ◌≤◌, ◌↔◌, ◌∷◌, length, drop, All, IsTrue, IfNone, IfSome};
-ghost use Rattle.p21_semantics.specs.Digits.{IsDigit, number, plain_digits};
+ghost use Rattle.std.specs.Prelude.{◌≡◌, ◌^◌, ◌<◌, ◌≤◌, ◌∷◌, length, drop, IfNone, IfSome};
+ghost use Rattle.p21_semantics.specs.Digits.{AllDigits, number, plain_digits};
 ghost use Rattle.p21_semantics.specs.Name.{NameForm};
 ghost use Rattle.p21_values.specs.Name.{ReadsName};
 
 use crate::canonical::Canonical;
+use crate::digits::{behind, split_digits};
 use crate::fault::{NoMemory, ValueFault};
 use std::marker::Model;
 
-/// The number of an instance.
+/// The name of an instance: a number.
 #[derive(Clone, Copy, Debug, PartialEq, Eq)]
 pub struct Name(pub u64);
 
@@ -45,24 +46,19 @@ fn digits_of_name(bytes: &[u8]) -> Option<&[u8]>
     ensures none { IfNone result (NameForm bytes.now → ⊥) }
     ensures form { IfSome result (λ digits. bytes.now ≡ 35 ∷ digits.now) }
     ensures some_digits { IfSome result (λ digits. 0 < length digits.now) }
-    ensures are_digits { IfSome result (λ digits. All IsDigit digits.now) }
+    ensures are_digits { IfSome result (λ digits. AllDigits digits.now) }
 {
-    let (mark, digits) = bytes.split_first()?;
-    if *mark != b'#' || digits.is_empty() || !are_digits(digits) {
+    let (digits, rest) = split_digits(behind(b'#', bytes)?);
+    if digits.is_empty() || !rest.is_empty() {
         return None;
     }
     Some(digits)
 }
 
-fn are_digits(bytes: &[u8]) -> bool
-    ensures { IsTrue result ↔ All IsDigit bytes.now }
-{
-    bytes.iter().all(|byte| byte.is_ascii_digit())
-}
-
 /// The number that digits stand for, if it fits.
+#[tactic(auto, using(crate::proofs::DigitRuns::digit_at))]
 fn number_of(digits: &[u8]) -> Option<u64>
-    requires { All IsDigit digits.now }
+    requires { AllDigits digits.now }
     ensures some { IfSome result (λ n. n ≡ number digits.now) }
     ensures none { IfNone result (2 ^ 64 ≤ number digits.now) }
 {
