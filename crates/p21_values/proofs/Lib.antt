@@ -1,0 +1,7 @@
+mod BitsLemmas
+mod DigitLemmas
+mod NameLemmas
+pub mod DigitRuns
+pub mod Readings
+pub mod SignificantDigits
+pub mod StoredWholes

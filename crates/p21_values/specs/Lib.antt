@@ -1,2 +1,7 @@
+pub mod Bits
 pub mod Canonical
 pub mod Fault
+pub mod Name
+pub mod Digits
+pub mod Whole
+pub mod Word

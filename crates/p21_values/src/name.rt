@@ -1,0 +1,119 @@
+ghost use Rattle.std.specs.Prelude.{◌≡◌, ◌^◌, ◌<◌, ◌≤◌, ◌↔◌, ◌∷◌, length, drop, All, IsTrue, IfNone, IfSome};
+ghost use Rattle.p21_semantics.specs.Digits.{IsDigit, number, plain_digits};
+ghost use Rattle.p21_semantics.specs.Name.{NameForm};
+ghost use Rattle.p21_values.specs.Name.{ReadsName};
+
+use crate::canonical::Canonical;
+use crate::fault::{NoMemory, ValueFault};
+use std::marker::Model;
+
+/// The number of an instance.
+#[derive(Clone, Copy, Debug, PartialEq, Eq)]
+pub struct Name(pub u64);
+
+impl Model for Name {
+    ghost use Rattle.std.specs.Prelude.{ℕ};
+
+    ghost Value = { ℕ };
+
+    ghost view = { λ a. a.0 };
+
+    ghost inverse = { λ n. record { 0 = n } };
+}
+
+impl Name {
+    /// Reads one instance name: `#` and digits. It takes no memory.
+    ///
+    /// # Errors
+    ///
+    /// `BadName` where the form is another, and `NameRange` where the number is above 18446744073709551615.
+    pub fn read(bytes: &[u8]) -> Result<Name, ValueFault>
+        ensures { ReadsName bytes.now result }
+    {
+        let Some(digits) = digits_of_name(bytes) else {
+            return Err(ValueFault::BadName);
+        };
+        match number_of(digits) {
+            Some(number) => Ok(Name(number)),
+            None => Err(ValueFault::NameRange),
+        }
+    }
+}
+
+/// The digits of an instance name, where the form is right.
+fn digits_of_name(bytes: &[u8]) -> Option<&[u8]>
+    ensures none { IfNone result (NameForm bytes.now → ⊥) }
+    ensures form { IfSome result (λ digits. bytes.now ≡ 35 ∷ digits.now) }
+    ensures some_digits { IfSome result (λ digits. 0 < length digits.now) }
+    ensures are_digits { IfSome result (λ digits. All IsDigit digits.now) }
+{
+    let (mark, digits) = bytes.split_first()?;
+    if *mark != b'#' || digits.is_empty() || !are_digits(digits) {
+        return None;
+    }
+    Some(digits)
+}
+
+fn are_digits(bytes: &[u8]) -> bool
+    ensures { IsTrue result ↔ All IsDigit bytes.now }
+{
+    bytes.iter().all(|byte| byte.is_ascii_digit())
+}
+
+/// The number that digits stand for, if it fits.
+fn number_of(digits: &[u8]) -> Option<u64>
+    requires { All IsDigit digits.now }
+    ensures some { IfSome result (λ n. n ≡ number digits.now) }
+    ensures none { IfNone result (2 ^ 64 ≤ number digits.now) }
+{
+    let mut number = 0u64;
+    for digit in digits {
+        number = number
+            .checked_mul(10)?
+            .checked_add(u64::from(*digit - b'0'))?;
+    }
+    Some(number)
+}
+
+/// Writes the digits of a number at the end of the text, and says where they begin.
+fn fill_digits(text: &mut [u8; 21], number: u64) -> usize
+    ensures within { (0 < result) × (result < 21) }
+    ensures digits { drop result text.new ≡ plain_digits number }
+{
+    let mut start = 20;
+    text[start] = b'0' + (number % 10) as u8;
+    let mut rest = number / 10;
+    while rest > 0 {
+        start -= 1;
+        text[start] = b'0' + (rest % 10) as u8;
+        rest /= 10;
+    }
+    start
+}
+
+impl Canonical for Name {
+    ghost use Rattle.std.specs.Prelude.{◌≡◌, ◌<◌, ◌^◌};
+    ghost use Rattle.p21_semantics.proofs.Names.{name_spells, same_names};
+    ghost use Rattle.p21_semantics.specs.Name.{SpellsName};
+    ghost use Rattle.p21_semantics.specs.Spelling.{name_spelling};
+
+    ghost is_value = { λ n. n < 2 ^ 64 };
+
+    ghost same = { λ a b. a ≡ b };
+
+    ghost spells = { SpellsName };
+
+    ghost spelling = { name_spelling };
+
+    ghost same_spelling = { same_names };
+
+    ghost spells_value = { name_spells };
+
+    fn write_canonical(&self, out: &mut Vec<u8>) -> Result<(), NoMemory> {
+        let mut text = [0; 21];
+        let start = fill_digits(&mut text, self.0) - 1;
+        text[start] = b'#';
+        out.extend_from_slice(&text[start..])?;
+        Ok(())
+    }
+}
