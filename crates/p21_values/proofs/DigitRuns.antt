@@ -1,8 +1,8 @@
 -- Digits one by one.
-use Rattle.std.proofs.Common.{◌≡◌, ◌≢◌, ℕ, zero, suc, ◌+◌, ◌-◌, ◌*◌, ◌^◌, ◌%◌, ◌<◌, ◌≤◌, List, [], ◌∷◌, ◌++◌, length, take, get_or, inl, inr, ap, sym, ◌∙◌, arith}
+use Rattle.std.proofs.Common.{◌≡◌, ◌≢◌, ℕ, zero, suc, ◌+◌, ◌-◌, ◌*◌, ◌^◌, ◌%◌, ◌<◌, ◌≤◌, List, [], ◌∷◌, ◌++◌, length, take, drop, get_or, inl, inr, ap, sym, subst, ◌∙◌, arith}
 use Rattle.std.proofs.lemmas.Bool.{cases_lt}
-use Rattle.std.proofs.lemmas.List.{take_more}
-use Rattle.std.proofs.Math.Nat.{mul_assoc, pow-succ'}
+use Rattle.std.proofs.lemmas.List.{take_more, take-append-drop}
+use Rattle.std.proofs.Math.Nat.{mul_assoc, mul-le-mul_left, one-le-pow, pow-succ'}
 use Rattle.p21_semantics.specs.Digits.{AllDigits, IsDigit, number}
 use Rattle.p21_semantics.proofs.PlainDigits.{digits_append, number_append}
 
@@ -23,6 +23,13 @@ digit_at (c ∷ xs) (suc i) p h = digit_at xs i p.1 (omega arith)
 pub digits_parts : (a b : List ℕ) → AllDigits (a ++ b) → AllDigits a × AllDigits b
 digits_parts [] b p = (tt, p)
 digits_parts (x ∷ a) b p = let r = digits_parts a b p.1 in ((p.0, r.0), r.1)
+
+-- further digits make no number smaller
+pub number_take : (i : ℕ) (xs : List ℕ) → number (take i xs) ≤ number xs
+number_take i xs =
+    let split = number_append (take i xs) (drop i xs) in
+    let more = mul-le-mul_left (number (take i xs)) (one-le-pow (length (drop i xs)) 10 (omega arith)) in
+    subst (λ (ys : List ℕ). number (take i xs) ≤ number ys) (take-append-drop i xs) (omega (arith, split, more))
 
 -- ---- zeros at the end
 
