@@ -1,5 +1,6 @@
 -- What the parts of the lexer owe: how a byte, a run of bytes and a piece change what is held.
 use Rattle.std.specs.Prelude.{◌≡◌, ◌≢◌, ℕ, ◌+◌, ◌≤◌, ◌<◌, Bool, true, false, ◌==◌, if◌then◌else◌, List, [], ◌∷◌, ◌++◌, length, take, slice_get, Option, Some, None, Result, Ok, Err}
+use Rattle.std.specs.Option.{option_map}
 use Rattle.p21_semantics.specs.Token as meaning
 use Rattle.p21_semantics.specs.Laying.{Lexeme, count_behind}
 use Rattle.p21_tokens_automaton.specs.declared.mode.Mode.{Mode}
@@ -115,3 +116,34 @@ Steps old byte (Ok Took) new = SameLimits old new × Takes old byte new
 Steps old byte (Ok (Gave token)) new = SameLimits old new × Gives old byte (meant token) new
 Steps old byte (Ok (Handed token)) new = SameLimits old new × Hands old byte (meant token) new
 Steps old byte (Err fault) new = SameLimits old new × RefusesByte old byte fault
+
+-- a run of bytes that gave no token
+pub record TakesRun (old : Held) (bytes : List ℕ) (new : Held) : Type 0 where
+  pub file_is : new.file ≡ old.file + length bytes
+  pub statement_is : new.statement ≡ old.statement
+  pub rest_is : (rest : List ℕ) → rest_of old (bytes ++ rest) ≡ rest_of new rest
+  pub gap : is_gap old.mode ≡ true → is_gap new.mode ≡ true
+
+-- how many bytes at the front were taken as a run, which needs memory only inside a token
+abbrev pub Runs : Held → List ℕ → Result ℕ TokenFault → Held → Type 0
+Runs old piece (Ok count) new = (count ≤ length piece) × SameLimits old new × TakesRun old (take count piece) new
+Runs old piece (Err fault) new = (fault ≡ NoMemory) × SameLimits old new × (is_gap old.mode ≡ true → ⊥)
+
+-- bytes behind which a token was given with the last of them, or by the byte behind them
+pub data ScansToken (old : Held) (bytes : List ℕ) (behind : Option ℕ) (token : meaning.Token) (new : Held) : Type 0 where
+  gave : (middle : Held) (front : List ℕ) (byte : ℕ) → SameLimits old middle → TakesRun old front middle → Gives middle byte token new → bytes ≡ front ++ byte ∷ [] → ScansToken old bytes behind token new
+  handed : (middle : Held) (byte : ℕ) → SameLimits old middle → TakesRun old bytes middle → Hands middle byte token new → behind ≡ Some byte → ScansToken old bytes behind token new
+
+-- what a scan of a piece leaves: the piece taken whole, or the bytes up to a token, and the byte behind it where that was seen
+abbrev pub Scanned : Held → List ℕ → ℕ → Option meaning.Token → Held → Type 0
+Scanned old piece count None new = (count ≡ length piece) × TakesRun old piece new
+Scanned old piece count (Some token) new = (count ≤ length piece) × ScansToken old (take count piece) (slice_get piece count) token new
+
+-- why a byte of the piece is refused, behind so many that were taken
+abbrev pub RefusesAt : Held → List ℕ → TokenFault → Held → Type 0
+RefusesAt old piece fault new =
+    (middle : Held) × (count byte : ℕ) × (slice_get piece count ≡ Some byte) × SameLimits old middle × TakesRun old (take count piece) middle × SameLimits old new × RefusesByte middle byte fault
+
+abbrev pub Scans : Held → List ℕ → Result (ℕ × Option Token) TokenFault → Held → Type 0
+Scans old piece (Ok answer) new = SameLimits old new × Scanned old piece answer.0 (option_map meant answer.1) new
+Scans old piece (Err fault) new = RefusesAt old piece fault new

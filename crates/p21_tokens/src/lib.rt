@@ -3,12 +3,14 @@
 #![tactic(auto)]
 
 mod fault;
+mod laying;
 mod lexer;
 mod reading;
 mod step;
 mod token;
 
 pub use fault::TokenFault;
+pub use laying::one_laying;
 pub use lexer::Lexer;
 pub use p21_tokens_automaton::Absent;
 pub use token::Token;

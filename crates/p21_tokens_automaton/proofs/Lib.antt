@@ -14,3 +14,4 @@ pub mod Complete
 pub mod Sound
 pub mod TextSound
 pub mod TextRuns
+pub mod Theorems

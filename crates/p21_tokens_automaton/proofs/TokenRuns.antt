@@ -1,10 +1,10 @@
 -- What the reader makes of the spelling of each token other than a string.
-use Rattle.std.proofs.Common.{◌≡◌, ◌≢◌, ℕ, zero, suc, ◌+◌, ◌-◌, ◌*◌, ◌^◌, ◌<◌, ℤ, ◌⊎◌, inl, inr, Bool, true, false, codes, List, [], ◌∷◌, ◌++◌, length, map, replicate, refl, sym, ap, ap₂, subst, ◌∙◌, lt_of_le_of_lt, lt-ltb, append_assoc, append-nil, arith, Some}
+use Rattle.std.proofs.Common.{◌≡◌, ◌≢◌, ℕ, zero, suc, ◌+◌, ◌-◌, ◌*◌, ◌^◌, ◌<◌, ◌≤◌, ℤ, ◌⊎◌, inl, inr, Bool, true, false, codes, List, [], ◌∷◌, ◌++◌, length, map, replicate, refl, sym, ap, ap₂, subst, ◌∙◌, lt_of_le_of_lt, lt-ltb, append_assoc, append-nil, arith, Some}
 use Rattle.std.proofs.lemmas.Bool.{ne_eqb}
 use Rattle.std.proofs.lemmas.Bool.Decides.{nat_tests}
 use Rattle.std.proofs.lemmas.List.{length_push}
 use Rattle.std.specs.List.{flat_map, AllByRecursion as Each}
-use Rattle.p21_semantics.proofs.DigitRuns.{number_front}
+use Rattle.std.proofs.Math.Nat.{one-le-pow, mul-le-mul_left}
 use Rattle.p21_semantics.proofs.PlainDigits.{number_append}
 use Rattle.p21_semantics.specs.Binary.{four_bits, has_bit}
 use Rattle.p21_semantics.specs.Digits.{IsDigit, AllDigits, number as number_of, hex_digit}
@@ -29,6 +29,10 @@ use Rattle.p21_tokens_automaton.specs.declared.mode.Action.TheVariants.{Skip, Ke
 use Rattle.p21_tokens_automaton.proofs.Classes.{digit-decides, upper-decides, keyword_byte-decides, hex_digit-is_hex, false_from_not}
 use Rattle.p21_tokens_automaton.proofs.Steps.{lex-keep, lex-skip, lex-give, lex-close}
 use Rattle.p21_tokens_automaton.proofs.Waits.{Waits, IsGiven}
+
+-- further digits make no number smaller
+number_front : (xs ys : List ℕ) → number_of xs ≤ number_of (xs ++ ys)
+number_front xs ys = omega (arith, number_append xs ys, mul-le-mul_left (number_of xs) (one-le-pow (length ys) 10 (omega arith)))
 
 -- ---- runs of kept bytes
 
