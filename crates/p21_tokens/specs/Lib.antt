@@ -2,3 +2,4 @@ pub mod Fault
 pub mod Token
 pub mod Held
 pub mod Steps
+pub mod Histories

@@ -14,7 +14,7 @@ use Rattle.p21_tokens_automaton.specs.Step.{advance}
 use Rattle.p21_tokens.specs.Held.{Held, pending_of, state_of}
 use Rattle.p21_tokens.specs.Token.{meant, waits}
 use Rattle.p21_tokens.specs.declared.fault.TokenFault.{TokenFault}
-use Rattle.p21_tokens.specs.declared.fault.TokenFault.TheVariants.{RecordTooLong, FileTooLong, NoMemory}
+use Rattle.p21_tokens.specs.declared.fault.TokenFault.TheVariants.{OpenString, OpenComment, NotOneParameter, RecordTooLong, FileTooLong, EndsEarly, NoMemory}
 use Rattle.p21_tokens.specs.declared.step.Step.{Step}
 use Rattle.p21_tokens.specs.declared.step.Step.TheVariants.{Took, Gave, Handed}
 use Rattle.p21_tokens.specs.declared.token.Token.{Token}
@@ -52,6 +52,10 @@ ReadsFound (Some found) (Ok token) = Means found (meant token)
 ReadsFound found (Err NoMemory) = Unit {0}
 ReadsFound found (Err FileTooLong) = ⊥
 ReadsFound found (Err RecordTooLong) = ⊥
+ReadsFound found (Err OpenString) = ⊥
+ReadsFound found (Err OpenComment) = ⊥
+ReadsFound found (Err NotOneParameter) = ⊥
+ReadsFound found (Err EndsEarly) = ⊥
 ReadsFound None (Err fault) = Unit {0}
 ReadsFound (Some found) (Err fault) = (token : meaning.Token) → Means found token → ⊥
 
@@ -80,6 +84,10 @@ abbrev pub RefusesByte : Held → ℕ → TokenFault → Type 0
 RefusesByte held byte NoMemory = is_gap held.mode ≡ true → is_blank byte ≡ true → ⊥
 RefusesByte held byte FileTooLong = held.file_limit ≤ held.file
 RefusesByte held byte RecordTooLong = (held.statement_limit ≤ pending_of held) × (is_token_byte held.mode (advance held.mode byte) ≡ true) × (held.file < held.file_limit)
+RefusesByte held byte OpenString = ⊥
+RefusesByte held byte OpenComment = ⊥
+RefusesByte held byte NotOneParameter = ⊥
+RefusesByte held byte EndsEarly = ⊥
 RefusesByte held byte fault = IsDeadAt held (byte ∷ [])
 
 -- a byte that gave no token
