@@ -125,12 +125,17 @@ Steps old byte (Ok (Gave token)) new = SameLimits old new × Gives old byte (mea
 Steps old byte (Ok (Handed token)) new = SameLimits old new × Hands old byte (meant token) new
 Steps old byte (Err fault) new = SameLimits old new × RefusesByte old byte fault
 
+-- separator bytes, as a test
+abbrev pub AreBlank : List ℕ → Type 0
+AreBlank [] = Unit {0}
+AreBlank (byte ∷ bytes) = (is_blank byte ≡ true) × AreBlank bytes
+
 -- a run of bytes that gave no token
 pub record TakesRun (old : Held) (bytes : List ℕ) (new : Held) : Type 0 where
   pub file_is : new.file ≡ old.file + length bytes
   pub statement_is : new.statement ≡ old.statement
   pub rest_is : (rest : List ℕ) → rest_of old (bytes ++ rest) ≡ rest_of new rest
-  pub gap : is_gap old.mode ≡ true → is_gap new.mode ≡ true
+  pub gap : is_gap old.mode ≡ true → AreBlank bytes → is_gap new.mode ≡ true
 
 -- how many bytes at the front were taken as a run, which needs memory only inside a token
 abbrev pub Runs : Held → List ℕ → Result ℕ TokenFault → Held → Type 0

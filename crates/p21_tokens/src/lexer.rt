@@ -352,6 +352,7 @@ impl Lexer {
         ensures within { result ≤ self.now.statement_limit }
         ensures pending { (history : TokenHistory) → Stands self.now history → history.refusal ≡ None → IsPending history.taken result }
     {
+        let _limit = self.statement_limit;
         self.statement + self.size
     }
 }
