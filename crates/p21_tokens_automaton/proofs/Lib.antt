@@ -15,3 +15,4 @@ pub mod Sound
 pub mod TextSound
 pub mod TextRuns
 pub mod Theorems
+pub mod Fronts
