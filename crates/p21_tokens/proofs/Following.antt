@@ -4,13 +4,14 @@ use Rattle.std.specs.List.{slice_get}
 use Rattle.p21_semantics.specs.History.{History, extended, looked_at, seen_behind, IsOffered, empty}
 use Rattle.p21_semantics.specs.Laying.{Lexeme, LaidAs, Laid, tokens_in, open_bytes, count_behind, AreStatementsWithin}
 use Rattle.p21_semantics.specs.Pending.{Tail, nothing, unfinished, slash, open_comment, tail_bytes, tail_size, LaidUpTo, IsPending}
-use Rattle.p21_semantics.specs.Token.{Token, begin, finish, keyword, user_keyword, name, whole, real, text, item, bits, left, right, comma, semicolon, equals, dollar, star, Spells, IsFollowed, IsWholeAtOnce}
+use Rattle.p21_semantics.specs.Token.{Token, IsWholeAtOnce}
 use Rattle.p21_tokens_automaton.proofs.Complete.{all_of-after}
 use Rattle.p21_tokens_automaton.proofs.Fits.{ModeFits}
 use Rattle.p21_tokens_automaton.proofs.Once.{means-once}
 use Rattle.p21_tokens_automaton.proofs.Sound.{LaidTo, TailIs, UpTo, read}
 use Rattle.p21_tokens_automaton.proofs.Steps.{lex-nil}
-use Rattle.p21_tokens_automaton.proofs.Theorems.{laid_read, read_laid, tail-is, laid-up-to, size-is, laid-last, same-tokens, tokens-first, spelling-some, spells-end, front-run}
+use Rattle.p21_tokens_automaton.proofs.Theorems.{laid_read, read_laid, tail-is, laid-up-to, size-is, tokens-first}
+use Rattle.p21_tokens_automaton.proofs.Fronts.{ended-laid, laid-few, front-run}
 use Rattle.p21_tokens_automaton.specs.Meaning.{Means, MeanAll}
 use Rattle.p21_tokens_automaton.specs.Reading.{State, start, Answer, Ending, nothing_but, open_at, before, after, Found, Sized, ended, all_of, lex}
 use Rattle.p21_tokens.specs.Held.{Held, pending_of, state_of}
@@ -64,6 +65,26 @@ after-append fs f a = let P : List Sized → Answer = λ xs. record { given = xs
 pub after-nothing : (fs : List Sized) (e : State) → after fs (nothing_but (open_at e)) ≡ read fs e
 after-nothing fs e = ap (λ (xs : List Sized). read xs e) (append-nil fs)
 
+length-tokens : (ls : List Lexeme) → length (tokens_in ls) ≡ length ls
+length-tokens [] = refl
+length-tokens (l ∷ ls) = ap suc-length (length-tokens ls)
+  where
+    suc-length : ℕ → ℕ
+    suc-length n = suc n
+
+-- the lexemes of tokens with one last
+split-last : (ls : List Lexeme) (tokens : List Token) (last : Token) → tokens_in ls ≡ tokens ++ last ∷ [] → (front : List Lexeme) × (l : Lexeme) × (ls ≡ front ++ l ∷ []) × (l.token ≡ last)
+split-last [] [] last e = absurd cc
+split-last [] (t ∷ tokens) last e = absurd cc
+split-last (l ∷ []) [] last e = ([], l, refl, (cc))
+split-last (l ∷ k ∷ ls) [] last e = absurd cc
+split-last (l ∷ ls) (t ∷ tokens) last e =
+    let rest = split-last ls tokens last (cc) in (l ∷ rest.0, rest.1, ap (λ (x : List Lexeme). l ∷ x) rest.2, rest.3)
+
+laid-to-end : (bytes : List ℕ) (ls : List Lexeme) → LaidAs bytes ls → LaidTo bytes ls []
+laid-to-end bytes [] l = (bytes, sym (append-nil bytes), l)
+laid-to-end bytes (x ∷ ls) l = (l.0, l.1, l.2, l.3, l.4, l.5, l.6, l.7, laid-to-end l.2 ls l.8)
+
 -- ---- the bytes taken
 
 module _ (v : Held) (h : TokenHistory) (live : IsLive v h) where
@@ -73,17 +94,84 @@ module _ (v : Held) (h : TokenHistory) (live : IsLive v h) where
       ap (λ (x : List ℕ). lex start x) (sym (append-nil h.taken)) ∙ (live.reads [] (subst (λ (o : Option ℕ). GoesOn o []) (sym e) tt)
       ∙ (ap (λ (a : Answer). after live.founds a) (lex-nil (state_of v)) ∙ after-nothing live.founds (state_of v)))
 
+  -- the token handed over, behind those in front of it
+  handed-laid : (told : IsHandedOver v h.taken live.founds) → LaidAs h.taken live.lexemes
+  handed-laid told =
+      let last : Sized = record { found = told.last; size = told.state.size } in
+      at (in-parts told.front (last ∷ []) live.lexemes (subst (λ (x : List Sized). MeanAll x live.lexemes) told.founds_are live.mean))
+    where
+      at : InParts told.front (record { found = told.last; size = told.state.size } ∷ []) live.lexemes → LaidAs h.taken live.lexemes
+      at parts = subst (λ (x : List Lexeme). LaidAs h.taken x) (sym parts.lexemes_are) (one parts.behind parts.mean_behind)
+        where
+          one : (ls : List Lexeme) → MeanAll (record { found = told.last; size = told.state.size } ∷ []) ls → LaidAs h.taken (parts.front ++ ls)
+          one [] m = absurd m
+          one (l ∷ []) m = ended-laid h.taken parts.front told.state told.last l (read_laid h.taken told.front parts.front told.state told.read parts.mean_front) told.ended_is m.0 m.1
+          one (l ∷ k ∷ ls) m = absurd m.2
+
   -- the tokens given are laid in the bytes taken, up to what is open
   pub live-laid : UpTo h.taken live.lexemes (state_of v)
   live-laid = elim live.seen_is [
     | inl e ↦ read_laid h.taken live.founds live.lexemes (state_of v) (whole-read e) live.mean
-    | inr told ↦ handed told
+    | inr told ↦ (nothing, laid-to-end h.taken live.lexemes (handed-laid told), told.start_is)
   ]
-    where
-      one-more : (told : IsHandedOver v h.taken live.founds) (ls : List Lexeme) → MeanAll (record { found = told.last; size = told.state.size } ∷ []) ls → UpTo h.taken ls told.state → ⊥
-      one-more told ls m u = ?
 
-      handed : IsHandedOver v h.taken live.founds → UpTo h.taken live.lexemes (state_of v)
-      handed told =
-          let parts = in-parts told.front (record { found = told.last; size = told.state.size } ∷ []) live.lexemes (subst (λ (x : List Sized). MeanAll x live.lexemes) told.founds_are live.mean) in
-          ?
+  pub live-within : pending_of v ≤ v.statement_limit → IsLaidWithin v.statement_limit (pending_of v) h
+  live-within l =
+      let u = live-laid in
+      record {
+        lexemes = live.lexemes;
+        tail = u.0;
+        laid = laid-up-to h.taken live.lexemes u.0 u.1 (tail-is (state_of v) u.0 u.2);
+        given_are = live.given_are;
+        statements_within = live.statements_within;
+        pending_is = let s = live.statement_is in let n = size-is (state_of v) u.0 u.2 in omega arith;
+        pending_within = l;
+      }
+
+  pub live-pending : IsPending h.taken (pending_of v)
+  live-pending =
+      let u = live-laid in
+      record {
+        lexemes = live.lexemes;
+        tail = u.0;
+        laid = laid-up-to h.taken live.lexemes u.0 u.1 (tail-is (state_of v) u.0 u.2);
+        pending_is = let s = live.statement_is in let n = size-is (state_of v) u.0 u.2 in omega arith;
+      }
+
+  pub live-few : length h.given ≤ length h.taken
+  live-few =
+      let u = live-laid in
+      let few = laid-few live.lexemes h.taken (tail_bytes u.0) u.1 in
+      let same = ap length (sym live.given_are) ∙ length-tokens live.lexemes in
+      omega arith
+
+  goes-on : (rest : List ℕ) → (more : List ℕ) × (looked_at h ++ rest ≡ h.taken ++ more) × GoesOn h.seen more
+  goes-on rest = at h.seen
+    where
+      at : (seen : Option ℕ) → (more : List ℕ) × ((h.taken ++ elim seen [ None ↦ [] | Some b ↦ b ∷ [] ]) ++ rest ≡ h.taken ++ more) × GoesOn seen more
+      at None = (rest, ap (λ (x : List ℕ). x ++ rest) (append-nil h.taken), tt)
+      at (Some b) = (b ∷ rest, append_assoc h.taken (b ∷ []) rest, refl)
+
+  pub live-first : AreGivenFirst h
+  live-first rest tokens laid =
+      let on = goes-on rest in
+      let found = laid_read laid.lexemes (looked_at h ++ rest) laid.laid in
+      let all = all_of-after live.founds (rest_of v on.0) found.0 (sym (ap all_of (ap (λ (x : List ℕ). lex start x) on.1 ∙ live.reads on.0 on.2)) ∙ found.1) in
+      let first = tokens-first live.founds all.0 live.lexemes laid.lexemes live.mean (subst (λ (x : List Sized). MeanAll x laid.lexemes) all.2 found.2) in
+      (first.0, sym laid.tokens_are ∙ (first.1 ∙ ap (λ (x : List Token). x ++ first.0) live.given_are))
+
+  -- what is found of the bytes taken is of the tokens given
+  read-of : (answer : Answer) → lex start h.taken ≡ answer → (rest : List Sized) × (live.founds ≡ answer.given ++ rest)
+  read-of answer q = elim live.seen_is [
+    | inl e ↦ ([], sym (append-nil answer.given ∙ ap (λ (x : Answer). x.given) (sym q ∙ whole-read e)))
+    | inr told ↦ (record { found = told.last; size = told.state.size } ∷ [], told.founds_are ∙ ap (λ (x : List Sized). x ++ record { found = told.last; size = told.state.size } ∷ []) (ap (λ (x : Answer). x.given) (sym told.read ∙ q)))
+  ]
+
+  pub live-at_once : AreGivenAtOnce h
+  live-at_once front rest tokens last q laid whole =
+      let list = split-last laid.lexemes tokens last laid.tokens_are in
+      let run = front-run list.0 list.1 front rest (subst (λ (x : List Lexeme). LaidAs front x) list.2 laid.laid) (subst IsWholeAtOnce (sym list.3) whole) in
+      let got = read-of (after run.0 (lex start rest)) (ap (λ (x : List ℕ). lex start x) q ∙ run.2) in
+      let founds : live.founds ≡ run.0 ++ ((lex start rest).given ++ got.0) = got.1 ∙ append_assoc run.0 (lex start rest).given got.0 in
+      let first = tokens-first run.0 ((lex start rest).given ++ got.0) (list.0 ++ list.1 ∷ []) live.lexemes run.1 (subst (λ (x : List Sized). MeanAll x live.lexemes) founds live.mean) in
+      (first.0, sym live.given_are ∙ (first.1 ∙ ap (λ (x : List Token). x ++ first.0) (ap tokens_in (sym list.2) ∙ laid.tokens_are)))
