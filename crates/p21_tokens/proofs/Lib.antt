@@ -1,3 +1,4 @@
 pub mod Stepping
 pub mod Scanning
 pub mod Following
+pub mod Extending

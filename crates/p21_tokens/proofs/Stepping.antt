@@ -289,6 +289,7 @@ module _ (v : Held) (b : ℕ) where
           means = r;
           waited = ended-waits v.mode v.kept v.characters f q (meant token) r;
           ended_is = q;
+          within = h.2;
           file_is = refl;
           statement_is = refl;
           start_is = refl;

@@ -76,7 +76,7 @@ Closes old byte (Err fault) new = ReadsFound (closed old.mode (old.kept ++ byte 
 
 -- the token that a byte behind it ends
 abbrev pub Ends : Held → Result Token TokenFault → Held → Type 0
-Ends old (Ok token) new = ReadsFound (ended (state_of old)) (Ok token) × (new ≡ behind_token old (old.statement + old.size) old.file)
+Ends old (Ok token) new = ReadsFound (ended (state_of old)) (Ok token) × (new ≡ behind_token old (old.statement + old.size) old.file) × (pending_of old ≤ old.statement_limit)
 Ends old (Err fault) new = ReadsFound (ended (state_of old)) (Err fault) × SameLimits old new
 
 -- why a byte is refused
@@ -114,6 +114,7 @@ pub record Hands (old : Held) (byte : ℕ) (token : meaning.Token) (new : Held) 
   pub means : Means found token
   pub waited : waits token ≡ true
   pub ended_is : ended (state_of old) ≡ Some found
+  pub within : pending_of old ≤ old.statement_limit
   pub file_is : new.file ≡ old.file
   pub statement_is : new.statement ≡ old.statement + old.size
   pub start_is : state_of new ≡ start
