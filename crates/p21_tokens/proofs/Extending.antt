@@ -1,5 +1,5 @@
 -- What a call adds to the history that a lexer stands for.
-use Rattle.std.proofs.Common.{◌≡◌, ◌≢◌, ℕ, zero, suc, ◌+◌, ◌≤◌, ◌<◌, Bool, true, false, cond, List, [], ◌∷◌, ◌++◌, ◌⊎◌, inl, inr, length, length-append, get_or, take, refl, sym, ap, ◌∙◌, subst, append_assoc, append-nil, arith, Option, Some, None, Result, Ok, Err}
+use Rattle.std.proofs.Common.{◌≡◌, ◌≢◌, ℕ, zero, suc, ◌+◌, ◌≤◌, ◌<◌, Bool, true, false, cond, eqb, List, [], ◌∷◌, ◌++◌, ◌⊎◌, inl, inr, length, length-append, get_or, take, refl, sym, ap, ◌∙◌, subst, append_assoc, append-nil, arith, Option, Some, None, Result, Ok, Err}
 use Rattle.std.specs.List.{slice_get}
 use Rattle.std.specs.Option.{option_map}
 use Rattle.std.proofs.lemmas.List.{length-take-le, take_more}
@@ -14,12 +14,22 @@ use Rattle.p21_tokens_automaton.proofs.Gaps.{gap}
 use Rattle.p21_tokens_automaton.proofs.Sound.{TailIs}
 use Rattle.p21_tokens_automaton.proofs.Steps.{lex-nil}
 use Rattle.p21_tokens_automaton.proofs.Theorems.{laid_read, tail-is, laid-up-to, size-is}
+use Rattle.std.proofs.lemmas.Bool.{cond_both}
+use Rattle.std.proofs.lemmas.Bool.Decides.{nat_tests}
+use Rattle.p21_tokens_automaton.specs.Bytes.{is_blank, is_digit, is_upper}
+use Rattle.p21_tokens_automaton.specs.Step.{advance, mark_action}
+use Rattle.p21_tokens_automaton.specs.declared.mode.Action.{Action}
+use Rattle.p21_tokens_automaton.specs.declared.mode.Action.TheVariants.{Pass, Keep, Refuse}
+use Rattle.p21_tokens_automaton.specs.declared.mode.Mode.TheVariants.{Between, Slash, Comment, Star, Number, Word}
+use Rattle.p21_tokens_automaton.specs.declared.mode.NumberMode.TheVariants as number_mode
+use Rattle.p21_tokens_automaton.specs.declared.mode.WordMode.TheVariants as word_mode
+use Rattle.p21_tokens_automaton.specs.declared.mode.Wrong.TheVariants as wrong
 use Rattle.p21_tokens_automaton.specs.Meaning.{Means, MeanAll}
 use Rattle.p21_tokens_automaton.specs.Reading.{State, start, Answer, Ending, nothing_but, open_at, before, after, Found, Sized, ended, all_of, lex}
 use Rattle.p21_tokens.proofs.Following.{tokens-append, mean-append, in-parts, open-append, within-append, after-append, after-nothing, live-laid, live-within, live-few, live-first, live-at_once}
 use Rattle.p21_tokens.specs.Held.{Held, pending_of, state_of}
 use Rattle.p21_tokens.specs.Histories.{TokenHistory, call_of, refused_call, Stands, IsLive, IsHandedOver, GoesOn, AreDead, IsStatementFull, Answers, Refuses, RefusesAtByte, NextGives}
-use Rattle.p21_tokens.specs.Steps.{rest_of, is_gap, SameLimits, TakesRun, Gives, Hands, RefusesByte, Scanned, ScansToken, gave, handed, Scans, RefusesAt}
+use Rattle.p21_tokens.specs.Steps.{rest_of, is_gap, is_token_byte, IsDeadAt, SameLimits, TakesRun, Gives, Hands, RefusesByte, Scanned, ScansToken, gave, handed, Scans, RefusesAt}
 use Rattle.p21_tokens.specs.Token.{meant, waits}
 use Rattle.p21_tokens.specs.declared.fault.TokenFault.{TokenFault}
 use Rattle.p21_tokens.specs.declared.fault.TokenFault.TheVariants as fault
@@ -266,3 +276,137 @@ live-scanned v w h piece count (Some token) live alive o s r = by_scan (take cou
         subst (λ (x : TokenHistory). IsLive w x)
         (same-history _ _ _ _ _ _ _ _ (ap (λ (x : List ℕ). h.taken ++ x) q)
         (sym (ap (λ (x : Option ℕ). seen_behind h.seen (take count piece) x) (waits-cond token piece count true g.waited ∙ e) ∙ seen-some h.seen (take count piece) byte)) refl (sym (ap (λ (x : Option TokenFault). first_refusal x None) alive))) here
+
+-- a live lexer's answers
+answers-live : (v : Held) (h : TokenHistory) → Stands v h → h.refusal ≡ None → IsLive v h → pending_of v ≤ v.statement_limit → v.file ≤ v.file_limit → Answers v h
+answers-live v h s alive live p f = record {
+  stands = s;
+  given_first = live-first v h live;
+  given_at_once = live-at_once v h live;
+  given_few = live-few v h live;
+  file_within = let e = live.file_is in omega arith;
+  laid_within = live-within v h live p;
+}
+
+call-refusal : (piece : List ℕ) (count : ℕ) (token : Option Token) (h : TokenHistory) → h.refusal ≡ None → (extended h (call_of piece count token)).refusal ≡ None
+call-refusal piece count None h e = ap (λ (x : Option TokenFault). first_refusal x None) e
+call-refusal piece count (Some token) h e = ap (λ (x : Option TokenFault). first_refusal x None) e
+
+pub stands-live : (v : Held) (h : TokenHistory) → Stands v h → v.refused ≡ None → (h.refusal ≡ None) × IsLive v h
+unfolding Stands
+stands-live v h s e = let alive = sym s.0 ∙ e in (alive, s.1 alive)
+
+pub next-answers : (v w : Held) (piece : List ℕ) (answer : ℕ × Option TokenRead) → v.refused ≡ None → pending_of w ≤ w.statement_limit → w.file ≤ w.file_limit → Scans v piece (Ok answer) w → NextGives v piece (Ok answer) w
+unfolding Stands
+next-answers v w piece answer r p f s h stands o =
+    let now = stands-live v h stands r in
+    let live = live-scanned v w h piece answer.0 (option_map meant answer.1) now.1 now.0 o s.0 s.1 in
+    let alive = call-refusal piece answer.0 (option_map meant answer.1) h now.0 in
+    answers-live w _ (s.0.refused ∙ (r ∙ sym alive), λ _. live) alive live p f
+
+-- ---- a call that refused
+
+between-byte : (byte : ℕ) → is_token_byte Between (advance Between byte) ≡ true → BeginsNoSeparator (byte ∷ [])
+between-byte byte c =
+    let no_blank = at (is_blank byte) refl in
+    (no_blank.0, no_blank.1, λ e. let clash : false ≡ true = sym (ap (λ (b : ℕ). is_token_byte Between (advance Between b)) e) ∙ c in cc)
+  where
+    classes : is_blank byte ≡ false → (32 < byte) × (byte ≢ 127)
+    classes e = (grind (arith, nat_tests), λ q. grind (arith, nat_tests))
+
+    at : (b : Bool) → is_blank byte ≡ b → (32 < byte) × (byte ≢ 127)
+    at true e = let clash : false ≡ true = sym (ap (λ (x : Bool). is_token_byte Between (cond x (Pass Between) (cond (is_digit byte) (Keep (Number number_mode.Whole)) (cond (is_upper byte) (Keep (Word word_mode.Keyword)) (mark_action byte))))) e) ∙ c in cc
+    at false e = classes e
+
+slash-byte : (byte : ℕ) → is_token_byte Slash (advance Slash byte) ≡ true → ⊥
+slash-byte byte = cond_both (eqb byte 42) (Pass Comment) (Refuse wrong.Byte) (λ a. is_token_byte Slash a ≡ true → ⊥) (λ _ c. absurd cc) (λ _ c. absurd cc)
+
+comment-byte : (byte : ℕ) → is_token_byte Comment (advance Comment byte) ≡ true → ⊥
+comment-byte byte = cond_both (eqb byte 42) (Pass Star) (Pass Comment) (λ a. is_token_byte Comment a ≡ true → ⊥) (λ _ c. absurd cc) (λ _ c. absurd cc)
+
+star-byte : (byte : ℕ) → is_token_byte Star (advance Star byte) ≡ true → ⊥
+star-byte byte = cond_both (eqb byte 47) (Pass Between) (cond (eqb byte 42) (Pass Star) (Pass Comment)) (λ a. is_token_byte Star a ≡ true → ⊥) (λ _ c. absurd cc)
+    (λ _. cond_both (eqb byte 42) (Pass Star) (Pass Comment) (λ a. is_token_byte Star a ≡ true → ⊥) (λ _ c. absurd cc) (λ _ c. absurd cc))
+
+-- a byte that counts, by what stands in front of it
+counts-byte : (v : Held) (tail : Tail) (byte : ℕ) → TailIs (state_of v) tail → is_token_byte v.mode (advance v.mode byte) ≡ true → IsTokenByte tail byte
+counts-byte v nothing byte t c = between-byte byte (ap (λ (s : State). is_token_byte s.mode (advance s.mode byte)) (sym t) ∙ c)
+counts-byte v (unfinished bytes) byte t c = tt
+counts-byte v slash byte t c = slash-byte byte (ap (λ (s : State). is_token_byte s.mode (advance s.mode byte)) (sym t) ∙ c)
+counts-byte v (open_comment inside) byte t c = elim t.0 [
+  | inl q ↦ comment-byte byte (ap (λ (s : State). is_token_byte s.mode (advance s.mode byte)) (sym q) ∙ c)
+  | inr q ↦ star-byte byte (ap (λ (s : State). is_token_byte s.mode (advance s.mode byte)) (sym q) ∙ c)
+]
+
+module _ (v w : Held) (h : TokenHistory) (piece : List ℕ) (live : IsLive v h) (alive : h.refusal ≡ None) (o : IsOffered h.seen piece) (middle : Held) (count byte : ℕ) (found : slice_get piece count ≡ Some byte) (same : SameLimits v middle) (run : TakesRun v (take count piece) middle) where
+  -- the lexer in front of the refused byte
+  front-live : IsLive middle (record { taken = h.taken ++ take count piece; seen = seen_behind h.seen (take count piece) None; given = h.given ++ []; refusal = None })
+  front-live = live-none v middle h (take count piece) live (offered-front h.seen piece count o) same run
+
+  full : middle.statement_limit ≤ pending_of middle → is_token_byte middle.mode (advance middle.mode byte) ≡ true → IsStatementFull v.statement_limit (h.taken ++ take count piece) byte
+  full l c =
+      let u = live-laid middle _ front-live in
+      record {
+        lexemes = front-live.lexemes;
+        tail = u.0;
+        laid = laid-up-to (h.taken ++ take count piece) front-live.lexemes u.0 u.1 (tail-is (state_of middle) u.0 u.2);
+        full = let n = front-live.statement_is in let k = size-is (state_of middle) u.0 u.2 in let m = same.statement_limit in omega arith;
+        counts = counts-byte middle u.0 byte u.2 c;
+      }
+
+  taken-length : length (h.taken ++ take (count + 1) piece) ≡ length h.taken + (count + 1)
+  taken-length =
+      let l = some-length piece count byte found in
+      let p = length-append h.taken (take (count + 1) piece) in
+      let q = length-take-le (count + 1) piece (omega arith) in
+      omega arith
+
+  middle-file : middle.file ≡ length h.taken + count
+  middle-file =
+      let l = some-length piece count byte found in
+      let q = length-take-le count piece (omega arith) in
+      omega (arith, run.file_is, live.file_is)
+
+  dead : IsDeadAt middle (byte ∷ []) → AreDead (h.taken ++ take (count + 1) piece)
+  dead d rest tokens laid =
+      let read = laid_read laid.lexemes ((h.taken ++ take (count + 1) piece) ++ rest) laid.laid in
+      let joined : (h.taken ++ take (count + 1) piece) ++ rest ≡ h.taken ++ (take count piece ++ byte ∷ rest) =
+      append_assoc h.taken (take (count + 1) piece) rest ∙ ap (λ (x : List ℕ). h.taken ++ x) (ap (λ (x : List ℕ). x ++ rest) (take-one piece count byte found) ∙ append_assoc (take count piece) (byte ∷ []) rest) in
+      let answer : lex start ((h.taken ++ take (count + 1) piece) ++ rest) ≡ after live.founds (rest_of middle (byte ∷ rest)) =
+      ap (λ (x : List ℕ). lex start x) joined ∙ (live.reads (take count piece ++ byte ∷ rest) (goes-byte h.seen piece count byte rest o found) ∙ ap (λ (a : Answer). after live.founds a) (run.rest_is (byte ∷ rest))) in
+      let all = all_of-after live.founds (rest_of middle (byte ∷ rest)) read.0 (sym (ap all_of answer) ∙ read.1) in
+      let parts = in-parts live.founds all.0 laid.lexemes (subst (λ (x : List Sized). MeanAll x laid.lexemes) all.2 read.2) in
+      d rest all.0 parts.behind all.1 parts.mean_behind
+
+  pub refuses-byte : (x : TokenFault) → RefusesByte middle byte x → Refuses v h piece count x
+  refuses-byte fault.NoMemory r = tt
+  refuses-byte fault.FileTooLong r = let a = taken-length in let b = middle-file in let c = same.file_limit in omega arith
+  refuses-byte fault.RecordTooLong r = (byte, found, full r.0 r.1, (let a = taken-length in let b = middle-file in let c = same.file_limit in let d = r.2 in omega arith))
+  refuses-byte fault.OpenString r = r
+  refuses-byte fault.OpenComment r = r
+  refuses-byte fault.NotOneParameter r = r
+  refuses-byte fault.EndsEarly r = r
+  refuses-byte fault.BadByte r = dead r
+  refuses-byte fault.BadDirective r = dead r
+  refuses-byte fault.BadCodePoint r = dead r
+  refuses-byte fault.NotUtf8 r = dead r
+  refuses-byte fault.BadNumber r = dead r
+  refuses-byte fault.NumberRange r = dead r
+  refuses-byte fault.BadBinary r = dead r
+  refuses-byte fault.NameRange r = dead r
+  refuses-byte fault.BadName r = dead r
+  refuses-byte (fault.LeftOut absent) r = dead r
+
+pub next-refuses : (v w : Held) (piece : List ℕ) (x : TokenFault) → v.refused ≡ None → w.refused ≡ Some x → RefusesAt v piece x (record w { refused = None }) → NextGives v piece (Err x) w
+unfolding Stands
+next-refuses v w piece x r e s h stands o alive =
+    let now = stands-live v h stands r in
+    record {
+      count = s.1;
+      within = some-length piece s.1 s.2 s.3;
+      refuses = refuses-byte v w h piece now.1 alive o s.0 s.1 s.2 s.3 s.4 s.5 x s.7;
+      stands = (e ∙ sym (ap (λ (y : Option TokenFault). first_refusal y (Some x)) alive), λ q. absurd (not-none x (sym (ap (λ (y : Option TokenFault). first_refusal y (Some x)) alive) ∙ q)));
+    }
+  where
+    not-none : (x : TokenFault) → Some x ≡ None → ⊥
+    not-none x q = cc
