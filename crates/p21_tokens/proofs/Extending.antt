@@ -7,7 +7,7 @@ use Rattle.std.proofs.lemmas.Option.{slice_get-get_or}
 use Rattle.std.proofs.Math.Seq.{take-length}
 use Rattle.p21_semantics.specs.History.{History, extended, seen_behind, first_refusal, IsOffered, empty}
 use Rattle.p21_semantics.specs.Laying.{Lexeme, Laid, tokens_in, open_bytes, count_behind, AreStatementsWithin}
-use Rattle.p21_semantics.specs.Pending.{Tail, nothing, unfinished, slash, open_comment, tail_bytes, tail_size, IsTokenByte, BeginsNoSeparator}
+use Rattle.p21_semantics.specs.Pending.{Tail, nothing, unfinished, slash, open_comment, tail_bytes, tail_size, IsPending, IsTokenByte, BeginsNoSeparator}
 use Rattle.p21_semantics.specs.Token.{Token, begin, finish, keyword, user_keyword, name, whole, real, text}
 use Rattle.p21_tokens_automaton.proofs.Complete.{all_of-after}
 use Rattle.p21_tokens_automaton.proofs.Gaps.{gap}
@@ -26,7 +26,7 @@ use Rattle.p21_tokens_automaton.specs.declared.mode.WordMode.TheVariants as word
 use Rattle.p21_tokens_automaton.specs.declared.mode.Wrong.TheVariants as wrong
 use Rattle.p21_tokens_automaton.specs.Meaning.{Means, MeanAll}
 use Rattle.p21_tokens_automaton.specs.Reading.{State, start, Answer, Ending, nothing_but, open_at, before, after, Found, Sized, ended, all_of, lex}
-use Rattle.p21_tokens.proofs.Following.{tokens-append, mean-append, in-parts, open-append, within-append, after-append, after-nothing, live-laid, live-within, live-few, live-first, live-at_once}
+use Rattle.p21_tokens.proofs.Following.{tokens-append, mean-append, in-parts, open-append, within-append, after-append, after-nothing, live-laid, live-pending, live-within, live-few, live-first, live-at_once}
 use Rattle.p21_tokens.specs.Held.{Held, pending_of, state_of}
 use Rattle.p21_tokens.specs.Histories.{TokenHistory, call_of, refused_call, Stands, IsLive, IsHandedOver, GoesOn, AreDead, IsStatementFull, Answers, Refuses, RefusesAtByte, NextGives}
 use Rattle.p21_tokens.specs.Steps.{rest_of, is_gap, is_token_byte, IsDeadAt, SameLimits, TakesRun, Gives, Hands, RefusesByte, Scanned, ScansToken, gave, handed, Scans, RefusesAt}
@@ -132,14 +132,14 @@ live-none v w h bytes live o s r = record {
     by_bytes [] r = elim live.seen_is [
       | inl e ↦ inl e
       | inr told ↦ inr (record {
-          start_is = sym (same-state v w r) ∙ told.start_is;
-          front = told.front;
-          state = told.state;
-          last = told.last;
-          founds_are = told.founds_are;
-          ended_is = told.ended_is;
-          read = ap (λ (x : List ℕ). lex start x) (append-nil h.taken) ∙ told.read;
-        })
+        start_is = sym (same-state v w r) ∙ told.start_is;
+        front = told.front;
+        state = told.state;
+        last = told.last;
+        founds_are = told.founds_are;
+        ended_is = told.ended_is;
+        read = ap (λ (x : List ℕ). lex start x) (append-nil h.taken) ∙ told.read;
+      })
     ]
     by_bytes (b ∷ xs) r = inl refl
 
@@ -397,9 +397,9 @@ module _ (v w : Held) (h : TokenHistory) (piece : List ℕ) (live : IsLive v h) 
   refuses-byte fault.BadName r = dead r
   refuses-byte (fault.LeftOut absent) r = dead r
 
-pub next-refuses : (v w : Held) (piece : List ℕ) (x : TokenFault) → v.refused ≡ None → w.refused ≡ Some x → RefusesAt v piece x (record w { refused = None }) → NextGives v piece (Err x) w
+pub next-refuses : (v u w : Held) (piece : List ℕ) (x : TokenFault) → v.refused ≡ None → w.refused ≡ Some x → RefusesAt v piece x u → NextGives v piece (Err x) w
 unfolding Stands
-next-refuses v w piece x r e s h stands o alive =
+next-refuses v u w piece x r e s h stands o alive =
     let now = stands-live v h stands r in
     record {
       count = s.1;
@@ -410,3 +410,7 @@ next-refuses v w piece x r e s h stands o alive =
   where
     not-none : (x : TokenFault) → Some x ≡ None → ⊥
     not-none x q = cc
+
+pub stands-pending : (v : Held) (h : TokenHistory) → Stands v h → h.refusal ≡ None → IsPending h.taken (pending_of v)
+unfolding Stands
+stands-pending v h s alive = live-pending v h (s.1 alive)

@@ -89,7 +89,7 @@ laid-to-end bytes (x ∷ ls) l = (l.0, l.1, l.2, l.3, l.4, l.5, l.6, l.7, laid-t
 
 module _ (v : Held) (h : TokenHistory) (live : IsLive v h) where
   -- where no byte was seen, all that was found is of the bytes taken
-  whole-read : h.seen ≡ None → lex start h.taken ≡ read live.founds (state_of v)
+  pub whole-read : h.seen ≡ None → lex start h.taken ≡ read live.founds (state_of v)
   whole-read e =
       ap (λ (x : List ℕ). lex start x) (sym (append-nil h.taken)) ∙ (live.reads [] (subst (λ (o : Option ℕ). GoesOn o []) (sym e) tt)
       ∙ (ap (λ (a : Answer). after live.founds a) (lex-nil (state_of v)) ∙ after-nothing live.founds (state_of v)))

@@ -2,3 +2,4 @@ pub mod Stepping
 pub mod Scanning
 pub mod Following
 pub mod Extending
+pub mod Finishing

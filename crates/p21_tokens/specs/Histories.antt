@@ -10,7 +10,7 @@ use Rattle.p21_semantics.specs.Token.{Token, IsWholeAtOnce}
 use Rattle.p21_tokens_automaton.specs.Meaning.{MeanAll}
 use Rattle.p21_tokens_automaton.specs.Reading.{State, start, Answer, nothing_but, open_at, Found, Sized, ended, after, lex}
 use Rattle.p21_tokens.specs.Held.{Held, pending_of, state_of}
-use Rattle.p21_tokens.specs.Steps.{rest_of}
+use Rattle.p21_tokens.specs.Steps.{rest_of, IsFaultAtEnd}
 use Rattle.p21_tokens.specs.Token.{meant, meant_all, waits}
 use Rattle.p21_tokens.specs.declared.fault.TokenFault.{TokenFault}
 use Rattle.p21_tokens.specs.declared.fault.TokenFault.TheVariants.{OpenString, OpenComment, NotOneParameter, RecordTooLong, FileTooLong, EndsEarly, NoMemory}
@@ -133,13 +133,6 @@ abbrev pub NextGives : Held → List ℕ → Result (ℕ × Option TokenRead) To
 NextGives old piece (Ok answer) new =
     (history : TokenHistory) → Stands old history → IsOffered history.seen piece → Answers new (extended history (call_of piece answer.0 (option_map meant answer.1)))
 NextGives old piece (Err fault) new = (history : TokenHistory) → Stands old history → IsOffered history.seen piece → history.refusal ≡ None → RefusesAtByte old history piece fault new
-
--- faults that the end of the bytes has not
-abbrev pub IsFaultAtEnd : TokenFault → Type 0
-IsFaultAtEnd NotOneParameter = ⊥
-IsFaultAtEnd RecordTooLong = ⊥
-IsFaultAtEnd FileTooLong = ⊥
-IsFaultAtEnd fault = Unit {0}
 
 -- what the end of the bytes gives, for each history that the lexer stood for, where all that was seen has been taken
 abbrev pub FinishGives : Held → Result (Option TokenRead) TokenFault → Type 0

@@ -9,7 +9,7 @@ use Rattle.p21_tokens_automaton.specs.declared.mode.Action.{Action}
 use Rattle.p21_tokens_automaton.specs.declared.mode.Action.TheVariants.{Pass, Refuse}
 use Rattle.p21_tokens_automaton.specs.Bytes.{is_blank}
 use Rattle.p21_tokens_automaton.specs.Meaning.{Means, MeanAll}
-use Rattle.p21_tokens_automaton.specs.Reading.{start, Answer, Found, Sized, ended, closed, before, all_of, lex}
+use Rattle.p21_tokens_automaton.specs.Reading.{start, Answer, Found, Sized, ended, ended_in, closed, closing, before, all_of, lex}
 use Rattle.p21_tokens_automaton.specs.Step.{advance}
 use Rattle.p21_tokens.specs.Held.{Held, pending_of, state_of}
 use Rattle.p21_tokens.specs.Token.{meant, waits}
@@ -58,6 +58,24 @@ ReadsFound found (Err NotOneParameter) = ⊥
 ReadsFound found (Err EndsEarly) = ⊥
 ReadsFound None (Err fault) = Unit {0}
 ReadsFound (Some found) (Err fault) = (token : meaning.Token) → Means found token → ⊥
+
+-- faults that the end of the bytes has not
+abbrev pub IsFaultAtEnd : TokenFault → Type 0
+IsFaultAtEnd NotOneParameter = ⊥
+IsFaultAtEnd RecordTooLong = ⊥
+IsFaultAtEnd FileTooLong = ⊥
+IsFaultAtEnd fault = Unit {0}
+
+-- no token that means something is left, and the bytes do not end between tokens
+abbrev pub MayNotEnd : Mode → List ℕ → List ℕ → Type 0
+MayNotEnd mode kept characters = (size : ℕ) (founds : List Sized) (lexemes : List Lexeme) → closing (ended_in mode kept characters) mode size ≡ Some founds → MeanAll founds lexemes → ⊥
+
+-- the token that the end of the bytes leaves
+abbrev pub ReadsEnd : Mode → List ℕ → List ℕ → Result (Option Token) TokenFault → Type 0
+ReadsEnd mode kept characters (Ok None) = mode ≡ Between
+ReadsEnd mode kept characters (Ok (Some token)) = (found : Found) × (ended_in mode kept characters ≡ Some found) × Means found (meant token)
+ReadsEnd mode kept characters (Err NoMemory) = Unit {0}
+ReadsEnd mode kept characters (Err fault) = IsFaultAtEnd fault × MayNotEnd mode kept characters
 
 -- the limits and the refusal stay
 pub record SameLimits (old new : Held) : Type 0 where

@@ -12,10 +12,10 @@ ghost use Rattle.p21_tokens.specs.Steps.{SameLimits, Steps, Closes, Ends, Runs, 
 ghost use Rattle.p21_tokens.specs.Token.{meant};
 
 use crate::fault::{TokenFault, fault_of};
-use crate::reading::{marker_of, read_closed, read_ended, single_token};
+use crate::reading::{marker_of, read_closed, read_end, read_ended, single_token};
 use crate::step::{Step, is_token_byte};
 use crate::token::Token;
-use p21_tokens_automaton::{Action, Mode, Single, TextMode, advance};
+use p21_tokens_automaton::{Action, Mode, Single, advance};
 use p21_values::{Limits, Text};
 use std::alloc::Global;
 use std::marker::Model;
@@ -309,7 +309,10 @@ impl Lexer {
             return Err(fault);
         }
         match self.scan(piece) {
-            Ok(answer) => Ok(answer),
+            Ok(answer) => {
+                let _mode = self.mode;
+                Ok(answer)
+            }
             Err(fault) => {
                 self.refused = Some(fault);
                 Err(fault)
@@ -331,19 +334,7 @@ impl Lexer {
             return Err(fault);
         }
         let mut text = self.text;
-        match self.mode {
-            Mode::Between => Ok(None),
-            Mode::Comment | Mode::Star => Err(TokenFault::OpenComment),
-            Mode::Text(mode) => match mode {
-                TextMode::Apostrophe => Ok(Some(Token::Text(text))),
-                _ => Err(TokenFault::OpenString),
-            },
-            mode => match read_ended(self.alloc, mode, &self.kept, &mut text) {
-                Ok(token) => Ok(Some(token)),
-                Err(TokenFault::BadByte) => Err(TokenFault::EndsEarly),
-                Err(fault) => Err(fault),
-            },
-        }
+        read_end(self.alloc, self.mode, &self.kept, &mut text)
     }
 
     /// The token bytes behind the last `;`, with those of a token that isn't whole yet; a lone `/` doesn't count.

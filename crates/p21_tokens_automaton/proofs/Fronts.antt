@@ -105,12 +105,12 @@ front-run [] last bytes more l w = (
   record { found = found_of last.token l.1; size = length l.1 } ∷ [],
   (spells-means last.token l.1 l.5, l.6, tt),
   ap (λ (x : List ℕ). lex start (x ++ more)) l.3 ∙ (ap (λ (x : List ℕ). lex start x) (regroup l.0 l.1 l.2 more) ∙ (gap-run l.0 l.4 (l.1 ++ (l.2 ++ more))
-  ∙ ((given-at-once last.token l.1 l.5 w).run (l.2 ++ more) ∙ ap (λ (a : Answer). before (record { found = found_of last.token l.1; size = length l.1 }) a) (gap-run l.2 l.8 more)))),
+      ∙ ((given-at-once last.token l.1 l.5 w).run (l.2 ++ more) ∙ ap (λ (a : Answer). before (record { found = found_of last.token l.1; size = length l.1 }) a) (gap-run l.2 l.8 more)))),
 )
 front-run (x ∷ lexemes) last bytes more l w =
     let rest = front-run lexemes last l.2 more l.8 w in (
       record { found = found_of x.token l.1; size = length l.1 } ∷ rest.0,
       (spells-means x.token l.1 l.5, l.6, rest.1),
       ap (λ (y : List ℕ). lex start (y ++ more)) l.3 ∙ (ap (λ (y : List ℕ). lex start y) (regroup l.0 l.1 l.2 more) ∙ (gap-run l.0 l.4 (l.1 ++ (l.2 ++ more))
-      ∙ (one-more x.token l.1 l.2 more lexemes last l.5 l.7 l.8 ∙ ap (λ (a : Answer). before (record { found = found_of x.token l.1; size = length l.1 }) a) rest.2))),
+          ∙ (one-more x.token l.1 l.2 more lexemes last l.5 l.7 l.8 ∙ ap (λ (a : Answer). before (record { found = found_of x.token l.1; size = length l.1 }) a) rest.2))),
     )
