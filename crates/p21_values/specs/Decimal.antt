@@ -63,12 +63,12 @@ ReadsExponent bytes (Err BadNumber) = (exponent : Exponent) → HasExponentForm 
 ReadsExponent bytes (Err NumberRange) = (exponent : Exponent) × HasExponentForm bytes exponent × (IsShort exponent → ⊥)
 ReadsExponent bytes (Err fault) = ⊥
 
--- the reduced number of a ratio in range
-abbrev pub ReadsRatio : Ratio → Result Decimal ValueFault → Type 0
-ReadsRatio ratio (Ok value) = IsReduced value × IsInRange ratio × SameRatio ratio (ratio_of value)
-ReadsRatio ratio (Err NoMemory) = Unit {0}
-ReadsRatio ratio (Err NumberRange) = IsInRange ratio → ⊥
-ReadsRatio ratio (Err fault) = ⊥
+-- the reduced number of the ratio, which is in range; else it is not
+abbrev pub KeepsRatio : Ratio → Result Decimal ValueFault → Type 0
+KeepsRatio ratio (Ok value) = IsReduced value × IsInRange ratio × SameRatio ratio (ratio_of value)
+KeepsRatio ratio (Err NoMemory) = Unit {0}
+KeepsRatio ratio (Err NumberRange) = IsInRange ratio → ⊥
+KeepsRatio ratio (Err fault) = ⊥
 
 -- the number that the bytes spell; else they have no form of a real, or one that is out of range
 abbrev pub ReadsReal : List ℕ → Result Decimal ValueFault → Type 0
