@@ -7,7 +7,8 @@ use Rattle.p21_semantics.proofs.Forms.{NoDigitFirst, NoSignFirst, behind_sign, f
 use Rattle.p21_semantics.proofs.RealSpellings.{form_ratio_once}
 use Rattle.p21_values.specs.declared.fault.ValueFault.{ValueFault}
 use Rattle.p21_values.specs.declared.fault.ValueFault.TheVariants.{BadBinary, BadName, BadNumber, BadWord, NameRange, NoMemory, NumberRange}
-use Rattle.p21_values.specs.Decimal.{HasExponentForm, ReadsExponent, KeepsRatio, ReadsReal, SplitsReal, digits_ratio}
+use Rattle.p21_values.specs.Decimal.{KeepsRatio, ReadsReal}
+use Rattle.p21_values.specs.RealParts.{HasExponentForm, ReadsExponent, SplitsReal, digits_ratio}
 use Rattle.p21_values.specs.Digits.{SignedDigits}
 
 -- what stands behind the sign are the digits and nothing else

@@ -18,7 +18,9 @@ use Rattle.p21_semantics.proofs.PlainDigits.{plain_high, plain_low}
 use Rattle.p21_semantics.proofs.Ratios.{ratio-positive, same_scaled, same_zero}
 use Rattle.p21_semantics.proofs.ReducedDecimals.{reduced_once, same_decimal}
 use Rattle.p21_semantics.proofs.SignedNumbers.{abs_signed, signed-times, signed-zero, signed_once}
-use Rattle.p21_values.specs.Decimal.{IsDecimal, IsStoredDecimal, KeepsRatio, decimal_eq, digits_ratio, significand_spelling, stored_decimal}
+use Rattle.p21_values.specs.Decimal.{IsDecimal, KeepsRatio, decimal_eq}
+use Rattle.p21_values.specs.RealParts.{digits_ratio}
+use Rattle.p21_values.specs.Stored.{IsStoredDecimal, significand_spelling, stored_decimal}
 use Rattle.p21_values.specs.declared.fault.ValueFault.{ValueFault}
 use Rattle.p21_values.specs.Digits.{NoZeroFirst, WithoutEndZeros, WithoutFrontZeros}
 use Rattle.p21_values.proofs.Significands.{kept_digits, kept_first}

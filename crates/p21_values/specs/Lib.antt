@@ -1,6 +1,7 @@
 pub mod Canonical
+pub mod Decimal
 pub mod Digits
 pub mod Fault
-pub mod Whole
+pub mod RealParts
+pub mod Stored
 pub mod Word
-pub mod Decimal

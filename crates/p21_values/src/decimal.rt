@@ -3,7 +3,9 @@ ghost use Rattle.p21_semantics.specs.Digits.{AllDigits, number};
 ghost use Rattle.p21_semantics.specs.Number.{IsExponentInRange, RealForm, whole_ratio};
 ghost use Rattle.p21_semantics.specs.Spelling.{exponent_spelling, real_spelling};
 ghost use Rattle.p21_values.specs.Canonical.{Continues};
-ghost use Rattle.p21_values.specs.Decimal.{IsDecimal, ReadsExponent, KeepsRatio, ReadsReal, SplitsReal, digits_ratio, significand_spelling};
+ghost use Rattle.p21_values.specs.Decimal.{IsDecimal, KeepsRatio, ReadsReal};
+ghost use Rattle.p21_values.specs.RealParts.{ReadsExponent, SplitsReal, digits_ratio};
+ghost use Rattle.p21_values.specs.Stored.{significand_spelling};
 ghost use Rattle.p21_values.specs.Digits.{WithoutEndZeros, WithoutFrontZeros};
 
 use crate::canonical::Canonical;
@@ -28,7 +30,7 @@ pub struct Decimal {
 
 impl Model for Decimal {
     ghost use Rattle.p21_semantics.specs.Number as numbers;
-    ghost use Rattle.p21_values.specs.Decimal.{IsStoredDecimal, stored_decimal};
+    ghost use Rattle.p21_values.specs.Stored.{IsStoredDecimal, stored_decimal};
 
     ghost Value = { numbers.Decimal };
 

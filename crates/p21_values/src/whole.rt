@@ -24,7 +24,7 @@ impl Model for Whole {
     ghost use Rattle.std.specs.Prelude.{ℤ};
     ghost use Rattle.p21_semantics.specs.Digits.{number};
     ghost use Rattle.p21_semantics.specs.Number.{signed};
-    ghost use Rattle.p21_values.specs.Whole.{IsStoredWhole};
+    ghost use Rattle.p21_values.specs.Stored.{IsStoredWhole};
 
     ghost Value = { ℤ };
 
