@@ -4,4 +4,6 @@ mod NameLemmas
 pub mod DigitRuns
 pub mod Readings
 pub mod SignificantDigits
+pub mod Significands
+pub mod StoredDecimals
 pub mod StoredWholes

@@ -5,3 +5,4 @@ pub mod Name
 pub mod Digits
 pub mod Whole
 pub mod Word
+pub mod Decimal

@@ -2,7 +2,7 @@ ghost use Rattle.std.specs.Prelude.{◌≡◌, ℕ, ◌^◌, ◌<◌, ◌≤◌,
 ghost use Rattle.p21_semantics.specs.Digits.{AllDigits, number};
 ghost use Rattle.p21_semantics.specs.Number.{is_minus};
 ghost use Rattle.p21_semantics.proofs.Forms.{NoDigitFirst, behind_sign, first_sign};
-ghost use Rattle.p21_values.specs.Digits.{NoZeroFirst, SignedDigits};
+ghost use Rattle.p21_values.specs.Digits.{SignedDigits, WithoutEndZeros, WithoutFrontZeros};
 
 /// Whether a minus stands first, and what stands behind the sign: all the bytes where there is none.
 pub(crate) fn split_sign(bytes: &[u8]) -> (bool, &[u8])
@@ -50,16 +50,25 @@ pub(crate) fn split_integer(bytes: &[u8]) -> Option<(bool, &[u8])>
 /// The digits without the zeros in front: none for the number zero.
 pub(crate) fn without_front_zeros(digits: &[u8]) -> &[u8]
     requires { AllDigits digits.now }
-    ensures digits { AllDigits result.now }
-    ensures first { NoZeroFirst result.now }
-    ensures shorter { length result.now ≤ length digits.now }
-    ensures same { number result.now ≡ number digits.now }
+    ensures { WithoutFrontZeros digits.now result.now }
 {
     let mut rest = digits;
     while !rest.is_empty() && rest[0] == b'0' {
         rest = &rest[1..];
     }
     rest
+}
+
+/// The digits without the zeros at the end.
+pub(crate) fn without_end_zeros(digits: &[u8]) -> &[u8]
+    requires { AllDigits digits.now }
+    ensures { WithoutEndZeros digits.now result.now }
+{
+    let mut kept = digits.len();
+    while kept > 0 && digits[kept - 1] == b'0' {
+        kept -= 1;
+    }
+    &digits[..kept]
 }
 
 /// What stands behind the first byte, where that is the one asked for.
@@ -75,7 +84,8 @@ pub(crate) fn behind(first: u8, bytes: &[u8]) -> Option<&[u8]>
 pub(crate) fn short_number(digits: &[u8]) -> u32
     requires are_digits { AllDigits digits.now }
     requires short { length digits.now ≤ 9 }
-    ensures { result ≡ number digits.now }
+    ensures value { result ≡ number digits.now }
+    ensures small { result < 10 ^ 9 }
 {
     let mut value = 0u32;
     for digit in digits {

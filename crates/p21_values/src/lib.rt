@@ -4,8 +4,10 @@
 
 mod bits;
 mod canonical;
+mod decimal;
 mod digits;
 mod fault;
+mod limits;
 mod name;
 mod text;
 mod whole;
@@ -13,7 +15,9 @@ mod word;
 
 pub use bits::Bits;
 pub use canonical::Canonical;
+pub use decimal::Decimal;
 pub use fault::{NoMemory, ValueFault};
+pub use limits::Limits;
 pub use name::Name;
 pub use text::Text;
 pub use whole::Whole;

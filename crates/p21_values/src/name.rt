@@ -1,13 +1,14 @@
-ghost use Rattle.std.specs.Prelude.{◌≡◌, ◌^◌, ◌<◌, ◌≤◌, ◌↔◌, ◌∷◌, length, drop, All, IsTrue, IfNone, IfSome};
-ghost use Rattle.p21_semantics.specs.Digits.{IsDigit, number, plain_digits};
+ghost use Rattle.std.specs.Prelude.{◌≡◌, ◌^◌, ◌<◌, ◌≤◌, ◌∷◌, length, drop, IfNone, IfSome};
+ghost use Rattle.p21_semantics.specs.Digits.{AllDigits, number, plain_digits};
 ghost use Rattle.p21_semantics.specs.Name.{NameForm};
 ghost use Rattle.p21_values.specs.Name.{ReadsName};
 
 use crate::canonical::Canonical;
+use crate::digits::{behind, split_digits};
 use crate::fault::{NoMemory, ValueFault};
 use std::marker::Model;
 
-/// The number of an instance.
+/// The name of an instance: a number.
 #[derive(Clone, Copy, Debug, PartialEq, Eq)]
 pub struct Name(pub u64);
 
@@ -45,24 +46,19 @@ fn digits_of_name(bytes: &[u8]) -> Option<&[u8]>
     ensures none { IfNone result (NameForm bytes.now → ⊥) }
     ensures form { IfSome result (λ digits. bytes.now ≡ 35 ∷ digits.now) }
     ensures some_digits { IfSome result (λ digits. 0 < length digits.now) }
-    ensures are_digits { IfSome result (λ digits. All IsDigit digits.now) }
+    ensures are_digits { IfSome result (λ digits. AllDigits digits.now) }
 {
-    let (mark, digits) = bytes.split_first()?;
-    if *mark != b'#' || digits.is_empty() || !are_digits(digits) {
+    let (digits, rest) = split_digits(behind(b'#', bytes)?);
+    if digits.is_empty() || !rest.is_empty() {
         return None;
     }
     Some(digits)
 }
 
-fn are_digits(bytes: &[u8]) -> bool
-    ensures { IsTrue result ↔ All IsDigit bytes.now }
-{
-    bytes.iter().all(|byte| byte.is_ascii_digit())
-}
-
 /// The number that digits stand for, if it fits.
+#[tactic(auto, using(crate::proofs::DigitRuns::digit_at))]
 fn number_of(digits: &[u8]) -> Option<u64>
-    requires { All IsDigit digits.now }
+    requires { AllDigits digits.now }
     ensures some { IfSome result (λ n. n ≡ number digits.now) }
     ensures none { IfNone result (2 ^ 64 ≤ number digits.now) }
 {
@@ -115,5 +111,51 @@ impl Canonical for Name {
         text[start] = b'#';
         out.extend_from_slice(&text[start..])?;
         Ok(())
+    }
+}
+
+#[cfg(test)]
+mod tests {
+    use super::*;
+    use std::test::Fail;
+
+    #[test]
+    fn reads_and_spells_names(rt: HostRuntime) -> Result<(), Fail> {
+        let cases: [(&[u8], u64, &[u8]); 5] = [
+            (b"#007", 7, b"#7"),
+            (b"#0", 0, b"#0"),
+            (b"#00", 0, b"#0"),
+            (b"#120", 120, b"#120"),
+            (
+                b"#018446744073709551615",
+                18_446_744_073_709_551_615,
+                b"#18446744073709551615",
+            ),
+        ];
+        for (text, number, spelling) in cases {
+            let name = Name::read(text)?;
+            assert_eq!(rt; name, Name(number));
+            let mut out = Vec::new(rt.alloc());
+            name.write_canonical(&mut out)?;
+            assert_eq!(rt; out.as_slice(), spelling);
+        }
+        Ok(())
+    }
+
+    #[test]
+    fn refuses_names(rt: HostRuntime) {
+        let cases: [(&[u8], ValueFault); 8] = [
+            (b"#18446744073709551616", ValueFault::NameRange),
+            (b"#99999999999999999999999999", ValueFault::NameRange),
+            (b"#18446744073709551616X", ValueFault::BadName),
+            (b"#", ValueFault::BadName),
+            (b"", ValueFault::BadName),
+            (b"7", ValueFault::BadName),
+            (b"#-7", ValueFault::BadName),
+            (b"#7 ", ValueFault::BadName),
+        ];
+        for (text, fault) in cases {
+            assert_eq!(rt; Name::read(text), Err(fault));
+        }
     }
 }

@@ -1,5 +1,6 @@
 ghost use Rattle.std.specs.Prelude.{◌≡◌, ◌++◌, OnErr, OnOk};
-ghost use Rattle.p21_semantics.specs.Number.{SpellsWhole};
+ghost use Rattle.p21_semantics.specs.Digits.{AllDigits, number};
+ghost use Rattle.p21_semantics.specs.Number.{SpellsWhole, signed};
 ghost use Rattle.p21_semantics.specs.Spelling.{whole_spelling};
 ghost use Rattle.p21_values.specs.Canonical.{Continues};
 ghost use Rattle.p21_values.specs.declared.fault.ValueFault.TheVariants.{BadNumber};
@@ -49,6 +50,14 @@ impl Whole {
             negative: negative && !significant.is_empty(),
             digits: Vec::from_slice(alloc, significant)?,
         })
+    }
+
+    // The sign, and the digits in ASCII, of which the first is no zero.
+    pub(crate) fn parts(&self) -> (bool, &[u8])
+        ensures value { signed result.0 (number result.1.now) ≡ self.now }
+        ensures digits { AllDigits result.1.now }
+    {
+        (self.negative, &self.digits)
     }
 }
 
@@ -112,4 +121,60 @@ fn append(whole: &Whole, out: &mut Vec<u8>) -> Result<(), NoMemory>
     }
     out.extend_from_slice(&whole.digits)?;
     Ok(())
+}
+
+#[cfg(test)]
+mod tests {
+    use super::*;
+    use crate::canonical::spelled;
+    use std::test::Fail;
+
+    fn read(rt: &HostRuntime, text: &str) -> Result<Whole, ValueFault> {
+        Whole::read(rt.alloc(), text.as_bytes())
+    }
+
+    #[test]
+    fn reads_and_spells(rt: HostRuntime) -> Result<(), Fail> {
+        let cases = [
+            ("+007", "7"),
+            ("-0", "0"),
+            ("+0", "0"),
+            ("000", "0"),
+            ("-0120", "-120"),
+            ("18446744073709551616", "18446744073709551616"),
+        ];
+        for (text, spelling) in cases {
+            let found = spelled(&rt, &read(&rt, text)?)?;
+            assert_eq!(rt; found.as_slice(), spelling.as_bytes(), "{text}");
+        }
+        Ok(())
+    }
+
+    #[test]
+    fn refuses_what_is_no_integer(rt: HostRuntime) {
+        for text in ["1.", "", "+", "-", "+-1", "1 ", " 1", "1-", "A", "1E2"] {
+            assert_eq!(rt;
+                read(&rt, text).err(),
+                Some(ValueFault::BadNumber),
+                "{text}"
+            );
+        }
+    }
+
+    #[test]
+    fn compares(rt: HostRuntime) -> Result<(), Fail> {
+        assert!(rt; read(&rt, "+012")? == read(&rt, "12")?);
+        assert!(rt; read(&rt, "-0")? == read(&rt, "0")?);
+        assert!(rt; read(&rt, "-12")? != read(&rt, "12")?);
+        assert!(rt; read(&rt, "12")? != read(&rt, "120")?);
+        Ok(())
+    }
+
+    #[test]
+    fn appends(rt: HostRuntime) -> Result<(), Fail> {
+        let mut out = Vec::from_slice(rt.alloc(), b"(")?;
+        read(&rt, "-12")?.write_canonical(&mut out)?;
+        assert_eq!(rt; out.as_slice(), b"(-12".as_slice());
+        Ok(())
+    }
 }

@@ -113,3 +113,38 @@ impl Canonical for Word {
         Ok(())
     }
 }
+
+#[cfg(test)]
+mod tests {
+    use super::*;
+    use crate::canonical::spelled;
+    use std::test::Fail;
+
+    fn read(rt: &HostRuntime, text: &str) -> Result<Word, ValueFault> {
+        Word::read(rt.alloc(), text.as_bytes())
+    }
+
+    #[test]
+    fn reads_and_spells(rt: HostRuntime) -> Result<(), Fail> {
+        for text in ["RED", "T", "_", "A_1", "CARTESIAN_POINT"] {
+            let word = read(&rt, text)?;
+            assert_eq!(rt; word.bytes(), text.as_bytes());
+            assert_eq!(rt; spelled(&rt, &word)?.as_slice(), text.as_bytes());
+        }
+        Ok(())
+    }
+
+    #[test]
+    fn refuses_what_is_no_keyword(rt: HostRuntime) {
+        for text in ["red", "", "1A", "Red", "A-B", "A ", ".T."] {
+            assert_eq!(rt; read(&rt, text).err(), Some(ValueFault::BadWord), "{text}");
+        }
+    }
+
+    #[test]
+    fn compares(rt: HostRuntime) -> Result<(), Fail> {
+        assert!(rt; read(&rt, "RED")? == read(&rt, "RED")?);
+        assert!(rt; read(&rt, "RED")? != read(&rt, "REDS")?);
+        Ok(())
+    }
+}
