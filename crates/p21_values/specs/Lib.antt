@@ -3,7 +3,6 @@ pub mod Canonical
 pub mod Fault
 pub mod Name
 pub mod Digits
-pub mod Whole
 pub mod Decimal
 pub mod RealParts
 pub mod Stored
