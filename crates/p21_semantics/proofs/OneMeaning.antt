@@ -14,10 +14,11 @@ use Rattle.p21_semantics.specs.Order.{order, places, own_places}
 use Rattle.p21_semantics.specs.PlaceType.{PlaceType, TypeAt}
 use Rattle.p21_semantics.specs.Declared.{HasNoCircle, HasSupertype, DeclaresSchema}
 use Rattle.p21_semantics.specs.SchemaDeclaration.{SchemaDeclaration}
-use Rattle.p21_semantics.specs.Tree.{Key, Param, Params, no_params, param, Part, Record, simple, complex}
+use Rattle.p21_semantics.specs.Parameter.{Key, Param, Params, no_params, param, key_of}
+use Rattle.p21_semantics.specs.Record.{Part, Record, simple, complex}
 use Rattle.p21_semantics.specs.Value.{Value, Values, no_values, value, count, value_at}
 use Rattle.p21_semantics.specs.Reference.{Kinds}
-use Rattle.p21_semantics.specs.Fits.{FitsAt, keyword_of}
+use Rattle.p21_semantics.specs.Fits.{FitsAt}
 use Rattle.p21_semantics.specs.Meaning.{Typed, HasValues, HasValueAt, FitsPlace, FitPlaces, NamesEntity, MeansInternal, PartMeans, MeansExternal, MeansByMapping, AreKeywordsRising, HasOwnCount, RecordMeans}
 use Rattle.p21_semantics.proofs.Members.{Each-member, Contains-none, Contains-first, Contains-later, Contains-cases, Contains-flat_map, Contains-zip, AllZip-beside, AllZip-member}
 use Rattle.p21_semantics.proofs.Orders.{AreEntities, order-has}

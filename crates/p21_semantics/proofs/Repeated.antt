@@ -3,7 +3,7 @@ use Rattle.std.specs.Prelude.{◌≡◌, ◌≢◌, ℕ, zero, suc, ◌<◌, Boo
 use Rattle.std.proofs.Common.{arith, subst, ap, sym, ◌∙◌}
 use Rattle.p21_semantics.specs.Schema as schema
 use Rattle.p21_semantics.specs.Schema.{Schema, TypeUse}
-use Rattle.p21_semantics.specs.Tree.{Param, Params}
+use Rattle.p21_semantics.specs.Parameter.{Param, Params}
 use Rattle.p21_semantics.specs.Value.{Value, list, array, set, missing, Values, no_values, value, value_at}
 use Rattle.p21_semantics.specs.SameValue.{Same, Among, here, there, AreDistinct}
 use Rattle.p21_semantics.specs.Reference.{Kinds}

@@ -3,7 +3,9 @@ use Rattle.std.specs.Prelude.{ℕ, List, [], ◌∷◌, ◌++◌, Contains}
 use Rattle.std.specs.List.{flat_map}
 use Rattle.p21_semantics.specs.Schema.{Schema, Member, entity_member, type_member}
 use Rattle.p21_semantics.specs.Select.{Offers}
-use Rattle.p21_semantics.specs.Tree.{Param, p_name, p_list, p_typed, Params, no_params, param, Part, Record, simple, complex}
+use Rattle.p21_semantics.specs.Parameter as parameter
+use Rattle.p21_semantics.specs.Parameter.{Param, Params, no_params, param}
+use Rattle.p21_semantics.specs.Record.{Part, Record, simple, complex}
 
 -- the instances of a file, each by its name with its set of entities
 abbrev pub Kinds : Type 0
@@ -26,9 +28,9 @@ IsServed s kinds need = (entities : List ℕ) × Contains kinds (need.target, en
 -- the instance names in parameters, as they stand
 abbrev mutual
   pub param_references : Param → List ℕ
-  param_references (p_name n) = n ∷ []
-  param_references (p_list params) = references params
-  param_references (p_typed key p) = param_references p
+  param_references (parameter.name n) = n ∷ []
+  param_references (parameter.list params) = references params
+  param_references (parameter.typed key p) = param_references p
   param_references other = []
 
   pub references : Params → List ℕ
