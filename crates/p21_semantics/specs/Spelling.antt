@@ -2,19 +2,22 @@
 use Rattle.std.specs.Prelude.{ℕ, zero, suc, ◌+◌, ◌-◌, ◌%◌, ◌==◌, ◌&&◌, ◌||◌, ℤ, pos, negsuc, ◌+ℤ◌, nat_abs, Bool, false, List, [], ◌∷◌, ◌++◌, length, map, replicate, codes, nat_lt, nat_le, if◌then◌else◌}
 use Rattle.std.specs.List.{flat_map}
 use Rattle.p21_semantics.specs.Digits.{hex_digit, hex_digits, plain_digits}
+use Rattle.p21_semantics.specs.Text.{end_extended}
 use Rattle.p21_semantics.specs.Number.{Decimal}
 use Rattle.p21_semantics.specs.Token.{Token, begin, bits, comma, dollar, equals, finish, item, keyword, left, name, real, right, semicolon, star, text, user_keyword, whole}
 
--- an apostrophe or a backslash stands twice, a character that is no byte from 20 to 7E as a directive of its own
-abbrev pub char_spelling : ℕ → List ℕ
-char_spelling c =
-    if (c == 39) || (c == 92) then c ∷ c ∷ []
-    else if nat_le 32 c && nat_lt c 127 then c ∷ []
-    else if nat_lt c 65536 then 92 ∷ 88 ∷ 50 ∷ 92 ∷ (hex_digits 4 c ++ (92 ∷ 88 ∷ 48 ∷ 92 ∷ []))
-    else 92 ∷ 88 ∷ 52 ∷ 92 ∷ (hex_digits 8 c ++ (92 ∷ 88 ∷ 48 ∷ 92 ∷ []))
+-- an apostrophe or a backslash stands twice, another byte from 20 to 7E as itself, and each other character in an
+-- extended directive of its own, with eight hex digits past FFFF
+abbrev pub character_spelling : ℕ → List ℕ
+character_spelling character =
+    if (character == 39) || (character == 92) then character ∷ character ∷ []
+    else if nat_le 32 character && nat_lt character 127 then character ∷ []
+    else if nat_lt character 65536 then 92 ∷ 88 ∷ 50 ∷ 92 ∷ (hex_digits 4 character ++ end_extended)
+    else 92 ∷ 88 ∷ 52 ∷ 92 ∷ (hex_digits 8 character ++ end_extended)
 
+-- the spellings of the characters in turn, between apostrophes
 abbrev pub text_spelling : List ℕ → List ℕ
-text_spelling chars = 39 ∷ (flat_map char_spelling chars ++ (39 ∷ []))
+text_spelling characters = 39 ∷ (flat_map character_spelling characters ++ (39 ∷ []))
 
 -- `-` only before a number that is not zero, and no leading zeros
 abbrev pub whole_spelling : ℤ → List ℕ
@@ -69,7 +72,7 @@ spelling (user_keyword word) = 33 ∷ word
 spelling (name n) = 35 ∷ plain_digits n
 spelling (whole z) = whole_spelling z
 spelling (real d) = real_spelling d
-spelling (text chars) = text_spelling chars
+spelling (text characters) = text_spelling characters
 spelling (item word) = 46 ∷ (word ++ (46 ∷ []))
 spelling (bits value) = bits_spelling value
 spelling left = codes "("

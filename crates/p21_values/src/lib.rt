@@ -4,6 +4,8 @@
 
 mod canonical;
 mod fault;
+mod text;
 
 pub use canonical::Canonical;
 pub use fault::{NoMemory, ValueFault};
+pub use text::Text;

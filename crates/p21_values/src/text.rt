@@ -1,0 +1,195 @@
+ghost use Rattle.std.specs.Prelude.{◌≡◌, ◌%◌, [], ◌∷◌, ◌++◌, length, OnOk, OnErr};
+ghost use Rattle.std.specs.List.{flat_map};
+ghost use Rattle.p21_semantics.specs.Digits.{hex_digit, hex_digits};
+ghost use Rattle.p21_semantics.specs.Spelling.{character_spelling, text_spelling};
+ghost use Rattle.p21_semantics.specs.Text.{end_extended};
+ghost use Rattle.p21_values.specs.Canonical.{Continues};
+
+use crate::canonical::Canonical;
+use crate::fault::NoMemory;
+use std::alloc::Global;
+use std::marker::Model;
+
+/// The characters of a string (ISO 10303-21, tokens: string), each a Unicode scalar value.
+#[derive(Drop)]
+pub struct Text {
+    characters: Vec<char>,
+}
+
+impl Model for Text {
+    ghost use Rattle.std.specs.Char.{IsScalar};
+    ghost use Rattle.std.specs.List.{AllByRecursion};
+    ghost use Rattle.std.specs.Prelude.{ℕ, List};
+
+    ghost Value = { List ℕ };
+
+    ghost view = { λ text. text.characters.items };
+
+    ghost invariant = { λ text. AllByRecursion IsScalar text.characters.items };
+}
+
+impl Text {
+    /// An empty text, which takes no memory.
+    pub fn new(alloc: Global) -> Text
+        ensures { result ≡ [] }
+    {
+        Text {
+            characters: Vec::new(alloc),
+        }
+    }
+
+    /// Adds a character at the end. A refusal leaves the text as it was.
+    pub fn push(&mut self, character: char) -> Result<(), NoMemory>
+        ensures ok { OnOk result (self.new ≡ self.old ++ character ∷ []) }
+        ensures err { OnErr result (self.new ≡ self.old) }
+    {
+        self.characters.push(character)?;
+        Ok(())
+    }
+
+    /// How many characters the text has.
+    pub fn len(&self) -> usize
+        ensures { result ≡ length self.now }
+    {
+        self.characters.len()
+    }
+
+    /// The characters, first to last.
+    pub fn chars(&self) -> &[char]
+        ensures { result.now ≡ self.now }
+    {
+        &self.characters
+    }
+}
+
+impl PartialEq for Text {
+    ghost use Rattle.std.proofs.Common.{rules};
+    ghost use Rattle.std.specs.Cmp.Rules.{comparing};
+    ghost use Rattle.std.specs.Prelude.{◌≡◌, ◌↔◌, IsTrue};
+    ghost use Rattle.std.specs.Str.{bytes_eq};
+
+    ghost eq = { bytes_eq };
+
+    ghost laws = { Prim.search (comparing, rules) };
+
+    fn eq(&self, other: &Text) -> bool
+        ensures eq { result ≡ bytes_eq self.now other.now }
+        ensures same { IsTrue result ↔ (self.now ≡ other.now) }
+    {
+        self.characters == other.characters
+    }
+}
+
+impl Canonical for Text {
+    ghost use Rattle.std.specs.Char.{IsScalar};
+    ghost use Rattle.std.specs.List.{AllByRecursion};
+    ghost use Rattle.std.specs.Prelude.{◌≡◌};
+    ghost use Rattle.p21_semantics.specs.Spelling.{text_spelling};
+    ghost use Rattle.p21_semantics.specs.Text.{SpellsText};
+    ghost use Rattle.p21_semantics.proofs.Texts.{same_texts, text_spells};
+
+    ghost is_value = { AllByRecursion IsScalar };
+
+    ghost same = { λ a b. a ≡ b };
+
+    ghost spells = { SpellsText };
+
+    ghost spelling = { text_spelling };
+
+    ghost same_spelling = { same_texts };
+
+    ghost spells_value = { text_spells };
+
+    fn write_canonical(&self, out: &mut Vec<u8>) -> Result<(), NoMemory> {
+        let before = out.len();
+        let written = append(&self.characters, out);
+        if written.is_err() {
+            out.truncate(before);
+        }
+        written
+    }
+}
+
+/// Appends the spelling of a text of these characters.
+fn append(characters: &[char], out: &mut Vec<u8>) -> Result<(), NoMemory>
+    ensures ok { OnOk result (out.new.items ≡ out.old.items ++ text_spelling characters.now) }
+    ensures err { OnErr result (Continues out.old.items out.new.items) }
+{
+    out.reserve(characters.len())?;
+    out.push(b'\'')?;
+    for character in characters {
+        append_character(*character, out)?;
+    }
+    out.push(b'\'')?;
+    Ok(())
+}
+
+fn append_character(character: char, out: &mut Vec<u8>) -> Result<(), NoMemory>
+    ensures ok { OnOk result (out.new.items ≡ out.old.items ++ character_spelling character) }
+    ensures err { OnErr result (Continues out.old.items out.new.items) }
+{
+    let code = u32::from(character);
+    match character {
+        '\'' | '\\' => out.extend_from_slice(&[code as u8, code as u8])?,
+        ' '..='~' => out.push(code as u8)?,
+        '\0'..='\u{FFFF}' => out.extend_from_slice(&extended2(code))?,
+        _ => out.extend_from_slice(&extended4(code))?,
+    }
+    Ok(())
+}
+
+/// The directive of a character with four hex digits.
+fn extended2(code: u32) -> [u8; 12]
+    ensures { result ≡ 92 ∷ 88 ∷ 50 ∷ 92 ∷ (hex_digits 4 code ++ end_extended) }
+{
+    [
+        b'\\',
+        b'X',
+        b'2',
+        b'\\',
+        hex_digit(code / 0x1000),
+        hex_digit(code / 0x100),
+        hex_digit(code / 0x10),
+        hex_digit(code),
+        b'\\',
+        b'X',
+        b'0',
+        b'\\',
+    ]
+}
+
+/// The directive of a character with eight hex digits.
+fn extended4(code: u32) -> [u8; 16]
+    ensures { result ≡ 92 ∷ 88 ∷ 52 ∷ 92 ∷ (hex_digits 8 code ++ end_extended) }
+{
+    [
+        b'\\',
+        b'X',
+        b'4',
+        b'\\',
+        hex_digit(code / 0x1000_0000),
+        hex_digit(code / 0x100_0000),
+        hex_digit(code / 0x10_0000),
+        hex_digit(code / 0x1_0000),
+        hex_digit(code / 0x1000),
+        hex_digit(code / 0x100),
+        hex_digit(code / 0x10),
+        hex_digit(code),
+        b'\\',
+        b'X',
+        b'0',
+        b'\\',
+    ]
+}
+
+/// The last digit of a number in base sixteen.
+fn hex_digit(number: u32) -> u8
+    ensures { result ≡ hex_digit (number % 16) }
+{
+    let digit = (number % 16) as u8;
+    if digit < 10 {
+        b'0' + digit
+    } else {
+        b'A' + (digit - 10)
+    }
+}
