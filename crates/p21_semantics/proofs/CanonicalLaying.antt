@@ -8,7 +8,7 @@ use Rattle.p21_semantics.specs.Laying.{Lexeme, LaidAs, count_behind, AreStatemen
 use Rattle.p21_semantics.specs.Spelling.{text_spelling}
 use Rattle.p21_semantics.specs.Token.{Token, Spells, IsFollowed, begin, finish, keyword, text, left, right, comma, semicolon}
 use Rattle.p21_semantics.proofs.Laying.{both, lay, lay_on_line, lay_end, is_keyword, keyword_by, left_ends_words, semicolon_ends_words}
-use Rattle.p21_semantics.proofs.Spellings.{text_spells}
+use Rattle.p21_semantics.proofs.Texts.{text_spells}
 
 -- bytes with the tokens that are laid in them
 pub record Laying : Type 0 where
