@@ -13,18 +13,13 @@ use Rattle.p21_semantics.specs.Supertype.{supertypes_of}
 use Rattle.p21_semantics.specs.PlaceType.{Redeclares}
 use Rattle.p21_semantics.specs.DeclaredEntity.{EntityIs, same_place, names_of}
 use Rattle.p21_semantics.specs.Declared.{HasNoCircle, HasSupertype, DeclaresSchema}
-use Rattle.p21_semantics.proofs.Members.{Contains-none, Contains-at, AllZip-member, AllZip-numbered}
+use Rattle.p21_semantics.proofs.Members.{Each-at, Contains-none, Contains-at, AllZip-member, AllZip-numbered}
 use Rattle.p21_semantics.proofs.Orders.{AreEntities}
 use Rattle.p21_semantics.proofs.PlaceTypes.{RedeclaresOnce}
 use Rattle.p21_semantics.proofs.OneValue.{HasDistinctTypes}
 
 abbrev pub HasDistinctEntities : Schema → Type 0
 HasDistinctEntities s = (e f : ℕ) (name : List ℕ) → EntityNamed s e name → EntityNamed s f name → e ≡ f
-
-Each-at : {X : Type 0} (P : X → Type 0) (xs : List X) (k : ℕ) (x : X) → Each P xs → slice_get xs k ≡ Some x → P x
-Each-at P [] k x each is = cc
-Each-at {X} P (y ∷ ys) zero x each is = let same : y ≡ x = cc in subst P same each.0
-Each-at P (y ∷ ys) (suc k) x each is = Each-at P ys k x each.1 is
 
 Each-front : {X : Type 0} (P : X → Type 0) (xs ys : List X) → Each P (xs ++ ys) → Each P xs
 Each-front P [] ys each = tt
@@ -88,13 +83,16 @@ declared-supertypes tree s declares e f up = by_entity (slice_get s.entities e) 
         let (name, in_names, named) = AllZip-member (EntityNamed s) x.supertypes (names_of d.subtype_of) f entity_is.supertypes_are among in
         slice_get_within s.entities f named.0 named.1
 
-pub declared-entities_distinct : (tree : SchemaDeclaration) (s : Schema) → DeclaresSchema tree s → HasDistinctEntities s
-declared-entities_distinct tree s declares e f name (x, at_e, x_named) (y, at_f, y_named) =
-    distinct-number bytes_eq bytes_eq-reflexive (λ z. z.name) s.entities (map (λ z. z.name) s.types) declares.names_distinct e f x y at_e at_f (x_named ∙ sym y_named)
+-- where no name of an entity or a type is twice, a name is that of one entity or one type at most
+abbrev pub names_of_all : Schema → List (List ℕ)
+names_of_all s = map (λ z. z.name) s.entities ++ map (λ z. z.name) s.types
 
-pub declared-types_distinct : (tree : SchemaDeclaration) (s : Schema) → DeclaresSchema tree s → HasDistinctTypes s
-declared-types_distinct tree s declares t u name (x, at_t, x_named) (y, at_u, y_named) =
-    distinct-number bytes_eq bytes_eq-reflexive (λ z. z.name) s.types [] (IsDistinct-unpadded bytes_eq (map (λ z. z.name) s.types) (IsDistinct-back bytes_eq (map (λ z. z.name) s.entities) (map (λ z. z.name) s.types) declares.names_distinct)) t u x y at_t at_u (x_named ∙ sym y_named)
+pub distinct_names-entities : (s : Schema) → IsDistinct bytes_eq (names_of_all s) → HasDistinctEntities s
+distinct_names-entities s distinct e f name (x, at_e, x_named) (y, at_f, y_named) = distinct-number bytes_eq bytes_eq-reflexive (λ z. z.name) s.entities (map (λ z. z.name) s.types) distinct e f x y at_e at_f (x_named ∙ sym y_named)
+
+pub distinct_names-types : (s : Schema) → IsDistinct bytes_eq (names_of_all s) → HasDistinctTypes s
+distinct_names-types s distinct t u name (x, at_t, x_named) (y, at_u, y_named) =
+    distinct-number bytes_eq bytes_eq-reflexive (λ z. z.name) s.types [] (IsDistinct-unpadded bytes_eq (map (λ z. z.name) s.types) (IsDistinct-back bytes_eq (map (λ z. z.name) s.entities) (map (λ z. z.name) s.types) distinct)) t u x y at_t at_u (x_named ∙ sym y_named)
 
 pub declared-redeclares_once : (tree : SchemaDeclaration) (s : Schema) → DeclaresSchema tree s → RedeclaresOnce s
 declared-redeclares_once tree s declares e r q (x, at, among) (y, at_, among_) same =

@@ -63,6 +63,12 @@ pub Each-member : {X : Type 0} (P : X → Type 0) (xs : List X) (x : X) → Each
 Each-member P [] x each among = absurd (Contains-none x among)
 Each-member P (y ∷ ys) x each among = elim (Contains-cases y ys x among) [ inl h ↦ subst P h each.0 | inr h ↦ Each-member P ys x each.1 h ]
 
+-- and of the one of a number
+pub Each-at : {X : Type 0} (P : X → Type 0) (xs : List X) (k : ℕ) (x : X) → Each P xs → slice_get xs k ≡ Some x → P x
+Each-at P [] k x each is = cc
+Each-at {X} P (y ∷ ys) zero x each is = let same : y ≡ x = cc in subst P same each.0
+Each-at P (y ∷ ys) (suc k) x each is = Each-at P ys k x each.1 is
+
 -- what holds of two lists place by place holds of a member of the first and some member of the second
 pub AllZip-member : {X Y : Type 0} (R : X → Y → Type 0) (xs : List X) (ys : List Y) (x : X) → AllZip R xs ys → Contains xs x → (y : Y) × Contains ys y × R x y
 AllZip-member R [] ys x all among = absurd (Contains-none x among)

@@ -24,7 +24,7 @@ use Rattle.p21_semantics.proofs.Members.{Each-member, Contains-none, Contains-fi
 use Rattle.p21_semantics.proofs.Orders.{AreEntities, order-has}
 use Rattle.p21_semantics.proofs.PlaceTypes.{RedeclaresOnce, TypeAt-one}
 use Rattle.p21_semantics.proofs.OneValue.{HasDistinctTypes, HasOneForm, FitsAt-one_value}
-use Rattle.p21_semantics.proofs.DeclaredSchemas.{HasDistinctEntities, declared-supertypes, declared-entities_distinct, declared-types_distinct, declared-redeclares_once}
+use Rattle.p21_semantics.proofs.DeclaredSchemas.{HasDistinctEntities, declared-supertypes, distinct_names-entities, distinct_names-types, declared-redeclares_once}
 
 -- what the law takes of a schema; a declared one has all of it
 pub record IsWellFormed (s : Schema) : Type 0 where
@@ -38,8 +38,8 @@ pub declared-well_formed : (tree : SchemaDeclaration) (s : Schema) → DeclaresS
 declared-well_formed tree s declares = record {
   supertypes_are = declared-supertypes tree s declares;
   supertypes_end = declares.supertypes_end;
-  entities_distinct = declared-entities_distinct tree s declares;
-  types_distinct = declared-types_distinct tree s declares;
+  entities_distinct = distinct_names-entities s declares.names_distinct;
+  types_distinct = distinct_names-types s declares.names_distinct;
   redeclares_once = declared-redeclares_once tree s declares;
 }
 
