@@ -13,7 +13,7 @@ use Rattle.p21_semantics.specs.Supertype.{supertypes_of}
 use Rattle.p21_semantics.specs.PlaceType.{Redeclares}
 use Rattle.p21_semantics.specs.DeclaredEntity.{EntityIs, same_place, names_of}
 use Rattle.p21_semantics.specs.Declared.{HasNoCircle, HasSupertype, DeclaresSchema}
-use Rattle.p21_semantics.proofs.Members.{Each-at, Contains-none, Contains-at, AllZip-member, AllZip-numbered}
+use Rattle.p21_semantics.proofs.Members.{Each-at, Contains-none, Contains-at, AllZip-member, AllZip-numbered, AllZip-numbered_first}
 use Rattle.p21_semantics.proofs.Orders.{AreEntities}
 use Rattle.p21_semantics.proofs.PlaceTypes.{RedeclaresOnce}
 use Rattle.p21_semantics.proofs.OneValue.{HasDistinctTypes}
@@ -65,12 +65,22 @@ same_place-reflexive : (place : Place) → same_place place place ≡ true
 same_place-reflexive place = ap (λ b. b && nat_eq place.index place.index) (eq-eqb place.entity place.entity refl) ∙ eq-eqb place.index place.index refl
 
 -- each entity of a declared schema is declared
-pub declared-entity : (tree : SchemaDeclaration) (s : Schema) → DeclaresSchema tree s → (e : ℕ) (x : Entity) → slice_get s.entities e ≡ Some x → (d : EntityDeclaration) × EntityIs s (entities_of tree.declarations) e d x
+pub declared-entity : (tree : SchemaDeclaration) (s : Schema) → DeclaresSchema tree s → (e : ℕ) (x : Entity) → slice_get s.entities e ≡ Some x
+    → (d : EntityDeclaration) × (slice_get (entities_of tree.declarations) e ≡ Some d) × EntityIs s (entities_of tree.declarations) e d x
 declared-entity tree s declares e x is =
     let (d, at, holds) = AllZip-numbered (λ k d found. EntityIs s (entities_of tree.declarations) k d found) 0 (entities_of tree.declarations) s.entities e x declares.entities_are is in
     let zero_ : 0 + e ≡ e = omega arith in
     let P : ℕ → Type 0 = λ k. EntityIs s (entities_of tree.declarations) k d x in
-    (d, subst P zero_ holds)
+    (d, at, subst P zero_ holds)
+
+-- each entity that is declared is one of the schema
+pub declared-found : (tree : SchemaDeclaration) (s : Schema) → DeclaresSchema tree s → (e : ℕ) (d : EntityDeclaration) → slice_get (entities_of tree.declarations) e ≡ Some d
+    → (x : Entity) × (slice_get s.entities e ≡ Some x) × EntityIs s (entities_of tree.declarations) e d x
+declared-found tree s declares e d is =
+    let (x, at, holds) = AllZip-numbered_first (λ k d found. EntityIs s (entities_of tree.declarations) k d found) 0 (entities_of tree.declarations) s.entities e d declares.entities_are is in
+    let zero_ : 0 + e ≡ e = omega arith in
+    let P : ℕ → Type 0 = λ k. EntityIs s (entities_of tree.declarations) k d x in
+    (x, at, subst P zero_ holds)
 
 -- each supertype is an entity of the schema
 pub declared-supertypes : (tree : SchemaDeclaration) (s : Schema) → DeclaresSchema tree s → AreEntities s
@@ -79,7 +89,7 @@ declared-supertypes tree s declares e f up = by_entity (slice_get s.entities e) 
     by_entity : (o : Option Entity) → slice_get s.entities e ≡ o → Contains (elim o [ Some x ↦ x.supertypes | None ↦ [] ]) f → f < length s.entities
     by_entity None is among = absurd (Contains-none f among)
     by_entity (Some x) is among =
-        let (d, entity_is) = declared-entity tree s declares e x is in
+        let (d, at, entity_is) = declared-entity tree s declares e x is in
         let (name, in_names, named) = AllZip-member (EntityNamed s) x.supertypes (names_of d.subtype_of) f entity_is.supertypes_are among in
         slice_get_within s.entities f named.0 named.1
 
@@ -98,8 +108,9 @@ pub declared-redeclares_once : (tree : SchemaDeclaration) (s : Schema) → Decla
 declared-redeclares_once tree s declares e r q (x, at, among) (y, at_, among_) same =
     let one : y ≡ x = (let h : Some y ≡ Some x = sym at_ ∙ at in cc) in
     let P : Entity → Type 0 = λ z. Contains z.redeclared q in
-    let (d, entity_is) = declared-entity tree s declares e x at in
+    let (d, at_d, entity_is) = declared-entity tree s declares e x at in
     let (i, at_i) = Contains-at x.redeclared r among in
     let (j, at_j) = Contains-at x.redeclared q (subst P one among_) in
     let number : i ≡ j = distinct-number same_place same_place-reflexive (λ z. z.place) x.redeclared x.derived entity_is.places_distinct i j r q at_i at_j same in
-    let h : Some r ≡ Some q = sym at_i ∙ ap (slice_get x.redeclared) number ∙ at_j in cc
+    let Q : ℕ → Type 0 = λ k. slice_get x.redeclared k ≡ Some q in
+    let at_same : slice_get x.redeclared i ≡ Some q = subst Q (sym number) at_j in cc

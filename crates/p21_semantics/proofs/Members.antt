@@ -78,6 +78,15 @@ AllZip-member {X} R (z ∷ zs) (y ∷ ys) x all among = elim (Contains-cases z z
   | inr h ↦ let (other, at, holds) = AllZip-member R zs ys x all.1 h in (other, Contains-later y ys other at, holds)
 ]
 
+-- and of a member of the second and some member of the first
+pub AllZip-second_member : {X Y : Type 0} (R : X → Y → Type 0) (xs : List X) (ys : List Y) (y : Y) → AllZip R xs ys → Contains ys y → (x : X) × Contains xs x × R x y
+AllZip-second_member R xs [] y all among = absurd (Contains-none y among)
+AllZip-second_member R [] (z ∷ zs) y all among = absurd all
+AllZip-second_member R (x ∷ xs) (z ∷ zs) y all among = elim (Contains-cases z zs y among) [
+  | inl h ↦ (x, Contains-first x xs, subst (R x) h all.0)
+  | inr h ↦ let (other, at, holds) = AllZip-second_member R xs zs y all.1 h in (other, Contains-later x xs other at, holds)
+]
+
 -- and of two that stand beside each other
 pub AllZip-beside : {X Y : Type 0} (R : X → Y → Type 0) (xs : List X) (ys : List Y) (x : X) (y : Y) → AllZip R xs ys → Contains (zip xs ys) (x, y) → R x y
 AllZip-beside R [] ys x y all among = absurd (Contains-none (x, y) among)
@@ -107,4 +116,16 @@ AllZip-numbered R n (x ∷ xs) (z ∷ zs) (suc k) y all is =
     let (found, at, holds) = AllZip-numbered R (n + 1) xs zs k y all.1 is in
     let more : n + 1 + k ≡ n + suc k = omega arith in
     let P : ℕ → Type 0 = λ m. R m found y in
+    (found, at, subst P more holds)
+
+-- and at each number of the first
+pub AllZip-numbered_first : {X Y : Type 0} (R : ℕ → X → Y → Type 0) (n : ℕ) (xs : List X) (ys : List Y) (k : ℕ) (x : X) → AllZip (λ x y. R x.0 x.1 y) (enumerate_from n xs) ys → slice_get xs k ≡ Some x
+    → (y : Y) × (slice_get ys k ≡ Some y) × R (n + k) x y
+AllZip-numbered_first R n [] ys k x all is = cc
+AllZip-numbered_first R n (z ∷ zs) [] k x all is = absurd all
+AllZip-numbered_first {X} {Y} R n (z ∷ zs) (y ∷ ys) zero x all is = (y, refl, let same : z ≡ x = cc in let zero_ : n ≡ n + 0 = omega arith in let P : ℕ → Type 0 = λ m. R m x y in let Q : X → Type 0 = λ w. R n w y in subst P zero_ (subst Q same all.0))
+AllZip-numbered_first R n (z ∷ zs) (y ∷ ys) (suc k) x all is =
+    let (found, at, holds) = AllZip-numbered_first R (n + 1) zs ys k x all.1 is in
+    let more : n + 1 + k ≡ n + suc k = omega arith in
+    let P : ℕ → Type 0 = λ m. R m x found in
     (found, at, subst P more holds)
