@@ -1,14 +1,18 @@
 -- The order of elements and of keywords in canonical records; limits; sameness in the header.
-use Rattle.std.proofs.Common.{◌≡◌, ℕ, zero, suc, ◌+◌, ◌<◌, ◌≤◌, pos, false, List, [], ◌∷◌, get_or, refl, ap, sym, ◌∙◌, arith, lit<, lit≤}
-use Rattle.std.specs.Prelude.{codes, slice_index_or}
+use Rattle.std.proofs.Common.{◌≡◌, ℕ, zero, suc, pos, false, List, [], ◌∷◌, get_or, refl, ap, sym, ◌∙◌, arith, lit<, lit≤}
+use Rattle.std.specs.Prelude.{codes}
 use Rattle.std.specs.Cmp.Lexicographic.{slice_cmp}
+use Rattle.std.specs.List.Sorted.{IsStrictlySortedBy}
 use Rattle.std.specs.Ordering.{nat_cmp, is_lt}
-use Rattle.p21_semantics.specs.CanonicalRecord.{AreRising, IsCanonicalParam}
+use Rattle.p21_semantics.specs.CanonicalRecord.{AreRising, HasOneLeaf, IsCanonicalForm, IsCanonicalParam}
 use Rattle.p21_semantics.specs.CanonicalText.{param_text}
 use Rattle.p21_semantics.specs.Limits.{AreLimits, usual}
 use Rattle.p21_semantics.specs.Number.{Decimal}
-use Rattle.p21_semantics.specs.Parameter.{Param, Params, no_params, param, real, whole, text, name, list}
-use Rattle.p21_semantics.specs.SameFile.{SameParam, same_texts, same_wholes, same_reals}
+use Rattle.p21_semantics.specs.Meaning.{Typed}
+use Rattle.p21_semantics.specs.Parameter.{Key, Param, Params, no_params, param, real, whole, text, name, list, typed}
+use Rattle.p21_semantics.specs.Record.{Part, complex}
+use Rattle.p21_semantics.specs.SameFile.{SameParam, same_texts}
+use Rattle.p21_semantics.specs.Schema.{Schema}
 use Rattle.p21_semantics.specs.Value as value
 
 -- two texts that rise, by a test
@@ -61,12 +65,33 @@ falling_set h = let test = h.1 tt 0 [] (lit≤ tt) (lit< tt) in (cc)
 within_list : IsCanonicalParam (list (param (list (reals two one)) no_params)) (value.list (value.value (value.bag (real_values two one)) value.no_values)) → ⊥
 within_list h = falling_bag h.0.0
 
+-- and so is one with a type's keyword
+within_typed : (key : Key) (t : ℕ) → IsCanonicalParam (typed key (list (reals two one))) (value.typed t (value.bag (real_values two one))) → ⊥
+within_typed key t h = falling_bag h
+
 -- a whole number is not the canonical spelling of a NUMBER, but of an INTEGER
 whole_number : IsCanonicalParam (whole (pos 1)) (value.number one) → ⊥
 whole_number h = h tt
 
 whole_integer : IsCanonicalParam (whole (pos 1)) (value.whole (pos 1))
 whole_integer h = h
+
+-- a record whose set has one leaf is not canonical in external mapping
+external_with_one_leaf : (s : Schema) (parts : List Part) (meaning : Typed) → HasOneLeaf s meaning.entities → IsCanonicalForm s (complex parts) meaning → ⊥
+external_with_one_leaf s parts meaning one_leaf form = form.0 one_leaf
+
+-- instance names rise: 2 and 10, but not 10 and 2, nor 2 and 2
+two_and_ten : IsStrictlySortedBy nat_cmp (2 ∷ 10 ∷ [])
+unfolding IsStrictlySortedBy
+two_and_ten = ((refl, tt), (tt, tt))
+
+ten_and_two : IsStrictlySortedBy nat_cmp (10 ∷ 2 ∷ []) → ⊥
+unfolding IsStrictlySortedBy
+ten_and_two rising = let less = rising.0.0 in cc
+
+two_twice : IsStrictlySortedBy nat_cmp (2 ∷ 2 ∷ []) → ⊥
+unfolding IsStrictlySortedBy
+two_twice rising = let less = rising.0.0 in cc
 
 -- in the header `1` and `1.` differ, and so do the texts DEMO and demo
 whole_and_real : SameParam (whole (pos 1)) (real one) → ⊥

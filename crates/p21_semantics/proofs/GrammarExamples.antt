@@ -1,5 +1,5 @@
 -- Records of the data section, and neighbours that are none; nesting.
-use Rattle.std.proofs.Common.{◌≡◌, ℕ, zero, suc, ◌<◌, true, List, [], ◌∷◌, refl, arith, lit<, lit≤}
+use Rattle.std.proofs.Common.{◌≡◌, ℕ, zero, suc, true, [], ◌∷◌, refl, arith, lit<, lit≤}
 use Rattle.std.specs.Prelude.{codes}
 use Rattle.p21_semantics.specs.Grammar.{IsDataRecord}
 use Rattle.p21_semantics.specs.Reference.{Kinds}
@@ -7,7 +7,7 @@ use Rattle.p21_semantics.specs.Meaning.{Typed, RecordMeans}
 use Rattle.p21_semantics.specs.Reference.{param_references}
 use Rattle.p21_semantics.specs.Nesting.{IsShallow}
 use Rattle.p21_semantics.specs.Parameter.{Key, Param, dollar, name, list, typed, Params, no_params, param, key_of}
-use Rattle.p21_semantics.specs.Record.{Part, Record, simple, complex, part_tokens}
+use Rattle.p21_semantics.specs.Record.{Part, simple, complex}
 use Rattle.p21_semantics.specs.Schema.{Schema}
 use Rattle.p21_semantics.specs.Statement.{section, section_end, header, statement_tokens}
 

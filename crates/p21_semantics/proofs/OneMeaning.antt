@@ -23,7 +23,7 @@ use Rattle.p21_semantics.specs.Meaning.{Typed, HasValues, HasValueAt, FitsPlace,
 use Rattle.p21_semantics.proofs.Members.{Each-member, Contains-none, Contains-first, Contains-later, Contains-cases, Contains-flat_map, Contains-zip, AllZip-beside, AllZip-member}
 use Rattle.p21_semantics.proofs.Orders.{AreEntities, order-has}
 use Rattle.p21_semantics.proofs.PlaceTypes.{RedeclaresOnce, TypeAt-one}
-use Rattle.p21_semantics.proofs.OneValue.{HasDistinctTypes, HasOneForm, FitsAt-one_value}
+use Rattle.p21_semantics.proofs.OneValue.{HasDistinctTypes, FitsAt-one_value}
 use Rattle.p21_semantics.proofs.DeclaredSchemas.{HasDistinctEntities, declared-supertypes, distinct_names-entities, distinct_names-types, declared-redeclares_once}
 
 -- what the law takes of a schema; a declared one has all of it
@@ -164,34 +164,34 @@ rising-distinct s (e ∷ es) [] all rise = absurd all
 rising-distinct s (e ∷ es) (n ∷ ns) all rise = (differ s e n es ns all.0 all.1 rise.0, rising-distinct s es ns all.1 rise.1)
 
 -- two meanings that fit the same parameters at the same places have the same value at each
-FitPlaces-agree : (s : Schema) → IsWellFormed s → HasOneForm → (kinds : Kinds) (a b : Typed) → a.entities ≡ b.entities → (ps : List Place) (params : Params) (place : Place) → FitPlaces s kinds a ps params → FitPlaces s kinds b ps params → Contains ps place
+FitPlaces-agree : (s : Schema) → IsWellFormed s → (kinds : Kinds) (a b : Typed) → a.entities ≡ b.entities → (ps : List Place) (params : Params) (place : Place) → FitPlaces s kinds a ps params → FitPlaces s kinds b ps params → Contains ps place
     → (v : Value) × HasValueAt a place v × HasValueAt b place v
-FitPlaces-agree s formed one kinds a b same [] xs place fit fit_ among = absurd (Contains-none place among)
-FitPlaces-agree s formed one kinds a b same (p ∷ ps) no_params place fit fit_ among = absurd fit
-FitPlaces-agree s formed one kinds a b same (p ∷ ps) (param x xs) place ((at, v, type_at, fit, has), more) ((at_, w, type_at_, fit_, has_), more_) among = elim (Contains-cases p ps place among) [
+FitPlaces-agree s formed kinds a b same [] xs place fit fit_ among = absurd (Contains-none place among)
+FitPlaces-agree s formed kinds a b same (p ∷ ps) no_params place fit fit_ among = absurd fit
+FitPlaces-agree s formed kinds a b same (p ∷ ps) (param x xs) place ((at, v, type_at, fit, has), more) ((at_, w, type_at_, fit_, has_), more_) among = elim (Contains-cases p ps place among) [
   | inl h ↦
       let P : List ℕ → Type 0 = λ es. TypeAt s es p at_ in
       let one_type : at_ ≡ at = TypeAt-one s formed.supertypes_end formed.redeclares_once a.entities p at_ at (subst P (sym same) type_at_) type_at in
       let Q : PlaceType → Type 0 = λ t. FitsAt s kinds t x w in
-      let one_value : w ≡ v = FitsAt-one_value s kinds formed.types_distinct one at x w v (subst Q one_type fit_) fit in
+      let one_value : w ≡ v = FitsAt-one_value s kinds formed.types_distinct at x w v (subst Q one_type fit_) fit in
       let R : Value → Type 0 = λ u. HasValueAt b p u in
       let S : Place → Type 0 = λ q. (u : Value) × HasValueAt a q u × HasValueAt b q u in
       subst S h (v, has, subst R one_value has_)
-  | inr h ↦ FitPlaces-agree s formed one kinds a b same ps xs place more more_ h
+  | inr h ↦ FitPlaces-agree s formed kinds a b same ps xs place more more_ h
 ]
 
-parts-agree : (s : Schema) → IsWellFormed s → HasOneForm → (kinds : Kinds) (a b : Typed) → a.entities ≡ b.entities → (parts : List Part) (es fs : List ℕ) (e : ℕ) (place : Place) → AllZip (PartMeans s kinds a) parts es → AllZip (PartMeans s kinds b) parts fs
+parts-agree : (s : Schema) → IsWellFormed s → (kinds : Kinds) (a b : Typed) → a.entities ≡ b.entities → (parts : List Part) (es fs : List ℕ) (e : ℕ) (place : Place) → AllZip (PartMeans s kinds a) parts es → AllZip (PartMeans s kinds b) parts fs
     → Contains es e → Contains (own_places s e) place → (v : Value) × HasValueAt a place v × HasValueAt b place v
-parts-agree s formed one kinds a b same parts [] fs e place all all_ among of_e = absurd (Contains-none e among)
-parts-agree s formed one kinds a b same [] (x ∷ es) fs e place all all_ among of_e = absurd all
-parts-agree s formed one kinds a b same (part ∷ parts) (x ∷ es) [] e place all all_ among of_e = absurd all_
-parts-agree s formed one kinds a b same (part ∷ parts) (x ∷ es) (y ∷ fs) e place all all_ among of_e = elim (Contains-cases x es e among) [
+parts-agree s formed kinds a b same parts [] fs e place all all_ among of_e = absurd (Contains-none e among)
+parts-agree s formed kinds a b same [] (x ∷ es) fs e place all all_ among of_e = absurd all
+parts-agree s formed kinds a b same (part ∷ parts) (x ∷ es) [] e place all all_ among of_e = absurd all_
+parts-agree s formed kinds a b same (part ∷ parts) (x ∷ es) (y ∷ fs) e place all all_ among of_e = elim (Contains-cases x es e among) [
   | inl h ↦
       let one_entity : y ≡ x = NamesEntity-one s formed.entities_distinct part.key y x all_.0.0 all.0.0 in
       let P : ℕ → Type 0 = λ z. FitPlaces s kinds b (own_places s z) part.params in
       let Q : ℕ → Type 0 = λ z. Contains (own_places s z) place in
-      FitPlaces-agree s formed one kinds a b same (own_places s x) part.params place all.0.1 (subst P one_entity all_.0.1) (subst Q (sym h) of_e)
-  | inr h ↦ parts-agree s formed one kinds a b same parts es fs e place all.1 all_.1 h of_e
+      FitPlaces-agree s formed kinds a b same (own_places s x) part.params place all.0.1 (subst P one_entity all_.0.1) (subst Q (sym h) of_e)
+  | inr h ↦ parts-agree s formed kinds a b same parts es fs e place all.1 all_.1 h of_e
 ]
 
 -- the same record has the same set of entities
@@ -220,20 +220,20 @@ entities-one s formed kinds r a b means means_ =
         (means_.same_entities e).0 (subst P same ((means.same_entities e).1 among))
 
 -- and the same value at each place of its set
-values-agree : (s : Schema) → IsWellFormed s → HasOneForm → (kinds : Kinds) (r : Record) (a b : Typed) → a.entities ≡ b.entities → MeansByMapping s kinds r a → MeansByMapping s kinds r b → (e i : ℕ) → Contains a.entities e → i < length (attributes_of s e)
+values-agree : (s : Schema) → IsWellFormed s → (kinds : Kinds) (r : Record) (a b : Typed) → a.entities ≡ b.entities → MeansByMapping s kinds r a → MeansByMapping s kinds r b → (e i : ℕ) → Contains a.entities e → i < length (attributes_of s e)
     → (v : Value) × HasValueAt a (record { entity = e; index = i }) v × HasValueAt b (record { entity = e; index = i }) v
-values-agree s formed one kinds (simple part) a b same means means_ e i among below =
+values-agree s formed kinds (simple part) a b same means means_ e i among below =
     let one_entity : means_.entity ≡ means.entity = NamesEntity-one s formed.entities_distinct part.key means_.entity means.entity means_.named means.named in
     let P : ℕ → Type 0 = λ x. FitPlaces s kinds b (places s x) part.params in
     let in_order : Contains (order s means.entity) e = order-has s formed.supertypes_are formed.supertypes_end means.entity e ((means.closure e).0 among) in
-    FitPlaces-agree s formed one kinds a b same (places s means.entity) part.params (record { entity = e; index = i }) means.fit (subst P one_entity means_.fit)
+    FitPlaces-agree s formed kinds a b same (places s means.entity) part.params (record { entity = e; index = i }) means.fit (subst P one_entity means_.fit)
         (Contains-flat_map (own_places s) (order s means.entity) e (record { entity = e; index = i }) in_order (Contains-own_place s e i below))
-values-agree s formed one kinds (complex parts) a b same means means_ e i among below =
-    parts-agree s formed one kinds a b same parts means.entities means_.entities e (record { entity = e; index = i }) means.parts_mean means_.parts_mean ((means.same_entities e).1 among) (Contains-own_place s e i below)
+values-agree s formed kinds (complex parts) a b same means means_ e i among below =
+    parts-agree s formed kinds a b same parts means.entities means_.entities e (record { entity = e; index = i }) means.parts_mean means_.parts_mean ((means.same_entities e).1 among) (Contains-own_place s e i below)
 
 -- under a declared schema a record has one meaning at most
-pub RecordMeans-one : (s : Schema) → IsWellFormed s → HasOneForm → (kinds : Kinds) (r : Record) (a b : Typed) → RecordMeans s kinds r a → RecordMeans s kinds r b → a ≡ b
-RecordMeans-one s formed one kinds r a b means means_ =
+pub RecordMeans-one : (s : Schema) → IsWellFormed s → (kinds : Kinds) (r : Record) (a b : Typed) → RecordMeans s kinds r a → RecordMeans s kinds r b → a ≡ b
+RecordMeans-one s formed kinds r a b means means_ =
     typed-same a b same (zip-same (HasOwnCount s) a.entities a.values b.values means.own_counts (subst (λ es. AllZip (HasOwnCount s) es b.values) (sym same) means_.own_counts) rows)
   where
     same : a.entities ≡ b.entities
@@ -248,7 +248,7 @@ RecordMeans-one s formed one kinds r a b means means_ =
         let long_ : count ws ≡ length (attributes_of s e) = AllZip-beside (HasOwnCount s) a.entities b.values e ws (subst (λ es. AllZip (HasOwnCount s) es b.values) (sym same) means_.own_counts) at_ in
         let distinct : IsDistinct nat_eq a.entities = rising-distinct s a.entities means.rising.0 means.rising.1 means.rising.2 in
         Values-same vs ws (long ∙ sym long_) (λ i below.
-          let (v, (us, row, found), (xs, row_, found_)) = values-agree s formed one kinds r a b same means.means means_.means e i (Contains-zip a.entities a.values e vs at) (omega (arith, below, long)) in
+          let (v, (us, row, found), (xs, row_, found_)) = values-agree s formed kinds r a b same means.means means_.means e i (Contains-zip a.entities a.values e vs at) (omega (arith, below, long)) in
           let P : Values → Type 0 = λ zs. value_at zs i ≡ Some v in
           let Q : List ℕ → Type 0 = λ es. Contains (zip es b.values) (e, xs) in
           (v, subst P (zip-one a.entities a.values e us vs distinct row at) found, subst P (zip-one a.entities b.values e xs ws distinct (subst Q (sym same) row_) at_) found_))

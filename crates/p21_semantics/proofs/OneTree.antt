@@ -1,11 +1,11 @@
 -- A tree is fixed by its tokens: a reader of the token list, of which nobody must believe anything, reads back the tree that was flattened.
-use Rattle.std.proofs.Common.{◌≡◌, ◌≢◌, ℕ, zero, suc, ◌+◌, ◌≤◌, Bool, true, false, List, [], ◌∷◌, ◌++◌, Option, Some, None, map, refl, ap, sym, ◌∙◌, arith, append_assoc}
+use Rattle.std.proofs.Common.{◌≡◌, ℕ, zero, suc, ◌+◌, ◌≤◌, Bool, true, false, List, [], ◌∷◌, ◌++◌, Option, Some, None, map, refl, ap, sym, ◌∙◌, arith, append_assoc}
 use Rattle.std.proofs.lemmas.List.{append-nil}
-use Rattle.std.specs.Prelude.{codes, ◌==◌, ◌&&◌, if◌then◌else◌, cond}
+use Rattle.std.specs.Prelude.{◌==◌, if◌then◌else◌}
 use Rattle.std.specs.List.{flat_map}
 use Rattle.p21_semantics.specs.Parameter.{Key, key_of, Param, dollar, star, whole, real, text, name, item, bits, list, typed, Params, no_params, param, key_token, param_tokens, params_tokens, more_tokens}
 use Rattle.p21_semantics.specs.Record.{Part, Record, simple, complex, part_tokens, record_tokens}
-use Rattle.p21_semantics.specs.Statement.{SectionLine, begin, header_start, section_end, data_start, finish, Statement, section, header, instance, section_token, statement_tokens}
+use Rattle.p21_semantics.specs.Statement.{SectionLine, begin, header_start, section_end, data_start, finish, Statement, section, header, instance, statement_tokens}
 use Rattle.p21_semantics.specs.Structure.{Structure, statements, tokens_of}
 use Rattle.p21_semantics.specs.Token as token
 use Rattle.p21_semantics.specs.Token.{Token}

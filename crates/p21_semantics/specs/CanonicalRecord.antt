@@ -24,6 +24,7 @@ HasNoOrder (value.set vs) = Unit {0}
 HasNoOrder (value.bag vs) = Unit {0}
 HasNoOrder other = ⊥
 
+-- the value of a NUMBER
 abbrev pub IsNumber : Value → Type 0
 IsNumber (value.number d) = Unit {0}
 IsNumber other = ⊥
@@ -41,8 +42,7 @@ abbrev pub untyped : Value → Value
 untyped (value.typed t v) = v
 untyped other = other
 
--- A parameter is canonical where it means this value: in a set or a bag, at any depth, the texts of the elements do
--- not fall, and a NUMBER is written as a real
+-- A parameter that means this value is canonical: the texts of a set or a bag rise, at any depth, and a NUMBER is written as a real
 abbrev mutual
   pub IsCanonicalParam : Param → Value → Type 0
   IsCanonicalParam (whole z) v = IsNumber v → ⊥
@@ -56,6 +56,7 @@ abbrev mutual
   AreCanonicalParams (param p ps) value.no_values = ⊥
   AreCanonicalParams (param p ps) (value.value v vs) = IsCanonicalParam p v × AreCanonicalParams ps vs
 
+-- the set has a leaf, and no other
 abbrev pub HasOneLeaf : Schema → List ℕ → Type 0
 HasOneLeaf s entities = (e : ℕ) × IsLeaf s entities e × ((f : ℕ) → IsLeaf s entities f → f ≡ e)
 

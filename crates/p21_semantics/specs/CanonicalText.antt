@@ -10,6 +10,7 @@ use Rattle.p21_semantics.specs.Token.{Token}
 abbrev pub tokens_text : List Token → List ℕ
 tokens_text tokens = flat_map spelling tokens
 
+-- a parameter in its canonical spelling
 abbrev pub param_text : Param → List ℕ
 param_text p = tokens_text (param_tokens p)
 

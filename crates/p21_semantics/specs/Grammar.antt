@@ -8,9 +8,11 @@ use Rattle.p21_semantics.specs.Record.{Part, Record, parts_of, record_tokens}
 use Rattle.p21_semantics.specs.Structure.{Structure, tokens_of}
 use Rattle.p21_semantics.specs.Token.{Token, user_keyword}
 
+-- a simple record whose parameters are not nested too deep
 abbrev pub IsShallowPart : Part → Type 0
 IsShallowPart part = IsShallow part.params
 
+-- a token that is no user keyword
 abbrev pub IsNoUserKeyword : Token → Type 0
 IsNoUserKeyword (user_keyword word) = ⊥
 IsNoUserKeyword other = Unit {0}

@@ -12,6 +12,7 @@ pub record Limits : Type 0 where
 abbrev pub AreLimits : Limits → Type 0
 AreLimits limits = (limits.record_canonical ≤ limits.record_source) × (limits.file_canonical ≤ limits.file_source)
 
+-- the limits of the program
 abbrev pub usual : Limits
 usual = record { record_source = 2 ^ 29; record_canonical = 2 ^ 28; file_source = 2 ^ 36; file_canonical = 2 ^ 32 }
 

@@ -13,5 +13,6 @@ abbrev mutual
   params_depth no_params = 0
   params_depth (param p ps) = max (depth p) (params_depth ps)
 
+-- at most 64 deep
 abbrev pub IsShallow : Params → Type 0
 IsShallow ps = params_depth ps ≤ 64

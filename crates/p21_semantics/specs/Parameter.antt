@@ -33,10 +33,12 @@ mutual
     no_params : Params
     param : Param → Params → Params
 
+-- the parameters one by one
 abbrev pub listed : Params → List Param
 listed no_params = []
 listed (param p ps) = p ∷ listed ps
 
+-- the token of a key
 abbrev pub key_token : Key → Token
 key_token key = elim key.user [ true ↦ token.user_keyword key.word | false ↦ token.keyword key.word ]
 

@@ -4,14 +4,14 @@ use Rattle.p21_semantics.specs.Laying.{Lexeme, open_bytes}
 use Rattle.p21_semantics.specs.Separator.{IsSeparatorText}
 use Rattle.p21_semantics.specs.Token.{Token, Spells, MayFollow, IsFollowed, IsWholeAtOnce}
 
--- what stands behind the last whole token, separators apart: nothing, a token that is not known to be whole, a lone
--- `/`, or a comment that does not end, with these bytes inside
+-- what stands last: nothing, a token that is not known to be whole, a lone `/`, or an open comment with these bytes inside
 pub data Tail : Type 0 where
   nothing : Tail
   unfinished : List ℕ → Tail
   slash : Tail
   open_comment : List ℕ → Tail
 
+-- the bytes of it
 abbrev pub tail_bytes : Tail → List ℕ
 tail_bytes nothing = []
 tail_bytes (unfinished bytes) = bytes
@@ -38,6 +38,7 @@ pub record IsUnfinished (bytes : List ℕ) : Type 0 where
   pub first : BeginsNoSeparator bytes
   pub not_whole : (token : Token) (spelling rest : List ℕ) → bytes ≡ spelling ++ rest → Spells token spelling → IsKnownWhole token spelling rest → ⊥
 
+-- the tail is what it says: in an open comment no `*/` stands
 abbrev pub IsTail : Tail → Type 0
 IsTail nothing = Unit {0}
 IsTail (unfinished bytes) = IsUnfinished bytes

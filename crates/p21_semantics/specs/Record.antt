@@ -15,13 +15,16 @@ pub data Record : Type 0 where
   simple : Part → Record
   complex : List Part → Record
 
+-- the simple records of a record
 abbrev pub parts_of : Record → List Part
 parts_of (simple part) = part ∷ []
 parts_of (complex parts) = parts
 
+-- a keyword, and parameters in parentheses
 abbrev pub part_tokens : Part → List Token
 part_tokens part = key_token part.key ∷ left ∷ (params_tokens part.params ++ (right ∷ []))
 
+-- in external mapping, simple records in parentheses, with nothing between them
 abbrev pub record_tokens : Record → List Token
 record_tokens (simple part) = part_tokens part
 record_tokens (complex parts) = left ∷ (flat_map part_tokens parts ++ (right ∷ []))

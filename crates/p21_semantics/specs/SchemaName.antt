@@ -3,8 +3,7 @@ use Rattle.std.specs.Prelude.{◌≡◌, ℕ, List, ◌∷◌, ◌++◌, map}
 use Rattle.std.specs.List.{AllByRecursion as Each}
 use Rattle.p21_semantics.specs.Express.{IsIdentifierByte, upper}
 
--- The longest prefix of ASCII letters, digits and `_` is the schema's name, without case: the name of a schema is kept
--- in upper case. What stands behind it is not read
+-- the longest prefix of letters, digits and `_` is the name, without case: a schema keeps its name in upper case
 pub record NamesSchema (chars name : List ℕ) : Type 0 where
   pub prefix : List ℕ
   pub rest : List ℕ

@@ -19,6 +19,10 @@ character_spelling character =
 abbrev pub text_spelling : List ℕ → List ℕ
 text_spelling characters = 39 ∷ (flat_map character_spelling characters ++ (39 ∷ []))
 
+-- `#`, and the number with no leading zeros
+abbrev pub name_spelling : ℕ → List ℕ
+name_spelling n = 35 ∷ plain_digits n
+
 -- `-` only before a number that is not zero, and no leading zeros
 abbrev pub whole_spelling : ℤ → List ℕ
 whole_spelling (pos n) = plain_digits n
@@ -69,7 +73,7 @@ spelling begin = codes "ISO-10303-21"
 spelling finish = codes "END-ISO-10303-21"
 spelling (keyword word) = word
 spelling (user_keyword word) = 33 ∷ word
-spelling (name n) = 35 ∷ plain_digits n
+spelling (name n) = name_spelling n
 spelling (whole z) = whole_spelling z
 spelling (real d) = real_spelling d
 spelling (text characters) = text_spelling characters

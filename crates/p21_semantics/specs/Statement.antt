@@ -19,6 +19,7 @@ pub data Statement : Type 0 where
   header : Part → Statement
   instance : ℕ → Record → Statement
 
+-- the token of a section line, its `;` apart
 abbrev pub section_token : SectionLine → Token
 section_token begin = token.begin
 section_token header_start = keyword (codes "HEADER")

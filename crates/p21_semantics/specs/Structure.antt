@@ -16,5 +16,6 @@ statements structure =
     section begin ∷ section header_start ∷ (map header structure.header ++ (section section_end ∷ section data_start
     ∷ (map (λ i. instance i.0 i.1) structure.instances ++ (section section_end ∷ section finish ∷ []))))
 
+-- the tokens of the statements, one behind the other
 abbrev pub tokens_of : Structure → List Token
 tokens_of structure = flat_map statement_tokens (statements structure)

@@ -1,0 +1,9 @@
+mod BitsLemmas
+mod DigitLemmas
+mod NameLemmas
+pub mod DigitRuns
+pub mod Readings
+pub mod SignificantDigits
+pub mod Significands
+pub mod StoredDecimals
+pub mod StoredWholes

@@ -28,3 +28,11 @@ pub trait Canonical {
     /// The canonical spelling spells the value.
     ghost spells_value: { (a : Self) → is_value a → spells (spelling a) a };
 }
+
+/// The canonical spelling by itself.
+#[cfg(test)]
+pub(crate) fn spelled<T: Canonical>(rt: &HostRuntime, value: &T) -> Result<Vec<u8>, NoMemory> {
+    let mut out = Vec::new(rt.alloc());
+    value.write_canonical(&mut out)?;
+    Ok(out)
+}

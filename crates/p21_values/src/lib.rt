@@ -2,10 +2,23 @@
 //! mean the same, and the one canonical spelling of each.
 #![tactic(auto)]
 
+mod bits;
 mod canonical;
+mod decimal;
+mod digits;
 mod fault;
+mod limits;
+mod name;
 mod text;
+mod whole;
+mod word;
 
+pub use bits::Bits;
 pub use canonical::Canonical;
+pub use decimal::Decimal;
 pub use fault::{NoMemory, ValueFault};
+pub use limits::Limits;
+pub use name::Name;
 pub use text::Text;
+pub use whole::Whole;
+pub use word::Word;

@@ -58,7 +58,7 @@ impl Text {
     pub fn chars(&self) -> &[char]
         ensures { result.now ≡ self.now }
     {
-        &self.characters
+        self.characters.as_slice()
     }
 }
 
@@ -191,5 +191,51 @@ fn hex_digit(number: u32) -> u8
         b'0' + digit
     } else {
         b'A' + (digit - 10)
+    }
+}
+
+#[cfg(test)]
+mod tests {
+    use super::*;
+    use std::test::Fail;
+
+    fn text(rt: &HostRuntime, characters: &[char]) -> Result<Text, NoMemory> {
+        let mut text = Text::new(rt.alloc());
+        for character in characters {
+            text.push(*character)?;
+        }
+        Ok(text)
+    }
+
+    #[test]
+    fn spells_texts(rt: HostRuntime) -> Result<(), Fail> {
+        let cases: [(&[char], &[u8]); 8] = [
+            (&[], b"''"),
+            (&['\u{E9}', '\''], b"'\\X2\\00E9\\X0\\'''"),
+            (&['c', 'a', 'f', '\u{E9}'], b"'caf\\X2\\00E9\\X0\\'"),
+            (&['s', ' ', '\\'], b"'s \\\\'"),
+            (&['\u{DC}', '~'], b"'\\X2\\00DC\\X0\\~'"),
+            (&['\u{7F}', '\u{1F}'], b"'\\X2\\007F\\X0\\\\X2\\001F\\X0\\'"),
+            (&['\u{FFFF}'], b"'\\X2\\FFFF\\X0\\'"),
+            (&['\u{1F600}'], b"'\\X4\\0001F600\\X0\\'"),
+        ];
+        for (characters, want) in cases {
+            let mut out = Vec::new(rt.alloc());
+            text(&rt, characters)?.write_canonical(&mut out)?;
+            assert_eq!(rt; out.as_slice(), want);
+        }
+        Ok(())
+    }
+
+    #[test]
+    fn holds_characters(rt: HostRuntime) -> Result<(), Fail> {
+        let word = text(&rt, &['\u{E9}', '\''])?;
+        assert_eq!(rt; word.len(), 2);
+        assert_eq!(rt; word.chars(), ['\u{E9}', '\''].as_slice());
+        assert_eq!(rt; Text::new(rt.alloc()).len(), 0);
+        assert!(rt; word == text(&rt, &['\u{E9}', '\''])?);
+        assert!(rt; word != text(&rt, &['\u{E9}', '"'])?);
+        assert!(rt; word != Text::new(rt.alloc()));
+        Ok(())
     }
 }

@@ -1,0 +1,418 @@
+ghost use Rattle.std.specs.Prelude.{◌≡◌, ◌-◌, ◌<◌, ◌+ℤ◌, ◌-ℤ◌, pos, [], ◌∷◌, ◌++◌, length, if◌then◌else◌, IfNone, IfOk, IfSome, OnErr, OnOk};
+ghost use Rattle.p21_semantics.specs.Digits.{AllDigits, number};
+ghost use Rattle.p21_semantics.specs.Number.{IsExponentInRange, RealForm, whole_ratio};
+ghost use Rattle.p21_semantics.specs.Spelling.{exponent_spelling, real_spelling};
+ghost use Rattle.p21_values.specs.Canonical.{Continues};
+ghost use Rattle.p21_values.specs.Decimal.{IsDecimal, ReadsExponent, ReadsRatio, ReadsReal, SplitsReal, digits_ratio, significand_spelling};
+ghost use Rattle.p21_values.specs.Digits.{WithoutEndZeros, WithoutFrontZeros};
+
+use crate::canonical::Canonical;
+use crate::digits::{
+    behind, short_number, split_digits, split_integer, split_sign, without_end_zeros,
+    without_front_zeros,
+};
+use crate::fault::{NoMemory, ValueFault};
+use crate::whole::Whole;
+use std::alloc::{AllocError, Global};
+use std::marker::Model;
+
+/// A decimal number of any length: the value of a REAL or a NUMBER.
+#[derive(Drop)]
+pub struct Decimal {
+    negative: bool,
+    // ASCII, no zero at either end: none for the number zero.
+    digits: Vec<u8>,
+    // Of the form with one digit before the point: 0 for the number zero.
+    exponent: i16,
+}
+
+impl Model for Decimal {
+    ghost use Rattle.p21_semantics.specs.Number as numbers;
+    ghost use Rattle.p21_values.specs.Decimal.{IsStoredDecimal, stored_decimal};
+
+    ghost Value = { numbers.Decimal };
+
+    ghost view = { λ decimal. stored_decimal decimal.negative decimal.digits.items decimal.exponent };
+
+    ghost invariant = { λ decimal. IsStoredDecimal decimal.negative decimal.digits.items decimal.exponent };
+}
+
+// The digits of a real on both sides of the point.
+#[derive(Clone, Copy)]
+struct Digits<'a> {
+    whole: &'a [u8],
+    fraction: &'a [u8],
+}
+
+impl Decimal {
+    /// Reads the bytes of one real (ISO 10303-21, tokens: real): a sign or none, digits, a point, digits or none, and
+    /// an exponent or none.
+    ///
+    /// # Errors
+    ///
+    /// `BadNumber` where the bytes are no real. `NumberRange` where they are, and the written exponent has more than
+    /// nine digits apart from leading zeros, or the exponent of the form with one digit before the point isn't in
+    /// -9999 to 9999. `NoMemory`.
+    pub fn read(alloc: Global, bytes: &[u8]) -> Result<Decimal, ValueFault>
+        ensures { ReadsReal bytes.now result }
+    {
+        let Some((negative, digits, rest)) = split_real(bytes) else {
+            return Err(ValueFault::BadNumber);
+        };
+        let exponent = read_exponent(rest)?;
+        Decimal::of_digits(alloc, negative, digits, exponent)
+    }
+
+    /// The number with the same ratio.
+    ///
+    /// # Errors
+    ///
+    /// `NumberRange` where the exponent of the form with one digit before the point is over 9999, `NoMemory`.
+    pub fn of_whole(alloc: Global, whole: &Whole) -> Result<Decimal, ValueFault>
+        ensures { ReadsRatio (whole_ratio whole.now) result }
+    {
+        let (negative, digits) = whole.parts();
+        let digits = Digits {
+            whole: digits,
+            fraction: &[],
+        };
+        Decimal::of_digits(alloc, negative, digits, 0)
+    }
+
+    // The number of the digits, times ten to the exponent.
+    fn of_digits(
+        alloc: Global,
+        negative: bool,
+        digits: Digits<'_>,
+        exponent: i32,
+    ) -> Result<Decimal, ValueFault>
+        requires { AllDigits (digits.whole.now ++ digits.fraction.now) }
+        ensures { ReadsRatio (digits_ratio negative digits.entry.whole.now digits.entry.fraction.now exponent) result }
+    {
+        let places = digits.fraction.len();
+        let significant = digits.without_front_zeros();
+        let count = significant.len();
+        if count == 0 {
+            return Ok(Decimal {
+                negative: false,
+                digits: Vec::new(alloc),
+                exponent: 0,
+            });
+        }
+        let Some(exponent) = normalised_exponent(exponent, count, places) else {
+            return Err(ValueFault::NumberRange);
+        };
+        let digits = significant.without_end_zeros().to_vec(alloc)?;
+        Ok(Decimal {
+            negative,
+            digits,
+            exponent,
+        })
+    }
+}
+
+impl<'a> Digits<'a> {
+    // Without the zeros in front of all: no digits for the number zero.
+    fn without_front_zeros(self) -> Digits<'a>
+        requires { AllDigits (self.whole.now ++ self.fraction.now) }
+        ensures { WithoutFrontZeros (self.entry.whole.now ++ self.entry.fraction.now) (result.whole.now ++ result.fraction.now) }
+    {
+        let whole = without_front_zeros(self.whole);
+        let fraction = if whole.is_empty() {
+            without_front_zeros(self.fraction)
+        } else {
+            self.fraction
+        };
+        Digits { whole, fraction }
+    }
+
+    // Without the zeros behind all.
+    fn without_end_zeros(self) -> Digits<'a>
+        requires { AllDigits (self.whole.now ++ self.fraction.now) }
+        ensures { WithoutEndZeros (self.entry.whole.now ++ self.entry.fraction.now) (result.whole.now ++ result.fraction.now) }
+    {
+        let fraction = without_end_zeros(self.fraction);
+        let whole = if fraction.is_empty() {
+            without_end_zeros(self.whole)
+        } else {
+            self.whole
+        };
+        Digits { whole, fraction }
+    }
+
+    fn len(self) -> usize
+        ensures { result ≡ length (self.entry.whole.now ++ self.entry.fraction.now) }
+    {
+        self.whole.len() + self.fraction.len()
+    }
+
+    fn to_vec(self, alloc: Global) -> Result<Vec<u8>, AllocError>
+        ensures { IfOk result (λ digits. digits.items ≡ self.entry.whole.now ++ self.entry.fraction.now) }
+    {
+        let mut digits = Vec::with_capacity(alloc, self.len())?;
+        digits.extend_from_slice(self.whole)?;
+        digits.extend_from_slice(self.fraction)?;
+        Ok(digits)
+    }
+}
+
+// Whether a minus stands first, the digits, and what stands behind them, where the bytes begin as a real.
+fn split_real(bytes: &[u8]) -> Option<(bool, Digits<'_>, &[u8])>
+    ensures none { IfNone result (RealForm bytes.now → ⊥) }
+    ensures some { IfSome result (λ parts. SplitsReal bytes.now parts.0 parts.1.whole.now parts.1.fraction.now parts.2.now) }
+{
+    let (negative, unsigned) = split_sign(bytes);
+    let (whole, rest) = split_digits(unsigned);
+    if whole.is_empty() {
+        return None;
+    }
+    let rest = behind(b'.', rest)?;
+    let (fraction, rest) = split_digits(rest);
+    Some((negative, Digits { whole, fraction }, rest))
+}
+
+// The exponent that is written: 0 where there is none.
+fn read_exponent(bytes: &[u8]) -> Result<i32, ValueFault>
+    ensures { ReadsExponent bytes.now result }
+{
+    if bytes.is_empty() {
+        return Ok(0);
+    }
+    let Some(written) = behind(b'E', bytes) else {
+        return Err(ValueFault::BadNumber);
+    };
+    let Some((negative, digits)) = split_integer(written) else {
+        return Err(ValueFault::BadNumber);
+    };
+    let significant = without_front_zeros(digits);
+    if significant.len() > 9 {
+        return Err(ValueFault::NumberRange);
+    }
+    let value = short_number(significant) as i32;
+    Ok(if negative { -value } else { value })
+}
+
+// The exponent of so many digits, `places` of them behind the point, times ten to the exponent that is written.
+fn normalised_exponent(written: i32, digits: usize, places: usize) -> Option<i16>
+    requires { 0 < digits }
+    ensures none { IfNone result (IsExponentInRange (written +ℤ pos (digits - 1) -ℤ pos places) → ⊥) }
+    ensures some { IfSome result (λ exponent. exponent ≡ written +ℤ pos (digits - 1) -ℤ pos places) }
+    ensures in_range { IfSome result IsExponentInRange }
+{
+    let exponent = i128::from(written) + (digits as i128 - 1) - places as i128;
+    if exponent < -9999 || exponent > 9999 {
+        return None;
+    }
+    Some(exponent as i16)
+}
+
+impl PartialEq for Decimal {
+    ghost use Rattle.std.proofs.Common.{rules};
+    ghost use Rattle.std.specs.Cmp.Rules.{comparing};
+    ghost use Rattle.std.specs.Prelude.{◌≡◌, ◌↔◌, IsTrue};
+    ghost use Rattle.std.specs.Ordering.{eq_of_both, int_eq, on};
+    ghost use Rattle.p21_semantics.specs.Number.{SameRatio, ratio_of};
+    ghost use Rattle.p21_values.specs.Decimal.{decimal_eq};
+
+    ghost eq = { decimal_eq };
+
+    ghost laws = { Prim.search (comparing, rules) };
+
+    fn eq(&self, other: &Decimal) -> bool
+        ensures eq { result ≡ decimal_eq self.now other.now }
+        ensures same { IsTrue result ↔ SameRatio (ratio_of self.now) (ratio_of other.now) }
+    {
+        if self.negative != other.negative {
+            return false;
+        }
+        if self.exponent != other.exponent {
+            return false;
+        }
+        self.digits == other.digits
+    }
+}
+
+impl Canonical for Decimal {
+    ghost use Rattle.p21_semantics.specs.Number.{SameRatio, SpellsReal, ratio_of};
+    ghost use Rattle.p21_semantics.specs.Spelling.{real_spelling};
+    ghost use Rattle.p21_semantics.proofs.RealSpellings.{real_spelling_same, real_spells};
+    ghost use Rattle.p21_values.specs.Decimal.{IsDecimal};
+
+    ghost is_value = { IsDecimal };
+
+    ghost same = { λ a b. SameRatio (ratio_of a) (ratio_of b) };
+
+    ghost spells = { SpellsReal };
+
+    ghost spelling = { real_spelling };
+
+    ghost same_spelling = { λ a b p q. real_spelling_same a b p.reduced p.in_range q.reduced q.in_range };
+
+    ghost spells_value = { λ a p. real_spells a p.reduced p.in_range };
+
+    fn write_canonical(&self, out: &mut Vec<u8>) -> Result<(), NoMemory> {
+        let before = out.len();
+        let written = append(self, out);
+        if written.is_err() {
+            out.truncate(before);
+        }
+        written
+    }
+}
+
+// Appends the canonical spelling, or a part of it where memory runs out.
+fn append(decimal: &Decimal, out: &mut Vec<u8>) -> Result<(), NoMemory>
+    ensures value { IsDecimal decimal.now }
+    ensures ok { OnOk result (out.new.items ≡ out.old.items ++ real_spelling decimal.now) }
+    ensures err { OnErr result (Continues out.old.items out.new.items) }
+{
+    append_significand(decimal.negative, &decimal.digits, out)?;
+    append_exponent(decimal.exponent, out)?;
+    Ok(())
+}
+
+fn append_significand(negative: bool, digits: &[u8], out: &mut Vec<u8>) -> Result<(), NoMemory>
+    ensures ok { OnOk result (out.new.items ≡ out.old.items ++ ((if negative then 45 ∷ [] else []) ++ significand_spelling digits.now)) }
+    ensures err { OnErr result (Continues out.old.items out.new.items) }
+{
+    if negative {
+        out.push(b'-')?;
+    }
+    if digits.is_empty() {
+        out.extend_from_slice(b"0.")?;
+        return Ok(());
+    }
+    out.push(digits[0])?;
+    out.push(b'.')?;
+    out.extend_from_slice(&digits[1..])?;
+    Ok(())
+}
+
+fn append_exponent(exponent: i16, out: &mut Vec<u8>) -> Result<(), NoMemory>
+    requires { IsExponentInRange exponent }
+    ensures ok { OnOk result (out.new.items ≡ out.old.items ++ exponent_spelling exponent) }
+    ensures err { OnErr result (Continues out.old.items out.new.items) }
+{
+    if exponent == 0 {
+        return Ok(());
+    }
+    out.push(b'E')?;
+    if exponent < 0 {
+        out.push(b'-')?;
+    }
+    let digits = four_digits(exponent.unsigned_abs());
+    out.extend_from_slice(without_front_zeros(&digits))?;
+    Ok(())
+}
+
+// The digits of a number below 10000, with zeros in front.
+fn four_digits(value: u16) -> [u8; 4]
+    requires { value < 10000 }
+    ensures digits { AllDigits result }
+    ensures value { number result ≡ value }
+{
+    [
+        b'0' + (value / 1000) as u8,
+        b'0' + (value / 100 % 10) as u8,
+        b'0' + (value / 10 % 10) as u8,
+        b'0' + (value % 10) as u8,
+    ]
+}
+
+#[cfg(test)]
+mod tests {
+    use super::*;
+    use crate::canonical::spelled;
+    use std::test::Fail;
+
+    fn read(rt: &HostRuntime, text: &str) -> Result<Decimal, ValueFault> {
+        Decimal::read(rt.alloc(), text.as_bytes())
+    }
+
+    #[test]
+    fn reads_and_spells(rt: HostRuntime) -> Result<(), Fail> {
+        let cases = [
+            ("+012.500E+03", "1.25E4"),
+            ("123.450", "1.2345E2"),
+            ("1.E0000000001", "1.E1"),
+            ("0.E999999999", "0."),
+            ("-0.0", "0."),
+            ("-0.E-999999999", "0."),
+            ("0.00250", "2.5E-3"),
+            ("1.E9999", "1.E9999"),
+            ("-10.E-1", "-1."),
+            ("1.E-07", "1.E-7"),
+            ("0.1E-9998", "1.E-9999"),
+            ("0.01E10001", "1.E9999"),
+            ("1230.E1000", "1.23E1003"),
+            ("100.001", "1.00001E2"),
+        ];
+        for (text, spelling) in cases {
+            let found = spelled(&rt, &read(&rt, text)?)?;
+            assert_eq!(rt; found.as_slice(), spelling.as_bytes(), "{text}");
+        }
+        Ok(())
+    }
+
+    #[test]
+    fn refuses_what_is_no_real(rt: HostRuntime) {
+        for text in [
+            "1", "", ".5", "+.5", "1.E", "1.EX", "1.E+", "1.5E1.", "1.5 ", "1,5", "1.e2", "+-1.",
+        ] {
+            assert_eq!(rt;
+                read(&rt, text).err(),
+                Some(ValueFault::BadNumber),
+                "{text}"
+            );
+        }
+    }
+
+    #[test]
+    fn refuses_what_is_out_of_range(rt: HostRuntime) {
+        for text in [
+            "10.E9999",
+            "0.E1000000000",
+            "0.1E-9999",
+            "1.E10000",
+            "1.E-10000",
+            "1.E-1000000000",
+        ] {
+            assert_eq!(rt;
+                read(&rt, text).err(),
+                Some(ValueFault::NumberRange),
+                "{text}"
+            );
+        }
+    }
+
+    #[test]
+    fn compares(rt: HostRuntime) -> Result<(), Fail> {
+        assert!(rt; read(&rt, "1.0")? == read(&rt, "10.E-1")?);
+        assert!(rt; read(&rt, "-0.")? == read(&rt, "0.E5")?);
+        assert!(rt; read(&rt, "1.")? != read(&rt, "-1.")?);
+        assert!(rt; read(&rt, "1.")? != read(&rt, "10.")?);
+        assert!(rt; read(&rt, "1.1")? != read(&rt, "1.2")?);
+        Ok(())
+    }
+
+    // A 1 and zeros behind it, so many digits in all.
+    fn power_of_ten(rt: &HostRuntime, digits: usize) -> Result<Whole, ValueFault> {
+        let mut text = Vec::from_slice(rt.alloc(), b"1")?;
+        text.resize(digits, b'0')?;
+        Whole::read(rt.alloc(), &text)
+    }
+
+    #[test]
+    fn keeps_the_ratio_of_a_whole_number(rt: HostRuntime) -> Result<(), Fail> {
+        for (text, spelling) in [("0", "0."), ("-7", "-7."), ("1250", "1.25E3")] {
+            let whole = Whole::read(rt.alloc(), text.as_bytes())?;
+            let found = spelled(&rt, &Decimal::of_whole(rt.alloc(), &whole)?)?;
+            assert_eq!(rt; found.as_slice(), spelling.as_bytes(), "{text}");
+        }
+        let greatest = Decimal::of_whole(rt.alloc(), &power_of_ten(&rt, 10000)?)?;
+        assert_eq!(rt; spelled(&rt, &greatest)?.as_slice(), b"1.E9999".as_slice());
+        let refused = Decimal::of_whole(rt.alloc(), &power_of_ten(&rt, 10001)?);
+        assert_eq!(rt; refused.err(), Some(ValueFault::NumberRange));
+        Ok(())
+    }
+}

@@ -1,0 +1,95 @@
+ghost use Rattle.std.specs.Prelude.{◌≡◌, ℕ, ◌^◌, ◌<◌, ◌≤◌, Bool, List, ◌∷◌, ◌++◌, length, IfNone, IfSome};
+ghost use Rattle.p21_semantics.specs.Digits.{AllDigits, number};
+ghost use Rattle.p21_semantics.specs.Number.{is_minus};
+ghost use Rattle.p21_semantics.proofs.Forms.{NoDigitFirst, behind_sign, first_sign};
+ghost use Rattle.p21_values.specs.Digits.{SignedDigits, WithoutEndZeros, WithoutFrontZeros};
+
+/// Whether a minus stands first, and what stands behind the sign: all the bytes where there is none.
+pub(crate) fn split_sign(bytes: &[u8]) -> (bool, &[u8])
+    ensures minus { result.0 ≡ is_minus (first_sign bytes.now) }
+    ensures rest { result.1.now ≡ behind_sign bytes.now }
+{
+    match bytes {
+        [b'+', rest @ ..] => (false, rest),
+        [b'-', rest @ ..] => (true, rest),
+        _ => (false, bytes),
+    }
+}
+
+/// The digits at the front, and what stands behind them.
+#[tactic(auto, using(crate::proofs::DigitRuns::digits_more))]
+pub(crate) fn split_digits(bytes: &[u8]) -> (&[u8], &[u8])
+    ensures bytes_are { bytes.now ≡ result.0.now ++ result.1.now }
+    ensures digits { AllDigits result.0.now }
+    ensures rest { NoDigitFirst result.1.now }
+{
+    for (i, byte) in bytes.iter().enumerate() {
+        if !byte.is_ascii_digit() {
+            return bytes.split_at(i);
+        }
+    }
+    (bytes, &[])
+}
+
+/// Whether a minus stands first, and the digits, where the bytes are a sign or none and digits.
+pub(crate) fn split_integer(bytes: &[u8]) -> Option<(bool, &[u8])>
+    ensures none { IfNone result ((negative : Bool) (digits : List ℕ) → SignedDigits bytes.now negative digits → ⊥) }
+    ensures some { IfSome result (λ parts. SignedDigits bytes.now parts.0 parts.1.now) }
+{
+    let (negative, unsigned) = split_sign(bytes);
+    let (digits, behind) = split_digits(unsigned);
+    if digits.is_empty() {
+        return None;
+    }
+    if !behind.is_empty() {
+        return None;
+    }
+    Some((negative, digits))
+}
+
+/// The digits without the zeros in front: none for the number zero.
+pub(crate) fn without_front_zeros(digits: &[u8]) -> &[u8]
+    requires { AllDigits digits.now }
+    ensures { WithoutFrontZeros digits.now result.now }
+{
+    let mut rest = digits;
+    while !rest.is_empty() && rest[0] == b'0' {
+        rest = &rest[1..];
+    }
+    rest
+}
+
+/// The digits without the zeros at the end.
+pub(crate) fn without_end_zeros(digits: &[u8]) -> &[u8]
+    requires { AllDigits digits.now }
+    ensures { WithoutEndZeros digits.now result.now }
+{
+    let mut kept = digits.len();
+    while kept > 0 && digits[kept - 1] == b'0' {
+        kept -= 1;
+    }
+    &digits[..kept]
+}
+
+/// What stands behind the first byte, where that is the one asked for.
+pub(crate) fn behind(first: u8, bytes: &[u8]) -> Option<&[u8]>
+    ensures none { IfNone result ((rest : List ℕ) → bytes.now ≡ first ∷ rest → ⊥) }
+    ensures some { IfSome result (λ rest. bytes.now ≡ first ∷ rest.now) }
+{
+    let (byte, rest) = bytes.split_first()?;
+    if *byte == first { Some(rest) } else { None }
+}
+
+/// The number that at most nine digits stand for.
+pub(crate) fn short_number(digits: &[u8]) -> u32
+    requires are_digits { AllDigits digits.now }
+    requires short { length digits.now ≤ 9 }
+    ensures value { result ≡ number digits.now }
+    ensures small { result < 10 ^ 9 }
+{
+    let mut value = 0u32;
+    for digit in digits {
+        value = value * 10 + u32::from(*digit - b'0');
+    }
+    value
+}

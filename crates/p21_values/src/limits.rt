@@ -1,0 +1,138 @@
+ghost use Rattle.p21_semantics.specs.Limits.{usual};
+ghost use Rattle.std.specs.Prelude.{◌≡◌, ◌≤◌, ◌↔◌, IsSome, IfSome};
+
+use std::marker::Model;
+
+/// How many bytes a file and its statements may have, in the source and in canonical form. The canonical form never has
+/// more than the source may have.
+#[derive(Clone, Copy, Debug, PartialEq, Eq)]
+pub struct Limits {
+    record_source: u64,
+    record_canonical: u64,
+    file_source: u64,
+    file_canonical: u64,
+}
+
+impl Model for Limits {
+    ghost use Rattle.p21_semantics.specs.Limits.{Limits as LimitNumbers};
+    ghost use Rattle.std.specs.Prelude.{◌≤◌};
+
+    ghost Value = { LimitNumbers };
+
+    ghost view = { λ a. record {
+      record_source = a.record_source;
+      record_canonical = a.record_canonical;
+      file_source = a.file_source;
+      file_canonical = a.file_canonical;
+    } };
+
+    ghost invariant = { λ a. (a.record_canonical ≤ a.record_source) × (a.file_canonical ≤ a.file_source) };
+
+    ghost inverse = { λ v. record {
+      record_source = v.record_source;
+      record_canonical = v.record_canonical;
+      file_source = v.file_source;
+      file_canonical = v.file_canonical;
+    } };
+}
+
+impl Limits {
+    /// Limits in bytes: of the tokens of a statement, of a canonical statement, of a file, and of its canonical form.
+    /// None if a canonical form may have more than the source may have.
+    pub fn new(
+        record_source: u64,
+        record_canonical: u64,
+        file_source: u64,
+        file_canonical: u64,
+    ) -> Option<Limits>
+        ensures some { IsSome result ↔ ((record_canonical ≤ record_source) × (file_canonical ≤ file_source)) }
+        ensures record_source { IfSome result (λ limits. limits.record_source ≡ record_source) }
+        ensures record_canonical { IfSome result (λ limits. limits.record_canonical ≡ record_canonical) }
+        ensures file_source { IfSome result (λ limits. limits.file_source ≡ file_source) }
+        ensures file_canonical { IfSome result (λ limits. limits.file_canonical ≡ file_canonical) }
+    {
+        if record_canonical > record_source || file_canonical > file_source {
+            return None;
+        }
+        Some(Limits {
+            record_source,
+            record_canonical,
+            file_source,
+            file_canonical,
+        })
+    }
+
+    /// 512 MiB for a statement and 256 MiB for its canonical form, 64 GiB for a file and 4 GiB for its canonical form.
+    pub fn usual() -> Limits
+        ensures { result ≡ usual }
+    {
+        Limits {
+            record_source: 536_870_912,
+            record_canonical: 268_435_456,
+            file_source: 68_719_476_736,
+            file_canonical: 4_294_967_296,
+        }
+    }
+
+    /// The most bytes of the tokens of a statement.
+    pub fn record_source(&self) -> u64
+        ensures { result ≡ self.now.record_source }
+    {
+        self.record_source
+    }
+
+    /// The most bytes of a canonical statement.
+    pub fn record_canonical(&self) -> u64
+        ensures value { result ≡ self.now.record_canonical }
+        ensures within { self.now.record_canonical ≤ self.now.record_source }
+    {
+        self.record_canonical
+    }
+
+    /// The most bytes of a file.
+    pub fn file_source(&self) -> u64
+        ensures { result ≡ self.now.file_source }
+    {
+        self.file_source
+    }
+
+    /// The most bytes of a canonical file.
+    pub fn file_canonical(&self) -> u64
+        ensures value { result ≡ self.now.file_canonical }
+        ensures within { self.now.file_canonical ≤ self.now.file_source }
+    {
+        self.file_canonical
+    }
+}
+
+#[cfg(test)]
+mod tests {
+    use super::*;
+
+    fn numbers(limits: Limits) -> [u64; 4] {
+        [
+            limits.record_source(),
+            limits.record_canonical(),
+            limits.file_source(),
+            limits.file_canonical(),
+        ]
+    }
+
+    #[test]
+    fn keeps_limits_in_order(rt: HostRuntime) {
+        assert_eq!(rt; Limits::new(10, 11, 10, 10), None);
+        assert_eq!(rt; Limits::new(10, 10, 10, 11), None);
+        assert_eq!(rt;
+            Limits::new(50, 40, 1000, 999).map(numbers),
+            Some([50, 40, 1000, 999])
+        );
+        assert_eq!(rt;
+            Limits::new(152, 152, 152, 152).map(numbers),
+            Some([152, 152, 152, 152])
+        );
+        assert_eq!(rt;
+            numbers(Limits::usual()),
+            [536_870_912, 268_435_456, 68_719_476_736, 4_294_967_296]
+        );
+    }
+}

@@ -1,0 +1,161 @@
+ghost use Rattle.std.specs.Prelude.{◌≡◌, ◌^◌, ◌<◌, ◌≤◌, ◌∷◌, length, drop, IfNone, IfSome};
+ghost use Rattle.p21_semantics.specs.Digits.{AllDigits, number, plain_digits};
+ghost use Rattle.p21_semantics.specs.Name.{NameForm};
+ghost use Rattle.p21_values.specs.Name.{ReadsName};
+
+use crate::canonical::Canonical;
+use crate::digits::{behind, split_digits};
+use crate::fault::{NoMemory, ValueFault};
+use std::marker::Model;
+
+/// The name of an instance: a number.
+#[derive(Clone, Copy, Debug, PartialEq, Eq)]
+pub struct Name(pub u64);
+
+impl Model for Name {
+    ghost use Rattle.std.specs.Prelude.{ℕ};
+
+    ghost Value = { ℕ };
+
+    ghost view = { λ a. a.0 };
+
+    ghost inverse = { λ n. record { 0 = n } };
+}
+
+impl Name {
+    /// Reads one instance name: `#` and digits. It takes no memory.
+    ///
+    /// # Errors
+    ///
+    /// `BadName` where the form is another, and `NameRange` where the number is above 18446744073709551615.
+    pub fn read(bytes: &[u8]) -> Result<Name, ValueFault>
+        ensures { ReadsName bytes.now result }
+    {
+        let Some(digits) = digits_of_name(bytes) else {
+            return Err(ValueFault::BadName);
+        };
+        match number_of(digits) {
+            Some(number) => Ok(Name(number)),
+            None => Err(ValueFault::NameRange),
+        }
+    }
+}
+
+/// The digits of an instance name, where the form is right.
+fn digits_of_name(bytes: &[u8]) -> Option<&[u8]>
+    ensures none { IfNone result (NameForm bytes.now → ⊥) }
+    ensures form { IfSome result (λ digits. bytes.now ≡ 35 ∷ digits.now) }
+    ensures some_digits { IfSome result (λ digits. 0 < length digits.now) }
+    ensures are_digits { IfSome result (λ digits. AllDigits digits.now) }
+{
+    let (digits, rest) = split_digits(behind(b'#', bytes)?);
+    if digits.is_empty() || !rest.is_empty() {
+        return None;
+    }
+    Some(digits)
+}
+
+/// The number that digits stand for, if it fits.
+#[tactic(auto, using(crate::proofs::DigitRuns::digit_at))]
+fn number_of(digits: &[u8]) -> Option<u64>
+    requires { AllDigits digits.now }
+    ensures some { IfSome result (λ n. n ≡ number digits.now) }
+    ensures none { IfNone result (2 ^ 64 ≤ number digits.now) }
+{
+    let mut number = 0u64;
+    for digit in digits {
+        number = number
+            .checked_mul(10)?
+            .checked_add(u64::from(*digit - b'0'))?;
+    }
+    Some(number)
+}
+
+/// Writes the digits of a number at the end of the text, and says where they begin.
+fn fill_digits(text: &mut [u8; 21], number: u64) -> usize
+    ensures within { (0 < result) × (result < 21) }
+    ensures digits { drop result text.new ≡ plain_digits number }
+{
+    let mut start = 20;
+    text[start] = b'0' + (number % 10) as u8;
+    let mut rest = number / 10;
+    while rest > 0 {
+        start -= 1;
+        text[start] = b'0' + (rest % 10) as u8;
+        rest /= 10;
+    }
+    start
+}
+
+impl Canonical for Name {
+    ghost use Rattle.std.specs.Prelude.{◌≡◌, ◌<◌, ◌^◌};
+    ghost use Rattle.p21_semantics.proofs.Names.{name_spells, same_names};
+    ghost use Rattle.p21_semantics.specs.Name.{SpellsName};
+    ghost use Rattle.p21_semantics.specs.Spelling.{name_spelling};
+
+    ghost is_value = { λ n. n < 2 ^ 64 };
+
+    ghost same = { λ a b. a ≡ b };
+
+    ghost spells = { SpellsName };
+
+    ghost spelling = { name_spelling };
+
+    ghost same_spelling = { same_names };
+
+    ghost spells_value = { name_spells };
+
+    fn write_canonical(&self, out: &mut Vec<u8>) -> Result<(), NoMemory> {
+        let mut text = [0; 21];
+        let start = fill_digits(&mut text, self.0) - 1;
+        text[start] = b'#';
+        out.extend_from_slice(&text[start..])?;
+        Ok(())
+    }
+}
+
+#[cfg(test)]
+mod tests {
+    use super::*;
+    use std::test::Fail;
+
+    #[test]
+    fn reads_and_spells_names(rt: HostRuntime) -> Result<(), Fail> {
+        let cases: [(&[u8], u64, &[u8]); 5] = [
+            (b"#007", 7, b"#7"),
+            (b"#0", 0, b"#0"),
+            (b"#00", 0, b"#0"),
+            (b"#120", 120, b"#120"),
+            (
+                b"#018446744073709551615",
+                18_446_744_073_709_551_615,
+                b"#18446744073709551615",
+            ),
+        ];
+        for (text, number, spelling) in cases {
+            let name = Name::read(text)?;
+            assert_eq!(rt; name, Name(number));
+            let mut out = Vec::new(rt.alloc());
+            name.write_canonical(&mut out)?;
+            assert_eq!(rt; out.as_slice(), spelling);
+        }
+        Ok(())
+    }
+
+    #[test]
+    fn refuses_names(rt: HostRuntime) {
+        let cases: [(&[u8], ValueFault); 8] = [
+            (b"#18446744073709551616", ValueFault::NameRange),
+            (b"#99999999999999999999999999", ValueFault::NameRange),
+            (b"#18446744073709551616X", ValueFault::BadName),
+            (b"#", ValueFault::BadName),
+            (b"", ValueFault::BadName),
+            (b"7", ValueFault::BadName),
+            (b"#-7", ValueFault::BadName),
+            (b"#7 ", ValueFault::BadName),
+        ];
+        for (text, fault) in cases {
+            assert_eq!(rt; Name::read(text), Err(fault));
+        }
+    }
+}

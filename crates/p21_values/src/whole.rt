@@ -1,0 +1,180 @@
+ghost use Rattle.std.specs.Prelude.{◌≡◌, ◌++◌, OnErr, OnOk};
+ghost use Rattle.p21_semantics.specs.Digits.{AllDigits, number};
+ghost use Rattle.p21_semantics.specs.Number.{SpellsWhole, signed};
+ghost use Rattle.p21_semantics.specs.Spelling.{whole_spelling};
+ghost use Rattle.p21_values.specs.Canonical.{Continues};
+ghost use Rattle.p21_values.specs.declared.fault.ValueFault.TheVariants.{BadNumber};
+ghost use Rattle.p21_values.specs.Fault.{Reads};
+
+use crate::canonical::Canonical;
+use crate::digits::{split_integer, without_front_zeros};
+use crate::fault::{NoMemory, ValueFault};
+use std::alloc::Global;
+use std::marker::Model;
+
+/// A whole number of any size.
+#[derive(Drop)]
+pub struct Whole {
+    negative: bool,
+    // ASCII, the first of them no zero: none for the number zero.
+    digits: Vec<u8>,
+}
+
+impl Model for Whole {
+    ghost use Rattle.std.specs.Prelude.{ℤ};
+    ghost use Rattle.p21_semantics.specs.Digits.{number};
+    ghost use Rattle.p21_semantics.specs.Number.{signed};
+    ghost use Rattle.p21_values.specs.Whole.{IsStoredWhole};
+
+    ghost Value = { ℤ };
+
+    ghost view = { λ whole. signed whole.negative (number whole.digits.items) };
+
+    ghost invariant = { λ whole. IsStoredWhole whole.negative whole.digits.items };
+}
+
+impl Whole {
+    /// Reads the bytes of one integer (ISO 10303-21, tokens: integer): a sign or none, and one digit or more.
+    ///
+    /// # Errors
+    ///
+    /// `BadNumber` where the bytes are no integer, `NoMemory`.
+    pub fn read(alloc: Global, bytes: &[u8]) -> Result<Whole, ValueFault>
+        ensures { Reads BadNumber (SpellsWhole bytes.now) result }
+    {
+        let Some((negative, digits)) = split_integer(bytes) else {
+            return Err(ValueFault::BadNumber);
+        };
+        let significant = without_front_zeros(digits);
+        Ok(Whole {
+            negative: negative && !significant.is_empty(),
+            digits: Vec::from_slice(alloc, significant)?,
+        })
+    }
+
+    // The sign, and the digits in ASCII, of which the first is no zero.
+    pub(crate) fn parts(&self) -> (bool, &[u8])
+        ensures value { signed result.0 (number result.1.now) ≡ self.now }
+        ensures digits { AllDigits result.1.now }
+    {
+        (self.negative, &self.digits)
+    }
+}
+
+impl PartialEq for Whole {
+    ghost use Rattle.std.proofs.Common.{rules};
+    ghost use Rattle.std.specs.Cmp.Rules.{comparing};
+    ghost use Rattle.std.specs.Prelude.{◌≡◌, ◌↔◌, IsTrue};
+    ghost use Rattle.std.specs.Ordering.{int_eq};
+
+    ghost eq = { int_eq };
+
+    ghost laws = { Prim.search (comparing, rules) };
+
+    fn eq(&self, other: &Whole) -> bool
+        ensures eq { result ≡ int_eq self.now other.now }
+        ensures same { IsTrue result ↔ (self.now ≡ other.now) }
+    {
+        self.negative == other.negative && self.digits == other.digits
+    }
+}
+
+impl Canonical for Whole {
+    ghost use Rattle.std.specs.Prelude.{◌≡◌};
+    ghost use Rattle.p21_semantics.specs.Number.{SpellsWhole};
+    ghost use Rattle.p21_semantics.specs.Spelling.{whole_spelling};
+    ghost use Rattle.p21_semantics.proofs.WholeSpellings.{whole_spelling_same, whole_spells};
+
+    ghost is_value = { λ _. Unit {0} };
+
+    ghost same = { λ a b. a ≡ b };
+
+    ghost spells = { SpellsWhole };
+
+    ghost spelling = { whole_spelling };
+
+    ghost same_spelling = { λ a b _ _. whole_spelling_same a b };
+
+    ghost spells_value = { λ a _. whole_spells a };
+
+    fn write_canonical(&self, out: &mut Vec<u8>) -> Result<(), NoMemory> {
+        let before = out.len();
+        let written = append(self, out);
+        if written.is_err() {
+            out.truncate(before);
+        }
+        written
+    }
+}
+
+// Appends the canonical spelling, or a part of it where memory runs out.
+fn append(whole: &Whole, out: &mut Vec<u8>) -> Result<(), NoMemory>
+    ensures ok { OnOk result (out.new.items ≡ out.old.items ++ whole_spelling whole.now) }
+    ensures err { OnErr result (Continues out.old.items out.new.items) }
+{
+    if whole.digits.is_empty() {
+        out.push(b'0')?;
+        return Ok(());
+    }
+    if whole.negative {
+        out.push(b'-')?;
+    }
+    out.extend_from_slice(&whole.digits)?;
+    Ok(())
+}
+
+#[cfg(test)]
+mod tests {
+    use super::*;
+    use crate::canonical::spelled;
+    use std::test::Fail;
+
+    fn read(rt: &HostRuntime, text: &str) -> Result<Whole, ValueFault> {
+        Whole::read(rt.alloc(), text.as_bytes())
+    }
+
+    #[test]
+    fn reads_and_spells(rt: HostRuntime) -> Result<(), Fail> {
+        let cases = [
+            ("+007", "7"),
+            ("-0", "0"),
+            ("+0", "0"),
+            ("000", "0"),
+            ("-0120", "-120"),
+            ("18446744073709551616", "18446744073709551616"),
+        ];
+        for (text, spelling) in cases {
+            let found = spelled(&rt, &read(&rt, text)?)?;
+            assert_eq!(rt; found.as_slice(), spelling.as_bytes(), "{text}");
+        }
+        Ok(())
+    }
+
+    #[test]
+    fn refuses_what_is_no_integer(rt: HostRuntime) {
+        for text in ["1.", "", "+", "-", "+-1", "1 ", " 1", "1-", "A", "1E2"] {
+            assert_eq!(rt;
+                read(&rt, text).err(),
+                Some(ValueFault::BadNumber),
+                "{text}"
+            );
+        }
+    }
+
+    #[test]
+    fn compares(rt: HostRuntime) -> Result<(), Fail> {
+        assert!(rt; read(&rt, "+012")? == read(&rt, "12")?);
+        assert!(rt; read(&rt, "-0")? == read(&rt, "0")?);
+        assert!(rt; read(&rt, "-12")? != read(&rt, "12")?);
+        assert!(rt; read(&rt, "12")? != read(&rt, "120")?);
+        Ok(())
+    }
+
+    #[test]
+    fn appends(rt: HostRuntime) -> Result<(), Fail> {
+        let mut out = Vec::from_slice(rt.alloc(), b"(")?;
+        read(&rt, "-12")?.write_canonical(&mut out)?;
+        assert_eq!(rt; out.as_slice(), b"(-12".as_slice());
+        Ok(())
+    }
+}

@@ -1,0 +1,150 @@
+ghost use Rattle.std.specs.Prelude.{◌≡◌, ◌↔◌, IsTrue};
+ghost use Rattle.p21_semantics.specs.Keyword.{IsKeyword, IsKeywordByte, IsUpper};
+ghost use Rattle.p21_values.specs.declared.fault.ValueFault.TheVariants.{BadWord};
+ghost use Rattle.p21_values.specs.Fault.{Reads};
+ghost use Rattle.p21_values.specs.Word.{SpellsWord};
+
+use crate::canonical::Canonical;
+use crate::fault::{NoMemory, ValueFault};
+use std::alloc::Global;
+use std::marker::Model;
+
+/// The characters of a keyword or of an enumeration item.
+#[derive(Drop)]
+pub struct Word {
+    bytes: Vec<u8>,
+}
+
+impl Model for Word {
+    ghost use Rattle.std.specs.Prelude.{ℕ, List};
+    ghost use Rattle.p21_semantics.specs.Keyword.{IsKeyword};
+
+    ghost Value = { List ℕ };
+
+    ghost view = { λ word. word.bytes.items };
+
+    ghost invariant = { λ word. IsKeyword word.bytes.items };
+}
+
+impl Word {
+    /// Reads the characters of a keyword (ISO 10303-21, tokens: keyword): an upper-case letter or `_`, then upper-case
+    /// letters, digits and `_`.
+    ///
+    /// # Errors
+    ///
+    /// `BadWord` where the bytes are no keyword, `NoMemory`.
+    pub fn read(alloc: Global, bytes: &[u8]) -> Result<Word, ValueFault>
+        ensures { Reads BadWord (SpellsWord bytes.now) result }
+    {
+        if !is_keyword(bytes) {
+            return Err(ValueFault::BadWord);
+        }
+        Ok(Word {
+            bytes: Vec::from_slice(alloc, bytes)?,
+        })
+    }
+
+    /// The characters, in ASCII.
+    pub fn bytes(&self) -> &[u8]
+        ensures { result.now ≡ self.now }
+    {
+        &self.bytes
+    }
+}
+
+fn is_keyword(bytes: &[u8]) -> bool
+    ensures { IsTrue result ↔ IsKeyword bytes.now }
+{
+    match bytes.split_first() {
+        Some((first, rest)) => is_upper(*first) && rest.iter().all(|byte| is_keyword_byte(*byte)),
+        None => false,
+    }
+}
+
+fn is_upper(byte: u8) -> bool
+    ensures { IsTrue result ↔ IsUpper byte }
+{
+    matches!(byte, b'A'..=b'Z' | b'_')
+}
+
+fn is_keyword_byte(byte: u8) -> bool
+    ensures { IsTrue result ↔ IsKeywordByte byte }
+{
+    matches!(byte, b'A'..=b'Z' | b'_' | b'0'..=b'9')
+}
+
+impl PartialEq for Word {
+    ghost use Rattle.std.proofs.Common.{rules};
+    ghost use Rattle.std.specs.Cmp.Rules.{comparing};
+    ghost use Rattle.std.specs.Prelude.{◌≡◌, ◌↔◌, IsTrue};
+    ghost use Rattle.std.specs.Str.{bytes_eq};
+
+    ghost eq = { bytes_eq };
+
+    ghost laws = { Prim.search (comparing, rules) };
+
+    fn eq(&self, other: &Word) -> bool
+        ensures eq { result ≡ bytes_eq self.now other.now }
+        ensures same { IsTrue result ↔ (self.now ≡ other.now) }
+    {
+        self.bytes == other.bytes
+    }
+}
+
+impl Canonical for Word {
+    ghost use Rattle.std.specs.Prelude.{◌≡◌, refl};
+    ghost use Rattle.p21_semantics.specs.Keyword.{IsKeyword};
+    ghost use Rattle.p21_values.specs.Word.{SpellsWord};
+
+    ghost is_value = { IsKeyword };
+
+    ghost same = { λ a b. a ≡ b };
+
+    ghost spells = { SpellsWord };
+
+    ghost spelling = { λ word. word };
+
+    ghost same_spelling = { λ _ _ _ _. (λ same. same, λ same. same) };
+
+    ghost spells_value = { λ _ keyword. (refl, keyword) };
+
+    fn write_canonical(&self, out: &mut Vec<u8>) -> Result<(), NoMemory> {
+        out.extend_from_slice(&self.bytes)?;
+        Ok(())
+    }
+}
+
+#[cfg(test)]
+mod tests {
+    use super::*;
+    use crate::canonical::spelled;
+    use std::test::Fail;
+
+    fn read(rt: &HostRuntime, text: &str) -> Result<Word, ValueFault> {
+        Word::read(rt.alloc(), text.as_bytes())
+    }
+
+    #[test]
+    fn reads_and_spells(rt: HostRuntime) -> Result<(), Fail> {
+        for text in ["RED", "T", "_", "A_1", "CARTESIAN_POINT"] {
+            let word = read(&rt, text)?;
+            assert_eq!(rt; word.bytes(), text.as_bytes());
+            assert_eq!(rt; spelled(&rt, &word)?.as_slice(), text.as_bytes());
+        }
+        Ok(())
+    }
+
+    #[test]
+    fn refuses_what_is_no_keyword(rt: HostRuntime) {
+        for text in ["red", "", "1A", "Red", "A-B", "A ", ".T."] {
+            assert_eq!(rt; read(&rt, text).err(), Some(ValueFault::BadWord), "{text}");
+        }
+    }
+
+    #[test]
+    fn compares(rt: HostRuntime) -> Result<(), Fail> {
+        assert!(rt; read(&rt, "RED")? == read(&rt, "RED")?);
+        assert!(rt; read(&rt, "RED")? != read(&rt, "REDS")?);
+        Ok(())
+    }
+}
