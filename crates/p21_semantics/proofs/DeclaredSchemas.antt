@@ -114,3 +114,20 @@ declared-redeclares_once tree s declares e r q (x, at, among) (y, at_, among_) s
     let number : i ≡ j = distinct-number same_place same_place-reflexive (λ z. z.place) x.redeclared x.derived entity_is.places_distinct i j r q at_i at_j same in
     let Q : ℕ → Type 0 = λ k. slice_get x.redeclared k ≡ Some q in
     let at_same : slice_get x.redeclared i ≡ Some q = subst Q (sym number) at_j in cc
+
+-- what the laws take of a schema
+pub record IsWellFormed (s : Schema) : Type 0 where
+  pub supertypes_are : AreEntities s
+  pub supertypes_end : HasNoCircle (HasSupertype s)
+  pub entities_distinct : HasDistinctEntities s
+  pub types_distinct : HasDistinctTypes s
+  pub redeclares_once : RedeclaresOnce s
+
+pub declared-well_formed : (tree : SchemaDeclaration) (s : Schema) → DeclaresSchema tree s → IsWellFormed s
+declared-well_formed tree s declares = record {
+  supertypes_are = declared-supertypes tree s declares;
+  supertypes_end = declares.supertypes_end;
+  entities_distinct = distinct_names-entities s declares.names_distinct;
+  types_distinct = distinct_names-types s declares.names_distinct;
+  redeclares_once = declared-redeclares_once tree s declares;
+}

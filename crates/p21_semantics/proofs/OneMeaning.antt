@@ -12,8 +12,6 @@ use Rattle.p21_semantics.specs.Schema.{Schema, Place, Attribute, EntityNamed, at
 use Rattle.p21_semantics.specs.Supertype.{IsA}
 use Rattle.p21_semantics.specs.Order.{order, places, own_places}
 use Rattle.p21_semantics.specs.PlaceType.{PlaceType, TypeAt}
-use Rattle.p21_semantics.specs.Declared.{HasNoCircle, HasSupertype, DeclaresSchema}
-use Rattle.p21_semantics.specs.SchemaDeclaration.{SchemaDeclaration}
 use Rattle.p21_semantics.specs.Parameter.{Key, Param, Params, no_params, param, key_of}
 use Rattle.p21_semantics.specs.Record.{Part, Record, simple, complex}
 use Rattle.p21_semantics.specs.Value.{Value, Values, no_values, value, count, value_at}
@@ -24,24 +22,7 @@ use Rattle.p21_semantics.proofs.Members.{Each-member, Contains-none, Contains-fi
 use Rattle.p21_semantics.proofs.Orders.{AreEntities, order-has}
 use Rattle.p21_semantics.proofs.PlaceTypes.{RedeclaresOnce, TypeAt-one}
 use Rattle.p21_semantics.proofs.OneValue.{HasDistinctTypes, FitsAt-one_value}
-use Rattle.p21_semantics.proofs.DeclaredSchemas.{HasDistinctEntities, declared-supertypes, distinct_names-entities, distinct_names-types, declared-redeclares_once}
-
--- what the law takes of a schema; a declared one has all of it
-pub record IsWellFormed (s : Schema) : Type 0 where
-  pub supertypes_are : AreEntities s
-  pub supertypes_end : HasNoCircle (HasSupertype s)
-  pub entities_distinct : HasDistinctEntities s
-  pub types_distinct : HasDistinctTypes s
-  pub redeclares_once : RedeclaresOnce s
-
-pub declared-well_formed : (tree : SchemaDeclaration) (s : Schema) → DeclaresSchema tree s → IsWellFormed s
-declared-well_formed tree s declares = record {
-  supertypes_are = declared-supertypes tree s declares;
-  supertypes_end = declares.supertypes_end;
-  entities_distinct = distinct_names-entities s declares.names_distinct;
-  types_distinct = distinct_names-types s declares.names_distinct;
-  redeclares_once = declared-redeclares_once tree s declares;
-}
+use Rattle.p21_semantics.proofs.DeclaredSchemas.{IsWellFormed, HasDistinctEntities}
 
 -- values are the same list where they are as many and each is the same
 Values-same : (vs ws : Values) → count vs ≡ count ws → ((i : ℕ) → i < count vs → (v : Value) × (value_at vs i ≡ Some v) × (value_at ws i ≡ Some v)) → vs ≡ ws

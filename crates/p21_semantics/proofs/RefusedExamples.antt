@@ -5,14 +5,16 @@ use Rattle.std.specs.Str.{bytes_eq}
 use Rattle.std.proofs.Common.{arith, inl, inr, ap, sym, subst, ◌∙◌}
 use Rattle.p21_semantics.specs.WrittenType.{WrittenType, real_type, named_type, list_type, bounded}
 use Rattle.p21_semantics.specs.EntityDeclaration.{EntityDeclaration, redeclared, no_constraint}
-use Rattle.p21_semantics.specs.Schema.{Schema, Entity, Defined, Place, Attribute, TypeUse, EntityNamed, PlaceNamed, attributes_of}
+use Rattle.p21_semantics.specs.Schema.{Schema, Entity, Defined, Kind, TypeNamed, Place, Attribute, TypeUse, EntityNamed, PlaceNamed, attributes_of}
 use Rattle.p21_semantics.specs.DeclaredType.{TypeIs, is_entity, is_defined, is_list}
 use Rattle.p21_semantics.specs.DeclaredEntity.{EntityIs, AttributeIs, DerivedAre, a_place, no_place, own_explicit, names_of, own_names, derived_names}
-use Rattle.p21_semantics.specs.DefinedType.{DefinedIs}
+use Rattle.p21_semantics.specs.DefinedType.{DefinedIs, KindIs, is_alias}
+use Rattle.p21_semantics.specs.Select.{IsSelect}
+use Rattle.p21_semantics.specs.TypeDeclaration.{underlying}
 use Rattle.p21_semantics.specs.Declared.{HasSupertype, DeclaresSchema}
 use Rattle.p21_semantics.specs.SchemaDeclaration.{SchemaDeclaration, entities_of}
 use Rattle.p21_semantics.proofs.Members.{Contains-none, Contains-first, AllZip-member, AllZip-second_member}
-use Rattle.p21_semantics.proofs.DeclaredSchemas.{declared-entity, declared-found, distinct_names-entities}
+use Rattle.p21_semantics.proofs.DeclaredSchemas.{declared-entity, declared-found, names_of_all, distinct_names-entities, distinct_names-types}
 use Rattle.p21_semantics.proofs.DeclaredExamples.{entity_named, attribute_named, schema_of}
 
 -- `ENTITY a; END_ENTITY; ENTITY a; END_ENTITY;`: two entities of one name
@@ -121,3 +123,8 @@ no_place-declares_nothing s declares =
     refuted found (a_place _ _ place _ _ (sup, proper, inl own) more) = unnamed place (codes "Z") own.1
     refuted found (a_place _ _ place _ _ (sup, proper, inr (none, of_sup, only)) more) = unnamed place (codes "Z") of_sup.1
     refuted found (no_place _ _ sup _ _ proper none (f, d, is_a, at, among) more) = underived f d (codes "Z") at among
+
+-- a TYPE that is just the name of a select declares nothing
+pub renamed_select-declares_nothing : (s : Schema) → IsDistinct bytes_eq (names_of_all s) → (t : ℕ) (name : List ℕ) (kind : Kind) → TypeNamed s t name → IsSelect s t → KindIs s (underlying (named_type name)) kind → ⊥
+renamed_select-declares_nothing s distinct t name kind named select (is_alias _ type (is_entity _ e of_e) shallow may) = may
+renamed_select-declares_nothing s distinct t name kind named select (is_alias _ type (is_defined _ u of_u) shallow may) = let P : ℕ → Type 0 = λ v. IsSelect s v in may (subst P (distinct_names-types s distinct t u name named of_u) select)

@@ -9,9 +9,11 @@ use Rattle.p21_semantics.specs.Supertype.{IsA}
 use Rattle.p21_semantics.specs.DeclaredType.{TypeIs, deepest_nesting}
 use Rattle.p21_semantics.specs.Redeclaration.{IsProperSupertype, RedeclaresPlace, HasNoPlace}
 
+-- the two are one place
 abbrev pub same_place : Place → Place → Bool
 same_place p q = nat_eq p.entity q.entity && nat_eq p.index q.index
 
+-- ABSTRACT stands there
 abbrev pub is_abstract_by : SupertypeConstraint → Bool
 is_abstract_by no_constraint = false
 is_abstract_by abstract_entity = true
@@ -24,6 +26,7 @@ abbrev pub names_of : Option (List (List ℕ)) → List (List ℕ)
 names_of None = []
 names_of (Some names) = names
 
+-- the attributes of a DERIVE clause, if there is one
 abbrev pub derived_names : Option (List DerivedAttribute) → List AttributeName
 derived_names None = []
 derived_names (Some derived) = map (λ x. x.name) derived
@@ -48,9 +51,11 @@ own_explicit explicit = flat_map (λ x. map (λ name. (name, x.optional, x.type)
 abbrev pub redeclared_explicit : List ExplicitAttributes → List ((List ℕ × List ℕ) × Bool × WrittenType)
 redeclared_explicit explicit = flat_map (λ x. map (λ name. (name, x.optional, x.type)) (redeclared_names x.names)) explicit
 
+-- a new attribute as it is written
 abbrev pub AttributeIs : Schema → List ℕ × Bool × WrittenType → Attribute → Type 0
 AttributeIs s written a = (a.name ≡ written.0) × (a.optional ≡ written.1) × TypeIs s written.2 a.type
 
+-- an explicit redeclaration as it is written
 abbrev pub RedeclaredIs : Schema → ℕ → (List ℕ × List ℕ) × Bool × WrittenType → Redeclared → Type 0
 RedeclaredIs s e written r = RedeclaresPlace s e written.0.0 written.0.1 r.place × (r.optional ≡ written.1) × TypeIs s written.2 r.type
 
@@ -58,7 +63,8 @@ RedeclaredIs s e written r = RedeclaresPlace s e written.0.0 written.0.1 r.place
 abbrev pub DerivesName : Schema → List EntityDeclaration → ℕ → List ℕ → Type 0
 DerivesName s declarations e name = (f : ℕ) × (x : EntityDeclaration) × IsA s e f × (slice_get declarations f ≡ Some x) × Contains (own_names (derived_names x.derive)) name
 
--- The places that the redeclarations of a DERIVE stand for. One stands for none where its supertype has no place of that name, but derives an attribute of that name or has one that a supertype derives
+-- The places that the redeclarations of a DERIVE clause stand for. One stands for none where its supertype has no place
+-- of that name, but it or a supertype of it derives an attribute of that name
 pub data DerivedAre (s : Schema) (declarations : List EntityDeclaration) (e : ℕ) : List (List ℕ × List ℕ) → List Place → Type 0 where
   no_more : DerivedAre s declarations e [] []
   a_place : (supertype name : List ℕ) (place : Place) (names : List (List ℕ × List ℕ)) (found : List Place) → RedeclaresPlace s e supertype name place → DerivedAre s declarations e names found
@@ -66,7 +72,8 @@ pub data DerivedAre (s : Schema) (declarations : List EntityDeclaration) (e : �
   no_place : (supertype name : List ℕ) (sup : ℕ) (names : List (List ℕ × List ℕ)) (found : List Place) → IsProperSupertype s e sup supertype → HasNoPlace s sup name → DerivesName s declarations sup name
       → DerivedAre s declarations e names found → DerivedAre s declarations e ((supertype, name) ∷ names) found
 
--- The declaration at this number among the entity declarations declares this entity. No supertype is listed twice, no attribute declared twice, no place redeclared twice
+-- The declaration of this number declares this entity. No supertype is listed twice, no attribute is declared twice, and
+-- no place is redeclared twice
 pub record EntityIs (s : Schema) (declarations : List EntityDeclaration) (e : ℕ) (x : EntityDeclaration) (found : Entity) : Type 0 where
   pub name_is : found.name ≡ x.name
   pub abstract_is : found.is_abstract ≡ is_abstract_by x.constraint

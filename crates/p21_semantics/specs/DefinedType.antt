@@ -9,6 +9,7 @@ use Rattle.p21_semantics.specs.Schema.{Schema, TypeUse, Member, entity_member, t
 use Rattle.p21_semantics.specs.Select.{IsSelect}
 use Rattle.p21_semantics.specs.DeclaredType.{TypeIs, deepest_nesting}
 
+-- the member has this name
 abbrev pub MemberNamed : Schema → Member → List ℕ → Type 0
 MemberNamed s (entity_member e) name = EntityNamed s e name
 MemberNamed s (type_member t) name = TypeNamed s t name

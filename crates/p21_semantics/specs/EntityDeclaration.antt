@@ -35,6 +35,7 @@ pub record Rules : Type 0 where
   pub first : List ℕ
   pub run : List Lexeme
 
+-- an entity declaration: its supertypes if it has a SUBTYPE clause, its derived attributes if it has a DERIVE clause
 pub record EntityDeclaration : Type 0 where
   pub name : List ℕ
   pub constraint : SupertypeConstraint
@@ -49,22 +50,28 @@ separated lexemes [] = []
 separated lexemes (x ∷ []) = lexemes x
 separated lexemes (x ∷ y ∷ xs) = lexemes x ++ symbols (codes ",") ++ separated lexemes (y ∷ xs)
 
+-- `(` name {`,` name} `)`
 abbrev pub names_lexemes : List (List ℕ) → List Lexeme
 names_lexemes names = symbols (codes "(") ++ separated word names ++ symbols (codes ")")
 
+-- name, or SELF `\` entity `.` name
 abbrev pub attribute_lexemes : AttributeName → List Lexeme
 attribute_lexemes (own name) = word name
 attribute_lexemes (redeclared entity name) = word (codes "SELF") ++ symbols (codes "\\") ++ word entity ++ symbols (codes ".") ++ word name
 
+-- attribute {`,` attribute} `:` [OPTIONAL] type `;`
 abbrev pub explicit_lexemes : ExplicitAttributes → List Lexeme
 explicit_lexemes x = separated attribute_lexemes x.names ++ symbols (codes ":") ++ optional_word x.optional (codes "OPTIONAL") ++ type_lexemes x.type ++ symbols (codes ";")
 
+-- attribute `:` run `;`
 abbrev pub derived_lexemes : DerivedAttribute → List Lexeme
 derived_lexemes x = attribute_lexemes x.name ++ symbols (codes ":") ++ x.run ++ symbols (codes ";")
 
+-- SUPERTYPE OF `(` run `)`
 abbrev pub supertype_of_lexemes : List Lexeme → List Lexeme
 supertype_of_lexemes run = word (codes "SUPERTYPE") ++ word (codes "OF") ++ symbols (codes "(") ++ run ++ symbols (codes ")")
 
+-- nothing, ABSTRACT, or ABSTRACT or not and SUPERTYPE, with OF and a run or without
 abbrev pub constraint_lexemes : SupertypeConstraint → List Lexeme
 constraint_lexemes no_constraint = []
 constraint_lexemes abstract_entity = word (codes "ABSTRACT")
@@ -72,23 +79,28 @@ constraint_lexemes abstract_supertype = word (codes "ABSTRACT") ++ word (codes "
 constraint_lexemes (abstract_supertype_of run) = word (codes "ABSTRACT") ++ supertype_of_lexemes run
 constraint_lexemes (supertype_of run) = supertype_of_lexemes run
 
+-- SUBTYPE OF names, or nothing
 abbrev pub subtype_lexemes : Option (List (List ℕ)) → List Lexeme
 subtype_lexemes None = []
 subtype_lexemes (Some names) = word (codes "SUBTYPE") ++ word (codes "OF") ++ names_lexemes names
 
+-- DERIVE {derived attribute}, or nothing
 abbrev pub derive_lexemes : Option (List DerivedAttribute) → List Lexeme
 derive_lexemes None = []
 derive_lexemes (Some derived) = word (codes "DERIVE") ++ flat_map derived_lexemes derived
 
+-- INVERSE, UNIQUE or WHERE and a run, or nothing
 abbrev pub rules_lexemes : Option Rules → List Lexeme
 rules_lexemes None = []
 rules_lexemes (Some rules) = word rules.first ++ rules.run
 
+-- ENTITY name [constraint] [SUBTYPE OF names] `;` {explicit attributes} [DERIVE ..] [rules] END_ENTITY `;`
 abbrev pub entity_lexemes : EntityDeclaration → List Lexeme
 entity_lexemes x =
     word (codes "ENTITY") ++ word x.name ++ constraint_lexemes x.constraint ++ subtype_lexemes x.subtype_of ++ symbols (codes ";") ++ flat_map explicit_lexemes x.explicit
     ++ derive_lexemes x.derive ++ rules_lexemes x.rules ++ word (codes "END_ENTITY") ++ symbols (codes ";")
 
+-- what is named is a name
 abbrev pub IsAttributeName : AttributeName → Type 0
 IsAttributeName (own name) = IsName name
 IsAttributeName (redeclared entity name) = IsName entity × IsName name

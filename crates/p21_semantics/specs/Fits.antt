@@ -24,9 +24,11 @@ IsBounded low high n = (low ≤ n) × IfSome high (λ most. n ≤ most)
 abbrev pub OnlyIf : Bool → Type 0 → Type 0
 OnlyIf wanted fact = wanted ≡ true → fact
 
+-- `.T.` and `.F.`
 abbrev pub boolean_items : List (List ℕ)
 boolean_items = codes "T" ∷ codes "F" ∷ []
 
+-- `.T.`, `.F.` and `.U.`
 abbrev pub logical_items : List (List ℕ)
 logical_items = codes "T" ∷ codes "F" ∷ codes "U" ∷ []
 

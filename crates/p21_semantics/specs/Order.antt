@@ -1,4 +1,5 @@
--- The order in which the attributes of an entity and of its supertypes stand in an instance (ISO 10303-21, Entity instances with supertypes: internal mapping).
+-- The order of an entity and its supertypes, and of their attributes, in an instance (ISO 10303-21, Mapping of EXPRESS
+-- entity data types: internal mapping).
 use Rattle.std.specs.Prelude.{ℕ, zero, suc, List, [], ◌∷◌, ◌++◌, length, map, filter, not, nat_eq}
 use Rattle.std.specs.List.{flat_map, enumerate_from}
 use Rattle.p21_semantics.specs.Schema.{Schema, Place, attributes_of}

@@ -29,7 +29,8 @@ IsRedeclared s entities place = (e : ℕ) × (r : Redeclared) × IsRedeclaredIn 
 abbrev pub Decides : Schema → List ℕ → Place → Redeclared → Type 0
 Decides s entities place r = (e : ℕ) × IsRedeclaredIn s entities place e r × ((f : ℕ) (other : Redeclared) → IsRedeclaredIn s entities place f other → IsA s e f)
 
--- the type at a place of an instance with this set: derived if an entity of the set derives it, else the redeclaration that decides, else the declaration
+-- the type at a place of an instance with this set: derived if an entity of the set derives it, else the redeclaration
+-- that decides, else the declaration
 abbrev pub TypeAt : Schema → List ℕ → Place → PlaceType → Type 0
 TypeAt s entities place derived_place = IsDerivedIn s entities place
 TypeAt s entities place (stored_place optional type) =

@@ -1,4 +1,5 @@
--- References to entity instances, and the instances that may stand where one is wanted (ISO 10303-21, Mapping of EXPRESS data types: entity instance names, select).
+-- References to entity instances, and the instances that may stand where one is wanted (ISO 10303-21, Mapping of EXPRESS
+-- data types: entity, select).
 use Rattle.std.specs.Prelude.{ℕ, List, [], ◌∷◌, ◌++◌, Contains}
 use Rattle.std.specs.List.{flat_map}
 use Rattle.p21_semantics.specs.Schema.{Schema, Member, entity_member, type_member}

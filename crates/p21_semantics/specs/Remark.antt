@@ -8,6 +8,7 @@ pub data Mark : Type 0 where
   closing_mark : Mark
   remark_byte : ℕ → Mark
 
+-- `(*`, `*)` or the byte
 abbrev pub mark_bytes : Mark → List ℕ
 mark_bytes opening_mark = 40 ∷ 42 ∷ []
 mark_bytes closing_mark = 42 ∷ 41 ∷ []
@@ -45,11 +46,13 @@ IsSeparator (blank byte) = (byte ≤ 32) ⊎ (byte ≡ 127)
 IsSeparator (embedded_remark marks) = AreMarks marks × ClosesLast zero marks
 IsSeparator (tail_remark line) = Each (λ byte. byte ≢ 10) line
 
+-- the bytes of a separator
 abbrev pub separator_bytes : Separator → List ℕ
 separator_bytes (blank byte) = byte ∷ []
 separator_bytes (embedded_remark marks) = 40 ∷ 42 ∷ flat_map mark_bytes marks
 separator_bytes (tail_remark line) = 45 ∷ 45 ∷ line ++ 10 ∷ []
 
+-- blanks and remarks in turn, possibly none
 abbrev pub IsSeparatorText : List ℕ → Type 0
 IsSeparatorText bytes = (separators : List Separator) × Each IsSeparator separators × (bytes ≡ flat_map separator_bytes separators)
 

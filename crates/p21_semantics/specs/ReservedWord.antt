@@ -2,6 +2,7 @@
 use Rattle.std.specs.Prelude.{ℕ, List, [], ◌∷◌, ◌<◌, length, codes, Contains}
 use Rattle.std.specs.List.{AllByRecursion as Each}
 
+-- in upper case
 abbrev pub reserved_words : List (List ℕ)
 reserved_words =
     codes "SCHEMA" ∷ codes "END_SCHEMA" ∷ codes "ENTITY" ∷ codes "END_ENTITY" ∷ codes "ABSTRACT" ∷ codes "SUPERTYPE" ∷ codes "SUBTYPE" ∷ codes "OF" ∷ codes "DERIVE" ∷ codes "INVERSE"

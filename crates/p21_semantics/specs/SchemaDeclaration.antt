@@ -15,6 +15,7 @@ pub record ReadOver : Type 0 where
   pub nests : Bool
   pub run : List Lexeme
 
+-- an entity, a type, or what is read over
 pub data Declaration : Type 0 where
   entity : EntityDeclaration → Declaration
   defined : TypeDeclaration → Declaration
@@ -26,18 +27,22 @@ pub record SchemaDeclaration : Type 0 where
   pub version : Option (List ℕ)
   pub declarations : List Declaration
 
+-- first run last `;`
 abbrev pub read_over_lexemes : ReadOver → List Lexeme
 read_over_lexemes x = word x.first ++ x.run ++ word x.last ++ symbols (codes ";")
 
+-- the lexemes of a declaration
 abbrev pub declaration_lexemes : Declaration → List Lexeme
 declaration_lexemes (entity x) = entity_lexemes x
 declaration_lexemes (defined x) = type_declaration_lexemes x
 declaration_lexemes (read_over x) = read_over_lexemes x
 
+-- a simple string literal, or nothing
 abbrev pub version_lexemes : Option (List ℕ) → List Lexeme
 version_lexemes None = []
 version_lexemes (Some version) = simple_string version ∷ []
 
+-- SCHEMA name [version] `;` {declaration} END_SCHEMA `;`
 abbrev pub schema_lexemes : SchemaDeclaration → List Lexeme
 schema_lexemes x = word (codes "SCHEMA") ++ word x.name ++ version_lexemes x.version ++ symbols (codes ";") ++ flat_map declaration_lexemes x.declarations ++ word (codes "END_SCHEMA") ++ symbols (codes ";")
 
@@ -47,9 +52,11 @@ read_over_words =
     (codes "FUNCTION", codes "END_FUNCTION", true) ∷ (codes "PROCEDURE", codes "END_PROCEDURE", true) ∷ (codes "RULE", codes "END_RULE", false)
     ∷ (codes "CONSTANT", codes "END_CONSTANT", false) ∷ (codes "SUBTYPE_CONSTRAINT", codes "END_SUBTYPE_CONSTRAINT", false) ∷ []
 
+-- the run ends at the last word, where that closes what the first one opens
 abbrev pub IsReadOver : ReadOver → Type 0
 IsReadOver x = Contains read_over_words (x.first, x.last, x.nests) × IsRun (λ lexeme. x.nests && is_word x.first lexeme) (is_word x.last) x.run
 
+-- a declaration of the grammar
 abbrev pub IsDeclaration : Declaration → Type 0
 IsDeclaration (entity x) = IsEntityDeclaration x
 IsDeclaration (defined x) = IsTypeDeclaration x

@@ -2,6 +2,7 @@
 use Rattle.std.specs.Prelude.{◌≡◌, ℕ, List, Some, Contains}
 use Rattle.p21_semantics.specs.Schema.{Schema, Member, entity_member, type_member, choice, kind_of}
 
+-- the type of this number is a select
 abbrev pub IsSelect : Schema → ℕ → Type 0
 IsSelect s t = (members : List Member) × (kind_of s t ≡ Some (choice members))
 

@@ -18,19 +18,23 @@ pub record TypeDeclaration : Type 0 where
   pub body : Body
   pub rules : Option (List Lexeme)
 
+-- ENUMERATION OF names, SELECT names, or a type
 abbrev pub body_lexemes : Body → List Lexeme
 body_lexemes (enumeration names) = word (codes "ENUMERATION") ++ word (codes "OF") ++ names_lexemes names
 body_lexemes (select names) = word (codes "SELECT") ++ names_lexemes names
 body_lexemes (underlying type) = type_lexemes type
 
+-- WHERE run, or nothing
 abbrev pub where_lexemes : Option (List Lexeme) → List Lexeme
 where_lexemes None = []
 where_lexemes (Some run) = word (codes "WHERE") ++ run
 
+-- TYPE name `=` body `;` [WHERE run] END_TYPE `;`
 abbrev pub type_declaration_lexemes : TypeDeclaration → List Lexeme
 type_declaration_lexemes x =
     word (codes "TYPE") ++ word x.name ++ symbols (codes "=") ++ body_lexemes x.body ++ symbols (codes ";") ++ where_lexemes x.rules ++ word (codes "END_TYPE") ++ symbols (codes ";")
 
+-- one name or more, or a type
 abbrev pub IsBody : Body → Type 0
 IsBody (enumeration names) = AreNames names
 IsBody (select names) = AreNames names

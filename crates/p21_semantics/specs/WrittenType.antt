@@ -13,6 +13,7 @@ pub data UpperBound : Type 0 where
   bounded : List ℕ → UpperBound
   unbounded : UpperBound
 
+-- `[` low `:` high `]`
 pub record Bounds : Type 0 where
   pub low : List ℕ
   pub high : UpperBound
@@ -36,6 +37,7 @@ pub data WrittenType : Type 0 where
 abbrev pub word : List ℕ → List Lexeme
 word name = identifier name ∷ []
 
+-- each byte as a symbol
 abbrev pub symbols : List ℕ → List Lexeme
 symbols bytes = map symbol bytes
 
@@ -44,22 +46,27 @@ abbrev pub optional_word : Bool → List ℕ → List Lexeme
 optional_word true name = word name
 optional_word false name = []
 
+-- `(` digits `)`, or nothing
 abbrev pub precision_lexemes : Option (List ℕ) → List Lexeme
 precision_lexemes None = []
 precision_lexemes (Some precision) = symbols (codes "(") ++ digits precision ∷ symbols (codes ")")
 
+-- `(` digits `)` and FIXED or not, or nothing
 abbrev pub width_lexemes : Option Width → List Lexeme
 width_lexemes None = []
 width_lexemes (Some width) = symbols (codes "(") ++ digits width.most ∷ symbols (codes ")") ++ optional_word width.fixed (codes "FIXED")
 
+-- digits or `?`
 abbrev pub upper_bound_lexemes : UpperBound → List Lexeme
 upper_bound_lexemes (bounded high) = digits high ∷ []
 upper_bound_lexemes unbounded = symbols (codes "?")
 
+-- `[` low `:` high `]`, or nothing
 abbrev pub bounds_lexemes : Option Bounds → List Lexeme
 bounds_lexemes None = []
 bounds_lexemes (Some bounds) = symbols (codes "[") ++ digits bounds.low ∷ symbols (codes ":") ++ upper_bound_lexemes bounds.high ++ symbols (codes "]")
 
+-- the lexemes of a type
 abbrev pub type_lexemes : WrittenType → List Lexeme
 type_lexemes integer_type = word (codes "INTEGER")
 type_lexemes (real_type precision) = word (codes "REAL") ++ precision_lexemes precision
