@@ -4,6 +4,7 @@ use Rattle.std.specs.List.{list_any, IsDistinct, AllZip, AllByRecursion as Each}
 use Rattle.std.specs.Str.{bytes_eq}
 use Rattle.std.proofs.Common.{arith, rules, inl, inr, ap, sym, subst, ◌∙◌}
 use Rattle.std.proofs.lemmas.Bool.{cases_lt, or_parts}
+use Rattle.p21_semantics.proofs.Members.{Contains-no_word}
 use Rattle.p21_semantics.specs.Express.{Lexeme, identifier, symbol, IsIdentifierByte, upper}
 use Rattle.p21_semantics.specs.Remark.{Separator, blank, IsSeparatorText, IsSeparator}
 use Rattle.p21_semantics.specs.ExpressLaying.{LexemeIsFollowed, LaidLexemes}
@@ -16,12 +17,6 @@ use Rattle.p21_semantics.specs.Schema.{Schema, Entity, TypeUse, EntityNamed, Att
 use Rattle.p21_semantics.specs.DeclaredType.{is_real}
 use Rattle.p21_semantics.specs.DeclaredEntity.{EntityIs, no_more}
 use Rattle.p21_semantics.specs.Declared.{HasSupertype, Renames, HasSelect, DeclaresSchema, Declares}
-
--- a word that is found in no list of words is none of them
-no_word : (x : List ℕ) (xs : List (List ℕ)) → bytes_eq x x ≡ true → list_any (bytes_eq x) xs ≡ false → Contains xs x → ⊥
-no_word x [] same none (k, below, is) = omega (arith, below)
-no_word x (y ∷ ys) same none (zero, below, is) = let h : true ≡ false = sym same ∙ ap (λ z. bytes_eq x z) (sym is) ∙ (or_parts (bytes_eq x y) (list_any (bytes_eq x) ys) none).0 in cc
-no_word x (y ∷ ys) same none (suc k, below, is) = no_word x ys same (or_parts (bytes_eq x y) (list_any (bytes_eq x) ys) none).1 (k, omega (arith, below), is)
 
 -- a capital letter or `_`
 abbrev IsCapital : ℕ → Type 0
@@ -90,8 +85,8 @@ small-laid =
 
 small-in_grammar : IsSchemaDeclaration small
 small-in_grammar = record {
-  name_is = no_word (codes "S") reserved_words refl refl;
-  declarations_are = (record { name_is = no_word (codes "A") reserved_words refl refl; constraint_is = tt; supertypes_are = tt; explicit_are = ((omega arith, (no_word (codes "X") reserved_words refl refl, tt), tt), tt); derived_are = tt; rules_are = tt }, tt);
+  name_is = Contains-no_word (codes "S") reserved_words refl refl;
+  declarations_are = (record { name_is = Contains-no_word (codes "A") reserved_words refl refl; constraint_is = tt; supertypes_are = tt; explicit_are = ((omega arith, (Contains-no_word (codes "X") reserved_words refl refl, tt), tt), tt); derived_are = tt; rules_are = tt }, tt);
 }
 
 -- the text declares the schema

@@ -104,16 +104,21 @@ pub distinct_names-types : (s : Schema) → IsDistinct bytes_eq (names_of_all s)
 distinct_names-types s distinct t u name (x, at_t, x_named) (y, at_u, y_named) =
     distinct-number bytes_eq bytes_eq-reflexive (λ z. z.name) s.types [] (IsDistinct-unpadded bytes_eq (map (λ z. z.name) s.types) (IsDistinct-back bytes_eq (map (λ z. z.name) s.entities) (map (λ z. z.name) s.types) distinct)) t u x y at_t at_u (x_named ∙ sym y_named)
 
+-- where all f of the front differ, two members of the same f are one
+distinct-member : {X Y : Type 0} (eq : Y → Y → Bool) → ((y : Y) → eq y y ≡ true) → (f : X → Y) (xs : List X) (ys : List Y) (x z : X) → IsDistinct eq (map f xs ++ ys) → Contains xs x → Contains xs z → f x ≡ f z → x ≡ z
+distinct-member {X} eq reflexive f xs ys x z distinct among among_ same =
+    let (i, at) = Contains-at xs x among in
+    let (j, at_) = Contains-at xs z among_ in
+    let number : i ≡ j = distinct-number eq reflexive f xs ys distinct i j x z at at_ same in
+    let P : ℕ → Type 0 = λ k. slice_get xs k ≡ Some z in
+    let at_same : slice_get xs i ≡ Some z = subst P (sym number) at_ in cc
+
 pub declared-redeclares_once : (tree : SchemaDeclaration) (s : Schema) → DeclaresSchema tree s → RedeclaresOnce s
 declared-redeclares_once tree s declares e r q (x, at, among) (y, at_, among_) same =
     let one : y ≡ x = (let h : Some y ≡ Some x = sym at_ ∙ at in cc) in
     let P : Entity → Type 0 = λ z. Contains z.redeclared q in
     let (d, at_d, entity_is) = declared-entity tree s declares e x at in
-    let (i, at_i) = Contains-at x.redeclared r among in
-    let (j, at_j) = Contains-at x.redeclared q (subst P one among_) in
-    let number : i ≡ j = distinct-number same_place same_place-reflexive (λ z. z.place) x.redeclared x.derived entity_is.places_distinct i j r q at_i at_j same in
-    let Q : ℕ → Type 0 = λ k. slice_get x.redeclared k ≡ Some q in
-    let at_same : slice_get x.redeclared i ≡ Some q = subst Q (sym number) at_j in cc
+    distinct-member same_place same_place-reflexive (λ z. z.place) x.redeclared x.derived r q entity_is.places_distinct among (subst P one among_) same
 
 -- what the laws take of a schema
 pub record IsWellFormed (s : Schema) : Type 0 where

@@ -1,6 +1,8 @@
 -- The members of lists.
 use Rattle.std.specs.Prelude.{◌≡◌, ℕ, zero, suc, ◌+◌, ◌<◌, List, [], ◌∷◌, ◌++◌, length, map, filter, slice_get, Some, Contains, refl, ◌⊎◌, Bool, true, false, cond}
-use Rattle.std.specs.List.{flat_map, zip, AllZip, enumerate_from, AllByRecursion as Each}
+use Rattle.std.specs.Str.{bytes_eq}
+use Rattle.std.proofs.lemmas.Bool.{or_parts}
+use Rattle.std.specs.List.{list_any, flat_map, zip, AllZip, enumerate_from, AllByRecursion as Each}
 use Rattle.std.proofs.Common.{arith, subst, ap, sym, ◌∙◌, inl, inr}
 use Rattle.std.proofs.lemmas.List.Elements.{Contains-append_left, Contains-append_right, Contains-append_cases}
 
@@ -129,3 +131,9 @@ AllZip-numbered_first R n (z ∷ zs) (y ∷ ys) (suc k) x all is =
     let more : n + 1 + k ≡ n + suc k = omega arith in
     let P : ℕ → Type 0 = λ m. R m x found in
     (found, at, subst P more holds)
+
+-- a word that a test finds in no list of words is none of them
+pub Contains-no_word : (x : List ℕ) (xs : List (List ℕ)) → bytes_eq x x ≡ true → list_any (bytes_eq x) xs ≡ false → Contains xs x → ⊥
+Contains-no_word x [] same none (k, below, is) = omega (arith, below)
+Contains-no_word x (y ∷ ys) same none (zero, below, is) = let h : true ≡ false = sym same ∙ ap (λ z. bytes_eq x z) (sym is) ∙ (or_parts (bytes_eq x y) (list_any (bytes_eq x) ys) none).0 in cc
+Contains-no_word x (y ∷ ys) same none (suc k, below, is) = Contains-no_word x ys same (or_parts (bytes_eq x y) (list_any (bytes_eq x) ys) none).1 (k, omega (arith, below), is)

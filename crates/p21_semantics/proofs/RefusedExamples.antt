@@ -8,9 +8,10 @@ use Rattle.p21_semantics.specs.EntityDeclaration.{EntityDeclaration, redeclared,
 use Rattle.p21_semantics.specs.Schema.{Schema, Entity, Defined, Kind, TypeNamed, Place, Attribute, TypeUse, EntityNamed, PlaceNamed, attributes_of}
 use Rattle.p21_semantics.specs.DeclaredType.{TypeIs, is_entity, is_defined, is_list}
 use Rattle.p21_semantics.specs.DeclaredEntity.{EntityIs, AttributeIs, DerivedAre, a_place, no_place, own_explicit, names_of, own_names, derived_names}
-use Rattle.p21_semantics.specs.DefinedType.{DefinedIs, KindIs, is_alias}
+use Rattle.p21_semantics.specs.DefinedType.{DefinedIs, KindIs, is_alias, is_items}
 use Rattle.p21_semantics.specs.Select.{IsSelect}
-use Rattle.p21_semantics.specs.TypeDeclaration.{underlying}
+use Rattle.p21_semantics.specs.TypeDeclaration.{underlying, enumeration}
+use Rattle.p21_semantics.specs.ReservedWord.{IsName}
 use Rattle.p21_semantics.specs.Declared.{HasSupertype, DeclaresSchema}
 use Rattle.p21_semantics.specs.SchemaDeclaration.{SchemaDeclaration, entities_of}
 use Rattle.p21_semantics.proofs.Members.{Contains-none, Contains-first, AllZip-member, AllZip-second_member}
@@ -128,3 +129,12 @@ no_place-declares_nothing s declares =
 pub renamed_select-declares_nothing : (s : Schema) → IsDistinct bytes_eq (names_of_all s) → (t : ℕ) (name : List ℕ) (kind : Kind) → TypeNamed s t name → IsSelect s t → KindIs s (underlying (named_type name)) kind → ⊥
 renamed_select-declares_nothing s distinct t name kind named select (is_alias _ type (is_entity _ e of_e) shallow may) = may
 renamed_select-declares_nothing s distinct t name kind named select (is_alias _ type (is_defined _ u of_u) shallow may) = let P : ℕ → Type 0 = λ v. IsSelect s v in may (subst P (distinct_names-types s distinct t u name named of_u) select)
+
+-- an enumeration with one item twice declares nothing
+pub repeated_item-declares_nothing : (s : Schema) (kind : Kind) → KindIs s (enumeration (codes "RED" ∷ codes "RED" ∷ [])) kind → ⊥
+unfolding IsDistinct
+repeated_item-declares_nothing s kind (is_items _ distinct) = let h : true ≡ false = distinct.0.0 in cc
+
+-- `USE` is no name
+pub use-is_no_name : IsName (codes "USE") → ⊥
+use-is_no_name is_name = is_name (36, omega arith, refl)

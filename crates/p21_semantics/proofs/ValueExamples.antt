@@ -7,11 +7,12 @@ use Rattle.p21_semantics.specs.Parameter.{Param, no_params, param, key_of}
 use Rattle.p21_semantics.specs.Schema as schema
 use Rattle.p21_semantics.specs.Schema.{Schema, Member, entity_member, type_member, alias, TypeNamed, choice}
 use Rattle.p21_semantics.specs.Select.{IsNoSelect, Offers, offered, offered_within}
-use Rattle.p21_semantics.specs.Value.{Value, whole, number, reference, missing, array, bag, typed, no_values, value}
+use Rattle.p21_semantics.specs.Value.{Value, whole, number, item, reference, missing, array, bag, typed, no_values, value}
 use Rattle.p21_semantics.specs.SameValue.{Same, same_references, same_bags, here, paired, both_empty, without_first, without_later}
 use Rattle.p21_semantics.specs.Reference.{Kinds}
-use Rattle.p21_semantics.specs.Fits.{Fits, a_whole, a_whole_number, an_instance, as_underlying, a_chosen_type, an_array, a_set, none_left, fits_next, empty_next}
+use Rattle.p21_semantics.specs.Fits.{Fits, boolean_items, a_whole, a_whole_number, a_boolean, a_logical, a_text, an_instance, as_underlying, a_chosen_type, an_array, a_set, none_left, fits_next, empty_next}
 use Rattle.p21_semantics.proofs.DeclaredSchemas.{distinct_names-types}
+use Rattle.p21_semantics.proofs.Members.{Each-member, Contains-no_word}
 use Rattle.p21_semantics.proofs.MeaningExamples.{demo-distinct}
 use Rattle.p21_semantics.proofs.Sameness.{Same-reflexive}
 use Rattle.p21_semantics.proofs.TestSchemas.{demo}
@@ -26,6 +27,31 @@ two = record { significand = pos 2; exponent = pos 0 }
 
 pub two-fits_number : (s : Schema) (kinds : Kinds) → IsReduced two → IsInRange (ratio_of two) → Fits s kinds schema.number (parameter.whole (pos 2)) (number two)
 two-fits_number s kinds reduced range = a_whole_number (pos 2) two reduced range refl
+
+-- `'abcd'` is no STRING(3)
+pub long-fits_no_width : (s : Schema) (kinds : Kinds) (v : Value) → Fits s kinds (schema.text (Some (record { most = 3; fixed = false }))) (parameter.text (codes "abcd")) v → ⊥
+long-fits_no_width s kinds v (a_text _ _ within) = omega (arith, within.0)
+
+-- `'x'` is no STRING(2) FIXED
+pub short-fits_no_fixed : (s : Schema) (kinds : Kinds) (v : Value) → Fits s kinds (schema.text (Some (record { most = 2; fixed = true }))) (parameter.text (codes "x")) v → ⊥
+short-fits_no_fixed s kinds v (a_text _ _ within) = omega (arith, within.1 refl)
+
+-- `.U.` is a LOGICAL and no BOOLEAN
+pub unknown-fits_logical : (s : Schema) (kinds : Kinds) → Fits s kinds schema.logical (parameter.item (codes "U")) (item (codes "U"))
+unknown-fits_logical s kinds = a_logical (codes "U") (2, omega arith, refl)
+
+pub unknown-fits_no_boolean : (s : Schema) (kinds : Kinds) (v : Value) → Fits s kinds schema.boolean (parameter.item (codes "U")) v → ⊥
+unknown-fits_no_boolean s kinds v (a_boolean _ among) = Contains-no_word (codes "U") boolean_items refl refl among
+
+-- where `#2` is a POINT it may stand for a POINT, and where it is a CLOUD it may not
+pub point-fits_point : Fits demo ((2, 1 ∷ 0 ∷ []) ∷ []) (schema.entity 1) (parameter.name 2) (reference 2)
+point-fits_point = an_instance 1 2 (1 ∷ 0 ∷ [], (0, omega arith, refl), (0, omega arith, refl))
+
+pub cloud-fits_no_point : (v : Value) → Fits demo ((2, 4 ∷ []) ∷ []) (schema.entity 1) (parameter.name 2) v → ⊥
+cloud-fits_no_point v (an_instance _ _ (entities, among, serves)) =
+    let is : 4 ∷ [] ≡ entities = Each-member (λ i. i.1 ≡ entities → 4 ∷ [] ≡ entities) ((2, 4 ∷ []) ∷ []) (2, entities) (λ h. h, tt) among refl in
+    let h : 4 ≡ 1 = Each-member (λ e. 4 ≡ e) (4 ∷ []) 1 (refl, tt) (subst (λ es. Contains es 1) (sym is) serves) in
+    omega (arith, h)
 
 -- `(#2,#02)` is no SET: both are the same instance
 pub twice-fits_no_set : (s : Schema) (kinds : Kinds) (e n : ℕ) (v : Value) → Fits s kinds (schema.set 0 None (schema.entity e)) (parameter.list (param (parameter.name n) (param (parameter.name n) no_params))) v → ⊥
