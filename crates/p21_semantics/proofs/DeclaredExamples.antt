@@ -1,22 +1,21 @@
 -- A small schema that a text declares, and declarations that declare no schema.
-use Rattle.std.specs.Prelude.{◌≡◌, ◌≢◌, ◌⊎◌, ℕ, zero, suc, ◌≤◌, ◌<◌, Bool, true, false, List, [], ◌∷◌, ◌++◌, length, map, codes, Option, Some, None, Contains, refl, slice_get}
-use Rattle.std.specs.List.{list_any, IsDistinct, AllZip, AllByRecursion as Each}
-use Rattle.std.specs.Str.{bytes_eq}
-use Rattle.std.proofs.Common.{arith, rules, inl, inr, ap, sym, subst, ◌∙◌}
-use Rattle.std.proofs.lemmas.Bool.{cases_lt, or_parts}
+use Rattle.std.specs.Prelude.{◌≡◌, ◌≢◌, ◌⊎◌, ℕ, zero, suc, ◌≤◌, ◌<◌, false, List, [], ◌∷◌, ◌++◌, map, codes, None, refl}
+use Rattle.std.specs.List.{IsDistinct, AllByRecursion as Each}
+use Rattle.std.proofs.Common.{arith, inl, inr, ap, sym}
+use Rattle.std.proofs.lemmas.Bool.{cases_lt}
 use Rattle.p21_semantics.proofs.Members.{Contains-no_word}
 use Rattle.p21_semantics.specs.Express.{Lexeme, identifier, symbol, IsIdentifierByte, upper}
-use Rattle.p21_semantics.specs.Remark.{Separator, blank, IsSeparatorText, IsSeparator}
+use Rattle.p21_semantics.specs.Remark.{blank}
 use Rattle.p21_semantics.specs.ExpressLaying.{LexemeIsFollowed, LaidLexemes}
-use Rattle.p21_semantics.specs.ReservedWord.{reserved_words, IsName}
-use Rattle.p21_semantics.specs.WrittenType.{WrittenType, real_type, named_type, list_type, bounded}
-use Rattle.p21_semantics.specs.EntityDeclaration.{EntityDeclaration, ExplicitAttributes, DerivedAttribute, AttributeName, own, redeclared, no_constraint}
-use Rattle.p21_semantics.specs.SchemaDeclaration.{SchemaDeclaration, Declaration, entity, schema_lexemes, IsSchemaDeclaration, entities_of}
+use Rattle.p21_semantics.specs.ReservedWord.{reserved_words}
+use Rattle.p21_semantics.specs.WrittenType.{WrittenType, real_type}
+use Rattle.p21_semantics.specs.EntityDeclaration.{EntityDeclaration, ExplicitAttributes, own, no_constraint}
+use Rattle.p21_semantics.specs.SchemaDeclaration.{SchemaDeclaration, entity, schema_lexemes, IsSchemaDeclaration}
 use Rattle.p21_semantics.specs.Schema as schema
 use Rattle.p21_semantics.specs.Schema.{Schema, Entity, TypeUse, EntityNamed, Attribute}
 use Rattle.p21_semantics.specs.DeclaredType.{is_real}
-use Rattle.p21_semantics.specs.DeclaredEntity.{EntityIs, no_more}
-use Rattle.p21_semantics.specs.Declared.{HasSupertype, Renames, HasSelect, DeclaresSchema, Declares}
+use Rattle.p21_semantics.specs.DeclaredEntity.{no_more}
+use Rattle.p21_semantics.specs.Declared.{HasSupertype, Declares}
 
 -- a capital letter or `_`
 abbrev IsCapital : ℕ → Type 0

@@ -1,16 +1,14 @@
 -- What the laws on schemas take holds of each schema that a declaration declares.
 use Rattle.std.specs.Prelude.{◌≡◌, ℕ, zero, suc, ◌+◌, ◌<◌, Bool, true, false, List, [], ◌∷◌, ◌++◌, length, map, Option, Some, None, slice_get, Contains, refl, nat_eq, ◌&&◌}
-use Rattle.std.specs.List.{AllZip, IsDistinct, AllByRecursion as Each, enumerate_from}
+use Rattle.std.specs.List.{IsDistinct, AllByRecursion as Each}
 use Rattle.std.specs.Str.{bytes_eq}
-use Rattle.std.proofs.Common.{arith, subst, ap, sym, ◌∙◌, inl, inr}
+use Rattle.std.proofs.Common.{arith, subst, ap, sym, ◌∙◌}
 use Rattle.std.proofs.lemmas.Bool.{eq-eqb}
 use Rattle.std.proofs.lemmas.Option.{slice_get_within}
 use Rattle.std.proofs.lemmas.Slice.Eq.{bytes_eq-Decides}
 use Rattle.p21_semantics.specs.EntityDeclaration.{EntityDeclaration}
 use Rattle.p21_semantics.specs.SchemaDeclaration.{SchemaDeclaration, entities_of}
-use Rattle.p21_semantics.specs.Schema.{Schema, Entity, Defined, Redeclared, Place, EntityNamed, TypeNamed}
-use Rattle.p21_semantics.specs.Supertype.{supertypes_of}
-use Rattle.p21_semantics.specs.PlaceType.{Redeclares}
+use Rattle.p21_semantics.specs.Schema.{Schema, Entity, Place, EntityNamed}
 use Rattle.p21_semantics.specs.DeclaredEntity.{EntityIs, same_place, names_of}
 use Rattle.p21_semantics.specs.Declared.{HasNoCircle, HasSupertype, DeclaresSchema}
 use Rattle.p21_semantics.proofs.Members.{Each-at, Contains-none, Contains-at, AllZip-member, AllZip-numbered, AllZip-numbered_first}

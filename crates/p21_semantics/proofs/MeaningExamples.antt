@@ -1,17 +1,17 @@
 -- Records in internal and in external mapping, and what they mean.
-use Rattle.std.specs.Prelude.{◌≡◌, ℕ, zero, suc, ◌≤◌, ◌⊎◌, pos, true, false, List, [], ◌∷◌, codes, Some, None, Contains, refl, slice_get}
+use Rattle.std.specs.Prelude.{◌≡◌, ℕ, zero, suc, pos, true, false, List, [], ◌∷◌, codes, Some, None, Contains, refl}
 use Rattle.std.specs.List.{AllZip, IsDistinct}
 use Rattle.std.specs.Str.{bytes_eq}
 use Rattle.std.specs.List.Sorted.{IsStrictlySortedBy}
-use Rattle.std.proofs.Common.{arith, rules, inl, inr, ap, sym, subst, ◌∙◌}
+use Rattle.std.proofs.Common.{arith, rules, inl, inr, ap, sym, subst}
 use Rattle.p21_semantics.specs.Number.{Decimal}
-use Rattle.p21_semantics.specs.Parameter.{Param, dollar, star, real, no_params, param, key_of}
-use Rattle.p21_semantics.specs.Record.{Part, Record, simple, complex}
+use Rattle.p21_semantics.specs.Parameter.{dollar, star, real, no_params, param, key_of}
+use Rattle.p21_semantics.specs.Record.{Record, simple, complex}
 use Rattle.p21_semantics.specs.Schema as schema
 use Rattle.p21_semantics.specs.Schema.{Place, Attribute, Redeclared, Entity, attribute_at, IsAbstract, EntityNamed}
 use Rattle.p21_semantics.specs.Supertype.{IsA, itself, above, supertypes_of, InClosure}
 use Rattle.p21_semantics.specs.Order.{places}
-use Rattle.p21_semantics.specs.PlaceType.{PlaceType, TypeAt, derived_place, stored_place, two_redeclarations, IsDerivedIn, IsRedeclared, Redeclares}
+use Rattle.p21_semantics.specs.PlaceType.{TypeAt, derived_place, stored_place, two_redeclarations, IsDerivedIn, IsRedeclared}
 use Rattle.p21_semantics.specs.Value as value
 use Rattle.p21_semantics.specs.Value.{Value, no_values}
 use Rattle.p21_semantics.specs.Reference.{Kinds}

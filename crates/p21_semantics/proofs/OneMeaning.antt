@@ -1,5 +1,5 @@
 -- A record has one meaning at most, under one schema and the same sets of instances.
-use Rattle.std.specs.Prelude.{◌≡◌, ℕ, zero, suc, ◌+◌, ◌<◌, ◌⊎◌, List, [], ◌∷◌, length, map, Some, None, slice_get, Contains, refl, nat_eq, true, false}
+use Rattle.std.specs.Prelude.{◌≡◌, ℕ, zero, suc, ◌+◌, ◌<◌, List, [], ◌∷◌, length, map, Some, Contains, refl, nat_eq, true, false}
 use Rattle.std.specs.List.{AllZip, IsDistinct, zip, enumerate_from, AllByRecursion as Each}
 use Rattle.std.specs.List.Sorted.{IsStrictlySortedBy}
 use Rattle.std.specs.Ordering.{nat_cmp}
@@ -12,16 +12,16 @@ use Rattle.p21_semantics.specs.Schema.{Schema, Place, Attribute, EntityNamed, at
 use Rattle.p21_semantics.specs.Supertype.{IsA}
 use Rattle.p21_semantics.specs.Order.{order, places, own_places}
 use Rattle.p21_semantics.specs.PlaceType.{PlaceType, TypeAt}
-use Rattle.p21_semantics.specs.Parameter.{Key, Param, Params, no_params, param, key_of}
+use Rattle.p21_semantics.specs.Parameter.{Key, Params, no_params, param}
 use Rattle.p21_semantics.specs.Record.{Part, Record, simple, complex}
 use Rattle.p21_semantics.specs.Value.{Value, Values, no_values, value, count, value_at}
 use Rattle.p21_semantics.specs.Reference.{Kinds}
 use Rattle.p21_semantics.specs.Fits.{FitsAt}
-use Rattle.p21_semantics.specs.Meaning.{Typed, HasValues, HasValueAt, FitsPlace, FitPlaces, NamesEntity, MeansInternal, PartMeans, MeansExternal, MeansByMapping, AreKeywordsRising, HasOwnCount, RecordMeans}
+use Rattle.p21_semantics.specs.Meaning.{Typed, HasValueAt, FitPlaces, NamesEntity, PartMeans, MeansByMapping, HasOwnCount, RecordMeans}
 use Rattle.p21_semantics.proofs.Members.{Each-member, Contains-none, Contains-first, Contains-later, Contains-cases, Contains-flat_map, Contains-zip, AllZip-beside, AllZip-member}
-use Rattle.p21_semantics.proofs.Orders.{AreEntities, order-has}
-use Rattle.p21_semantics.proofs.PlaceTypes.{RedeclaresOnce, TypeAt-one}
-use Rattle.p21_semantics.proofs.OneValue.{HasDistinctTypes, FitsAt-one_value}
+use Rattle.p21_semantics.proofs.Orders.{order-has}
+use Rattle.p21_semantics.proofs.PlaceTypes.{TypeAt-one}
+use Rattle.p21_semantics.proofs.OneValue.{FitsAt-one_value}
 use Rattle.p21_semantics.proofs.DeclaredSchemas.{IsWellFormed, HasDistinctEntities}
 
 -- values are the same list where they are as many and each is the same
@@ -115,8 +115,8 @@ rising-one s (e ∷ es) (f ∷ fs) (n ∷ ns) (m ∷ ms) all all_ rise rise_ ont
       ]
     ] in
     let rest : es ≡ fs = rising-one s es fs ns ms all.1 all_.1 rise.1 rise_.1
-        (λ g among. elim (Contains-cases f fs g (onto g (Contains-later e es g among))) [ inl h ↦ absurd (once e es n ns g all rise (first ∙ h) among) | inr h ↦ h ])
-        (λ g among. elim (Contains-cases e es g (back g (Contains-later f fs g among))) [ inl h ↦ absurd (once f fs m ms g all_ rise_ (sym first ∙ h) among) | inr h ↦ h ]) in
+    (λ g among. elim (Contains-cases f fs g (onto g (Contains-later e es g among))) [ inl h ↦ absurd (once e es n ns g all rise (first ∙ h) among) | inr h ↦ h ])
+    (λ g among. elim (Contains-cases e es g (back g (Contains-later f fs g among))) [ inl h ↦ absurd (once f fs m ms g all_ rise_ (sym first ∙ h) among) | inr h ↦ h ]) in
     ap (λ x. x ∷ es) first ∙ ap (λ xs. f ∷ xs) rest
   where
     once : (e : ℕ) (es : List ℕ) (n : List ℕ) (ns : List (List ℕ)) (g : ℕ) → AllZip (EntityNamed s) (e ∷ es) (n ∷ ns) → IsStrictlySortedBy (slice_cmp nat_cmp) (n ∷ ns) → e ≡ g → Contains es g → ⊥
@@ -208,7 +208,7 @@ values-agree s formed kinds (simple part) a b same means means_ e i among below 
     let P : ℕ → Type 0 = λ x. FitPlaces s kinds b (places s x) part.params in
     let in_order : Contains (order s means.entity) e = order-has s formed.supertypes_are formed.supertypes_end means.entity e ((means.closure e).0 among) in
     FitPlaces-agree s formed kinds a b same (places s means.entity) part.params (record { entity = e; index = i }) means.fit (subst P one_entity means_.fit)
-        (Contains-flat_map (own_places s) (order s means.entity) e (record { entity = e; index = i }) in_order (Contains-own_place s e i below))
+    (Contains-flat_map (own_places s) (order s means.entity) e (record { entity = e; index = i }) in_order (Contains-own_place s e i below))
 values-agree s formed kinds (complex parts) a b same means means_ e i among below =
     parts-agree s formed kinds a b same parts means.entities means_.entities e (record { entity = e; index = i }) means.parts_mean means_.parts_mean ((means.same_entities e).1 among) (Contains-own_place s e i below)
 
@@ -229,7 +229,7 @@ RecordMeans-one s formed kinds r a b means means_ =
         let long_ : count ws ≡ length (attributes_of s e) = AllZip-beside (HasOwnCount s) a.entities b.values e ws (subst (λ es. AllZip (HasOwnCount s) es b.values) (sym same) means_.own_counts) at_ in
         let distinct : IsDistinct nat_eq a.entities = rising-distinct s a.entities means.rising.0 means.rising.1 means.rising.2 in
         Values-same vs ws (long ∙ sym long_) (λ i below.
-          let (v, (us, row, found), (xs, row_, found_)) = values-agree s formed kinds r a b same means.means means_.means e i (Contains-zip a.entities a.values e vs at) (omega (arith, below, long)) in
-          let P : Values → Type 0 = λ zs. value_at zs i ≡ Some v in
-          let Q : List ℕ → Type 0 = λ es. Contains (zip es b.values) (e, xs) in
-          (v, subst P (zip-one a.entities a.values e us vs distinct row at) found, subst P (zip-one a.entities b.values e xs ws distinct (subst Q (sym same) row_) at_) found_))
+        let (v, (us, row, found), (xs, row_, found_)) = values-agree s formed kinds r a b same means.means means_.means e i (Contains-zip a.entities a.values e vs at) (omega (arith, below, long)) in
+        let P : Values → Type 0 = λ zs. value_at zs i ≡ Some v in
+        let Q : List ℕ → Type 0 = λ es. Contains (zip es b.values) (e, xs) in
+        (v, subst P (zip-one a.entities a.values e us vs distinct row at) found, subst P (zip-one a.entities b.values e xs ws distinct (subst Q (sym same) row_) at_) found_))

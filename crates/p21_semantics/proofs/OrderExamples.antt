@@ -6,7 +6,7 @@ use Rattle.p21_semantics.specs.Schema.{Schema, Place, Attribute, PlaceNamed, att
 use Rattle.p21_semantics.specs.Supertype.{IsA, itself, above, supertypes_of, AreLeaves, leaf_next, other_next, no_more}
 use Rattle.p21_semantics.specs.Order.{order, places}
 use Rattle.p21_semantics.specs.Redeclaration.{IsProperSupertype, IsOwnPlace, IsPlaceOf, RedeclaresPlace}
-use Rattle.p21_semantics.proofs.Members.{Each-at, Each-member, Contains-none, Contains-cases}
+use Rattle.p21_semantics.proofs.Members.{Each-at, Each-member, Contains-none}
 use Rattle.p21_semantics.proofs.TestSchemas.{diamond, demo, point, attribute, label, label_place, x_place, y_place}
 
 -- the entities of a diamond in turn, each once

@@ -1,5 +1,5 @@
 -- An order has each entity once, and each supertype before its subtypes.
-use Rattle.std.specs.Prelude.{◌≡◌, ◌≢◌, ℕ, zero, suc, List, [], ◌∷◌, ◌++◌, length, Contains, refl, ◌⊎◌, Bool, true, false, cond, filter, not, nat_eq}
+use Rattle.std.specs.Prelude.{◌≡◌, ◌≢◌, ℕ, zero, suc, List, [], ◌∷◌, ◌++◌, length, Contains, refl, Bool, true, false, cond, filter, not, nat_eq}
 use Rattle.std.specs.List.{flat_map, IsDistinct, AllByRecursion as Each}
 use Rattle.std.proofs.Common.{arith, subst, ap, sym, ◌∙◌, inl, inr, append_assoc}
 use Rattle.std.proofs.lemmas.Bool.{cases_eq, eqb-true}
@@ -77,8 +77,8 @@ AreBehind-filtered s e seen [] in_seen behind = tt
 AreBehind-filtered s e seen (x ∷ xs) in_seen behind = by_test (AreBehind s seen) (not (nat_eq e x)) (x ∷ filter (λ f. not (nat_eq e f)) xs) (filter (λ f. not (nat_eq e f)) xs)
     (λ h. (behind.0, AreBehind-filtered s e (x ∷ seen) xs (Contains-later x seen e in_seen) behind.1))
     (λ h. let same : e ≡ x = eqb-true e x (not-other (nat_eq e x) h) in
-      let P : ℕ → Type 0 = λ y. Contains seen y in
-      AreBehind-filtered s e seen xs in_seen (AreBehind-wider s (x ∷ seen) seen xs (AreWithin-seen x seen (subst P same in_seen)) behind.1))
+    let P : ℕ → Type 0 = λ y. Contains seen y in
+    AreBehind-filtered s e seen xs in_seen (AreBehind-wider s (x ∷ seen) seen xs (AreWithin-seen x seen (subst P same in_seen)) behind.1))
 
 AreBehind-firsts : (s : Schema) (seen es : List ℕ) → AreBehind s seen es → AreBehind s seen (firsts es)
 AreBehind-firsts s seen [] behind = tt

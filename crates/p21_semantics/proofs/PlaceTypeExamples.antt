@@ -1,6 +1,6 @@
 -- The type at a place where entities redeclare it.
-use Rattle.std.specs.Prelude.{◌≡◌, ℕ, zero, suc, ◌⊎◌, false, List, [], ◌∷◌, codes, Some, Contains, refl, slice_get}
-use Rattle.std.proofs.Common.{arith, inl, inr, ap, sym, subst, ◌∙◌}
+use Rattle.std.specs.Prelude.{◌≡◌, ℕ, zero, suc, ◌⊎◌, false, List, [], ◌∷◌, codes, Contains, refl}
+use Rattle.std.proofs.Common.{arith, inl, inr, subst, ◌∙◌}
 use Rattle.p21_semantics.specs.Schema as schema
 use Rattle.p21_semantics.specs.Schema.{Entity, Redeclared, Place}
 use Rattle.p21_semantics.specs.Supertype.{IsA, itself, above, supertypes_of}

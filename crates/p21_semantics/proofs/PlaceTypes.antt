@@ -1,9 +1,9 @@
 -- The type at a place is one.
-use Rattle.std.specs.Prelude.{◌≡◌, ℕ, ◌<◌, ◌⊎◌, Bool, List, Some, Contains, refl, slice_get}
+use Rattle.std.specs.Prelude.{◌≡◌, ℕ, ◌<◌, ◌⊎◌, Bool, List, Some, refl}
 use Rattle.std.proofs.Common.{arith, subst, ap, sym, ◌∙◌, inl, inr}
-use Rattle.p21_semantics.specs.Schema.{Schema, TypeUse, Place, Redeclared, attribute_at}
+use Rattle.p21_semantics.specs.Schema.{Schema, TypeUse, Place, Redeclared}
 use Rattle.p21_semantics.specs.Supertype.{IsA, itself, above}
-use Rattle.p21_semantics.specs.PlaceType.{PlaceType, derived_place, stored_place, two_redeclarations, Redeclares, IsRedeclared, Decides, TypeAt}
+use Rattle.p21_semantics.specs.PlaceType.{PlaceType, derived_place, stored_place, two_redeclarations, Redeclares, Decides, TypeAt}
 use Rattle.p21_semantics.specs.Declared.{HasNoCircle, HasSupertype}
 
 -- an entity redeclares a place as one explicit attribute at most

@@ -1,13 +1,13 @@
 -- Declarations of the grammar that declare no schema.
-use Rattle.std.specs.Prelude.{◌≡◌, ℕ, zero, suc, ◌<◌, ◌≤◌, ◌⊎◌, Bool, true, false, List, [], ◌∷◌, codes, Option, Some, None, Contains, refl, slice_get}
+use Rattle.std.specs.Prelude.{◌≡◌, ℕ, zero, suc, Bool, true, false, List, [], ◌∷◌, codes, Option, Some, None, Contains, refl, slice_get}
 use Rattle.std.specs.List.{IsDistinct, AllZip}
 use Rattle.std.specs.Str.{bytes_eq}
 use Rattle.std.proofs.Common.{arith, inl, inr, ap, sym, subst, ◌∙◌}
 use Rattle.p21_semantics.specs.WrittenType.{WrittenType, real_type, named_type, list_type, bounded}
 use Rattle.p21_semantics.specs.EntityDeclaration.{EntityDeclaration, redeclared, no_constraint}
-use Rattle.p21_semantics.specs.Schema.{Schema, Entity, Defined, Kind, TypeNamed, Place, Attribute, TypeUse, EntityNamed, PlaceNamed, attributes_of}
+use Rattle.p21_semantics.specs.Schema.{Schema, Entity, Defined, Kind, TypeNamed, Place, Attribute, TypeUse, EntityNamed, PlaceNamed}
 use Rattle.p21_semantics.specs.DeclaredType.{TypeIs, is_entity, is_defined, is_list}
-use Rattle.p21_semantics.specs.DeclaredEntity.{EntityIs, AttributeIs, DerivedAre, a_place, no_place, own_explicit, names_of, own_names, derived_names}
+use Rattle.p21_semantics.specs.DeclaredEntity.{AttributeIs, DerivedAre, a_place, no_place, own_explicit, names_of, own_names, derived_names}
 use Rattle.p21_semantics.specs.DefinedType.{DefinedIs, KindIs, is_alias, is_items}
 use Rattle.p21_semantics.specs.Select.{IsSelect}
 use Rattle.p21_semantics.specs.TypeDeclaration.{underlying, enumeration}

@@ -1,13 +1,13 @@
 -- Where no element may be twice, a list of values in which two elements are the same is no value.
 use Rattle.std.specs.Prelude.{◌≡◌, ◌≢◌, ℕ, zero, suc, ◌<◌, Bool, true, false, Option, Some, refl}
-use Rattle.std.proofs.Common.{arith, subst, ap, sym, ◌∙◌}
+use Rattle.std.proofs.Common.{arith, subst, ◌∙◌}
 use Rattle.p21_semantics.specs.Schema as schema
 use Rattle.p21_semantics.specs.Schema.{Schema, TypeUse}
 use Rattle.p21_semantics.specs.Parameter.{Param, Params}
 use Rattle.p21_semantics.specs.Value.{Value, list, array, set, missing, Values, no_values, value, value_at}
 use Rattle.p21_semantics.specs.SameValue.{Same, Among, here, there, AreDistinct}
 use Rattle.p21_semantics.specs.Reference.{Kinds}
-use Rattle.p21_semantics.specs.Fits.{Fits, FitEach, none_left, fits_next, empty_next, as_underlying, an_array, a_list, a_set}
+use Rattle.p21_semantics.specs.Fits.{Fits, FitEach, none_left, fits_next, as_underlying, an_array, a_list, a_set}
 
 -- no type takes a missing value
 pub missing-fits_nothing : (s : Schema) (kinds : Kinds) (type : TypeUse) (p : Param) → Fits s kinds type p missing → ⊥

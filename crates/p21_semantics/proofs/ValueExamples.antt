@@ -1,6 +1,6 @@
 -- Parameters at types, the values that they stand for, and when values are the same.
-use Rattle.std.specs.Prelude.{◌≡◌, ◌≢◌, ℕ, pos, true, false, List, [], ◌∷◌, codes, Some, None, Contains, refl}
-use Rattle.std.proofs.Common.{arith, ap, sym, subst, ◌∙◌}
+use Rattle.std.specs.Prelude.{◌≡◌, ℕ, pos, true, false, [], ◌∷◌, codes, Some, None, Contains, refl}
+use Rattle.std.proofs.Common.{arith, sym, subst}
 use Rattle.p21_semantics.specs.Number.{Decimal, IsReduced, IsInRange, ratio_of}
 use Rattle.p21_semantics.specs.Parameter as parameter
 use Rattle.p21_semantics.specs.Parameter.{Param, no_params, param, key_of}

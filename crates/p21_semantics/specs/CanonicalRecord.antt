@@ -2,11 +2,11 @@
 -- of ISO 10303-21 allow).
 use Rattle.std.specs.Prelude.{◌≡◌, ℕ, List, [], ◌∷◌, map, IsSorted}
 use Rattle.std.specs.Cmp.Lexicographic.{slice_cmp}
-use Rattle.std.specs.List.{AllZip, AllByRecursion as Each}
+use Rattle.std.specs.List.{AllByRecursion as Each}
 use Rattle.std.specs.Ordering.{nat_cmp}
 use Rattle.p21_semantics.specs.CanonicalText.{param_texts}
 use Rattle.p21_semantics.specs.Meaning.{Typed, HasValueAt, NamesEntity}
-use Rattle.p21_semantics.specs.Parameter.{Key, Param, whole, list, typed, Params, no_params, param, key_of}
+use Rattle.p21_semantics.specs.Parameter.{Param, whole, list, typed, Params, no_params, param}
 use Rattle.p21_semantics.specs.Record.{Part, Record, simple, complex}
 use Rattle.p21_semantics.specs.Schema.{Schema, Place}
 use Rattle.p21_semantics.specs.Supertype.{IsLeaf}

@@ -1,5 +1,5 @@
 -- The place that `SELF\entity.name` redeclares (ISO 10303-11, Attribute redeclaration; Qualified attribute reference).
-use Rattle.std.specs.Prelude.{◌≡◌, ◌≢◌, ℕ, ◌⊎◌, List, [], ◌∷◌, Contains}
+use Rattle.std.specs.Prelude.{◌≡◌, ◌≢◌, ℕ, ◌⊎◌, List, Contains}
 use Rattle.p21_semantics.specs.Schema.{Schema, Place, EntityNamed, PlaceNamed}
 use Rattle.p21_semantics.specs.Supertype.{IsA}
 use Rattle.p21_semantics.specs.Order.{places}

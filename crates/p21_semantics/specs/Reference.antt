@@ -6,7 +6,7 @@ use Rattle.p21_semantics.specs.Schema.{Schema, Member, entity_member, type_membe
 use Rattle.p21_semantics.specs.Select.{Offers}
 use Rattle.p21_semantics.specs.Parameter as parameter
 use Rattle.p21_semantics.specs.Parameter.{Param, Params, no_params, param}
-use Rattle.p21_semantics.specs.Record.{Part, Record, simple, complex}
+use Rattle.p21_semantics.specs.Record.{Record, simple, complex}
 
 -- the instances of a file, each by its name with its set of entities
 abbrev pub Kinds : Type 0

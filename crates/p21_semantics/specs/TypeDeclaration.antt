@@ -1,5 +1,5 @@
 -- A type declaration as it is written, and the lexical elements of it (ISO 10303-11, Type declaration, Enumeration type and Select type).
-use Rattle.std.specs.Prelude.{ℕ, List, [], ◌∷◌, ◌++◌, codes, Option, Some, None, IfSome}
+use Rattle.std.specs.Prelude.{ℕ, List, [], ◌++◌, codes, Option, Some, None, IfSome}
 use Rattle.p21_semantics.specs.Express.{Lexeme}
 use Rattle.p21_semantics.specs.ReservedWord.{IsName, AreNames}
 use Rattle.p21_semantics.specs.WrittenType.{WrittenType, word, symbols, type_lexemes, IsWrittenType}
