@@ -4,3 +4,4 @@ pub mod Following
 pub mod Extending
 pub mod Finishing
 pub mod Scalars
+pub mod OneScalar

@@ -1,8 +1,8 @@
-ghost use Rattle.std.specs.Prelude.{◌≡◌, ◌≤◌, ◌↔◌, ◌++◌, length, IsTrue, OnOk, IfOk, MatchResult};
+ghost use Rattle.std.specs.Prelude.{◌≡◌, ◌≤◌, ◌↔◌, ◌++◌, ◌∷◌, [], length, IsTrue, OnOk, IfOk, MatchResult};
 ghost use Rattle.p21_semantics.specs.Limits.{text_limit};
 ghost use Rattle.p21_semantics.specs.Spelling.{spelling};
 ghost use Rattle.p21_semantics.specs.Token.{IsScalarToken};
-ghost use Rattle.p21_tokens.specs.Finding.{FindsScalar};
+ghost use Rattle.p21_tokens.specs.Finding.{FindsScalar, FindsOnly};
 ghost use Rattle.p21_tokens.specs.Parameter.{IsAnswer, IsRefusal};
 ghost use Rattle.p21_tokens.specs.Token.{meant};
 
@@ -51,7 +51,10 @@ fn one_scalar(alloc: Global, text: &[u8]) -> Result<Token, TokenFault>
             Err(fault) => return Err(fault),
             Ok((taken, None)) => rest = &rest[taken..],
             Ok((taken, Some(token))) => {
-                if found.is_some() || !is_scalar(&token) {
+                if found.is_some() {
+                    return Err(TokenFault::NotOneParameter);
+                }
+                if !is_scalar(&token) {
                     return Err(TokenFault::NotOneParameter);
                 }
                 rest = &rest[taken..];
@@ -83,8 +86,6 @@ fn only(found: Option<Token>, last: Option<Token>) -> Result<Token, TokenFault>
         (Some(_first), Some(_second)) => Err(TokenFault::NotOneParameter),
     }
 }
-
-ghost use Rattle.p21_tokens.specs.Finding.{FindsOnly};
 
 /// Whether a token is a whole parameter by itself.
 fn is_scalar(token: &Token) -> bool
@@ -132,5 +133,3 @@ fn append_item(word: &Word, out: &mut Vec<u8>) -> Result<(), NoMemory>
     out.push(b'.')?;
     Ok(())
 }
-
-ghost use Rattle.std.specs.Prelude.{◌∷◌, []};
