@@ -1,0 +1,4 @@
+-- What the commands write for what they read.
+pub mod Fault
+pub mod Param
+pub mod Transfer
