@@ -7,7 +7,7 @@ use Rattle.p21_tokens.specs.declared.fault.TokenFault.{TokenFault}
 use Rattle.p21_tokens.specs.declared.fault.TokenFault.TheVariants as token_fault
 use Rattle.p21.specs.Fault.{Reports}
 use Rattle.p21.specs.Transfer.{AppendsPartOf, GivesText}
-use Rattle.p21.specs.declared.status.TheConstants.{FAILED}
+use Rattle.p21.specs.Status.{failed}
 use Rattle.p21.specs.declared.fault.CommandFault.{CommandFault}
 use Rattle.p21.specs.declared.fault.CommandFault.TheVariants.{Refused, NoMemory, Read, Write}
 
@@ -74,4 +74,4 @@ FailsBy reader old new Write = WritesPartOfAnswer reader old new
 pub record Fails (reader output_old output_new faults_old faults_new : Option (List ℕ)) : Type 0 where
   pub fault : CommandFault
   pub fails_by : FailsBy reader output_old output_new fault
-  pub reports : Reports fault FAILED faults_old faults_new
+  pub reports : Reports fault failed faults_old faults_new

@@ -2,11 +2,12 @@
 ghost use Rattle.std.specs.Prelude.{◌≡◌, ◌⊎◌, IfErr, IfOk, MatchResult, OnOk, string_bytes};
 ghost use Rattle.std.specs.Io.KnownBytes.{Keeps};
 ghost use Rattle.p21.specs.Param.{Fails, FailsBy, IsAnswerLine, RefusesBy, WritesAnswer, WritesRefusal, refusal_line};
+ghost use Rattle.p21.specs.Status.{done, failed, refused};
 ghost use Rattle.p21.specs.Transfer.{ConsumesAtMost};
 
 use crate::fault::{CommandFault, report};
-use crate::status::{DONE, FAILED, REFUSED};
-use crate::transfer::{MOST_READ, read_text, write_whole};
+use crate::status::DONE;
+use crate::transfer::{read_text, write_whole};
 use p21_tokens::{TokenFault, canonical_param};
 use std::alloc::{AllocError, Global};
 use std::io::{Read, Write};
@@ -19,18 +20,18 @@ pub fn param_command<R: Read, W: Write, F: Write>(
     output: &mut W,
     faults: &mut F,
 ) -> u8
-    ensures status { (result ≡ DONE) ⊎ (result ≡ REFUSED) ⊎ (result ≡ FAILED) }
-    ensures consumed { ConsumesAtMost MOST_READ (R.remaining input.old) (R.remaining input.new) }
+    ensures status { (result ≡ done) ⊎ (result ≡ refused) ⊎ (result ≡ failed) }
+    ensures consumed { ConsumesAtMost (R.remaining input.old) (R.remaining input.new) }
 
-    ensures answered { result ≡ DONE
+    ensures answered { result ≡ done
         → WritesAnswer (R.remaining input.old) (W.contents output.old) (W.contents output.new) }
-    ensures silent { result ≡ DONE → Keeps (F.contents faults.old) (F.contents faults.new) }
+    ensures silent { result ≡ done → Keeps (F.contents faults.old) (F.contents faults.new) }
 
-    ensures refused { result ≡ REFUSED
+    ensures refused { result ≡ refused
         → WritesRefusal (R.remaining input.old) (F.contents faults.old) (F.contents faults.new) }
-    ensures unwritten { result ≡ REFUSED → Keeps (W.contents output.old) (W.contents output.new) }
+    ensures unwritten { result ≡ refused → Keeps (W.contents output.old) (W.contents output.new) }
 
-    ensures failed { result ≡ FAILED → Fails (R.remaining input.old) (W.contents output.old)
+    ensures failed { result ≡ failed → Fails (R.remaining input.old) (W.contents output.old)
         (W.contents output.new) (F.contents faults.old) (F.contents faults.new) }
 {
     match write_param(alloc, input, output) {
@@ -45,7 +46,7 @@ fn write_param<R: Read, W: Write>(
     input: &mut R,
     output: &mut W,
 ) -> Result<(), CommandFault>
-    ensures consumed { ConsumesAtMost MOST_READ (R.remaining input.old) (R.remaining input.new) }
+    ensures consumed { ConsumesAtMost (R.remaining input.old) (R.remaining input.new) }
     ensures ok { OnOk result
         (WritesAnswer (R.remaining input.old) (W.contents output.old) (W.contents output.new)) }
     ensures err { IfErr result

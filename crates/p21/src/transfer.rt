@@ -18,7 +18,7 @@ const PIECE: usize = 65_536;
 pub fn read_text<R: Read>(alloc: Global, reader: &mut R) -> Result<Vec<u8>, CommandFault>
     ensures text { IfOk result (λ text. GivesText (R.remaining reader.old) text.items) }
     ensures fault { IfErr result (λ fault. (fault ≡ CommandFault.NoMemory) ⊎ (fault ≡ CommandFault.Read)) }
-    ensures consumed { ConsumesAtMost MOST_READ (R.remaining reader.old) (R.remaining reader.new) }
+    ensures consumed { ConsumesAtMost (R.remaining reader.old) (R.remaining reader.new) }
 {
     let mut text = Vec::new(alloc);
     let mut piece = [0; PIECE];
