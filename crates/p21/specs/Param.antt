@@ -1,12 +1,12 @@
 -- What `p21 param` writes for what it reads.
 use Rattle.std.specs.Prelude.{Option, ◌≡◌, ◌≢◌, ℕ, List, ◌++◌, codes, decimal, string_bytes}
-use Rattle.std.specs.Io.KnownBytes.{Appends, Keeps}
+use Rattle.std.specs.Io.KnownBytes.{Keeps}
 use Rattle.p21_tokens.specs.Fault.{fault_number, fault_name}
 use Rattle.p21_tokens.specs.Parameter.{IsAnswer, IsRefusal}
 use Rattle.p21_tokens.specs.declared.fault.TokenFault.{TokenFault}
 use Rattle.p21_tokens.specs.declared.fault.TokenFault.TheVariants as token_fault
 use Rattle.p21.specs.Fault.{Reports}
-use Rattle.p21.specs.Transfer.{AppendsPartOf, GivesText}
+use Rattle.p21.specs.Transfer.{GivesText, WritesPart}
 use Rattle.p21.specs.Status.{failed}
 use Rattle.p21.specs.declared.fault.CommandFault.{CommandFault}
 use Rattle.p21.specs.declared.fault.CommandFault.TheVariants.{Refused, NoMemory, Read, Write}
@@ -35,21 +35,11 @@ RefusesBy text NoMemory = Unit {0}
 RefusesBy text Read = ⊥
 RefusesBy text Write = ⊥
 
--- the writer gets the answer to the text of the reader
-pub record WritesAnswer (reader old new : Option (List ℕ)) : Type 0 where
+-- the line answers the text of the reader
+pub record IsAnswered (reader : Option (List ℕ)) (line : List ℕ) : Type 0 where
   pub text : List ℕ
-  pub line : List ℕ
   pub gives : GivesText reader text
   pub is_answer : IsAnswerLine text line
-  pub appended : Appends old new line
-
--- the writer gets only a part of it
-pub record WritesPartOfAnswer (reader old new : Option (List ℕ)) : Type 0 where
-  pub text : List ℕ
-  pub line : List ℕ
-  pub gives : GivesText reader text
-  pub is_answer : IsAnswerLine text line
-  pub part : AppendsPartOf old new line
 
 -- the line names a fault for which the text of the reader is refused
 pub record IsRefused (reader : Option (List ℕ)) (line : List ℕ) : Type 0 where
@@ -57,18 +47,12 @@ pub record IsRefused (reader : Option (List ℕ)) (line : List ℕ) : Type 0 whe
   pub gives : GivesText reader text
   pub is_refusal : IsRefusalLine text line
 
--- the writer gets that line
-pub record WritesRefusal (reader old new : Option (List ℕ)) : Type 0 where
-  pub line : List ℕ
-  pub is_refused : IsRefused reader line
-  pub appended : Appends old new line
-
 -- what a fault says of the reader and the output: only a write fault leaves anything there, a part of the answer
 abbrev pub FailsBy : Option (List ℕ) → Option (List ℕ) → Option (List ℕ) → CommandFault → Type 0
 FailsBy reader old new (Refused line) = IsRefused reader (string_bytes line) × Keeps old new
 FailsBy reader old new NoMemory = Keeps old new
 FailsBy reader old new Read = Keeps old new
-FailsBy reader old new Write = WritesPartOfAnswer reader old new
+FailsBy reader old new Write = WritesPart (IsAnswered reader) old new
 
 -- a fault of memory, of the reader or of the output, or a refusal whose line could not be written
 pub record Fails (reader output_old output_new faults_old faults_new : Option (List ℕ)) : Type 0 where

@@ -21,3 +21,15 @@ pub record AppendsPartOf (old new : Option (List ℕ)) (bytes : List ℕ) : Type
   pub some : 0 < length missing
   pub whole : bytes ≡ written ++ missing
   pub appended : Appends old new written
+
+-- the writer gets a line of this kind
+pub record Writes (IsLine : List ℕ → Type 0) (old new : Option (List ℕ)) : Type 0 where
+  pub line : List ℕ
+  pub is_line : IsLine line
+  pub appended : Appends old new line
+
+-- the writer gets only a part of such a line
+pub record WritesPart (IsLine : List ℕ → Type 0) (old new : Option (List ℕ)) : Type 0 where
+  pub line : List ℕ
+  pub is_line : IsLine line
+  pub part : AppendsPartOf old new line

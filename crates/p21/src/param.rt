@@ -1,9 +1,9 @@
 //! The command `param`.
 ghost use Rattle.std.specs.Prelude.{◌≡◌, ◌⊎◌, IfErr, IfOk, MatchResult, OnOk, string_bytes};
 ghost use Rattle.std.specs.Io.KnownBytes.{Keeps};
-ghost use Rattle.p21.specs.Param.{Fails, FailsBy, IsAnswerLine, RefusesBy, WritesAnswer, WritesRefusal, refusal_line};
+ghost use Rattle.p21.specs.Param.{Fails, FailsBy, IsAnswerLine, IsAnswered, IsRefused, RefusesBy, refusal_line};
 ghost use Rattle.p21.specs.Status.{done, failed, refused};
-ghost use Rattle.p21.specs.Transfer.{ConsumesAtMost};
+ghost use Rattle.p21.specs.Transfer.{ConsumesAtMost, Writes};
 
 use crate::fault::{CommandFault, report};
 use crate::status::DONE;
@@ -24,11 +24,11 @@ pub fn param_command<R: Read, W: Write, F: Write>(
     ensures consumed { ConsumesAtMost (R.remaining input.old) (R.remaining input.new) }
 
     ensures answered { result ≡ done
-        → WritesAnswer (R.remaining input.old) (W.contents output.old) (W.contents output.new) }
+        → Writes (IsAnswered (R.remaining input.old)) (W.contents output.old) (W.contents output.new) }
     ensures silent { result ≡ done → Keeps (F.contents faults.old) (F.contents faults.new) }
 
     ensures refused { result ≡ refused
-        → WritesRefusal (R.remaining input.old) (F.contents faults.old) (F.contents faults.new) }
+        → Writes (IsRefused (R.remaining input.old)) (F.contents faults.old) (F.contents faults.new) }
     ensures unwritten { result ≡ refused → Keeps (W.contents output.old) (W.contents output.new) }
 
     ensures failed { result ≡ failed → Fails (R.remaining input.old) (W.contents output.old)
@@ -48,7 +48,7 @@ fn write_param<R: Read, W: Write>(
 ) -> Result<(), CommandFault>
     ensures consumed { ConsumesAtMost (R.remaining input.old) (R.remaining input.new) }
     ensures ok { OnOk result
-        (WritesAnswer (R.remaining input.old) (W.contents output.old) (W.contents output.new)) }
+        (Writes (IsAnswered (R.remaining input.old)) (W.contents output.old) (W.contents output.new)) }
     ensures err { IfErr result
         (FailsBy (R.remaining input.old) (W.contents output.old) (W.contents output.new)) }
 {
