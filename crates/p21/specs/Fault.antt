@@ -1,0 +1,24 @@
+-- The line and the exit status of each fault of a command.
+use Rattle.std.specs.Prelude.{Option, ◌≡◌, ◌⊎◌, ℕ, List, codes, string_bytes}
+use Rattle.std.specs.Io.KnownBytes.{Appends}
+use Rattle.p21.specs.Transfer.{AppendsPartOf}
+use Rattle.p21.specs.Status.{failed, refused}
+use Rattle.p21.specs.declared.fault.CommandFault.{CommandFault}
+use Rattle.p21.specs.declared.fault.CommandFault.TheVariants.{Refused, NoMemory, Read, Write}
+
+-- what is written to the fault output
+abbrev pub fault_line : CommandFault → List ℕ
+fault_line (Refused line) = string_bytes line
+fault_line NoMemory = codes "out of memory\n"
+fault_line Read = codes "read fault\n"
+fault_line Write = codes "write fault\n"
+
+-- the exit status
+abbrev pub fault_status : CommandFault → ℕ
+fault_status (Refused line) = refused
+fault_status fault = failed
+
+-- the fault output has the line of the fault, with its status; or only a part of it, with the status of a write fault
+abbrev pub Reports : CommandFault → ℕ → Option (List ℕ) → Option (List ℕ) → Type 0
+Reports fault status old new = ((status ≡ fault_status fault) × Appends old new (fault_line fault))
+    ⊎ ((status ≡ failed) × AppendsPartOf old new (fault_line fault))

@@ -1,0 +1,61 @@
+-- What `p21 param` writes for what it reads.
+use Rattle.std.specs.Prelude.{Option, ◌≡◌, ◌≢◌, ℕ, List, ◌++◌, codes, decimal, string_bytes}
+use Rattle.std.specs.Io.KnownBytes.{Keeps}
+use Rattle.p21_tokens.specs.Fault.{fault_number, fault_name}
+use Rattle.p21_tokens.specs.Parameter.{IsAnswer, IsRefusal}
+use Rattle.p21_tokens.specs.declared.fault.TokenFault.{TokenFault}
+use Rattle.p21_tokens.specs.declared.fault.TokenFault.TheVariants as token_fault
+use Rattle.p21.specs.Fault.{Reports}
+use Rattle.p21.specs.Transfer.{GivesText, WritesPart}
+use Rattle.p21.specs.Status.{failed}
+use Rattle.p21.specs.declared.fault.CommandFault.{CommandFault}
+use Rattle.p21.specs.declared.fault.CommandFault.TheVariants.{Refused, NoMemory, Read, Write}
+
+-- `refused NUMBER NAME` and a line feed
+abbrev pub refusal_line : TokenFault → List ℕ
+refusal_line fault = codes "refused " ++ (decimal (fault_number fault) ++ (codes " " ++ (fault_name fault ++ codes "\n")))
+
+-- the answer to the text, and a line feed
+pub record IsAnswerLine (text line : List ℕ) : Type 0 where
+  pub spelling : List ℕ
+  pub is_answer : IsAnswer text spelling
+  pub line_is : line ≡ spelling ++ codes "\n"
+
+-- the line names a fault for which the text is refused, other than want of memory
+pub record IsRefusalLine (text line : List ℕ) : Type 0 where
+  pub fault : TokenFault
+  pub is_refusal : IsRefusal text fault
+  pub not_memory : fault ≢ token_fault.NoMemory
+  pub line_is : line ≡ refusal_line fault
+
+-- a text is refused by its line, or memory runs out
+abbrev pub RefusesBy : List ℕ → CommandFault → Type 0
+RefusesBy text (Refused line) = IsRefusalLine text (string_bytes line)
+RefusesBy text NoMemory = Unit {0}
+RefusesBy text Read = ⊥
+RefusesBy text Write = ⊥
+
+-- the line answers the text of the reader
+pub record IsAnswered (reader : Option (List ℕ)) (line : List ℕ) : Type 0 where
+  pub text : List ℕ
+  pub gives : GivesText reader text
+  pub is_answer : IsAnswerLine text line
+
+-- the line names a fault for which the text of the reader is refused
+pub record IsRefused (reader : Option (List ℕ)) (line : List ℕ) : Type 0 where
+  pub text : List ℕ
+  pub gives : GivesText reader text
+  pub is_refusal : IsRefusalLine text line
+
+-- what a fault says of the reader and the output: only a write fault leaves anything there, a part of the answer
+abbrev pub FailsBy : Option (List ℕ) → Option (List ℕ) → Option (List ℕ) → CommandFault → Type 0
+FailsBy reader old new (Refused line) = IsRefused reader (string_bytes line) × Keeps old new
+FailsBy reader old new NoMemory = Keeps old new
+FailsBy reader old new Read = Keeps old new
+FailsBy reader old new Write = WritesPart (IsAnswered reader) old new
+
+-- a fault of memory, of the reader or of the output, or a refusal whose line could not be written
+pub record Fails (reader output_old output_new faults_old faults_new : Option (List ℕ)) : Type 0 where
+  pub fault : CommandFault
+  pub fails_by : FailsBy reader output_old output_new fault
+  pub reports : Reports fault failed faults_old faults_new

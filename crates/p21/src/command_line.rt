@@ -1,0 +1,60 @@
+//! What the command line may say.
+
+use clap::{Arg, ArgAction, Command};
+use std::alloc::{AllocError, Global};
+
+/// The program with its commands.
+pub fn command_line<'a>(alloc: Global) -> Result<Command<'a>, AllocError> {
+    Command::new(alloc, "p21")
+        .about("Reads the clear text encoding of exchange structures (ISO 10303-21)")
+        .subcommand_required(true)
+        .subcommand(param(alloc)?)
+}
+
+/// `param FILE`.
+fn param<'a>(alloc: Global) -> Result<Command<'a>, AllocError> {
+    let file = Arg::new(alloc, "FILE")
+        .help("Holds one scalar parameter, with separators around it or none")
+        .required(true)
+        .action(ArgAction::Set);
+    Command::new(alloc, "param")
+        .about("Prints the canonical spelling of one parameter")
+        .arg(file)
+}
+
+#[cfg(test)]
+mod tests {
+    use super::*;
+    use clap::error::ErrorKind;
+    use std::test::Fail;
+
+    #[test]
+    fn takes_paths_as_they_stand(rt: HostRuntime) -> Result<(), Fail> {
+        for path in ["a.txt", "", "-", " a", "../a"] {
+            let words = ["p21", "param", path];
+            let matches = command_line(rt.alloc())?.try_get_matches_from(&words)?;
+            let param = matches.subcommand_matches("param").ok_or("no command")?;
+            assert_eq!(rt; param.get_str("FILE"), Some(path));
+        }
+        Ok(())
+    }
+
+    #[test]
+    fn explains_what_it_does_not_take(rt: HostRuntime) -> Result<(), Fail> {
+        let cases: [(&[&str], ErrorKind, i32); 6] = [
+            (&["p21"], ErrorKind::MissingSubcommand, 2),
+            (&["p21", "frob"], ErrorKind::InvalidSubcommand, 2),
+            (&["p21", "param"], ErrorKind::MissingRequiredArgument, 2),
+            (&["p21", "param", "a", "b"], ErrorKind::UnknownArgument, 2),
+            (&["p21", "--help"], ErrorKind::DisplayHelp, 0),
+            (&["p21", "param", "--help"], ErrorKind::DisplayHelp, 0),
+        ];
+        for (words, kind, status) in cases {
+            let parsed = command_line(rt.alloc())?.try_get_matches_from(words);
+            let error = parsed.err().ok_or("accepted")?;
+            assert_eq!(rt; error.kind(), kind);
+            assert_eq!(rt; error.exit_code(), status);
+        }
+        Ok(())
+    }
+}

@@ -1,0 +1,83 @@
+//! The program `p21`: its command line, the files that it names, and the exit status.
+#![tactic(auto)]
+
+mod command_line;
+mod fault;
+mod param;
+mod status;
+mod transfer;
+
+use clap::error::{Error, ErrorKind};
+use command_line::command_line;
+use fault::{CommandFault, report};
+use param::param_command;
+use status::{DONE, FAILED, USAGE};
+use std::process::ExitCode;
+use std::{env, fs, io};
+
+fn main(rt: HostRuntime) -> ExitCode {
+    ExitCode::from(run(&rt))
+}
+
+/// Runs the command that the command line names, and answers the exit status.
+fn run(rt: &HostRuntime) -> u8 {
+    let words = match arguments(rt) {
+        Ok(words) => words,
+        Err(error) => return explain_arguments(rt, &error),
+    };
+    let command = match command_line(rt.alloc()) {
+        Ok(command) => command,
+        Err(_) => return report(&CommandFault::NoMemory, &mut rt.stderr()),
+    };
+    let matches = match command.try_get_matches_from(&words) {
+        Ok(matches) => matches,
+        Err(error) => return explain(rt, &error),
+    };
+    let Some(param) = matches.subcommand_matches("param") else {
+        return USAGE;
+    };
+    let Some(path) = param.get_str("FILE") else {
+        return USAGE;
+    };
+    match fs::open(rt, path) {
+        Ok(mut file) => param_command(rt.alloc(), &mut file, &mut rt.stdout(), &mut rt.stderr()),
+        Err(error) => explain_open(rt, path, &error),
+    }
+}
+
+fn arguments(rt: &HostRuntime) -> io::Result<Vec<String>> {
+    Ok(env::args(rt)?.collect(rt.alloc())?)
+}
+
+/// Says why there are no arguments: for want of memory, or because one of them isn't text.
+fn explain_arguments(rt: &HostRuntime, error: &io::Error) -> u8 {
+    if error.kind() == io::ErrorKind::OutOfMemory {
+        return report(&CommandFault::NoMemory, &mut rt.stderr());
+    }
+    match eprintln!(rt; "error: an argument is not UTF-8") {
+        Ok(()) => USAGE,
+        Err(_) => FAILED,
+    }
+}
+
+/// Shows the help that was asked for, or says what is wrong with the command line.
+fn explain(rt: &HostRuntime, error: &Error) -> u8 {
+    if error.kind() == ErrorKind::OutOfMemory {
+        return report(&CommandFault::NoMemory, &mut rt.stderr());
+    }
+    match error.print(rt) {
+        Ok(()) if error.use_stderr() => USAGE,
+        Ok(()) => DONE,
+        Err(_) => report(&CommandFault::Write, &mut rt.stderr()),
+    }
+}
+
+/// Says that a file can't be opened.
+fn explain_open(rt: &HostRuntime, path: &str, error: &io::Error) -> u8 {
+    if error.kind() == io::ErrorKind::OutOfMemory {
+        return report(&CommandFault::NoMemory, &mut rt.stderr());
+    }
+    // The status is the same where the line can't be written.
+    let _ = eprintln!(rt; "cannot open {path}");
+    FAILED
+}

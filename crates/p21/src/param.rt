@@ -1,0 +1,84 @@
+//! The command `param`.
+ghost use Rattle.std.specs.Prelude.{◌≡◌, ◌⊎◌, IfErr, IfOk, MatchResult, OnOk, string_bytes};
+ghost use Rattle.std.specs.Io.KnownBytes.{Keeps};
+ghost use Rattle.p21.specs.Param.{Fails, FailsBy, IsAnswerLine, IsAnswered, IsRefused, RefusesBy, refusal_line};
+ghost use Rattle.p21.specs.Status.{done, failed, refused};
+ghost use Rattle.p21.specs.Transfer.{ConsumesAtMost, Writes};
+
+use crate::fault::{CommandFault, report};
+use crate::status::DONE;
+use crate::transfer::{read_text, write_whole};
+use p21_tokens::{TokenFault, canonical_param};
+use std::alloc::{AllocError, Global};
+use std::io::{Read, Write};
+
+/// Writes to `output` the canonical spelling of the scalar parameter that `input` holds, and a line feed; or to
+/// `faults` one line that says why there is none. Answers the exit status.
+pub fn param_command<R: Read, W: Write, F: Write>(
+    alloc: Global,
+    input: &mut R,
+    output: &mut W,
+    faults: &mut F,
+) -> u8
+    ensures status { (result ≡ done) ⊎ (result ≡ refused) ⊎ (result ≡ failed) }
+    ensures consumed { ConsumesAtMost (R.remaining input.old) (R.remaining input.new) }
+
+    ensures answered { result ≡ done
+        → Writes (IsAnswered (R.remaining input.old)) (W.contents output.old) (W.contents output.new) }
+    ensures silent { result ≡ done → Keeps (F.contents faults.old) (F.contents faults.new) }
+
+    ensures refused { result ≡ refused
+        → Writes (IsRefused (R.remaining input.old)) (F.contents faults.old) (F.contents faults.new) }
+    ensures unwritten { result ≡ refused → Keeps (W.contents output.old) (W.contents output.new) }
+
+    ensures failed { result ≡ failed → Fails (R.remaining input.old) (W.contents output.old)
+        (W.contents output.new) (F.contents faults.old) (F.contents faults.new) }
+{
+    match write_param(alloc, input, output) {
+        Ok(()) => DONE,
+        Err(fault) => report(&fault, faults),
+    }
+}
+
+/// Writes the canonical spelling of the parameter that `input` holds, and a line feed.
+fn write_param<R: Read, W: Write>(
+    alloc: Global,
+    input: &mut R,
+    output: &mut W,
+) -> Result<(), CommandFault>
+    ensures consumed { ConsumesAtMost (R.remaining input.old) (R.remaining input.new) }
+    ensures ok { OnOk result
+        (Writes (IsAnswered (R.remaining input.old)) (W.contents output.old) (W.contents output.new)) }
+    ensures err { IfErr result
+        (FailsBy (R.remaining input.old) (W.contents output.old) (W.contents output.new)) }
+{
+    let text = read_text(alloc, input)?;
+    let line = param_line(alloc, &text)?;
+    write_whole(output, &line)
+}
+
+/// The canonical spelling of the parameter that a text holds, and a line feed.
+fn param_line(alloc: Global, text: &[u8]) -> Result<Vec<u8>, CommandFault>
+    ensures { MatchResult result (λ line. IsAnswerLine text.now line.items) (RefusesBy text.now) }
+{
+    match canonical_param(alloc, text) {
+        Ok(mut line) => {
+            line.push(b'\n')?;
+            Ok(line)
+        }
+        Err(TokenFault::NoMemory) => Err(CommandFault::NoMemory),
+        Err(fault) => Err(CommandFault::Refused(refusal_text(alloc, fault)?)),
+    }
+}
+
+/// The line that says why a text is refused.
+fn refusal_text(alloc: Global, fault: TokenFault) -> Result<String, AllocError>
+    ensures { IfOk result (λ line. string_bytes line ≡ refusal_line fault) }
+{
+    let number = fault.number();
+    let name = fault.name();
+    format!(in alloc; "refused {number} {name}\n")
+}
+
+#[cfg(test)]
+mod tests;
