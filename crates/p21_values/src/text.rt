@@ -1,5 +1,4 @@
 ghost use Rattle.std.specs.Prelude.{◌≡◌, ◌%◌, [], ◌∷◌, ◌++◌, length, OnOk, OnErr};
-ghost use Rattle.std.specs.List.{flat_map};
 ghost use Rattle.p21_semantics.specs.Digits.{hex_digit, hex_digits};
 ghost use Rattle.p21_semantics.specs.Spelling.{character_spelling, text_spelling};
 ghost use Rattle.p21_semantics.specs.Text.{end_extended};
