@@ -1,5 +1,4 @@
 ghost use Rattle.std.specs.Prelude.{◌≡◌, ◌%◌, [], ◌∷◌, ◌++◌, length, OnOk, OnErr};
-ghost use Rattle.std.specs.List.{flat_map};
 ghost use Rattle.p21_semantics.specs.Digits.{hex_digit, hex_digits};
 ghost use Rattle.p21_semantics.specs.Spelling.{character_spelling, text_spelling};
 ghost use Rattle.p21_semantics.specs.Text.{end_extended};
@@ -203,45 +202,63 @@ fn hex_digit(number: u32) -> u8
 #[cfg(test)]
 mod tests {
     use super::*;
+    use crate::canonical::spelled;
     use std::test::Fail;
 
-    fn text(rt: &HostRuntime, characters: &[char]) -> Result<Text, NoMemory> {
+    fn text(rt: &HostRuntime, characters: &str) -> Result<Text, NoMemory> {
         let mut text = Text::new(rt.alloc());
-        for character in characters {
-            text.push(*character)?;
+        for character in characters.chars() {
+            text.push(character)?;
         }
         Ok(text)
     }
 
     #[test]
-    fn spells_texts(rt: HostRuntime) -> Result<(), Fail> {
-        let cases: [(&[char], &[u8]); 8] = [
-            (&[], b"''"),
-            (&['\u{E9}', '\''], b"'\\X2\\00E9\\X0\\'''"),
-            (&['c', 'a', 'f', '\u{E9}'], b"'caf\\X2\\00E9\\X0\\'"),
-            (&['s', ' ', '\\'], b"'s \\\\'"),
-            (&['\u{DC}', '~'], b"'\\X2\\00DC\\X0\\~'"),
-            (&['\u{7F}', '\u{1F}'], b"'\\X2\\007F\\X0\\\\X2\\001F\\X0\\'"),
-            (&['\u{FFFF}'], b"'\\X2\\FFFF\\X0\\'"),
-            (&['\u{1F600}'], b"'\\X4\\0001F600\\X0\\'"),
+    fn spells(rt: HostRuntime) -> Result<(), Fail> {
+        let cases = [
+            ("", r"''"),
+            ("é'", r"'\X2\00E9\X0\'''"),
+            ("café", r"'caf\X2\00E9\X0\'"),
+            (r"it's \", r"'it''s \\'"),
+            ("§x", r"'\X2\00A7\X0\x'"),
+            ("Ü~", r"'\X2\00DC\X0\~'"),
+            ("\u{7F}\n", r"'\X2\007F\X0\\X2\000A\X0\'"),
+            ("\u{FFFF}", r"'\X2\FFFF\X0\'"),
+            ("\u{1F600}", r"'\X4\0001F600\X0\'"),
+            (
+                "a label of more than sixteen",
+                r"'a label of more than sixteen'",
+            ),
         ];
-        for (characters, want) in cases {
-            let mut out = Vec::new(rt.alloc());
-            text(&rt, characters)?.write_canonical(&mut out)?;
-            assert_eq!(rt; out.as_slice(), want);
+        for (characters, spelling) in cases {
+            let found = spelled(&rt, &text(&rt, characters)?)?;
+            assert_eq!(rt; found.as_slice(), spelling.as_bytes(), "{characters}");
         }
         Ok(())
     }
 
     #[test]
+    fn appends(rt: HostRuntime) -> Result<(), Fail> {
+        let mut out = Vec::from_slice(rt.alloc(), b"(")?;
+        text(&rt, "a")?.write_canonical(&mut out)?;
+        assert_eq!(rt; out.as_slice(), b"('a'".as_slice());
+        Ok(())
+    }
+
+    #[test]
     fn holds_characters(rt: HostRuntime) -> Result<(), Fail> {
-        let word = text(&rt, &['\u{E9}', '\''])?;
+        let word = text(&rt, "é'")?;
         assert_eq!(rt; word.len(), 2);
-        assert_eq!(rt; word.chars(), ['\u{E9}', '\''].as_slice());
+        assert_eq!(rt; word.chars(), ['é', '\''].as_slice());
         assert_eq!(rt; Text::new(rt.alloc()).len(), 0);
-        assert!(rt; word == text(&rt, &['\u{E9}', '\''])?);
-        assert!(rt; word != text(&rt, &['\u{E9}', '"'])?);
-        assert!(rt; word != Text::new(rt.alloc()));
+        Ok(())
+    }
+
+    #[test]
+    fn compares(rt: HostRuntime) -> Result<(), Fail> {
+        assert!(rt; text(&rt, "é'")? == text(&rt, "é'")?);
+        assert!(rt; text(&rt, "é'")? != text(&rt, "é\"")?);
+        assert!(rt; text(&rt, "é")? != text(&rt, "é'")?);
         Ok(())
     }
 }
