@@ -7,6 +7,8 @@ mod laying;
 mod lexer;
 mod reading;
 mod step;
+#[cfg(test)]
+mod tests;
 mod token;
 
 pub use fault::TokenFault;
