@@ -8,6 +8,8 @@ mod lexer;
 mod param;
 mod reading;
 mod step;
+#[cfg(test)]
+mod tests;
 mod token;
 
 pub use fault::TokenFault;

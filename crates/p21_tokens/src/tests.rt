@@ -1,0 +1,273 @@
+mod behind;
+mod limits;
+mod texts;
+
+use super::*;
+use p21_values::{Canonical, Limits};
+use std::alloc::Global;
+use std::process::Abort;
+use std::test::Fail;
+
+/// What a lexer gave: its tokens as text, with a space between two, and then the name of a refusal.
+#[derive(Drop)]
+struct Reader {
+    lexer: Lexer,
+    answers: Vec<u8>,
+    refused: Option<TokenFault>,
+}
+
+impl Reader {
+    fn new(alloc: Global, limits: Limits) -> Reader {
+        Reader {
+            lexer: Lexer::new(alloc, limits),
+            answers: Vec::new(alloc),
+            refused: None,
+        }
+    }
+
+    /// Offers a piece until it is taken whole or refused.
+    fn feed(&mut self, piece: &[u8]) -> Result<(), Fail> {
+        let mut rest = piece;
+        for _ in 0..u64::MAX {
+            if rest.is_empty() {
+                break;
+            }
+            match self.lexer.next(rest) {
+                Ok((taken, token)) => {
+                    rest = &rest[taken..];
+                    if let Some(token) = token {
+                        self.space()?;
+                        spell(&token, &mut self.answers)?;
+                    }
+                }
+                Err(fault) => return self.refuse(fault),
+            }
+        }
+        Ok(())
+    }
+
+    /// Notes a first refusal, and looks that each later one is the same.
+    fn refuse(&mut self, fault: TokenFault) -> Result<(), Fail> {
+        match self.refused {
+            Some(before) => {
+                if before != fault {
+                    self.answers.extend_from_slice(b" and then ")?;
+                    self.answers.extend_from_slice(fault.name().as_bytes())?;
+                }
+            }
+            None => {
+                self.space()?;
+                self.answers.extend_from_slice(fault.name().as_bytes())?;
+                self.refused = Some(fault);
+            }
+        }
+        Ok(())
+    }
+
+    /// The answers, with that of `finish`: a refusal that comes first there stands behind `end`.
+    fn end(self) -> Result<Vec<u8>, Fail> {
+        let mut answers = self.answers;
+        if !answers.is_empty() && self.refused.is_none() {
+            answers.push(b' ')?;
+        }
+        match self.lexer.finish() {
+            Ok(Some(token)) => spell(&token, &mut answers)?,
+            Ok(None) => {
+                let _ = answers.pop();
+            }
+            Err(fault) => {
+                if self.refused.is_none() {
+                    answers.extend_from_slice(b"end ")?;
+                    answers.extend_from_slice(fault.name().as_bytes())?;
+                } else if self.refused != Some(fault) {
+                    answers.extend_from_slice(b" and not at the end")?;
+                }
+            }
+        }
+        Ok(answers)
+    }
+
+    fn space(&mut self) -> Result<(), Fail> {
+        if !self.answers.is_empty() {
+            self.answers.push(b' ')?;
+        }
+        Ok(())
+    }
+}
+
+/// Appends a token: its canonical spelling, and its marks.
+fn spell(token: &Token, out: &mut Vec<u8>) -> Result<(), Fail> {
+    match token {
+        Token::Begin => out.extend_from_slice(b"ISO-10303-21")?,
+        Token::Finish => out.extend_from_slice(b"END-ISO-10303-21")?,
+        Token::Keyword(word) => word.write_canonical(out)?,
+        Token::UserKeyword(word) => {
+            out.push(b'!')?;
+            word.write_canonical(out)?;
+        }
+        Token::Name(name) => name.write_canonical(out)?,
+        Token::Whole(number) => number.write_canonical(out)?,
+        Token::Real(number) => number.write_canonical(out)?,
+        Token::Text(text) => text.write_canonical(out)?,
+        Token::Item(word) => {
+            out.push(b'.')?;
+            word.write_canonical(out)?;
+            out.push(b'.')?;
+        }
+        Token::Bits(bits) => bits.write_canonical(out)?,
+        _ => out.push(mark(token))?,
+    }
+    Ok(())
+}
+
+/// The byte of a token of one byte.
+fn mark(token: &Token) -> u8 {
+    match token {
+        Token::Left => b'(',
+        Token::Right => b')',
+        Token::Comma => b',',
+        Token::Semicolon => b';',
+        Token::Equals => b'=',
+        Token::Dollar => b'$',
+        Token::Star => b'*',
+        _ => b'?',
+    }
+}
+
+/// The answers for two pieces.
+fn read_cut(alloc: Global, limits: Limits, first: &[u8], second: &[u8]) -> Result<Vec<u8>, Fail> {
+    let mut reader = Reader::new(alloc, limits);
+    reader.feed(first)?;
+    reader.feed(second)?;
+    reader.end()
+}
+
+/// The answers for pieces of one byte.
+fn read_bytes(alloc: Global, limits: Limits, bytes: &[u8]) -> Result<Vec<u8>, Fail> {
+    let mut reader = Reader::new(alloc, limits);
+    for byte in bytes {
+        reader.feed(&[*byte])?;
+    }
+    reader.end()
+}
+
+/// Looks that bytes give these answers whole, in two pieces cut anywhere, and byte by byte.
+fn expect_answers(
+    rt: &impl Abort,
+    alloc: Global,
+    limits: Limits,
+    bytes: &[u8],
+    answers: &str,
+) -> Result<(), Fail> {
+    for cut in 0..=bytes.len() {
+        let (first, second) = bytes.split_at(cut);
+        let found = read_cut(alloc, limits, first, second)?;
+        assert_eq!(rt; found.as_slice(), answers.as_bytes(), "cut at {cut}");
+    }
+    let found = read_bytes(alloc, limits, bytes)?;
+    assert_eq!(rt; found.as_slice(), answers.as_bytes(), "byte by byte");
+    Ok(())
+}
+
+/// Looks that bytes are refused at their last one, whatever stands behind it, and not before it.
+fn expect_refused(
+    rt: &impl Abort,
+    alloc: Global,
+    limits: Limits,
+    bytes: &[u8],
+    answers: &str,
+) -> Result<(), Fail> {
+    expect_answers(rt, alloc, limits, bytes, answers)?;
+    let found = read_cut(alloc, limits, bytes, b"1;")?;
+    assert_eq!(rt; found.as_slice(), answers.as_bytes());
+    let mut reader = Reader::new(alloc, limits);
+    if let Some((_last, before)) = bytes.split_last() {
+        reader.feed(before)?;
+    }
+    assert_eq!(rt; reader.refused, None, "before the last byte of {answers}");
+    Ok(())
+}
+
+#[test]
+fn reads_a_real_by_pieces(rt: HostRuntime) -> Result<(), Fail> {
+    let mut lexer = Lexer::new(rt.alloc(), Limits::usual());
+    assert!(rt; matches!(lexer.next(b"1.E"), Ok((3, None))));
+    let (taken, token) = lexer.next(b"2)")?;
+    assert_eq!(rt; taken, 1);
+    let mut out = Vec::new(rt.alloc());
+    spell(&token.ok_or("no token")?, &mut out)?;
+    assert_eq!(rt; out.as_slice(), b"1.E2".as_slice());
+    assert!(rt; matches!(lexer.next(b")"), Ok((1, Some(Token::Right)))));
+    assert!(rt; matches!(lexer.finish(), Ok(None)));
+    Ok(())
+}
+
+#[test]
+fn gives_a_last_number_at_the_end(rt: HostRuntime) -> Result<(), Fail> {
+    let mut lexer = Lexer::new(rt.alloc(), Limits::usual());
+    assert!(rt; matches!(lexer.next(b"12"), Ok((2, None))));
+    let mut out = Vec::new(rt.alloc());
+    let Some(Token::Whole(number)) = lexer.finish()? else {
+        return Err("no whole number".into());
+    };
+    number.write_canonical(&mut out)?;
+    assert_eq!(rt; out.as_slice(), b"12".as_slice());
+    Ok(())
+}
+
+#[test]
+fn counts_pending_bytes(rt: HostRuntime) -> Result<(), Fail> {
+    let rows: [(&[u8], u64); 17] = [
+        (b"", 0),
+        (b"#", 1),
+        (b"1", 2),
+        (b" ", 2),
+        (b"=", 3),
+        (b"/", 3),
+        (b"*c", 3),
+        (b"*", 3),
+        (b"/", 3),
+        (b"A", 4),
+        (b"(", 5),
+        (b"'a", 7),
+        (b"\n", 8),
+        (b"'", 9),
+        (b")", 10),
+        (b";", 0),
+        (b"!A%", 2),
+    ];
+    let mut reader = Reader::new(rt.alloc(), Limits::usual());
+    for (piece, pending) in rows {
+        reader.feed(piece)?;
+        assert_eq!(rt; reader.lexer.pending(), pending, "behind {:?}", piece);
+    }
+    assert_eq!(rt; reader.refused, Some(TokenFault::BadByte));
+    Ok(())
+}
+
+#[test]
+fn names_faults(rt: HostRuntime) {
+    let rows = [
+        (TokenFault::BadByte, 1, "BadByte"),
+        (TokenFault::OpenString, 2, "OpenString"),
+        (TokenFault::OpenComment, 3, "OpenComment"),
+        (TokenFault::BadDirective, 4, "BadDirective"),
+        (TokenFault::BadCodePoint, 5, "BadCodePoint"),
+        (TokenFault::NotUtf8, 6, "NotUtf8"),
+        (TokenFault::BadNumber, 7, "BadNumber"),
+        (TokenFault::NumberRange, 8, "NumberRange"),
+        (TokenFault::BadBinary, 9, "BadBinary"),
+        (TokenFault::NameRange, 10, "NameRange"),
+        (TokenFault::BadName, 11, "BadName"),
+        (TokenFault::NotOneParameter, 12, "NotOneParameter"),
+        (TokenFault::RecordTooLong, 22, "RecordTooLong"),
+        (TokenFault::FileTooLong, 23, "FileTooLong"),
+        (TokenFault::EndsEarly, 24, "EndsEarly"),
+        (TokenFault::LeftOut(Absent::Scope), 26, "LeftOut(Scope)"),
+        (TokenFault::NoMemory, 90, "NoMemory"),
+    ];
+    for (fault, number, name) in rows {
+        assert_eq!(rt; fault.number(), number);
+        assert_eq!(rt; fault.name(), name);
+    }
+}
