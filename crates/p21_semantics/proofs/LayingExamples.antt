@@ -3,8 +3,7 @@ use Rattle.std.proofs.Common.{◌≡◌, ◌≢◌, ℕ, ◌+◌, ◌-◌, ◌*�
 use lib.Signed.{le_z_yes}
 use Rattle.std.specs.Prelude.{codes}
 use Rattle.std.specs.List.{flat_map, AllByRecursion as Each}
-use Rattle.p21_semantics.specs.Digits.{AllDigits}
-use Rattle.p21_semantics.specs.Number.{Decimal, HasNormalisedExponent, RealForm, SpellsReal, SpellsWhole, exponent, minus, no_exponent, none, real_ratio}
+use Rattle.p21_semantics.specs.Number.{Decimal, RealForm, SpellsReal, SpellsWhole, exponent, minus, no_exponent, none, real_ratio}
 use Rattle.p21_semantics.specs.Keyword.{IsKeywordByte}
 use Rattle.p21_semantics.specs.Laying.{AreStatementsWithin, HoldsScalar, LaidAs, Lexeme}
 use Rattle.p21_semantics.specs.Name.{SpellsName}
