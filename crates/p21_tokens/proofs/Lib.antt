@@ -3,3 +3,5 @@ pub mod Scanning
 pub mod Following
 pub mod Extending
 pub mod Finishing
+pub mod Scalars
+pub mod OneScalar

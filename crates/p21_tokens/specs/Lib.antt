@@ -3,3 +3,5 @@ pub mod Token
 pub mod Held
 pub mod Steps
 pub mod Histories
+pub mod Parameter
+pub mod Finding
