@@ -6,7 +6,7 @@ use Rattle.std.specs.List.Sorted.{IsStrictlySortedBy}
 use Rattle.std.specs.Ordering.{nat_cmp, is_lt}
 use Rattle.p21_semantics.specs.CanonicalRecord.{AreRising, HasOneLeaf, IsCanonicalForm, IsCanonicalParam}
 use Rattle.p21_semantics.specs.CanonicalText.{param_text}
-use Rattle.p21_semantics.specs.Limits.{AreLimits, usual}
+use Rattle.p21_semantics.specs.Limits.{AreLimits, usual, text_limit}
 use Rattle.p21_semantics.specs.Number.{Decimal}
 use Rattle.p21_semantics.specs.Meaning.{Typed}
 use Rattle.p21_semantics.specs.Parameter.{Key, Param, Params, no_params, param, real, whole, text, name, list, typed}
@@ -114,3 +114,7 @@ usual_are = (lit≤ tt, lit≤ tt)
 
 not_limits : AreLimits (record { record_source = 10; record_canonical = 11; file_source = 10; file_canonical = 10 }) → ⊥
 not_limits h = omega (arith, h)
+
+-- the text of a schema or of one parameter
+longest_text : text_limit ≡ 16777216
+longest_text = refl

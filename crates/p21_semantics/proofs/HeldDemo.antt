@@ -1,5 +1,5 @@
 -- What is held of a file of the schema DEMO behind `DATA;` and `#1=CLOUD((#2),((`.
-use Rattle.std.proofs.Common.{◌≡◌, ℕ, List, [], ◌∷◌, length, refl, arith, lit<, lit≤}
+use Rattle.std.proofs.Common.{◌≡◌, ℕ, List, [], ◌∷◌, refl, arith, lit<, lit≤}
 use Rattle.std.specs.Prelude.{codes}
 use Rattle.std.specs.List.{flat_map, AllByRecursion as Each}
 use Rattle.p21_semantics.specs.Digits.{IsDigit}
@@ -10,7 +10,7 @@ use Rattle.p21_semantics.specs.OpenNesting.{IsNoSemicolon}
 use Rattle.p21_semantics.specs.Pending.{nothing}
 use Rattle.p21_semantics.specs.Schema.{Schema}
 use Rattle.p21_semantics.specs.Statement.{Statement, section, header, begin, header_start, section_end, data_start, statement_tokens}
-use Rattle.p21_semantics.specs.Token.{Token, name, equals, keyword, left, right, comma}
+use Rattle.p21_semantics.specs.Token.{name, equals, keyword}
 use Rattle.p21_semantics.proofs.CanonicalLaying.{Laying, put, put_on_line, put_left, put_right, put_comma, put_section, no_dash_left}
 use Rattle.p21_semantics.proofs.DemoExample.{description, file_name, file_schema, header_lines}
 use Rattle.p21_semantics.proofs.Laying.{keyword_by, left_ends_words, up_to}

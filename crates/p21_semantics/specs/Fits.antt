@@ -1,6 +1,6 @@
 -- The value that a parameter stands for at a type (ISO 10303-21, Mapping of EXPRESS data types).
 use Rattle.std.specs.Prelude.{◌≡◌, ℕ, ◌+◌, ◌≤◌, ℤ, Bool, true, false, List, [], ◌∷◌, length, codes, Option, Some, None, Contains, IfSome}
-use Rattle.p21_semantics.specs.Number.{Decimal, ratio_of, SameRatio, IsReduced, IsInRange}
+use Rattle.p21_semantics.specs.Number.{Decimal, ratio_of, SameRatio, IsReduced, IsInRange, whole_ratio}
 use Rattle.p21_semantics.specs.Schema as schema
 use Rattle.p21_semantics.specs.Schema.{Schema, TypeUse, entity_member, type_member, alias, items, Width, TypeNamed, kind_of}
 use Rattle.p21_semantics.specs.Select.{Offers}
@@ -39,7 +39,7 @@ mutual
     a_real : (d : Decimal) → Fits s kinds schema.real (parameter.real d) (real d)
     -- at a NUMBER an INTEGER or REAL token stands for its ratio; that of a REAL token is in range by its spelling
     a_number : (d : Decimal) → Fits s kinds schema.number (parameter.real d) (number d)
-    a_whole_number : (z : ℤ) (d : Decimal) → IsReduced d → IsInRange (ratio_of d) → SameRatio (ratio_of d) (record { numerator = z; denominator = 1 }) → Fits s kinds schema.number (parameter.whole z) (number d)
+    a_whole_number : (z : ℤ) (d : Decimal) → IsReduced d → IsInRange (ratio_of d) → SameRatio (ratio_of d) (whole_ratio z) → Fits s kinds schema.number (parameter.whole z) (number d)
     a_boolean : (word : List ℕ) → Contains boolean_items word → Fits s kinds schema.boolean (parameter.item word) (item word)
     a_logical : (word : List ℕ) → Contains logical_items word → Fits s kinds schema.logical (parameter.item word) (item word)
     a_text : (width : Option Width) (chars : List ℕ) → IsWithin width (length chars) → Fits s kinds (schema.text width) (parameter.text chars) (text chars)
