@@ -133,3 +133,6 @@ fn append_item(word: &Word, out: &mut Vec<u8>) -> Result<(), NoMemory>
     out.push(b'.')?;
     Ok(())
 }
+
+#[cfg(test)]
+mod tests;
