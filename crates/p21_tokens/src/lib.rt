@@ -13,6 +13,6 @@ mod token;
 pub use fault::TokenFault;
 pub use laying::one_laying;
 pub use lexer::Lexer;
-pub use param::canonical_param;
 pub use p21_tokens_automaton::Absent;
+pub use param::canonical_param;
 pub use token::Token;
