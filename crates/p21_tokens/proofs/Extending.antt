@@ -1,16 +1,15 @@
 -- What a call adds to the history that a lexer stands for.
-use Rattle.std.proofs.Common.{◌≡◌, ◌≢◌, ℕ, zero, suc, ◌+◌, ◌≤◌, ◌<◌, Bool, true, false, cond, eqb, List, [], ◌∷◌, ◌++◌, ◌⊎◌, inl, inr, length, length-append, get_or, take, refl, sym, ap, ◌∙◌, subst, append_assoc, append-nil, arith, Option, Some, None, Result, Ok, Err}
+use Rattle.std.proofs.Common.{◌≡◌, ◌≢◌, ℕ, zero, suc, ◌+◌, ◌≤◌, ◌<◌, Bool, true, false, cond, eqb, List, [], ◌∷◌, ◌++◌, ◌⊎◌, inl, inr, length, length-append, get_or, take, refl, sym, ap, ◌∙◌, subst, append_assoc, append-nil, arith, Option, Some, None, Ok, Err}
 use Rattle.std.specs.List.{slice_get}
 use Rattle.std.specs.Option.{option_map}
 use Rattle.std.proofs.lemmas.List.{length-take-le, take_more}
 use Rattle.std.proofs.lemmas.Option.{slice_get-get_or}
 use Rattle.std.proofs.Math.Seq.{take-length}
-use Rattle.p21_semantics.specs.History.{History, extended, seen_behind, first_refusal, IsOffered, empty}
-use Rattle.p21_semantics.specs.Laying.{Lexeme, Laid, tokens_in, open_bytes, count_behind, AreStatementsWithin}
-use Rattle.p21_semantics.specs.Pending.{Tail, nothing, unfinished, slash, open_comment, tail_bytes, tail_size, IsPending, IsTokenByte, BeginsNoSeparator}
+use Rattle.p21_semantics.specs.History.{extended, seen_behind, first_refusal, IsOffered, empty}
+use Rattle.p21_semantics.specs.Laying.{Lexeme, open_bytes, count_behind, AreStatementsWithin}
+use Rattle.p21_semantics.specs.Pending.{Tail, nothing, unfinished, slash, open_comment, IsPending, IsTokenByte, BeginsNoSeparator}
 use Rattle.p21_semantics.specs.Token.{Token, begin, finish, keyword, user_keyword, name, whole, real, text}
 use Rattle.p21_tokens_automaton.proofs.Complete.{all_of-after}
-use Rattle.p21_tokens_automaton.proofs.Gaps.{gap}
 use Rattle.p21_tokens_automaton.proofs.Sound.{TailIs}
 use Rattle.p21_tokens_automaton.proofs.Steps.{lex-nil}
 use Rattle.p21_tokens_automaton.proofs.Theorems.{laid_read, tail-is, laid-up-to, size-is}
@@ -18,18 +17,17 @@ use Rattle.std.proofs.lemmas.Bool.{cond_both}
 use Rattle.std.proofs.lemmas.Bool.Decides.{nat_tests}
 use Rattle.p21_tokens_automaton.specs.Bytes.{is_blank, is_digit, is_upper}
 use Rattle.p21_tokens_automaton.specs.Step.{advance, mark_action}
-use Rattle.p21_tokens_automaton.specs.declared.mode.Action.{Action}
 use Rattle.p21_tokens_automaton.specs.declared.mode.Action.TheVariants.{Pass, Keep, Refuse}
 use Rattle.p21_tokens_automaton.specs.declared.mode.Mode.TheVariants.{Between, Slash, Comment, Star, Number, Word}
 use Rattle.p21_tokens_automaton.specs.declared.mode.NumberMode.TheVariants as number_mode
 use Rattle.p21_tokens_automaton.specs.declared.mode.WordMode.TheVariants as word_mode
 use Rattle.p21_tokens_automaton.specs.declared.mode.Wrong.TheVariants as wrong
-use Rattle.p21_tokens_automaton.specs.Meaning.{Means, MeanAll}
-use Rattle.p21_tokens_automaton.specs.Reading.{State, start, Answer, Ending, nothing_but, open_at, before, after, Found, Sized, ended, all_of, lex}
+use Rattle.p21_tokens_automaton.specs.Meaning.{MeanAll}
+use Rattle.p21_tokens_automaton.specs.Reading.{State, start, Answer, open_at, after, Found, Sized, ended, all_of, lex}
 use Rattle.p21_tokens.proofs.Following.{tokens-append, mean-append, in-parts, open-append, within-append, after-append, after-nothing, live-laid, live-pending, live-within, live-few, live-first, live-at_once}
 use Rattle.p21_tokens.specs.Held.{Held, pending_of, state_of}
-use Rattle.p21_tokens.specs.Histories.{TokenHistory, call_of, refused_call, Stands, IsLive, IsHandedOver, GoesOn, AreDead, IsStatementFull, Answers, Refuses, RefusesAtByte, NextGives}
-use Rattle.p21_tokens.specs.Steps.{rest_of, is_gap, is_token_byte, IsDeadAt, SameLimits, TakesRun, Gives, Hands, RefusesByte, Scanned, ScansToken, gave, handed, Scans, RefusesAt}
+use Rattle.p21_tokens.specs.Histories.{TokenHistory, call_of, Stands, IsLive, IsHandedOver, GoesOn, AreDead, IsStatementFull, Answers, Refuses, NextGives}
+use Rattle.p21_tokens.specs.Steps.{rest_of, is_token_byte, IsDeadAt, SameLimits, TakesRun, Gives, Hands, RefusesByte, Scanned, ScansToken, gave, handed, Scans, RefusesAt}
 use Rattle.p21_tokens.specs.Token.{meant, waits}
 use Rattle.p21_tokens.specs.declared.fault.TokenFault.{TokenFault}
 use Rattle.p21_tokens.specs.declared.fault.TokenFault.TheVariants as fault

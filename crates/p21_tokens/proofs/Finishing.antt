@@ -1,9 +1,8 @@
 -- The end of the bytes, a lexer that has refused, and separators, which need no memory.
-use Rattle.std.proofs.Common.{◌≡◌, ◌≢◌, ℕ, zero, suc, ◌+◌, ◌≤◌, ◌<◌, Bool, true, false, List, [], ◌∷◌, ◌++◌, ◌⊎◌, inl, inr, length, take, refl, sym, ap, ◌∙◌, subst, append_assoc, append-nil, arith, Option, Some, None, Result, Ok, Err}
+use Rattle.std.proofs.Common.{◌≡◌, ℕ, zero, suc, ◌<◌, true, List, [], ◌∷◌, ◌++◌, inl, inr, length, take, refl, sym, ap, ◌∙◌, subst, append-nil, arith, Option, Some, None, Result, Ok, Err}
 use Rattle.std.specs.List.{slice_get}
 use Rattle.std.proofs.lemmas.Bool.Decides.{nat_tests}
-use Rattle.p21_semantics.specs.History.{History, IsOffered}
-use Rattle.p21_semantics.specs.Laying.{Lexeme, LaidAs, Laid, tokens_in}
+use Rattle.p21_semantics.specs.Laying.{Lexeme, LaidAs, Laid}
 use Rattle.p21_semantics.specs.Pending.{Tail, nothing, unfinished, slash, open_comment, tail_bytes, BeginsNoSeparator}
 use Rattle.p21_semantics.specs.Separator.{blank, IsSeparator}
 use Rattle.p21_semantics.specs.Token.{Token}
@@ -13,8 +12,8 @@ use Rattle.p21_tokens_automaton.proofs.Gaps.{gap}
 use Rattle.p21_tokens_automaton.proofs.Sound.{LaidTo, TailIs, UpTo}
 use Rattle.p21_tokens_automaton.proofs.Theorems.{laid_read, laid-whole}
 use Rattle.p21_tokens_automaton.specs.Bytes.{is_blank}
-use Rattle.p21_tokens_automaton.specs.Meaning.{Means, MeanAll}
-use Rattle.p21_tokens_automaton.specs.Reading.{State, start, Answer, Found, Sized, ended, ended_in, closing, at_end, all_after, all_of, lex}
+use Rattle.p21_tokens_automaton.specs.Meaning.{MeanAll}
+use Rattle.p21_tokens_automaton.specs.Reading.{State, start, Sized, ended_in, closing, all_after, all_of}
 use Rattle.p21_tokens_automaton.specs.declared.mode.Mode.{Mode}
 use Rattle.p21_tokens_automaton.specs.declared.mode.Mode.TheVariants.{Between, Slash, Comment, Star}
 use Rattle.p21_tokens.proofs.Extending.{stands-live}
@@ -22,7 +21,7 @@ use Rattle.p21_tokens.proofs.Following.{tokens-append, in-parts, live-laid, whol
 use Rattle.p21_tokens.specs.Held.{Held, pending_of, state_of}
 use Rattle.p21_tokens.specs.Histories.{TokenHistory, Stands, IsLive, NextGives, FinishGives, AreSeparators}
 use Rattle.p21_tokens.specs.Steps.{is_gap, AreBlank, IsFaultAtEnd, MayNotEnd, ReadsEnd, RefusesAt}
-use Rattle.p21_tokens.specs.Token.{meant, meant_all}
+use Rattle.p21_tokens.specs.Token.{meant}
 use Rattle.p21_tokens.specs.declared.fault.TokenFault.{TokenFault}
 use Rattle.p21_tokens.specs.declared.fault.TokenFault.TheVariants as fault
 use Rattle.p21_tokens.specs.declared.token.Token.{Token as TokenRead}

@@ -1,21 +1,18 @@
 -- What follows of what a lexer stands for.
-use Rattle.std.proofs.Common.{◌≡◌, ◌≢◌, ℕ, zero, suc, ◌+◌, ◌≤◌, ◌<◌, Bool, true, false, List, [], ◌∷◌, ◌++◌, ◌⊎◌, inl, inr, length, length-append, map, take, refl, sym, ap, ◌∙◌, subst, append_assoc, append-nil, arith, Option, Some, None}
-use Rattle.std.specs.List.{slice_get}
-use Rattle.p21_semantics.specs.History.{History, extended, looked_at, seen_behind, IsOffered, empty}
-use Rattle.p21_semantics.specs.Laying.{Lexeme, LaidAs, Laid, tokens_in, open_bytes, count_behind, AreStatementsWithin}
-use Rattle.p21_semantics.specs.Pending.{Tail, nothing, unfinished, slash, open_comment, tail_bytes, tail_size, LaidUpTo, IsPending}
+use Rattle.std.proofs.Common.{◌≡◌, ℕ, suc, ◌+◌, ◌≤◌, List, [], ◌∷◌, ◌++◌, inl, inr, length, refl, sym, ap, ◌∙◌, subst, append_assoc, append-nil, arith, Option, Some, None}
+use Rattle.p21_semantics.specs.History.{looked_at}
+use Rattle.p21_semantics.specs.Laying.{Lexeme, LaidAs, tokens_in, open_bytes, count_behind, AreStatementsWithin}
+use Rattle.p21_semantics.specs.Pending.{nothing, tail_bytes, IsPending}
 use Rattle.p21_semantics.specs.Token.{Token, IsWholeAtOnce}
 use Rattle.p21_tokens_automaton.proofs.Complete.{all_of-after}
-use Rattle.p21_tokens_automaton.proofs.Fits.{ModeFits}
-use Rattle.p21_tokens_automaton.proofs.Once.{means-once}
-use Rattle.p21_tokens_automaton.proofs.Sound.{LaidTo, TailIs, UpTo, read}
+use Rattle.p21_tokens_automaton.proofs.Sound.{LaidTo, UpTo, read}
 use Rattle.p21_tokens_automaton.proofs.Steps.{lex-nil}
 use Rattle.p21_tokens_automaton.proofs.Theorems.{laid_read, read_laid, tail-is, laid-up-to, size-is, tokens-first}
 use Rattle.p21_tokens_automaton.proofs.Fronts.{ended-laid, laid-few, front-run}
-use Rattle.p21_tokens_automaton.specs.Meaning.{Means, MeanAll}
-use Rattle.p21_tokens_automaton.specs.Reading.{State, start, Answer, Ending, nothing_but, open_at, before, after, Found, Sized, ended, all_of, lex}
+use Rattle.p21_tokens_automaton.specs.Meaning.{MeanAll}
+use Rattle.p21_tokens_automaton.specs.Reading.{State, start, Answer, nothing_but, open_at, before, after, Sized, all_of, lex}
 use Rattle.p21_tokens.specs.Held.{Held, pending_of, state_of}
-use Rattle.p21_tokens.specs.Histories.{TokenHistory, Stands, IsLive, IsHandedOver, GoesOn, AreGivenFirst, AreGivenAtOnce, IsLaidWithin}
+use Rattle.p21_tokens.specs.Histories.{TokenHistory, IsLive, IsHandedOver, GoesOn, AreGivenFirst, AreGivenAtOnce, IsLaidWithin}
 use Rattle.p21_tokens.specs.Steps.{rest_of}
 
 -- ---- lists of tokens and what they were found as

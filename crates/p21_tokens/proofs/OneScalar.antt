@@ -1,8 +1,8 @@
 -- The search for the one scalar of a text.
-use Rattle.std.proofs.Common.{◌≡◌, ◌≢◌, ℕ, zero, suc, ◌+◌, ◌-◌, ◌^◌, ◌≤◌, ◌<◌, Bool, true, false, cond, List, [], ◌∷◌, ◌++◌, ◌⊎◌, inl, inr, length, length-append, length-drop, take, drop, refl, sym, ap, ◌∙◌, subst, append_assoc, append-nil, arith, take_all, Option, Some, None, Result, Ok, Err}
+use Rattle.std.proofs.Common.{◌≡◌, ℕ, zero, suc, ◌+◌, ◌-◌, ◌^◌, ◌≤◌, ◌<◌, Bool, true, false, cond, List, [], ◌∷◌, ◌++◌, ◌⊎◌, inl, inr, length, length-append, length-drop, take, drop, refl, sym, ap, ◌∙◌, subst, append_assoc, append-nil, arith, take_all, Option, Some, None, Result, Ok, Err}
 use Rattle.std.specs.List.{slice_get, slice_range}
-use Rattle.std.proofs.lemmas.List.{take-append-drop, length-take-le}
-use Rattle.p21_semantics.specs.History.{History, extended, seen_behind, first_refusal, looked_at, IsOffered, empty}
+use Rattle.std.proofs.lemmas.List.{take-append-drop}
+use Rattle.p21_semantics.specs.History.{extended, seen_behind, first_refusal, looked_at, IsOffered, empty}
 use Rattle.p21_semantics.specs.Laying.{Lexeme, Laid, HoldsScalar, open_bytes, count_behind}
 use Rattle.p21_semantics.specs.Limits.{text_limit}
 use Rattle.p21_semantics.specs.Pending.{Tail, nothing, unfinished, slash, open_comment, tail_bytes, tail_size, LaidUpTo}
@@ -10,7 +10,7 @@ use Rattle.p21_semantics.specs.Token.{Token, semicolon, IsScalarToken}
 use Rattle.p21_tokens_automaton.proofs.Theorems.{one-laying}
 use Rattle.p21_tokens.specs.Finding.{FindsScalar, FindsOnly}
 use Rattle.p21_tokens.specs.Held.{Held}
-use Rattle.p21_tokens.specs.Histories.{TokenHistory, call_of, Stands, GoesOn, AreDead, IsStatementFull, Answers, Refuses, RefusesAtByte, NextGives, FinishGives}
+use Rattle.p21_tokens.specs.Histories.{TokenHistory, call_of, Stands, GoesOn, AreDead, Answers, RefusesAtByte, NextGives, FinishGives}
 use Rattle.p21_tokens.specs.Token.{meant, meant_all, waits}
 use Rattle.p21_tokens.specs.declared.fault.TokenFault.{TokenFault}
 use Rattle.p21_tokens.specs.declared.fault.TokenFault.TheVariants as fault

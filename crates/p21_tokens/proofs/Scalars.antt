@@ -1,5 +1,5 @@
 -- The canonical spelling of a scalar spells it, and is that of the same scalars alone.
-use Rattle.std.proofs.Common.{◌≡◌, ◌↔◌, ℕ, ◌≤◌, ◌<◌, List, [], ◌∷◌, ◌++◌, ◌+◌, length, refl, sym, ap, ◌∙◌, subst, append-nil, arith}
+use Rattle.std.proofs.Common.{◌≡◌, ℕ, ◌≤◌, List, [], ◌∷◌, ◌+◌, length, refl, sym, ap, subst, append-nil, arith}
 use Rattle.std.proofs.Math.Nat.{one-le-pow}
 use borrow.Author.Differences.{down}
 use Rattle.p21_semantics.proofs.BitSpellings.{bits_spell}
@@ -13,11 +13,11 @@ use Rattle.p21_semantics.proofs.Texts.{text_spells}
 use Rattle.p21_semantics.proofs.WholeSpellings.{whole_spells}
 use Rattle.p21_semantics.specs.Laying.{Lexeme, LaidAs, Laid, tokens_in, HoldsScalar}
 use Rattle.p21_semantics.specs.Limits.{text_limit}
-use Rattle.p21_semantics.specs.Number.{Decimal, IsReduced, IsInRange, SameRatio, SpellsReal, exponent_value, ratio_of, real_ratio}
+use Rattle.p21_semantics.specs.Number.{Decimal, IsInRange, SpellsReal, exponent_value, ratio_of, real_ratio}
 use Rattle.p21_semantics.specs.Spelling.{spelling}
 use Rattle.p21_semantics.specs.Token.{Token, begin, finish, keyword, user_keyword, name, whole, real, text, item, bits, left, right, comma, semicolon, equals, dollar, star, Spells, IsScalarToken}
 use Rattle.p21_tokens_automaton.proofs.Theorems.{one-laying}
-use Rattle.p21_tokens.specs.Parameter.{IsScalarValue, SameScalar, IsAnswer}
+use Rattle.p21_tokens.specs.Parameter.{SameScalar, IsAnswer}
 
 in-range : (bytes : List ℕ) (d : Decimal) → SpellsReal bytes d → IsInRange (ratio_of d)
 in-range bytes d s = in_range_of_same (real_ratio s.form) (ratio_of d) (one-le-pow (length s.form.fraction + down (exponent_value s.form.power)) 10 (omega arith)) (ratio-positive d) s.same s.in_range

@@ -1,16 +1,12 @@
 -- Bytes of a piece, one after another and in runs.
-use Rattle.std.proofs.Common.{◌≡◌, ℕ, ◌+◌, ◌-◌, ◌≤◌, ◌<◌, Bool, true, false, List, [], ◌∷◌, ◌++◌, length, get_or, take, drop, refl, sym, ap, ◌∙◌, subst, append_assoc, append-nil, arith, length-append, length-drop, take_all, Option, Some, None, Result, Ok, Err}
+use Rattle.std.proofs.Common.{◌≡◌, ℕ, ◌+◌, ◌-◌, ◌≤◌, ◌<◌, List, [], ◌∷◌, ◌++◌, length, get_or, take, drop, refl, sym, ap, ◌∙◌, subst, append_assoc, arith, length-append, length-drop, take_all, Some, None, Ok, Err}
 use Rattle.std.specs.List.{slice_get, slice_range}
-use Rattle.std.specs.Option.{option_map}
-use Rattle.std.proofs.lemmas.List.{take_more, length-take-le}
+use Rattle.std.proofs.lemmas.List.{take_more}
 use Rattle.std.proofs.lemmas.Option.{slice_get-get_or}
 use Rattle.std.proofs.Math.Seq.{take-length, take-add}
-use Rattle.p21_tokens_automaton.specs.Bytes.{is_blank}
 use Rattle.p21_tokens.specs.Held.{Held}
-use Rattle.p21_tokens.specs.Steps.{is_gap, AreBlank, rest_of, SameLimits, RefusesByte, Takes, Gives, Hands, Steps, TakesRun, Runs, Scans, ScansToken, gave, handed, RefusesAt}
-use Rattle.p21_tokens.specs.Token.{meant}
+use Rattle.p21_tokens.specs.Steps.{AreBlank, rest_of, SameLimits, RefusesByte, Takes, Steps, TakesRun, Runs, Scans, gave, handed}
 use Rattle.p21_tokens.specs.declared.fault.TokenFault.{TokenFault}
-use Rattle.p21_tokens.specs.declared.fault.TokenFault.TheVariants as fault
 use Rattle.p21_tokens.specs.declared.step.Step.TheVariants.{Took, Gave, Handed}
 use Rattle.p21_tokens.specs.declared.token.Token.{Token}
 

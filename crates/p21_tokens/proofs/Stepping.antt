@@ -1,12 +1,12 @@
 -- What each action makes of what is held.
-use Rattle.std.proofs.Common.{eqb, cond, ◌≡◌, ◌≢◌, ℕ, ◌+◌, ◌≤◌, ◌<◌, Bool, true, false, List, [], ◌∷◌, ◌++◌, length, refl, sym, ap, ◌∙◌, subst, arith, Option, Some, None, Result, Ok, Err}
+use Rattle.std.proofs.Common.{eqb, cond, ◌≡◌, ℕ, ◌+◌, ◌<◌, true, false, List, [], ◌∷◌, ◌++◌, refl, sym, ap, ◌∙◌, subst, arith, Option, Some, None, Result, Ok, Err}
 use Rattle.std.proofs.lemmas.Bool.{cond_both}
 use Rattle.p21_semantics.specs.Laying.{Lexeme, count_behind}
 use Rattle.p21_semantics.specs.Token as meaning
 use Rattle.p21_tokens_automaton.proofs.Steps.{lex-pass, lex-skip, lex-keep, lex-put, lex-give, lex-close, lex-dash, lex-end, lex-byte}
 use Rattle.p21_tokens_automaton.specs.Bytes.{is_blank}
 use Rattle.p21_tokens_automaton.specs.Meaning.{Means, MeanAll}
-use Rattle.p21_tokens_automaton.specs.Reading.{State, start, Answer, nothing_but, stopped, before, Found, known, spelled, keyword, user_keyword, whole, real, item, bits, Sized, closed, ended, ended_in, ended_number, ended_word, ended_name, ended_text, marker_of, single_token, given_first, dashed, first, act, at_end, all_after, all_of, lex}
+use Rattle.p21_tokens_automaton.specs.Reading.{start, Answer, nothing_but, stopped, before, Found, known, spelled, keyword, user_keyword, whole, real, item, bits, Sized, closed, ended, ended_in, ended_number, ended_word, ended_name, ended_text, marker_of, single_token, given_first, dashed, first, act, at_end, all_after, all_of, lex}
 use Rattle.p21_tokens_automaton.specs.Step.{advance}
 use Rattle.p21_tokens_automaton.specs.declared.mode.Action.{Action}
 use Rattle.p21_tokens_automaton.specs.declared.mode.Action.TheVariants.{Pass, Skip, Keep, Put, Give, Close, End, Dash, Refuse}
@@ -27,7 +27,7 @@ use Rattle.p21_tokens_automaton.specs.declared.mode.Wrong.{Wrong}
 use Rattle.p21_tokens_automaton.specs.declared.mode.Wrong.TheVariants as wrong
 use Rattle.p21_tokens.specs.Fault.{fault_of}
 use Rattle.p21_tokens.specs.Held.{Held, pending_of, state_of}
-use Rattle.p21_tokens.specs.Steps.{is_gap, is_token_byte, rest_of, IsDeadAt, ReadsFound, SameLimits, RefusesByte, Takes, Gives, Hands, Steps, behind_token, Closes, Ends}
+use Rattle.p21_tokens.specs.Steps.{is_gap, rest_of, IsDeadAt, ReadsFound, SameLimits, RefusesByte, Steps, behind_token, Closes, Ends}
 use Rattle.p21_tokens.specs.Token.{meant, waits}
 use Rattle.p21_tokens.specs.declared.fault.TokenFault.{TokenFault}
 use Rattle.p21_tokens.specs.declared.fault.TokenFault.TheVariants as fault

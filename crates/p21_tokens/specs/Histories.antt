@@ -4,11 +4,11 @@ use Rattle.std.specs.Option.{option_map}
 use Rattle.std.specs.List.{AllByRecursion as Each}
 use Rattle.p21_semantics.specs.History.{History, extended, looked_at, IsOffered}
 use Rattle.p21_semantics.specs.Laying.{Lexeme, Laid, tokens_in, open_bytes, AreStatementsWithin}
-use Rattle.p21_semantics.specs.Pending.{Tail, tail_size, LaidUpTo, IsPending, IsTokenByte}
+use Rattle.p21_semantics.specs.Pending.{Tail, tail_size, LaidUpTo, IsTokenByte}
 use Rattle.p21_semantics.specs.Separator.{blank, IsSeparator}
 use Rattle.p21_semantics.specs.Token.{Token, IsWholeAtOnce}
 use Rattle.p21_tokens_automaton.specs.Meaning.{MeanAll}
-use Rattle.p21_tokens_automaton.specs.Reading.{State, start, Answer, nothing_but, open_at, Found, Sized, ended, after, lex}
+use Rattle.p21_tokens_automaton.specs.Reading.{State, start, open_at, Found, Sized, ended, after, lex}
 use Rattle.p21_tokens.specs.Held.{Held, pending_of, state_of}
 use Rattle.p21_tokens.specs.Steps.{rest_of, IsFaultAtEnd}
 use Rattle.p21_tokens.specs.Token.{meant, meant_all, waits}

@@ -1,11 +1,9 @@
 -- What is laid is read: the tokens laid in bytes are those that the reading finds.
-use Rattle.std.proofs.Common.{◌≡◌, ℕ, ◌+◌, List, [], ◌∷◌, ◌++◌, ◌⊎◌, inl, inr, length, refl, sym, ap, ◌∙◌, subst, append_assoc, append-nil, Option, Some, None, arith}
-use Rattle.p21_semantics.specs.Token.{Token, Spells, IsFollowed, MayFollow}
-use Rattle.p21_semantics.specs.Separator.{IsSeparatorText}
+use Rattle.std.proofs.Common.{◌≡◌, ℕ, List, [], ◌∷◌, ◌++◌, ◌⊎◌, inl, inr, length, refl, sym, ap, ◌∙◌, append_assoc, append-nil, Option, Some, None}
+use Rattle.p21_semantics.specs.Token.{Token, Spells, IsFollowed}
 use Rattle.p21_semantics.specs.Laying.{Lexeme, LaidAs}
 use Rattle.p21_tokens_automaton.specs.Meaning.{Means, found_of, MeanAll}
-use Rattle.p21_tokens_automaton.specs.Reading.{State, start, Answer, nothing_but, open_at, before, after, Found, Sized, ended, closing, at_end, all_after, all_of, lex}
-use Rattle.p21_tokens_automaton.specs.declared.mode.Mode.{Mode}
+use Rattle.p21_tokens_automaton.specs.Reading.{start, Answer, open_at, before, after, Found, Sized, closing, at_end, all_after, all_of, lex}
 use Rattle.p21_tokens_automaton.proofs.Gaps.{gap-run}
 use Rattle.p21_tokens_automaton.proofs.Steps.{lex-nil, lex-end}
 use Rattle.p21_tokens_automaton.proofs.Waits.{Waits, IsGiven}

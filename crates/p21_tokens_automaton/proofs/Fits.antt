@@ -1,5 +1,5 @@
 -- The bytes of an open token that lead to a state: what each state says of the bytes behind it.
-use Rattle.std.proofs.Common.{◌≡◌, ℕ, ◌+◌, ◌*◌, ◌^◌, ◌<◌, ◌≤◌, List, [], ◌∷◌, ◌++◌, length, take, Some}
+use Rattle.std.proofs.Common.{◌≡◌, ℕ, ◌^◌, ◌<◌, ◌≤◌, List, [], ◌∷◌, ◌++◌, length, take, Some}
 use Rattle.p21_semantics.specs.Digits.{AllDigits, number}
 use Rattle.p21_semantics.specs.Token.{Token, Spells, MayFollow}
 use Rattle.p21_tokens_automaton.proofs.TextFits.{TextFits}

@@ -1,5 +1,5 @@
 -- Fronts of bytes: the token that their end leaves, how many tokens they have, and those that need no byte behind them.
-use Rattle.std.proofs.Common.{◌≡◌, ◌≢◌, ℕ, ◌+◌, ◌≤◌, ◌<◌, List, [], ◌∷◌, ◌++◌, inl, inr, length, length-append, refl, sym, ap, ◌∙◌, subst, append_assoc, append-nil, Option, Some, None, arith}
+use Rattle.std.proofs.Common.{◌≡◌, ℕ, ◌≤◌, ◌<◌, List, [], ◌∷◌, ◌++◌, inl, inr, length, length-append, refl, sym, ap, ◌∙◌, subst, append_assoc, Option, Some, None, arith}
 use Rattle.p21_semantics.specs.Token.{Token, begin, finish, keyword, user_keyword, name, whole, real, text, item, bits, left, right, comma, semicolon, equals, dollar, star, Spells, IsFollowed, IsWholeAtOnce}
 use Rattle.p21_semantics.specs.Keyword.{IsKeyword}
 use Rattle.p21_semantics.specs.Number.{sign_bytes, exponent_bytes}
@@ -14,8 +14,6 @@ use Rattle.p21_tokens_automaton.proofs.Steps.{lex-end, lex-nil}
 use Rattle.p21_tokens_automaton.proofs.TextSound.{text-ends}
 use Rattle.p21_tokens_automaton.proofs.Theorems.{laid_read, readings, given-at-once, laid-last}
 use Rattle.p21_tokens_automaton.proofs.TokenSound.{mode-ends}
-use Rattle.p21_tokens_automaton.proofs.Waits.{Waits, IsGiven}
-use Rattle.p21_tokens_automaton.specs.declared.mode.Mode.{Mode}
 use Rattle.p21_tokens_automaton.specs.declared.mode.Mode.TheVariants.{Slash, Comment, Star}
 
 -- ---- the token that the end of the bytes leaves

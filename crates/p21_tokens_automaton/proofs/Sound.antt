@@ -1,7 +1,6 @@
 -- What is read is laid: the tokens that the reading finds are laid in the bytes, up to an unfinished token or comment.
 use Rattle.std.proofs.Common.{◌≡◌, ◌≢◌, false, ℕ, ◌+◌, ◌<◌, List, [], ◌∷◌, ◌++◌, ◌⊎◌, inl, inr, length, length-append, refl, sym, ap, ◌∙◌, subst, append_assoc, append-nil, Option, Some, None, arith}
-use Rattle.std.specs.List.{flat_map, AllByRecursion as Each}
-use Rattle.std.proofs.lemmas.Bool.{cases_eq, cond_both, eqb-true, eqb-false, leb-false}
+use Rattle.std.proofs.lemmas.Bool.{cond_both, eqb-true, eqb-false}
 use Rattle.std.proofs.lemmas.Bool.Decides.{nat_tests}
 use Rattle.p21_semantics.specs.Token.{Token, item, bits, Spells, IsFollowed, MayFollow}
 use Rattle.p21_semantics.specs.Separator.{Separator, blank, comment, EndsOnce, IsSeparator, separator_bytes, IsSeparatorText}
@@ -16,7 +15,6 @@ use Rattle.p21_tokens_automaton.specs.declared.mode.Mode.TheVariants.{Between, S
 use Rattle.p21_tokens_automaton.specs.declared.mode.Single.{Single}
 use Rattle.p21_tokens_automaton.specs.declared.mode.Single.TheVariants as single
 use Rattle.p21_tokens_automaton.specs.declared.mode.Wrong.{Wrong}
-use Rattle.p21_tokens_automaton.specs.declared.mode.Wrong.TheVariants as wrong
 use Rattle.p21_tokens_automaton.specs.declared.mode.Action.{Action}
 use Rattle.p21_tokens_automaton.specs.declared.mode.Action.TheVariants.{Pass, Skip, Keep, Put, Give, Close, End, Dash, Refuse}
 use Rattle.p21_tokens_automaton.proofs.Fits.{ModeFits, EndFits, StepFits}

@@ -1,6 +1,5 @@
 -- One byte of the reading, by the action that it calls for.
-use Rattle.std.proofs.Common.{◌≡◌, ℕ, ◌+◌, List, [], ◌∷◌, ◌++◌, length, refl, sym, ap, ◌∙◌, Option, Some, None}
-use Rattle.p21_semantics.specs.Token.{Token}
+use Rattle.std.proofs.Common.{◌≡◌, ℕ, ◌+◌, List, [], ◌∷◌, ◌++◌, refl, ap, ◌∙◌, Option, Some}
 use Rattle.p21_tokens_automaton.specs.Step.{advance}
 use Rattle.p21_tokens_automaton.specs.Reading.{State, start, pass, skip, keep, put, Answer, nothing_but, before, Goes, Found, known, single_token, ended, closed, marker_of, given_first, dashed, first, act, lex, stopped, open_at}
 use Rattle.p21_tokens_automaton.specs.declared.mode.Mode.{Mode}

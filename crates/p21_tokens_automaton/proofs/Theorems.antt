@@ -1,21 +1,18 @@
 -- The two theorems that join the reading to the tokens laid in bytes, and what follows of them.
-use Rattle.std.proofs.Common.{◌≡◌, ◌≢◌, ℕ, ◌+◌, ◌<◌, ◌≤◌, List, [], ◌∷◌, ◌++◌, ◌⊎◌, inl, inr, length, length-append, map, refl, sym, ap, ◌∙◌, subst, append_assoc, append-nil, Option, Some, None, arith}
+use Rattle.std.proofs.Common.{◌≡◌, ℕ, ◌+◌, List, [], ◌∷◌, ◌++◌, ◌⊎◌, inl, inr, length, length-append, refl, sym, ap, ◌∙◌, subst, append_assoc, append-nil, Some, arith}
 use Rattle.std.proofs.lemmas.Bool.{ne_eqb}
-use Rattle.p21_semantics.specs.Token.{Token, begin, finish, keyword, user_keyword, name, whole, real, text, item, bits, left, right, comma, semicolon, equals, dollar, star, Spells, MayFollow, IsFollowed, IsWholeAtOnce}
+use Rattle.p21_semantics.specs.Token.{Token, begin, finish, keyword, user_keyword, name, whole, real, text, item, bits, left, right, comma, semicolon, equals, dollar, star, Spells, IsWholeAtOnce}
 use Rattle.p21_semantics.specs.Laying.{Lexeme, LaidAs, Laid, tokens_in}
-use Rattle.p21_semantics.specs.Pending.{Tail, nothing, unfinished, slash, open_comment, tail_bytes, tail_size, BeginsNoSeparator, IsKnownWhole, IsUnfinished, IsTail, LaidUpTo}
-use Rattle.p21_tokens_automaton.specs.Meaning.{Means, MeanAll, found_of}
-use Rattle.p21_tokens_automaton.specs.Step.{advance}
-use Rattle.p21_tokens_automaton.specs.Reading.{State, start, skip, Answer, nothing_but, open_at, before, after, Found, Sized, ended, closing, at_end, all_of, lex}
-use Rattle.p21_tokens_automaton.specs.declared.mode.Action.TheVariants.{End}
-use Rattle.p21_tokens_automaton.specs.declared.mode.Mode.{Mode}
+use Rattle.p21_semantics.specs.Pending.{Tail, nothing, unfinished, slash, open_comment, tail_bytes, tail_size, IsKnownWhole, IsTail, LaidUpTo}
+use Rattle.p21_tokens_automaton.specs.Meaning.{MeanAll, found_of}
+use Rattle.p21_tokens_automaton.specs.Reading.{State, start, skip, Answer, nothing_but, open_at, before, Sized, all_of, lex}
 use Rattle.p21_tokens_automaton.specs.declared.mode.Mode.TheVariants.{Text}
 use Rattle.p21_tokens_automaton.specs.declared.mode.TextMode.TheVariants as text_mode
 use Rattle.p21_tokens_automaton.specs.declared.mode.Single.TheVariants as single
-use Rattle.p21_tokens_automaton.proofs.Complete.{laid-read, all_of-after}
+use Rattle.p21_tokens_automaton.proofs.Complete.{laid-read}
 use Rattle.p21_tokens_automaton.proofs.Once.{means-once, spells-means}
 use Rattle.p21_tokens_automaton.proofs.Sound.{LaidTo, TailIs, UpTo, read, read-laid}
-use Rattle.p21_tokens_automaton.proofs.Steps.{lex-skip, lex-end, lex-nil}
+use Rattle.p21_tokens_automaton.proofs.Steps.{lex-skip, lex-end}
 use Rattle.p21_tokens_automaton.proofs.TextRuns.{text-run}
 use Rattle.p21_tokens_automaton.proofs.TextSound.{text-fits, text-ends}
 use Rattle.p21_tokens_automaton.proofs.TokenRuns.{token-readings, item-run, bits-run, single-run}

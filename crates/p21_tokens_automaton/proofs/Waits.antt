@@ -1,5 +1,5 @@
 -- How the spelling of a token is read.
-use Rattle.std.proofs.Common.{◌≡◌, ℕ, List, ◌++◌, length, Some, ◌⊎◌}
+use Rattle.std.proofs.Common.{◌≡◌, ℕ, List, ◌++◌, length, Some}
 use Rattle.p21_semantics.specs.Token.{Token, MayFollow}
 use Rattle.p21_tokens_automaton.specs.Meaning.{found_of}
 use Rattle.p21_tokens_automaton.specs.Step.{advance}

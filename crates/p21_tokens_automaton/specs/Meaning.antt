@@ -1,5 +1,5 @@
 -- Which token is found: one that is known, or one of a kind that its bytes spell.
-use Rattle.std.specs.Prelude.{◌≡◌, ℕ, List, [], ◌∷◌, length}
+use Rattle.std.specs.Prelude.{◌≡◌, ℕ, List, [], ◌∷◌}
 use Rattle.p21_semantics.specs.Token.{Token, keyword as keyword_token, user_keyword as user_keyword_token, whole as whole_token, real as real_token, item as item_token, bits as bits_token, Spells}
 use Rattle.p21_semantics.specs.Laying.{Lexeme}
 use Rattle.p21_tokens_automaton.specs.Reading.{Kind, keyword, user_keyword, whole, real, item, bits, Found, known, spelled, Sized}

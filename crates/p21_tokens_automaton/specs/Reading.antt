@@ -1,11 +1,11 @@
 -- The tokens that a whole byte list gives, read byte by byte: a plain function between the states of the reader and the
 -- tokens that are laid in the bytes, which nobody has to believe.
-use Rattle.std.specs.Prelude.{ℕ, ◌+◌, List, [], ◌∷◌, ◌++◌, length, Bool, ◌==◌, if◌then◌else◌, Option, Some, None, codes}
+use Rattle.std.specs.Prelude.{ℕ, ◌+◌, List, [], ◌∷◌, ◌++◌, if◌then◌else◌, Option, Some, None, codes}
 use Rattle.std.specs.Str.{bytes_eq}
 use Rattle.p21_semantics.specs.Token.{Token, begin, finish, name, text, left, right, comma, semicolon, equals, dollar, star}
 use Rattle.p21_tokens_automaton.specs.Step.{advance}
 use Rattle.p21_tokens_automaton.specs.declared.mode.Mode.{Mode}
-use Rattle.p21_tokens_automaton.specs.declared.mode.Mode.TheVariants.{Between, Slash, Comment, Star, Number, Word, Name, Binary, Text}
+use Rattle.p21_tokens_automaton.specs.declared.mode.Mode.TheVariants.{Between, Number, Word, Name, Binary, Text}
 use Rattle.p21_tokens_automaton.specs.declared.mode.NumberMode.{NumberMode}
 use Rattle.p21_tokens_automaton.specs.declared.mode.NumberMode.TheVariants as number
 use Rattle.p21_tokens_automaton.specs.declared.mode.WordMode.{WordMode}
@@ -14,7 +14,6 @@ use Rattle.p21_tokens_automaton.specs.declared.mode.Marker.{Marker}
 use Rattle.p21_tokens_automaton.specs.declared.mode.Marker.TheVariants.{Begin, Finish}
 use Rattle.p21_tokens_automaton.specs.declared.mode.NameMode.{NameMode}
 use Rattle.p21_tokens_automaton.specs.declared.mode.NameMode.TheVariants as name_mode
-use Rattle.p21_tokens_automaton.specs.declared.mode.BinaryMode.TheVariants as binary
 use Rattle.p21_tokens_automaton.specs.declared.mode.TextMode.{TextMode}
 use Rattle.p21_tokens_automaton.specs.declared.mode.TextMode.TheVariants as text_mode
 use Rattle.p21_tokens_automaton.specs.declared.mode.Single.{Single}

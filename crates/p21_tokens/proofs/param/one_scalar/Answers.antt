@@ -1,10 +1,10 @@
-use Rattle.std.proofs.Common.{◌≡◌, ◌<◌, ◌+◌, ℕ, length, IsTrue, true, false, arith, List, [], ◌∷◌, ◌==◌, refl, Option, Some, None, Ok, Err, ap, ◌∙◌, subst}
+use Rattle.std.proofs.Common.{◌≡◌, ◌<◌, ℕ, length, IsTrue, true, false, arith, List, ◌==◌, refl, Option, Some, None, Ok, subst}
 use Rattle.std.proofs.lemmas.Bool.Decides.{nat_tests}
 use Rattle.std.specs.Option.{is_some}
 use Rattle.p21_semantics.specs.Laying.{HoldsScalar}
 use Rattle.p21_semantics.specs.Token.{Token, IsScalarToken}
 use Rattle.p21_tokens.proofs.OneScalar.{kept-none, kept-some, second-token, no-scalar, finds-refused, finds-end, tokens-are, finds-only}
-use Rattle.p21_tokens.specs.Histories.{NextGives, FinishGives}
+use Rattle.p21_tokens.specs.Histories.{NextGives}
 use Rattle.p21_tokens.specs.Token.{meant}
 use Rattle.p21_tokens.specs.declared.token.Token.{Token as TokenRead}
 use Rattle.p21_tokens.proofs.param.one_scalar.Goals as goal

@@ -1,4 +1,4 @@
-use Rattle.std.proofs.Common.{◌+◌, length, Option, Some, None}
+use Rattle.std.proofs.Common.{◌+◌, length, Some, None}
 use Rattle.p21_tokens.proofs.OneScalar.{Kept}
 use Rattle.p21_tokens.proofs.param.one_scalar.Given as goal
 

@@ -1,6 +1,6 @@
-use Rattle.std.proofs.Common.{ap, sym, ◌∙◌, ◌≡◌, Option, List, ℕ}
+use Rattle.std.proofs.Common.{ap, sym, ◌∙◌}
 use Rattle.p21_semantics.specs.Token as meaning
-use Rattle.p21_tokens_automaton.specs.Reading.{Found, known, ended_in, ended_text}
+use Rattle.p21_tokens_automaton.specs.Reading.{known, ended_in, ended_text}
 use Rattle.p21_tokens_automaton.specs.declared.mode.Mode.{Mode}
 use Rattle.p21_tokens_automaton.specs.declared.mode.TextMode.{TextMode}
 use Rattle.p21_tokens.proofs.reading.read_end.Goals as goal

@@ -1,4 +1,4 @@
-use Rattle.std.proofs.Common.{ap, sym, ◌∙◌, ◌≡◌, Option, None, Some}
+use Rattle.std.proofs.Common.{ap, sym, ◌∙◌}
 use Rattle.p21_tokens_automaton.specs.Reading.{marker_of}
 use Rattle.p21_tokens.specs.Held.{Held}
 use Rattle.p21_tokens.proofs.Stepping.{refused-dash, took-dash, same-limits_itself}
