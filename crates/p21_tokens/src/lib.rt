@@ -6,6 +6,7 @@ mod fault;
 mod laying;
 mod lexer;
 mod reading;
+mod run;
 mod step;
 mod token;
 

@@ -14,4 +14,5 @@ pub mod Complete
 pub mod Sound
 pub mod TextSound
 pub mod TextRuns
+pub mod Runs
 pub mod Theorems

@@ -7,6 +7,7 @@ mod gap;
 mod mode;
 mod name;
 mod number;
+mod run;
 mod text;
 mod word;
 
@@ -15,3 +16,4 @@ pub use mode::{
     Absent, Action, BinaryMode, Marker, Mode, NameMode, NumberMode, Single, TextMode, WordMode,
     Wrong,
 };
+pub use run::{Run, run_of};

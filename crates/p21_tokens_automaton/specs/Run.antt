@@ -1,0 +1,35 @@
+-- Bytes at the front that a reader takes all alike, and that leave it where it stands.
+use Rattle.std.specs.Prelude.{◌≡◌, ℕ, ◌<◌, ◌≤◌, Bool, true, not, nat_le, ◌==◌, ◌&&◌, List, length, slice_index}
+use Rattle.p21_tokens_automaton.specs.Bytes.{is_digit, is_keyword_byte, is_hex, is_blank}
+use Rattle.p21_tokens_automaton.specs.Step.{advance}
+use Rattle.p21_tokens_automaton.specs.declared.mode.Mode.{Mode}
+use Rattle.p21_tokens_automaton.specs.declared.mode.Action.{Action}
+use Rattle.p21_tokens_automaton.specs.declared.mode.Action.TheVariants.{Pass, Keep, Put}
+use Rattle.p21_tokens_automaton.specs.declared.run.Class.{Class}
+use Rattle.p21_tokens_automaton.specs.declared.run.Class.TheVariants.{Blank, Commented, Digit, KeywordByte, HexDigit, Plain}
+use Rattle.p21_tokens_automaton.specs.declared.run.Run.{Run}
+use Rattle.p21_tokens_automaton.specs.declared.run.Run.TheVariants.{Passed, Kept, Characters}
+
+-- so many bytes at the front, each of which does this in this mode
+pub record EachDoes (mode : Mode) (bytes : List ℕ) (count : ℕ) (does : ℕ → Action) : Type 0 where
+  pub within : count ≤ length bytes
+  pub each : (k : ℕ) → k < count → advance mode (slice_index bytes k) ≡ does (slice_index bytes k)
+
+abbrev pub IsRun : Mode → List ℕ → Run → Type 0
+IsRun mode bytes (Passed count) = EachDoes mode bytes count (λ byte. Pass mode)
+IsRun mode bytes (Kept count) = EachDoes mode bytes count (λ byte. Keep mode)
+IsRun mode bytes (Characters count) = EachDoes mode bytes count (λ byte. Put mode byte)
+
+-- the bytes of a class, as a test
+abbrev pub is_of : Class → ℕ → Bool
+is_of Blank byte = is_blank byte
+is_of Commented byte = not (byte == 42)
+is_of Digit byte = is_digit byte
+is_of KeywordByte byte = is_keyword_byte byte
+is_of HexDigit byte = is_hex byte
+is_of Plain byte = nat_le 32 byte && nat_le byte 126 && not (byte == 39) && not (byte == 92)
+
+-- so many bytes at the front are of the class
+pub record AreOf (of : Class) (bytes : List ℕ) (count : ℕ) : Type 0 where
+  pub within : count ≤ length bytes
+  pub each : (k : ℕ) → k < count → is_of of (slice_index bytes k) ≡ true
