@@ -15,4 +15,6 @@ pub mod Sound
 pub mod TextSound
 pub mod TextRuns
 pub mod Runs
+pub mod Lanes
+pub mod Rows
 pub mod Theorems

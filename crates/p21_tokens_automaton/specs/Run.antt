@@ -29,6 +29,9 @@ is_of KeywordByte byte = is_keyword_byte byte
 is_of HexDigit byte = is_hex byte
 is_of Plain byte = nat_le 32 byte && nat_le byte 126 && not (byte == 39) && not (byte == 92)
 
+abbrev pub is_other : Class → ℕ → Bool
+is_other of byte = not (is_of of byte)
+
 -- so many bytes at the front are of the class
 pub record AreOf (of : Class) (bytes : List ℕ) (count : ℕ) : Type 0 where
   pub within : count ≤ length bytes

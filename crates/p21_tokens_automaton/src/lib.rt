@@ -9,6 +9,7 @@ mod name;
 mod number;
 mod run;
 mod text;
+mod wide;
 mod word;
 
 pub use gap::advance;

@@ -3,6 +3,7 @@ ghost use Rattle.p21_tokens_automaton.specs.Run.{IsRun, AreOf, is_of};
 
 use crate::bytes::{is_blank, is_digit, is_hex, is_keyword_byte};
 use crate::mode::{BinaryMode, Mode, NumberMode, TextMode, WordMode};
+use crate::wide::long_front;
 
 /// How many bytes at the front leave the mode as it is, and what each of them does.
 #[derive(Clone, Copy, Debug, PartialEq, Eq)]
@@ -21,22 +22,22 @@ pub fn run_of(mode: Mode, bytes: &[u8]) -> Run
 {
     match mode {
         Mode::Between => Run::Passed(front(Class::Blank, bytes)),
-        Mode::Comment => Run::Passed(front(Class::Commented, bytes)),
-        Mode::Number(NumberMode::Whole) => Run::Kept(front(Class::Digit, bytes)),
-        Mode::Number(NumberMode::Fraction) => Run::Kept(front(Class::Digit, bytes)),
-        Mode::Number(NumberMode::ExponentDigits) => Run::Kept(front(Class::Digit, bytes)),
-        Mode::Word(WordMode::Keyword) => Run::Kept(front(Class::KeywordByte, bytes)),
-        Mode::Word(WordMode::UserKeyword) => Run::Kept(front(Class::KeywordByte, bytes)),
-        Mode::Word(WordMode::Item) => Run::Kept(front(Class::KeywordByte, bytes)),
-        Mode::Binary(BinaryMode::Hex) => Run::Kept(front(Class::HexDigit, bytes)),
-        Mode::Text(TextMode::Inside) => Run::Characters(front(Class::Plain, bytes)),
+        Mode::Comment => Run::Passed(long_front(Class::Commented, bytes)),
+        Mode::Number(NumberMode::Whole) => Run::Kept(short_front(Class::Digit, bytes)),
+        Mode::Number(NumberMode::Fraction) => Run::Kept(short_front(Class::Digit, bytes)),
+        Mode::Number(NumberMode::ExponentDigits) => Run::Kept(short_front(Class::Digit, bytes)),
+        Mode::Word(WordMode::Keyword) => Run::Kept(long_front(Class::KeywordByte, bytes)),
+        Mode::Word(WordMode::UserKeyword) => Run::Kept(long_front(Class::KeywordByte, bytes)),
+        Mode::Word(WordMode::Item) => Run::Kept(long_front(Class::KeywordByte, bytes)),
+        Mode::Binary(BinaryMode::Hex) => Run::Kept(long_front(Class::HexDigit, bytes)),
+        Mode::Text(TextMode::Inside) => Run::Characters(long_front(Class::Plain, bytes)),
         _ => Run::Passed(0),
     }
 }
 
 /// Bytes that a mode takes all alike.
 #[derive(Clone, Copy)]
-enum Class {
+pub(crate) enum Class {
     Blank,
     /// Inside a comment, any but `*`.
     Commented,
@@ -47,6 +48,7 @@ enum Class {
     Plain,
 }
 
+#[inline(always)]
 fn is_of(class: Class, byte: u8) -> bool
     ensures { result ≡ is_of class byte }
 {
@@ -60,8 +62,25 @@ fn is_of(class: Class, byte: u8) -> bool
     }
 }
 
-/// How many bytes at the front are of the class.
+/// How many bytes at the front are of the class, where there is often none.
+#[inline]
 fn front(class: Class, bytes: &[u8]) -> usize
+    ensures { AreOf class bytes.now result }
+{
+    match bytes.first() {
+        None => 0,
+        Some(byte) => {
+            if !is_of(class, *byte) {
+                return 0;
+            }
+            long_front(class, bytes)
+        }
+    }
+}
+
+/// How many bytes at the front are of the class, where there are often few.
+#[inline(always)]
+pub(crate) fn short_front(class: Class, bytes: &[u8]) -> usize
     ensures { AreOf class bytes.now result }
 {
     let mut count = 0;
