@@ -2,7 +2,9 @@
 use Rattle.std.proofs.Common.{◌≡◌, ℕ, zero, suc, true, [], ◌∷◌, refl, arith, lit<, lit≤}
 use Rattle.std.specs.Prelude.{codes}
 use Rattle.p21_semantics.specs.Grammar.{IsDataRecord}
-use Rattle.p21_semantics.specs.Meaning.{Kinds, Typed, RecordMeans, param_references}
+use Rattle.p21_semantics.specs.Reference.{Kinds}
+use Rattle.p21_semantics.specs.Meaning.{Typed, RecordMeans}
+use Rattle.p21_semantics.specs.Reference.{param_references}
 use Rattle.p21_semantics.specs.Nesting.{IsShallow}
 use Rattle.p21_semantics.specs.Parameter.{Key, Param, dollar, name, list, typed, Params, no_params, param, key_of}
 use Rattle.p21_semantics.specs.Record.{Part, simple, complex}

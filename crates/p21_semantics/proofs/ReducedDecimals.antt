@@ -1,5 +1,5 @@
 -- A ratio is that of one reduced decimal at most.
-use Rattle.std.proofs.Common.{◌≡◌, ◌≢◌, ℕ, suc, ◌+◌, ◌-◌, ◌*◌, ◌^◌, ◌%◌, ◌<◌, ℤ, pos, ◌*ℤ◌, nat_abs, refl, ap, sym, ◌∙◌, arith, pow-add, inl, inr}
+use Rattle.std.proofs.Common.{◌≡◌, ◌≢◌, ℕ, suc, ◌+◌, ◌-◌, ◌*◌, ◌^◌, ◌%◌, ◌<◌, ℤ, pos, ◌*ℤ◌, nat_abs, ap, sym, ◌∙◌, arith, pow-add, inl, inr}
 use Rattle.std.proofs.lemmas.Bool.{cases_eq, cases_order}
 use Rattle.std.proofs.Math.Nat.{pow-succ', one-le-pow, mul-lt-mul_of_pos_right, mul-mod_left, zero-mul}
 use borrow.Author.Differences.{up, down, same_in}

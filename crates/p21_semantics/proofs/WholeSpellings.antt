@@ -1,11 +1,11 @@
 -- Whole numbers and their spellings: one value for each spelling, and one canonical spelling for each value.
-use Rattle.std.proofs.Common.{◌≡◌, ◌↔◌, ℕ, suc, ◌<◌, ℤ, pos, negsuc, neg_ℤ, List, [], ◌∷◌, ◌++◌, length, refl, ap, sym, ◌∙◌, arith}
+use Rattle.std.proofs.Common.{◌≡◌, ◌↔◌, ℕ, suc, ◌<◌, ℤ, pos, negsuc, neg_ℤ, List, [], length, refl, ap, sym, ◌∙◌}
 use Rattle.std.proofs.lemmas.List.{append-nil}
-use Rattle.p21_semantics.specs.Digits.{AllDigits, number, plain_digits}
-use Rattle.p21_semantics.specs.Number.{SpellsWhole, is_minus, minus, none, signed}
+use Rattle.p21_semantics.specs.Digits.{AllDigits, plain_digits}
+use Rattle.p21_semantics.specs.Number.{SpellsWhole, minus, none}
 use Rattle.p21_semantics.specs.Spelling.{whole_spelling}
 use Rattle.p21_semantics.proofs.Forms.{NoSignFirst, no_sign_first, sign_once}
-use Rattle.p21_semantics.proofs.PlainDigits.{ArePlain, plain_are_digits, plain_digits_are, plain_some}
+use Rattle.p21_semantics.proofs.PlainDigits.{plain_are_digits, plain_digits_are, plain_some}
 
 -- one spelling has one value
 pub whole_once : (bytes : List ℕ) (a b : ℤ) → SpellsWhole bytes a → SpellsWhole bytes b → a ≡ b

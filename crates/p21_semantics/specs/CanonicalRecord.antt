@@ -1,14 +1,16 @@
 -- The records of the canonical file (this project's own choice among the forms that the internal and external mapping
 -- of ISO 10303-21 allow).
-use Rattle.std.specs.Prelude.{◌≡◌, ℕ, List, map, IsSorted}
+use Rattle.std.specs.Prelude.{◌≡◌, ℕ, List, [], ◌∷◌, map, IsSorted}
 use Rattle.std.specs.Cmp.Lexicographic.{slice_cmp}
-use Rattle.std.specs.List.{AllZip, AllByRecursion as Each}
+use Rattle.std.specs.List.{AllByRecursion as Each}
 use Rattle.std.specs.Ordering.{nat_cmp}
 use Rattle.p21_semantics.specs.CanonicalText.{param_texts}
-use Rattle.p21_semantics.specs.Meaning.{Typed, HasValues, joined}
-use Rattle.p21_semantics.specs.Parameter.{Key, Param, whole, list, typed, Params, no_params, param, key_of}
+use Rattle.p21_semantics.specs.Meaning.{Typed, HasValueAt, NamesEntity}
+use Rattle.p21_semantics.specs.Parameter.{Param, whole, list, typed, Params, no_params, param}
 use Rattle.p21_semantics.specs.Record.{Part, Record, simple, complex}
-use Rattle.p21_semantics.specs.Schema.{Schema, EntityNamed, IsLeaf, order}
+use Rattle.p21_semantics.specs.Schema.{Schema, Place}
+use Rattle.p21_semantics.specs.Supertype.{IsLeaf}
+use Rattle.p21_semantics.specs.Order.{places, own_places}
 use Rattle.p21_semantics.specs.Value as value
 use Rattle.p21_semantics.specs.Value.{Value, Values}
 
@@ -63,17 +65,20 @@ abbrev pub IsCanonicalForm : Schema → Record → Typed → Type 0
 IsCanonicalForm s (simple part) meaning = HasOneLeaf s meaning.entities
 IsCanonicalForm s (complex parts) meaning = (HasOneLeaf s meaning.entities → ⊥) × AreRising (map (λ (part : Part). part.key.word) parts)
 
-abbrev pub NamesEntity : Schema → ℕ → Key → Type 0
-NamesEntity s e key = (name : List ℕ) × EntityNamed s e name × (key ≡ key_of name)
+-- the parameters at places one by one, at the values that the meaning has there
+abbrev pub AreCanonicalAt : Typed → List Place → Params → Type 0
+AreCanonicalAt meaning [] no_params = Unit {0}
+AreCanonicalAt meaning [] (param p ps) = ⊥
+AreCanonicalAt meaning (place ∷ rest) no_params = ⊥
+AreCanonicalAt meaning (place ∷ rest) (param p ps) = ((v : Value) × HasValueAt meaning place v × IsCanonicalParam p v) × AreCanonicalAt meaning rest ps
 
--- a simple record of external mapping: its parameters, at the values of its entity's own places
+-- a simple record of external mapping: its parameters, at the places that its entity declares itself
 abbrev pub IsCanonicalPart : Schema → Typed → Part → Type 0
-IsCanonicalPart s meaning part = (e : ℕ) × (vs : Values) × NamesEntity s e part.key × HasValues meaning e vs × AreCanonicalParams part.params vs
+IsCanonicalPart s meaning part = (e : ℕ) × NamesEntity s part.key e × AreCanonicalAt meaning (own_places s e) part.params
 
--- the parameters of a record; in internal mapping at the values of the entities of its entity's order in turn
+-- the parameters of a record; in internal mapping at the places of its entity's order
 abbrev pub HasCanonicalParams : Schema → Record → Typed → Type 0
-HasCanonicalParams s (simple part) meaning =
-    (e : ℕ) × (blocks : List Values) × NamesEntity s e part.key × AllZip (HasValues meaning) (order s e) blocks × AreCanonicalParams part.params (joined blocks)
+HasCanonicalParams s (simple part) meaning = (e : ℕ) × NamesEntity s part.key e × AreCanonicalAt meaning (places s e) part.params
 HasCanonicalParams s (complex parts) meaning = Each (IsCanonicalPart s meaning) parts
 
 -- a record is as the canonical file has it where it means this

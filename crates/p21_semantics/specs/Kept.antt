@@ -3,7 +3,8 @@
 use Rattle.std.specs.Prelude.{◌≡◌, ℕ, ◌+◌, List, [], ◌∷◌, length}
 use Rattle.p21_semantics.specs.CanonicalRecord.{IsCanonicalRecord}
 use Rattle.p21_semantics.specs.CanonicalText.{statement_text}
-use Rattle.p21_semantics.specs.Meaning.{Kinds, Typed, RecordMeans}
+use Rattle.p21_semantics.specs.Reference.{Kinds}
+use Rattle.p21_semantics.specs.Meaning.{Typed, RecordMeans}
 use Rattle.p21_semantics.specs.Record.{Record}
 use Rattle.p21_semantics.specs.SameFile.{SameTyped}
 use Rattle.p21_semantics.specs.Schema.{Schema}

@@ -7,7 +7,7 @@ use Rattle.p21_semantics.specs.Meaning.{Typed}
 use Rattle.p21_semantics.specs.Number.{Decimal, SameRatio, ratio_of}
 use Rattle.p21_semantics.specs.Parameter.{Key, Param, dollar, star, whole, real, text, name, item, bits, list, typed, Params, no_params, param}
 use Rattle.p21_semantics.specs.Record.{Part}
-use Rattle.p21_semantics.specs.Value.{SameInOrder}
+use Rattle.p21_semantics.specs.SameValue.{SameInOrder}
 
 -- Two untyped parameters are the same: reals by their ratios, lists in order, typed parameters with equal keys, all others where they are equal
 mutual

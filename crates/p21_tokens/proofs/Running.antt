@@ -56,7 +56,7 @@ module _ (v : Held) (piece : List ℕ) (n count : ℕ) where
   ran w h s f t m r = (
     h,
     s,
-    record { file_is = f ∙ ap (λ k. v.file + k) (sym (length-take-le n piece h)); statement_is = t; rest_is = r; gap = λ g. ap is_gap m ∙ g },
+    record { file_is = f ∙ ap (λ k. v.file + k) (sym (length-take-le n piece h)); statement_is = t; rest_is = r; gap = λ g blank. ap is_gap m ∙ g },
   )
 
   pub ran-passed : (w : Held) → n ≤ count → EachDoes v.mode piece count (λ b. Pass v.mode) → w ≡ record v { file = v.file + n } → Runs v piece (Ok n) w

@@ -96,8 +96,14 @@ reads-refuses v b o size go x e n r = by_fault x o e r
     by_fault fault.FileTooLong (Some f) e r = absurd r
     by_fault fault.RecordTooLong None e r = absurd r
     by_fault fault.RecordTooLong (Some f) e r = absurd r
-    by_fault fault.BadByte None e r = none None e of_none
-    by_fault fault.BadByte (Some f) e r = none (Some f) e (of_some f r)
+    by_fault fault.OpenString None e r = absurd r
+    by_fault fault.OpenString (Some f) e r = absurd r
+    by_fault fault.OpenComment None e r = absurd r
+    by_fault fault.OpenComment (Some f) e r = absurd r
+    by_fault fault.NotOneParameter None e r = absurd r
+    by_fault fault.NotOneParameter (Some f) e r = absurd r
+    by_fault fault.EndsEarly None e r = absurd r
+    by_fault fault.EndsEarly (Some f) e r = absurd r
     by_fault _ None e r = none None e of_none
     by_fault _ (Some f) e r = none (Some f) e (of_some f r)
 
@@ -283,6 +289,7 @@ module _ (v : Held) (b : ℕ) where
           means = r;
           waited = ended-waits v.mode v.kept v.characters f q (meant token) r;
           ended_is = q;
+          within = h.2;
           file_is = refl;
           statement_is = refl;
           start_is = refl;

@@ -9,12 +9,12 @@ use Rattle.p21_tokens_automaton.specs.declared.mode.Action.{Action}
 use Rattle.p21_tokens_automaton.specs.declared.mode.Action.TheVariants.{Pass, Refuse}
 use Rattle.p21_tokens_automaton.specs.Bytes.{is_blank}
 use Rattle.p21_tokens_automaton.specs.Meaning.{Means, MeanAll}
-use Rattle.p21_tokens_automaton.specs.Reading.{start, Answer, Found, Sized, ended, closed, before, all_of, lex}
+use Rattle.p21_tokens_automaton.specs.Reading.{start, Answer, Found, Sized, ended, ended_in, closed, closing, before, all_of, lex}
 use Rattle.p21_tokens_automaton.specs.Step.{advance}
 use Rattle.p21_tokens.specs.Held.{Held, pending_of, state_of}
 use Rattle.p21_tokens.specs.Token.{meant, waits}
 use Rattle.p21_tokens.specs.declared.fault.TokenFault.{TokenFault}
-use Rattle.p21_tokens.specs.declared.fault.TokenFault.TheVariants.{RecordTooLong, FileTooLong, NoMemory}
+use Rattle.p21_tokens.specs.declared.fault.TokenFault.TheVariants.{OpenString, OpenComment, NotOneParameter, RecordTooLong, FileTooLong, EndsEarly, NoMemory}
 use Rattle.p21_tokens.specs.declared.step.Step.{Step}
 use Rattle.p21_tokens.specs.declared.step.Step.TheVariants.{Took, Gave, Handed}
 use Rattle.p21_tokens.specs.declared.token.Token.{Token}
@@ -52,8 +52,30 @@ ReadsFound (Some found) (Ok token) = Means found (meant token)
 ReadsFound found (Err NoMemory) = Unit {0}
 ReadsFound found (Err FileTooLong) = ⊥
 ReadsFound found (Err RecordTooLong) = ⊥
+ReadsFound found (Err OpenString) = ⊥
+ReadsFound found (Err OpenComment) = ⊥
+ReadsFound found (Err NotOneParameter) = ⊥
+ReadsFound found (Err EndsEarly) = ⊥
 ReadsFound None (Err fault) = Unit {0}
 ReadsFound (Some found) (Err fault) = (token : meaning.Token) → Means found token → ⊥
+
+-- faults that the end of the bytes has not
+abbrev pub IsFaultAtEnd : TokenFault → Type 0
+IsFaultAtEnd NotOneParameter = ⊥
+IsFaultAtEnd RecordTooLong = ⊥
+IsFaultAtEnd FileTooLong = ⊥
+IsFaultAtEnd fault = Unit {0}
+
+-- no token that means something is left, and the bytes do not end between tokens
+abbrev pub MayNotEnd : Mode → List ℕ → List ℕ → Type 0
+MayNotEnd mode kept characters = (size : ℕ) (founds : List Sized) (lexemes : List Lexeme) → closing (ended_in mode kept characters) mode size ≡ Some founds → MeanAll founds lexemes → ⊥
+
+-- the token that the end of the bytes leaves
+abbrev pub ReadsEnd : Mode → List ℕ → List ℕ → Result (Option Token) TokenFault → Type 0
+ReadsEnd mode kept characters (Ok None) = mode ≡ Between
+ReadsEnd mode kept characters (Ok (Some token)) = (found : Found) × (ended_in mode kept characters ≡ Some found) × Means found (meant token)
+ReadsEnd mode kept characters (Err NoMemory) = Unit {0}
+ReadsEnd mode kept characters (Err fault) = IsFaultAtEnd fault × MayNotEnd mode kept characters
 
 -- the limits and the refusal stay
 pub record SameLimits (old new : Held) : Type 0 where
@@ -72,7 +94,7 @@ Closes old byte (Err fault) new = ReadsFound (closed old.mode (old.kept ++ byte 
 
 -- the token that a byte behind it ends
 abbrev pub Ends : Held → Result Token TokenFault → Held → Type 0
-Ends old (Ok token) new = ReadsFound (ended (state_of old)) (Ok token) × (new ≡ behind_token old (old.statement + old.size) old.file)
+Ends old (Ok token) new = ReadsFound (ended (state_of old)) (Ok token) × (new ≡ behind_token old (old.statement + old.size) old.file) × (pending_of old ≤ old.statement_limit)
 Ends old (Err fault) new = ReadsFound (ended (state_of old)) (Err fault) × SameLimits old new
 
 -- why a byte is refused
@@ -80,6 +102,10 @@ abbrev pub RefusesByte : Held → ℕ → TokenFault → Type 0
 RefusesByte held byte NoMemory = is_gap held.mode ≡ true → is_blank byte ≡ true → ⊥
 RefusesByte held byte FileTooLong = held.file_limit ≤ held.file
 RefusesByte held byte RecordTooLong = (held.statement_limit ≤ pending_of held) × (is_token_byte held.mode (advance held.mode byte) ≡ true) × (held.file < held.file_limit)
+RefusesByte held byte OpenString = ⊥
+RefusesByte held byte OpenComment = ⊥
+RefusesByte held byte NotOneParameter = ⊥
+RefusesByte held byte EndsEarly = ⊥
 RefusesByte held byte fault = IsDeadAt held (byte ∷ [])
 
 -- a byte that gave no token
@@ -106,6 +132,7 @@ pub record Hands (old : Held) (byte : ℕ) (token : meaning.Token) (new : Held) 
   pub means : Means found token
   pub waited : waits token ≡ true
   pub ended_is : ended (state_of old) ≡ Some found
+  pub within : pending_of old ≤ old.statement_limit
   pub file_is : new.file ≡ old.file
   pub statement_is : new.statement ≡ old.statement + old.size
   pub start_is : state_of new ≡ start
@@ -117,12 +144,17 @@ Steps old byte (Ok (Gave token)) new = SameLimits old new × Gives old byte (mea
 Steps old byte (Ok (Handed token)) new = SameLimits old new × Hands old byte (meant token) new
 Steps old byte (Err fault) new = SameLimits old new × RefusesByte old byte fault
 
+-- separator bytes, as a test
+abbrev pub AreBlank : List ℕ → Type 0
+AreBlank [] = Unit {0}
+AreBlank (byte ∷ bytes) = (is_blank byte ≡ true) × AreBlank bytes
+
 -- a run of bytes that gave no token
 pub record TakesRun (old : Held) (bytes : List ℕ) (new : Held) : Type 0 where
   pub file_is : new.file ≡ old.file + length bytes
   pub statement_is : new.statement ≡ old.statement
   pub rest_is : (rest : List ℕ) → rest_of old (bytes ++ rest) ≡ rest_of new rest
-  pub gap : is_gap old.mode ≡ true → is_gap new.mode ≡ true
+  pub gap : is_gap old.mode ≡ true → AreBlank bytes → is_gap new.mode ≡ true
 
 -- how many bytes at the front were taken as a run, which needs memory only inside a token
 abbrev pub Runs : Held → List ℕ → Result ℕ TokenFault → Held → Type 0

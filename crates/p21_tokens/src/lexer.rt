@@ -1,19 +1,23 @@
-ghost use Rattle.std.specs.Prelude.{◌≡◌, ◌≢◌, ◌+◌, ◌<◌, ◌≤◌, [], ◌∷◌, ◌++◌, length, take, true, Option, None, Some, OnOk, OnErr, IfOk};
+ghost use Rattle.std.specs.Prelude.{◌≡◌, ◌≢◌, ◌+◌, ◌<◌, ◌≤◌, [], ◌∷◌, ◌++◌, length, take, true, Option, None, Some, OnOk, OnErr, IfOk, IfErr};
 ghost use Rattle.p21_semantics.specs.Laying.{count_behind};
 ghost use Rattle.p21_tokens_automaton.specs.Reading.{closed, ended, single_token};
 ghost use Rattle.p21_tokens_automaton.specs.declared.mode.Mode.TheVariants.{Between};
 ghost use Rattle.p21_tokens.specs.Held.{pending_of, state_of};
 ghost use Rattle.p21_tokens_automaton.specs.Step.{advance};
-ghost use Rattle.p21_tokens.specs.Steps.{SameLimits, Steps, Runs, Closes, Ends, is_token_byte};
+ghost use Rattle.p21_semantics.specs.History.{empty};
+ghost use Rattle.p21_semantics.specs.Pending.{IsPending};
+ghost use Rattle.p21_tokens.specs.declared.fault.TokenFault.{TokenFault};
+ghost use Rattle.p21_tokens.specs.Histories.{TokenHistory, Stands, NextGives, FinishGives, AreSeparators};
+ghost use Rattle.p21_tokens.specs.Steps.{SameLimits, Steps, Closes, Ends, Runs, Scans, is_token_byte};
 ghost use Rattle.p21_tokens.specs.Token.{meant};
 
 use crate::fault::{TokenFault, fault_of};
-use crate::reading::{marker_of, read_closed, read_ended, single_token};
+use crate::reading::{marker_of, read_closed, read_end, read_ended, single_token};
 use crate::run::at_most;
 use crate::step::{Step, is_token_byte};
 use crate::token::Token;
 use p21_tokens_automaton::{Action, Mode, Run, Single, advance, run_of};
-use p21_values::Text;
+use p21_values::{Limits, Text};
 use std::alloc::Global;
 use std::marker::Model;
 
@@ -304,5 +308,105 @@ impl Lexer {
                 self.put_run(&piece[..count])
             }
         }
+    }
+
+    /// Takes bytes up to the end of a token or of the piece.
+    fn scan(&mut self, piece: &[u8]) -> Result<(usize, Option<Token>), TokenFault>
+        ensures { Scans self.old piece.now result self.new }
+    {
+        let mut taken = 0;
+        while taken < piece.len() {
+            match self.take_run(&piece[taken..]) {
+                Ok(run) => taken += run,
+                Err(fault) => return Err(fault),
+            }
+            if taken < piece.len() {
+                match self.step(piece[taken]) {
+                    Ok(Step::Took) => taken += 1,
+                    Ok(Step::Gave(token)) => return Ok((taken + 1, Some(token))),
+                    Ok(Step::Handed(token)) => return Ok((taken, Some(token))),
+                    Err(fault) => return Err(fault),
+                }
+            }
+        }
+        Ok((taken, None))
+    }
+
+    /// A lexer that has taken nothing. It takes no memory.
+    pub fn new(alloc: Global, limits: Limits) -> Lexer
+        ensures stands { Stands result empty }
+        ensures statement_limit { result.statement_limit ≡ limits.record_source }
+        ensures file_limit { result.file_limit ≡ limits.file_source }
+    {
+        Lexer {
+            alloc,
+            mode: Mode::Between,
+            kept: Vec::new(alloc),
+            text: Text::new(alloc),
+            size: 0,
+            statement: 0,
+            file: 0,
+            statement_limit: limits.record_source(),
+            file_limit: limits.file_source(),
+            refused: None,
+        }
+    }
+
+    /// Takes bytes up to the end of one token or of the piece, and says how many. A keyword, user-defined keyword,
+    /// number, name, string, `Begin` or `Finish` is given when the byte behind it is seen, and that byte isn't taken:
+    /// the caller offers it first in the next call. Each other token is given with its last byte.
+    ///
+    /// # Errors
+    ///
+    /// The fault of the first byte that the limits or the standard refuse, or `NoMemory`; each later call answers the
+    /// same.
+    pub fn next(&mut self, piece: &[u8]) -> Result<(usize, Option<Token>), TokenFault>
+        ensures whole { IfOk result (λ answer. (answer.0 ≤ length piece.now) × (answer.1 ≡ None → answer.0 ≡ length piece.now)) }
+        ensures history { NextGives self.old piece.now result self.new }
+        ensures again { (fault : TokenFault) → self.old.refused ≡ Some fault → (result ≡ Err fault) × (self.new ≡ self.old) }
+        ensures refused { IfErr result (λ fault. self.new.refused ≡ Some fault) }
+        ensures no_memory { (history : TokenHistory) → Stands self.old history → history.refusal ≡ None → pending_of self.old ≡ 0 → AreSeparators piece.now → result ≢ Err TokenFault.NoMemory }
+        ensures limits { (self.new.statement_limit ≡ self.old.statement_limit) × (self.new.file_limit ≡ self.old.file_limit) }
+    {
+        if let Some(fault) = self.refused {
+            return Err(fault);
+        }
+        match self.scan(piece) {
+            Ok(answer) => {
+                let _mode = self.mode;
+                Ok(answer)
+            }
+            Err(fault) => {
+                self.refused = Some(fault);
+                Err(fault)
+            }
+        }
+    }
+
+    /// A last token that waited for its next byte.
+    ///
+    /// # Errors
+    ///
+    /// `OpenString` inside a string, `OpenComment` inside a comment, `NumberRange` for a last real out of range,
+    /// `EndsEarly` inside any other token or behind a lone `/`, `NoMemory`; the refusal of an earlier call.
+    pub fn finish(self) -> Result<Option<Token>, TokenFault>
+        ensures history { FinishGives self result }
+        ensures again { (fault : TokenFault) → self.refused ≡ Some fault → result ≡ Err fault }
+    {
+        if let Some(fault) = self.refused {
+            return Err(fault);
+        }
+        let mut text = self.text;
+        read_end(self.alloc, self.mode, &self.kept, &mut text)
+    }
+
+    /// The token bytes behind the last `;`, with those of a token that isn't whole yet; a lone `/` doesn't count.
+    pub fn pending(&self) -> u64
+        ensures value { result ≡ pending_of self.now }
+        ensures within { result ≤ self.now.statement_limit }
+        ensures pending { (history : TokenHistory) → Stands self.now history → history.refusal ≡ None → IsPending history.taken result }
+    {
+        let _limit = self.statement_limit;
+        self.statement + self.size
     }
 }

@@ -5,6 +5,7 @@
 mod fault;
 mod laying;
 mod lexer;
+mod param;
 mod reading;
 mod run;
 mod step;
@@ -13,5 +14,6 @@ mod token;
 pub use fault::TokenFault;
 pub use laying::one_laying;
 pub use lexer::Lexer;
+pub use param::canonical_param;
 pub use p21_tokens_automaton::Absent;
 pub use token::Token;

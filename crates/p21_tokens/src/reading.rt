@@ -1,6 +1,6 @@
 ghost use Rattle.std.specs.Prelude.{◌≡◌, [], Some};
 ghost use Rattle.p21_tokens_automaton.specs.Reading.{closed, ended_in, ended_number, ended_word, single_token, marker_of};
-ghost use Rattle.p21_tokens.specs.Steps.{ReadsFound};
+ghost use Rattle.p21_tokens.specs.Steps.{ReadsFound, ReadsEnd};
 ghost use Rattle.p21_tokens.specs.Token.{meant};
 
 use crate::fault::{TokenFault, value_fault};
@@ -25,6 +25,32 @@ pub(crate) fn read_ended(
         Mode::Name(NameMode::Digits(value)) => Ok(Token::Name(Name(value))),
         Mode::Text(TextMode::Apostrophe) => Ok(Token::Text(mem::replace(text, Text::new(alloc)))),
         _ => Err(TokenFault::BadByte),
+    }
+}
+
+/// The token that the end of the bytes leaves, or none between tokens.
+pub(crate) fn read_end(
+    alloc: Global,
+    mode: Mode,
+    kept: &[u8],
+    text: &mut Text,
+) -> Result<Option<Token>, TokenFault>
+    ensures { ReadsEnd mode kept.now text.old result }
+{
+    match mode {
+        Mode::Between => Ok(None),
+        Mode::Slash => Err(TokenFault::EndsEarly),
+        Mode::Comment => Err(TokenFault::OpenComment),
+        Mode::Star => Err(TokenFault::OpenComment),
+        Mode::Text(mode) => match mode {
+            TextMode::Apostrophe => Ok(Some(Token::Text(mem::replace(text, Text::new(alloc))))),
+            _ => Err(TokenFault::OpenString),
+        },
+        _ => match read_ended(alloc, mode, kept, text) {
+            Ok(token) => Ok(Some(token)),
+            Err(TokenFault::BadByte) => Err(TokenFault::EndsEarly),
+            Err(fault) => Err(fault),
+        },
     }
 }
 

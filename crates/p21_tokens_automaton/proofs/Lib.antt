@@ -18,3 +18,4 @@ pub mod Runs
 pub mod Lanes
 pub mod Rows
 pub mod Theorems
+pub mod Fronts

@@ -33,7 +33,7 @@ waits-text characters spelling s = record {
   ends = λ b n. rw (ne_eqb b 39 n) refl;
 }
 
-readings : (token : Token) (spelling : List ℕ) → Spells token spelling → Waits token spelling ⊎ IsGiven token spelling
+pub readings : (token : Token) (spelling : List ℕ) → Spells token spelling → Waits token spelling ⊎ IsGiven token spelling
 readings = token-readings waits-text
 
 -- complete: the tokens laid in bytes are found
@@ -46,7 +46,7 @@ read_laid = read-laid first-fits (mode-fits text-fits) (mode-ends text-ends)
 
 -- ---- the tail
 
-given-at-once : (token : Token) (spelling : List ℕ) → Spells token spelling → IsWholeAtOnce token → IsGiven token spelling
+pub given-at-once : (token : Token) (spelling : List ℕ) → Spells token spelling → IsWholeAtOnce token → IsGiven token spelling
 given-at-once (item word) spelling s h = record { run = item-run word spelling s }
 given-at-once (bits value) spelling s h = record { run = bits-run value spelling s }
 given-at-once left spelling s h = record { run = single-run single.Left spelling s }

@@ -1,14 +1,14 @@
 -- What the readers cut off is what every form of the bytes has there.
-use Rattle.std.proofs.Common.{◌≡◌, ℕ, ◌^◌, ◌<◌, ◌≤◌, ℤ, pos, Bool, List, [], ◌∷◌, ◌++◌, length, Result, Ok, Err, refl, ap, sym, ◌∙◌, subst, arith}
+use Rattle.std.proofs.Common.{◌≡◌, ℕ, ℤ, Bool, List, [], ◌∷◌, ◌++◌, Result, Ok, Err, refl, ap, sym, ◌∙◌, subst, arith}
 use Rattle.std.proofs.lemmas.List.{append-nil}
-use borrow.Author.Differences.{up, down}
-use Rattle.p21_semantics.specs.Digits.{AllDigits, number}
-use Rattle.p21_semantics.specs.Number.{Decimal, Exponent, IsExponent, IsInRange, IsShort, Ratio, RealForm, SpellsReal, exponent, exponent_bytes, exponent_value, is_minus, no_exponent, ratio_of, real_ratio, sign_bytes, signed}
+use Rattle.p21_semantics.specs.Digits.{AllDigits}
+use Rattle.p21_semantics.specs.Number.{Decimal, Exponent, IsInRange, IsShort, RealForm, exponent, exponent_bytes, exponent_value, is_minus, no_exponent, real_ratio, sign_bytes}
 use Rattle.p21_semantics.proofs.Forms.{NoDigitFirst, NoSignFirst, behind_sign, first_sign_bytes, no_digit_exponent, no_sign_first, same_form, sign_once, split_once}
 use Rattle.p21_semantics.proofs.RealSpellings.{form_ratio_once}
 use Rattle.p21_values.specs.declared.fault.ValueFault.{ValueFault}
 use Rattle.p21_values.specs.declared.fault.ValueFault.TheVariants.{BadBinary, BadName, BadNumber, BadWord, NameRange, NoMemory, NumberRange}
-use Rattle.p21_values.specs.Decimal.{HasExponentForm, ReadsExponent, ReadsRatio, ReadsReal, SplitsReal, digits_ratio}
+use Rattle.p21_values.specs.Decimal.{KeepsRatio, ReadsReal}
+use Rattle.p21_values.specs.RealParts.{HasExponentForm, ReadsExponent, SplitsReal, digits_ratio}
 use Rattle.p21_values.specs.Digits.{SignedDigits}
 
 -- what stands behind the sign are the digits and nothing else
@@ -74,7 +74,7 @@ reads_exponent_fault bytes negative whole fraction behind s BadName h = absurd h
 reads_exponent_fault bytes negative whole fraction behind s BadWord h = absurd h
 reads_exponent_fault bytes negative whole fraction behind s NoMemory h = absurd h
 
-real_of_ratio : (bytes : List ℕ) (f : RealForm bytes) (r : Result Decimal ValueFault) → IsShort f.power → ReadsRatio (real_ratio f) r → ReadsReal bytes r
+real_of_ratio : (bytes : List ℕ) (f : RealForm bytes) (r : Result Decimal ValueFault) → IsShort f.power → KeepsRatio (real_ratio f) r → ReadsReal bytes r
 real_of_ratio bytes f (Ok value) short (reduced, in_range, same) = record { form = f; is_short = short; in_range = in_range; is_reduced = reduced; same = same }
 real_of_ratio bytes f (Err NoMemory) short h = tt
 real_of_ratio bytes f (Err NumberRange) short h = (f, λ value spelled. h (subst IsInRange (form_ratio_once bytes spelled.form f) spelled.in_range))
@@ -85,8 +85,8 @@ real_of_ratio bytes f (Err BadName) short h = absurd h
 real_of_ratio bytes f (Err BadWord) short h = absurd h
 
 -- the number of the parts is that of the real
-pub reads_parts : (bytes : List ℕ) (negative : Bool) (whole fraction behind : List ℕ) (k : ℤ) (r : Result Decimal ValueFault) → SplitsReal bytes negative whole fraction behind → ReadsExponent behind (Ok k) → ReadsRatio (digits_ratio negative whole fraction k) r → ReadsReal bytes r
+pub reads_parts : (bytes : List ℕ) (negative : Bool) (whole fraction behind : List ℕ) (k : ℤ) (r : Result Decimal ValueFault) → SplitsReal bytes negative whole fraction behind → ReadsExponent behind (Ok k) → KeepsRatio (digits_ratio negative whole fraction k) r → ReadsReal bytes r
 unfolding form_of
 reads_parts bytes negative whole fraction behind k r s (x, form, short, value) h =
     real_of_ratio bytes (form_of bytes negative whole fraction behind s x form) r short (
-    subst (λ (b : Bool). ReadsRatio (digits_ratio b whole fraction (exponent_value x)) r) s.negative_is (subst (λ (z : ℤ). ReadsRatio (digits_ratio negative whole fraction z) r) value h))
+    subst (λ (b : Bool). KeepsRatio (digits_ratio b whole fraction (exponent_value x)) r) s.negative_is (subst (λ (z : ℤ). KeepsRatio (digits_ratio negative whole fraction z) r) value h))

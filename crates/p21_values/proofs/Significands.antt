@@ -1,5 +1,5 @@
 -- Digits on both sides of a point, without the zeros at one end.
-use Rattle.std.proofs.Common.{◌≡◌, ℕ, suc, ◌+◌, ◌-◌, ◌*◌, ◌^◌, ◌%◌, ◌<◌, ◌≤◌, List, [], ◌∷◌, ◌++◌, length, take, drop, zero, ap, sym, subst, ◌∙◌, arith, length-append, pow-add}
+use Rattle.std.proofs.Common.{◌≡◌, ℕ, suc, ◌+◌, ◌-◌, ◌*◌, ◌^◌, ◌<◌, List, [], ◌∷◌, ◌++◌, length, take, drop, zero, ap, sym, subst, ◌∙◌, arith, length-append, pow-add}
 use Rattle.std.proofs.lemmas.List.{append-nil, take-append-drop, take-append-le}
 use Rattle.std.proofs.Math.Nat.{pow-succ', zero-mul}
 use Rattle.std.proofs.Math.Seq.{take-append-add}

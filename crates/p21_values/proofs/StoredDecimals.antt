@@ -18,7 +18,9 @@ use Rattle.p21_semantics.proofs.PlainDigits.{plain_high, plain_low}
 use Rattle.p21_semantics.proofs.Ratios.{ratio-positive, same_scaled, same_zero}
 use Rattle.p21_semantics.proofs.ReducedDecimals.{reduced_once, same_decimal}
 use Rattle.p21_semantics.proofs.SignedNumbers.{abs_signed, signed-times, signed-zero, signed_once}
-use Rattle.p21_values.specs.Decimal.{IsDecimal, IsStoredDecimal, ReadsRatio, decimal_eq, digits_ratio, significand_spelling, stored_decimal}
+use Rattle.p21_values.specs.Decimal.{IsDecimal, KeepsRatio, decimal_eq}
+use Rattle.p21_values.specs.RealParts.{digits_ratio}
+use Rattle.p21_values.specs.Stored.{IsStoredDecimal, significand_spelling, stored_decimal}
 use Rattle.p21_values.specs.declared.fault.ValueFault.{ValueFault}
 use Rattle.p21_values.specs.Digits.{NoZeroFirst, WithoutEndZeros, WithoutFrontZeros}
 use Rattle.p21_values.proofs.Significands.{kept_digits, kept_first}
@@ -141,7 +143,7 @@ same_ratio n all ds t p written k numbers some exponents =
     let last = k -ℤ pos (length ds - 1) in
     same_scaled n (number all) (number ds) t (up written) (p + down written) (up last) (down last) numbers (omega (arith, ints, exponents))
 
-pub reads_zero : (n : Bool) (whole fraction : List ℕ) (written : ℤ) → number (whole ++ fraction) ≡ 0 → ReadsRatio (digits_ratio n whole fraction written) (Ok (stored_decimal false [] (pos 0)))
+pub reads_zero : (n : Bool) (whole fraction : List ℕ) (written : ℤ) → number (whole ++ fraction) ≡ 0 → KeepsRatio (digits_ratio n whole fraction written) (Ok (stored_decimal false [] (pos 0)))
 reads_zero n whole fraction written none_left =
     let is_zero : signed n (number (whole ++ fraction)) ≡ pos 0 = ap (signed n) none_left ∙ signed-zero n in (
       λ multiple. (refl, omega (arith, ints)),
@@ -149,7 +151,7 @@ reads_zero n whole fraction written none_left =
       subst (λ (z : ℤ). SameRatio (scaled z (up written) (length fraction + down written)) (ratio_of (stored_decimal false [] (pos 0)))) (sym is_zero) (same_zero (up written) (length fraction + down written) 0 0),
     )
 
-reads_stored : (n : Bool) (whole fraction ds : List ℕ) (t : ℕ) (written k : ℤ) → IsStoredDecimal n ds k → 0 < length ds → number (whole ++ fraction) ≡ number ds * 10 ^ t → k ≡ written +ℤ pos (length ds + t - 1) -ℤ pos (length fraction) → ReadsRatio (digits_ratio n whole fraction written) (Ok (stored_decimal n ds k))
+reads_stored : (n : Bool) (whole fraction ds : List ℕ) (t : ℕ) (written k : ℤ) → IsStoredDecimal n ds k → 0 < length ds → number (whole ++ fraction) ≡ number ds * 10 ^ t → k ≡ written +ℤ pos (length ds + t - 1) -ℤ pos (length fraction) → KeepsRatio (digits_ratio n whole fraction written) (Ok (stored_decimal n ds k))
 reads_stored n whole fraction ds t written k s some numbers exponents =
     let value = stored_decimal n ds k in
     let ratio = digits_ratio n whole fraction written in
@@ -179,7 +181,7 @@ stored_of_digits n all front ds k f some e near =
       in_range = near;
     }
 
-pub reads_digits : (n : Bool) (whole fraction front ds : List ℕ) (written k : ℤ) → WithoutFrontZeros (whole ++ fraction) front → 0 < length front → WithoutEndZeros front ds → k ≡ written +ℤ pos (length front - 1) -ℤ pos (length fraction) → IsExponentInRange k → ReadsRatio (digits_ratio n whole fraction written) (Ok (stored_decimal n ds k))
+pub reads_digits : (n : Bool) (whole fraction front ds : List ℕ) (written k : ℤ) → WithoutFrontZeros (whole ++ fraction) front → 0 < length front → WithoutEndZeros front ds → k ≡ written +ℤ pos (length front - 1) -ℤ pos (length fraction) → IsExponentInRange k → KeepsRatio (digits_ratio n whole fraction written) (Ok (stored_decimal n ds k))
 reads_digits n whole fraction front ds written k f some e exponents near =
     reads_stored n whole fraction ds (length front - length ds) written k (stored_of_digits n (whole ++ fraction) front ds k f some e near) (kept_some (whole ++ fraction) front ds f some e) (sym f.same ∙ e.same) (omega (arith, ints, exponents, e.shorter))
 
@@ -189,8 +191,8 @@ digits_of_whole n ds =
     let once : signed n (number ds) *ℤ pos 1 ≡ signed n (number ds) = signed-times n (number ds) 1 ∙ ap (signed n) (omega arith) in
     rw append-nil (ap (λ (z : ℤ). let r : Ratio = record { numerator = z; denominator = 1 } in r) once)
 
-pub reads_whole : (n : Bool) (ds : List ℕ) (z : ℤ) (r : Result Decimal ValueFault) → signed n (number ds) ≡ z → ReadsRatio (digits_ratio n ds [] (pos 0)) r → ReadsRatio (whole_ratio z) r
-reads_whole n ds z r e h = subst (λ (x : Ratio). ReadsRatio x r) (digits_of_whole n ds ∙ ap whole_ratio e) h
+pub reads_whole : (n : Bool) (ds : List ℕ) (z : ℤ) (r : Result Decimal ValueFault) → signed n (number ds) ≡ z → KeepsRatio (digits_ratio n ds [] (pos 0)) r → KeepsRatio (whole_ratio z) r
+reads_whole n ds z r e h = subst (λ (x : Ratio). KeepsRatio x r) (digits_of_whole n ds ∙ ap whole_ratio e) h
 
 -- ---- the exponent that is written
 

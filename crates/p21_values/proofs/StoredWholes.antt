@@ -9,7 +9,7 @@ use Rattle.p21_semantics.specs.Digits.{number, plain_digits}
 use Rattle.p21_semantics.specs.Number.{signed}
 use Rattle.p21_semantics.specs.Spelling.{whole_spelling}
 use Rattle.p21_semantics.proofs.SignedNumbers.{signed_once}
-use Rattle.p21_values.specs.Whole.{IsStoredWhole}
+use Rattle.p21_values.specs.Stored.{IsStoredWhole}
 use Rattle.p21_values.proofs.SignificantDigits.{significant_once, significant_positive, significant_spelling}
 
 minus_positive : (negative : Bool) (ds : List ℕ) → IsStoredWhole negative ds → negative ≡ true → 0 < number ds

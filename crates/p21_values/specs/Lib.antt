@@ -3,6 +3,7 @@ pub mod Canonical
 pub mod Fault
 pub mod Name
 pub mod Digits
-pub mod Whole
-pub mod Word
 pub mod Decimal
+pub mod RealParts
+pub mod Stored
+pub mod Word

@@ -7,7 +7,7 @@ use crate::fault::{NoMemory, ValueFault};
 use std::alloc::Global;
 use std::marker::Model;
 
-/// A list of bits.
+/// A list of bits (ISO 10303-21, tokens: binary).
 #[derive(Drop)]
 pub struct Bits {
     token: Vec<u8>,

@@ -3,7 +3,9 @@ ghost use Rattle.p21_semantics.specs.Digits.{AllDigits, number};
 ghost use Rattle.p21_semantics.specs.Number.{IsExponentInRange, RealForm, whole_ratio};
 ghost use Rattle.p21_semantics.specs.Spelling.{exponent_spelling, real_spelling};
 ghost use Rattle.p21_values.specs.Canonical.{Continues};
-ghost use Rattle.p21_values.specs.Decimal.{IsDecimal, ReadsExponent, ReadsRatio, ReadsReal, SplitsReal, digits_ratio, significand_spelling};
+ghost use Rattle.p21_values.specs.Decimal.{IsDecimal, KeepsRatio, ReadsReal};
+ghost use Rattle.p21_values.specs.RealParts.{ReadsExponent, SplitsReal, digits_ratio};
+ghost use Rattle.p21_values.specs.Stored.{significand_spelling};
 ghost use Rattle.p21_values.specs.Digits.{WithoutEndZeros, WithoutFrontZeros};
 
 use crate::canonical::Canonical;
@@ -17,7 +19,7 @@ use std::alloc::{AllocError, Global};
 use std::marker::Model;
 
 /// A decimal number of any length: the value of a REAL or a NUMBER.
-#[derive(Drop)]
+#[derive(Debug, Drop)]
 pub struct Decimal {
     negative: bool,
     // ASCII, no zero at either end: none for the number zero.
@@ -28,7 +30,7 @@ pub struct Decimal {
 
 impl Model for Decimal {
     ghost use Rattle.p21_semantics.specs.Number as numbers;
-    ghost use Rattle.p21_values.specs.Decimal.{IsStoredDecimal, stored_decimal};
+    ghost use Rattle.p21_values.specs.Stored.{IsStoredDecimal, stored_decimal};
 
     ghost Value = { numbers.Decimal };
 
@@ -69,7 +71,7 @@ impl Decimal {
     ///
     /// `NumberRange` where the exponent of the form with one digit before the point is over 9999, `NoMemory`.
     pub fn of_whole(alloc: Global, whole: &Whole) -> Result<Decimal, ValueFault>
-        ensures { ReadsRatio (whole_ratio whole.now) result }
+        ensures { KeepsRatio (whole_ratio whole.now) result }
     {
         let (negative, digits) = whole.parts();
         let digits = Digits {
@@ -87,7 +89,7 @@ impl Decimal {
         exponent: i32,
     ) -> Result<Decimal, ValueFault>
         requires { AllDigits (digits.whole.now ++ digits.fraction.now) }
-        ensures { ReadsRatio (digits_ratio negative digits.entry.whole.now digits.entry.fraction.now exponent) result }
+        ensures { KeepsRatio (digits_ratio negative digits.entry.whole.now digits.entry.fraction.now exponent) result }
     {
         let places = digits.fraction.len();
         let significant = digits.without_front_zeros();
@@ -230,6 +232,13 @@ impl PartialEq for Decimal {
         }
         self.digits == other.digits
     }
+}
+
+impl Eq for Decimal {
+    ghost use Rattle.std.proofs.Common.{rules};
+    ghost use Rattle.std.specs.Cmp.Rules.{comparing};
+
+    ghost laws = { Prim.search (comparing, rules) };
 }
 
 impl Canonical for Decimal {

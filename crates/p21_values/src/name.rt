@@ -8,7 +8,7 @@ use crate::digits::{behind, split_digits};
 use crate::fault::{NoMemory, ValueFault};
 use std::marker::Model;
 
-/// The name of an instance: a number.
+/// The name of an instance, which is a number (ISO 10303-21, tokens: entity instance name).
 #[derive(Clone, Copy, Debug, PartialEq, Eq)]
 pub struct Name(pub u64);
 
@@ -23,7 +23,7 @@ impl Model for Name {
 }
 
 impl Name {
-    /// Reads one instance name: `#` and digits. It takes no memory.
+    /// Reads one instance name: `#` and one digit or more, where leading zeros do not count. It takes no memory.
     ///
     /// # Errors
     ///

@@ -10,6 +10,9 @@ use crate::fault::NoMemory;
 use std::alloc::Global;
 use std::marker::Model;
 
+/// How many characters the first one takes room for: most texts have no more.
+const SHORT: usize = 16;
+
 /// The characters of a string (ISO 10303-21, tokens: string), each a Unicode scalar value.
 #[derive(Drop)]
 pub struct Text {
@@ -43,6 +46,9 @@ impl Text {
         ensures ok { OnOk result (self.new ≡ self.old ++ character ∷ []) }
         ensures err { OnErr result (self.new ≡ self.old) }
     {
+        if self.characters.is_empty() {
+            self.characters.reserve(SHORT)?;
+        }
         self.characters.push(character)?;
         Ok(())
     }

@@ -13,7 +13,7 @@ use std::alloc::Global;
 use std::marker::Model;
 
 /// A whole number of any size.
-#[derive(Drop)]
+#[derive(Debug, Drop)]
 pub struct Whole {
     negative: bool,
     // ASCII, the first of them no zero: none for the number zero.
@@ -24,7 +24,7 @@ impl Model for Whole {
     ghost use Rattle.std.specs.Prelude.{ℤ};
     ghost use Rattle.p21_semantics.specs.Digits.{number};
     ghost use Rattle.p21_semantics.specs.Number.{signed};
-    ghost use Rattle.p21_values.specs.Whole.{IsStoredWhole};
+    ghost use Rattle.p21_values.specs.Stored.{IsStoredWhole};
 
     ghost Value = { ℤ };
 
@@ -77,6 +77,13 @@ impl PartialEq for Whole {
     {
         self.negative == other.negative && self.digits == other.digits
     }
+}
+
+impl Eq for Whole {
+    ghost use Rattle.std.proofs.Common.{rules};
+    ghost use Rattle.std.specs.Cmp.Rules.{comparing};
+
+    ghost laws = { Prim.search (comparing, rules) };
 }
 
 impl Canonical for Whole {

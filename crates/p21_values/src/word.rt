@@ -10,7 +10,7 @@ use std::alloc::Global;
 use std::marker::Model;
 
 /// The characters of a keyword or of an enumeration item.
-#[derive(Drop)]
+#[derive(Debug, Drop)]
 pub struct Word {
     bytes: Vec<u8>,
 }
@@ -89,6 +89,13 @@ impl PartialEq for Word {
     {
         self.bytes == other.bytes
     }
+}
+
+impl Eq for Word {
+    ghost use Rattle.std.proofs.Common.{rules};
+    ghost use Rattle.std.specs.Cmp.Rules.{comparing};
+
+    ghost laws = { Prim.search (comparing, rules) };
 }
 
 impl Canonical for Word {

@@ -1,6 +1,5 @@
-use Rattle.std.proofs.Common.{arith, subst, sym, ap, take, ℕ}
+use Rattle.std.proofs.Common.{arith, sym, ap, take, ℕ}
 use Rattle.std.proofs.lemmas.List.{length-take-le}
-use Rattle.p21_values.specs.Digits.{WithoutEndZeros}
 use Rattle.p21_values.proofs.DigitRuns.{no_end_zero, zeros_more}
 use Rattle.p21_values.proofs.digits.without_end_zeros.Goals as goal
 use Rattle.p21_values.proofs.digits.without_end_zeros.Goals.{then-loop-kept-test+else-digits-kept-eq48, else-loop-kept-test}

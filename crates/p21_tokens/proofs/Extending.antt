@@ -1,0 +1,416 @@
+-- What a call adds to the history that a lexer stands for.
+use Rattle.std.proofs.Common.{◌≡◌, ◌≢◌, ℕ, zero, suc, ◌+◌, ◌≤◌, ◌<◌, Bool, true, false, cond, eqb, List, [], ◌∷◌, ◌++◌, ◌⊎◌, inl, inr, length, length-append, get_or, take, refl, sym, ap, ◌∙◌, subst, append_assoc, append-nil, arith, Option, Some, None, Result, Ok, Err}
+use Rattle.std.specs.List.{slice_get}
+use Rattle.std.specs.Option.{option_map}
+use Rattle.std.proofs.lemmas.List.{length-take-le, take_more}
+use Rattle.std.proofs.lemmas.Option.{slice_get-get_or}
+use Rattle.std.proofs.Math.Seq.{take-length}
+use Rattle.p21_semantics.specs.History.{History, extended, seen_behind, first_refusal, IsOffered, empty}
+use Rattle.p21_semantics.specs.Laying.{Lexeme, Laid, tokens_in, open_bytes, count_behind, AreStatementsWithin}
+use Rattle.p21_semantics.specs.Pending.{Tail, nothing, unfinished, slash, open_comment, tail_bytes, tail_size, IsPending, IsTokenByte, BeginsNoSeparator}
+use Rattle.p21_semantics.specs.Token.{Token, begin, finish, keyword, user_keyword, name, whole, real, text}
+use Rattle.p21_tokens_automaton.proofs.Complete.{all_of-after}
+use Rattle.p21_tokens_automaton.proofs.Gaps.{gap}
+use Rattle.p21_tokens_automaton.proofs.Sound.{TailIs}
+use Rattle.p21_tokens_automaton.proofs.Steps.{lex-nil}
+use Rattle.p21_tokens_automaton.proofs.Theorems.{laid_read, tail-is, laid-up-to, size-is}
+use Rattle.std.proofs.lemmas.Bool.{cond_both}
+use Rattle.std.proofs.lemmas.Bool.Decides.{nat_tests}
+use Rattle.p21_tokens_automaton.specs.Bytes.{is_blank, is_digit, is_upper}
+use Rattle.p21_tokens_automaton.specs.Step.{advance, mark_action}
+use Rattle.p21_tokens_automaton.specs.declared.mode.Action.{Action}
+use Rattle.p21_tokens_automaton.specs.declared.mode.Action.TheVariants.{Pass, Keep, Refuse}
+use Rattle.p21_tokens_automaton.specs.declared.mode.Mode.TheVariants.{Between, Slash, Comment, Star, Number, Word}
+use Rattle.p21_tokens_automaton.specs.declared.mode.NumberMode.TheVariants as number_mode
+use Rattle.p21_tokens_automaton.specs.declared.mode.WordMode.TheVariants as word_mode
+use Rattle.p21_tokens_automaton.specs.declared.mode.Wrong.TheVariants as wrong
+use Rattle.p21_tokens_automaton.specs.Meaning.{Means, MeanAll}
+use Rattle.p21_tokens_automaton.specs.Reading.{State, start, Answer, Ending, nothing_but, open_at, before, after, Found, Sized, ended, all_of, lex}
+use Rattle.p21_tokens.proofs.Following.{tokens-append, mean-append, in-parts, open-append, within-append, after-append, after-nothing, live-laid, live-pending, live-within, live-few, live-first, live-at_once}
+use Rattle.p21_tokens.specs.Held.{Held, pending_of, state_of}
+use Rattle.p21_tokens.specs.Histories.{TokenHistory, call_of, refused_call, Stands, IsLive, IsHandedOver, GoesOn, AreDead, IsStatementFull, Answers, Refuses, RefusesAtByte, NextGives}
+use Rattle.p21_tokens.specs.Steps.{rest_of, is_gap, is_token_byte, IsDeadAt, SameLimits, TakesRun, Gives, Hands, RefusesByte, Scanned, ScansToken, gave, handed, Scans, RefusesAt}
+use Rattle.p21_tokens.specs.Token.{meant, waits}
+use Rattle.p21_tokens.specs.declared.fault.TokenFault.{TokenFault}
+use Rattle.p21_tokens.specs.declared.fault.TokenFault.TheVariants as fault
+use Rattle.p21_tokens.specs.declared.token.Token.{Token as TokenRead}
+
+-- ---- a new lexer
+
+pub stands-new : (v : Held) → state_of v ≡ start → v.file ≡ 0 → v.statement ≡ 0 → v.refused ≡ None → Stands v empty
+unfolding Stands
+stands-new v s f n r = (
+  r,
+  λ _. record {
+    founds = [];
+    lexemes = [];
+    mean = tt;
+    given_are = refl;
+    file_is = f;
+    statement_is = n;
+    statements_within = tt;
+    reads = λ rest _. ap (λ (x : State). lex x rest) (sym s);
+    seen_is = inl refl;
+  },
+)
+
+-- ---- the byte that was seen
+
+-- what a caller offers goes on with the byte that was seen
+goes-front : (seen : Option ℕ) (piece : List ℕ) (count : ℕ) (rest : List ℕ) → IsOffered seen piece → 0 < count → 0 < length piece → GoesOn seen (take count piece ++ rest)
+goes-front None piece count rest o l m = tt
+goes-front (Some x) [] count rest o l m = absurd (omega arith)
+goes-front (Some x) (b ∷ piece) zero rest o l m = absurd (omega arith)
+goes-front (Some x) (b ∷ piece) (suc count) rest o l m = o
+
+goes-byte : (seen : Option ℕ) (piece : List ℕ) (count byte : ℕ) (rest : List ℕ) → IsOffered seen piece → slice_get piece count ≡ Some byte → GoesOn seen (take count piece ++ byte ∷ rest)
+goes-byte None piece count byte rest o e = tt
+goes-byte (Some x) [] count byte rest o e = absurd cc
+goes-byte (Some x) (b ∷ piece) zero byte rest o e = let same : b ≡ byte = cc in sym same ∙ o
+goes-byte (Some x) (b ∷ piece) (suc count) byte rest o e = o
+
+goes-whole : (seen : Option ℕ) (bytes rest : List ℕ) → IsOffered seen bytes → GoesOn (seen_behind seen bytes None) rest → GoesOn seen (bytes ++ rest)
+goes-whole seen [] rest o g = g
+goes-whole None (b ∷ bytes) rest o g = tt
+goes-whole (Some x) (b ∷ bytes) rest o g = o
+
+offered-front : (seen : Option ℕ) (piece : List ℕ) (count : ℕ) → IsOffered seen piece → IsOffered seen (take count piece)
+offered-front None piece count o = tt
+offered-front (Some x) [] zero o = tt
+offered-front (Some x) [] (suc count) o = tt
+offered-front (Some x) (b ∷ piece) zero o = tt
+offered-front (Some x) (b ∷ piece) (suc count) o = o
+
+some-length : (piece : List ℕ) (count byte : ℕ) → slice_get piece count ≡ Some byte → count < length piece
+some-length [] count byte e = absurd cc
+some-length (b ∷ piece) zero byte e = omega arith
+some-length (b ∷ piece) (suc count) byte e = let l = some-length piece count byte e in omega arith
+
+take-one : (piece : List ℕ) (count byte : ℕ) → slice_get piece count ≡ Some byte → take (count + 1) piece ≡ take count piece ++ byte ∷ []
+take-one piece count byte e =
+    let l = some-length piece count byte e in
+    let same : get_or piece count 0 ≡ byte = let p : Some (get_or piece count 0) ≡ Some byte = sym (slice_get-get_or piece count 0 l) ∙ e in cc in
+    take_more piece count 0 l ∙ ap (λ (x : ℕ). take count piece ++ x ∷ []) same
+
+-- a run of no bytes leaves the state
+same-state : (v w : Held) → TakesRun v [] w → state_of v ≡ state_of w
+same-state v w r =
+    let e : open_at (state_of v) ≡ open_at (state_of w) = ap (λ (a : Answer). a.ending) (sym (lex-nil (state_of v)) ∙ (r.rest_is [] ∙ lex-nil (state_of w))) in cc
+
+-- a token that waits is no `;`
+waits-count : (token : Token) (size n : ℕ) → waits token ≡ true → count_behind n (record { token = token; size = size }) ≡ n + size
+waits-count begin size n e = refl
+waits-count finish size n e = refl
+waits-count (keyword word) size n e = refl
+waits-count (user_keyword word) size n e = refl
+waits-count (name number) size n e = refl
+waits-count (whole number) size n e = refl
+waits-count (real number) size n e = refl
+waits-count (text characters) size n e = refl
+waits-count _ size n e = cc
+
+-- ---- bytes that gave no token
+
+none-call : List ℕ → TokenHistory
+none-call bytes = record { taken = bytes; seen = None; given = []; refusal = None }
+
+live-none : (v w : Held) (h : TokenHistory) (bytes : List ℕ) → IsLive v h → IsOffered h.seen bytes → SameLimits v w → TakesRun v bytes w → IsLive w (record { taken = h.taken ++ bytes; seen = seen_behind h.seen bytes None; given = h.given ++ []; refusal = None })
+live-none v w h bytes live o s r = record {
+  founds = live.founds;
+  lexemes = live.lexemes;
+  mean = live.mean;
+  given_are = live.given_are ∙ sym (append-nil h.given);
+  file_is = omega (arith, r.file_is, live.file_is, length-append h.taken bytes);
+  statement_is = r.statement_is ∙ live.statement_is;
+  statements_within = subst (λ (n : ℕ). AreStatementsWithin n 0 live.lexemes) (sym s.statement_limit) live.statements_within;
+  reads = λ rest g.
+      ap (λ (x : List ℕ). lex start x) (append_assoc h.taken bytes rest) ∙ (live.reads (bytes ++ rest) (goes-whole h.seen bytes rest o g) ∙ ap (λ (a : Answer). after live.founds a) (r.rest_is rest));
+  seen_is = by_bytes bytes r;
+}
+  where
+    by_bytes : (xs : List ℕ) → TakesRun v xs w → (seen_behind h.seen xs None ≡ None) ⊎ IsHandedOver w (h.taken ++ xs) live.founds
+    by_bytes [] r = elim live.seen_is [
+      | inl e ↦ inl e
+      | inr told ↦ inr (record {
+        start_is = sym (same-state v w r) ∙ told.start_is;
+        front = told.front;
+        state = told.state;
+        last = told.last;
+        founds_are = told.founds_are;
+        ended_is = told.ended_is;
+        read = ap (λ (x : List ℕ). lex start x) (append-nil h.taken) ∙ told.read;
+      })
+    ]
+    by_bytes (b ∷ xs) r = inl refl
+
+-- ---- a token
+
+live-gave : (v middle w : Held) (h : TokenHistory) (bytes front : List ℕ) (byte : ℕ) (token : Token) → IsLive v h → ((rest : List ℕ) → GoesOn h.seen (bytes ++ rest)) → SameLimits v middle → SameLimits middle w → TakesRun v front middle → Gives middle byte token w → bytes ≡ front ++ byte ∷ []
+    → IsLive w (record { taken = h.taken ++ bytes; seen = None; given = h.given ++ token ∷ []; refusal = None })
+live-gave v middle w h bytes front byte token live goes s t r g e =
+    let lexeme : Lexeme = record { token = token; size = g.found.size } in
+    let limit : w.statement_limit ≡ v.statement_limit = t.statement_limit ∙ s.statement_limit in
+    let before_it : middle.statement ≡ open_bytes 0 live.lexemes = r.statement_is ∙ live.statement_is in
+    let room : open_bytes 0 live.lexemes + g.found.size ≤ v.statement_limit = let k = g.within in let m = s.statement_limit in omega arith in
+    record {
+      founds = live.founds ++ g.found ∷ [];
+      lexemes = live.lexemes ++ lexeme ∷ [];
+      mean = mean-append live.founds (g.found ∷ []) live.lexemes (lexeme ∷ []) live.mean (g.means, refl, tt);
+      given_are = tokens-append live.lexemes (lexeme ∷ []) ∙ ap (λ (x : List Token). x ++ token ∷ []) live.given_are;
+      file_is =
+          let p = length-append h.taken bytes in
+          let q = ap length e in
+          let k = length-append front (byte ∷ []) in
+          omega (arith, g.file_is, r.file_is, live.file_is);
+      statement_is = g.statement_is ∙ (ap (λ (n : ℕ). count_behind n lexeme) before_it ∙ sym (open-append 0 live.lexemes lexeme));
+      statements_within = subst (λ (n : ℕ). AreStatementsWithin n 0 (live.lexemes ++ lexeme ∷ [])) (sym limit) (within-append v.statement_limit 0 live.lexemes lexeme live.statements_within room);
+      reads = λ rest _.
+          ap (λ (x : List ℕ). lex start x) (append_assoc h.taken bytes rest) ∙ (live.reads (bytes ++ rest) (goes rest)
+          ∙ (ap (λ (x : List ℕ). after live.founds (rest_of v x)) (ap (λ (x : List ℕ). x ++ rest) e ∙ append_assoc front (byte ∷ []) rest)
+          ∙ (ap (λ (a : Answer). after live.founds a) (r.rest_is (byte ∷ rest) ∙ g.rest_is rest) ∙ sym (after-append live.founds g.found (rest_of w rest)))));
+      seen_is = inl refl;
+    }
+
+live-handed : (v middle w : Held) (h : TokenHistory) (bytes : List ℕ) (byte : ℕ) (token : Token) → IsLive v h → ((rest : List ℕ) → GoesOn h.seen (bytes ++ byte ∷ rest)) → (0 < length bytes → GoesOn h.seen bytes) → SameLimits v middle → SameLimits middle w → TakesRun v bytes middle → Hands middle byte token w
+    → IsLive w (record { taken = h.taken ++ bytes; seen = Some byte; given = h.given ++ token ∷ []; refusal = None })
+live-handed v middle w h bytes byte token live goes all-on s t r g =
+    let found : Sized = record { found = g.found; size = middle.size } in
+    let lexeme : Lexeme = record { token = token; size = middle.size } in
+    let limit : w.statement_limit ≡ v.statement_limit = t.statement_limit ∙ s.statement_limit in
+    let before_it : middle.statement ≡ open_bytes 0 live.lexemes = r.statement_is ∙ live.statement_is in
+    let room : open_bytes 0 live.lexemes + middle.size ≤ v.statement_limit = let k = g.within in let m = s.statement_limit in omega arith in
+    record {
+      founds = live.founds ++ found ∷ [];
+      lexemes = live.lexemes ++ lexeme ∷ [];
+      mean = mean-append live.founds (found ∷ []) live.lexemes (lexeme ∷ []) live.mean (g.means, refl, tt);
+      given_are = tokens-append live.lexemes (lexeme ∷ []) ∙ ap (λ (x : List Token). x ++ token ∷ []) live.given_are;
+      file_is = let p = length-append h.taken bytes in omega (arith, g.file_is, r.file_is, live.file_is);
+      statement_is = g.statement_is ∙ (ap (λ (n : ℕ). n + middle.size) before_it ∙ (sym (waits-count token middle.size (open_bytes 0 live.lexemes) g.waited) ∙ sym (open-append 0 live.lexemes lexeme)));
+      statements_within = subst (λ (n : ℕ). AreStatementsWithin n 0 (live.lexemes ++ lexeme ∷ [])) (sym limit) (within-append v.statement_limit 0 live.lexemes lexeme live.statements_within room);
+      reads = λ rest on. reads-on rest on;
+      seen_is = inr (record {
+        start_is = g.start_is;
+        front = live.founds;
+        state = state_of middle;
+        last = g.found;
+        founds_are = refl;
+        ended_is = g.ended_is;
+        read = read-all;
+      });
+    }
+  where
+    reads-on : (rest : List ℕ) → GoesOn (Some byte) rest → lex start ((h.taken ++ bytes) ++ rest) ≡ after (live.founds ++ record { found = g.found; size = middle.size } ∷ []) (rest_of w rest)
+    reads-on [] on = absurd on
+    reads-on (b ∷ rest) on =
+        let same : b ≡ byte = on in
+        subst (λ (c : ℕ). lex start ((h.taken ++ bytes) ++ (c ∷ rest)) ≡ after (live.founds ++ record { found = g.found; size = middle.size } ∷ []) (rest_of w (c ∷ rest))) (sym same)
+        (ap (λ (x : List ℕ). lex start x) (append_assoc h.taken bytes (byte ∷ rest)) ∙ (live.reads (bytes ++ byte ∷ rest) (goes rest)
+        ∙ (ap (λ (a : Answer). after live.founds a) (r.rest_is (byte ∷ rest) ∙ g.rest_is rest) ∙ sym (after-append live.founds (record { found = g.found; size = middle.size }) (rest_of w (byte ∷ rest))))))
+
+    -- a reading of all the bytes taken
+    by_reads : GoesOn h.seen bytes → lex start (h.taken ++ bytes) ≡ record { given = live.founds; ending = open_at (state_of middle) }
+    by_reads on =
+        live.reads bytes on ∙ (ap (λ (x : List ℕ). after live.founds (rest_of v x)) (sym (append-nil bytes)) ∙ (ap (λ (a : Answer). after live.founds a) (r.rest_is [] ∙ lex-nil (state_of middle)) ∙ after-nothing live.founds (state_of middle)))
+
+    no-end : state_of middle ≡ start → ⊥
+    no-end q = let clash : (let o : Option Found = None in o) ≡ Some g.found = ap ended (sym q) ∙ g.ended_is in cc
+
+    by_bytes : (xs : List ℕ) → xs ≡ bytes → lex start (h.taken ++ bytes) ≡ record { given = live.founds; ending = open_at (state_of middle) }
+    by_bytes [] q = elim live.seen_is [
+      | inl e ↦ by_reads (subst (λ (o : Option ℕ). GoesOn o bytes) (sym e) tt)
+      | inr told ↦ absurd (no-end (sym (same-state v middle (subst (λ (x : List ℕ). TakesRun v x middle) (sym q) r)) ∙ told.start_is))
+    ]
+    by_bytes (b ∷ xs) q = by_reads (all-on (let l = ap length q in omega arith))
+
+    read-all : lex start (h.taken ++ bytes) ≡ record { given = live.founds; ending = open_at (state_of middle) }
+    read-all = by_bytes bytes refl
+
+-- ---- a call that answered
+
+positive : (piece : List ℕ) (count : ℕ) → 0 < length (take count piece) → (0 < count) × (0 < length piece)
+positive [] zero l = absurd (omega arith)
+positive [] (suc count) l = absurd (omega arith)
+positive (b ∷ piece) zero l = absurd (omega arith)
+positive (b ∷ piece) (suc count) l = (omega arith, omega arith)
+
+limits-between : (u v w : Held) → SameLimits u v → SameLimits u w → SameLimits v w
+limits-between u v w a b = record { statement_limit = b.statement_limit ∙ sym a.statement_limit; file_limit = b.file_limit ∙ sym a.file_limit; refused = b.refused ∙ sym a.refused }
+
+waits-cond : (token : Token) (piece : List ℕ) (count : ℕ) (b : Bool) → waits token ≡ b → (call_of piece count (Some token)).seen ≡ cond b (slice_get piece count) None
+waits-cond token piece count b e = ap (λ (x : Bool). cond x (slice_get piece count) None) e
+
+-- a history by its parts
+same-history : (taken other : List ℕ) (seen sight : Option ℕ) (given tokens : List Token) (refusal fault : Option TokenFault) → taken ≡ other → seen ≡ sight → given ≡ tokens → refusal ≡ fault
+    → (let h : TokenHistory = record { taken = taken; seen = seen; given = given; refusal = refusal } in h) ≡ record { taken = other; seen = sight; given = tokens; refusal = fault }
+same-history taken other seen sight given tokens refusal fault p q r s = rw (p, q, r, s)
+
+seen-some : (seen : Option ℕ) (bytes : List ℕ) (byte : ℕ) → seen_behind seen bytes (Some byte) ≡ Some byte
+seen-some seen [] byte = refl
+seen-some seen (b ∷ bytes) byte = refl
+
+seen-none : (seen : Option ℕ) (bytes front : List ℕ) (byte : ℕ) → bytes ≡ front ++ byte ∷ [] → seen_behind seen bytes None ≡ None
+seen-none seen [] [] byte e = cc
+seen-none seen [] (b ∷ front) byte e = cc
+seen-none seen (b ∷ bytes) front byte e = refl
+
+-- what the lexer is live for behind a scan
+live-scanned : (v w : Held) (h : TokenHistory) (piece : List ℕ) (count : ℕ) (token : Option Token) → IsLive v h → h.refusal ≡ None → IsOffered h.seen piece → SameLimits v w → Scanned v piece count token w → IsLive w (extended h (call_of piece count token))
+live-scanned v w h piece count None live alive o s r =
+    let whole-piece : take count piece ≡ piece = ap (λ (k : ℕ). take k piece) r.0 ∙ take-length piece in
+    let here = live-none v w h piece live o s r.1 in
+    subst (λ (x : TokenHistory). IsLive w x)
+    (same-history _ _ _ _ _ _ _ _ (ap (λ (x : List ℕ). h.taken ++ x) (sym whole-piece)) (ap (λ (x : List ℕ). seen_behind h.seen x None) (sym whole-piece)) refl (sym (ap (λ (x : Option TokenFault). first_refusal x None) alive))) here
+live-scanned v w h piece count (Some token) live alive o s r = by_scan (take count piece) refl r.1
+  where
+    by_scan : (bytes : List ℕ) → bytes ≡ take count piece → ScansToken v bytes (slice_get piece count) token w → IsLive w (extended h (call_of piece count (Some token)))
+    by_scan bytes q (gave middle front byte same run g e) =
+        let long : 0 < length bytes = let l = ap length e in let k = length-append front (byte ∷ []) in omega arith in
+        let filled = positive piece count (subst (λ (x : List ℕ). 0 < length x) q long) in
+        let here = live-gave v middle w h bytes front byte token live (λ rest. subst (λ (x : List ℕ). GoesOn h.seen (x ++ rest)) (sym q) (goes-front h.seen piece count rest o filled.0 filled.1)) same (limits-between v middle w same s) run g e in
+        subst (λ (x : TokenHistory). IsLive w x)
+        (same-history _ _ _ _ _ _ _ _ (ap (λ (x : List ℕ). h.taken ++ x) q)
+        (sym (ap (λ (x : Option ℕ). seen_behind h.seen (take count piece) x) (waits-cond token piece count false g.at_once) ∙ seen-none h.seen (take count piece) front byte (sym q ∙ e))) refl (sym (ap (λ (x : Option TokenFault). first_refusal x None) alive))) here
+    by_scan bytes q (handed middle byte same run g e) =
+        let here = live-handed v middle w h bytes byte token live (λ rest. subst (λ (x : List ℕ). GoesOn h.seen (x ++ byte ∷ rest)) (sym q) (goes-byte h.seen piece count byte rest o e))
+        (λ long. let filled = positive piece count (subst (λ (x : List ℕ). 0 < length x) q long) in subst (λ (x : List ℕ). GoesOn h.seen x) (append-nil (take count piece) ∙ sym q) (goes-front h.seen piece count [] o filled.0 filled.1)) same (limits-between v middle w same s) run g in
+        subst (λ (x : TokenHistory). IsLive w x)
+        (same-history _ _ _ _ _ _ _ _ (ap (λ (x : List ℕ). h.taken ++ x) q)
+        (sym (ap (λ (x : Option ℕ). seen_behind h.seen (take count piece) x) (waits-cond token piece count true g.waited ∙ e) ∙ seen-some h.seen (take count piece) byte)) refl (sym (ap (λ (x : Option TokenFault). first_refusal x None) alive))) here
+
+-- a live lexer's answers
+answers-live : (v : Held) (h : TokenHistory) → Stands v h → h.refusal ≡ None → IsLive v h → pending_of v ≤ v.statement_limit → v.file ≤ v.file_limit → Answers v h
+answers-live v h s alive live p f = record {
+  stands = s;
+  given_first = live-first v h live;
+  given_at_once = live-at_once v h live;
+  given_few = live-few v h live;
+  file_within = let e = live.file_is in omega arith;
+  laid_within = live-within v h live p;
+}
+
+call-refusal : (piece : List ℕ) (count : ℕ) (token : Option Token) (h : TokenHistory) → h.refusal ≡ None → (extended h (call_of piece count token)).refusal ≡ None
+call-refusal piece count None h e = ap (λ (x : Option TokenFault). first_refusal x None) e
+call-refusal piece count (Some token) h e = ap (λ (x : Option TokenFault). first_refusal x None) e
+
+pub stands-live : (v : Held) (h : TokenHistory) → Stands v h → v.refused ≡ None → (h.refusal ≡ None) × IsLive v h
+unfolding Stands
+stands-live v h s e = let alive = sym s.0 ∙ e in (alive, s.1 alive)
+
+pub next-answers : (v w : Held) (piece : List ℕ) (answer : ℕ × Option TokenRead) → v.refused ≡ None → pending_of w ≤ w.statement_limit → w.file ≤ w.file_limit → Scans v piece (Ok answer) w → NextGives v piece (Ok answer) w
+unfolding Stands
+next-answers v w piece answer r p f s h stands o =
+    let now = stands-live v h stands r in
+    let live = live-scanned v w h piece answer.0 (option_map meant answer.1) now.1 now.0 o s.0 s.1 in
+    let alive = call-refusal piece answer.0 (option_map meant answer.1) h now.0 in
+    answers-live w _ (s.0.refused ∙ (r ∙ sym alive), λ _. live) alive live p f
+
+-- ---- a call that refused
+
+between-byte : (byte : ℕ) → is_token_byte Between (advance Between byte) ≡ true → BeginsNoSeparator (byte ∷ [])
+between-byte byte c =
+    let no_blank = at (is_blank byte) refl in
+    (no_blank.0, no_blank.1, λ e. let clash : false ≡ true = sym (ap (λ (b : ℕ). is_token_byte Between (advance Between b)) e) ∙ c in cc)
+  where
+    classes : is_blank byte ≡ false → (32 < byte) × (byte ≢ 127)
+    classes e = (grind (arith, nat_tests), λ q. grind (arith, nat_tests))
+
+    at : (b : Bool) → is_blank byte ≡ b → (32 < byte) × (byte ≢ 127)
+    at true e = let clash : false ≡ true = sym (ap (λ (x : Bool). is_token_byte Between (cond x (Pass Between) (cond (is_digit byte) (Keep (Number number_mode.Whole)) (cond (is_upper byte) (Keep (Word word_mode.Keyword)) (mark_action byte))))) e) ∙ c in cc
+    at false e = classes e
+
+slash-byte : (byte : ℕ) → is_token_byte Slash (advance Slash byte) ≡ true → ⊥
+slash-byte byte = cond_both (eqb byte 42) (Pass Comment) (Refuse wrong.Byte) (λ a. is_token_byte Slash a ≡ true → ⊥) (λ _ c. absurd cc) (λ _ c. absurd cc)
+
+comment-byte : (byte : ℕ) → is_token_byte Comment (advance Comment byte) ≡ true → ⊥
+comment-byte byte = cond_both (eqb byte 42) (Pass Star) (Pass Comment) (λ a. is_token_byte Comment a ≡ true → ⊥) (λ _ c. absurd cc) (λ _ c. absurd cc)
+
+star-byte : (byte : ℕ) → is_token_byte Star (advance Star byte) ≡ true → ⊥
+star-byte byte = cond_both (eqb byte 47) (Pass Between) (cond (eqb byte 42) (Pass Star) (Pass Comment)) (λ a. is_token_byte Star a ≡ true → ⊥) (λ _ c. absurd cc)
+    (λ _. cond_both (eqb byte 42) (Pass Star) (Pass Comment) (λ a. is_token_byte Star a ≡ true → ⊥) (λ _ c. absurd cc) (λ _ c. absurd cc))
+
+-- a byte that counts, by what stands in front of it
+counts-byte : (v : Held) (tail : Tail) (byte : ℕ) → TailIs (state_of v) tail → is_token_byte v.mode (advance v.mode byte) ≡ true → IsTokenByte tail byte
+counts-byte v nothing byte t c = between-byte byte (ap (λ (s : State). is_token_byte s.mode (advance s.mode byte)) (sym t) ∙ c)
+counts-byte v (unfinished bytes) byte t c = tt
+counts-byte v slash byte t c = slash-byte byte (ap (λ (s : State). is_token_byte s.mode (advance s.mode byte)) (sym t) ∙ c)
+counts-byte v (open_comment inside) byte t c = elim t.0 [
+  | inl q ↦ comment-byte byte (ap (λ (s : State). is_token_byte s.mode (advance s.mode byte)) (sym q) ∙ c)
+  | inr q ↦ star-byte byte (ap (λ (s : State). is_token_byte s.mode (advance s.mode byte)) (sym q) ∙ c)
+]
+
+module _ (v w : Held) (h : TokenHistory) (piece : List ℕ) (live : IsLive v h) (alive : h.refusal ≡ None) (o : IsOffered h.seen piece) (middle : Held) (count byte : ℕ) (found : slice_get piece count ≡ Some byte) (same : SameLimits v middle) (run : TakesRun v (take count piece) middle) where
+  -- the lexer in front of the refused byte
+  front-live : IsLive middle (record { taken = h.taken ++ take count piece; seen = seen_behind h.seen (take count piece) None; given = h.given ++ []; refusal = None })
+  front-live = live-none v middle h (take count piece) live (offered-front h.seen piece count o) same run
+
+  full : middle.statement_limit ≤ pending_of middle → is_token_byte middle.mode (advance middle.mode byte) ≡ true → IsStatementFull v.statement_limit (h.taken ++ take count piece) byte
+  full l c =
+      let u = live-laid middle _ front-live in
+      record {
+        lexemes = front-live.lexemes;
+        tail = u.0;
+        laid = laid-up-to (h.taken ++ take count piece) front-live.lexemes u.0 u.1 (tail-is (state_of middle) u.0 u.2);
+        full = let n = front-live.statement_is in let k = size-is (state_of middle) u.0 u.2 in let m = same.statement_limit in omega arith;
+        counts = counts-byte middle u.0 byte u.2 c;
+      }
+
+  taken-length : length (h.taken ++ take (count + 1) piece) ≡ length h.taken + (count + 1)
+  taken-length =
+      let l = some-length piece count byte found in
+      let p = length-append h.taken (take (count + 1) piece) in
+      let q = length-take-le (count + 1) piece (omega arith) in
+      omega arith
+
+  middle-file : middle.file ≡ length h.taken + count
+  middle-file =
+      let l = some-length piece count byte found in
+      let q = length-take-le count piece (omega arith) in
+      omega (arith, run.file_is, live.file_is)
+
+  dead : IsDeadAt middle (byte ∷ []) → AreDead (h.taken ++ take (count + 1) piece)
+  dead d rest tokens laid =
+      let read = laid_read laid.lexemes ((h.taken ++ take (count + 1) piece) ++ rest) laid.laid in
+      let joined : (h.taken ++ take (count + 1) piece) ++ rest ≡ h.taken ++ (take count piece ++ byte ∷ rest) =
+      append_assoc h.taken (take (count + 1) piece) rest ∙ ap (λ (x : List ℕ). h.taken ++ x) (ap (λ (x : List ℕ). x ++ rest) (take-one piece count byte found) ∙ append_assoc (take count piece) (byte ∷ []) rest) in
+      let answer : lex start ((h.taken ++ take (count + 1) piece) ++ rest) ≡ after live.founds (rest_of middle (byte ∷ rest)) =
+      ap (λ (x : List ℕ). lex start x) joined ∙ (live.reads (take count piece ++ byte ∷ rest) (goes-byte h.seen piece count byte rest o found) ∙ ap (λ (a : Answer). after live.founds a) (run.rest_is (byte ∷ rest))) in
+      let all = all_of-after live.founds (rest_of middle (byte ∷ rest)) read.0 (sym (ap all_of answer) ∙ read.1) in
+      let parts = in-parts live.founds all.0 laid.lexemes (subst (λ (x : List Sized). MeanAll x laid.lexemes) all.2 read.2) in
+      d rest all.0 parts.behind all.1 parts.mean_behind
+
+  pub refuses-byte : (x : TokenFault) → RefusesByte middle byte x → Refuses v h piece count x
+  refuses-byte fault.NoMemory r = tt
+  refuses-byte fault.FileTooLong r = let a = taken-length in let b = middle-file in let c = same.file_limit in omega arith
+  refuses-byte fault.RecordTooLong r = (byte, found, full r.0 r.1, (let a = taken-length in let b = middle-file in let c = same.file_limit in let d = r.2 in omega arith))
+  refuses-byte fault.OpenString r = r
+  refuses-byte fault.OpenComment r = r
+  refuses-byte fault.NotOneParameter r = r
+  refuses-byte fault.EndsEarly r = r
+  refuses-byte fault.BadByte r = dead r
+  refuses-byte fault.BadDirective r = dead r
+  refuses-byte fault.BadCodePoint r = dead r
+  refuses-byte fault.NotUtf8 r = dead r
+  refuses-byte fault.BadNumber r = dead r
+  refuses-byte fault.NumberRange r = dead r
+  refuses-byte fault.BadBinary r = dead r
+  refuses-byte fault.NameRange r = dead r
+  refuses-byte fault.BadName r = dead r
+  refuses-byte (fault.LeftOut absent) r = dead r
+
+pub next-refuses : (v u w : Held) (piece : List ℕ) (x : TokenFault) → v.refused ≡ None → w.refused ≡ Some x → RefusesAt v piece x u → NextGives v piece (Err x) w
+unfolding Stands
+next-refuses v u w piece x r e s h stands o alive =
+    let now = stands-live v h stands r in
+    record {
+      count = s.1;
+      within = some-length piece s.1 s.2 s.3;
+      refuses = refuses-byte v w h piece now.1 alive o s.0 s.1 s.2 s.3 s.4 s.5 x s.7;
+      stands = (e ∙ sym (ap (λ (y : Option TokenFault). first_refusal y (Some x)) alive), λ q. absurd (not-none x (sym (ap (λ (y : Option TokenFault). first_refusal y (Some x)) alive) ∙ q)));
+    }
+  where
+    not-none : (x : TokenFault) → Some x ≡ None → ⊥
+    not-none x q = cc
+
+pub stands-pending : (v : Held) (h : TokenHistory) → Stands v h → h.refusal ≡ None → IsPending h.taken (pending_of v)
+unfolding Stands
+stands-pending v h s alive = live-pending v h (s.1 alive)

@@ -1,0 +1,245 @@
+-- The search for the one scalar of a text.
+use Rattle.std.proofs.Common.{◌≡◌, ◌≢◌, ℕ, zero, suc, ◌+◌, ◌-◌, ◌^◌, ◌≤◌, ◌<◌, Bool, true, false, cond, List, [], ◌∷◌, ◌++◌, ◌⊎◌, inl, inr, length, length-append, length-drop, take, drop, refl, sym, ap, ◌∙◌, subst, append_assoc, append-nil, arith, take_all, Option, Some, None, Result, Ok, Err}
+use Rattle.std.specs.List.{slice_get, slice_range}
+use Rattle.std.proofs.lemmas.List.{take-append-drop, length-take-le}
+use Rattle.p21_semantics.specs.History.{History, extended, seen_behind, first_refusal, looked_at, IsOffered, empty}
+use Rattle.p21_semantics.specs.Laying.{Lexeme, Laid, HoldsScalar, open_bytes, count_behind}
+use Rattle.p21_semantics.specs.Limits.{text_limit}
+use Rattle.p21_semantics.specs.Pending.{Tail, nothing, unfinished, slash, open_comment, tail_bytes, tail_size, LaidUpTo}
+use Rattle.p21_semantics.specs.Token.{Token, semicolon, IsScalarToken}
+use Rattle.p21_tokens_automaton.proofs.Theorems.{one-laying}
+use Rattle.p21_tokens.specs.Finding.{FindsScalar, FindsOnly}
+use Rattle.p21_tokens.specs.Held.{Held}
+use Rattle.p21_tokens.specs.Histories.{TokenHistory, call_of, Stands, GoesOn, AreDead, IsStatementFull, Answers, Refuses, RefusesAtByte, NextGives, FinishGives}
+use Rattle.p21_tokens.specs.Token.{meant, meant_all, waits}
+use Rattle.p21_tokens.specs.declared.fault.TokenFault.{TokenFault}
+use Rattle.p21_tokens.specs.declared.fault.TokenFault.TheVariants as fault
+use Rattle.p21_tokens.specs.declared.token.Token.{Token as TokenRead}
+
+abbrev pub IsFoundScalar : Option TokenRead → Type 0
+IsFoundScalar None = Unit {0}
+IsFoundScalar (Some token) = IsScalarToken (meant token)
+
+-- the lexer has taken what stands in front of the rest of the text, and has given what was found
+pub record Kept (v : Held) (bytes rest : List ℕ) (found : Option TokenRead) : Type 0 where
+  pub history : TokenHistory
+  pub stands : Stands v history
+  pub alive : history.refusal ≡ None
+  pub all_is : history.taken ++ rest ≡ bytes
+  pub given_is : history.given ≡ meant_all found
+  pub goes : GoesOn history.seen rest
+  pub scalar : IsFoundScalar found
+  pub within : length bytes ≤ text_limit
+  pub statement_limit : v.statement_limit ≡ 2 ^ 29
+  pub file_limit : v.file_limit ≡ 2 ^ 36
+
+pub kept-new : (v : Held) (bytes : List ℕ) → Stands v empty → length bytes ≤ text_limit → v.statement_limit ≡ 2 ^ 29 → v.file_limit ≡ 2 ^ 36 → Kept v bytes bytes None
+kept-new v bytes s l m n = record { history = empty; stands = s; alive = refl; all_is = refl; given_is = refl; goes = tt; scalar = tt; within = l; statement_limit = m; file_limit = n }
+
+offered : (seen : Option ℕ) (rest : List ℕ) → GoesOn seen rest → IsOffered seen rest
+offered None rest g = tt
+offered (Some b) [] g = absurd g
+offered (Some b) (c ∷ rest) g = g
+
+-- ---- the byte that was seen
+
+goes-behind : (rest : List ℕ) (n : ℕ) → GoesOn (slice_get rest n) (drop n rest)
+goes-behind [] zero = tt
+goes-behind [] (suc n) = tt
+goes-behind (b ∷ rest) zero = refl
+goes-behind (b ∷ rest) (suc n) = goes-behind rest n
+
+goes-after : (seen looked : Option ℕ) (rest : List ℕ) (n : ℕ) → GoesOn seen rest → 0 < length rest → (looked ≡ slice_get rest n) ⊎ (looked ≡ None) → GoesOn (seen_behind seen (take n rest) looked) (drop n rest)
+goes-after seen looked [] n g l h = absurd (omega arith)
+goes-after seen looked (b ∷ rest) zero g l (inl e) = subst (λ (x : Option ℕ). GoesOn (seen_behind seen [] x) (b ∷ rest)) (sym e) refl
+goes-after seen looked (b ∷ rest) zero g l (inr e) = subst (λ (x : Option ℕ). GoesOn (seen_behind seen [] x) (b ∷ rest)) (sym e) g
+goes-after seen looked (b ∷ rest) (suc n) g l (inl e) = subst (λ (x : Option ℕ). GoesOn x (drop n rest)) (sym e) (goes-behind rest n)
+goes-after seen looked (b ∷ rest) (suc n) g l (inr e) = subst (λ (x : Option ℕ). GoesOn x (drop n rest)) (sym e) tt
+
+looked-all : (h : TokenHistory) (rest : List ℕ) → GoesOn h.seen rest → (more : List ℕ) × (looked_at h ++ more ≡ h.taken ++ rest)
+looked-all h rest g = at h.seen rest g
+  where
+    at : (seen : Option ℕ) (rest : List ℕ) → GoesOn seen rest → (more : List ℕ) × ((h.taken ++ elim seen [ None ↦ [] | Some b ↦ b ∷ [] ]) ++ more ≡ h.taken ++ rest)
+    at None rest g = (rest, ap (λ (x : List ℕ). x ++ rest) (append-nil h.taken))
+    at (Some b) [] g = absurd g
+    at (Some b) (c ∷ rest) g = (rest, append_assoc h.taken (b ∷ []) rest ∙ ap (λ (x : ℕ). h.taken ++ (x ∷ rest)) (sym g))
+
+back : (rest : List ℕ) (n : ℕ) → slice_range rest n (length rest) ≡ drop n rest
+back rest n = take_all (length rest - n) (drop n rest) (simp length-drop (omega arith))
+
+taken-rest : (taken rest : List ℕ) (n : ℕ) → (taken ++ take n rest) ++ drop n rest ≡ taken ++ rest
+taken-rest taken rest n = append_assoc taken (take n rest) (drop n rest) ∙ ap (λ (x : List ℕ). taken ++ x) (take-append-drop n rest)
+
+looked-is : (token : Token) (rest : List ℕ) (n : ℕ) → ((call_of rest n (Some token)).seen ≡ slice_get rest n) ⊎ ((call_of rest n (Some token)).seen ≡ None)
+looked-is token rest n = at (waits token) refl
+  where
+    at : (b : Bool) → waits token ≡ b → (cond (waits token) (slice_get rest n) None ≡ slice_get rest n) ⊎ (cond (waits token) (slice_get rest n) None ≡ None)
+    at true e = inl (ap (λ (x : Bool). cond x (slice_get rest n) None) e)
+    at false e = inr (ap (λ (x : Bool). cond x (slice_get rest n) None) e)
+
+-- ---- a call that answered
+
+pub kept-none : (v w : Held) (bytes rest : List ℕ) (found : Option TokenRead) (n : ℕ) → Kept v bytes rest found → 0 < length rest → NextGives v rest (Ok (n, None)) w → w.statement_limit ≡ v.statement_limit → w.file_limit ≡ v.file_limit → Kept w bytes (slice_range rest n (length rest)) found
+kept-none v w bytes rest found n k l g s f =
+    let a = g k.history k.stands (offered k.history.seen rest k.goes) in
+    let h = extended k.history (call_of rest n None) in
+    record {
+      history = h;
+      stands = a.stands;
+      alive = ap (λ (x : Option TokenFault). first_refusal x None) k.alive;
+      all_is = ap (λ (x : List ℕ). h.taken ++ x) (back rest n) ∙ (taken-rest k.history.taken rest n ∙ k.all_is);
+      given_is = append-nil k.history.given ∙ k.given_is;
+      goes = subst (λ (x : List ℕ). GoesOn h.seen x) (sym (back rest n)) (goes-after k.history.seen None rest n k.goes l (inr refl));
+      scalar = k.scalar;
+      within = k.within;
+      statement_limit = s ∙ k.statement_limit;
+      file_limit = f ∙ k.file_limit;
+    }
+
+-- the history behind a call that gave a token
+module _ (v w : Held) (bytes rest : List ℕ) (found : Option TokenRead) (n : ℕ) (token : TokenRead) (k : Kept v bytes rest found) (l : 0 < length rest) (g : NextGives v rest (Ok (n, Some token)) w) where
+  answers : Answers w (extended k.history (call_of rest n (Some (meant token))))
+  answers = g k.history k.stands (offered k.history.seen rest k.goes)
+
+  goes-more : GoesOn (extended k.history (call_of rest n (Some (meant token)))).seen (drop n rest)
+  goes-more = goes-after k.history.seen (call_of rest n (Some (meant token))).seen rest n k.goes l (looked-is (meant token) rest n)
+
+  pub kept-some : found ≡ None → IsScalarToken (meant token) → w.statement_limit ≡ v.statement_limit → w.file_limit ≡ v.file_limit → Kept w bytes (slice_range rest n (length rest)) (Some token)
+  kept-some e scalar s f =
+      let h = extended k.history (call_of rest n (Some (meant token))) in
+      record {
+        history = h;
+        stands = answers.stands;
+        alive = ap (λ (x : Option TokenFault). first_refusal x None) k.alive;
+        all_is = ap (λ (x : List ℕ). h.taken ++ x) (back rest n) ∙ (taken-rest k.history.taken rest n ∙ k.all_is);
+        given_is = ap (λ (x : List Token). x ++ meant token ∷ []) (k.given_is ∙ ap meant_all e);
+        goes = subst (λ (x : List ℕ). GoesOn h.seen x) (sym (back rest n)) goes-more;
+        scalar = scalar;
+        within = k.within;
+        statement_limit = s ∙ k.statement_limit;
+        file_limit = f ∙ k.file_limit;
+      }
+
+  -- the one token of the text is the first that was given
+  first-given : (other : Token) → Laid bytes (other ∷ []) → (more : List Token) × (other ∷ [] ≡ (meant_all found ++ meant token ∷ []) ++ more)
+  first-given other laid =
+      let h = extended k.history (call_of rest n (Some (meant token))) in
+      let all = looked-all h (drop n rest) goes-more in
+      let same : looked_at h ++ all.0 ≡ bytes = all.1 ∙ (taken-rest k.history.taken rest n ∙ k.all_is) in
+      let first = answers.given_first all.0 (other ∷ []) (subst (λ (x : List ℕ). Laid x (other ∷ [])) (sym same) laid) in
+      (first.0, first.1 ∙ ap (λ (x : List Token). (x ++ meant token ∷ []) ++ first.0) k.given_is)
+
+  pub second-token : (before : TokenRead) → found ≡ Some before → (other : Token) → HoldsScalar bytes other → ⊥
+  second-token before e other held =
+      let first = first-given other held.1 in
+      let same : other ∷ [] ≡ (meant before ∷ meant token ∷ []) ++ first.0 = first.1 ∙ ap (λ (x : Option TokenRead). (meant_all x ++ meant token ∷ []) ++ first.0) e in
+      let l = ap length same in
+      cc
+
+  pub no-scalar : found ≡ None → (IsScalarToken (meant token) → ⊥) → (other : Token) → HoldsScalar bytes other → ⊥
+  no-scalar e not other held =
+      let first = first-given other held.1 in
+      let same : other ∷ [] ≡ (meant token ∷ []) ++ first.0 = first.1 ∙ ap (λ (x : Option TokenRead). (meant_all x ++ meant token ∷ []) ++ first.0) e in
+      let one : other ≡ meant token = cc in
+      not (subst IsScalarToken one held.0)
+
+-- ---- a call that refused
+
+count-le : (token : Token) (size n : ℕ) → count_behind n (record { token = token; size = size }) ≤ n + size
+count-le semicolon size n = omega arith
+count-le _ size n = omega arith
+
+pending-few : (lexemes : List Lexeme) (bytes : List ℕ) (tail : Tail) (n : ℕ) → LaidUpTo bytes lexemes tail → open_bytes n lexemes + tail_size tail ≤ n + length bytes
+pending-few [] bytes tail n l = let sum = ap length l.1 in let p = length-append l.0 (tail_bytes tail) in let q = tail-le tail in omega arith
+  where
+    tail-le : (tail : Tail) → tail_size tail ≤ length (tail_bytes tail)
+    tail-le nothing = omega arith
+    tail-le (unfinished bytes) = omega arith
+    tail-le slash = omega arith
+    tail-le (open_comment inside) = omega arith
+pending-few (x ∷ lexemes) bytes tail n l =
+    let rest = pending-few lexemes l.2 tail (count_behind n x) l.8 in
+    let count = count-le x.token x.size n in
+    let sum = ap length l.3 in
+    let p = length-append l.0 (l.1 ++ l.2) in
+    let q = length-append l.1 l.2 in
+    let size = l.6 in
+    omega arith
+
+pub finds-refused : (v w : Held) (bytes rest : List ℕ) (found : Option TokenRead) (x : TokenFault) → Kept v bytes rest found → NextGives v rest (Err x) w → FindsScalar bytes (Err x)
+finds-refused v w bytes rest found x k g = at x (g k.history k.stands (offered k.history.seen rest k.goes) k.alive)
+  where
+    front : (n : ℕ) → length (k.history.taken ++ take n rest) ≤ text_limit
+    front n = let all = ap length (taken-rest k.history.taken rest n ∙ k.all_is) in let p = length-append (k.history.taken ++ take n rest) (drop n rest) in let m = k.within in omega arith
+
+    dead : (n : ℕ) → AreDead (k.history.taken ++ take n rest) → (token : Token) → HoldsScalar bytes token → ⊥
+    dead n d token held = d (drop n rest) (token ∷ []) (subst (λ (y : List ℕ). Laid y (token ∷ [])) (sym (taken-rest k.history.taken rest n ∙ k.all_is)) held.1)
+
+    at : (x : TokenFault) → RefusesAtByte v k.history rest x w → FindsScalar bytes (Err x)
+    at fault.NoMemory r = tt
+    at fault.FileTooLong r = let m = front (r.count + 1) in let n = r.refuses in let f = k.file_limit in absurd (omega arith)
+    at fault.RecordTooLong r =
+        let full = r.refuses.2 in
+        let few = pending-few full.lexemes (k.history.taken ++ take r.count rest) full.tail 0 full.laid in
+        let m = front r.count in
+        let n = full.full in
+        let f = k.statement_limit in
+        absurd (omega arith)
+    at fault.OpenString r = absurd r.refuses
+    at fault.OpenComment r = absurd r.refuses
+    at fault.NotOneParameter r = absurd r.refuses
+    at fault.EndsEarly r = absurd r.refuses
+    at fault.BadByte r = dead (r.count + 1) r.refuses
+    at fault.BadDirective r = dead (r.count + 1) r.refuses
+    at fault.BadCodePoint r = dead (r.count + 1) r.refuses
+    at fault.NotUtf8 r = dead (r.count + 1) r.refuses
+    at fault.BadNumber r = dead (r.count + 1) r.refuses
+    at fault.NumberRange r = dead (r.count + 1) r.refuses
+    at fault.BadBinary r = dead (r.count + 1) r.refuses
+    at fault.NameRange r = dead (r.count + 1) r.refuses
+    at fault.BadName r = dead (r.count + 1) r.refuses
+    at (fault.LeftOut absent) r = dead (r.count + 1) r.refuses
+
+-- ---- the end of the text
+
+module _ (v : Held) (bytes rest : List ℕ) (found : Option TokenRead) (k : Kept v bytes rest found) (none : length rest ≡ 0) where
+  empty-rest : rest ≡ []
+  empty-rest = nil rest none
+    where
+      nil : (xs : List ℕ) → length xs ≡ 0 → xs ≡ []
+      nil [] e = refl
+      nil (x ∷ xs) e = absurd (omega arith)
+
+  unseen : k.history.seen ≡ None
+  unseen = at k.history.seen (subst (λ (x : List ℕ). GoesOn k.history.seen x) empty-rest k.goes)
+    where
+      at : (seen : Option ℕ) → GoesOn seen [] → seen ≡ None
+      at None g = refl
+      at (Some b) g = absurd g
+
+  taken-all : k.history.taken ≡ bytes
+  taken-all = sym (append-nil k.history.taken) ∙ (ap (λ (x : List ℕ). k.history.taken ++ x) (sym empty-rest) ∙ k.all_is)
+
+  pub finds-end : (x : TokenFault) → FinishGives v (Err x) → FindsScalar bytes (Err x)
+  finds-end fault.NoMemory g = tt
+  finds-end fault.FileTooLong g = (g k.history k.stands unseen k.alive).0
+  finds-end fault.RecordTooLong g = (g k.history k.stands unseen k.alive).0
+  finds-end fault.NotOneParameter g = absurd (g k.history k.stands unseen k.alive).0
+  finds-end _ g = λ token held. (g k.history k.stands unseen k.alive).1 (token ∷ []) (subst (λ (x : List ℕ). Laid x (token ∷ [])) (sym taken-all) held.1)
+
+  -- the tokens of the text
+  pub tokens-are : (last : Option TokenRead) → FinishGives v (Ok last) → Laid bytes (meant_all found ++ meant_all last)
+  tokens-are last g =
+      let laid = (g k.history k.stands unseen).1 in
+      subst (λ (x : List Token). Laid bytes (x ++ meant_all last)) k.given_is (subst (λ (x : List ℕ). Laid x (k.history.given ++ meant_all last)) taken-all laid)
+
+pub finds-only : (bytes : List ℕ) (found last : Option TokenRead) (result : Result TokenRead TokenFault) → IsFoundScalar found → Laid bytes (meant_all found ++ meant_all last) → FindsOnly found last result → FindsScalar bytes result
+finds-only bytes None None (Err fault.EndsEarly) s laid o = λ token held. let e = one-laying bytes [] (token ∷ []) laid held.1 in cc
+finds-only bytes (Some first) None (Ok answer) s laid o = subst (λ (x : Token). HoldsScalar bytes x) (sym o) (s, laid)
+finds-only bytes None (Some last) (Ok answer) s laid o = subst (λ (x : Token). HoldsScalar bytes x) (sym o.0) (o.1, laid)
+finds-only bytes None (Some last) (Err fault.NotOneParameter) s laid o = λ token held.
+    let e = one-laying bytes (meant last ∷ []) (token ∷ []) laid held.1 in
+    let same : meant last ≡ token = cc in
+    o (subst IsScalarToken (sym same) held.0)
+finds-only bytes (Some first) (Some last) (Err fault.NotOneParameter) s laid o = λ token held. let e = one-laying bytes (meant first ∷ meant last ∷ []) (token ∷ []) laid held.1 in cc
+finds-only bytes _ _ _ s laid o = absurd o

@@ -1,0 +1,14 @@
+use Rattle.std.proofs.Common.{ap, subst, sym, ◌∙◌, List, ℕ}
+use Rattle.p21_tokens.specs.Held.{Held}
+use Rattle.p21_tokens.specs.Steps.{ReadsEnd}
+use Rattle.p21_tokens.proofs.Finishing.{finish-gives, finish-refused}
+use Rattle.p21_tokens.proofs.lexer.Lexer.finish.Goals as goal
+
+pub returns-in-Some-clause-history : goal.returns-in-Some-clause-history
+returns-in-Some-clause-history c = finish-refused c.args.self c.in-Some.fault (ap (λ (h : Held). h.refused) (sym c.self.view_is) ∙ c.in-Some.is)
+
+pub returns-clause-history : goal.returns-clause-history
+returns-clause-history c =
+    let kept = subst (λ (x : List ℕ). ReadsEnd c.self.inside.mode x c.self.inside.text c.read_end.result) c.deref.ensures.value c.read_end.ensures in
+    finish-gives c.args.self _ (ap (λ (h : Held). h.refused) (sym c.self.view_is) ∙ c.in_default.is)
+    (subst (λ (h : Held). ReadsEnd h.mode h.kept h.characters c.read_end.result) c.self.view_is kept)

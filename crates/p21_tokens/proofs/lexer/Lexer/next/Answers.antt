@@ -1,0 +1,26 @@
+use Rattle.std.proofs.Common.{ap, subst, sym, ◌∙◌, ◌≤◌, refl}
+use Rattle.p21_tokens.specs.Held.{Held, pending_of}
+use Rattle.p21_tokens.proofs.Extending.{next-answers, next-refuses}
+use Rattle.p21_tokens.proofs.Finishing.{next-refused, refused-none, no-memory-asked, fault-of-err}
+use Rattle.p21_tokens.proofs.lexer.Lexer.next.Goals as goal
+
+pub returns-in-Some-clause-history : goal.returns-in-Some-clause-history
+returns-in-Some-clause-history c = next-refused c.args.self.now c.args.self.now c.args.piece.now c.in-Some.fault (ap (λ (h : Held). h.refused) (sym c.self.view_is) ∙ c.in-Some.is)
+
+pub returns-in-Some-clause-no_memory : goal.returns-in-Some-clause-no_memory
+returns-in-Some-clause-no_memory c history stands alive _ _ _ =
+    refused-none c.args.self.now history c.in-Some.fault (ap (λ (h : Held). h.refused) (sym c.self.view_is) ∙ c.in-Some.is) stands alive
+
+pub returns-in-Ok-clause-history : goal.returns-in-Ok-clause-history
+returns-in-Ok-clause-history c =
+    next-answers c.args.self.now c.scan.new.self c.args.piece.now c.in-Ok.answer (ap (λ (h : Held). h.refused) (sym c.self.view_is) ∙ c.in_default.is)
+    (subst (λ (h : Held). pending_of h ≤ h.statement_limit) c.self-2.view_is c.self-2.invariant.0)
+    (subst (λ (h : Held). h.file ≤ h.file_limit) c.self-2.view_is c.self-2.invariant.1) (c.in-Ok.ensures {u = tt})
+
+pub returns-in-Err-clause-history : goal.returns-in-Err-clause-history
+returns-in-Err-clause-history c =
+    next-refuses c.args.self.now c.scan.new.self _ c.args.piece.now c.in-Err.fault (ap (λ (h : Held). h.refused) (sym c.self.view_is) ∙ c.in_default.is) refl (c.in-Err.ensures {u = tt})
+
+pub returns-in-Err-clause-no_memory : goal.returns-in-Err-clause-no_memory
+returns-in-Err-clause-no_memory c history stands alive nothing separators e =
+    no-memory-asked c.args.self.now c.scan.new.self history c.args.piece.now c.in-Err.fault stands (ap (λ (h : Held). h.refused) (sym c.self.view_is) ∙ c.in_default.is) nothing separators (c.in-Err.ensures {u = tt}) (fault-of-err _ _ e)

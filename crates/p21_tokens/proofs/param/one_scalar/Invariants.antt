@@ -1,0 +1,11 @@
+use Rattle.std.proofs.Common.{◌+◌, length, Option, Some, None}
+use Rattle.p21_tokens.proofs.OneScalar.{Kept}
+use Rattle.p21_tokens.proofs.param.one_scalar.Given as goal
+
+-- the lexer has taken what stands in front of the rest
+abbrev pub invariant-loop-rest : goal.invariant-loop-rest
+invariant-loop-rest l = Kept l.lexer l.text l.rest l.found
+
+-- a call takes bytes, or gives the first token
+abbrev pub decreases-loop-rest : goal.decreases-loop-rest
+decreases-loop-rest l = length l.rest + (elim l.found [ None ↦ 1 | Some token ↦ 0 ])

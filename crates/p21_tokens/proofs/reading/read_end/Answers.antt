@@ -1,0 +1,13 @@
+use Rattle.std.proofs.Common.{ap, sym, ◌∙◌, ◌≡◌, Option, List, ℕ}
+use Rattle.p21_semantics.specs.Token as meaning
+use Rattle.p21_tokens_automaton.specs.Reading.{Found, known, ended_in, ended_text}
+use Rattle.p21_tokens_automaton.specs.declared.mode.Mode.{Mode}
+use Rattle.p21_tokens_automaton.specs.declared.mode.TextMode.{TextMode}
+use Rattle.p21_tokens.proofs.reading.read_end.Goals as goal
+
+pub returns-in-Apostrophe : goal.returns-in-Apostrophe
+returns-in-Apostrophe c = (
+  known (meaning.text c.args.text.now),
+  ap (λ (m : Mode). ended_in m c.args.kept.now c.args.text.now) c.in-Text.is ∙ ap (λ (m : TextMode). ended_text m c.args.text.now) c.in-Apostrophe.is,
+  ap meaning.text (sym c.replace.ensures.value),
+)

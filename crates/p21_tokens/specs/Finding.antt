@@ -1,0 +1,25 @@
+-- What the search for the one scalar of a text owes.
+use Rattle.std.specs.Prelude.{◌≡◌, ℕ, List, Option, Some, None, Result, Ok, Err}
+use Rattle.p21_semantics.specs.Laying.{HoldsScalar}
+use Rattle.p21_semantics.specs.Token as meaning
+use Rattle.p21_semantics.specs.Token.{IsScalarToken}
+use Rattle.p21_tokens.specs.Token.{meant}
+use Rattle.p21_tokens.specs.declared.fault.TokenFault.{TokenFault}
+use Rattle.p21_tokens.specs.declared.fault.TokenFault.TheVariants.{NotOneParameter, RecordTooLong, FileTooLong, EndsEarly, NoMemory}
+use Rattle.p21_tokens.specs.declared.token.Token.{Token}
+
+abbrev pub FindsScalar : List ℕ → Result Token TokenFault → Type 0
+FindsScalar text (Ok token) = HoldsScalar text (meant token)
+FindsScalar text (Err NoMemory) = Unit {0}
+FindsScalar text (Err FileTooLong) = ⊥
+FindsScalar text (Err RecordTooLong) = ⊥
+FindsScalar text (Err fault) = (token : meaning.Token) → HoldsScalar text token → ⊥
+
+-- of two tokens, the one that is there and is a scalar
+abbrev pub FindsOnly : Option Token → Option Token → Result Token TokenFault → Type 0
+FindsOnly None None (Err EndsEarly) = Unit {0}
+FindsOnly (Some token) None (Ok answer) = meant answer ≡ meant token
+FindsOnly None (Some token) (Ok answer) = (meant answer ≡ meant token) × IsScalarToken (meant token)
+FindsOnly None (Some token) (Err NotOneParameter) = IsScalarToken (meant token) → ⊥
+FindsOnly (Some token) (Some other) (Err NotOneParameter) = Unit {0}
+FindsOnly found last result = ⊥

@@ -1,0 +1,135 @@
+ghost use Rattle.std.specs.Prelude.{◌≡◌, ◌≤◌, ◌↔◌, ◌++◌, ◌∷◌, [], length, IsTrue, OnOk, IfOk, MatchResult};
+ghost use Rattle.p21_semantics.specs.Limits.{text_limit};
+ghost use Rattle.p21_semantics.specs.Spelling.{spelling};
+ghost use Rattle.p21_semantics.specs.Token.{IsScalarToken};
+ghost use Rattle.p21_tokens.specs.Finding.{FindsScalar, FindsOnly};
+ghost use Rattle.p21_tokens.specs.Parameter.{IsAnswer, IsRefusal};
+ghost use Rattle.p21_tokens.specs.Token.{meant};
+
+use crate::fault::TokenFault;
+use crate::lexer::Lexer;
+use crate::token::Token;
+use p21_values::{Canonical, Limits, NoMemory, Word};
+use std::alloc::Global;
+
+/// The most bytes of a text.
+const LONGEST: usize = 16_777_216;
+
+/// The canonical spelling of the one scalar parameter between separators: `$`, `*`, an INTEGER, REAL, STRING,
+/// ENUMERATION or BINARY, or an instance name.
+///
+/// # Errors
+///
+/// `FileTooLong` for a text of more than 16,777,216 bytes; `NotOneParameter` at the first token that is no scalar, and at
+/// a second token; `EndsEarly` where there is no token; the faults of the lexer; `NoMemory`.
+pub fn canonical_param(alloc: Global, text: &[u8]) -> Result<Vec<u8>, TokenFault>
+    ensures { MatchResult result (λ answer. IsAnswer text.now answer.items) (λ fault. IsRefusal text.now fault) }
+{
+    if text.len() > LONGEST {
+        return Err(TokenFault::FileTooLong);
+    }
+    let token = match one_scalar(alloc, text) {
+        Ok(token) => token,
+        Err(fault) => return Err(fault),
+    };
+    match spelled(alloc, &token) {
+        Ok(answer) => Ok(answer),
+        Err(_) => Err(TokenFault::NoMemory),
+    }
+}
+
+/// The one token of a text, if it is a scalar.
+fn one_scalar(alloc: Global, text: &[u8]) -> Result<Token, TokenFault>
+    requires { length text.now ≤ text_limit }
+    ensures { FindsScalar text.now result }
+{
+    let mut lexer = Lexer::new(alloc, Limits::usual());
+    let mut found = None;
+    let mut rest = text;
+    while !rest.is_empty() {
+        match lexer.next(rest) {
+            Err(fault) => return Err(fault),
+            Ok((taken, None)) => rest = &rest[taken..],
+            Ok((taken, Some(token))) => {
+                if found.is_some() {
+                    return Err(TokenFault::NotOneParameter);
+                }
+                if !is_scalar(&token) {
+                    return Err(TokenFault::NotOneParameter);
+                }
+                rest = &rest[taken..];
+                found = Some(token);
+            }
+        }
+    }
+    let last = match lexer.finish() {
+        Ok(last) => last,
+        Err(fault) => return Err(fault),
+    };
+    only(found, last)
+}
+
+/// The one of two tokens that is there, if it is a scalar.
+fn only(found: Option<Token>, last: Option<Token>) -> Result<Token, TokenFault>
+    ensures { FindsOnly found last result }
+{
+    match (found, last) {
+        (None, None) => Err(TokenFault::EndsEarly),
+        (Some(token), None) => Ok(token),
+        (None, Some(token)) => {
+            if is_scalar(&token) {
+                Ok(token)
+            } else {
+                Err(TokenFault::NotOneParameter)
+            }
+        }
+        (Some(_first), Some(_second)) => Err(TokenFault::NotOneParameter),
+    }
+}
+
+/// Whether a token is a whole parameter by itself.
+fn is_scalar(token: &Token) -> bool
+    ensures { IsTrue result ↔ IsScalarToken (meant token.now) }
+{
+    match token {
+        Token::Name(_)
+        | Token::Whole(_)
+        | Token::Real(_)
+        | Token::Text(_)
+        | Token::Item(_)
+        | Token::Bits(_)
+        | Token::Dollar
+        | Token::Star => true,
+        _ => false,
+    }
+}
+
+/// The canonical spelling of a scalar.
+fn spelled(alloc: Global, token: &Token) -> Result<Vec<u8>, NoMemory>
+    requires { IsScalarToken (meant token.now) }
+    ensures { IfOk result (λ answer. answer.items ≡ spelling (meant token.now)) }
+{
+    let mut out = Vec::new(alloc);
+    match token {
+        Token::Name(name) => name.write_canonical(&mut out)?,
+        Token::Whole(number) => number.write_canonical(&mut out)?,
+        Token::Real(number) => number.write_canonical(&mut out)?,
+        Token::Text(text) => text.write_canonical(&mut out)?,
+        Token::Item(word) => append_item(word, &mut out)?,
+        Token::Bits(bits) => bits.write_canonical(&mut out)?,
+        Token::Dollar => out.push(b'$')?,
+        Token::Star => out.push(b'*')?,
+        _ => {}
+    }
+    Ok(out)
+}
+
+/// Appends an enumeration item between its points.
+fn append_item(word: &Word, out: &mut Vec<u8>) -> Result<(), NoMemory>
+    ensures { OnOk result (out.new.items ≡ out.old.items ++ (46 ∷ (word.now ++ (46 ∷ [])))) }
+{
+    out.push(b'.')?;
+    word.write_canonical(out)?;
+    out.push(b'.')?;
+    Ok(())
+}
