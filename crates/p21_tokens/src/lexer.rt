@@ -1,7 +1,8 @@
-ghost use Rattle.std.specs.Prelude.{◌≡◌, ◌≢◌, ◌+◌, ◌<◌, ◌≤◌, [], ◌∷◌, ◌++◌, length, take, true, Option, None, Some, OnOk, OnErr, IfOk, IfErr};
+ghost use Rattle.std.specs.Prelude.{◌≡◌, ◌≢◌, ◌+◌, ◌<◌, ◌≤◌, [], ◌∷◌, ◌++◌, length, take, true, false, Option, None, Some, OnOk, OnErr, IfOk, IfErr};
 ghost use Rattle.p21_semantics.specs.Laying.{count_behind};
 ghost use Rattle.p21_tokens_automaton.specs.Reading.{closed, ended, single_token};
-ghost use Rattle.p21_tokens_automaton.specs.declared.mode.Mode.TheVariants.{Between};
+ghost use Rattle.p21_tokens_automaton.specs.declared.mode.Mode.TheVariants.{Between, Name};
+ghost use Rattle.p21_tokens_automaton.specs.declared.mode.NameMode.TheVariants.{Digits};
 ghost use Rattle.p21_tokens.specs.Held.{pending_of, state_of};
 ghost use Rattle.p21_tokens_automaton.specs.Step.{advance};
 ghost use Rattle.p21_semantics.specs.History.{empty};
@@ -16,7 +17,7 @@ use crate::reading::{marker_of, read_closed, read_end, read_ended, single_token}
 use crate::run::at_most;
 use crate::step::{Step, is_token_byte};
 use crate::token::Token;
-use p21_tokens_automaton::{Action, Mode, Run, Single, advance, run_of};
+use p21_tokens_automaton::{Action, Mode, NameMode, Run, Single, advance, run_of};
 use p21_values::{Limits, Text};
 use std::alloc::Global;
 use std::marker::Model;
@@ -289,6 +290,21 @@ impl Lexer {
         Ok(run.len())
     }
 
+    /// Digits of an instance name, if the limits allow them all.
+    fn name_run(&mut self, count: usize, value: u64) -> bool
+        ensures taken { result ≡ true → self.new ≡ record self.old { mode = Name (Digits value); size = self.old.size + count; file = self.old.file + count } }
+        ensures left { result ≡ false → self.new ≡ self.old }
+    {
+        let count = count as u64;
+        if self.room() < count {
+            return false;
+        }
+        self.mode = Mode::Name(NameMode::Digits(value));
+        self.file += count;
+        self.size += count;
+        true
+    }
+
     /// Takes bytes at the front that leave the mode as it is, as many as the limits allow: none, if the first one doesn't.
     fn take_run(&mut self, piece: &[u8]) -> Result<usize, TokenFault>
         ensures { Runs self.old piece.now result self.new }
@@ -306,6 +322,13 @@ impl Lexer {
                     return Ok(0);
                 }
                 self.put_run(&piece[..count])
+            }
+            Run::Named(count, value) => {
+                if self.name_run(count, value) {
+                    Ok(count)
+                } else {
+                    Ok(0)
+                }
             }
         }
     }

@@ -16,6 +16,7 @@ pub mod TextSound
 pub mod TextRuns
 pub mod Runs
 pub mod Lanes
+pub mod Decoded
 pub mod Rows
 pub mod Theorems
 pub mod Fronts
