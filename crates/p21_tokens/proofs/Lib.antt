@@ -1,4 +1,5 @@
 pub mod Stepping
+pub mod Running
 pub mod Scanning
 pub mod Following
 pub mod Extending

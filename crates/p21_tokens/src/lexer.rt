@@ -1,7 +1,8 @@
-ghost use Rattle.std.specs.Prelude.{◌≡◌, ◌≢◌, ◌+◌, ◌<◌, ◌≤◌, [], ◌∷◌, ◌++◌, true, Option, None, Some, OnOk, OnErr, IfOk, IfErr, length};
+ghost use Rattle.std.specs.Prelude.{◌≡◌, ◌≢◌, ◌+◌, ◌<◌, ◌≤◌, [], ◌∷◌, ◌++◌, length, take, true, false, Option, None, Some, OnOk, OnErr, IfOk, IfErr};
 ghost use Rattle.p21_semantics.specs.Laying.{count_behind};
 ghost use Rattle.p21_tokens_automaton.specs.Reading.{closed, ended, single_token};
-ghost use Rattle.p21_tokens_automaton.specs.declared.mode.Mode.TheVariants.{Between};
+ghost use Rattle.p21_tokens_automaton.specs.declared.mode.Mode.TheVariants.{Between, Name};
+ghost use Rattle.p21_tokens_automaton.specs.declared.mode.NameMode.TheVariants.{Digits};
 ghost use Rattle.p21_tokens.specs.Held.{pending_of, state_of};
 ghost use Rattle.p21_tokens_automaton.specs.Step.{advance};
 ghost use Rattle.p21_semantics.specs.History.{empty};
@@ -13,9 +14,10 @@ ghost use Rattle.p21_tokens.specs.Token.{meant};
 
 use crate::fault::{TokenFault, fault_of};
 use crate::reading::{marker_of, read_closed, read_end, read_ended, single_token};
+use crate::run::at_most;
 use crate::step::{Step, is_token_byte};
 use crate::token::Token;
-use p21_tokens_automaton::{Action, Mode, Single, advance};
+use p21_tokens_automaton::{Action, Mode, NameMode, Run, Single, advance, run_of};
 use p21_values::{Limits, Text};
 use std::alloc::Global;
 use std::marker::Model;
@@ -240,11 +242,95 @@ impl Lexer {
         self.take(action, byte)
     }
 
-    /// Takes a run of bytes that leave the mode as it is.
-    fn take_run(&mut self, _piece: &[u8]) -> Result<usize, TokenFault>
-        ensures { Runs self.old _piece.now result self.new }
+    /// How many more bytes of a token both limits allow.
+    fn room(&self) -> u64
+        ensures file { self.now.file + result ≤ self.now.file_limit }
+        ensures statement { pending_of self.now + result ≤ self.now.statement_limit }
     {
-        Ok(0)
+        let file = self.file_limit - self.file;
+        let statement = self.statement_limit - self.statement - self.size;
+        file.min(statement)
+    }
+
+    /// Bytes between tokens, as many as the limit allows.
+    fn pass_run(&mut self, count: usize) -> usize
+        ensures within { result ≤ count }
+        ensures held { self.new ≡ record self.old { file = self.old.file + result } }
+    {
+        let count = at_most(count, self.file_limit - self.file);
+        self.file += count as u64;
+        count
+    }
+
+    /// Bytes of a token that are kept, as many as the limits allow.
+    fn keep_run(&mut self, run: &[u8]) -> Result<usize, TokenFault>
+        ensures ok { IfOk result (λ count. (count ≤ length run.now) × (self.new ≡ record self.old { kept = self.old.kept ++ take count run.now; size = self.old.size + count; file = self.old.file + count })) }
+        ensures err { OnErr result ((result ≡ Err TokenFault.NoMemory) × SameLimits self.old self.new) }
+    {
+        let run = &run[..at_most(run.len(), self.room())];
+        if self.kept.extend_from_slice(run).is_err() {
+            return Err(TokenFault::NoMemory);
+        }
+        self.file += run.len() as u64;
+        self.size += run.len() as u64;
+        Ok(run.len())
+    }
+
+    /// Characters of a string, as many as the limits allow.
+    fn put_run(&mut self, run: &[u8]) -> Result<usize, TokenFault>
+        ensures ok { IfOk result (λ count. (count ≤ length run.now) × (self.new ≡ record self.old { characters = self.old.characters ++ take count run.now; size = self.old.size + count; file = self.old.file + count })) }
+        ensures err { OnErr result ((result ≡ Err TokenFault.NoMemory) × SameLimits self.old self.new) }
+    {
+        let run = &run[..at_most(run.len(), self.room())];
+        if self.text.push_latin1(run).is_err() {
+            return Err(TokenFault::NoMemory);
+        }
+        self.file += run.len() as u64;
+        self.size += run.len() as u64;
+        Ok(run.len())
+    }
+
+    /// Digits of an instance name, if the limits allow them all.
+    fn name_run(&mut self, count: usize, value: u64) -> bool
+        ensures taken { result ≡ true → self.new ≡ record self.old { mode = Name (Digits value); size = self.old.size + count; file = self.old.file + count } }
+        ensures left { result ≡ false → self.new ≡ self.old }
+    {
+        let count = count as u64;
+        if self.room() < count {
+            return false;
+        }
+        self.mode = Mode::Name(NameMode::Digits(value));
+        self.file += count;
+        self.size += count;
+        true
+    }
+
+    /// Takes bytes at the front that leave the mode as it is, as many as the limits allow: none, if the first one doesn't.
+    fn take_run(&mut self, piece: &[u8]) -> Result<usize, TokenFault>
+        ensures { Runs self.old piece.now result self.new }
+    {
+        match run_of(self.mode, piece) {
+            Run::Passed(count) => Ok(self.pass_run(count)),
+            Run::Kept(count) => {
+                if count == 0 {
+                    return Ok(0);
+                }
+                self.keep_run(&piece[..count])
+            }
+            Run::Characters(count) => {
+                if count == 0 {
+                    return Ok(0);
+                }
+                self.put_run(&piece[..count])
+            }
+            Run::Named(count, value) => {
+                if self.name_run(count, value) {
+                    Ok(count)
+                } else {
+                    Ok(0)
+                }
+            }
+        }
     }
 
     /// Takes bytes up to the end of a token or of the piece.

@@ -7,6 +7,7 @@ mod laying;
 mod lexer;
 mod param;
 mod reading;
+mod run;
 mod step;
 #[cfg(test)]
 mod tests;

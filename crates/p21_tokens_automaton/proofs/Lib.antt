@@ -14,5 +14,9 @@ pub mod Complete
 pub mod Sound
 pub mod TextSound
 pub mod TextRuns
+pub mod Runs
+pub mod Lanes
+pub mod Decoded
+pub mod Rows
 pub mod Theorems
 pub mod Fronts

@@ -2,3 +2,4 @@ pub mod Bytes
 pub mod Step
 pub mod Reading
 pub mod Meaning
+pub mod Run

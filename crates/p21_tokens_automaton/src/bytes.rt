@@ -1,6 +1,8 @@
 ghost use Rattle.std.specs.Prelude.{◌≡◌, ◌<◌, IsTrue};
 ghost use Rattle.p21_tokens_automaton.specs.Bytes.{is_digit, is_upper, is_keyword_byte, is_hex, hex_value, is_blank};
 
+use hex::FromHex;
+
 pub(crate) fn is_digit(byte: u8) -> bool
     ensures { result ≡ is_digit byte }
 {
@@ -26,13 +28,16 @@ pub(crate) fn is_hex(byte: u8) -> bool
     is_digit(byte) || (b'A' <= byte && byte <= b'F')
 }
 
-/// The value of an upper-case hex digit.
+/// The value of an upper-case hex digit, read as the second digit of a byte.
 pub(crate) fn hex_value(byte: u8) -> u8
     requires { IsTrue (is_hex byte) }
     ensures value { result ≡ hex_value byte }
     ensures small { result < 16 }
 {
-    if byte <= b'9' { byte - b'0' } else { byte - 55 }
+    match <[u8; 1]>::from_hex([b'0', byte]) {
+        Ok(bytes) => bytes[0],
+        Err(_fault) => 0,
+    }
 }
 
 /// A separator byte.

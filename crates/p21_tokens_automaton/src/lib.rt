@@ -7,7 +7,9 @@ mod gap;
 mod mode;
 mod name;
 mod number;
+mod run;
 mod text;
+mod wide;
 mod word;
 
 pub use gap::advance;
@@ -15,3 +17,4 @@ pub use mode::{
     Absent, Action, BinaryMode, Marker, Mode, NameMode, NumberMode, Single, TextMode, WordMode,
     Wrong,
 };
+pub use run::{Run, run_of};

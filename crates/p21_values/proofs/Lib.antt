@@ -7,3 +7,4 @@ pub mod SignificantDigits
 pub mod Significands
 pub mod StoredDecimals
 pub mod StoredWholes
+pub mod Latin1

@@ -52,6 +52,20 @@ impl Text {
         Ok(())
     }
 
+    /// Adds a character for each byte, whose code the byte is: those of ISO 8859-1. A refusal leaves the text as it was.
+    pub fn push_latin1(&mut self, bytes: &[u8]) -> Result<(), NoMemory>
+        ensures ok { OnOk result (self.new ≡ self.old ++ bytes.now) }
+        ensures err { OnErr result (self.new ≡ self.old) }
+    {
+        let before = self.characters.len();
+        let characters = bytes.iter().map(|byte| char::from(*byte));
+        if self.characters.extend(characters).is_err() {
+            self.characters.truncate(before);
+            return Err(NoMemory);
+        }
+        Ok(())
+    }
+
     /// How many characters the text has.
     pub fn len(&self) -> usize
         ensures { result ≡ length self.now }
@@ -259,6 +273,18 @@ mod tests {
         assert!(rt; text(&rt, "é'")? == text(&rt, "é'")?);
         assert!(rt; text(&rt, "é'")? != text(&rt, "é\"")?);
         assert!(rt; text(&rt, "é")? != text(&rt, "é'")?);
+        Ok(())
+    }
+
+    #[test]
+    fn adds_bytes(rt: HostRuntime) -> Result<(), Fail> {
+        let mut word = text(&rt, &['\u{20AC}'])?;
+        word.push_latin1(b"")?;
+        word.push_latin1(b"a ~\xE9")?;
+        assert_eq!(rt;
+            word.chars(),
+            ['\u{20AC}', 'a', ' ', '~', '\u{E9}'].as_slice()
+        );
         Ok(())
     }
 }

@@ -1,0 +1,165 @@
+ghost use Rattle.std.specs.Prelude.{◌≡◌};
+ghost use Rattle.p21_tokens_automaton.specs.Run.{IsRun, AreOf, is_of};
+ghost use Rattle.p21_tokens_automaton.specs.declared.mode.Mode.TheVariants.{Name};
+ghost use Rattle.p21_tokens_automaton.specs.declared.mode.NameMode.TheVariants.{Digits};
+
+use crate::bytes::{is_blank, is_digit, is_hex, is_keyword_byte};
+use crate::mode::{BinaryMode, Mode, NameMode, NumberMode, TextMode, WordMode};
+use crate::wide::long_front;
+
+/// How many bytes at the front leave the mode as it is, and what each of them does.
+#[derive(Clone, Copy, Debug, PartialEq, Eq)]
+pub enum Run {
+    /// They stand between tokens.
+    Passed(usize),
+    /// They belong to the token, and are kept.
+    Kept(usize),
+    /// They are characters of a string.
+    Characters(usize),
+    /// They are digits of an instance name, and stand for this number with those before them.
+    Named(usize, u64),
+}
+
+/// A run of bytes at the front, which may be shorter than it could be.
+pub fn run_of(mode: Mode, bytes: &[u8]) -> Run
+    ensures { IsRun mode bytes.now result }
+{
+    match mode {
+        Mode::Between => Run::Passed(front(Class::Blank, bytes)),
+        Mode::Comment => Run::Passed(long_front(Class::Commented, bytes)),
+        Mode::Number(NumberMode::Whole) => Run::Kept(short_front(Class::Digit, bytes)),
+        Mode::Number(NumberMode::Fraction) => Run::Kept(short_front(Class::Digit, bytes)),
+        Mode::Number(NumberMode::ExponentDigits) => Run::Kept(short_front(Class::Digit, bytes)),
+        Mode::Word(WordMode::Keyword) => Run::Kept(long_front(Class::KeywordByte, bytes)),
+        Mode::Word(WordMode::UserKeyword) => Run::Kept(long_front(Class::KeywordByte, bytes)),
+        Mode::Word(WordMode::Item) => Run::Kept(long_front(Class::KeywordByte, bytes)),
+        Mode::Binary(BinaryMode::Hex) => Run::Kept(long_front(Class::HexDigit, bytes)),
+        Mode::Name(NameMode::Digits(value)) => name_run(value, bytes),
+        Mode::Text(TextMode::Inside) => Run::Characters(long_front(Class::Plain, bytes)),
+        _ => Run::Passed(0),
+    }
+}
+
+/// Digits of an instance name behind those that stand for this number, as long as any digit more is in range.
+fn name_run(value: u64, bytes: &[u8]) -> Run
+    ensures { IsRun (Name (Digits value)) bytes.now result }
+{
+    let mut count = 0;
+    let mut number = value;
+    while number < SHORT_NAME && count < bytes.len() && is_digit(bytes[count]) {
+        number = number * 10 + u64::from(bytes[count] - b'0');
+        count += 1;
+    }
+    Run::Named(count, number)
+}
+
+/// A number below it can take any digit more.
+const SHORT_NAME: u64 = 1_000_000_000_000_000_000;
+
+/// Bytes that a mode takes all alike.
+#[derive(Clone, Copy)]
+pub(crate) enum Class {
+    Blank,
+    /// Inside a comment, any but `*`.
+    Commented,
+    Digit,
+    KeywordByte,
+    HexDigit,
+    /// Inside a string, a character of its own.
+    Plain,
+}
+
+#[inline(always)]
+fn is_of(class: Class, byte: u8) -> bool
+    ensures { result ≡ is_of class byte }
+{
+    match class {
+        Class::Blank => is_blank(byte),
+        Class::Commented => byte != b'*',
+        Class::Digit => is_digit(byte),
+        Class::KeywordByte => is_keyword_byte(byte),
+        Class::HexDigit => is_hex(byte),
+        Class::Plain => b' ' <= byte && byte <= b'~' && byte != b'\'' && byte != b'\\',
+    }
+}
+
+/// How many bytes at the front are of the class, where there is often none.
+#[inline]
+fn front(class: Class, bytes: &[u8]) -> usize
+    ensures { AreOf class bytes.now result }
+{
+    match bytes.first() {
+        None => 0,
+        Some(byte) => {
+            if !is_of(class, *byte) {
+                return 0;
+            }
+            long_front(class, bytes)
+        }
+    }
+}
+
+/// How many bytes at the front are of the class, where there are often few.
+#[inline(always)]
+pub(crate) fn short_front(class: Class, bytes: &[u8]) -> usize
+    ensures { AreOf class bytes.now result }
+{
+    let mut count = 0;
+    while count < bytes.len() && is_of(class, bytes[count]) {
+        count += 1;
+    }
+    count
+}
+
+#[cfg(test)]
+mod tests {
+    use super::*;
+    use crate::mode::Marker;
+
+    #[test]
+    fn finds_runs(rt: HostRuntime) {
+        let whole = Mode::Number(NumberMode::Whole);
+        let keyword = Mode::Word(WordMode::Keyword);
+        let inside = Mode::Text(TextMode::Inside);
+        let cases: [(Mode, &[u8], Run); 13] = [
+            (Mode::Between, b" \t\r\n\x7F\0#", Run::Passed(6)),
+            (Mode::Between, b"", Run::Passed(0)),
+            (Mode::Slash, b"  ", Run::Passed(0)),
+            (Mode::Comment, b"a \xFF / */", Run::Passed(6)),
+            (whole, b"1203.5", Run::Kept(4)),
+            (Mode::Number(NumberMode::Sign), b"12", Run::Passed(0)),
+            (keyword, b"ITEM_2(", Run::Kept(6)),
+            (
+                Mode::Word(WordMode::Marker(Marker::Begin, 4)),
+                b"10",
+                Run::Passed(0),
+            ),
+            (Mode::Binary(BinaryMode::Hex), b"0AFG", Run::Kept(3)),
+            (Mode::Name(NameMode::Digits(7)), b"05=", Run::Named(2, 705)),
+            (inside, b"a ~'b", Run::Characters(3)),
+            (inside, b"a\\", Run::Characters(1)),
+            (inside, b"a\nb", Run::Characters(1)),
+        ];
+        for (mode, bytes, want) in cases {
+            assert_eq!(rt; run_of(mode, bytes), want);
+        }
+    }
+
+    #[test]
+    fn finds_long_runs(rt: HostRuntime) {
+        let bytes =
+            b"0123456789 (AN ITEM OF 90 CHARACTERS, ONE OF WHICH IS NEITHER A BLANK NOR A STAR) IS *THIS";
+        let inside = Mode::Text(TextMode::Inside);
+        assert_eq!(rt; run_of(Mode::Comment, bytes), Run::Passed(85));
+        assert_eq!(rt; run_of(inside, bytes), Run::Characters(90));
+        assert_eq!(rt; run_of(inside, &bytes[..64]), Run::Characters(64));
+    }
+
+    #[test]
+    fn leaves_the_last_digits_of_a_long_name(rt: HostRuntime) {
+        let digits = Mode::Name(NameMode::Digits(1));
+        let want = Run::Named(18, 1_844_674_407_370_955_161);
+        assert_eq!(rt; run_of(digits, b"8446744073709551615"), want);
+        assert_eq!(rt; run_of(digits, b"844674407370955161"), want);
+    }
+}
