@@ -16,6 +16,8 @@ enum Does {
 /// The last range of bytes that holds a byte says what it does.
 type Ranges = &'static [(u8, u8, Does)];
 
+type Rows = &'static [(&'static [u8], Ranges)];
+
 fn expected(ranges: &[(u8, u8, Does)], byte: u8) -> Does {
     let mut does = Does::Refused(1);
     for (low, high, inside) in ranges {
@@ -46,6 +48,13 @@ fn expect_behind(
     for byte in 0..=255 {
         let does = found(alloc, before, byte)?;
         assert_eq!(rt; does, expected(ranges, byte), "{byte} behind {before:?}");
+    }
+    Ok(())
+}
+
+fn expect_all(rt: &impl Abort, alloc: Global, rows: Rows) -> Result<(), Fail> {
+    for (before, ranges) in rows {
+        expect_behind(rt, alloc, before, ranges)?;
     }
     Ok(())
 }
@@ -107,43 +116,42 @@ const DIGITS: Ranges = &[(0x00, 0xFF, Does::EndsIt), (b'0', b'9', Does::GoesOn)]
 
 const STRING: Ranges = &[(0x00, 0xFF, Does::EndsIt), (b'\'', b'\'', Does::GoesOn)];
 
+const BEHIND: Rows = &[
+    (b"", BETWEEN),
+    (b"(", BETWEEN),
+    (b")", BETWEEN),
+    (b",", BETWEEN),
+    (b";", BETWEEN),
+    (b"=", BETWEEN),
+    (b"$", BETWEEN),
+    (b"*", BETWEEN),
+    (b".T.", BETWEEN),
+    (b"\"23B\"", BETWEEN),
+    (b"\"0\"", BETWEEN),
+    (b" ", BETWEEN),
+    (b"/**/", BETWEEN),
+    (b"A", KEYWORD),
+    (b"_9", KEYWORD),
+    (b"ISO1", KEYWORD),
+    (b"!A", KEYWORD),
+    (b"!END", KEYWORD),
+    (b"ISO", KEYWORD_OF_A_MARKER),
+    (b"END", KEYWORD_OF_A_MARKER),
+    (b"ISO-10303-21", MARKER),
+    (b"END-ISO-10303-21", MARKER),
+    (b"0", WHOLE),
+    (b"-12", WHOLE),
+    (b"+1.", REAL),
+    (b"1.5", REAL),
+    (b"1.E2", DIGITS),
+    (b"1.5E-03", DIGITS),
+    (b"#7", DIGITS),
+    (b"'a'", STRING),
+];
+
 #[test]
 fn knows_the_byte_behind_a_token(rt: HostRuntime) -> Result<(), Fail> {
-    let rows: [(&[u8], Ranges); 30] = [
-        (b"", BETWEEN),
-        (b"(", BETWEEN),
-        (b")", BETWEEN),
-        (b",", BETWEEN),
-        (b";", BETWEEN),
-        (b"=", BETWEEN),
-        (b"$", BETWEEN),
-        (b"*", BETWEEN),
-        (b".T.", BETWEEN),
-        (b"\"23B\"", BETWEEN),
-        (b"\"0\"", BETWEEN),
-        (b" ", BETWEEN),
-        (b"/**/", BETWEEN),
-        (b"A", KEYWORD),
-        (b"_9", KEYWORD),
-        (b"ISO1", KEYWORD),
-        (b"!A", KEYWORD),
-        (b"!END", KEYWORD),
-        (b"ISO", KEYWORD_OF_A_MARKER),
-        (b"END", KEYWORD_OF_A_MARKER),
-        (b"ISO-10303-21", MARKER),
-        (b"END-ISO-10303-21", MARKER),
-        (b"0", WHOLE),
-        (b"-12", WHOLE),
-        (b"+1.", REAL),
-        (b"1.5", REAL),
-        (b"1.E2", DIGITS),
-        (b"1.5E-03", DIGITS),
-        (b"#7", DIGITS),
-        (b"'a'", STRING),
-    ];
-    for (before, ranges) in rows {
-        expect_behind(&rt, rt.alloc(), before, ranges)?;
-    }
+    expect_all(&rt, rt.alloc(), BEHIND)?;
     Ok(())
 }
 
@@ -193,37 +201,36 @@ const ONE_PADDED: Ranges = &[(0x00, 0xFF, Does::Refused(9)), (b'0', b'7', Does::
 
 const THREE_PADDED: Ranges = &[(0x00, 0xFF, Does::Refused(9)), (b'0', b'1', Does::GoesOn)];
 
+const INSIDE: Rows = &[
+    (b"-", DIGIT_OR_7),
+    (b"1.E", EXPONENT),
+    (b"1.5E+", DIGIT_OR_7),
+    (b"1.E99999", OUT_OF_RANGE),
+    (b"!", WORD_BEGINS),
+    (b".", WORD_BEGINS),
+    (b".T", ITEM),
+    (b"#", NAME_BEGINS),
+    (b"#1844674407370955161", LARGEST_NAME),
+    (b"\"", PADDING),
+    (b"\"0", HEX_DIGITS),
+    (b"\"1", ONE_PADDED),
+    (b"\"2", PADDING),
+    (b"\"3", THREE_PADDED),
+    (b"\"31", HEX_DIGITS),
+    (b"ISO-", &[(b'1', b'1', Does::GoesOn)]),
+    (b"ISO-1", &[(b'0', b'0', Does::GoesOn)]),
+    (b"ISO-10303", &[(b'-', b'-', Does::GoesOn)]),
+    (b"ISO-10303-2", &[(b'1', b'1', Does::GoesOn)]),
+    (b"END-", &[(b'I', b'I', Does::GoesOn)]),
+    (b"END-ISO-10303-2", &[(b'1', b'1', Does::GoesOn)]),
+    (b"/", &[(b'*', b'*', Does::GoesOn)]),
+    (b"/*", &[(0x00, 0xFF, Does::GoesOn)]),
+    (b"/**", &[(0x00, 0xFF, Does::GoesOn)]),
+];
+
 #[test]
 fn knows_the_byte_inside_a_token(rt: HostRuntime) -> Result<(), Fail> {
-    let rows: [(&[u8], Ranges); 24] = [
-        (b"-", DIGIT_OR_7),
-        (b"1.E", EXPONENT),
-        (b"1.5E+", DIGIT_OR_7),
-        (b"1.E99999", OUT_OF_RANGE),
-        (b"!", WORD_BEGINS),
-        (b".", WORD_BEGINS),
-        (b".T", ITEM),
-        (b"#", NAME_BEGINS),
-        (b"#1844674407370955161", LARGEST_NAME),
-        (b"\"", PADDING),
-        (b"\"0", HEX_DIGITS),
-        (b"\"1", ONE_PADDED),
-        (b"\"2", PADDING),
-        (b"\"3", THREE_PADDED),
-        (b"\"31", HEX_DIGITS),
-        (b"ISO-", &[(b'1', b'1', Does::GoesOn)]),
-        (b"ISO-1", &[(b'0', b'0', Does::GoesOn)]),
-        (b"ISO-10303", &[(b'-', b'-', Does::GoesOn)]),
-        (b"ISO-10303-2", &[(b'1', b'1', Does::GoesOn)]),
-        (b"END-", &[(b'I', b'I', Does::GoesOn)]),
-        (b"END-ISO-10303-2", &[(b'1', b'1', Does::GoesOn)]),
-        (b"/", &[(b'*', b'*', Does::GoesOn)]),
-        (b"/*", &[(0x00, 0xFF, Does::GoesOn)]),
-        (b"/**", &[(0x00, 0xFF, Does::GoesOn)]),
-    ];
-    for (before, ranges) in rows {
-        expect_behind(&rt, rt.alloc(), before, ranges)?;
-    }
+    expect_all(&rt, rt.alloc(), INSIDE)?;
     Ok(())
 }
 
@@ -277,37 +284,36 @@ const NO_CHARACTER: Ranges = &[
     (b'A', b'F', Does::Refused(5)),
 ];
 
+const INSIDE_A_STRING: Rows = &[
+    (b"'", UNIT),
+    (b"'a", UNIT),
+    (b"'''", UNIT),
+    (b"'\\X\\E9", UNIT),
+    (b"'\\S\\'", UNIT),
+    (b"'\\X2\\00E9\\X0\\", UNIT),
+    (b"'\\", DIRECTIVE),
+    (b"'\\S\\", OF_A_PAGE),
+    (b"'\\X", WIDTH),
+    (b"'\\X\\", HEX),
+    (b"'\\X\\E", HEX),
+    (b"'\\X2\\", HEX),
+    (b"'\\X2\\00E", HEX),
+    (b"'\\X2\\00E9", HEX_OR_END),
+    (b"'\\X2\\D83D", BEHIND_HIGH),
+    (b"'\\X2\\D83DDE0", HEX),
+    (b"'\\X2\\D83DDE00", HEX_OR_END),
+    (b"'\\X2\\D83DE00", NO_CHARACTER),
+    (b"'\\X2\\DC0", NO_CHARACTER),
+    (b"'\\X4\\", HEX),
+    (b"'\\X4\\0010FFF", HEX),
+    (b"'\\X4\\0011000", NO_CHARACTER),
+    (b"'\\X4\\0000D80", NO_CHARACTER),
+    (b"'\\X4\\0001F600", HEX_OR_END),
+];
+
 #[test]
 fn knows_the_byte_inside_a_string(rt: HostRuntime) -> Result<(), Fail> {
-    let rows: [(&[u8], Ranges); 24] = [
-        (b"'", UNIT),
-        (b"'a", UNIT),
-        (b"'''", UNIT),
-        (b"'\\X\\E9", UNIT),
-        (b"'\\S\\'", UNIT),
-        (b"'\\X2\\00E9\\X0\\", UNIT),
-        (b"'\\", DIRECTIVE),
-        (b"'\\S\\", OF_A_PAGE),
-        (b"'\\X", WIDTH),
-        (b"'\\X\\", HEX),
-        (b"'\\X\\E", HEX),
-        (b"'\\X2\\", HEX),
-        (b"'\\X2\\00E", HEX),
-        (b"'\\X2\\00E9", HEX_OR_END),
-        (b"'\\X2\\D83D", BEHIND_HIGH),
-        (b"'\\X2\\D83DDE0", HEX),
-        (b"'\\X2\\D83DDE00", HEX_OR_END),
-        (b"'\\X2\\D83DE00", NO_CHARACTER),
-        (b"'\\X2\\DC0", NO_CHARACTER),
-        (b"'\\X4\\", HEX),
-        (b"'\\X4\\0010FFF", HEX),
-        (b"'\\X4\\0011000", NO_CHARACTER),
-        (b"'\\X4\\0000D80", NO_CHARACTER),
-        (b"'\\X4\\0001F600", HEX_OR_END),
-    ];
-    for (before, ranges) in rows {
-        expect_behind(&rt, rt.alloc(), before, ranges)?;
-    }
+    expect_all(&rt, rt.alloc(), INSIDE_A_STRING)?;
     let characters: [(&[u8], u8, u8); 8] = [
         (b"'\xC3", 0x80, 0xBF),
         (b"'\xE0", 0xA0, 0xBF),
