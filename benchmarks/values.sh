@@ -1,8 +1,8 @@
 #!/bin/sh
 # Times a program that reads a million values, keeps them all and writes their canonical spellings, beside a plain Rust
 # program that does the same with `f64`, `u64` and `String`. Each gives the same output; the script compares them.
-# Prints a table: the shortest of several runs, their ratio, the peak resident memory, and for one value the allocations
-# and the bytes allocated, where valgrind is there: those of the lists and of the output are among them.
+# Prints a table: the least processor time of several runs, their ratio, the peak resident memory, and for one value the
+# allocations and the bytes allocated, where valgrind is there: those of the lists and of the output are among them.
 # Needs rt, rustc and python3.
 
 benchmarks=$(dirname -- "$(readlink -f -- "$0")")
@@ -38,15 +38,25 @@ def label(number):
 KINDS = {"reals": real, "names": "#{}".format, "labels": label}
 
 
-def measured(words):
-    """The seconds and the peak resident memory in bytes of one run."""
-    begun = time.perf_counter()
+def seconds(words):
+    """The processor time of one run, for the program and for the system in its name."""
     process = subprocess.Popen(words, stdout=subprocess.DEVNULL)
     _, status, usage = os.wait4(process.pid, 0)
-    seconds = time.perf_counter() - begun
     if status:
         sys.exit(f"{words} ended with {status}")
-    return seconds, usage.ru_maxrss * 1024
+    return usage.ru_utime + usage.ru_stime
+
+
+def peak_memory(words):
+    """The most resident bytes that are seen in one run, looked at each millisecond."""
+    peak = 0
+    with subprocess.Popen(words, stdout=subprocess.DEVNULL) as process:
+        while process.poll() is None:
+            with open(f"/proc/{process.pid}/status") as status:
+                lines = [line for line in status if line.startswith("VmHWM:")]
+            peak = max([peak, *(int(line.split()[1]) * 1024 for line in lines)])
+            time.sleep(0.001)
+    return peak
 
 
 def allocations(words):
@@ -70,10 +80,10 @@ with tempfile.TemporaryDirectory() as folder:
         ours, theirs = (subprocess.run(words, stdout=subprocess.PIPE, check=True).stdout for words in commands)
         if ours != theirs:
             sys.exit(f"the two spell {kind} otherwise")
-        runs = [[measured(words) for words in commands] for _ in range(RUNS)]
-        best = [min(run[program][0] for run in runs) for program in (0, 1)]
+        runs = [[seconds(words) for words in commands] for _ in range(RUNS)]
+        best = [min(run[program] for run in runs) for program in (0, 1)]
         for program, name in enumerate(("p21_values", "plain Rust")):
-            peak = max(run[program][1] for run in runs)
+            peak = peak_memory(commands[program])
             count, size = allocations(commands[program])
             ratio = best[program] / best[1]
             print(f"| {kind} | {name} | {best[program] * 1e3:.0f} | {ratio:.2f} | {peak / 1e6:.1f} | {count} | {size} |")

@@ -11,7 +11,7 @@ refused=${1:-1}
 # What a run prints besides tests that pass, or that end by want of memory.
 wrong() {
     grep -E '^test want_of_memory::.*FAILED' "$log"
-    grep -E '^    ' "$log" | grep -vE '^    (error: NoMemory|the test failed: its result gives status 1|the test exited with status 101)$'
+    grep -E '^    ' "$log" | grep -vE '^    (error: (NoMemory|AllocError)|the test failed: its result gives status 1|the test exited with status 101)$'
 }
 
 while true; do
