@@ -10,6 +10,8 @@ mod fault;
 mod limits;
 mod name;
 mod text;
+#[cfg(test)]
+mod want_of_memory;
 mod whole;
 mod word;
 
