@@ -3,15 +3,18 @@ use Rattle.std.proofs.Common.{eqb, cond, ◌≡◌, ℕ, ◌+◌, ◌≤◌, ◌
 use Rattle.std.proofs.lemmas.Bool.{cond_both}
 use Rattle.std.proofs.lemmas.Bool.Decides.{nat_tests}
 use Rattle.std.proofs.lemmas.List.{length-take-le, take-take}
+use Rattle.std.specs.Str.{chars, IsUtf8}
+use Rattle.p21_tokens_automaton.proofs.CharacterRuns.{run-characters}
 use Rattle.p21_tokens_automaton.proofs.Runs.{run-passes, run-keeps, run-puts, run-names}
 use Rattle.p21_tokens_automaton.specs.Reading.{lex}
-use Rattle.p21_tokens_automaton.specs.Run.{EachDoes, AreNameDigits}
+use Rattle.p21_tokens_automaton.specs.Run.{EachDoes, AreNameDigits, AreCharacterBytes}
 use Rattle.p21_tokens_automaton.specs.Step.{advance}
 use Rattle.p21_tokens_automaton.specs.declared.mode.Action.{Action}
 use Rattle.p21_tokens_automaton.specs.declared.mode.Action.TheVariants.{Pass, Keep, Put, Refuse}
 use Rattle.p21_tokens_automaton.specs.declared.mode.Mode.{Mode}
-use Rattle.p21_tokens_automaton.specs.declared.mode.Mode.TheVariants.{Between, Slash, Comment, Star, Name}
+use Rattle.p21_tokens_automaton.specs.declared.mode.Mode.TheVariants.{Between, Slash, Comment, Star, Name, Text}
 use Rattle.p21_tokens_automaton.specs.declared.mode.NameMode.TheVariants.{Digits}
+use Rattle.p21_tokens_automaton.specs.declared.mode.TextMode.TheVariants.{Inside}
 use Rattle.p21_tokens_automaton.specs.declared.mode.Wrong.TheVariants as wrong
 use Rattle.p21_tokens.specs.Held.{Held, state_of}
 use Rattle.p21_tokens.specs.Steps.{is_gap, SameLimits, Runs}
@@ -104,3 +107,24 @@ pub ran-none : (v : Held) (piece : List ℕ) (w : Held) → w ≡ v → Runs v p
 ran-none v piece w q =
     subst (λ (x : Held). Runs v piece (Ok 0) x) (sym q)
     (ran v piece 0 0 v (omega arith) (same_limits v v refl refl refl) (omega arith) refl (λ g. g) (λ rest. refl))
+
+module _ (v : Held) (piece : List ℕ) (count : ℕ) (w : Held) where
+  abbrev utf8_taken : ℕ → Held
+  utf8_taken n = record v { characters = v.characters ++ chars (take n (take count piece)); size = v.size + n; file = v.file + n }
+
+  ran-utf8 : (n : ℕ) → n ≤ length (take count piece) → IsUtf8 (take n (take count piece)) → AreCharacterBytes v.mode piece count → w ≡ utf8_taken n → Runs v piece (Ok n) w
+  ran-utf8 n h u e q =
+      let k : n ≤ count = omega (arith, length-take-le count piece e.within) in
+      let same = take-take n count piece k in
+      let few : AreCharacterBytes v.mode piece n = record { mode_is = e.mode_is; within = let l = e.within in omega arith; each = λ i l. e.each i (omega arith) } in
+      subst (λ (x : Held). Runs v piece (Ok n) x) (sym (q ∙ ap (λ (x : List ℕ). record v { characters = v.characters ++ chars x; size = v.size + n; file = v.file + n }) same))
+      (ran v piece n count _ few.within (same_limits v _ refl refl refl) refl refl (λ g. g) (λ rest. run-characters (state_of v) piece rest n few (subst IsUtf8 same u)))
+
+  inside-token : AreCharacterBytes v.mode piece count → is_gap v.mode ≡ true → ⊥
+  inside-token e g = let f : is_gap (Text Inside) ≡ true = ap is_gap (sym e.mode_is) ∙ g in cc
+
+  pub ran-utf8_or_failed : (r : Result ℕ TokenFault) → AreCharacterBytes v.mode piece count
+      → IfOk r (λ n. (n ≤ length (take count piece)) × IsUtf8 (take n (take count piece)) × (w ≡ utf8_taken n))
+      → OnErr r ((r ≡ Err NoMemory) × SameLimits v w) → Runs v piece r w
+  ran-utf8_or_failed (Ok n) e h g = ran-utf8 n h.0 h.1 e h.2
+  ran-utf8_or_failed (Err x) e h g = failed v piece count w x (Err x) refl g (inside-token e)

@@ -1,4 +1,5 @@
 ghost use Rattle.std.specs.Prelude.{◌≡◌, ◌≢◌, ◌+◌, ◌<◌, ◌≤◌, [], ◌∷◌, ◌++◌, length, take, true, false, Option, None, Some, OnOk, OnErr, IfOk, IfErr};
+ghost use Rattle.std.specs.Str.{IsUtf8, chars};
 ghost use Rattle.p21_semantics.specs.Laying.{count_behind};
 ghost use Rattle.p21_tokens_automaton.specs.Reading.{closed, ended, single_token};
 ghost use Rattle.p21_tokens_automaton.specs.declared.mode.Mode.TheVariants.{Between, Name};
@@ -14,7 +15,7 @@ ghost use Rattle.p21_tokens.specs.Token.{meant};
 
 use crate::fault::{TokenFault, fault_of};
 use crate::reading::{marker_of, read_closed, read_end, read_ended, single_token};
-use crate::run::at_most;
+use crate::run::{at_most, whole_characters};
 use crate::step::{Step, is_token_byte};
 use crate::token::Token;
 use p21_tokens_automaton::{Action, Mode, NameMode, Run, Single, advance, run_of};
@@ -290,6 +291,20 @@ impl Lexer {
         Ok(run.len())
     }
 
+    /// Characters of a string in UTF-8, as many as are whole and the limits allow.
+    fn put_utf8_run(&mut self, run: &[u8]) -> Result<usize, TokenFault>
+        ensures ok { IfOk result (λ count. (count ≤ length run.now) × IsUtf8 (take count run.now) × (self.new ≡ record self.old { characters = self.old.characters ++ chars (take count run.now); size = self.old.size + count; file = self.old.file + count })) }
+        ensures err { OnErr result ((result ≡ Err TokenFault.NoMemory) × SameLimits self.old self.new) }
+    {
+        let text = whole_characters(&run[..at_most(run.len(), self.room())]);
+        if self.text.push_str(text).is_err() {
+            return Err(TokenFault::NoMemory);
+        }
+        self.file += text.len() as u64;
+        self.size += text.len() as u64;
+        Ok(text.len())
+    }
+
     /// Digits of an instance name, if the limits allow them all.
     fn name_run(&mut self, count: usize, value: u64) -> bool
         ensures taken { result ≡ true → self.new ≡ record self.old { mode = Name (Digits value); size = self.old.size + count; file = self.old.file + count } }
@@ -322,6 +337,12 @@ impl Lexer {
                     return Ok(0);
                 }
                 self.put_run(&piece[..count])
+            }
+            Run::Utf8(count) => {
+                if count == 0 {
+                    return Ok(0);
+                }
+                self.put_utf8_run(&piece[..count])
             }
             Run::Named(count, value) => {
                 if self.name_run(count, value) {

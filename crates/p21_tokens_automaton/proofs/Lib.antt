@@ -15,6 +15,7 @@ pub mod Sound
 pub mod TextSound
 pub mod TextRuns
 pub mod Runs
+pub mod CharacterRuns
 pub mod Lanes
 pub mod Decoded
 pub mod Rows

@@ -22,37 +22,37 @@ use Rattle.p21_tokens_automaton.proofs.Utf16.{groups-one, groups-pair}
 use Rattle.p21_tokens_automaton.proofs.Steps.{lex-skip, lex-put}
 
 -- inside a string, behind bytes that stand for these characters
-abbrev in_text : TextMode → List ℕ → ℕ → State
-in_text m characters size = record { mode = Text m; kept = []; characters = characters; size = size }
+abbrev pub in_text : List ℕ → TextMode → List ℕ → ℕ → State
+in_text kept m characters size = record { mode = Text m; kept = kept; characters = characters; size = size }
 
 -- from one state over these bytes to another
-abbrev Runs : TextMode → List ℕ → List ℕ → TextMode → List ℕ → Type 0
-Runs m characters bytes next after = (size : ℕ) (rest : List ℕ) → lex (in_text m characters size) (bytes ++ rest) ≡ lex (in_text next after (size + length bytes)) rest
+abbrev pub Runs : TextMode → List ℕ → List ℕ → TextMode → List ℕ → Type 0
+Runs m characters bytes next after = (kept : List ℕ) (size : ℕ) (rest : List ℕ) → lex (in_text kept m characters size) (bytes ++ rest) ≡ lex (in_text kept next after (size + length bytes)) rest
 
-resize : (m : TextMode) (characters rest : List ℕ) (size other : ℕ) → size ≡ other → lex (in_text m characters size) rest ≡ lex (in_text m characters other) rest
-resize m characters rest size other e = ap (λ n. lex (in_text m characters n) rest) e
+resize : (kept : List ℕ) (m : TextMode) (characters rest : List ℕ) (size other : ℕ) → size ≡ other → lex (in_text kept m characters size) rest ≡ lex (in_text kept m characters other) rest
+resize kept m characters rest size other e = ap (λ n. lex (in_text kept m characters n) rest) e
 
-runs-none : (m : TextMode) (characters : List ℕ) → Runs m characters [] m characters
-runs-none m characters size rest = resize m characters rest size (size + 0) (omega arith)
+pub runs-none : (m : TextMode) (characters : List ℕ) → Runs m characters [] m characters
+runs-none m characters kept size rest = resize kept m characters rest size (size + 0) (omega arith)
 
-runs-join : (m n k : TextMode) (a b c xs ys : List ℕ) → Runs m a xs n b → Runs n b ys k c → Runs m a (xs ++ ys) k c
-runs-join m n k a b c xs ys h g size rest =
-    (ap (λ x. lex (in_text m a size) x) (append_assoc xs ys rest) ∙ h size (ys ++ rest))
-    ∙ (g (size + length xs) rest ∙ resize k c rest (size + length xs + length ys) (size + length (xs ++ ys)) (simp length-append (omega arith)))
+pub runs-join : (m n k : TextMode) (a b c xs ys : List ℕ) → Runs m a xs n b → Runs n b ys k c → Runs m a (xs ++ ys) k c
+runs-join m n k a b c xs ys h g kept size rest =
+    (ap (λ x. lex (in_text kept m a size) x) (append_assoc xs ys rest) ∙ h kept size (ys ++ rest))
+    ∙ (g kept (size + length xs) rest ∙ resize kept k c rest (size + length xs + length ys) (size + length (xs ++ ys)) (simp length-append (omega arith)))
 
 -- a byte that gives no character, and one that gives one, in front
 runs-skip : (m n k : TextMode) (a c ys : List ℕ) (byte : ℕ) → text_action m byte ≡ Skip (Text n) → Runs n a ys k c → Runs m a (byte ∷ ys) k c
-runs-skip m n k a c ys byte e g size rest =
-    lex-skip (in_text m a size) (Text n) byte (ys ++ rest) e ∙ (g (size + 1) rest ∙ resize k c rest (size + 1 + length ys) (size + length (byte ∷ ys)) (omega arith))
+runs-skip m n k a c ys byte e g kept size rest =
+    lex-skip (in_text kept m a size) (Text n) byte (ys ++ rest) e ∙ (g kept (size + 1) rest ∙ resize kept k c rest (size + 1 + length ys) (size + length (byte ∷ ys)) (omega arith))
 
 runs-put : (m n k : TextMode) (a c ys : List ℕ) (byte character : ℕ) → text_action m byte ≡ Put (Text n) character → Runs n (a ++ character ∷ []) ys k c → Runs m a (byte ∷ ys) k c
-runs-put m n k a c ys byte character e g size rest =
-    lex-put (in_text m a size) (Text n) character byte (ys ++ rest) e ∙ (g (size + 1) rest ∙ resize k c rest (size + 1 + length ys) (size + length (byte ∷ ys)) (omega arith))
+runs-put m n k a c ys byte character e g kept size rest =
+    lex-put (in_text kept m a size) (Text n) character byte (ys ++ rest) e ∙ (g kept (size + 1) rest ∙ resize kept k c rest (size + 1 + length ys) (size + length (byte ∷ ys)) (omega arith))
 
 last-skip : (m n : TextMode) (a : List ℕ) (byte : ℕ) → text_action m byte ≡ Skip (Text n) → Runs m a (byte ∷ []) n a
 last-skip m n a byte e = runs-skip m n n a a [] byte e (runs-none n a)
 
-last-put : (m n : TextMode) (a : List ℕ) (byte character : ℕ) → text_action m byte ≡ Put (Text n) character → Runs m a (byte ∷ []) n (a ++ character ∷ [])
+pub last-put : (m n : TextMode) (a : List ℕ) (byte character : ℕ) → text_action m byte ≡ Put (Text n) character → Runs m a (byte ∷ []) n (a ++ character ∷ [])
 last-put m n a byte character e = runs-put m n n a (a ++ character ∷ []) [] byte character e (runs-none n (a ++ character ∷ []))
 
 -- One byte
@@ -327,7 +327,7 @@ four-run c s h a =
       ]
     ]
 
-utf8-run : (c : ℕ) → IsScalar c → 128 ≤ c → (a : List ℕ) → Runs text_mode.Inside a (encode_utf8 c) text_mode.Inside (a ++ c ∷ [])
+pub utf8-run : (c : ℕ) → IsScalar c → 128 ≤ c → (a : List ℕ) → Runs text_mode.Inside a (encode_utf8 c) text_mode.Inside (a ++ c ∷ [])
 utf8-run c s h a =
     elim (cases_lt c 2048) [
       | inl k ↦ subst (λ x. Runs text_mode.Inside a x text_mode.Inside (a ++ c ∷ [])) (sym (encode-two c h k)) (two-run c s h k a)
@@ -403,6 +403,6 @@ pub text-run : (inside value rest : List ℕ) → Encodes inside value
 text-run inside value rest e =
     let units : Runs text_mode.Inside [] inside text_mode.Inside value =
     subst (λ x. Runs text_mode.Inside [] x text_mode.Inside value) (sym e.bytes_are) (subst (λ x. Runs text_mode.Inside [] (flat_map unit_bytes e.units) text_mode.Inside x) (sym e.characters_are) (units-run e.units e.are_units [])) in
-    units 1 (39 ∷ rest)
-    ∙ (lex-skip (in_text text_mode.Inside value (1 + length inside)) (Text text_mode.Apostrophe) 39 rest refl
-    ∙ resize text_mode.Apostrophe value rest (1 + length inside + 1) (length inside + 2) (omega arith))
+    units [] 1 (39 ∷ rest)
+    ∙ (lex-skip (in_text [] text_mode.Inside value (1 + length inside)) (Text text_mode.Apostrophe) 39 rest refl
+    ∙ resize [] text_mode.Apostrophe value rest (1 + length inside + 1) (length inside + 2) (omega arith))

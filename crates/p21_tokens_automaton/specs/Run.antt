@@ -3,14 +3,37 @@ use Rattle.std.specs.Prelude.{◌≡◌, ℕ, ◌+◌, ◌-◌, ◌*◌, ◌^◌
 use Rattle.p21_tokens_automaton.specs.Bytes.{is_digit, is_keyword_byte, is_hex, is_blank}
 use Rattle.p21_tokens_automaton.specs.Step.{advance}
 use Rattle.p21_tokens_automaton.specs.declared.mode.Mode.{Mode}
-use Rattle.p21_tokens_automaton.specs.declared.mode.Mode.TheVariants.{Name}
+use Rattle.p21_tokens_automaton.specs.declared.mode.Mode.TheVariants.{Name, Text}
 use Rattle.p21_tokens_automaton.specs.declared.mode.NameMode.TheVariants.{Digits}
+use Rattle.p21_tokens_automaton.specs.declared.mode.TextMode.TheVariants.{Inside}
 use Rattle.p21_tokens_automaton.specs.declared.mode.Action.{Action}
 use Rattle.p21_tokens_automaton.specs.declared.mode.Action.TheVariants.{Pass, Keep, Put}
 use Rattle.p21_tokens_automaton.specs.declared.run.Class.{Class}
-use Rattle.p21_tokens_automaton.specs.declared.run.Class.TheVariants.{Blank, Commented, Digit, KeywordByte, HexDigit, Plain}
+use Rattle.p21_tokens_automaton.specs.declared.run.Class.TheVariants.{Blank, Commented, Digit, KeywordByte, HexDigit, Plain, CharacterByte}
 use Rattle.p21_tokens_automaton.specs.declared.run.Run.{Run}
-use Rattle.p21_tokens_automaton.specs.declared.run.Run.TheVariants.{Passed, Kept, Characters, Named}
+use Rattle.p21_tokens_automaton.specs.declared.run.Run.TheVariants.{Passed, Kept, Characters, Named, Utf8}
+
+-- the byte may be one of a character of a string in UTF-8
+abbrev pub is_character_byte : ℕ → Bool
+is_character_byte byte = nat_le 32 byte && not (byte == 39) && not (byte == 92) && not (byte == 127)
+
+-- the bytes of a class, as a test
+abbrev pub is_of : Class → ℕ → Bool
+is_of Blank byte = is_blank byte
+is_of Commented byte = not (byte == 42)
+is_of Digit byte = is_digit byte
+is_of KeywordByte byte = is_keyword_byte byte
+is_of HexDigit byte = is_hex byte
+is_of CharacterByte byte = is_character_byte byte
+is_of Plain byte = nat_le 32 byte && nat_le byte 126 && not (byte == 39) && not (byte == 92)
+
+abbrev pub is_other : Class → ℕ → Bool
+is_other of byte = not (is_of of byte)
+
+-- so many bytes at the front are of the class
+pub record AreOf (of : Class) (bytes : List ℕ) (count : ℕ) : Type 0 where
+  pub within : count ≤ length bytes
+  pub each : (k : ℕ) → k < count → is_of of (slice_index bytes k) ≡ true
 
 -- so many bytes at the front, each of which does this in this mode
 pub record EachDoes (mode : Mode) (bytes : List ℕ) (count : ℕ) (does : ℕ → Action) : Type 0 where
@@ -21,6 +44,12 @@ pub record EachDoes (mode : Mode) (bytes : List ℕ) (count : ℕ) (does : ℕ �
 abbrev pub name_value : ℕ → List ℕ → ℕ
 name_value value [] = value
 name_value value (byte ∷ bytes) = name_value (value * 10 + (byte - 48)) bytes
+
+-- so many bytes at the front of characters of a string
+pub record AreCharacterBytes (mode : Mode) (bytes : List ℕ) (count : ℕ) : Type 0 where
+  pub mode_is : mode ≡ Text Inside
+  pub within : count ≤ length bytes
+  pub each : (k : ℕ) → k < count → is_character_byte (slice_index bytes k) ≡ true
 
 -- so many digits at the front, which make this number of the one before them
 pub record AreNameDigits (mode : Mode) (bytes : List ℕ) (count value : ℕ) : Type 0 where
@@ -36,20 +65,4 @@ IsRun mode bytes (Passed count) = EachDoes mode bytes count (λ byte. Pass mode)
 IsRun mode bytes (Kept count) = EachDoes mode bytes count (λ byte. Keep mode)
 IsRun mode bytes (Characters count) = EachDoes mode bytes count (λ byte. Put mode byte)
 IsRun mode bytes (Named count value) = AreNameDigits mode bytes count value
-
--- the bytes of a class, as a test
-abbrev pub is_of : Class → ℕ → Bool
-is_of Blank byte = is_blank byte
-is_of Commented byte = not (byte == 42)
-is_of Digit byte = is_digit byte
-is_of KeywordByte byte = is_keyword_byte byte
-is_of HexDigit byte = is_hex byte
-is_of Plain byte = nat_le 32 byte && nat_le byte 126 && not (byte == 39) && not (byte == 92)
-
-abbrev pub is_other : Class → ℕ → Bool
-is_other of byte = not (is_of of byte)
-
--- so many bytes at the front are of the class
-pub record AreOf (of : Class) (bytes : List ℕ) (count : ℕ) : Type 0 where
-  pub within : count ≤ length bytes
-  pub each : (k : ℕ) → k < count → is_of of (slice_index bytes k) ≡ true
+IsRun mode bytes (Utf8 count) = AreCharacterBytes mode bytes count

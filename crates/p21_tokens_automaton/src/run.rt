@@ -1,7 +1,8 @@
 ghost use Rattle.std.specs.Prelude.{◌≡◌};
 ghost use Rattle.p21_tokens_automaton.specs.Run.{IsRun, AreOf, is_of};
-ghost use Rattle.p21_tokens_automaton.specs.declared.mode.Mode.TheVariants.{Name};
+ghost use Rattle.p21_tokens_automaton.specs.declared.mode.Mode.TheVariants.{Name, Text};
 ghost use Rattle.p21_tokens_automaton.specs.declared.mode.NameMode.TheVariants.{Digits};
+ghost use Rattle.p21_tokens_automaton.specs.declared.mode.TextMode.TheVariants.{Inside};
 
 use crate::bytes::{is_blank, is_digit, is_hex, is_keyword_byte};
 use crate::mode::{BinaryMode, Mode, NameMode, NumberMode, TextMode, WordMode};
@@ -16,6 +17,8 @@ pub enum Run {
     Kept(usize),
     /// They are characters of a string.
     Characters(usize),
+    /// They are characters of a string, if they are whole in UTF-8.
+    Utf8(usize),
     /// They are digits of an instance name, and stand for this number with those before them.
     Named(usize, u64),
 }
@@ -35,9 +38,20 @@ pub fn run_of(mode: Mode, bytes: &[u8]) -> Run
         Mode::Word(WordMode::Item) => Run::Kept(long_front(Class::KeywordByte, bytes)),
         Mode::Binary(BinaryMode::Hex) => Run::Kept(long_front(Class::HexDigit, bytes)),
         Mode::Name(NameMode::Digits(value)) => name_run(value, bytes),
-        Mode::Text(TextMode::Inside) => Run::Characters(long_front(Class::Plain, bytes)),
+        Mode::Text(TextMode::Inside) => text_run(bytes),
         _ => Run::Passed(0),
     }
+}
+
+/// Characters of a string: those of one byte each, or else those of several with any behind them.
+fn text_run(bytes: &[u8]) -> Run
+    ensures { IsRun (Text Inside) bytes.now result }
+{
+    let plain = long_front(Class::Plain, bytes);
+    if plain > 0 {
+        return Run::Characters(plain);
+    }
+    Run::Utf8(long_front(Class::CharacterByte, bytes))
 }
 
 /// Digits of an instance name behind those that stand for this number, as long as any digit more is in range.
@@ -67,6 +81,8 @@ pub(crate) enum Class {
     HexDigit,
     /// Inside a string, a character of its own.
     Plain,
+    /// Inside a string, a character of its own, or one of its bytes in UTF-8.
+    CharacterByte,
 }
 
 #[inline(always)]
@@ -79,6 +95,7 @@ fn is_of(class: Class, byte: u8) -> bool
         Class::Digit => is_digit(byte),
         Class::KeywordByte => is_keyword_byte(byte),
         Class::HexDigit => is_hex(byte),
+        Class::CharacterByte => b' ' <= byte && byte != b'\'' && byte != b'\\' && byte != 127,
         Class::Plain => b' ' <= byte && byte <= b'~' && byte != b'\'' && byte != b'\\',
     }
 }
@@ -121,7 +138,7 @@ mod tests {
         let whole = Mode::Number(NumberMode::Whole);
         let keyword = Mode::Word(WordMode::Keyword);
         let inside = Mode::Text(TextMode::Inside);
-        let cases: [(Mode, &[u8], Run); 13] = [
+        let cases: [(Mode, &[u8], Run); 16] = [
             (Mode::Between, b" \t\r\n\x7F\0#", Run::Passed(6)),
             (Mode::Between, b"", Run::Passed(0)),
             (Mode::Slash, b"  ", Run::Passed(0)),
@@ -139,6 +156,9 @@ mod tests {
             (inside, b"a ~'b", Run::Characters(3)),
             (inside, b"a\\", Run::Characters(1)),
             (inside, b"a\nb", Run::Characters(1)),
+            (inside, b"\xC3\xA9 \xE2\x82\xACa'", Run::Utf8(7)),
+            (inside, b"\x7Fa", Run::Utf8(0)),
+            (inside, b"'a", Run::Utf8(0)),
         ];
         for (mode, bytes, want) in cases {
             assert_eq!(rt; run_of(mode, bytes), want);

@@ -2,7 +2,7 @@
 ghost use Rattle.std.specs.Prelude.{◌≡◌, map};
 ghost use Rattle.std.specs.Simd.Lanes.{mask_l};
 ghost use Rattle.p21_tokens_automaton.specs.Run.{AreOf, is_other};
-ghost use Rattle.p21_tokens_automaton.specs.declared.run.Class.TheVariants.{Blank, Commented, Digit, KeywordByte, HexDigit, Plain};
+ghost use Rattle.p21_tokens_automaton.specs.declared.run.Class.TheVariants.{Blank, Commented, Digit, KeywordByte, HexDigit, Plain, CharacterByte};
 
 use crate::run::{Class, short_front};
 use std::simd::prelude::*;
@@ -34,6 +34,7 @@ fn others(class: Class, bytes: u8x32) -> u64
         Class::KeywordByte => no_keyword_bytes(bytes),
         Class::HexDigit => no_hex_digits(bytes),
         Class::Plain => no_plain_bytes(bytes),
+        Class::CharacterByte => no_character_bytes(bytes),
     }
 }
 
@@ -88,4 +89,14 @@ fn no_plain_bytes(bytes: u8x32) -> u64
         | bytes.simd_ge(u8x32::splat(127))
         | bytes.simd_eq(u8x32::splat(b'\''))
         | bytes.simd_eq(u8x32::splat(b'\\'))).to_bitmask()
+}
+
+#[inline(always)]
+fn no_character_bytes(bytes: u8x32) -> u64
+    ensures { result ≡ mask_l (map (is_other CharacterByte) bytes) }
+{
+    (bytes.simd_lt(u8x32::splat(b' '))
+        | bytes.simd_eq(u8x32::splat(b'\''))
+        | bytes.simd_eq(u8x32::splat(b'\\'))
+        | bytes.simd_eq(u8x32::splat(127))).to_bitmask()
 }

@@ -7,4 +7,4 @@ pub mod SignificantDigits
 pub mod Significands
 pub mod StoredDecimals
 pub mod StoredWholes
-pub mod Latin1
+pub mod Added

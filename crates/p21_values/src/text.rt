@@ -1,4 +1,6 @@
 ghost use Rattle.std.specs.Prelude.{◌≡◌, ◌%◌, [], ◌∷◌, ◌++◌, length, OnOk, OnErr};
+ghost use Rattle.std.specs.List.{flat_map};
+ghost use Rattle.std.specs.Str.{chars};
 ghost use Rattle.p21_semantics.specs.Digits.{hex_digit, hex_digits};
 ghost use Rattle.p21_semantics.specs.Spelling.{character_spelling, text_spelling};
 ghost use Rattle.p21_semantics.specs.Text.{end_extended};
@@ -60,6 +62,19 @@ impl Text {
         let before = self.characters.len();
         let characters = bytes.iter().map(|byte| char::from(*byte));
         if self.characters.extend(characters).is_err() {
+            self.characters.truncate(before);
+            return Err(NoMemory);
+        }
+        Ok(())
+    }
+
+    /// Adds the characters of a text in UTF-8. A refusal leaves this one as it was.
+    pub fn push_str(&mut self, text: &str) -> Result<(), NoMemory>
+        ensures ok { OnOk result (self.new ≡ self.old ++ chars text.now) }
+        ensures err { OnErr result (self.new ≡ self.old) }
+    {
+        let before = self.characters.len();
+        if self.characters.extend(text.chars()).is_err() {
             self.characters.truncate(before);
             return Err(NoMemory);
         }
@@ -273,6 +288,18 @@ mod tests {
         assert!(rt; text(&rt, "é'")? == text(&rt, "é'")?);
         assert!(rt; text(&rt, "é'")? != text(&rt, "é\"")?);
         assert!(rt; text(&rt, "é")? != text(&rt, "é'")?);
+        Ok(())
+    }
+
+    #[test]
+    fn adds_text(rt: HostRuntime) -> Result<(), Fail> {
+        let mut word = text(&rt, &['\u{20AC}'])?;
+        word.push_str("")?;
+        word.push_str("a\u{E9}\u{1F600}")?;
+        assert_eq!(rt;
+            word.chars(),
+            ['\u{20AC}', 'a', '\u{E9}', '\u{1F600}'].as_slice()
+        );
         Ok(())
     }
 

@@ -1,7 +1,7 @@
 use Rattle.std.proofs.Common.{ap, subst, arith}
 use Rattle.p21_tokens.specs.Held.{Held}
-use Rattle.p21_tokens.proofs.Running.{ran-passed, ran-kept_or_failed, ran-put_or_failed, ran-named, ran-none}
-use Rattle.p21_tokens_automaton.specs.Run.{EachDoes, AreNameDigits}
+use Rattle.p21_tokens.proofs.Running.{ran-passed, ran-kept_or_failed, ran-put_or_failed, ran-utf8_or_failed, ran-named, ran-none}
+use Rattle.p21_tokens_automaton.specs.Run.{EachDoes, AreCharacterBytes, AreNameDigits}
 use Rattle.p21_tokens_automaton.specs.declared.mode.Mode.{Mode}
 use Rattle.p21_tokens_automaton.specs.declared.mode.Action.TheVariants.{Pass, Keep, Put}
 use Rattle.p21_tokens.proofs.lexer.Lexer.take_run.Goals as goal
@@ -20,6 +20,11 @@ pub returns-else-count-eq0-2 : goal.returns-else-count-eq0-2
 returns-else-count-eq0-2 c =
     ran-put_or_failed c.args.self.now c.args.piece.now c.in-Characters.count c.put_run.new.self c.put_run.result (omega arith)
     (subst (λ (m : Mode). EachDoes m c.args.piece.now c.in-Characters.count (λ b. Put m b)) (ap (λ (h : Held). h.mode) c.self.view_is) (c.in-Characters.ensures {u = tt})) c.put_run.ensures.ok c.put_run.ensures.err
+
+pub returns-else-count-eq0-3 : goal.returns-else-count-eq0-3
+returns-else-count-eq0-3 c =
+    ran-utf8_or_failed c.args.self.now c.args.piece.now c.in-Utf8.count c.put_utf8_run.new.self c.put_utf8_run.result
+    (subst (λ (m : Mode). AreCharacterBytes m c.args.piece.now c.in-Utf8.count) (ap (λ (h : Held). h.mode) c.self.view_is) (c.in-Utf8.ensures {u = tt})) c.put_utf8_run.ensures.ok c.put_utf8_run.ensures.err
 
 pub returns-then-name_run : goal.returns-then-name_run
 returns-then-name_run c =

@@ -5,7 +5,7 @@ use Rattle.std.proofs.lemmas.Iterator.{YieldsList-from_slice, YieldsList-from_ma
 use Rattle.std.proofs.lemmas.Iterator.Adapters.{items_from_extend}
 use Rattle.std.proofs.lemmas.Iterator.Consumers.{YieldsList-at}
 use Rattle.std.proofs.lemmas.List.{map-id}
-use Rattle.p21_values.proofs.Latin1.{latin1-scalars, on_ok}
+use Rattle.p21_values.proofs.Added.{latin1-scalars, on_ok}
 use Rattle.p21_values.proofs.text.Text.push_latin1.Goals as goal
 
 appended : (c : goal.Else-is_err) → c.extend.new.self.items ≡ c.self.inside.characters.items ++ c.args.bytes.now
