@@ -293,7 +293,7 @@ mod tests {
 
     #[test]
     fn adds_text(rt: HostRuntime) -> Result<(), Fail> {
-        let mut word = text(&rt, &['\u{20AC}'])?;
+        let mut word = text(&rt, "\u{20AC}")?;
         word.push_str("")?;
         word.push_str("a\u{E9}\u{1F600}")?;
         assert_eq!(rt;
@@ -305,7 +305,7 @@ mod tests {
 
     #[test]
     fn adds_bytes(rt: HostRuntime) -> Result<(), Fail> {
-        let mut word = text(&rt, &['\u{20AC}'])?;
+        let mut word = text(&rt, "\u{20AC}")?;
         word.push_latin1(b"")?;
         word.push_latin1(b"a ~\xE9")?;
         assert_eq!(rt;
