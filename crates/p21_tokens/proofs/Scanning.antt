@@ -20,7 +20,7 @@ blank-parts : (a b : List ℕ) → AreBlank (a ++ b) → AreBlank a × AreBlank 
 blank-parts [] b k = (tt, k)
 blank-parts (x ∷ a) b k = let parts = blank-parts a b k.1 in ((k.0, parts.0), parts.1)
 
-run-join : (u v w : Held) (a b : List ℕ) → TakesRun u a v → TakesRun v b w → TakesRun u (a ++ b) w
+pub run-join : (u v w : Held) (a b : List ℕ) → TakesRun u a v → TakesRun v b w → TakesRun u (a ++ b) w
 run-join u v w a b r s = record {
   file_is = omega (arith, r.file_is, s.file_is, length-append a b);
   statement_is = s.statement_is ∙ r.statement_is;
