@@ -54,6 +54,9 @@ along-run v w u piece n m a r =
       run = subst (λ (x : List ℕ). TakesRun v x u) (sym (take-add n m piece)) (run-join v w u (take n piece) (take m (drop n piece)) a.run behind);
     }
 
+pub along-no_run : (v w u : Held) (piece : List ℕ) (n m : ℕ) → Along v w piece n → m ≡ 0 → Runs w (slice_range piece n (length piece)) (Ok m) u → Along v u piece n
+along-no_run v w u piece n m a z r = let same : n + m ≡ n = omega arith in subst (λ (k : ℕ). Along v u piece k) same (along-run v w u piece n m a r)
+
 module _ (v w u : Held) (piece : List ℕ) (n b : ℕ) (h : n < length piece) (e : b ≡ get_or piece n 0) (a : Along v w piece n) where
   pub along-took : Steps w b (Ok Took) u → Along v u piece (n + 1)
   along-took s = record {

@@ -151,7 +151,7 @@ module _ (v : Held) (b : ℕ) where
   refused x e rest founds lexemes a m =
       not-all x founds (sym (ap all_of (lex-byte (state_of v) b rest ∙ ap (λ (y : Action). act y (state_of v) b (λ next. lex next rest)) e)) ∙ a)
 
-single-at_once : (one : Single) → waits (single_token one) ≡ false
+pub single-at_once : (one : Single) → waits (single_token one) ≡ false
 single-at_once single.Left = refl
 single-at_once single.Right = refl
 single-at_once single.Comma = refl

@@ -1,20 +1,49 @@
 //! Tokens that stand whole at the front of bytes, read without a state.
-ghost use Rattle.std.specs.Prelude.{IfSome};
-ghost use Rattle.p21_tokens.specs.Front.{ArePlain, Fronts};
+ghost use Rattle.std.specs.Prelude.{◌≡◌, IfSome};
+ghost use Rattle.p21_tokens_automaton.specs.Step.{advance};
+ghost use Rattle.p21_tokens_automaton.specs.declared.mode.Mode.TheVariants.{Between};
+ghost use Rattle.p21_tokens_automaton.specs.declared.mode.Action.TheVariants.{Give};
+ghost use Rattle.p21_tokens.specs.Front.{ArePlain, Fronts, Leads};
 ghost use Rattle.p21_tokens.specs.Token.{meant};
 
-use crate::reading::{behind, read_real, read_whole, read_word};
+use crate::reading::{behind, read_real, read_whole, read_word, single_token};
 use crate::token::Token;
-use p21_tokens_automaton::{Mode, NameMode, Run, TextMode, WordMode, run_of};
+use p21_tokens_automaton::{Mode, NameMode, Run, Single, TextMode, WordMode, run_of};
 use p21_values::{Name, Text};
 use std::alloc::Global;
 
-/// A token that waits for the byte behind it, and how many bytes it has, where it and that byte stand at the front and
-/// that is easily seen: a keyword, a number, an instance name, or a string of plain characters.
+/// The token at the front of bytes, and how many bytes it has, where that is easily seen: one of one byte, or a keyword,
+/// a number, an instance name or a string of plain characters with the byte behind it.
 pub(crate) fn front_token(alloc: Global, bytes: &[u8]) -> Option<(usize, Token)>
     ensures { IfSome result (λ front. Fronts bytes.now front.0 (meant front.1)) }
 {
-    match *bytes.first()? {
+    let (first, _rest) = bytes.split_first()?;
+    if let Some(single) = single(*first) {
+        return Some((1, single_token(single)));
+    }
+    waiting_token(alloc, *first, bytes)
+}
+
+/// The token that one byte is.
+fn single(byte: u8) -> Option<Single>
+    ensures { IfSome result (λ single. advance Between byte ≡ Give single) }
+{
+    match byte {
+        b'(' => Some(Single::Left),
+        b')' => Some(Single::Right),
+        b',' => Some(Single::Comma),
+        b';' => Some(Single::Semicolon),
+        b'=' => Some(Single::Equals),
+        b'$' => Some(Single::Dollar),
+        b'*' => Some(Single::Star),
+        _ => None,
+    }
+}
+
+fn waiting_token(alloc: Global, first: u8, bytes: &[u8]) -> Option<(usize, Token)>
+    ensures { IfSome result (λ front. Leads bytes.now front.0 (meant front.1)) }
+{
+    match first {
         b'#' => front_name(bytes),
         b'\'' => front_text(alloc, bytes),
         b'0'..=b'9' | b'+' | b'-' => front_number(alloc, bytes),
@@ -33,7 +62,7 @@ fn end_of_digits(bytes: &[u8], from: usize) -> usize {
 }
 
 fn front_number(alloc: Global, bytes: &[u8]) -> Option<(usize, Token)>
-    ensures { IfSome result (λ front. Fronts bytes.now front.0 (meant front.1)) }
+    ensures { IfSome result (λ front. Leads bytes.now front.0 (meant front.1)) }
 {
     let whole = end_of_digits(bytes, 1);
     if *bytes.get(whole)? != b'.' {
@@ -51,7 +80,7 @@ fn front_number(alloc: Global, bytes: &[u8]) -> Option<(usize, Token)>
 }
 
 fn front_whole(alloc: Global, bytes: &[u8], count: usize) -> Option<(usize, Token)>
-    ensures { IfSome result (λ front. Fronts bytes.now front.0 (meant front.1)) }
+    ensures { IfSome result (λ front. Leads bytes.now front.0 (meant front.1)) }
 {
     let byte = *bytes.get(count)?;
     if byte.is_ascii_digit() || byte == b'.' {
@@ -64,7 +93,7 @@ fn front_whole(alloc: Global, bytes: &[u8], count: usize) -> Option<(usize, Toke
 }
 
 fn front_real(alloc: Global, bytes: &[u8], count: usize) -> Option<(usize, Token)>
-    ensures { IfSome result (λ front. Fronts bytes.now front.0 (meant front.1)) }
+    ensures { IfSome result (λ front. Leads bytes.now front.0 (meant front.1)) }
 {
     let byte = *bytes.get(count)?;
     if byte.is_ascii_digit() || byte == b'E' {
@@ -77,7 +106,7 @@ fn front_real(alloc: Global, bytes: &[u8], count: usize) -> Option<(usize, Token
 }
 
 fn front_keyword(alloc: Global, bytes: &[u8]) -> Option<(usize, Token)>
-    ensures { IfSome result (λ front. Fronts bytes.now front.0 (meant front.1)) }
+    ensures { IfSome result (λ front. Leads bytes.now front.0 (meant front.1)) }
 {
     let Run::Kept(count) = run_of(Mode::Word(WordMode::Keyword), bytes) else {
         return None;
@@ -93,7 +122,7 @@ fn front_keyword(alloc: Global, bytes: &[u8]) -> Option<(usize, Token)>
 }
 
 fn front_name(bytes: &[u8]) -> Option<(usize, Token)>
-    ensures { IfSome result (λ front. Fronts bytes.now front.0 (meant front.1)) }
+    ensures { IfSome result (λ front. Leads bytes.now front.0 (meant front.1)) }
 {
     let digits = behind(b'#', bytes)?;
     let Run::Named(count, value) = run_of(Mode::Name(NameMode::Digits(0)), digits) else {
@@ -107,7 +136,7 @@ fn front_name(bytes: &[u8]) -> Option<(usize, Token)>
 }
 
 fn front_text(alloc: Global, bytes: &[u8]) -> Option<(usize, Token)>
-    ensures { IfSome result (λ front. Fronts bytes.now front.0 (meant front.1)) }
+    ensures { IfSome result (λ front. Leads bytes.now front.0 (meant front.1)) }
 {
     let inside = behind(b'\'', bytes)?;
     let count = plain_characters(inside)?;

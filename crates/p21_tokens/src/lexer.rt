@@ -366,7 +366,7 @@ impl Lexer {
         self.size == 0 && self.kept.is_empty() && self.text.len() == 0
     }
 
-    /// Takes a token that stands whole at the front of bytes with the byte behind it, if the limits allow it.
+    /// Takes a token that stands whole at the front of bytes, if the limits allow it.
     fn take_front(&mut self, bytes: &[u8]) -> Option<(usize, Token)>
         ensures { TakesFront self.old bytes.now result self.new }
     {
@@ -379,7 +379,10 @@ impl Lexer {
             return None;
         }
         self.file += size;
-        self.statement += size;
+        self.statement = match token {
+            Token::Semicolon => 0,
+            _ => self.statement + size,
+        };
         Some((count, token))
     }
 
@@ -389,20 +392,18 @@ impl Lexer {
     {
         let mut taken = 0;
         while taken < piece.len() {
-            match self.take_run(&piece[taken..]) {
-                Ok(run) => taken += run,
-                Err(fault) => return Err(fault),
-            }
             if let Some((count, token)) = self.take_front(&piece[taken..]) {
                 return Ok((taken + count, Some(token)));
             }
-            if taken < piece.len() {
-                match self.step(piece[taken]) {
+            match self.take_run(&piece[taken..]) {
+                Ok(0) => match self.step(piece[taken]) {
                     Ok(Step::Took) => taken += 1,
                     Ok(Step::Gave(token)) => return Ok((taken + 1, Some(token))),
                     Ok(Step::Handed(token)) => return Ok((taken, Some(token))),
                     Err(fault) => return Err(fault),
-                }
+                },
+                Ok(run) => taken += run,
+                Err(fault) => return Err(fault),
             }
         }
         Ok((taken, None))
