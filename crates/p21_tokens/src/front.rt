@@ -156,9 +156,11 @@ fn front_text(alloc: Global, bytes: &[u8]) -> Option<(usize, Token)>
 fn plain_characters(inside: &[u8]) -> Option<usize>
     ensures { IfSome result (ArePlain inside.now) }
 {
+    if *inside.first()? == b'\'' {
+        return Some(0);
+    }
     match run_of(Mode::Text(TextMode::Inside), inside) {
         Run::Characters(count) => Some(count),
-        Run::Utf8(count) => { if count == 0 { Some(0) } else { None } }
         _ => None,
     }
 }
