@@ -38,6 +38,10 @@ user_part data_record = data_record.no_user_keywords.0
 user_typed : IsDataRecord (simple (part_of (key_of (codes "A")) (param (typed user_key dollar) no_params))) → ⊥
 user_typed data_record = data_record.no_user_keywords.1.1.0
 
+-- `(A()!B())` too
+user_second : IsDataRecord (complex (part_of (key_of (codes "A")) no_params ∷ part_of (record { user = true; word = codes "B" }) no_params ∷ [])) → ⊥
+user_second data_record = data_record.no_user_keywords.1.1.1.1.0
+
 -- `ENDSEC();` as a header record is not the end of a section
 not_section_end : statement_tokens (header (part_of (key_of (codes "ENDSEC")) no_params)) ≡ statement_tokens (section section_end) → ⊥
 not_section_end same = cc
