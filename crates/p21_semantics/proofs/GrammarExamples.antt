@@ -1,7 +1,7 @@
 -- Records of the data section, and neighbours that are none; nesting.
-use Rattle.std.proofs.Common.{◌≡◌, ℕ, zero, suc, true, [], ◌∷◌, refl, arith, lit<, lit≤}
+use Rattle.std.proofs.Common.{◌≡◌, ℕ, zero, suc, true, List, [], ◌∷◌, refl, arith, lit<, lit≤}
 use Rattle.std.specs.Prelude.{codes}
-use Rattle.p21_semantics.specs.Grammar.{IsDataRecord}
+use Rattle.p21_semantics.specs.Grammar.{IsDataRecord, IsFile}
 use Rattle.p21_semantics.specs.Reference.{Kinds}
 use Rattle.p21_semantics.specs.Meaning.{Typed, RecordMeans}
 use Rattle.p21_semantics.specs.Reference.{param_references}
@@ -38,6 +38,10 @@ user_part data_record = data_record.no_user_keywords.0
 user_typed : IsDataRecord (simple (part_of (key_of (codes "A")) (param (typed user_key dollar) no_params))) → ⊥
 user_typed data_record = data_record.no_user_keywords.1.1.0
 
+-- `(A()!B())` too
+user_second : IsDataRecord (complex (part_of (key_of (codes "A")) no_params ∷ part_of (record { user = true; word = codes "B" }) no_params ∷ [])) → ⊥
+user_second data_record = data_record.no_user_keywords.1.1.1.1.0
+
 -- `ENDSEC();` as a header record is not the end of a section
 not_section_end : statement_tokens (header (part_of (key_of (codes "ENDSEC")) no_params)) ≡ statement_tokens (section section_end) → ⊥
 not_section_end same = cc
@@ -62,6 +66,20 @@ shallow_typed = lit≤ tt
 
 too_deep_typed : IsShallow (param (nested_typed 65) no_params) → ⊥
 too_deep_typed h = omega (arith, h)
+
+-- parameters side by side do not add up, and each counts, also behind another
+shallow_beside : IsShallow (param (nested 64) (param (nested_typed 64) no_params))
+shallow_beside = lit≤ tt
+
+too_deep_behind : IsShallow (param dollar (param (list (param dollar (param (nested 64) no_params))) no_params)) → ⊥
+too_deep_behind h = omega (arith, h)
+
+-- in a header record and in a record of the data section
+too_deep_in_header : (schema : List ℕ) → IsFile (record { header = part_of (key_of (codes "A")) (param (nested 65) no_params) ∷ []; instances = [] }) schema → ⊥
+too_deep_in_header schema file = too_deep file.shallow_header.0
+
+too_deep_in_data : IsDataRecord (complex (part_of (key_of (codes "A")) no_params ∷ part_of (key_of (codes "B")) (param (nested 65) no_params) ∷ [])) → ⊥
+too_deep_in_data data_record = too_deep data_record.shallow.1.0
 
 -- the instance names in `((#2,A(#3)),#2)`, each as often as it stands
 names_in_order : param_references (list (param (list (param (name 2) (param (typed (key_of (codes "A")) (name 3)) no_params))) (param (name 2) no_params))) ≡ 2 ∷ 3 ∷ 2 ∷ []

@@ -1,7 +1,8 @@
 -- Header records that have the shape of the standard's, and neighbours that have not.
-use Rattle.std.proofs.Common.{◌≡◌, ℕ, true, false, pos, List, [], ◌∷◌, refl, ap, inl, inr}
+use Rattle.std.proofs.Common.{◌≡◌, ℕ, true, false, pos, List, [], ◌∷◌, refl, ap, sym, ◌∙◌, subst, inl, inr}
 use Rattle.std.specs.Prelude.{codes}
-use Rattle.p21_semantics.specs.Header.{IsFileDescription, IsFileName, IsFileSchema, IsFurther, IsTextOrUnset}
+use Rattle.std.specs.List.{AllByRecursion as Each}
+use Rattle.p21_semantics.specs.Header.{IsFileDescription, IsFileName, IsFileSchema, IsFurther, IsHeader, IsTextOrUnset}
 use Rattle.p21_semantics.specs.Parameter.{Key, Param, dollar, star, whole, text, name, list, Params, no_params, param, key_of}
 use Rattle.p21_semantics.specs.Record.{Part}
 
@@ -50,6 +51,9 @@ seven = (refl, (inr ([], refl), (inl refl, (inr (no_params, refl, tt), (inl refl
 
 six : IsFileName (part_of (codes "FILE_NAME") (empty ∷ dollar ∷ texts [] ∷ dollar ∷ empty ∷ empty ∷ [])) → ⊥
 six (key, (a, (b, (c, (d, (e, (f, none))))))) = none
+
+eight : IsFileName (part_of (codes "FILE_NAME") (empty ∷ dollar ∷ texts [] ∷ dollar ∷ empty ∷ empty ∷ dollar ∷ empty ∷ [])) → ⊥
+eight (key, (a, (b, (c, (d, (e, (f, (g, more)))))))) = more
 
 -- FILE_SCHEMA takes a list of exactly one text
 one_text : IsFileSchema (part_of (codes "FILE_SCHEMA") (texts (text (codes "DEMO") ∷ []) ∷ [])) (codes "DEMO")
@@ -101,3 +105,29 @@ file_name_again ps further = further.no_file_name refl
 -- it holds no instance name, in a list neither
 name_within : IsFurther (part_of (codes "OWNER") (texts (name 1 ∷ []) ∷ [])) → ⊥
 name_within further = further.no_names.1.1.1.0
+
+-- two records are no header, nor three in another order, nor three and the first again
+abbrev description : Part
+description = part_of (codes "FILE_DESCRIPTION") (dollar ∷ dollar ∷ [])
+
+abbrev file_name : Part
+file_name = part_of (codes "FILE_NAME") (empty ∷ dollar ∷ texts [] ∷ dollar ∷ empty ∷ empty ∷ dollar ∷ [])
+
+abbrev file_schema : Part
+file_schema = part_of (codes "FILE_SCHEMA") (texts (text (codes "DEMO") ∷ []) ∷ [])
+
+two_records : (schema : List ℕ) → IsHeader (description ∷ file_name ∷ []) schema → ⊥
+two_records schema h = let e = h.header_is in cc
+
+other_order : (schema : List ℕ) → IsHeader (description ∷ file_schema ∷ file_name ∷ []) schema → ⊥
+other_order schema h =
+    let e = h.header_is in
+    let second : file_schema ≡ h.file_name = cc in
+    other_word (codes "FILE_SCHEMA") (codes "FILE_NAME") (λ words. cc) (ap (λ (part : Part). part.key) second ∙ h.is_file_name.0)
+
+first_again : (schema : List ℕ) → IsHeader (description ∷ file_name ∷ file_schema ∷ description ∷ []) schema → ⊥
+first_again schema h =
+    let e = h.header_is in
+    let further : description ∷ [] ≡ h.further = cc in
+    let are : Each IsFurther (description ∷ []) = subst (Each IsFurther) (sym further) h.are_further in
+    are.0.no_file_description refl

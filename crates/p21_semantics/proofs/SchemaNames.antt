@@ -76,3 +76,26 @@ space_first named = let same : [] ≡ codes "DEMO" = one_schema_name (codes " DE
   where
     none : NamesSchema (codes " DEMO") []
     none = record { prefix = []; rest = codes " DEMO"; chars_are = refl; prefix_is = tt; longest = λ char more is. not_space char (cc); name_is = refl }
+
+-- no letter past ASCII belongs to a name: `DEMO` and U+00E9 name DEMO, and U+212A, the sign of kelvin, does not name K
+not_past_ascii : (char : ℕ) → 128 ≤ char → IsIdentifierByte char → ⊥
+not_past_ascii char high (inl (inl h)) = omega (arith, h, high)
+not_past_ascii char high (inl (inr h)) = omega (arith, h, high)
+not_past_ascii char high (inr (inl h)) = omega (arith, h, high)
+not_past_ascii char high (inr (inr h)) = omega (arith, h, high)
+
+demo_accent : NamesSchema (68 ∷ 69 ∷ 77 ∷ 79 ∷ 0xE9 ∷ []) (codes "DEMO")
+demo_accent = record {
+  prefix = codes "DEMO";
+  rest = 0xE9 ∷ [];
+  chars_are = refl;
+  prefix_is = (large 68 (lit≤ tt) (lit≤ tt), (large 69 (lit≤ tt) (lit≤ tt), (large 77 (lit≤ tt) (lit≤ tt), (large 79 (lit≤ tt) (lit≤ tt), tt))));
+  longest = λ char more is. let e : 0xE9 ≡ char = cc in not_past_ascii char (omega (arith, e));
+  name_is = refl;
+}
+
+kelvin_sign : NamesSchema (0x212A ∷ []) (codes "K") → ⊥
+kelvin_sign named = let same : [] ≡ codes "K" = one_schema_name (0x212A ∷ []) [] (codes "K") none named in cc
+  where
+    none : NamesSchema (0x212A ∷ []) []
+    none = record { prefix = []; rest = 0x212A ∷ []; chars_are = refl; prefix_is = tt; longest = λ char more is. let e : 0x212A ≡ char = cc in not_past_ascii char (omega (arith, e)); name_is = refl }
