@@ -4,13 +4,10 @@ use Rattle.std.specs.List.{count_by}
 use Rattle.std.proofs.Common.{arith}
 use Rattle.p21_semantics.specs.Express.{Lexeme, identifier, simple_string, encoded_string, symbol}
 use Rattle.p21_semantics.specs.ReservedWord.{reserved_words, IsName, AreNames}
-use Rattle.p21_semantics.specs.WrittenType.{Width, word, width_lexemes, real_type, string_type, binary_type, array_type, list_type, set_type, bounded, unbounded, nesting}
+use Rattle.p21_semantics.specs.WrittenType.{Width, word, width_lexemes, real_type, list_type, set_type, nesting}
 use Rattle.p21_semantics.specs.EntityDeclaration.{own, IsDerived, AreRules, SupertypeConstraint, no_constraint, abstract_entity, abstract_supertype, abstract_supertype_of, supertype_of, constraint_lexemes, IsConstraint}
 use Rattle.p21_semantics.specs.Run.{is_word, is_symbol, none}
 use Rattle.p21_semantics.specs.SchemaDeclaration.{IsReadOver, version_lexemes}
-use Rattle.p21_semantics.specs.Schema as schema
-use Rattle.p21_semantics.specs.Schema.{Schema, TypeUse}
-use Rattle.p21_semantics.specs.DeclaredType.{TypeIs, is_real, is_string, is_binary, is_array, is_list}
 use Rattle.p21_semantics.proofs.Members.{Contains-no_word}
 
 -- ANDOR, END and END_USE may be names, ONEOF and END_RULE may not
@@ -50,23 +47,6 @@ supertype_alone abstract_entity is = cc
 supertype_alone abstract_supertype is = cc
 supertype_alone (abstract_supertype_of run) is = cc
 supertype_alone (supertype_of run) is = cc
-
--- a width is from 1 to 4294967295, leading zeros apart
-width_with_zeros : (s : Schema) → TypeIs s (string_type (Some (record { most = codes "003"; fixed = false }))) (schema.text (Some (record { most = 3; fixed = false })))
-width_with_zeros s = is_string _ _ (refl, omega arith, omega arith)
-
-width_zero : (s : Schema) (t : TypeUse) → TypeIs s (string_type (Some (record { most = codes "00"; fixed = false }))) t → ⊥
-width_zero s t (is_string _ width is) = omega (arith, is.1)
-
-width_too_great : (s : Schema) (t : TypeUse) → TypeIs s (binary_type (Some (record { most = codes "4294967296"; fixed = false }))) t → ⊥
-width_too_great s t (is_binary _ width is) = omega (arith, is.2)
-
--- `LIST [0:0]` is a type, `ARRAY [1:?]` is none
-empty_list : (s : Schema) → TypeIs s (list_type (Some (record { low = codes "0"; high = bounded (codes "0") })) false (real_type None)) (schema.list 0 (Some 0) false schema.real)
-empty_list s = is_list _ _ _ _ _ _ (refl, omega arith, (refl, omega arith, omega arith)) (is_real None)
-
-open_array : (s : Schema) (t : TypeUse) → TypeIs s (array_type (record { low = codes "1"; high = unbounded }) false false (real_type None)) t → ⊥
-open_array s t (is_array _ low high optional unique element type bounds is) = let h : Some high ≡ None = bounds.2 in cc
 
 -- LIST OF SET OF REAL
 two_deep : nesting (list_type None false (set_type None (real_type None))) ≡ 2
