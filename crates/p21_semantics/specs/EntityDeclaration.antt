@@ -71,7 +71,7 @@ derived_lexemes x = attribute_lexemes x.name ++ symbols (codes ":") ++ x.run ++ 
 abbrev pub supertype_of_lexemes : List Lexeme → List Lexeme
 supertype_of_lexemes run = word (codes "SUPERTYPE") ++ word (codes "OF") ++ symbols (codes "(") ++ run ++ symbols (codes ")")
 
--- nothing, ABSTRACT, or ABSTRACT or not and SUPERTYPE, with OF and a run or without
+-- nothing, ABSTRACT, ABSTRACT SUPERTYPE, or SUPERTYPE OF `(` run `)`, with ABSTRACT in front or without
 abbrev pub constraint_lexemes : SupertypeConstraint → List Lexeme
 constraint_lexemes no_constraint = []
 constraint_lexemes abstract_entity = word (codes "ABSTRACT")

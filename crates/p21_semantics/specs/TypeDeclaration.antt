@@ -1,4 +1,4 @@
--- A type declaration as it is written, and the lexical elements of it (ISO 10303-11, Type declaration, Enumeration type and Select type).
+-- A type declaration as it is written, and the lexical elements of it (ISO 10303-11, Type declaration, Enumeration data type and Select data type).
 use Rattle.std.specs.Prelude.{ℕ, List, [], ◌++◌, codes, Option, Some, None, IfSome}
 use Rattle.p21_semantics.specs.Express.{Lexeme}
 use Rattle.p21_semantics.specs.ReservedWord.{IsName, AreNames}
