@@ -2,16 +2,16 @@
 use Rattle.std.specs.Prelude.{◌≡◌, ℕ, zero, suc, ◌+◌, ◌<◌, Bool, true, false, List, [], ◌∷◌, ◌++◌, length, map, Option, Some, None, slice_get, Contains, refl, nat_eq, ◌&&◌}
 use Rattle.std.specs.List.{IsDistinct, AllByRecursion as Each}
 use Rattle.std.specs.Str.{bytes_eq}
-use Rattle.std.proofs.Common.{arith, subst, ap, sym, ◌∙◌}
+use Rattle.std.proofs.Common.{arith, inl, inr, subst, ap, sym, ◌∙◌}
 use Rattle.std.proofs.lemmas.Bool.{eq-eqb}
 use Rattle.std.proofs.lemmas.Option.{slice_get_within}
 use Rattle.std.proofs.lemmas.Slice.Eq.{bytes_eq-Decides}
 use Rattle.p21_semantics.specs.EntityDeclaration.{EntityDeclaration}
 use Rattle.p21_semantics.specs.SchemaDeclaration.{SchemaDeclaration, entities_of}
-use Rattle.p21_semantics.specs.Schema.{Schema, Entity, Place, EntityNamed}
+use Rattle.p21_semantics.specs.Schema.{Schema, Entity, Place, Redeclared, EntityNamed, TypeNamed}
 use Rattle.p21_semantics.specs.DeclaredEntity.{EntityIs, same_place, names_of}
 use Rattle.p21_semantics.specs.Declared.{HasNoCircle, HasSupertype, DeclaresSchema}
-use Rattle.p21_semantics.proofs.Members.{Each-at, Contains-none, Contains-at, AllZip-member, AllZip-numbered, AllZip-numbered_first}
+use Rattle.p21_semantics.proofs.Members.{Each-at, Each-member, Contains-none, Contains-cases, Contains-at, Contains-found, Contains-mapped, AllZip-member, AllZip-numbered, AllZip-numbered_first}
 use Rattle.p21_semantics.proofs.Orders.{AreEntities}
 use Rattle.p21_semantics.proofs.PlaceTypes.{RedeclaresOnce}
 use Rattle.p21_semantics.proofs.OneValue.{HasDistinctTypes}
@@ -117,6 +117,37 @@ declared-redeclares_once tree s declares e r q (x, at, among) (y, at_, among_) s
     let P : Entity → Type 0 = λ z. Contains z.redeclared q in
     let (d, at_d, entity_is) = declared-entity tree s declares e x at in
     distinct-member same_place same_place-reflexive (λ z. z.place) x.redeclared x.derived r q entity_is.places_distinct among (subst P one among_) same
+
+Each-back : {X : Type 0} (P : X → Type 0) (xs ys : List X) → Each P (xs ++ ys) → Each P ys
+Each-back P [] ys each = each
+Each-back P (x ∷ xs) ys each = Each-back P xs ys each.1
+
+-- no f of the front is one of the back
+distinct-apart : {X Y : Type 0} (eq : Y → Y → Bool) → ((y : Y) → eq y y ≡ true) → (f : X → Y) (xs : List X) (ys : List Y) (x : X) → IsDistinct eq (map f xs ++ ys) → Contains xs x → Contains ys (f x) → ⊥
+unfolding IsDistinct
+distinct-apart eq reflexive f [] ys x distinct among among_back = Contains-none x among
+distinct-apart eq reflexive f (z ∷ zs) ys x distinct among among_back = elim (Contains-cases z zs x among) [
+  | inl h ↦ let differ : eq (f z) (f x) ≡ false = Each-member (λ y. eq (f z) y ≡ false) ys (f x) (Each-back (λ y. eq (f z) y ≡ false) (map f zs) ys distinct.0) among_back in let k : true ≡ false = sym (reflexive (f z)) ∙ ap (λ y. eq (f z) y) (ap f h) ∙ differ in cc
+  | inr h ↦ distinct-apart eq reflexive f zs ys x distinct.1 h among_back
+]
+
+-- no entity has the name of a type
+pub distinct_names-apart : (s : Schema) → IsDistinct bytes_eq (names_of_all s) → (e t : ℕ) (name : List ℕ) → EntityNamed s e name → TypeNamed s t name → ⊥
+distinct_names-apart s distinct e t name (x, at, named) (y, at_t, named_t) =
+    let P : List ℕ → Type 0 = λ n. Contains (map (λ z. z.name) s.types) n in
+    distinct-apart bytes_eq bytes_eq-reflexive (λ z. z.name) s.entities (map (λ z. z.name) s.types) x distinct (Contains-found s.entities e x at) (subst P (named_t ∙ sym named) (Contains-mapped (λ z. z.name) s.types y (Contains-found s.types t y at_t)))
+
+-- no entity redeclares a place both as an explicit and as a derived attribute
+pub declared-explicit_or_derived : (tree : SchemaDeclaration) (s : Schema) → DeclaresSchema tree s → (e : ℕ) (x : Entity) (r : Redeclared) → slice_get s.entities e ≡ Some x → Contains x.redeclared r → Contains x.derived r.place → ⊥
+declared-explicit_or_derived tree s declares e x r at among among_derived =
+    let (d, at_d, entity_is) = declared-entity tree s declares e x at in
+    distinct-apart same_place same_place-reflexive (λ z. z.place) x.redeclared x.derived r entity_is.places_distinct among among_derived
+
+-- and none derives a place twice
+pub declared-derives_once : (tree : SchemaDeclaration) (s : Schema) → DeclaresSchema tree s → (e : ℕ) (x : Entity) → slice_get s.entities e ≡ Some x → IsDistinct same_place x.derived
+declared-derives_once tree s declares e x at =
+    let (d, at_d, entity_is) = declared-entity tree s declares e x at in
+    IsDistinct-back same_place (map (λ z. z.place) x.redeclared) x.derived entity_is.places_distinct
 
 -- what the laws take of a schema
 pub record IsWellFormed (s : Schema) : Type 0 where

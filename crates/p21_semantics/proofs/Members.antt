@@ -1,5 +1,5 @@
 -- The members of lists.
-use Rattle.std.specs.Prelude.{◌≡◌, ℕ, zero, suc, ◌+◌, List, [], ◌∷◌, filter, slice_get, Some, Contains, refl, ◌⊎◌, Bool, true, false, cond}
+use Rattle.std.specs.Prelude.{◌≡◌, ℕ, zero, suc, ◌+◌, List, [], ◌∷◌, map, filter, slice_get, Some, Contains, refl, ◌⊎◌, Bool, true, false, cond}
 use Rattle.std.specs.Str.{bytes_eq}
 use Rattle.std.proofs.lemmas.Bool.{or_parts}
 use Rattle.std.specs.List.{list_any, flat_map, zip, AllZip, enumerate_from, AllByRecursion as Each}
@@ -59,6 +59,16 @@ Contains-at (y ∷ ys) x among = elim (Contains-cases y ys x among) [
   | inl h ↦ (0, ap Some h)
   | inr h ↦ let (k, is) = Contains-at ys x h in (suc k, is)
 ]
+
+-- and what has a number is a member
+pub Contains-found : {X : Type 0} (xs : List X) (k : ℕ) (x : X) → slice_get xs k ≡ Some x → Contains xs x
+Contains-found [] k x at = cc
+Contains-found (y ∷ ys) zero x at = (0, omega arith, let same : y ≡ x = cc in same)
+Contains-found (y ∷ ys) (suc k) x at = Contains-later y ys x (Contains-found ys k x at)
+
+pub Contains-mapped : {X Y : Type 0} (f : X → Y) (xs : List X) (x : X) → Contains xs x → Contains (map f xs) (f x)
+Contains-mapped f [] x among = absurd (Contains-none x among)
+Contains-mapped f (y ∷ ys) x among = elim (Contains-cases y ys x among) [ inl h ↦ (0, omega arith, ap f h) | inr h ↦ Contains-later (f y) (map f ys) (f x) (Contains-mapped f ys x h) ]
 
 -- what holds of each holds of a member
 pub Each-member : {X : Type 0} (P : X → Type 0) (xs : List X) (x : X) → Each P xs → Contains xs x → P x

@@ -1,10 +1,10 @@
 -- The type at a place where entities redeclare it.
-use Rattle.std.specs.Prelude.{◌≡◌, ℕ, zero, suc, ◌⊎◌, false, List, [], ◌∷◌, codes, Contains, refl}
+use Rattle.std.specs.Prelude.{◌≡◌, ℕ, zero, suc, ◌⊎◌, true, false, List, [], ◌∷◌, codes, Contains, refl}
 use Rattle.std.proofs.Common.{arith, inl, inr, subst, ◌∙◌}
 use Rattle.p21_semantics.specs.Schema as schema
 use Rattle.p21_semantics.specs.Schema.{Entity, Redeclared, Place}
 use Rattle.p21_semantics.specs.Supertype.{IsA, itself, above, supertypes_of}
-use Rattle.p21_semantics.specs.PlaceType.{TypeAt, stored_place, two_redeclarations, Redeclares, IsDerivedIn, IsRedeclaredIn, Decides}
+use Rattle.p21_semantics.specs.PlaceType.{TypeAt, derived_place, stored_place, two_redeclarations, Redeclares, IsDerivedIn, IsRedeclaredIn, Decides}
 use Rattle.p21_semantics.proofs.Members.{Each-at, Each-member, Contains-none}
 use Rattle.p21_semantics.proofs.TestSchemas.{redecl, entity_of, attribute, redeclares_k, k_as, k_place}
 
@@ -58,3 +58,35 @@ redecl-two = (not_derived (0 ∷ 1 ∷ 2 ∷ []), (1, k_as schema.whole, a_in), 
       | inl h ↦ elim (is_a e 2 (below 2 (k_as schema.real) b_in)) [ inl two ↦ omega (arith, two, h.0) | inr two ↦ omega (arith, two) ]
       | inr h ↦ elim (is_a e 1 (below 1 (k_as schema.whole) a_in)) [ inl one ↦ omega (arith, one, h.0) | inr one ↦ omega (arith, one) ]
     ]
+
+-- A derives the K of R, and B, a subtype of A, redeclares it as an INTEGER: it is derived
+abbrev derived_above : schema.Schema
+derived_above = record {
+  name = codes "S";
+  types = [];
+  entities = entity_of (codes "R") [] (attribute (codes "K") schema.number ∷ [])
+      ∷ record { name = codes "A"; is_abstract = false; supertypes = 0 ∷ []; attributes = []; redeclared = []; derived = k_place ∷ [] }
+      ∷ record { name = codes "B"; is_abstract = false; supertypes = 1 ∷ []; attributes = []; redeclared = k_as schema.whole ∷ []; derived = [] } ∷ [];
+}
+
+pub derived_above-is_derived : TypeAt derived_above (0 ∷ 1 ∷ 2 ∷ []) k_place derived_place
+derived_above-is_derived = (1, _, (1, omega arith, refl), refl, (0, omega arith, refl))
+
+-- of two that redeclare it, one a subtype of the other, the subtype decides, OPTIONAL too
+abbrev one_below : schema.Schema
+one_below = record {
+  name = codes "S";
+  types = [];
+  entities = entity_of (codes "R") [] (attribute (codes "K") schema.number ∷ [])
+      ∷ redeclares_k (codes "A") schema.whole
+      ∷ record { name = codes "B"; is_abstract = false; supertypes = 1 ∷ []; attributes = []; redeclared = record { place = k_place; optional = true; type = schema.real } ∷ []; derived = [] } ∷ [];
+}
+
+pub one_below-decides : TypeAt one_below (0 ∷ 1 ∷ 2 ∷ []) k_place (stored_place true schema.real)
+one_below-decides = (underived, inl (record { place = k_place; optional = true; type = schema.real }, (2, ((2, omega arith, refl), (_, refl, (0, omega arith, refl)), refl), λ f other found. below f found.0), refl, refl))
+  where
+    underived : IsDerivedIn one_below (0 ∷ 1 ∷ 2 ∷ []) k_place → ⊥
+    underived (e, x, in_set, at, among) = let P : List Place → Type 0 = λ ps. Contains ps k_place in Contains-none k_place (subst P (Each-at (λ y. y.derived ≡ []) one_below.entities e x (refl, (refl, (refl, tt))) at) among)
+
+    below : (f : ℕ) → Contains (0 ∷ 1 ∷ 2 ∷ []) f → IsA one_below 2 f
+    below f among = Each-member (IsA one_below 2) (0 ∷ 1 ∷ 2 ∷ []) f (above 2 1 0 (0, omega arith, refl) (above 1 0 0 (0, omega arith, refl) (itself 0)), (above 2 1 1 (0, omega arith, refl) (itself 1), (itself 2, tt))) among

@@ -1,21 +1,22 @@
 -- Declarations of the grammar that declare no schema.
-use Rattle.std.specs.Prelude.{◌≡◌, ℕ, zero, suc, Bool, true, false, List, [], ◌∷◌, codes, Option, Some, None, Contains, refl, slice_get}
+use Rattle.std.specs.Prelude.{◌≡◌, ℕ, ◌<◌, zero, suc, Bool, true, false, List, [], ◌∷◌, codes, Option, Some, None, Contains, refl, slice_get}
 use Rattle.std.specs.List.{IsDistinct, AllZip}
 use Rattle.std.specs.Str.{bytes_eq}
 use Rattle.std.proofs.Common.{arith, inl, inr, ap, sym, subst, ◌∙◌}
 use Rattle.p21_semantics.specs.WrittenType.{WrittenType, real_type, named_type, list_type, bounded}
-use Rattle.p21_semantics.specs.EntityDeclaration.{EntityDeclaration, redeclared, no_constraint}
-use Rattle.p21_semantics.specs.Schema.{Schema, Entity, Defined, Kind, TypeNamed, Place, Attribute, TypeUse, EntityNamed, PlaceNamed}
+use Rattle.p21_semantics.specs.EntityDeclaration.{EntityDeclaration, own, redeclared, no_constraint}
+use Rattle.p21_semantics.specs.Schema as schema
+use Rattle.p21_semantics.specs.Schema.{Schema, Entity, Defined, Kind, type_member, choice, alias, kind_of, TypeNamed, Place, Attribute, TypeUse, EntityNamed, PlaceNamed}
 use Rattle.p21_semantics.specs.DeclaredType.{TypeIs, is_entity, is_defined, is_list}
-use Rattle.p21_semantics.specs.DeclaredEntity.{AttributeIs, DerivedAre, a_place, no_place, own_explicit, names_of, own_names, derived_names}
+use Rattle.p21_semantics.specs.DeclaredEntity.{AttributeIs, DerivedAre, a_place, no_place, own_explicit, names_of, EntityIs, own_names, derived_names}
 use Rattle.p21_semantics.specs.DefinedType.{DefinedIs, KindIs, is_alias, is_items}
 use Rattle.p21_semantics.specs.Select.{IsSelect}
 use Rattle.p21_semantics.specs.TypeDeclaration.{underlying, enumeration}
 use Rattle.p21_semantics.specs.ReservedWord.{IsName}
-use Rattle.p21_semantics.specs.Declared.{HasSupertype, DeclaresSchema}
+use Rattle.p21_semantics.specs.Declared.{HasNoCircle, HasSupertype, Renames, HasSelect, DeclaresSchema}
 use Rattle.p21_semantics.specs.SchemaDeclaration.{SchemaDeclaration, entities_of}
 use Rattle.p21_semantics.proofs.Members.{Contains-none, Contains-first, AllZip-member, AllZip-second_member}
-use Rattle.p21_semantics.proofs.DeclaredSchemas.{declared-entity, declared-found, names_of_all, distinct_names-entities, distinct_names-types}
+use Rattle.p21_semantics.proofs.DeclaredSchemas.{declared-entity, declared-found, names_of_all, distinct_names-entities, distinct_names-types, distinct_names-apart}
 use Rattle.p21_semantics.proofs.DeclaredExamples.{entity_named, attribute_named, schema_of}
 
 -- `ENTITY a; END_ENTITY; ENTITY a; END_ENTITY;`: two entities of one name
@@ -121,7 +122,7 @@ no_place-declares_nothing s declares =
     underived (suc (suc f)) d name at among = cc
 
     refuted : (found : List Place) → DerivedAre s (entities_of no_z.declarations) 1 ((codes "A", codes "Z") ∷ []) found → ⊥
-    refuted found (a_place _ _ place _ _ (sup, proper, inl own) more) = unnamed place (codes "Z") own.1
+    refuted found (a_place _ _ place _ _ (sup, proper, inl of_itself) more) = unnamed place (codes "Z") of_itself.1
     refuted found (a_place _ _ place _ _ (sup, proper, inr (none, of_sup, only)) more) = unnamed place (codes "Z") of_sup.1
     refuted found (no_place _ _ sup _ _ proper none (f, d, is_a, at, among) more) = underived f d (codes "Z") at among
 
@@ -129,6 +130,11 @@ no_place-declares_nothing s declares =
 pub renamed_select-declares_nothing : (s : Schema) → IsDistinct bytes_eq (names_of_all s) → (t : ℕ) (name : List ℕ) (kind : Kind) → TypeNamed s t name → IsSelect s t → KindIs s (underlying (named_type name)) kind → ⊥
 renamed_select-declares_nothing s distinct t name kind named select (is_alias _ type (is_entity _ e of_e) shallow may) = may
 renamed_select-declares_nothing s distinct t name kind named select (is_alias _ type (is_defined _ u of_u) shallow may) = let P : ℕ → Type 0 = λ v. IsSelect s v in may (subst P (distinct_names-types s distinct t u name named of_u) select)
+
+-- so does a TYPE that is just the name of an entity
+pub renamed_entity-declares_nothing : (s : Schema) → IsDistinct bytes_eq (names_of_all s) → (e : ℕ) (name : List ℕ) (kind : Kind) → EntityNamed s e name → KindIs s (underlying (named_type name)) kind → ⊥
+renamed_entity-declares_nothing s distinct e name kind named (is_alias _ type (is_entity _ f of_f) shallow may) = may
+renamed_entity-declares_nothing s distinct e name kind named (is_alias _ type (is_defined _ t of_t) shallow may) = distinct_names-apart s distinct e t name named of_t
 
 -- an enumeration with one item twice declares nothing
 pub repeated_item-declares_nothing : (s : Schema) (kind : Kind) → KindIs s (enumeration (codes "RED" ∷ codes "RED" ∷ [])) kind → ⊥
@@ -138,3 +144,34 @@ repeated_item-declares_nothing s kind (is_items _ distinct) = let h : true ≡ f
 -- `USE` is no name
 pub use-is_no_name : IsName (codes "USE") → ⊥
 use-is_no_name is_name = is_name (36, omega arith, refl)
+
+-- no select is a member of itself, and no type is just its own name
+pub own_member-comes_back : (s : Schema) (t : ℕ) → kind_of s t ≡ Some (choice (type_member t ∷ [])) → HasNoCircle (HasSelect s) → ⊥
+own_member-comes_back s t is none = omega (arith, none.1 t t ((type_member t ∷ [], is, Contains-first (type_member t) []), (type_member t ∷ [], is)))
+
+pub own_name-comes_back : (s : Schema) (t : ℕ) → kind_of s t ≡ Some (alias (schema.defined t)) → HasNoCircle (Renames s) → ⊥
+own_name-comes_back s t is none = omega (arith, none.1 t t is)
+
+-- but `TYPE t = LIST OF t;` renames nothing
+pub list_of_itself-ends : HasNoCircle (Renames (record { name = codes "S"; entities = []; types = record { name = codes "T"; kind = alias (schema.list 0 None false (schema.defined 0)) } ∷ [] }))
+list_of_itself-ends = (λ t. 0, never)
+  where
+    never : (t u : ℕ) → Renames (record { name = codes "S"; entities = []; types = record { name = codes "T"; kind = alias (schema.list 0 None false (schema.defined 0)) } ∷ [] }) t u → 0 < 0
+    never zero u is = cc
+    never (suc t) u is = cc
+
+-- `SUBTYPE OF (a, a)`
+pub listed_twice-declares_nothing : (s : Schema) (declarations : List EntityDeclaration) (e : ℕ) (x : EntityDeclaration) (found : Entity) → x.subtype_of ≡ Some (codes "A" ∷ codes "A" ∷ []) → EntityIs s declarations e x found → ⊥
+unfolding IsDistinct
+listed_twice-declares_nothing s declarations e x found listed is =
+    let P : Option (List (List ℕ)) → Type 0 = λ names. IsDistinct bytes_eq (names_of names) in
+    let distinct : IsDistinct bytes_eq (codes "A" ∷ codes "A" ∷ []) = subst P listed is.supertypes_distinct in
+    let h : true ≡ false = distinct.0.0 in cc
+
+-- `ENTITY a; x : REAL; DERIVE x : ..; END_ENTITY;`: an explicit and a derived attribute of one name
+abbrev x_twice : EntityDeclaration
+x_twice = record { name = codes "A"; constraint = no_constraint; subtype_of = None; explicit = attribute_named (codes "X") (real_type None) ∷ []; derive = Some (record { name = own (codes "X"); run = [] } ∷ []); rules = None }
+
+pub named_twice-declares_nothing : (s : Schema) (declarations : List EntityDeclaration) (e : ℕ) (found : Entity) → EntityIs s declarations e x_twice found → ⊥
+unfolding IsDistinct
+named_twice-declares_nothing s declarations e found is = let h : true ≡ false = is.names_distinct.0.0 in cc

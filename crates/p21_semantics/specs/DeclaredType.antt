@@ -6,11 +6,11 @@ use Rattle.p21_semantics.specs.WrittenType.{WrittenType, integer_type, real_type
 use Rattle.p21_semantics.specs.Schema as schema
 use Rattle.p21_semantics.specs.Schema.{Schema, TypeUse, EntityNamed, TypeNamed}
 
--- no bound and no width is over this
+-- no bound and no width is over this (this project's own)
 abbrev pub largest_bound : ℕ
 largest_bound = 4294967295
 
--- the most aggregate types that stand one in another in a declaration
+-- the most aggregate types that stand one in another in a declaration (this project's own)
 abbrev pub deepest_nesting : ℕ
 deepest_nesting = 32
 

@@ -1,4 +1,5 @@
--- Supertypes and subtypes: the closure of a set of entities, and its leaves (ISO 10303-11, Subtypes and supertypes).
+-- Supertypes and subtypes: the closure of a set of entities, and its leaves (ISO 10303-11, Subtypes and supertypes;
+-- ISO 10303-21, Mapping of EXPRESS entity data types).
 use Rattle.std.specs.Prelude.{◌≡◌, ℕ, List, [], ◌∷◌, Some, None, slice_get, Contains}
 use Rattle.p21_semantics.specs.Schema.{Schema}
 

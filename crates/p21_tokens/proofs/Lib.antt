@@ -1,6 +1,7 @@
 pub mod Stepping
 pub mod Running
 pub mod Scanning
+pub mod Fronting
 pub mod Following
 pub mod Extending
 pub mod Finishing

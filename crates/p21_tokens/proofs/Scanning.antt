@@ -20,7 +20,7 @@ blank-parts : (a b : List ℕ) → AreBlank (a ++ b) → AreBlank a × AreBlank 
 blank-parts [] b k = (tt, k)
 blank-parts (x ∷ a) b k = let parts = blank-parts a b k.1 in ((k.0, parts.0), parts.1)
 
-run-join : (u v w : Held) (a b : List ℕ) → TakesRun u a v → TakesRun v b w → TakesRun u (a ++ b) w
+pub run-join : (u v w : Held) (a b : List ℕ) → TakesRun u a v → TakesRun v b w → TakesRun u (a ++ b) w
 run-join u v w a b r s = record {
   file_is = omega (arith, r.file_is, s.file_is, length-append a b);
   statement_is = s.statement_is ∙ r.statement_is;
@@ -53,6 +53,9 @@ along-run v w u piece n m a r =
       same = limits-after v w u a.same r.1;
       run = subst (λ (x : List ℕ). TakesRun v x u) (sym (take-add n m piece)) (run-join v w u (take n piece) (take m (drop n piece)) a.run behind);
     }
+
+pub along-no_run : (v w u : Held) (piece : List ℕ) (n m : ℕ) → Along v w piece n → m ≡ 0 → Runs w (slice_range piece n (length piece)) (Ok m) u → Along v u piece n
+along-no_run v w u piece n m a z r = let same : n + m ≡ n = omega arith in subst (λ (k : ℕ). Along v u piece k) same (along-run v w u piece n m a r)
 
 module _ (v w u : Held) (piece : List ℕ) (n b : ℕ) (h : n < length piece) (e : b ≡ get_or piece n 0) (a : Along v w piece n) where
   pub along-took : Steps w b (Ok Took) u → Along v u piece (n + 1)

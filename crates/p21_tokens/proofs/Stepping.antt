@@ -151,7 +151,7 @@ module _ (v : Held) (b : ℕ) where
   refused x e rest founds lexemes a m =
       not-all x founds (sym (ap all_of (lex-byte (state_of v) b rest ∙ ap (λ (y : Action). act y (state_of v) b (λ next. lex next rest)) e)) ∙ a)
 
-single-at_once : (one : Single) → waits (single_token one) ≡ false
+pub single-at_once : (one : Single) → waits (single_token one) ≡ false
 single-at_once single.Left = refl
 single-at_once single.Right = refl
 single-at_once single.Comma = refl
@@ -209,7 +209,7 @@ real-waits kept other h = absurd h.0
 of_found : (f g : Found) → Some f ≡ Some g → Waited f → Waited g
 of_found f g e w = subst (λ (x : Found). (t : meaning.Token) → Means x t → waits t ≡ true) (some-is f g e) w
 
-ended-waits : (m : Mode) (kept characters : List ℕ) (f : Found) → ended_in m kept characters ≡ Some f → Waited f
+pub ended-waits : (m : Mode) (kept characters : List ℕ) (f : Found) → ended_in m kept characters ≡ Some f → Waited f
 ended-waits (Number m) kept characters f e = by_mode m e
   where
     by_mode : (m : NumberMode) → ended_number m kept ≡ Some f → Waited f

@@ -5,3 +5,4 @@ pub mod Steps
 pub mod Histories
 pub mod Parameter
 pub mod Finding
+pub mod Front

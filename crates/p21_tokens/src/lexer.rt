@@ -1,9 +1,10 @@
 ghost use Rattle.std.specs.Prelude.{◌≡◌, ◌≢◌, ◌+◌, ◌<◌, ◌≤◌, [], ◌∷◌, ◌++◌, length, take, true, false, Option, None, Some, OnOk, OnErr, IfOk, IfErr};
 ghost use Rattle.std.specs.Str.{IsUtf8, chars};
 ghost use Rattle.p21_semantics.specs.Laying.{count_behind};
-ghost use Rattle.p21_tokens_automaton.specs.Reading.{closed, ended, single_token};
+ghost use Rattle.p21_tokens_automaton.specs.Reading.{closed, ended, single_token, start};
 ghost use Rattle.p21_tokens_automaton.specs.declared.mode.Mode.TheVariants.{Between, Name};
 ghost use Rattle.p21_tokens_automaton.specs.declared.mode.NameMode.TheVariants.{Digits};
+ghost use Rattle.p21_tokens.specs.Front.{TakesFront};
 ghost use Rattle.p21_tokens.specs.Held.{pending_of, state_of};
 ghost use Rattle.p21_tokens_automaton.specs.Step.{advance};
 ghost use Rattle.p21_semantics.specs.History.{empty};
@@ -14,6 +15,7 @@ ghost use Rattle.p21_tokens.specs.Steps.{SameLimits, Steps, Closes, Ends, Runs, 
 ghost use Rattle.p21_tokens.specs.Token.{meant};
 
 use crate::fault::{TokenFault, fault_of};
+use crate::front::front_token;
 use crate::reading::{marker_of, read_closed, read_end, read_ended, single_token};
 use crate::run::{at_most, whole_characters};
 use crate::step::{Step, is_token_byte};
@@ -354,23 +356,54 @@ impl Lexer {
         }
     }
 
+    /// Whether nothing is kept of a token.
+    fn is_at_start(&self) -> bool
+        ensures { result ≡ true → state_of self.now ≡ start }
+    {
+        let Mode::Between = self.mode else {
+            return false;
+        };
+        self.size == 0 && self.kept.is_empty() && self.text.len() == 0
+    }
+
+    /// Takes a token that stands whole at the front of bytes, if the limits allow it.
+    fn take_front(&mut self, bytes: &[u8]) -> Option<(usize, Token)>
+        ensures { TakesFront self.old bytes.now result self.new }
+    {
+        if !self.is_at_start() {
+            return None;
+        }
+        let (count, token) = front_token(self.alloc, bytes)?;
+        let size = count as u64;
+        if self.room() < size {
+            return None;
+        }
+        self.file += size;
+        self.statement = match token {
+            Token::Semicolon => 0,
+            _ => self.statement + size,
+        };
+        Some((count, token))
+    }
+
     /// Takes bytes up to the end of a token or of the piece.
     fn scan(&mut self, piece: &[u8]) -> Result<(usize, Option<Token>), TokenFault>
         ensures { Scans self.old piece.now result self.new }
     {
         let mut taken = 0;
         while taken < piece.len() {
-            match self.take_run(&piece[taken..]) {
-                Ok(run) => taken += run,
-                Err(fault) => return Err(fault),
+            if let Some((count, token)) = self.take_front(&piece[taken..]) {
+                return Ok((taken + count, Some(token)));
             }
-            if taken < piece.len() {
-                match self.step(piece[taken]) {
+            match self.take_run(&piece[taken..]) {
+                Ok(0) => match self.step(piece[taken]) {
                     Ok(Step::Took) => taken += 1,
                     Ok(Step::Gave(token)) => return Ok((taken + 1, Some(token))),
                     Ok(Step::Handed(token)) => return Ok((taken, Some(token))),
                     Err(fault) => return Err(fault),
-                }
+                },
+                Ok(run) => taken += run,
+                Err(fault) => return Err(fault),
             }
         }
         Ok((taken, None))

@@ -3,6 +3,7 @@
 #![tactic(auto)]
 
 mod fault;
+mod front;
 mod laying;
 mod lexer;
 mod param;

@@ -66,7 +66,7 @@ fn read_number(alloc: Global, mode: NumberMode, kept: &[u8]) -> Result<Token, To
     }
 }
 
-fn read_whole(alloc: Global, kept: &[u8]) -> Result<Token, TokenFault>
+pub(crate) fn read_whole(alloc: Global, kept: &[u8]) -> Result<Token, TokenFault>
     ensures { ReadsFound (Some (spelled whole kept.now)) result }
 {
     match Whole::read(alloc, kept) {
@@ -75,7 +75,7 @@ fn read_whole(alloc: Global, kept: &[u8]) -> Result<Token, TokenFault>
     }
 }
 
-fn read_real(alloc: Global, kept: &[u8]) -> Result<Token, TokenFault>
+pub(crate) fn read_real(alloc: Global, kept: &[u8]) -> Result<Token, TokenFault>
     ensures { ReadsFound (Some (spelled real kept.now)) result }
 {
     match Decimal::read(alloc, kept) {
@@ -85,7 +85,7 @@ fn read_real(alloc: Global, kept: &[u8]) -> Result<Token, TokenFault>
 }
 
 /// The keyword of kept bytes, or the first or last token of a file.
-fn read_word(alloc: Global, mode: WordMode, kept: &[u8]) -> Result<Token, TokenFault>
+pub(crate) fn read_word(alloc: Global, mode: WordMode, kept: &[u8]) -> Result<Token, TokenFault>
     ensures { ReadsFound (ended_word mode kept.now) result }
 {
     match mode {
@@ -114,7 +114,7 @@ fn read_user_keyword(alloc: Global, kept: &[u8]) -> Result<Token, TokenFault>
 }
 
 /// What stands behind a first byte, if it is this one.
-fn behind(first: u8, bytes: &[u8]) -> Option<&[u8]>
+pub(crate) fn behind(first: u8, bytes: &[u8]) -> Option<&[u8]>
     ensures none { IfNone result ((rest : List ℕ) → bytes.now ≡ first ∷ rest → ⊥) }
     ensures some { IfSome result (λ rest. bytes.now ≡ first ∷ rest.now) }
 {

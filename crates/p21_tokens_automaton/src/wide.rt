@@ -7,7 +7,8 @@ ghost use Rattle.p21_tokens_automaton.specs.declared.run.Class.TheVariants.{Blan
 use crate::run::{Class, short_front};
 use std::simd::prelude::*;
 
-/// How many bytes at the front are of the class.
+/// How many bytes at the front are of the class. Inlined, so that each class has a loop of its own.
+#[inline(always)]
 pub(crate) fn long_front(class: Class, bytes: &[u8]) -> usize
     ensures { AreOf class bytes.now result }
 {

@@ -1,0 +1,267 @@
+-- Tokens that stand whole at the front of bytes.
+use Rattle.std.proofs.Common.{◌≡◌, ◌≢◌, ℕ, zero, suc, ◌+◌, ◌-◌, ◌*◌, ◌^◌, ◌≤◌, ◌<◌, true, lt-ltb, append_assoc, List, [], ◌∷◌, ◌++◌, length, length-drop, get_or, take, drop, take_all, refl, sym, ap, ◌∙◌, subst, arith, append-nil, Some, Ok}
+use Rattle.std.specs.List.{slice_range}
+use Rattle.std.proofs.lemmas.Bool.{ne_eqb}
+use Rattle.std.proofs.lemmas.Bool.Decides.{nat_tests}
+use Rattle.std.proofs.lemmas.List.{length-take-le, take_more, get_or-drop}
+use Rattle.std.proofs.lemmas.Option.{slice_get_within, slice_get-get_or, get_or_from_slice_get}
+use Rattle.std.proofs.Math.Seq.{take-add}
+use Rattle.p21_semantics.specs.Laying.{count_behind}
+use Rattle.p21_semantics.specs.Token as meaning
+use Rattle.p21_semantics.specs.Digits.{IsDigit}
+use Rattle.p21_semantics.specs.Keyword.{IsKeywordByte}
+use Rattle.p21_semantics.specs.Token.{Spells, MayFollow}
+use Rattle.p21_tokens_automaton.proofs.Once.{spells-means}
+use Rattle.p21_tokens_automaton.proofs.Classes.{digit-decides, false_from_not}
+use Rattle.p21_tokens_automaton.proofs.Runs.{run-names, run-puts}
+use Rattle.p21_tokens_automaton.proofs.Steps.{lex-nil, lex-pass, lex-skip, lex-give, lex-end}
+use Rattle.p21_tokens_automaton.proofs.TokenRuns.{waits-keyword, waits-whole, waits-real}
+use Rattle.p21_tokens_automaton.proofs.Waits.{Waits}
+use Rattle.p21_tokens_automaton.specs.Bytes.{is_blank, is_digit}
+use Rattle.p21_tokens_automaton.specs.Meaning.{Means, found_of}
+use Rattle.p21_tokens_automaton.specs.Reading.{keyword, whole, real, known, spelled, State, start, Answer, nothing_but, open_at, before, Found, single_token, ended, lex}
+use Rattle.p21_tokens_automaton.specs.Step.{advance}
+use Rattle.p21_tokens_automaton.specs.Run.{AreNameDigits}
+use Rattle.p21_tokens_automaton.specs.declared.mode.Mode.TheVariants.{Between, Name, Text}
+use Rattle.p21_tokens_automaton.specs.declared.mode.NameMode.TheVariants as name_mode
+use Rattle.p21_tokens_automaton.specs.declared.mode.NameMode.TheVariants.{Digits}
+use Rattle.p21_tokens_automaton.specs.declared.mode.TextMode.TheVariants.{Inside, Apostrophe}
+use Rattle.p21_tokens_automaton.specs.declared.mode.Single.{Single}
+use Rattle.p21_tokens_automaton.specs.declared.mode.Action.TheVariants.{Pass, Give}
+use Rattle.p21_tokens.specs.Front.{Leads, Fronts, single, leads, ArePlain, TakesFront}
+use Rattle.p21_tokens.specs.Held.{Held, pending_of, state_of}
+use Rattle.p21_tokens.specs.Steps.{AreBlank, TakesRun, Gives, Hands, Steps, Scans, handed}
+use Rattle.p21_tokens.specs.declared.step.Step.TheVariants.{Gave}
+use Rattle.p21_tokens.specs.Token.{meant, waits}
+use Rattle.p21_tokens.specs.declared.token.Token.{Token}
+use Rattle.p21_tokens.proofs.Scanning.{Along, run-join, along-gave}
+use Rattle.p21_tokens.proofs.Stepping.{ended-waits, single-at_once}
+
+-- separators alone lead nowhere
+blank-reads : (bytes : List ℕ) → AreBlank bytes → lex start bytes ≡ lex start []
+blank-reads [] k = refl
+blank-reads (b ∷ bytes) k = lex-pass start Between b bytes (passes b k.0) ∙ blank-reads bytes k.1
+  where
+    passes : (b : ℕ) → is_blank b ≡ true → advance Between b ≡ Pass Between
+    passes b e = rw e refl
+
+same-state : (s t : State) → nothing_but (open_at s) ≡ nothing_but (open_at t) → s ≡ t
+same-state s t e = of_ending s t (ap (λ (a : Answer). a.ending) e)
+  where
+    of_ending : (s t : State) → open_at s ≡ open_at t → s ≡ t
+    of_ending s t e = cc
+
+no-blanks : (bytes : List ℕ) (state : State) (found : Found) → ((rest : List ℕ) → lex start (bytes ++ rest) ≡ lex state rest) → ended state ≡ Some found → AreBlank bytes → ⊥
+no-blanks bytes state found reaches e k =
+    let reads : lex start bytes ≡ lex state [] = ap (λ (x : List ℕ). lex start x) (sym (append-nil bytes)) ∙ reaches [] in
+    let same : start ≡ state = same-state start state (sym (lex-nil start) ∙ (sym (blank-reads bytes k) ∙ (reads ∙ lex-nil state))) in
+    let none : ended start ≡ Some found = ap ended same ∙ e in
+    cc
+
+-- what is held inside such a token
+abbrev within_token : Held → State → ℕ → Held
+within_token v s count = record v { mode = s.mode; kept = s.kept; characters = s.characters; size = s.size; file = v.file + count }
+
+-- a token that waits is no `;`
+waits-counts : (t : meaning.Token) (n size : ℕ) → waits t ≡ true → count_behind n (record { token = t; size = size }) ≡ n + size
+waits-counts meaning.begin n size e = refl
+waits-counts meaning.finish n size e = refl
+waits-counts (meaning.keyword word) n size e = refl
+waits-counts (meaning.user_keyword word) n size e = refl
+waits-counts (meaning.name number) n size e = refl
+waits-counts (meaning.whole number) n size e = refl
+waits-counts (meaning.real number) n size e = refl
+waits-counts (meaning.text characters) n size e = refl
+waits-counts _ n size e = cc
+
+-- what is held behind a token
+abbrev behind : Held → meaning.Token → ℕ → Held
+behind v token count = record v { statement = count_behind v.statement (record { token = token; size = count }); file = v.file + count }
+
+module _ (v : Held) (bytes : List ℕ) (count : ℕ) (token : meaning.Token) (is_start : state_of v ≡ start) (f : Leads bytes count token) where
+  within : count ≤ length bytes
+  within = let l = slice_get_within bytes count f.byte f.behind in omega arith
+
+  front-run : TakesRun v (take count bytes) (within_token v f.state count)
+  front-run = record {
+    file_is = ap (λ (k : ℕ). v.file + k) (sym (length-take-le count bytes within));
+    statement_is = refl;
+    rest_is = λ rest. ap (λ (s : State). lex s (take count bytes ++ rest)) is_start ∙ f.reaches rest;
+    gap = λ g k. absurd (no-blanks (take count bytes) f.state f.found f.reaches f.ended_is k);
+  }
+
+  waited : waits token ≡ true
+  waited = ended-waits f.state.mode f.state.kept f.state.characters f.found f.ended_is token f.means
+
+  front-hands : pending_of v + count ≤ v.statement_limit → Hands (within_token v f.state count) f.byte token (behind v token count)
+  front-hands l = record {
+    found = f.found;
+    means = f.means;
+    waited = waited;
+    ended_is = f.ended_is;
+    within = let e = f.size_is in omega arith;
+    file_is = refl;
+    statement_is = waits-counts token v.statement count waited ∙ let e = f.size_is in omega arith;
+    start_is = is_start;
+    rest_is = λ rest. lex-end f.state f.found f.byte rest f.ends f.ended_is ∙ ap (λ (s : State). before (record { found = f.found; size = f.state.size }) (lex s (f.byte ∷ rest))) (sym is_start);
+  }
+
+-- a byte that is a token
+single-gives : (v : Held) (byte : ℕ) (one : Single) (token : meaning.Token) → state_of v ≡ start → advance Between byte ≡ Give one → token ≡ single_token one → pending_of v + 1 ≤ v.statement_limit → Gives v byte token (behind v token 1)
+single-gives v byte one token is_start g e l = record {
+  found = record { found = known (single_token one); size = 1 };
+  means = sym e;
+  at_once = ap waits e ∙ single-at_once one;
+  within = omega arith;
+  file_is = refl;
+  statement_is = refl;
+  start_is = is_start;
+  rest_is = λ rest.
+      ap (λ (x : State). lex x (byte ∷ rest)) is_start
+      ∙ (lex-give start one byte rest g ∙ ap (λ (x : State). before (record { found = known (single_token one); size = 1 }) (lex x rest)) (sym is_start));
+}
+
+module _ (v w u : Held) (piece : List ℕ) (n : ℕ) (a : Along v w piece n) where
+  back : slice_range piece n (length piece) ≡ drop n piece
+  back = take_all (length piece - n) (drop n piece) (simp length-drop (omega arith))
+
+  -- the byte of the piece that is the first of what is left of it
+  first-byte : (byte : ℕ) (rest : List ℕ) → drop n piece ≡ byte ∷ rest → (n < length piece) × (byte ≡ get_or piece n 0)
+  first-byte byte rest e =
+      let l = ap (λ (x : List ℕ). length x) e in
+      let m = length-drop n piece in
+      let same : n + 0 ≡ n = omega arith in
+      (omega arith, sym (ap (λ (x : List ℕ). get_or x 0 0) e) ∙ (get_or-drop n piece 0 0 ∙ ap (λ (k : ℕ). get_or piece k 0) same))
+
+  -- a token at the front of what is left of a piece
+  pub along-front : (count : ℕ) (t : Token) → TakesFront w (slice_range piece n (length piece)) (Some (count, t)) u → Scans v piece (Ok (n + count, Some t)) u
+  along-front count t h = at (subst (λ (x : List ℕ). Fronts x count (meant t)) back h.1)
+    where
+      at : Fronts (drop n piece) count (meant t) → Scans v piece (Ok (n + count, Some t)) u
+      at (leads f) =
+          let middle = within_token w f.state count in
+          let short = slice_get_within (drop n piece) count f.byte f.behind in
+          let room : n + count < length piece = let l = length-drop n piece in let k = a.within in omega arith in
+          subst (λ (x : Held). Scans v piece (Ok (n + count, Some t)) x) (sym h.3) (
+            record { statement_limit = a.same.statement_limit; file_limit = a.same.file_limit; refused = a.same.refused },
+            (
+              omega arith,
+              handed middle f.byte (record { statement_limit = a.same.statement_limit; file_limit = a.same.file_limit; refused = a.same.refused })
+                  (subst (λ (x : List ℕ). TakesRun v x middle) (sym (take-add n count piece)) (run-join v w middle (take n piece) (take count (drop n piece)) a.run (front-run w (drop n piece) count (meant t) h.0 f)))
+                  (front-hands w (drop n piece) count (meant t) h.0 f h.2)
+                  (slice_get-get_or piece (n + count) 0 room ∙ ap (λ (b : ℕ). Some b) (sym (get_or-drop n piece count 0) ∙ get_or_from_slice_get (drop n piece) count f.byte 0 f.behind)),
+            ),
+          )
+      at (single byte rest which e one g s) =
+          let first = first-byte byte rest e in
+          let held : u ≡ behind w (meant t) 1 = h.3 ∙ ap (λ (k : ℕ). behind w (meant t) k) one in
+          let gives : Steps w byte (Ok (Gave t)) (behind w (meant t) 1) = (record { statement_limit = refl; file_limit = refl; refused = refl }, single-gives w byte which (meant t) h.0 g s (subst (λ (k : ℕ). pending_of w + k ≤ w.statement_limit) one h.2)) in
+          subst (λ (k : ℕ). Scans v piece (Ok (n + k, Some t)) u) (sym one) (along-gave v w u piece n byte first.0 first.1 a t (subst (λ (x : Held). Steps w byte (Ok (Gave t)) x) (sym held) gives))
+
+-- where there is none, nothing changes
+pub along-no_front : (v w u : Held) (piece : List ℕ) (n : ℕ) → Along v w piece n → u ≡ w → Along v u piece n
+along-no_front v w u piece n a e = subst (λ (x : Held). Along v x piece n) (sym e) a
+
+-- ---- which tokens stand there
+
+module _ (bytes : List ℕ) (count byte : ℕ) (found : (count < length bytes) × ((d : ℕ) → byte ≡ get_or bytes count d)) where
+  waits-leads : (t : meaning.Token) → Spells t (take count bytes) → Waits t (take count bytes) → MayFollow t (take count bytes) byte → Leads bytes count t
+  waits-leads t s w m =
+      let l = found.0 in
+      record {
+        byte = byte;
+        behind = slice_get-get_or bytes count 0 found.0 ∙ ap (λ (b : ℕ). Some b) (sym (found.1 0));
+        state = w.state;
+        reaches = w.reaches;
+        size_is = w.size_is ∙ length-take-le count bytes (omega arith);
+        found = found_of t (take count bytes);
+        ended_is = w.ended_is;
+        means = spells-means t (take count bytes) s;
+        ends = w.ends byte m;
+      }
+
+  pub leads_whole : (t : meaning.Token) → Means (spelled whole (take count bytes)) t → ¬ IsDigit byte → byte ≢ 46 → Leads bytes count t
+  leads_whole (meaning.whole z) m d p = waits-leads (meaning.whole z) m.1 (waits-whole z (take count bytes) m.1) (d, p)
+  leads_whole other m d p = absurd m.0
+
+  pub leads_real : (t : meaning.Token) → Means (spelled real (take count bytes)) t → ¬ IsDigit byte → byte ≢ 69 → Leads bytes count t
+  leads_real (meaning.real z) m d e = waits-leads (meaning.real z) m.1 (waits-real z (take count bytes) m.1) (d, λ _. e)
+  leads_real other m d e = absurd m.0
+
+  pub leads_keyword : (t : meaning.Token) → Means (spelled keyword (take count bytes)) t → ¬ IsKeywordByte byte → byte ≢ 45 → Leads bytes count t
+  leads_keyword (meaning.keyword w) m k d = waits-leads (meaning.keyword w) m.1 (waits-keyword w (take count bytes) m.1) (k, d)
+  leads_keyword other m k d = absurd m.0
+
+-- ---- instance names
+
+abbrev hash : State
+hash = record { mode = Name name_mode.Hash; kept = []; characters = []; size = 1 }
+
+-- behind `#` a digit does what it does behind zero
+hash-is_zero : (b : ℕ) (bytes : List ℕ) → is_digit b ≡ true → lex hash (b ∷ bytes) ≡ lex (record hash { mode = Name (Digits 0) }) (b ∷ bytes)
+hash-is_zero b bytes d =
+    let small : 0 * 10 + (b - 48) < 2 ^ 64 = digit-small b d in
+    lex-skip hash (Name (Digits (0 * 10 + (b - 48)))) b bytes (rw (d, lt-ltb (0 * 10 + (b - 48)) (2 ^ 64) small) refl)
+    ∙ sym (lex-skip (record hash { mode = Name (Digits 0) }) (Name (Digits (0 * 10 + (b - 48)))) b bytes (rw (d, lt-ltb (0 * 10 + (b - 48)) (2 ^ 64) small) refl))
+  where
+    digit-small : (b : ℕ) → is_digit b ≡ true → 0 * 10 + (b - 48) < 2 ^ 64
+    digit-small b d = grind (arith, nat_tests)
+
+name-reaches : (digits rest : List ℕ) (count value : ℕ) → 0 < count → AreNameDigits (Name (Digits 0)) digits count value → lex start (35 ∷ (take count digits ++ rest)) ≡ lex (record hash { mode = Name (Digits value); size = 1 + count }) rest
+name-reaches digits rest zero value z h = absurd (omega arith)
+name-reaches [] rest (suc count) value z h = absurd (let w = h.within in omega arith)
+name-reaches (b ∷ digits) rest (suc count) value z h =
+    lex-skip start (Name name_mode.Hash) 35 (take (suc count) (b ∷ digits) ++ rest) refl
+    ∙ (hash-is_zero b (take count digits ++ rest) (h.digits 0 (omega arith)) ∙ run-names (record hash { mode = Name (Digits 0) }) (b ∷ digits) rest (suc count) value h)
+
+pub leads_name : (digits bytes : List ℕ) (count value byte : ℕ) → bytes ≡ 35 ∷ digits → 0 < count → AreNameDigits (Name (Digits 0)) digits count value → (count < length digits) × ((d : ℕ) → byte ≡ get_or digits count d) → ¬ IsDigit byte → Leads bytes (count + 1) (meaning.name value)
+leads_name digits bytes count value byte e z h found n =
+    let more : suc count ≡ count + 1 = omega arith in
+    let fronts : Leads (35 ∷ digits) (suc count) (meaning.name value) = record {
+      byte = byte;
+      behind = slice_get-get_or digits count 0 found.0 ∙ ap (λ (b : ℕ). Some b) (sym (found.1 0));
+      state = record hash { mode = Name (Digits value); size = 1 + count };
+      reaches = λ rest. name-reaches digits rest count value z h;
+      size_is = omega arith;
+      found = known (meaning.name value);
+      ended_is = refl;
+      means = refl;
+      ends = rw (false_from_not _ (digit-decides byte) n) refl;
+    } in
+    subst (λ (x : List ℕ). Leads x (count + 1) (meaning.name value)) (sym e) (subst (λ (k : ℕ). Leads (35 ∷ digits) k (meaning.name value)) more fronts)
+
+-- ---- strings of plain characters
+
+pub leads_text : (inside bytes value : List ℕ) (count end byte : ℕ) → bytes ≡ 39 ∷ inside → value ≡ take count inside → ArePlain inside count → end ≡ 39
+    → (count < length inside) × ((d : ℕ) → end ≡ get_or inside count d) → (count + 1 < length inside) × ((d : ℕ) → byte ≡ get_or inside (count + 1) d) → byte ≢ 39 → Leads bytes (count + 2) (meaning.text value)
+leads_text inside bytes value count end byte e v h is ending found n =
+    let more : suc (count + 1) ≡ count + 2 = omega arith in
+    let fronts : Leads (39 ∷ inside) (suc (count + 1)) (meaning.text (take count inside)) = record {
+      byte = byte;
+      behind = slice_get-get_or inside (count + 1) 0 found.0 ∙ ap (λ (b : ℕ). Some b) (sym (found.1 0));
+      state = behind_text;
+      reaches = λ rest. reads rest;
+      size_is = omega arith;
+      found = known (meaning.text (take count inside));
+      ended_is = refl;
+      means = refl;
+      ends = rw (ne_eqb byte 39 n) refl;
+    } in
+    subst (λ (x : List ℕ). Leads x (count + 2) (meaning.text value)) (sym e)
+    (subst (λ (x : List ℕ). Leads (39 ∷ inside) (count + 2) (meaning.text x)) (sym v) (subst (λ (k : ℕ). Leads (39 ∷ inside) k (meaning.text (take count inside))) more fronts))
+  where
+    open_text : State
+    open_text = record { mode = Text Inside; kept = []; characters = []; size = 1 }
+
+    behind_text : State
+    behind_text = record { mode = Text Apostrophe; kept = []; characters = take count inside; size = 1 + count + 1 }
+
+    whole : take (count + 1) inside ≡ take count inside ++ 39 ∷ []
+    whole = take_more inside count 0 ending.0 ∙ ap (λ (c : ℕ). take count inside ++ c ∷ []) (sym (ending.1 0) ∙ is)
+
+    reads : (rest : List ℕ) → lex start (39 ∷ (take (count + 1) inside ++ rest)) ≡ lex behind_text rest
+    reads rest =
+        lex-skip start (Text Inside) 39 (take (count + 1) inside ++ rest) refl
+        ∙ (ap (λ (x : List ℕ). lex open_text x) (ap (λ (x : List ℕ). x ++ rest) whole ∙ append_assoc (take count inside) (39 ∷ []) rest)
+        ∙ (run-puts open_text inside (39 ∷ rest) count h
+        ∙ lex-skip (record open_text { characters = take count inside; size = 1 + count }) (Text Apostrophe) 39 rest refl))

@@ -1,0 +1,5 @@
+use Rattle.std.proofs.Common.{length, ◌-◌}
+use Rattle.p21_tokens.proofs.front.end_of_digits.Given as goal
+
+abbrev pub decreases-loop-end : goal.decreases-loop-end
+decreases-loop-end l = length l.bytes - l.end

@@ -1,0 +1,7 @@
+use Rattle.std.proofs.Common.{rules}
+use Rattle.p21_tokens.proofs.Fronting.{leads_keyword}
+use Rattle.p21_tokens.specs.Token.{meant}
+use Rattle.p21_tokens.proofs.front.front_keyword.Goals as goal
+
+pub returns-in-Ok : goal.returns-in-Ok
+returns-in-Ok c = leads_keyword c.args.bytes.now c.in-Kept.count c.in_ok-byte.field-0.now c.in_ok-byte.ensures.lookup.3 (meant c.in-Ok.token) (c.in-Ok.ensures {u = tt}) (search rules) c.if-byte-eq45.false

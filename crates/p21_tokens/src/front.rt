@@ -1,0 +1,166 @@
+//! Tokens that stand whole at the front of bytes, read without a state.
+ghost use Rattle.std.specs.Prelude.{◌≡◌, IfSome};
+ghost use Rattle.p21_tokens_automaton.specs.Step.{advance};
+ghost use Rattle.p21_tokens_automaton.specs.declared.mode.Mode.TheVariants.{Between};
+ghost use Rattle.p21_tokens_automaton.specs.declared.mode.Action.TheVariants.{Give};
+ghost use Rattle.p21_tokens.specs.Front.{ArePlain, Fronts, Leads};
+ghost use Rattle.p21_tokens.specs.Token.{meant};
+
+use crate::reading::{behind, read_real, read_whole, read_word, single_token};
+use crate::token::Token;
+use p21_tokens_automaton::{Mode, NameMode, Run, Single, TextMode, WordMode, run_of};
+use p21_values::{Name, Text};
+use std::alloc::Global;
+
+/// The token at the front of bytes, and how many bytes it has, where that is easily seen: one of one byte, or a keyword,
+/// a number, an instance name or a string of plain characters with the byte behind it.
+pub(crate) fn front_token(alloc: Global, bytes: &[u8]) -> Option<(usize, Token)>
+    ensures { IfSome result (λ front. Fronts bytes.now front.0 (meant front.1)) }
+{
+    let (first, _rest) = bytes.split_first()?;
+    if let Some(single) = single(*first) {
+        return Some((1, single_token(single)));
+    }
+    waiting_token(alloc, *first, bytes)
+}
+
+/// The token that one byte is.
+fn single(byte: u8) -> Option<Single>
+    ensures { IfSome result (λ single. advance Between byte ≡ Give single) }
+{
+    match byte {
+        b'(' => Some(Single::Left),
+        b')' => Some(Single::Right),
+        b',' => Some(Single::Comma),
+        b';' => Some(Single::Semicolon),
+        b'=' => Some(Single::Equals),
+        b'$' => Some(Single::Dollar),
+        b'*' => Some(Single::Star),
+        _ => None,
+    }
+}
+
+fn waiting_token(alloc: Global, first: u8, bytes: &[u8]) -> Option<(usize, Token)>
+    ensures { IfSome result (λ front. Leads bytes.now front.0 (meant front.1)) }
+{
+    match first {
+        b'#' => front_name(bytes),
+        b'\'' => front_text(alloc, bytes),
+        b'0'..=b'9' | b'+' | b'-' => front_number(alloc, bytes),
+        b'A'..=b'Z' | b'_' => front_keyword(alloc, bytes),
+        _ => None,
+    }
+}
+
+/// Where the digits end that stand at a place.
+fn end_of_digits(bytes: &[u8], from: usize) -> usize {
+    let mut end = from;
+    while end < bytes.len() && bytes[end].is_ascii_digit() {
+        end += 1;
+    }
+    end
+}
+
+fn front_number(alloc: Global, bytes: &[u8]) -> Option<(usize, Token)>
+    ensures { IfSome result (λ front. Leads bytes.now front.0 (meant front.1)) }
+{
+    let whole = end_of_digits(bytes, 1);
+    if *bytes.get(whole)? != b'.' {
+        return front_whole(alloc, bytes, whole);
+    }
+    let fraction = end_of_digits(bytes, whole + 1);
+    if *bytes.get(fraction)? != b'E' {
+        return front_real(alloc, bytes, fraction);
+    }
+    let exponent = match *bytes.get(fraction + 1)? {
+        b'+' | b'-' => fraction + 2,
+        _ => fraction + 1,
+    };
+    front_real(alloc, bytes, end_of_digits(bytes, exponent))
+}
+
+fn front_whole(alloc: Global, bytes: &[u8], count: usize) -> Option<(usize, Token)>
+    ensures { IfSome result (λ front. Leads bytes.now front.0 (meant front.1)) }
+{
+    let byte = *bytes.get(count)?;
+    if byte.is_ascii_digit() || byte == b'.' {
+        return None;
+    }
+    match read_whole(alloc, &bytes[..count]) {
+        Ok(token) => Some((count, token)),
+        Err(_fault) => None,
+    }
+}
+
+fn front_real(alloc: Global, bytes: &[u8], count: usize) -> Option<(usize, Token)>
+    ensures { IfSome result (λ front. Leads bytes.now front.0 (meant front.1)) }
+{
+    let byte = *bytes.get(count)?;
+    if byte.is_ascii_digit() || byte == b'E' {
+        return None;
+    }
+    match read_real(alloc, &bytes[..count]) {
+        Ok(token) => Some((count, token)),
+        Err(_fault) => None,
+    }
+}
+
+fn front_keyword(alloc: Global, bytes: &[u8]) -> Option<(usize, Token)>
+    ensures { IfSome result (λ front. Leads bytes.now front.0 (meant front.1)) }
+{
+    let Run::Kept(count) = run_of(Mode::Word(WordMode::Keyword), bytes) else {
+        return None;
+    };
+    let byte = *bytes.get(count)?;
+    if byte.is_ascii_uppercase() || byte.is_ascii_digit() || byte == b'_' || byte == b'-' {
+        return None;
+    }
+    match read_word(alloc, WordMode::Keyword, &bytes[..count]) {
+        Ok(token) => Some((count, token)),
+        Err(_fault) => None,
+    }
+}
+
+fn front_name(bytes: &[u8]) -> Option<(usize, Token)>
+    ensures { IfSome result (λ front. Leads bytes.now front.0 (meant front.1)) }
+{
+    let digits = behind(b'#', bytes)?;
+    let Run::Named(count, value) = run_of(Mode::Name(NameMode::Digits(0)), digits) else {
+        return None;
+    };
+    let byte = *digits.get(count)?;
+    if count == 0 || byte.is_ascii_digit() {
+        return None;
+    }
+    Some((count + 1, Token::Name(Name(value))))
+}
+
+fn front_text(alloc: Global, bytes: &[u8]) -> Option<(usize, Token)>
+    ensures { IfSome result (λ front. Leads bytes.now front.0 (meant front.1)) }
+{
+    let inside = behind(b'\'', bytes)?;
+    let count = plain_characters(inside)?;
+    let end = *inside.get(count)?;
+    let byte = *inside.get(count + 1)?;
+    if end != b'\'' || byte == b'\'' {
+        return None;
+    }
+    let mut text = Text::new(alloc);
+    match text.push_latin1(&inside[..count]) {
+        Ok(()) => Some((count + 2, Token::Text(text))),
+        Err(_fault) => None,
+    }
+}
+
+/// How many bytes of a string stand for themselves, where none in UTF-8 follow.
+fn plain_characters(inside: &[u8]) -> Option<usize>
+    ensures { IfSome result (ArePlain inside.now) }
+{
+    if *inside.first()? == b'\'' {
+        return Some(0);
+    }
+    match run_of(Mode::Text(TextMode::Inside), inside) {
+        Run::Characters(count) => Some(count),
+        _ => None,
+    }
+}
