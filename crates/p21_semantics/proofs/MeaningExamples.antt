@@ -1,9 +1,9 @@
 -- Records in internal and in external mapping, and what they mean.
-use Rattle.std.specs.Prelude.{◌≡◌, ℕ, zero, suc, pos, true, false, List, [], ◌∷◌, codes, Some, None, Contains, refl}
+use Rattle.std.specs.Prelude.{◌≡◌, ℕ, zero, suc, pos, true, false, List, [], ◌∷◌, codes, Some, None, slice_get, Contains, refl}
 use Rattle.std.specs.List.{AllZip, IsDistinct}
 use Rattle.std.specs.Str.{bytes_eq}
 use Rattle.std.specs.List.Sorted.{IsStrictlySortedBy}
-use Rattle.std.proofs.Common.{arith, rules, inl, inr, ap, sym, subst}
+use Rattle.std.proofs.Common.{arith, rules, inl, inr, ap, sym, subst, ◌∙◌}
 use Rattle.p21_semantics.specs.Number.{Decimal}
 use Rattle.p21_semantics.specs.Parameter.{dollar, star, real, no_params, param, key_of}
 use Rattle.p21_semantics.specs.Record.{Record, simple, complex}
@@ -13,7 +13,7 @@ use Rattle.p21_semantics.specs.Supertype.{IsA, itself, above, supertypes_of, InC
 use Rattle.p21_semantics.specs.Order.{places}
 use Rattle.p21_semantics.specs.PlaceType.{TypeAt, derived_place, stored_place, two_redeclarations, IsDerivedIn, IsRedeclared}
 use Rattle.p21_semantics.specs.Value as value
-use Rattle.p21_semantics.specs.Value.{Value, no_values}
+use Rattle.p21_semantics.specs.Value.{Value, Values, no_values}
 use Rattle.p21_semantics.specs.Reference.{Kinds}
 use Rattle.p21_semantics.specs.Fits as fits
 use Rattle.p21_semantics.specs.Fits.{FitsAt, as_underlying, a_real}
@@ -113,6 +113,66 @@ origin-means kinds = record {
   where
     open_ : (place : Place) → TypeAt demo origin_set place two_redeclarations → ⊥
     open_ place below = not_redeclared origin_set place below.1
+
+-- `POINT($,1.,1.)` means a POINT with no label
+abbrev one : Decimal
+one = record { significand = pos 1; exponent = pos 0 }
+
+abbrev pub point_record : Record
+point_record = simple (record { key = key_of (codes "POINT"); params = param dollar (param (real one) (param (real one) no_params)) })
+
+abbrev pub point_set : List ℕ
+point_set = 1 ∷ 0 ∷ []
+
+abbrev pub point_values : Values
+point_values = value.value (value.real one) (value.value (value.real one) no_values)
+
+abbrev pub point_meaning : Typed
+point_meaning = record { entities = point_set; values = point_values ∷ value.value value.missing no_values ∷ [] }
+
+pub point-is : (f : ℕ) → Contains point_set f → IsA demo 1 f
+point-is f among = Each-member (IsA demo 1) point_set f (itself 1, (point-is_shape, tt)) among
+
+point-only : (f : ℕ) → IsA demo 1 f → Contains point_set f
+point-only f is = elim (demo-is_a 1 f (omega arith) is) [ inl h ↦ subst (λ n. Contains point_set n) (sym h) (0, omega arith, refl) | inr h ↦ subst (λ n. Contains point_set n) (sym h) (1, omega arith, refl) ]
+
+-- POINT and SHAPE derive nothing
+point-derives_none : (place : Place) → IsDerivedIn demo point_set place → ⊥
+point-derives_none place (e, x, in_set, at, among) =
+    Each-member (λ f. slice_get demo.entities f ≡ Some x → ⊥) point_set e (none point refl, (none shape refl, tt)) in_set at
+  where
+    none : (y : Entity) → y.derived ≡ [] → Some y ≡ Some x → ⊥
+    none y empty same = let is : y ≡ x = cc in let P : List Place → Type 0 = λ places. Contains places place in Contains-none place (subst P (ap (λ z. z.derived) (sym is) ∙ empty) among)
+
+point-stored : (place : Place) (a : Attribute) → attribute_at demo place ≡ Some a → TypeAt demo point_set place (stored_place a.optional a.type)
+point-stored place a at = (point-derives_none place, inr (not_redeclared point_set place, (a, at, refl, refl)))
+
+a_distance : (kinds : Kinds) → FitsAt demo kinds (stored_place false (schema.defined 0)) (real one) (value.real one)
+a_distance kinds = fits.fits false (schema.defined 0) (real one) (value.real one) (as_underlying 0 schema.real (real one) (value.real one) refl (a_real one))
+
+pub point-means : (kinds : Kinds) → RecordMeans demo kinds point_record point_meaning
+unfolding IsStrictlySortedBy
+point-means kinds = record {
+  rising = (codes "POINT" ∷ codes "SHAPE" ∷ [], ((point, refl, refl), ((shape, refl, refl), tt)), ((refl, tt), (tt, tt)));
+  own_counts = (refl, (refl, tt));
+  no_abstract_leaf = λ e leaf is_abstract. let h : 1 ≡ e = leaf.1 1 (0, omega arith, refl) (let P : ℕ → Type 0 = λ f. IsA demo 1 f in subst P (sym (abstract-is_shape e is_abstract)) point-is_shape) in omega (arith, h, abstract-is_shape e is_abstract);
+  place_types = ((open_ x_place, (open_ y_place, tt)), ((open_ label_place, tt), tt));
+  means = record {
+    entity = 1;
+    named = (codes "POINT", (point, refl, refl), refl);
+    closure = λ f. (point-is f, point-only f);
+    fit = (
+      (stored_place true (schema.text None), value.missing, point-stored label_place label refl, fits.dollar (schema.text None), (value.value value.missing no_values, (1, omega arith, refl), refl)),
+      (
+        (stored_place false (schema.defined 0), value.real one, point-stored x_place (attribute (codes "X") (schema.defined 0)) refl, a_distance kinds, (point_values, (0, omega arith, refl), refl)),
+        ((stored_place false (schema.defined 0), value.real one, point-stored y_place (attribute (codes "Y") (schema.defined 0)) refl, a_distance kinds, (point_values, (0, omega arith, refl), refl)), tt),
+      ),
+    );
+  };
+}
+  where
+    open_ : (place : Place) → TypeAt demo point_set place two_redeclarations → ⊥
+    open_ place below = not_redeclared point_set place below.1
 
 pub demo-distinct : IsDistinct bytes_eq (names_of_all demo)
 unfolding IsDistinct

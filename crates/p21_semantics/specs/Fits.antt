@@ -1,4 +1,5 @@
--- The value that a parameter stands for at a type (ISO 10303-21, Mapping of EXPRESS data types).
+-- The value that a parameter stands for at a type (ISO 10303-21, Mapping of EXPRESS data types; ISO 10303-11, Data
+-- types: widths, bounds and UNIQUE).
 use Rattle.std.specs.Prelude.{◌≡◌, ℕ, ◌+◌, ◌≤◌, ℤ, Bool, true, false, List, [], ◌∷◌, length, codes, Option, Some, None, Contains, IfSome}
 use Rattle.p21_semantics.specs.Number.{Decimal, ratio_of, SameRatio, IsReduced, IsInRange, whole_ratio}
 use Rattle.p21_semantics.specs.Schema as schema

@@ -3,14 +3,16 @@
 use Rattle.std.specs.Prelude.{◌≡◌, ℕ, ◌+◌, List, [], ◌∷◌, length}
 use Rattle.p21_semantics.specs.CanonicalRecord.{IsCanonicalRecord}
 use Rattle.p21_semantics.specs.CanonicalText.{statement_text}
+use Rattle.p21_semantics.specs.Laying.{Laid}
 use Rattle.p21_semantics.specs.Reference.{Kinds}
 use Rattle.p21_semantics.specs.Meaning.{Typed, RecordMeans}
 use Rattle.p21_semantics.specs.Record.{Record}
 use Rattle.p21_semantics.specs.SameFile.{SameTyped}
 use Rattle.p21_semantics.specs.Schema.{Schema}
-use Rattle.p21_semantics.specs.Statement.{Statement, section, header, instance}
+use Rattle.p21_semantics.specs.Statement.{Statement, section, header, instance, statement_tokens}
 
--- a canonical statement of the instance, whatever the sets of the instances that are not taken yet
+-- a canonical statement of the instance, for some sets of the instances of the file; its tokens are laid in the text, so
+-- that each real has its one spelling
 pub record IsInstanceText (s : Schema) (n : ℕ) (record_ : Record) (text : List ℕ) : Type 0 where
   pub kinds : Kinds
   pub meaning : Typed
@@ -21,6 +23,7 @@ pub record IsInstanceText (s : Schema) (n : ℕ) (record_ : Record) (text : List
   pub same : SameTyped canonical_meaning meaning
   pub is_canonical : IsCanonicalRecord s canonical canonical_meaning
   pub text_is : text ≡ statement_text (instance n canonical)
+  pub laid : Laid text (statement_tokens (instance n canonical))
 
 -- the bytes of the canonical statements, with no LF; section lines do not count
 abbrev pub AreKept : Schema → List Statement → ℕ → Type 0

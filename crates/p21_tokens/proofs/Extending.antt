@@ -12,12 +12,13 @@ use Rattle.p21_semantics.specs.Token.{Token, begin, finish, keyword, user_keywor
 use Rattle.p21_tokens_automaton.proofs.Complete.{all_of-after}
 use Rattle.p21_tokens_automaton.proofs.Sound.{TailIs}
 use Rattle.p21_tokens_automaton.proofs.Steps.{lex-nil}
-use Rattle.p21_tokens_automaton.proofs.Theorems.{laid_read, tail-is, laid-up-to, size-is}
+use Rattle.p21_tokens_automaton.proofs.Theorems.{laid_read, ends-behind, tail-is, laid-up-to, size-is}
 use Rattle.std.proofs.lemmas.Bool.{cond_both}
 use Rattle.std.proofs.lemmas.Bool.Decides.{nat_tests}
 use Rattle.p21_tokens_automaton.specs.Bytes.{is_blank, is_digit, is_upper}
 use Rattle.p21_tokens_automaton.specs.Step.{advance, mark_action}
-use Rattle.p21_tokens_automaton.specs.declared.mode.Action.TheVariants.{Pass, Keep, Refuse}
+use Rattle.p21_tokens_automaton.specs.declared.mode.Action.{Action}
+use Rattle.p21_tokens_automaton.specs.declared.mode.Action.TheVariants.{Pass, Keep, End, Refuse}
 use Rattle.p21_tokens_automaton.specs.declared.mode.Mode.TheVariants.{Between, Slash, Comment, Star, Number, Word}
 use Rattle.p21_tokens_automaton.specs.declared.mode.NumberMode.TheVariants as number_mode
 use Rattle.p21_tokens_automaton.specs.declared.mode.WordMode.TheVariants as word_mode
@@ -329,7 +330,9 @@ star-byte byte = cond_both (eqb byte 47) (Pass Between) (cond (eqb byte 42) (Pas
 -- a byte that counts, by what stands in front of it
 counts-byte : (v : Held) (tail : Tail) (byte : ℕ) → TailIs (state_of v) tail → is_token_byte v.mode (advance v.mode byte) ≡ true → IsTokenByte tail byte
 counts-byte v nothing byte t c = between-byte byte (ap (λ (s : State). is_token_byte s.mode (advance s.mode byte)) (sym t) ∙ c)
-counts-byte v (unfinished bytes) byte t c = tt
+counts-byte v (unfinished bytes) byte t c = λ token spells follows.
+    let clash : false ≡ true = sym (ap (λ (a : Action). is_token_byte v.mode a) (ends-behind token bytes byte (state_of v) spells follows t.2)) ∙ c in
+    cc
 counts-byte v slash byte t c = slash-byte byte (ap (λ (s : State). is_token_byte s.mode (advance s.mode byte)) (sym t) ∙ c)
 counts-byte v (open_comment inside) byte t c = elim t.0 [
   | inl q ↦ comment-byte byte (ap (λ (s : State). is_token_byte s.mode (advance s.mode byte)) (sym q) ∙ c)

@@ -6,7 +6,7 @@ use Rattle.p21_semantics.specs.Laying.{Lexeme, count_behind}
 use Rattle.p21_tokens_automaton.specs.declared.mode.Mode.{Mode}
 use Rattle.p21_tokens_automaton.specs.declared.mode.Mode.TheVariants.{Between, Slash, Comment, Star}
 use Rattle.p21_tokens_automaton.specs.declared.mode.Action.{Action}
-use Rattle.p21_tokens_automaton.specs.declared.mode.Action.TheVariants.{Pass, Refuse}
+use Rattle.p21_tokens_automaton.specs.declared.mode.Action.TheVariants.{Pass, End, Refuse}
 use Rattle.p21_tokens_automaton.specs.Bytes.{is_blank}
 use Rattle.p21_tokens_automaton.specs.Meaning.{Means, MeanAll}
 use Rattle.p21_tokens_automaton.specs.Reading.{start, Answer, Found, Sized, ended, ended_in, closed, closing, before, all_of, lex}
@@ -31,9 +31,10 @@ abbrev pub is_slash : Mode → Bool
 is_slash Slash = true
 is_slash other = false
 
--- the byte counts as one of a token
+-- the byte counts as one of a token: one that ends the token in front of it counts with what it begins
 abbrev pub is_token_byte : Mode → Action → Bool
 is_token_byte mode (Pass next) = false
+is_token_byte mode End = false
 is_token_byte mode (Refuse wrong) = if is_slash mode then false else true
 is_token_byte mode other = true
 

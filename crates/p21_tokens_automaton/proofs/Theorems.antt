@@ -1,18 +1,20 @@
 -- The two theorems that join the reading to the tokens laid in bytes, and what follows of them.
 use Rattle.std.proofs.Common.{◌≡◌, ℕ, ◌+◌, List, [], ◌∷◌, ◌++◌, ◌⊎◌, inl, inr, length, length-append, refl, sym, ap, ◌∙◌, subst, append_assoc, append-nil, Some, arith}
 use Rattle.std.proofs.lemmas.Bool.{ne_eqb}
-use Rattle.p21_semantics.specs.Token.{Token, begin, finish, keyword, user_keyword, name, whole, real, text, item, bits, left, right, comma, semicolon, equals, dollar, star, Spells, IsWholeAtOnce}
+use Rattle.p21_semantics.specs.Token.{Token, begin, finish, keyword, user_keyword, name, whole, real, text, item, bits, left, right, comma, semicolon, equals, dollar, star, Spells, MayFollow, IsWholeAtOnce}
 use Rattle.p21_semantics.specs.Laying.{Lexeme, LaidAs, Laid, tokens_in}
 use Rattle.p21_semantics.specs.Pending.{Tail, nothing, unfinished, slash, open_comment, tail_bytes, tail_size, IsKnownWhole, IsTail, LaidUpTo}
 use Rattle.p21_tokens_automaton.specs.Meaning.{MeanAll, found_of}
 use Rattle.p21_tokens_automaton.specs.Reading.{State, start, skip, Answer, nothing_but, open_at, before, Sized, all_of, lex}
+use Rattle.p21_tokens_automaton.specs.Step.{advance}
+use Rattle.p21_tokens_automaton.specs.declared.mode.Action.TheVariants.{End}
 use Rattle.p21_tokens_automaton.specs.declared.mode.Mode.TheVariants.{Text}
 use Rattle.p21_tokens_automaton.specs.declared.mode.TextMode.TheVariants as text_mode
 use Rattle.p21_tokens_automaton.specs.declared.mode.Single.TheVariants as single
 use Rattle.p21_tokens_automaton.proofs.Complete.{laid-read}
 use Rattle.p21_tokens_automaton.proofs.Once.{means-once, spells-means}
 use Rattle.p21_tokens_automaton.proofs.Sound.{LaidTo, TailIs, UpTo, read, read-laid}
-use Rattle.p21_tokens_automaton.proofs.Steps.{lex-skip, lex-end}
+use Rattle.p21_tokens_automaton.proofs.Steps.{lex-nil, lex-skip, lex-end}
 use Rattle.p21_tokens_automaton.proofs.TextRuns.{text-run}
 use Rattle.p21_tokens_automaton.proofs.TextSound.{text-fits, text-ends}
 use Rattle.p21_tokens_automaton.proofs.TokenRuns.{token-readings, item-run, bits-run, single-run}
@@ -71,6 +73,20 @@ gives token spelling (b ∷ rest) e s k r = elim (readings token spelling s) [
   | inl w ↦ not-given _ _ e (sym (w.reaches (b ∷ rest) ∙ lex-end w.state (found_of token spelling) b rest (w.ends b k) w.ended_is) ∙ r)
   | inr g ↦ not-given _ _ e (sym (g.run (b ∷ rest)) ∙ r)
 ]
+
+-- a byte that may stand behind a token ends it, where its spelling is all that is open
+pub ends-behind : (token : Token) (spelling : List ℕ) (byte : ℕ) (e : State) → Spells token spelling → MayFollow token spelling byte → lex start spelling ≡ nothing_but (open_at e) → advance e.mode byte ≡ End
+ends-behind token spelling byte e s k r =
+    let whole_read : lex start (spelling ++ []) ≡ nothing_but (open_at e) = ap (λ (x : List ℕ). lex start x) (append-nil spelling) ∙ r in
+    elim (readings token spelling s) [
+      | inl w ↦
+          let same : w.state ≡ e = open-once w.state e (sym (w.reaches [] ∙ lex-nil w.state) ∙ whole_read) in
+          ap (λ (x : State). advance x.mode byte) (sym same) ∙ w.ends byte k
+      | inr g ↦ absurd (not-given _ _ e (sym (g.run []) ∙ whole_read))
+    ]
+  where
+    open-once : (a b : State) → nothing_but (open_at a) ≡ nothing_but (open_at b) → a ≡ b
+    open-once a b h = let ends : open_at a ≡ open_at b = ap (λ (y : Answer). y.ending) h in cc
 
 pub tail-is : (e : State) (tail : Tail) → TailIs e tail → IsTail tail
 tail-is e nothing t = tt
