@@ -1,5 +1,5 @@
 -- What the command line may say, in the words of clap.
-use Rattle.std.specs.Prelude.{Some, true, false, codes}
+use Rattle.std.specs.Prelude.{Some, true, codes}
 use Rattle.clap.specs.Words.{App, Rule, new_app, new_rule, with_rule, with_subcommand}
 use Rattle.clap.specs.declared.builder.action.ArgAction.TheVariants.{Set}
 
