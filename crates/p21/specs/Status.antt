@@ -9,6 +9,10 @@ done = 0
 abbrev pub refused : ℕ
 refused = 1
 
+-- the command line has a mistake
+abbrev pub usage : ℕ
+usage = 2
+
 -- memory ran out, or the input could not be read, or the answer or the fault line not be written
 abbrev pub failed : ℕ
 failed = 3

@@ -1,10 +1,16 @@
 //! What the command line may say.
+ghost use Rattle.std.specs.Prelude.{◌≡◌, IfOk, false};
+ghost use Rattle.clap.specs.Words.{app_of};
+ghost use Rattle.clap.specs.declared.builder.command.Command.TheViews.{out-Command as fields_of};
+ghost use Rattle.p21.specs.CommandLine.{param_app, program_app};
 
 use clap::{Arg, ArgAction, Command};
 use std::alloc::{AllocError, Global};
 
 /// The program with its commands.
-pub fn command_line<'a>(alloc: Global) -> Result<Command<'a>, AllocError> {
+pub fn command_line<'a>(alloc: Global) -> Result<Command<'a>, AllocError>
+    ensures { IfOk result (λ command. app_of command ≡ program_app) }
+{
     Command::new(alloc, "p21")
         .about("Reads the clear text encoding of exchange structures (ISO 10303-21)")
         .subcommand_required(true)
@@ -12,7 +18,10 @@ pub fn command_line<'a>(alloc: Global) -> Result<Command<'a>, AllocError> {
 }
 
 /// `param FILE`.
-fn param<'a>(alloc: Global) -> Result<Command<'a>, AllocError> {
+fn param<'a>(alloc: Global) -> Result<Command<'a>, AllocError>
+    ensures app { IfOk result (λ command. app_of command ≡ param_app) }
+    ensures local { IfOk result (λ command. (fields_of command).has_globals ≡ false) }
+{
     let file = Arg::new(alloc, "FILE")
         .help("Holds one scalar parameter, with separators around it or none")
         .required(true)

@@ -1,6 +1,12 @@
 //! The program `p21`: its command line, the files that it names, and the exit status.
 #![tactic(auto)]
 
+ghost use Rattle.std.specs.Prelude.{◌≡◌, ◌≢◌, ◌⊎◌};
+ghost use Rattle.std.specs.IoError.{error_kind};
+ghost use Rattle.std.specs.declared.io.ErrorKind.TheVariants.{OutOfMemory};
+ghost use Rattle.clap.specs.Words.{kind_of};
+ghost use Rattle.p21.specs.Status.{done, refused, usage, failed};
+
 mod command_line;
 mod fault;
 mod param;
@@ -20,7 +26,9 @@ fn main(rt: HostRuntime) -> ExitCode {
 }
 
 /// Runs the command that the command line names, and answers the exit status.
-fn run(rt: &HostRuntime) -> u8 {
+fn run(rt: &HostRuntime) -> u8
+    ensures { (result ≡ done) ⊎ (result ≡ refused) ⊎ (result ≡ usage) ⊎ (result ≡ failed) }
+{
     let words = match arguments(rt) {
         Ok(words) => words,
         Err(error) => return explain_arguments(rt, &error),
@@ -50,7 +58,10 @@ fn arguments(rt: &HostRuntime) -> io::Result<Vec<String>> {
 }
 
 /// Says why there are no arguments: for want of memory, or because one of them isn't text.
-fn explain_arguments(rt: &HostRuntime, error: &io::Error) -> u8 {
+fn explain_arguments(rt: &HostRuntime, error: &io::Error) -> u8
+    ensures status { (result ≡ usage) ⊎ (result ≡ failed) }
+    ensures memory { error_kind error.now ≡ OutOfMemory → result ≡ failed }
+{
     if error.kind() == io::ErrorKind::OutOfMemory {
         return report(&CommandFault::NoMemory, &mut rt.stderr());
     }
@@ -61,7 +72,14 @@ fn explain_arguments(rt: &HostRuntime, error: &io::Error) -> u8 {
 }
 
 /// Shows the help that was asked for, or says what is wrong with the command line.
-fn explain(rt: &HostRuntime, error: &Error) -> u8 {
+fn explain(rt: &HostRuntime, error: &Error) -> u8
+    ensures status { (result ≡ done) ⊎ (result ≡ usage) ⊎ (result ≡ failed) }
+    ensures memory { kind_of error.now ≡ ErrorKind.OutOfMemory → result ≡ failed }
+    ensures shown { result ≡ done → (kind_of error.now ≡ ErrorKind.DisplayHelp)
+        ⊎ (kind_of error.now ≡ ErrorKind.DisplayVersion) }
+    ensures mistake { result ≡ usage → (kind_of error.now ≢ ErrorKind.DisplayHelp)
+        × (kind_of error.now ≢ ErrorKind.DisplayVersion) }
+{
     if error.kind() == ErrorKind::OutOfMemory {
         return report(&CommandFault::NoMemory, &mut rt.stderr());
     }
@@ -73,7 +91,9 @@ fn explain(rt: &HostRuntime, error: &Error) -> u8 {
 }
 
 /// Says that a file can't be opened.
-fn explain_open(rt: &HostRuntime, path: &str, error: &io::Error) -> u8 {
+fn explain_open(rt: &HostRuntime, path: &str, error: &io::Error) -> u8
+    ensures { result ≡ failed }
+{
     if error.kind() == io::ErrorKind::OutOfMemory {
         return report(&CommandFault::NoMemory, &mut rt.stderr());
     }

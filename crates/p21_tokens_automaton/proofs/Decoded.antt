@@ -1,5 +1,5 @@
 -- What `hex` makes of one upper-case digit behind a zero.
-use Rattle.std.proofs.Common.{◌≡◌, ℕ, ◌+◌, ◌<◌, ◌*◌, true, List, [], ◌∷◌, refl, sym, ap, ◌∙◌, arith, Option, Some, Result, Ok, Err}
+use Rattle.std.proofs.Common.{◌≡◌, ℕ, ◌+◌, ◌<◌, ◌*◌, true, List, [], ◌∷◌, ap, arith, Some, Result, Ok, Err}
 use Rattle.std.proofs.lemmas.Bool.Decides.{nat_tests}
 use Rattle.hex.specs.Hex.{decode_sized, decode_pairs, hex_digit_value}
 use Rattle.hex.specs.declared.error.FromHexError.{FromHexError}

@@ -1,7 +1,8 @@
 -- Bytes of a class behind those that are known to be of it.
-use Rattle.std.proofs.Common.{◌≡◌, ℕ, ◌+◌, ◌-◌, ◌<◌, ◌≤◌, Bool, true, false, not, inl, inr, List, map, length, slice_index, refl, sym, ap, ◌∙◌, arith}
+use Rattle.std.proofs.Common.{◌≡◌, ℕ, suc, ◌+◌, ◌-◌, ◌*◌, ◌<◌, ◌≤◌, Bool, true, false, not, cond, inl, inr, List, [], ◌∷◌, map, length, slice_index, refl, sym, ap, ◌∙◌, arith}
 use Rattle.std.proofs.lemmas.Bool.{cases_lt}
-use Rattle.std.proofs.lemmas.Simd.{none_from_empty_mask, trailing_mask_l, run_in_chunk_le, run_in_chunk_fails, length-chunk, get_or-chunk}
+use Rattle.std.specs.List.{prefix_len}
+use Rattle.std.proofs.lemmas.Simd.{none_from_empty_mask, trailing_mask_l, run_in_chunk_le, run_in_chunk_fails, run_in_chunk_stops, length-chunk, get_or-chunk}
 use lib.Count.{count_trailing_zeros}
 use lib.Lanes.{chunk, mask_l}
 use Rattle.p21_tokens_automaton.specs.Run.{AreOf, is_of, is_other}
@@ -10,6 +11,19 @@ use Rattle.p21_tokens_automaton.specs.declared.run.Class.{Class}
 of-class : (b : Bool) → not b ≡ false → b ≡ true
 of-class true h = refl
 of-class false h = absurd cc
+
+not-of-class : (b : Bool) → not b ≡ true → b ≡ false
+not-of-class true h = absurd cc
+not-of-class false h = refl
+
+first-set : (b : Bool) (n m l : ℕ) → 0 < cond b 1 0 + 2 * n → (0 < n → m < l) → cond (not b) (1 + m) 0 < suc l
+first-set true n m l some f = omega arith
+first-set false n m l some f = omega (arith, f (omega arith))
+
+-- where a bit is set, not all lanes come before the first of them
+some-short : (p : ℕ → Bool) (xs : List ℕ) → 0 < mask_l (map p xs) → prefix_len (λ x. not (p x)) xs < length xs
+some-short p [] some = absurd (omega arith)
+some-short p (x ∷ xs) some = first-set (p x) (mask_l (map p xs)) (prefix_len (λ y. not (p y)) xs) (length xs) some (some-short p xs)
 
 module _ (class : Class) (bytes : List ℕ) (count : ℕ) (known : AreOf class bytes count) where
   more : (n : ℕ) → count + n ≤ length bytes → ((k : ℕ) → count ≤ k → k < count + n → is_other class (slice_index bytes k) ≡ false) → AreOf class bytes (count + n)
@@ -33,6 +47,16 @@ module _ (class : Class) (bytes : List ℕ) (count : ℕ) (known : AreOf class b
       let within = run_in_chunk_le (is_other class) bytes count 32 n 0 room counted in
       more n (omega arith) (λ k l m. run_in_chunk_fails (is_other class) bytes count 32 n 0 room counted k l m)
 
+  -- the first other one of a row
+  pub some-ends : count + 32 ≤ length bytes → 0 < mask_l (map (is_other class) (chunk count 32 bytes)) → is_of class (slice_index bytes (count + count_trailing_zeros 64 (mask_l (map (is_other class) (chunk count 32 bytes))))) ≡ false
+  some-ends room some =
+      let row = chunk count 32 bytes in
+      let long : length row ≡ 32 = length-chunk count 32 bytes room in
+      let n = count_trailing_zeros 64 (mask_l (map (is_other class) row)) in
+      let counted = trailing_mask_l (is_other class) 64 row (omega (arith, long)) some in
+      let short : n < 32 = omega (arith, counted, long, some-short (is_other class) row some) in
+      not-of-class _ (run_in_chunk_stops (is_other class) bytes count 32 n 0 room counted short)
+
   -- those at the front of what is left
   pub few-more : (n : ℕ) → AreOf class (chunk count (length bytes - count) bytes) n → AreOf class bytes (count + n)
   few-more n h =
@@ -45,3 +69,11 @@ module _ (class : Class) (bytes : List ℕ) (count : ℕ) (known : AreOf class b
       let e : count + j ≡ k = omega arith in
       let at = h.each j (omega arith) in
       ap not (ap (is_of class) (sym (get_or-chunk count left bytes j 0 (omega arith) ∙ ap (slice_index bytes) e)) ∙ at))
+
+  -- the first other one of what is left
+  pub few-ends : (n : ℕ) → (n < length (chunk count (length bytes - count) bytes) → is_of class (slice_index (chunk count (length bytes - count) bytes) n) ≡ false) → count + n < length bytes → is_of class (slice_index bytes (count + n)) ≡ false
+  few-ends n h l =
+      let left : ℕ = length bytes - count in
+      let i = known.within in
+      let size : length (chunk count left bytes) ≡ left = length-chunk count left bytes (omega arith) in
+      ap (is_of class) (sym (get_or-chunk count left bytes n 0 (omega arith))) ∙ h (omega (arith, size))

@@ -1,4 +1,4 @@
-ghost use Rattle.std.specs.Prelude.{◌≡◌};
+ghost use Rattle.std.specs.Prelude.{◌≡◌, ◌<◌, false, length, slice_index};
 ghost use Rattle.p21_tokens_automaton.specs.Run.{IsRun, AreOf, is_of};
 ghost use Rattle.p21_tokens_automaton.specs.declared.mode.Mode.TheVariants.{Name, Text};
 ghost use Rattle.p21_tokens_automaton.specs.declared.mode.NameMode.TheVariants.{Digits};
@@ -103,7 +103,8 @@ fn is_of(class: Class, byte: u8) -> bool
 /// How many bytes at the front are of the class, where there is often none.
 #[inline]
 fn front(class: Class, bytes: &[u8]) -> usize
-    ensures { AreOf class bytes.now result }
+    ensures are { AreOf class bytes.now result }
+    ensures ends { result < length bytes.now → is_of class (slice_index bytes.now result) ≡ false }
 {
     match bytes.first() {
         None => 0,
@@ -119,7 +120,8 @@ fn front(class: Class, bytes: &[u8]) -> usize
 /// How many bytes at the front are of the class, where there are often few.
 #[inline(always)]
 pub(crate) fn short_front(class: Class, bytes: &[u8]) -> usize
-    ensures { AreOf class bytes.now result }
+    ensures are { AreOf class bytes.now result }
+    ensures ends { result < length bytes.now → is_of class (slice_index bytes.now result) ≡ false }
 {
     let mut count = 0;
     while count < bytes.len() && is_of(class, bytes[count]) {

@@ -1,4 +1,4 @@
-ghost use Rattle.std.specs.Prelude.{◌≡◌, IsTrue};
+ghost use Rattle.std.specs.Prelude.{◌≡◌, ◌&&◌, nat_le, IsTrue};
 ghost use Rattle.p21_tokens_automaton.specs.Bytes.{is_hex};
 ghost use Rattle.p21_tokens_automaton.specs.Step.{text_action, inside_action, utf8_action, utf8_value, utf8_last_action, directive, backslash_action, page_action, hex_mark_action, arbitrary_action, arbitrary_second_action, put_scalar, first2_action, group_value, digits2_action, group2, low_first_action, low_digits_action, low_group, first4_action, digits4_action};
 
@@ -276,11 +276,18 @@ fn low_digits_action(high: u16, count: u8, value: u16, byte: u8) -> Action
     }
 }
 
+/// Whether it is a low surrogate.
+fn is_low(value: u16) -> bool
+    ensures { result ≡ (nat_le 0xDC00 value && nat_le value 0xDFFF) }
+{
+    0xDC00 <= value && value <= 0xDFFF
+}
+
 /// A whole group behind a high surrogate.
 fn low_group(high: u16, value: u16) -> Action
     ensures { result ≡ low_group high value }
 {
-    if value < 0xDC00 || 0xDFFF < value {
+    if !is_low(value) {
         return Action::Refuse(Wrong::CodePoint);
     }
     put_scalar(

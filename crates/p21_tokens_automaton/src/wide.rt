@@ -1,7 +1,7 @@
 //! Bytes of a class, tested 32 at a time.
-ghost use Rattle.std.specs.Prelude.{◌≡◌, map};
+ghost use Rattle.std.specs.Prelude.{◌≡◌, ◌<◌, false, length, map, slice_index};
 ghost use Rattle.std.specs.Simd.Lanes.{mask_l};
-ghost use Rattle.p21_tokens_automaton.specs.Run.{AreOf, is_other};
+ghost use Rattle.p21_tokens_automaton.specs.Run.{AreOf, is_of, is_other};
 ghost use Rattle.p21_tokens_automaton.specs.declared.run.Class.TheVariants.{Blank, Commented, Digit, KeywordByte, HexDigit, Plain, CharacterByte};
 
 use crate::run::{Class, short_front};
@@ -10,7 +10,8 @@ use std::simd::prelude::*;
 /// How many bytes at the front are of the class. Inlined, so that each class has a loop of its own.
 #[inline(always)]
 pub(crate) fn long_front(class: Class, bytes: &[u8]) -> usize
-    ensures { AreOf class bytes.now result }
+    ensures are { AreOf class bytes.now result }
+    ensures ends { result < length bytes.now → is_of class (slice_index bytes.now result) ≡ false }
 {
     let mut count = 0;
     while bytes.len() - count >= 32 {

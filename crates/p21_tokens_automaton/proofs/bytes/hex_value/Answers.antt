@@ -1,4 +1,4 @@
-use Rattle.std.proofs.Common.{◌≡◌, ◌<◌, ℕ, List, [], ◌∷◌, slice_index, ap, sym, subst, ◌∙◌}
+use Rattle.std.proofs.Common.{◌≡◌, ◌<◌, ℕ, List, slice_index, ap, sym, subst, ◌∙◌}
 use Rattle.p21_tokens_automaton.specs.Bytes.{hex_value}
 use Rattle.p21_tokens_automaton.proofs.Decoded.{digit-decodes, digit-small, one-byte, not-refused}
 use Rattle.p21_tokens_automaton.proofs.bytes.hex_value.Goals as goal

@@ -1,4 +1,4 @@
-use Rattle.std.proofs.Common.{◌≡◌, ℕ, ◌+◌, ◌-◌, ◌*◌, subst, sym, ap, ◌∙◌, arith, slice_index, true}
+use Rattle.std.proofs.Common.{◌≡◌, ℕ, ◌+◌, ◌*◌, subst, sym, ◌∙◌, arith, slice_index, true}
 use Rattle.p21_tokens_automaton.specs.Bytes.{is_digit}
 use Rattle.p21_tokens_automaton.specs.Run.{AreNameDigits}
 use Rattle.p21_tokens_automaton.specs.declared.mode.Mode.TheVariants.{Name}

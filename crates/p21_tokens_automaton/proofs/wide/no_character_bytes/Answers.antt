@@ -2,7 +2,7 @@ use Rattle.std.proofs.Common.{bit_or, arith}
 use Rattle.std.proofs.lemmas.Simd.{zip2_of_maps, splat_is_map}
 use Rattle.p21_tokens_automaton.specs.Run.{is_other}
 use Rattle.p21_tokens_automaton.specs.declared.run.Class.TheVariants.{CharacterByte}
-use Rattle.p21_tokens_automaton.proofs.Lanes.{equal, below, at_most, itself, mask-tests}
+use Rattle.p21_tokens_automaton.proofs.Lanes.{equal, below, itself, mask-tests}
 use Rattle.p21_tokens_automaton.proofs.wide.no_character_bytes.Goals as goal
 
 pub returns : goal.returns
