@@ -12,12 +12,12 @@ use Rattle.p21_semantics.specs.Token.{Token, begin, finish, keyword, user_keywor
 use Rattle.p21_tokens_automaton.proofs.Complete.{all_of-after}
 use Rattle.p21_tokens_automaton.proofs.Sound.{TailIs}
 use Rattle.p21_tokens_automaton.proofs.Steps.{lex-nil}
-use Rattle.p21_tokens_automaton.proofs.Theorems.{laid_read, tail-is, laid-up-to, size-is}
+use Rattle.p21_tokens_automaton.proofs.Theorems.{laid_read, tail-is, tail-ends, laid-up-to, size-is}
 use Rattle.std.proofs.lemmas.Bool.{cond_both}
 use Rattle.std.proofs.lemmas.Bool.Decides.{nat_tests}
 use Rattle.p21_tokens_automaton.specs.Bytes.{is_blank, is_digit, is_upper}
 use Rattle.p21_tokens_automaton.specs.Step.{advance, mark_action}
-use Rattle.p21_tokens_automaton.specs.declared.mode.Action.TheVariants.{Pass, Keep, Refuse}
+use Rattle.p21_tokens_automaton.specs.declared.mode.Action.TheVariants.{Pass, Keep, End, Refuse}
 use Rattle.p21_tokens_automaton.specs.declared.mode.Mode.TheVariants.{Between, Slash, Comment, Star, Number, Word}
 use Rattle.p21_tokens_automaton.specs.declared.mode.NumberMode.TheVariants as number_mode
 use Rattle.p21_tokens_automaton.specs.declared.mode.WordMode.TheVariants as word_mode
@@ -327,11 +327,11 @@ star-byte byte = cond_both (eqb byte 47) (Pass Between) (cond (eqb byte 42) (Pas
     (λ _. cond_both (eqb byte 42) (Pass Star) (Pass Comment) (λ a. is_token_byte Star a ≡ true → ⊥) (λ _ c. absurd cc) (λ _ c. absurd cc))
 
 -- a byte that counts, by what stands in front of it
-counts-byte : (v : Held) (tail : Tail) (byte : ℕ) → TailIs (state_of v) tail → is_token_byte v.mode (advance v.mode byte) ≡ true → IsTokenByte tail byte
-counts-byte v nothing byte t c = between-byte byte (ap (λ (s : State). is_token_byte s.mode (advance s.mode byte)) (sym t) ∙ c)
-counts-byte v (unfinished bytes) byte t c = tt
-counts-byte v slash byte t c = slash-byte byte (ap (λ (s : State). is_token_byte s.mode (advance s.mode byte)) (sym t) ∙ c)
-counts-byte v (open_comment inside) byte t c = elim t.0 [
+counts-byte : (v : Held) (tail : Tail) (byte : ℕ) → TailIs (state_of v) tail → is_token_byte v.mode (advance v.mode byte) ≡ true → advance v.mode byte ≢ End → IsTokenByte tail byte
+counts-byte v nothing byte t c n = between-byte byte (ap (λ (s : State). is_token_byte s.mode (advance s.mode byte)) (sym t) ∙ c)
+counts-byte v (unfinished bytes) byte t c n = λ token s f. absurd (n (tail-ends (state_of v) bytes t token byte s f))
+counts-byte v slash byte t c n = slash-byte byte (ap (λ (s : State). is_token_byte s.mode (advance s.mode byte)) (sym t) ∙ c)
+counts-byte v (open_comment inside) byte t c n = elim t.0 [
   | inl q ↦ comment-byte byte (ap (λ (s : State). is_token_byte s.mode (advance s.mode byte)) (sym q) ∙ c)
   | inr q ↦ star-byte byte (ap (λ (s : State). is_token_byte s.mode (advance s.mode byte)) (sym q) ∙ c)
 ]
@@ -341,15 +341,15 @@ module _ (v w : Held) (h : TokenHistory) (piece : List ℕ) (live : IsLive v h) 
   front-live : IsLive middle (record { taken = h.taken ++ take count piece; seen = seen_behind h.seen (take count piece) None; given = h.given ++ []; refusal = None })
   front-live = live-none v middle h (take count piece) live (offered-front h.seen piece count o) same run
 
-  full : middle.statement_limit ≤ pending_of middle → is_token_byte middle.mode (advance middle.mode byte) ≡ true → IsStatementFull v.statement_limit (h.taken ++ take count piece) byte
-  full l c =
+  full : middle.statement_limit ≤ pending_of middle → is_token_byte middle.mode (advance middle.mode byte) ≡ true → advance middle.mode byte ≢ End → IsStatementFull v.statement_limit (h.taken ++ take count piece) byte
+  full l c n =
       let u = live-laid middle _ front-live in
       record {
         lexemes = front-live.lexemes;
         tail = u.0;
         laid = laid-up-to (h.taken ++ take count piece) front-live.lexemes u.0 u.1 (tail-is (state_of middle) u.0 u.2);
-        full = let n = front-live.statement_is in let k = size-is (state_of middle) u.0 u.2 in let m = same.statement_limit in omega arith;
-        counts = counts-byte middle u.0 byte u.2 c;
+        full = let i = front-live.statement_is in let k = size-is (state_of middle) u.0 u.2 in let m = same.statement_limit in omega arith;
+        counts = counts-byte middle u.0 byte u.2 c n;
       }
 
   taken-length : length (h.taken ++ take (count + 1) piece) ≡ length h.taken + (count + 1)
@@ -379,7 +379,7 @@ module _ (v w : Held) (h : TokenHistory) (piece : List ℕ) (live : IsLive v h) 
   pub refuses-byte : (x : TokenFault) → RefusesByte middle byte x → Refuses v h piece count x
   refuses-byte fault.NoMemory r = tt
   refuses-byte fault.FileTooLong r = let a = taken-length in let b = middle-file in let c = same.file_limit in omega arith
-  refuses-byte fault.RecordTooLong r = (byte, found, full r.0 r.1, (let a = taken-length in let b = middle-file in let c = same.file_limit in let d = r.2 in omega arith))
+  refuses-byte fault.RecordTooLong r = (byte, found, full r.0 r.1 r.2, (let a = taken-length in let b = middle-file in let c = same.file_limit in let d = r.3 in omega arith))
   refuses-byte fault.OpenString r = r
   refuses-byte fault.OpenComment r = r
   refuses-byte fault.NotOneParameter r = r

@@ -1,12 +1,12 @@
 -- What the parts of the lexer owe: how a byte, a run of bytes and a piece change what is held.
-use Rattle.std.specs.Prelude.{◌≡◌, ℕ, ◌+◌, ◌≤◌, ◌<◌, Bool, true, false, if◌then◌else◌, List, [], ◌∷◌, ◌++◌, length, take, slice_get, Option, Some, None, Result, Ok, Err}
+use Rattle.std.specs.Prelude.{◌≡◌, ◌≢◌, ℕ, ◌+◌, ◌≤◌, ◌<◌, Bool, true, false, if◌then◌else◌, List, [], ◌∷◌, ◌++◌, length, take, slice_get, Option, Some, None, Result, Ok, Err}
 use Rattle.std.specs.Option.{option_map}
 use Rattle.p21_semantics.specs.Token as meaning
 use Rattle.p21_semantics.specs.Laying.{Lexeme, count_behind}
 use Rattle.p21_tokens_automaton.specs.declared.mode.Mode.{Mode}
 use Rattle.p21_tokens_automaton.specs.declared.mode.Mode.TheVariants.{Between, Slash, Comment, Star}
 use Rattle.p21_tokens_automaton.specs.declared.mode.Action.{Action}
-use Rattle.p21_tokens_automaton.specs.declared.mode.Action.TheVariants.{Pass, Refuse}
+use Rattle.p21_tokens_automaton.specs.declared.mode.Action.TheVariants.{Pass, End, Refuse}
 use Rattle.p21_tokens_automaton.specs.Bytes.{is_blank}
 use Rattle.p21_tokens_automaton.specs.Meaning.{Means, MeanAll}
 use Rattle.p21_tokens_automaton.specs.Reading.{start, Answer, Found, Sized, ended, ended_in, closed, closing, before, all_of, lex}
@@ -101,7 +101,8 @@ Ends old (Err fault) new = ReadsFound (ended (state_of old)) (Err fault) × Same
 abbrev pub RefusesByte : Held → ℕ → TokenFault → Type 0
 RefusesByte held byte NoMemory = is_gap held.mode ≡ true → is_blank byte ≡ true → ⊥
 RefusesByte held byte FileTooLong = held.file_limit ≤ held.file
-RefusesByte held byte RecordTooLong = (held.statement_limit ≤ pending_of held) × (is_token_byte held.mode (advance held.mode byte) ≡ true) × (held.file < held.file_limit)
+RefusesByte held byte RecordTooLong =
+    (held.statement_limit ≤ pending_of held) × (is_token_byte held.mode (advance held.mode byte) ≡ true) × (advance held.mode byte ≢ End) × (held.file < held.file_limit)
 RefusesByte held byte OpenString = ⊥
 RefusesByte held byte OpenComment = ⊥
 RefusesByte held byte NotOneParameter = ⊥

@@ -1,18 +1,20 @@
 -- The two theorems that join the reading to the tokens laid in bytes, and what follows of them.
 use Rattle.std.proofs.Common.{◌≡◌, ℕ, ◌+◌, List, [], ◌∷◌, ◌++◌, ◌⊎◌, inl, inr, length, length-append, refl, sym, ap, ◌∙◌, subst, append_assoc, append-nil, Some, arith}
 use Rattle.std.proofs.lemmas.Bool.{ne_eqb}
-use Rattle.p21_semantics.specs.Token.{Token, begin, finish, keyword, user_keyword, name, whole, real, text, item, bits, left, right, comma, semicolon, equals, dollar, star, Spells, IsWholeAtOnce}
+use Rattle.p21_semantics.specs.Token.{Token, begin, finish, keyword, user_keyword, name, whole, real, text, item, bits, left, right, comma, semicolon, equals, dollar, star, Spells, MayFollow, IsWholeAtOnce}
 use Rattle.p21_semantics.specs.Laying.{Lexeme, LaidAs, Laid, tokens_in}
 use Rattle.p21_semantics.specs.Pending.{Tail, nothing, unfinished, slash, open_comment, tail_bytes, tail_size, IsKnownWhole, IsTail, LaidUpTo}
 use Rattle.p21_tokens_automaton.specs.Meaning.{MeanAll, found_of}
 use Rattle.p21_tokens_automaton.specs.Reading.{State, start, skip, Answer, nothing_but, open_at, before, Sized, all_of, lex}
+use Rattle.p21_tokens_automaton.specs.Step.{advance}
+use Rattle.p21_tokens_automaton.specs.declared.mode.Action.TheVariants.{End}
 use Rattle.p21_tokens_automaton.specs.declared.mode.Mode.TheVariants.{Text}
 use Rattle.p21_tokens_automaton.specs.declared.mode.TextMode.TheVariants as text_mode
 use Rattle.p21_tokens_automaton.specs.declared.mode.Single.TheVariants as single
 use Rattle.p21_tokens_automaton.proofs.Complete.{laid-read}
 use Rattle.p21_tokens_automaton.proofs.Once.{means-once, spells-means}
 use Rattle.p21_tokens_automaton.proofs.Sound.{LaidTo, TailIs, UpTo, read, read-laid}
-use Rattle.p21_tokens_automaton.proofs.Steps.{lex-skip, lex-end}
+use Rattle.p21_tokens_automaton.proofs.Steps.{lex-nil, lex-skip, lex-end}
 use Rattle.p21_tokens_automaton.proofs.TextRuns.{text-run}
 use Rattle.p21_tokens_automaton.proofs.TextSound.{text-fits, text-ends}
 use Rattle.p21_tokens_automaton.proofs.TokenRuns.{token-readings, item-run, bits-run, single-run}
@@ -80,6 +82,16 @@ tail-is e (unfinished bytes) t = record {
   first = t.3;
   not_whole = λ token spelling rest q s k. gives token spelling rest e s k (ap (λ (x : List ℕ). lex start x) (sym q) ∙ t.2);
 }
+
+same-open : (s e : State) → nothing_but (open_at s) ≡ nothing_but (open_at e) → s ≡ e
+same-open s e q = let p : open_at s ≡ open_at e = ap (λ (a : Answer). a.ending) q in cc
+
+-- a byte that may follow the token which the tail spells ends it
+pub tail-ends : (e : State) (bytes : List ℕ) → TailIs e (unfinished bytes) → (token : Token) (byte : ℕ) → Spells token bytes → MayFollow token bytes byte → advance e.mode byte ≡ End
+tail-ends e bytes t token byte s f = elim (readings token bytes s) [
+  | inl w ↦ subst (λ (x : State). advance x.mode byte ≡ End) (same-open w.state e (sym (lex-nil w.state) ∙ (sym (w.reaches []) ∙ (ap (λ (x : List ℕ). lex start x) (append-nil bytes) ∙ t.2)))) (w.ends byte f)
+  | inr g ↦ absurd (not-given _ _ e (sym (g.run []) ∙ (ap (λ (x : List ℕ). lex start x) (append-nil bytes) ∙ t.2)))
+]
 
 pub laid-up-to : (bytes : List ℕ) (lexemes : List Lexeme) (tail : Tail) → LaidTo bytes lexemes (tail_bytes tail) → IsTail tail → LaidUpTo bytes lexemes tail
 laid-up-to bytes [] tail l t = (l.0, l.1, l.2, t)
