@@ -1,4 +1,5 @@
 mod behind;
+mod file;
 mod limits;
 mod texts;
 
