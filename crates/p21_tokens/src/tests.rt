@@ -216,59 +216,62 @@ fn gives_a_last_number_at_the_end(rt: HostRuntime) -> Result<(), Fail> {
     Ok(())
 }
 
+/// Pieces, and what is pending behind each.
+const PENDING: &[(&[u8], u64)] = &[
+    (b"", 0),
+    (b"#", 1),
+    (b"1", 2),
+    (b" ", 2),
+    (b"=", 3),
+    (b"/", 3),
+    (b"*c", 3),
+    (b"*", 3),
+    (b"/", 3),
+    (b"A", 4),
+    (b"(", 5),
+    (b"'a", 7),
+    (b"\n", 8),
+    (b"'", 9),
+    (b")", 10),
+    (b";", 0),
+    (b"!A%", 2),
+];
+
 #[test]
 fn counts_pending_bytes(rt: HostRuntime) -> Result<(), Fail> {
-    let rows: [(&[u8], u64); 17] = [
-        (b"", 0),
-        (b"#", 1),
-        (b"1", 2),
-        (b" ", 2),
-        (b"=", 3),
-        (b"/", 3),
-        (b"*c", 3),
-        (b"*", 3),
-        (b"/", 3),
-        (b"A", 4),
-        (b"(", 5),
-        (b"'a", 7),
-        (b"\n", 8),
-        (b"'", 9),
-        (b")", 10),
-        (b";", 0),
-        (b"!A%", 2),
-    ];
     let mut reader = Reader::new(rt.alloc(), Limits::usual());
-    for (piece, pending) in rows {
+    for (piece, pending) in PENDING {
         reader.feed(piece)?;
-        assert_eq!(rt; reader.lexer.pending(), pending, "behind {:?}", piece);
+        assert_eq!(rt; reader.lexer.pending(), *pending, "behind {:?}", piece);
     }
     assert_eq!(rt; reader.refused, Some(TokenFault::BadByte));
     Ok(())
 }
 
+const FAULTS: &[(TokenFault, u8, &str)] = &[
+    (TokenFault::BadByte, 1, "BadByte"),
+    (TokenFault::OpenString, 2, "OpenString"),
+    (TokenFault::OpenComment, 3, "OpenComment"),
+    (TokenFault::BadDirective, 4, "BadDirective"),
+    (TokenFault::BadCodePoint, 5, "BadCodePoint"),
+    (TokenFault::NotUtf8, 6, "NotUtf8"),
+    (TokenFault::BadNumber, 7, "BadNumber"),
+    (TokenFault::NumberRange, 8, "NumberRange"),
+    (TokenFault::BadBinary, 9, "BadBinary"),
+    (TokenFault::NameRange, 10, "NameRange"),
+    (TokenFault::BadName, 11, "BadName"),
+    (TokenFault::NotOneParameter, 12, "NotOneParameter"),
+    (TokenFault::RecordTooLong, 22, "RecordTooLong"),
+    (TokenFault::FileTooLong, 23, "FileTooLong"),
+    (TokenFault::EndsEarly, 24, "EndsEarly"),
+    (TokenFault::LeftOut(Absent::Scope), 26, "LeftOut(Scope)"),
+    (TokenFault::NoMemory, 90, "NoMemory"),
+];
+
 #[test]
 fn names_faults(rt: HostRuntime) {
-    let rows = [
-        (TokenFault::BadByte, 1, "BadByte"),
-        (TokenFault::OpenString, 2, "OpenString"),
-        (TokenFault::OpenComment, 3, "OpenComment"),
-        (TokenFault::BadDirective, 4, "BadDirective"),
-        (TokenFault::BadCodePoint, 5, "BadCodePoint"),
-        (TokenFault::NotUtf8, 6, "NotUtf8"),
-        (TokenFault::BadNumber, 7, "BadNumber"),
-        (TokenFault::NumberRange, 8, "NumberRange"),
-        (TokenFault::BadBinary, 9, "BadBinary"),
-        (TokenFault::NameRange, 10, "NameRange"),
-        (TokenFault::BadName, 11, "BadName"),
-        (TokenFault::NotOneParameter, 12, "NotOneParameter"),
-        (TokenFault::RecordTooLong, 22, "RecordTooLong"),
-        (TokenFault::FileTooLong, 23, "FileTooLong"),
-        (TokenFault::EndsEarly, 24, "EndsEarly"),
-        (TokenFault::LeftOut(Absent::Scope), 26, "LeftOut(Scope)"),
-        (TokenFault::NoMemory, 90, "NoMemory"),
-    ];
-    for (fault, number, name) in rows {
-        assert_eq!(rt; fault.number(), number);
-        assert_eq!(rt; fault.name(), name);
+    for (fault, number, name) in FAULTS {
+        assert_eq!(rt; fault.number(), *number);
+        assert_eq!(rt; fault.name(), *name);
     }
 }
