@@ -189,16 +189,31 @@ fn expect_refused(
     Ok(())
 }
 
+/// Looks that so many bytes of a piece are taken, and what is given with them.
+fn expect_next(
+    rt: &impl Abort,
+    alloc: Global,
+    lexer: &mut Lexer,
+    piece: &[u8],
+    taken: usize,
+    given: &[u8],
+) -> Result<(), Fail> {
+    let (count, token) = lexer.next(piece)?;
+    assert_eq!(rt; count, taken);
+    let mut out = Vec::new(alloc);
+    if let Some(token) = token {
+        spell(&token, &mut out)?;
+    }
+    assert_eq!(rt; out.as_slice(), given);
+    Ok(())
+}
+
 #[test]
 fn reads_a_real_by_pieces(rt: HostRuntime) -> Result<(), Fail> {
     let mut lexer = Lexer::new(rt.alloc(), Limits::usual());
-    assert!(rt; matches!(lexer.next(b"1.E"), Ok((3, None))));
-    let (taken, token) = lexer.next(b"2)")?;
-    assert_eq!(rt; taken, 1);
-    let mut out = Vec::new(rt.alloc());
-    spell(&token.ok_or("no token")?, &mut out)?;
-    assert_eq!(rt; out.as_slice(), b"1.E2".as_slice());
-    assert!(rt; matches!(lexer.next(b")"), Ok((1, Some(Token::Right)))));
+    expect_next(&rt, rt.alloc(), &mut lexer, b"1.E", 3, b"")?;
+    expect_next(&rt, rt.alloc(), &mut lexer, b"2)", 1, b"1.E2")?;
+    expect_next(&rt, rt.alloc(), &mut lexer, b")", 1, b")")?;
     assert!(rt; matches!(lexer.finish(), Ok(None)));
     Ok(())
 }
@@ -206,7 +221,7 @@ fn reads_a_real_by_pieces(rt: HostRuntime) -> Result<(), Fail> {
 #[test]
 fn gives_a_last_number_at_the_end(rt: HostRuntime) -> Result<(), Fail> {
     let mut lexer = Lexer::new(rt.alloc(), Limits::usual());
-    assert!(rt; matches!(lexer.next(b"12"), Ok((2, None))));
+    expect_next(&rt, rt.alloc(), &mut lexer, b"12", 2, b"")?;
     let mut out = Vec::new(rt.alloc());
     let Some(Token::Whole(number)) = lexer.finish()? else {
         return Err("no whole number".into());
