@@ -1,4 +1,5 @@
 mod behind;
+mod file;
 mod limits;
 mod texts;
 
@@ -188,16 +189,31 @@ fn expect_refused(
     Ok(())
 }
 
+/// Looks that so many bytes of a piece are taken, and what is given with them.
+fn expect_next(
+    rt: &impl Abort,
+    alloc: Global,
+    lexer: &mut Lexer,
+    piece: &[u8],
+    taken: usize,
+    given: &[u8],
+) -> Result<(), Fail> {
+    let (count, token) = lexer.next(piece)?;
+    assert_eq!(rt; count, taken);
+    let mut out = Vec::new(alloc);
+    if let Some(token) = token {
+        spell(&token, &mut out)?;
+    }
+    assert_eq!(rt; out.as_slice(), given);
+    Ok(())
+}
+
 #[test]
 fn reads_a_real_by_pieces(rt: HostRuntime) -> Result<(), Fail> {
     let mut lexer = Lexer::new(rt.alloc(), Limits::usual());
-    assert!(rt; matches!(lexer.next(b"1.E"), Ok((3, None))));
-    let (taken, token) = lexer.next(b"2)")?;
-    assert_eq!(rt; taken, 1);
-    let mut out = Vec::new(rt.alloc());
-    spell(&token.ok_or("no token")?, &mut out)?;
-    assert_eq!(rt; out.as_slice(), b"1.E2".as_slice());
-    assert!(rt; matches!(lexer.next(b")"), Ok((1, Some(Token::Right)))));
+    expect_next(&rt, rt.alloc(), &mut lexer, b"1.E", 3, b"")?;
+    expect_next(&rt, rt.alloc(), &mut lexer, b"2)", 1, b"1.E2")?;
+    expect_next(&rt, rt.alloc(), &mut lexer, b")", 1, b")")?;
     assert!(rt; matches!(lexer.finish(), Ok(None)));
     Ok(())
 }
@@ -205,7 +221,7 @@ fn reads_a_real_by_pieces(rt: HostRuntime) -> Result<(), Fail> {
 #[test]
 fn gives_a_last_number_at_the_end(rt: HostRuntime) -> Result<(), Fail> {
     let mut lexer = Lexer::new(rt.alloc(), Limits::usual());
-    assert!(rt; matches!(lexer.next(b"12"), Ok((2, None))));
+    expect_next(&rt, rt.alloc(), &mut lexer, b"12", 2, b"")?;
     let mut out = Vec::new(rt.alloc());
     let Some(Token::Whole(number)) = lexer.finish()? else {
         return Err("no whole number".into());
@@ -215,59 +231,62 @@ fn gives_a_last_number_at_the_end(rt: HostRuntime) -> Result<(), Fail> {
     Ok(())
 }
 
+/// Pieces, and what is pending behind each.
+const PENDING: &[(&[u8], u64)] = &[
+    (b"", 0),
+    (b"#", 1),
+    (b"1", 2),
+    (b" ", 2),
+    (b"=", 3),
+    (b"/", 3),
+    (b"*c", 3),
+    (b"*", 3),
+    (b"/", 3),
+    (b"A", 4),
+    (b"(", 5),
+    (b"'a", 7),
+    (b"\n", 8),
+    (b"'", 9),
+    (b")", 10),
+    (b";", 0),
+    (b"!A%", 2),
+];
+
 #[test]
 fn counts_pending_bytes(rt: HostRuntime) -> Result<(), Fail> {
-    let rows: [(&[u8], u64); 17] = [
-        (b"", 0),
-        (b"#", 1),
-        (b"1", 2),
-        (b" ", 2),
-        (b"=", 3),
-        (b"/", 3),
-        (b"*c", 3),
-        (b"*", 3),
-        (b"/", 3),
-        (b"A", 4),
-        (b"(", 5),
-        (b"'a", 7),
-        (b"\n", 8),
-        (b"'", 9),
-        (b")", 10),
-        (b";", 0),
-        (b"!A%", 2),
-    ];
     let mut reader = Reader::new(rt.alloc(), Limits::usual());
-    for (piece, pending) in rows {
+    for (piece, pending) in PENDING {
         reader.feed(piece)?;
-        assert_eq!(rt; reader.lexer.pending(), pending, "behind {:?}", piece);
+        assert_eq!(rt; reader.lexer.pending(), *pending, "behind {:?}", piece);
     }
     assert_eq!(rt; reader.refused, Some(TokenFault::BadByte));
     Ok(())
 }
 
+const FAULTS: &[(TokenFault, u8, &str)] = &[
+    (TokenFault::BadByte, 1, "BadByte"),
+    (TokenFault::OpenString, 2, "OpenString"),
+    (TokenFault::OpenComment, 3, "OpenComment"),
+    (TokenFault::BadDirective, 4, "BadDirective"),
+    (TokenFault::BadCodePoint, 5, "BadCodePoint"),
+    (TokenFault::NotUtf8, 6, "NotUtf8"),
+    (TokenFault::BadNumber, 7, "BadNumber"),
+    (TokenFault::NumberRange, 8, "NumberRange"),
+    (TokenFault::BadBinary, 9, "BadBinary"),
+    (TokenFault::NameRange, 10, "NameRange"),
+    (TokenFault::BadName, 11, "BadName"),
+    (TokenFault::NotOneParameter, 12, "NotOneParameter"),
+    (TokenFault::RecordTooLong, 22, "RecordTooLong"),
+    (TokenFault::FileTooLong, 23, "FileTooLong"),
+    (TokenFault::EndsEarly, 24, "EndsEarly"),
+    (TokenFault::LeftOut(Absent::Scope), 26, "LeftOut(Scope)"),
+    (TokenFault::NoMemory, 90, "NoMemory"),
+];
+
 #[test]
 fn names_faults(rt: HostRuntime) {
-    let rows = [
-        (TokenFault::BadByte, 1, "BadByte"),
-        (TokenFault::OpenString, 2, "OpenString"),
-        (TokenFault::OpenComment, 3, "OpenComment"),
-        (TokenFault::BadDirective, 4, "BadDirective"),
-        (TokenFault::BadCodePoint, 5, "BadCodePoint"),
-        (TokenFault::NotUtf8, 6, "NotUtf8"),
-        (TokenFault::BadNumber, 7, "BadNumber"),
-        (TokenFault::NumberRange, 8, "NumberRange"),
-        (TokenFault::BadBinary, 9, "BadBinary"),
-        (TokenFault::NameRange, 10, "NameRange"),
-        (TokenFault::BadName, 11, "BadName"),
-        (TokenFault::NotOneParameter, 12, "NotOneParameter"),
-        (TokenFault::RecordTooLong, 22, "RecordTooLong"),
-        (TokenFault::FileTooLong, 23, "FileTooLong"),
-        (TokenFault::EndsEarly, 24, "EndsEarly"),
-        (TokenFault::LeftOut(Absent::Scope), 26, "LeftOut(Scope)"),
-        (TokenFault::NoMemory, 90, "NoMemory"),
-    ];
-    for (fault, number, name) in rows {
-        assert_eq!(rt; fault.number(), number);
-        assert_eq!(rt; fault.name(), name);
+    for (fault, number, name) in FAULTS {
+        assert_eq!(rt; fault.number(), *number);
+        assert_eq!(rt; fault.name(), *name);
     }
 }

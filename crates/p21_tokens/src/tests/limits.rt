@@ -1,27 +1,31 @@
 use super::*;
 
+/// The limits on a statement and on the file, the text, and the answers.
+type Rows = &'static [(u64, u64, &'static str, &'static str)];
+
 fn small(record: u64, file: u64) -> Result<Limits, Fail> {
     Ok(Limits::new(record, record, file, file).ok_or("no limits")?)
 }
 
+const KEPT: Rows = &[
+    (5, 10, "12 /**/34;", "12 34 ;"),
+    (5, 10, "1234;1234;", "1234 ; 1234 ;"),
+    (5, 10, "     1234;", "1234 ;"),
+    (5, 10, "12345/**/", "12345"),
+    (5, 10, "12345/", "12345 end EndsEarly"),
+    (5, 10, "'a\n\n'", "'a'"),
+    (5, 10, "/*45678*/", ""),
+    (2, 3, "12 ", "12"),
+    (0, 4, "/**/", ""),
+];
+
 #[test]
 fn keeps_to_the_limits(rt: HostRuntime) -> Result<(), Fail> {
-    let rows: [(u64, u64, &str, &str); 9] = [
-        (5, 10, "12 /**/34;", "12 34 ;"),
-        (5, 10, "1234;1234;", "1234 ; 1234 ;"),
-        (5, 10, "     1234;", "1234 ;"),
-        (5, 10, "12345/**/", "12345"),
-        (5, 10, "12345/", "12345 end EndsEarly"),
-        (5, 10, "'a\n\n'", "'a'"),
-        (5, 10, "/*45678*/", ""),
-        (2, 3, "12 ", "12"),
-        (0, 4, "/**/", ""),
-    ];
-    for (record, file, text, answers) in rows {
+    for (record, file, text, answers) in KEPT {
         expect_answers(
             &rt,
             rt.alloc(),
-            small(record, file)?,
+            small(*record, *file)?,
             text.as_bytes(),
             answers,
         )?;
@@ -29,34 +33,35 @@ fn keeps_to_the_limits(rt: HostRuntime) -> Result<(), Fail> {
     Ok(())
 }
 
+const PASSED: Rows = &[
+    (5, 10, "12345;", "12345 RecordTooLong"),
+    (5, 10, "123456", "RecordTooLong"),
+    (5, 10, "12345%", "12345 RecordTooLong"),
+    (5, 10, "12345/%", "12345 BadByte"),
+    (5, 10, "1234,,", "1234 , RecordTooLong"),
+    (5, 10, "1,,,,,", "1 , , , , RecordTooLong"),
+    (5, 10, "1; 12,34,", "1 ; 12 , 34 RecordTooLong"),
+    (5, 10, "'a\n\n\n\n", "RecordTooLong"),
+    (5, 10, "'abcd\\", "RecordTooLong"),
+    (2, 10, ".T ", "RecordTooLong"),
+    (0, 4, "(", "RecordTooLong"),
+    (5, 10, "1234;1234; ", "1234 ; 1234 ; FileTooLong"),
+    (5, 5, "12345;", "12345 FileTooLong"),
+    (5, 5, "     %", "FileTooLong"),
+    (9, 9, "/*345678*/", "FileTooLong"),
+    (9, 5, "'\n\n\n';", "'' FileTooLong"),
+    (8, 8, "1.E99999;", "NumberRange"),
+    (9, 4, "'\\S\\a", "FileTooLong"),
+    (9, 0, " ", "FileTooLong"),
+];
+
 #[test]
 fn refuses_past_the_limits(rt: HostRuntime) -> Result<(), Fail> {
-    let rows: [(u64, u64, &str, &str); 19] = [
-        (5, 10, "12345;", "12345 RecordTooLong"),
-        (5, 10, "123456", "RecordTooLong"),
-        (5, 10, "12345%", "12345 RecordTooLong"),
-        (5, 10, "12345/%", "12345 BadByte"),
-        (5, 10, "1234,,", "1234 , RecordTooLong"),
-        (5, 10, "1,,,,,", "1 , , , , RecordTooLong"),
-        (5, 10, "1; 12,34,", "1 ; 12 , 34 RecordTooLong"),
-        (5, 10, "'a\n\n\n\n", "RecordTooLong"),
-        (5, 10, "'abcd\\", "RecordTooLong"),
-        (2, 10, ".T ", "RecordTooLong"),
-        (0, 4, "(", "RecordTooLong"),
-        (5, 10, "1234;1234; ", "1234 ; 1234 ; FileTooLong"),
-        (5, 5, "12345;", "12345 FileTooLong"),
-        (5, 5, "     %", "FileTooLong"),
-        (9, 9, "/*345678*/", "FileTooLong"),
-        (9, 5, "'\n\n\n';", "'' FileTooLong"),
-        (8, 8, "1.E99999;", "NumberRange"),
-        (9, 4, "'\\S\\a", "FileTooLong"),
-        (9, 0, " ", "FileTooLong"),
-    ];
-    for (record, file, text, answers) in rows {
+    for (record, file, text, answers) in PASSED {
         expect_refused(
             &rt,
             rt.alloc(),
-            small(record, file)?,
+            small(*record, *file)?,
             text.as_bytes(),
             answers,
         )?;
