@@ -5,7 +5,7 @@ use Rattle.p21_semantics.specs.Token.{Token, begin, finish, keyword, user_keywor
 use Rattle.p21_semantics.specs.Laying.{Lexeme, LaidAs, Laid, tokens_in}
 use Rattle.p21_semantics.specs.Pending.{Tail, nothing, unfinished, slash, open_comment, tail_bytes, tail_size, IsKnownWhole, IsTail, LaidUpTo}
 use Rattle.p21_tokens_automaton.specs.Meaning.{MeanAll, found_of}
-use Rattle.p21_tokens_automaton.specs.Reading.{State, start, skip, Answer, nothing_but, open_at, before, Sized, all_of, lex}
+use Rattle.p21_tokens_automaton.specs.Reading.{State, start, skip, Answer, nothing_but, open_at, before, Sized, ended, all_of, lex}
 use Rattle.p21_tokens_automaton.specs.Step.{advance}
 use Rattle.p21_tokens_automaton.specs.declared.mode.Action.TheVariants.{End}
 use Rattle.p21_tokens_automaton.specs.declared.mode.Mode.TheVariants.{Text}
@@ -87,9 +87,9 @@ same-open : (s e : State) → nothing_but (open_at s) ≡ nothing_but (open_at e
 same-open s e q = let p : open_at s ≡ open_at e = ap (λ (a : Answer). a.ending) q in cc
 
 -- a byte that may follow the token which the tail spells ends it
-pub tail-ends : (e : State) (bytes : List ℕ) → TailIs e (unfinished bytes) → (token : Token) (byte : ℕ) → Spells token bytes → MayFollow token bytes byte → advance e.mode byte ≡ End
+pub tail-ends : (e : State) (bytes : List ℕ) → TailIs e (unfinished bytes) → (token : Token) (byte : ℕ) → Spells token bytes → MayFollow token bytes byte → (advance e.mode byte ≡ End) × (ended e ≡ Some (found_of token bytes))
 tail-ends e bytes t token byte s f = elim (readings token bytes s) [
-  | inl w ↦ subst (λ (x : State). advance x.mode byte ≡ End) (same-open w.state e (sym (lex-nil w.state) ∙ (sym (w.reaches []) ∙ (ap (λ (x : List ℕ). lex start x) (append-nil bytes) ∙ t.2)))) (w.ends byte f)
+  | inl w ↦ subst (λ (x : State). (advance x.mode byte ≡ End) × (ended x ≡ Some (found_of token bytes))) (same-open w.state e (sym (lex-nil w.state) ∙ (sym (w.reaches []) ∙ (ap (λ (x : List ℕ). lex start x) (append-nil bytes) ∙ t.2)))) (w.ends byte f, w.ended_is)
   | inr g ↦ absurd (not-given _ _ e (sym (g.run []) ∙ (ap (λ (x : List ℕ). lex start x) (append-nil bytes) ∙ t.2)))
 ]
 
