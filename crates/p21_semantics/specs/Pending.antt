@@ -59,10 +59,10 @@ pub record IsPending (taken : List ℕ) (pending : ℕ) : Type 0 where
   pub laid : LaidUpTo taken lexemes tail
   pub pending_is : pending ≡ open_bytes 0 lexemes + tail_size tail
 
--- whether a byte behind the tail counts as one of a token: inside a token each byte but one that may stand behind it,
--- between tokens none that is a separator or a `/`, and inside a comment and behind a lone `/` none
+-- whether a byte behind the tail counts as one of a token: inside a token each byte, between tokens, and where it may
+-- follow the token that the tail spells, none that is a separator or a `/`, and inside a comment and behind a lone `/` none
 abbrev pub IsTokenByte : Tail → ℕ → Type 0
 IsTokenByte nothing byte = BeginsNoSeparator (byte ∷ [])
-IsTokenByte (unfinished bytes) byte = (token : Token) → Spells token bytes → MayFollow token bytes byte → ⊥
+IsTokenByte (unfinished bytes) byte = (token : Token) → Spells token bytes → MayFollow token bytes byte → BeginsNoSeparator (byte ∷ [])
 IsTokenByte slash byte = ⊥
 IsTokenByte (open_comment inside) byte = ⊥

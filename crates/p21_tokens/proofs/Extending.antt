@@ -12,23 +12,23 @@ use Rattle.p21_semantics.specs.Token.{Token, begin, finish, keyword, user_keywor
 use Rattle.p21_tokens_automaton.proofs.Complete.{all_of-after}
 use Rattle.p21_tokens_automaton.proofs.Sound.{TailIs}
 use Rattle.p21_tokens_automaton.proofs.Steps.{lex-nil}
-use Rattle.p21_tokens_automaton.proofs.Theorems.{laid_read, ends-behind, tail-is, laid-up-to, size-is}
+use Rattle.p21_tokens_automaton.proofs.Theorems.{laid_read, tail-is, tail-ends, laid-up-to, size-is}
 use Rattle.std.proofs.lemmas.Bool.{cond_both}
 use Rattle.std.proofs.lemmas.Bool.Decides.{nat_tests}
 use Rattle.p21_tokens_automaton.specs.Bytes.{is_blank, is_digit, is_upper}
 use Rattle.p21_tokens_automaton.specs.Step.{advance, mark_action}
-use Rattle.p21_tokens_automaton.specs.declared.mode.Action.{Action}
 use Rattle.p21_tokens_automaton.specs.declared.mode.Action.TheVariants.{Pass, Keep, End, Refuse}
 use Rattle.p21_tokens_automaton.specs.declared.mode.Mode.TheVariants.{Between, Slash, Comment, Star, Number, Word}
 use Rattle.p21_tokens_automaton.specs.declared.mode.NumberMode.TheVariants as number_mode
 use Rattle.p21_tokens_automaton.specs.declared.mode.WordMode.TheVariants as word_mode
 use Rattle.p21_tokens_automaton.specs.declared.mode.Wrong.TheVariants as wrong
-use Rattle.p21_tokens_automaton.specs.Meaning.{MeanAll}
+use Rattle.p21_tokens_automaton.proofs.Once.{spells-means}
+use Rattle.p21_tokens_automaton.specs.Meaning.{MeanAll, found_of}
 use Rattle.p21_tokens_automaton.specs.Reading.{State, start, Answer, open_at, after, Found, Sized, ended, all_of, lex}
 use Rattle.p21_tokens.proofs.Following.{tokens-append, mean-append, in-parts, open-append, within-append, after-append, after-nothing, live-laid, live-pending, live-within, live-few, live-first, live-at_once}
 use Rattle.p21_tokens.specs.Held.{Held, pending_of, state_of}
-use Rattle.p21_tokens.specs.Histories.{TokenHistory, call_of, Stands, IsLive, IsHandedOver, GoesOn, AreDead, IsStatementFull, Answers, Refuses, NextGives}
-use Rattle.p21_tokens.specs.Steps.{rest_of, is_token_byte, IsDeadAt, SameLimits, TakesRun, Gives, Hands, RefusesByte, Scanned, ScansToken, gave, handed, Scans, RefusesAt}
+use Rattle.p21_tokens.specs.Histories.{TokenHistory, call_of, Stands, IsLive, IsHandedOver, GoesOn, AreDead, IsStatementFull, IsNoToken, AreGivenBefore, Answers, Refuses, NextGives}
+use Rattle.p21_tokens.specs.Steps.{rest_of, is_token_byte, IsDeadAt, SameLimits, TakesRun, Gives, Hands, RefusesByte, EndsNone, Scanned, ScansToken, gave, handed, Scans, RefusesAt}
 use Rattle.p21_tokens.specs.Token.{meant, waits}
 use Rattle.p21_tokens.specs.declared.fault.TokenFault.{TokenFault}
 use Rattle.p21_tokens.specs.declared.fault.TokenFault.TheVariants as fault
@@ -328,13 +328,11 @@ star-byte byte = cond_both (eqb byte 47) (Pass Between) (cond (eqb byte 42) (Pas
     (λ _. cond_both (eqb byte 42) (Pass Star) (Pass Comment) (λ a. is_token_byte Star a ≡ true → ⊥) (λ _ c. absurd cc) (λ _ c. absurd cc))
 
 -- a byte that counts, by what stands in front of it
-counts-byte : (v : Held) (tail : Tail) (byte : ℕ) → TailIs (state_of v) tail → is_token_byte v.mode (advance v.mode byte) ≡ true → IsTokenByte tail byte
-counts-byte v nothing byte t c = between-byte byte (ap (λ (s : State). is_token_byte s.mode (advance s.mode byte)) (sym t) ∙ c)
-counts-byte v (unfinished bytes) byte t c = λ token spells follows.
-    let clash : false ≡ true = sym (ap (λ (a : Action). is_token_byte v.mode a) (ends-behind token bytes byte (state_of v) spells follows t.2)) ∙ c in
-    cc
-counts-byte v slash byte t c = slash-byte byte (ap (λ (s : State). is_token_byte s.mode (advance s.mode byte)) (sym t) ∙ c)
-counts-byte v (open_comment inside) byte t c = elim t.0 [
+counts-byte : (v : Held) (tail : Tail) (byte : ℕ) → TailIs (state_of v) tail → is_token_byte v.mode (advance v.mode byte) ≡ true → advance v.mode byte ≢ End → IsTokenByte tail byte
+counts-byte v nothing byte t c n = between-byte byte (ap (λ (s : State). is_token_byte s.mode (advance s.mode byte)) (sym t) ∙ c)
+counts-byte v (unfinished bytes) byte t c n = λ token s f. absurd (n (tail-ends (state_of v) bytes t token byte s f).0)
+counts-byte v slash byte t c n = slash-byte byte (ap (λ (s : State). is_token_byte s.mode (advance s.mode byte)) (sym t) ∙ c)
+counts-byte v (open_comment inside) byte t c n = elim t.0 [
   | inl q ↦ comment-byte byte (ap (λ (s : State). is_token_byte s.mode (advance s.mode byte)) (sym q) ∙ c)
   | inr q ↦ star-byte byte (ap (λ (s : State). is_token_byte s.mode (advance s.mode byte)) (sym q) ∙ c)
 ]
@@ -344,15 +342,15 @@ module _ (v w : Held) (h : TokenHistory) (piece : List ℕ) (live : IsLive v h) 
   front-live : IsLive middle (record { taken = h.taken ++ take count piece; seen = seen_behind h.seen (take count piece) None; given = h.given ++ []; refusal = None })
   front-live = live-none v middle h (take count piece) live (offered-front h.seen piece count o) same run
 
-  full : middle.statement_limit ≤ pending_of middle → is_token_byte middle.mode (advance middle.mode byte) ≡ true → IsStatementFull v.statement_limit (h.taken ++ take count piece) byte
-  full l c =
+  full : middle.statement_limit ≤ pending_of middle → is_token_byte middle.mode (advance middle.mode byte) ≡ true → advance middle.mode byte ≢ End → IsStatementFull v.statement_limit (h.taken ++ take count piece) byte
+  full l c n =
       let u = live-laid middle _ front-live in
       record {
         lexemes = front-live.lexemes;
         tail = u.0;
         laid = laid-up-to (h.taken ++ take count piece) front-live.lexemes u.0 u.1 (tail-is (state_of middle) u.0 u.2);
-        full = let n = front-live.statement_is in let k = size-is (state_of middle) u.0 u.2 in let m = same.statement_limit in omega arith;
-        counts = counts-byte middle u.0 byte u.2 c;
+        full = let i = front-live.statement_is in let k = size-is (state_of middle) u.0 u.2 in let m = same.statement_limit in omega arith;
+        counts = counts-byte middle u.0 byte u.2 c n;
       }
 
   taken-length : length (h.taken ++ take (count + 1) piece) ≡ length h.taken + (count + 1)
@@ -379,24 +377,60 @@ module _ (v w : Held) (h : TokenHistory) (piece : List ℕ) (live : IsLive v h) 
       let parts = in-parts live.founds all.0 laid.lexemes (subst (λ (x : List Sized). MeanAll x laid.lexemes) all.2 read.2) in
       d rest all.0 parts.behind all.1 parts.mean_behind
 
+  ends-none : (x : TokenFault) → RefusesByte middle byte x → x ≢ fault.NoMemory → EndsNone middle byte
+  ends-none fault.NoMemory r n = absurd (n refl)
+  ends-none fault.FileTooLong r n = λ q. absurd (r.1 q)
+  ends-none fault.RecordTooLong r n = λ q. absurd (r.2 q)
+  ends-none fault.OpenString r n = absurd r
+  ends-none fault.OpenComment r n = absurd r
+  ends-none fault.NotOneParameter r n = absurd r
+  ends-none fault.EndsEarly r n = absurd r
+  ends-none fault.BadByte r n = r.1
+  ends-none fault.BadDirective r n = r.1
+  ends-none fault.BadCodePoint r n = r.1
+  ends-none fault.NotUtf8 r n = r.1
+  ends-none fault.BadNumber r n = r.1
+  ends-none fault.NumberRange r n = r.1
+  ends-none fault.BadBinary r n = r.1
+  ends-none fault.NameRange r n = r.1
+  ends-none fault.BadName r n = r.1
+  ends-none (fault.LeftOut absent) r n = r.1
+
+  no-token : (tail : Tail) → TailIs (state_of middle) tail → EndsNone middle byte → IsNoToken tail byte
+  no-token nothing t n = tt
+  no-token (unfinished bytes) t n = λ token s f. let e = tail-ends (state_of middle) bytes t token byte s f in n e.0 (found_of token bytes) token e.1 (spells-means token bytes s)
+  no-token slash t n = tt
+  no-token (open_comment inside) t n = tt
+
+  pub given-before : (x : TokenFault) → RefusesByte middle byte x → x ≢ fault.NoMemory → AreGivenBefore h.given (h.taken ++ take count piece) byte
+  given-before x r n =
+      let u = live-laid middle _ front-live in
+      record {
+        lexemes = front-live.lexemes;
+        tail = u.0;
+        laid = laid-up-to (h.taken ++ take count piece) front-live.lexemes u.0 u.1 (tail-is (state_of middle) u.0 u.2);
+        given_are = front-live.given_are ∙ append-nil h.given;
+        no_token = no-token u.0 u.2 (ends-none x r n);
+      }
+
   pub refuses-byte : (x : TokenFault) → RefusesByte middle byte x → Refuses v h piece count x
   refuses-byte fault.NoMemory r = tt
-  refuses-byte fault.FileTooLong r = let a = taken-length in let b = middle-file in let c = same.file_limit in omega arith
-  refuses-byte fault.RecordTooLong r = (byte, found, full r.0 r.1, (let a = taken-length in let b = middle-file in let c = same.file_limit in let d = r.2 in omega arith))
+  refuses-byte fault.FileTooLong r = let a = taken-length in let b = middle-file in let c = same.file_limit in let d = r.0 in omega arith
+  refuses-byte fault.RecordTooLong r = (byte, found, full r.0 r.1 r.2, (let a = taken-length in let b = middle-file in let c = same.file_limit in let d = r.3 in omega arith))
   refuses-byte fault.OpenString r = r
   refuses-byte fault.OpenComment r = r
   refuses-byte fault.NotOneParameter r = r
   refuses-byte fault.EndsEarly r = r
-  refuses-byte fault.BadByte r = dead r
-  refuses-byte fault.BadDirective r = dead r
-  refuses-byte fault.BadCodePoint r = dead r
-  refuses-byte fault.NotUtf8 r = dead r
-  refuses-byte fault.BadNumber r = dead r
-  refuses-byte fault.NumberRange r = dead r
-  refuses-byte fault.BadBinary r = dead r
-  refuses-byte fault.NameRange r = dead r
-  refuses-byte fault.BadName r = dead r
-  refuses-byte (fault.LeftOut absent) r = dead r
+  refuses-byte fault.BadByte r = dead r.0
+  refuses-byte fault.BadDirective r = dead r.0
+  refuses-byte fault.BadCodePoint r = dead r.0
+  refuses-byte fault.NotUtf8 r = dead r.0
+  refuses-byte fault.BadNumber r = dead r.0
+  refuses-byte fault.NumberRange r = dead r.0
+  refuses-byte fault.BadBinary r = dead r.0
+  refuses-byte fault.NameRange r = dead r.0
+  refuses-byte fault.BadName r = dead r.0
+  refuses-byte (fault.LeftOut absent) r = dead r.0
 
 pub next-refuses : (v u w : Held) (piece : List ℕ) (x : TokenFault) → v.refused ≡ None → w.refused ≡ Some x → RefusesAt v piece x u → NextGives v piece (Err x) w
 unfolding Stands
@@ -405,7 +439,10 @@ next-refuses v u w piece x r e s h stands o alive =
     record {
       count = s.1;
       within = some-length piece s.1 s.2 s.3;
+      byte = s.2;
+      byte_is = s.3;
       refuses = refuses-byte v w h piece now.1 alive o s.0 s.1 s.2 s.3 s.4 s.5 x s.7;
+      given_before = given-before v w h piece now.1 alive o s.0 s.1 s.2 s.3 s.4 s.5 x s.7;
       stands = (e ∙ sym (ap (λ (y : Option TokenFault). first_refusal y (Some x)) alive), λ q. absurd (not-none x (sym (ap (λ (y : Option TokenFault). first_refusal y (Some x)) alive) ∙ q)));
     }
   where

@@ -27,7 +27,7 @@ use Rattle.p21_tokens_automaton.specs.declared.mode.Wrong.{Wrong}
 use Rattle.p21_tokens_automaton.specs.declared.mode.Wrong.TheVariants as wrong
 use Rattle.p21_tokens.specs.Fault.{fault_of}
 use Rattle.p21_tokens.specs.Held.{Held, pending_of, state_of}
-use Rattle.p21_tokens.specs.Steps.{is_gap, rest_of, IsDeadAt, ReadsFound, SameLimits, RefusesByte, Steps, behind_token, Closes, Ends}
+use Rattle.p21_tokens.specs.Steps.{is_gap, rest_of, IsDeadAt, EndsNone, ReadsFound, SameLimits, RefusesByte, Steps, behind_token, Closes, Ends}
 use Rattle.p21_tokens.specs.Token.{meant, waits}
 use Rattle.p21_tokens.specs.declared.fault.TokenFault.{TokenFault}
 use Rattle.p21_tokens.specs.declared.fault.TokenFault.TheVariants as fault
@@ -75,11 +75,11 @@ dead-first v b None size go e n rest founds lexemes a m = not-all wrong.Byte fou
 dead-first v b (Some found) size go e n rest founds lexemes a m =
     let x = all-first found size (go rest) founds lexemes (sym (ap all_of (e rest)) ∙ a) m in n found refl x.0 x.1
 
-reads-refuses : (v : Held) (b : ℕ) (o : Option Found) (size : ℕ) (go : List ℕ → Answer) (x : TokenFault) → ((bs : List ℕ) → rest_of v (b ∷ bs) ≡ given_first o size (go bs)) → (is_gap v.mode ≡ true → is_blank b ≡ true → ⊥) → ReadsFound o (Err x) → RefusesByte v b x
-reads-refuses v b o size go x e n r = by_fault x o e r
+reads-refuses : (v : Held) (b : ℕ) (o : Option Found) (size : ℕ) (go : List ℕ → Answer) (x : TokenFault) → ((bs : List ℕ) → rest_of v (b ∷ bs) ≡ given_first o size (go bs)) → (advance v.mode b ≡ End → ended (state_of v) ≡ o) → (is_gap v.mode ≡ true → is_blank b ≡ true → ⊥) → ReadsFound o (Err x) → RefusesByte v b x
+reads-refuses v b o size go x e i n r = by_fault x o e i r
   where
-    none : (o : Option Found) → ((bs : List ℕ) → rest_of v (b ∷ bs) ≡ given_first o size (go bs)) → ((found : Found) → o ≡ Some found → (token : meaning.Token) → Means found token → ⊥) → IsDeadAt v (b ∷ [])
-    none o e h = dead-first v b o size go e h
+    none : (o : Option Found) → ((bs : List ℕ) → rest_of v (b ∷ bs) ≡ given_first o size (go bs)) → (advance v.mode b ≡ End → ended (state_of v) ≡ o) → ((found : Found) → o ≡ Some found → (token : meaning.Token) → Means found token → ⊥) → IsDeadAt v (b ∷ []) × EndsNone v b
+    none o e i h = (dead-first v b o size go e h, λ q found token f m. h found (sym (i q) ∙ f) token m)
 
     some-is : (f g : Found) → Some f ≡ Some g → f ≡ g
     some-is f g e = cc
@@ -90,22 +90,22 @@ reads-refuses v b o size go x e n r = by_fault x o e r
     of_none : (found : Found) → (let o : Option Found = None in o) ≡ Some found → (token : meaning.Token) → Means found token → ⊥
     of_none found q = absurd cc
 
-    by_fault : (x : TokenFault) (o : Option Found) → ((bs : List ℕ) → rest_of v (b ∷ bs) ≡ given_first o size (go bs)) → ReadsFound o (Err x) → RefusesByte v b x
-    by_fault fault.NoMemory o e r = n
-    by_fault fault.FileTooLong None e r = absurd r
-    by_fault fault.FileTooLong (Some f) e r = absurd r
-    by_fault fault.RecordTooLong None e r = absurd r
-    by_fault fault.RecordTooLong (Some f) e r = absurd r
-    by_fault fault.OpenString None e r = absurd r
-    by_fault fault.OpenString (Some f) e r = absurd r
-    by_fault fault.OpenComment None e r = absurd r
-    by_fault fault.OpenComment (Some f) e r = absurd r
-    by_fault fault.NotOneParameter None e r = absurd r
-    by_fault fault.NotOneParameter (Some f) e r = absurd r
-    by_fault fault.EndsEarly None e r = absurd r
-    by_fault fault.EndsEarly (Some f) e r = absurd r
-    by_fault _ None e r = none None e of_none
-    by_fault _ (Some f) e r = none (Some f) e (of_some f r)
+    by_fault : (x : TokenFault) (o : Option Found) → ((bs : List ℕ) → rest_of v (b ∷ bs) ≡ given_first o size (go bs)) → (advance v.mode b ≡ End → ended (state_of v) ≡ o) → ReadsFound o (Err x) → RefusesByte v b x
+    by_fault fault.NoMemory o e i r = n
+    by_fault fault.FileTooLong None e i r = absurd r
+    by_fault fault.FileTooLong (Some f) e i r = absurd r
+    by_fault fault.RecordTooLong None e i r = absurd r
+    by_fault fault.RecordTooLong (Some f) e i r = absurd r
+    by_fault fault.OpenString None e i r = absurd r
+    by_fault fault.OpenString (Some f) e i r = absurd r
+    by_fault fault.OpenComment None e i r = absurd r
+    by_fault fault.OpenComment (Some f) e i r = absurd r
+    by_fault fault.NotOneParameter None e i r = absurd r
+    by_fault fault.NotOneParameter (Some f) e i r = absurd r
+    by_fault fault.EndsEarly None e i r = absurd r
+    by_fault fault.EndsEarly (Some f) e i r = absurd r
+    by_fault _ None e i r = none None e i of_none
+    by_fault _ (Some f) e i r = none (Some f) e i (of_some f r)
 
 module _ (v : Held) (b : ℕ) where
   pub needs-memory : (a : Action) → advance v.mode b ≡ a → (Passes a → ⊥) → is_gap v.mode ≡ true → is_blank b ≡ true → ⊥
@@ -147,9 +147,12 @@ module _ (v : Held) (b : ℕ) where
   pub no-memory : (a : Action) (w : Held) → advance v.mode b ≡ a → (Passes a → ⊥) → SameLimits v w → (r : Result Step TokenFault) → r ≡ Err fault.NoMemory → Steps v b r w
   no-memory a w e n s r q = subst (λ (x : Result Step TokenFault). Steps v b x w) (sym q) (s, needs-memory a e n)
 
-  refused : (x : Wrong) → advance v.mode b ≡ Refuse x → IsDeadAt v (b ∷ [])
-  refused x e rest founds lexemes a m =
+  dead-refused : (x : Wrong) → advance v.mode b ≡ Refuse x → IsDeadAt v (b ∷ [])
+  dead-refused x e rest founds lexemes a m =
       not-all x founds (sym (ap all_of (lex-byte (state_of v) b rest ∙ ap (λ (y : Action). act y (state_of v) b (λ next. lex next rest)) e)) ∙ a)
+
+  refused : (x : Wrong) → advance v.mode b ≡ Refuse x → IsDeadAt v (b ∷ []) × EndsNone v b
+  refused x e = (dead-refused x e, λ q. absurd (let clash : Refuse x ≡ End = sym e ∙ q in cc))
 
 pub single-at_once : (one : Single) → waits (single_token one) ≡ false
 single-at_once single.Left = refl
@@ -300,13 +303,13 @@ module _ (v : Held) (b : ℕ) where
   pub refused-closed : (x : TokenFault) (w : Held) → advance v.mode b ≡ Close → Closes v b (Err x) w → Steps v b (Err x) w
   refused-closed x w e h = (
     h.1,
-    reads-refuses v b (closed v.mode (v.kept ++ b ∷ [])) (v.size + 1) (λ bs. lex start bs) x (λ bs. lex-byte (state_of v) b bs ∙ ap (λ (y : Action). act y (state_of v) b (λ next. lex next bs)) e) (needs-memory v b Close e (λ p. p)) h.0,
+    reads-refuses v b (closed v.mode (v.kept ++ b ∷ [])) (v.size + 1) (λ bs. lex start bs) x (λ bs. lex-byte (state_of v) b bs ∙ ap (λ (y : Action). act y (state_of v) b (λ next. lex next bs)) e) (λ q. absurd (let clash : Close ≡ End = sym e ∙ q in cc)) (needs-memory v b Close e (λ p. p)) h.0,
   )
 
   pub refused-ended : (x : TokenFault) (w : Held) → advance v.mode b ≡ End → Ends v (Err x) w → Steps v b (Err x) w
   refused-ended x w e h = (
     h.1,
-    reads-refuses v b (ended (state_of v)) v.size (λ bs. first (advance Between b) b (λ next. lex next bs)) x (λ bs. lex-byte (state_of v) b bs ∙ ap (λ (y : Action). act y (state_of v) b (λ next. lex next bs)) e) (needs-memory v b End e (λ p. p)) h.0,
+    reads-refuses v b (ended (state_of v)) v.size (λ bs. first (advance Between b) b (λ next. lex next bs)) x (λ bs. lex-byte (state_of v) b bs ∙ ap (λ (y : Action). act y (state_of v) b (λ next. lex next bs)) e) (λ _. refl) (needs-memory v b End e (λ p. p)) h.0,
   )
 
   pub refused-byte : (x : Wrong) → advance v.mode b ≡ Refuse x → RefusesByte v b (fault_of x)
@@ -321,10 +324,13 @@ module _ (v : Held) (b : ℕ) where
   refused-byte (wrong.LeftOut absent) e = refused v b (wrong.LeftOut absent) e
 
   -- the `-` behind bytes that begin no marker
-  pub refused-dash : advance v.mode b ≡ Dash → marker_of v.kept ≡ None → IsDeadAt v (b ∷ [])
-  refused-dash e n rest founds lexemes a m =
+  dead-dash : advance v.mode b ≡ Dash → marker_of v.kept ≡ None → IsDeadAt v (b ∷ [])
+  dead-dash e n rest founds lexemes a m =
       not-all wrong.Byte founds (sym (ap all_of (lex-byte (state_of v) b rest ∙ (ap (λ (y : Action). act y (state_of v) b (λ next. lex next rest)) e
       ∙ ap (λ (o : Option Mode). dashed o (state_of v) b (λ next. lex next rest)) n))) ∙ a)
+
+  pub refused-dash : advance v.mode b ≡ Dash → marker_of v.kept ≡ None → IsDeadAt v (b ∷ []) × EndsNone v b
+  refused-dash e n = (dead-dash e n, λ q. absurd (let clash : Dash ≡ End = sym e ∙ q in cc))
 
 pub same-limits_itself : (v : Held) → SameLimits v v
 same-limits_itself v = record { statement_limit = refl; file_limit = refl; refused = refl }

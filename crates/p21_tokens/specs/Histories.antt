@@ -1,12 +1,12 @@
 -- What a lexer has taken and answered, and what each call adds to it (ISO 10303-21, tokens).
-use Rattle.std.specs.Prelude.{◌≡◌, ℕ, ◌+◌, ◌≤◌, ◌<◌, ◌⊎◌, if◌then◌else◌, List, [], ◌∷◌, ◌++◌, length, take, slice_get, Option, Some, None, Result, Ok, Err}
+use Rattle.std.specs.Prelude.{◌≡◌, ◌≢◌, ℕ, ◌+◌, ◌≤◌, ◌<◌, ◌⊎◌, if◌then◌else◌, List, [], ◌∷◌, ◌++◌, length, take, slice_get, Option, Some, None, Result, Ok, Err}
 use Rattle.std.specs.Option.{option_map}
 use Rattle.std.specs.List.{AllByRecursion as Each}
 use Rattle.p21_semantics.specs.History.{History, extended, looked_at, IsOffered}
 use Rattle.p21_semantics.specs.Laying.{Lexeme, Laid, tokens_in, open_bytes, AreStatementsWithin}
-use Rattle.p21_semantics.specs.Pending.{Tail, tail_size, LaidUpTo, IsTokenByte}
+use Rattle.p21_semantics.specs.Pending.{Tail, unfinished, tail_size, LaidUpTo, IsTokenByte}
 use Rattle.p21_semantics.specs.Separator.{blank, IsSeparator}
-use Rattle.p21_semantics.specs.Token.{Token, IsWholeAtOnce}
+use Rattle.p21_semantics.specs.Token.{Token, Spells, MayFollow, IsWholeAtOnce}
 use Rattle.p21_tokens_automaton.specs.Meaning.{MeanAll}
 use Rattle.p21_tokens_automaton.specs.Reading.{State, start, open_at, Found, Sized, ended, after, lex}
 use Rattle.p21_tokens.specs.Held.{Held, pending_of, state_of}
@@ -65,6 +65,19 @@ pub record IsStatementFull (limit : ℕ) (bytes : List ℕ) (byte : ℕ) : Type 
   pub laid : LaidUpTo bytes lexemes tail
   pub full : limit ≤ open_bytes 0 lexemes + tail_size tail
   pub counts : IsTokenByte tail byte
+
+-- the tail is no token that the byte may follow
+abbrev pub IsNoToken : Tail → ℕ → Type 0
+IsNoToken (unfinished bytes) byte = (token : Token) → Spells token bytes → MayFollow token bytes byte → ⊥
+IsNoToken other byte = Unit {0}
+
+-- the tokens given are laid in the bytes, and no token that the byte may follow stands behind them
+pub record AreGivenBefore (given : List Token) (bytes : List ℕ) (byte : ℕ) : Type 0 where
+  pub lexemes : List Lexeme
+  pub tail : Tail
+  pub laid : LaidUpTo bytes lexemes tail
+  pub given_are : tokens_in lexemes ≡ given
+  pub no_token : IsNoToken tail byte
 
 -- ---- the relation
 
@@ -125,7 +138,10 @@ Refuses held history piece count fault = AreDead (history.taken ++ take (count +
 pub record RefusesAtByte (old : Held) (history : TokenHistory) (piece : List ℕ) (fault : TokenFault) (new : Held) : Type 0 where
   pub count : ℕ
   pub within : count < length piece
+  pub byte : ℕ
+  pub byte_is : slice_get piece count ≡ Some byte
   pub refuses : Refuses old history piece count fault
+  pub given_before : fault ≢ NoMemory → AreGivenBefore history.given (history.taken ++ take count piece) byte
   pub stands : Stands new (extended history (refused_call piece count fault))
 
 -- what a call of `next` gives, for each history that the lexer stood for, where the caller offered first what was seen

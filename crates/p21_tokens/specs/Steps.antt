@@ -1,5 +1,5 @@
 -- What the parts of the lexer owe: how a byte, a run of bytes and a piece change what is held.
-use Rattle.std.specs.Prelude.{◌≡◌, ℕ, ◌+◌, ◌≤◌, ◌<◌, Bool, true, false, if◌then◌else◌, List, [], ◌∷◌, ◌++◌, length, take, slice_get, Option, Some, None, Result, Ok, Err}
+use Rattle.std.specs.Prelude.{◌≡◌, ◌≢◌, ℕ, ◌+◌, ◌≤◌, ◌<◌, Bool, true, false, if◌then◌else◌, List, [], ◌∷◌, ◌++◌, length, take, slice_get, Option, Some, None, Result, Ok, Err}
 use Rattle.std.specs.Option.{option_map}
 use Rattle.p21_semantics.specs.Token as meaning
 use Rattle.p21_semantics.specs.Laying.{Lexeme, count_behind}
@@ -31,10 +31,9 @@ abbrev pub is_slash : Mode → Bool
 is_slash Slash = true
 is_slash other = false
 
--- the byte counts as one of a token: one that ends the token in front of it counts with what it begins
+-- the byte counts as one of a token
 abbrev pub is_token_byte : Mode → Action → Bool
 is_token_byte mode (Pass next) = false
-is_token_byte mode End = false
 is_token_byte mode (Refuse wrong) = if is_slash mode then false else true
 is_token_byte mode other = true
 
@@ -98,16 +97,21 @@ abbrev pub Ends : Held → Result Token TokenFault → Held → Type 0
 Ends old (Ok token) new = ReadsFound (ended (state_of old)) (Ok token) × (new ≡ behind_token old (old.statement + old.size) old.file) × (pending_of old ≤ old.statement_limit)
 Ends old (Err fault) new = ReadsFound (ended (state_of old)) (Err fault) × SameLimits old new
 
+-- the byte ends no token that means something
+abbrev pub EndsNone : Held → ℕ → Type 0
+EndsNone held byte = advance held.mode byte ≡ End → (found : Found) (token : meaning.Token) → ended (state_of held) ≡ Some found → Means found token → ⊥
+
 -- why a byte is refused
 abbrev pub RefusesByte : Held → ℕ → TokenFault → Type 0
 RefusesByte held byte NoMemory = is_gap held.mode ≡ true → is_blank byte ≡ true → ⊥
-RefusesByte held byte FileTooLong = held.file_limit ≤ held.file
-RefusesByte held byte RecordTooLong = (held.statement_limit ≤ pending_of held) × (is_token_byte held.mode (advance held.mode byte) ≡ true) × (held.file < held.file_limit)
+RefusesByte held byte FileTooLong = (held.file_limit ≤ held.file) × (advance held.mode byte ≢ End)
+RefusesByte held byte RecordTooLong =
+    (held.statement_limit ≤ pending_of held) × (is_token_byte held.mode (advance held.mode byte) ≡ true) × (advance held.mode byte ≢ End) × (held.file < held.file_limit)
 RefusesByte held byte OpenString = ⊥
 RefusesByte held byte OpenComment = ⊥
 RefusesByte held byte NotOneParameter = ⊥
 RefusesByte held byte EndsEarly = ⊥
-RefusesByte held byte fault = IsDeadAt held (byte ∷ [])
+RefusesByte held byte fault = IsDeadAt held (byte ∷ []) × EndsNone held byte
 
 -- a byte that gave no token
 pub record Takes (old : Held) (byte : ℕ) (new : Held) : Type 0 where

@@ -15,13 +15,12 @@ pub(crate) enum Step {
     Handed(Token),
 }
 
-/// Whether a byte counts as one of a token: not between tokens, nor behind a `/`, nor where it ends the one in front.
+/// Whether a byte counts as one of a token: not between tokens, nor behind a `/`.
 pub(crate) fn is_token_byte(mode: Mode, action: Action) -> bool
     ensures { result ≡ is_token_byte mode action }
 {
     match action {
         Action::Pass(_next) => false,
-        Action::End => false,
         Action::Refuse(_wrong) => match mode {
             Mode::Slash => false,
             _ => true,

@@ -5,7 +5,7 @@ use Rattle.p21_semantics.specs.Token.{Token, begin, finish, keyword, user_keywor
 use Rattle.p21_semantics.specs.Laying.{Lexeme, LaidAs, Laid, tokens_in}
 use Rattle.p21_semantics.specs.Pending.{Tail, nothing, unfinished, slash, open_comment, tail_bytes, tail_size, IsKnownWhole, IsTail, LaidUpTo}
 use Rattle.p21_tokens_automaton.specs.Meaning.{MeanAll, found_of}
-use Rattle.p21_tokens_automaton.specs.Reading.{State, start, skip, Answer, nothing_but, open_at, before, Sized, all_of, lex}
+use Rattle.p21_tokens_automaton.specs.Reading.{State, start, skip, Answer, nothing_but, open_at, before, Sized, ended, all_of, lex}
 use Rattle.p21_tokens_automaton.specs.Step.{advance}
 use Rattle.p21_tokens_automaton.specs.declared.mode.Action.TheVariants.{End}
 use Rattle.p21_tokens_automaton.specs.declared.mode.Mode.TheVariants.{Text}
@@ -74,20 +74,6 @@ gives token spelling (b ∷ rest) e s k r = elim (readings token spelling s) [
   | inr g ↦ not-given _ _ e (sym (g.run (b ∷ rest)) ∙ r)
 ]
 
--- a byte that may stand behind a token ends it, where its spelling is all that is open
-pub ends-behind : (token : Token) (spelling : List ℕ) (byte : ℕ) (e : State) → Spells token spelling → MayFollow token spelling byte → lex start spelling ≡ nothing_but (open_at e) → advance e.mode byte ≡ End
-ends-behind token spelling byte e s k r =
-    let whole_read : lex start (spelling ++ []) ≡ nothing_but (open_at e) = ap (λ (x : List ℕ). lex start x) (append-nil spelling) ∙ r in
-    elim (readings token spelling s) [
-      | inl w ↦
-          let same : w.state ≡ e = open-once w.state e (sym (w.reaches [] ∙ lex-nil w.state) ∙ whole_read) in
-          ap (λ (x : State). advance x.mode byte) (sym same) ∙ w.ends byte k
-      | inr g ↦ absurd (not-given _ _ e (sym (g.run []) ∙ whole_read))
-    ]
-  where
-    open-once : (a b : State) → nothing_but (open_at a) ≡ nothing_but (open_at b) → a ≡ b
-    open-once a b h = let ends : open_at a ≡ open_at b = ap (λ (y : Answer). y.ending) h in cc
-
 pub tail-is : (e : State) (tail : Tail) → TailIs e tail → IsTail tail
 tail-is e nothing t = tt
 tail-is e slash t = tt
@@ -96,6 +82,16 @@ tail-is e (unfinished bytes) t = record {
   first = t.3;
   not_whole = λ token spelling rest q s k. gives token spelling rest e s k (ap (λ (x : List ℕ). lex start x) (sym q) ∙ t.2);
 }
+
+same-open : (s e : State) → nothing_but (open_at s) ≡ nothing_but (open_at e) → s ≡ e
+same-open s e q = let p : open_at s ≡ open_at e = ap (λ (a : Answer). a.ending) q in cc
+
+-- a byte that may follow the token which the tail spells ends it
+pub tail-ends : (e : State) (bytes : List ℕ) → TailIs e (unfinished bytes) → (token : Token) (byte : ℕ) → Spells token bytes → MayFollow token bytes byte → (advance e.mode byte ≡ End) × (ended e ≡ Some (found_of token bytes))
+tail-ends e bytes t token byte s f = elim (readings token bytes s) [
+  | inl w ↦ subst (λ (x : State). (advance x.mode byte ≡ End) × (ended x ≡ Some (found_of token bytes))) (same-open w.state e (sym (lex-nil w.state) ∙ (sym (w.reaches []) ∙ (ap (λ (x : List ℕ). lex start x) (append-nil bytes) ∙ t.2)))) (w.ends byte f, w.ended_is)
+  | inr g ↦ absurd (not-given _ _ e (sym (g.run []) ∙ (ap (λ (x : List ℕ). lex start x) (append-nil bytes) ∙ t.2)))
+]
 
 pub laid-up-to : (bytes : List ℕ) (lexemes : List Lexeme) (tail : Tail) → LaidTo bytes lexemes (tail_bytes tail) → IsTail tail → LaidUpTo bytes lexemes tail
 laid-up-to bytes [] tail l t = (l.0, l.1, l.2, t)
