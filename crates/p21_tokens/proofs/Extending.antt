@@ -10,13 +10,15 @@ use Rattle.p21_semantics.specs.Laying.{Lexeme, open_bytes, count_behind, AreStat
 use Rattle.p21_semantics.specs.Pending.{Tail, nothing, unfinished, slash, open_comment, IsPending, IsTokenByte, BeginsNoSeparator}
 use Rattle.p21_semantics.specs.Token.{Token, begin, finish, keyword, user_keyword, name, whole, real, text}
 use Rattle.p21_tokens_automaton.proofs.Complete.{all_of-after}
-use Rattle.p21_tokens_automaton.proofs.Sound.{TailIs}
+use Rattle.p21_tokens_automaton.proofs.Sound.{TailIs, FirstFits}
+use Rattle.p21_tokens_automaton.proofs.TokenSound.{first-fits}
 use Rattle.p21_tokens_automaton.proofs.Steps.{lex-nil}
 use Rattle.p21_tokens_automaton.proofs.Theorems.{laid_read, tail-is, tail-ends, laid-up-to, size-is}
 use Rattle.std.proofs.lemmas.Bool.{cond_both}
 use Rattle.std.proofs.lemmas.Bool.Decides.{nat_tests}
 use Rattle.p21_tokens_automaton.specs.Bytes.{is_blank, is_digit, is_upper}
 use Rattle.p21_tokens_automaton.specs.Step.{advance, mark_action}
+use Rattle.p21_tokens_automaton.specs.declared.mode.Action.{Action}
 use Rattle.p21_tokens_automaton.specs.declared.mode.Action.TheVariants.{Pass, Keep, End, Refuse}
 use Rattle.p21_tokens_automaton.specs.declared.mode.Mode.TheVariants.{Between, Slash, Comment, Star, Number, Word}
 use Rattle.p21_tokens_automaton.specs.declared.mode.NumberMode.TheVariants as number_mode
@@ -27,8 +29,8 @@ use Rattle.p21_tokens_automaton.specs.Meaning.{MeanAll, found_of}
 use Rattle.p21_tokens_automaton.specs.Reading.{State, start, Answer, open_at, after, Found, Sized, ended, all_of, lex}
 use Rattle.p21_tokens.proofs.Following.{tokens-append, mean-append, in-parts, open-append, within-append, after-append, after-nothing, live-laid, live-pending, live-within, live-few, live-first, live-at_once}
 use Rattle.p21_tokens.specs.Held.{Held, pending_of, state_of}
-use Rattle.p21_tokens.specs.Histories.{TokenHistory, call_of, Stands, IsLive, IsHandedOver, GoesOn, AreDead, IsStatementFull, IsNoToken, AreGivenBefore, Answers, Refuses, NextGives}
-use Rattle.p21_tokens.specs.Steps.{rest_of, is_token_byte, IsDeadAt, SameLimits, TakesRun, Gives, Hands, RefusesByte, EndsNone, Scanned, ScansToken, gave, handed, Scans, RefusesAt}
+use Rattle.p21_tokens.specs.Histories.{TokenHistory, call_of, Stands, IsLive, IsHandedOver, GoesOn, AreDead, IsStatementFull, IsNoToken, AreGivenBefore, IsGap, IsInLimitsBetween, IsOfForm, Answers, Refuses, NextGives}
+use Rattle.p21_tokens.specs.Steps.{rest_of, is_token_byte, IsDeadAt, SameLimits, TakesRun, Gives, Hands, RefusesByte, EndsNone, IsInLimits, Scanned, ScansToken, gave, handed, Scans, RefusesAt}
 use Rattle.p21_tokens.specs.Token.{meant, waits}
 use Rattle.p21_tokens.specs.declared.fault.TokenFault.{TokenFault}
 use Rattle.p21_tokens.specs.declared.fault.TokenFault.TheVariants as fault
@@ -337,6 +339,35 @@ counts-byte v (open_comment inside) byte t c n = elim t.0 [
   | inr q ↦ star-byte byte (ap (λ (s : State). is_token_byte s.mode (advance s.mode byte)) (sym q) ∙ c)
 ]
 
+-- between tokens no byte ends one
+between-ends_none : (byte : ℕ) → advance Between byte ≢ End
+between-ends_none byte q = subst (FirstFits byte) q (first-fits byte)
+
+gap-ends-none : (v : Held) (tail : Tail) (byte : ℕ) → TailIs (state_of v) tail → IsGap tail → advance v.mode byte ≢ End
+gap-ends-none v nothing byte t g q = between-ends_none byte (ap (λ (s : State). advance s.mode byte) (sym t) ∙ q)
+gap-ends-none v (unfinished bytes) byte t g q = g
+gap-ends-none v slash byte t g q = cond_both (eqb byte 42) (Pass Comment) (Refuse wrong.Byte) (λ a. a ≡ End → ⊥) (λ _ c. absurd cc) (λ _ c. absurd cc) (ap (λ (s : State). advance s.mode byte) (sym t) ∙ q)
+gap-ends-none v (open_comment inside) byte t g q = elim t.0 [
+  | inl e ↦ cond_both (eqb byte 42) (Pass Star) (Pass Comment) (λ a. a ≡ End → ⊥) (λ _ c. absurd cc) (λ _ c. absurd cc) (ap (λ (s : State). advance s.mode byte) (sym e) ∙ q)
+  | inr e ↦ cond_both (eqb byte 47) (Pass Between) (cond (eqb byte 42) (Pass Star) (Pass Comment)) (λ a. a ≡ End → ⊥) (λ _ c. absurd cc)
+      (λ _. cond_both (eqb byte 42) (Pass Star) (Pass Comment) (λ a. a ≡ End → ⊥) (λ _ c. absurd cc) (λ _ c. absurd cc)) (ap (λ (s : State). advance s.mode byte) (sym e) ∙ q)
+]
+
+-- between tokens a byte that begins no separator counts
+between-counts : (byte : ℕ) (a : Action) → FirstFits byte a → BeginsNoSeparator (byte ∷ []) → is_token_byte Between a ≡ true
+between-counts byte (Pass n) f b = elim f [
+  | inl x ↦ elim x.1 [ inl k ↦ absurd (omega (arith, b.0, k)) | inr k ↦ absurd (b.1 k) ]
+  | inr x ↦ absurd (b.2 x.1)
+]
+between-counts byte (Refuse w) f b = refl
+between-counts byte _ f b = refl
+
+gap-counts : (v : Held) (tail : Tail) (byte : ℕ) → TailIs (state_of v) tail → IsGap tail → IsTokenByte tail byte → is_token_byte v.mode (advance v.mode byte) ≡ true
+gap-counts v nothing byte t g c = ap (λ (s : State). is_token_byte s.mode (advance s.mode byte)) t ∙ between-counts byte (advance Between byte) (first-fits byte) c
+gap-counts v (unfinished bytes) byte t g c = absurd g
+gap-counts v slash byte t g c = absurd c
+gap-counts v (open_comment inside) byte t g c = absurd c
+
 module _ (v w : Held) (h : TokenHistory) (piece : List ℕ) (live : IsLive v h) (alive : h.refusal ≡ None) (o : IsOffered h.seen piece) (middle : Held) (count byte : ℕ) (found : slice_get piece count ≡ Some byte) (same : SameLimits v middle) (run : TakesRun v (take count piece) middle) where
   -- the lexer in front of the refused byte
   front-live : IsLive middle (record { taken = h.taken ++ take count piece; seen = seen_behind h.seen (take count piece) None; given = h.given ++ []; refusal = None })
@@ -413,6 +444,40 @@ module _ (v w : Held) (h : TokenHistory) (piece : List ℕ) (live : IsLive v h) 
         no_token = no-token u.0 u.2 (ends-none x r n);
       }
 
+  in-limits-at : (x : TokenFault) → RefusesByte middle byte x → IsOfForm x → IsInLimits middle byte
+  in-limits-at fault.NoMemory r i = absurd i
+  in-limits-at fault.FileTooLong r i = absurd i
+  in-limits-at fault.RecordTooLong r i = absurd i
+  in-limits-at fault.OpenString r i = absurd r
+  in-limits-at fault.OpenComment r i = absurd r
+  in-limits-at fault.NotOneParameter r i = absurd r
+  in-limits-at fault.EndsEarly r i = absurd r
+  in-limits-at fault.BadByte r i = r.2
+  in-limits-at fault.BadDirective r i = r.2
+  in-limits-at fault.BadCodePoint r i = r.2
+  in-limits-at fault.NotUtf8 r i = r.2
+  in-limits-at fault.BadNumber r i = r.2
+  in-limits-at fault.NumberRange r i = r.2
+  in-limits-at fault.BadBinary r i = r.2
+  in-limits-at fault.NameRange r i = r.2
+  in-limits-at fault.BadName r i = r.2
+  in-limits-at (fault.LeftOut absent) r i = r.2
+
+  pub in-limits : (x : TokenFault) → RefusesByte middle byte x → IsOfForm x → IsInLimitsBetween v h.given (h.taken ++ take count piece) byte
+  in-limits x r i =
+      let u = live-laid middle _ front-live in
+      let l = in-limits-at x r i in
+      record {
+        lexemes = front-live.lexemes;
+        tail = u.0;
+        laid = laid-up-to (h.taken ++ take count piece) front-live.lexemes u.0 u.1 (tail-is (state_of middle) u.0 u.2);
+        given_are = front-live.given_are ∙ append-nil h.given;
+        file = λ g. let f = (l (gap-ends-none middle u.0 byte u.2 g)).0 in let a = front-live.file_is in let b = same.file_limit in omega arith;
+        statement = λ g c.
+            let s = (l (gap-ends-none middle u.0 byte u.2 g)).1 (gap-counts middle u.0 byte u.2 g c) in
+            let a = front-live.statement_is in let k = size-is (state_of middle) u.0 u.2 in let m = same.statement_limit in omega arith;
+      }
+
   pub refuses-byte : (x : TokenFault) → RefusesByte middle byte x → Refuses v h piece count x
   refuses-byte fault.NoMemory r = tt
   refuses-byte fault.FileTooLong r = let a = taken-length in let b = middle-file in let c = same.file_limit in let d = r.0 in omega arith
@@ -443,6 +508,7 @@ next-refuses v u w piece x r e s h stands o alive =
       byte_is = s.3;
       refuses = refuses-byte v w h piece now.1 alive o s.0 s.1 s.2 s.3 s.4 s.5 x s.7;
       given_before = given-before v w h piece now.1 alive o s.0 s.1 s.2 s.3 s.4 s.5 x s.7;
+      in_limits = in-limits v w h piece now.1 alive o s.0 s.1 s.2 s.3 s.4 s.5 x s.7;
       stands = (e ∙ sym (ap (λ (y : Option TokenFault). first_refusal y (Some x)) alive), λ q. absurd (not-none x (sym (ap (λ (y : Option TokenFault). first_refusal y (Some x)) alive) ∙ q)));
     }
   where

@@ -27,7 +27,7 @@ use Rattle.p21_tokens_automaton.specs.declared.mode.Wrong.{Wrong}
 use Rattle.p21_tokens_automaton.specs.declared.mode.Wrong.TheVariants as wrong
 use Rattle.p21_tokens.specs.Fault.{fault_of}
 use Rattle.p21_tokens.specs.Held.{Held, pending_of, state_of}
-use Rattle.p21_tokens.specs.Steps.{is_gap, rest_of, IsDeadAt, EndsNone, ReadsFound, SameLimits, RefusesByte, Steps, behind_token, Closes, Ends}
+use Rattle.p21_tokens.specs.Steps.{is_gap, rest_of, IsDeadAt, EndsNone, IsInLimits, ReadsFound, SameLimits, RefusesByte, Steps, behind_token, Closes, Ends}
 use Rattle.p21_tokens.specs.Token.{meant, waits}
 use Rattle.p21_tokens.specs.declared.fault.TokenFault.{TokenFault}
 use Rattle.p21_tokens.specs.declared.fault.TokenFault.TheVariants as fault
@@ -75,11 +75,11 @@ dead-first v b None size go e n rest founds lexemes a m = not-all wrong.Byte fou
 dead-first v b (Some found) size go e n rest founds lexemes a m =
     let x = all-first found size (go rest) founds lexemes (sym (ap all_of (e rest)) ∙ a) m in n found refl x.0 x.1
 
-reads-refuses : (v : Held) (b : ℕ) (o : Option Found) (size : ℕ) (go : List ℕ → Answer) (x : TokenFault) → ((bs : List ℕ) → rest_of v (b ∷ bs) ≡ given_first o size (go bs)) → (advance v.mode b ≡ End → ended (state_of v) ≡ o) → (is_gap v.mode ≡ true → is_blank b ≡ true → ⊥) → ReadsFound o (Err x) → RefusesByte v b x
-reads-refuses v b o size go x e i n r = by_fault x o e i r
+reads-refuses : (v : Held) (b : ℕ) (o : Option Found) (size : ℕ) (go : List ℕ → Answer) (x : TokenFault) → ((bs : List ℕ) → rest_of v (b ∷ bs) ≡ given_first o size (go bs)) → (advance v.mode b ≡ End → ended (state_of v) ≡ o) → (is_gap v.mode ≡ true → is_blank b ≡ true → ⊥) → IsInLimits v b → ReadsFound o (Err x) → RefusesByte v b x
+reads-refuses v b o size go x e i n l r = by_fault x o e i r
   where
-    none : (o : Option Found) → ((bs : List ℕ) → rest_of v (b ∷ bs) ≡ given_first o size (go bs)) → (advance v.mode b ≡ End → ended (state_of v) ≡ o) → ((found : Found) → o ≡ Some found → (token : meaning.Token) → Means found token → ⊥) → IsDeadAt v (b ∷ []) × EndsNone v b
-    none o e i h = (dead-first v b o size go e h, λ q found token f m. h found (sym (i q) ∙ f) token m)
+    none : (o : Option Found) → ((bs : List ℕ) → rest_of v (b ∷ bs) ≡ given_first o size (go bs)) → (advance v.mode b ≡ End → ended (state_of v) ≡ o) → ((found : Found) → o ≡ Some found → (token : meaning.Token) → Means found token → ⊥) → IsDeadAt v (b ∷ []) × EndsNone v b × IsInLimits v b
+    none o e i h = (dead-first v b o size go e h, (λ q found token f m. h found (sym (i q) ∙ f) token m), l)
 
     some-is : (f g : Found) → Some f ≡ Some g → f ≡ g
     some-is f g e = cc
@@ -151,8 +151,8 @@ module _ (v : Held) (b : ℕ) where
   dead-refused x e rest founds lexemes a m =
       not-all x founds (sym (ap all_of (lex-byte (state_of v) b rest ∙ ap (λ (y : Action). act y (state_of v) b (λ next. lex next rest)) e)) ∙ a)
 
-  refused : (x : Wrong) → advance v.mode b ≡ Refuse x → IsDeadAt v (b ∷ []) × EndsNone v b
-  refused x e = (dead-refused x e, λ q. absurd (let clash : Refuse x ≡ End = sym e ∙ q in cc))
+  refused : (x : Wrong) → advance v.mode b ≡ Refuse x → IsInLimits v b → IsDeadAt v (b ∷ []) × EndsNone v b × IsInLimits v b
+  refused x e l = (dead-refused x e, (λ q. absurd (let clash : Refuse x ≡ End = sym e ∙ q in cc)), l)
 
 pub single-at_once : (one : Single) → waits (single_token one) ≡ false
 single-at_once single.Left = refl
@@ -300,28 +300,28 @@ module _ (v : Held) (b : ℕ) where
         },
       )
 
-  pub refused-closed : (x : TokenFault) (w : Held) → advance v.mode b ≡ Close → Closes v b (Err x) w → Steps v b (Err x) w
-  refused-closed x w e h = (
+  pub refused-closed : (x : TokenFault) (w : Held) → advance v.mode b ≡ Close → IsInLimits v b → Closes v b (Err x) w → Steps v b (Err x) w
+  refused-closed x w e l h = (
     h.1,
-    reads-refuses v b (closed v.mode (v.kept ++ b ∷ [])) (v.size + 1) (λ bs. lex start bs) x (λ bs. lex-byte (state_of v) b bs ∙ ap (λ (y : Action). act y (state_of v) b (λ next. lex next bs)) e) (λ q. absurd (let clash : Close ≡ End = sym e ∙ q in cc)) (needs-memory v b Close e (λ p. p)) h.0,
+    reads-refuses v b (closed v.mode (v.kept ++ b ∷ [])) (v.size + 1) (λ bs. lex start bs) x (λ bs. lex-byte (state_of v) b bs ∙ ap (λ (y : Action). act y (state_of v) b (λ next. lex next bs)) e) (λ q. absurd (let clash : Close ≡ End = sym e ∙ q in cc)) (needs-memory v b Close e (λ p. p)) l h.0,
   )
 
   pub refused-ended : (x : TokenFault) (w : Held) → advance v.mode b ≡ End → Ends v (Err x) w → Steps v b (Err x) w
   refused-ended x w e h = (
     h.1,
-    reads-refuses v b (ended (state_of v)) v.size (λ bs. first (advance Between b) b (λ next. lex next bs)) x (λ bs. lex-byte (state_of v) b bs ∙ ap (λ (y : Action). act y (state_of v) b (λ next. lex next bs)) e) (λ _. refl) (needs-memory v b End e (λ p. p)) h.0,
+    reads-refuses v b (ended (state_of v)) v.size (λ bs. first (advance Between b) b (λ next. lex next bs)) x (λ bs. lex-byte (state_of v) b bs ∙ ap (λ (y : Action). act y (state_of v) b (λ next. lex next bs)) e) (λ _. refl) (needs-memory v b End e (λ p. p)) (λ n. absurd (n e)) h.0,
   )
 
-  pub refused-byte : (x : Wrong) → advance v.mode b ≡ Refuse x → RefusesByte v b (fault_of x)
-  refused-byte wrong.Byte e = refused v b wrong.Byte e
-  refused-byte wrong.Directive e = refused v b wrong.Directive e
-  refused-byte wrong.CodePoint e = refused v b wrong.CodePoint e
-  refused-byte wrong.Utf8 e = refused v b wrong.Utf8 e
-  refused-byte wrong.Number e = refused v b wrong.Number e
-  refused-byte wrong.Binary e = refused v b wrong.Binary e
-  refused-byte wrong.NameRange e = refused v b wrong.NameRange e
-  refused-byte wrong.Name e = refused v b wrong.Name e
-  refused-byte (wrong.LeftOut absent) e = refused v b (wrong.LeftOut absent) e
+  pub refused-byte : (x : Wrong) → advance v.mode b ≡ Refuse x → IsInLimits v b → RefusesByte v b (fault_of x)
+  refused-byte wrong.Byte e l = refused v b wrong.Byte e l
+  refused-byte wrong.Directive e l = refused v b wrong.Directive e l
+  refused-byte wrong.CodePoint e l = refused v b wrong.CodePoint e l
+  refused-byte wrong.Utf8 e l = refused v b wrong.Utf8 e l
+  refused-byte wrong.Number e l = refused v b wrong.Number e l
+  refused-byte wrong.Binary e l = refused v b wrong.Binary e l
+  refused-byte wrong.NameRange e l = refused v b wrong.NameRange e l
+  refused-byte wrong.Name e l = refused v b wrong.Name e l
+  refused-byte (wrong.LeftOut absent) e l = refused v b (wrong.LeftOut absent) e l
 
   -- the `-` behind bytes that begin no marker
   dead-dash : advance v.mode b ≡ Dash → marker_of v.kept ≡ None → IsDeadAt v (b ∷ [])
@@ -329,8 +329,8 @@ module _ (v : Held) (b : ℕ) where
       not-all wrong.Byte founds (sym (ap all_of (lex-byte (state_of v) b rest ∙ (ap (λ (y : Action). act y (state_of v) b (λ next. lex next rest)) e
       ∙ ap (λ (o : Option Mode). dashed o (state_of v) b (λ next. lex next rest)) n))) ∙ a)
 
-  pub refused-dash : advance v.mode b ≡ Dash → marker_of v.kept ≡ None → IsDeadAt v (b ∷ []) × EndsNone v b
-  refused-dash e n = (dead-dash e n, λ q. absurd (let clash : Dash ≡ End = sym e ∙ q in cc))
+  pub refused-dash : advance v.mode b ≡ Dash → marker_of v.kept ≡ None → IsInLimits v b → IsDeadAt v (b ∷ []) × EndsNone v b × IsInLimits v b
+  refused-dash e n l = (dead-dash e n, (λ q. absurd (let clash : Dash ≡ End = sym e ∙ q in cc)), l)
 
 pub same-limits_itself : (v : Held) → SameLimits v v
 same-limits_itself v = record { statement_limit = refl; file_limit = refl; refused = refl }

@@ -79,6 +79,27 @@ pub record AreGivenBefore (given : List Token) (bytes : List ℕ) (byte : ℕ) :
   pub given_are : tokens_in lexemes ≡ given
   pub no_token : IsNoToken tail byte
 
+-- the tail is within no token
+abbrev pub IsGap : Tail → Type 0
+IsGap (unfinished bytes) = ⊥
+IsGap other = Unit {0}
+
+-- the tokens given are laid in the bytes, and between tokens the byte passes neither the limit of the file nor that of a statement
+pub record IsInLimitsBetween (held : Held) (given : List Token) (bytes : List ℕ) (byte : ℕ) : Type 0 where
+  pub lexemes : List Lexeme
+  pub tail : Tail
+  pub laid : LaidUpTo bytes lexemes tail
+  pub given_are : tokens_in lexemes ≡ given
+  pub file : IsGap tail → length bytes < held.file_limit
+  pub statement : IsGap tail → IsTokenByte tail byte → open_bytes 0 lexemes + tail_size tail < held.statement_limit
+
+-- a fault of the bytes, not of limits or memory
+abbrev pub IsOfForm : TokenFault → Type 0
+IsOfForm NoMemory = ⊥
+IsOfForm FileTooLong = ⊥
+IsOfForm RecordTooLong = ⊥
+IsOfForm fault = Unit {0}
+
 -- ---- the relation
 
 -- a waiting token was given with the byte behind it, and its spelling is all that stands before that byte
@@ -142,6 +163,7 @@ pub record RefusesAtByte (old : Held) (history : TokenHistory) (piece : List ℕ
   pub byte_is : slice_get piece count ≡ Some byte
   pub refuses : Refuses old history piece count fault
   pub given_before : fault ≢ NoMemory → AreGivenBefore history.given (history.taken ++ take count piece) byte
+  pub in_limits : IsOfForm fault → IsInLimitsBetween old history.given (history.taken ++ take count piece) byte
   pub stands : Stands new (extended history (refused_call piece count fault))
 
 -- what a call of `next` gives, for each history that the lexer stood for, where the caller offered first what was seen

@@ -101,6 +101,10 @@ Ends old (Err fault) new = ReadsFound (ended (state_of old)) (Err fault) × Same
 abbrev pub EndsNone : Held → ℕ → Type 0
 EndsNone held byte = advance held.mode byte ≡ End → (found : Found) (token : meaning.Token) → ended (state_of held) ≡ Some found → Means found token → ⊥
 
+-- a byte that ends no token passes neither limit
+abbrev pub IsInLimits : Held → ℕ → Type 0
+IsInLimits held byte = advance held.mode byte ≢ End → (held.file < held.file_limit) × (is_token_byte held.mode (advance held.mode byte) ≡ true → pending_of held < held.statement_limit)
+
 -- why a byte is refused
 abbrev pub RefusesByte : Held → ℕ → TokenFault → Type 0
 RefusesByte held byte NoMemory = is_gap held.mode ≡ true → is_blank byte ≡ true → ⊥
@@ -111,7 +115,7 @@ RefusesByte held byte OpenString = ⊥
 RefusesByte held byte OpenComment = ⊥
 RefusesByte held byte NotOneParameter = ⊥
 RefusesByte held byte EndsEarly = ⊥
-RefusesByte held byte fault = IsDeadAt held (byte ∷ []) × EndsNone held byte
+RefusesByte held byte fault = IsDeadAt held (byte ∷ []) × EndsNone held byte × IsInLimits held byte
 
 -- a byte that gave no token
 pub record Takes (old : Held) (byte : ℕ) (new : Held) : Type 0 where

@@ -7,7 +7,8 @@ use Rattle.p21_tokens.proofs.lexer.Lexer.dash.Goals as goal
 pub returns-in_default : goal.returns-in_default
 returns-in_default c = (
   same-limits_itself c.args.self.now,
-  refused-dash c.args.self.now c.args.byte c.requires.action (ap (λ (h : Held). marker_of h.kept) (sym c.self.view_is) ∙ (ap marker_of (sym c.deref.ensures.value) ∙ (sym c.marker_of.ensures ∙ c.in_default.is))),
+  refused-dash c.args.self.now c.args.byte c.requires.action (ap (λ (h : Held). marker_of h.kept) (sym c.self.view_is) ∙ (ap marker_of (sym c.deref.ensures.value) ∙ (sym c.marker_of.ensures ∙ c.in_default.is)))
+      (λ _. (c.requires.file, λ _. c.requires.statement)),
 )
 
 pub returns-in-Ok : goal.returns-in-Ok

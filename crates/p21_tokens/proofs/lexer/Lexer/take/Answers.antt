@@ -24,10 +24,13 @@ pub returns-in-Ok-close : goal.returns-in-Ok-close
 returns-in-Ok-close c = gave-closed _ _ _ _ (sym c.requires.action ∙ c.in-Close.is) (c.requires.statement (ap (is_token_byte c.args.self.now.mode) c.in-Close.is)) (c.in-Ok-close.ensures {u = tt})
 
 pub returns-in-Err-close : goal.returns-in-Err-close
-returns-in-Err-close c = refused-closed _ _ _ _ (sym c.requires.action ∙ c.in-Close.is) (c.in-Err-close.ensures {u = tt})
+returns-in-Err-close c =
+    refused-closed _ _ _ _ (sym c.requires.action ∙ c.in-Close.is) (λ _. (c.requires.file, λ q. c.requires.statement (ap (is_token_byte c.args.self.now.mode) c.requires.action ∙ q)))
+    (c.in-Err-close.ensures {u = tt})
 
 pub returns-in-Refuse : goal.returns-in-Refuse
 returns-in-Refuse c = (
   same-limits_itself c.args.self.now,
-  subst (λ (x : TokenFault). RefusesByte c.args.self.now c.args.byte x) (sym c.fault_of.ensures) (refused-byte c.args.self.now c.args.byte c.in-Refuse.wrong (sym c.requires.action ∙ c.in-Refuse.is)),
+  subst (λ (x : TokenFault). RefusesByte c.args.self.now c.args.byte x) (sym c.fault_of.ensures) (refused-byte c.args.self.now c.args.byte c.in-Refuse.wrong (sym c.requires.action ∙ c.in-Refuse.is)
+      (λ _. (c.requires.file, λ q. c.requires.statement (ap (is_token_byte c.args.self.now.mode) c.requires.action ∙ q)))),
 )
