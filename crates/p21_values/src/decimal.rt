@@ -22,10 +22,10 @@ use std::marker::Model;
 #[derive(Debug, Drop)]
 pub struct Decimal {
     negative: bool,
-    // ASCII, no zero at either end: none for the number zero.
-    digits: Vec<u8>,
     // Of the form with one digit before the point: 0 for the number zero.
     exponent: i16,
+    // ASCII, no zero at either end: none for the number zero.
+    digits: Vec<u8>,
 }
 
 impl Model for Decimal {
