@@ -8,3 +8,4 @@ pub mod Significands
 pub mod StoredDecimals
 pub mod StoredWholes
 pub mod Added
+pub mod KeptLemmas

@@ -5,5 +5,6 @@ pub mod Name
 pub mod Digits
 pub mod Decimal
 pub mod RealParts
+pub mod Kept
 pub mod Stored
 pub mod Word

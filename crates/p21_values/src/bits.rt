@@ -2,6 +2,7 @@ ghost use Rattle.std.specs.Prelude.{◌≡◌, ℕ, ◌<◌, ◌↔◌, false, L
 ghost use Rattle.p21_semantics.specs.Binary.{SpellsBits};
 ghost use Rattle.p21_values.specs.Bits.{token_of, is_hex_digit, hex_value, bits_of_digits, bits_of};
 
+use crate::bytes::Bytes;
 use crate::canonical::Canonical;
 use crate::fault::{NoMemory, ValueFault};
 use std::alloc::Global;
@@ -10,7 +11,7 @@ use std::marker::Model;
 /// A list of bits (ISO 10303-21, tokens: binary).
 #[derive(Drop)]
 pub struct Bits {
-    token: Vec<u8>,
+    token: Bytes,
 }
 
 impl Model for Bits {
@@ -20,9 +21,9 @@ impl Model for Bits {
 
     ghost Value = { List Bool };
 
-    ghost view = { λ a. bits_of a.token.items };
+    ghost view = { λ a. bits_of a.token };
 
-    ghost invariant = { λ a. SpellsBits a.token.items (bits_of a.token.items) × (4 * length a.token.items < 2 ^ 64) };
+    ghost invariant = { λ a. SpellsBits a.token (bits_of a.token) × (4 * length a.token < 2 ^ 64) };
 }
 
 impl Bits {
@@ -48,7 +49,7 @@ impl Bits {
             return Err(ValueFault::NoMemory);
         }
         Ok(Bits {
-            token: Vec::from_slice(alloc, bytes)?,
+            token: Bytes::of(alloc, bytes)?,
         })
     }
 

@@ -8,6 +8,7 @@ ghost use Rattle.p21_values.specs.RealParts.{ReadsExponent, SplitsReal, digits_r
 ghost use Rattle.p21_values.specs.Stored.{significand_spelling};
 ghost use Rattle.p21_values.specs.Digits.{WithoutEndZeros, WithoutFrontZeros};
 
+use crate::bytes::Bytes;
 use crate::canonical::Canonical;
 use crate::digits::{
     behind, short_number, split_digits, split_integer, split_sign, without_end_zeros,
@@ -22,10 +23,10 @@ use std::marker::Model;
 #[derive(Debug, Drop)]
 pub struct Decimal {
     negative: bool,
-    // ASCII, no zero at either end: none for the number zero.
-    digits: Vec<u8>,
     // Of the form with one digit before the point: 0 for the number zero.
     exponent: i16,
+    // ASCII, no zero at either end: none for the number zero.
+    digits: Bytes,
 }
 
 impl Model for Decimal {
@@ -34,9 +35,9 @@ impl Model for Decimal {
 
     ghost Value = { numbers.Decimal };
 
-    ghost view = { λ decimal. stored_decimal decimal.negative decimal.digits.items decimal.exponent };
+    ghost view = { λ decimal. stored_decimal decimal.negative decimal.digits decimal.exponent };
 
-    ghost invariant = { λ decimal. IsStoredDecimal decimal.negative decimal.digits.items decimal.exponent };
+    ghost invariant = { λ decimal. IsStoredDecimal decimal.negative decimal.digits decimal.exponent };
 }
 
 // The digits of a real on both sides of the point.
@@ -97,18 +98,18 @@ impl Decimal {
         if count == 0 {
             return Ok(Decimal {
                 negative: false,
-                digits: Vec::new(alloc),
+                digits: Bytes::empty(),
                 exponent: 0,
             });
         }
         let Some(exponent) = normalised_exponent(exponent, count, places) else {
             return Err(ValueFault::NumberRange);
         };
-        let digits = significant.without_end_zeros().to_vec(alloc)?;
+        let digits = significant.without_end_zeros().to_bytes(alloc)?;
         Ok(Decimal {
             negative,
-            digits,
             exponent,
+            digits,
         })
     }
 }
@@ -148,13 +149,10 @@ impl<'a> Digits<'a> {
         self.whole.len() + self.fraction.len()
     }
 
-    fn to_vec(self, alloc: Global) -> Result<Vec<u8>, AllocError>
-        ensures { IfOk result (λ digits. digits.items ≡ self.entry.whole.now ++ self.entry.fraction.now) }
+    fn to_bytes(self, alloc: Global) -> Result<Bytes, AllocError>
+        ensures { IfOk result (λ digits. digits ≡ self.entry.whole.now ++ self.entry.fraction.now) }
     {
-        let mut digits = Vec::with_capacity(alloc, self.len())?;
-        digits.extend_from_slice(self.whole)?;
-        digits.extend_from_slice(self.fraction)?;
-        Ok(digits)
+        Bytes::of_both(alloc, self.whole, self.fraction)
     }
 }
 

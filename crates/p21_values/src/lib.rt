@@ -3,6 +3,7 @@
 #![tactic(auto)]
 
 mod bits;
+mod bytes;
 mod canonical;
 mod decimal;
 mod digits;

@@ -1,5 +1,5 @@
-//! One value of each type is made and written, where any allocation may be refused. `tests/fail_alloc.sh` refuses each
-//! in turn.
+//! One value of each type, too long to lie in place, is made and written, where any allocation may be refused.
+//! `tests/fail_alloc.sh` refuses each in turn.
 
 use crate::{Bits, Canonical, Decimal, Name, NoMemory, Text, ValueFault, Whole, Word};
 
@@ -31,34 +31,34 @@ fn reads<T: Canonical + Drop>(
 
 #[test]
 fn whole_numbers(rt: HostRuntime) {
-    let whole = Whole::read(rt.alloc(), b"-0120");
-    assert!(rt; reads(&rt, whole, b"before -120"));
+    let whole = Whole::read(rt.alloc(), b"-0123456789012345678901234567890");
+    assert!(rt; reads(&rt, whole, b"before -123456789012345678901234567890"));
 }
 
 #[test]
 fn decimals(rt: HostRuntime) {
-    let decimal = Decimal::read(rt.alloc(), b"12.5");
-    assert!(rt; reads(&rt, decimal, b"before 1.25E1"));
+    let decimal = Decimal::read(rt.alloc(), b"12.34567890123456789012345678905");
+    assert!(rt; reads(&rt, decimal, b"before 1.234567890123456789012345678905E1"));
 }
 
 #[test]
 fn decimals_of_whole_numbers(rt: HostRuntime) {
-    if let Ok(whole) = Whole::read(rt.alloc(), b"120") {
+    if let Ok(whole) = Whole::read(rt.alloc(), b"123456789012345678901234567890") {
         let decimal = Decimal::of_whole(rt.alloc(), &whole);
-        assert!(rt; reads(&rt, decimal, b"before 1.2E2"));
+        assert!(rt; reads(&rt, decimal, b"before 1.2345678901234567890123456789E29"));
     }
 }
 
 #[test]
 fn words(rt: HostRuntime) {
-    let word = Word::read(rt.alloc(), b"RED");
-    assert!(rt; reads(&rt, word, b"before RED"));
+    let word = Word::read(rt.alloc(), b"GEOMETRIC_REPRESENTATION_CONTEXT");
+    assert!(rt; reads(&rt, word, b"before GEOMETRIC_REPRESENTATION_CONTEXT"));
 }
 
 #[test]
 fn bits(rt: HostRuntime) {
-    let bits = Bits::read(rt.alloc(), b"\"23B\"");
-    assert!(rt; reads(&rt, bits, b"before \"23B\""));
+    let bits = Bits::read(rt.alloc(), b"\"20123456789ABCDEF0123456789ABCDEF\"");
+    assert!(rt; reads(&rt, bits, b"before \"20123456789ABCDEF0123456789ABCDEF\""));
 }
 
 #[test]

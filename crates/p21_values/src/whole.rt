@@ -6,6 +6,7 @@ ghost use Rattle.p21_values.specs.Canonical.{Continues};
 ghost use Rattle.p21_values.specs.declared.fault.ValueFault.TheVariants.{BadNumber};
 ghost use Rattle.p21_values.specs.Fault.{Reads};
 
+use crate::bytes::Bytes;
 use crate::canonical::Canonical;
 use crate::digits::{split_integer, without_front_zeros};
 use crate::fault::{NoMemory, ValueFault};
@@ -17,7 +18,7 @@ use std::marker::Model;
 pub struct Whole {
     negative: bool,
     // ASCII, the first of them no zero: none for the number zero.
-    digits: Vec<u8>,
+    digits: Bytes,
 }
 
 impl Model for Whole {
@@ -28,9 +29,9 @@ impl Model for Whole {
 
     ghost Value = { ℤ };
 
-    ghost view = { λ whole. signed whole.negative (number whole.digits.items) };
+    ghost view = { λ whole. signed whole.negative (number whole.digits) };
 
-    ghost invariant = { λ whole. IsStoredWhole whole.negative whole.digits.items };
+    ghost invariant = { λ whole. IsStoredWhole whole.negative whole.digits };
 }
 
 impl Whole {
@@ -48,7 +49,7 @@ impl Whole {
         let significant = without_front_zeros(digits);
         Ok(Whole {
             negative: negative && !significant.is_empty(),
-            digits: Vec::from_slice(alloc, significant)?,
+            digits: Bytes::of(alloc, significant)?,
         })
     }
 

@@ -4,6 +4,7 @@ ghost use Rattle.p21_values.specs.declared.fault.ValueFault.TheVariants.{BadWord
 ghost use Rattle.p21_values.specs.Fault.{Reads};
 ghost use Rattle.p21_values.specs.Word.{SpellsWord};
 
+use crate::bytes::Bytes;
 use crate::canonical::Canonical;
 use crate::fault::{NoMemory, ValueFault};
 use std::alloc::Global;
@@ -12,7 +13,7 @@ use std::marker::Model;
 /// The characters of a keyword or of an enumeration item.
 #[derive(Debug, Drop)]
 pub struct Word {
-    bytes: Vec<u8>,
+    bytes: Bytes,
 }
 
 impl Model for Word {
@@ -21,9 +22,9 @@ impl Model for Word {
 
     ghost Value = { List ℕ };
 
-    ghost view = { λ word. word.bytes.items };
+    ghost view = { λ word. word.bytes };
 
-    ghost invariant = { λ word. IsKeyword word.bytes.items };
+    ghost invariant = { λ word. IsKeyword word.bytes };
 }
 
 impl Word {
@@ -40,7 +41,7 @@ impl Word {
             return Err(ValueFault::BadWord);
         }
         Ok(Word {
-            bytes: Vec::from_slice(alloc, bytes)?,
+            bytes: Bytes::of(alloc, bytes)?,
         })
     }
 

@@ -1,0 +1,153 @@
+//! Bytes, which lie in the value itself where they are few.
+ghost use Rattle.std.specs.Prelude.{◌≡◌, [], ◌++◌, length, IfOk};
+
+use std::alloc::{AllocError, Global};
+use std::fmt;
+use std::marker::Model;
+use std::ops::DerefSlice;
+
+/// How many bytes lie in place: as many as a list takes.
+const SHORT: usize = 24;
+
+#[derive(Drop)]
+enum Kept {
+    // Their count, in so many bytes that the others are aligned: then they are copied as words.
+    Short(u32, [u8; SHORT]),
+    Long(Vec<u8>),
+}
+
+/// Bytes that don't change.
+#[derive(Drop)]
+pub(crate) struct Bytes {
+    kept: Kept,
+}
+
+impl Model for Bytes {
+    ghost use Rattle.std.specs.Prelude.{ℕ, List};
+    ghost use Rattle.p21_values.specs.Kept.{IsKept, kept_bytes};
+
+    ghost Value = { List ℕ };
+
+    ghost view = { λ bytes. kept_bytes bytes.kept };
+
+    ghost invariant = { λ bytes. IsKept bytes.kept };
+}
+
+impl Bytes {
+    pub(crate) fn empty() -> Bytes
+        ensures { result ≡ [] }
+    {
+        Bytes {
+            kept: Kept::Short(0, [0; SHORT]),
+        }
+    }
+
+    pub(crate) fn of(alloc: Global, bytes: &[u8]) -> Result<Bytes, AllocError>
+        ensures { IfOk result (λ kept. kept ≡ bytes.now) }
+    {
+        Bytes::of_both(alloc, bytes, &[])
+    }
+
+    /// The bytes of both lists, one behind the other.
+    #[tactic(auto, using(crate::proofs::KeptLemmas::both_copied))]
+    pub(crate) fn of_both(alloc: Global, front: &[u8], behind: &[u8]) -> Result<Bytes, AllocError>
+        ensures { IfOk result (λ kept. kept ≡ front.now ++ behind.now) }
+    {
+        let count = front.len() + behind.len();
+        if count > SHORT {
+            return long(alloc, front, behind);
+        }
+        let mut bytes = [0; SHORT];
+        bytes[..front.len()].copy_from_slice(front);
+        bytes[front.len()..count].copy_from_slice(behind);
+        Ok(Bytes {
+            kept: Kept::Short(count as u32, bytes),
+        })
+    }
+
+    pub(crate) fn len(&self) -> usize
+        ensures { result ≡ length self.now }
+    {
+        self[..].len()
+    }
+}
+
+#[cold]
+#[inline(never)]
+fn long(alloc: Global, front: &[u8], behind: &[u8]) -> Result<Bytes, AllocError>
+    ensures { IfOk result (λ kept. kept ≡ front.now ++ behind.now) }
+{
+    let mut bytes = Vec::with_capacity(alloc, front.len() + behind.len())?;
+    bytes.extend_from_slice(front)?;
+    bytes.extend_from_slice(behind)?;
+    Ok(Bytes {
+        kept: Kept::Long(bytes),
+    })
+}
+
+impl DerefSlice for Bytes {
+    ghost use Rattle.std.specs.Prelude.{◌≡◌};
+
+    type Elem = u8;
+
+    ghost deref_gives = { λ kept bytes. bytes ≡ kept };
+
+    fn deref(&self) -> &[u8] {
+        match &self.kept {
+            Kept::Short(count, bytes) => &bytes[..*count as usize],
+            Kept::Long(bytes) => bytes.as_slice(),
+        }
+    }
+}
+
+impl fmt::Debug for Bytes {
+    fn fmt<W: fmt::Write>(&self, f: &mut fmt::Formatter<W>) -> fmt::Result {
+        f.debug_list().entries(&self[..]).finish()
+    }
+}
+
+impl PartialEq for Bytes {
+    ghost use Rattle.std.proofs.Common.{rules};
+    ghost use Rattle.std.specs.Cmp.Rules.{comparing};
+    ghost use Rattle.std.specs.Str.{bytes_eq};
+
+    ghost eq = { bytes_eq };
+
+    ghost laws = { Prim.search (comparing, rules) };
+
+    fn eq(&self, other: &Bytes) -> bool {
+        self[..] == other[..]
+    }
+}
+
+#[cfg(test)]
+mod tests {
+    use super::*;
+    use std::test::Fail;
+
+    const MANY: &[u8] = b"0123456789abcdefghijklmnopqrstuvwxyz";
+
+    #[test]
+    fn keeps_few_and_many(rt: HostRuntime) -> Result<(), Fail> {
+        for count in [0, 1, SHORT - 1, SHORT, SHORT + 1, MANY.len()] {
+            let bytes = Bytes::of(rt.alloc(), &MANY[..count])?;
+            assert_eq!(rt; &bytes[..], &MANY[..count]);
+            assert_eq!(rt; bytes.len(), count);
+        }
+        Ok(())
+    }
+
+    #[test]
+    fn keeps_both(rt: HostRuntime) -> Result<(), Fail> {
+        for count in [0, 1, SHORT - 1, SHORT, SHORT + 1] {
+            let (front, behind) = MANY.split_at(count);
+            let long = Bytes::of_both(rt.alloc(), front, behind)?;
+            assert!(rt; long == Bytes::of(rt.alloc(), MANY)?);
+            let (first, rest) = front.split_at(count / 2);
+            let front_again = Bytes::of_both(rt.alloc(), first, rest)?;
+            assert!(rt; front_again == Bytes::of(rt.alloc(), front)?);
+            assert!(rt; front_again != long);
+        }
+        Ok(())
+    }
+}
