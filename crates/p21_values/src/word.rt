@@ -71,7 +71,10 @@ fn is_upper(byte: u8) -> bool
 fn is_keyword_byte(byte: u8) -> bool
     ensures { IsTrue result ↔ IsKeywordByte byte }
 {
-    matches!(byte, b'A'..=b'Z' | b'_' | b'0'..=b'9')
+    if b'A' <= byte && byte <= b'Z' {
+        return true;
+    }
+    matches!(byte, b'_' | b'0'..=b'9')
 }
 
 impl PartialEq for Word {
