@@ -8,14 +8,15 @@
 benchmarks=$(dirname -- "$(readlink -f -- "$0")")
 "$benchmarks/build.sh" values p21_values || exit
 
-exec python3 - "$benchmarks/out" <<'PROGRAM'
+PYTHONDONTWRITEBYTECODE=1 PYTHONPATH=$benchmarks exec python3 - "$benchmarks/out" <<'PROGRAM'
 import os
 import re
 import shutil
 import subprocess
 import sys
 import tempfile
-import time
+
+from measure import peak_memory, seconds
 
 OUT = sys.argv[1]
 PROGRAMS = [os.path.join(OUT, name) for name in ("values", "values_plain")]
@@ -36,27 +37,6 @@ def label(number):
 
 
 KINDS = {"reals": real, "names": "#{}".format, "labels": label}
-
-
-def seconds(words):
-    """The processor time of one run, for the program and for the system in its name."""
-    process = subprocess.Popen(words, stdout=subprocess.DEVNULL)
-    _, status, usage = os.wait4(process.pid, 0)
-    if status:
-        sys.exit(f"{words} ended with {status}")
-    return usage.ru_utime + usage.ru_stime
-
-
-def peak_memory(words):
-    """The most resident bytes that are seen in one run, looked at each millisecond."""
-    peak = 0
-    with subprocess.Popen(words, stdout=subprocess.DEVNULL) as process:
-        while process.poll() is None:
-            with open(f"/proc/{process.pid}/status") as status:
-                lines = [line for line in status if line.startswith("VmHWM:")]
-            peak = max([peak, *(int(line.split()[1]) * 1024 for line in lines)])
-            time.sleep(0.001)
-    return peak
 
 
 def allocations(words):
