@@ -1,5 +1,5 @@
 //! Tokens that stand whole at the front of bytes, read without a state.
-ghost use Rattle.std.specs.Prelude.{◌≡◌, IfSome};
+ghost use Rattle.std.specs.Prelude.{◌≡◌, ◌≤◌, IfSome};
 ghost use Rattle.p21_tokens_automaton.specs.Step.{advance};
 ghost use Rattle.p21_tokens_automaton.specs.declared.mode.Mode.TheVariants.{Between};
 ghost use Rattle.p21_tokens_automaton.specs.declared.mode.Action.TheVariants.{Give};
@@ -52,8 +52,10 @@ fn waiting_token(alloc: Global, first: u8, bytes: &[u8]) -> Option<(usize, Token
     }
 }
 
-/// Where the digits end that stand at a place.
-fn end_of_digits(bytes: &[u8], from: usize) -> usize {
+/// Where the digits end that stand at a place. The readers test the bytes again.
+fn end_of_digits(bytes: &[u8], from: usize) -> usize
+    ensures { from ≤ result }
+{
     let mut end = from;
     while end < bytes.len() && bytes[end].is_ascii_digit() {
         end += 1;
