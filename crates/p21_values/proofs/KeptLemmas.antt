@@ -1,5 +1,5 @@
 -- Bytes copied over the front of others.
-use Rattle.std.proofs.Common.{◌≡◌, ℕ, ◌+◌, List, ◌++◌, length, take, ap, sym, subst, ◌∙◌}
+use Rattle.std.proofs.Common.{◌≡◌, ℕ, ◌+◌, List, ◌++◌, length, take, ap, ◌∙◌}
 use Rattle.std.proofs.Math.Seq.{take-append_seam, take-append-add}
 
 -- two lists, the second behind the first

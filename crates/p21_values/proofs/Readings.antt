@@ -1,5 +1,6 @@
 -- What the readers cut off is what every form of the bytes has there.
-use Rattle.std.proofs.Common.{◌≡◌, ℕ, ℤ, Bool, List, [], ◌∷◌, ◌++◌, Result, Ok, Err, refl, ap, sym, ◌∙◌, subst, arith}
+use Rattle.std.proofs.Common.{◌≡◌, ℕ, ◌-◌, ℤ, pos, Bool, List, [], ◌∷◌, ◌++◌, length, length-append, append_assoc, take, drop, Result, Ok, Err, refl, ap, sym, ◌∙◌, subst, arith}
+use Rattle.std.proofs.Math.Seq.{take-append_seam, drop-append_seam}
 use Rattle.std.proofs.lemmas.List.{append-nil}
 use Rattle.p21_semantics.specs.Digits.{AllDigits}
 use Rattle.p21_semantics.specs.Number.{Decimal, Exponent, IsInRange, IsShort, RealForm, exponent, exponent_bytes, exponent_value, is_minus, no_exponent, real_ratio, sign_bytes}
@@ -8,7 +9,7 @@ use Rattle.p21_semantics.proofs.RealSpellings.{form_ratio_once}
 use Rattle.p21_values.specs.declared.fault.ValueFault.{ValueFault}
 use Rattle.p21_values.specs.declared.fault.ValueFault.TheVariants.{BadBinary, BadName, BadNumber, BadWord, NameRange, NoMemory, NumberRange}
 use Rattle.p21_values.specs.Decimal.{KeepsRatio, ReadsReal}
-use Rattle.p21_values.specs.RealParts.{HasExponentForm, ReadsExponent, SplitsReal, digits_ratio}
+use Rattle.p21_values.specs.RealParts.{BeginsReal, HasExponentForm, IsFrontReal, NoExponentFirst, ReadsExponent, ReadsFrontReal, SplitsReal, digits_ratio}
 use Rattle.p21_values.specs.Digits.{SignedDigits}
 
 -- what stands behind the sign are the digits and nothing else
@@ -32,19 +33,38 @@ exponent_form bytes rest n ds e s = record { bytes_are = e ∙ ap (λ (xs : List
 
 -- ---- the parts of a real
 
-pub whole_once : (bytes whole rest : List ℕ) → behind_sign bytes ≡ whole ++ rest → AllDigits whole → NoDigitFirst rest → (f : RealForm bytes) → (f.whole ≡ whole) × ((46 ∷ (f.fraction ++ exponent_bytes f.power)) ≡ rest)
+pub whole_once : (bytes whole rest : List ℕ) → behind_sign bytes ≡ whole ++ rest → AllDigits whole → NoDigitFirst rest → (f : BeginsReal bytes) → (f.whole ≡ whole) × ((46 ∷ f.behind) ≡ rest)
 whole_once bytes whole rest e p n f =
-    let again = (first_sign_bytes f.sign (f.whole ++ (46 ∷ (f.fraction ++ exponent_bytes f.power))) (no_sign_first f.whole _ f.some_digits f.are_digits)).1 in
-    split_once f.whole whole (46 ∷ (f.fraction ++ exponent_bytes f.power)) rest f.are_digits p (λ d. omega (arith, d)) n (sym again ∙ ap behind_sign (sym f.bytes_are) ∙ e)
+    let again = (first_sign_bytes f.sign (f.whole ++ (46 ∷ f.behind)) (no_sign_first f.whole _ f.some_digits f.are_digits)).1 in
+    split_once f.whole whole (46 ∷ f.behind) rest f.are_digits p (λ d. omega (arith, d)) n (sym again ∙ ap behind_sign (sym f.bytes_are) ∙ e)
 
--- what stands behind the fraction is the exponent of every form
-behind_once : (bytes : List ℕ) (negative : Bool) (whole fraction behind : List ℕ) → SplitsReal bytes negative whole fraction behind → (f : RealForm bytes) → exponent_bytes f.power ≡ behind
-behind_once bytes negative whole fraction behind s f =
-    let signs = sign_once f.sign s.sign _ _ (no_sign_first f.whole _ f.some_digits f.are_digits) (no_sign_first whole _ s.some_digits s.are_digits) (sym f.bytes_are ∙ s.bytes_are) in
-    let wholes = split_once f.whole whole _ _ f.are_digits s.are_digits (λ d. omega (arith, d)) (λ d. omega (arith, d)) signs.1 in
+pub splits_begins : (bytes : List ℕ) (negative : Bool) (whole fraction behind : List ℕ) → SplitsReal bytes negative whole fraction behind → BeginsReal bytes
+splits_begins bytes negative whole fraction behind s = record { sign = s.sign; whole = whole; behind = fraction ++ behind; bytes_are = s.bytes_are; some_digits = s.some_digits; are_digits = s.are_digits }
+
+-- every form is cut as the bytes are
+form_splits : (bytes : List ℕ) (f : RealForm bytes) → SplitsReal bytes (is_minus f.sign) f.whole f.fraction (exponent_bytes f.power)
+form_splits bytes f =
+    record {
+      sign = f.sign;
+      bytes_are = f.bytes_are;
+      negative_is = refl;
+      some_digits = f.some_digits;
+      are_digits = f.are_digits;
+      are_fraction_digits = f.are_fraction_digits;
+      no_digit = no_digit_exponent f.power;
+    }
+
+pub form_begins : (bytes : List ℕ) → RealForm bytes → BeginsReal bytes
+form_begins bytes f = splits_begins bytes _ _ _ _ (form_splits bytes f)
+
+-- what stands behind the fraction is the same, however the bytes are cut
+behind_once : (bytes : List ℕ) (m n : Bool) (v w f g x y : List ℕ) → SplitsReal bytes m v f x → SplitsReal bytes n w g y → x ≡ y
+behind_once bytes m n v w f g x y s t =
+    let signs = sign_once s.sign t.sign _ _ (no_sign_first v _ s.some_digits s.are_digits) (no_sign_first w _ t.some_digits t.are_digits) (sym s.bytes_are ∙ t.bytes_are) in
+    let wholes = split_once v w _ _ s.are_digits t.are_digits (λ d. omega (arith, d)) (λ d. omega (arith, d)) signs.1 in
     let rests = wholes.1 in
-    let tails : f.fraction ++ exponent_bytes f.power ≡ fraction ++ behind = cc in
-    (split_once f.fraction fraction _ _ f.are_fraction_digits s.are_fraction_digits (no_digit_exponent f.power) s.no_digit tails).1
+    let tails : f ++ x ≡ g ++ y = cc in
+    (split_once f g _ _ s.are_fraction_digits t.are_fraction_digits s.no_digit t.no_digit tails).1
 
 form_of : (bytes : List ℕ) (negative : Bool) (whole fraction behind : List ℕ) → SplitsReal bytes negative whole fraction behind → (x : Exponent) → HasExponentForm behind x → RealForm bytes
 form_of bytes negative whole fraction behind s x e =
@@ -64,7 +84,7 @@ form_of bytes negative whole fraction behind s x e =
 pub reads_exponent_fault : (bytes : List ℕ) (negative : Bool) (whole fraction behind : List ℕ) → SplitsReal bytes negative whole fraction behind → (fault : ValueFault) → ReadsExponent behind (Err fault) → ReadsReal bytes (Err fault)
 unfolding form_of
 reads_exponent_fault bytes negative whole fraction behind s BadNumber h =
-    λ f. h f.power (record { bytes_are = sym (behind_once bytes negative whole fraction behind s f); is_exponent = f.is_exponent })
+    λ f. h f.power (record { bytes_are = behind_once bytes _ _ _ _ _ _ _ _ s (form_splits bytes f); is_exponent = f.is_exponent })
 reads_exponent_fault bytes negative whole fraction behind s NumberRange (x, form, long) =
     let own = form_of bytes negative whole fraction behind s x form in
     (own, λ value spelled. long (subst IsShort (same_form bytes spelled.form own).power spelled.is_short))
@@ -90,3 +110,63 @@ unfolding form_of
 reads_parts bytes negative whole fraction behind k r s (x, form, short, value) h =
     real_of_ratio bytes (form_of bytes negative whole fraction behind s x form) r short (
     subst (λ (b : Bool). KeepsRatio (digits_ratio b whole fraction (exponent_value x)) r) s.negative_is (subst (λ (z : ℤ). KeepsRatio (digits_ratio negative whole fraction z) r) value h))
+
+-- ---- a real at the front
+
+pub no_front_begins : (bytes : List ℕ) → (BeginsReal bytes → ⊥) → (count : ℕ) → IsFrontReal bytes count → ⊥
+no_front_begins bytes none_begins count f = none_begins (splits_begins bytes _ _ _ _ f.splits)
+
+pub no_front_exponent : (bytes : List ℕ) (negative : Bool) (whole fraction rest : List ℕ) → SplitsReal bytes negative whole fraction rest → (NoExponentFirst rest → ⊥) → (count : ℕ) → IsFrontReal bytes count → ⊥
+no_front_exponent bytes negative whole fraction rest s e count f = e (subst NoExponentFirst (behind_once bytes _ _ _ _ _ _ _ _ f.splits s) f.no_exponent)
+
+module _ (bytes : List ℕ) (negative : Bool) (whole fraction rest : List ℕ) (s : SplitsReal bytes negative whole fraction rest) (e : NoExponentFirst rest) where
+  front : List ℕ
+  front = sign_bytes s.sign ++ (whole ++ (46 ∷ fraction))
+
+  parts : bytes ≡ front ++ rest
+  unfolding front
+  parts = s.bytes_are ∙ sym (append_assoc (sign_bytes s.sign) (whole ++ (46 ∷ fraction)) rest ∙ ap (λ xs. sign_bytes s.sign ++ xs) (append_assoc whole (46 ∷ fraction) rest))
+
+  count_is : length bytes - length rest ≡ length front
+  count_is = let l = ap length parts ∙ length-append front rest in omega arith
+
+  takes : take (length bytes - length rest) bytes ≡ front
+  takes = ap (λ n. take n bytes) count_is ∙ (ap (λ xs. take (length front) xs) parts ∙ take-append_seam front rest)
+
+  drops : drop (length bytes - length rest) bytes ≡ rest
+  drops = ap (λ n. drop n bytes) count_is ∙ (ap (λ xs. drop (length front) xs) parts ∙ drop-append_seam front rest)
+
+  pub is_front : IsFrontReal bytes (length bytes - length rest)
+  is_front = record {
+    within = omega arith;
+    negative = negative;
+    whole = whole;
+    fraction = fraction;
+    splits = subst (λ xs. SplitsReal bytes negative whole fraction xs) (sym drops) s;
+    no_exponent = subst NoExponentFirst (sym drops) e;
+  }
+
+  front_splits : SplitsReal (take (length bytes - length rest) bytes) negative whole fraction []
+  unfolding front
+  front_splits = record {
+    sign = s.sign;
+    bytes_are = takes ∙ ap (λ xs. sign_bytes s.sign ++ (whole ++ (46 ∷ xs))) (sym (append-nil fraction));
+    negative_is = s.negative_is;
+    some_digits = s.some_digits;
+    are_digits = s.are_digits;
+    are_fraction_digits = s.are_fraction_digits;
+    no_digit = tt;
+  }
+
+  -- the number of the parts is that of the bytes up to what stands behind
+  pub reads_front : (r : Result Decimal ValueFault) → KeepsRatio (digits_ratio negative whole fraction (pos 0)) r → ReadsReal (take (length bytes - length rest) bytes) r
+  reads_front r h = reads_parts _ negative whole fraction [] (pos 0) r front_splits (no_exponent, record { bytes_are = refl; is_exponent = tt }, tt, refl) h
+
+  pub reads_front_fault : (fault : ValueFault) → KeepsRatio (digits_ratio negative whole fraction (pos 0)) (Err fault) → ReadsFrontReal bytes (Err fault)
+  reads_front_fault NoMemory h = tt
+  reads_front_fault NumberRange h = (length bytes - length rest, is_front, (reads_front (Err NumberRange) h).1)
+  reads_front_fault BadNumber h = absurd h
+  reads_front_fault BadBinary h = absurd h
+  reads_front_fault NameRange h = absurd h
+  reads_front_fault BadName h = absurd h
+  reads_front_fault BadWord h = absurd h

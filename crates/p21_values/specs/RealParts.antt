@@ -1,10 +1,10 @@
 -- The parts that a reader cuts a real into (ISO 10303-21, tokens: real).
-use Rattle.std.specs.Prelude.{◌≡◌, ℕ, ◌+◌, ◌<◌, ℤ, Bool, Result, Ok, Err, List, ◌∷◌, ◌++◌, length}
+use Rattle.std.specs.Prelude.{◌≡◌, ◌≢◌, ℕ, ◌+◌, ◌<◌, ◌≤◌, ℤ, Bool, Result, Ok, Err, List, [], ◌∷◌, ◌++◌, length, take, drop}
 use Rattle.p21_semantics.specs.Digits.{AllDigits, number}
-use Rattle.p21_semantics.specs.Number.{Exponent, IsExponent, IsShort, Ratio, Sign, exponent_bytes, exponent_value, is_minus, scaled, sign_bytes, signed}
+use Rattle.p21_semantics.specs.Number.{Decimal, Exponent, IsExponent, IsShort, Ratio, Sign, exponent_bytes, exponent_value, is_minus, SpellsReal, scaled, sign_bytes, signed}
 use Rattle.p21_semantics.proofs.Forms.{NoDigitFirst}
 use Rattle.p21_values.specs.declared.fault.ValueFault.{ValueFault}
-use Rattle.p21_values.specs.declared.fault.ValueFault.TheVariants.{BadNumber, NumberRange}
+use Rattle.p21_values.specs.declared.fault.ValueFault.TheVariants.{BadNumber, NoMemory, NumberRange}
 use borrow.Author.Differences.{up, down}
 
 -- a sign or none, digits, a point, digits or none, and what stands behind them
@@ -16,6 +16,37 @@ pub record SplitsReal (bytes : List ℕ) (negative : Bool) (whole fraction behin
   pub are_digits : AllDigits whole
   pub are_fraction_digits : AllDigits fraction
   pub no_digit : NoDigitFirst behind
+
+-- a sign or none, digits and a point at the front
+pub record BeginsReal (bytes : List ℕ) : Type 0 where
+  pub sign : Sign
+  pub whole : List ℕ
+  pub behind : List ℕ
+  pub bytes_are : bytes ≡ sign_bytes sign ++ (whole ++ (46 ∷ behind))
+  pub some_digits : 0 < length whole
+  pub are_digits : AllDigits whole
+
+-- the bytes do not begin with `E`
+abbrev pub NoExponentFirst : List ℕ → Type 0
+NoExponentFirst [] = Unit {0}
+NoExponentFirst (byte ∷ bytes) = byte ≢ 69
+
+-- so many bytes at the front are a sign or none, digits, a point, and digits or none; neither a digit nor `E` stands behind
+pub record IsFrontReal (bytes : List ℕ) (count : ℕ) : Type 0 where
+  pub within : count ≤ length bytes
+  pub negative : Bool
+  pub whole : List ℕ
+  pub fraction : List ℕ
+  pub splits : SplitsReal bytes negative whole fraction (drop count bytes)
+  pub no_exponent : NoExponentFirst (drop count bytes)
+
+-- how many bytes it has, and the number that they spell; else there is none, or one that is out of range
+abbrev pub ReadsFrontReal : List ℕ → Result (ℕ × Decimal) ValueFault → Type 0
+ReadsFrontReal bytes (Ok front) = IsFrontReal bytes front.0 × SpellsReal (take front.0 bytes) front.1
+ReadsFrontReal bytes (Err NoMemory) = Unit {0}
+ReadsFrontReal bytes (Err BadNumber) = (count : ℕ) → IsFrontReal bytes count → ⊥
+ReadsFrontReal bytes (Err NumberRange) = (count : ℕ) × IsFrontReal bytes count × ((value : Decimal) → SpellsReal (take count bytes) value → ⊥)
+ReadsFrontReal bytes (Err fault) = ⊥
 
 -- an exponent, whatever its length
 pub record HasExponentForm (bytes : List ℕ) (exponent : Exponent) : Type 0 where

@@ -1,5 +1,5 @@
 //! Bytes, which lie in the value itself where they are few.
-ghost use Rattle.std.specs.Prelude.{◌≡◌, [], ◌++◌, length, IfOk};
+ghost use Rattle.std.specs.Prelude.{◌≡◌, ◌≤◌, [], ◌++◌, length, take, IfOk};
 
 use std::alloc::{AllocError, Global};
 use std::fmt;
@@ -62,6 +62,22 @@ impl Bytes {
         bytes[front.len()..count].copy_from_slice(behind);
         Ok(Bytes {
             kept: Kept::Short(count as u32, bytes),
+        })
+    }
+
+    /// So many bytes at the front. Where there are more, a whole place is copied: that takes no loop.
+    #[inline(always)]
+    pub(crate) fn front(alloc: Global, bytes: &[u8], count: usize) -> Result<Bytes, AllocError>
+        requires { count ≤ length bytes.now }
+        ensures { IfOk result (λ kept. kept ≡ take count bytes.now) }
+    {
+        if count > SHORT || bytes.len() < SHORT {
+            return Bytes::of(alloc, &bytes[..count]);
+        }
+        let mut place = [0; SHORT];
+        place.copy_from_slice(&bytes[..SHORT]);
+        Ok(Bytes {
+            kept: Kept::Short(count as u32, place),
         })
     }
 
@@ -133,6 +149,10 @@ mod tests {
             let bytes = Bytes::of(rt.alloc(), &MANY[..count])?;
             assert_eq!(rt; &bytes[..], &MANY[..count]);
             assert_eq!(rt; bytes.len(), count);
+            for end in [count, MANY.len()] {
+                let front = Bytes::front(rt.alloc(), &MANY[..end], count)?;
+                assert_eq!(rt; &front[..], &MANY[..count]);
+            }
         }
         Ok(())
     }

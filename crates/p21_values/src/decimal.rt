@@ -1,10 +1,10 @@
-ghost use Rattle.std.specs.Prelude.{◌≡◌, ◌-◌, ◌<◌, ◌+ℤ◌, ◌-ℤ◌, pos, [], ◌∷◌, ◌++◌, length, if◌then◌else◌, IfNone, IfOk, IfSome, OnErr, OnOk};
+ghost use Rattle.std.specs.Prelude.{◌≡◌, ◌-◌, ◌<◌, ◌+ℤ◌, ◌-ℤ◌, pos, [], ◌∷◌, ◌++◌, length, if◌then◌else◌, IfNone, IfOk, IfSome, OnErr, OnOk, true, false};
 ghost use Rattle.p21_semantics.specs.Digits.{AllDigits, number};
 ghost use Rattle.p21_semantics.specs.Number.{IsExponentInRange, RealForm, whole_ratio};
 ghost use Rattle.p21_semantics.specs.Spelling.{exponent_spelling, real_spelling};
 ghost use Rattle.p21_values.specs.Canonical.{Continues};
 ghost use Rattle.p21_values.specs.Decimal.{IsDecimal, KeepsRatio, ReadsReal};
-ghost use Rattle.p21_values.specs.RealParts.{ReadsExponent, SplitsReal, digits_ratio};
+ghost use Rattle.p21_values.specs.RealParts.{BeginsReal, NoExponentFirst, ReadsExponent, ReadsFrontReal, SplitsReal, digits_ratio};
 ghost use Rattle.p21_values.specs.Stored.{significand_spelling};
 ghost use Rattle.p21_values.specs.Digits.{WithoutEndZeros, WithoutFrontZeros};
 
@@ -66,6 +66,27 @@ impl Decimal {
         Decimal::of_digits(alloc, negative, digits, exponent)
     }
 
+    /// Reads the real that stands at the front of bytes without an exponent: a sign or none, digits, a point, and digits
+    /// or none, behind which neither a digit nor `E` stands. Says also how many bytes it has.
+    ///
+    /// # Errors
+    ///
+    /// `BadNumber` where no such real stands there. `NumberRange` where the exponent of the form with one digit before
+    /// the point isn't in -9999 to 9999. `NoMemory`.
+    #[inline(always)]
+    pub fn read_front(alloc: Global, bytes: &[u8]) -> Result<(usize, Decimal), ValueFault>
+        ensures { ReadsFrontReal bytes.now result }
+    {
+        let Some((negative, digits, rest)) = split_real(bytes) else {
+            return Err(ValueFault::BadNumber);
+        };
+        if begins_exponent(rest) {
+            return Err(ValueFault::BadNumber);
+        }
+        let number = Decimal::of_digits(alloc, negative, digits, 0)?;
+        Ok((bytes.len() - rest.len(), number))
+    }
+
     /// The number with the same ratio.
     ///
     /// # Errors
@@ -83,6 +104,7 @@ impl Decimal {
     }
 
     // The number of the digits, times ten to the exponent.
+    #[inline(always)]
     fn of_digits(
         alloc: Global,
         negative: bool,
@@ -158,7 +180,7 @@ impl<'a> Digits<'a> {
 
 // Whether a minus stands first, the digits, and what stands behind them, where the bytes begin as a real.
 fn split_real(bytes: &[u8]) -> Option<(bool, Digits<'_>, &[u8])>
-    ensures none { IfNone result (RealForm bytes.now → ⊥) }
+    ensures none { IfNone result (BeginsReal bytes.now → ⊥) }
     ensures some { IfSome result (λ parts. SplitsReal bytes.now parts.0 parts.1.whole.now parts.1.fraction.now parts.2.now) }
 {
     let (negative, unsigned) = split_sign(bytes);
@@ -169,6 +191,16 @@ fn split_real(bytes: &[u8]) -> Option<(bool, Digits<'_>, &[u8])>
     let rest = behind(b'.', rest)?;
     let (fraction, rest) = split_digits(rest);
     Some((negative, Digits { whole, fraction }, rest))
+}
+
+fn begins_exponent(bytes: &[u8]) -> bool
+    ensures yes { result ≡ true → NoExponentFirst bytes.now → ⊥ }
+    ensures no { result ≡ false → NoExponentFirst bytes.now }
+{
+    match bytes.first() {
+        Some(byte) => *byte == b'E',
+        None => false,
+    }
 }
 
 // The exponent that is written: 0 where there is none.
@@ -390,6 +422,53 @@ mod tests {
                 "{text}"
             );
         }
+    }
+
+    #[test]
+    fn reads_the_front(rt: HostRuntime) -> Result<(), Fail> {
+        let cases = [
+            ("0.)", 2, "0."),
+            ("1.5,2.5", 3, "1.5"),
+            ("-012.500", 8, "-1.25E1"),
+            ("+0.00250)", 8, "2.5E-3"),
+            ("1.e5", 2, "1."),
+            (
+                "12345678901234567890.12345678900,",
+                32,
+                "1.2345678901234567890123456789E19",
+            ),
+        ];
+        for (text, count, spelling) in cases {
+            let (found, number) = Decimal::read_front(rt.alloc(), text.as_bytes())?;
+            assert_eq!(rt; found, count, "{text}");
+            assert_eq!(rt;
+                spelled(&rt, &number)?.as_slice(),
+                spelling.as_bytes(),
+                "{text}"
+            );
+        }
+        Ok(())
+    }
+
+    #[test]
+    fn refuses_what_begins_as_no_real(rt: HostRuntime) {
+        for text in ["", "1", "1,5", ".5", "+.5", "A", "1.5E3", "1.E,"] {
+            let found = Decimal::read_front(rt.alloc(), text.as_bytes()).err();
+            assert_eq!(rt; found, Some(ValueFault::BadNumber), "{text}");
+        }
+    }
+
+    #[test]
+    fn refuses_a_front_out_of_range(rt: HostRuntime) -> Result<(), Fail> {
+        let mut text = Vec::from_slice(rt.alloc(), b"1")?;
+        text.resize(10_000, b'0')?;
+        text.extend_from_slice(b".)")?;
+        assert_eq!(rt; Decimal::read_front(rt.alloc(), &text)?.0, 10_001);
+        text[0] = b'0';
+        text.insert(0, b'1')?;
+        let found = Decimal::read_front(rt.alloc(), &text).err();
+        assert_eq!(rt; found, Some(ValueFault::NumberRange));
+        Ok(())
     }
 
     #[test]

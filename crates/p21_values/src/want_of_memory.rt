@@ -42,6 +42,13 @@ fn decimals(rt: HostRuntime) {
 }
 
 #[test]
+fn decimals_at_the_front(rt: HostRuntime) {
+    let front = Decimal::read_front(rt.alloc(), b"12.34567890123456789012345678905,");
+    let decimal = front.map(|(_count, number)| number);
+    assert!(rt; reads(&rt, decimal, b"before 1.234567890123456789012345678905E1"));
+}
+
+#[test]
 fn decimals_of_whole_numbers(rt: HostRuntime) {
     if let Ok(whole) = Whole::read(rt.alloc(), b"123456789012345678901234567890") {
         let decimal = Decimal::of_whole(rt.alloc(), &whole);

@@ -1,4 +1,4 @@
-ghost use Rattle.std.specs.Prelude.{◌≡◌, ◌↔◌, IsTrue};
+ghost use Rattle.std.specs.Prelude.{◌≡◌, ◌↔◌, ◌≤◌, IsTrue, IfOk, length, take};
 ghost use Rattle.p21_semantics.specs.Keyword.{IsKeyword, IsKeywordByte, IsUpper};
 ghost use Rattle.p21_values.specs.declared.fault.ValueFault.TheVariants.{BadWord};
 ghost use Rattle.p21_values.specs.Fault.{Reads};
@@ -42,6 +42,22 @@ impl Word {
         }
         Ok(Word {
             bytes: Bytes::of(alloc, bytes)?,
+        })
+    }
+
+    /// The word of so many bytes at the front.
+    ///
+    /// # Errors
+    ///
+    /// `NoMemory`.
+    #[inline(always)]
+    pub fn of_front(alloc: Global, bytes: &[u8], count: usize) -> Result<Word, NoMemory>
+        requires within { count ≤ length bytes.now }
+        requires keyword { IsKeyword (take count bytes.now) }
+        ensures { IfOk result (λ word. word ≡ take count bytes.now) }
+    {
+        Ok(Word {
+            bytes: Bytes::front(alloc, bytes, count)?,
         })
     }
 
@@ -150,6 +166,15 @@ mod tests {
         for text in ["red", "", "1A", "Red", "A-B", "A ", ".T."] {
             assert_eq!(rt; read(&rt, text).err(), Some(ValueFault::BadWord), "{text}");
         }
+    }
+
+    #[test]
+    fn takes_the_front(rt: HostRuntime) -> Result<(), Fail> {
+        let word = Word::of_front(rt.alloc(), b"AB_1(", 4)?;
+        assert_eq!(rt; spelled(&rt, &word)?.as_slice(), b"AB_1".as_slice());
+        let word = Word::of_front(rt.alloc(), b"AB_1('A',(0.,1.5,2.25));", 4)?;
+        assert_eq!(rt; spelled(&rt, &word)?.as_slice(), b"AB_1".as_slice());
+        Ok(())
     }
 
     #[test]

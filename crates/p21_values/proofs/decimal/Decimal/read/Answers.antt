@@ -3,8 +3,11 @@ use Rattle.std.proofs.lemmas.Int.{ints}
 use Rattle.std.proofs.lemmas.Result.{err_from_is_err_and}
 use mir.Syntax.{w32}
 use Rattle.p21_semantics.proofs.PlainDigits.{digits_append}
-use Rattle.p21_values.proofs.Readings.{reads_exponent_fault, reads_parts}
+use Rattle.p21_values.proofs.Readings.{form_begins, reads_exponent_fault, reads_parts}
 use Rattle.p21_values.proofs.decimal.Decimal.read.Goals as goal
+
+pub returns-in_default : goal.returns-in_default
+returns-in_default c = λ f. c.in_default.ensures.none (form_begins _ f)
 
 pub of_digits-requires : goal.of_digits-requires
 of_digits-requires c =

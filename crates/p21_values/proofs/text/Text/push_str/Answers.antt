@@ -1,4 +1,4 @@
-use Rattle.std.proofs.Common.{rules, subst, sym, ap, ◌≡◌, ◌∙◌, ◌++◌, List, ℕ}
+use Rattle.std.proofs.Common.{subst, sym, ap, ◌≡◌, ◌∙◌, ◌++◌, List, ℕ}
 use Rattle.std.specs.Char.{IsScalar}
 use Rattle.std.specs.List.{AllByRecursion}
 use Rattle.std.specs.Str.{chars}
