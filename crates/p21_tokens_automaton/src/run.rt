@@ -1,8 +1,12 @@
-ghost use Rattle.std.specs.Prelude.{◌≡◌, ◌<◌, false, length, slice_index};
-ghost use Rattle.p21_tokens_automaton.specs.Run.{IsRun, AreOf, is_of};
-ghost use Rattle.p21_tokens_automaton.specs.declared.mode.Mode.TheVariants.{Name, Text};
+ghost use Rattle.std.specs.Prelude.{◌≡◌, ◌^◌, ◌<◌, ◌≤◌, ◌⊎◌, false, length, slice_index};
+ghost use Rattle.p21_tokens_automaton.specs.Bytes.{is_digit};
+ghost use Rattle.p21_tokens_automaton.specs.Run.{IsRun, AreNameDigits, AreOf, EachDoes, is_of};
+ghost use Rattle.p21_tokens_automaton.specs.declared.mode.Action.TheVariants.{Keep, Put};
+ghost use Rattle.p21_tokens_automaton.specs.declared.mode.Mode.TheVariants.{Name, Text, Word};
 ghost use Rattle.p21_tokens_automaton.specs.declared.mode.NameMode.TheVariants.{Digits};
 ghost use Rattle.p21_tokens_automaton.specs.declared.mode.TextMode.TheVariants.{Inside};
+ghost use Rattle.p21_tokens_automaton.specs.declared.mode.WordMode.TheVariants.{Keyword};
+ghost use Rattle.p21_tokens_automaton.specs.declared.run.Class.TheVariants.{KeywordByte, Plain};
 
 use crate::bytes::{is_blank, is_digit, is_hex, is_keyword_byte};
 use crate::mode::{BinaryMode, Mode, NameMode, NumberMode, TextMode, WordMode};
@@ -37,7 +41,10 @@ pub fn run_of(mode: Mode, bytes: &[u8]) -> Run
         Mode::Word(WordMode::UserKeyword) => Run::Kept(long_front(Class::KeywordByte, bytes)),
         Mode::Word(WordMode::Item) => Run::Kept(long_front(Class::KeywordByte, bytes)),
         Mode::Binary(BinaryMode::Hex) => Run::Kept(long_front(Class::HexDigit, bytes)),
-        Mode::Name(NameMode::Digits(value)) => name_run(value, bytes),
+        Mode::Name(NameMode::Digits(value)) => {
+            let (count, value) = name_digits(value, bytes);
+            Run::Named(count, value)
+        }
         Mode::Text(TextMode::Inside) => text_run(bytes),
         _ => Run::Passed(0),
     }
@@ -47,16 +54,19 @@ pub fn run_of(mode: Mode, bytes: &[u8]) -> Run
 fn text_run(bytes: &[u8]) -> Run
     ensures { IsRun (Text Inside) bytes.now result }
 {
-    let plain = long_front(Class::Plain, bytes);
+    let plain = plain_characters(bytes);
     if plain > 0 {
         return Run::Characters(plain);
     }
     Run::Utf8(long_front(Class::CharacterByte, bytes))
 }
 
-/// Digits of an instance name behind those that stand for this number, as long as any digit more is in range.
-fn name_run(value: u64, bytes: &[u8]) -> Run
-    ensures { IsRun (Name (Digits value)) bytes.now result }
+/// Digits of an instance name at the front, behind those that stand for a number, as long as any digit more is in range:
+/// how many, and the number that they stand for with those before them.
+#[inline]
+pub fn name_digits(value: u64, bytes: &[u8]) -> (usize, u64)
+    ensures are { AreNameDigits (Name (Digits value)) bytes.now result.0 result.1 }
+    ensures ends { result.0 < length bytes.now → (is_digit (slice_index bytes.now result.0) ≡ false) ⊎ (10 ^ 18 ≤ result.1) }
 {
     let mut count = 0;
     let mut number = value;
@@ -64,7 +74,25 @@ fn name_run(value: u64, bytes: &[u8]) -> Run
         number = number * 10 + u64::from(bytes[count] - b'0');
         count += 1;
     }
-    Run::Named(count, number)
+    (count, number)
+}
+
+/// How many bytes of a keyword stand at the front.
+#[inline]
+pub fn keyword_bytes(bytes: &[u8]) -> usize
+    ensures are { EachDoes (Word Keyword) bytes.now result (λ byte. Keep (Word Keyword)) }
+    ensures ends { result < length bytes.now → is_of KeywordByte (slice_index bytes.now result) ≡ false }
+{
+    long_front(Class::KeywordByte, bytes)
+}
+
+/// How many bytes at the front are characters of a string, each of one byte.
+#[inline]
+pub fn plain_characters(bytes: &[u8]) -> usize
+    ensures are { EachDoes (Text Inside) bytes.now result (λ byte. Put (Text Inside) byte) }
+    ensures ends { result < length bytes.now → is_of Plain (slice_index bytes.now result) ≡ false }
+{
+    long_front(Class::Plain, bytes)
 }
 
 /// A number below it can take any digit more.
@@ -164,6 +192,30 @@ mod tests {
         ];
         for (mode, bytes, want) in cases {
             assert_eq!(rt; run_of(mode, bytes), want);
+        }
+    }
+
+    #[test]
+    fn finds_fronts(rt: HostRuntime) {
+        let characters: [(&[u8], usize, usize); 5] = [
+            (b"ITEM_2('A')", 6, 6),
+            (b"A lower", 1, 7),
+            (b"", 0, 0),
+            (b"CARTESIAN_POINT_OF_A_LONG_NAME_0123456789 '", 41, 42),
+            (b"A\xE9", 1, 1),
+        ];
+        for (bytes, keyword, plain) in characters {
+            assert_eq!(rt; keyword_bytes(bytes), keyword);
+            assert_eq!(rt; plain_characters(bytes), plain);
+        }
+        let digits: [(&[u8], usize, u64); 4] = [
+            (b"05=", 2, 705),
+            (b"A", 0, 7),
+            (b"", 0, 7),
+            (b"0000000000000000000", 18, 7_000_000_000_000_000_000),
+        ];
+        for (bytes, count, value) in digits {
+            assert_eq!(rt; name_digits(7, bytes), (count, value));
         }
     }
 

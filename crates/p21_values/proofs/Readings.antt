@@ -116,8 +116,12 @@ reads_parts bytes negative whole fraction behind k r s (x, form, short, value) h
 pub no_front_begins : (bytes : List ℕ) → (BeginsReal bytes → ⊥) → (count : ℕ) → IsFrontReal bytes count → ⊥
 no_front_begins bytes none_begins count f = none_begins (splits_begins bytes _ _ _ _ f.splits)
 
-pub no_front_exponent : (bytes : List ℕ) (negative : Bool) (whole fraction rest : List ℕ) → SplitsReal bytes negative whole fraction rest → (NoExponentFirst rest → ⊥) → (count : ℕ) → IsFrontReal bytes count → ⊥
-no_front_exponent bytes negative whole fraction rest s e count f = e (subst NoExponentFirst (behind_once bytes _ _ _ _ _ _ _ _ f.splits s) f.no_exponent)
+pub no_exponent_first : (bytes : List ℕ) → ((rest : List ℕ) → bytes ≡ 69 ∷ rest → ⊥) → NoExponentFirst bytes
+no_exponent_first [] h = tt
+no_exponent_first (byte ∷ bytes) h = λ e. h bytes (ap (λ b. b ∷ bytes) e)
+
+pub no_front_exponent : (bytes : List ℕ) (negative : Bool) (whole fraction rest : List ℕ) → SplitsReal bytes negative whole fraction rest → (tail : List ℕ) → rest ≡ 69 ∷ tail → (count : ℕ) → IsFrontReal bytes count → ⊥
+no_front_exponent bytes negative whole fraction rest s tail e count f = subst NoExponentFirst (behind_once bytes _ _ _ _ _ _ _ _ f.splits s ∙ e) f.no_exponent refl
 
 module _ (bytes : List ℕ) (negative : Bool) (whole fraction rest : List ℕ) (s : SplitsReal bytes negative whole fraction rest) (e : NoExponentFirst rest) where
   front : List ℕ

@@ -1,10 +1,10 @@
-ghost use Rattle.std.specs.Prelude.{◌≡◌, ◌-◌, ◌<◌, ◌+ℤ◌, ◌-ℤ◌, pos, [], ◌∷◌, ◌++◌, length, if◌then◌else◌, IfNone, IfOk, IfSome, OnErr, OnOk, true, false};
+ghost use Rattle.std.specs.Prelude.{◌≡◌, ◌-◌, ◌<◌, ◌+ℤ◌, ◌-ℤ◌, pos, [], ◌∷◌, ◌++◌, length, if◌then◌else◌, IfNone, IfOk, IfSome, OnErr, OnOk};
 ghost use Rattle.p21_semantics.specs.Digits.{AllDigits, number};
 ghost use Rattle.p21_semantics.specs.Number.{IsExponentInRange, RealForm, whole_ratio};
 ghost use Rattle.p21_semantics.specs.Spelling.{exponent_spelling, real_spelling};
 ghost use Rattle.p21_values.specs.Canonical.{Continues};
 ghost use Rattle.p21_values.specs.Decimal.{IsDecimal, KeepsRatio, ReadsReal};
-ghost use Rattle.p21_values.specs.RealParts.{BeginsReal, NoExponentFirst, ReadsExponent, ReadsFrontReal, SplitsReal, digits_ratio};
+ghost use Rattle.p21_values.specs.RealParts.{BeginsReal, ReadsExponent, ReadsFrontReal, SplitsReal, digits_ratio};
 ghost use Rattle.p21_values.specs.Stored.{significand_spelling};
 ghost use Rattle.p21_values.specs.Digits.{WithoutEndZeros, WithoutFrontZeros};
 
@@ -80,9 +80,9 @@ impl Decimal {
         let Some((negative, digits, rest)) = split_real(bytes) else {
             return Err(ValueFault::BadNumber);
         };
-        if begins_exponent(rest) {
+        let None = behind(b'E', rest) else {
             return Err(ValueFault::BadNumber);
-        }
+        };
         let number = Decimal::of_digits(alloc, negative, digits, 0)?;
         Ok((bytes.len() - rest.len(), number))
     }
@@ -191,16 +191,6 @@ fn split_real(bytes: &[u8]) -> Option<(bool, Digits<'_>, &[u8])>
     let rest = behind(b'.', rest)?;
     let (fraction, rest) = split_digits(rest);
     Some((negative, Digits { whole, fraction }, rest))
-}
-
-fn begins_exponent(bytes: &[u8]) -> bool
-    ensures yes { result ≡ true → NoExponentFirst bytes.now → ⊥ }
-    ensures no { result ≡ false → NoExponentFirst bytes.now }
-{
-    match bytes.first() {
-        Some(byte) => *byte == b'E',
-        None => false,
-    }
 }
 
 // The exponent that is written: 0 where there is none.
