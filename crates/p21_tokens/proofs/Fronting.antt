@@ -1,40 +1,46 @@
 -- Tokens that stand whole at the front of bytes.
-use Rattle.std.proofs.Common.{◌≡◌, ◌≢◌, ℕ, zero, suc, ◌+◌, ◌-◌, ◌*◌, ◌^◌, ◌≤◌, ◌<◌, true, lt-ltb, append_assoc, List, [], ◌∷◌, ◌++◌, length, length-drop, get_or, take, drop, take_all, refl, sym, ap, ◌∙◌, subst, arith, append-nil, Some, Ok}
+use Rattle.std.proofs.Common.{◌≡◌, Bool, false, ◌==◌, if◌then◌else◌, inl, ◌≢◌, ℕ, zero, suc, ◌+◌, ◌-◌, ◌*◌, ◌^◌, ◌≤◌, ◌<◌, true, lt-ltb, append_assoc, List, [], ◌∷◌, ◌++◌, length, length-drop, get_or, take, drop, refl, sym, ap, ◌∙◌, subst, arith, append-nil, Some, Ok}
 use Rattle.std.specs.List.{slice_range}
 use Rattle.std.proofs.lemmas.Bool.{ne_eqb}
 use Rattle.std.proofs.lemmas.Bool.Decides.{nat_tests}
-use Rattle.std.proofs.lemmas.List.{length-take-le, take_more, get_or-drop}
-use Rattle.std.proofs.lemmas.Option.{slice_get_within, slice_get-get_or, get_or_from_slice_get}
+use Rattle.std.proofs.lemmas.List.{length-take-le, take_more, drop_more, get_or-drop}
+use Rattle.std.proofs.lemmas.Option.{slice_get_within, slice_get-get_or}
 use Rattle.std.proofs.Math.Seq.{take-add}
 use Rattle.p21_semantics.specs.Laying.{count_behind}
 use Rattle.p21_semantics.specs.Token as meaning
 use Rattle.p21_semantics.specs.Digits.{IsDigit}
-use Rattle.p21_semantics.specs.Keyword.{IsKeywordByte}
+use Rattle.std.specs.List.{AllByRecursion as Each}
+use Rattle.p21_semantics.proofs.Forms.{NoDigitFirst}
+use Rattle.p21_semantics.specs.Keyword.{IsUpper, IsKeywordByte, IsKeyword}
+use Rattle.p21_semantics.specs.Number as number
+use Rattle.p21_semantics.specs.Number.{SpellsReal}
+use Rattle.p21_values.specs.RealParts.{IsFrontReal, NoExponentFirst}
 use Rattle.p21_semantics.specs.Token.{Spells, MayFollow}
 use Rattle.p21_tokens_automaton.proofs.Once.{spells-means}
-use Rattle.p21_tokens_automaton.proofs.Classes.{digit-decides, false_from_not}
+use Rattle.p21_tokens_automaton.proofs.Classes.{digit-decides, keyword_byte-decides, false_from_not}
 use Rattle.p21_tokens_automaton.proofs.Runs.{run-names, run-puts}
 use Rattle.p21_tokens_automaton.proofs.Steps.{lex-nil, lex-pass, lex-skip, lex-give, lex-end}
 use Rattle.p21_tokens_automaton.proofs.TokenRuns.{waits-keyword, waits-whole, waits-real}
 use Rattle.p21_tokens_automaton.proofs.Waits.{Waits}
-use Rattle.p21_tokens_automaton.specs.Bytes.{is_blank, is_digit}
+use Rattle.p21_tokens_automaton.specs.Bytes.{is_blank, is_digit, is_keyword_byte}
 use Rattle.p21_tokens_automaton.specs.Meaning.{Means, found_of}
-use Rattle.p21_tokens_automaton.specs.Reading.{keyword, whole, real, known, spelled, State, start, Answer, nothing_but, open_at, before, Found, single_token, ended, lex}
+use Rattle.p21_tokens_automaton.specs.Reading.{whole, real, known, spelled, State, start, Answer, nothing_but, open_at, before, Found, single_token, ended, lex}
 use Rattle.p21_tokens_automaton.specs.Step.{advance}
-use Rattle.p21_tokens_automaton.specs.Run.{AreNameDigits}
-use Rattle.p21_tokens_automaton.specs.declared.mode.Mode.TheVariants.{Between, Name, Text}
+use Rattle.p21_tokens_automaton.specs.Run.{AreNameDigits, EachDoes}
+use Rattle.p21_tokens_automaton.specs.declared.mode.Mode.TheVariants.{Between, Name, Text, Word}
 use Rattle.p21_tokens_automaton.specs.declared.mode.NameMode.TheVariants as name_mode
 use Rattle.p21_tokens_automaton.specs.declared.mode.NameMode.TheVariants.{Digits}
 use Rattle.p21_tokens_automaton.specs.declared.mode.TextMode.TheVariants.{Inside, Apostrophe}
 use Rattle.p21_tokens_automaton.specs.declared.mode.Single.{Single}
-use Rattle.p21_tokens_automaton.specs.declared.mode.Action.TheVariants.{Pass, Give}
+use Rattle.p21_tokens_automaton.specs.declared.mode.Action.TheVariants.{Pass, Give, Keep, Dash, End}
+use Rattle.p21_tokens_automaton.specs.declared.mode.WordMode.TheVariants.{Keyword}
 use Rattle.p21_tokens.specs.Front.{Leads, Fronts, single, leads, ArePlain, TakesFront}
 use Rattle.p21_tokens.specs.Held.{Held, pending_of, state_of}
 use Rattle.p21_tokens.specs.Steps.{AreBlank, TakesRun, Gives, Hands, Steps, Scans, handed}
 use Rattle.p21_tokens.specs.declared.step.Step.TheVariants.{Gave}
 use Rattle.p21_tokens.specs.Token.{meant, waits}
 use Rattle.p21_tokens.specs.declared.token.Token.{Token}
-use Rattle.p21_tokens.proofs.Scanning.{Along, run-join, along-gave}
+use Rattle.p21_tokens.proofs.Scanning.{Along, behind-those, byte-behind, run-join, along-gave}
 use Rattle.p21_tokens.proofs.Stepping.{ended-waits, single-at_once}
 
 -- separators alone lead nowhere
@@ -122,9 +128,6 @@ single-gives v byte one token is_start g e l = record {
 }
 
 module _ (v w u : Held) (piece : List ℕ) (n : ℕ) (a : Along v w piece n) where
-  back : slice_range piece n (length piece) ≡ drop n piece
-  back = take_all (length piece - n) (drop n piece) (simp length-drop (omega arith))
-
   -- the byte of the piece that is the first of what is left of it
   first-byte : (byte : ℕ) (rest : List ℕ) → drop n piece ≡ byte ∷ rest → (n < length piece) × (byte ≡ get_or piece n 0)
   first-byte byte rest e =
@@ -135,21 +138,20 @@ module _ (v w u : Held) (piece : List ℕ) (n : ℕ) (a : Along v w piece n) whe
 
   -- a token at the front of what is left of a piece
   pub along-front : (count : ℕ) (t : Token) → TakesFront w (slice_range piece n (length piece)) (Some (count, t)) u → Scans v piece (Ok (n + count, Some t)) u
-  along-front count t h = at (subst (λ (x : List ℕ). Fronts x count (meant t)) back h.1)
+  along-front count t h = at (subst (λ (x : List ℕ). Fronts x count (meant t)) (behind-those piece n a.within) h.1)
     where
       at : Fronts (drop n piece) count (meant t) → Scans v piece (Ok (n + count, Some t)) u
       at (leads f) =
           let middle = within_token w f.state count in
-          let short = slice_get_within (drop n piece) count f.byte f.behind in
-          let room : n + count < length piece = let l = length-drop n piece in let k = a.within in omega arith in
+          let room : n + count ≤ length piece = let short = slice_get_within (drop n piece) count f.byte f.behind in let l = length-drop n piece in let k = a.within in omega arith in
           subst (λ (x : Held). Scans v piece (Ok (n + count, Some t)) x) (sym h.3) (
             record { statement_limit = a.same.statement_limit; file_limit = a.same.file_limit; refused = a.same.refused },
             (
-              omega arith,
+              room,
               handed middle f.byte (record { statement_limit = a.same.statement_limit; file_limit = a.same.file_limit; refused = a.same.refused })
                   (subst (λ (x : List ℕ). TakesRun v x middle) (sym (take-add n count piece)) (run-join v w middle (take n piece) (take count (drop n piece)) a.run (front-run w (drop n piece) count (meant t) h.0 f)))
                   (front-hands w (drop n piece) count (meant t) h.0 f h.2)
-                  (slice_get-get_or piece (n + count) 0 room ∙ ap (λ (b : ℕ). Some b) (sym (get_or-drop n piece count 0) ∙ get_or_from_slice_get (drop n piece) count f.byte 0 f.behind)),
+                  (byte-behind piece n count f.byte f.behind),
             ),
           )
       at (single byte rest which e one g s) =
@@ -161,6 +163,29 @@ module _ (v w u : Held) (piece : List ℕ) (n : ℕ) (a : Along v w piece n) whe
 -- where there is none, nothing changes
 pub along-no_front : (v w u : Held) (piece : List ℕ) (n : ℕ) → Along v w piece n → u ≡ w → Along v u piece n
 along-no_front v w u piece n a e = subst (λ (x : Held). Along v x piece n) (sym e) a
+
+-- ---- keywords
+
+kept-byte : (b : ℕ) → advance (Word Keyword) b ≡ Keep (Word Keyword) → IsKeywordByte b
+kept-byte b e = at (is_keyword_byte b) refl
+  where
+    at : (t : Bool) → is_keyword_byte b ≡ t → IsKeywordByte b
+    at true k = (keyword_byte-decides b).0 k
+    at false k = absurd (other (b == 45) (rw k at e))
+      where
+        other : (dash : Bool) → (if dash then Dash else End) ≡ Keep (Word Keyword) → ⊥
+        other true f = cc
+        other false f = cc
+
+keyword_bytes-are : (bytes : List ℕ) (count : ℕ) → EachDoes (Word Keyword) bytes count (λ byte. Keep (Word Keyword)) → Each IsKeywordByte (take count bytes)
+keyword_bytes-are bytes zero h = tt
+keyword_bytes-are [] (suc count) h = tt
+keyword_bytes-are (b ∷ bytes) (suc count) h = (kept-byte b (h.each 0 (omega arith)), keyword_bytes-are bytes count (record { within = let w = h.within in omega arith; each = λ k l. h.each (suc k) (omega arith) }))
+
+pub keyword-is : (bytes : List ℕ) (count : ℕ) → IsUpper (get_or bytes 0 0) → EachDoes (Word Keyword) bytes count (λ byte. Keep (Word Keyword)) → (count < length bytes → is_keyword_byte (get_or bytes count 0) ≡ false) → IsKeyword (take count bytes)
+keyword-is [] count u h ends = absurd (omega (arith, u))
+keyword-is (b ∷ bytes) zero u h ends = absurd (let n = ends (omega arith) in let y = (keyword_byte-decides b).1 (inl u) in cc)
+keyword-is (b ∷ bytes) (suc count) u h ends = (u, (keyword_bytes-are (b ∷ bytes) (suc count) h).1)
 
 -- ---- which tokens stand there
 
@@ -188,9 +213,26 @@ module _ (bytes : List ℕ) (count byte : ℕ) (found : (count < length bytes) �
   leads_real (meaning.real z) m d e = waits-leads (meaning.real z) m.1 (waits-real z (take count bytes) m.1) (d, λ _. e)
   leads_real other m d e = absurd m.0
 
-  pub leads_keyword : (t : meaning.Token) → Means (spelled keyword (take count bytes)) t → ¬ IsKeywordByte byte → byte ≢ 45 → Leads bytes count t
-  leads_keyword (meaning.keyword w) m k d = waits-leads (meaning.keyword w) m.1 (waits-keyword w (take count bytes) m.1) (k, d)
-  leads_keyword other m k d = absurd m.0
+  pub leads_front_real : (z : number.Decimal) → IsFrontReal bytes count → SpellsReal (take count bytes) z → Leads bytes count (meaning.real z)
+  leads_front_real z f s = waits-leads (meaning.real z) s (waits-real z (take count bytes) s) (digit f.splits.no_digit, λ _. exponent f.no_exponent)
+    where
+      first : drop count bytes ≡ byte ∷ drop (count + 1) bytes
+      first = drop_more bytes count 0 found.0 ∙ ap (λ (b : ℕ). b ∷ drop (count + 1) bytes) (sym (found.1 0))
+
+      digit : NoDigitFirst (drop count bytes) → ¬ IsDigit byte
+      digit n = rw first at n
+
+      exponent : NoExponentFirst (drop count bytes) → byte ≢ 69
+      exponent n = rw first at n
+
+  pub leads_keyword : IsUpper (get_or bytes 0 0) → EachDoes (Word Keyword) bytes count (λ b. Keep (Word Keyword)) → (count < length bytes → is_keyword_byte (get_or bytes count 0) ≡ false) → byte ≢ 45 → Leads bytes count (meaning.keyword (take count bytes))
+  leads_keyword u h ends d = waits-leads (meaning.keyword (take count bytes)) spells (waits-keyword (take count bytes) (take count bytes) spells) (other, d)
+    where
+      spells : Spells (meaning.keyword (take count bytes)) (take count bytes)
+      spells = (refl, keyword-is bytes count u h ends)
+
+      other : ¬ IsKeywordByte byte
+      other k = let y = (keyword_byte-decides byte).1 k in let n = ends found.0 in let same = found.1 0 in cc
 
 -- ---- instance names
 

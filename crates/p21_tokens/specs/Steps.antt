@@ -185,6 +185,12 @@ abbrev pub RefusesAt : Held → List ℕ → TokenFault → Held → Type 0
 RefusesAt old piece fault new =
     (middle : Held) × (count byte : ℕ) × (slice_get piece count ≡ Some byte) × SameLimits old middle × TakesRun old (take count piece) middle × SameLimits old new × RefusesByte middle byte fault
 
+-- what a run of bytes or one byte leaves: some bytes taken, or those up to a token
+abbrev pub Walks : Held → List ℕ → Result (ℕ × Option Token) TokenFault → Held → Type 0
+Walks old bytes (Ok (count, None)) new = (0 < count) × Runs old bytes (Ok count) new
+Walks old bytes (Ok (count, Some token)) new = SameLimits old new × Scanned old bytes count (Some (meant token)) new
+Walks old bytes (Err fault) new = RefusesAt old bytes fault new
+
 abbrev pub Scans : Held → List ℕ → Result (ℕ × Option Token) TokenFault → Held → Type 0
 Scans old piece (Ok answer) new = SameLimits old new × Scanned old piece answer.0 (option_map meant answer.1) new
 Scans old piece (Err fault) new = RefusesAt old piece fault new

@@ -1,15 +1,16 @@
 //! Tokens that stand whole at the front of bytes, read without a state.
-ghost use Rattle.std.specs.Prelude.{◌≡◌, ◌≤◌, IfSome};
+ghost use Rattle.std.specs.Prelude.{◌≡◌, ◌≤◌, IfSome, get_or};
+ghost use Rattle.p21_semantics.specs.Keyword.{IsUpper};
 ghost use Rattle.p21_tokens_automaton.specs.Step.{advance};
 ghost use Rattle.p21_tokens_automaton.specs.declared.mode.Mode.TheVariants.{Between};
 ghost use Rattle.p21_tokens_automaton.specs.declared.mode.Action.TheVariants.{Give};
 ghost use Rattle.p21_tokens.specs.Front.{ArePlain, Fronts, Leads};
 ghost use Rattle.p21_tokens.specs.Token.{meant};
 
-use crate::reading::{behind, read_real, read_whole, read_word, single_token};
+use crate::reading::{behind, read_real, read_whole, single_token};
 use crate::token::Token;
-use p21_tokens_automaton::{Mode, NameMode, Run, Single, TextMode, WordMode, run_of};
-use p21_values::{Name, Text};
+use p21_tokens_automaton::{Single, keyword_bytes, name_digits, plain_characters};
+use p21_values::{Decimal, Name, Text, Word};
 use std::alloc::Global;
 
 /// The token at the front of bytes, and how many bytes it has, where that is easily seen: one of one byte, or a keyword,
@@ -41,6 +42,7 @@ fn single(byte: u8) -> Option<Single>
 }
 
 fn waiting_token(alloc: Global, first: u8, bytes: &[u8]) -> Option<(usize, Token)>
+    requires { get_or bytes.now 0 0 ≡ first }
     ensures { IfSome result (λ front. Leads bytes.now front.0 (meant front.1)) }
 {
     match first {
@@ -64,6 +66,19 @@ fn end_of_digits(bytes: &[u8], from: usize) -> usize
 }
 
 fn front_number(alloc: Global, bytes: &[u8]) -> Option<(usize, Token)>
+    ensures { IfSome result (λ front. Leads bytes.now front.0 (meant front.1)) }
+{
+    match Decimal::read_front(alloc, bytes) {
+        Ok((count, number)) => {
+            let _behind = bytes.get(count)?;
+            Some((count, Token::Real(number)))
+        }
+        Err(_fault) => other_number(alloc, bytes),
+    }
+}
+
+/// A whole number, or a real with an exponent.
+fn other_number(alloc: Global, bytes: &[u8]) -> Option<(usize, Token)>
     ensures { IfSome result (λ front. Leads bytes.now front.0 (meant front.1)) }
 {
     let whole = end_of_digits(bytes, 1);
@@ -108,18 +123,17 @@ fn front_real(alloc: Global, bytes: &[u8], count: usize) -> Option<(usize, Token
 }
 
 fn front_keyword(alloc: Global, bytes: &[u8]) -> Option<(usize, Token)>
+    requires { IsUpper (get_or bytes.now 0 0) }
     ensures { IfSome result (λ front. Leads bytes.now front.0 (meant front.1)) }
 {
-    let Run::Kept(count) = run_of(Mode::Word(WordMode::Keyword), bytes) else {
-        return None;
-    };
+    let count = keyword_bytes(bytes);
     let byte = *bytes.get(count)?;
-    if byte.is_ascii_uppercase() || byte.is_ascii_digit() || byte == b'_' || byte == b'-' {
+    if byte == b'-' {
         return None;
     }
-    match read_word(alloc, WordMode::Keyword, &bytes[..count]) {
-        Ok(token) => Some((count, token)),
-        Err(_fault) => None,
+    match Word::of_front(alloc, bytes, count) {
+        Ok(word) => Some((count, Token::Keyword(word))),
+        Err(_no_memory) => None,
     }
 }
 
@@ -127,9 +141,7 @@ fn front_name(bytes: &[u8]) -> Option<(usize, Token)>
     ensures { IfSome result (λ front. Leads bytes.now front.0 (meant front.1)) }
 {
     let digits = behind(b'#', bytes)?;
-    let Run::Named(count, value) = run_of(Mode::Name(NameMode::Digits(0)), digits) else {
-        return None;
-    };
+    let (count, value) = name_digits(0, digits);
     let byte = *digits.get(count)?;
     if count == 0 || byte.is_ascii_digit() {
         return None;
@@ -141,28 +153,35 @@ fn front_text(alloc: Global, bytes: &[u8]) -> Option<(usize, Token)>
     ensures { IfSome result (λ front. Leads bytes.now front.0 (meant front.1)) }
 {
     let inside = behind(b'\'', bytes)?;
-    let count = plain_characters(inside)?;
+    let count = plain_count(inside);
     let end = *inside.get(count)?;
     let byte = *inside.get(count + 1)?;
     if end != b'\'' || byte == b'\'' {
         return None;
     }
-    let mut text = Text::new(alloc);
-    match text.push_latin1(&inside[..count]) {
-        Ok(()) => Some((count + 2, Token::Text(text))),
-        Err(_fault) => None,
+    let text = plain_text(alloc, &inside[..count])?;
+    Some((count + 2, Token::Text(text)))
+}
+
+/// How many bytes of a string are characters of one byte each. There is often none.
+fn plain_count(inside: &[u8]) -> usize
+    ensures { ArePlain inside.now result }
+{
+    match inside.first() {
+        Some(b'\'') => 0,
+        _ => plain_characters(inside),
     }
 }
 
-/// How many bytes of a string stand for themselves, where none in UTF-8 follow.
-fn plain_characters(inside: &[u8]) -> Option<usize>
-    ensures { IfSome result (ArePlain inside.now) }
+fn plain_text(alloc: Global, characters: &[u8]) -> Option<Text>
+    ensures { IfSome result (λ text. text ≡ characters.now) }
 {
-    if *inside.first()? == b'\'' {
-        return Some(0);
+    let mut text = Text::new(alloc);
+    if characters.is_empty() {
+        return Some(text);
     }
-    match run_of(Mode::Text(TextMode::Inside), inside) {
-        Run::Characters(count) => Some(count),
-        _ => None,
+    match text.push_latin1(characters) {
+        Ok(()) => Some(text),
+        Err(_no_memory) => None,
     }
 }

@@ -11,7 +11,7 @@ ghost use Rattle.p21_semantics.specs.History.{empty};
 ghost use Rattle.p21_semantics.specs.Pending.{IsPending};
 ghost use Rattle.p21_tokens.specs.declared.fault.TokenFault.{TokenFault};
 ghost use Rattle.p21_tokens.specs.Histories.{TokenHistory, Stands, NextGives, FinishGives, AreSeparators};
-ghost use Rattle.p21_tokens.specs.Steps.{SameLimits, Steps, Closes, Ends, Runs, Scans, is_token_byte};
+ghost use Rattle.p21_tokens.specs.Steps.{SameLimits, Steps, Closes, Ends, Runs, Scans, Walks, is_token_byte};
 ghost use Rattle.p21_tokens.specs.Token.{meant};
 
 use crate::fault::{TokenFault, fault_of};
@@ -375,7 +375,7 @@ impl Lexer {
         }
         let (count, token) = front_token(self.alloc, bytes)?;
         let size = count as u64;
-        if self.room() < size {
+        if self.file_limit - self.file < size || self.statement_limit - self.statement < size {
             return None;
         }
         self.file += size;
@@ -384,6 +384,33 @@ impl Lexer {
             _ => self.statement + size,
         };
         Some((count, token))
+    }
+
+    /// Takes a run of bytes, or one byte, or the token that it ends. Not inlined, so that the loop around it stays small.
+    #[inline(never)]
+    fn walk(&mut self, bytes: &[u8]) -> Result<(usize, Option<Token>), TokenFault>
+        requires { 0 < length bytes.now }
+        ensures { Walks self.old bytes.now result self.new }
+    {
+        match self.take_run(bytes) {
+            Ok(0) => match self.step(bytes[0]) {
+                Ok(Step::Took) => Ok((1, None)),
+                Ok(Step::Gave(token)) => Ok((1, Some(token))),
+                Ok(Step::Handed(token)) => Ok((0, Some(token))),
+                Err(fault) => Err(fault),
+            },
+            Ok(run) => Ok((run, None)),
+            Err(fault) => Err(fault),
+        }
+    }
+
+    /// As `walk`. Inlined, so that room for its answer is made only where it is asked.
+    #[inline(always)]
+    fn walk_on(&mut self, bytes: &[u8]) -> Result<(usize, Option<Token>), TokenFault>
+        requires { 0 < length bytes.now }
+        ensures { Walks self.old bytes.now result self.new }
+    {
+        self.walk(bytes)
     }
 
     /// Takes bytes up to the end of a token or of the piece.
@@ -395,14 +422,9 @@ impl Lexer {
             if let Some((count, token)) = self.take_front(&piece[taken..]) {
                 return Ok((taken + count, Some(token)));
             }
-            match self.take_run(&piece[taken..]) {
-                Ok(0) => match self.step(piece[taken]) {
-                    Ok(Step::Took) => taken += 1,
-                    Ok(Step::Gave(token)) => return Ok((taken + 1, Some(token))),
-                    Ok(Step::Handed(token)) => return Ok((taken, Some(token))),
-                    Err(fault) => return Err(fault),
-                },
-                Ok(run) => taken += run,
+            match self.walk_on(&piece[taken..]) {
+                Ok((count, None)) => taken += count,
+                Ok((count, Some(token))) => return Ok((taken + count, Some(token))),
                 Err(fault) => return Err(fault),
             }
         }

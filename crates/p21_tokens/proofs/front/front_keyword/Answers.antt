@@ -1,7 +1,15 @@
-use Rattle.std.proofs.Common.{rules}
-use Rattle.p21_tokens.proofs.Fronting.{leads_keyword}
-use Rattle.p21_tokens.specs.Token.{meant}
+use Rattle.std.proofs.Common.{sym, subst}
+use Rattle.p21_semantics.specs.Token as meaning
+use Rattle.p21_tokens.proofs.Fronting.{keyword-is, leads_keyword}
+use Rattle.p21_tokens.specs.Front.{Leads}
 use Rattle.p21_tokens.proofs.front.front_keyword.Goals as goal
 
+pub of_front-requires-clause-keyword : goal.of_front-requires-clause-keyword
+of_front-requires-clause-keyword c = keyword-is c.args.bytes.now c.keyword_bytes-count.result c.requires c.keyword_bytes-count.ensures.are c.keyword_bytes-count.ensures.ends
+
 pub returns-in-Ok : goal.returns-in-Ok
-returns-in-Ok c = leads_keyword c.args.bytes.now c.in-Kept.count c.in_ok-byte.field-0.now c.in_ok-byte.ensures.lookup.3 (meant c.in-Ok.token) (c.in-Ok.ensures {u = tt}) (search rules) c.if-byte-eq45.false
+returns-in-Ok c =
+    let bytes = c.args.bytes.now in
+    let count = c.keyword_bytes-count.result in
+    subst (λ word. Leads bytes count (meaning.keyword word)) (sym c.in-Ok.ensures)
+    (leads_keyword bytes count c.in_ok-byte.field-0.now c.in_ok-byte.ensures.lookup.3 c.requires c.keyword_bytes-count.ensures.are c.keyword_bytes-count.ensures.ends c.if-byte-eq45.false)
