@@ -1,5 +1,5 @@
 -- What a lexer holds between two calls.
-use Rattle.std.specs.Prelude.{ℕ, ◌+◌, ◌≤◌, List, Option}
+use Rattle.std.specs.Prelude.{◌≡◌, ℕ, ◌+◌, ◌≤◌, List, [], Option}
 use Rattle.p21_tokens_automaton.specs.declared.mode.Mode.{Mode}
 use Rattle.p21_tokens_automaton.specs.Reading.{State}
 use Rattle.p21_tokens.specs.declared.fault.TokenFault.{TokenFault}
@@ -23,6 +23,10 @@ pending_of held = held.statement + held.size
 
 abbrev pub state_of : Held → State
 state_of held = record { mode = held.mode; kept = held.kept; characters = held.characters; size = held.size }
+
+-- nothing is kept of no bytes
+abbrev pub KeepsBySize : ℕ → List ℕ → List ℕ → Type 0
+KeepsBySize size kept characters = size ≡ 0 → (kept ≡ []) × (characters ≡ [])
 
 -- neither count is past its limit
 pub record IsWithin (held : Held) : Type 0 where

@@ -42,7 +42,7 @@ pub struct Lexer {
 
 impl Model for Lexer {
     ghost use Rattle.std.specs.Prelude.{◌+◌, ◌≤◌};
-    ghost use Rattle.p21_tokens.specs.Held.{Held};
+    ghost use Rattle.p21_tokens.specs.Held.{Held, KeepsBySize};
 
     ghost Value = { Held };
 
@@ -58,7 +58,7 @@ impl Model for Lexer {
       refused = lexer.refused;
     } };
 
-    ghost invariant = { λ lexer. (lexer.statement + lexer.size ≤ lexer.statement_limit) × (lexer.file ≤ lexer.file_limit) };
+    ghost invariant = { λ lexer. (lexer.statement + lexer.size ≤ lexer.statement_limit) × (lexer.file ≤ lexer.file_limit) × KeepsBySize lexer.size lexer.kept.items lexer.text };
 }
 
 impl Lexer {
@@ -145,7 +145,10 @@ impl Lexer {
         }
         let token = match read_closed(self.alloc, self.mode, &self.kept) {
             Ok(token) => token,
-            Err(fault) => return Err(fault),
+            Err(fault) => {
+                self.kept.clear();
+                return Err(fault);
+            }
         };
         self.mode = Mode::Between;
         self.kept.clear();
@@ -299,6 +302,9 @@ impl Lexer {
         ensures err { OnErr result ((result ≡ Err TokenFault.NoMemory) × SameLimits self.old self.new) }
     {
         let text = whole_characters(&run[..at_most(run.len(), self.room())]);
+        if text.is_empty() {
+            return Ok(0);
+        }
         if self.text.push_str(text).is_err() {
             return Err(TokenFault::NoMemory);
         }
@@ -363,7 +369,7 @@ impl Lexer {
         let Mode::Between = self.mode else {
             return false;
         };
-        self.size == 0 && self.kept.is_empty() && self.text.len() == 0
+        self.size == 0
     }
 
     /// Takes a token that stands whole at the front of bytes, if the limits allow it.

@@ -1,4 +1,4 @@
-ghost use Rattle.std.specs.Prelude.{◌≡◌, [], Some};
+ghost use Rattle.std.specs.Prelude.{◌≡◌, [], OnErr, Some};
 ghost use Rattle.p21_tokens_automaton.specs.Reading.{closed, ended_in, ended_number, ended_word, single_token, marker_of};
 ghost use Rattle.p21_tokens.specs.Steps.{ReadsFound, ReadsEnd};
 ghost use Rattle.p21_tokens.specs.Token.{meant};
@@ -17,7 +17,8 @@ pub(crate) fn read_ended(
     kept: &[u8],
     text: &mut Text,
 ) -> Result<Token, TokenFault>
-    ensures { ReadsFound (ended_in mode kept.now text.old) result }
+    ensures found { ReadsFound (ended_in mode kept.now text.old) result }
+    ensures left { OnErr result (text.new ≡ text.old) }
 {
     match mode {
         Mode::Number(mode) => read_number(alloc, mode, kept),
