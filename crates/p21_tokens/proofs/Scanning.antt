@@ -90,8 +90,14 @@ module _ (v w u : Held) (piece : List ℕ) (n : ℕ) (a : Along v w piece n) whe
   on : (middle : Held) (bytes : List ℕ) → TakesRun w bytes middle → TakesRun v (take n piece ++ bytes) middle
   on middle bytes run = run-join v w middle (take n piece) bytes a.run run
 
+  pub along-blanks : (m : ℕ) → Runs w (slice_range piece n (length piece)) (Ok m) u → Along v u piece (n + m)
+  along-blanks m r = along-run v w u piece n m a (subst (λ (x : List ℕ). Runs w x (Ok m) u) (behind-those piece n a.within) r)
+
+  pub along-no_blanks : (m : ℕ) → m ≡ 0 → Runs w (slice_range piece n (length piece)) (Ok m) u → Along v u piece n
+  along-no_blanks m z r = let same : n + m ≡ n = omega arith in subst (λ (k : ℕ). Along v u piece k) same (along-blanks m r)
+
   pub along-walked : (m : ℕ) → Walks w (slice_range piece n (length piece)) (Ok (m, None)) u → Along v u piece (n + m)
-  along-walked m k = along-run v w u piece n m a (subst (λ (x : List ℕ). Runs w x (Ok m) u) (behind-those piece n a.within) k.1)
+  along-walked m k = along-blanks m k.1
 
   pub along-token : (m : ℕ) (t : Token) → Walks w (slice_range piece n (length piece)) (Ok (m, Some t)) u → Scans v piece (Ok (n + m, Some t)) u
   along-token m t k = on_rest (subst (λ (x : List ℕ). Walks w x (Ok (m, Some t)) u) (behind-those piece n a.within) k)

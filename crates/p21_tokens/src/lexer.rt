@@ -20,7 +20,7 @@ use crate::reading::{marker_of, read_closed, read_end, read_ended, single_token}
 use crate::run::{at_most, whole_characters};
 use crate::step::{Step, is_token_byte};
 use crate::token::Token;
-use p21_tokens_automaton::{Action, Mode, NameMode, Run, Single, advance, run_of};
+use p21_tokens_automaton::{Action, Mode, NameMode, Run, Single, advance, blanks, run_of};
 use p21_values::{Limits, Text};
 use std::alloc::Global;
 use std::marker::Model;
@@ -392,6 +392,16 @@ impl Lexer {
         Some((count, token))
     }
 
+    /// Takes blanks between tokens, as many as the limit allows.
+    fn take_blanks(&mut self, bytes: &[u8]) -> usize
+        ensures { Runs self.old bytes.now (Ok result) self.new }
+    {
+        let Mode::Between = self.mode else {
+            return 0;
+        };
+        self.pass_run(blanks(bytes))
+    }
+
     /// Takes a run of bytes, or one byte, or the token that it ends. Not inlined, so that the loop around it stays small.
     #[inline(never)]
     fn walk(&mut self, bytes: &[u8]) -> Result<(usize, Option<Token>), TokenFault>
@@ -427,6 +437,11 @@ impl Lexer {
         while taken < piece.len() {
             if let Some((count, token)) = self.take_front(&piece[taken..]) {
                 return Ok((taken + count, Some(token)));
+            }
+            let blanks = self.take_blanks(&piece[taken..]);
+            if blanks > 0 {
+                taken += blanks;
+                continue;
             }
             match self.walk_on(&piece[taken..]) {
                 Ok((count, None)) => taken += count,

@@ -17,4 +17,4 @@ pub use mode::{
     Absent, Action, BinaryMode, Marker, Mode, NameMode, NumberMode, Single, TextMode, WordMode,
     Wrong,
 };
-pub use run::{Run, keyword_bytes, name_digits, plain_characters, run_of};
+pub use run::{Run, blanks, keyword_bytes, name_digits, plain_characters, run_of};

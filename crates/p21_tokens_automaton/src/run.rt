@@ -1,12 +1,12 @@
 ghost use Rattle.std.specs.Prelude.{◌≡◌, ◌^◌, ◌<◌, ◌≤◌, ◌⊎◌, false, length, slice_index};
 ghost use Rattle.p21_tokens_automaton.specs.Bytes.{is_digit};
 ghost use Rattle.p21_tokens_automaton.specs.Run.{IsRun, AreNameDigits, AreOf, EachDoes, is_of};
-ghost use Rattle.p21_tokens_automaton.specs.declared.mode.Action.TheVariants.{Keep, Put};
-ghost use Rattle.p21_tokens_automaton.specs.declared.mode.Mode.TheVariants.{Name, Text, Word};
+ghost use Rattle.p21_tokens_automaton.specs.declared.mode.Action.TheVariants.{Keep, Pass, Put};
+ghost use Rattle.p21_tokens_automaton.specs.declared.mode.Mode.TheVariants.{Between, Name, Text, Word};
 ghost use Rattle.p21_tokens_automaton.specs.declared.mode.NameMode.TheVariants.{Digits};
 ghost use Rattle.p21_tokens_automaton.specs.declared.mode.TextMode.TheVariants.{Inside};
 ghost use Rattle.p21_tokens_automaton.specs.declared.mode.WordMode.TheVariants.{Keyword};
-ghost use Rattle.p21_tokens_automaton.specs.declared.run.Class.TheVariants.{KeywordByte, Plain};
+ghost use Rattle.p21_tokens_automaton.specs.declared.run.Class.TheVariants.{Blank, KeywordByte, Plain};
 
 use crate::bytes::{is_blank, is_digit, is_hex, is_keyword_byte};
 use crate::mode::{BinaryMode, Mode, NameMode, NumberMode, TextMode, WordMode};
@@ -32,7 +32,7 @@ pub fn run_of(mode: Mode, bytes: &[u8]) -> Run
     ensures { IsRun mode bytes.now result }
 {
     match mode {
-        Mode::Between => Run::Passed(front(Class::Blank, bytes)),
+        Mode::Between => Run::Passed(blanks(bytes)),
         Mode::Comment => Run::Passed(long_front(Class::Commented, bytes)),
         Mode::Number(NumberMode::Whole) => Run::Kept(short_front(Class::Digit, bytes)),
         Mode::Number(NumberMode::Fraction) => Run::Kept(short_front(Class::Digit, bytes)),
@@ -75,6 +75,15 @@ pub fn name_digits(value: u64, bytes: &[u8]) -> (usize, u64)
         count += 1;
     }
     (count, number)
+}
+
+/// How many blanks stand at the front.
+#[inline]
+pub fn blanks(bytes: &[u8]) -> usize
+    ensures are { EachDoes Between bytes.now result (λ byte. Pass Between) }
+    ensures ends { result < length bytes.now → is_of Blank (slice_index bytes.now result) ≡ false }
+{
+    front(Class::Blank, bytes)
 }
 
 /// How many bytes of a keyword stand at the front.
@@ -207,6 +216,13 @@ mod tests {
         for (bytes, keyword, plain) in characters {
             assert_eq!(rt; keyword_bytes(bytes), keyword);
             assert_eq!(rt; plain_characters(bytes), plain);
+        }
+        for (bytes, count) in [
+            (b" \t\n\x7F#".as_slice(), 4),
+            (b"#".as_slice(), 0),
+            (b"  ".as_slice(), 2),
+        ] {
+            assert_eq!(rt; blanks(bytes), count);
         }
         let digits: [(&[u8], usize, u64); 4] = [
             (b"05=", 2, 705),

@@ -1,4 +1,4 @@
-use Rattle.std.proofs.Common.{◌≡◌, ℕ, ◌+◌, List, [], ◌++◌, append-nil, refl, ap, ◌∙◌, arith}
+use Rattle.std.proofs.Common.{◌≡◌, ℕ, List, [], ◌++◌, append-nil, refl, ap, ◌∙◌, arith}
 use Rattle.std.proofs.lemmas.Str.{chars-nil}
 use Rattle.p21_tokens.specs.Held.{Held}
 use Rattle.p21_tokens.proofs.lexer.Lexer.put_utf8_run.Goals as goal
