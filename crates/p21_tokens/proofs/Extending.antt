@@ -1,25 +1,27 @@
 -- What a call adds to the history that a lexer stands for.
-use Rattle.std.proofs.Common.{◌≡◌, ◌≢◌, ℕ, zero, suc, ◌+◌, ◌≤◌, ◌<◌, Bool, true, false, cond, eqb, List, [], ◌∷◌, ◌++◌, ◌⊎◌, inl, inr, length, length-append, get_or, take, refl, sym, ap, ◌∙◌, subst, append_assoc, append-nil, arith, Option, Some, None, Ok, Err}
+use Rattle.std.proofs.Common.{◌≡◌, ◌≢◌, ℕ, zero, suc, ◌+◌, ◌≤◌, ◌<◌, Bool, true, false, cond, if◌then◌else◌, eqb, List, [], ◌∷◌, ◌++◌, ◌⊎◌, inl, inr, length, length-append, get_or, take, refl, sym, ap, ◌∙◌, subst, append_assoc, append-nil, arith, Option, Some, None, Ok, Err}
 use Rattle.std.specs.List.{slice_get}
 use Rattle.std.specs.Option.{option_map}
 use Rattle.std.proofs.lemmas.List.{length-take-le, take_more}
 use Rattle.std.proofs.lemmas.Option.{slice_get-get_or}
 use Rattle.std.proofs.Math.Seq.{take-length}
 use Rattle.p21_semantics.specs.History.{extended, seen_behind, first_refusal, IsOffered, empty}
-use Rattle.p21_semantics.specs.Laying.{Lexeme, open_bytes, count_behind, AreStatementsWithin}
-use Rattle.p21_semantics.specs.Pending.{Tail, nothing, unfinished, slash, open_comment, IsPending, IsTokenByte, BeginsNoSeparator}
+use Rattle.p21_semantics.specs.Laying.{Lexeme, tokens_in, open_bytes, count_behind, AreStatementsWithin}
+use Rattle.p21_semantics.specs.Pending.{Tail, nothing, unfinished, slash, open_comment, tail_size, LaidUpTo, IsPending, IsTokenByte, BeginsNoSeparator}
 use Rattle.p21_semantics.specs.Token.{Token, begin, finish, keyword, user_keyword, name, whole, real, text}
 use Rattle.p21_tokens_automaton.proofs.Complete.{all_of-after}
-use Rattle.p21_tokens_automaton.proofs.Sound.{TailIs, FirstFits}
+use Rattle.p21_tokens_automaton.proofs.Sound.{TailIs, UpTo, FirstFits}
+use Rattle.p21_tokens_automaton.proofs.Fits.{ModeFits, StepFits}
 use Rattle.p21_tokens_automaton.proofs.TokenSound.{first-fits}
 use Rattle.p21_tokens_automaton.proofs.Steps.{lex-nil}
-use Rattle.p21_tokens_automaton.proofs.Theorems.{laid_read, tail-is, tail-ends, laid-up-to, size-is}
+use Rattle.p21_tokens_automaton.proofs.Theorems.{laid_read, tail-is, tail-ends, form-ends, steps-on, laid-up-to, size-is}
 use Rattle.std.proofs.lemmas.Bool.{cond_both}
 use Rattle.std.proofs.lemmas.Bool.Decides.{nat_tests}
 use Rattle.p21_tokens_automaton.specs.Bytes.{is_blank, is_digit, is_upper}
 use Rattle.p21_tokens_automaton.specs.Step.{advance, mark_action}
 use Rattle.p21_tokens_automaton.specs.declared.mode.Action.{Action}
 use Rattle.p21_tokens_automaton.specs.declared.mode.Action.TheVariants.{Pass, Keep, End, Refuse}
+use Rattle.p21_tokens_automaton.specs.declared.mode.Mode.{Mode}
 use Rattle.p21_tokens_automaton.specs.declared.mode.Mode.TheVariants.{Between, Slash, Comment, Star, Number, Word}
 use Rattle.p21_tokens_automaton.specs.declared.mode.NumberMode.TheVariants as number_mode
 use Rattle.p21_tokens_automaton.specs.declared.mode.WordMode.TheVariants as word_mode
@@ -29,8 +31,8 @@ use Rattle.p21_tokens_automaton.specs.Meaning.{MeanAll, found_of}
 use Rattle.p21_tokens_automaton.specs.Reading.{State, start, Answer, open_at, after, Found, Sized, ended, all_of, lex}
 use Rattle.p21_tokens.proofs.Following.{tokens-append, mean-append, in-parts, open-append, within-append, after-append, after-nothing, live-laid, live-pending, live-within, live-few, live-first, live-at_once}
 use Rattle.p21_tokens.specs.Held.{Held, pending_of, state_of}
-use Rattle.p21_tokens.specs.Histories.{TokenHistory, call_of, Stands, IsLive, IsHandedOver, GoesOn, AreDead, IsStatementFull, IsNoToken, AreGivenBefore, IsGap, IsInLimitsBetween, IsOfForm, Answers, Refuses, NextGives}
-use Rattle.p21_tokens.specs.Steps.{rest_of, is_token_byte, IsDeadAt, SameLimits, TakesRun, Gives, Hands, RefusesByte, EndsNone, IsInLimits, Scanned, ScansToken, gave, handed, Scans, RefusesAt}
+use Rattle.p21_tokens.specs.Histories.{TokenHistory, call_of, Stands, IsLive, IsHandedOver, GoesOn, AreDead, IsStatementFull, IsNoToken, EndsOutOfRange, IsOfForm, IsOfLimit, Answers, Refuses, NextGives}
+use Rattle.p21_tokens.specs.Steps.{rest_of, is_slash, is_token_byte, IsDeadAt, SameLimits, TakesRun, Gives, Hands, RefusesByte, EndsNone, IsInLimits, Scanned, ScansToken, gave, handed, Scans, RefusesAt}
 use Rattle.p21_tokens.specs.Token.{meant, waits}
 use Rattle.p21_tokens.specs.declared.fault.TokenFault.{TokenFault}
 use Rattle.p21_tokens.specs.declared.fault.TokenFault.TheVariants as fault
@@ -343,6 +345,11 @@ counts-byte v (open_comment inside) byte t c n = elim t.0 [
 between-ends_none : (byte : ℕ) → advance Between byte ≢ End
 between-ends_none byte q = subst (FirstFits byte) q (first-fits byte)
 
+-- the tail is within no token
+abbrev IsGap : Tail → Type 0
+IsGap (unfinished bytes) = ⊥
+IsGap other = Unit {0}
+
 gap-ends-none : (v : Held) (tail : Tail) (byte : ℕ) → TailIs (state_of v) tail → IsGap tail → advance v.mode byte ≢ End
 gap-ends-none v nothing byte t g q = between-ends_none byte (ap (λ (s : State). advance s.mode byte) (sym t) ∙ q)
 gap-ends-none v (unfinished bytes) byte t g q = g
@@ -367,6 +374,16 @@ gap-counts v nothing byte t g c = ap (λ (s : State). is_token_byte s.mode (adva
 gap-counts v (unfinished bytes) byte t g c = absurd g
 gap-counts v slash byte t g c = absurd c
 gap-counts v (open_comment inside) byte t g c = absurd c
+
+-- within a token each byte counts
+no-slash : (m : Mode) (kept characters front : List ℕ) → ModeFits m kept characters front → (if is_slash m then false else true) ≡ true
+no-slash Slash kept characters front f = absurd f
+no-slash _ kept characters front f = refl
+
+open-counts : (m : Mode) (kept characters front : List ℕ) (byte : ℕ) (a : Action) → ModeFits m kept characters front → StepFits m kept characters front byte a → is_token_byte m a ≡ true
+open-counts m kept characters front byte (Pass n) f s = absurd s
+open-counts m kept characters front byte (Refuse w) f s = no-slash m kept characters front f
+open-counts m kept characters front byte _ f s = refl
 
 module _ (v w : Held) (h : TokenHistory) (piece : List ℕ) (live : IsLive v h) (alive : h.refusal ≡ None) (o : IsOffered h.seen piece) (middle : Held) (count byte : ℕ) (found : slice_get piece count ≡ Some byte) (same : SameLimits v middle) (run : TakesRun v (take count piece) middle) where
   -- the lexer in front of the refused byte
@@ -433,16 +450,47 @@ module _ (v w : Held) (h : TokenHistory) (piece : List ℕ) (live : IsLive v h) 
   no-token slash t n = tt
   no-token (open_comment inside) t n = tt
 
-  pub given-before : (x : TokenFault) → RefusesByte middle byte x → x ≢ fault.NoMemory → AreGivenBefore h.given (h.taken ++ take count piece) byte
-  given-before x r n =
-      let u = live-laid middle _ front-live in
-      record {
-        lexemes = front-live.lexemes;
-        tail = u.0;
-        laid = laid-up-to (h.taken ++ take count piece) front-live.lexemes u.0 u.1 (tail-is (state_of middle) u.0 u.2);
-        given_are = front-live.given_are ∙ append-nil h.given;
-        no_token = no-token u.0 u.2 (ends-none x r n);
-      }
+  -- the bytes in front of it, up to a tail
+  abbrev lexemes : List Lexeme
+  lexemes = front-live.lexemes
+
+  abbrev before-it : UpTo (h.taken ++ take count piece) front-live.lexemes (state_of middle)
+  before-it = live-laid middle _ front-live
+
+  abbrev tail : Tail
+  tail = before-it.0
+
+  laid : LaidUpTo (h.taken ++ take count piece) lexemes tail
+  laid = laid-up-to (h.taken ++ take count piece) front-live.lexemes before-it.0 before-it.1 (tail-is (state_of middle) before-it.0 before-it.2)
+
+  given-are : tokens_in lexemes ≡ h.given
+  given-are = front-live.given_are ∙ append-nil h.given
+
+  token-first : (x : TokenFault) → RefusesByte middle byte x → x ≢ fault.NoMemory → IsNoToken tail byte
+  token-first x r n = no-token before-it.0 before-it.2 (ends-none x r n)
+
+  ends-at : (tail : Tail) → TailIs (state_of middle) tail → EndsOutOfRange tail byte → advance middle.mode byte ≡ End
+  ends-at (unfinished bytes) t o = form-ends (state_of middle) bytes byte t o.0 o.2 o.3
+  ends-at nothing t o = absurd o
+  ends-at slash t o = absurd o
+  ends-at (open_comment inside) t o = absurd o
+
+  not-ended : (tail : Tail) → TailIs (state_of middle) tail → EndsNone middle byte → ¬ EndsOutOfRange tail byte → advance middle.mode byte ≢ End
+  not-ended (unfinished bytes) t n o q = o ((subst (StepFits middle.mode middle.kept middle.characters bytes byte) q (steps-on (state_of middle) bytes byte t)).no_token (λ found token e m. n q found token e m))
+  not-ended nothing t n o q = gap-ends-none middle nothing byte t tt q
+  not-ended slash t n o q = gap-ends-none middle slash byte t tt q
+  not-ended (open_comment inside) t n o q = gap-ends-none middle (open_comment inside) byte t tt q
+
+  counts : (tail : Tail) → TailIs (state_of middle) tail → IsTokenByte tail byte → is_token_byte middle.mode (advance middle.mode byte) ≡ true
+  counts (unfinished bytes) t c = open-counts middle.mode middle.kept middle.characters bytes byte (advance middle.mode byte) t.0 (steps-on (state_of middle) bytes byte t)
+  counts nothing t c = gap-counts middle nothing byte t tt c
+  counts slash t c = gap-counts middle slash byte t tt c
+  counts (open_comment inside) t c = gap-counts middle (open_comment inside) byte t tt c
+
+  range-first : (x : TokenFault) → RefusesByte middle byte x → IsOfLimit x → ¬ EndsOutOfRange tail byte
+  range-first fault.FileTooLong r l o = r.1 (ends-at before-it.0 before-it.2 o)
+  range-first fault.RecordTooLong r l o = r.2 (ends-at before-it.0 before-it.2 o)
+  range-first _ r l o = absurd l
 
   in-limits-at : (x : TokenFault) → RefusesByte middle byte x → IsOfForm x → IsInLimits middle byte
   in-limits-at fault.NoMemory r i = absurd i
@@ -463,20 +511,16 @@ module _ (v w : Held) (h : TokenHistory) (piece : List ℕ) (live : IsLive v h) 
   in-limits-at fault.BadName r i = r.2
   in-limits-at (fault.LeftOut absent) r i = r.2
 
-  pub in-limits : (x : TokenFault) → RefusesByte middle byte x → IsOfForm x → IsInLimitsBetween v h.given (h.taken ++ take count piece) byte
-  in-limits x r i =
-      let u = live-laid middle _ front-live in
-      let l = in-limits-at x r i in
-      record {
-        lexemes = front-live.lexemes;
-        tail = u.0;
-        laid = laid-up-to (h.taken ++ take count piece) front-live.lexemes u.0 u.1 (tail-is (state_of middle) u.0 u.2);
-        given_are = front-live.given_are ∙ append-nil h.given;
-        file = λ g. let f = (l (gap-ends-none middle u.0 byte u.2 g)).0 in let a = front-live.file_is in let b = same.file_limit in omega arith;
-        statement = λ g c.
-            let s = (l (gap-ends-none middle u.0 byte u.2 g)).1 (gap-counts middle u.0 byte u.2 g c) in
-            let a = front-live.statement_is in let k = size-is (state_of middle) u.0 u.2 in let m = same.statement_limit in omega arith;
-      }
+  passes-none : (x : TokenFault) → RefusesByte middle byte x → IsOfForm x → ¬ EndsOutOfRange before-it.0 byte → (middle.file < middle.file_limit) × (is_token_byte middle.mode (advance middle.mode byte) ≡ true → pending_of middle < middle.statement_limit)
+  passes-none x r i o = in-limits-at x r i (not-ended before-it.0 before-it.2 (ends-none x r (λ q. subst IsOfForm q i)) o)
+
+  file-first : (x : TokenFault) → RefusesByte middle byte x → IsOfForm x → ¬ EndsOutOfRange tail byte → length (h.taken ++ take count piece) < v.file_limit
+  file-first x r i o = let f = (passes-none x r i o).0 in let a = front-live.file_is in let b = same.file_limit in omega arith
+
+  statement-first : (x : TokenFault) → RefusesByte middle byte x → IsOfForm x → ¬ EndsOutOfRange tail byte → IsTokenByte tail byte → open_bytes 0 lexemes + tail_size tail < v.statement_limit
+  statement-first x r i o c =
+      let s = (passes-none x r i o).1 (counts before-it.0 before-it.2 c) in
+      let a = front-live.statement_is in let k = size-is (state_of middle) before-it.0 before-it.2 in let m = same.statement_limit in omega arith
 
   pub refuses-byte : (x : TokenFault) → RefusesByte middle byte x → Refuses v h piece count x
   refuses-byte fault.NoMemory r = tt
@@ -507,8 +551,14 @@ next-refuses v u w piece x r e s h stands o alive =
       byte = s.2;
       byte_is = s.3;
       refuses = refuses-byte v w h piece now.1 alive o s.0 s.1 s.2 s.3 s.4 s.5 x s.7;
-      given_before = given-before v w h piece now.1 alive o s.0 s.1 s.2 s.3 s.4 s.5 x s.7;
-      in_limits = in-limits v w h piece now.1 alive o s.0 s.1 s.2 s.3 s.4 s.5 x s.7;
+      lexemes = lexemes v w h piece now.1 alive o s.0 s.1 s.2 s.3 s.4 s.5;
+      tail = tail v w h piece now.1 alive o s.0 s.1 s.2 s.3 s.4 s.5;
+      laid = laid v w h piece now.1 alive o s.0 s.1 s.2 s.3 s.4 s.5;
+      given_are = given-are v w h piece now.1 alive o s.0 s.1 s.2 s.3 s.4 s.5;
+      token_first = token-first v w h piece now.1 alive o s.0 s.1 s.2 s.3 s.4 s.5 x s.7;
+      range_first = range-first v w h piece now.1 alive o s.0 s.1 s.2 s.3 s.4 s.5 x s.7;
+      file_first = file-first v w h piece now.1 alive o s.0 s.1 s.2 s.3 s.4 s.5 x s.7;
+      statement_first = statement-first v w h piece now.1 alive o s.0 s.1 s.2 s.3 s.4 s.5 x s.7;
       stands = (e ∙ sym (ap (λ (y : Option TokenFault). first_refusal y (Some x)) alive), λ q. absurd (not-none x (sym (ap (λ (y : Option TokenFault). first_refusal y (Some x)) alive) ∙ q)));
     }
   where

@@ -7,7 +7,7 @@ use Rattle.p21_semantics.specs.Laying.{Lexeme, Laid, tokens_in, open_bytes, AreS
 use Rattle.p21_semantics.specs.Pending.{Tail, unfinished, tail_size, LaidUpTo, IsTokenByte}
 use Rattle.p21_semantics.specs.Separator.{blank, IsSeparator}
 use Rattle.p21_semantics.specs.Token.{Token, Spells, MayFollow, IsWholeAtOnce}
-use Rattle.p21_tokens_automaton.specs.Meaning.{MeanAll}
+use Rattle.p21_tokens_automaton.specs.Meaning.{IsOutOfRange, MeanAll}
 use Rattle.p21_tokens_automaton.specs.Reading.{State, start, open_at, Found, Sized, ended, after, lex}
 use Rattle.p21_tokens.specs.Held.{Held, pending_of, state_of}
 use Rattle.p21_tokens.specs.Steps.{rest_of, IsFaultAtEnd}
@@ -71,27 +71,10 @@ abbrev pub IsNoToken : Tail → ℕ → Type 0
 IsNoToken (unfinished bytes) byte = (token : Token) → Spells token bytes → MayFollow token bytes byte → ⊥
 IsNoToken other byte = Unit {0}
 
--- the tokens given are laid in the bytes, and no token that the byte may follow stands behind them
-pub record AreGivenBefore (given : List Token) (bytes : List ℕ) (byte : ℕ) : Type 0 where
-  pub lexemes : List Lexeme
-  pub tail : Tail
-  pub laid : LaidUpTo bytes lexemes tail
-  pub given_are : tokens_in lexemes ≡ given
-  pub no_token : IsNoToken tail byte
-
--- the tail is within no token
-abbrev pub IsGap : Tail → Type 0
-IsGap (unfinished bytes) = ⊥
-IsGap other = Unit {0}
-
--- the tokens given are laid in the bytes, and between tokens the byte passes neither the limit of the file nor that of a statement
-pub record IsInLimitsBetween (held : Held) (given : List Token) (bytes : List ℕ) (byte : ℕ) : Type 0 where
-  pub lexemes : List Lexeme
-  pub tail : Tail
-  pub laid : LaidUpTo bytes lexemes tail
-  pub given_are : tokens_in lexemes ≡ given
-  pub file : IsGap tail → length bytes < held.file_limit
-  pub statement : IsGap tail → IsTokenByte tail byte → open_bytes 0 lexemes + tail_size tail < held.statement_limit
+-- the tail is a real out of range, and the byte goes on with no real
+abbrev pub EndsOutOfRange : Tail → ℕ → Type 0
+EndsOutOfRange (unfinished bytes) byte = IsOutOfRange bytes byte
+EndsOutOfRange other byte = ⊥
 
 -- a fault of the bytes, not of limits or memory
 abbrev pub IsOfForm : TokenFault → Type 0
@@ -99,6 +82,11 @@ IsOfForm NoMemory = ⊥
 IsOfForm FileTooLong = ⊥
 IsOfForm RecordTooLong = ⊥
 IsOfForm fault = Unit {0}
+
+abbrev pub IsOfLimit : TokenFault → Type 0
+IsOfLimit FileTooLong = Unit {0}
+IsOfLimit RecordTooLong = Unit {0}
+IsOfLimit fault = ⊥
 
 -- ---- the relation
 
@@ -156,14 +144,23 @@ Refuses held history piece count NotOneParameter = ⊥
 Refuses held history piece count EndsEarly = ⊥
 Refuses held history piece count fault = AreDead (history.taken ++ take (count + 1) piece)
 
+-- A call refuses a byte, for that reason. The tokens given are laid in the bytes in front of it, up to a tail. Where
+-- several reasons meet, the first is the answer: a token that the byte may follow, which is given; a real out of range
+-- that it ends; the limit of the file; the limit of a statement; a fault of form
 pub record RefusesAtByte (old : Held) (history : TokenHistory) (piece : List ℕ) (fault : TokenFault) (new : Held) : Type 0 where
   pub count : ℕ
   pub within : count < length piece
   pub byte : ℕ
   pub byte_is : slice_get piece count ≡ Some byte
   pub refuses : Refuses old history piece count fault
-  pub given_before : fault ≢ NoMemory → AreGivenBefore history.given (history.taken ++ take count piece) byte
-  pub in_limits : IsOfForm fault → IsInLimitsBetween old history.given (history.taken ++ take count piece) byte
+  pub lexemes : List Lexeme
+  pub tail : Tail
+  pub laid : LaidUpTo (history.taken ++ take count piece) lexemes tail
+  pub given_are : tokens_in lexemes ≡ history.given
+  pub token_first : fault ≢ NoMemory → IsNoToken tail byte
+  pub range_first : IsOfLimit fault → ¬ EndsOutOfRange tail byte
+  pub file_first : IsOfForm fault → ¬ EndsOutOfRange tail byte → length (history.taken ++ take count piece) < old.file_limit
+  pub statement_first : IsOfForm fault → ¬ EndsOutOfRange tail byte → IsTokenByte tail byte → open_bytes 0 lexemes + tail_size tail < old.statement_limit
   pub stands : Stands new (extended history (refused_call piece count fault))
 
 -- what a call of `next` gives, for each history that the lexer stood for, where the caller offered first what was seen

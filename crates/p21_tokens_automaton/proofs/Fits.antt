@@ -3,7 +3,9 @@ use Rattle.std.proofs.Common.{◌≡◌, ℕ, ◌^◌, ◌<◌, ◌≤◌, List,
 use Rattle.p21_semantics.specs.Digits.{AllDigits, number}
 use Rattle.p21_semantics.specs.Token.{Token, Spells, MayFollow}
 use Rattle.p21_tokens_automaton.proofs.TextFits.{TextFits}
-use Rattle.p21_tokens_automaton.specs.Meaning.{Means}
+use Rattle.p21_semantics.specs.Keyword.{IsKeyword}
+use Rattle.p21_semantics.specs.Number.{Sign, sign_bytes}
+use Rattle.p21_tokens_automaton.specs.Meaning.{Means, IsOutOfRange}
 use Rattle.p21_tokens_automaton.specs.Step.{marker_text}
 use Rattle.p21_tokens_automaton.specs.Reading.{Found, ended, closed, marker_of}
 use Rattle.p21_tokens_automaton.specs.declared.mode.Mode.{Mode}
@@ -21,15 +23,46 @@ use Rattle.p21_tokens_automaton.specs.declared.mode.Action.TheVariants.{Pass, Sk
 abbrev pub HasExponentMark : List ℕ → Type 0
 HasExponentMark bytes = (before behind : List ℕ) × (bytes ≡ before ++ 69 ∷ behind)
 
+-- a sign or none, and digits
+pub record IsInteger (bytes : List ℕ) : Type 0 where
+  pub sign : Sign
+  pub digits : List ℕ
+  pub bytes_are : bytes ≡ sign_bytes sign ++ digits
+  pub some_digits : 0 < length digits
+  pub are_digits : AllDigits digits
+
+-- a sign or none, digits, a point, and digits or none
+pub record IsPlainReal (bytes : List ℕ) : Type 0 where
+  pub sign : Sign
+  pub whole : List ℕ
+  pub fraction : List ℕ
+  pub bytes_are : bytes ≡ sign_bytes sign ++ (whole ++ (46 ∷ fraction))
+  pub some_digits : 0 < length whole
+  pub are_digits : AllDigits whole
+  pub are_fraction_digits : AllDigits fraction
+
+-- a real with an exponent of these digits
+pub record HasExponent (bytes : List ℕ) : Type 0 where
+  pub real : List ℕ
+  pub is_real : IsPlainReal real
+  pub sign : Sign
+  pub digits : List ℕ
+  pub bytes_are : bytes ≡ real ++ (69 ∷ (sign_bytes sign ++ digits))
+  pub some_digits : 0 < length digits
+  pub are_digits : AllDigits digits
+
 abbrev pub NumberFits : NumberMode → List ℕ → Type 0
-NumberFits number_mode.Sign front = Unit {0}
-NumberFits number_mode.Whole front = Unit {0}
-NumberFits number_mode.Fraction front = Unit {0}
-NumberFits number_mode.Exponent front = HasExponentMark front
-NumberFits number_mode.ExponentSign front = HasExponentMark front
-NumberFits number_mode.ExponentDigits front = HasExponentMark front
+NumberFits number_mode.Sign front = (sign : Sign) × (front ≡ sign_bytes sign)
+NumberFits number_mode.Whole front = IsInteger front
+NumberFits number_mode.Fraction front = IsPlainReal front
+NumberFits number_mode.Exponent front = (real : List ℕ) × IsPlainReal real × (front ≡ real ++ (69 ∷ []))
+NumberFits number_mode.ExponentSign front = (real : List ℕ) × IsPlainReal real × (sign : Sign) × (front ≡ real ++ (69 ∷ sign_bytes sign))
+NumberFits number_mode.ExponentDigits front = HasExponent front
 
 abbrev pub WordFits : WordMode → List ℕ → Type 0
+WordFits word_mode.Keyword front = IsKeyword front
+WordFits word_mode.Exclamation front = front ≡ 33 ∷ []
+WordFits word_mode.UserKeyword front = (word : List ℕ) × (front ≡ 33 ∷ word) × IsKeyword word
 WordFits (word_mode.Marker marker taken) front = (front ≡ take taken (marker_text marker)) × (taken ≤ length (marker_text marker))
 WordFits (word_mode.Marked marker) front = front ≡ marker_text marker
 WordFits other front = Unit {0}
@@ -53,6 +86,11 @@ abbrev pub EndFits : Mode → List ℕ → List ℕ → List ℕ → Type 0
 EndFits mode kept characters front =
     (found : Found) (token : Token) → ended (record { mode = mode; kept = kept; characters = characters; size = length front }) ≡ Some found → Means found token → Spells token front
 
+-- the byte behind them may follow the token of such a mode; if there is no token, they are a real out of range
+pub record EndsBefore (mode : Mode) (kept characters front : List ℕ) (byte : ℕ) : Type 0 where
+  pub follows : (found : Found) (token : Token) → ended (record { mode = mode; kept = kept; characters = characters; size = length front }) ≡ Some found → Means found token → MayFollow token front byte
+  pub no_token : ((found : Found) (token : Token) → ended (record { mode = mode; kept = kept; characters = characters; size = length front }) ≡ Some found → Means found token → ⊥) → IsOutOfRange front byte
+
 -- what an action makes of them
 abbrev pub StepFits : Mode → List ℕ → List ℕ → List ℕ → ℕ → Action → Type 0
 StepFits mode kept characters front byte (Pass next) = ⊥
@@ -62,7 +100,6 @@ StepFits mode kept characters front byte (Put next character) = ModeFits next ke
 StepFits mode kept characters front byte (Give one) = ⊥
 StepFits mode kept characters front byte Close =
     (found : Found) (token : Token) → closed mode (kept ++ byte ∷ []) ≡ Some found → Means found token → Spells token (front ++ byte ∷ [])
-StepFits mode kept characters front byte End =
-    (found : Found) (token : Token) → ended (record { mode = mode; kept = kept; characters = characters; size = length front }) ≡ Some found → Means found token → MayFollow token front byte
+StepFits mode kept characters front byte End = EndsBefore mode kept characters front byte
 StepFits mode kept characters front byte Dash = (next : Mode) → marker_of kept ≡ Some next → ModeFits next (kept ++ byte ∷ []) characters (front ++ byte ∷ [])
 StepFits mode kept characters front byte (Refuse wrong) = Unit {0}

@@ -393,7 +393,7 @@ module _ (first-fits : (b : ℕ) → FirstFits b (between_action b))
         at (Put x c) g h = goes (put s x c) g refl h
         at (Give one) g h = absurd g
         at Close g h = closes (closed s.mode (s.kept ++ b ∷ [])) refl g h
-        at End g h = ends (ended s) refl g h
+        at End g h = ends (ended s) refl g.follows h
         at Dash g h = dashes (marker_of s.kept) refl g h
         at (Refuse w) g h = absurd (not-read w founds e h)
 

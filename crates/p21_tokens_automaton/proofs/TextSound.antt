@@ -315,9 +315,12 @@ module _ (b : ℕ) (kept characters front : List ℕ) where
   apostrophe-step s = cond_both _ _ _ (λ a. StepFits (Text text_mode.Apostrophe) kept characters front b a) (λ e. doubled-end 39 (inl refl) e s) (λ e. follows e)
     where
       follows : eqb b 39 ≡ false → StepFits (Text text_mode.Apostrophe) kept characters front b End
-      follows e found token is means =
-          let known : Means (known (text characters)) token = subst (λ f. Means f token) (sym (some-equal (known (text characters)) found is)) means in
-          subst (λ t. MayFollow t front b) known (eqb-false b 39 e)
+      follows e = record {
+        follows = λ found token is means.
+            let known : Means (known (text characters)) token = subst (λ f. Means f token) (sym (some-equal (known (text characters)) found is)) means in
+            subst (λ t. MayFollow t front b) known (eqb-false b 39 e);
+        no_token = λ none. absurd (none (known (text characters)) (text characters) refl refl);
+      }
 
   backslash-step : InString characters (92 ∷ []) front → StepFits (Text text_mode.Backslash) kept characters front b (backslash_action b)
   backslash-step s =

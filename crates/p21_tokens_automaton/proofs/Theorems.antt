@@ -1,7 +1,7 @@
 -- The two theorems that join the reading to the tokens laid in bytes, and what follows of them.
-use Rattle.std.proofs.Common.{◌≡◌, ℕ, ◌+◌, List, [], ◌∷◌, ◌++◌, ◌⊎◌, inl, inr, length, length-append, refl, sym, ap, ◌∙◌, subst, append_assoc, append-nil, Some, arith}
+use Rattle.std.proofs.Common.{◌≡◌, ◌≢◌, ℕ, pos, ◌+◌, List, [], ◌∷◌, ◌++◌, ◌⊎◌, inl, inr, length, length-append, refl, sym, ap, ◌∙◌, subst, append_assoc, append-nil, Some, arith}
 use Rattle.std.proofs.lemmas.Bool.{ne_eqb}
-use Rattle.p21_semantics.specs.Token.{Token, begin, finish, keyword, user_keyword, name, whole, real, text, item, bits, left, right, comma, semicolon, equals, dollar, star, Spells, MayFollow, IsWholeAtOnce}
+use Rattle.p21_semantics.specs.Token.{Token, begin, finish, keyword, user_keyword, name, whole, real, text, item, bits, left, right, comma, semicolon, equals, dollar, star, Spells, MayFollow, HasNoExponent, IsWholeAtOnce}
 use Rattle.p21_semantics.specs.Laying.{Lexeme, LaidAs, Laid, tokens_in}
 use Rattle.p21_semantics.specs.Pending.{Tail, nothing, unfinished, slash, open_comment, tail_bytes, tail_size, IsKnownWhole, IsTail, LaidUpTo}
 use Rattle.p21_tokens_automaton.specs.Meaning.{MeanAll, found_of}
@@ -12,12 +12,15 @@ use Rattle.p21_tokens_automaton.specs.declared.mode.Mode.TheVariants.{Text}
 use Rattle.p21_tokens_automaton.specs.declared.mode.TextMode.TheVariants as text_mode
 use Rattle.p21_tokens_automaton.specs.declared.mode.Single.TheVariants as single
 use Rattle.p21_tokens_automaton.proofs.Complete.{laid-read}
+use Rattle.p21_tokens_automaton.proofs.Fits.{StepFits}
+use Rattle.p21_semantics.specs.Digits.{IsDigit}
+use Rattle.p21_semantics.specs.Number.{Decimal, RealForm}
 use Rattle.p21_tokens_automaton.proofs.Once.{means-once, spells-means}
 use Rattle.p21_tokens_automaton.proofs.Sound.{LaidTo, TailIs, UpTo, read, read-laid}
 use Rattle.p21_tokens_automaton.proofs.Steps.{lex-nil, lex-skip, lex-end}
 use Rattle.p21_tokens_automaton.proofs.TextRuns.{text-run}
 use Rattle.p21_tokens_automaton.proofs.TextSound.{text-fits, text-ends}
-use Rattle.p21_tokens_automaton.proofs.TokenRuns.{token-readings, item-run, bits-run, single-run}
+use Rattle.p21_tokens_automaton.proofs.TokenRuns.{token-readings, item-run, bits-run, single-run, waits-form}
 use Rattle.p21_tokens_automaton.proofs.TokenSound.{first-fits, mode-fits, mode-ends}
 use Rattle.p21_tokens_automaton.proofs.Waits.{Waits, IsGiven}
 
@@ -86,12 +89,26 @@ tail-is e (unfinished bytes) t = record {
 same-open : (s e : State) → nothing_but (open_at s) ≡ nothing_but (open_at e) → s ≡ e
 same-open s e q = let p : open_at s ≡ open_at e = ap (λ (a : Answer). a.ending) q in cc
 
+same-waits : (e : State) (bytes : List ℕ) → TailIs e (unfinished bytes) → (token : Token) → (w : Waits token bytes) → w.state ≡ e
+same-waits e bytes t token w = same-open w.state e (sym (lex-nil w.state) ∙ (sym (w.reaches []) ∙ (ap (λ (x : List ℕ). lex start x) (append-nil bytes) ∙ t.2)))
+
 -- a byte that may follow the token which the tail spells ends it
 pub tail-ends : (e : State) (bytes : List ℕ) → TailIs e (unfinished bytes) → (token : Token) (byte : ℕ) → Spells token bytes → MayFollow token bytes byte → (advance e.mode byte ≡ End) × (ended e ≡ Some (found_of token bytes))
 tail-ends e bytes t token byte s f = elim (readings token bytes s) [
-  | inl w ↦ subst (λ (x : State). (advance x.mode byte ≡ End) × (ended x ≡ Some (found_of token bytes))) (same-open w.state e (sym (lex-nil w.state) ∙ (sym (w.reaches []) ∙ (ap (λ (x : List ℕ). lex start x) (append-nil bytes) ∙ t.2)))) (w.ends byte f, w.ended_is)
+  | inl w ↦ subst (λ (x : State). (advance x.mode byte ≡ End) × (ended x ≡ Some (found_of token bytes))) (same-waits e bytes t token w) (w.ends byte f, w.ended_is)
   | inr g ↦ absurd (not-given _ _ e (sym (g.run []) ∙ (ap (λ (x : List ℕ). lex start x) (append-nil bytes) ∙ t.2)))
 ]
+
+-- a byte that no real goes on with ends one, in range or not
+pub form-ends : (e : State) (bytes : List ℕ) (byte : ℕ) → TailIs e (unfinished bytes) → RealForm bytes → ¬ IsDigit byte → (HasNoExponent bytes → byte ≢ 69) → advance e.mode byte ≡ End
+form-ends e bytes byte t form n m =
+    let d : Decimal = record { significand = pos 0; exponent = pos 0 } in
+    let w = waits-form d bytes form in
+    subst (λ (x : State). advance x.mode byte ≡ End) (same-waits e bytes t (real d) w) (w.ends byte (n, m))
+
+-- what a byte does behind an unfinished token
+pub steps-on : (e : State) (bytes : List ℕ) (byte : ℕ) → TailIs e (unfinished bytes) → StepFits e.mode e.kept e.characters bytes byte (advance e.mode byte)
+steps-on e bytes byte t = mode-fits text-fits e.mode byte e.kept e.characters bytes t.0
 
 pub laid-up-to : (bytes : List ℕ) (lexemes : List Lexeme) (tail : Tail) → LaidTo bytes lexemes (tail_bytes tail) → IsTail tail → LaidUpTo bytes lexemes tail
 laid-up-to bytes [] tail l t = (l.0, l.1, l.2, t)

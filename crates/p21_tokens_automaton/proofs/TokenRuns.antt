@@ -205,9 +205,13 @@ real-ends : (p : Exponent) (b : ℕ) → ¬ IsDigit b → (p ≡ no_exponent →
 real-ends no_exponent b n e = rw (false_from_not _ (digit-decides b) n, ne_eqb b 69 (e refl)) refl
 real-ends (exponent s digits) b n e = rw (false_from_not _ (digit-decides b) n) refl
 
+-- whether the number is in range or not
+pub waits-form : (d : Decimal) (spelling : List ℕ) → RealForm spelling → Waits (token.real d) spelling
+waits-form d spelling form =
+    waits (token.real d) (Number (behind_power form.power)) spelling (goes-real spelling form) (real-ended d form.power spelling) (λ b f. real-ends form.power b f.0 (λ e. f.1 (form, e)))
+
 pub waits-real : (d : Decimal) (spelling : List ℕ) → Spells (token.real d) spelling → Waits (token.real d) spelling
-waits-real d spelling h =
-    waits (token.real d) (Number (behind_power h.form.power)) spelling (goes-real spelling h.form) (real-ended d h.form.power spelling) (λ b f. real-ends h.form.power b f.0 (λ e. f.1 (h.form, e)))
+waits-real d spelling h = waits-form d spelling h.form
 
 -- ---- names
 

@@ -1,16 +1,16 @@
 -- One more byte of an open number, keyword, marker, item, name or binary, and what a byte between tokens begins.
-use Rattle.std.proofs.Common.{◌≡◌, ◌≢◌, ℕ, ◌+◌, ◌-◌, ◌*◌, ◌^◌, inl, inr, eqb, ◌||◌, codes, cond, leb, ltb, ◌&&◌, bytes_eq, slice_get, List, [], ◌∷◌, ◌++◌, length, take, refl, sym, ap, subst, ◌∙◌, append_assoc, arith, Option, Some, None}
+use Rattle.std.proofs.Common.{◌≡◌, ◌≢◌, ℕ, ◌+◌, ◌-◌, ◌*◌, ◌^◌, inl, inr, eqb, ◌||◌, codes, cond, leb, ltb, ◌&&◌, bytes_eq, slice_get, List, [], ◌∷◌, ◌++◌, length, take, refl, sym, ap, subst, ◌∙◌, append_assoc, append-nil, arith, Option, Some, None}
 use Rattle.std.proofs.lemmas.Bool.{eqb-true, eqb-false, ltb-true, ltb-false, cond_both}
-use Rattle.std.proofs.lemmas.Bool.Decides.{not_from_Decides}
+use Rattle.std.proofs.lemmas.Bool.Decides.{not_from_Decides, Decides-or, Decides-eqb}
 use Rattle.std.proofs.lemmas.List.{take_more, take_all, length_push}
 use Rattle.std.proofs.lemmas.Option.{slice_get_within, get_or_from_slice_get}
 use Rattle.std.proofs.lemmas.Slice.Eq.{bytes_eq-Decides}
 use Rattle.std.specs.List.{AllByRecursion as Each}
 use Rattle.p21_semantics.proofs.PlainDigits.{digits_append}
 use Rattle.p21_semantics.specs.Digits.{IsDigit, AllDigits, number as number_of}
-use Rattle.p21_semantics.specs.Keyword.{IsKeywordByte}
+use Rattle.p21_semantics.specs.Keyword.{IsKeyword, IsKeywordByte}
 use Rattle.p21_semantics.specs.Name.{SpellsName}
-use Rattle.p21_semantics.specs.Number.{Sign, none, plus, minus, sign_bytes, exponent_bytes}
+use Rattle.p21_semantics.specs.Number.{Sign, none, plus, minus, sign_bytes, is_minus, signed, exponent, no_exponent, exponent_bytes, RealForm, SpellsReal, SpellsWhole}
 use Rattle.p21_semantics.specs.Token.{Token, Spells, MayFollow, HasNoExponent}
 use Rattle.p21_semantics.specs.Token as token
 use Rattle.p21_tokens_automaton.specs.Bytes.{is_digit, is_upper, is_keyword_byte, is_hex, hex_value, is_blank}
@@ -35,10 +35,10 @@ use Rattle.p21_tokens_automaton.specs.declared.mode.Absent.TheVariants.{Constant
 use Rattle.p21_tokens_automaton.specs.declared.mode.Wrong.TheVariants as wrong
 use Rattle.p21_tokens_automaton.specs.declared.mode.Action.{Action}
 use Rattle.p21_tokens_automaton.specs.declared.mode.Action.TheVariants.{Pass, Skip, Keep, Close, End, Dash, Refuse}
-use Rattle.p21_tokens_automaton.proofs.Classes.{digit-decides, blank-decides, keyword_byte-decides}
+use Rattle.p21_tokens_automaton.proofs.Classes.{digit-decides, upper-decides, blank-decides, keyword_byte-decides}
 use Rattle.p21_tokens_automaton.proofs.Sound.{FirstFits}
 use Rattle.p21_tokens_automaton.proofs.TokenRuns.{number-more}
-use Rattle.p21_tokens_automaton.proofs.Fits.{HasExponentMark, NumberFits, NameFits, ModeFits, EndFits, StepFits}
+use Rattle.p21_tokens_automaton.proofs.Fits.{HasExponentMark, IsInteger, IsPlainReal, HasExponent, NumberFits, NameFits, ModeFits, EndFits, StepFits}
 
 -- ---- what is found
 
@@ -76,8 +76,44 @@ has-exponent front mark plain =
     let all = each-both P (sign_bytes form.sign) _ (sign-has_no_mark form.sign) (each-both P form.whole _ (no-exponent_mark form.whole form.are_digits) tail) in
     each-at P mark.0 69 mark.1 (subst (Each P) (sym form.bytes_are ∙ mark.2) all) refl
 
-more-behind_mark : (front : List ℕ) (b : ℕ) → HasExponentMark front → HasExponentMark (front ++ b ∷ [])
-more-behind_mark front b h = (h.0, h.1 ++ b ∷ [], ap (λ (x : List ℕ). x ++ b ∷ []) h.2 ∙ append_assoc h.0 (69 ∷ h.1) (b ∷ []))
+more-behind_point : (sign digits fraction more : List ℕ) → (sign ++ (digits ++ (46 ∷ fraction))) ++ more ≡ sign ++ (digits ++ (46 ∷ (fraction ++ more)))
+more-behind_point sign digits fraction more = append_assoc sign (digits ++ (46 ∷ fraction)) more ∙ ap (λ (x : List ℕ). sign ++ x) (append_assoc digits (46 ∷ fraction) more)
+
+integer-spells : (front : List ℕ) (f : IsInteger front) → SpellsWhole front (signed (is_minus f.sign) (number_of f.digits))
+integer-spells front f = record { sign = f.sign; digits = f.digits; bytes_are = f.bytes_are; some_digits = f.some_digits; are_digits = f.are_digits; value_is = refl }
+
+plain_real-form : (front : List ℕ) → IsPlainReal front → RealForm front
+plain_real-form front f = record {
+  sign = f.sign;
+  whole = f.whole;
+  fraction = f.fraction;
+  power = no_exponent;
+  bytes_are = f.bytes_are ∙ ap (λ (x : List ℕ). sign_bytes f.sign ++ (f.whole ++ (46 ∷ x))) (sym (append-nil f.fraction));
+  some_digits = f.some_digits;
+  are_digits = f.are_digits;
+  are_fraction_digits = f.are_fraction_digits;
+  is_exponent = tt;
+}
+
+exponent-form : (front : List ℕ) → HasExponent front → RealForm front
+exponent-form front h =
+    let f = h.is_real in
+    let written : List ℕ = 69 ∷ (sign_bytes h.sign ++ h.digits) in
+    record {
+      sign = f.sign;
+      whole = f.whole;
+      fraction = f.fraction;
+      power = exponent h.sign h.digits;
+      bytes_are = h.bytes_are ∙ (ap (λ (x : List ℕ). x ++ written) f.bytes_are ∙ more-behind_point (sign_bytes f.sign) f.whole f.fraction written);
+      some_digits = f.some_digits;
+      are_digits = f.are_digits;
+      are_fraction_digits = f.are_fraction_digits;
+      is_exponent = (h.some_digits, h.are_digits);
+    }
+
+keyword-more : (front : List ℕ) (b : ℕ) → IsKeyword front → IsKeywordByte b → IsKeyword (front ++ b ∷ [])
+keyword-more [] b h k = absurd h
+keyword-more (c ∷ front) b h k = (h.0, each-both IsKeywordByte front (b ∷ []) h.1 (k, tt))
 
 whole-follows : (t : Token) (front : List ℕ) (b : ℕ) → IsOfKind whole t → (IsDigit b → ⊥) → b ≢ 46 → MayFollow t front b
 whole-follows (token.whole z) front b k n e = (n, e)
@@ -92,37 +128,104 @@ module _ (b : ℕ) (kept characters front : List ℕ) where
   keeps e = ap (λ (x : List ℕ). x ++ b ∷ []) e
 
   -- what stands behind an ended token
-  whole-end : (IsDigit b → ⊥) → b ≢ 46 → StepFits (Number number.Whole) kept characters front b End
-  whole-end n e found t is means = whole-follows t front b (subst (λ f. Means f t) (sym (some-is _ _ is)) means).0 n e
+  whole-end : kept ≡ front → IsInteger front → (IsDigit b → ⊥) → b ≢ 46 → StepFits (Number number.Whole) kept characters front b End
+  whole-end h f n e = record {
+    follows = λ found t is means. whole-follows t front b (subst (λ f. Means f t) (sym (some-is _ _ is)) means).0 n e;
+    no_token = λ none. absurd (none (spelled whole kept) (token.whole (signed (is_minus f.sign) (number_of f.digits))) refl (tt, subst (λ (x : List ℕ). SpellsWhole x (signed (is_minus f.sign) (number_of f.digits))) (sym h) (integer-spells front f)));
+  }
 
-  real-end : (m : NumberMode) → ended (record { mode = Number m; kept = kept; characters = characters; size = length front }) ≡ Some (spelled real kept) → (IsDigit b → ⊥) → (HasNoExponent front → b ≢ 69) → StepFits (Number m) kept characters front b End
-  real-end m own n e found t is means = real-follows t front b (subst (λ f. Means f t) (some-is _ _ (sym is ∙ own)) means).0 n e
+  real-end : (m : NumberMode) → ended (record { mode = Number m; kept = kept; characters = characters; size = length front }) ≡ Some (spelled real kept) → kept ≡ front → RealForm front → (IsDigit b → ⊥) → (HasNoExponent front → b ≢ 69) → StepFits (Number m) kept characters front b End
+  real-end m own h f n e = record {
+    follows = λ found t is means. real-follows t front b (subst (λ f. Means f t) (some-is _ _ (sym is ∙ own)) means).0 n e;
+    no_token = λ none. (f, λ value s. none (spelled real kept) (token.real value) own (tt, subst (λ (x : List ℕ). SpellsReal x value) (sym h) s), n, e);
+  }
 
-  behind_digit-fits : (m : NumberMode) → NumberFits m front → NumberFits (behind_digit m) (front ++ b ∷ [])
-  behind_digit-fits number.Sign h = tt
-  behind_digit-fits number.Whole h = tt
-  behind_digit-fits number.Fraction h = tt
-  behind_digit-fits number.Exponent h = more-behind_mark front b h
-  behind_digit-fits number.ExponentSign h = more-behind_mark front b h
-  behind_digit-fits number.ExponentDigits h = more-behind_mark front b h
+  behind_digit-fits : (m : NumberMode) → NumberFits m front → IsDigit b → NumberFits (behind_digit m) (front ++ b ∷ [])
+  behind_digit-fits number.Sign h d = record { sign = h.0; digits = b ∷ []; bytes_are = ap (λ (x : List ℕ). x ++ b ∷ []) h.1; some_digits = omega arith; are_digits = (d, tt) }
+  behind_digit-fits number.Whole h d = record {
+    sign = h.sign;
+    digits = h.digits ++ b ∷ [];
+    bytes_are = ap (λ (x : List ℕ). x ++ b ∷ []) h.bytes_are ∙ append_assoc (sign_bytes h.sign) h.digits (b ∷ []);
+    some_digits = let l = length_push h.digits b in omega arith;
+    are_digits = digits_append h.digits (b ∷ []) h.are_digits (d, tt);
+  }
+  behind_digit-fits number.Fraction h d = record {
+    sign = h.sign;
+    whole = h.whole;
+    fraction = h.fraction ++ b ∷ [];
+    bytes_are = ap (λ (x : List ℕ). x ++ b ∷ []) h.bytes_are ∙ more-behind_point (sign_bytes h.sign) h.whole h.fraction (b ∷ []);
+    some_digits = h.some_digits;
+    are_digits = h.are_digits;
+    are_fraction_digits = digits_append h.fraction (b ∷ []) h.are_fraction_digits (d, tt);
+  }
+  behind_digit-fits number.Exponent h d = record {
+    real = h.0;
+    is_real = h.1;
+    sign = none;
+    digits = b ∷ [];
+    bytes_are = ap (λ (x : List ℕ). x ++ b ∷ []) h.2 ∙ append_assoc h.0 (69 ∷ []) (b ∷ []);
+    some_digits = omega arith;
+    are_digits = (d, tt);
+  }
+  behind_digit-fits number.ExponentSign h d = record {
+    real = h.0;
+    is_real = h.1;
+    sign = h.2;
+    digits = b ∷ [];
+    bytes_are = ap (λ (x : List ℕ). x ++ b ∷ []) h.3 ∙ append_assoc h.0 (69 ∷ sign_bytes h.2) (b ∷ []);
+    some_digits = omega arith;
+    are_digits = (d, tt);
+  }
+  behind_digit-fits number.ExponentDigits h d = record {
+    real = h.real;
+    is_real = h.is_real;
+    sign = h.sign;
+    digits = h.digits ++ b ∷ [];
+    bytes_are = ap (λ (x : List ℕ). x ++ b ∷ []) h.bytes_are ∙ (append_assoc h.real (69 ∷ (sign_bytes h.sign ++ h.digits)) (b ∷ []) ∙ ap (λ (x : List ℕ). h.real ++ (69 ∷ x)) (append_assoc (sign_bytes h.sign) h.digits (b ∷ [])));
+    some_digits = let l = length_push h.digits b in omega arith;
+    are_digits = digits_append h.digits (b ∷ []) h.are_digits (d, tt);
+  }
+
+  point-fits : IsInteger front → b ≡ 46 → IsPlainReal (front ++ b ∷ [])
+  point-fits h e = record {
+    sign = h.sign;
+    whole = h.digits;
+    fraction = [];
+    bytes_are = ap (λ (x : List ℕ). x ++ b ∷ []) h.bytes_are ∙ (append_assoc (sign_bytes h.sign) h.digits (b ∷ []) ∙ ap (λ (c : ℕ). sign_bytes h.sign ++ (h.digits ++ c ∷ [])) e);
+    some_digits = h.some_digits;
+    are_digits = h.are_digits;
+    are_fraction_digits = tt;
+  }
+
+  exponent_sign-fits : NumberFits number.Exponent front → (sign : Sign) → b ∷ [] ≡ sign_bytes sign → NumberFits number.ExponentSign (front ++ b ∷ [])
+  exponent_sign-fits h sign s = (h.0, h.1, sign, ap (λ (x : List ℕ). x ++ b ∷ []) h.2 ∙ (append_assoc h.0 (69 ∷ []) (b ∷ []) ∙ ap (λ (x : List ℕ). h.0 ++ (69 ∷ x)) s))
 
   no_digit-fits : (m : NumberMode) → ModeFits (Number m) kept characters front → (IsDigit b → ⊥) → StepFits (Number m) kept characters front b (no_digit m b)
   no_digit-fits number.Sign h n = tt
   no_digit-fits number.Whole h n =
-      cond_both (eqb b 46) (Keep (Number number.Fraction)) End (λ a. StepFits (Number number.Whole) kept characters front b a) (λ e. (keeps h.0, tt)) (λ e. whole-end n (eqb-false b 46 e))
+      cond_both (eqb b 46) (Keep (Number number.Fraction)) End (λ a. StepFits (Number number.Whole) kept characters front b a) (λ e. (keeps h.0, point-fits h.1 (eqb-true b 46 e))) (λ e. whole-end h.0 h.1 n (eqb-false b 46 e))
   no_digit-fits number.Fraction h n =
       cond_both (eqb b 69) (Keep (Number number.Exponent)) End (λ a. StepFits (Number number.Fraction) kept characters front b a)
-      (λ e. (keeps h.0, (front, [], ap (λ (c : ℕ). front ++ c ∷ []) (eqb-true b 69 e))))
-      (λ e. real-end number.Fraction refl n (λ _. eqb-false b 69 e))
+      (λ e. (keeps h.0, (front, h.1, ap (λ (c : ℕ). front ++ c ∷ []) (eqb-true b 69 e))))
+      (λ e. real-end number.Fraction refl h.0 (plain_real-form front h.1) n (λ _. eqb-false b 69 e))
   no_digit-fits number.Exponent h n =
-      cond_both (eqb b 43 || eqb b 45) (Keep (Number number.ExponentSign)) (Refuse wrong.Number) (λ a. StepFits (Number number.Exponent) kept characters front b a) (λ e. (keeps h.0, more-behind_mark front b h.1)) (λ e. tt)
+      cond_both (eqb b 43 || eqb b 45) (Keep (Number number.ExponentSign)) (Refuse wrong.Number) (λ a. StepFits (Number number.Exponent) kept characters front b a)
+      (λ e. (
+        keeps h.0,
+        elim ((Decides-or _ _ (Decides-eqb b 43) (Decides-eqb b 45)).0 e) [
+          | inl p ↦ exponent_sign-fits h.1 plus (ap (λ (c : ℕ). c ∷ []) p)
+          | inr p ↦ exponent_sign-fits h.1 minus (ap (λ (c : ℕ). c ∷ []) p)
+        ],
+      ))
+      (λ e. tt)
   no_digit-fits number.ExponentSign h n = tt
-  no_digit-fits number.ExponentDigits h n = real-end number.ExponentDigits refl n (λ none. absurd (has-exponent front h.1 none))
+  no_digit-fits number.ExponentDigits h n =
+      real-end number.ExponentDigits refl h.0 (exponent-form front h.1) n (λ none. absurd (has-exponent front (h.1.real, sign_bytes h.1.sign ++ h.1.digits, h.1.bytes_are) none))
 
 pub number-fits : (m : NumberMode) (b : ℕ) (kept characters front : List ℕ) → ModeFits (Number m) kept characters front → StepFits (Number m) kept characters front b (number_action m b)
 number-fits m b kept characters front h =
     cond_both (is_digit b) (Keep (Number (behind_digit m))) (no_digit m b) (λ a. StepFits (Number m) kept characters front b a)
-    (λ e. (keeps b kept characters front h.0, behind_digit-fits b kept characters front m h.1))
+    (λ e. (keeps b kept characters front h.0, behind_digit-fits b kept characters front m h.1 ((digit-decides b).0 e)))
     (λ e. no_digit-fits b kept characters front m h (not_from_Decides _ (digit-decides b) e))
 
 spelled-ends : (kind : Kind) (kept front : List ℕ) → kept ≡ front → (found : Found) (t : Token) → Some (spelled kind kept) ≡ Some found → Means found t → Spells t front
@@ -157,12 +260,18 @@ marker-spells Finish front e = e
 
 module _ (b : ℕ) (kept characters front : List ℕ) where
   -- a token of this kind, spelled by the kept bytes, that ends before the byte
-  kind-end : (m : Mode) (kind : Kind) → ended (record { mode = m; kept = kept; characters = characters; size = length front }) ≡ Some (spelled kind kept) → ((t : Token) → IsOfKind kind t → MayFollow t front b) → StepFits m kept characters front b End
-  kind-end m kind own follows found t is means = follows t (subst (λ f. Means f t) (some-is _ _ (sym is ∙ own)) means).0
+  kind-end : (m : Mode) (kind : Kind) (u : Token) → ended (record { mode = m; kept = kept; characters = characters; size = length front }) ≡ Some (spelled kind kept) → Means (spelled kind kept) u → ((t : Token) → IsOfKind kind t → MayFollow t front b) → StepFits m kept characters front b End
+  kind-end m kind u own spells follows = record {
+    follows = λ found t is means. follows t (subst (λ f. Means f t) (some-is _ _ (sym is ∙ own)) means).0;
+    no_token = λ none. absurd (none (spelled kind kept) u own spells);
+  }
 
   -- a token that is known
   known-end : (m : Mode) (u : Token) → ended (record { mode = m; kept = kept; characters = characters; size = length front }) ≡ Some (known u) → MayFollow u front b → StepFits m kept characters front b End
-  known-end m u own follows found t is means = subst (λ v. MayFollow v front b) (subst (λ f. Means f t) (some-is _ _ (sym is ∙ own)) means) follows
+  known-end m u own follows = record {
+    follows = λ found t is means. subst (λ v. MayFollow v front b) (subst (λ f. Means f t) (some-is _ _ (sym is ∙ own)) means) follows;
+    no_token = λ none. absurd (none (known u) u own refl);
+  }
 
   dash-fits : kept ≡ front → b ≡ 45 → StepFits (Word word.Keyword) kept characters front b Dash
   dash-fits h e next =
@@ -194,20 +303,22 @@ module _ (b : ℕ) (kept characters front : List ℕ) where
   word-step : (m : WordMode) → ModeFits (Word m) kept characters front → StepFits (Word m) kept characters front b (word_action m b)
   word-step word.Keyword h =
       let P : Action → Type 0 = λ a. StepFits (Word word.Keyword) kept characters front b a in
-      cond_both (is_keyword_byte b) (Keep (Word word.Keyword)) (cond (eqb b 45) Dash End) P (λ e. (keeps b kept characters front h.0, tt)) (λ e.
+      cond_both (is_keyword_byte b) (Keep (Word word.Keyword)) (cond (eqb b 45) Dash End) P (λ e. (keeps b kept characters front h.0, keyword-more front b h.1 ((keyword_byte-decides b).0 e))) (λ e.
       cond_both (eqb b 45) Dash End P (λ d. dash-fits h.0 (eqb-true b 45 d))
-      (λ d. kind-end (Word word.Keyword) keyword refl (λ t k. keyword-follows t front b k (not_from_Decides _ (keyword_byte-decides b) e) (eqb-false b 45 d))))
+      (λ d. kind-end (Word word.Keyword) keyword (token.keyword front) refl (tt, (h.0, h.1)) (λ t k. keyword-follows t front b k (not_from_Decides _ (keyword_byte-decides b) e) (eqb-false b 45 d))))
   word-step (word.Marker marker taken) h = marker-fits marker taken h.0 h.1.0 (slice_get (marker_text marker) taken) refl
   word-step (word.Marked marker) h =
       cond_both (is_keyword_byte b) (Refuse wrong.Byte) End (λ a. StepFits (Word (word.Marked marker)) kept characters front b a) (λ e. tt)
       (λ e. known-end (Word (word.Marked marker)) (marker_token marker) refl (marker-follows marker front b (not_from_Decides _ (keyword_byte-decides b) e)))
   word-step word.Exclamation h =
-      cond_both (is_upper b) (Keep (Word word.UserKeyword)) (Refuse wrong.Byte) (λ a. StepFits (Word word.Exclamation) kept characters front b a) (λ e. (keeps b kept characters front h.0, tt)) (λ e. tt)
+      cond_both (is_upper b) (Keep (Word word.UserKeyword)) (Refuse wrong.Byte) (λ a. StepFits (Word word.Exclamation) kept characters front b a)
+      (λ e. (keeps b kept characters front h.0, (b ∷ [], ap (λ (x : List ℕ). x ++ b ∷ []) h.1, ((upper-decides b).0 e, tt)))) (λ e. tt)
   word-step word.UserKeyword h =
       let P : Action → Type 0 = λ a. StepFits (Word word.UserKeyword) kept characters front b a in
-      cond_both (is_keyword_byte b) (Keep (Word word.UserKeyword)) (cond (eqb b 45) (Refuse wrong.Byte) End) P (λ e. (keeps b kept characters front h.0, tt)) (λ e.
+      cond_both (is_keyword_byte b) (Keep (Word word.UserKeyword)) (cond (eqb b 45) (Refuse wrong.Byte) End) P
+      (λ e. (keeps b kept characters front h.0, (h.1.0 ++ b ∷ [], ap (λ (x : List ℕ). x ++ b ∷ []) h.1.1, keyword-more h.1.0 b h.1.2 ((keyword_byte-decides b).0 e)))) (λ e.
       cond_both (eqb b 45) (Refuse wrong.Byte) End P (λ d. tt)
-      (λ d. kind-end (Word word.UserKeyword) user_keyword refl (λ t k. user_keyword-follows t front b k (not_from_Decides _ (keyword_byte-decides b) e) (eqb-false b 45 d))))
+      (λ d. kind-end (Word word.UserKeyword) user_keyword (token.user_keyword h.1.0) refl (tt, (h.0 ∙ h.1.1, h.1.2)) (λ t k. user_keyword-follows t front b k (not_from_Decides _ (keyword_byte-decides b) e) (eqb-false b 45 d))))
   word-step word.Point h =
       cond_both (is_upper b) (Keep (Word word.Item)) (Refuse wrong.Byte) (λ a. StepFits (Word word.Point) kept characters front b a) (λ e. (keeps b kept characters front h.0, tt)) (λ e. tt)
   word-step word.Item h =
@@ -313,10 +424,10 @@ module _ (b : ℕ) where
       (one-byte b 61 _ _ (λ e. single-byte 61 e)
       (one-byte b 36 _ _ (λ e. single-byte 36 e)
       (one-byte b 42 _ _ (λ e. single-byte 42 e)
-      (one-byte b 43 _ _ (λ e. (refl, tt))
-      (one-byte b 45 _ _ (λ e. (refl, tt))
+      (one-byte b 43 _ _ (λ e. (refl, (plus, single-byte 43 e)))
+      (one-byte b 45 _ _ (λ e. (refl, (minus, single-byte 45 e)))
       (one-byte b 34 _ _ (λ e. refl)
-      (one-byte b 33 _ _ (λ e. (refl, tt))
+      (one-byte b 33 _ _ (λ e. (refl, single-byte 33 e))
       (one-byte b 47 _ _ (λ e. inr (refl, e))
       (one-byte b 38 _ _ (λ e. tt)
       (one-byte b 64 _ _ (λ e. tt) tt))))))))))))))))
@@ -324,8 +435,8 @@ module _ (b : ℕ) where
 pub first-fits : (b : ℕ) → FirstFits b (between_action b)
 first-fits b =
     cond_both (is_blank b) (Pass Between) _ (FirstFits b) (λ e. inl (refl, (blank-decides b).0 e)) (λ _.
-    cond_both (is_digit b) (Keep (Number number.Whole)) _ (FirstFits b) (λ e. (refl, tt)) (λ _.
-    cond_both (is_upper b) (Keep (Word word.Keyword)) (mark_action b) (FirstFits b) (λ e. (refl, tt)) (λ _. mark-fits b)))
+    cond_both (is_digit b) (Keep (Number number.Whole)) _ (FirstFits b) (λ e. (refl, record { sign = none; digits = b ∷ []; bytes_are = refl; some_digits = omega arith; are_digits = ((digit-decides b).0 e, tt) })) (λ _.
+    cond_both (is_upper b) (Keep (Word word.Keyword)) (mark_action b) (FirstFits b) (λ e. (refl, ((upper-decides b).0 e, tt))) (λ _. mark-fits b)))
 
 -- ---- every mode
 

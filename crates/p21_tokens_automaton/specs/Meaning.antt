@@ -1,7 +1,9 @@
 -- Which token is found: one that is known, or one of a kind that its bytes spell.
-use Rattle.std.specs.Prelude.{◌≡◌, ℕ, List, [], ◌∷◌}
-use Rattle.p21_semantics.specs.Token.{Token, keyword as keyword_token, user_keyword as user_keyword_token, whole as whole_token, real as real_token, item as item_token, bits as bits_token, Spells}
+use Rattle.std.specs.Prelude.{◌≡◌, ◌≢◌, ℕ, List, [], ◌∷◌}
+use Rattle.p21_semantics.specs.Digits.{IsDigit}
+use Rattle.p21_semantics.specs.Token.{Token, keyword as keyword_token, user_keyword as user_keyword_token, whole as whole_token, real as real_token, item as item_token, bits as bits_token, Spells, HasNoExponent}
 use Rattle.p21_semantics.specs.Laying.{Lexeme}
+use Rattle.p21_semantics.specs.Number.{Decimal, RealForm, SpellsReal}
 use Rattle.p21_tokens_automaton.specs.Reading.{Kind, keyword, user_keyword, whole, real, item, bits, Found, known, spelled, Sized}
 
 abbrev pub IsOfKind : Kind → Token → Type 0
@@ -26,6 +28,10 @@ found_of (real_token number) spelling = spelled real spelling
 found_of (item_token word) spelling = spelled item spelling
 found_of (bits_token value) spelling = spelled bits spelling
 found_of other spelling = known other
+
+-- the form of a real that is out of range, and a byte with which no real goes on
+abbrev pub IsOutOfRange : List ℕ → ℕ → Type 0
+IsOutOfRange bytes byte = RealForm bytes × ((value : Decimal) → SpellsReal bytes value → ⊥) × ¬ IsDigit byte × (HasNoExponent bytes → byte ≢ 69)
 
 -- the tokens are found in turn, with the sizes of their spellings
 abbrev pub MeanAll : List Sized → List Lexeme → Type 0
