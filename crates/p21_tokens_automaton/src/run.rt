@@ -207,7 +207,7 @@ mod tests {
     #[test]
     fn finds_fronts(rt: HostRuntime) {
         let characters: [(&[u8], usize, usize); 5] = [
-            (b"ITEM_2('A')", 6, 6),
+            (b"ITEM_2('A')", 6, 7),
             (b"A lower", 1, 7),
             (b"", 0, 0),
             (b"CARTESIAN_POINT_OF_A_LONG_NAME_0123456789 '", 41, 42),
