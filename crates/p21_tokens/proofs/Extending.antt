@@ -5,10 +5,10 @@ use Rattle.std.specs.Option.{option_map}
 use Rattle.std.proofs.lemmas.List.{length-take-le, take_more}
 use Rattle.std.proofs.lemmas.Option.{slice_get-get_or}
 use Rattle.std.proofs.Math.Seq.{take-length}
-use Rattle.p21_semantics.specs.History.{extended, seen_behind, first_refusal, IsOffered, empty}
-use Rattle.p21_semantics.specs.Laying.{Lexeme, tokens_in, open_bytes, count_behind, AreStatementsWithin}
-use Rattle.p21_semantics.specs.Pending.{Tail, nothing, unfinished, slash, open_comment, tail_size, LaidUpTo, IsPending, IsTokenByte, BeginsNoSeparator}
-use Rattle.p21_semantics.specs.Token.{Token, begin, finish, keyword, user_keyword, name, whole, real, text}
+use Rattle.p21_basics.specs.History.{extended, seen_behind, first_refusal, IsOffered, empty}
+use Rattle.p21_exchange.specs.Laying.{Lexeme, tokens_in, open_bytes, count_behind, AreStatementsWithin}
+use Rattle.p21_exchange.specs.Pending.{Tail, nothing, unfinished, slash, open_comment, tail_size, LaidUpTo, IsPending, IsTokenByte, BeginsNoSeparator}
+use Rattle.p21_exchange.specs.Token.{Token, begin, finish, keyword, user_keyword, name, whole, real, text}
 use Rattle.p21_tokens_automaton.proofs.Complete.{all_of-after}
 use Rattle.p21_tokens_automaton.proofs.Sound.{TailIs, UpTo, FirstFits}
 use Rattle.p21_tokens_automaton.proofs.Fits.{ModeFits, StepFits}

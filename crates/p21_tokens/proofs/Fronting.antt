@@ -6,16 +6,16 @@ use Rattle.std.proofs.lemmas.Bool.Decides.{nat_tests}
 use Rattle.std.proofs.lemmas.List.{length-take-le, take_more, drop_more, get_or-drop}
 use Rattle.std.proofs.lemmas.Option.{slice_get_within, slice_get-get_or}
 use Rattle.std.proofs.Math.Seq.{take-add}
-use Rattle.p21_semantics.specs.Laying.{count_behind}
-use Rattle.p21_semantics.specs.Token as meaning
-use Rattle.p21_semantics.specs.Digits.{IsDigit}
+use Rattle.p21_exchange.specs.Laying.{count_behind}
+use Rattle.p21_exchange.specs.Token as meaning
+use Rattle.p21_basics.specs.Digits.{IsDigit}
 use Rattle.std.specs.List.{AllByRecursion as Each}
-use Rattle.p21_semantics.proofs.Forms.{NoDigitFirst}
-use Rattle.p21_semantics.specs.Keyword.{IsUpper, IsKeywordByte, IsKeyword}
-use Rattle.p21_semantics.specs.Number as number
-use Rattle.p21_semantics.specs.Number.{SpellsReal}
+use Rattle.p21_exchange.proofs.Forms.{NoDigitFirst}
+use Rattle.p21_exchange.specs.Keyword.{IsUpper, IsKeywordByte, IsKeyword}
+use Rattle.p21_exchange.specs.Number as number
+use Rattle.p21_exchange.specs.Number.{SpellsReal}
 use Rattle.p21_values.specs.RealParts.{IsFrontReal, NoExponentFirst}
-use Rattle.p21_semantics.specs.Token.{Spells, MayFollow}
+use Rattle.p21_exchange.specs.Token.{Spells, MayFollow}
 use Rattle.p21_tokens_automaton.proofs.Once.{spells-means}
 use Rattle.p21_tokens_automaton.proofs.Classes.{digit-decides, keyword_byte-decides, false_from_not}
 use Rattle.p21_tokens_automaton.proofs.Runs.{run-names, run-puts}

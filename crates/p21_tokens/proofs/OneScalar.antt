@@ -2,11 +2,11 @@
 use Rattle.std.proofs.Common.{◌≡◌, ℕ, zero, suc, ◌+◌, ◌-◌, ◌^◌, ◌≤◌, ◌<◌, Bool, true, false, cond, List, [], ◌∷◌, ◌++◌, ◌⊎◌, inl, inr, length, length-append, length-drop, take, drop, refl, sym, ap, ◌∙◌, subst, append_assoc, append-nil, arith, take_all, Option, Some, None, Result, Ok, Err}
 use Rattle.std.specs.List.{slice_get, slice_range}
 use Rattle.std.proofs.lemmas.List.{take-append-drop}
-use Rattle.p21_semantics.specs.History.{extended, seen_behind, first_refusal, looked_at, IsOffered, empty}
-use Rattle.p21_semantics.specs.Laying.{Lexeme, Laid, HoldsScalar, open_bytes, count_behind}
-use Rattle.p21_semantics.specs.Limits.{text_limit}
-use Rattle.p21_semantics.specs.Pending.{Tail, nothing, unfinished, slash, open_comment, tail_bytes, tail_size, LaidUpTo}
-use Rattle.p21_semantics.specs.Token.{Token, semicolon, IsScalarToken}
+use Rattle.p21_basics.specs.History.{extended, seen_behind, first_refusal, looked_at, IsOffered, empty}
+use Rattle.p21_exchange.specs.Laying.{Lexeme, Laid, HoldsScalar, open_bytes, count_behind}
+use Rattle.p21_basics.specs.Limits.{text_limit}
+use Rattle.p21_exchange.specs.Pending.{Tail, nothing, unfinished, slash, open_comment, tail_bytes, tail_size, LaidUpTo}
+use Rattle.p21_exchange.specs.Token.{Token, semicolon, IsScalarToken}
 use Rattle.p21_tokens_automaton.proofs.Theorems.{one-laying}
 use Rattle.p21_tokens.specs.Finding.{FindsScalar, FindsOnly}
 use Rattle.p21_tokens.specs.Held.{Held}

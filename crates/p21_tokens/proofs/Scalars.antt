@@ -2,20 +2,20 @@
 use Rattle.std.proofs.Common.{◌≡◌, ℕ, ◌≤◌, List, [], ◌∷◌, ◌+◌, length, refl, sym, ap, subst, append-nil, arith}
 use Rattle.std.proofs.Math.Nat.{one-le-pow}
 use borrow.Author.Differences.{down}
-use Rattle.p21_semantics.proofs.BitSpellings.{bits_spell}
-use Rattle.p21_semantics.proofs.Exponents.{in_range_of_same}
-use Rattle.p21_semantics.proofs.Names.{name_spells}
-use Rattle.p21_semantics.proofs.Ratios.{ratio-positive}
-use Rattle.p21_semantics.proofs.RealSpellings.{real_spells}
-use Rattle.p21_semantics.proofs.ReducedDecimals.{reduced_once}
-use Rattle.p21_semantics.proofs.Scalars.{characters_are_scalars}
-use Rattle.p21_semantics.proofs.Texts.{text_spells}
-use Rattle.p21_semantics.proofs.WholeSpellings.{whole_spells}
-use Rattle.p21_semantics.specs.Laying.{Lexeme, LaidAs, Laid, tokens_in, HoldsScalar}
-use Rattle.p21_semantics.specs.Limits.{text_limit}
-use Rattle.p21_semantics.specs.Number.{Decimal, IsInRange, SpellsReal, exponent_value, ratio_of, real_ratio}
-use Rattle.p21_semantics.specs.Spelling.{spelling}
-use Rattle.p21_semantics.specs.Token.{Token, begin, finish, keyword, user_keyword, name, whole, real, text, item, bits, left, right, comma, semicolon, equals, dollar, star, Spells, IsScalarToken}
+use Rattle.p21_exchange.proofs.BitSpellings.{bits_spell}
+use Rattle.p21_exchange.proofs.Exponents.{in_range_of_same}
+use Rattle.p21_exchange.proofs.Names.{name_spells}
+use Rattle.p21_exchange.proofs.Ratios.{ratio-positive}
+use Rattle.p21_exchange.proofs.RealSpellings.{real_spells}
+use Rattle.p21_exchange.proofs.ReducedDecimals.{reduced_once}
+use Rattle.p21_exchange.proofs.Scalars.{characters_are_scalars}
+use Rattle.p21_exchange.proofs.Texts.{text_spells}
+use Rattle.p21_exchange.proofs.WholeSpellings.{whole_spells}
+use Rattle.p21_exchange.specs.Laying.{Lexeme, LaidAs, Laid, tokens_in, HoldsScalar}
+use Rattle.p21_basics.specs.Limits.{text_limit}
+use Rattle.p21_exchange.specs.Number.{Decimal, IsInRange, SpellsReal, exponent_value, ratio_of, real_ratio}
+use Rattle.p21_exchange.specs.Spelling.{spelling}
+use Rattle.p21_exchange.specs.Token.{Token, begin, finish, keyword, user_keyword, name, whole, real, text, item, bits, left, right, comma, semicolon, equals, dollar, star, Spells, IsScalarToken}
 use Rattle.p21_tokens_automaton.proofs.Theorems.{one-laying}
 use Rattle.p21_tokens.specs.Parameter.{SameScalar, IsAnswer}
 

@@ -1,8 +1,8 @@
 -- What the search for the one scalar of a text owes.
 use Rattle.std.specs.Prelude.{◌≡◌, ℕ, List, Option, Some, None, Result, Ok, Err}
-use Rattle.p21_semantics.specs.Laying.{HoldsScalar}
-use Rattle.p21_semantics.specs.Token as meaning
-use Rattle.p21_semantics.specs.Token.{IsScalarToken}
+use Rattle.p21_exchange.specs.Laying.{HoldsScalar}
+use Rattle.p21_exchange.specs.Token as meaning
+use Rattle.p21_exchange.specs.Token.{IsScalarToken}
 use Rattle.p21_tokens.specs.Token.{meant}
 use Rattle.p21_tokens.specs.declared.fault.TokenFault.{TokenFault}
 use Rattle.p21_tokens.specs.declared.fault.TokenFault.TheVariants.{NotOneParameter, RecordTooLong, FileTooLong, EndsEarly, NoMemory}

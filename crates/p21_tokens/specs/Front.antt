@@ -1,7 +1,7 @@
 -- A token that stands whole at the front of bytes.
 use Rattle.std.specs.Prelude.{◌≡◌, ℕ, ◌+◌, ◌≤◌, List, ◌∷◌, ◌++◌, take, slice_get, Option, Some, None}
-use Rattle.p21_semantics.specs.Laying.{count_behind}
-use Rattle.p21_semantics.specs.Token as meaning
+use Rattle.p21_exchange.specs.Laying.{count_behind}
+use Rattle.p21_exchange.specs.Token as meaning
 use Rattle.p21_tokens_automaton.specs.Meaning.{Means}
 use Rattle.p21_tokens_automaton.specs.Reading.{State, start, Found, ended, single_token, lex}
 use Rattle.p21_tokens_automaton.specs.Run.{EachDoes}

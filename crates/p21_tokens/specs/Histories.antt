@@ -2,11 +2,11 @@
 use Rattle.std.specs.Prelude.{◌≡◌, ◌≢◌, ℕ, ◌+◌, ◌≤◌, ◌<◌, ◌⊎◌, if◌then◌else◌, List, [], ◌∷◌, ◌++◌, length, take, slice_get, Option, Some, None, Result, Ok, Err}
 use Rattle.std.specs.Option.{option_map}
 use Rattle.std.specs.List.{AllByRecursion as Each}
-use Rattle.p21_semantics.specs.History.{History, extended, looked_at, IsOffered}
-use Rattle.p21_semantics.specs.Laying.{Lexeme, Laid, tokens_in, open_bytes, AreStatementsWithin}
-use Rattle.p21_semantics.specs.Pending.{Tail, unfinished, tail_size, LaidUpTo, IsTokenByte}
-use Rattle.p21_semantics.specs.Separator.{blank, IsSeparator}
-use Rattle.p21_semantics.specs.Token.{Token, Spells, MayFollow, IsWholeAtOnce}
+use Rattle.p21_basics.specs.History.{History, extended, looked_at, IsOffered}
+use Rattle.p21_exchange.specs.Laying.{Lexeme, Laid, tokens_in, open_bytes, AreStatementsWithin}
+use Rattle.p21_exchange.specs.Pending.{Tail, unfinished, tail_size, LaidUpTo, IsTokenByte}
+use Rattle.p21_exchange.specs.Separator.{blank, IsSeparator}
+use Rattle.p21_exchange.specs.Token.{Token, Spells, MayFollow, IsWholeAtOnce}
 use Rattle.p21_tokens_automaton.specs.Meaning.{IsOutOfRange, MeanAll}
 use Rattle.p21_tokens_automaton.specs.Reading.{State, start, open_at, Found, Sized, ended, after, lex}
 use Rattle.p21_tokens.specs.Held.{Held, pending_of, state_of}

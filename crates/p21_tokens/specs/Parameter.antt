@@ -1,10 +1,10 @@
 -- One scalar parameter between separators (ISO 10303-21, tokens and parameters), and its canonical spelling.
 use Rattle.std.specs.Prelude.{◌≡◌, ◌↔◌, ℕ, ◌<◌, ◌≤◌, List, length}
-use Rattle.p21_semantics.specs.Laying.{HoldsScalar}
-use Rattle.p21_semantics.specs.Limits.{text_limit}
-use Rattle.p21_semantics.specs.Number.{SameRatio, ratio_of}
-use Rattle.p21_semantics.specs.Spelling.{spelling}
-use Rattle.p21_semantics.specs.Token.{Token, real, Spells, IsScalarToken}
+use Rattle.p21_exchange.specs.Laying.{HoldsScalar}
+use Rattle.p21_basics.specs.Limits.{text_limit}
+use Rattle.p21_exchange.specs.Number.{SameRatio, ratio_of}
+use Rattle.p21_exchange.specs.Spelling.{spelling}
+use Rattle.p21_exchange.specs.Token.{Token, real, Spells, IsScalarToken}
 use Rattle.p21_tokens.specs.declared.fault.TokenFault.{TokenFault}
 use Rattle.p21_tokens.specs.declared.fault.TokenFault.TheVariants.{RecordTooLong, FileTooLong, NoMemory}
 

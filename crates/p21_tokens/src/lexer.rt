@@ -1,14 +1,14 @@
 ghost use Rattle.std.specs.Prelude.{◌≡◌, ◌≢◌, ◌+◌, ◌<◌, ◌≤◌, [], ◌∷◌, ◌++◌, length, take, true, false, Option, None, Some, OnOk, OnErr, IfOk, IfErr};
 ghost use Rattle.std.specs.Str.{IsUtf8, chars};
-ghost use Rattle.p21_semantics.specs.Laying.{count_behind};
+ghost use Rattle.p21_exchange.specs.Laying.{count_behind};
 ghost use Rattle.p21_tokens_automaton.specs.Reading.{closed, ended, single_token, start};
 ghost use Rattle.p21_tokens_automaton.specs.declared.mode.Mode.TheVariants.{Between, Name};
 ghost use Rattle.p21_tokens_automaton.specs.declared.mode.NameMode.TheVariants.{Digits};
 ghost use Rattle.p21_tokens.specs.Front.{TakesFront};
 ghost use Rattle.p21_tokens.specs.Held.{pending_of, state_of};
 ghost use Rattle.p21_tokens_automaton.specs.Step.{advance};
-ghost use Rattle.p21_semantics.specs.History.{empty};
-ghost use Rattle.p21_semantics.specs.Pending.{IsPending};
+ghost use Rattle.p21_basics.specs.History.{empty};
+ghost use Rattle.p21_exchange.specs.Pending.{IsPending};
 ghost use Rattle.p21_tokens.specs.declared.fault.TokenFault.{TokenFault};
 ghost use Rattle.p21_tokens.specs.Histories.{TokenHistory, Stands, NextGives, FinishGives, AreSeparators};
 ghost use Rattle.p21_tokens.specs.Steps.{SameLimits, Steps, Closes, Ends, Runs, Scans, Walks, is_token_byte};

@@ -1,7 +1,7 @@
 ghost use Rattle.std.specs.Prelude.{◌≡◌, ◌≤◌, ◌↔◌, ◌++◌, ◌∷◌, [], length, IsTrue, OnOk, IfOk, MatchResult};
-ghost use Rattle.p21_semantics.specs.Limits.{text_limit};
-ghost use Rattle.p21_semantics.specs.Spelling.{spelling};
-ghost use Rattle.p21_semantics.specs.Token.{IsScalarToken};
+ghost use Rattle.p21_basics.specs.Limits.{text_limit};
+ghost use Rattle.p21_exchange.specs.Spelling.{spelling};
+ghost use Rattle.p21_exchange.specs.Token.{IsScalarToken};
 ghost use Rattle.p21_tokens.specs.Finding.{FindsScalar, FindsOnly};
 ghost use Rattle.p21_tokens.specs.Parameter.{IsAnswer, IsRefusal};
 ghost use Rattle.p21_tokens.specs.Token.{meant};

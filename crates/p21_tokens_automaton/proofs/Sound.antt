@@ -2,10 +2,10 @@
 use Rattle.std.proofs.Common.{◌≡◌, ◌≢◌, false, ℕ, ◌+◌, ◌<◌, List, [], ◌∷◌, ◌++◌, ◌⊎◌, inl, inr, length, length-append, refl, sym, ap, ◌∙◌, subst, append_assoc, append-nil, Option, Some, None, arith}
 use Rattle.std.proofs.lemmas.Bool.{cond_both, eqb-true, eqb-false}
 use Rattle.std.proofs.lemmas.Bool.Decides.{nat_tests}
-use Rattle.p21_semantics.specs.Token.{Token, item, bits, Spells, IsFollowed, MayFollow}
-use Rattle.p21_semantics.specs.Separator.{Separator, blank, comment, EndsOnce, IsSeparator, separator_bytes, IsSeparatorText}
-use Rattle.p21_semantics.specs.Laying.{Lexeme}
-use Rattle.p21_semantics.specs.Pending.{Tail, nothing, unfinished, slash, open_comment, tail_bytes, BeginsNoSeparator}
+use Rattle.p21_exchange.specs.Token.{Token, item, bits, Spells, IsFollowed, MayFollow}
+use Rattle.p21_exchange.specs.Separator.{Separator, blank, comment, EndsOnce, IsSeparator, separator_bytes, IsSeparatorText}
+use Rattle.p21_exchange.specs.Laying.{Lexeme}
+use Rattle.p21_exchange.specs.Pending.{Tail, nothing, unfinished, slash, open_comment, tail_bytes, BeginsNoSeparator}
 use Rattle.p21_tokens_automaton.specs.Meaning.{Means, MeanAll}
 use Rattle.p21_tokens_automaton.specs.Bytes.{is_blank}
 use Rattle.p21_tokens_automaton.specs.Step.{advance, between_action}

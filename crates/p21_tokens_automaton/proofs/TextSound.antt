@@ -5,9 +5,9 @@ use Rattle.std.specs.Char.{IsScalar}
 use Rattle.std.specs.List.{flat_map, AllByRecursion as Each}
 use Rattle.std.proofs.lemmas.Bool.{cond_both, leb-true, ltb-true, ltb-false, eqb-true, eqb-false, or_cases, or_parts, and_parts}
 use Rattle.std.proofs.lemmas.List.{flat_map_more}
-use Rattle.p21_semantics.specs.Digits.{hex_digit, hex_digits}
-use Rattle.p21_semantics.specs.Text.{StringUnit, ignored, plain, doubled, high_codepoint, page, alphabet_a, arbitrary, extended2, extended4, IsApostropheOrBackslash, IsStringUnit, unit_bytes, unit_characters, utf16_groups, Encodes}
-use Rattle.p21_semantics.specs.Token.{text, Spells, MayFollow}
+use Rattle.p21_basics.specs.Digits.{hex_digit, hex_digits}
+use Rattle.p21_exchange.specs.Text.{StringUnit, ignored, plain, doubled, high_codepoint, page, alphabet_a, arbitrary, extended2, extended4, IsApostropheOrBackslash, IsStringUnit, unit_bytes, unit_characters, utf16_groups, Encodes}
+use Rattle.p21_exchange.specs.Token.{text, Spells, MayFollow}
 use Rattle.p21_tokens_automaton.specs.Meaning.{Means}
 use Rattle.p21_tokens_automaton.specs.Reading.{Found, known}
 use Rattle.p21_tokens_automaton.specs.Bytes.{is_hex, hex_value}

@@ -6,13 +6,13 @@ use Rattle.std.proofs.lemmas.List.{take_more, take_all, length_push}
 use Rattle.std.proofs.lemmas.Option.{slice_get_within, get_or_from_slice_get}
 use Rattle.std.proofs.lemmas.Slice.Eq.{bytes_eq-Decides}
 use Rattle.std.specs.List.{AllByRecursion as Each}
-use Rattle.p21_semantics.proofs.PlainDigits.{digits_append}
-use Rattle.p21_semantics.specs.Digits.{IsDigit, AllDigits, number as number_of}
-use Rattle.p21_semantics.specs.Keyword.{IsKeyword, IsKeywordByte}
-use Rattle.p21_semantics.specs.Name.{SpellsName}
-use Rattle.p21_semantics.specs.Number.{Sign, none, plus, minus, sign_bytes, is_minus, signed, exponent, no_exponent, exponent_bytes, RealForm, SpellsReal, SpellsWhole}
-use Rattle.p21_semantics.specs.Token.{Token, Spells, MayFollow, HasNoExponent}
-use Rattle.p21_semantics.specs.Token as token
+use Rattle.p21_basics.proofs.PlainDigits.{digits_append}
+use Rattle.p21_basics.specs.Digits.{IsDigit, AllDigits, number as number_of}
+use Rattle.p21_exchange.specs.Keyword.{IsKeyword, IsKeywordByte}
+use Rattle.p21_exchange.specs.Name.{SpellsName}
+use Rattle.p21_exchange.specs.Number.{Sign, none, plus, minus, sign_bytes, is_minus, signed, exponent, no_exponent, exponent_bytes, RealForm, SpellsReal, SpellsWhole}
+use Rattle.p21_exchange.specs.Token.{Token, Spells, MayFollow, HasNoExponent}
+use Rattle.p21_exchange.specs.Token as token
 use Rattle.p21_tokens_automaton.specs.Bytes.{is_digit, is_upper, is_keyword_byte, is_hex, hex_value, is_blank}
 use Rattle.p21_tokens_automaton.specs.Meaning.{IsOfKind, Means}
 use Rattle.p21_tokens_automaton.specs.Step.{behind_digit, no_digit, number_action, marker_text, marker_action, word_action, name_digit, name_action, padded, binary_action, mark_action, between_action, text_action, advance}

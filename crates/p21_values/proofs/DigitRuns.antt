@@ -3,8 +3,8 @@ use Rattle.std.proofs.Common.{◌≡◌, ◌≢◌, ℕ, zero, suc, ◌+◌, ◌
 use Rattle.std.proofs.lemmas.Bool.{cases_lt}
 use Rattle.std.proofs.lemmas.List.{take_more, take-append-drop}
 use Rattle.std.proofs.Math.Nat.{mul_assoc, mul-le-mul_left, one-le-pow, pow-succ'}
-use Rattle.p21_semantics.specs.Digits.{AllDigits, IsDigit, number}
-use Rattle.p21_semantics.proofs.PlainDigits.{digits_append, number_append}
+use Rattle.p21_basics.specs.Digits.{AllDigits, IsDigit, number}
+use Rattle.p21_basics.proofs.PlainDigits.{digits_append, number_append}
 
 pub digits_more : (xs : List ℕ) (i : ℕ) → i < length xs → AllDigits (take i xs) → IsDigit (get_or xs i 0) → AllDigits (take (i + 1) xs)
 digits_more xs i lt p d = rw (take_more xs i 0 lt) (digits_append (take i xs) (get_or xs i 0 ∷ []) p (d, tt))

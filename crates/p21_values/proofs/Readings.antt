@@ -2,10 +2,10 @@
 use Rattle.std.proofs.Common.{◌≡◌, ℕ, ◌-◌, ℤ, pos, Bool, List, [], ◌∷◌, ◌++◌, length, length-append, append_assoc, take, drop, Result, Ok, Err, refl, ap, sym, ◌∙◌, subst, arith}
 use Rattle.std.proofs.Math.Seq.{take-append_seam, drop-append_seam}
 use Rattle.std.proofs.lemmas.List.{append-nil}
-use Rattle.p21_semantics.specs.Digits.{AllDigits}
-use Rattle.p21_semantics.specs.Number.{Decimal, Exponent, IsInRange, IsShort, RealForm, exponent, exponent_bytes, exponent_value, is_minus, no_exponent, real_ratio, sign_bytes}
-use Rattle.p21_semantics.proofs.Forms.{NoDigitFirst, NoSignFirst, behind_sign, first_sign_bytes, no_digit_exponent, no_sign_first, same_form, sign_once, split_once}
-use Rattle.p21_semantics.proofs.RealSpellings.{form_ratio_once}
+use Rattle.p21_basics.specs.Digits.{AllDigits}
+use Rattle.p21_exchange.specs.Number.{Decimal, Exponent, IsInRange, IsShort, RealForm, exponent, exponent_bytes, exponent_value, is_minus, no_exponent, real_ratio, sign_bytes}
+use Rattle.p21_exchange.proofs.Forms.{NoDigitFirst, NoSignFirst, behind_sign, first_sign_bytes, no_digit_exponent, no_sign_first, same_form, sign_once, split_once}
+use Rattle.p21_exchange.proofs.RealSpellings.{form_ratio_once}
 use Rattle.p21_values.specs.declared.fault.ValueFault.{ValueFault}
 use Rattle.p21_values.specs.declared.fault.ValueFault.TheVariants.{BadBinary, BadName, BadNumber, BadWord, NameRange, NoMemory, NumberRange}
 use Rattle.p21_values.specs.Decimal.{KeepsRatio, ReadsReal}

@@ -3,8 +3,8 @@ use Rattle.std.proofs.Common.{◌≡◌, ℕ, suc, ◌+◌, ◌-◌, ◌*◌, �
 use Rattle.std.proofs.lemmas.List.{append-nil, take-append-drop, take-append-le}
 use Rattle.std.proofs.Math.Nat.{pow-succ', zero-mul}
 use Rattle.std.proofs.Math.Seq.{take-append-add}
-use Rattle.p21_semantics.specs.Digits.{AllDigits, number}
-use Rattle.p21_semantics.proofs.PlainDigits.{digits_append, number_append}
+use Rattle.p21_basics.specs.Digits.{AllDigits, number}
+use Rattle.p21_basics.proofs.PlainDigits.{digits_append, number_append}
 use Rattle.p21_values.specs.Digits.{NoZeroFirst, WithoutEndZeros, WithoutFrontZeros}
 use Rattle.p21_values.proofs.DigitRuns.{digits_parts}
 

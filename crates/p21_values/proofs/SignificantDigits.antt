@@ -1,8 +1,8 @@
 -- Digits of which the first is no zero: none of them for the number zero.
 use Rattle.std.proofs.Common.{◌≡◌, ℕ, ◌^◌, ◌<◌, ◌≤◌, List, [], ◌∷◌, length, refl, arith}
 use Rattle.std.proofs.Math.Nat.{one-le-pow, pow-le-pow_right}
-use Rattle.p21_semantics.specs.Digits.{AllDigits, number, plain_digits}
-use Rattle.p21_semantics.proofs.PlainDigits.{ArePlain, number_first, plain_digits-number, plain_once}
+use Rattle.p21_basics.specs.Digits.{AllDigits, number, plain_digits}
+use Rattle.p21_basics.proofs.PlainDigits.{ArePlain, number_first, plain_digits-number, plain_once}
 use Rattle.p21_values.specs.Digits.{NoZeroFirst}
 
 pub significant_plain : (ds : List ℕ) → AllDigits ds → NoZeroFirst ds → 0 < length ds → ArePlain ds

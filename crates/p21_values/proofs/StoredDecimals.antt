@@ -10,14 +10,14 @@ use Rattle.std.specs.Cmp.Lexicographic.{pointwise}
 use Rattle.std.specs.Ordering.{int_eq}
 use mathlib.Core.Bool.{beq, not}
 use borrow.Author.Differences.{up, down}
-use Rattle.p21_semantics.specs.Digits.{AllDigits, number, plain_digits}
-use Rattle.p21_semantics.specs.Number.{Decimal, HasNormalisedExponent, IsExponentInRange, IsInRange, IsReduced, Ratio, SameRatio, ratio_of, scaled, signed, whole_ratio}
-use Rattle.p21_semantics.specs.Spelling.{exponent_spelling, minus_bytes, normalised_exponent, pointed, real_spelling}
-use Rattle.p21_semantics.proofs.Exponents.{exponent_of_same, has_exponent, in_range_by, in_range_of_same, zero_has_no_exponent}
-use Rattle.p21_semantics.proofs.PlainDigits.{plain_high, plain_low}
-use Rattle.p21_semantics.proofs.Ratios.{ratio-positive, same_scaled, same_zero}
-use Rattle.p21_semantics.proofs.ReducedDecimals.{reduced_once, same_decimal}
-use Rattle.p21_semantics.proofs.SignedNumbers.{abs_signed, signed-times, signed-zero, signed_once}
+use Rattle.p21_basics.specs.Digits.{AllDigits, number, plain_digits}
+use Rattle.p21_exchange.specs.Number.{Decimal, HasNormalisedExponent, IsExponentInRange, IsInRange, IsReduced, Ratio, SameRatio, ratio_of, scaled, signed, whole_ratio}
+use Rattle.p21_exchange.specs.Spelling.{exponent_spelling, minus_bytes, normalised_exponent, pointed, real_spelling}
+use Rattle.p21_exchange.proofs.Exponents.{exponent_of_same, has_exponent, in_range_by, in_range_of_same, zero_has_no_exponent}
+use Rattle.p21_basics.proofs.PlainDigits.{plain_high, plain_low}
+use Rattle.p21_exchange.proofs.Ratios.{ratio-positive, same_scaled, same_zero}
+use Rattle.p21_exchange.proofs.ReducedDecimals.{reduced_once, same_decimal}
+use Rattle.p21_exchange.proofs.SignedNumbers.{abs_signed, signed-times, signed-zero, signed_once}
 use Rattle.p21_values.specs.Decimal.{IsDecimal, KeepsRatio, decimal_eq}
 use Rattle.p21_values.specs.RealParts.{digits_ratio}
 use Rattle.p21_values.specs.Stored.{IsStoredDecimal, significand_spelling, stored_decimal}

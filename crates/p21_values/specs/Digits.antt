@@ -1,7 +1,7 @@
 -- How the readers cut bytes into a sign, digits and the rest.
 use Rattle.std.specs.Prelude.{◌≡◌, ◌≢◌, ℕ, ◌-◌, ◌*◌, ◌^◌, ◌%◌, ◌<◌, ◌≤◌, Bool, List, [], ◌∷◌, ◌++◌, length, take}
-use Rattle.p21_semantics.specs.Digits.{AllDigits, number}
-use Rattle.p21_semantics.specs.Number.{Sign, is_minus, sign_bytes}
+use Rattle.p21_basics.specs.Digits.{AllDigits, number}
+use Rattle.p21_exchange.specs.Number.{Sign, is_minus, sign_bytes}
 
 -- the bytes do not begin with a zero
 abbrev pub NoZeroFirst : List ℕ → Type 0

@@ -1,8 +1,8 @@
 -- The parts that a reader cuts a real into (ISO 10303-21, tokens: real).
 use Rattle.std.specs.Prelude.{◌≡◌, ◌≢◌, ℕ, ◌+◌, ◌<◌, ◌≤◌, ℤ, Bool, Result, Ok, Err, List, [], ◌∷◌, ◌++◌, length, take, drop}
-use Rattle.p21_semantics.specs.Digits.{AllDigits, number}
-use Rattle.p21_semantics.specs.Number.{Decimal, Exponent, IsExponent, IsShort, Ratio, Sign, exponent_bytes, exponent_value, is_minus, SpellsReal, scaled, sign_bytes, signed}
-use Rattle.p21_semantics.proofs.Forms.{NoDigitFirst}
+use Rattle.p21_basics.specs.Digits.{AllDigits, number}
+use Rattle.p21_exchange.specs.Number.{Decimal, Exponent, IsExponent, IsShort, Ratio, Sign, exponent_bytes, exponent_value, is_minus, SpellsReal, scaled, sign_bytes, signed}
+use Rattle.p21_exchange.proofs.Forms.{NoDigitFirst}
 use Rattle.p21_values.specs.declared.fault.ValueFault.{ValueFault}
 use Rattle.p21_values.specs.declared.fault.ValueFault.TheVariants.{BadNumber, NoMemory, NumberRange}
 use borrow.Author.Differences.{up, down}

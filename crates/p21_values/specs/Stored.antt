@@ -1,8 +1,8 @@
 -- Numbers as they are stored: a sign, and digits of which the first is no zero. Zero has no digits.
 use Rattle.std.specs.Prelude.{◌≡◌, ℕ, ◌-◌, ◌<◌, ◌%◌, ℤ, pos, ◌-ℤ◌, Bool, true, List, [], ◌∷◌, length}
-use Rattle.p21_semantics.specs.Digits.{AllDigits, number}
-use Rattle.p21_semantics.specs.Number.{Decimal, IsExponentInRange, signed}
-use Rattle.p21_semantics.specs.Spelling.{pointed}
+use Rattle.p21_basics.specs.Digits.{AllDigits, number}
+use Rattle.p21_exchange.specs.Number.{Decimal, IsExponentInRange, signed}
+use Rattle.p21_exchange.specs.Spelling.{pointed}
 use Rattle.p21_values.specs.Digits.{NoZeroFirst}
 
 pub record IsStoredWhole (negative : Bool) (digits : List ℕ) : Type 0 where

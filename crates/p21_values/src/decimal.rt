@@ -1,7 +1,7 @@
 ghost use Rattle.std.specs.Prelude.{◌≡◌, ◌-◌, ◌<◌, ◌+ℤ◌, ◌-ℤ◌, pos, [], ◌∷◌, ◌++◌, length, if◌then◌else◌, IfNone, IfOk, IfSome, OnErr, OnOk};
-ghost use Rattle.p21_semantics.specs.Digits.{AllDigits, number};
-ghost use Rattle.p21_semantics.specs.Number.{IsExponentInRange, RealForm, whole_ratio};
-ghost use Rattle.p21_semantics.specs.Spelling.{exponent_spelling, real_spelling};
+ghost use Rattle.p21_basics.specs.Digits.{AllDigits, number};
+ghost use Rattle.p21_exchange.specs.Number.{IsExponentInRange, RealForm, whole_ratio};
+ghost use Rattle.p21_exchange.specs.Spelling.{exponent_spelling, real_spelling};
 ghost use Rattle.p21_values.specs.Canonical.{Continues};
 ghost use Rattle.p21_values.specs.Decimal.{IsDecimal, KeepsRatio, ReadsReal};
 ghost use Rattle.p21_values.specs.RealParts.{BeginsReal, ReadsExponent, ReadsFrontReal, SplitsReal, digits_ratio};
@@ -30,7 +30,7 @@ pub struct Decimal {
 }
 
 impl Model for Decimal {
-    ghost use Rattle.p21_semantics.specs.Number as numbers;
+    ghost use Rattle.p21_exchange.specs.Number as numbers;
     ghost use Rattle.p21_values.specs.Stored.{IsStoredDecimal, stored_decimal};
 
     ghost Value = { numbers.Decimal };
@@ -233,7 +233,7 @@ impl PartialEq for Decimal {
     ghost use Rattle.std.specs.Cmp.Rules.{comparing};
     ghost use Rattle.std.specs.Prelude.{◌≡◌, ◌↔◌, IsTrue};
     ghost use Rattle.std.specs.Ordering.{eq_of_both, int_eq, on};
-    ghost use Rattle.p21_semantics.specs.Number.{SameRatio, ratio_of};
+    ghost use Rattle.p21_exchange.specs.Number.{SameRatio, ratio_of};
     ghost use Rattle.p21_values.specs.Decimal.{decimal_eq};
 
     ghost eq = { decimal_eq };
@@ -262,9 +262,9 @@ impl Eq for Decimal {
 }
 
 impl Canonical for Decimal {
-    ghost use Rattle.p21_semantics.specs.Number.{SameRatio, SpellsReal, ratio_of};
-    ghost use Rattle.p21_semantics.specs.Spelling.{real_spelling};
-    ghost use Rattle.p21_semantics.proofs.RealSpellings.{real_spelling_same, real_spells};
+    ghost use Rattle.p21_exchange.specs.Number.{SameRatio, SpellsReal, ratio_of};
+    ghost use Rattle.p21_exchange.specs.Spelling.{real_spelling};
+    ghost use Rattle.p21_exchange.proofs.RealSpellings.{real_spelling_same, real_spells};
     ghost use Rattle.p21_values.specs.Decimal.{IsDecimal};
 
     ghost is_value = { IsDecimal };

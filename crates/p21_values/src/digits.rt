@@ -1,7 +1,7 @@
 ghost use Rattle.std.specs.Prelude.{◌≡◌, ℕ, ◌^◌, ◌<◌, ◌≤◌, Bool, List, ◌∷◌, ◌++◌, length, IfNone, IfSome};
-ghost use Rattle.p21_semantics.specs.Digits.{AllDigits, number};
-ghost use Rattle.p21_semantics.specs.Number.{is_minus};
-ghost use Rattle.p21_semantics.proofs.Forms.{NoDigitFirst, behind_sign, first_sign};
+ghost use Rattle.p21_basics.specs.Digits.{AllDigits, number};
+ghost use Rattle.p21_exchange.specs.Number.{is_minus};
+ghost use Rattle.p21_exchange.proofs.Forms.{NoDigitFirst, behind_sign, first_sign};
 ghost use Rattle.p21_values.specs.Digits.{SignedDigits, WithoutEndZeros, WithoutFrontZeros};
 
 /// Whether a minus stands first, and what stands behind the sign: all the bytes where there is none.

@@ -1,6 +1,6 @@
 ghost use Rattle.std.specs.Prelude.{◌≡◌, ◌^◌, ◌<◌, ◌≤◌, ◌∷◌, length, drop, IfNone, IfSome};
-ghost use Rattle.p21_semantics.specs.Digits.{AllDigits, number, plain_digits};
-ghost use Rattle.p21_semantics.specs.Name.{NameForm};
+ghost use Rattle.p21_basics.specs.Digits.{AllDigits, number, plain_digits};
+ghost use Rattle.p21_exchange.specs.Name.{NameForm};
 ghost use Rattle.p21_values.specs.Name.{ReadsName};
 
 use crate::canonical::Canonical;
@@ -89,9 +89,9 @@ fn fill_digits(text: &mut [u8; 21], number: u64) -> usize
 
 impl Canonical for Name {
     ghost use Rattle.std.specs.Prelude.{◌≡◌, ◌<◌, ◌^◌};
-    ghost use Rattle.p21_semantics.proofs.Names.{name_spells, same_names};
-    ghost use Rattle.p21_semantics.specs.Name.{SpellsName};
-    ghost use Rattle.p21_semantics.specs.Spelling.{name_spelling};
+    ghost use Rattle.p21_exchange.proofs.Names.{name_spells, same_names};
+    ghost use Rattle.p21_exchange.specs.Name.{SpellsName};
+    ghost use Rattle.p21_exchange.specs.Spelling.{name_spelling};
 
     ghost is_value = { λ n. n < 2 ^ 64 };
 

@@ -1,9 +1,9 @@
 ghost use Rattle.std.specs.Prelude.{◌≡◌, ◌%◌, [], ◌∷◌, ◌++◌, length, OnOk, OnErr};
 ghost use Rattle.std.specs.List.{flat_map};
 ghost use Rattle.std.specs.Str.{chars};
-ghost use Rattle.p21_semantics.specs.Digits.{hex_digit, hex_digits};
-ghost use Rattle.p21_semantics.specs.Spelling.{character_spelling, text_spelling};
-ghost use Rattle.p21_semantics.specs.Text.{end_extended};
+ghost use Rattle.p21_basics.specs.Digits.{hex_digit, hex_digits};
+ghost use Rattle.p21_exchange.specs.Spelling.{character_spelling, text_spelling};
+ghost use Rattle.p21_exchange.specs.Text.{end_extended};
 ghost use Rattle.p21_values.specs.Canonical.{Continues};
 
 use crate::canonical::Canonical;
@@ -118,9 +118,9 @@ impl Canonical for Text {
     ghost use Rattle.std.specs.Char.{IsScalar};
     ghost use Rattle.std.specs.List.{AllByRecursion};
     ghost use Rattle.std.specs.Prelude.{◌≡◌};
-    ghost use Rattle.p21_semantics.specs.Spelling.{text_spelling};
-    ghost use Rattle.p21_semantics.specs.Text.{SpellsText};
-    ghost use Rattle.p21_semantics.proofs.Texts.{same_texts, text_spells};
+    ghost use Rattle.p21_exchange.specs.Spelling.{text_spelling};
+    ghost use Rattle.p21_exchange.specs.Text.{SpellsText};
+    ghost use Rattle.p21_exchange.proofs.Texts.{same_texts, text_spells};
 
     ghost is_value = { AllByRecursion IsScalar };
 

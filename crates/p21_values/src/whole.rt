@@ -1,7 +1,7 @@
 ghost use Rattle.std.specs.Prelude.{◌≡◌, ◌++◌, OnErr, OnOk};
-ghost use Rattle.p21_semantics.specs.Digits.{AllDigits, number};
-ghost use Rattle.p21_semantics.specs.Number.{SpellsWhole, signed};
-ghost use Rattle.p21_semantics.specs.Spelling.{whole_spelling};
+ghost use Rattle.p21_basics.specs.Digits.{AllDigits, number};
+ghost use Rattle.p21_exchange.specs.Number.{SpellsWhole, signed};
+ghost use Rattle.p21_exchange.specs.Spelling.{whole_spelling};
 ghost use Rattle.p21_values.specs.Canonical.{Continues};
 ghost use Rattle.p21_values.specs.declared.fault.ValueFault.TheVariants.{BadNumber};
 ghost use Rattle.p21_values.specs.Fault.{Reads};
@@ -23,8 +23,8 @@ pub struct Whole {
 
 impl Model for Whole {
     ghost use Rattle.std.specs.Prelude.{ℤ};
-    ghost use Rattle.p21_semantics.specs.Digits.{number};
-    ghost use Rattle.p21_semantics.specs.Number.{signed};
+    ghost use Rattle.p21_basics.specs.Digits.{number};
+    ghost use Rattle.p21_exchange.specs.Number.{signed};
     ghost use Rattle.p21_values.specs.Stored.{IsStoredWhole};
 
     ghost Value = { ℤ };
@@ -89,9 +89,9 @@ impl Eq for Whole {
 
 impl Canonical for Whole {
     ghost use Rattle.std.specs.Prelude.{◌≡◌};
-    ghost use Rattle.p21_semantics.specs.Number.{SpellsWhole};
-    ghost use Rattle.p21_semantics.specs.Spelling.{whole_spelling};
-    ghost use Rattle.p21_semantics.proofs.WholeSpellings.{whole_spelling_same, whole_spells};
+    ghost use Rattle.p21_exchange.specs.Number.{SpellsWhole};
+    ghost use Rattle.p21_exchange.specs.Spelling.{whole_spelling};
+    ghost use Rattle.p21_exchange.proofs.WholeSpellings.{whole_spelling_same, whole_spells};
 
     ghost is_value = { λ _. Unit {0} };
 

@@ -1,5 +1,5 @@
 use Rattle.std.proofs.Common.{sym, subst}
-use Rattle.p21_semantics.specs.Token as meaning
+use Rattle.p21_exchange.specs.Token as meaning
 use Rattle.p21_tokens.proofs.Fronting.{keyword-is, leads_keyword}
 use Rattle.p21_tokens.specs.Front.{Leads}
 use Rattle.p21_tokens.proofs.front.front_keyword.Goals as goal

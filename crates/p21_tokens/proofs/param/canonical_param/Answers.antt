@@ -1,5 +1,5 @@
 use Rattle.std.proofs.Common.{◌≤◌, ℕ, List, length, arith, sym, subst}
-use Rattle.p21_semantics.specs.Limits.{text_limit}
+use Rattle.p21_basics.specs.Limits.{text_limit}
 use Rattle.p21_tokens.proofs.Scalars.{answer-of, spelled-in}
 use Rattle.p21_tokens.specs.Parameter.{IsAnswer}
 use Rattle.p21_tokens.specs.Token.{meant}

@@ -1,8 +1,8 @@
 use Rattle.std.proofs.Common.{◌≡◌, ◌<◌, ℕ, length, IsTrue, true, false, arith, List, ◌==◌, refl, Option, Some, None, Ok, subst}
 use Rattle.std.proofs.lemmas.Bool.Decides.{nat_tests}
 use Rattle.std.specs.Option.{is_some}
-use Rattle.p21_semantics.specs.Laying.{HoldsScalar}
-use Rattle.p21_semantics.specs.Token.{Token, IsScalarToken}
+use Rattle.p21_exchange.specs.Laying.{HoldsScalar}
+use Rattle.p21_exchange.specs.Token.{Token, IsScalarToken}
 use Rattle.p21_tokens.proofs.OneScalar.{kept-none, kept-some, second-token, no-scalar, finds-refused, finds-end, tokens-are, finds-only}
 use Rattle.p21_tokens.specs.Histories.{NextGives}
 use Rattle.p21_tokens.specs.Token.{meant}

@@ -1,6 +1,6 @@
 use Rattle.std.proofs.Common.{◌≡◌, true, false, sym, ◌∙◌, arith}
 use Rattle.std.proofs.lemmas.Int.{ints}
-use Rattle.p21_semantics.specs.Number.{exponent, is_minus}
+use Rattle.p21_exchange.specs.Number.{exponent, is_minus}
 use Rattle.p21_values.proofs.Readings.{exponent_form, no_exponent_form}
 use Rattle.p21_values.proofs.SignificantDigits.{significant_long}
 use Rattle.p21_values.proofs.decimal.read_exponent.Goals as goal

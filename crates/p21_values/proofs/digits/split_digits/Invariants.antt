@@ -1,5 +1,5 @@
 use Rattle.std.proofs.Common.{take}
-use Rattle.p21_semantics.specs.Digits.{AllDigits}
+use Rattle.p21_basics.specs.Digits.{AllDigits}
 use Rattle.p21_values.proofs.digits.split_digits.Given as goal
 
 -- what was passed are digits

@@ -1,5 +1,5 @@
 use Rattle.std.proofs.Common.{◌≡◌, ◌-◌, ◌*◌, ◌^◌, ◌≤◌, length, take}
-use Rattle.p21_semantics.specs.Digits.{number}
+use Rattle.p21_basics.specs.Digits.{number}
 use Rattle.p21_values.proofs.digits.without_end_zeros.Given as goal
 
 -- what is kept lacks as many zeros as digits

@@ -1,5 +1,5 @@
 use Rattle.std.proofs.Common.{◌≡◌, ◌≤◌, length}
-use Rattle.p21_semantics.specs.Digits.{AllDigits, number}
+use Rattle.p21_basics.specs.Digits.{AllDigits, number}
 use Rattle.p21_values.proofs.digits.without_front_zeros.Given as goal
 
 -- what is left are digits of the same number

@@ -1,5 +1,5 @@
 use Rattle.std.proofs.Common.{ap, subst, sym, ℕ}
-use Rattle.p21_semantics.specs.Pending.{IsPending}
+use Rattle.p21_exchange.specs.Pending.{IsPending}
 use Rattle.p21_tokens.specs.Held.{pending_of}
 use Rattle.p21_tokens.proofs.Extending.{stands-pending}
 use Rattle.p21_tokens.proofs.lexer.Lexer.pending.Goals as goal

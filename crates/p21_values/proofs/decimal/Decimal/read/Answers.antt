@@ -2,7 +2,7 @@ use Rattle.std.proofs.Common.{◌≡◌, arith, to_z, of_z}
 use Rattle.std.proofs.lemmas.Int.{ints}
 use Rattle.std.proofs.lemmas.Result.{err_from_is_err_and}
 use mir.Syntax.{w32}
-use Rattle.p21_semantics.proofs.PlainDigits.{digits_append}
+use Rattle.p21_basics.proofs.PlainDigits.{digits_append}
 use Rattle.p21_values.proofs.Readings.{form_begins, reads_exponent_fault, reads_parts}
 use Rattle.p21_values.proofs.decimal.Decimal.read.Goals as goal
 

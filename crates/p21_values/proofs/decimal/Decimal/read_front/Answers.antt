@@ -1,6 +1,6 @@
 use Rattle.std.proofs.Common.{Ok}
 use Rattle.std.proofs.lemmas.Result.{err_from_is_err_and}
-use Rattle.p21_semantics.proofs.PlainDigits.{digits_append}
+use Rattle.p21_basics.proofs.PlainDigits.{digits_append}
 use Rattle.p21_values.proofs.Readings.{no_front_begins, no_front_exponent, no_exponent_first, is_front, reads_front, reads_front_fault}
 use Rattle.p21_values.proofs.decimal.Decimal.read_front.Goals as goal
 

@@ -1,5 +1,5 @@
 use Rattle.std.proofs.Common.{refl}
-use Rattle.p21_semantics.specs.Number.{is_minus}
+use Rattle.p21_exchange.specs.Number.{is_minus}
 use Rattle.p21_values.proofs.whole.Whole.read.Goals as goal
 
 pub returns-in_default : goal.returns-in_default

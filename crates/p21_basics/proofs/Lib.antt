@@ -1,0 +1,4 @@
+pub mod HexDigits
+pub mod LastDigit
+pub mod Members
+pub mod PlainDigits

@@ -1,0 +1,155 @@
+-- The members of lists.
+use Rattle.std.specs.Prelude.{◌≡◌, ℕ, zero, suc, ◌+◌, List, [], ◌∷◌, map, filter, slice_get, Some, Contains, refl, ◌⊎◌, Bool, true, false, cond}
+use Rattle.std.specs.Str.{bytes_eq}
+use Rattle.std.proofs.lemmas.Bool.{or_parts}
+use Rattle.std.specs.List.{list_any, flat_map, zip, AllZip, enumerate_from, AllByRecursion as Each}
+use Rattle.std.proofs.Common.{arith, subst, ap, sym, ◌∙◌, inl, inr}
+use Rattle.std.proofs.lemmas.List.Elements.{Contains-append_left, Contains-append_right, Contains-append_cases}
+
+pub Contains-none : {X : Type 0} (x : X) → Contains [] x → ⊥
+Contains-none x (k, below, is) = omega (arith, below)
+
+pub Contains-first : {X : Type 0} (x : X) (xs : List X) → Contains (x ∷ xs) x
+Contains-first x xs = (0, omega arith, refl)
+
+pub Contains-later : {X : Type 0} (x : X) (xs : List X) (y : X) → Contains xs y → Contains (x ∷ xs) y
+Contains-later x xs y (k, below, is) = (suc k, omega (arith, below), is)
+
+pub Contains-cases : {X : Type 0} (x : X) (xs : List X) (y : X) → Contains (x ∷ xs) y → (x ≡ y) ⊎ Contains xs y
+Contains-cases x xs y (zero, below, is) = inl is
+Contains-cases x xs y (suc k, below, is) = inr (k, omega (arith, below), is)
+
+pub Contains-flat_map : {X Y : Type 0} (g : X → List Y) (xs : List X) (x : X) (y : Y) → Contains xs x → Contains (g x) y → Contains (flat_map g xs) y
+Contains-flat_map g [] x y at among = absurd (Contains-none x at)
+Contains-flat_map {X} g (z ∷ zs) x y at among = elim (Contains-cases z zs x at) [
+  | inl h ↦ let P : X → Type 0 = λ w. Contains (g w) y in Contains-append_left (g z) (flat_map g zs) y (subst P (sym h) among)
+  | inr h ↦ Contains-append_right (g z) (flat_map g zs) y (Contains-flat_map g zs x y h among)
+]
+
+pub Contains-one_of : {X Y : Type 0} (g : X → List Y) (xs : List X) (y : Y) → Contains (flat_map g xs) y → (x : X) × Contains xs x × Contains (g x) y
+Contains-one_of g [] y among = absurd (Contains-none y among)
+Contains-one_of g (x ∷ xs) y among = elim (Contains-append_cases (g x) (flat_map g xs) y among) [
+  | inl h ↦ (x, Contains-first x xs, h)
+  | inr h ↦ let (other, at, found) = Contains-one_of g xs y h in (other, Contains-later x xs other at, found)
+]
+
+pub Contains-filter : {X : Type 0} (test : X → Bool) (xs : List X) (y : X) → test y ≡ true → Contains xs y → Contains (filter test xs) y
+Contains-filter test [] y passes among = absurd (Contains-none y among)
+Contains-filter test (x ∷ xs) y passes among = elim (Contains-cases x xs y among) [
+  | inl h ↦ let P : Bool → Type 0 = λ b. Contains (cond b (x ∷ filter test xs) (filter test xs)) y in subst P (sym (ap test h ∙ passes)) (0, omega arith, h)
+  | inr h ↦ kept (test x) (Contains-filter test xs y passes h)
+]
+  where
+    kept : (b : Bool) → Contains (filter test xs) y → Contains (cond b (x ∷ filter test xs) (filter test xs)) y
+    kept true found = Contains-later x (filter test xs) y found
+    kept false found = found
+
+pub Contains-unfiltered : {X : Type 0} (test : X → Bool) (xs : List X) (y : X) → Contains (filter test xs) y → Contains xs y
+Contains-unfiltered test [] y among = among
+Contains-unfiltered test (x ∷ xs) y among = by_test (test x) (λ h. Contains-unfiltered test xs y h) among
+  where
+    by_test : (b : Bool) → (Contains (filter test xs) y → Contains xs y) → Contains (cond b (x ∷ filter test xs) (filter test xs)) y → Contains (x ∷ xs) y
+    by_test true rest found = elim (Contains-cases x (filter test xs) y found) [ inl h ↦ (0, omega arith, h) | inr h ↦ Contains-later x xs y (rest h) ]
+    by_test false rest found = Contains-later x xs y (rest found)
+
+-- a member has a number
+pub Contains-at : {X : Type 0} (xs : List X) (x : X) → Contains xs x → (k : ℕ) × (slice_get xs k ≡ Some x)
+Contains-at [] x among = absurd (Contains-none x among)
+Contains-at (y ∷ ys) x among = elim (Contains-cases y ys x among) [
+  | inl h ↦ (0, ap Some h)
+  | inr h ↦ let (k, is) = Contains-at ys x h in (suc k, is)
+]
+
+-- and what has a number is a member
+pub Contains-found : {X : Type 0} (xs : List X) (k : ℕ) (x : X) → slice_get xs k ≡ Some x → Contains xs x
+Contains-found [] k x at = cc
+Contains-found (y ∷ ys) zero x at = (0, omega arith, let same : y ≡ x = cc in same)
+Contains-found (y ∷ ys) (suc k) x at = Contains-later y ys x (Contains-found ys k x at)
+
+pub Contains-mapped : {X Y : Type 0} (f : X → Y) (xs : List X) (x : X) → Contains xs x → Contains (map f xs) (f x)
+Contains-mapped f [] x among = absurd (Contains-none x among)
+Contains-mapped f (y ∷ ys) x among = elim (Contains-cases y ys x among) [ inl h ↦ (0, omega arith, ap f h) | inr h ↦ Contains-later (f y) (map f ys) (f x) (Contains-mapped f ys x h) ]
+
+-- what holds of each holds of a member
+pub Each-member : {X : Type 0} (P : X → Type 0) (xs : List X) (x : X) → Each P xs → Contains xs x → P x
+Each-member P [] x each among = absurd (Contains-none x among)
+Each-member P (y ∷ ys) x each among = elim (Contains-cases y ys x among) [ inl h ↦ subst P h each.0 | inr h ↦ Each-member P ys x each.1 h ]
+
+-- and of the one of a number
+pub Each-at : {X : Type 0} (P : X → Type 0) (xs : List X) (k : ℕ) (x : X) → Each P xs → slice_get xs k ≡ Some x → P x
+Each-at P [] k x each is = cc
+Each-at {X} P (y ∷ ys) zero x each is = let same : y ≡ x = cc in subst P same each.0
+Each-at P (y ∷ ys) (suc k) x each is = Each-at P ys k x each.1 is
+
+-- what holds of two lists place by place holds of a member of the first and some member of the second
+pub AllZip-member : {X Y : Type 0} (R : X → Y → Type 0) (xs : List X) (ys : List Y) (x : X) → AllZip R xs ys → Contains xs x → (y : Y) × Contains ys y × R x y
+AllZip-member R [] ys x all among = absurd (Contains-none x among)
+AllZip-member R (z ∷ zs) [] x all among = absurd all
+AllZip-member {X} R (z ∷ zs) (y ∷ ys) x all among = elim (Contains-cases z zs x among) [
+  | inl h ↦ let P : X → Type 0 = λ w. R w y in (y, Contains-first y ys, subst P h all.0)
+  | inr h ↦ let (other, at, holds) = AllZip-member R zs ys x all.1 h in (other, Contains-later y ys other at, holds)
+]
+
+-- and of a member of the second and some member of the first
+pub AllZip-second_member : {X Y : Type 0} (R : X → Y → Type 0) (xs : List X) (ys : List Y) (y : Y) → AllZip R xs ys → Contains ys y → (x : X) × Contains xs x × R x y
+AllZip-second_member R xs [] y all among = absurd (Contains-none y among)
+AllZip-second_member R [] (z ∷ zs) y all among = absurd all
+AllZip-second_member R (x ∷ xs) (z ∷ zs) y all among = elim (Contains-cases z zs y among) [
+  | inl h ↦ (x, Contains-first x xs, subst (R x) h all.0)
+  | inr h ↦ let (other, at, holds) = AllZip-second_member R xs zs y all.1 h in (other, Contains-later x xs other at, holds)
+]
+
+-- and of two that stand beside each other
+pub AllZip-beside : {X Y : Type 0} (R : X → Y → Type 0) (xs : List X) (ys : List Y) (x : X) (y : Y) → AllZip R xs ys → Contains (zip xs ys) (x, y) → R x y
+AllZip-beside R [] ys x y all among = absurd (Contains-none (x, y) among)
+AllZip-beside R (z ∷ zs) [] x y all among = absurd all
+AllZip-beside {X} {Y} R (z ∷ zs) (w ∷ ws) x y all among = elim (Contains-cases (z, w) (zip zs ws) (x, y) among) [
+  | inl h ↦ let P : X × Y → Type 0 = λ p. R p.0 p.1 in subst P h all.0
+  | inr h ↦ AllZip-beside R zs ws x y all.1 h
+]
+
+-- the first of two that stand beside each other is a member of the first list
+pub Contains-zip : {X Y : Type 0} (xs : List X) (ys : List Y) (x : X) (y : Y) → Contains (zip xs ys) (x, y) → Contains xs x
+Contains-zip [] ys x y among = absurd (Contains-none (x, y) among)
+Contains-zip (z ∷ zs) [] x y among = absurd (Contains-none (x, y) among)
+Contains-zip (z ∷ zs) (w ∷ ws) x y among = elim (Contains-cases (z, w) (zip zs ws) (x, y) among) [
+  | inl h ↦ (0, omega arith, ap (λ p. p.0) h)
+  | inr h ↦ Contains-later z zs x (Contains-zip zs ws x y h)
+]
+
+-- what holds of a list with numbers from n on and of another, place by place, holds at each number
+pub AllZip-numbered : {X Y : Type 0} (R : ℕ → X → Y → Type 0) (n : ℕ) (xs : List X) (ys : List Y) (k : ℕ) (y : Y) → AllZip (λ x y. R x.0 x.1 y) (enumerate_from n xs) ys → slice_get ys k ≡ Some y
+    → (x : X) × (slice_get xs k ≡ Some x) × R (n + k) x y
+AllZip-numbered R n [] [] k y all is = cc
+AllZip-numbered R n [] (z ∷ zs) k y all is = absurd all
+AllZip-numbered R n (x ∷ xs) [] k y all is = cc
+AllZip-numbered {X} {Y} R n (x ∷ xs) (z ∷ zs) zero y all is = (x, refl, let same : z ≡ y = cc in let zero_ : n ≡ n + 0 = omega arith in let P : ℕ → Type 0 = λ m. R m x y in let Q : Y → Type 0 = λ w. R n x w in subst P zero_ (subst Q same all.0))
+AllZip-numbered R n (x ∷ xs) (z ∷ zs) (suc k) y all is =
+    let (found, at, holds) = AllZip-numbered R (n + 1) xs zs k y all.1 is in
+    let more : n + 1 + k ≡ n + suc k = omega arith in
+    let P : ℕ → Type 0 = λ m. R m found y in
+    (found, at, subst P more holds)
+
+-- and at each number of the first
+pub AllZip-numbered_first : {X Y : Type 0} (R : ℕ → X → Y → Type 0) (n : ℕ) (xs : List X) (ys : List Y) (k : ℕ) (x : X) → AllZip (λ x y. R x.0 x.1 y) (enumerate_from n xs) ys → slice_get xs k ≡ Some x
+    → (y : Y) × (slice_get ys k ≡ Some y) × R (n + k) x y
+AllZip-numbered_first R n [] ys k x all is = cc
+AllZip-numbered_first R n (z ∷ zs) [] k x all is = absurd all
+AllZip-numbered_first {X} {Y} R n (z ∷ zs) (y ∷ ys) zero x all is = (y, refl, let same : z ≡ x = cc in let zero_ : n ≡ n + 0 = omega arith in let P : ℕ → Type 0 = λ m. R m x y in let Q : X → Type 0 = λ w. R n w y in subst P zero_ (subst Q same all.0))
+AllZip-numbered_first R n (z ∷ zs) (y ∷ ys) (suc k) x all is =
+    let (found, at, holds) = AllZip-numbered_first R (n + 1) zs ys k x all.1 is in
+    let more : n + 1 + k ≡ n + suc k = omega arith in
+    let P : ℕ → Type 0 = λ m. R m x found in
+    (found, at, subst P more holds)
+
+-- a word that a test finds in no list of words is none of them
+pub Contains-no_word : (x : List ℕ) (xs : List (List ℕ)) → bytes_eq x x ≡ true → list_any (bytes_eq x) xs ≡ false → Contains xs x → ⊥
+Contains-no_word x [] same none (k, below, is) = omega (arith, below)
+Contains-no_word x (y ∷ ys) same none (zero, below, is) = let h : true ≡ false = sym same ∙ ap (λ z. bytes_eq x z) (sym is) ∙ (or_parts (bytes_eq x y) (list_any (bytes_eq x) ys) none).0 in cc
+Contains-no_word x (y ∷ ys) same none (suc k, below, is) = Contains-no_word x ys same (or_parts (bytes_eq x y) (list_any (bytes_eq x) ys) none).1 (k, omega (arith, below), is)
+
+pub head_is : (x y : ℕ) (xs ys : List ℕ) → x ∷ xs ≡ y ∷ ys → x ≡ y
+head_is x y xs ys e = cc
+
+pub tail_is : (x y : ℕ) (xs ys : List ℕ) → x ∷ xs ≡ y ∷ ys → xs ≡ ys
+tail_is x y xs ys e = cc

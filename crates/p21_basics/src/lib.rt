@@ -1,0 +1,2 @@
+//! What all definitions share: bytes and digits, limits, histories. It holds no code.
+#![tactic(auto)]

@@ -1,0 +1,11 @@
+pub mod Statements
+pub mod OneLine
+pub mod Dead
+pub mod Needs
+pub mod Blocks
+pub mod Ending
+pub mod Fronts
+pub mod LongFiles
+pub mod UnfitTargets
+pub mod LongStatements
+pub mod Exact

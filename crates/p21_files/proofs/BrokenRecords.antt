@@ -1,0 +1,90 @@
+-- Records whose keywords, sets and places break rules, and records that break none.
+use Rattle.std.specs.Prelude.{◌≡◌, ℕ, pos, true, false, List, [], ◌∷◌, codes, Contains, refl}
+use Rattle.std.specs.List.{IsDistinct}
+use Rattle.std.specs.Str.{bytes_eq}
+use Rattle.std.proofs.Common.{arith, rules, inl, inr, ap, sym, subst, ◌∙◌}
+use Rattle.std.proofs.lemmas.Slice.Eq.{bytes_eq-Decides}
+use Rattle.p21_files.specs.BrokenRule.{Breaks, unknown_entity, abstract_leaf, part_missing, part_twice, wrong_count, derived_not_star, open_place, one_of}
+use Rattle.p21_files.specs.Meaning.{NamesEntity}
+use Rattle.p21_exchange.specs.Parameter.{dollar, real, whole, Params, no_params, param, key_of}
+use Rattle.p21_exchange.specs.Record.{Part, Record, simple, complex}
+use Rattle.p21_files.specs.RecordPlaces.{IsInSet}
+use Rattle.p21_schemas.specs.Supertype.{IsA, itself}
+use Rattle.p21_files.proofs.BrokenRules.{broken-means_nothing}
+use Rattle.p21_schemas.proofs.DeclaredSchemas.{declared-well_formed, names_of_all, distinct_names-entities}
+use Rattle.p21_files.proofs.MeaningExamples.{demo-distinct, named, one, two, nought, origin_set, origin-is, origin-closed, origin-x}
+use Rattle.p21_basics.proofs.Members.{Each-at, Each-member}
+use Rattle.p21_files.proofs.OneOfExamples.{a_b_s, s_c_a, a_c_meaning, a_b_meaning, a-named, b-named, s-named, a_and_c-mean, a_and_b-mean_without_list}
+use Rattle.p21_schemas.proofs.OrderExamples.{point-is_shape, demo-is_a}
+use Rattle.p21_schemas.proofs.PlaceTypeExamples.{redecl-two}
+use Rattle.p21_files.proofs.RecordSets.{internal-set, external-set}
+use Rattle.p21_schemas.proofs.SoleSchema.{a_b_list, sole, sole_with, sole_tree, a_or_b, andor_c, sole-declares, andor-declares}
+use Rattle.p21_schemas.proofs.TestSchemas.{demo, shape, point, origin, x_place, redecl, k_place}
+
+abbrev part_of : List ℕ → Params → Part
+part_of name params = record { key = key_of name; params = params }
+
+apart : (a b : List ℕ) → bytes_eq a b ≡ false → a ≡ b → ⊥
+apart a b differ same = let h : true ≡ false = sym ((bytes_eq-Decides a b).1 same) ∙ differ in cc
+
+-- `FOO()` under DEMO
+pub foo-breaks : Breaks demo (simple (part_of (codes "FOO") no_params)) 41
+foo-breaks = unknown_entity (part_of (codes "FOO") no_params, (0, omega arith, refl), unknown)
+  where
+    unknown : (e : ℕ) → NamesEntity demo (key_of (codes "FOO")) e → ⊥
+    unknown e (name, (x, at, is), key_is) =
+        let foo : x.name ≡ codes "FOO" = is ∙ sym (ap (λ k. k.word) key_is) in
+        Each-at (λ y. y.name ≡ codes "FOO" → ⊥) demo.entities e x (apart _ _ refl, (apart _ _ refl, (apart _ _ refl, (apart _ _ refl, (apart _ _ refl, tt))))) at foo
+
+-- `SHAPE($)`
+pub shape-breaks : Breaks demo (simple (part_of (codes "SHAPE") (param dollar no_params))) 42
+shape-breaks = abstract_leaf (0 ∷ [], 0, internal-set demo (distinct_names-entities demo demo-distinct) (part_of (codes "SHAPE") (param dollar no_params)) 0 (0 ∷ []) (codes "SHAPE", (shape, refl, refl), refl) (λ f. (λ among. Each-member (IsA demo 0) (0 ∷ []) f (itself 0, tt) among, is_shape f)), ((0, omega arith, refl), λ f among is. sym (Each-member (λ g. 0 ≡ g) (0 ∷ []) f (refl, tt) among)), (shape, refl, refl))
+  where
+    is_shape : (f : ℕ) → IsA demo 0 f → Contains (0 ∷ []) f
+    is_shape f is = elim (demo-is_a 0 f (omega arith) is) [ inl h ↦ (0, omega arith, sym h) | inr h ↦ (0, omega arith, sym h) ]
+
+-- `(POINT(1.,2.))`
+abbrev lone_point : Record
+lone_point = complex (part_of (codes "POINT") (param (real one) (param (real two) no_params)) ∷ [])
+
+pub lone_point-breaks : Breaks demo lone_point 43
+lone_point-breaks = part_missing (1, 0, (part_of (codes "POINT") (param (real one) (param (real two) no_params)), (0, omega arith, refl), (codes "POINT", (point, refl, refl), refl)), point-is_shape, no_shape)
+  where
+    no_shape : IsInSet demo lone_point 0 → ⊥
+    no_shape (part, among, shape_named) =
+        let P : Part → Type 0 = λ x. NamesEntity demo x.key 0 in
+        let is : part_of (codes "POINT") (param (real one) (param (real two) no_params)) ≡ part = Each-member (λ x. x ≡ part → part_of (codes "POINT") (param (real one) (param (real two) no_params)) ≡ part) (part_of (codes "POINT") (param (real one) (param (real two) no_params)) ∷ []) part (λ h. h, tt) among refl in
+        let h : 0 ≡ 1 = named (codes "POINT") 1 0 (point, refl, refl) (subst P (sym is) shape_named) in omega (arith, h)
+
+-- `(SHAPE($)SHAPE($))`
+pub two_shapes-break : Breaks demo (complex (part_of (codes "SHAPE") (param dollar no_params) ∷ part_of (codes "SHAPE") (param dollar no_params) ∷ [])) 44
+two_shapes-break = part_twice (0, 1, _, _, omega arith, refl, refl, refl)
+
+-- `POINT($,1.)`
+pub short_point-breaks : Breaks demo (simple (part_of (codes "POINT") (param dollar (param (real one) no_params)))) 45
+short_point-breaks = wrong_count (part_of (codes "POINT") (param dollar (param (real one) no_params)), 1, ((0, omega arith, refl), (codes "POINT", (point, refl, refl), refl)), omega arith)
+
+-- `ORIGIN($,0.,2.)`
+abbrev number_origin : Part
+number_origin = part_of (codes "ORIGIN") (param dollar (param (real nought) (param (real two) no_params)))
+
+pub number_origin-breaks : Breaks demo (simple number_origin) 48
+number_origin-breaks = derived_not_star (origin_set, x_place, real nought, internal-set demo (distinct_names-entities demo demo-distinct) number_origin 3 origin_set (codes "ORIGIN", (origin, refl, refl), refl) (λ f. (origin-is f, λ up. origin-closed 3 f up (0, omega arith, refl))), (number_origin, 3, ((0, omega arith, refl), (codes "ORIGIN", (origin, refl, refl), refl)), (1, omega arith, refl)), origin-x, λ h. cc)
+
+-- `(R(1)A()B())` under REDECL
+redecl-distinct : IsDistinct bytes_eq (names_of_all redecl)
+unfolding IsDistinct
+redecl-distinct = search rules
+
+pub both-break : Breaks redecl (complex (part_of (codes "R") (param (whole (pos 1)) no_params) ∷ part_of (codes "A") no_params ∷ part_of (codes "B") no_params ∷ [])) 55
+both-break = open_place (0 ∷ 1 ∷ 2 ∷ [], 0, k_place, external-set redecl (distinct_names-entities redecl redecl-distinct) (part_of (codes "R") (param (whole (pos 1)) no_params) ∷ part_of (codes "A") no_params ∷ part_of (codes "B") no_params ∷ []) (0 ∷ 1 ∷ 2 ∷ []) ((codes "R", (_, refl, refl), refl), ((codes "A", (_, refl, refl), refl), ((codes "B", (_, refl, refl), refl), tt))), (0, omega arith, refl), (0, omega arith, refl), redecl-two)
+
+-- `(A()B()S(1))` under SOLE, but it breaks nothing with `(ONEOF (a, b) ANDOR c)`, nor does `(S(1)C()A())`
+pub a_and_b-break : Breaks sole a_b_s 58
+a_and_b-break = one_of (1 ∷ 2 ∷ 0 ∷ [], external-set sole (declared-well_formed (sole_tree a_or_b) sole sole-declares).entities_distinct (part_of (codes "A") no_params ∷ part_of (codes "B") no_params ∷ part_of (codes "S") (param (whole (pos 1)) no_params) ∷ []) (1 ∷ 2 ∷ 0 ∷ []) (a-named a_b_list, (b-named a_b_list, (s-named a_b_list, tt))), (1 ∷ 2 ∷ [], (0, omega arith, refl), (1, 2, (0, omega arith, refl), (1, omega arith, refl), omega arith, (0, omega arith, refl), (1, omega arith, refl))))
+
+pub a_and_b-break_nothing : (number : ℕ) → Breaks (sole_with []) a_b_s number → ⊥
+a_and_b-break_nothing number breaks = broken-means_nothing (sole_with []) (declared-well_formed (sole_tree andor_c) (sole_with []) andor-declares) a_b_s number breaks [] a_b_meaning (a_and_b-mean_without_list [])
+
+pub a_and_c-break_nothing : (number : ℕ) → Breaks sole s_c_a number → ⊥
+a_and_c-break_nothing number breaks = broken-means_nothing sole (declared-well_formed (sole_tree a_or_b) sole sole-declares) s_c_a number breaks [] a_c_meaning (a_and_c-mean [])

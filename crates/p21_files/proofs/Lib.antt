@@ -1,0 +1,28 @@
+mod BrokenExamples
+mod BrokenRecords
+mod CanonicalExamples
+mod ClashAbove
+mod GrammarExamples
+mod HeldDemo
+mod HeldNamed
+mod KeptExamples
+mod MeaningExamples
+mod NamedExample
+mod NamedPoints
+mod OneOfExamples
+mod OnlyBroken
+mod SectionExamples
+mod ValueExamples
+pub mod BrokenRules
+pub mod Dead
+pub mod DemoExample
+pub mod FitsWider
+pub mod HeldStatements
+pub mod OneMeaning
+pub mod OneValue
+pub mod RecordSets
+pub mod Repeated
+pub mod SameFiles
+pub mod Sameness
+pub mod Taken
+pub mod Transitive

@@ -1,0 +1,16 @@
+pub mod Value
+pub mod SameValue
+pub mod Reference
+pub mod Fits
+pub mod Meaning
+pub mod RecordPlaces
+pub mod ParameterKind
+pub mod Inside
+pub mod BrokenRule
+pub mod File
+pub mod SameFile
+pub mod CanonicalRecord
+pub mod Canonical
+pub mod Accepted
+pub mod Kept
+pub mod Held

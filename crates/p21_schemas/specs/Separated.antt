@@ -1,0 +1,14 @@
+-- Lists of lexemes: with commas between them, and names in parentheses (ISO 10303-11, formal definition of EXPRESS).
+use Rattle.std.specs.Prelude.{ℕ, List, [], ◌∷◌, ◌++◌, codes}
+use Rattle.p21_schemas.specs.Express.{Lexeme}
+use Rattle.p21_schemas.specs.WrittenType.{word, symbols}
+
+-- separated by commas
+abbrev pub separated : {A : Type 0} → (A → List Lexeme) → List A → List Lexeme
+separated lexemes [] = []
+separated lexemes (x ∷ []) = lexemes x
+separated lexemes (x ∷ y ∷ xs) = lexemes x ++ symbols (codes ",") ++ separated lexemes (y ∷ xs)
+
+-- `(` name {`,` name} `)`
+abbrev pub names_lexemes : List (List ℕ) → List Lexeme
+names_lexemes names = symbols (codes "(") ++ separated word names ++ symbols (codes ")")

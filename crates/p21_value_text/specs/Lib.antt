@@ -1,0 +1,4 @@
+pub mod FileLaws
+pub mod Sorting
+pub mod ValueText
+pub mod ValueLaws
