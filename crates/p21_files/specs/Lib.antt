@@ -14,3 +14,5 @@ pub mod Canonical
 pub mod Accepted
 pub mod Kept
 pub mod Held
+pub mod ValueText
+pub mod Sorting

@@ -21,8 +21,8 @@ use Rattle.p21_value_text.proofs.OfType.{OfType, of_whole, of_real, of_number, o
 use Rattle.p21_value_text.proofs.ParamTexts.{one-token, list-is, typed-is}
 use Rattle.p21_value_text.proofs.Shuffles.{Shuffled, no_more, one_more, Shuffled-symmetric, Shuffled-transitive}
 use Rattle.p21_value_text.proofs.Sorting.{Taken, taken_first, taken_later}
-use Rattle.p21_value_text.specs.Sorting.{is_below, insert_text, sort_texts}
-use Rattle.p21_value_text.specs.ValueText.{type_name, list_text, value_text, value_texts}
+use Rattle.p21_files.specs.Sorting.{is_below, insert_text, sort_texts}
+use Rattle.p21_files.specs.ValueText.{type_name, list_text, value_text, value_texts}
 
 abbrev pub insert_param : Param → List Param → List Param
 insert_param p [] = p ∷ []

@@ -11,8 +11,8 @@ use Rattle.p21_schemas.specs.Schema as schema
 use Rattle.p21_schemas.specs.Schema.{Schema, Defined, TypeUse, TypeNamed}
 use Rattle.p21_exchange.specs.Token as token
 use Rattle.p21_files.specs.Value.{Value, Values}
-use Rattle.p21_value_text.specs.Sorting.{sort_texts}
-use Rattle.p21_value_text.specs.ValueText.{type_name, list_text, value_text, value_texts}
+use Rattle.p21_files.specs.Sorting.{sort_texts}
+use Rattle.p21_files.specs.ValueText.{type_name, list_text, value_text, value_texts}
 use Rattle.p21_value_text.proofs.ParamTexts.{one-token, list-is, typed-is}
 use Rattle.p21_value_text.proofs.Sorting.{sort-rising}
 

@@ -23,7 +23,7 @@ use Rattle.p21_value_text.specs.ValueLaws.{TextsTellValues, OneCanonical, IsCano
 use Rattle.p21_value_text.proofs.OfType.{fits-of, missing-of_none}
 use Rattle.p21_value_text.proofs.SameFromTexts.{same-from_text, not-dollar}
 use Rattle.p21_value_text.proofs.TextsFromSame.{text-from_same, same-missing}
-use Rattle.p21_value_text.specs.ValueText.{value_text}
+use Rattle.p21_files.specs.ValueText.{value_text}
 
 -- whatever the instances of the two files, and in whatever order the elements were written
 pub same-exactly_texts : (s : Schema) → HasDistinctTypes s → (kinds others : Kinds) (type : TypeUse) (p q : Param) (v w : Value) → Fits s kinds type p v → Fits s others type q w → IsWritten p → IsWritten q

@@ -10,7 +10,7 @@ use Rattle.p21_schemas.specs.Schema as schema
 use Rattle.p21_schemas.specs.Schema.{Schema, TypeUse}
 use Rattle.p21_files.specs.Value.{Value, Values}
 use Rattle.p21_value_text.proofs.CanonicalParam.{canonical_param, canonical_params, insert_param, params_of, sort_params}
-use Rattle.p21_value_text.specs.Sorting.{is_below}
+use Rattle.p21_files.specs.Sorting.{is_below}
 
 insert-depth : (p : Param) (ps : List Param) → params_depth (params_of (insert_param p ps)) ≡ max (depth p) (params_depth (params_of ps))
 insert-depth p [] = refl

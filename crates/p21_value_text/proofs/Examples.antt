@@ -16,7 +16,7 @@ use Rattle.p21_files.specs.SameValue.{Same, same_reals, same_wholes, Among, here
 use Rattle.p21_schemas.specs.Schema as schema
 use Rattle.p21_schemas.specs.Schema.{Schema}
 use Rattle.p21_files.specs.Value.{Value, whole, real, number, missing, list, array, set, bag, typed, Values, no_values, value}
-use Rattle.p21_value_text.specs.ValueText.{value_text}
+use Rattle.p21_files.specs.ValueText.{value_text}
 
 abbrev s : Schema
 s = record { name = []; entities = []; types = record { name = codes "LENGTH"; kind = schema.alias schema.real } ∷ []; one_of_lists = [] }

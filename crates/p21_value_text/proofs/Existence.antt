@@ -19,8 +19,8 @@ use Rattle.p21_value_text.proofs.Distinct.{paired-each, distinct-paired, in_orde
 use Rattle.p21_value_text.specs.ValueLaws.{IsWritten}
 use Rattle.p21_value_text.proofs.OfType.{fits-of}
 use Rattle.p21_value_text.proofs.Rising.{sort-rises}
-use Rattle.p21_value_text.specs.Sorting.{is_below, sort_texts}
-use Rattle.p21_value_text.specs.ValueText.{value_text}
+use Rattle.p21_files.specs.Sorting.{is_below, sort_texts}
+use Rattle.p21_files.specs.ValueText.{value_text}
 
 -- a parameter with a value
 abbrev pub Pair : Type 0

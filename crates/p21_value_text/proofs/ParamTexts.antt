@@ -7,7 +7,7 @@ use Rattle.p21_exchange.specs.Parameter.{Key, Param, list, typed, Params, no_par
 use Rattle.p21_exchange.specs.Spelling.{spelling}
 use Rattle.p21_exchange.specs.Token as token
 use Rattle.p21_exchange.specs.Token.{Token}
-use Rattle.p21_value_text.specs.ValueText.{with_commas, with_commas_between, list_text}
+use Rattle.p21_files.specs.ValueText.{with_commas, with_commas_between, list_text}
 
 pub tokens_text-append : (xs ys : List Token) → tokens_text (xs ++ ys) ≡ tokens_text xs ++ tokens_text ys
 tokens_text-append xs ys = flat_map-append spelling xs ys

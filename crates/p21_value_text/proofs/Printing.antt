@@ -30,7 +30,7 @@ use Rattle.p21_value_text.proofs.Existence.{canonical_value, canonical_pairs, va
 use Rattle.p21_value_text.proofs.Leaves.{closure-leaf}
 use Rattle.p21_value_text.proofs.OfType.{AreWritten, fits-of}
 use Rattle.p21_value_text.proofs.RecordOnce.{part-written}
-use Rattle.p21_value_text.specs.Sorting.{is_below}
+use Rattle.p21_files.specs.Sorting.{is_below}
 use Rattle.p21_value_text.specs.ValueLaws.{IsSpelled, IsWritten}
 
 -- ---- no user keywords

@@ -25,7 +25,7 @@ use Rattle.p21_value_text.proofs.RecordOnce.{distinct-none_twice, complex-writte
 use Rattle.p21_value_text.proofs.Rising.{sort-rises}
 use Rattle.p21_value_text.proofs.Shuffles.{Shuffled, no_more, one_more, Shuffled-symmetric, Shuffled-members, Shuffled-mapped, Shuffled-none_twice}
 use Rattle.p21_value_text.proofs.Sorting.{NoneTwice, Taken, taken_first, taken_later}
-use Rattle.p21_value_text.specs.Sorting.{is_below, insert_text, sort_texts}
+use Rattle.p21_files.specs.Sorting.{is_below, insert_text, sort_texts}
 use Rattle.p21_value_text.specs.ValueLaws.{IsSpelled}
 
 -- the keywords of parts that are written

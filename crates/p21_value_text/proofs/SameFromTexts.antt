@@ -17,7 +17,7 @@ use Rattle.p21_value_text.proofs.CanonicalValue.{named-is}
 use Rattle.p21_value_text.proofs.OfType.{OfType, of_whole, of_real, of_number, of_boolean, of_logical, of_text, of_binary, of_entity, of_alias, of_items, of_chosen_instance, of_chosen_type, of_array, of_list, of_set, of_bag, EachOf, of_none, of_next, of_empty}
 use Rattle.p21_value_text.proofs.Shuffles.{Shuffled, Taken-none, Taken-cases, Shuffled-none, Shuffled-first, Shuffled-symmetric, Shuffled-members}
 use Rattle.p21_value_text.proofs.Sorting.{Taken, AreMembers}
-use Rattle.p21_value_text.specs.ValueText.{type_name, value_text}
+use Rattle.p21_files.specs.ValueText.{type_name, value_text}
 
 -- no value of a type is written `$`
 dollar-of_none : (s : Schema) (type : TypeUse) (v : Value) → OfType s type v → canonical_param s v ≡ parameter.dollar → ⊥

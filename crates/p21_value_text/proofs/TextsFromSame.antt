@@ -14,8 +14,8 @@ use Rattle.p21_files.specs.Value.{Value, missing, Values, no_values, value}
 use Rattle.p21_value_text.proofs.OfType.{OfType, of_whole, of_real, of_number, of_boolean, of_logical, of_text, of_binary, of_entity, of_alias, of_items, of_chosen_instance, of_chosen_type, of_array, of_list, of_set, of_bag, EachOf, of_none, of_next, of_empty, missing-of_none}
 use Rattle.p21_value_text.proofs.SameFromTexts.{same-from_text}
 use Rattle.p21_value_text.proofs.Sorting.{insert-swap, AreMembers, NoneTwice, sort-members}
-use Rattle.p21_value_text.specs.Sorting.{insert_text, sort_texts}
-use Rattle.p21_value_text.specs.ValueText.{type_name, list_text, value_text, value_texts}
+use Rattle.p21_files.specs.Sorting.{insert_text, sort_texts}
+use Rattle.p21_files.specs.ValueText.{type_name, list_text, value_text, value_texts}
 
 -- ---- where each element has the text of the values that it is the same as
 

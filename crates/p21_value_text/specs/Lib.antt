@@ -1,4 +1,2 @@
 pub mod FileLaws
-pub mod Sorting
-pub mod ValueText
 pub mod ValueLaws

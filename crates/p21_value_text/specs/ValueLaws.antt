@@ -11,7 +11,7 @@ use Rattle.p21_files.specs.SameValue.{Same}
 use Rattle.p21_schemas.specs.Schema.{Schema, TypeNamed}
 use Rattle.p21_exchange.specs.Token.{Token, Spells}
 use Rattle.p21_files.specs.Value.{Value}
-use Rattle.p21_value_text.specs.ValueText.{value_text}
+use Rattle.p21_files.specs.ValueText.{value_text}
 
 -- no two types have one name
 abbrev pub HasDistinctTypes : Schema → Type 0

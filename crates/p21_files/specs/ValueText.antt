@@ -4,7 +4,7 @@ use Rattle.p21_schemas.specs.Schema.{Schema}
 use Rattle.p21_exchange.specs.Spelling.{spelling}
 use Rattle.p21_exchange.specs.Token as token
 use Rattle.p21_files.specs.Value.{Value, whole, real, number, text, bits, item, reference, derived, missing, list, array, set, bag, typed, Values, no_values, value}
-use Rattle.p21_value_text.specs.Sorting.{sort_texts}
+use Rattle.p21_files.specs.Sorting.{sort_texts}
 
 -- the name of the type of this number
 abbrev pub type_name : Schema → ℕ → List ℕ
