@@ -8,16 +8,16 @@ use Rattle.p21_files.specs.BrokenRule.{Breaks, unknown_entity, abstract_leaf, pa
 use Rattle.p21_files.specs.Meaning.{NamesEntity}
 use Rattle.p21_exchange.specs.Parameter.{dollar, real, whole, Params, no_params, param, key_of}
 use Rattle.p21_exchange.specs.Record.{Part, Record, simple, complex}
-use Rattle.p21_files.specs.RecordPlaces.{IsInSet}
-use Rattle.p21_schemas.specs.Supertype.{IsA, itself}
+use Rattle.p21_files.specs.RecordPlaces.{HasPart}
+use Rattle.p21_schemas.specs.Supertype.{IsA, itself, InClosure}
 use Rattle.p21_files.proofs.BrokenRules.{broken-means_nothing}
 use Rattle.p21_schemas.proofs.DeclaredSchemas.{declared-well_formed, names_of_all, distinct_names-entities}
 use Rattle.p21_files.proofs.MeaningExamples.{demo-distinct, named, one, two, nought, origin_set, origin-is, origin-closed, origin-x}
 use Rattle.p21_basics.proofs.Members.{Each-at, Each-member}
-use Rattle.p21_files.proofs.OneOfExamples.{a_b_s, s_c_a, a_c_meaning, a_b_meaning, a-named, b-named, s-named, a_and_c-mean, a_and_b-mean_without_list}
+use Rattle.p21_files.proofs.OneOfExamples.{a_b_s, s_c_a, a_c_meaning, a_b_meaning, a-named, b-named, s-named, with_s-closed, a_and_c-mean, a_and_b-mean_without_list}
 use Rattle.p21_schemas.proofs.OrderExamples.{point-is_shape, demo-is_a}
-use Rattle.p21_schemas.proofs.PlaceTypeExamples.{redecl-two}
-use Rattle.p21_files.proofs.RecordSets.{internal-set, external-set}
+use Rattle.p21_schemas.proofs.PlaceTypeExamples.{redecl-is_a, redecl-two}
+use Rattle.p21_files.proofs.RecordSets.{internal-set, closed-set}
 use Rattle.p21_schemas.proofs.SoleSchema.{a_b_list, sole, sole_with, sole_tree, a_or_b, andor_c, sole-declares, andor-declares}
 use Rattle.p21_schemas.proofs.TestSchemas.{demo, shape, point, origin, x_place, redecl, k_place}
 
@@ -47,13 +47,16 @@ shape-breaks = abstract_leaf (0 ∷ [], 0, internal-set demo (distinct_names-ent
 abbrev lone_point : Record
 lone_point = complex (part_of (codes "POINT") (param (real one) (param (real two) no_params)) ∷ [])
 
+abbrev point_part : Part
+point_part = part_of (codes "POINT") (param (real one) (param (real two) no_params))
+
 pub lone_point-breaks : Breaks demo lone_point 43
-lone_point-breaks = part_missing (1, 0, (part_of (codes "POINT") (param (real one) (param (real two) no_params)), (0, omega arith, refl), (codes "POINT", (point, refl, refl), refl)), point-is_shape, no_shape)
+lone_point-breaks = part_missing (0, (point_part, 1, ((0, omega arith, refl), (codes "POINT", (point, refl, refl), refl)), point-is_shape), no_shape)
   where
-    no_shape : IsInSet demo lone_point 0 → ⊥
-    no_shape (part, among, shape_named) =
+    no_shape : (part : Part) → HasPart demo lone_point part 0 → ⊥
+    no_shape part (among, shape_named) =
         let P : Part → Type 0 = λ x. NamesEntity demo x.key 0 in
-        let is : part_of (codes "POINT") (param (real one) (param (real two) no_params)) ≡ part = Each-member (λ x. x ≡ part → part_of (codes "POINT") (param (real one) (param (real two) no_params)) ≡ part) (part_of (codes "POINT") (param (real one) (param (real two) no_params)) ∷ []) part (λ h. h, tt) among refl in
+        let is : point_part ≡ part = Each-member (λ x. point_part ≡ x) (point_part ∷ []) part (refl, tt) among in
         let h : 0 ≡ 1 = named (codes "POINT") 1 0 (point, refl, refl) (subst P (sym is) shape_named) in omega (arith, h)
 
 -- `(SHAPE($)SHAPE($))`
@@ -76,12 +79,25 @@ redecl-distinct : IsDistinct bytes_eq (names_of_all redecl)
 unfolding IsDistinct
 redecl-distinct = search rules
 
-pub both-break : Breaks redecl (complex (part_of (codes "R") (param (whole (pos 1)) no_params) ∷ part_of (codes "A") no_params ∷ part_of (codes "B") no_params ∷ [])) 55
-both-break = open_place (0 ∷ 1 ∷ 2 ∷ [], 0, k_place, external-set redecl (distinct_names-entities redecl redecl-distinct) (part_of (codes "R") (param (whole (pos 1)) no_params) ∷ part_of (codes "A") no_params ∷ part_of (codes "B") no_params ∷ []) (0 ∷ 1 ∷ 2 ∷ []) ((codes "R", (_, refl, refl), refl), ((codes "A", (_, refl, refl), refl), ((codes "B", (_, refl, refl), refl), tt))), (0, omega arith, refl), (0, omega arith, refl), redecl-two)
+abbrev both_parts : List Part
+both_parts = part_of (codes "R") (param (whole (pos 1)) no_params) ∷ part_of (codes "A") no_params ∷ part_of (codes "B") no_params ∷ []
+
+redecl-closed : (f : ℕ) → InClosure redecl (0 ∷ 1 ∷ 2 ∷ []) f → Contains (0 ∷ 1 ∷ 2 ∷ []) f
+redecl-closed f (e, among, up) = elim (redecl-is_a e f up) [ inl h ↦ subst (λ g. Contains (0 ∷ 1 ∷ 2 ∷ []) g) (sym h) among | inr h ↦ (0, omega arith, sym h) ]
+
+pub both-break : Breaks redecl (complex both_parts) 55
+both-break = open_place (0 ∷ 1 ∷ 2 ∷ [], 0, k_place, closed-set redecl (distinct_names-entities redecl redecl-distinct) both_parts (0 ∷ 1 ∷ 2 ∷ []) ((codes "R", (_, refl, refl), refl), ((codes "A", (_, refl, refl), refl), ((codes "B", (_, refl, refl), refl), tt))) redecl-closed, (0, omega arith, refl), (0, omega arith, refl), redecl-two)
 
 -- `(A()B()S(1))` under SOLE, but it breaks nothing with `(ONEOF (a, b) ANDOR c)`, nor does `(S(1)C()A())`
+abbrev a_b_s_parts : List Part
+a_b_s_parts = part_of (codes "A") no_params ∷ part_of (codes "B") no_params ∷ part_of (codes "S") (param (whole (pos 1)) no_params) ∷ []
+
 pub a_and_b-break : Breaks sole a_b_s 58
-a_and_b-break = one_of (1 ∷ 2 ∷ 0 ∷ [], external-set sole (declared-well_formed (sole_tree a_or_b) sole sole-declares).entities_distinct (part_of (codes "A") no_params ∷ part_of (codes "B") no_params ∷ part_of (codes "S") (param (whole (pos 1)) no_params) ∷ []) (1 ∷ 2 ∷ 0 ∷ []) (a-named a_b_list, (b-named a_b_list, (s-named a_b_list, tt))), (1 ∷ 2 ∷ [], (0, omega arith, refl), (1, 2, (0, omega arith, refl), (1, omega arith, refl), omega arith, (0, omega arith, refl), (1, omega arith, refl))))
+a_and_b-break = one_of (
+  1 ∷ 2 ∷ 0 ∷ [],
+  closed-set sole (declared-well_formed (sole_tree a_or_b) sole sole-declares).entities_distinct a_b_s_parts (1 ∷ 2 ∷ 0 ∷ []) (a-named a_b_list, (b-named a_b_list, (s-named a_b_list, tt))) (with_s-closed a_b_list (1 ∷ 2 ∷ 0 ∷ []) (2, omega arith, refl)),
+  (1 ∷ 2 ∷ [], (0, omega arith, refl), (1, 2, (0, omega arith, refl), (1, omega arith, refl), omega arith, (0, omega arith, refl), (1, omega arith, refl))),
+)
 
 pub a_and_b-break_nothing : (number : ℕ) → Breaks (sole_with []) a_b_s number → ⊥
 a_and_b-break_nothing number breaks = broken-means_nothing (sole_with []) (declared-well_formed (sole_tree andor_c) (sole_with []) andor-declares) a_b_s number breaks [] a_b_meaning (a_and_b-mean_without_list [])

@@ -15,17 +15,16 @@ use Rattle.p21_exchange.specs.Parameter.{Param, listed}
 use Rattle.p21_files.specs.ParameterKind.{HasItems, of_boolean, of_logical, of_enumeration, HasWidth, AllowsCount}
 use Rattle.p21_schemas.specs.PlaceType.{PlaceType, derived_place, stored_place, two_redeclarations, TypeAt}
 use Rattle.p21_exchange.specs.Record.{Part, Record, simple, complex, parts_of}
-use Rattle.p21_files.specs.RecordPlaces.{IsInSet, part_places}
+use Rattle.p21_files.specs.RecordPlaces.{part_places}
 use Rattle.p21_files.specs.Reference.{Kinds}
 use Rattle.p21_files.specs.SameValue.{AreDistinct}
 use Rattle.p21_schemas.specs.Schema as schema
 use Rattle.p21_schemas.specs.Schema.{Schema, TypeUse, Place, alias, items, kind_of}
-use Rattle.p21_schemas.specs.Supertype.{IsA, itself, above}
 use Rattle.p21_files.specs.Value.{Value}
 use Rattle.p21_schemas.proofs.DeclaredSchemas.{IsWellFormed}
 use Rattle.p21_exchange.proofs.Exponents.{in_range_of_same}
 use Rattle.p21_files.proofs.FitsWider.{each-wider}
-use Rattle.p21_basics.proofs.Members.{Each-member, Each-at, AllZip-member}
+use Rattle.p21_basics.proofs.Members.{Each-member, Each-at, AllZip-member, AllZip-second_member}
 use Rattle.p21_files.proofs.OneMeaning.{NamesEntity-one}
 use Rattle.p21_files.proofs.OneValue.{FitEach-one_value, dollar-fits_nothing}
 use Rattle.p21_schemas.proofs.PlaceTypes.{TypeAt-one}
@@ -67,18 +66,12 @@ abstract-means_nothing s formed kinds r m (entities, e, set_is, leaf, is_abstrac
     let same = set-members s formed kinds r m entities means set_is in
     means.no_abstract_leaf e ((same e).0 leaf.0, λ f among is. leaf.1 f ((same f).1 among) is) is_abstract
 
-pub IsA-transitive : (s : Schema) (e f g : ℕ) → IsA s e f → IsA s f g → IsA s e g
-IsA-transitive s e f g (itself _) up = up
-IsA-transitive s e f g (above _ next _ among more) up = above e next g among (IsA-transitive s next f g more up)
-
 part_missing-means_nothing : (s : Schema) → IsWellFormed s → (kinds : Kinds) (r : Record) (m : Typed) → MissesPart s r → RecordMeans s kinds r m → ⊥
-part_missing-means_nothing s formed kinds r m (e, f, in_set, up, missing_) means = by r in_set missing_ means.means
-  where
-    by : (r : Record) → IsInSet s r e → ¬ IsInSet s r f → MeansByMapping s kinds r m → ⊥
-    by (simple part) (x, named, is) missing_ means = missing_ (x, named, IsA-transitive s x e f is up)
-    by (complex parts) in_set missing_ means =
-        let set = meaning-set s formed kinds (complex parts) m means in
-        missing_ ((set f).0 ((means.same_entities f).0 (means.closed f (e, (means.same_entities e).1 ((set e).1 in_set), up))))
+part_missing-means_nothing s formed kinds (simple part) m missing_ means = missing_
+part_missing-means_nothing s formed kinds (complex parts) m (f, in_set, missing_) means =
+    let among = (means.means.same_entities f).1 ((meaning-set s formed kinds (complex parts) m means.means f).1 in_set) in
+    let (part, has, part_means) = AllZip-second_member (PartMeans s kinds m) parts means.means.entities f means.means.parts_mean among in
+    missing_ part (has, part_means.0)
 
 -- what stands at a number beside another
 AllZip-at : {X Y : Type 0} (R : X → Y → Type 0) (xs : List X) (ys : List Y) (i : ℕ) (x : X) → AllZip R xs ys → slice_get xs i ≡ Some x → (y : Y) × (slice_get ys i ≡ Some y) × R x y

@@ -8,7 +8,7 @@ use Rattle.p21_files.specs.Canonical.{Canonical}
 use Rattle.p21_exchange.specs.CanonicalText.{line}
 use Rattle.p21_exchange.specs.DataSection.{unnamed}
 use Rattle.p21_files.specs.File.{FileMeaning, Reads}
-use Rattle.p21_exchange.specs.Grammar.{InGrammar}
+use Rattle.p21_exchange.specs.Grammar.{InGrammar, IsFile}
 use Rattle.p21_exchange.specs.Header.{IsHeader}
 use Rattle.p21_files.specs.Held.{IsHeld}
 use Rattle.p21_exchange.specs.Laying.{LaidAs, Laid, AreStatementsWithin, open_bytes}
@@ -106,8 +106,11 @@ demo-header =
       are_further = tt;
     }
 
+pub demo-is_file : IsFile demo (codes "DEMO")
+demo-is_file = record { header = demo-header; shallow_header = (lit≤ tt, (lit≤ tt, (lit≤ tt, tt))); headings_are = tt; data_records = tt }
+
 abbrev demo-in_grammar : InGrammar demo_bytes demo (codes "DEMO")
-demo-in_grammar = record { laid = demo-laid; is_file = record { header = demo-header; shallow_header = (lit≤ tt, (lit≤ tt, (lit≤ tt, tt))); headings_are = tt; data_records = tt } }
+demo-in_grammar = record { laid = demo-laid; is_file = demo-is_file }
 
 -- each statement has at most 36 token bytes, and one has more than 35
 demo-within : AreStatementsWithin 36 0 demo_laying.lexemes
@@ -127,6 +130,8 @@ demo-held s =
       depth = record { opened = []; open_statement = record { ended = tokens_of demo; given_are = refl; ends = refl; no_semicolon = tt }; depth_is = refl };
       statements = statements demo;
       structure = demo;
+      schema_text = codes "DEMO";
+      is_file = demo-is_file;
       are_first = ([], refl);
       ended_are = refl;
       kept = (58, refl, (22, refl, (0, refl, refl)));

@@ -13,7 +13,7 @@ use Rattle.p21_schemas.specs.Schema.{Schema}
 use Rattle.p21_exchange.specs.Statement.{Statement, section, header, begin, header_start, section_end, data_start, finish, statement_tokens}
 use Rattle.p21_exchange.specs.Token.{name, equals, keyword}
 use Rattle.p21_exchange.proofs.CanonicalLaying.{Laying, put, put_on_line, put_left, put_right, put_comma, put_section, no_dash_left}
-use Rattle.p21_files.proofs.DemoExample.{demo, description, file_name, file_schema, header_lines}
+use Rattle.p21_files.proofs.DemoExample.{demo, demo-is_file, description, file_name, file_schema, header_lines}
 use Rattle.p21_exchange.proofs.Laying.{keyword_by, left_ends_words, up_to}
 
 abbrev demo_open : List ℕ
@@ -58,6 +58,8 @@ demo_open-held s = record {
   depth = record { opened = tokens_in open_instance.lexemes; open_statement = record { ended = flat_map statement_tokens taken; given_are = refl; ends = refl; no_semicolon = none }; depth_is = refl };
   statements = taken;
   structure = demo;
+  schema_text = codes "DEMO";
+  is_file = demo-is_file;
   are_first = (section section_end ∷ section finish ∷ [], refl);
   ended_are = refl;
   kept = (58, refl, (22, refl, (0, refl, refl)));

@@ -1,5 +1,5 @@
 -- What is held of a file of the schema DEMO behind `DATA('a',('DEMO'));`: the section line is not kept.
-use Rattle.std.proofs.Common.{◌≡◌, ℕ, ◌+◌, List, [], ◌∷◌, refl, subst, arith}
+use Rattle.std.proofs.Common.{◌≡◌, ℕ, ◌+◌, List, [], ◌∷◌, refl, subst, arith, lit≤}
 use Rattle.std.specs.Prelude.{codes}
 use Rattle.std.specs.List.{flat_map}
 use Rattle.p21_exchange.specs.DataSection.{named}
@@ -10,7 +10,7 @@ use Rattle.p21_schemas.specs.Schema.{Schema}
 use Rattle.p21_exchange.specs.Statement.{Statement, section, header, begin, header_start, section_end, data_start, finish, statement_tokens}
 use Rattle.p21_exchange.specs.Structure.{Structure}
 use Rattle.p21_exchange.proofs.CanonicalLaying.{Laying, end, put_left, put_right, put_semicolon, put_record, put_text_comma, put_text_right}
-use Rattle.p21_files.proofs.DemoExample.{description, file_name, file_schema, header_lines}
+use Rattle.p21_files.proofs.DemoExample.{demo-header, description, file_name, file_schema, header_lines}
 use Rattle.p21_files.proofs.HeldStatements.{held_statements-one}
 use Rattle.p21_exchange.proofs.Laying.{up_to}
 
@@ -37,6 +37,8 @@ named-held s = record {
   depth = record { opened = []; open_statement = record { ended = flat_map statement_tokens taken; given_are = refl; ends = refl; no_semicolon = tt }; depth_is = refl };
   statements = taken;
   structure = structure;
+  schema_text = codes "DEMO";
+  is_file = record { header = demo-header; shallow_header = (lit≤ tt, (lit≤ tt, (lit≤ tt, tt))); headings_are = tt; data_records = tt };
   are_first = (section section_end ∷ section finish ∷ [], refl);
   ended_are = refl;
   kept = (58, refl, (22, refl, (0, refl, refl)));

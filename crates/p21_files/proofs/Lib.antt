@@ -6,6 +6,7 @@ mod GrammarExamples
 mod HeldDemo
 mod HeldNamed
 mod KeptExamples
+mod LeftOutParts
 mod MeaningExamples
 mod NamedExample
 mod NamedPoints

@@ -92,7 +92,7 @@ c-named : (lists : List (List ℕ)) → NamesEntity (sole_with lists) (key_of (c
 c-named lists = (codes "C", (below_s (codes "C"), refl, refl), refl)
 
 -- a set with S is its own closure
-with_s-closed : (lists : List (List ℕ)) (entities : List ℕ) → Contains entities 0 → (f : ℕ) → InClosure (sole_with lists) entities f → Contains entities f
+pub with_s-closed : (lists : List (List ℕ)) (entities : List ℕ) → Contains entities 0 → (f : ℕ) → InClosure (sole_with lists) entities f → Contains entities f
 with_s-closed lists entities has_s f (e, among, is) = elim (sole-is_a lists e f is) [ inl h ↦ subst (λ g. Contains entities g) (sym h) among | inr h ↦ subst (λ g. Contains entities g) (sym h) has_s ]
 
 -- `(A()B()S(1))` means nothing

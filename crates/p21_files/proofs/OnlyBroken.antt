@@ -15,7 +15,6 @@ use Rattle.p21_files.specs.RecordPlaces.{part_places, StandsAt}
 use Rattle.p21_schemas.specs.Schema as schema
 use Rattle.p21_schemas.specs.Schema.{Schema, TypeUse, Place, Redeclared}
 use Rattle.p21_files.proofs.BrokenExamples.{with_type, e_of, p_place, e-named, e-set, e-type}
-use Rattle.p21_files.proofs.BrokenRules.{IsA-transitive}
 use Rattle.p21_basics.proofs.Members.{Contains-none, Each-at, Each-member}
 use Rattle.p21_schemas.proofs.PlaceTypes.{RedeclaresOnce, TypeAt-one}
 use Rattle.p21_files.proofs.RecordSets.{TypeAt-members}
@@ -95,7 +94,7 @@ only_kind-breaks number (wrong_kind broken) = refl
 only_kind-breaks number (number_range (z, held, out_of_range)) = let h : schema.number ≡ schema.real = (held-only schema.number (parameter.whole z) held).0 in cc
 only_kind-breaks number (unknown_entity (part, among, unknown)) = let P : Part → Type 0 = λ x. NamesEntity s x.key 0 in absurd (unknown 0 (subst P (only_part part among) (e-named schema.real)))
 only_kind-breaks number (abstract_leaf (entities, e, set_is, leaf, (x, at, is))) = let h : x.is_abstract ≡ false = Each-at (λ y. y.is_abstract ≡ false) s.entities e x (refl, tt) at in cc
-only_kind-breaks number (part_missing (e, f, (x, named, is), up, missing_)) = absurd (missing_ (x, named, IsA-transitive s x e f is up))
+only_kind-breaks number (part_missing missing_) = absurd missing_
 only_kind-breaks number (part_twice (i, j, part, other, differ, at, at_, same)) = absurd (differ (first i part at ∙ sym (first j other at_)))
   where
     first : (k : ℕ) (x : Part) → slice_get (e_part ∷ []) k ≡ Some x → k ≡ 0

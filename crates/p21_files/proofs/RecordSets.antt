@@ -10,47 +10,62 @@ use Rattle.p21_exchange.specs.Record.{Part, Record, simple, complex}
 use Rattle.p21_files.specs.RecordPlaces.{HasPart, IsInSet, IsSetOf, part_places, StandsAt}
 use Rattle.p21_files.specs.Reference.{Kinds}
 use Rattle.p21_schemas.specs.Schema.{Schema, Place, Redeclared}
-use Rattle.p21_schemas.specs.Supertype.{IsA}
+use Rattle.p21_schemas.specs.Supertype.{IsA, itself, InClosure}
 use Rattle.p21_schemas.proofs.DeclaredSchemas.{IsWellFormed, HasDistinctEntities}
-use Rattle.p21_basics.proofs.Members.{Contains-none, Contains-cases, AllZip-member, AllZip-second_member}
+use Rattle.p21_basics.proofs.Members.{Contains-none, Contains-first, Contains-cases, Each-member, AllZip-member, AllZip-second_member}
 use Rattle.p21_files.proofs.OneMeaning.{NamesEntity-one}
 
 -- two lists have the same members
 abbrev pub HaveSameMembers : List ℕ → List ℕ → Type 0
 HaveSameMembers es fs = (f : ℕ) → Contains es f ↔ Contains fs f
 
--- the set of what a record means is that of the record
-pub meaning-set : (s : Schema) → IsWellFormed s → (kinds : Kinds) (r : Record) (m : Typed) → MeansByMapping s kinds r m → IsSetOf s r m.entities
-meaning-set s formed kinds (simple part) m means f = (λ among. (means.entity, means.named, (means.closure f).0 among), back)
-  where
-    back : IsInSet s (simple part) f → Contains m.entities f
-    back (e, named, is) = let P : ℕ → Type 0 = λ x. IsA s x f in (means.closure f).1 (subst P (NamesEntity-one s formed.entities_distinct part.key e means.entity named means.named) is)
-meaning-set s formed kinds (complex parts) m means f = (onto, back)
-  where
-    onto : Contains m.entities f → IsInSet s (complex parts) f
-    onto among = let (part, among_, part_means) = AllZip-second_member (PartMeans s kinds m) parts means.entities f means.parts_mean ((means.same_entities f).1 among) in (part, among_, part_means.0)
-
-    back : IsInSet s (complex parts) f → Contains m.entities f
-    back (part, among, named) =
-        let (e, among_, part_means) = AllZip-member (PartMeans s kinds m) parts means.entities part means.parts_mean among in
-        let P : ℕ → Type 0 = λ x. Contains means.entities x in
-        (means.same_entities f).0 (subst P (NamesEntity-one s formed.entities_distinct part.key e f part_means.0 named) among_)
+-- a simple record has one simple record
+only-part : (only part : Part) → Contains (only ∷ []) part → only ≡ part
+only-part only part among = Each-member (λ x. only ≡ x) (only ∷ []) part (refl, tt) among
 
 -- in internal mapping the closure of the named entity is the set, whatever the parameters
 pub internal-set : (s : Schema) → HasDistinctEntities s → (part : Part) (e : ℕ) (entities : List ℕ) → NamesEntity s part.key e → ((f : ℕ) → Contains entities f ↔ IsA s e f) → IsSetOf s (simple part) entities
-internal-set s distinct part e entities named closure f = (λ among. (e, named, (closure f).0 among), back)
+internal-set s distinct part e entities named closure f = (λ among. (part, e, (Contains-first part [], named), (closure f).0 among), back)
   where
     back : IsInSet s (simple part) f → Contains entities f
-    back (x, named_, is) = let P : ℕ → Type 0 = λ y. IsA s y f in (closure f).1 (subst P (NamesEntity-one s distinct part.key x e named_ named) is)
+    back (other, x, (among, named_), up) =
+        let P : Part → Type 0 = λ y. NamesEntity s y.key x in
+        let Q : ℕ → Type 0 = λ y. IsA s y f in
+        (closure f).1 (subst Q (NamesEntity-one s distinct part.key x e (subst P (sym (only-part part other among)) named_) named) up)
 
--- in external mapping the named entities are
-pub external-set : (s : Schema) → HasDistinctEntities s → (parts : List Part) (entities : List ℕ) → AllZip (λ (part : Part) e. NamesEntity s part.key e) parts entities → IsSetOf s (complex parts) entities
-external-set s distinct parts entities named f = (λ among. AllZip-second_member (λ (part : Part) e. NamesEntity s part.key e) parts entities f named among, back)
+-- in external mapping the closure of the named entities is
+pub external-set : (s : Schema) → HasDistinctEntities s → (parts : List Part) (named entities : List ℕ) → AllZip (λ (part : Part) e. NamesEntity s part.key e) parts named → ((f : ℕ) → Contains entities f ↔ InClosure s named f) → IsSetOf s (complex parts) entities
+external-set s distinct parts named entities are_named closure f = (onto, back)
   where
+    onto : Contains entities f → IsInSet s (complex parts) f
+    onto among =
+        let (e, among_, up) = (closure f).0 among in
+        let (part, has, is) = AllZip-second_member (λ (x : Part) y. NamesEntity s x.key y) parts named e are_named among_ in
+        (part, e, (has, is), up)
+
     back : IsInSet s (complex parts) f → Contains entities f
-    back (part, among, named_) =
-        let (e, among_, is) = AllZip-member (λ (x : Part) y. NamesEntity s x.key y) parts entities part named among in
-        let P : ℕ → Type 0 = λ x. Contains entities x in subst P (NamesEntity-one s distinct part.key e f is named_) among_
+    back (part, e, (among, named_), up) =
+        let (x, among_, is) = AllZip-member (λ (x : Part) y. NamesEntity s x.key y) parts named part are_named among in
+        let P : ℕ → Type 0 = λ y. Contains named y in
+        (closure f).1 (e, subst P (NamesEntity-one s distinct part.key x e is named_) among_, up)
+
+-- the named entities themselves, where they are their own closure
+pub closed-set : (s : Schema) → HasDistinctEntities s → (parts : List Part) (named : List ℕ) → AllZip (λ (part : Part) e. NamesEntity s part.key e) parts named → ((f : ℕ) → InClosure s named f → Contains named f) → IsSetOf s (complex parts) named
+closed-set s distinct parts named are_named closed = external-set s distinct parts named named are_named (λ f. (λ among. (f, among, itself f), closed f))
+
+-- the set of what a record means is that of the record
+pub meaning-set : (s : Schema) → IsWellFormed s → (kinds : Kinds) (r : Record) (m : Typed) → MeansByMapping s kinds r m → IsSetOf s r m.entities
+meaning-set s formed kinds (simple part) m means f = internal-set s formed.entities_distinct part means.entity m.entities means.named means.closure f
+meaning-set s formed kinds (complex parts) m means f = (onto, back)
+  where
+    onto : Contains m.entities f → IsInSet s (complex parts) f
+    onto among = let (part, among_, part_means) = AllZip-second_member (PartMeans s kinds m) parts means.entities f means.parts_mean ((means.same_entities f).1 among) in (part, f, (among_, part_means.0), itself f)
+
+    back : IsInSet s (complex parts) f → Contains m.entities f
+    back (part, e, (among, named), up) =
+        let (x, among_, part_means) = AllZip-member (PartMeans s kinds m) parts means.entities part means.parts_mean among in
+        let P : ℕ → Type 0 = λ y. Contains means.entities y in
+        (means.same_entities f).0 (means.closed f (e, subst P (NamesEntity-one s formed.entities_distinct part.key x e part_means.0 named) among_, up))
 
 -- so each list of the set of a record has the members of the set of what it means
 pub set-members : (s : Schema) → IsWellFormed s → (kinds : Kinds) (r : Record) (m : Typed) (entities : List ℕ) → RecordMeans s kinds r m → IsSetOf s r entities → HaveSameMembers entities m.entities

@@ -12,14 +12,14 @@ use Rattle.p21_exchange.specs.Parameter as parameter
 use Rattle.p21_exchange.specs.Parameter.{Param, Params, listed}
 use Rattle.p21_files.specs.ParameterKind.{TakesKind, HasItems, HasWidth, AllowsCount, element_type, IsUnique}
 use Rattle.p21_schemas.specs.PlaceType.{derived_place, two_redeclarations, TypeAt}
-use Rattle.p21_exchange.specs.Record.{Part, Record, parts_of}
+use Rattle.p21_exchange.specs.Record.{Part, Record, simple, complex, parts_of}
 use Rattle.p21_files.specs.RecordPlaces.{HasPart, IsInSet, IsSetOf, part_places, StandsAt}
 use Rattle.p21_files.specs.Reference.{Kinds}
 use Rattle.p21_files.specs.SameValue.{AreDistinct}
 use Rattle.p21_schemas.specs.Schema as schema
 use Rattle.p21_schemas.specs.Schema.{Schema, TypeUse, Place, IsAbstract}
 use Rattle.p21_schemas.specs.Select.{IsSelect}
-use Rattle.p21_schemas.specs.Supertype.{IsA, IsLeaf}
+use Rattle.p21_schemas.specs.Supertype.{IsLeaf}
 use Rattle.p21_files.specs.Value.{Values}
 
 -- an INTEGER token stands at a NUMBER, and its normalised exponent is out of range
@@ -34,9 +34,10 @@ HasUnknownEntity s record_ = (part : Part) × Contains (parts_of record_) part �
 abbrev pub HasAbstractLeaf : Schema → Record → Type 0
 HasAbstractLeaf s record_ = (entities : List ℕ) × (e : ℕ) × IsSetOf s record_ entities × IsLeaf s entities e × IsAbstract s e
 
--- a supertype of an entity of the set is not of the set, so its simple record is missing
+-- in external mapping no simple record has a keyword that names this entity of the set
 abbrev pub MissesPart : Schema → Record → Type 0
-MissesPart s record_ = (e f : ℕ) × IsInSet s record_ e × IsA s e f × ¬ IsInSet s record_ f
+MissesPart s (simple part) = ⊥
+MissesPart s (complex parts) = (f : ℕ) × IsInSet s (complex parts) f × ((part : Part) → ¬ HasPart s (complex parts) part f)
 
 -- two simple records have one keyword
 abbrev pub HasPartTwice : Record → Type 0

@@ -3,6 +3,7 @@
 use Rattle.std.specs.Prelude.{◌≡◌, ℕ, List, [], length}
 use Rattle.std.specs.List.{flat_map}
 use Rattle.p21_files.specs.Kept.{AreKept}
+use Rattle.p21_exchange.specs.Grammar.{IsFile}
 use Rattle.p21_exchange.specs.Laying.{tokens_in}
 use Rattle.p21_exchange.specs.OpenNesting.{IsDepth}
 use Rattle.p21_exchange.specs.Pending.{IsPending}
@@ -23,13 +24,15 @@ abbrev pub statement_references : Statement → List ℕ
 statement_references (instance n record_) = record_references record_
 statement_references other = []
 
--- What is held of the bytes taken: of the statements that they end, which are the first of those of some tree, and of the
--- one that they leave open
+-- What is held of the bytes taken: of the statements that they end, which are the first of those of some tree that a file
+-- may have, and of the one that they leave open
 pub record IsHeld (s : Schema) (taken : List ℕ) (held : Held) : Type 0 where
   pub pending : IsPending taken held.pending
   pub depth : IsDepth (tokens_in pending.lexemes) held.depth
   pub statements : List Statement
   pub structure : Structure
+  pub schema_text : List ℕ
+  pub is_file : IsFile structure schema_text
   pub are_first : AreFirst statements structure
   pub ended_are : depth.open_statement.ended ≡ flat_map statement_tokens statements
   pub kept : AreKept s statements held.kept

@@ -13,10 +13,9 @@ use Rattle.p21_schemas.specs.Supertype.{IsA}
 abbrev pub HasPart : Schema → Record → Part → ℕ → Type 0
 HasPart s record_ part e = Contains (parts_of record_) part × NamesEntity s part.key e
 
--- in internal mapping the entity that is named and its supertypes, in external mapping the entities that are named
+-- the entities that its keywords name, and all direct and indirect supertypes of them
 abbrev pub IsInSet : Schema → Record → ℕ → Type 0
-IsInSet s (simple part) f = (e : ℕ) × NamesEntity s part.key e × IsA s e f
-IsInSet s (complex parts) f = (part : Part) × Contains parts part × NamesEntity s part.key f
+IsInSet s record_ f = (part : Part) × (e : ℕ) × HasPart s record_ part e × IsA s e f
 
 -- the entities are the set of the record
 abbrev pub IsSetOf : Schema → Record → List ℕ → Type 0

@@ -33,9 +33,10 @@ redecl-type_at_a = (not_derived (0 ∷ 1 ∷ []), inl (k_as schema.whole, (1, in
     below : (f : ℕ) → Contains (0 ∷ 1 ∷ []) f → IsA redecl 1 f
     below f among = Each-member (IsA redecl 1) (0 ∷ 1 ∷ []) f (above 1 0 0 (0, omega arith, refl) (itself 0), (itself 1, tt)) among
 
-is_a : (sub sup : ℕ) → IsA redecl sub sup → (sup ≡ sub) ⊎ (sup ≡ 0)
-is_a sub sup (itself e) = inl refl
-is_a sub sup (above _ next _ among up) = inr (elim (is_a next sup up) [ inl h ↦ h ∙ parent sub next among | inr h ↦ h ])
+-- an entity is itself or R
+pub redecl-is_a : (sub sup : ℕ) → IsA redecl sub sup → (sup ≡ sub) ⊎ (sup ≡ 0)
+redecl-is_a sub sup (itself e) = inl refl
+redecl-is_a sub sup (above _ next _ among up) = inr (elim (redecl-is_a next sup up) [ inl h ↦ h ∙ parent sub next among | inr h ↦ h ])
   where
     parent : (sub next : ℕ) → Contains (supertypes_of redecl sub) next → next ≡ 0
     parent zero next among = absurd (Contains-none next among)
@@ -55,8 +56,8 @@ redecl-two = (not_derived (0 ∷ 1 ∷ 2 ∷ []), (1, k_as schema.whole, a_in), 
 
     neither : (r : Redeclared) → Decides redecl (0 ∷ 1 ∷ 2 ∷ []) k_place r → ⊥
     neither r (e, found, below) = elim (redeclared e r found.1) [
-      | inl h ↦ elim (is_a e 2 (below 2 (k_as schema.real) b_in)) [ inl two ↦ omega (arith, two, h.0) | inr two ↦ omega (arith, two) ]
-      | inr h ↦ elim (is_a e 1 (below 1 (k_as schema.whole) a_in)) [ inl one ↦ omega (arith, one, h.0) | inr one ↦ omega (arith, one) ]
+      | inl h ↦ elim (redecl-is_a e 2 (below 2 (k_as schema.real) b_in)) [ inl two ↦ omega (arith, two, h.0) | inr two ↦ omega (arith, two) ]
+      | inr h ↦ elim (redecl-is_a e 1 (below 1 (k_as schema.whole) a_in)) [ inl one ↦ omega (arith, one, h.0) | inr one ↦ omega (arith, one) ]
     ]
 
 -- A derives the K of R, and B, a subtype of A, redeclares it as an INTEGER: it is derived

@@ -11,6 +11,11 @@ abbrev pub RedeclaresOnce : Schema → Type 0
 RedeclaresOnce s = (e : ℕ) (r q : Redeclared) → Redeclares s e r → Redeclares s e q → r.place ≡ q.place → r ≡ q
 
 -- a proper supertype has a lower rank
+-- a supertype of a supertype is one
+pub IsA-transitive : (s : Schema) (e f g : ℕ) → IsA s e f → IsA s f g → IsA s e g
+IsA-transitive s e f g (itself _) up = up
+IsA-transitive s e f g (above _ next _ among more) up = above e next g among (IsA-transitive s next f g more up)
+
 IsA-falls : (s : Schema) (ends : HasNoCircle (HasSupertype s)) (e f : ℕ) → IsA s e f → (e ≡ f) ⊎ (ends.0 f < ends.0 e)
 IsA-falls s ends e f (itself _) = inl refl
 IsA-falls s ends e f (above _ next _ up more) = let first : ends.0 next < ends.0 e = ends.1 e next up in inr (elim (IsA-falls s ends next f more) [
