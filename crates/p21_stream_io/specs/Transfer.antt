@@ -1,0 +1,11 @@
+-- What writing a whole text does to the bytes that a writer holds, where they are known.
+use Rattle.std.specs.Prelude.{Option, ◌≡◌, ◌<◌, ℕ, List, ◌++◌, length}
+use Rattle.std.specs.Io.KnownBytes.{Appends}
+
+-- the writer got the beginning of the bytes, and misses their end
+pub record AppendsPartOf (old new : Option (List ℕ)) (bytes : List ℕ) : Type 0 where
+  pub written : List ℕ
+  pub missing : List ℕ
+  pub some : 0 < length missing
+  pub whole : bytes ≡ written ++ missing
+  pub appended : Appends old new written

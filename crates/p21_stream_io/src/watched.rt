@@ -1,0 +1,111 @@
+//! A reader or a writer whose calls are counted.
+ghost use Rattle.std.specs.Prelude.{◌≡◌};
+ghost use Rattle.std.specs.Io.{ReadsAtMost, WritesAtMost};
+ghost use Rattle.std.specs.Io.KnownBytes.{ReadConsumes, WriteAppends};
+ghost use Rattle.p21_stream_io.specs.Watch.{failures_after_read, failures_after_write, moved_after};
+
+use std::io::{self, Read, Write};
+use std::marker::Model;
+
+/// A reader or a writer with the counts of its calls: those that moved bytes, and those that failed, which are the
+/// calls that answered an error and the writes of some bytes that took none. A count that has reached `u64::MAX` stays
+/// there.
+#[derive(Debug, Drop)]
+pub struct Watched<T> {
+    inner: T,
+    moved: u64,
+    failures: u64,
+}
+
+impl<T> Model for Watched<T> {
+    ghost use Rattle.p21_stream_io.specs.Watch.{Watch};
+
+    ghost Value = { Watch T };
+
+    ghost view = { λ w. record { inner = w.inner; moved = w.moved; failures = w.failures } };
+}
+
+impl<T> Watched<T> {
+    /// No call is counted yet.
+    pub fn new(inner: T) -> Watched<T>
+        ensures inner { result.inner ≡ inner }
+        ensures moved { result.moved ≡ 0 }
+        ensures failures { result.failures ≡ 0 }
+    {
+        Watched {
+            inner,
+            moved: 0,
+            failures: 0,
+        }
+    }
+
+    /// The reader or writer, as its calls left it.
+    pub fn into_inner(self) -> T
+        ensures { result ≡ self.inner }
+    {
+        let Watched { inner, .. } = self;
+        inner
+    }
+
+    /// How many calls moved bytes.
+    pub fn moved(&self) -> u64
+        ensures { result ≡ self.now.moved }
+    {
+        self.moved
+    }
+
+    /// How many calls failed.
+    pub fn failures(&self) -> u64
+        ensures { result ≡ self.now.failures }
+    {
+        self.failures
+    }
+}
+
+impl<T: Read> Watched<T> {
+    /// Reads as the reader does.
+    ///
+    /// # Errors
+    ///
+    /// The reader's.
+    pub fn read(&mut self, buf: &mut [u8]) -> io::Result<usize>
+        ensures bound { ReadsAtMost result buf.new }
+        ensures bytes { ReadConsumes (T.remaining self.old.inner) (T.remaining self.new.inner) result buf.new }
+        ensures moved { self.new.moved ≡ moved_after self.old.moved result }
+        ensures failures { self.new.failures ≡ failures_after_read self.old.failures result }
+    {
+        let answer = self.inner.read(buf);
+        match &answer {
+            Ok(0) => {}
+            Ok(_) => self.moved = self.moved.saturating_add(1),
+            Err(_) => self.failures = self.failures.saturating_add(1),
+        }
+        answer
+    }
+}
+
+impl<T: Write> Watched<T> {
+    /// Writes as the writer does.
+    ///
+    /// # Errors
+    ///
+    /// The writer's.
+    pub fn write(&mut self, buf: &[u8]) -> io::Result<usize>
+        ensures bound { WritesAtMost result buf.now }
+        ensures bytes { WriteAppends (T.contents self.old.inner) (T.contents self.new.inner) result buf.now }
+        ensures moved { self.new.moved ≡ moved_after self.old.moved result }
+        ensures failures { self.new.failures ≡ failures_after_write self.old.failures buf.now result }
+    {
+        let answer = self.inner.write(buf);
+        match &answer {
+            Ok(0) => {
+                if !buf.is_empty() {
+                    self.failures = self.failures.saturating_add(1);
+                }
+            }
+            Ok(_) => self.moved = self.moved.saturating_add(1),
+            Err(_) => self.failures = self.failures.saturating_add(1),
+        }
+        answer
+    }
+}
