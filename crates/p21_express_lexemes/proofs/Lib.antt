@@ -9,5 +9,6 @@ pub mod Once
 pub mod Words
 pub mod Taken
 pub mod Put
+pub mod Contents
 pub mod Running
 pub mod RunSteps

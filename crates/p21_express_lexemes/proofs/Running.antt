@@ -7,7 +7,7 @@ use Rattle.p21_schemas.specs.Run.{is_word, is_symbol, none}
 use Rattle.std.proofs.lemmas.Slice.Eq.{bytes_eq-Decides}
 use Rattle.p21_schemas.specs.Express.{Lexeme, identifier, digits, simple_string, encoded_string, symbol}
 use Rattle.p21_express_lexemes.specs.Taking.{Items, put}
-use Rattle.p21_express_lexemes.specs.Runs.{AreApart, with_first, run_of, HasRun, ReadsRun, RunRead}
+use Rattle.p21_express_lexemes.specs.Runs.{AreApart, with_first, run_of, HasRun, RunRead}
 use Rattle.p21_express_lexemes.proofs.Put.{pair_is}
 
 -- a run within so many open ones
@@ -32,7 +32,7 @@ closing opens closes apart (suc depth) x run last more s c ih = rw c (ap (with_f
   even = let b = s.even in let p = count_yes closes x run c in let q = count_no opens x run (apart x c) in omega arith;
 })))
 
-run_read : (opens closes : Lexeme → Bool) → AreApart opens closes → (depth : ℕ) (run : List Lexeme) (last : Lexeme) (more : Items) → IsRunIn opens closes depth run → closes last ≡ true
+pub run_read : (opens closes : Lexeme → Bool) → AreApart opens closes → (depth : ℕ) (run : List Lexeme) (last : Lexeme) (more : Items) → IsRunIn opens closes depth run → closes last ≡ true
     → run_of opens closes (suc depth) (put run (Some last ∷ more)) ≡ Some (run ++ last ∷ [], more)
 unfolding run_of
 run_read opens closes apart zero [] last more r h = rw h refl
@@ -155,7 +155,7 @@ run_is opens closes apart (Some x ∷ items) depth taken rest e = elim (cases_Bo
 
 -- ---- both ways
 
-has_run : (opens closes : Lexeme → Bool) (items : Items) (taken : List Lexeme) (rest : Items) → Ran opens closes 0 items taken rest → HasRun opens closes items rest
+pub has_run : (opens closes : Lexeme → Bool) (items : Items) (taken : List Lexeme) (rest : Items) → Ran opens closes 0 items taken rest → HasRun opens closes items rest
 has_run opens closes items taken rest r = record {
   run = r.run;
   last = r.last;
@@ -164,14 +164,16 @@ has_run opens closes items taken rest r = record {
   lexemes = r.lexemes;
 }
 
-runs : (opens closes : Lexeme → Bool) → AreApart opens closes → (items other : Items) → (h : HasRun opens closes items other) → run_of opens closes 1 items ≡ Some (h.run ++ h.last ∷ [], other)
+pub runs : (opens closes : Lexeme → Bool) → AreApart opens closes → (items other : Items) → (h : HasRun opens closes items other) → run_of opens closes 1 items ≡ Some (h.run ++ h.last ∷ [], other)
 runs opens closes apart items other h =
     ap (run_of opens closes 1) h.lexemes ∙ run_read opens closes apart 0 h.run h.last other (record { below = λ k. let b = h.is_run.0 k in omega arith; even = let e = h.is_run.1 in omega arith }) h.closed
 
-pub reads_run : (result : Bool) (opens closes : Lexeme → Bool) → AreApart opens closes → (old new : Items) → RunRead result (run_of opens closes 1 old) new → ReadsRun result opens closes old new
-reads_run true opens closes apart old new (taken, e) =
+pub has_one_run : (opens closes : Lexeme → Bool) → AreApart opens closes → (old new : Items) → RunRead true (run_of opens closes 1 old) new → HasRun opens closes old new × ((other : Items) → HasRun opens closes old other → other ≡ new)
+has_one_run opens closes apart old new (taken, e) =
     (has_run opens closes old taken new (run_is opens closes apart old 0 taken new e), λ other h. (pair_is {A = List Lexeme} (h.run ++ h.last ∷ []) taken other new (sym (runs opens closes apart old other h) ∙ e)).1)
-reads_run false opens closes apart old new e = λ other h. none_is (h.run ++ h.last ∷ [], other) (sym e ∙ runs opens closes apart old other h)
+
+pub has_no_run : (opens closes : Lexeme → Bool) → AreApart opens closes → (old new : Items) → RunRead false (run_of opens closes 1 old) new → (other : Items) → HasRun opens closes old other → ⊥
+has_no_run opens closes apart old new e other h = none_is (h.run ++ h.last ∷ [], other) (sym e ∙ runs opens closes apart old other h)
   where
     none_is : (y : List Lexeme × Items) → None ≡ Some y → ⊥
     none_is y q = cc

@@ -50,3 +50,17 @@ no_first_ended old bytes front view h e lexeme more is = let q : [] ≡ Some lex
 
 pub no_first_wrong : (old : Items) (bytes : List ℕ) (front : Front) → lexemes_of bytes ≡ old → IsFront (front_of bytes) front → front ≡ Wrong → (lexeme : ExpressLexeme) (more : Items) → old ≡ Some lexeme ∷ more → ⊥
 no_first_wrong old bytes front view h e lexeme more is = let q : None ∷ [] ≡ Some lexeme ∷ more = sym (wrong_items old bytes front view h e) ∙ is in cc
+
+-- what is said of the first lexeme, or of none
+pub shown_found : {A : Type 0} (show : Items → A) (first : ExpressLexeme → A) → ((l : ExpressLexeme) (r : Items) → show (Some l ∷ r) ≡ first l)
+    → (old : Items) (bytes : List ℕ) (front : Front) (lexeme : Lexeme) (rest : Bor (List ℕ)) → lexemes_of bytes ≡ old → IsFront (front_of bytes) front → front ≡ Found lexeme rest
+    → (answer : A) → ((meant : ExpressLexeme) → Means lexeme meant → answer ≡ first meant) → answer ≡ show old
+shown_found show first by old bytes front lexeme rest view h e answer test =
+    let k = first_is bytes front lexeme rest h e in
+    test k.0 k.1 ∙ (sym (by k.0 (lexemes_of rest.now)) ∙ ap show (sym k.2 ∙ view))
+
+pub shown_ended : {A : Type 0} (show : Items → A) (old : Items) (bytes : List ℕ) (front : Front) → lexemes_of bytes ≡ old → IsFront (front_of bytes) front → front ≡ Ended → show [] ≡ show old
+shown_ended show old bytes front view h e = let k : IsFront (front_of bytes) Ended = rw e at h in ap show (sym (lexemes-ended bytes k) ∙ view)
+
+pub shown_wrong : {A : Type 0} (show : Items → A) (old : Items) (bytes : List ℕ) (front : Front) → lexemes_of bytes ≡ old → IsFront (front_of bytes) front → front ≡ Wrong → show (None ∷ []) ≡ show old
+shown_wrong show old bytes front view h e = let k : IsFront (front_of bytes) Wrong = rw e at h in ap show (sym (lexemes-wrong bytes k) ∙ view)

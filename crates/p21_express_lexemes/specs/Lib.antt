@@ -6,4 +6,6 @@ pub mod Laid
 pub mod Lexemes
 pub mod Taking
 pub mod Tests
+pub mod Words
+pub mod Fault
 pub mod Runs

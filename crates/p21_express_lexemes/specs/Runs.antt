@@ -1,9 +1,10 @@
 -- Runs that are read over: a plain function between the code and the definitions, which nobody has to believe.
-use Rattle.std.specs.Prelude.{◌≡◌, ℕ, zero, suc, Bool, true, false, List, [], ◌∷◌, ◌++◌, Option, Some, None, if◌then◌else◌}
+use Rattle.std.specs.Prelude.{◌≡◌, ℕ, zero, suc, Bool, true, false, List, [], ◌∷◌, ◌++◌, Option, Some, None, Result, Ok, Err, if◌then◌else◌}
 use Rattle.p21_schemas.specs.Express.{Lexeme}
 use Rattle.p21_schemas.specs.Run.{IsRun, is_word, is_symbol, none}
 use Rattle.p21_express_lexemes.specs.Meaning.{Means}
-use Rattle.p21_express_lexemes.specs.Taking.{Items, put}
+use Rattle.p21_express_lexemes.specs.Taking.{Items, put, Refused}
+use Rattle.p21_express_lexemes.specs.declared.fault.SyntaxFault.{SyntaxFault}
 use Rattle.p21_express_lexemes.specs.declared.lexeme.Lexeme.{Lexeme as CodeLexeme}
 use Rattle.p21_express_lexemes.specs.declared.runs.Mark.{Mark}
 use Rattle.p21_express_lexemes.specs.declared.runs.Mark.TheVariants.{Word, Symbol, Nothing}
@@ -53,10 +54,18 @@ pub record HasRun (opens closes : Lexeme → Bool) (old new : Items) : Type 0 wh
   pub closed : closes last ≡ true
   pub lexemes : old ≡ put run (Some last ∷ new)
 
--- a run and what closes it was read; a refusal, where none stands first
-abbrev pub ReadsRun : Bool → (Lexeme → Bool) → (Lexeme → Bool) → Items → Items → Type 0
-ReadsRun true opens closes old new = HasRun opens closes old new × ((other : Items) → HasRun opens closes old other → other ≡ new)
-ReadsRun false opens closes old new = (other : Items) → HasRun opens closes old other → ⊥
+-- what is left behind a run and the lexeme that closes it
+abbrev pub left_of : Option (List Lexeme × Items) → Option Items
+left_of None = None
+left_of (Some found) = Some found.1
+
+unfoldable pub behind_run : (Lexeme → Bool) → (Lexeme → Bool) → Items → Option Items
+behind_run opens closes items = left_of (run_of opens closes 1 items)
+
+-- a run and what closes it was read, and no other can be; a refusal, where none stands first
+abbrev pub ReadsRun : Result (Unit {0}) SyntaxFault → (Lexeme → Bool) → (Lexeme → Bool) → Items → Items → Type 0
+ReadsRun (Ok u) opens closes old new = HasRun opens closes old new × ((other : Items) → HasRun opens closes old other → other ≡ new)
+ReadsRun (Err fault) opens closes old new = Refused fault ((other : Items) → HasRun opens closes old other → ⊥)
 
 -- whether the first lexeme passes, and is taken
 abbrev pub Took : Bool → (Lexeme → Bool) → Items → Items → Type 0

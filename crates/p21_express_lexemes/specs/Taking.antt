@@ -1,8 +1,11 @@
 -- What stands first among the lexemes that are left, taken from them: plain functions between the code and the definitions,
 -- which nobody has to believe.
-use Rattle.std.specs.Prelude.{◌≡◌, ℕ, Bool, true, false, ◌==◌, List, [], ◌∷◌, map, Option, Some, None, if◌then◌else◌}
+use Rattle.std.specs.Prelude.{◌≡◌, ◌≢◌, ℕ, Bool, true, false, ◌==◌, List, [], ◌∷◌, map, Option, Some, None, Result, Ok, Err, if◌then◌else◌}
 use Rattle.std.specs.Borrow.{Bor}
 use Rattle.std.specs.Str.{bytes_eq}
+use Rattle.p21_express_lexemes.specs.declared.fault.SyntaxFault.{SyntaxFault}
+use Rattle.p21_express_lexemes.specs.declared.fault.SyntaxFault.TheVariants.{NoMemory}
+use Rattle.p21_express_lexemes.specs.Words.{is_reserved}
 use Rattle.p21_schemas.specs.Express.{Lexeme, identifier, digits, symbol, upper}
 
 -- the lexemes that are left; a None stands where the text goes wrong
@@ -27,7 +30,7 @@ digits_or (digits ds) rest = Some (ds, rest)
 digits_or other rest = None
 
 abbrev pub name_or : Lexeme → Items → Option (List ℕ × Items)
-name_or (identifier name) rest = Some (name, rest)
+name_or (identifier name) rest = if is_reserved name then None else Some (name, rest)
 name_or other rest = None
 
 -- what is left behind this symbol
@@ -47,10 +50,10 @@ take_digits [] = None
 take_digits (None ∷ rest) = None
 take_digits (Some lexeme ∷ rest) = digits_or lexeme rest
 
-unfoldable pub take_identifier : Items → Option (List ℕ × Items)
-take_identifier [] = None
-take_identifier (None ∷ rest) = None
-take_identifier (Some lexeme ∷ rest) = name_or lexeme rest
+unfoldable pub take_name : Items → Option (List ℕ × Items)
+take_name [] = None
+take_name (None ∷ rest) = None
+take_name (Some lexeme ∷ rest) = name_or lexeme rest
 
 -- an answer whether it was taken
 abbrev pub Took : Bool → Option Items → Items → Items → Type 0
@@ -76,3 +79,24 @@ seen (Some bytes) = Some bytes.now
 abbrev pub seen_upper : Option (Bor (List ℕ)) → Option (List ℕ)
 seen_upper None = None
 seen_upper (Some bytes) = Some (map upper bytes.now)
+
+-- a refusal for want of memory owes nothing, any other that nothing is read
+abbrev pub Refused : SyntaxFault → Type 0 → Type 0
+Refused fault claim = fault ≢ NoMemory → claim
+
+-- what was read by this function, if anything was, and what is left
+abbrev pub ReadBy : {A B : Type 0} → (A → B) → Result A SyntaxFault → Option (B × Items) → Items → Type 0
+ReadBy meant (Ok x) read new = read ≡ Some (meant x, new)
+ReadBy meant (Err fault) read new = Refused fault (read ≡ None)
+
+-- what was taken, if it stood first
+abbrev pub Expected : Result (Unit {0}) SyntaxFault → Option Items → Items → Type 0
+Expected (Ok u) taken new = taken ≡ Some new
+Expected (Err fault) taken new = Refused fault (taken ≡ None)
+
+-- in upper case
+abbrev pub upper_of : Bor (List ℕ) → List ℕ
+upper_of name = map upper name.now
+
+abbrev pub now_of : Bor (List ℕ) → List ℕ
+now_of bytes = bytes.now

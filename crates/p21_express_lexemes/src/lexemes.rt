@@ -1,15 +1,21 @@
-ghost use Rattle.p21_schemas.specs.Express.{Lexeme as ExpressLexeme};
+ghost use Rattle.std.specs.Prelude.{List, ℕ, ◌≡◌, ◌↔◌, ◌≤◌, ◌<◌, ◌^◌, [], length, map, IsTrue, IfSome, IfOk, if◌then◌else◌};
+ghost use Rattle.p21_basics.specs.Digits.{AllDigits};
+ghost use Rattle.p21_exchange.specs.Keyword.{IsKeyword};
+ghost use Rattle.p21_schemas.specs.Express.{Lexeme as ExpressLexeme, upper};
 ghost use Rattle.p21_schemas.specs.ExpressLaying.{LaidLexemes};
-ghost use Rattle.p21_express_lexemes.specs.Taking.{put};
-ghost use Rattle.std.specs.Prelude.{List, ℕ, ◌≡◌, ◌↔◌, ◌≤◌, ◌<◌, ◌^◌, [], length, map, IsTrue};
-ghost use Rattle.std.specs.Str.{bytes_eq};
-ghost use Rattle.p21_express_lexemes.specs.Runs.{Took as TookMarked, Advanced, IsMarked, marks};
-ghost use Rattle.p21_schemas.specs.Express.{upper};
+ghost use Rattle.p21_express_lexemes.specs.Fault.{refusal_of, shown_by, left_out_words, is_operator};
 ghost use Rattle.p21_express_lexemes.specs.Lexemes.{lexemes_of};
-ghost use Rattle.p21_express_lexemes.specs.Taking.{Took, TookOne, take_symbol, take_word, take_digits, take_identifier, symbol_or, word_or, digits_or, name_or, seen, seen_upper};
-ghost use Rattle.p21_express_lexemes.specs.Tests.{IsTest, IsContent};
+ghost use Rattle.p21_express_lexemes.specs.Runs.{Took as TookMarked, Advanced, IsMarked, marks};
+ghost use Rattle.p21_express_lexemes.specs.Taking.{put, Took, TookOne, Expected, ReadBy, take_symbol, take_word, take_digits, take_name, symbol_or, word_or, digits_or, name_or, seen, seen_upper, upper_of};
+ghost use Rattle.p21_express_lexemes.specs.Tests.{IsTest, IsContent, IsShown};
+ghost use Rattle.p21_express_lexemes.specs.Words.{is_among};
+ghost use Rattle.p21_express_lexemes.specs.declared.fault.SyntaxFault.TheVariants.{Syntax, LeftOut};
+ghost use Rattle.p21_express_lexemes.specs.declared.lexeme.Lexeme.TheVariants.{Identifier, Digits};
+ghost use Rattle.p21_express_lexemes.specs.declared.fault.Wanted.TheVariants.{Grammar, Width, BehindDigits};
 
+use crate::fault::{SyntaxFault, Wanted};
 use crate::lexeme::{Front, Lexeme, read_front};
+use crate::reserved::{is_left_out, is_reserved, is_same_word};
 use crate::runs::Mark;
 use std::marker::Model;
 
@@ -48,6 +54,16 @@ impl<'a> Lexemes<'a> {
         Lexemes {
             left: text,
             front: read_front(text),
+        }
+    }
+
+    /// The same lexemes, to be read once more.
+    pub fn again(&self) -> Lexemes<'a>
+        ensures { result ≡ self.now }
+    {
+        Lexemes {
+            left: self.left,
+            front: self.front,
         }
     }
 
@@ -144,7 +160,8 @@ impl<'a> Lexemes<'a> {
 
     /// Takes digits, if they stand first.
     pub fn take_digits(&mut self) -> Option<&'a [u8]>
-        ensures { TookOne (seen result) (take_digits self.old) self.old self.new }
+        ensures taken { TookOne (seen result) (take_digits self.old) self.old self.new }
+        ensures are_digits { IfSome result (λ digits. AllDigits digits.now) }
     {
         match self.front {
             Front::Found(lexeme, rest) => match digits_of(lexeme) {
@@ -160,9 +177,10 @@ impl<'a> Lexemes<'a> {
         }
     }
 
-    /// Takes an identifier, if it stands first.
-    pub fn take_identifier(&mut self) -> Option<&'a [u8]>
-        ensures { TookOne (seen_upper result) (take_identifier self.old) self.old self.new }
+    /// Takes a name, if it stands first.
+    pub fn take_name(&mut self) -> Option<&'a [u8]>
+        ensures taken { TookOne (seen_upper result) (take_name self.old) self.old self.new }
+        ensures keyword { IfSome result (λ name. IsKeyword (map upper name.now)) }
     {
         match self.front {
             Front::Found(lexeme, rest) => match name_of(lexeme) {
@@ -175,6 +193,62 @@ impl<'a> Lexemes<'a> {
             },
             Front::Ended => None,
             Front::Wrong => None,
+        }
+    }
+
+    /// Takes this symbol.
+    ///
+    /// # Errors
+    ///
+    /// Where another lexeme stands first, or none.
+    pub fn expect_symbol(&mut self, byte: u8) -> Result<(), SyntaxFault>
+        ensures { Expected result (take_symbol byte self.old) self.new }
+    {
+        if self.take_symbol(byte) {
+            Ok(())
+        } else {
+            Err(self.refusal(Wanted::Grammar))
+        }
+    }
+
+    /// Takes this word.
+    ///
+    /// # Errors
+    ///
+    /// Where another lexeme stands first, or none.
+    pub fn expect_word(&mut self, word: &[u8]) -> Result<(), SyntaxFault>
+        ensures { Expected result (take_word word.now self.old) self.new }
+    {
+        if self.take_word(word) {
+            Ok(())
+        } else {
+            Err(self.refusal(Wanted::Grammar))
+        }
+    }
+
+    /// Takes a name.
+    ///
+    /// # Errors
+    ///
+    /// Where another lexeme stands first, or none.
+    pub fn expect_name(&mut self) -> Result<&'a [u8], SyntaxFault>
+        ensures taken { ReadBy upper_of result (take_name self.old) self.new }
+        ensures keyword { IfOk result (λ name. IsKeyword (map upper name.now)) }
+    {
+        match self.take_name() {
+            Some(name) => Ok(name),
+            None => Err(self.refusal(Wanted::Grammar)),
+        }
+    }
+
+    /// Why what stands first is refused, where something else is wanted.
+    pub fn refusal(&self, wanted: Wanted) -> SyntaxFault
+        ensures { result ≡ refusal_of wanted self.now }
+    {
+        match self.front {
+            Front::Found(lexeme, _rest) => shown_by(lexeme, wanted),
+            Front::Ended => SyntaxFault::Syntax,
+            Front::Wrong => SyntaxFault::Token,
         }
     }
 }
@@ -214,7 +288,8 @@ fn is_word(lexeme: Lexeme, word: &[u8]) -> bool
 }
 
 fn digits_of(lexeme: Lexeme) -> Option<&[u8]>
-    ensures { IsContent (seen result) lexeme.entry digits_or }
+    ensures content { IsContent (seen result) lexeme.entry digits_or }
+    ensures is { IfSome result (λ digits. lexeme.entry ≡ Digits digits) }
 {
     match lexeme {
         Lexeme::Digits(digits) => Some(digits),
@@ -223,38 +298,99 @@ fn digits_of(lexeme: Lexeme) -> Option<&[u8]>
 }
 
 fn name_of(lexeme: Lexeme) -> Option<&[u8]>
-    ensures { IsContent (seen_upper result) lexeme.entry name_or }
+    ensures content { IsContent (seen_upper result) lexeme.entry name_or }
+    ensures is { IfSome result (λ name. lexeme.entry ≡ Identifier name) }
 {
     match lexeme {
-        Lexeme::Identifier(name) => Some(name),
+        Lexeme::Identifier(name) => { if is_reserved(name) { None } else { Some(name) } }
         _ => None,
     }
 }
 
-pub(crate) fn upper(byte: u8) -> u8
-    ensures { result ≡ upper byte }
+/// Why a lexeme is refused, where something else is wanted.
+#[tactic(auto, unfolding(crate::specs::Fault::shown_by))]
+fn shown_by(lexeme: Lexeme, wanted: Wanted) -> SyntaxFault
+    ensures { IsShown result lexeme.entry (shown_by wanted) }
 {
-    if b'a' <= byte && byte <= b'z' {
-        byte - 32
-    } else {
-        byte
+    match wanted {
+        Wanted::Grammar => shown_by_grammar(lexeme),
+        Wanted::Bound => SyntaxFault::LeftOut,
+        Wanted::Width => shown_by_width(lexeme),
+        Wanted::BehindDigits => shown_behind_digits(lexeme),
+        Wanted::SelectList => SyntaxFault::LeftOut,
     }
 }
 
-/// Whether the bytes are the word in any case.
-#[tactic(auto, using(crate::proofs::Words::same_length, crate::proofs::Words::same_each, crate::proofs::Words::differs_at))]
-pub(crate) fn is_same_word(bytes: &[u8], word: &[u8]) -> bool
-    ensures { result ≡ bytes_eq (map upper bytes.now) word.now }
+#[tactic(auto, unfolding(crate::specs::Fault::shown_by))]
+fn shown_by_grammar(lexeme: Lexeme) -> SyntaxFault
+    ensures { IsShown result lexeme.entry (shown_by Grammar) }
 {
-    if bytes.len() != word.len() {
-        return false;
+    match lexeme {
+        Lexeme::Identifier(name) => left_out_word(name),
+        _ => SyntaxFault::Syntax,
     }
-    let mut count = 0;
-    while count < bytes.len() {
-        if upper(bytes[count]) != word[count] {
-            return false;
+}
+
+#[tactic(auto, unfolding(crate::specs::Fault::shown_by))]
+fn shown_by_width(lexeme: Lexeme) -> SyntaxFault
+    ensures { IsShown result lexeme.entry (shown_by Width) }
+{
+    match lexeme {
+        Lexeme::Symbol(byte) => {
+            if byte == b'?' {
+                SyntaxFault::Syntax
+            } else {
+                SyntaxFault::LeftOut
+            }
         }
-        count += 1;
+        _ => SyntaxFault::LeftOut,
     }
-    true
+}
+
+#[tactic(auto, unfolding(crate::specs::Fault::shown_by))]
+fn shown_behind_digits(lexeme: Lexeme) -> SyntaxFault
+    ensures { IsShown result lexeme.entry (shown_by BehindDigits) }
+{
+    match lexeme {
+        Lexeme::Identifier(name) => {
+            if is_reserved(name) {
+                left_out_word(name)
+            } else {
+                SyntaxFault::LeftOut
+            }
+        }
+        Lexeme::Symbol(byte) => {
+            if is_operator(byte) {
+                SyntaxFault::LeftOut
+            } else {
+                SyntaxFault::Syntax
+            }
+        }
+        _ => SyntaxFault::Syntax,
+    }
+}
+
+fn left_out_word(name: &[u8]) -> SyntaxFault
+    ensures { result ≡ (if is_among left_out_words (map upper name.now) then LeftOut else Syntax) }
+{
+    if is_left_out(name) {
+        SyntaxFault::LeftOut
+    } else {
+        SyntaxFault::Syntax
+    }
+}
+
+fn is_operator(byte: u8) -> bool
+    ensures { result ≡ is_operator byte }
+{
+    byte == b'+'
+        || byte == b'-'
+        || byte == b'*'
+        || byte == b'/'
+        || byte == b'.'
+        || byte == b'<'
+        || byte == b'>'
+        || byte == b'='
+        || byte == b'|'
+        || byte == b'\\'
 }

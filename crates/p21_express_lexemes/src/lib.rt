@@ -3,11 +3,15 @@
 #![tactic(auto)]
 
 mod bytes;
+mod fault;
 mod lexeme;
 mod lexemes;
+mod reserved;
 mod runs;
 mod skip;
 
+pub use fault::{SyntaxFault, Wanted};
 pub use lexeme::{Front, Lexeme, one_laying, read_front};
 pub use lexemes::{Lexemes, lexemes_are_laid};
+pub use reserved::upper;
 pub use runs::{Mark, read_over};

@@ -1,5 +1,7 @@
-ghost use Rattle.p21_express_lexemes.specs.Runs.{AreApart, marks, run_of, RunRead, ReadsRun};
+ghost use Rattle.p21_express_lexemes.specs.Runs.{AreApart, marks, run_of, behind_run, RunRead, ReadsRun};
+ghost use Rattle.p21_express_lexemes.specs.Taking.{Expected};
 
+use crate::fault::{SyntaxFault, Wanted};
 use crate::lexemes::Lexemes;
 
 /// A lexeme at which a run opens or closes.
@@ -12,12 +14,21 @@ pub enum Mark<'a> {
 }
 
 /// Reads over a run and the lexeme that closes it.
-#[tactic(auto, using(crate::proofs::Running::reads_run))]
-pub fn read_over(lexemes: &mut Lexemes, opens: Mark, closes: Mark) -> bool
+///
+/// # Errors
+///
+/// `Token` or `Syntax` where nothing closes it.
+#[tactic(auto, unfolding(crate::specs::Runs::behind_run))]
+pub fn read_over(lexemes: &mut Lexemes, opens: Mark, closes: Mark) -> Result<(), SyntaxFault>
     requires { AreApart (marks opens) (marks closes) }
-    ensures { ReadsRun result (marks opens.entry) (marks closes.entry) lexemes.old lexemes.new }
+    ensures behind { Expected result (behind_run (marks opens.entry) (marks closes.entry) lexemes.old) lexemes.new }
+    ensures reads { ReadsRun result (marks opens.entry) (marks closes.entry) lexemes.old lexemes.new }
 {
-    run_over(lexemes, opens, closes)
+    if run_over(lexemes, opens, closes) {
+        Ok(())
+    } else {
+        Err(lexemes.refusal(Wanted::Grammar))
+    }
 }
 
 /// The lexemes one by one, and how many open ones there are.

@@ -1,6 +1,6 @@
 use Rattle.std.proofs.Common.{◌≡◌, ℕ, ◌-◌, ◌<◌, ◌≤◌, length, get_or}
 use Rattle.p21_schemas.specs.Express.{upper}
-use Rattle.p21_express_lexemes.proofs.lexemes.is_same_word.Given as goal
+use Rattle.p21_express_lexemes.proofs.reserved.is_same_word.Given as goal
 
 -- the bytes so far are those of the word
 abbrev pub invariant-loop-count : goal.invariant-loop-count
