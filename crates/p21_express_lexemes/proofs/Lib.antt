@@ -1,0 +1,14 @@
+pub mod Spans
+pub mod Skips
+pub mod Strings
+pub mod Lexing
+pub mod Classes
+pub mod Complete
+pub mod Sound
+pub mod Once
+pub mod Words
+pub mod Taken
+pub mod Put
+pub mod Contents
+pub mod Running
+pub mod RunSteps

@@ -1,0 +1,27 @@
+-- Lexemes in front of what is left.
+use Rattle.std.proofs.Common.{◌≡◌, ℕ, List, [], ◌∷◌, ◌++◌, Option, Some, refl, ap, sym, ◌∙◌}
+use Rattle.p21_schemas.specs.Express.{Lexeme}
+use Rattle.p21_schemas.specs.ExpressLaying.{LaidLexemes}
+use Rattle.p21_express_lexemes.specs.Lexemes.{lexemes_of, right}
+use Rattle.p21_express_lexemes.specs.Taking.{Items, put}
+use Rattle.p21_express_lexemes.proofs.Once.{laid_all, all_laid}
+
+some_is : {A : Type 0} (x y : A) → Some x ≡ Some y → x ≡ y
+some_is x y e = cc
+
+pub pair_is : {A : Type 0} (x y : A) (xs ys : Items) → ◌≡◌ {A = Option (A × Items)} (Some (x, xs)) (Some (y, ys)) → (x ≡ y) × (xs ≡ ys)
+pair_is {A} x y xs ys e = let p : ◌≡◌ {A = A × Items} (x, xs) (y, ys) = some_is {A = A × Items} (x, xs) (y, ys) e in (ap (λ (q : A × Items). q.0) p, ap (λ (q : A × Items). q.1) p)
+
+pub put-append : (a b : List Lexeme) (more : Items) → put (a ++ b) more ≡ put a (put b more)
+put-append [] b more = refl
+put-append (x ∷ a) b more = ap (λ (y : Items). Some x ∷ y) (put-append a b more)
+
+put_right : (lexemes : List Lexeme) → right lexemes ≡ put lexemes []
+put_right [] = refl
+put_right (x ∷ lexemes) = ap (λ (y : Items). Some x ∷ y) (put_right lexemes)
+
+pub laid_put : (lexemes : List Lexeme) (text : List ℕ) → LaidLexemes lexemes text → lexemes_of text ≡ put lexemes []
+laid_put lexemes text l = laid_all lexemes text l ∙ put_right lexemes
+
+pub put_laid : (lexemes : List Lexeme) (text : List ℕ) → lexemes_of text ≡ put lexemes [] → LaidLexemes lexemes text
+put_laid lexemes text e = all_laid lexemes text (e ∙ sym (put_right lexemes))

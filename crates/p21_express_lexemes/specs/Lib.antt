@@ -1,0 +1,11 @@
+pub mod Bytes
+pub mod Skipping
+pub mod Reading
+pub mod Meaning
+pub mod Laid
+pub mod Lexemes
+pub mod Taking
+pub mod Tests
+pub mod Words
+pub mod Fault
+pub mod Runs

@@ -1,0 +1,102 @@
+-- What stands first among the lexemes that are left, taken from them: plain functions between the code and the definitions,
+-- which nobody has to believe.
+use Rattle.std.specs.Prelude.{◌≡◌, ◌≢◌, ℕ, Bool, true, false, ◌==◌, List, [], ◌∷◌, map, Option, Some, None, Result, Ok, Err, if◌then◌else◌}
+use Rattle.std.specs.Borrow.{Bor}
+use Rattle.std.specs.Str.{bytes_eq}
+use Rattle.p21_express_lexemes.specs.declared.fault.SyntaxFault.{SyntaxFault}
+use Rattle.p21_express_lexemes.specs.declared.fault.SyntaxFault.TheVariants.{NoMemory}
+use Rattle.p21_express_lexemes.specs.Words.{is_reserved}
+use Rattle.p21_schemas.specs.Express.{Lexeme, identifier, digits, symbol, upper}
+
+-- the lexemes that are left; a None stands where the text goes wrong
+abbrev pub Items : Type 0
+Items = List (Option Lexeme)
+
+-- lexemes in front of what is left
+abbrev pub put : List Lexeme → Items → Items
+put [] more = more
+put (lexeme ∷ lexemes) more = Some lexeme ∷ put lexemes more
+
+abbrev pub symbol_or : ℕ → Lexeme → Items → Option Items
+symbol_or byte (symbol other) rest = if other == byte then Some rest else None
+symbol_or byte other rest = None
+
+abbrev pub word_or : List ℕ → Lexeme → Items → Option Items
+word_or name (identifier other) rest = if bytes_eq other name then Some rest else None
+word_or name other rest = None
+
+abbrev pub digits_or : Lexeme → Items → Option (List ℕ × Items)
+digits_or (digits ds) rest = Some (ds, rest)
+digits_or other rest = None
+
+abbrev pub name_or : Lexeme → Items → Option (List ℕ × Items)
+name_or (identifier name) rest = if is_reserved name then None else Some (name, rest)
+name_or other rest = None
+
+-- what is left behind this symbol
+unfoldable pub take_symbol : ℕ → Items → Option Items
+take_symbol byte [] = None
+take_symbol byte (None ∷ rest) = None
+take_symbol byte (Some lexeme ∷ rest) = symbol_or byte lexeme rest
+
+-- what is left behind this word
+unfoldable pub take_word : List ℕ → Items → Option Items
+take_word name [] = None
+take_word name (None ∷ rest) = None
+take_word name (Some lexeme ∷ rest) = word_or name lexeme rest
+
+unfoldable pub take_digits : Items → Option (List ℕ × Items)
+take_digits [] = None
+take_digits (None ∷ rest) = None
+take_digits (Some lexeme ∷ rest) = digits_or lexeme rest
+
+unfoldable pub take_name : Items → Option (List ℕ × Items)
+take_name [] = None
+take_name (None ∷ rest) = None
+take_name (Some lexeme ∷ rest) = name_or lexeme rest
+
+-- an answer whether it was taken
+abbrev pub Took : Bool → Option Items → Items → Items → Type 0
+Took true taken old new = taken ≡ Some new
+Took false taken old new = (taken ≡ None) × (new ≡ old)
+
+-- what was found first, with what is left
+abbrev pub beside : {A : Type 0} → Option A → Items → Option (A × Items)
+beside None rest = None
+beside (Some x) rest = Some (x, rest)
+
+-- what was taken, and what is left
+abbrev pub TookOne : {A : Type 0} → Option A → Option (A × Items) → Items → Items → Type 0
+TookOne (Some x) taken old new = taken ≡ Some (x, new)
+TookOne None taken old new = (taken ≡ None) × (new ≡ old)
+
+-- bytes that the code refers to
+abbrev pub seen : Option (Bor (List ℕ)) → Option (List ℕ)
+seen None = None
+seen (Some bytes) = Some bytes.now
+
+-- in upper case
+abbrev pub seen_upper : Option (Bor (List ℕ)) → Option (List ℕ)
+seen_upper None = None
+seen_upper (Some bytes) = Some (map upper bytes.now)
+
+-- a refusal for want of memory owes nothing, any other that nothing is read
+abbrev pub Refused : SyntaxFault → Type 0 → Type 0
+Refused fault claim = fault ≢ NoMemory → claim
+
+-- what was read by this function, if anything was, and what is left
+abbrev pub ReadBy : {A B : Type 0} → (A → B) → Result A SyntaxFault → Option (B × Items) → Items → Type 0
+ReadBy meant (Ok x) read new = read ≡ Some (meant x, new)
+ReadBy meant (Err fault) read new = Refused fault (read ≡ None)
+
+-- what was taken, if it stood first
+abbrev pub Expected : Result (Unit {0}) SyntaxFault → Option Items → Items → Type 0
+Expected (Ok u) taken new = taken ≡ Some new
+Expected (Err fault) taken new = Refused fault (taken ≡ None)
+
+-- in upper case
+abbrev pub upper_of : Bor (List ℕ) → List ℕ
+upper_of name = map upper name.now
+
+abbrev pub now_of : Bor (List ℕ) → List ℕ
+now_of bytes = bytes.now
