@@ -1,0 +1,93 @@
+ghost use Rattle.std.specs.Prelude.{◌≡◌};
+
+use crate::value::Values;
+use p21_express_types::EntityId;
+use std::marker::Model;
+
+/// What the record of an instance means: its set of entities, rising by keyword, and for each of them the values of the
+/// places that it declares.
+#[derive(Drop)]
+pub struct Typed {
+    pub parts: Ids,
+    pub values: Rows,
+}
+
+/// Entities in a row.
+#[derive(Drop)]
+pub struct Ids {
+    all: Vec<EntityId>,
+}
+
+impl Model for Ids {
+    ghost use Rattle.std.specs.Prelude.{List};
+    ghost use Rattle.p21_express_types.specs.declared.number.EntityId.{EntityId};
+
+    ghost Value = { List EntityId };
+
+    ghost view = { λ ids. ids.all.items };
+}
+
+impl Ids {
+    /// These entities in this order.
+    pub fn from_vec(all: Vec<EntityId>) -> Ids
+        ensures { result ≡ all.items }
+    {
+        Ids { all }
+    }
+
+    /// The entities, first to last. It takes no memory.
+    pub fn items(&self) -> &[EntityId]
+        ensures { result.now ≡ self.now }
+    {
+        &self.all
+    }
+
+    /// The entities, first to last.
+    pub fn into_items(self) -> Vec<EntityId>
+        ensures { result.items ≡ self }
+    {
+        self.all
+    }
+}
+
+/// Rows of values, one behind the other.
+#[derive(Drop)]
+pub struct Rows {
+    all: Vec<Values>,
+}
+
+impl Model for Rows {
+    ghost use Rattle.std.specs.Coded.{codes};
+    ghost use Rattle.std.specs.Prelude.{List};
+    ghost use Rattle.p21_mapping_values.specs.contracts.value.Values as values;
+    ghost use Rattle.p21_mapping_values.specs.declared.value.Values.{Values};
+
+    ghost Value = { List Values };
+
+    ghost coded = { Prim.hlevel (codes, values.the_row.coded) };
+
+    ghost view = { λ rows. rows.all.items };
+}
+
+impl Rows {
+    /// These rows in this order.
+    pub fn from_vec(all: Vec<Values>) -> Rows
+        ensures { result ≡ all.items }
+    {
+        Rows { all }
+    }
+
+    /// The rows, first to last. It takes no memory.
+    pub fn items(&self) -> &[Values]
+        ensures { result.now ≡ self.now }
+    {
+        &self.all
+    }
+
+    /// The rows, first to last.
+    pub fn into_items(self) -> Vec<Values>
+        ensures { result.items ≡ self }
+    {
+        self.all
+    }
+}
