@@ -1,38 +1,46 @@
--- For each number a record that breaks its rule, and neighbours that break none.
-use Rattle.std.specs.Prelude.{◌≡◌, ℕ, zero, suc, pos, true, false, List, [], ◌∷◌, codes, Some, None, Contains, refl, ℤ, ◌^◌}
-use Rattle.std.proofs.Common.{arith, inr, subst, lit<, lit≤}
-use Rattle.p21_files.specs.BrokenRule.{Breaks, number_range, missing, star_not_derived, wrong_kind, wrong_width, out_of_bounds, not_distinct, unknown_item, select_type}
-use Rattle.p21_files.specs.Fits.{a_whole, none_left, fits_next}
-use Rattle.p21_files.specs.Inside.{HoldsAt, IsInside, itself as same_place, in_chosen}
-use Rattle.p21_files.specs.Meaning.{NamesEntity}
-use Rattle.p21_exchange.specs.Number.{whole_ratio, IsInRange, HasNormalisedExponent}
+-- For each number parameters that break its rule at their place, and neighbours that break none or the rule of another
+-- number alone. The parameter is the P of E, in `E(p)`.
+use Rattle.std.specs.Prelude.{◌≡◌, ℕ, ℤ, pos, Bool, true, false, List, [], ◌∷◌, ◌^◌, codes, Some, None, Contains, refl}
+use Rattle.std.proofs.Common.{arith, inl, inr, lit<, lit≤, sym, subst}
+use Rattle.p21_exchange.specs.Number.{Decimal, whole_ratio, IsInRange, HasNormalisedExponent}
 use Rattle.p21_exchange.specs.Parameter as parameter
-use Rattle.p21_exchange.specs.Parameter.{Param, Params, no_params, param, key_of}
-use Rattle.p21_files.specs.ParameterKind.{TakesKind, of_enumeration, takes_underlying}
-use Rattle.p21_schemas.specs.PlaceType.{TypeAt, stored_place, IsDerivedIn, IsRedeclared}
-use Rattle.p21_exchange.specs.Record.{Record, simple}
-use Rattle.p21_files.specs.RecordPlaces.{IsSetOf}
-use Rattle.p21_files.specs.SameValue.{here, same_wholes}
-use Rattle.p21_schemas.specs.Schema as schema
-use Rattle.p21_schemas.specs.Schema.{Schema, TypeUse, Place, Redeclared, Kind, Member, alias, items, choice, type_member, kind_of}
-use Rattle.p21_schemas.specs.Select.{offered}
-use Rattle.p21_schemas.specs.Supertype.{IsA, itself, above}
+use Rattle.p21_exchange.specs.Parameter.{Param, Params, no_params, param, key_of, listed}
+use Rattle.p21_files.specs.BrokenRule.{Breaks}
+use Rattle.p21_files.specs.BrokenValue.{BreaksAt, number_range, missing, star_not_derived, wrong_kind, select_type, wrong_width, out_of_bounds, not_distinct, unknown_item, BreaksWithin, itself, in_underlying, in_chosen, in_element, BreaksAtPlace, stored, IsChoice}
+use Rattle.p21_files.specs.Fits.{Fits, FitsAt, dollar, fits, a_whole, a_real, a_text, a_logical, an_item, as_underlying, a_chosen_type, an_array, a_list, a_set, none_left, fits_next, empty_next}
+use Rattle.p21_files.specs.ParameterKind.{TakesKind, takes_underlying, takes_chosen_instance, takes_chosen_type, of_boolean, of_enumeration}
+use Rattle.p21_files.specs.SameValue.{here, there, same_wholes}
 use Rattle.p21_files.specs.Value as value
-use Rattle.p21_schemas.proofs.DeclaredSchemas.{HasDistinctEntities}
-use Rattle.p21_basics.proofs.Members.{Contains-none, Contains-no_word, Each-at, Each-member}
-use Rattle.p21_files.proofs.RecordSets.{internal-set}
-use Rattle.p21_schemas.proofs.TestSchemas.{entity_of, attribute}
+use Rattle.p21_schemas.specs.PlaceType.{stored_place}
+use Rattle.p21_schemas.specs.Schema as schema
+use Rattle.p21_schemas.specs.Schema.{TypeUse, Kind, Member, alias, items, choice, type_member, entity_member}
+use Rattle.p21_schemas.specs.Select.{Offers, offered, offered_within}
+use Rattle.p21_basics.proofs.Members.{Contains-none, Contains-no_word, Each-member}
+use Rattle.p21_files.proofs.BrokenPlaces.{with_place, e_of, e-breaks, type-breaks, e-breaks_only, types-distinct, e-breaks_none}
+use Rattle.p21_files.proofs.BrokenValues.{dollar-breaks_only, star-breaks_only}
 
--- `ENTITY e; p : type; END_ENTITY;` beside the types DISTANCE (REAL), COLOUR (RED, GREEN) and MEASURE (a select of DISTANCE)
-abbrev pub with_type : TypeUse → Schema
-with_type type = record {
-  name = codes "S";
-  types = record { name = codes "DISTANCE"; kind = alias schema.real }
-      ∷ record { name = codes "COLOUR"; kind = items (codes "RED" ∷ codes "GREEN" ∷ []) }
-      ∷ record { name = codes "MEASURE"; kind = choice (type_member 0 ∷ []) } ∷ [];
-  entities = entity_of (codes "E") [] (attribute (codes "P") type ∷ []) ∷ [];
-  one_of_lists = [];
-}
+-- `E(p)` breaks the rule of this number, where P is of the type; and that of no other
+abbrev pub BreaksWith : TypeUse → Param → ℕ → Type 0
+BreaksWith type p number = Breaks (with_place false type) (e_of p) number
+
+abbrev pub BreaksOnly : TypeUse → Param → ℕ → Type 0
+BreaksOnly type p number = (other : ℕ) → Breaks (with_place false type) (e_of p) other → other ≡ number
+
+-- it breaks none, where P is OPTIONAL or not
+abbrev pub BreaksNone : Bool → TypeUse → Param → Type 0
+BreaksNone optional type p = (number : ℕ) → Breaks (with_place optional type) (e_of p) number → ⊥
+
+within : (type : TypeUse) (p : Param) (number : ℕ) → Breaks (with_place false type) (e_of p) number → BreaksWithin (with_place false type) number type p
+within type p number breaks = by (e-breaks_only false type p number breaks)
+  where
+    by : BreaksAtPlace (with_place false type) (stored_place false type) p number → BreaksWithin (with_place false type) number type p
+    by (stored _ _ _ _ wanted broken) = broken
+
+none_at : (type : TypeUse) (p : Param) (v : value.Value) → Fits (with_place false type) [] type p v → BreaksNone false type p
+none_at type p v fit = e-breaks_none false type [] p v (fits false type p v fit)
+
+abbrev real_one : Decimal
+real_one = record { significand = pos 1; exponent = pos 0 }
 
 abbrev distance : TypeUse
 distance = schema.defined 0
@@ -43,113 +51,150 @@ colour = schema.defined 1
 abbrev measure : TypeUse
 measure = schema.defined 2
 
--- `E(p)`
-abbrev pub e_of : Param → Record
-e_of p = simple (record { key = key_of (codes "E"); params = param p no_params })
+abbrev length_type : TypeUse
+length_type = schema.defined 3
 
-abbrev pub p_place : Place
-p_place = record { entity = 0; index = 0 }
+abbrev item_type : TypeUse
+item_type = schema.defined 4
 
-pub e-named : (type : TypeUse) → NamesEntity (with_type type) (key_of (codes "E")) 0
-e-named type = (codes "E", (entity_of (codes "E") [] (attribute (codes "P") type ∷ []), refl, refl), refl)
+-- MEASURE offers DISTANCE, and ITEM through it
+measure-offers : (optional : Bool) (type : TypeUse) → Offers (with_place optional type) 2 (type_member 0)
+measure-offers optional type = offered 2 (type_member 0 ∷ []) (type_member 0) refl (0, omega arith, refl) (λ (members, is). cc)
 
-only_entity : (type : TypeUse) → HasDistinctEntities (with_type type)
-only_entity type zero zero name named named_ = refl
-only_entity type zero (suc f) name named (x, at, is) = cc
-only_entity type (suc e) f name (x, at, is) named = cc
+-- `$` at REAL and at MEASURE breaks one rule, at an OPTIONAL place none
+pub dollar_at_real : BreaksWith schema.real parameter.dollar 46
+dollar_at_real = type-breaks schema.real parameter.dollar 46 (itself _ _ (missing _))
 
-pub e-set : (type : TypeUse) (p : Param) → IsSetOf (with_type type) (e_of p) (0 ∷ [])
-e-set type p = internal-set (with_type type) (only_entity type) (record { key = key_of (codes "E"); params = param p no_params }) 0 (0 ∷ []) (e-named type) (λ f. (λ among. Each-member (IsA (with_type type) 0) (0 ∷ []) f (itself 0, tt) among, is_e f))
+pub dollar_at_select : BreaksWith measure parameter.dollar 46
+dollar_at_select = type-breaks measure parameter.dollar 46 (itself _ _ (missing _))
+
+pub dollar_at_select-only : BreaksOnly measure parameter.dollar 46
+dollar_at_select-only other breaks = dollar-breaks_only (with_place false measure) other measure (within measure parameter.dollar other breaks)
+
+pub dollar_at_optional : BreaksNone true schema.real parameter.dollar
+dollar_at_optional = e-breaks_none true schema.real [] parameter.dollar value.missing (dollar schema.real)
+
+-- `*` too, at an OPTIONAL place as well
+pub star_at_select : BreaksWith measure parameter.star 47
+star_at_select = type-breaks measure parameter.star 47 (itself _ _ (star_not_derived _))
+
+pub star_at_select-only : BreaksOnly measure parameter.star 47
+star_at_select-only other breaks = star-breaks_only (with_place false measure) other measure (within measure parameter.star other breaks)
+
+pub star_at_optional : Breaks (with_place true schema.real) (e_of parameter.star) 47
+star_at_optional = e-breaks true schema.real parameter.star 47 (stored true schema.real parameter.star 47 (λ h. (let n : parameter.star ≡ parameter.dollar = h.1 in cc)) (itself _ _ (star_not_derived _)))
+
+-- `1` at REAL, where `1.` fits; and at LENGTH, which is a DISTANCE
+abbrev one : Param
+one = parameter.whole (pos 1)
+
+whole-not_taken : (type : TypeUse) → ¬ TakesKind (with_place false type) schema.real one
+whole-not_taken type takes = elim takes [ ]
+
+pub whole_at_real : BreaksWith schema.real one 49
+whole_at_real = type-breaks schema.real one 49 (itself _ _ (wrong_kind _ _ (λ h. cc, λ h. cc, whole-not_taken schema.real) (λ h. h)))
+
+pub whole_at_real-only : BreaksOnly schema.real one 49
+whole_at_real-only other breaks = by (within schema.real one other breaks)
   where
-    is_e : (f : ℕ) → IsA (with_type type) 0 f → Contains (0 ∷ []) f
-    is_e f (itself _) = (0, omega arith, refl)
-    is_e f (above _ next _ among up) = absurd (Contains-none next among)
+    at : (number : ℕ) → BreaksAt (with_place false schema.real) schema.real one number → number ≡ 49
+    at number (wrong_kind _ _ not_taken no_choice) = refl
+    at number (select_type _ _ not_taken choice_) = absurd choice_
+    at number (wrong_width _ _ other) = absurd (other tt)
 
-pub e-type : (type : TypeUse) → TypeAt (with_type type) (0 ∷ []) p_place (stored_place false type)
-e-type type = (underived, inr (not_redeclared, (attribute (codes "P") type, refl, refl, refl)))
+    by : BreaksWithin (with_place false schema.real) other schema.real one → other ≡ 49
+    by (itself _ _ broken) = at other broken
+
+pub real_at_real : BreaksNone false schema.real (parameter.real real_one)
+real_at_real = none_at schema.real (parameter.real real_one) (value.real real_one) (a_real real_one)
+
+pub whole_at_length : BreaksWith length_type one 49
+whole_at_length = type-breaks length_type one 49 (in_underlying 3 distance one refl (in_underlying 0 schema.real one refl (itself _ _ (wrong_kind _ _ (λ h. cc, λ h. cc, whole-not_taken length_type) (λ h. h)))))
+
+-- within a typed parameter a value breaks what it breaks at its type: `DISTANCE($)`, at an OPTIONAL place too, and `DISTANCE(1)`
+abbrev in_distance : Param → Param
+in_distance p = parameter.typed (key_of (codes "DISTANCE")) p
+
+distance-breaks : (optional : Bool) (p : Param) (number : ℕ) → BreaksWithin (with_place optional measure) number schema.real p → BreaksWithin (with_place optional measure) number measure (in_distance p)
+distance-breaks optional p number broken = in_chosen 2 0 (codes "DISTANCE") p (measure-offers optional measure) (_, refl, refl) (in_underlying 0 schema.real p refl broken)
+
+pub dollar_in_distance : Breaks (with_place true measure) (e_of (in_distance parameter.dollar)) 46
+dollar_in_distance = e-breaks true measure (in_distance parameter.dollar) 46 (stored true measure (in_distance parameter.dollar) 46 (λ h. (let n : in_distance parameter.dollar ≡ parameter.dollar = h.1 in cc)) (distance-breaks true parameter.dollar 46 (itself _ _ (missing _))))
+
+pub whole_in_distance : BreaksWith measure (in_distance one) 49
+whole_in_distance = type-breaks measure (in_distance one) 49 (distance-breaks false one 49 (itself _ _ (wrong_kind _ _ (λ h. cc, λ h. cc, whole-not_taken measure) (λ h. h))))
+
+-- and not 54, since the select has the keyword
+pub whole_in_distance-not_select : BreaksWith measure (in_distance one) 54 → ⊥
+whole_in_distance-not_select breaks = by (within measure (in_distance one) 54 breaks)
   where
-    underived : IsDerivedIn (with_type type) (0 ∷ []) p_place → ⊥
-    underived (e, x, in_set, at, among) = let P : List Place → Type 0 = λ ps. Contains ps p_place in Contains-none p_place (subst P (Each-at (λ y. y.derived ≡ []) (with_type type).entities e x (refl, tt) at) among)
+    taken : TakesKind (with_place false measure) measure (in_distance one)
+    taken = takes_chosen_type 2 0 (codes "DISTANCE") one (measure-offers false measure) (_, refl, refl)
 
-    not_redeclared : IsRedeclared (with_type type) (0 ∷ []) p_place → ⊥
-    not_redeclared (e, r, (in_set, (x, at, among), is)) = let P : List Redeclared → Type 0 = λ rs. Contains rs r in Contains-none r (subst P (Each-at (λ y. y.redeclared ≡ []) (with_type type).entities e x (refl, tt) at) among)
+    at : BreaksAt (with_place false measure) measure (in_distance one) 54 → ⊥
+    at (select_type _ _ not_taken choice_) = not_taken.2 taken
 
--- a parameter of `E(p)` that stands at a type, by where it stands inside p
-held_inside : (type : TypeUse) (p : Param) (inner : TypeUse) (q : Param) → IsInside (with_type type) inner q type p → HoldsAt (with_type type) (e_of p) inner q
-held_inside type p inner q inside = record {
-  entities = 0 ∷ [];
-  set_is = e-set type p;
-  place = p_place;
-  optional = false;
-  type = type;
-  type_is = e-type type;
-  outer = p;
-  stands = (record { key = key_of (codes "E"); params = param p no_params }, 0, ((0, omega arith, refl), e-named type), (0, omega arith, refl));
-  wanted = λ h. (let n : false ≡ true = h.0 in cc);
-  inside = inside;
-}
+    at_real : BreaksWithin (with_place false measure) 54 schema.real one → ⊥
+    at_real (itself _ _ (select_type _ _ not_taken choice_)) = choice_
 
-held : (type : TypeUse) (p : Param) → HoldsAt (with_type type) (e_of p) type p
-held type p = held_inside type p type p same_place
+    at_distance : BreaksWithin (with_place false measure) 54 distance one → ⊥
+    at_distance (itself _ _ (select_type _ _ not_taken (members, is))) = cc
+    at_distance (in_underlying _ type _ is broken) =
+        let same : schema.real ≡ type = (let h : Some (alias schema.real) ≡ Some (alias type) = is in cc) in
+        let P : TypeUse → Type 0 = λ x. BreaksWithin (with_place false measure) 54 x one in
+        at_real (subst P (sym same) broken)
 
--- `E($)` and `E(*)` at REAL
-pub dollar-breaks : Breaks (with_type schema.real) (e_of parameter.dollar) 46
-dollar-breaks = missing (schema.real, held schema.real parameter.dollar)
+    by : BreaksWithin (with_place false measure) 54 measure (in_distance one) → ⊥
+    by (itself _ _ broken) = at broken
+    by (in_underlying _ type _ is broken) = cc
+    by (in_chosen _ u name _ offers named broken) =
+        let P : ℕ → Type 0 = λ x. BreaksWithin (with_place false measure) 54 (schema.defined x) one in
+        at_distance (subst P (types-distinct false measure u 0 (codes "DISTANCE") named (_, refl, refl)) broken)
 
-pub star-breaks : Breaks (with_type schema.real) (e_of parameter.star) 47
-star-breaks = star_not_derived (schema.real, held schema.real parameter.star)
+pub real_in_distance : BreaksNone false measure (in_distance (parameter.real real_one))
+real_in_distance = none_at measure (in_distance (parameter.real real_one)) (value.typed 0 (value.real real_one)) (a_chosen_type 2 0 (codes "DISTANCE") _ _ (measure-offers false measure) (_, refl, refl) (as_underlying 0 schema.real _ _ refl (a_real real_one)))
 
--- `E(DISTANCE($))` at MEASURE
-pub inner_dollar-breaks : Breaks (with_type measure) (e_of (parameter.typed (key_of (codes "DISTANCE")) parameter.dollar)) 46
-inner_dollar-breaks = missing (distance, held_inside measure (parameter.typed (key_of (codes "DISTANCE")) parameter.dollar) distance parameter.dollar (in_chosen 2 0 (codes "DISTANCE") parameter.dollar (offered 2 (type_member 0 ∷ []) (type_member 0) refl (0, omega arith, refl) (λ (members, is). cc)) (_, refl, refl) same_place))
+-- a select takes no untyped value, no name where it has no entity, and no keyword of another type or of a select in it:
+-- `1.` and `#1` at MEASURE, `LENGTH(1.)` at MEASURE, `MEASURE(1.)` at ITEM
+select-breaks : (type : TypeUse) (p : Param) → (p ≡ parameter.dollar → ⊥) → (p ≡ parameter.star → ⊥) → IsChoice (with_place false type) type → ¬ TakesKind (with_place false type) type p → BreaksWith type p 54
+select-breaks type p no_dollar no_star choice_ not_taken = type-breaks type p 54 (itself _ _ (select_type _ _ (no_dollar, no_star, not_taken) choice_))
 
--- `E(1)` at REAL, and at MEASURE
-pub whole-breaks : Breaks (with_type schema.real) (e_of (parameter.whole (pos 1))) 49
-whole-breaks = wrong_kind (schema.real, parameter.whole (pos 1), (held schema.real (parameter.whole (pos 1)), λ h. cc, λ h. cc, λ takes. elim takes [ ]), λ t h. cc)
-
-pub untyped-breaks : Breaks (with_type measure) (e_of (parameter.whole (pos 1))) 54
-untyped-breaks = select_type (2, parameter.whole (pos 1), (held measure (parameter.whole (pos 1)), λ h. cc, λ h. cc, not_taken), (type_member 0 ∷ [], refl))
+-- MEASURE offers DISTANCE alone
+measure-only : (type : TypeUse) (m : Member) → Offers (with_place false type) 2 m → m ≡ type_member 0
+measure-only type m (offered _ members _ is among no_select) =
+    let same : type_member 0 ∷ [] ≡ members = (let h : Some (choice (type_member 0 ∷ [])) ≡ Some (choice members) = is in cc) in
+    let P : List Member → Type 0 = λ ms. Contains ms m in
+    Each-member (λ x. x ≡ type_member 0) (type_member 0 ∷ []) m (refl, tt) (subst P (sym same) among)
+measure-only type m (offered_within _ u members _ is among offers) =
+    let same : type_member 0 ∷ [] ≡ members = (let h : Some (choice (type_member 0 ∷ [])) ≡ Some (choice members) = is in cc) in
+    let P : List Member → Type 0 = λ ms. Contains ms (type_member u) in
+    let first : type_member u ≡ type_member 0 = Each-member (λ x. x ≡ type_member 0) (type_member 0 ∷ []) (type_member u) (refl, tt) (subst P (sym same) among) in
+    let distance_is : u ≡ 0 = cc in
+    absurd (no_select u distance_is offers)
   where
-    not_taken : TakesKind (with_type measure) measure (parameter.whole (pos 1)) → ⊥
+    no_select : (u : ℕ) → u ≡ 0 → Offers (with_place false type) u m → ⊥
+    no_select u is (offered _ members_ _ kind_is among_ single) = cc
+    no_select u is (offered_within _ w members_ _ kind_is among_ offers_) = cc
+
+pub real_at_select : BreaksWith measure (parameter.real real_one) 54
+real_at_select = select-breaks measure (parameter.real real_one) (λ h. cc) (λ h. cc) (type_member 0 ∷ [], refl) not_taken
+  where
+    not_taken : TakesKind (with_place false measure) measure (parameter.real real_one) → ⊥
     not_taken (takes_underlying _ type _ is takes) = cc
 
--- `E('abcd')` at STRING(3)
-abbrev three : TypeUse
-three = schema.text (Some (record { most = 3; fixed = false }))
-
-pub long-breaks : Breaks (with_type three) (e_of (parameter.text (codes "abcd"))) 50
-long-breaks = wrong_width (three, parameter.text (codes "abcd"), held three (parameter.text (codes "abcd")), λ within. omega (arith, within.0))
-
--- `E(())` at LIST [1:3] OF REAL
-abbrev few : TypeUse
-few = schema.list 1 (Some 3) false schema.real
-
-pub empty-breaks : Breaks (with_type few) (e_of (parameter.list no_params)) 51
-empty-breaks = out_of_bounds (few, no_params, held few (parameter.list no_params), λ bounded. omega (arith, bounded.0))
-
--- `E((1,1))` at SET OF INTEGER
-abbrev wholes : TypeUse
-wholes = schema.set 0 None schema.whole
-
-abbrev ones : Params
-ones = param (parameter.whole (pos 1)) (param (parameter.whole (pos 1)) no_params)
-
-abbrev one_values : value.Values
-one_values = value.value (value.whole (pos 1)) (value.value (value.whole (pos 1)) value.no_values)
-
-pub ones-break : Breaks (with_type wholes) (e_of (parameter.list ones)) 52
-ones-break = not_distinct (wholes, schema.whole, false, ones, held wholes (parameter.list ones), tt, refl, ([], one_values, fits_next false schema.whole _ _ _ _ (a_whole (pos 1)) (fits_next false schema.whole _ _ _ _ (a_whole (pos 1)) (none_left false schema.whole)), λ distinct. distinct.0 (λ h. cc) (here _ _ _ (same_wholes (pos 1)))))
-
--- `E(.BLUE.)` at COLOUR
-pub blue-breaks : Breaks (with_type colour) (e_of (parameter.item (codes "BLUE"))) 53
-blue-breaks = unknown_item (colour, codes "RED" ∷ codes "GREEN" ∷ [], codes "BLUE", held colour (parameter.item (codes "BLUE")), of_enumeration 1 (codes "RED" ∷ codes "GREEN" ∷ []) refl, Contains-no_word (codes "BLUE") (codes "RED" ∷ codes "GREEN" ∷ []) refl refl)
-
--- a whole number of 10001 digits at NUMBER: its normalised exponent is 10000
-abbrev too_great : ℤ
-too_great = pos (10 ^ 10000)
-
-pub too_great-breaks : Breaks (with_type schema.number) (e_of (parameter.whole too_great)) 8
-too_great-breaks = number_range (too_great, held schema.number (parameter.whole too_great), out_of_range)
+pub name_at_select : BreaksWith measure (parameter.name 1) 54
+name_at_select = select-breaks measure (parameter.name 1) (λ h. cc) (λ h. cc) (type_member 0 ∷ [], refl) not_taken
   where
-    out_of_range : IsInRange (whole_ratio too_great) → ⊥
-    out_of_range in_range = let own : HasNormalisedExponent (whole_ratio too_great) (pos 10000) = record { low = lit≤ tt; high = lit< tt } in (in_range (pos 10000) own).1.le
+    not_taken : TakesKind (with_place false measure) measure (parameter.name 1) → ⊥
+    not_taken (takes_underlying _ type _ is takes) = cc
+    not_taken (takes_chosen_instance _ e _ offers) = let h : entity_member e ≡ type_member 0 = measure-only measure (entity_member e) offers in cc
+
+pub length_at_select : BreaksWith measure (parameter.typed (key_of (codes "LENGTH")) (parameter.real real_one)) 54
+length_at_select = select-breaks measure _ (λ h. cc) (λ h. cc) (type_member 0 ∷ [], refl) not_taken
+  where
+    not_taken : TakesKind (with_place false measure) measure (parameter.typed (key_of (codes "LENGTH")) (parameter.real real_one)) → ⊥
+    not_taken (takes_underlying _ type _ is takes) = cc
+    not_taken (takes_chosen_type _ u name _ offers named) =
+        let h : type_member u ≡ type_member 0 = measure-only measure (type_member u) offers in
+        let distance_is : u ≡ 0 = cc in
+        let length_is : u ≡ 3 = types-distinct false measure u 3 (codes "LENGTH") named (_, refl, refl) in omega (arith, distance_is, length_is)

@@ -4,10 +4,12 @@ use Rattle.std.specs.List.{IsDistinct}
 use Rattle.std.specs.Str.{bytes_eq}
 use Rattle.std.proofs.Common.{arith, rules, inl, inr, ap, sym, subst, ◌∙◌}
 use Rattle.std.proofs.lemmas.Slice.Eq.{bytes_eq-Decides}
-use Rattle.p21_files.specs.BrokenRule.{Breaks, unknown_entity, abstract_leaf, part_missing, part_twice, wrong_count, derived_not_star, open_place, one_of}
+use Rattle.p21_files.specs.BrokenRule.{Breaks, unknown_entity, abstract_leaf, part_missing, part_twice, wrong_count, open_place, one_of, at_place}
+use Rattle.p21_files.specs.BrokenValue.{BreaksAtPlace, derived_not_star}
 use Rattle.p21_files.specs.Meaning.{NamesEntity}
-use Rattle.p21_exchange.specs.Parameter.{dollar, real, whole, Params, no_params, param, key_of}
+use Rattle.p21_exchange.specs.Parameter.{Param, dollar, real, whole, Params, no_params, param, key_of}
 use Rattle.p21_exchange.specs.Record.{Part, Record, simple, complex}
+use Rattle.p21_schemas.specs.PlaceType.{derived_place}
 use Rattle.p21_files.specs.RecordPlaces.{HasPart}
 use Rattle.p21_schemas.specs.Supertype.{IsA, itself, InClosure}
 use Rattle.p21_files.proofs.BrokenRules.{broken-means_nothing}
@@ -68,11 +70,27 @@ pub short_point-breaks : Breaks demo (simple (part_of (codes "POINT") (param dol
 short_point-breaks = wrong_count (part_of (codes "POINT") (param dollar (param (real one) no_params)), 1, ((0, omega arith, refl), (codes "POINT", (point, refl, refl), refl)), omega arith)
 
 -- `ORIGIN($,0.,2.)`
-abbrev number_origin : Part
-number_origin = part_of (codes "ORIGIN") (param dollar (param (real nought) (param (real two) no_params)))
+abbrev origin_part : Param → Part
+origin_part p = part_of (codes "ORIGIN") (param dollar (param p (param (real two) no_params)))
 
-pub number_origin-breaks : Breaks demo (simple number_origin) 48
-number_origin-breaks = derived_not_star (origin_set, x_place, real nought, internal-set demo (distinct_names-entities demo demo-distinct) number_origin 3 origin_set (codes "ORIGIN", (origin, refl, refl), refl) (λ f. (origin-is f, λ up. origin-closed 3 f up (0, omega arith, refl))), (number_origin, 3, ((0, omega arith, refl), (codes "ORIGIN", (origin, refl, refl), refl)), (1, omega arith, refl)), origin-x, λ h. cc)
+origin_place : (p : Param) → BreaksAtPlace demo derived_place p 48 → Breaks demo (simple (origin_part p)) 48
+origin_place p broken = at_place 48 (
+  origin_set,
+  x_place,
+  derived_place,
+  p,
+  internal-set demo (distinct_names-entities demo demo-distinct) (origin_part p) 3 origin_set (codes "ORIGIN", (origin, refl, refl), refl) (λ f. (origin-is f, λ up. origin-closed 3 f up (0, omega arith, refl))),
+  origin-x,
+  (origin_part p, 3, ((0, omega arith, refl), (codes "ORIGIN", (origin, refl, refl), refl)), (1, omega arith, refl)),
+  broken,
+)
+
+pub number_origin-breaks : Breaks demo (simple (origin_part (real nought))) 48
+number_origin-breaks = origin_place (real nought) (derived_not_star (real nought) (λ h. cc))
+
+-- and `ORIGIN($,$,2.)`
+pub dollar_origin-breaks : Breaks demo (simple (origin_part dollar)) 48
+dollar_origin-breaks = origin_place dollar (derived_not_star dollar (λ h. cc))
 
 -- `(R(1)A()B())` under REDECL
 redecl-distinct : IsDistinct bytes_eq (names_of_all redecl)

@@ -1,4 +1,5 @@
 mod BrokenExamples
+mod BrokenPlaces
 mod BrokenRecords
 mod CanonicalExamples
 mod ClashAbove
@@ -11,10 +12,10 @@ mod MeaningExamples
 mod NamedExample
 mod NamedPoints
 mod OneOfExamples
-mod OnlyBroken
 mod SectionExamples
 mod ValueExamples
 pub mod BrokenRules
+pub mod BrokenValues
 pub mod Dead
 pub mod DemoExample
 pub mod FitsWider

@@ -1,8 +1,8 @@
--- What stands inside a parameter that fits a type fits the type that it stands at, and is of a kind that this type takes.
+-- A parameter that fits a type is of a kind that the type takes, and what stands inside it fits the type that it stands at.
 use Rattle.std.specs.Prelude.{◌≡◌, ℕ, suc, ◌+◌, Bool, true, List, length, Option, Some, Contains, refl}
 use Rattle.std.proofs.Common.{inl, inr, ap, sym, subst, ◌∙◌}
 use Rattle.p21_files.specs.Fits.{Fits, IsBounded, a_whole, a_real, a_number, a_whole_number, a_boolean, a_logical, a_text, a_binary, an_instance, as_underlying, an_item, a_chosen_instance, a_chosen_type, an_array, a_list, a_set, a_bag, FitEach, none_left, fits_next, empty_next}
-use Rattle.p21_files.specs.Inside.{IsLeftOut, IsInside, itself, in_underlying, in_chosen, in_element}
+use Rattle.p21_files.specs.BrokenValue.{IsLeftOut}
 use Rattle.p21_exchange.specs.Parameter as parameter
 use Rattle.p21_exchange.specs.Parameter.{Param, Params, key_of, listed}
 use Rattle.p21_files.specs.ParameterKind.{TakesKind, takes_whole, takes_real, takes_number, takes_whole_number, takes_boolean, takes_logical, takes_text, takes_binary, takes_instance, takes_underlying, takes_item, takes_chosen_instance, takes_chosen_type, takes_array, takes_list, takes_set, takes_bag, AllowsCount, element_type, IsUnique}
@@ -97,7 +97,8 @@ elements-fit s kinds aggregate optional type ps v is (a_bag low high t _ vs each
   distinct = λ unique. absurd unique;
 }
 
-underlying-fits : (s : Schema) (kinds : Kinds) (t : ℕ) (type : TypeUse) (p : Param) (v : Value) → kind_of s t ≡ Some (alias type) → Fits s kinds (schema.defined t) p v → Fits s kinds type p v
+-- so it fits the underlying type
+pub underlying-fits : (s : Schema) (kinds : Kinds) (t : ℕ) (type : TypeUse) (p : Param) (v : Value) → kind_of s t ≡ Some (alias type) → Fits s kinds (schema.defined t) p v → Fits s kinds type p v
 underlying-fits s kinds t type p v is (as_underlying _ under _ _ is_ fit) =
     let same : under ≡ type = (let h : Some (alias under) ≡ Some (alias type) = sym is_ ∙ is in cc) in
     let P : TypeUse → Type 0 = λ u. Fits s kinds u p v in subst P same fit
@@ -105,19 +106,9 @@ underlying-fits s kinds t type p v is (an_item _ words word is_ among) = let h :
 underlying-fits s kinds t type p v is (a_chosen_instance _ n served) = absurd (alias_offers_nothing s t type (schema.entity_member served.2.0) is served.2.1)
 underlying-fits s kinds t type p v is (a_chosen_type _ u name q w offers named fit) = absurd (alias_offers_nothing s t type (type_member u) is offers)
 
-chosen-fits : (s : Schema) (kinds : Kinds) → HasDistinctTypes s → (t u : ℕ) (name : List ℕ) (p : Param) (v : Value) → Offers s t (type_member u) → TypeNamed s u name → Fits s kinds (schema.defined t) (parameter.typed (key_of name) p) v → (w : Value) × Fits s kinds (schema.defined u) p w
+-- and the value of a typed parameter the type that its keyword names
+pub chosen-fits : (s : Schema) (kinds : Kinds) → HasDistinctTypes s → (t u : ℕ) (name : List ℕ) (p : Param) (v : Value) → Offers s t (type_member u) → TypeNamed s u name → Fits s kinds (schema.defined t) (parameter.typed (key_of name) p) v → (w : Value) × Fits s kinds (schema.defined u) p w
 chosen-fits s kinds distinct t u name p v offers named (as_underlying _ under _ _ is fit) = absurd (alias_offers_nothing s t under (type_member u) is offers)
 chosen-fits s kinds distinct t u name p v offers named (a_chosen_type _ other _ _ w offers_ named_ fit) =
     let same : other ≡ u = distinct other u name named_ named in
     let P : ℕ → Type 0 = λ x. Fits s kinds (schema.defined x) p w in (w, subst P same fit)
-
--- what stands inside fits, too
-pub inside-fits : (s : Schema) (kinds : Kinds) → HasDistinctTypes s → (inner : TypeUse) (q : Param) (type : TypeUse) (p : Param) (v : Value) → IsInside s inner q type p → Fits s kinds type p v → (w : Value) × Fits s kinds inner q w
-inside-fits s kinds distinct inner q type p v itself fit = (v, fit)
-inside-fits s kinds distinct inner q type p v (in_underlying t under _ is inside) fit = inside-fits s kinds distinct inner q under p v inside (underlying-fits s kinds t under p v is fit)
-inside-fits s kinds distinct inner q type p v (in_chosen t u name x offers named inside) fit =
-    let (w, fit_) = chosen-fits s kinds distinct t u name x v offers named fit in inside-fits s kinds distinct inner q (schema.defined u) x w inside fit_
-inside-fits s kinds distinct inner q type p v (in_element aggregate optional element ps x is among wanted inside) fit =
-    let fits = elements-fit s kinds aggregate optional element ps v is fit in
-    let (w, fit_) = each-fits s kinds optional element ps fits.values x fits.each among wanted in
-    inside-fits s kinds distinct inner q element x w inside fit_

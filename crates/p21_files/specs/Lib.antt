@@ -5,7 +5,7 @@ pub mod Fits
 pub mod Meaning
 pub mod RecordPlaces
 pub mod ParameterKind
-pub mod Inside
+pub mod BrokenValue
 pub mod BrokenRule
 pub mod File
 pub mod SameFile
