@@ -1,6 +1,2 @@
--- What the commands write for what they read.
+-- What the command line may say.
 pub mod CommandLine
-pub mod Fault
-pub mod Param
-pub mod Status
-pub mod Transfer

@@ -5,19 +5,13 @@ ghost use Rattle.std.specs.Prelude.{◌≡◌, ◌≢◌, ◌⊎◌};
 ghost use Rattle.std.specs.IoError.{error_kind};
 ghost use Rattle.std.specs.declared.io.ErrorKind.TheVariants.{OutOfMemory};
 ghost use Rattle.clap.specs.Words.{kind_of};
-ghost use Rattle.p21.specs.Status.{done, refused, usage, failed};
+ghost use Rattle.p21_commands.specs.Status.{done, refused, usage, failed};
 
 mod command_line;
-mod fault;
-mod param;
-mod status;
-mod transfer;
 
 use clap::error::{Error, ErrorKind};
 use command_line::command_line;
-use fault::{CommandFault, report};
-use param::param_command;
-use status::{DONE, FAILED, USAGE};
+use p21_commands::{CommandFault, DONE, FAILED, USAGE, param_command, report};
 use std::process::ExitCode;
 use std::{env, fs, io};
 

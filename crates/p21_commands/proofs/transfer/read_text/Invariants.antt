@@ -1,7 +1,7 @@
 use Rattle.std.proofs.Common.{length, ◌-◌}
-use Rattle.p21.proofs.TransferLemmas.{IsRead}
-use Rattle.p21.specs.Transfer.{most_read}
-use Rattle.p21.proofs.transfer.read_text.Given as goal
+use Rattle.p21_commands.proofs.TransferLemmas.{IsRead}
+use Rattle.p21_commands.specs.Transfer.{most_read}
+use Rattle.p21_commands.proofs.transfer.read_text.Given as goal
 
 abbrev pub invariant-loop-piece : goal.invariant-loop-piece
 invariant-loop-piece g l = IsRead most_read (g.R.Read.remaining l.initial.reader) (g.R.Read.remaining l.reader) l.text.items

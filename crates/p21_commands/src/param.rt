@@ -1,9 +1,9 @@
 //! The command `param`.
 ghost use Rattle.std.specs.Prelude.{◌≡◌, ◌⊎◌, IfErr, IfOk, MatchResult, OnOk, string_bytes};
 ghost use Rattle.std.specs.Io.KnownBytes.{Keeps};
-ghost use Rattle.p21.specs.Param.{Fails, FailsBy, IsAnswerLine, IsAnswered, IsRefused, RefusesBy, refusal_line};
-ghost use Rattle.p21.specs.Status.{done, failed, refused};
-ghost use Rattle.p21.specs.Transfer.{ConsumesAtMost, Writes};
+ghost use Rattle.p21_commands.specs.Param.{Fails, FailsBy, IsAnswerLine, IsAnswered, IsRefused, RefusesBy, refusal_line};
+ghost use Rattle.p21_commands.specs.Status.{done, failed, refused};
+ghost use Rattle.p21_commands.specs.Transfer.{ConsumesAtMost, Writes};
 
 use crate::fault::{CommandFault, report};
 use crate::status::DONE;

@@ -1,5 +1,5 @@
-use Rattle.p21.proofs.ReportLemmas.{failure_reported, not_done, refusal_written}
-use Rattle.p21.proofs.param.param_command.Goals as goal
+use Rattle.p21_commands.proofs.ReportLemmas.{failure_reported, not_done, refusal_written}
+use Rattle.p21_commands.proofs.param.param_command.Goals as goal
 
 pub returns-in-Err-clause-answered : goal.returns-in-Err-clause-answered
 returns-in-Err-clause-answered g c e = absurd (not_done _ _ _ _ c.report.ensures e)

@@ -1,7 +1,7 @@
 //! Reading and writing whole texts.
 ghost use Rattle.std.specs.Prelude.{◌≡◌, ◌⊎◌, ◌≤◌, length, IfOk, IfErr, OnOk, OnErr};
 ghost use Rattle.std.specs.Io.KnownBytes.{Appends};
-ghost use Rattle.p21.specs.Transfer.{AppendsPartOf, ConsumesAtMost, GivesText};
+ghost use Rattle.p21_commands.specs.Transfer.{AppendsPartOf, ConsumesAtMost, GivesText};
 
 use crate::fault::CommandFault;
 use std::alloc::Global;

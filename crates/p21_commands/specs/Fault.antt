@@ -1,10 +1,10 @@
 -- The line and the exit status of each fault of a command.
 use Rattle.std.specs.Prelude.{Option, ◌≡◌, ◌⊎◌, ℕ, List, codes, string_bytes}
 use Rattle.std.specs.Io.KnownBytes.{Appends}
-use Rattle.p21.specs.Transfer.{AppendsPartOf}
-use Rattle.p21.specs.Status.{failed, refused}
-use Rattle.p21.specs.declared.fault.CommandFault.{CommandFault}
-use Rattle.p21.specs.declared.fault.CommandFault.TheVariants.{Refused, NoMemory, Read, Write}
+use Rattle.p21_commands.specs.Transfer.{AppendsPartOf}
+use Rattle.p21_commands.specs.Status.{failed, refused}
+use Rattle.p21_commands.specs.declared.fault.CommandFault.{CommandFault}
+use Rattle.p21_commands.specs.declared.fault.CommandFault.TheVariants.{Refused, NoMemory, Read, Write}
 
 -- what is written to the fault output
 abbrev pub fault_line : CommandFault → List ℕ

@@ -1,6 +1,6 @@
 //! Why a command gives no answer, and the line and the exit status that say so.
 ghost use Rattle.std.specs.Prelude.{◌≡◌};
-ghost use Rattle.p21.specs.Fault.{Reports};
+ghost use Rattle.p21_commands.specs.Fault.{Reports};
 
 use crate::status::{FAILED, REFUSED};
 use crate::transfer::write_whole;
@@ -21,7 +21,7 @@ pub enum CommandFault {
 }
 
 impl CommandFault {
-    ghost use Rattle.p21.specs.Fault.{fault_line, fault_status};
+    ghost use Rattle.p21_commands.specs.Fault.{fault_line, fault_status};
 
     /// The line for the fault output, with the line feed behind it.
     pub fn line(&self) -> &[u8]
@@ -47,7 +47,7 @@ impl CommandFault {
 }
 
 impl From<AllocError> for CommandFault {
-    ghost use Rattle.p21.specs.declared.fault.CommandFault.TheVariants.{NoMemory};
+    ghost use Rattle.p21_commands.specs.declared.fault.CommandFault.TheVariants.{NoMemory};
 
     ghost from_gives = { λ _ fault. fault ≡ NoMemory };
 
@@ -57,7 +57,7 @@ impl From<AllocError> for CommandFault {
 }
 
 impl<T: Drop> From<AllocFailed<T>> for CommandFault {
-    ghost use Rattle.p21.specs.declared.fault.CommandFault.TheVariants.{NoMemory};
+    ghost use Rattle.p21_commands.specs.declared.fault.CommandFault.TheVariants.{NoMemory};
 
     ghost from_gives = { λ _ fault. fault ≡ NoMemory };
 

@@ -1,6 +1,6 @@
 use Rattle.std.proofs.Common.{length}
-use Rattle.p21.proofs.TransferLemmas.{IsWritten}
-use Rattle.p21.proofs.transfer.write_whole.Given as goal
+use Rattle.p21_commands.proofs.TransferLemmas.{IsWritten}
+use Rattle.p21_commands.proofs.transfer.write_whole.Given as goal
 
 -- what was written so far, and the rest
 abbrev pub invariant-loop-rest : goal.invariant-loop-rest

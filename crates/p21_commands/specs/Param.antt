@@ -5,11 +5,11 @@ use Rattle.p21_tokens.specs.Fault.{fault_number, fault_name}
 use Rattle.p21_tokens.specs.Parameter.{IsAnswer, IsRefusal}
 use Rattle.p21_tokens.specs.declared.fault.TokenFault.{TokenFault}
 use Rattle.p21_tokens.specs.declared.fault.TokenFault.TheVariants as token_fault
-use Rattle.p21.specs.Fault.{Reports}
-use Rattle.p21.specs.Transfer.{GivesText, WritesPart}
-use Rattle.p21.specs.Status.{failed}
-use Rattle.p21.specs.declared.fault.CommandFault.{CommandFault}
-use Rattle.p21.specs.declared.fault.CommandFault.TheVariants.{Refused, NoMemory, Read, Write}
+use Rattle.p21_commands.specs.Fault.{Reports}
+use Rattle.p21_commands.specs.Transfer.{GivesText, WritesPart}
+use Rattle.p21_commands.specs.Status.{failed}
+use Rattle.p21_commands.specs.declared.fault.CommandFault.{CommandFault}
+use Rattle.p21_commands.specs.declared.fault.CommandFault.TheVariants.{Refused, NoMemory, Read, Write}
 
 -- `refused NUMBER NAME` and a line feed
 abbrev pub refusal_line : TokenFault → List ℕ

@@ -1,11 +1,11 @@
 -- What a report says by its status.
 use Rattle.std.proofs.Common.{◌≡◌, ℕ, List, Option, inl, inr, refl, subst, string_bytes}
-use Rattle.p21.specs.Fault.{Reports, fault_status}
-use Rattle.p21.specs.Param.{Fails, FailsBy, IsRefused}
-use Rattle.p21.specs.Status.{done, failed, refused}
-use Rattle.p21.specs.Transfer.{Writes}
-use Rattle.p21.specs.declared.fault.CommandFault.{CommandFault}
-use Rattle.p21.specs.declared.fault.CommandFault.TheVariants.{Refused}
+use Rattle.p21_commands.specs.Fault.{Reports, fault_status}
+use Rattle.p21_commands.specs.Param.{Fails, FailsBy, IsRefused}
+use Rattle.p21_commands.specs.Status.{done, failed, refused}
+use Rattle.p21_commands.specs.Transfer.{Writes}
+use Rattle.p21_commands.specs.declared.fault.CommandFault.{CommandFault}
+use Rattle.p21_commands.specs.declared.fault.CommandFault.TheVariants.{Refused}
 
 pub not_done : (fault : CommandFault) (status : ℕ) (old new : Option (List ℕ)) → Reports fault status old new → status ≡ done → ⊥
 not_done (Refused line) status old new (inl r) e = cc (r.0, e)

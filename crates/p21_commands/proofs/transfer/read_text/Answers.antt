@@ -1,7 +1,7 @@
 use Rattle.std.proofs.Common.{arith, rules}
-use Rattle.p21.proofs.TransferLemmas.{consumes_nothing, gives_all, gives_most, read_more}
-use Rattle.p21.specs.Transfer.{most_read}
-use Rattle.p21.proofs.transfer.read_text.Goals as goal
+use Rattle.p21_commands.proofs.TransferLemmas.{consumes_nothing, gives_all, gives_most, read_more}
+use Rattle.p21_commands.specs.Transfer.{most_read}
+use Rattle.p21_commands.proofs.transfer.read_text.Goals as goal
 
 pub returns-then-count-eq0-clause-text : goal.returns-then-count-eq0-clause-text
 returns-then-count-eq0-clause-text g c =
