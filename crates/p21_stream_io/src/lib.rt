@@ -1,6 +1,12 @@
 //! Readers and writers of whole files: their calls are counted, their bytes are read in pieces and written whole.
 #![tactic(auto)]
 
+mod fault;
+mod transfer;
+mod waiting;
 mod watched;
 
+pub use fault::{ReadFault, WriteFault};
+pub use transfer::{read_piece, write_whole};
+pub use waiting::Waiting;
 pub use watched::Watched;
