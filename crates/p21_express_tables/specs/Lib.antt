@@ -1,2 +1,4 @@
 pub mod Coding
 pub mod Names
+pub mod Parts
+pub mod Resolved

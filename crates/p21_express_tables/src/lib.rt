@@ -2,5 +2,9 @@
 #![tactic(auto)]
 
 mod names;
+mod parts;
+mod schema;
 
 pub use names::Names;
+pub use parts::{Attribute, Defined, Entity, Parts, Redeclared};
+pub use schema::Schema;
