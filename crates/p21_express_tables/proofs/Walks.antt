@@ -53,7 +53,7 @@ set_count (true ∷ done) (suc top) is = set_count done top is
 set_count (false ∷ done) (suc top) is = ap suc (set_count done top is)
 
 -- an element of a list with one more at its end
-snoc_cases : (xs : List ℕ) (z k x : ℕ) → slice_get (xs ++ z ∷ []) k ≡ Some x → ((slice_get xs k ≡ Some x) × (k < length xs)) ⊎ ((k ≡ length xs) × (x ≡ z))
+pub snoc_cases : (xs : List ℕ) (z k x : ℕ) → slice_get (xs ++ z ∷ []) k ≡ Some x → ((slice_get xs k ≡ Some x) × (k < length xs)) ⊎ ((k ≡ length xs) × (x ≡ z))
 snoc_cases [] z zero x is = let same : z ≡ x = cc in inr (refl, sym same)
 snoc_cases [] z (suc k) x is = cc
 snoc_cases (y ∷ xs) z zero x is = inl (is, omega arith)

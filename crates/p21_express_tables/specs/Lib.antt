@@ -1,5 +1,7 @@
 pub mod Coding
+pub mod Gathering
 pub mod Names
+pub mod Orders
 pub mod Parts
 pub mod Resolved
 pub mod Settled

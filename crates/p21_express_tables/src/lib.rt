@@ -1,7 +1,9 @@
 //! A schema with all names resolved (ISO 10303-11), prepared so that each look-up costs little.
 #![tactic(auto)]
 
+mod gathered;
 mod names;
+mod orders;
 mod parts;
 mod schema;
 mod settle;
