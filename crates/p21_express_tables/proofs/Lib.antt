@@ -1,1 +1,5 @@
+pub mod Gatherings
 pub mod Naming
+pub mod OrderTables
+pub mod Ranks
+pub mod Walks

@@ -1,2 +1,9 @@
 pub mod Coding
+pub mod Gathering
 pub mod Names
+pub mod Orders
+pub mod Parts
+pub mod Resolved
+pub mod Settled
+pub mod Walk
+pub mod Walking

@@ -1,0 +1,69 @@
+use Rattle.std.specs.Prelude.{◌≡◌, ◌<◌, ◌+◌, ◌++◌, ◌∷◌, [], suc, ℕ, List, Some, Contains, length, slice_get, slice_set, take}
+use Rattle.std.specs.List.{flat_map}
+use Rattle.std.proofs.Common.{arith, ap, sym, ◌∙◌, subst, get_or}
+use Rattle.std.proofs.lemmas.List.{take_all}
+use Rattle.std.proofs.lemmas.Option.{slice_get-get_or}
+use Rattle.p21_schemas.specs.Order.{order}
+use Rattle.p21_schemas.specs.Supertype.{supertypes_of}
+use Rattle.p21_express_tables.specs.Gathering.{add_firsts}
+use Rattle.p21_express_tables.specs.Orders.{numbers, tabled}
+use Rattle.p21_express_tables.specs.Settled.{nexts_of}
+use Rattle.p21_express_tables.specs.Parts.{schema_of}
+use Rattle.p21_express_tables.proofs.orders.orders.Goals as goal
+use Rattle.p21_express_tables.proofs.Gatherings.{mapped-length}
+use Rattle.p21_express_tables.proofs.OrderTables.{AreSoFar, is-entity, next-order, so-far-more, all-orders, are-entities}
+
+pub supertypes_of-supertypes-requires : goal.supertypes_of-supertypes-requires
+supertypes_of-supertypes-requires c =
+    is-entity (schema_of c.args.parts.now) c.requires.holds c.args.listed.now c.requires.settled (tabled c.loop-number.orders.items) c.loop-number.number-index (get_or c.args.listed.now c.loop-number.number-index 0)
+    (slice_get-get_or c.args.listed.now c.loop-number.number-index 0 c.loop-number-test.true) c.loop-number.invariant.0
+
+pub gather-requires-clause-there : goal.gather-requires-clause-there
+gather-requires-clause-there c e among =
+    let P : List ℕ → Type 0 = λ xs. Contains xs e in
+    let below = are-entities (schema_of c.args.parts.now) c.requires.holds (get_or c.args.listed.now c.loop-number.number-index 0) e (subst P c.supertypes_of-supertypes.ensures among) in
+    omega (arith, below, c.loop-number.invariant.0.size, mapped-length (λ x. numbers x.items) c.loop-number.orders.items, ap length c.deref.ensures.value)
+
+pub gather-requires-clause-within : goal.gather-requires-clause-within
+gather-requires-clause-within c x y among =
+    let P : List (List ℕ) → Type 0 = λ lists. Contains (nexts_of lists x) y in
+    let below = c.loop-number.invariant.0.within x y (subst P (ap tabled c.deref.ensures.value) among) in
+    omega (arith, below, ap (λ g. g.count) c.loop-number.invariant.1)
+
+pub gather-requires-clause-entity : goal.gather-requires-clause-entity
+gather-requires-clause-entity c =
+    let below = is-entity (schema_of c.args.parts.now) c.requires.holds c.args.listed.now c.requires.settled (tabled c.loop-number.orders.items) c.loop-number.number-index (get_or c.args.listed.now c.loop-number.number-index 0)
+    (slice_get-get_or c.args.listed.now c.loop-number.number-index 0 c.loop-number-test.true) c.loop-number.invariant.0 in
+    omega (arith, below, ap (λ g. g.count) c.loop-number.invariant.1)
+
+pub put_order-requires : goal.put_order-requires
+put_order-requires c =
+    let below = is-entity (schema_of c.args.parts.now) c.requires.holds c.args.listed.now c.requires.settled (tabled c.loop-number.orders.items) c.loop-number.number-index (get_or c.args.listed.now c.loop-number.number-index 0)
+    (slice_get-get_or c.args.listed.now c.loop-number.number-index 0 c.loop-number-test.true) c.loop-number.invariant.0 in
+    omega (arith, below, c.loop-number.invariant.0.size)
+
+pub loop-number-preserved : goal.loop-number-preserved
+loop-number-preserved c =
+    let s = schema_of c.args.parts.now in
+    let e : ℕ = get_or c.args.listed.now c.loop-number.number-index 0 in
+    let lists : List (List ℕ) = tabled c.loop-number.orders.items in
+    let at : slice_get c.args.listed.now c.loop-number.number-index ≡ Some e = slice_get-get_or c.args.listed.now c.loop-number.number-index 0 c.loop-number-test.true in
+    let so_far = c.loop-number.invariant.0 in
+    let gathered : numbers c.take.result.items ≡ order s e =
+    c.take.ensures.taken
+    ∙ ap (λ g. g.numbers) c.in_ok-gather.ensures
+    ∙ ap (λ xs. add_firsts xs (flat_map (nexts_of (tabled c.deref.result.now)) (numbers c.supertypes_of-supertypes.result.now) ++ e ∷ [])) (ap (λ g. g.numbers) c.loop-number.invariant.1)
+    ∙ ap (λ ls. add_firsts [] (flat_map (nexts_of ls) (numbers c.supertypes_of-supertypes.result.now) ++ e ∷ [])) (ap tabled c.deref.ensures.value)
+    ∙ ap (λ xs. add_firsts [] (flat_map (nexts_of lists) xs ++ e ∷ [])) c.supertypes_of-supertypes.ensures
+    ∙ next-order s c.requires.holds c.args.listed.now c.requires.settled lists c.loop-number.number-index e at so_far in
+    let P : List (List ℕ) → Type 0 = λ ls. AreSoFar s ls (take (c.loop-number.number-index + 1) c.args.listed.now) in
+    let Q : ℕ → Type 0 = λ n. AreSoFar s (slice_set lists e (order s e)) (take n c.args.listed.now) in
+    let next : c.loop-number.number-index + 1 ≡ suc c.loop-number.number-index = omega arith in (
+      subst P (sym (c.put_order.ensures ∙ ap (slice_set lists e) gathered)) (subst Q (sym next) (so-far-more s c.requires.holds c.args.listed.now c.requires.settled lists c.loop-number.number-index e at so_far)),
+      c.take.ensures.left ∙ ap (λ n. record { count = n; numbers = [] }) (ap (λ g. g.count) c.in_ok-gather.ensures ∙ ap (λ g. g.count) c.loop-number.invariant.1),
+    )
+
+pub returns : goal.returns
+returns c =
+    let P : List ℕ → Type 0 = λ xs. AreSoFar (schema_of c.args.parts.now) (tabled c.loop-number.orders.items) xs in
+    all-orders (schema_of c.args.parts.now) c.args.listed.now c.requires.settled (tabled c.loop-number.orders.items) (subst P (take_all c.loop-number.number-index c.args.listed.now c.loop-number-test.false) c.loop-number.invariant.0)

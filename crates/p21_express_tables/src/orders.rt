@@ -1,0 +1,78 @@
+ghost use Rattle.std.specs.Prelude.{◌≡◌, ◌<◌, ℕ, [], ◌∷◌, ◌++◌, length, slice_set, Contains, IfOk, OnOk};
+ghost use Rattle.std.specs.List.{flat_map};
+ghost use Rattle.p21_schemas.specs.Supertype.{supertypes_of as supertypes};
+ghost use Rattle.p21_express_tables.specs.Gathering.{add_firsts};
+ghost use Rattle.p21_express_tables.specs.Orders.{AreOrders, numbers, supertype_lists, tabled};
+ghost use Rattle.p21_express_tables.specs.Parts.{schema_of};
+ghost use Rattle.p21_express_tables.specs.Resolved.{HoldsTogether};
+ghost use Rattle.p21_express_tables.specs.Settled.{AreWithin, IsSettled, nexts_of};
+
+use crate::gathered::Gathered;
+use crate::parts::Parts;
+use p21_express_types::EntityId;
+use p21_values::NoMemory;
+use std::alloc::Global;
+
+/// The order of each entity, where each is listed behind its supertypes.
+pub(crate) fn orders(
+    alloc: Global,
+    parts: &Parts,
+    listed: &[u32],
+) -> Result<Vec<Vec<EntityId>>, NoMemory>
+    requires holds { HoldsTogether (schema_of parts.now) }
+    requires settled { IsSettled (supertype_lists (schema_of parts.now)) listed.now }
+    ensures { IfOk result (λ orders. AreOrders (schema_of parts.now) (tabled orders.items)) }
+{
+    let count = parts.entities.len();
+    let mut gathered = Gathered::new(alloc, count)?;
+    let mut orders = empty_lists(alloc, count)?;
+    for number in listed {
+        let supertypes = supertypes_of(parts, *number);
+        gather(supertypes, EntityId(*number), &orders, &mut gathered)?;
+        put_order(&mut orders, *number, gathered.take());
+    }
+    Ok(orders)
+}
+
+fn supertypes_of(parts: &Parts, entity: u32) -> &[EntityId]
+    requires { entity < length (schema_of parts.now).entities }
+    ensures { numbers result.now ≡ supertypes (schema_of parts.now) entity }
+{
+    &parts.entities[entity as usize].supertypes
+}
+
+fn put_order(orders: &mut Vec<Vec<EntityId>>, entity: u32, order: Vec<EntityId>)
+    requires { entity < length (tabled orders.old.items) }
+    ensures { tabled orders.new.items ≡ slice_set (tabled orders.old.items) entity (numbers order.items) }
+{
+    orders[entity as usize] = order;
+}
+
+fn empty_lists(alloc: Global, count: usize) -> Result<Vec<Vec<EntityId>>, NoMemory>
+    ensures { IfOk result (λ lists. (length lists.items ≡ count) × ((x : ℕ) → nexts_of (tabled lists.items) x ≡ [])) }
+{
+    let mut lists = Vec::with_capacity(alloc, count)?;
+    for _ in 0..count {
+        lists.push(Vec::new(alloc))?;
+    }
+    Ok(lists)
+}
+
+/// Gathers the orders of the supertypes, then the entity itself.
+fn gather(
+    supertypes: &[EntityId],
+    entity: EntityId,
+    orders: &[Vec<EntityId>],
+    gathered: &mut Gathered,
+) -> Result<(), NoMemory>
+    requires there { (e : ℕ) → Contains (numbers supertypes.now) e → e < length orders.now }
+    requires within { (x y : ℕ) → Contains (nexts_of (tabled orders.now) x) y → y < gathered.old.count }
+    requires entity { entity.0 < gathered.old.count }
+    ensures { OnOk result (gathered.new ≡ record { count = gathered.old.count; numbers = add_firsts gathered.old.numbers (flat_map (nexts_of (tabled orders.now)) (numbers supertypes.now) ++ entity.0 ∷ []) }) }
+{
+    for supertype in supertypes {
+        gathered.add_all(&orders[supertype.0 as usize])?;
+    }
+    gathered.add(entity)?;
+    Ok(())
+}
