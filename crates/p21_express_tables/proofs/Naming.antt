@@ -1,13 +1,15 @@
 -- A name among names that are stored in some form.
-use Rattle.std.specs.Prelude.{◌≡◌, ℕ, Bool, true, false, List, [], ◌∷◌, ◌++◌, ◌||◌, map, length, slice_get, position, Option, Some, None, Contains, refl, if◌then◌else◌, not, is_some, MatchOption}
+use Rattle.std.specs.Prelude.{◌≡◌, ℕ, zero, suc, ◌<◌, ◌^◌, Bool, true, false, List, [], ◌∷◌, ◌++◌, ◌||◌, map, slice_get, position, Option, Some, None, Contains, refl, if◌then◌else◌, not, is_some, MatchOption}
 use Rattle.std.specs.List.{list_any}
 use Rattle.std.specs.Str.{bytes_eq}
 use Rattle.std.proofs.Common.{arith, sym, ap, ◌∙◌, subst, inl, inr}
 use Rattle.std.proofs.lemmas.List.{map-append}
 use Rattle.std.proofs.lemmas.Slice.Eq.{bytes_eq-Decides}
 use Rattle.std.proofs.lemmas.List.Quantifiers.{position-Some}
-use Rattle.std.proofs.lemmas.Option.{slice_get-map, slice_get-get_or}
-use Rattle.p21_basics.proofs.Members.{Contains-none, Contains-first, Contains-later, Contains-cases}
+use Rattle.std.proofs.lemmas.Option.{slice_get-map, slice_get-get_or, slice_get_within}
+use Rattle.p21_schemas.specs.Schema.{Schema, Entity, Defined}
+use Rattle.p21_express_tables.specs.Resolved.{HoldsTogether}
+use Rattle.p21_basics.proofs.Members.{Contains-none, Contains-later, Contains-cases, Contains-mapped, Contains-found}
 use Rattle.p21_express_tables.specs.Names.{Adds}
 
 module _ {X : Type 0} (items : X → List ℕ) (name : List ℕ) where
@@ -32,6 +34,7 @@ module _ {X : Type 0} (items : X → List ℕ) (name : List ℕ) where
       first : (a b : Bool) → a ≡ true → (a || b) ≡ true
       first true b is = refl
       first false b is = cc
+
       later : (a b : Bool) → b ≡ true → (a || b) ≡ true
       later true b is = refl
       later false b is = is
@@ -64,3 +67,21 @@ kept {X} items k keys new after new_is after_is = cases (list_any (test items (i
 pub adds : {X : Type 0} (items : X → List ℕ) (name : List ℕ) (k : X) (keys : List X) (new : Bool) (after : List X) → items k ≡ name → new ≡ not (list_any (test items (items k)) keys)
     → after ≡ (if list_any (test items (items k)) keys then keys else keys ++ k ∷ []) → Adds (map items keys) name new (map items after)
 adds items name k keys new after same new_is after_is = let P : List ℕ → Type 0 = λ n. Adds (map items keys) n new (map items after) in subst P same (kept items k keys new after new_is after_is)
+
+module _ {X : Type 0} (name_of : X → List ℕ) where
+  -- the thing of a number has the name of that number
+  pub named : (xs : List X) (at : ℕ) (name : List ℕ) → slice_get (map name_of xs) at ≡ Some name → (x : X) × (slice_get xs at ≡ Some x) × (name_of x ≡ name)
+  named [] at name is = cc
+  named (x ∷ xs) zero name is = (x, refl, let same : name_of x ≡ name = cc in same)
+  named (x ∷ xs) (suc at) name is = named xs at name is
+
+  -- nothing has a name that is none of the names
+  pub unnamed : (xs : List X) (name : List ℕ) → (Contains (map name_of xs) name → ⊥) → (at : ℕ) → ((x : X) × (slice_get xs at ≡ Some x) × (name_of x ≡ name)) → ⊥
+  unnamed xs name none at (x, is, same) = let P : List ℕ → Type 0 = λ n. Contains (map name_of xs) n in none (subst P same (Contains-mapped name_of xs x (Contains-found xs at x is)))
+
+-- numbers of entities fit
+pub entity-fits : (s : Schema) → HoldsTogether s → (e : ℕ) (x : Entity) → slice_get s.entities e ≡ Some x → e < 2 ^ 32
+entity-fits s holds e x is = let below = slice_get_within s.entities e x is in omega (arith, below, holds.few)
+
+pub type-fits : (s : Schema) → HoldsTogether s → (t : ℕ) (x : Defined) → slice_get s.types t ≡ Some x → t < 2 ^ 32
+type-fits s holds t x is = let below = slice_get_within s.types t x is in omega (arith, below, holds.few)

@@ -2,5 +2,11 @@
 #![tactic(auto)]
 
 mod names;
+mod parts;
+mod schema;
+mod settle;
 
 pub use names::Names;
+pub use parts::{Attribute, Defined, Entity, Parts, Redeclared};
+pub use schema::Schema;
+pub use settle::settled;
