@@ -1,0 +1,5 @@
+pub mod Shape
+pub mod Place
+pub mod Statements
+pub mod Machine
+pub mod Fault
