@@ -19,7 +19,7 @@ use Rattle.p21_tokens_automaton.proofs.Once.{means-once}
 use Rattle.p21_tokens_automaton.proofs.Theorems.{laid_read, one-laying}
 use Rattle.p21_tokens_automaton.specs.Meaning.{MeanAll}
 use Rattle.p21_tokens_automaton.specs.Reading.{Sized}
-use Rattle.p21_claim.proofs.OneMeaningAnywhere.{RecordMeans-one}
+use Rattle.p21_files.proofs.OneMeaning.{RecordMeans-one}
 
 -- what is found has one list of lexemes, with their sizes
 same-lexemes : (founds : List Sized) (ls ms : List Lexeme) → MeanAll founds ls → MeanAll founds ms → ls ≡ ms
