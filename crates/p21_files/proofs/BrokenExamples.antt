@@ -1,21 +1,20 @@
 -- For each number parameters that break its rule at their place, and neighbours that break none or the rule of another
 -- number alone. The parameter is the P of E, in `E(p)`.
-use Rattle.std.specs.Prelude.{◌≡◌, ℕ, ℤ, pos, Bool, true, false, List, [], ◌∷◌, ◌^◌, codes, Some, None, Contains, refl}
-use Rattle.std.proofs.Common.{arith, inl, inr, lit<, lit≤, sym, subst}
-use Rattle.p21_exchange.specs.Number.{Decimal, whole_ratio, IsInRange, HasNormalisedExponent}
+use Rattle.std.specs.Prelude.{◌≡◌, ℕ, pos, Bool, true, false, List, [], ◌∷◌, codes, Some, Contains, refl}
+use Rattle.std.proofs.Common.{arith, sym, subst}
+use Rattle.p21_exchange.specs.Number.{Decimal}
 use Rattle.p21_exchange.specs.Parameter as parameter
 use Rattle.p21_exchange.specs.Parameter.{Param, Params, no_params, param, key_of, listed}
 use Rattle.p21_files.specs.BrokenRule.{Breaks}
-use Rattle.p21_files.specs.BrokenValue.{BreaksAt, number_range, missing, star_not_derived, wrong_kind, select_type, wrong_width, out_of_bounds, not_distinct, unknown_item, BreaksWithin, itself, in_underlying, in_chosen, in_element, BreaksAtPlace, stored, IsChoice}
-use Rattle.p21_files.specs.Fits.{Fits, FitsAt, dollar, fits, a_whole, a_real, a_text, a_logical, an_item, as_underlying, a_chosen_type, an_array, a_list, a_set, none_left, fits_next, empty_next}
-use Rattle.p21_files.specs.ParameterKind.{TakesKind, takes_underlying, takes_chosen_instance, takes_chosen_type, of_boolean, of_enumeration}
-use Rattle.p21_files.specs.SameValue.{here, there, same_wholes}
+use Rattle.p21_files.specs.BrokenValue.{BreaksAt, missing, star_not_derived, wrong_kind, select_type, wrong_width, BreaksWithin, itself, in_underlying, in_chosen, BreaksAtPlace, stored, IsChoice}
+use Rattle.p21_files.specs.Fits.{Fits, dollar, fits, a_real, as_underlying, a_chosen_type}
+use Rattle.p21_files.specs.ParameterKind.{TakesKind, takes_underlying, takes_chosen_instance, takes_chosen_type}
 use Rattle.p21_files.specs.Value as value
 use Rattle.p21_schemas.specs.PlaceType.{stored_place}
 use Rattle.p21_schemas.specs.Schema as schema
 use Rattle.p21_schemas.specs.Schema.{TypeUse, Kind, Member, alias, items, choice, type_member, entity_member}
 use Rattle.p21_schemas.specs.Select.{Offers, offered, offered_within}
-use Rattle.p21_basics.proofs.Members.{Contains-none, Contains-no_word, Each-member}
+use Rattle.p21_basics.proofs.Members.{Each-member}
 use Rattle.p21_files.proofs.BrokenPlaces.{with_place, e_of, e-breaks, type-breaks, e-breaks_only, types-distinct, e-breaks_none}
 use Rattle.p21_files.proofs.BrokenValues.{dollar-breaks_only, star-breaks_only}
 
