@@ -1,5 +1,5 @@
 -- The members of lists.
-use Rattle.std.specs.Prelude.{◌≡◌, ℕ, zero, suc, ◌+◌, List, [], ◌∷◌, map, filter, slice_get, Some, Contains, refl, ◌⊎◌, Bool, true, false, cond}
+use Rattle.std.specs.Prelude.{◌≡◌, ℕ, zero, suc, ◌+◌, List, [], ◌∷◌, ◌++◌, map, filter, slice_get, Some, Contains, refl, ◌⊎◌, Bool, true, false, cond}
 use Rattle.std.specs.Str.{bytes_eq}
 use Rattle.std.proofs.lemmas.Bool.{or_parts}
 use Rattle.std.specs.List.{list_any, flat_map, zip, AllZip, enumerate_from, AllByRecursion as Each}
@@ -70,6 +70,13 @@ pub Contains-mapped : {X Y : Type 0} (f : X → Y) (xs : List X) (x : X) → Con
 Contains-mapped f [] x among = absurd (Contains-none x among)
 Contains-mapped f (y ∷ ys) x among = elim (Contains-cases y ys x among) [ inl h ↦ (0, omega arith, ap f h) | inr h ↦ Contains-later (f y) (map f ys) (f x) (Contains-mapped f ys x h) ]
 
+pub Contains-unmapped : {X Y : Type 0} (f : X → Y) (xs : List X) (y : Y) → Contains (map f xs) y → (x : X) × Contains xs x × (f x ≡ y)
+Contains-unmapped f [] y among = absurd (Contains-none y among)
+Contains-unmapped f (x ∷ xs) y among = elim (Contains-cases (f x) (map f xs) y among) [
+  | inl h ↦ (x, Contains-first x xs, h)
+  | inr h ↦ let (found, at, is) = Contains-unmapped f xs y h in (found, Contains-later x xs found at, is)
+]
+
 -- what holds of each holds of a member
 pub Each-member : {X : Type 0} (P : X → Type 0) (xs : List X) (x : X) → Each P xs → Contains xs x → P x
 Each-member P [] x each among = absurd (Contains-none x among)
@@ -80,6 +87,47 @@ pub Each-at : {X : Type 0} (P : X → Type 0) (xs : List X) (k : ℕ) (x : X) �
 Each-at P [] k x each is = cc
 Each-at {X} P (y ∷ ys) zero x each is = let same : y ≡ x = cc in subst P same each.0
 Each-at P (y ∷ ys) (suc k) x each is = Each-at P ys k x each.1 is
+
+-- what holds of each member holds of each
+pub Each-of_members : {X : Type 0} (P : X → Type 0) (xs : List X) → ((x : X) → Contains xs x → P x) → Each P xs
+Each-of_members P [] holds = tt
+Each-of_members P (x ∷ xs) holds = (holds x (Contains-first x xs), Each-of_members P xs (λ y among. holds y (Contains-later x xs y among)))
+
+-- what holds of each of two lists, one behind the other
+pub Each-append : {X : Type 0} (P : X → Type 0) (xs ys : List X) → Each P xs → Each P ys → Each P (xs ++ ys)
+Each-append P [] ys each each_ = each_
+Each-append P (x ∷ xs) ys each each_ = (each.0, Each-append P xs ys each.1 each_)
+
+pub Each-front : {X : Type 0} (P : X → Type 0) (xs ys : List X) → Each P (xs ++ ys) → Each P xs
+Each-front P [] ys each = tt
+Each-front P (x ∷ xs) ys each = (each.0, Each-front P xs ys each.1)
+
+pub Each-back : {X : Type 0} (P : X → Type 0) (xs ys : List X) → Each P (xs ++ ys) → Each P ys
+Each-back P [] ys each = each
+Each-back P (x ∷ xs) ys each = Each-back P xs ys each.1
+
+-- of each of several lists
+pub Each-joined : {X Y : Type 0} (P : Y → Type 0) (g : X → List Y) (xs : List X) → Each (λ (x : X). Each P (g x)) xs → Each P (flat_map g xs)
+Each-joined P g [] each = tt
+Each-joined P g (x ∷ xs) each = Each-append P (g x) (flat_map g xs) each.0 (Each-joined P g xs each.1)
+
+pub Each-apart : {X Y : Type 0} (P : Y → Type 0) (g : X → List Y) (xs : List X) → Each P (flat_map g xs) → Each (λ (x : X). Each P (g x)) xs
+Each-apart P g [] each = tt
+Each-apart P g (x ∷ xs) each = (Each-front P (g x) (flat_map g xs) each, Each-apart P g xs (Each-back P (g x) (flat_map g xs) each))
+
+-- of what each is mapped to
+pub Each-mapped : {X Y : Type 0} (P : Y → Type 0) (f : X → Y) (xs : List X) → Each (λ (x : X). P (f x)) xs → Each P (map f xs)
+Each-mapped P f [] each = tt
+Each-mapped P f (x ∷ xs) each = (each.0, Each-mapped P f xs each.1)
+
+pub Each-unmapped : {X Y : Type 0} (P : Y → Type 0) (f : X → Y) (xs : List X) → Each P (map f xs) → Each (λ (x : X). P (f x)) xs
+Each-unmapped P f [] each = tt
+Each-unmapped P f (x ∷ xs) each = (each.0, Each-unmapped P f xs each.1)
+
+-- what follows from what holds of each
+pub Each-weaker : {X : Type 0} (P Q : X → Type 0) → ((x : X) → P x → Q x) → (xs : List X) → Each P xs → Each Q xs
+Each-weaker P Q weaker [] each = tt
+Each-weaker P Q weaker (x ∷ xs) each = (weaker x each.0, Each-weaker P Q weaker xs each.1)
 
 -- what holds of two lists place by place holds of a member of the first and some member of the second
 pub AllZip-member : {X Y : Type 0} (R : X → Y → Type 0) (xs : List X) (ys : List Y) (x : X) → AllZip R xs ys → Contains xs x → (y : Y) × Contains ys y × R x y
@@ -108,6 +156,13 @@ AllZip-beside {X} {Y} R (z ∷ zs) (w ∷ ws) x y all among = elim (Contains-cas
   | inr h ↦ AllZip-beside R zs ws x y all.1 h
 ]
 
+-- two things that hold place by place
+pub AllZip-both : {X Y : Type 0} (P Q : X → Y → Type 0) (xs : List X) (ys : List Y) → AllZip P xs ys → AllZip Q xs ys → AllZip (λ x y. P x y × Q x y) xs ys
+AllZip-both P Q [] [] all all_ = tt
+AllZip-both P Q [] (y ∷ ys) all all_ = absurd all
+AllZip-both P Q (x ∷ xs) [] all all_ = absurd all
+AllZip-both P Q (x ∷ xs) (y ∷ ys) all all_ = ((all.0, all_.0), AllZip-both P Q xs ys all.1 all_.1)
+
 -- the first of two that stand beside each other is a member of the first list
 pub Contains-zip : {X Y : Type 0} (xs : List X) (ys : List Y) (x : X) (y : Y) → Contains (zip xs ys) (x, y) → Contains xs x
 Contains-zip [] ys x y among = absurd (Contains-none (x, y) among)
@@ -115,6 +170,19 @@ Contains-zip (z ∷ zs) [] x y among = absurd (Contains-none (x, y) among)
 Contains-zip (z ∷ zs) (w ∷ ws) x y among = elim (Contains-cases (z, w) (zip zs ws) (x, y) among) [
   | inl h ↦ (0, omega arith, ap (λ p. p.0) h)
   | inr h ↦ Contains-later z zs x (Contains-zip zs ws x y h)
+]
+
+-- what stands beside a key in one list stands beside it in another, place by place
+pub zip-along : {X Y : Type 0} (R : Y → Y → Type 0) (es : List X) (ys zs : List Y) → AllZip R ys zs → (e : X) (y : Y) → Contains (zip es ys) (e, y) → (z : Y) × Contains (zip es zs) (e, z) × R y z
+zip-along R [] ys zs all e y among = absurd (Contains-none (e, y) among)
+zip-along R (x ∷ xs) [] zs all e y among = absurd (Contains-none (e, y) among)
+zip-along R (x ∷ xs) (w ∷ ws) [] all e y among = absurd all
+zip-along {X} {Y} R (x ∷ xs) (w ∷ ws) (u ∷ us) all e y among = elim (Contains-cases (x, w) (zip xs ws) (e, y) among) [
+  | inl h ↦
+      let P : X → Type 0 = λ q. Contains ((x, u) ∷ zip xs us) (q, u) in
+      let Q : Y → Type 0 = λ q. R q u in
+      (u, subst P (ap (λ (p : X × Y). p.0) h) (Contains-first (x, u) (zip xs us)), subst Q (ap (λ (p : X × Y). p.1) h) all.0)
+  | inr h ↦ let (z, at, holds) = zip-along R xs ws us all.1 e y h in (z, Contains-later (x, u) (zip xs us) (e, z) at, holds)
 ]
 
 -- what holds of a list with numbers from n on and of another, place by place, holds at each number

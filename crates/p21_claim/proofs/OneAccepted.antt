@@ -1,7 +1,7 @@
 -- Accepted bytes have one meaning, and one canonical file serves one meaning.
 use Rattle.std.proofs.Common.{◌≡◌, ℕ, List, subst}
 use Rattle.std.specs.List.{AllByRecursion as Each}
-use Rattle.p21_schemas.proofs.DeclaredSchemas.{IsWellFormed}
+use Rattle.p21_schemas.specs.WellFormed.{IsWellFormed}
 use Rattle.p21_files.proofs.SameFiles.{SameFileMeaning-symmetric, SameFileMeaning-transitive}
 use Rattle.p21_files.specs.Accepted.{IsAccepted, IsCanonicalFile, IsCanonicalOf, IsLineWithin, Means}
 use Rattle.p21_files.specs.Canonical.{Canonical}

@@ -1,7 +1,7 @@
 -- Bytes have one list of lexemes, one tree, one schema text and one meaning.
 use Rattle.std.proofs.Common.{◌≡◌, ℕ, List, [], ◌∷◌, refl, ap, sym, subst, ◌∙◌, Some}
 use Rattle.std.specs.List.{AllZip, flat_map}
-use Rattle.p21_schemas.proofs.DeclaredSchemas.{IsWellFormed}
+use Rattle.p21_schemas.specs.WellFormed.{IsWellFormed}
 use Rattle.p21_exchange.proofs.OneTree.{one_tree}
 use Rattle.p21_exchange.specs.DataSection.{Heading, headings, instances_in}
 use Rattle.p21_files.specs.File.{FileMeaning, InstanceMeans, Reads, kinds_of, placed_in}
@@ -19,7 +19,7 @@ use Rattle.p21_tokens_automaton.proofs.Once.{means-once}
 use Rattle.p21_tokens_automaton.proofs.Theorems.{laid_read, one-laying}
 use Rattle.p21_tokens_automaton.specs.Meaning.{MeanAll}
 use Rattle.p21_tokens_automaton.specs.Reading.{Sized}
-use Rattle.p21_claim.proofs.OneMeaningAnywhere.{RecordMeans-one}
+use Rattle.p21_files.proofs.OneMeaning.{RecordMeans-one}
 
 -- what is found has one list of lexemes, with their sizes
 same-lexemes : (founds : List Sized) (ls ms : List Lexeme) → MeanAll founds ls → MeanAll founds ms → ls ≡ ms

@@ -1,7 +1,7 @@
 -- A canonical file within limits is accepted, and is its own canonical file.
 use Rattle.std.proofs.Common.{◌≡◌, ℕ, ◌≤◌, List, [], ◌∷◌, length, refl, sym, subst, arith}
 use Rattle.std.specs.List.{flat_map, AllByRecursion as Each}
-use Rattle.p21_schemas.proofs.DeclaredSchemas.{IsWellFormed}
+use Rattle.p21_schemas.specs.WellFormed.{IsWellFormed}
 use Rattle.p21_files.proofs.SameFiles.{SameFileMeaning-reflexive}
 use Rattle.p21_files.specs.Accepted.{IsAccepted, IsCanonicalFile, IsCanonicalOf, IsLineWithin, Means}
 use Rattle.p21_files.specs.Canonical.{Canonical}
@@ -14,9 +14,10 @@ use Rattle.p21_schemas.specs.Schema.{Schema}
 use Rattle.p21_exchange.specs.Statement.{Statement}
 use Rattle.p21_exchange.specs.Structure.{statements, tokens_of}
 use Rattle.p21_exchange.specs.Token.{Token}
-use Rattle.p21_claim.proofs.CanonicalLaid.{IsSpelled, laid-spelled, statement_lexemes, lines_laid, statements_within}
+use Rattle.p21_claim_values.proofs.CanonicalLaid.{laid-spelled, statement_lexemes, lines_laid, statements_within}
 use Rattle.p21_claim.proofs.OneAccepted.{Means-one}
 use Rattle.p21_claim.proofs.OneReading.{one_lexemes, Reads-one}
+use Rattle.p21_claim_values.specs.Written.{IsSpelled}
 
 -- the lexemes of canonical bytes are those of their lines, whatever laying is taken
 pub lexemes-are : (s : Schema) (bytes : List ℕ) (c : Canonical s bytes) → c.reads.in_grammar.laid.lexemes ≡ flat_map statement_lexemes (statements c.reads.structure)

@@ -6,6 +6,7 @@ mod TextExamples
 mod TokenExamples
 pub mod BitSpellings
 pub mod CanonicalLaying
+pub mod CanonicalSpellings
 pub mod Exponents
 pub mod FirstBytes
 pub mod Forms

@@ -1,10 +1,9 @@
--- A record has one meaning at most, under one schema and the same sets of instances.
-use Rattle.std.specs.Prelude.{◌≡◌, ℕ, zero, suc, ◌+◌, ◌<◌, List, [], ◌∷◌, length, map, Some, Contains, refl, nat_eq, true, false}
-use Rattle.std.specs.List.{AllZip, IsDistinct, zip, enumerate_from, AllByRecursion as Each}
+-- A record has one meaning at most, under one schema and whatever the sets of the instances.
+use Rattle.std.specs.Prelude.{◌≡◌, ℕ, zero, suc, ◌+◌, ◌<◌, List, [], ◌∷◌, length, map, Some, Contains, refl}
+use Rattle.std.specs.List.{AllZip, zip, enumerate_from, AllByRecursion as Each}
 use Rattle.std.specs.List.Sorted.{IsStrictlySortedBy}
 use Rattle.std.specs.Ordering.{nat_cmp}
 use Rattle.std.specs.Cmp.Lexicographic.{slice_cmp}
-use Rattle.std.proofs.lemmas.Bool.{eq-eqb, ne_eqb}
 use Rattle.std.proofs.lemmas.Cmp.{nat_list_cmp_total}
 use Rattle.std.specs.Ordering.{ordering_reverse}
 use Rattle.std.proofs.Common.{Less, Greater, arith, subst, ap, sym, ◌∙◌, inl, inr}
@@ -18,11 +17,12 @@ use Rattle.p21_files.specs.Value.{Value, Values, no_values, value, count, value_
 use Rattle.p21_files.specs.Reference.{Kinds}
 use Rattle.p21_files.specs.Fits.{FitsAt}
 use Rattle.p21_files.specs.Meaning.{Typed, HasValueAt, FitPlaces, NamesEntity, PartMeans, MeansByMapping, HasOwnCount, RecordMeans}
+use Rattle.p21_basics.proofs.Shuffles.{NoneTwice, zip-one}
 use Rattle.p21_basics.proofs.Members.{Each-member, Contains-none, Contains-first, Contains-later, Contains-cases, Contains-flat_map, Contains-zip, AllZip-beside, AllZip-member}
 use Rattle.p21_schemas.proofs.Orders.{order-has}
 use Rattle.p21_schemas.proofs.PlaceTypes.{TypeAt-one}
 use Rattle.p21_files.proofs.OneValue.{FitsAt-one_value}
-use Rattle.p21_schemas.proofs.DeclaredSchemas.{IsWellFormed, HasDistinctEntities}
+use Rattle.p21_schemas.specs.WellFormed.{IsWellFormed, HasDistinctEntities}
 
 -- values are the same list where they are as many and each is the same
 Values-same : (vs ws : Values) → count vs ≡ count ws → ((i : ℕ) → i < count vs → (v : Value) × (value_at vs i ≡ Some v) × (value_at ws i ≡ Some v)) → vs ≡ ws
@@ -33,25 +33,6 @@ Values-same (value v vs) (value w ws) long each =
     let (x, at, at_) = each 0 (omega arith) in
     let first : v ≡ w = (let a : v ≡ x = cc in let b : w ≡ x = cc in a ∙ sym b) in
     ap (λ y. value y vs) first ∙ ap (value w) (Values-same vs ws (omega (arith, long)) (λ i below. each (suc i) (omega (arith, below))))
-
-twice : (x : ℕ) (xs : List ℕ) (e : ℕ) → x ≡ e → Each (λ y. nat_eq x y ≡ false) xs → Contains xs e → ⊥
-twice x xs e same differ among = let h : true ≡ false = sym (eq-eqb x e same) ∙ Each-member (λ y. nat_eq x y ≡ false) xs e differ among in cc
-
--- where no key is twice, a key stands beside one value
-zip-one : {Y : Type 0} (es : List ℕ) (ys : List Y) (e : ℕ) (y z : Y) → IsDistinct nat_eq es → Contains (zip es ys) (e, y) → Contains (zip es ys) (e, z) → y ≡ z
-unfolding IsDistinct
-zip-one [] ys e y z distinct among among_ = absurd (Contains-none (e, y) among)
-zip-one (x ∷ xs) [] e y z distinct among among_ = absurd (Contains-none (e, y) among)
-zip-one {Y} (x ∷ xs) (w ∷ ws) e y z distinct among among_ = elim (Contains-cases (x, w) (zip xs ws) (e, y) among) [
-  | inl h ↦ elim (Contains-cases (x, w) (zip xs ws) (e, z) among_) [
-    | inl h_ ↦ sym (ap (λ p. p.1) h) ∙ ap (λ p. p.1) h_
-    | inr h_ ↦ absurd (twice x xs e (ap (λ p. p.0) h) distinct.0 (Contains-zip xs ws e z h_))
-  ]
-  | inr h ↦ elim (Contains-cases (x, w) (zip xs ws) (e, z) among_) [
-    | inl h_ ↦ absurd (twice x xs e (ap (λ p. p.0) h_) distinct.0 (Contains-zip xs ws e y h))
-    | inr h_ ↦ zip-one xs ws e y z distinct.1 h h_
-  ]
-]
 
 -- what stands beside the same keys is the same list
 zip-same : {Y : Type 0} (R : ℕ → Y → Type 0) (es : List ℕ) (ys zs : List Y) → AllZip R es ys → AllZip R es zs → ((e : ℕ) (y z : Y) → Contains (zip es ys) (e, y) → Contains (zip es zs) (e, z) → y ≡ z) → ys ≡ zs
@@ -78,7 +59,7 @@ Contains-own_place s e i below =
     let P : ℕ → Type 0 = λ k. Contains (own_places s e) (record { entity = e; index = k }) in
     subst P same (Contains-numbered e (attributes_of s e) 0 i below)
 
-EntityNamed-one : (s : Schema) (e : ℕ) (n m : List ℕ) → EntityNamed s e n → EntityNamed s e m → n ≡ m
+pub EntityNamed-one : (s : Schema) (e : ℕ) (n m : List ℕ) → EntityNamed s e n → EntityNamed s e m → n ≡ m
 EntityNamed-one s e n m (x, at, is) (y, at_, is_) = let h : x ≡ y = (let k : Some x ≡ Some y = sym at ∙ at_ in cc) in sym is ∙ ap (λ z. z.name) h ∙ is_
 
 pub NamesEntity-one : (s : Schema) → HasDistinctEntities s → (key : Key) (e f : ℕ) → NamesEntity s key e → NamesEntity s key f → e ≡ f
@@ -125,100 +106,91 @@ rising-one s (e ∷ es) (f ∷ fs) (n ∷ ns) (m ∷ ms) all all_ rise rise_ ont
         let h : slice_cmp nat_cmp n n ≡ Less = later-above s es ns n g n all.1 rise.0 among (subst P same all.0) in
         not-both n n h h
 
-differ : (s : Schema) (e : ℕ) (n : List ℕ) (es : List ℕ) (ns : List (List ℕ)) → EntityNamed s e n → AllZip (EntityNamed s) es ns → Each (λ y. slice_cmp nat_cmp n y ≡ Less) ns → Each (λ y. nat_eq e y ≡ false) es
-differ s e n [] ns named all below = tt
-differ s e n (f ∷ fs) [] named all below = absurd all
-differ s e n (f ∷ fs) (m ∷ ms) named all below = (ne_eqb e f other, differ s e n fs ms named all.1 below.1)
-  where
-    other : e ≡ f → ⊥
-    other same =
-        let P : ℕ → Type 0 = λ x. EntityNamed s x n in
-        let one : n ≡ m = EntityNamed-one s f n m (subst P same named) all.0 in
-        let Q : List ℕ → Type 0 = λ x. slice_cmp nat_cmp n x ≡ Less in
-        let h : slice_cmp nat_cmp n n ≡ Less = subst Q (sym one) below.0 in not-both n n h h
-
 -- entities whose keywords rise are distinct
-rising-distinct : (s : Schema) (es : List ℕ) (ns : List (List ℕ)) → AllZip (EntityNamed s) es ns → IsStrictlySortedBy (slice_cmp nat_cmp) ns → IsDistinct nat_eq es
-unfolding IsDistinct IsStrictlySortedBy
-rising-distinct s [] ns all rise = tt
-rising-distinct s (e ∷ es) [] all rise = absurd all
-rising-distinct s (e ∷ es) (n ∷ ns) all rise = (differ s e n es ns all.0 all.1 rise.0, rising-distinct s es ns all.1 rise.1)
+pub rising-none_twice : (s : Schema) (es : List ℕ) (ns : List (List ℕ)) → AllZip (EntityNamed s) es ns → IsStrictlySortedBy (slice_cmp nat_cmp) ns → NoneTwice es
+unfolding IsStrictlySortedBy
+rising-none_twice s [] ns all rise = tt
+rising-none_twice s (e ∷ es) [] all rise = absurd all
+rising-none_twice s (e ∷ es) (n ∷ ns) all rise = (
+  λ among. let below : slice_cmp nat_cmp n n ≡ Less = later-above s es ns n e n all.1 rise.0 among all.0 in not-both n n below below,
+  rising-none_twice s es ns all.1 rise.1,
+)
 
 -- two meanings that fit the same parameters at the same places have the same value at each
-FitPlaces-agree : (s : Schema) → IsWellFormed s → (kinds : Kinds) (a b : Typed) → a.entities ≡ b.entities → (ps : List Place) (params : Params) (place : Place) → FitPlaces s kinds a ps params → FitPlaces s kinds b ps params → Contains ps place
+FitPlaces-agree : (s : Schema) → IsWellFormed s → (kinds others : Kinds) (a b : Typed) → a.entities ≡ b.entities → (ps : List Place) (params : Params) (place : Place) → FitPlaces s kinds a ps params → FitPlaces s others b ps params → Contains ps place
     → (v : Value) × HasValueAt a place v × HasValueAt b place v
-FitPlaces-agree s formed kinds a b same [] xs place fit fit_ among = absurd (Contains-none place among)
-FitPlaces-agree s formed kinds a b same (p ∷ ps) no_params place fit fit_ among = absurd fit
-FitPlaces-agree s formed kinds a b same (p ∷ ps) (param x xs) place ((at, v, type_at, fit, has), more) ((at_, w, type_at_, fit_, has_), more_) among = elim (Contains-cases p ps place among) [
+FitPlaces-agree s formed kinds others a b same [] xs place fit fit_ among = absurd (Contains-none place among)
+FitPlaces-agree s formed kinds others a b same (p ∷ ps) no_params place fit fit_ among = absurd fit
+FitPlaces-agree s formed kinds others a b same (p ∷ ps) (param x xs) place ((at, v, type_at, fit, has), more) ((at_, w, type_at_, fit_, has_), more_) among = elim (Contains-cases p ps place among) [
   | inl h ↦
       let P : List ℕ → Type 0 = λ es. TypeAt s es p at_ in
       let one_type : at_ ≡ at = TypeAt-one s formed.supertypes_end formed.redeclares_once a.entities p at_ at (subst P (sym same) type_at_) type_at in
-      let Q : PlaceType → Type 0 = λ t. FitsAt s kinds t x w in
-      let one_value : w ≡ v = FitsAt-one_value s kinds formed.types_distinct at x w v (subst Q one_type fit_) fit in
+      let Q : PlaceType → Type 0 = λ t. FitsAt s others t x w in
+      let one_value : w ≡ v = FitsAt-one_value s others kinds formed.types_distinct at x w v (subst Q one_type fit_) fit in
       let R : Value → Type 0 = λ u. HasValueAt b p u in
       let S : Place → Type 0 = λ q. (u : Value) × HasValueAt a q u × HasValueAt b q u in
       subst S h (v, has, subst R one_value has_)
-  | inr h ↦ FitPlaces-agree s formed kinds a b same ps xs place more more_ h
+  | inr h ↦ FitPlaces-agree s formed kinds others a b same ps xs place more more_ h
 ]
 
-parts-agree : (s : Schema) → IsWellFormed s → (kinds : Kinds) (a b : Typed) → a.entities ≡ b.entities → (parts : List Part) (es fs : List ℕ) (e : ℕ) (place : Place) → AllZip (PartMeans s kinds a) parts es → AllZip (PartMeans s kinds b) parts fs
+parts-agree : (s : Schema) → IsWellFormed s → (kinds others : Kinds) (a b : Typed) → a.entities ≡ b.entities → (parts : List Part) (es fs : List ℕ) (e : ℕ) (place : Place) → AllZip (PartMeans s kinds a) parts es → AllZip (PartMeans s others b) parts fs
     → Contains es e → Contains (own_places s e) place → (v : Value) × HasValueAt a place v × HasValueAt b place v
-parts-agree s formed kinds a b same parts [] fs e place all all_ among of_e = absurd (Contains-none e among)
-parts-agree s formed kinds a b same [] (x ∷ es) fs e place all all_ among of_e = absurd all
-parts-agree s formed kinds a b same (part ∷ parts) (x ∷ es) [] e place all all_ among of_e = absurd all_
-parts-agree s formed kinds a b same (part ∷ parts) (x ∷ es) (y ∷ fs) e place all all_ among of_e = elim (Contains-cases x es e among) [
+parts-agree s formed kinds others a b same parts [] fs e place all all_ among of_e = absurd (Contains-none e among)
+parts-agree s formed kinds others a b same [] (x ∷ es) fs e place all all_ among of_e = absurd all
+parts-agree s formed kinds others a b same (part ∷ parts) (x ∷ es) [] e place all all_ among of_e = absurd all_
+parts-agree s formed kinds others a b same (part ∷ parts) (x ∷ es) (y ∷ fs) e place all all_ among of_e = elim (Contains-cases x es e among) [
   | inl h ↦
       let one_entity : y ≡ x = NamesEntity-one s formed.entities_distinct part.key y x all_.0.0 all.0.0 in
-      let P : ℕ → Type 0 = λ z. FitPlaces s kinds b (own_places s z) part.params in
+      let P : ℕ → Type 0 = λ z. FitPlaces s others b (own_places s z) part.params in
       let Q : ℕ → Type 0 = λ z. Contains (own_places s z) place in
-      FitPlaces-agree s formed kinds a b same (own_places s x) part.params place all.0.1 (subst P one_entity all_.0.1) (subst Q (sym h) of_e)
-  | inr h ↦ parts-agree s formed kinds a b same parts es fs e place all.1 all_.1 h of_e
+      FitPlaces-agree s formed kinds others a b same (own_places s x) part.params place all.0.1 (subst P one_entity all_.0.1) (subst Q (sym h) of_e)
+  | inr h ↦ parts-agree s formed kinds others a b same parts es fs e place all.1 all_.1 h of_e
 ]
 
 -- the same record has the same set of entities
-entities-one : (s : Schema) → IsWellFormed s → (kinds : Kinds) (r : Record) (a b : Typed) → RecordMeans s kinds r a → RecordMeans s kinds r b → a.entities ≡ b.entities
-entities-one s formed kinds r a b means means_ =
+entities-one : (s : Schema) → IsWellFormed s → (kinds others : Kinds) (r : Record) (a b : Typed) → RecordMeans s kinds r a → RecordMeans s others r b → a.entities ≡ b.entities
+entities-one s formed kinds others r a b means means_ =
     let (ns, all, rise) = means.rising in
     let (ms, all_, rise_) = means_.rising in
-    rising-one s a.entities b.entities ns ms all all_ rise rise_ (within r a b means.means means_.means) (within r b a means_.means means.means)
+    rising-one s a.entities b.entities ns ms all all_ rise rise_ (within kinds others r a b means.means means_.means) (within others kinds r b a means_.means means.means)
   where
-    same_parts : (a b : Typed) (parts : List Part) (es fs : List ℕ) → AllZip (PartMeans s kinds a) parts es → AllZip (PartMeans s kinds b) parts fs → es ≡ fs
-    same_parts a b [] [] [] all all_ = refl
-    same_parts a b [] (e ∷ es) fs all all_ = absurd all
-    same_parts a b [] [] (f ∷ fs) all all_ = absurd all_
-    same_parts a b (part ∷ parts) [] fs all all_ = absurd all
-    same_parts a b (part ∷ parts) (e ∷ es) [] all all_ = absurd all_
-    same_parts a b (part ∷ parts) (e ∷ es) (f ∷ fs) all all_ = ap (λ x. x ∷ es) (NamesEntity-one s formed.entities_distinct part.key e f all.0.0 all_.0.0) ∙ ap (λ xs. f ∷ xs) (same_parts a b parts es fs all.1 all_.1)
+    same_parts : (kinds others : Kinds) (a b : Typed) (parts : List Part) (es fs : List ℕ) → AllZip (PartMeans s kinds a) parts es → AllZip (PartMeans s others b) parts fs → es ≡ fs
+    same_parts kinds others a b [] [] [] all all_ = refl
+    same_parts kinds others a b [] (e ∷ es) fs all all_ = absurd all
+    same_parts kinds others a b [] [] (f ∷ fs) all all_ = absurd all_
+    same_parts kinds others a b (part ∷ parts) [] fs all all_ = absurd all
+    same_parts kinds others a b (part ∷ parts) (e ∷ es) [] all all_ = absurd all_
+    same_parts kinds others a b (part ∷ parts) (e ∷ es) (f ∷ fs) all all_ = ap (λ x. x ∷ es) (NamesEntity-one s formed.entities_distinct part.key e f all.0.0 all_.0.0) ∙ ap (λ xs. f ∷ xs) (same_parts kinds others a b parts es fs all.1 all_.1)
 
-    within : (r : Record) (a b : Typed) → MeansByMapping s kinds r a → MeansByMapping s kinds r b → (e : ℕ) → Contains a.entities e → Contains b.entities e
-    within (simple part) a b means means_ e among =
+    within : (kinds others : Kinds) (r : Record) (a b : Typed) → MeansByMapping s kinds r a → MeansByMapping s others r b → (e : ℕ) → Contains a.entities e → Contains b.entities e
+    within kinds others (simple part) a b means means_ e among =
         let same : means.entity ≡ means_.entity = NamesEntity-one s formed.entities_distinct part.key means.entity means_.entity means.named means_.named in
         let P : ℕ → Type 0 = λ x. IsA s x e in
         (means_.closure e).1 (subst P same ((means.closure e).0 among))
-    within (complex parts) a b means means_ e among =
-        let same : means.entities ≡ means_.entities = same_parts a b parts means.entities means_.entities means.parts_mean means_.parts_mean in
+    within kinds others (complex parts) a b means means_ e among =
+        let same : means.entities ≡ means_.entities = same_parts kinds others a b parts means.entities means_.entities means.parts_mean means_.parts_mean in
         let P : List ℕ → Type 0 = λ xs. Contains xs e in
         (means_.same_entities e).0 (subst P same ((means.same_entities e).1 among))
 
 -- and the same value at each place of its set
-values-agree : (s : Schema) → IsWellFormed s → (kinds : Kinds) (r : Record) (a b : Typed) → a.entities ≡ b.entities → MeansByMapping s kinds r a → MeansByMapping s kinds r b → (e i : ℕ) → Contains a.entities e → i < length (attributes_of s e)
+values-agree : (s : Schema) → IsWellFormed s → (kinds others : Kinds) (r : Record) (a b : Typed) → a.entities ≡ b.entities → MeansByMapping s kinds r a → MeansByMapping s others r b → (e i : ℕ) → Contains a.entities e → i < length (attributes_of s e)
     → (v : Value) × HasValueAt a (record { entity = e; index = i }) v × HasValueAt b (record { entity = e; index = i }) v
-values-agree s formed kinds (simple part) a b same means means_ e i among below =
+values-agree s formed kinds others (simple part) a b same means means_ e i among below =
     let one_entity : means_.entity ≡ means.entity = NamesEntity-one s formed.entities_distinct part.key means_.entity means.entity means_.named means.named in
-    let P : ℕ → Type 0 = λ x. FitPlaces s kinds b (places s x) part.params in
+    let P : ℕ → Type 0 = λ x. FitPlaces s others b (places s x) part.params in
     let in_order : Contains (order s means.entity) e = order-has s formed.supertypes_are formed.supertypes_end means.entity e ((means.closure e).0 among) in
-    FitPlaces-agree s formed kinds a b same (places s means.entity) part.params (record { entity = e; index = i }) means.fit (subst P one_entity means_.fit)
+    FitPlaces-agree s formed kinds others a b same (places s means.entity) part.params (record { entity = e; index = i }) means.fit (subst P one_entity means_.fit)
     (Contains-flat_map (own_places s) (order s means.entity) e (record { entity = e; index = i }) in_order (Contains-own_place s e i below))
-values-agree s formed kinds (complex parts) a b same means means_ e i among below =
-    parts-agree s formed kinds a b same parts means.entities means_.entities e (record { entity = e; index = i }) means.parts_mean means_.parts_mean ((means.same_entities e).1 among) (Contains-own_place s e i below)
+values-agree s formed kinds others (complex parts) a b same means means_ e i among below =
+    parts-agree s formed kinds others a b same parts means.entities means_.entities e (record { entity = e; index = i }) means.parts_mean means_.parts_mean ((means.same_entities e).1 among) (Contains-own_place s e i below)
 
--- under a declared schema a record has one meaning at most
-pub RecordMeans-one : (s : Schema) → IsWellFormed s → (kinds : Kinds) (r : Record) (a b : Typed) → RecordMeans s kinds r a → RecordMeans s kinds r b → a ≡ b
-RecordMeans-one s formed kinds r a b means means_ =
+-- under a declared schema a record has one meaning at most, whatever the sets of the instances
+pub RecordMeans-one : (s : Schema) → IsWellFormed s → (kinds others : Kinds) (r : Record) (a b : Typed) → RecordMeans s kinds r a → RecordMeans s others r b → a ≡ b
+RecordMeans-one s formed kinds others r a b means means_ =
     typed-same a b same (zip-same (HasOwnCount s) a.entities a.values b.values means.own_counts (subst (λ es. AllZip (HasOwnCount s) es b.values) (sym same) means_.own_counts) rows)
   where
     same : a.entities ≡ b.entities
-    same = entities-one s formed kinds r a b means means_
+    same = entities-one s formed kinds others r a b means means_
 
     typed-same : (a b : Typed) → a.entities ≡ b.entities → a.values ≡ b.values → a ≡ b
     typed-same a b first second = ap (λ es. record { entities = es; values = a.values }) first ∙ ap (λ vss. record { entities = b.entities; values = vss }) second
@@ -227,9 +199,9 @@ RecordMeans-one s formed kinds r a b means means_ =
     rows e vs ws at at_ =
         let long : count vs ≡ length (attributes_of s e) = AllZip-beside (HasOwnCount s) a.entities a.values e vs means.own_counts at in
         let long_ : count ws ≡ length (attributes_of s e) = AllZip-beside (HasOwnCount s) a.entities b.values e ws (subst (λ es. AllZip (HasOwnCount s) es b.values) (sym same) means_.own_counts) at_ in
-        let distinct : IsDistinct nat_eq a.entities = rising-distinct s a.entities means.rising.0 means.rising.1 means.rising.2 in
+        let distinct : NoneTwice a.entities = rising-none_twice s a.entities means.rising.0 means.rising.1 means.rising.2 in
         Values-same vs ws (long ∙ sym long_) (λ i below.
-        let (v, (us, row, found), (xs, row_, found_)) = values-agree s formed kinds r a b same means.means means_.means e i (Contains-zip a.entities a.values e vs at) (omega (arith, below, long)) in
+        let (v, (us, row, found), (xs, row_, found_)) = values-agree s formed kinds others r a b same means.means means_.means e i (Contains-zip a.entities a.values e vs at) (omega (arith, below, long)) in
         let P : Values → Type 0 = λ zs. value_at zs i ≡ Some v in
         let Q : List ℕ → Type 0 = λ es. Contains (zip es b.values) (e, xs) in
         (v, subst P (zip-one a.entities a.values e us vs distinct row at) found, subst P (zip-one a.entities b.values e xs ws distinct (subst Q (sym same) row_) at_) found_))

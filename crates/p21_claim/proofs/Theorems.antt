@@ -1,0 +1,128 @@
+-- The laws of readings and of canonical files, and the claim, as the contracts have them.
+use Rattle.std.proofs.Common.{◌≡◌, ℕ, List, [], ◌∷◌, sym, subst, inl, inr, refl, ◌⊎◌}
+use Rattle.std.specs.List.{flat_map, AllByRecursion as Each}
+use Rattle.p21_basics.proofs.Members.{Each-append, Each-weaker}
+use Rattle.p21_claim.proofs.FileOnce.{file-once, files-same, canonical-same}
+use Rattle.p21_claim.proofs.OneAccepted.{Means-any_reading, Means-one}
+use Rattle.p21_claim.proofs.OneReading.{one_lexemes, one_schema_text_of, one_structure_of, Reads-one}
+use Rattle.p21_claim.proofs.OwnCanonical.{accepted-has_file, canonical-means, file-accepted, file-is_own, file-means_same, own-means}
+use Rattle.p21_claim.proofs.PrintingFiles.{has-canonical_file}
+use Rattle.p21_claim.proofs.SaidFiles.{said}
+use Rattle.p21_claim.specs.CanonicalLaws.{CanonicalBytesAreGraphic, CanonicalBytesAreTheirOwn, CanonicalBytesExist, CanonicalBytesTell, CanonicalFileExists, CanonicalFileIsAccepted, CanonicalFileIsItsOwn, CanonicalFileMeansTheSame, CanonicalFilesTell, OneCanonicalFile, ShortCanonicalIsAccepted}
+use Rattle.p21_claim.specs.Headline.{Headline}
+use Rattle.p21_claim.specs.ReadingLaws.{LimitHoldsForEachReading, OneListOfLexemes, OneMeaningOfBytes, OneMeaningWithin, OneTreeOfBytes}
+use Rattle.p21_claim_values.proofs.CanonicalLaid.{laid-each_spelled}
+use Rattle.p21_claim_values.proofs.GraphicTexts.{lines-graphic}
+use Rattle.p21_claim_values.specs.DeclaredSchema.{IsDeclared}
+use Rattle.p21_claim_values.specs.Written.{IsWrittenStatement}
+use Rattle.p21_exchange.specs.CanonicalText.{line, statement_text}
+use Rattle.p21_exchange.specs.Statement.{Statement}
+use Rattle.p21_exchange.specs.Structure.{statements, tokens_of}
+use Rattle.p21_exchange.specs.Text.{IsGraphic}
+use Rattle.p21_files.proofs.SameFiles.{SameFileMeaning-reflexive, SameFileMeaning-symmetric}
+use Rattle.p21_files.specs.Accepted.{IsCanonicalFile, IsCanonicalOf}
+use Rattle.p21_files.specs.File.{FileMeaning}
+use Rattle.p21_files.specs.SameFile.{SameFileMeaning}
+use Rattle.p21_schemas.proofs.DeclaredSchemas.{declared-well_formed}
+use Rattle.p21_schemas.specs.WellFormed.{IsWellFormed}
+
+-- ---- readings
+
+pub one-lexemes : OneListOfLexemes
+one-lexemes = one_lexemes
+
+pub one-tree : OneTreeOfBytes
+one-tree bytes structure other text other_text in_ also = (one_structure_of bytes structure other text other_text in_ also, one_schema_text_of bytes structure other text other_text in_ also)
+
+pub one-meaning : OneMeaningOfBytes
+one-meaning s (tree, declares) = Reads-one s (declared-well_formed tree s declares)
+
+pub one-meaning_within : OneMeaningWithin
+one-meaning_within s (tree, declares) = Means-one s (declared-well_formed tree s declares)
+
+pub each-reading : LimitHoldsForEachReading
+each-reading = Means-any_reading
+
+-- ---- canonical files
+
+pub bytes-exist : CanonicalBytesExist
+bytes-exist s (tree, declares) bytes m reads = let has = has-canonical_file s (declared-well_formed tree s declares) bytes m reads in (has.bytes, has.canonical, has.same)
+
+pub bytes-tell : CanonicalBytesTell
+bytes-tell s (tree, declares) a b c d =
+    let formed : IsWellFormed s = declared-well_formed tree s declares in (
+      λ same. file-once s formed a b c d same,
+      λ equal. canonical-same s formed a b c d equal,
+    )
+
+line-bytes : (sts : List Statement) → Each IsWrittenStatement sts → Each (λ byte. IsGraphic byte ⊎ (byte ≡ 10)) (flat_map line sts)
+line-bytes [] written = tt
+line-bytes (st ∷ sts) written =
+    Each-append (λ byte. IsGraphic byte ⊎ (byte ≡ 10)) (line st) (flat_map line sts)
+    (Each-append (λ byte. IsGraphic byte ⊎ (byte ≡ 10)) (statement_text st) (10 ∷ [])
+    (Each-weaker IsGraphic (λ byte. IsGraphic byte ⊎ (byte ≡ 10)) (λ byte graphic. inl graphic) (statement_text st) (lines-graphic st written.0)) (inr refl, tt))
+    (line-bytes sts written.1)
+
+pub bytes-graphic : CanonicalBytesAreGraphic
+bytes-graphic s a c =
+    subst (Each (λ byte. IsGraphic byte ⊎ (byte ≡ 10))) (sym c.lines)
+    (line-bytes (statements c.reads.structure) (said c.reads.structure (laid-each_spelled a (tokens_of c.reads.structure) c.reads.in_grammar.laid)))
+
+pub files-tell : CanonicalFilesTell
+files-tell s (tree, declares) limits bytes others a b (m, means, is) (n, means_, is_) =
+    let formed : IsWellFormed s = declared-well_formed tree s declares in
+    let law = files-same s formed limits m n a b is is_ in (
+      λ (x, y, of_x, of_y, same).
+          let first : x ≡ m = Means-one s formed limits limits bytes x m of_x means in
+          let second : y ≡ n = Means-one s formed limits limits others y n of_y means_ in
+          law.0 (subst (λ (z : FileMeaning). SameFileMeaning z n) first (subst (SameFileMeaning x) second same)),
+      λ equal. (m, n, means, means_, law.1 equal),
+    )
+
+pub file-exists : CanonicalFileExists
+file-exists = accepted-has_file
+
+pub one-file : OneCanonicalFile
+one-file s (tree, declares) limits bytes a b (m, means, is) (n, means_, is_) =
+    let formed : IsWellFormed s = declared-well_formed tree s declares in
+    let one : m ≡ n = Means-one s formed limits limits bytes m n means means_ in
+    (files-same s formed limits m n a b is is_).0 (subst (SameFileMeaning m) one (SameFileMeaning-reflexive m))
+
+pub is-accepted : CanonicalFileIsAccepted
+is-accepted = file-accepted
+
+pub means-the_same : CanonicalFileMeansTheSame
+means-the_same s declared limits are bytes a (m, means, is) = (is.canonical.meaning, m, canonical-means s limits are m a is, means, is.same)
+
+pub is-own : CanonicalFileIsItsOwn
+is-own = file-is_own
+
+pub bytes-own : CanonicalBytesAreTheirOwn
+bytes-own s (tree, declares) limits bytes c (m, means) =
+    let formed : IsWellFormed s = declared-well_formed tree s declares in
+    let is = means.is_canonical in
+    let one : c.meaning ≡ m = Reads-one s formed bytes c.meaning m c.reads means.reads in
+    let equal : means.canonical ≡ bytes = file-once s formed means.canonical bytes is.canonical c (subst (SameFileMeaning is.canonical.meaning) (sym one) is.same) in
+    subst (λ (x : List ℕ). IsCanonicalFile s limits bytes x) equal (m, means, is)
+
+pub short-accepted : ShortCanonicalIsAccepted
+short-accepted s limits are bytes c short within = (c.meaning, own-means s limits are bytes c short within)
+
+-- ---- the claim
+
+pub headline : Headline
+headline text s declares limits are =
+    let declared : IsDeclared s = (declares.tree, declares.declares) in
+    let formed : IsWellFormed s = declared-well_formed declares.tree s declares.declares in
+    record {
+      one_meaning = Means-one s formed limits limits;
+      has_canonical_file = file-exists s limits;
+      one_canonical_file = one-file s declared limits;
+      same_exactly_if_equal = λ bytes others m n a b means means_ (x, of_x, is) (y, of_y, is_).
+          let first : x ≡ m = Means-one s formed limits limits bytes x m of_x means in
+          let second : y ≡ n = Means-one s formed limits limits others y n of_y means_ in
+          files-same s formed limits m n a b (subst (λ (z : FileMeaning). IsCanonicalOf s limits z a) first is) (subst (λ (z : FileMeaning). IsCanonicalOf s limits z b) second is_);
+      is_accepted = file-accepted s limits are;
+      means_the_same = λ bytes a m n is means means_. SameFileMeaning-symmetric n m (file-means_same s formed limits are bytes a is n m means_ means);
+      is_its_own = file-is_own s limits are;
+    }

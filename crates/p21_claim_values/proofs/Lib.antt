@@ -1,0 +1,26 @@
+mod Examples
+pub mod CanonicalLaid
+pub mod CanonicalParam
+pub mod CanonicalValue
+pub mod RecordTheorems
+pub mod SameTexts
+pub mod ValueTheorems
+pub mod Depths
+pub mod Distinct
+pub mod Existence
+pub mod GraphicTexts
+pub mod HeaderOnce
+pub mod InstanceTexts
+pub mod LaidTexts
+pub mod Leaves
+pub mod Needs
+pub mod OfType
+pub mod ParamTexts
+pub mod Printing
+pub mod PrintingParts
+pub mod RecordOnce
+pub mod Rising
+pub mod SameFromTexts
+pub mod Sorting
+pub mod TextsFromSame
+pub mod Wider

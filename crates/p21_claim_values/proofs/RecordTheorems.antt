@@ -1,0 +1,53 @@
+-- The laws of instances and of what they need, as the contract has them.
+use Rattle.std.proofs.Common.{◌≡◌, sym, subst}
+use Rattle.p21_claim_values.proofs.InstanceTexts.{has-text, kept-one, one-text_of, texts-once, texts-told}
+use Rattle.p21_claim_values.proofs.Needs.{has-needs, means-served, needs-can_be_served, needs-references, served-means, served-places}
+use Rattle.p21_claim_values.specs.NeedLaws.{NeedsAreReferences, NeedsCanBeServed, NeedsDecide, RecordHasNeeds, ServedFit}
+use Rattle.p21_claim_values.specs.RecordLaws.{InstanceHasText, OneMeaningOfRecord, OneNumberKept, OneTextOfInstance, TextsTellInstances}
+use Rattle.p21_files.proofs.OneMeaning.{RecordMeans-one}
+use Rattle.p21_files.specs.Meaning.{Typed}
+use Rattle.p21_files.specs.SameFile.{SameTyped}
+use Rattle.p21_schemas.proofs.DeclaredSchemas.{declared-well_formed}
+use Rattle.p21_schemas.specs.WellFormed.{IsWellFormed}
+
+pub one-meaning : OneMeaningOfRecord
+one-meaning s (tree, declares) = RecordMeans-one s (declared-well_formed tree s declares)
+
+pub instance-has_text : InstanceHasText
+instance-has_text s (tree, declares) = has-text s (declared-well_formed tree s declares)
+
+pub one-text : OneTextOfInstance
+one-text s (tree, declares) = one-text_of s (declared-well_formed tree s declares)
+
+pub texts-tell : TextsTellInstances
+texts-tell s (tree, declares) kinds others n m record_ other a b text other_text means means_ is is_ =
+    let formed : IsWellFormed s = declared-well_formed tree s declares in
+    let first : is.meaning ≡ a = RecordMeans-one s formed is.kinds kinds record_ is.meaning a is.means means in
+    let second : is_.meaning ≡ b = RecordMeans-one s formed is_.kinds others other is_.meaning b is_.means means_ in (
+      λ (name, same).
+          let same_ : SameTyped is.meaning is_.meaning = subst (λ (x : Typed). SameTyped x is_.meaning) (sym first) (subst (SameTyped a) (sym second) same) in
+          texts-once s formed n m record_ other text other_text is is_ name same_,
+      λ equal.
+          let (name, same) = texts-told s formed n m record_ other text other_text is is_ equal in
+          (name, subst (λ (x : Typed). SameTyped x b) first (subst (SameTyped is.meaning) second same)),
+    )
+
+pub one-number_kept : OneNumberKept
+one-number_kept s (tree, declares) = kept-one s (declared-well_formed tree s declares)
+
+pub needs-decide : NeedsDecide
+needs-decide s (tree, declares) record_ meaning needs is kinds =
+    let formed : IsWellFormed s = declared-well_formed tree s declares in
+    (λ means. means-served s formed record_ meaning needs is kinds means, λ served. served-means s formed record_ meaning needs is kinds served)
+
+pub has-needs_apart : RecordHasNeeds
+has-needs_apart s kinds record_ meaning means = let (needs, is) = has-needs s kinds record_ meaning means in (needs, is.needs_are)
+
+pub needs-are_references : NeedsAreReferences
+needs-are_references = needs-references
+
+pub needs-served : NeedsCanBeServed
+needs-served = needs-can_be_served
+
+pub served-fit : ServedFit
+served-fit = served-places

@@ -1,0 +1,6 @@
+-- The laws, from the theorems.
+use Rattle.p21_claim_values.proofs.record_laws.Goals as goal
+use Rattle.p21_claim_values.proofs.RecordTheorems.{one-meaning, instance-has_text, one-text, texts-tell, one-number_kept}
+
+pub returns : goal.returns
+returns c = record { one_meaning = one-meaning; has_text = instance-has_text; one_text = one-text; texts_tell = texts-tell; one_number_kept = one-number_kept }

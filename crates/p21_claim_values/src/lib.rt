@@ -1,0 +1,49 @@
+//! The laws of values and records, and of their canonical texts: what a parameter and a record mean is one, each value
+//! and each instance has one canonical text, and these texts tell what is the same. It holds no code beside them.
+#![tactic(auto)]
+
+ghost use Rattle.p21_claim_values.specs.HeaderLaws.{LinesTellHeaderRecords, TextsTellHeaderParameters};
+ghost use Rattle.p21_claim_values.specs.LineLaws.{LinesAreGraphic};
+ghost use Rattle.p21_claim_values.specs.NeedLaws.{NeedsAreReferences, NeedsCanBeServed, NeedsDecide, RecordHasNeeds, ServedFit};
+ghost use Rattle.p21_claim_values.specs.RecordLaws.{InstanceHasText, OneMeaningOfRecord, OneNumberKept, OneTextOfInstance, TextsTellInstances};
+ghost use Rattle.p21_claim_values.specs.ValueLaws.{CanonicalHasValueText, OneCanonicalParameter, OneValue, OneValueAtPlace, TextsTellValues};
+
+/// A parameter stands for one value. A value has one canonical text, and values are the same exactly if their texts are
+/// equal, at any nesting.
+pub fn value_laws()
+    ensures one { OneValue }
+    ensures one_at_place { OneValueAtPlace }
+    ensures texts_tell { TextsTellValues }
+    ensures canonical_has_text { CanonicalHasValueText }
+    ensures one_canonical { OneCanonicalParameter }
+{}
+
+/// Header records are the same exactly if their canonical lines are equal, and so are their parameters.
+pub fn header_laws()
+    ensures texts_tell { TextsTellHeaderParameters }
+    ensures lines_tell { LinesTellHeaderRecords }
+{}
+
+/// A record has one meaning, whatever the other instances are. An instance has one canonical text, and instances have one
+/// name and mean the same exactly if their texts are equal.
+pub fn record_laws()
+    ensures one_meaning { OneMeaningOfRecord }
+    ensures has_text { InstanceHasText }
+    ensures one_text { OneTextOfInstance }
+    ensures texts_tell { TextsTellInstances }
+    ensures one_number_kept { OneNumberKept }
+{}
+
+/// What a record needs of the instances that it refers to decides among which of them it has its meaning.
+pub fn need_laws()
+    ensures decide { NeedsDecide }
+    ensures has_needs { RecordHasNeeds }
+    ensures are_references { NeedsAreReferences }
+    ensures can_be_served { NeedsCanBeServed }
+    ensures served_fit { ServedFit }
+{}
+
+/// A canonical line holds bytes 20 to 7E alone.
+pub fn line_laws()
+    ensures are_graphic { LinesAreGraphic }
+{}
