@@ -1,0 +1,3 @@
+-- What is kept of the instances that were taken.
+pub mod Texts
+pub mod Blocks

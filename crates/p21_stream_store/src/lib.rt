@@ -1,0 +1,7 @@
+//! What a session keeps of the instances that it has taken: their canonical lines, their sets of entities, and the
+//! references that wait for their targets.
+#![tactic(auto)]
+
+mod texts;
+
+pub use texts::Texts;
