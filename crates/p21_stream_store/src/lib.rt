@@ -2,6 +2,8 @@
 //! references that wait for their targets.
 #![tactic(auto)]
 
+mod lines;
 mod texts;
 
+pub use lines::Lines;
 pub use texts::Texts;
