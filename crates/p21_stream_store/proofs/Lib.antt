@@ -1,3 +1,4 @@
 mod BlockLemmas
 mod LineLemmas
+mod NameLemmas
 mod TextLemmas

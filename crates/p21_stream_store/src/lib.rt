@@ -3,6 +3,7 @@
 #![tactic(auto)]
 
 mod lines;
+mod names;
 mod texts;
 
 pub use lines::Lines;
