@@ -2,9 +2,11 @@
 //! references that wait for their targets.
 #![tactic(auto)]
 
+mod instances;
 mod lines;
 mod names;
 mod texts;
 
+pub use instances::Instances;
 pub use lines::Lines;
 pub use texts::Texts;
