@@ -1,0 +1,96 @@
+-- Instances among those that are kept.
+use Rattle.std.proofs.Common.{◌≡◌, ◌+◌, ◌<◌, ℕ, zero, suc, List, [], ◌∷◌, ◌++◌, length, Some, inl, inr, refl, sym, ap, subst, ◌∙◌, arith}
+use Rattle.std.proofs.lemmas.List.{append_assoc, length-append, map-append}
+use Rattle.std.proofs.lemmas.List.Elements.{Contains-append_cases, Contains-append_left, Contains-append_right}
+use Rattle.std.proofs.lemmas.List.Sorted.{IsPermutation-middle, IsPermutation-sym, IsPermutation-to_front, sum_by-IsPermutation}
+use Rattle.std.proofs.lemmas.List.Sums.{sum_by-append}
+use Rattle.std.proofs.lemmas.Option.{get_or_from_slice_get, slice_get_within}
+use Rattle.std.specs.List.{Contains, slice_get}
+use Rattle.std.specs.List.Sorted.{IsPermutation}
+use Rattle.p21_stream_store.specs.Kept.{Kept, kept_names, kept_of, text_bytes}
+
+-- an instance of a line
+abbrev pub kept : ℕ → ℕ × List ℕ → Kept
+kept name line = record { name = name; kind = line.0; text = line.1 }
+
+kept-get : (names : List ℕ) (lines : List (ℕ × List ℕ)) (i n : ℕ) (l : ℕ × List ℕ) → slice_get names i ≡ Some n → slice_get lines i ≡ Some l → slice_get (kept_of names lines) i ≡ Some (kept n l)
+kept-get [] lines i n l e f = cc
+kept-get (a ∷ names) [] i n l e f = cc
+kept-get (a ∷ names) (b ∷ lines) zero n l e f =
+    let name : a ≡ n = cc in
+    let line : b ≡ l = cc in
+    ap (λ (m : ℕ). Some (kept m b)) name ∙ ap (λ (m : ℕ × List ℕ). Some (kept n m)) line
+kept-get (a ∷ names) (b ∷ lines) (suc i) n l e f = kept-get names lines i n l e f
+
+contains_got : {X : Type 0} (xs : List X) (i : ℕ) (x : X) → slice_get xs i ≡ Some x → Contains xs x
+contains_got xs i x e = (i, slice_get_within xs i x e, get_or_from_slice_get xs i x x e)
+
+names-kept_of : (names : List ℕ) (lines : List (ℕ × List ℕ)) → length names ≡ length lines → kept_names (kept_of names lines) ≡ names
+names-kept_of [] lines e = refl
+names-kept_of (a ∷ names) [] e = absurd (omega (arith, e))
+names-kept_of (a ∷ names) (b ∷ lines) e = ap (λ (l : List ℕ). a ∷ l) (names-kept_of names lines (omega (arith, e)))
+
+pub place_within : (names : List ℕ) (lines : List (ℕ × List ℕ)) (i n : ℕ) → length names ≡ length lines → slice_get names i ≡ Some n → i < length lines
+place_within names lines i n e f = let within = slice_get_within names i n f in omega (arith, e, within)
+
+module _ (rising late : List ℕ) (rising_lines late_lines : List (ℕ × List ℕ)) (all : List Kept) (all_are : kept_of rising rising_lines ++ kept_of late late_lines ≡ all) where
+  pub rising_found : (i n : ℕ) (l : ℕ × List ℕ) → slice_get rising i ≡ Some n → slice_get rising_lines i ≡ Some l → Contains all (kept n l)
+  rising_found i n l e f = subst (λ (x : List Kept). Contains x (kept n l)) all_are (Contains-append_left _ _ _ (contains_got _ i _ (kept-get rising rising_lines i n l e f)))
+
+  pub late_found : (i n : ℕ) (l : ℕ × List ℕ) → slice_get late i ≡ Some n → slice_get late_lines i ≡ Some l → Contains all (kept n l)
+  late_found i n l e f = subst (λ (x : List Kept). Contains x (kept n l)) all_are (Contains-append_right _ _ _ (contains_got _ i _ (kept-get late late_lines i n l e f)))
+
+  pub names_are : length rising ≡ length rising_lines → length late ≡ length late_lines → kept_names all ≡ rising ++ late
+  names_are e f =
+      ap kept_names (sym all_are) ∙ map-append (λ (x : Kept). x.name) (kept_of rising rising_lines) (kept_of late late_lines)
+      ∙ ap (λ (l : List ℕ). l ++ kept_names (kept_of late late_lines)) (names-kept_of rising rising_lines e)
+      ∙ ap (λ (l : List ℕ). rising ++ l) (names-kept_of late late_lines f)
+
+  pub none_found : (n : ℕ) → length rising ≡ length rising_lines → length late ≡ length late_lines → (Contains rising n → ⊥) → (Contains late n → ⊥) → Contains (kept_names all) n → ⊥
+  none_found n e f first second has =
+      elim (Contains-append_cases rising late n (subst (λ (l : List ℕ). Contains l n) (names_are e f) has)) [ inl here ↦ first here | inr there ↦ second there ]
+
+-- ---- an instance more
+
+kept-more : (names : List ℕ) (lines : List (ℕ × List ℕ)) (n : ℕ) (l : ℕ × List ℕ) → length names ≡ length lines → kept_of (names ++ n ∷ []) (lines ++ l ∷ []) ≡ kept_of names lines ++ kept n l ∷ []
+kept-more [] [] n l e = refl
+kept-more [] (b ∷ lines) n l e = absurd (omega (arith, e))
+kept-more (a ∷ names) [] n l e = absurd (omega (arith, e))
+kept-more (a ∷ names) (b ∷ lines) n l e = ap (λ (x : List Kept). kept a b ∷ x) (kept-more names lines n l (omega (arith, e)))
+
+-- a name and its line stand behind the others
+pub record IsAdded (names : List ℕ) (lines : List (ℕ × List ℕ)) (name : ℕ) (line : ℕ × List ℕ) (new_names : List ℕ) (new_lines : List (ℕ × List ℕ)) : Type 0 where
+  pub lengths : length names ≡ length lines
+  pub names_are : new_names ≡ names ++ name ∷ []
+  pub lines_are : new_lines ≡ lines ++ line ∷ []
+
+module _ (names : List ℕ) (lines : List (ℕ × List ℕ)) (n : ℕ) (l : ℕ × List ℕ) (new_names : List ℕ) (new_lines : List (ℕ × List ℕ)) (a : IsAdded names lines n l new_names new_lines) where
+  added-kept_of : kept_of new_names new_lines ≡ kept_of names lines ++ kept n l ∷ []
+  added-kept_of = rw (a.names_are, a.lines_are) (kept-more names lines n l a.lengths)
+
+  pub added_lengths : length new_names ≡ length new_lines
+  added_lengths = rw (a.names_are, a.lines_are) (simp length-append (omega (arith, a.lengths)))
+
+  pub added_in_front : (others old : List Kept) → kept_of names lines ++ others ≡ old → IsPermutation (kept n l ∷ old) (kept_of new_names new_lines ++ others)
+  added_in_front others old e =
+      let new : kept_of new_names new_lines ++ others ≡ kept_of names lines ++ kept n l ∷ others = ap (λ (x : List Kept). x ++ others) added-kept_of ∙ append_assoc (kept_of names lines) (kept n l ∷ []) others in
+      let moved = IsPermutation-sym _ _ (IsPermutation-middle (kept_of names lines) (kept n l) others) in
+      subst (λ (x : List Kept). IsPermutation (kept n l ∷ x) (kept_of new_names new_lines ++ others)) e
+      (subst (λ (x : List Kept). IsPermutation (kept n l ∷ (kept_of names lines ++ others)) x) (sym new) moved)
+
+  pub added_behind : (others old : List Kept) → others ++ kept_of names lines ≡ old → IsPermutation (kept n l ∷ old) (others ++ kept_of new_names new_lines)
+  added_behind others old e =
+      let new : others ++ kept_of new_names new_lines ≡ old ++ kept n l ∷ [] =
+      ap (λ (x : List Kept). others ++ x) added-kept_of ∙ sym (append_assoc others (kept_of names lines) (kept n l ∷ [])) ∙ ap (λ (x : List Kept). x ++ kept n l ∷ []) e in
+      subst (λ (x : List Kept). IsPermutation (kept n l ∷ old) x) (sym new) (IsPermutation-sym _ _ (IsPermutation-to_front old (kept n l)))
+
+pub added_size : (x : Kept) (old new : List Kept) (size new_size : ℕ) → IsPermutation (x ∷ old) new → size ≡ text_bytes old → new_size ≡ size + length x.text → new_size ≡ text_bytes new
+added_size x old new size new_size p e f =
+    let total = sum_by-IsPermutation (λ (y : Kept). length y.text) (x ∷ old) new p in
+    let parts = sum_by-append (λ (y : Kept). length y.text) (x ∷ []) old in
+    omega (arith, e, f, total, parts)
+
+pub absent_late : (rising late : List ℕ) (rising_lines late_lines : List (ℕ × List ℕ)) (all : List Kept) (n : ℕ) → kept_of rising rising_lines ++ kept_of late late_lines ≡ all → length rising ≡ length rising_lines → length late ≡ length late_lines
+    → (Contains (kept_names all) n → ⊥) → Contains late n → ⊥
+absent_late rising late rising_lines late_lines all n all_are e f absent has =
+    absent (subst (λ (l : List ℕ). Contains l n) (sym (names_are rising late rising_lines late_lines all all_are e f)) (Contains-append_right rising late n has))

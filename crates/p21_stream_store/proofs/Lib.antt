@@ -1,0 +1,5 @@
+mod BlockLemmas
+mod KeptLemmas
+mod LineLemmas
+mod NameLemmas
+mod TextLemmas

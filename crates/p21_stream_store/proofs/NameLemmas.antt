@@ -1,0 +1,49 @@
+-- Where a name stands among rising names, and in a set.
+use Rattle.std.proofs.Common.{◌≡◌, ◌+◌, ◌≤◌, ◌<◌, ℕ, zero, suc, Bool, true, false, List, [], ◌∷◌, ◌++◌, length, get_or, Option, Some, None, Result, Ok, Err, IfSome, IsNone, refl, sym, ap, ◌∙◌, arith, eqb, cond, ◌-◌, inl, inr}
+use Rattle.std.proofs.lemmas.Bool.Decides.{leb_tells, nat_tests}
+use Rattle.std.proofs.lemmas.Grind.{get_or_default_zero}
+use Rattle.std.proofs.lemmas.List.Quantifiers.{position-Some}
+use Rattle.std.proofs.lemmas.List.Sorted.{searched}
+use Rattle.std.proofs.lemmas.Map.Views.{Contains-from_any}
+use Rattle.std.proofs.lemmas.Option.{slice_get-get_or}
+use Rattle.std.specs.List.{Contains, list_any, position, slice_get}
+use Rattle.std.specs.List.Sorted.{IsBinarySearchResult, IsStrictlyIncreasing}
+use Rattle.std.specs.Ordering.{nat_cmp}
+use Rattle.std.specs.Result.{result_ok}
+
+same_at : (a b : ℕ) → eqb a b ≡ true → a ≡ b
+same_at a b e = grind (arith, nat_tests)
+
+rise_to : (xs : List ℕ) → IsStrictlyIncreasing xs → (i n : ℕ) → i + n < length xs → get_or xs i 0 ≤ get_or xs (i + n) 0
+rise_to xs r i zero h = let same : get_or xs (i + 0) 0 ≡ get_or xs i 0 = ap (λ (k : ℕ). get_or xs k 0) (let e : i + 0 ≡ i = omega arith in e) in omega (arith, same)
+rise_to xs r i (suc n) h =
+    let before = rise_to xs r i n (omega (arith, h)) in
+    let step = r (i + n) (omega (arith, h)) in
+    let same : get_or xs (i + suc n) 0 ≡ get_or xs (i + n + 1) 0 = ap (λ (k : ℕ). get_or xs k 0) (let e : i + suc n ≡ i + n + 1 = omega arith in e) in
+    omega (arith, before, step, same)
+
+never_fall : (xs : List ℕ) → IsStrictlyIncreasing xs → (i j : ℕ) → i ≤ j → j < length xs → get_or xs i 0 ≤ get_or xs j 0
+never_fall xs r i j h k =
+    let same : get_or xs (i + (j - i)) 0 ≡ get_or xs j 0 = ap (λ (n : ℕ). get_or xs n 0) (let e : i + (j - i) ≡ j = omega (arith, h) in e) in
+    let to = rise_to xs r i (j - i) (omega (arith, h, k)) in
+    omega (arith, to, same)
+
+pub not_found : (xs : List ℕ) (x : ℕ) (r : Result ℕ ℕ) (place : Option ℕ) → IsStrictlyIncreasing xs → IsBinarySearchResult (λ y. nat_cmp y x) xs r → place ≡ result_ok r → IsNone place → Contains xs x → ⊥
+not_found xs x (Ok i) None rising s e none has = cc
+not_found xs x (Ok i) (Some j) rising s e none has = cc
+not_found xs x (Err i) place rising s e none (k, h, at) =
+    let where_ = searched xs x (Err i) s (never_fall xs rising) in
+    let here : get_or xs k x ≡ get_or xs k 0 = get_or_default_zero xs k x h in
+    elim (leb_tells i k) [ inl behind ↦ (let above = where_.2 k behind.1 h in omega (arith, above, at, here)) | inr before ↦ (let below = where_.1 k before.1 in omega (arith, below, at, here)) ]
+
+pub found_place : (keys : List ℕ) (x : ℕ) (place : Option ℕ) → place ≡ position (λ y. eqb x y) keys → IfSome place (λ i. slice_get keys i ≡ Some x)
+found_place keys x None e = tt
+found_place keys x (Some i) e =
+    let at = position-Some (λ y. eqb x y) keys i 0 (sym e) in
+    slice_get-get_or keys i 0 at.0 ∙ ap (λ (n : ℕ). Some n) (sym (same_at x (get_or keys i 0) at.1))
+
+pub added : (keys : List ℕ) (x : ℕ) → (Contains keys x → ⊥) → cond (list_any (λ y. eqb x y) keys) keys (keys ++ x ∷ []) ≡ keys ++ x ∷ []
+added keys x absent = by (list_any (λ y. eqb x y) keys) refl where
+  by : (b : Bool) → list_any (λ y. eqb x y) keys ≡ b → cond b keys (keys ++ x ∷ []) ≡ keys ++ x ∷ []
+  by true e = absurd (absent (Contains-from_any {eq = eqb} same_at x keys e))
+  by false e = refl

@@ -1,0 +1,42 @@
+use Rattle.std.proofs.Common.{List, ℕ, ◌++◌, ◌∷◌, [], ap, refl, subst, sym, ◌∙◌}
+use Rattle.std.specs.List.Sorted.{IsStrictlyIncreasing}
+use Rattle.p21_stream_store.proofs.KeptLemmas.{IsAdded, absent_late, added_behind, added_in_front, added_lengths, added_size, kept}
+use Rattle.p21_stream_store.specs.Kept.{kept_of}
+use Rattle.p21_stream_store.proofs.instances.Instances.push.Goals as goal
+
+pub invariant_of-self-then-is_above : goal.invariant_of-self-then-is_above
+invariant_of-self-then-is_above c =
+    let added : IsAdded c.self.inside.rising.items c.self.inside.rising_lines c.args.name (c.args.kind, c.args.text.now) c.add_rising.new.names.items c.add_rising.new.lines =
+    record { lengths = c.self.invariant.rising_lines; names_are = c.in-Ok.ensures.names; lines_are = c.in-Ok.ensures.lines } in
+    record {
+      rising = subst (λ (l : List ℕ). IsStrictlyIncreasing l) (ap (λ (l : List ℕ). l ++ c.args.name ∷ []) c.deref.ensures.value ∙ sym c.in-Ok.ensures.names) (c.if-is_above.ensures refl);
+      rising_lines = added_lengths _ _ _ _ _ _ added;
+      late_lines = c.self.invariant.late_lines;
+      size = added_size (kept c.args.name (c.args.kind, c.args.text.now)) _ _ _ _ (added_in_front _ _ _ _ _ _ added _ _ refl) c.self.invariant.size c.in-Some.ensures.1;
+    }
+
+pub returns-then-is_above-clause-ok : goal.returns-then-is_above-clause-ok
+returns-then-is_above-clause-ok c =
+    let added : IsAdded c.self.inside.rising.items c.self.inside.rising_lines c.args.name (c.args.kind, c.args.text.now) c.add_rising.new.names.items c.add_rising.new.lines =
+    record { lengths = c.self.invariant.rising_lines; names_are = c.in-Ok.ensures.names; lines_are = c.in-Ok.ensures.lines } in
+    added_in_front _ _ _ _ _ _ added _ _ c.self.view_is
+
+pub add_late-requires : goal.add_late-requires
+add_late-requires c = absent_late _ _ _ _ _ _ c.self.view_is c.self.invariant.rising_lines c.self.invariant.late_lines c.requires
+
+pub invariant_of-self-2 : goal.invariant_of-self-2
+invariant_of-self-2 c =
+    let added : IsAdded c.self.inside.late.keys c.self.inside.late_lines c.args.name (c.args.kind, c.args.text.now) c.add_late.new.names.keys c.add_late.new.lines =
+    record { lengths = c.self.invariant.late_lines; names_are = c.in-Ok-add_late.ensures.names; lines_are = c.in-Ok-add_late.ensures.lines } in
+    record {
+      rising = c.self.invariant.rising;
+      rising_lines = c.self.invariant.rising_lines;
+      late_lines = added_lengths _ _ _ _ _ _ added;
+      size = added_size (kept c.args.name (c.args.kind, c.args.text.now)) _ _ _ _ (added_behind _ _ _ _ _ _ added (kept_of c.self.inside.rising.items c.self.inside.rising_lines) _ refl) c.self.invariant.size c.in-Some.ensures.1;
+    }
+
+pub returns-clause-ok : goal.returns-clause-ok
+returns-clause-ok c =
+    let added : IsAdded c.self.inside.late.keys c.self.inside.late_lines c.args.name (c.args.kind, c.args.text.now) c.add_late.new.names.keys c.add_late.new.lines =
+    record { lengths = c.self.invariant.late_lines; names_are = c.in-Ok-add_late.ensures.names; lines_are = c.in-Ok-add_late.ensures.lines } in
+    added_behind _ _ _ _ _ _ added _ _ c.self.view_is

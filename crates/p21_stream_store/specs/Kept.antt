@@ -1,0 +1,22 @@
+-- Instances as they are kept.
+use Rattle.std.specs.Prelude.{ℕ, List, [], ◌∷◌, length, map, sum_by}
+
+-- the name of an instance, the number of its kind, and its canonical text
+pub record Kept : Type 0 where
+  pub name : ℕ
+  pub kind : ℕ
+  pub text : List ℕ
+
+-- names side by side with kinds and texts
+abbrev pub kept_of : List ℕ → List (ℕ × List ℕ) → List Kept
+kept_of [] lines = []
+kept_of (name ∷ names) [] = []
+kept_of (name ∷ names) (line ∷ lines) = record { name = name; kind = line.0; text = line.1 } ∷ kept_of names lines
+
+-- the names of the instances
+abbrev pub kept_names : List Kept → List ℕ
+kept_names kept = map (λ (x : Kept). x.name) kept
+
+-- the bytes of their texts
+abbrev pub text_bytes : List Kept → ℕ
+text_bytes kept = sum_by (λ (x : Kept). length x.text) kept

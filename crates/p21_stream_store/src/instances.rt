@@ -1,0 +1,159 @@
+//! The instances that a session has taken.
+ghost use Rattle.std.specs.Prelude.{◌≡◌, ◌<◌, [], ◌∷◌, ◌++◌, length, Contains, IfSome, IsNone, IsPermutation, IsTrue, OnErr, OnOk};
+ghost use Rattle.std.specs.List.Sorted.{IsStrictlyIncreasing};
+ghost use Rattle.p21_stream_store.specs.Kept.{Kept, kept_names, text_bytes};
+
+use crate::lines::Lines;
+use crate::names::{add_name, place_among, place_in};
+use indexmap::IndexSet;
+use p21_values::NoMemory;
+use std::alloc::Global;
+use std::marker::Model;
+
+/// Instances by name, each with its canonical text and the number of its kind. Those whose names rise, as in nearly
+/// every file, are kept in their order and take no index; a name that is below one in front of it goes into an index.
+#[derive(Drop)]
+pub struct Instances {
+    rising: Vec<u64>,
+    rising_lines: Lines,
+    late: IndexSet<u64>,
+    late_lines: Lines,
+    size: u64,
+}
+
+impl Model for Instances {
+    ghost use Rattle.std.specs.Prelude.{List};
+    ghost use Rattle.p21_stream_store.specs.Kept.{Kept};
+
+    ghost Value = { List Kept };
+
+    ghost use Rattle.p21_stream_store.specs.Instances.{IsSound, all_kept};
+
+    ghost view = { all_kept };
+
+    ghost invariant = { IsSound };
+}
+
+impl Instances {
+    /// No instance. It takes no memory.
+    pub fn new(alloc: Global) -> Instances
+        ensures { result ≡ [] }
+    {
+        Instances {
+            rising: Vec::new(alloc),
+            rising_lines: Lines::new(alloc),
+            late: IndexSet::new(alloc),
+            late_lines: Lines::new(alloc),
+            size: 0,
+        }
+    }
+
+    /// The bytes of the canonical texts.
+    pub fn size(&self) -> u64
+        ensures { result ≡ text_bytes self.now }
+    {
+        self.size
+    }
+
+    /// The number of the kind and the canonical text of the instance of this name, if there is one.
+    pub fn find(&self, name: u64) -> Option<(u32, &[u8])>
+        ensures some { IfSome result (λ found. Contains self.now (record { name = name; kind = found.0; text = found.1.now })) }
+        ensures none { IsNone result → Contains (kept_names self.now) name → ⊥ }
+    {
+        if let Some(place) = place_in(&self.rising, name) {
+            return Some(self.rising_lines.get(place));
+        }
+        match place_among(&self.late, name) {
+            Some(place) => Some(self.late_lines.get(place)),
+            None => None,
+        }
+    }
+
+    /// Adds an instance whose name no instance has yet, with the number of its kind and its canonical text.
+    ///
+    /// # Errors
+    ///
+    /// `NoMemory`, which changes nothing.
+    pub fn push(&mut self, name: u64, kind: u32, text: &[u8]) -> Result<(), NoMemory>
+        requires { Contains (kept_names self.old) name → ⊥ }
+        ensures ok { OnOk result (IsPermutation (record { name = name; kind = kind; text = text.now } ∷ self.old) self.new) }
+        ensures err { OnErr result (self.new ≡ self.old) }
+    {
+        let Some(size) = self.size.checked_add(text.len() as u64) else {
+            return Err(NoMemory);
+        };
+        if is_above(&self.rising, name) {
+            let Ok(()) = add_rising(&mut self.rising, &mut self.rising_lines, name, kind, text)
+            else {
+                return Err(NoMemory);
+            };
+            self.size = size;
+            return Ok(());
+        }
+        let Ok(()) = add_late(&mut self.late, &mut self.late_lines, name, kind, text) else {
+            return Err(NoMemory);
+        };
+        self.size = size;
+        Ok(())
+    }
+}
+
+/// Whether a name is above the last of rising names.
+fn is_above(names: &[u64], name: u64) -> bool
+    requires { IsStrictlyIncreasing names.now }
+    ensures { IsTrue result → IsStrictlyIncreasing (names.now ++ name ∷ []) }
+{
+    match names.last() {
+        Some(last) => *last < name,
+        None => true,
+    }
+}
+
+/// Adds a name and its line. An `Err` changes nothing.
+fn add_rising(
+    names: &mut Vec<u64>,
+    lines: &mut Lines,
+    name: u64,
+    kind: u32,
+    text: &[u8],
+) -> Result<(), NoMemory>
+    ensures names { OnOk result (names.new.items ≡ names.old.items ++ name ∷ []) }
+    ensures lines { OnOk result (lines.new ≡ lines.old ++ (kind, text.now) ∷ []) }
+    ensures err { OnErr result ((names.new.items ≡ names.old.items) × (lines.new ≡ lines.old)) }
+{
+    let Ok(()) = names.push(name) else {
+        return Err(NoMemory);
+    };
+    match lines.push(kind, text) {
+        Ok(()) => Ok(()),
+        Err(fault) => {
+            names.pop();
+            Err(fault)
+        }
+    }
+}
+
+/// Adds a name that isn't there yet, and its line. An `Err` changes nothing.
+fn add_late(
+    names: &mut IndexSet<u64>,
+    lines: &mut Lines,
+    name: u64,
+    kind: u32,
+    text: &[u8],
+) -> Result<(), NoMemory>
+    requires { Contains names.old.keys name → ⊥ }
+    ensures names { OnOk result (names.new.keys ≡ names.old.keys ++ name ∷ []) }
+    ensures lines { OnOk result (lines.new ≡ lines.old ++ (kind, text.now) ∷ []) }
+    ensures err { OnErr result ((names.new.keys ≡ names.old.keys) × (lines.new ≡ lines.old)) }
+{
+    let Ok(()) = add_name(names, name) else {
+        return Err(NoMemory);
+    };
+    match lines.push(kind, text) {
+        Ok(()) => Ok(()),
+        Err(fault) => {
+            names.pop();
+            Err(fault)
+        }
+    }
+}

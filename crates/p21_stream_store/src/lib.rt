@@ -1,0 +1,12 @@
+//! What a session keeps of the instances that it has taken: their canonical lines, their sets of entities, and the
+//! references that wait for their targets.
+#![tactic(auto)]
+
+mod instances;
+mod lines;
+mod names;
+mod texts;
+
+pub use instances::Instances;
+pub use lines::Lines;
+pub use texts::Texts;

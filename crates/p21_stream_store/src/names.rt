@@ -1,0 +1,60 @@
+//! Where a name stands among names.
+ghost use Rattle.std.specs.Prelude.{◌≡◌, ◌<◌, [], ◌∷◌, ◌++◌, Contains, IfSome, IsNone, OnErr, OnOk, slice_get, Some};
+ghost use Rattle.std.specs.List.Sorted.{IsStrictlyIncreasing};
+
+use indexmap::IndexSet;
+use p21_values::NoMemory;
+
+/// The place of a name among rising names. Names that rise by like steps are found at once.
+pub fn place_in(names: &[u64], name: u64) -> Option<usize>
+    requires rising { IsStrictlyIncreasing names.now }
+    ensures some { IfSome result (λ place. slice_get names.now place ≡ Some name) }
+    ensures none { IsNone result → Contains names.now name → ⊥ }
+{
+    let place = guess(names, name);
+    if place < names.len() && names[place] == name {
+        return Some(place);
+    }
+    names.binary_search(&name).ok()
+}
+
+/// Where a name would stand if the names rose by like steps from the first to the last.
+fn guess(names: &[u64], name: u64) -> usize {
+    let (Some(first), Some(last)) = (names.first(), names.last()) else {
+        return 0;
+    };
+    if name <= *first || *last <= *first {
+        return 0;
+    }
+    let steps = (names.len() - 1) as u128;
+    let place = u128::from(name - *first) * steps / u128::from(*last - *first);
+    if place < names.len() as u128 {
+        place as usize
+    } else {
+        names.len()
+    }
+}
+
+/// The place of a name in a set.
+pub fn place_among(names: &IndexSet<u64>, name: u64) -> Option<usize>
+    ensures some { IfSome result (λ place. slice_get names.now.keys place ≡ Some name) }
+    ensures none { IsNone result → Contains names.now.keys name → ⊥ }
+{
+    names.get_index_of(&name)
+}
+
+/// Adds a name that isn't there yet.
+///
+/// # Errors
+///
+/// `NoMemory`, which changes nothing.
+pub fn add_name(names: &mut IndexSet<u64>, name: u64) -> Result<(), NoMemory>
+    requires { Contains names.old.keys name → ⊥ }
+    ensures ok { OnOk result (names.new.keys ≡ names.old.keys ++ name ∷ []) }
+    ensures err { OnErr result (names.new.keys ≡ names.old.keys) }
+{
+    let Ok(_) = names.insert(name) else {
+        return Err(NoMemory);
+    };
+    Ok(())
+}

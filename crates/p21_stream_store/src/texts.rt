@@ -1,0 +1,232 @@
+//! Texts by number. They lie in blocks that don't move when more come.
+ghost use Rattle.std.specs.Prelude.{◌≡◌, ◌<◌, [], ◌∷◌, ◌++◌, length, slice_get, IfOk, IfSome, OnErr, OnOk, MatchBool, Some};
+ghost use Rattle.p21_stream_store.specs.Blocks.{AreFirsts, block_texts};
+ghost use Rattle.p21_stream_store.specs.Texts.{AreStartsFrom, texts_of};
+
+use p21_values::NoMemory;
+use std::alloc::Global;
+use std::marker::Model;
+use std::mem;
+
+/// The bytes of a block, apart from those of a text that is longer and has a block of its own.
+const BLOCK: usize = 262_144;
+
+/// Adds a text that starts behind the bytes. The first one makes room for a whole block. An `Err` changes nothing.
+fn put(starts: &mut Vec<u32>, bytes: &mut Vec<u8>, start: u32, text: &[u8]) -> Result<(), NoMemory>
+    ensures starts { OnOk result (starts.new.items ≡ starts.old.items ++ start ∷ []) }
+    ensures bytes { OnOk result (bytes.new.items ≡ bytes.old.items ++ text.now) }
+    ensures err { OnErr result ((starts.new.items ≡ starts.old.items) × (bytes.new.items ≡ bytes.old.items)) }
+{
+    let size = if starts.is_empty() {
+        BLOCK.max(text.len())
+    } else {
+        text.len()
+    };
+    bytes.reserve(size)?;
+    starts.push(start)?;
+    if bytes.extend_from_slice(text).is_err() {
+        starts.pop();
+        return Err(NoMemory);
+    }
+    Ok(())
+}
+
+/// Where the next text starts, behind so many texts and bytes; none where a text of this size doesn't fit.
+fn start_of(texts: usize, used: usize, size: usize) -> Option<u32>
+    requires { texts ≡ 0 → used ≡ 0 }
+    ensures { IfSome result (λ start. start ≡ used) }
+{
+    if texts == 0 {
+        return Some(0);
+    }
+    if used > BLOCK || size > BLOCK - used {
+        return None;
+    }
+    Some(used as u32)
+}
+
+/// The text of a number among those that start at these places of the bytes.
+fn text_at<'a>(starts: &[u32], bytes: &'a [u8], index: usize) -> &'a [u8]
+    requires index { index < length starts.now }
+    requires starts { AreStartsFrom starts.now (length bytes.now) }
+    ensures { slice_get (texts_of starts.now bytes.now) index ≡ Some result.now }
+{
+    let start = starts[index] as usize;
+    let rest = &bytes[start..];
+    if starts.len() - index == 1 {
+        return rest;
+    }
+    let end = starts[index + 1] as usize;
+    &rest[..end - start]
+}
+
+/// Texts one behind the other: the bytes, and where each text starts.
+#[derive(Drop)]
+struct Block {
+    starts: Vec<u32>,
+    bytes: Vec<u8>,
+}
+
+impl Model for Block {
+    ghost use Rattle.std.specs.Prelude.{List, ℕ};
+    ghost use Rattle.p21_stream_store.specs.Texts.{texts_of, AreStarts};
+
+    ghost Value = { List (List ℕ) };
+
+    ghost view = { λ a. texts_of a.starts.items a.bytes.items };
+
+    ghost invariant = { λ a. AreStarts a.starts.items a.bytes.items };
+}
+
+impl Block {
+    /// No text. It takes no memory.
+    fn new(alloc: Global) -> Block
+        ensures { result ≡ [] }
+    {
+        Block {
+            starts: Vec::new(alloc),
+            bytes: Vec::new(alloc),
+        }
+    }
+
+    /// How many texts.
+    fn len(&self) -> usize
+        ensures { result ≡ length self.now }
+    {
+        self.starts.len()
+    }
+
+    /// The text of a number.
+    fn get(&self, index: usize) -> &[u8]
+        requires { index < length self.now }
+        ensures { slice_get self.now index ≡ Some result.now }
+    {
+        text_at(&self.starts, &self.bytes, index)
+    }
+
+    /// Adds a text, if it fits; says whether it did. An `Err` changes nothing.
+    fn push(&mut self, text: &[u8]) -> Result<bool, NoMemory>
+        ensures added { IfOk result (λ added. MatchBool added (self.new ≡ self.old ++ text.now ∷ []) (self.new ≡ self.old)) }
+        ensures err { OnErr result (self.new ≡ self.old) }
+    {
+        let Some(start) = start_of(self.starts.len(), self.bytes.len(), text.len()) else {
+            return Ok(false);
+        };
+        let Ok(()) = put(&mut self.starts, &mut self.bytes, start, text) else {
+            return Err(NoMemory);
+        };
+        Ok(true)
+    }
+}
+
+/// A block to which no more texts are added, and the number of its first text.
+#[derive(Drop)]
+struct Full {
+    first: usize,
+    block: Block,
+}
+
+/// The text of a number below `end`, which is the number behind these blocks.
+fn text_in(full: &[Full], index: usize, end: usize) -> &[u8]
+    requires firsts { AreFirsts 0 full.now end }
+    requires index { index < end }
+    ensures { slice_get (block_texts full.now) index ≡ Some result.now }
+{
+    let mut low = 0;
+    let mut high = full.len();
+    while high - low > 1 {
+        let middle = low + (high - low) / 2;
+        if full[middle].first <= index {
+            low = middle;
+        } else {
+            high = middle;
+        }
+    }
+    let found = &full[low];
+    found.block.get(index - found.first)
+}
+
+/// Texts by number, in the order in which they came. They don't move when more come.
+#[derive(Drop)]
+pub struct Texts {
+    alloc: Global,
+    full: Vec<Full>,
+    end: usize,
+    last: Block,
+}
+
+impl Model for Texts {
+    ghost use Rattle.std.specs.Prelude.{List, ℕ, ◌++◌};
+    ghost use Rattle.p21_stream_store.specs.Blocks.{block_texts, AreFirsts};
+
+    ghost Value = { List (List ℕ) };
+
+    ghost view = { λ a. block_texts a.full.items ++ a.last };
+
+    ghost invariant = { λ a. AreFirsts 0 a.full.items a.end };
+}
+
+impl Texts {
+    /// No text. It takes no memory.
+    pub fn new(alloc: Global) -> Texts
+        ensures { result ≡ [] }
+    {
+        Texts {
+            alloc,
+            full: Vec::new(alloc),
+            end: 0,
+            last: Block::new(alloc),
+        }
+    }
+
+    /// The text of a number.
+    pub fn get(&self, index: usize) -> &[u8]
+        requires { index < length self.now }
+        ensures { slice_get self.now index ≡ Some result.now }
+    {
+        if index < self.end {
+            return text_in(&self.full, index, self.end);
+        }
+        self.last.get(index - self.end)
+    }
+
+    /// Adds a text.
+    ///
+    /// # Errors
+    ///
+    /// `NoMemory`, which changes nothing.
+    pub fn push(&mut self, text: &[u8]) -> Result<(), NoMemory>
+        ensures ok { OnOk result (self.new ≡ self.old ++ text.now ∷ []) }
+        ensures err { OnErr result (self.new ≡ self.old) }
+    {
+        match self.last.push(text) {
+            Ok(true) => return Ok(()),
+            Ok(false) => {}
+            Err(fault) => return Err(fault),
+        }
+        let mut block = Block::new(self.alloc);
+        let Ok(true) = block.push(text) else {
+            return Err(NoMemory);
+        };
+        let Some(end) = self.end.checked_add(self.last.len()) else {
+            return Err(NoMemory);
+        };
+        if self.full.reserve(1).is_err() {
+            return Err(NoMemory);
+        }
+        let full = Full {
+            first: self.end,
+            block: mem::replace(&mut self.last, block),
+        };
+        match self.full.push(full) {
+            Ok(()) => {
+                self.end = end;
+                Ok(())
+            }
+            Err(failed) => {
+                self.last = failed.value.block;
+                Err(NoMemory)
+            }
+        }
+    }
+}
