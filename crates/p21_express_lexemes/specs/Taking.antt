@@ -6,7 +6,7 @@ use Rattle.std.specs.Str.{bytes_eq}
 use Rattle.p21_express_lexemes.specs.declared.fault.SyntaxFault.{SyntaxFault}
 use Rattle.p21_express_lexemes.specs.declared.fault.SyntaxFault.TheVariants.{NoMemory}
 use Rattle.p21_express_lexemes.specs.Words.{is_reserved}
-use Rattle.p21_schemas.specs.Express.{Lexeme, identifier, digits, symbol, upper}
+use Rattle.p21_schemas.specs.Express.{Lexeme, identifier, digits, simple_string, symbol, upper}
 
 -- the lexemes that are left; a None stands where the text goes wrong
 abbrev pub Items : Type 0
@@ -24,6 +24,10 @@ symbol_or byte other rest = None
 abbrev pub word_or : List ℕ → Lexeme → Items → Option Items
 word_or name (identifier other) rest = if bytes_eq other name then Some rest else None
 word_or name other rest = None
+
+abbrev pub simple_string_or : Lexeme → Items → Option Items
+simple_string_or (simple_string inside) rest = Some rest
+simple_string_or other rest = None
 
 abbrev pub digits_or : Lexeme → Items → Option (List ℕ × Items)
 digits_or (digits ds) rest = Some (ds, rest)
@@ -44,6 +48,12 @@ unfoldable pub take_word : List ℕ → Items → Option Items
 take_word name [] = None
 take_word name (None ∷ rest) = None
 take_word name (Some lexeme ∷ rest) = word_or name lexeme rest
+
+-- what is left behind a simple string
+unfoldable pub take_simple_string : Items → Option Items
+take_simple_string [] = None
+take_simple_string (None ∷ rest) = None
+take_simple_string (Some lexeme ∷ rest) = simple_string_or lexeme rest
 
 unfoldable pub take_digits : Items → Option (List ℕ × Items)
 take_digits [] = None

@@ -6,7 +6,7 @@ ghost use Rattle.p21_schemas.specs.ExpressLaying.{LaidLexemes};
 ghost use Rattle.p21_express_lexemes.specs.Fault.{refusal_of, shown_by, left_out_words, is_operator};
 ghost use Rattle.p21_express_lexemes.specs.Lexemes.{lexemes_of};
 ghost use Rattle.p21_express_lexemes.specs.Runs.{Took as TookMarked, Advanced, IsMarked, marks};
-ghost use Rattle.p21_express_lexemes.specs.Taking.{put, Took, TookOne, Expected, ReadBy, take_symbol, take_word, take_digits, take_name, symbol_or, word_or, digits_or, name_or, seen, seen_upper, upper_of};
+ghost use Rattle.p21_express_lexemes.specs.Taking.{put, Took, TookOne, Expected, ReadBy, take_symbol, take_word, take_simple_string, take_digits, take_name, symbol_or, word_or, simple_string_or, digits_or, name_or, seen, seen_upper, upper_of};
 ghost use Rattle.p21_express_lexemes.specs.Tests.{IsTest, IsContent, IsShown};
 ghost use Rattle.p21_express_lexemes.specs.Words.{is_among};
 ghost use Rattle.p21_express_lexemes.specs.declared.fault.SyntaxFault.TheVariants.{Syntax, LeftOut};
@@ -158,6 +158,25 @@ impl<'a> Lexemes<'a> {
         }
     }
 
+    /// Takes a simple string, if one stands first.
+    pub fn take_simple_string(&mut self) -> bool
+        ensures { Took result (take_simple_string self.old) self.old self.new }
+    {
+        match self.front {
+            Front::Found(lexeme, rest) => {
+                if is_simple_string(lexeme) {
+                    self.left = rest;
+                    self.front = read_front(rest);
+                    true
+                } else {
+                    false
+                }
+            }
+            Front::Ended => false,
+            Front::Wrong => false,
+        }
+    }
+
     /// Takes digits, if they stand first.
     pub fn take_digits(&mut self) -> Option<&'a [u8]>
         ensures taken { TookOne (seen result) (take_digits self.old) self.old self.new }
@@ -260,6 +279,12 @@ fn is_symbol(lexeme: Lexeme, byte: u8) -> bool
         Lexeme::Symbol(other) => other == byte,
         _ => false,
     }
+}
+
+fn is_simple_string(lexeme: Lexeme) -> bool
+    ensures { IsTest result lexeme.entry simple_string_or }
+{
+    matches!(lexeme, Lexeme::SimpleString)
 }
 
 fn is_marked(lexeme: Lexeme, mark: Mark) -> bool

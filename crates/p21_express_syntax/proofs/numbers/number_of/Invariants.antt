@@ -1,0 +1,7 @@
+use Rattle.std.proofs.Common.{◌≡◌, take}
+use Rattle.p21_basics.specs.Digits.{number}
+use Rattle.p21_express_syntax.proofs.numbers.number_of.Given as goal
+
+-- the number of the digits so far
+abbrev pub invariant-loop-digit : goal.invariant-loop-digit
+invariant-loop-digit l = l.number ≡ number (take l.digit-index l.digits)
