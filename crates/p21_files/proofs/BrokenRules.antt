@@ -1,33 +1,23 @@
 -- A record that breaks a rule means nothing, whatever the sets of the instances.
-use Rattle.std.specs.Prelude.{◌≡◌, ◌≢◌, ℕ, zero, suc, true, Bool, List, [], ◌∷◌, ◌++◌, length, slice_get, Some, Contains, refl, nat_eq, false}
+use Rattle.std.specs.Prelude.{◌≡◌, ℕ, zero, suc, true, List, [], ◌∷◌, slice_get, Some, Contains, refl, nat_eq, false}
 use Rattle.std.specs.List.{AllZip, IsDistinct}
-use Rattle.std.proofs.Common.{arith, ap, sym, subst, ◌∙◌}
+use Rattle.std.proofs.Common.{ap, sym, subst, ◌∙◌}
 use Rattle.std.proofs.lemmas.Bool.{eq-eqb}
-use Rattle.std.proofs.lemmas.List.Elements.{Contains-append_left, Contains-append_right}
 use Rattle.p21_files.specs.BrokenRule.{HasUnknownEntity, HasAbstractLeaf, MissesPart, HasPartTwice, HasWrongCount, HasTwoRedeclarations, HasClash, HasBrokenPlace, Breaks, unknown_entity, abstract_leaf, part_missing, part_twice, wrong_count, open_place, one_of, at_place}
-use Rattle.p21_files.specs.Fits.{Fits, FitsAt, star, dollar, fits, a_whole_number, a_boolean, a_logical, a_text, a_binary, an_item, as_underlying, an_array, a_list, a_set, a_bag}
+use Rattle.p21_files.specs.Fits.{FitsAt}
 use Rattle.p21_files.specs.Meaning.{Typed, NamesEntity, PartMeans, HasPlaceTypes, MeansByMapping, RecordMeans}
-use Rattle.p21_exchange.specs.Number.{ratio_of, whole_ratio}
 use Rattle.p21_schemas.specs.Order.{own_places}
 use Rattle.p21_exchange.specs.Parameter as parameter
 use Rattle.p21_exchange.specs.Parameter.{Param, listed}
-use Rattle.p21_files.specs.ParameterKind.{HasItems, of_boolean, of_logical, of_enumeration, HasWidth, AllowsCount}
-use Rattle.p21_schemas.specs.PlaceType.{PlaceType, derived_place, stored_place, two_redeclarations, TypeAt}
+use Rattle.p21_schemas.specs.PlaceType.{PlaceType, two_redeclarations, TypeAt}
 use Rattle.p21_exchange.specs.Record.{Part, Record, simple, complex, parts_of}
 use Rattle.p21_files.specs.RecordPlaces.{part_places}
 use Rattle.p21_files.specs.Reference.{Kinds}
-use Rattle.p21_files.specs.SameValue.{AreDistinct}
-use Rattle.p21_schemas.specs.Schema as schema
-use Rattle.p21_schemas.specs.Schema.{Schema, TypeUse, Place, alias, items, kind_of}
-use Rattle.p21_files.specs.Value.{Value}
+use Rattle.p21_schemas.specs.Schema.{Schema}
 use Rattle.p21_schemas.proofs.DeclaredSchemas.{IsWellFormed}
-use Rattle.p21_exchange.proofs.Exponents.{in_range_of_same}
-use Rattle.p21_files.proofs.FitsWider.{each-wider}
 use Rattle.p21_basics.proofs.Members.{Each-member, Each-at, AllZip-member, AllZip-second_member}
 use Rattle.p21_files.proofs.OneMeaning.{NamesEntity-one}
-use Rattle.p21_files.proofs.OneValue.{FitEach-one_value, dollar-fits_nothing}
 use Rattle.p21_schemas.proofs.PlaceTypes.{TypeAt-one}
-use Rattle.p21_exchange.proofs.Ratios.{ratio-positive}
 use Rattle.p21_files.proofs.RecordSets.{meaning-set, set-members, TypeAt-members, places-count, part-fits, stands-fits}
 use Rattle.p21_files.proofs.BrokenValues.{place-fits_nothing}
 

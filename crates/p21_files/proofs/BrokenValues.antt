@@ -1,5 +1,5 @@
 -- A parameter that breaks a rule where it stands, or holds one that does, fits no type there, whatever the sets of the instances.
-use Rattle.std.specs.Prelude.{◌≡◌, ℕ, true, Bool, List, ◌++◌, length, Some, Contains, refl}
+use Rattle.std.specs.Prelude.{◌≡◌, ℕ, List, ◌++◌, length, Some, Contains, refl}
 use Rattle.std.proofs.Common.{arith, sym, subst, ◌∙◌}
 use Rattle.std.proofs.lemmas.List.Elements.{Contains-append_left, Contains-append_right}
 use Rattle.p21_exchange.specs.Number.{ratio_of, whole_ratio}

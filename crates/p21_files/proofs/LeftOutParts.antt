@@ -1,13 +1,13 @@
 -- Records in which a part of the set is left out: the other rules still speak of the whole set.
-use Rattle.std.specs.Prelude.{◌≡◌, ◌<◌, ℕ, zero, suc, pos, false, List, [], ◌∷◌, codes, Some, Contains, refl}
+use Rattle.std.specs.Prelude.{◌≡◌, ℕ, zero, suc, pos, false, List, [], ◌∷◌, codes, Contains, refl}
 use Rattle.std.specs.List.{IsDistinct}
 use Rattle.std.specs.Str.{bytes_eq}
-use Rattle.std.proofs.Common.{arith, rules, sym, subst, ◌∙◌}
+use Rattle.std.proofs.Common.{arith, rules, sym, subst}
 use Rattle.p21_files.specs.BrokenRule.{Breaks, part_missing, one_of, HasTwoRedeclarations}
 use Rattle.p21_files.specs.Meaning.{NamesEntity}
 use Rattle.p21_exchange.specs.Parameter.{whole, Params, no_params, param, key_of}
 use Rattle.p21_schemas.specs.PlaceType.{TypeAt, two_redeclarations, Redeclares}
-use Rattle.p21_exchange.specs.Record.{Part, Record, complex}
+use Rattle.p21_exchange.specs.Record.{Part, complex}
 use Rattle.p21_files.specs.RecordPlaces.{HasPart, IsSetOf}
 use Rattle.p21_schemas.specs.Declared.{HasSupertype}
 use Rattle.p21_schemas.specs.Order.{own_places}

@@ -1,4 +1,5 @@
 mod BrokenExamples
+mod BrokenLists
 mod BrokenPlaces
 mod BrokenRecords
 mod CanonicalExamples
