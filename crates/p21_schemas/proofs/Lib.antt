@@ -12,6 +12,7 @@ pub mod OneOfReadings
 pub mod OrderedOnce
 pub mod Orders
 pub mod PlaceTypes
+pub mod Ranks
 pub mod SchemaNames
 pub mod SoleSchema
 pub mod TestSchemas
