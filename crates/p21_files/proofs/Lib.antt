@@ -15,6 +15,7 @@ mod NamedPoints
 mod OneOfExamples
 mod SectionExamples
 mod ValueExamples
+mod ValueTextExamples
 pub mod BrokenRules
 pub mod BrokenValues
 pub mod Dead
@@ -27,5 +28,6 @@ pub mod RecordSets
 pub mod Repeated
 pub mod SameFiles
 pub mod Sameness
+pub mod Served
 pub mod Taken
 pub mod Transitive
