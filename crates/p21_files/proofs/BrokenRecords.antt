@@ -53,7 +53,7 @@ no_parts-break_nothing s number (part_twice (i, j, part, other, differ, at, at_,
 no_parts-break_nothing s number (part_missing (f, (part, e, has, up), none)) = Contains-none part has.0
 no_parts-break_nothing s number (abstract_leaf (entities, e, set_is, leaf, is)) = let in_set = (set_is e).0 leaf.0 in Contains-none in_set.0 in_set.2.0
 no_parts-break_nothing s number (one_of (entities, set_is, (listed, is_list, (e, f, e_listed, f_listed, differ, has_e, has_f)))) = let in_set = (set_is e).0 has_e in Contains-none in_set.0 in_set.2.0
-no_parts-break_nothing s number (open_place (entities, e, place, set_is, among, of_e, two)) = let in_set = (set_is e).0 among in Contains-none in_set.0 in_set.2.0
+no_parts-break_nothing s number (open_place (entities, e, place, set_is, among, of_e, open_)) = let in_set = (set_is e).0 among in Contains-none in_set.0 in_set.2.0
 no_parts-break_nothing s number (wrong_count (part, e, has, differ)) = Contains-none part has.0
 no_parts-break_nothing s number (at_place _ (entities, place, at, p, set_is, type_at, (part, e, has, zipped), broken)) = Contains-none part has.0
 

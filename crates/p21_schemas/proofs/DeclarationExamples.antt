@@ -5,7 +5,7 @@ use Rattle.std.proofs.Common.{arith}
 use Rattle.p21_schemas.specs.Express.{Lexeme, identifier, simple_string, encoded_string}
 use Rattle.p21_schemas.specs.ReservedWord.{reserved_words, IsName, AreNames}
 use Rattle.p21_schemas.specs.WrittenType.{Width, word, width_lexemes, real_type, list_type, set_type, nesting}
-use Rattle.p21_schemas.specs.EntityDeclaration.{own, redeclared, IsAttributeName, IsDerived, AreRules}
+use Rattle.p21_schemas.specs.EntityDeclaration.{own, redeclared, IsAttributeName, AreExplicit, IsDerived, AreRules}
 use Rattle.p21_schemas.specs.DeclaredEntity.{is_abstract_by}
 use Rattle.p21_schemas.specs.SupertypeConstraint.{SupertypeExpression, SupertypeConstraint, no_constraint, abstract_entity, abstract_supertype, abstract_supertype_of, supertype_of, constraint_lexemes}
 use Rattle.p21_schemas.specs.TypeDeclaration.{Body, enumeration, select, underlying, TypeDeclaration, IsTypeDeclaration}
@@ -35,6 +35,10 @@ of-is_no_entity is = is.0 (7, omega arith, refl)
 
 of-is_no_attribute : IsAttributeName (redeclared (codes "A") (codes "OF")) → ⊥
 of-is_no_attribute is = is.1 (7, omega arith, refl)
+
+-- `: REAL;` declares no attribute
+no_name-is_no_attribute : AreExplicit (record { names = []; optional = false; type = real_type None }) → ⊥
+no_name-is_no_attribute are = omega (arith, are.0)
 
 -- ABSTRACT makes an entity abstract, whatever stands behind it; SUPERTYPE OF alone does not
 abstract_alone : is_abstract_by abstract_entity ≡ true

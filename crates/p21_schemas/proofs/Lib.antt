@@ -8,6 +8,7 @@ pub mod PlaceTypeExamples
 mod RedeclarationExamples
 mod RefusedExamples
 pub mod DeclaredSchemas
+pub mod OneOfOrRun
 pub mod OneOfReadings
 pub mod OrderedOnce
 pub mod Orders
