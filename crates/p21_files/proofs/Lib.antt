@@ -4,6 +4,7 @@ mod BrokenPlaces
 mod BrokenRecords
 mod CanonicalExamples
 mod ClashAbove
+mod CloudExample
 mod GrammarExamples
 mod HeldDemo
 mod HeldNamed

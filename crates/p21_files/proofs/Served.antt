@@ -1,8 +1,8 @@
 -- Needs that sets may serve one by one are served together.
-use Rattle.std.specs.Prelude.{ℕ, List, [], ◌∷◌, Contains}
+use Rattle.std.specs.Prelude.{ℕ, List, [], ◌∷◌}
 use Rattle.std.specs.List.{AllByRecursion as Each}
 use Rattle.p21_files.specs.Reference.{Kinds, Need, Serves, IsServed}
-use Rattle.p21_schemas.specs.Schema.{Schema, Member}
+use Rattle.p21_schemas.specs.Schema.{Schema}
 use Rattle.p21_basics.proofs.Members.{Contains-first, Contains-later}
 
 -- some set may stand where the need wants one

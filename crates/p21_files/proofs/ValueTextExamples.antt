@@ -1,8 +1,8 @@
 -- Canonical texts of values, and texts put in order.
-use Rattle.std.specs.Prelude.{◌≡◌, ℕ, pos, false, [], ◌∷◌, codes, refl}
+use Rattle.std.specs.Prelude.{◌≡◌, pos, [], ◌∷◌, codes, refl}
 use Rattle.p21_exchange.specs.Number.{Decimal}
 use Rattle.p21_files.specs.Sorting.{sort_texts}
-use Rattle.p21_files.specs.Value.{Value, whole, real, number, text, bits, item, reference, derived, missing, list, array, set, bag, typed, Values, no_values, value}
+use Rattle.p21_files.specs.Value.{Value, whole, real, number, text, bits, item, reference, derived, missing, list, array, set, bag, typed, no_values, value}
 use Rattle.p21_files.specs.ValueText.{value_text}
 use Rattle.p21_schemas.proofs.TestSchemas.{demo}
 
