@@ -14,6 +14,7 @@ pub mod Histories
 pub mod Laying
 pub mod Names
 pub mod OneDepth
+pub mod OneGap
 pub mod OneTree
 pub mod Parentheses
 pub mod Ratios

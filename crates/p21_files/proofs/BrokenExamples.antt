@@ -1,20 +1,22 @@
 -- For each number parameters that break its rule at their place, and neighbours that break none or the rule of another
 -- number alone. The parameter is the P of E, in `E(p)`.
-use Rattle.std.specs.Prelude.{◌≡◌, ℕ, pos, Bool, true, false, List, [], ◌∷◌, codes, Some, Contains, refl}
-use Rattle.std.proofs.Common.{arith, sym, subst}
-use Rattle.p21_exchange.specs.Number.{Decimal}
+use Rattle.std.specs.Prelude.{◌≡◌, ℕ, ℤ, pos, Bool, true, false, List, [], ◌∷◌, ◌^◌, codes, Some, Contains, refl}
+use Rattle.std.proofs.Common.{arith, lit<, lit≤, sym, subst}
+use lib.Signed.{le_z_yes}
+use Rattle.p21_exchange.specs.Number.{Decimal, ratio_of, whole_ratio, IsInRange, HasNormalisedExponent}
+use Rattle.p21_exchange.proofs.Exponents.{in_range_by}
 use Rattle.p21_exchange.specs.Parameter as parameter
 use Rattle.p21_exchange.specs.Parameter.{Param, Params, no_params, param, key_of, listed}
 use Rattle.p21_files.specs.BrokenRule.{Breaks}
-use Rattle.p21_files.specs.BrokenValue.{BreaksAt, missing, star_not_derived, wrong_kind, select_type, wrong_width, BreaksWithin, itself, in_underlying, in_chosen, BreaksAtPlace, stored, IsChoice}
-use Rattle.p21_files.specs.Fits.{Fits, dollar, fits, a_real, as_underlying, a_chosen_type}
-use Rattle.p21_files.specs.ParameterKind.{TakesKind, takes_underlying, takes_chosen_instance, takes_chosen_type}
+use Rattle.p21_files.specs.BrokenValue.{BreaksAt, number_range, missing, star_not_derived, wrong_kind, select_type, wrong_width, unknown_item, BreaksWithin, itself, in_underlying, in_chosen, BreaksAtPlace, stored, IsChoice}
+use Rattle.p21_files.specs.Fits.{boolean_items, a_whole_number, Fits, dollar, fits, a_whole, a_real, a_text, a_logical, an_item, as_underlying, a_chosen_type}
+use Rattle.p21_files.specs.ParameterKind.{TakesKind, takes_underlying, takes_chosen_instance, takes_chosen_type, of_boolean, of_enumeration}
 use Rattle.p21_files.specs.Value as value
 use Rattle.p21_schemas.specs.PlaceType.{stored_place}
 use Rattle.p21_schemas.specs.Schema as schema
 use Rattle.p21_schemas.specs.Schema.{TypeUse, Kind, Member, alias, items, choice, type_member, entity_member}
-use Rattle.p21_schemas.specs.Select.{Offers, offered, offered_within}
-use Rattle.p21_basics.proofs.Members.{Each-member}
+use Rattle.p21_schemas.specs.Select.{IsSelect, Offers, offered, offered_within}
+use Rattle.p21_basics.proofs.Members.{Contains-no_word, Each-member}
 use Rattle.p21_files.proofs.BrokenPlaces.{with_place, e_of, e-breaks, type-breaks, e-breaks_only, types-distinct, e-breaks_none}
 use Rattle.p21_files.proofs.BrokenValues.{dollar-breaks_only, star-breaks_only}
 
@@ -35,7 +37,8 @@ within type p number breaks = by (e-breaks_only false type p number breaks)
     by : BreaksAtPlace (with_place false type) (stored_place false type) p number → BreaksWithin (with_place false type) number type p
     by (stored _ _ _ _ wanted broken) = broken
 
-none_at : (type : TypeUse) (p : Param) (v : value.Value) → Fits (with_place false type) [] type p v → BreaksNone false type p
+-- so where its parameter fits
+pub none_at : (type : TypeUse) (p : Param) (v : value.Value) → Fits (with_place false type) [] type p v → BreaksNone false type p
 none_at type p v fit = e-breaks_none false type [] p v (fits false type p v fit)
 
 abbrev real_one : Decimal
@@ -197,3 +200,78 @@ length_at_select = select-breaks measure _ (λ h. cc) (λ h. cc) (type_member 0 
         let h : type_member u ≡ type_member 0 = measure-only measure (type_member u) offers in
         let distance_is : u ≡ 0 = cc in
         let length_is : u ≡ 3 = types-distinct false measure u 3 (codes "LENGTH") named (_, refl, refl) in omega (arith, distance_is, length_is)
+
+no_select-offered : (type : TypeUse) (t u : ℕ) → Offers (with_place false type) t (type_member u) → IsSelect (with_place false type) u → ⊥
+no_select-offered type t u (offered _ members _ is among no_select) select = no_select select
+no_select-offered type t u (offered_within _ w members _ is among offers) select = no_select-offered type w u offers select
+
+pub measure_at_item : BreaksWith item_type (parameter.typed (key_of (codes "MEASURE")) (in_distance (parameter.real real_one))) 54
+measure_at_item = select-breaks item_type _ (λ h. cc) (λ h. cc) (_, refl) not_taken
+  where
+    not_taken : TakesKind (with_place false item_type) item_type (parameter.typed (key_of (codes "MEASURE")) (in_distance (parameter.real real_one))) → ⊥
+    not_taken (takes_underlying _ type _ is takes) = cc
+    not_taken (takes_chosen_type _ u name _ offers named) =
+        let measure_is : u ≡ 2 = types-distinct false item_type u 2 (codes "MEASURE") named (_, refl, refl) in
+        let P : ℕ → Type 0 = λ x. IsSelect (with_place false item_type) x in
+        no_select-offered item_type 4 u offers (subst P (sym measure_is) (type_member 0 ∷ [], refl))
+
+pub distance_at_item : BreaksNone false item_type (in_distance (parameter.real real_one))
+distance_at_item = none_at item_type (in_distance (parameter.real real_one)) (value.typed 0 (value.real real_one))
+    (a_chosen_type 4 0 (codes "DISTANCE") _ _ (offered_within 4 2 (type_member 2 ∷ entity_member 0 ∷ []) (type_member 0) refl (0, omega arith, refl) (measure-offers false item_type)) (_, refl, refl) (as_underlying 0 schema.real _ _ refl (a_real real_one)))
+
+-- `'abcd'` at STRING(3), where `'abc'` fits; `'a'` at STRING(2) FIXED
+abbrev three : TypeUse
+three = schema.text (Some (record { most = 3; fixed = false }))
+
+abbrev two_fixed : TypeUse
+two_fixed = schema.text (Some (record { most = 2; fixed = true }))
+
+pub long_text : BreaksWith three (parameter.text (codes "abcd")) 50
+long_text = type-breaks three _ 50 (itself _ _ (wrong_width _ _ (λ is. omega (arith, is.0))))
+
+pub fitting_text : BreaksNone false three (parameter.text (codes "abc"))
+fitting_text = none_at three (parameter.text (codes "abc")) (value.text (codes "abc")) (a_text _ (codes "abc") (omega arith, λ h. cc))
+
+pub short_text : BreaksWith two_fixed (parameter.text (codes "a")) 50
+short_text = type-breaks two_fixed _ 50 (itself _ _ (wrong_width _ _ (λ is. let h = is.1 refl in omega (arith, h))))
+
+-- `.BLUE.` at COLOUR, where `.RED.` fits and `'RED'` is of another kind; `.U.` at BOOLEAN, where LOGICAL takes it
+pub blue : BreaksWith colour (parameter.item (codes "BLUE")) 53
+blue = type-breaks colour _ 53 (itself _ _ (unknown_item _ (codes "RED" ∷ codes "GREEN" ∷ []) _ (of_enumeration 1 _ refl) (Contains-no_word (codes "BLUE") (codes "RED" ∷ codes "GREEN" ∷ []) refl refl)))
+
+pub red : BreaksNone false colour (parameter.item (codes "RED"))
+red = none_at colour (parameter.item (codes "RED")) (value.item (codes "RED")) (an_item 1 (codes "RED" ∷ codes "GREEN" ∷ []) (codes "RED") refl (0, omega arith, refl))
+
+pub text_at_colour : BreaksWith colour (parameter.text (codes "RED")) 49
+text_at_colour = type-breaks colour _ 49 (itself _ _ (wrong_kind _ _ (λ h. cc, λ h. cc, not_taken) (λ (members, is). cc)))
+  where
+    not_taken : TakesKind (with_place false colour) colour (parameter.text (codes "RED")) → ⊥
+    not_taken (takes_underlying _ type _ is takes) = cc
+
+pub unknown_boolean : BreaksWith schema.boolean (parameter.item (codes "U")) 53
+unknown_boolean = type-breaks schema.boolean _ 53 (itself _ _ (unknown_item _ _ _ of_boolean (Contains-no_word (codes "U") boolean_items refl refl)))
+
+pub unknown_logical : BreaksNone false schema.logical (parameter.item (codes "U"))
+unknown_logical = none_at schema.logical (parameter.item (codes "U")) (value.item (codes "U")) (a_logical (codes "U") (2, omega arith, refl))
+
+-- a whole number of 10001 digits at NUMBER: its normalised exponent is 10000
+abbrev too_great : ℤ
+too_great = pos (10 ^ 10000)
+
+pub too_great_number : BreaksWith schema.number (parameter.whole too_great) 8
+too_great_number = type-breaks schema.number _ 8 (itself _ _ (number_range too_great out_of_range))
+  where
+    out_of_range : IsInRange (whole_ratio too_great) → ⊥
+    out_of_range in_range = let own : HasNormalisedExponent (whole_ratio too_great) (pos 10000) = record { low = lit≤ tt; high = lit< tt } in (in_range (pos 10000) own).1.le
+
+-- one of 10000 digits fits
+abbrev greatest : ℤ
+greatest = pos (10 ^ 9999)
+
+pub greatest_number : BreaksNone false schema.number (parameter.whole greatest)
+greatest_number = none_at schema.number (parameter.whole greatest) (value.number (record { significand = pos 1; exponent = pos 9999 }))
+    (a_whole_number greatest (record { significand = pos 1; exponent = pos 9999 }) (λ h. cc) (in_range_by (ratio_of (record { significand = pos 1; exponent = pos 9999 })) (pos 9999) (lit< tt) (record { low = lit≤ tt; high = lit< tt }) (le_z_yes tt, le_z_yes tt)) refl)
+
+-- an integer of any size at INTEGER
+pub whole_at_integer : BreaksNone false schema.whole (parameter.whole too_great)
+whole_at_integer = none_at schema.whole (parameter.whole too_great) (value.whole too_great) (a_whole too_great)

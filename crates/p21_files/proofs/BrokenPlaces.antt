@@ -18,8 +18,9 @@ use Rattle.p21_schemas.specs.PlaceType.{PlaceType, TypeAt, stored_place, IsDeriv
 use Rattle.p21_schemas.specs.Schema as schema
 use Rattle.p21_schemas.specs.Schema.{Schema, TypeUse, Place, Redeclared, Attribute, alias, items, choice, type_member, entity_member}
 use Rattle.p21_schemas.specs.Supertype.{IsA, itself, above}
-use Rattle.p21_schemas.proofs.DeclaredSchemas.{HasDistinctEntities, HasDistinctTypes, names_of_all, distinct_names-types}
-use Rattle.p21_schemas.proofs.PlaceTypes.{RedeclaresOnce, TypeAt-one}
+use Rattle.p21_schemas.specs.WellFormed.{HasDistinctEntities, HasDistinctTypes, RedeclaresOnce}
+use Rattle.p21_schemas.proofs.DeclaredSchemas.{names_of_all, distinct_names-types}
+use Rattle.p21_schemas.proofs.PlaceTypes.{TypeAt-one}
 use Rattle.p21_schemas.proofs.TestSchemas.{entity_of}
 use Rattle.p21_basics.proofs.Members.{Contains-none, Each-at, Each-member}
 use Rattle.p21_files.proofs.BrokenValues.{place-fits_nothing}

@@ -11,11 +11,12 @@ use Rattle.p21_exchange.specs.Parameter.{Param, dollar, real, whole, Params, no_
 use Rattle.p21_exchange.specs.Record.{Part, Record, simple, complex}
 use Rattle.p21_schemas.specs.PlaceType.{derived_place}
 use Rattle.p21_files.specs.RecordPlaces.{HasPart}
+use Rattle.p21_schemas.specs.Schema.{Schema, EntityNamed}
 use Rattle.p21_schemas.specs.Supertype.{IsA, itself, InClosure}
 use Rattle.p21_files.proofs.BrokenRules.{broken-means_nothing}
-use Rattle.p21_schemas.proofs.DeclaredSchemas.{declared-well_formed, names_of_all, distinct_names-entities}
+use Rattle.p21_schemas.proofs.DeclaredSchemas.{declared-well_formed, names_of_all, distinct_names-entities, distinct_names-apart}
 use Rattle.p21_files.proofs.MeaningExamples.{demo-distinct, named, one, two, nought, origin_set, origin-is, origin-closed, origin-x}
-use Rattle.p21_basics.proofs.Members.{Each-at, Each-member}
+use Rattle.p21_basics.proofs.Members.{Contains-none, Each-at, Each-member}
 use Rattle.p21_files.proofs.OneOfExamples.{a_b_s, s_c_a, a_c_meaning, a_b_meaning, a-named, b-named, s-named, with_s-closed, a_and_c-mean, a_and_b-mean_without_list}
 use Rattle.p21_schemas.proofs.OrderExamples.{point-is_shape, demo-is_a}
 use Rattle.p21_schemas.proofs.PlaceTypeExamples.{redecl-is_a, redecl-two}
@@ -37,6 +38,24 @@ foo-breaks = unknown_entity (part_of (codes "FOO") no_params, (0, omega arith, r
     unknown e (name, (x, at, is), key_is) =
         let foo : x.name ≡ codes "FOO" = is ∙ sym (ap (λ k. k.word) key_is) in
         Each-at (λ y. y.name ≡ codes "FOO" → ⊥) demo.entities e x (apart _ _ refl, (apart _ _ refl, (apart _ _ refl, (apart _ _ refl, (apart _ _ refl, tt))))) at foo
+
+-- `DISTANCE(1.)`, whose keyword is the name of a type
+pub distance-breaks : Breaks demo (simple (part_of (codes "DISTANCE") (param (real one) no_params))) 41
+distance-breaks = unknown_entity (part_of (codes "DISTANCE") (param (real one) no_params), (0, omega arith, refl), unknown)
+  where
+    unknown : (e : ℕ) → NamesEntity demo (key_of (codes "DISTANCE")) e → ⊥
+    unknown e (name, is, key_is) = let P : List ℕ → Type 0 = λ n. EntityNamed demo e n in distinct_names-apart demo demo-distinct e 0 (codes "DISTANCE") (subst P (sym (ap (λ k. k.word) key_is)) is) (_, refl, refl)
+
+-- a record of external mapping with no simple record breaks no rule; a reader makes none
+pub no_parts-break_nothing : (s : Schema) (number : ℕ) → Breaks s (complex []) number → ⊥
+no_parts-break_nothing s number (unknown_entity (part, among, unknown)) = Contains-none part among
+no_parts-break_nothing s number (part_twice (i, j, part, other, differ, at, at_, same)) = cc
+no_parts-break_nothing s number (part_missing (f, (part, e, has, up), none)) = Contains-none part has.0
+no_parts-break_nothing s number (abstract_leaf (entities, e, set_is, leaf, is)) = let in_set = (set_is e).0 leaf.0 in Contains-none in_set.0 in_set.2.0
+no_parts-break_nothing s number (one_of (entities, set_is, (listed, is_list, (e, f, e_listed, f_listed, differ, has_e, has_f)))) = let in_set = (set_is e).0 has_e in Contains-none in_set.0 in_set.2.0
+no_parts-break_nothing s number (open_place (entities, e, place, set_is, among, of_e, two)) = let in_set = (set_is e).0 among in Contains-none in_set.0 in_set.2.0
+no_parts-break_nothing s number (wrong_count (part, e, has, differ)) = Contains-none part has.0
+no_parts-break_nothing s number (at_place _ (entities, place, at, p, set_is, type_at, (part, e, has, zipped), broken)) = Contains-none part has.0
 
 -- `SHAPE($)`
 pub shape-breaks : Breaks demo (simple (part_of (codes "SHAPE") (param dollar no_params))) 42

@@ -14,7 +14,7 @@ use Rattle.p21_exchange.specs.Record.{Part, Record, simple, complex, parts_of}
 use Rattle.p21_files.specs.RecordPlaces.{part_places}
 use Rattle.p21_files.specs.Reference.{Kinds}
 use Rattle.p21_schemas.specs.Schema.{Schema}
-use Rattle.p21_schemas.proofs.DeclaredSchemas.{IsWellFormed}
+use Rattle.p21_schemas.specs.WellFormed.{IsWellFormed}
 use Rattle.p21_basics.proofs.Members.{Each-member, Each-at, AllZip-member, AllZip-second_member}
 use Rattle.p21_files.proofs.OneMeaning.{NamesEntity-one}
 use Rattle.p21_schemas.proofs.PlaceTypes.{TypeAt-one}

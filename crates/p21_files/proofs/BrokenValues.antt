@@ -13,7 +13,7 @@ use Rattle.p21_files.specs.Value.{Value}
 use Rattle.p21_schemas.specs.PlaceType.{PlaceType}
 use Rattle.p21_schemas.specs.Schema as schema
 use Rattle.p21_schemas.specs.Schema.{Schema, TypeUse, alias, items}
-use Rattle.p21_schemas.proofs.DeclaredSchemas.{HasDistinctTypes}
+use Rattle.p21_schemas.specs.WellFormed.{HasDistinctTypes}
 use Rattle.p21_exchange.proofs.Exponents.{in_range_of_same}
 use Rattle.p21_exchange.proofs.Ratios.{ratio-positive}
 use Rattle.p21_files.proofs.OneValue.{FitEach-one_value, dollar-fits_nothing}

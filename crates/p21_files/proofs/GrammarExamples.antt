@@ -1,6 +1,7 @@
 -- Records of the data section, and neighbours that are none; nesting.
 use Rattle.std.proofs.Common.{◌≡◌, ℕ, zero, suc, true, List, [], ◌∷◌, refl, arith, lit<, lit≤}
 use Rattle.std.specs.Prelude.{codes}
+use Rattle.p21_exchange.specs.DataSection.{unnamed}
 use Rattle.p21_exchange.specs.Grammar.{IsDataRecord, IsFile}
 use Rattle.p21_files.specs.Reference.{Kinds}
 use Rattle.p21_files.specs.Meaning.{Typed, RecordMeans}
@@ -84,3 +85,10 @@ too_deep_in_data data_record = too_deep data_record.shallow.1.0
 -- the instance names in `((#2,A(#3)),#2)`, each as often as it stands
 names_in_order : param_references (list (param (list (param (name 2) (param (typed (key_of (codes "A")) (name 3)) no_params))) (param (name 2) no_params))) ≡ 2 ∷ 3 ∷ 2 ∷ []
 names_in_order = refl
+
+-- two sections without a name, and none
+unnamed_twice : (parts : List Part) (schema : List ℕ) → IsFile (record { header = parts; sections = record { heading = unnamed; instances = [] } ∷ record { heading = unnamed; instances = [] } ∷ [] }) schema → ⊥
+unnamed_twice parts schema is = is.headings_are
+
+no_section : (parts : List Part) (schema : List ℕ) → IsFile (record { header = parts; sections = [] }) schema → ⊥
+no_section parts schema is = is.headings_are

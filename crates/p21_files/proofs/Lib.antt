@@ -1,8 +1,10 @@
 mod BrokenExamples
+mod BrokenLists
 mod BrokenPlaces
 mod BrokenRecords
 mod CanonicalExamples
 mod ClashAbove
+mod CloudExample
 mod GrammarExamples
 mod HeldDemo
 mod HeldNamed
@@ -14,6 +16,7 @@ mod NamedPoints
 mod OneOfExamples
 mod SectionExamples
 mod ValueExamples
+mod ValueTextExamples
 pub mod BrokenRules
 pub mod BrokenValues
 pub mod Dead
@@ -26,5 +29,6 @@ pub mod RecordSets
 pub mod Repeated
 pub mod SameFiles
 pub mod Sameness
+pub mod Served
 pub mod Taken
 pub mod Transitive

@@ -24,13 +24,13 @@ use Rattle.p21_schemas.proofs.TestSchemas.{demo, shape, point, marked, origin, c
 use Rattle.p21_schemas.proofs.OrderExamples.{point-is_shape, demo-is_a}
 use Rattle.p21_schemas.proofs.DeclaredSchemas.{names_of_all, distinct_names-entities}
 
-not_redeclared : (entities : List ℕ) (place : Place) → IsRedeclared demo entities place → ⊥
+pub not_redeclared : (entities : List ℕ) (place : Place) → IsRedeclared demo entities place → ⊥
 not_redeclared entities place (e, r, (in_set, (x, at, among), is)) =
     let P : List Redeclared → Type 0 = λ rs. Contains rs r in
     Contains-none r (subst P (Each-at (λ y. y.redeclared ≡ []) demo.entities e x (refl, (refl, (refl, (refl, (refl, tt))))) at) among)
 
 -- DEMO has no ONEOF list
-no_clash : (entities : List ℕ) → Clashes demo entities → ⊥
+pub no_clash : (entities : List ℕ) → Clashes demo entities → ⊥
 no_clash entities (listed, among, two) = Contains-none listed among
 
 -- X of POINT alone is derived
@@ -41,10 +41,10 @@ derived-is_x entities place (e, x, in_set, at, among) = Each-at (λ y. Contains 
     no_place h = absurd (Contains-none place h)
 
 -- a place that no entity redeclares has the type of its declaration
-stored : (entities : List ℕ) (place : Place) (a : Attribute) → (place ≡ x_place → ⊥) → attribute_at demo place ≡ Some a → TypeAt demo entities place (stored_place a.optional a.type)
+pub stored : (entities : List ℕ) (place : Place) (a : Attribute) → (place ≡ x_place → ⊥) → attribute_at demo place ≡ Some a → TypeAt demo entities place (stored_place a.optional a.type)
 stored entities place a other at = (λ h. other (derived-is_x entities place h), inr (not_redeclared entities place, (a, at, refl, refl)))
 
-abstract-is_shape : (e : ℕ) → IsAbstract demo e → e ≡ 0
+pub abstract-is_shape : (e : ℕ) → IsAbstract demo e → e ≡ 0
 abstract-is_shape zero (x, at, is) = refl
 abstract-is_shape (suc e) (x, at, is) = let h : x.is_abstract ≡ false = Each-at (λ y. y.is_abstract ≡ false) (point ∷ marked ∷ origin ∷ cloud ∷ []) e x (refl, (refl, (refl, (refl, tt)))) at in cc
 

@@ -17,7 +17,8 @@ use Rattle.p21_schemas.specs.Schema.{Place, Redeclared, IsAbstract, EntityNamed}
 use Rattle.p21_schemas.specs.Supertype.{IsA, itself, above, InClosure, IsLeaf}
 use Rattle.p21_files.specs.Value as value
 use Rattle.p21_files.specs.Value.{Values, no_values}
-use Rattle.p21_schemas.proofs.DeclaredSchemas.{IsWellFormed, declared-well_formed}
+use Rattle.p21_schemas.specs.WellFormed.{IsWellFormed}
+use Rattle.p21_schemas.proofs.DeclaredSchemas.{declared-well_formed}
 use Rattle.p21_basics.proofs.Members.{Contains-none, Contains-first, Each-at, Each-member}
 use Rattle.p21_files.proofs.OneMeaning.{NamesEntity-one}
 use Rattle.p21_schemas.proofs.SoleSchema.{s_entity, below_s, a_b_list, sole, sole_with, sole_tree, a_or_b, sole-supertypes, sole-declares}

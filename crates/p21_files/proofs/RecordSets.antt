@@ -11,7 +11,7 @@ use Rattle.p21_files.specs.RecordPlaces.{HasPart, IsInSet, IsSetOf, part_places,
 use Rattle.p21_files.specs.Reference.{Kinds}
 use Rattle.p21_schemas.specs.Schema.{Schema, Place, Redeclared}
 use Rattle.p21_schemas.specs.Supertype.{IsA, itself, InClosure}
-use Rattle.p21_schemas.proofs.DeclaredSchemas.{IsWellFormed, HasDistinctEntities}
+use Rattle.p21_schemas.specs.WellFormed.{IsWellFormed, HasDistinctEntities}
 use Rattle.p21_basics.proofs.Members.{Contains-none, Contains-first, Contains-cases, Each-member, AllZip-member, AllZip-second_member}
 use Rattle.p21_files.proofs.OneMeaning.{NamesEntity-one}
 

@@ -1,5 +1,5 @@
 -- Data sections with names, and neighbours that are none; their order; what is held behind one.
-use Rattle.std.proofs.Common.{◌≡◌, ℕ, true, List, [], ◌∷◌, refl, sym, subst, inl, inr}
+use Rattle.std.proofs.Common.{◌≡◌, ℕ, true, List, [], ◌∷◌, refl, ap, sym, subst, inl, inr, get_or, arith}
 use Rattle.std.specs.Prelude.{codes, Contains, map, nat_eq}
 use Rattle.std.specs.List.{IsDistinct}
 use Rattle.std.specs.List.Sorted.{IsStrictlySortedBy}
@@ -114,15 +114,26 @@ mark_last : (text : List ℕ) → AreSectionsRising (named (codes "a") text ∷ 
 unfolding IsStrictlySortedBy
 mark_last text rising = let less = rising.0.0 in cc
 
--- a file whose one section has no name and one whose section has the empty name differ
-empty_name-differs : (m n : FileMeaning) → m.sections ≡ unnamed ∷ [] → n.sections ≡ named [] (codes "DEMO") ∷ [] → SameFileMeaning m n → ⊥
-empty_name-differs m n first second same =
-    let P : List Heading → List Heading → Type 0 = λ xs ys. Contains xs unnamed → Contains ys unnamed in
-    let onto : P (unnamed ∷ []) (named [] (codes "DEMO") ∷ []) = moved m.sections n.sections (unnamed ∷ []) (named [] (codes "DEMO") ∷ []) first second (same.sections unnamed).0 in
-    elim (Contains-cases (named [] (codes "DEMO")) [] unnamed (onto (Contains-first unnamed []))) [ inl h ↦ cc | inr h ↦ Contains-none unnamed h ]
+-- files whose only sections differ are different
+only_sections-differ : (x y : Heading) → (y ≡ x → ⊥) → (m n : FileMeaning) → m.sections ≡ x ∷ [] → n.sections ≡ y ∷ [] → SameFileMeaning m n → ⊥
+only_sections-differ x y differ m n first second same =
+    let onto : Contains (x ∷ []) x → Contains (y ∷ []) x = moved m.sections n.sections (x ∷ []) (y ∷ []) first second (same.sections x).0 in
+    elim (Contains-cases y [] x (onto (Contains-first x []))) [ inl h ↦ differ h | inr h ↦ Contains-none x h ]
   where
-    moved : (xs ys us vs : List Heading) → xs ≡ us → ys ≡ vs → (Contains xs unnamed → Contains ys unnamed) → Contains us unnamed → Contains vs unnamed
-    moved xs ys us vs e f onto among = subst (λ (zs : List Heading). Contains zs unnamed) f (onto (subst (λ (zs : List Heading). Contains zs unnamed) (sym e) among))
+    moved : (xs ys us vs : List Heading) → xs ≡ us → ys ≡ vs → (Contains xs x → Contains ys x) → Contains us x → Contains vs x
+    moved xs ys us vs e f onto among = subst (λ (zs : List Heading). Contains zs x) f (onto (subst (λ (zs : List Heading). Contains zs x) (sym e) among))
+
+-- one without a name and one with the empty name
+empty_name-differs : (m n : FileMeaning) → m.sections ≡ unnamed ∷ [] → n.sections ≡ named [] (codes "DEMO") ∷ [] → SameFileMeaning m n → ⊥
+empty_name-differs = only_sections-differ unnamed (named [] (codes "DEMO")) (λ h. cc)
+
+-- and two whose schema texts differ in case
+schema_text-differs : (m n : FileMeaning) → m.sections ≡ named (codes "a") (codes "DEMO") ∷ [] → n.sections ≡ named (codes "a") (codes "demo") ∷ [] → SameFileMeaning m n → ⊥
+schema_text-differs = only_sections-differ (named (codes "a") (codes "DEMO")) (named (codes "a") (codes "demo")) (λ h. let first : 100 ≡ 68 = ap first_letter h in omega (arith, first))
+  where
+    first_letter : Heading → ℕ
+    first_letter unnamed = 0
+    first_letter (named name text) = get_or text 0 0
 
 -- behind the header no header record stands in a tree: so `DATA('a',('DEMO'));` there is a section line, and is not kept
 as_record : (t : Structure) (part : Part) → AreFirst (section begin ∷ section header_start ∷ section section_end ∷ header part ∷ []) t → ⊥

@@ -12,9 +12,9 @@ use Rattle.p21_schemas.specs.Schema as schema
 use Rattle.p21_schemas.specs.Schema.{Schema, TypeUse, type_member, alias, items, kind_of, TypeNamed}
 use Rattle.p21_schemas.specs.Select.{Offers}
 use Rattle.p21_files.specs.Value.{Value, Values, count}
+use Rattle.p21_schemas.specs.WellFormed.{HasDistinctTypes}
 use Rattle.p21_basics.proofs.Members.{Contains-none, Contains-cases}
 use Rattle.p21_files.proofs.OneValue.{alias_offers_nothing}
-use Rattle.p21_schemas.proofs.DeclaredSchemas.{HasDistinctTypes}
 
 -- a parameter that fits a type is of a kind that it takes
 pub Fits-takes : (s : Schema) (kinds : Kinds) (type : TypeUse) (p : Param) (v : Value) → Fits s kinds type p v → TakesKind s type p

@@ -5,8 +5,10 @@ use Rattle.std.proofs.Common.{arith}
 use Rattle.p21_schemas.specs.Express.{Lexeme, identifier, simple_string, encoded_string}
 use Rattle.p21_schemas.specs.ReservedWord.{reserved_words, IsName, AreNames}
 use Rattle.p21_schemas.specs.WrittenType.{Width, word, width_lexemes, real_type, list_type, set_type, nesting}
-use Rattle.p21_schemas.specs.EntityDeclaration.{own, IsDerived, AreRules}
-use Rattle.p21_schemas.specs.SupertypeConstraint.{SupertypeConstraint, no_constraint, abstract_entity, abstract_supertype, abstract_supertype_of, supertype_of, constraint_lexemes}
+use Rattle.p21_schemas.specs.EntityDeclaration.{own, redeclared, IsAttributeName, IsDerived, AreRules}
+use Rattle.p21_schemas.specs.DeclaredEntity.{is_abstract_by}
+use Rattle.p21_schemas.specs.SupertypeConstraint.{SupertypeExpression, SupertypeConstraint, no_constraint, abstract_entity, abstract_supertype, abstract_supertype_of, supertype_of, constraint_lexemes}
+use Rattle.p21_schemas.specs.TypeDeclaration.{Body, enumeration, select, underlying, TypeDeclaration, IsTypeDeclaration}
 use Rattle.p21_schemas.specs.Run.{is_word, is_symbol, none}
 use Rattle.p21_schemas.specs.SchemaDeclaration.{IsReadOver, version_lexemes}
 use Rattle.p21_basics.proofs.Members.{Contains-no_word}
@@ -26,6 +28,26 @@ oneof-is_no_name is_name = is_name (48, omega arith, refl)
 
 end_rule-is_no_name : IsName (codes "END_RULE") → ⊥
 end_rule-is_no_name is_name = is_name (43, omega arith, refl)
+
+-- nor may the words of `SELF\of.a` and `SELF\a.of`
+of-is_no_entity : IsAttributeName (redeclared (codes "OF") (codes "A")) → ⊥
+of-is_no_entity is = is.0 (7, omega arith, refl)
+
+of-is_no_attribute : IsAttributeName (redeclared (codes "A") (codes "OF")) → ⊥
+of-is_no_attribute is = is.1 (7, omega arith, refl)
+
+-- ABSTRACT makes an entity abstract, whatever stands behind it; SUPERTYPE OF alone does not
+abstract_alone : is_abstract_by abstract_entity ≡ true
+abstract_alone = refl
+
+abstract_with_supertype : is_abstract_by abstract_supertype ≡ true
+abstract_with_supertype = refl
+
+abstract_with_list : (expression : SupertypeExpression) → is_abstract_by (abstract_supertype_of expression) ≡ true
+abstract_with_list expression = refl
+
+not_abstract : (expression : SupertypeExpression) → is_abstract_by (supertype_of expression) ≡ false
+not_abstract expression = refl
 
 -- `()` lists no names
 no_names : AreNames [] → ⊥
@@ -68,6 +90,28 @@ open_rules-are_rules = ((1, omega arith, refl), (each, refl))
 
 closed-are_no_rules : AreRules (record { first = codes "WHERE"; run = identifier (codes "END_ENTITY") ∷ [] }) → ⊥
 closed-are_no_rules are = omega (arith, are.1.1)
+
+-- the rules of a type go on over END_ENTITY, and end at END_TYPE
+abbrev type_with : Body → List Lexeme → TypeDeclaration
+type_with body run = record { name = codes "T"; body = body; rules = Some run }
+
+open_type-is_type : IsTypeDeclaration (type_with (underlying (real_type None)) (identifier (codes "END_ENTITY") ∷ []))
+open_type-is_type = record { name_is = Contains-no_word (codes "T") reserved_words refl refl; body_is = tt; rules_are = (each, refl) }
+  where
+    each : (k : ℕ) → count_by (is_word (codes "END_TYPE")) (take k (identifier (codes "END_ENTITY") ∷ [])) ≤ count_by none (take k (identifier (codes "END_ENTITY") ∷ []))
+    each zero = omega arith
+    each (suc zero) = omega arith
+    each (suc (suc k)) = omega arith
+
+closed-is_no_type : IsTypeDeclaration (type_with (underlying (real_type None)) (identifier (codes "END_TYPE") ∷ [])) → ⊥
+closed-is_no_type is = omega (arith, is.rules_are.1)
+
+-- `SELECT ()` and `ENUMERATION OF ()`
+empty_select-is_no_type : (run : List Lexeme) → IsTypeDeclaration (type_with (select []) run) → ⊥
+empty_select-is_no_type run is = omega (arith, is.body_is.0)
+
+empty_enumeration-is_no_type : (run : List Lexeme) → IsTypeDeclaration (type_with (enumeration []) run) → ⊥
+empty_enumeration-is_no_type run is = omega (arith, is.body_is.0)
 
 -- in DERIVE `;` alone closes
 derived-holds_end : IsDerived (record { name = own (codes "X"); run = identifier (codes "END_ENTITY") ∷ [] })

@@ -11,16 +11,9 @@ use Rattle.p21_schemas.specs.SchemaDeclaration.{SchemaDeclaration, entities_of}
 use Rattle.p21_schemas.specs.Schema.{Schema, Entity, Place, Redeclared, EntityNamed, TypeNamed}
 use Rattle.p21_schemas.specs.DeclaredEntity.{EntityIs, same_place, names_of}
 use Rattle.p21_schemas.specs.DeclaredOneOf.{all_one_of_names, OneOfIs}
-use Rattle.p21_schemas.specs.Declared.{HasNoCircle, HasSupertype, DeclaresSchema}
+use Rattle.p21_schemas.specs.Declared.{DeclaresSchema}
 use Rattle.p21_basics.proofs.Members.{Each-at, Each-member, Contains-none, Contains-cases, Contains-at, Contains-found, Contains-mapped, AllZip-member, AllZip-second_member, AllZip-numbered, AllZip-numbered_first}
-use Rattle.p21_schemas.proofs.Orders.{AreEntities}
-use Rattle.p21_schemas.proofs.PlaceTypes.{RedeclaresOnce}
-
-abbrev pub HasDistinctTypes : Schema → Type 0
-HasDistinctTypes s = (t u : ℕ) (name : List ℕ) → TypeNamed s t name → TypeNamed s u name → t ≡ u
-
-abbrev pub HasDistinctEntities : Schema → Type 0
-HasDistinctEntities s = (e f : ℕ) (name : List ℕ) → EntityNamed s e name → EntityNamed s f name → e ≡ f
+pub use Rattle.p21_schemas.specs.WellFormed.{HasDistinctEntities, HasDistinctTypes, AreEntities, AreListedEntities, RedeclaresOnce, IsWellFormed}
 
 Each-front : {X : Type 0} (P : X → Type 0) (xs ys : List X) → Each P (xs ++ ys) → Each P xs
 Each-front P [] ys each = tt
@@ -95,7 +88,7 @@ declared-supertypes tree s declares e f up = by_entity (slice_get s.entities e) 
         slice_get_within s.entities f named.0 named.1
 
 -- each member of a ONEOF list is an entity of the schema
-pub declared-listed : (tree : SchemaDeclaration) (s : Schema) → DeclaresSchema tree s → (listed : List ℕ) (e : ℕ) → Contains s.one_of_lists listed → Contains listed e → e < length s.entities
+pub declared-listed : (tree : SchemaDeclaration) (s : Schema) → DeclaresSchema tree s → AreListedEntities s
 declared-listed tree s declares listed e among has =
     let (names, in_names, is) = AllZip-second_member (OneOfIs s) (all_one_of_names (entities_of tree.declarations)) s.one_of_lists listed declares.one_of_are among in
     let (name, in_list, named) = AllZip-member (EntityNamed s) listed names e is.0 has in
@@ -159,18 +152,13 @@ declared-derives_once tree s declares e x at =
     let (d, at_d, entity_is) = declared-entity tree s declares e x at in
     IsDistinct-back same_place (map (λ z. z.place) x.redeclared) x.derived entity_is.places_distinct
 
--- what the laws take of a schema
-pub record IsWellFormed (s : Schema) : Type 0 where
-  pub supertypes_are : AreEntities s
-  pub supertypes_end : HasNoCircle (HasSupertype s)
-  pub entities_distinct : HasDistinctEntities s
-  pub types_distinct : HasDistinctTypes s
-  pub redeclares_once : RedeclaresOnce s
-
 pub declared-well_formed : (tree : SchemaDeclaration) (s : Schema) → DeclaresSchema tree s → IsWellFormed s
 declared-well_formed tree s declares = record {
   supertypes_are = declared-supertypes tree s declares;
+  listed_are = declared-listed tree s declares;
   supertypes_end = declares.supertypes_end;
+  renaming_ends = declares.renaming_ends;
+  selects_end = declares.selects_end;
   entities_distinct = distinct_names-entities s declares.names_distinct;
   types_distinct = distinct_names-types s declares.names_distinct;
   redeclares_once = declared-redeclares_once tree s declares;

@@ -12,6 +12,9 @@ pub mod OneOfReadings
 pub mod OrderedOnce
 pub mod Orders
 pub mod PlaceTypes
+pub mod Ranks
+mod Scanned
 pub mod SchemaNames
 pub mod SoleSchema
+mod SoleText
 pub mod TestSchemas

@@ -1,20 +1,21 @@
 -- ONEOF lists and other runs behind SUPERTYPE OF, and lists that declare nothing.
-use Rattle.std.specs.Prelude.{◌≡◌, ℕ, zero, suc, ◌≤◌, ◌<◌, true, false, List, [], ◌∷◌, codes, Some, None, refl, take, slice_get, length}
+use Rattle.std.specs.Prelude.{◌≡◌, ℕ, zero, suc, ◌≤◌, ◌<◌, true, false, List, [], ◌∷◌, codes, Some, None, refl, take, slice_get, length, Contains}
 use Rattle.std.specs.List.{AllZip, count_by, IsDistinct}
+use Rattle.std.specs.Str.{bytes_eq}
 use Rattle.std.proofs.Common.{arith, get_or, ap, sym, subst, ◌∙◌}
 use Rattle.p21_schemas.specs.Declared.{HasSupertype, DeclaresSchema}
 use Rattle.p21_schemas.specs.DeclaredEntity.{no_more}
-use Rattle.p21_schemas.specs.DeclaredOneOf.{OneOfIs}
+use Rattle.p21_schemas.specs.DeclaredOneOf.{all_one_of_names, OneOfIs}
 use Rattle.p21_schemas.specs.EntityDeclaration.{EntityDeclaration}
 use Rattle.p21_schemas.specs.Express.{Lexeme, identifier, symbol}
 use Rattle.p21_schemas.specs.ReservedWord.{reserved_words, AreNames}
 use Rattle.p21_schemas.specs.Run.{is_symbol}
-use Rattle.p21_schemas.specs.Schema.{Schema, EntityNamed}
+use Rattle.p21_schemas.specs.Schema.{Schema, EntityNamed, TypeNamed}
 use Rattle.p21_schemas.specs.SchemaDeclaration.{SchemaDeclaration, entities_of}
-use Rattle.p21_schemas.specs.SupertypeConstraint.{one_of, other_run, supertype_of, one_of_lexemes, IsOneOf, IsExpression, IsConstraint}
+use Rattle.p21_schemas.specs.SupertypeConstraint.{one_of, other_run, abstract_supertype_of, supertype_of, one_of_lexemes, IsOneOf, IsExpression, IsConstraint}
 use Rattle.p21_schemas.proofs.DeclaredExamples.{schema_of, entity_named}
-use Rattle.p21_schemas.proofs.DeclaredSchemas.{declared-entity}
-use Rattle.p21_basics.proofs.Members.{Contains-none, Contains-no_word}
+use Rattle.p21_schemas.proofs.DeclaredSchemas.{declared-entity, names_of_all, distinct_names-apart}
+use Rattle.p21_basics.proofs.Members.{Contains-none, Contains-no_word, AllZip-second_member}
 use Rattle.p21_schemas.proofs.OneOfReadings.{identifiers, listed-identifiers}
 use Rattle.p21_schemas.proofs.TestSchemas.{entity_of}
 
@@ -23,7 +24,7 @@ names-are : (run : List Lexeme) (names : List (List ℕ)) → run ≡ one_of_lex
 names-are run names is = sym (listed-identifiers names) ∙ ap identifiers (sym is)
 
 -- `ONEOF (a, b)` is a list, and no other run
-a_or_b-is_list : IsConstraint (supertype_of (one_of (codes "A" ∷ codes "B" ∷ [])))
+pub a_or_b-is_list : IsConstraint (supertype_of (one_of (codes "A" ∷ codes "B" ∷ [])))
 a_or_b-is_list = (omega arith, (Contains-no_word (codes "A") reserved_words refl refl, (Contains-no_word (codes "B") reserved_words refl refl, tt)))
 
 a_or_b-is_no_run : IsExpression (other_run (one_of_lexemes (codes "A" ∷ codes "B" ∷ []))) → ⊥
@@ -63,6 +64,10 @@ of_run-is_no_list (names, are, is) =
 abbrev with_list : List (List ℕ) → SchemaDeclaration
 with_list names = schema_of (record { name = codes "S"; constraint = supertype_of (one_of names); subtype_of = None; explicit = []; derive = None; rules = None } ∷ entity_named (codes "A") [] ∷ [])
 
+-- the lists behind ABSTRACT SUPERTYPE OF and behind SUPERTYPE OF are kept, in the order of the entities
+lists-kept : all_one_of_names (record { name = codes "S"; constraint = abstract_supertype_of (one_of (codes "A" ∷ codes "B" ∷ [])); subtype_of = None; explicit = []; derive = None; rules = None } ∷ entities_of (with_list (codes "C" ∷ [])).declarations) ≡ (codes "A" ∷ codes "B" ∷ []) ∷ (codes "C" ∷ []) ∷ []
+lists-kept = refl
+
 -- the only list of a schema so declared
 only_list : (names : List (List ℕ)) (s : Schema) → DeclaresSchema (with_list names) s → (listed : List ℕ) × OneOfIs s names listed
 only_list names s declares = first s.one_of_lists declares.one_of_are
@@ -93,6 +98,11 @@ unrelated-is_listed = record {
     no_supertype zero f among = Contains-none f among
     no_supertype (suc zero) f among = Contains-none f among
     no_supertype (suc (suc e)) f among = Contains-none f among
+
+-- no list has the name of a type
+pub type-is_not_listed : (s : Schema) → IsDistinct bytes_eq (names_of_all s) → (t : ℕ) (name : List ℕ) (names : List (List ℕ)) (listed : List ℕ) → TypeNamed s t name → Contains names name → OneOfIs s names listed → ⊥
+type-is_not_listed s distinct t name names listed named among is =
+    let (e, in_list, e_named) = AllZip-second_member (EntityNamed s) listed names name is.0 among in distinct_names-apart s distinct e t name e_named named
 
 -- `ONEOF (a, a)`: a name twice
 pub listed_twice-declares_nothing : (s : Schema) → DeclaresSchema (with_list (codes "A" ∷ codes "A" ∷ [])) s → ⊥

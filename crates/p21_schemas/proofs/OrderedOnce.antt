@@ -8,8 +8,9 @@ use Rattle.p21_schemas.specs.Schema.{Schema}
 use Rattle.p21_schemas.specs.Supertype.{IsA, itself, above, supertypes_of}
 use Rattle.p21_schemas.specs.Order.{order_within, order, firsts}
 use Rattle.p21_schemas.specs.Declared.{HasNoCircle, HasSupertype}
+use Rattle.p21_schemas.specs.WellFormed.{AreEntities}
 use Rattle.p21_basics.proofs.Members.{Contains-none, Contains-first, Contains-later, Contains-cases, Contains-flat_map}
-use Rattle.p21_schemas.proofs.Orders.{AreEntities, HasHeight, order-height, order_within-self}
+use Rattle.p21_schemas.proofs.Orders.{HasHeight, order-height, order_within-self}
 
 by_test : (P : List ℕ → Type 0) (b : Bool) (xs ys : List ℕ) → (b ≡ true → P xs) → (b ≡ false → P ys) → P (cond b xs ys)
 by_test P true xs ys passes fails = passes refl

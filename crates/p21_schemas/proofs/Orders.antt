@@ -8,6 +8,7 @@ use Rattle.p21_schemas.specs.Schema.{Schema}
 use Rattle.p21_schemas.specs.Supertype.{IsA, itself, above, supertypes_of}
 use Rattle.p21_schemas.specs.Order.{order_within, order, firsts}
 use Rattle.p21_schemas.specs.Declared.{HasNoCircle, HasSupertype}
+use Rattle.p21_schemas.specs.WellFormed.{AreEntities}
 use Rattle.p21_basics.proofs.Members.{Contains-later, Contains-cases, Contains-flat_map, Contains-one_of, Contains-filter, Contains-unfiltered}
 
 -- there are at most this many levels of supertypes above the entity
@@ -37,10 +38,6 @@ count_below-rises_past rank f r (suc n) below lt = elim (last f n below) [
   where
     last : (f n : ℕ) → f < suc n → (f ≡ n) ⊎ (f < n)
     last f n below = elim (cases_lt f n) [ inl h ↦ inr h | inr h ↦ inl (omega (arith, h, below)) ]
-
--- each supertype is an entity of the schema
-abbrev pub AreEntities : Schema → Type 0
-AreEntities s = (e f : ℕ) → HasSupertype s e f → f < length s.entities
 
 has_height : (s : Schema) → AreEntities s → (rank : ℕ → ℕ) → ((e f : ℕ) → HasSupertype s e f → rank f < rank e) → (n e : ℕ) → count_below rank (rank e) (length s.entities) ≤ n → HasHeight s n e
 has_height s are rank falls zero e few = λ f up. omega (arith, few, count_below-rises_past rank f (rank e) (length s.entities) (are e f up) (falls e f up))

@@ -5,17 +5,14 @@ use Rattle.p21_schemas.specs.Schema.{Schema, TypeUse, Place, Redeclared}
 use Rattle.p21_schemas.specs.Supertype.{IsA, itself, above}
 use Rattle.p21_schemas.specs.PlaceType.{PlaceType, derived_place, stored_place, two_redeclarations, Redeclares, Decides, TypeAt}
 use Rattle.p21_schemas.specs.Declared.{HasNoCircle, HasSupertype}
+use Rattle.p21_schemas.specs.WellFormed.{RedeclaresOnce}
 
--- an entity redeclares a place as one explicit attribute at most
-abbrev pub RedeclaresOnce : Schema → Type 0
-RedeclaresOnce s = (e : ℕ) (r q : Redeclared) → Redeclares s e r → Redeclares s e q → r.place ≡ q.place → r ≡ q
-
--- a proper supertype has a lower rank
 -- a supertype of a supertype is one
 pub IsA-transitive : (s : Schema) (e f g : ℕ) → IsA s e f → IsA s f g → IsA s e g
 IsA-transitive s e f g (itself _) up = up
 IsA-transitive s e f g (above _ next _ among more) up = above e next g among (IsA-transitive s next f g more up)
 
+-- a proper supertype has a lower rank
 IsA-falls : (s : Schema) (ends : HasNoCircle (HasSupertype s)) (e f : ℕ) → IsA s e f → (e ≡ f) ⊎ (ends.0 f < ends.0 e)
 IsA-falls s ends e f (itself _) = inl refl
 IsA-falls s ends e f (above _ next _ up more) = let first : ends.0 next < ends.0 e = ends.1 e next up in inr (elim (IsA-falls s ends next f more) [

@@ -21,4 +21,5 @@ pub mod DeclaredEntity
 pub mod DefinedType
 pub mod DeclaredOneOf
 pub mod Declared
+pub mod WellFormed
 pub mod SchemaName

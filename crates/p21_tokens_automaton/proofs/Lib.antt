@@ -8,6 +8,7 @@ pub mod Classes
 pub mod TokenRuns
 pub mod TokenSound
 pub mod Once
+pub mod OnePending
 pub mod Gaps
 pub mod Waits
 pub mod Complete
