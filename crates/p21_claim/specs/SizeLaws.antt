@@ -4,7 +4,7 @@ use Rattle.std.specs.List.{AllByRecursion as Each}
 use Rattle.p21_basics.specs.Digits.{IsByte}
 use Rattle.p21_basics.specs.Limits.{Limits}
 use Rattle.p21_claim.specs.Taken.{AreTaken, BeginsWith}
-use Rattle.p21_claim_values.specs.DeclaredSchema.{IsDeclared}
+use Rattle.p21_schemas.specs.WellFormed.{IsWellFormed}
 use Rattle.p21_exchange.specs.CanonicalText.{line, statement_text}
 use Rattle.p21_exchange.specs.Laying.{AreStatementsWithin, LaidAs, Lexeme, open_bytes}
 use Rattle.p21_exchange.specs.Pending.{IsTokenByte, LaidUpTo, Tail, tail_size}
@@ -46,7 +46,7 @@ LongHeaderIsDead = (s : Schema) (limits : Limits) (bytes : List ℕ) (taken : Li
 
 -- an instance whose canonical line is over its limit
 abbrev pub LongInstanceIsDead : Type 0
-LongInstanceIsDead = (s : Schema) → IsDeclared s → (limits : Limits) (bytes : List ℕ) (taken : List Statement) → AreTaken bytes taken
+LongInstanceIsDead = (s : Schema) → IsWellFormed s → (limits : Limits) (bytes : List ℕ) (taken : List Statement) → AreTaken bytes taken
     → (n : ℕ) (record_ : Record) (text : List ℕ) → Contains taken (instance n record_) → IsInstanceText s n record_ text → limits.record_canonical < length text → IsDead s limits bytes
 
 -- the last line of each canonical file has 17 bytes: under a lower limit on lines nothing is accepted
@@ -63,5 +63,5 @@ framing (other ∷ rest) = 1 + framing rest
 
 -- the canonical lines of the statements that have ended are more than a canonical file may have
 abbrev pub LongFileIsDead : Type 0
-LongFileIsDead = (s : Schema) → IsDeclared s → (limits : Limits) (bytes : List ℕ) (taken : List Statement) → AreTaken bytes taken
+LongFileIsDead = (s : Schema) → IsWellFormed s → (limits : Limits) (bytes : List ℕ) (taken : List Statement) → AreTaken bytes taken
     → (kept : ℕ) → AreKept s taken kept → limits.file_canonical < kept + framing taken → IsDead s limits bytes
