@@ -1,7 +1,6 @@
 -- The laws by which bytes are dead, where some statements are taken.
 use Rattle.std.specs.Prelude.{◌≡◌, ◌≤◌, ℕ, List, [], ◌∷◌, ◌++◌, length, codes, Contains}
 use Rattle.std.proofs.Common.{arith, get_or, ap, sym, subst, ◌∙◌, inl, inr}
-use Rattle.p21_schemas.proofs.DeclaredSchemas.{declared-well_formed}
 use Rattle.p21_basics.proofs.Members.{Contains-cases, Each-member, AllZip-member}
 use Rattle.p21_files.specs.Accepted.{IsDead, IsLineWithin, Means}
 use Rattle.p21_exchange.specs.DataSection.{instances_in}
@@ -53,12 +52,12 @@ no-meaning s limits bytes taken front n r among nothing = dead-by s limits bytes
 -- ---- canonical lines over their limit
 
 pub long-instance : LongInstanceIsDead
-long-instance s (tree, declares) limits bytes taken front n r text among is long = dead-by s limits bytes taken front (λ more m means begins.
+long-instance s formed limits bytes taken front n r text among is long = dead-by s limits bytes taken front (λ more m means begins.
     let t : Structure = means.reads.structure in
     let file = means.is_canonical in
     let u : Structure = file.canonical.reads.structure in
     let at : Contains (instances_in t.sections) (n, r) = instance-among t n r (Contains-begins taken (statements t) (instance n r) begins among) in
-    let found : Contains (instances_in u.sections) (n, is.canonical) = instance-in_canonical s (declared-well_formed tree s declares) (bytes ++ more) m means.reads means.canonical file.canonical file.same n r text at is in
+    let found : Contains (instances_in u.sections) (n, is.canonical) = instance-in_canonical s formed (bytes ++ more) m means.reads means.canonical file.canonical file.same n r text at is in
     let within : length (statement_text (instance n is.canonical)) ≤ limits.record_canonical = Each-member (IsLineWithin limits) (statements u) (instance n is.canonical) file.lines_within (among-statements u n is.canonical found) in
     let size : length text ≡ length (statement_text (instance n is.canonical)) = ap length is.text_is in
     omega (arith, within, size, long))
@@ -159,5 +158,5 @@ section-other_schema s limits bytes taken front h among other = dead-by s limits
     other (Each-member (HeadingNamesSchema s.name) (headings t.sections) h means.reads.sections_name_schema at))
 
 pub broken-rule : BrokenRuleIsDead
-broken-rule s (tree, declares) limits bytes taken front n r number among breaks =
-    no-meaning s limits bytes taken front n r among (λ kinds meaning means. broken-means_nothing s (declared-well_formed tree s declares) r number breaks kinds meaning means)
+broken-rule s formed limits bytes taken front n r number among breaks =
+    no-meaning s limits bytes taken front n r among (λ kinds meaning means. broken-means_nothing s formed r number breaks kinds meaning means)

@@ -6,8 +6,7 @@ use Rattle.std.specs.Ordering.{nat_cmp}
 use Rattle.std.proofs.Common.{arith, ap, sym, subst, ◌∙◌, append_assoc, inl, inr, append-nil}
 use Rattle.std.proofs.lemmas.Grind.{flat_map-append}
 use Rattle.std.proofs.lemmas.List.{map-append}
-use Rattle.p21_schemas.proofs.DeclaredSchemas.{declared-well_formed}
-use Rattle.p21_schemas.specs.WellFormed.{IsWellFormed}
+use Rattle.p21_schemas.proofs.DeclaredSchemas.{IsWellFormed}
 use Rattle.p21_basics.proofs.Members.{Contains-none, Contains-first, Contains-later, Contains-cases, Contains-mapped, Each-member, AllZip-member, Each-append, Each-mapped, Each-unmapped}
 use Rattle.p21_exchange.proofs.OneTree.{one_tree}
 use Rattle.p21_files.specs.Accepted.{IsAccepted, IsCanonicalOf, IsLineWithin, Means}
@@ -68,9 +67,8 @@ written-are [] = refl
 written-are (g ∷ gs) = ap (λ (is : List Instance). written_in g.entries ++ is) (written-are gs) ∙ sym (map-append (λ (e : Entry). (e.name, e.record_)) g.entries (entries_in gs))
 
 pub unserved : UnservedIsRefused
-unserved s (tree, declares) limits bytes parts groups laid each entry need among at none (m, means) =
+unserved s formed limits bytes parts groups laid each entry need among at none (m, means) =
     let entries : List Entry = entries_in groups in
-    let formed : IsWellFormed s = declared-well_formed tree s declares in
     let t : Structure = means.reads.structure in
     let u : Structure = structure_of parts groups in
     let same : t ≡ u = one_tree t u (one-laying bytes (tokens_of t) (tokens_of u) means.reads.in_grammar.laid laid) in
@@ -99,15 +97,15 @@ entry-of (e ∷ es) n entities among = elim (Contains-cases (e.name, e.meaning.e
 ]
 
 pub unknown : UnknownIsRefused
-unknown s (tree, declares) limits bytes parts groups laid each entry need among at none accepted =
+unknown s formed limits bytes parts groups laid each entry need among at none accepted =
     let entries : List Entry = entries_in groups in
-    unserved s (tree, declares) limits bytes parts groups laid each entry need among at (λ served.
+    unserved s formed limits bytes parts groups laid each entry need among at (λ served.
     let (x, at_x, name, is) = entry-of entries need.target served.0 served.1 in
     let P : ℕ → Type 0 = λ n. Contains (map (λ (e : Entry). e.name) entries) n in
     none (subst P name (Contains-mapped (λ (e : Entry). e.name) entries x at_x))) accepted
 
 pub unfit : UnfitIsRefused
-unfit s (tree, declares) limits bytes parts groups laid each entry target need among at among_ name none (m, means) =
+unfit s formed limits bytes parts groups laid each entry target need among at among_ name none (m, means) =
     let entries : List Entry = entries_in groups in
     let t : Structure = means.reads.structure in
     let u : Structure = structure_of parts groups in
@@ -115,7 +113,7 @@ unfit s (tree, declares) limits bytes parts groups laid each entry target need a
     let P : Structure → Type 0 = λ x. IsDistinct nat_eq (named (instances_in x.sections)) in
     let W : List Instance → Type 0 = λ is. IsDistinct nat_eq (named is) in
     let once : NoneTwice (meant_names (meant_in entries)) = subst NoneTwice (sym (names-meant entries)) (distinct-none_twice (named (written_in entries)) (subst W (written-are groups) (subst P same means.reads.names_differ))) in
-    unserved s (tree, declares) limits bytes parts groups laid each entry need among at (λ served.
+    unserved s formed limits bytes parts groups laid each entry need among at (λ served.
     let (x, at_x, name_, is) = entry-of entries need.target served.0 served.1 in
     let M : ℕ → Type 0 = λ n. Contains (meant_in entries) (n, x.meaning) in
     let found : Contains (meant_in entries) (target.name, x.meaning) = subst M (name_ ∙ sym name) (Contains-mapped (λ (e : Entry). (e.name, e.meaning)) entries x at_x) in
@@ -194,8 +192,7 @@ lines-within limits u sections headers within =
     )
 
 pub ended-accepted : EndedIsAccepted
-ended-accepted s (tree, declares) limits bytes parts groups blocks is =
-    let formed : IsWellFormed s = declared-well_formed tree s declares in
+ended-accepted s formed limits bytes parts groups blocks is =
     let entries : List Entry = entries_in groups in
     let sections : List DataSection = map section_of groups in
     let m : FileMeaning = record { header = parts; schema = s.name; sections = headings sections; instances = meant_in entries; instance_sections = flat_map placed_in sections } in

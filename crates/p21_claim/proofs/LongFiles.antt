@@ -3,8 +3,6 @@ use Rattle.std.specs.Prelude.{◌≡◌, ◌≤◌, ◌+◌, ℕ, List, [], ◌�
 use Rattle.std.specs.List.{flat_map, AllByRecursion as Each}
 use Rattle.std.proofs.Common.{arith, ap, sym, subst, ◌∙◌, length-append, inl, inr}
 use Rattle.std.proofs.lemmas.List.Elements.{Contains-append_right}
-use Rattle.p21_schemas.proofs.DeclaredSchemas.{declared-well_formed}
-use Rattle.p21_schemas.specs.WellFormed.{IsWellFormed}
 use Rattle.p21_basics.proofs.Members.{Contains-none, Contains-first, Contains-later, Contains-flat_map, Contains-mapped, Each-member}
 use Rattle.p21_files.specs.Accepted.{IsLineWithin}
 use Rattle.p21_exchange.specs.CanonicalText.{line, statement_text}
@@ -159,8 +157,7 @@ kept-lines s P (instance m q ∷ taken) kept (text, more, is_kept, printed, are)
     }
 
 pub long-file : LongFileIsDead
-long-file s (tree, declares) limits bytes taken front kept are long = dead-by s limits bytes taken front (λ more m means begins.
-    let formed : IsWellFormed s = declared-well_formed tree s declares in
+long-file s formed limits bytes taken front kept are long = dead-by s limits bytes taken front (λ more m means begins.
     let t : Structure = means.reads.structure in
     let file = means.is_canonical in
     let u : Structure = file.canonical.reads.structure in

@@ -1,191 +1,157 @@
--- Bytes are dead where a byte more is one more than the tokens of a statement may have.
-use Rattle.std.specs.Prelude.{◌≡◌, ◌≢◌, ℕ, ◌+◌, ◌≤◌, ◌⊎◌, List, [], ◌∷◌, ◌++◌, length, Option, Some, None, refl}
-use Rattle.std.proofs.Common.{arith, ap, sym, subst, ◌∙◌, append_assoc, append-nil, inl, inr}
-use Rattle.p21_files.specs.Accepted.{IsDead}
-use Rattle.p21_exchange.specs.Laying.{Lexeme, AreStatementsWithin, count_behind, open_bytes}
-use Rattle.p21_basics.specs.Limits.{Limits}
-use Rattle.p21_exchange.specs.Pending.{Tail, nothing, unfinished, slash, open_comment, tail_size, BeginsNoSeparator, IsTokenByte}
-use Rattle.p21_schemas.specs.Schema.{Schema}
-use Rattle.p21_exchange.specs.Token.{Token, Spells, semicolon}
-use Rattle.p21_tokens_automaton.proofs.Complete.{all_of-after}
-use Rattle.p21_tokens_automaton.proofs.Fits.{ModeFits, StepFits, EndsBefore}
-use Rattle.p21_tokens_automaton.proofs.Once.{means-once}
-use Rattle.p21_tokens_automaton.proofs.Sound.{FirstFits, TailIs}
-use Rattle.p21_tokens_automaton.proofs.Steps.{lex-nil, lex-byte, first-act}
-use Rattle.p21_tokens_automaton.proofs.TextSound.{text-fits, text-ends}
-use Rattle.p21_tokens_automaton.proofs.Theorems.{laid_read, tail-is}
-use Rattle.p21_tokens_automaton.proofs.TokenSound.{first-fits, mode-fits, mode-ends}
-use Rattle.p21_tokens_automaton.specs.Meaning.{Means, MeanAll}
-use Rattle.p21_tokens_automaton.specs.Reading.{State, start, skip, keep, put, Answer, after, Found, known, Sized, single_token, ended, closed, marker_of, closing, all_after, all_of, act, first, given_first, dashed, lex}
-use Rattle.p21_tokens_automaton.specs.Step.{advance}
-use Rattle.p21_tokens_automaton.specs.declared.mode.Action.{Action}
-use Rattle.p21_tokens_automaton.specs.declared.mode.Action.TheVariants.{Pass, Skip, Keep, Put, Give, Close, End, Dash, Refuse}
-use Rattle.p21_tokens_automaton.specs.declared.mode.Mode.{Mode}
-use Rattle.p21_tokens_automaton.specs.declared.mode.Mode.TheVariants.{Between}
+-- Bytes are dead where a byte is one more than the tokens of a statement may have.
+use Rattle.std.proofs.Common.{◌≡◌, ℕ, suc, ◌+◌, ◌<◌, ◌≤◌, ◌⊎◌, inl, inr, List, [], ◌∷◌, ◌++◌, length, length-append, append_assoc, append-nil, ap, sym, subst, ◌∙◌, refl, arith}
+use Rattle.p21_basics.proofs.Members.{tail_is}
 use Rattle.p21_claim.proofs.Fronts.{long-statement}
+use Rattle.p21_claim.specs.SizeLaws.{FullStatementIsDead}
+use Rattle.p21_exchange.proofs.FirstBytes.{spelling_begins}
+use Rattle.p21_exchange.proofs.OneGap.{HasNoSeparator, gap-one}
+use Rattle.p21_exchange.specs.Laying.{AreStatementsWithin, LaidAs, Lexeme, count_behind, open_bytes}
+use Rattle.p21_exchange.specs.Pending.{BeginsNoSeparator, IsTokenByte, LaidUpTo, Tail, nothing, open_comment, slash, tail_size, unfinished}
+use Rattle.p21_exchange.specs.Separator.{IsSeparatorText, blank, comment}
+use Rattle.p21_exchange.specs.Token.{IsFollowed, MayFollow, Spells, Token, semicolon}
+use Rattle.p21_tokens_automaton.proofs.OnePending.{append-rest, begins-no_separator, begins-on, count-more, front-one}
 
--- the first token found has so many bytes at least
-record Grown (k : ℕ) (founds : List Sized) : Type 0 where
-  found : Sized
-  rest : List Sized
-  founds_are : founds ≡ found ∷ rest
-  size : k ≤ found.size
+-- one of two fronts of a list begins the other
+abbrev Begins : List ℕ → List ℕ → List ℕ → List ℕ → Type 0
+Begins x y q w = (p : List ℕ) × (x ≡ q ++ p) × (w ≡ p ++ y)
 
--- a byte ends the open token
-record Ended (s : State) (front : List ℕ) (byte : ℕ) (bytes : List ℕ) (founds : List Sized) : Type 0 where
-  found : Found
-  ended_is : ended s ≡ Some found
-  rest : List Sized
-  founds_are : founds ≡ record { found = found; size = s.size } ∷ rest
-  rest_is : all_of (lex start (byte ∷ bytes)) ≡ Some rest
-  follows : EndsBefore s.mode s.kept s.characters front byte
-
-closes : (o : Option Found) (mode : Mode) (kept characters front : List ℕ) (size : ℕ) (founds : List Sized) → ModeFits mode kept characters front → all_after [] (closing o mode size) ≡ Some founds → Grown size founds
-closes (Some f) mode kept characters front size founds fits e =
-    let same : record { found = f; size = size } ∷ [] ≡ founds = cc in
-    record { found = record { found = f; size = size }; rest = []; founds_are = sym same; size = omega arith }
-closes None Between kept characters front size founds fits e = absurd fits
-closes None other kept characters front size founds fits e = absurd cc
-
-given : (o : Option Found) (size : ℕ) (a : Answer) (founds : List Sized) → all_of (given_first o size a) ≡ Some founds → (f : Found) × (o ≡ Some f) × (rest : List Sized) × (founds ≡ record { found = f; size = size } ∷ rest) × (all_of a ≡ Some rest)
-given None size a founds e = absurd cc
-given (Some f) size a founds e = let (rest, is, all) = all_of-after (record { found = f; size = size } ∷ []) a founds e in (f, refl, rest, all, is)
-
-abbrev Grows : List ℕ → Type 0
-Grows bytes = (s : State) (front : List ℕ) → ModeFits s.mode s.kept s.characters front → (founds : List Sized) → all_of (lex s bytes) ≡ Some founds → Grown s.size founds
-
-lower : (k n : ℕ) (founds : List Sized) → k ≤ n → Grown n founds → Grown k founds
-lower k n founds below g = record { found = g.found; rest = g.rest; founds_are = g.founds_are; size = (let h = g.size in omega (arith, h, below)) }
-
-by_action : (byte : ℕ) (bytes : List ℕ) → Grows bytes → (s : State) (front : List ℕ) (founds : List Sized) (a : Action) → StepFits s.mode s.kept s.characters front byte a → all_of (act a s byte (λ next. lex next bytes)) ≡ Some founds
-    → Grown (s.size + 1) founds ⊎ Ended s front byte bytes founds
-by_action byte bytes grows s front founds (Pass n) f z = absurd f
-by_action byte bytes grows s front founds (Skip n) f z = inl (grows (skip s n) (front ++ byte ∷ []) f founds z)
-by_action byte bytes grows s front founds (Keep n) f z = inl (grows (keep s n byte) (front ++ byte ∷ []) f founds z)
-by_action byte bytes grows s front founds (Put n c) f z = inl (grows (put s n c) (front ++ byte ∷ []) f founds z)
-by_action byte bytes grows s front founds (Give one) f z = absurd f
-by_action byte bytes grows s front founds Close f z =
-    let (found, is, rest, all, more) = given (closed s.mode (s.kept ++ byte ∷ [])) (s.size + 1) (lex start bytes) founds z in
-    inl (record { found = record { found = found; size = s.size + 1 }; rest = rest; founds_are = all; size = omega arith })
-by_action byte bytes grows s front founds End f z =
-    let (found, is, rest, all, more) = given (ended s) s.size (first (advance Between byte) byte (λ next. lex next bytes)) founds z in
-    inr (record {
-      found = found;
-      ended_is = is;
-      rest = rest;
-      founds_are = all;
-      rest_is = ap all_of (lex-byte start byte bytes ∙ sym (first-act (advance Between byte) byte (λ next. lex next bytes))) ∙ more;
-      follows = f;
-    })
-by_action byte bytes grows s front founds Dash f z = dash (marker_of s.kept) f z
-  where
-    dash : (o : Option Mode) → ((next : Mode) → o ≡ Some next → ModeFits next (s.kept ++ byte ∷ []) s.characters (front ++ byte ∷ [])) → all_of (dashed o s byte (λ next. lex next bytes)) ≡ Some founds → Grown (s.size + 1) founds ⊎ Ended s front byte bytes founds
-    dash None g e = absurd cc
-    dash (Some mode) g e = inl (grows (keep s mode byte) (front ++ byte ∷ []) (g mode refl) founds e)
-by_action byte bytes grows s front founds (Refuse w) f z = absurd cc
-
-step : (byte : ℕ) (bytes : List ℕ) → Grows bytes → (s : State) (front : List ℕ) → ModeFits s.mode s.kept s.characters front → (founds : List Sized) → all_of (lex s (byte ∷ bytes)) ≡ Some founds → Grown (s.size + 1) founds ⊎ Ended s front byte bytes founds
-step byte bytes grows s front fits founds e = by_action byte bytes grows s front founds (advance s.mode byte) (mode-fits text-fits s.mode byte s.kept s.characters front fits) (sym (ap all_of (lex-byte s byte bytes)) ∙ e)
-
--- an open token only grows
-grown : (bytes : List ℕ) → Grows bytes
-grown [] s front fits founds e = closes (ended s) s.mode s.kept s.characters front s.size founds fits (sym (ap all_of (lex-nil s)) ∙ e)
-grown (byte ∷ bytes) s front fits founds e = elim (step byte bytes (grown bytes) s front fits founds e) [
-  | inl g ↦ lower s.size (s.size + 1) founds (omega arith) g
-  | inr d ↦ record { found = record { found = d.found; size = s.size }; rest = d.rest; founds_are = d.founds_are; size = omega arith }
+fronts : (x y q w : List ℕ) → x ++ y ≡ q ++ w → Begins x y q w ⊎ (length x < length q)
+fronts x y [] w same = inl (x, refl, sym same)
+fronts [] y (c ∷ q) w same = inr (omega arith)
+fronts (b ∷ x) y (c ∷ q) w same = elim (fronts x y q w (tail_is b c _ _ same)) [
+  | inl (p, is, rest) ↦ (let first : b ≡ c = cc in inl (p, ap (λ (z : ℕ). z ∷ x) first ∙ ap (λ (zs : List ℕ). c ∷ zs) is, rest))
+  | inr shorter ↦ inr (omega (arith, shorter))
 ]
 
--- a byte that separates nothing begins a token
-opened : (byte : ℕ) (bytes : List ℕ) → BeginsNoSeparator (byte ∷ []) → (founds : List Sized) → all_of (lex start (byte ∷ bytes)) ≡ Some founds → Grown 1 founds
-opened byte bytes begins founds e = at (advance Between byte) (first-fits byte) (sym (ap all_of (lex-byte start byte bytes)) ∙ e)
+none-begin : HasNoSeparator []
+none-begin (blank b) rest is same = cc
+none-begin (comment inside) rest is same = cc
+
+no-front : (gap : List ℕ) (b : ℕ) (bytes : List ℕ) → [] ≡ gap ++ (b ∷ bytes) → ⊥
+no-front [] b bytes same = cc
+no-front (c ∷ gap) b bytes same = cc
+
+-- separator text is no token's front
+no-token : (gap x bytes : List ℕ) → IsSeparatorText gap → BeginsNoSeparator x → bytes ≡ gap ++ x → IsSeparatorText bytes → ⊥
+no-token gap x bytes separates begins is separates_ =
+    let none : [] ≡ x = gap-one bytes gap [] x separates_ separates none-begin (begins-no_separator x begins) (append-nil bytes ∙ is) in
+    subst BeginsNoSeparator (sym none) begins
+
+some-bytes : (token : Token) (q : List ℕ) → Spells token q → 1 ≤ length q
+some-bytes token [] spells = absurd (spelling_begins token [] spells)
+some-bytes token (byte ∷ q) spells = omega arith
+
+-- a byte that separates nothing is one of a token
+first-counts : (most count : ℕ) (gap more : List ℕ) (byte : ℕ) (ls : List Lexeme) → IsSeparatorText gap → BeginsNoSeparator (byte ∷ []) → LaidAs (gap ++ (byte ∷ more)) ls → AreStatementsWithin most count ls → count + 1 ≤ most
+first-counts most count gap more byte [] separates begins laid within = absurd (no-token gap (byte ∷ more) (gap ++ (byte ∷ more)) separates begins refl laid)
+first-counts most count gap more byte (m ∷ ms) separates begins (gap_, q, w, is, separates_, spells, size, followed, rest) within =
+    let some = some-bytes m.token q spells in
+    let short = within.0 in
+    omega (arith, some, short, size)
+
+count-most : (count : ℕ) (l : Lexeme) → count_behind count l ≤ count + l.size
+count-most count l = at l.token
   where
-    at : (a : Action) → FirstFits byte a → all_of (act a start byte (λ next. lex next bytes)) ≡ Some founds → Grown 1 founds
-    at (Pass n) f z = elim f [
-      | inl h ↦ elim h.1 [ inl low ↦ (let high = begins.0 in absurd (omega (arith, low, high))) | inr same ↦ absurd (begins.1 same) ]
-      | inr h ↦ absurd (begins.2 h.1)
-    ]
-    at (Skip n) f z = lower 1 (0 + 1) founds (omega arith) (grown bytes (skip start n) (byte ∷ []) f founds z)
-    at (Keep n) f z = lower 1 (0 + 1) founds (omega arith) (grown bytes (keep start n byte) (byte ∷ []) f founds z)
-    at (Give one) f z =
-        let (rest, is, all) = all_of-after (record { found = known (single_token one); size = 1 } ∷ []) (lex start bytes) founds z in
-        record { found = record { found = known (single_token one); size = 1 }; rest = rest; founds_are = all; size = omega arith }
-    at (Refuse w) f z = absurd cc
-    at (Put n c) f z = absurd f
-    at Close f z = absurd f
-    at End f z = absurd f
-    at Dash f z = absurd f
+    at : (token : Token) → count_behind count (record { token = token; size = l.size }) ≤ count + l.size
+    at semicolon = omega arith
+    at other = omega arith
 
--- ---- counts
+-- what stands behind the last byte of a token
+behind-last : (lexemes : List Lexeme) (tail : Tail) (count byte : ℕ) → LaidUpTo [] lexemes tail → IsTokenByte tail byte → BeginsNoSeparator (byte ∷ []) × (open_bytes count lexemes + tail_size tail ≡ count)
+behind-last [] nothing count byte laid counts = (counts, omega arith)
+behind-last [] slash count byte laid counts = absurd counts
+behind-last [] (open_comment inside) count byte laid counts = absurd counts
+behind-last [] (unfinished []) count byte laid counts = absurd laid.3.first
+behind-last [] (unfinished (b ∷ bytes)) count byte (gap, is, separates, tail_) counts = absurd (no-front gap b bytes is)
+behind-last (l ∷ lexemes) tail count byte (gap, [], r, is, separates, spells, size, followed, more) counts = absurd (spelling_begins l.token [] spells)
+behind-last (l ∷ lexemes) tail count byte (gap, b ∷ p, r, is, separates, spells, size, followed, more) counts = absurd (no-front gap b (p ++ r) is)
 
-record Behind (most count : ℕ) (founds : List Sized) : Type 0 where
-  lexemes : List Lexeme
-  mean : MeanAll founds lexemes
-  within : AreStatementsWithin most count lexemes
-
-behind : (most count : ℕ) (founds more : List Sized) (ls all : List Lexeme) → MeanAll founds ls → MeanAll (founds ++ more) all → AreStatementsWithin most count all → Behind most (open_bytes count ls) more
-behind most count [] more [] all p q within = record { lexemes = all; mean = q; within = within }
-behind most count [] more (l ∷ ls) all p q within = absurd p
-behind most count (x ∷ founds) more [] all p q within = absurd p
-behind most count (x ∷ founds) more (l ∷ ls) [] p q within = absurd q
-behind most count (x ∷ founds) more (l ∷ ls) (m ∷ ms) p q within =
-    let token : m.token ≡ l.token = means-once x.found m.token l.token q.0 p.0 in
-    let size : m.size ≡ l.size = q.1 ∙ sym p.1 in
-    let same : count_behind count m ≡ count_behind count l =
-    ap (λ (t : Token). count_behind count (record { token = t; size = m.size })) token ∙ ap (λ (n : ℕ). count_behind count (record { token = l.token; size = n })) size in
-    let P : ℕ → Type 0 = λ n. AreStatementsWithin most n ms in
-    behind most (count_behind count l) founds more ls ms p.2 q.2 (subst P same within.1)
-
-first-within : (most count k : ℕ) (founds : List Sized) (ls : List Lexeme) → Grown k founds → MeanAll founds ls → AreStatementsWithin most count ls → count + k ≤ most
-first-within most count k founds ls g mean within = at ls (let P : List Sized → Type 0 = λ fs. MeanAll fs ls in subst P g.founds_are mean) within
-  where
-    at : (ls : List Lexeme) → MeanAll (g.found ∷ g.rest) ls → AreStatementsWithin most count ls → count + k ≤ most
-    at [] m w = absurd m
-    at (l ∷ ls) m w = let size = m.1 in let below = g.size in let short = w.0 in omega (arith, size, below, short)
-
-no-semicolon : (token : Token) (size count : ℕ) → token ≢ semicolon → count_behind count (record { token = token; size = size }) ≡ count + size
-no-semicolon semicolon size count none = absurd (none refl)
-no-semicolon other size count none = refl
-
-ended-within : (most count : ℕ) (e : State) (inside : List ℕ) (byte : ℕ) (bytes : List ℕ) (founds : List Sized) (ls : List Lexeme) → TailIs e (unfinished inside) → IsTokenByte (unfinished inside) byte → Ended e inside byte bytes founds → MeanAll founds ls → AreStatementsWithin most count ls
-    → count + e.size + 1 ≤ most
-ended-within most count e inside byte bytes founds ls tail counts d mean within = at ls (let P : List Sized → Type 0 = λ fs. MeanAll fs ls in subst P d.founds_are mean) within
-  where
-    at : (ls : List Lexeme) → MeanAll (record { found = d.found; size = e.size } ∷ d.rest) ls → AreStatementsWithin most count ls → count + e.size + 1 ≤ most
-    at [] m w = absurd m
-    at (l ∷ ls) m w =
-        let spells : (t : Token) → Means d.found t → Spells t inside = λ t means. mode-ends text-ends e.mode e.kept e.characters inside tail.0 d.found t d.ended_is means in
-        let none : l.token ≢ semicolon = λ same.
-        let P : Token → Type 0 = λ t. Means d.found t in
-        (tail-is e (unfinished inside) tail).not_whole semicolon inside [] (sym (append-nil inside)) (spells semicolon (subst P same m.0)) tt in
-        let begins : BeginsNoSeparator (byte ∷ []) = counts l.token (spells l.token m.0) (d.follows.follows d.found l.token d.ended_is m.0) in
-        let next = first-within most (count_behind count l) 1 d.rest ls (opened byte bytes begins d.rest d.rest_is) m.2 w.1 in
-        let so_far : count_behind count l ≡ count + l.size = no-semicolon l.token l.size count none in
-        let size = m.1 in
-        omega (arith, next, so_far, size)
-
-over : (most count : ℕ) (e : State) (tail : Tail) (byte : ℕ) (bytes : List ℕ) (founds : List Sized) → TailIs e tail → IsTokenByte tail byte → all_of (lex e (byte ∷ bytes)) ≡ Some founds → Behind most count founds → count + tail_size tail + 1 ≤ most
-over most count e nothing byte bytes founds is counts read b =
-    let P : State → Type 0 = λ s. all_of (lex s (byte ∷ bytes)) ≡ Some founds in
-    let h = first-within most count 1 founds b.lexemes (opened byte bytes counts founds (subst P is read)) b.mean b.within in
+-- the token bytes of the open statement and one more are within the limit, where statements are
+within : (lexemes : List Lexeme) (tail : Tail) (bytes more : List ℕ) (byte : ℕ) (ls : List Lexeme) (most count : ℕ) → LaidUpTo bytes lexemes tail → IsTokenByte tail byte → LaidAs (bytes ++ (byte ∷ more)) ls → AreStatementsWithin most count ls
+    → open_bytes count lexemes + tail_size tail + 1 ≤ most
+within [] slash bytes more byte ls most count up_to counts laid short = absurd counts
+within [] (open_comment inside) bytes more byte ls most count up_to counts laid short = absurd counts
+within [] nothing bytes more byte ls most count (gap, is, separates, tail_) counts laid short =
+    let front : bytes ≡ gap = is ∙ append-nil gap in
+    let P : List ℕ → Type 0 = λ x. LaidAs (x ++ (byte ∷ more)) ls in
+    let h = first-counts most count gap more byte ls separates counts (subst P front laid) short in
     omega (arith, h)
-over most count e slash byte bytes founds is counts read b = absurd counts
-over most count e (open_comment inside) byte bytes founds is counts read b = absurd counts
-over most count e (unfinished inside) byte bytes founds is counts read b =
-    let size : e.size ≡ length inside = is.1 in
-    elim (step byte bytes (grown bytes) e inside is.0 founds read) [
-      | inl g ↦ let h = first-within most count (e.size + 1) founds b.lexemes g b.mean b.within in omega (arith, h, size)
-      | inr d ↦ let h = ended-within most count e inside byte bytes founds b.lexemes is counts d b.mean b.within in omega (arith, h, size)
-    ]
+within [] (unfinished inside) bytes more byte [] most count (gap, is, separates, tail_) counts laid short =
+    let whole : bytes ++ (byte ∷ more) ≡ gap ++ (inside ++ (byte ∷ more)) = ap (λ (x : List ℕ). x ++ (byte ∷ more)) is ∙ append_assoc gap inside (byte ∷ more) in
+    absurd (no-token gap (inside ++ (byte ∷ more)) (bytes ++ (byte ∷ more)) separates (begins-on inside (byte ∷ more) tail_.first) whole laid)
+within [] (unfinished inside) bytes more byte (m ∷ ms) most count (gap, is, separates, tail_) counts (gap_, q, w, is_, separates_, spells, size, followed, rest) short =
+    let whole : bytes ++ (byte ∷ more) ≡ gap ++ (inside ++ (byte ∷ more)) = ap (λ (x : List ℕ). x ++ (byte ∷ more)) is ∙ append_assoc gap inside (byte ∷ more) in
+    let same : inside ++ (byte ∷ more) ≡ q ++ w =
+    gap-one gap gap_ (inside ++ (byte ∷ more)) (q ++ w) separates separates_ (begins-no_separator (inside ++ (byte ∷ more)) (begins-on inside (byte ∷ more) tail_.first)) (begins-no_separator (q ++ w) (begins-on q w (spelling_begins m.token q spells))) (sym whole ∙ is_) in
+    by (fronts inside (byte ∷ more) q w same)
+  where
+    first : count + m.size ≤ most
+    first = short.0
 
--- a byte more of an open statement that is full: the reading of the bytes leads to a state with these tokens and this tail
-pub long-next : (s : Schema) (limits : Limits) (bytes : List ℕ) (founds : List Sized) (lexemes : List Lexeme) (e : State) (tail : Tail) (byte : ℕ) → ((rest : List ℕ) → lex start (bytes ++ rest) ≡ after founds (lex e rest)) → MeanAll founds lexemes → TailIs e tail → IsTokenByte tail byte
-    → limits.record_source ≤ open_bytes 0 lexemes + tail_size tail → IsDead s limits (bytes ++ byte ∷ [])
-long-next s limits bytes founds lexemes e tail byte reads mean is counts full = long-statement s limits (bytes ++ byte ∷ []) (λ more are all laid within.
-    let read = laid_read all ((bytes ++ byte ∷ []) ++ more) laid in
-    let joined : (bytes ++ byte ∷ []) ++ more ≡ bytes ++ (byte ∷ more) = append_assoc bytes (byte ∷ []) more in
-    let answer : all_of (after founds (lex e (byte ∷ more))) ≡ Some read.0 = sym (ap all_of (ap (λ (x : List ℕ). lex start x) joined ∙ reads (byte ∷ more))) ∙ read.1 in
-    let parts = all_of-after founds (lex e (byte ∷ more)) read.0 answer in
-    let P : List Sized → Type 0 = λ fs. MeanAll fs all in
-    let rest = behind limits.record_source 0 founds parts.0 lexemes all mean (subst P parts.2 read.2) within in
-    let h = over limits.record_source (open_bytes 0 lexemes) e tail byte more parts.0 is counts parts.1 rest in
+    by : Begins inside (byte ∷ more) q w ⊎ (length inside < length q) → count + length inside + 1 ≤ most
+    by (inr longer) = omega (arith, longer, size, first)
+    by (inl ([], front, behind)) =
+        let own : inside ≡ q = front ∙ append-nil q in
+        let open_ : count_behind count m ≡ count + m.size = count-more m.token m.size count (λ whole_. tail_.not_whole m.token q [] front spells whole_) in
+        let F : List ℕ → Type 0 = λ x. IsFollowed m.token q x in
+        let S : List ℕ → Type 0 = λ x. Spells m.token x × MayFollow m.token x byte in
+        let (spells_, may) = subst S (sym own) (spells, subst F behind followed) in
+        let L : List ℕ → Type 0 = λ x. LaidAs x ms in
+        let h = first-counts most (count_behind count m) [] more byte ms ([], tt, refl) (counts m.token spells_ may) (subst L behind rest) short.1 in
+        let long : length inside ≡ length q = ap length own in
+        omega (arith, h, open_, long, size)
+    by (inl (c ∷ p, front, behind)) =
+        let F : List ℕ → Type 0 = λ x. IsFollowed m.token q x in
+        absurd (tail_.not_whole m.token q (c ∷ p) front spells (subst F behind followed))
+within (l ∷ lexemes) tail bytes more byte [] most count (gap, p, r, is, separates, spells, size, followed, up_to) counts laid short =
+    let whole : bytes ++ (byte ∷ more) ≡ gap ++ ((p ++ r) ++ (byte ∷ more)) = ap (λ (x : List ℕ). x ++ (byte ∷ more)) is ∙ append_assoc gap (p ++ r) (byte ∷ more) in
+    absurd (no-token gap ((p ++ r) ++ (byte ∷ more)) (bytes ++ (byte ∷ more)) separates (begins-on (p ++ r) (byte ∷ more) (begins-on p r (spelling_begins l.token p spells))) whole laid)
+within (l ∷ lexemes) tail bytes more byte (m ∷ ms) most count (gap, p, r, is, separates, spells, size, followed, up_to) counts (gap_, q, w, is_, separates_, spells_, size_, followed_, rest) short =
+    let whole : bytes ++ (byte ∷ more) ≡ gap ++ (p ++ (r ++ (byte ∷ more))) =
+    ap (λ (x : List ℕ). x ++ (byte ∷ more)) is ∙ append_assoc gap (p ++ r) (byte ∷ more) ∙ ap (λ (x : List ℕ). gap ++ x) (append_assoc p r (byte ∷ more)) in
+    let same : p ++ (r ++ (byte ∷ more)) ≡ q ++ w =
+    gap-one gap gap_ (p ++ (r ++ (byte ∷ more))) (q ++ w) separates separates_ (begins-no_separator (p ++ (r ++ (byte ∷ more))) (begins-on p (r ++ (byte ∷ more)) (spelling_begins l.token p spells)))
+    (begins-no_separator (q ++ w) (begins-on q w (spelling_begins m.token q spells_))) (sym whole ∙ is_) in
+    by r up_to followed same (λ (x : List ℕ) (n : ℕ) up_to_ laid_ short_. within lexemes tail x more byte ms most n up_to_ counts laid_ short_)
+  where
+    first : count + m.size ≤ most
+    first = short.0
+
+    by : (r : List ℕ) → LaidUpTo r lexemes tail → IsFollowed l.token p r → p ++ (r ++ (byte ∷ more)) ≡ q ++ w
+        → ((x : List ℕ) (n : ℕ) → LaidUpTo x lexemes tail → LaidAs (x ++ (byte ∷ more)) ms → AreStatementsWithin most n ms → open_bytes n lexemes + tail_size tail + 1 ≤ most) → open_bytes (count_behind count l) lexemes + tail_size tail + 1 ≤ most
+    by [] up_to_ follows same later =
+        let (begins, none) = behind-last lexemes tail (count_behind count l) byte up_to_ counts in
+        let at_most = count-most count l in
+        elim (fronts p (byte ∷ more) q w same) [
+          | inr longer ↦ omega (arith, longer, size, size_, first, none, at_most)
+          | inl found ↦ last found.0 found.1 found.2 begins none
+        ]
+      where
+        last : (x : List ℕ) → p ≡ q ++ x → w ≡ x ++ (byte ∷ more) → BeginsNoSeparator (byte ∷ []) → open_bytes (count_behind count l) lexemes + tail_size tail ≡ count_behind count l → open_bytes (count_behind count l) lexemes + tail_size tail + 1 ≤ most
+        last [] front behind begins none =
+            let one = front-one l.token m.token p q [] [] spells spells_ tt tt (append-nil p ∙ front) in
+            let size_is : l.size ≡ m.size = size ∙ one.size ∙ sym size_ in
+            let counted : count_behind count l ≡ count_behind count m = ap (λ (t : Token). count_behind count (record { token = t; size = l.size })) one.token ∙ ap (λ (n : ℕ). count_behind count (record { token = m.token; size = n })) size_is in
+            let L : List ℕ → Type 0 = λ x. LaidAs x ms in
+            let h = first-counts most (count_behind count m) [] more byte ms ([], tt, refl) begins (subst L behind rest) short.1 in
+            omega (arith, h, counted, none)
+        last (c ∷ x) front behind begins none =
+            let F : List ℕ → Type 0 = λ z. IsFollowed m.token q z in
+            let one = front-one m.token l.token q p (c ∷ x) [] spells_ spells (subst F behind followed_) tt (sym (append-nil p ∙ front)) in
+            let long : length p ≡ length q + suc (length x) = ap length front ∙ length-append q (c ∷ x) in
+            let equal = one.size in
+            absurd (omega (arith, long, equal))
+    by (c ∷ r_) up_to_ follows same later =
+        let one = front-one l.token m.token p q ((c ∷ r_) ++ (byte ∷ more)) w spells spells_ follows followed_ same in
+        let size_is : l.size ≡ m.size = size ∙ one.size ∙ sym size_ in
+        let lexeme : count_behind count m ≡ count_behind count l = sym (ap (λ (t : Token). count_behind count (record { token = t; size = l.size })) one.token ∙ ap (λ (n : ℕ). count_behind count (record { token = m.token; size = n })) size_is) in
+        let behind : (c ∷ r_) ++ (byte ∷ more) ≡ w = append-rest p q ((c ∷ r_) ++ (byte ∷ more)) w one.size same in
+        let L : List ℕ → Type 0 = λ z. LaidAs z ms in
+        let W : ℕ → Type 0 = λ n. AreStatementsWithin most n ms in
+        later (c ∷ r_) (count_behind count l) up_to_ (subst L (sym behind) rest) (subst W lexeme short.1)
+
+pub full-statement : FullStatementIsDead
+full-statement s limits bytes lexemes tail byte up_to counts full = long-statement s limits (bytes ++ (byte ∷ [])) (λ more are ls laid short.
+    let P : List ℕ → Type 0 = λ x. LaidAs x ls in
+    let h = within lexemes tail bytes more byte ls limits.record_source 0 up_to counts (subst P (append_assoc bytes (byte ∷ []) more) laid) short in
     omega (arith, h, full))

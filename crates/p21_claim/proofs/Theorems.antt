@@ -13,7 +13,6 @@ use Rattle.p21_claim.specs.Headline.{Headline}
 use Rattle.p21_claim.specs.ReadingLaws.{LimitHoldsForEachReading, OneListOfLexemes, OneMeaningOfBytes, OneMeaningWithin, OneTreeOfBytes}
 use Rattle.p21_claim_values.proofs.CanonicalLaid.{laid-each_spelled}
 use Rattle.p21_claim_values.proofs.GraphicTexts.{lines-graphic}
-use Rattle.p21_claim_values.specs.DeclaredSchema.{IsDeclared}
 use Rattle.p21_claim_values.specs.Written.{IsWrittenStatement}
 use Rattle.p21_exchange.specs.CanonicalText.{line, statement_text}
 use Rattle.p21_exchange.specs.Statement.{Statement}
@@ -35,10 +34,10 @@ pub one-tree : OneTreeOfBytes
 one-tree bytes structure other text other_text in_ also = (one_structure_of bytes structure other text other_text in_ also, one_schema_text_of bytes structure other text other_text in_ also)
 
 pub one-meaning : OneMeaningOfBytes
-one-meaning s (tree, declares) = Reads-one s (declared-well_formed tree s declares)
+one-meaning s formed = Reads-one s formed
 
 pub one-meaning_within : OneMeaningWithin
-one-meaning_within s (tree, declares) = Means-one s (declared-well_formed tree s declares)
+one-meaning_within s formed = Means-one s formed
 
 pub each-reading : LimitHoldsForEachReading
 each-reading = Means-any_reading
@@ -46,14 +45,13 @@ each-reading = Means-any_reading
 -- ---- canonical files
 
 pub bytes-exist : CanonicalBytesExist
-bytes-exist s (tree, declares) bytes m reads = let has = has-canonical_file s (declared-well_formed tree s declares) bytes m reads in (has.bytes, has.canonical, has.same)
+bytes-exist s formed bytes m reads = let has = has-canonical_file s formed bytes m reads in (has.bytes, has.canonical, has.same)
 
 pub bytes-tell : CanonicalBytesTell
-bytes-tell s (tree, declares) a b c d =
-    let formed : IsWellFormed s = declared-well_formed tree s declares in (
-      λ same. file-once s formed a b c d same,
-      λ equal. canonical-same s formed a b c d equal,
-    )
+bytes-tell s formed a b c d = (
+  λ same. file-once s formed a b c d same,
+  λ equal. canonical-same s formed a b c d equal,
+)
 
 line-bytes : (sts : List Statement) → Each IsWrittenStatement sts → Each (λ byte. IsGraphic byte ⊎ (byte ≡ 10)) (flat_map line sts)
 line-bytes [] written = tt
@@ -69,8 +67,7 @@ bytes-graphic s a c =
     (line-bytes (statements c.reads.structure) (said c.reads.structure (laid-each_spelled a (tokens_of c.reads.structure) c.reads.in_grammar.laid)))
 
 pub files-tell : CanonicalFilesTell
-files-tell s (tree, declares) limits bytes others a b (m, means, is) (n, means_, is_) =
-    let formed : IsWellFormed s = declared-well_formed tree s declares in
+files-tell s formed limits bytes others a b (m, means, is) (n, means_, is_) =
     let law = files-same s formed limits m n a b is is_ in (
       λ (x, y, of_x, of_y, same).
           let first : x ≡ m = Means-one s formed limits limits bytes x m of_x means in
@@ -83,8 +80,7 @@ pub file-exists : CanonicalFileExists
 file-exists = accepted-has_file
 
 pub one-file : OneCanonicalFile
-one-file s (tree, declares) limits bytes a b (m, means, is) (n, means_, is_) =
-    let formed : IsWellFormed s = declared-well_formed tree s declares in
+one-file s formed limits bytes a b (m, means, is) (n, means_, is_) =
     let one : m ≡ n = Means-one s formed limits limits bytes m n means means_ in
     (files-same s formed limits m n a b is is_).0 (subst (SameFileMeaning m) one (SameFileMeaning-reflexive m))
 
@@ -92,14 +88,13 @@ pub is-accepted : CanonicalFileIsAccepted
 is-accepted = file-accepted
 
 pub means-the_same : CanonicalFileMeansTheSame
-means-the_same s declared limits are bytes a (m, means, is) = (is.canonical.meaning, m, canonical-means s limits are m a is, means, is.same)
+means-the_same s formed limits are bytes a (m, means, is) = (is.canonical.meaning, m, canonical-means s limits are m a is, means, is.same)
 
 pub is-own : CanonicalFileIsItsOwn
 is-own = file-is_own
 
 pub bytes-own : CanonicalBytesAreTheirOwn
-bytes-own s (tree, declares) limits bytes c (m, means) =
-    let formed : IsWellFormed s = declared-well_formed tree s declares in
+bytes-own s formed limits bytes c (m, means) =
     let is = means.is_canonical in
     let one : c.meaning ≡ m = Reads-one s formed bytes c.meaning m c.reads means.reads in
     let equal : means.canonical ≡ bytes = file-once s formed means.canonical bytes is.canonical c (subst (SameFileMeaning is.canonical.meaning) (sym one) is.same) in
@@ -112,12 +107,11 @@ short-accepted s limits are bytes c short within = (c.meaning, own-means s limit
 
 pub headline : Headline
 headline text s declares limits are =
-    let declared : IsDeclared s = (declares.tree, declares.declares) in
     let formed : IsWellFormed s = declared-well_formed declares.tree s declares.declares in
     record {
       one_meaning = Means-one s formed limits limits;
       has_canonical_file = file-exists s limits;
-      one_canonical_file = one-file s declared limits;
+      one_canonical_file = one-file s formed limits;
       same_exactly_if_equal = λ bytes others m n a b means means_ (x, of_x, is) (y, of_y, is_).
           let first : x ≡ m = Means-one s formed limits limits bytes x m of_x means in
           let second : y ≡ n = Means-one s formed limits limits others y n of_y means_ in

@@ -1,8 +1,6 @@
 -- Bytes are dead where an instance refers to one that is taken and doesn't serve.
 use Rattle.std.specs.Prelude.{◌≡◌, ℕ, List, [], ◌∷◌, Contains}
 use Rattle.std.proofs.Common.{ap, sym, subst, ◌∙◌, inl, inr}
-use Rattle.p21_schemas.proofs.DeclaredSchemas.{declared-well_formed}
-use Rattle.p21_schemas.specs.WellFormed.{IsWellFormed}
 use Rattle.p21_basics.proofs.Members.{Contains-none, Contains-first, Contains-later, Contains-cases, Each-member, AllZip-member}
 use Rattle.p21_exchange.specs.DataSection.{instances_in}
 use Rattle.p21_files.specs.File.{InstanceMeans, kinds_of}
@@ -29,8 +27,7 @@ meant-of (m ∷ ms) n entities among = elim (Contains-cases (m.0, m.1.entities) 
 ]
 
 pub unfit-dead : UnfitIsDead
-unfit-dead s (tree, declares) limits bytes taken front n r a needs need among is at target others b among_ means_ none = dead-by s limits bytes taken front (λ more m means begins.
-    let formed : IsWellFormed s = declared-well_formed tree s declares in
+unfit-dead s formed limits bytes taken front n r a needs need among is at target others b among_ means_ none = dead-by s limits bytes taken front (λ more m means begins.
     let t : Structure = means.reads.structure in
     let kinds : Kinds = kinds_of m.instances in
     let first = AllZip-member (InstanceMeans s kinds) (instances_in t.sections) m.instances (n, r) means.reads.means (instance-among t n r (Contains-begins taken (statements t) (instance n r) begins among)) in

@@ -2,7 +2,7 @@
 use Rattle.std.specs.Prelude.{◌≡◌, ◌↔◌, ◌⊎◌, ℕ, ◌≤◌, List, length}
 use Rattle.std.specs.List.{AllByRecursion as Each}
 use Rattle.p21_basics.specs.Limits.{AreLimits, Limits}
-use Rattle.p21_claim_values.specs.DeclaredSchema.{IsDeclared}
+use Rattle.p21_schemas.specs.WellFormed.{IsWellFormed}
 use Rattle.p21_exchange.specs.Structure.{statements}
 use Rattle.p21_exchange.specs.Text.{IsGraphic}
 use Rattle.p21_files.specs.Accepted.{IsAccepted, IsCanonicalFile, IsLineWithin, Means}
@@ -15,11 +15,11 @@ use Rattle.p21_schemas.specs.Schema.{Schema}
 
 -- bytes that read have canonical bytes of the same meaning
 abbrev pub CanonicalBytesExist : Type 0
-CanonicalBytesExist = (s : Schema) → IsDeclared s → (bytes : List ℕ) (m : FileMeaning) → Reads s bytes m → (a : List ℕ) × (c : Canonical s a) × SameFileMeaning c.meaning m
+CanonicalBytesExist = (s : Schema) → IsWellFormed s → (bytes : List ℕ) (m : FileMeaning) → Reads s bytes m → (a : List ℕ) × (c : Canonical s a) × SameFileMeaning c.meaning m
 
 -- canonical bytes mean the same exactly if they are equal
 abbrev pub CanonicalBytesTell : Type 0
-CanonicalBytesTell = (s : Schema) → IsDeclared s → (a b : List ℕ) (c : Canonical s a) (d : Canonical s b) → SameFileMeaning c.meaning d.meaning ↔ (a ≡ b)
+CanonicalBytesTell = (s : Schema) → IsWellFormed s → (a b : List ℕ) (c : Canonical s a) (d : Canonical s b) → SameFileMeaning c.meaning d.meaning ↔ (a ≡ b)
 
 -- they hold bytes 20 to 7E, and LF at the end of each line
 abbrev pub CanonicalBytesAreGraphic : Type 0
@@ -33,7 +33,7 @@ MeanTheSame s limits bytes others = (m n : FileMeaning) × Means s limits bytes 
 
 -- accepted bytes mean the same exactly if their canonical files are equal
 abbrev pub CanonicalFilesTell : Type 0
-CanonicalFilesTell = (s : Schema) → IsDeclared s → (limits : Limits) (bytes others a b : List ℕ) → IsCanonicalFile s limits bytes a → IsCanonicalFile s limits others b → MeanTheSame s limits bytes others ↔ (a ≡ b)
+CanonicalFilesTell = (s : Schema) → IsWellFormed s → (limits : Limits) (bytes others a b : List ℕ) → IsCanonicalFile s limits bytes a → IsCanonicalFile s limits others b → MeanTheSame s limits bytes others ↔ (a ≡ b)
 
 -- accepted bytes have a canonical file
 abbrev pub CanonicalFileExists : Type 0
@@ -41,7 +41,7 @@ CanonicalFileExists = (s : Schema) (limits : Limits) (bytes : List ℕ) → IsAc
 
 -- and one only
 abbrev pub OneCanonicalFile : Type 0
-OneCanonicalFile = (s : Schema) → IsDeclared s → (limits : Limits) (bytes a b : List ℕ) → IsCanonicalFile s limits bytes a → IsCanonicalFile s limits bytes b → a ≡ b
+OneCanonicalFile = (s : Schema) → IsWellFormed s → (limits : Limits) (bytes a b : List ℕ) → IsCanonicalFile s limits bytes a → IsCanonicalFile s limits bytes b → a ≡ b
 
 -- it is accepted
 abbrev pub CanonicalFileIsAccepted : Type 0
@@ -49,7 +49,7 @@ CanonicalFileIsAccepted = (s : Schema) (limits : Limits) → AreLimits limits �
 
 -- it means what its source means
 abbrev pub CanonicalFileMeansTheSame : Type 0
-CanonicalFileMeansTheSame = (s : Schema) → IsDeclared s → (limits : Limits) → AreLimits limits → (bytes a : List ℕ) → IsCanonicalFile s limits bytes a → MeanTheSame s limits a bytes
+CanonicalFileMeansTheSame = (s : Schema) → IsWellFormed s → (limits : Limits) → AreLimits limits → (bytes a : List ℕ) → IsCanonicalFile s limits bytes a → MeanTheSame s limits a bytes
 
 -- and it is its own canonical file
 abbrev pub CanonicalFileIsItsOwn : Type 0
@@ -57,7 +57,7 @@ CanonicalFileIsItsOwn = (s : Schema) (limits : Limits) → AreLimits limits → 
 
 -- accepted bytes that are canonical are their own canonical file
 abbrev pub CanonicalBytesAreTheirOwn : Type 0
-CanonicalBytesAreTheirOwn = (s : Schema) → IsDeclared s → (limits : Limits) (bytes : List ℕ) → Canonical s bytes → IsAccepted s limits bytes → IsCanonicalFile s limits bytes bytes
+CanonicalBytesAreTheirOwn = (s : Schema) → IsWellFormed s → (limits : Limits) (bytes : List ℕ) → Canonical s bytes → IsAccepted s limits bytes → IsCanonicalFile s limits bytes bytes
 
 -- canonical bytes within the limits are accepted
 abbrev pub ShortCanonicalIsAccepted : Type 0

@@ -4,7 +4,7 @@ use Rattle.std.specs.List.{IsDistinct}
 use Rattle.std.specs.Str.{bytes_eq}
 use Rattle.p21_basics.specs.Limits.{Limits}
 use Rattle.p21_claim.specs.Taken.{AreTaken, names_among, section_names_among}
-use Rattle.p21_claim_values.specs.DeclaredSchema.{IsDeclared}
+use Rattle.p21_schemas.specs.WellFormed.{IsWellFormed}
 use Rattle.p21_claim_values.specs.Needs.{MeansWith}
 use Rattle.p21_exchange.specs.DataSection.{Heading, named}
 use Rattle.p21_exchange.specs.Header.{IsFileSchema}
@@ -58,10 +58,10 @@ NoMeaningIsDead = (s : Schema) (limits : Limits) (bytes : List ℕ) (taken : Lis
 
 -- an instance whose record breaks the rule of a number
 abbrev pub BrokenRuleIsDead : Type 0
-BrokenRuleIsDead = (s : Schema) → IsDeclared s → (limits : Limits) (bytes : List ℕ) (taken : List Statement) → AreTaken bytes taken → (n : ℕ) (record_ : Record) (number : ℕ) → Contains taken (instance n record_) → Breaks s record_ number → IsDead s limits bytes
+BrokenRuleIsDead = (s : Schema) → IsWellFormed s → (limits : Limits) (bytes : List ℕ) (taken : List Statement) → AreTaken bytes taken → (n : ℕ) (record_ : Record) (number : ℕ) → Contains taken (instance n record_) → Breaks s record_ number → IsDead s limits bytes
 
 -- a reference to an instance that has come and doesn't serve
 abbrev pub UnfitIsDead : Type 0
-UnfitIsDead = (s : Schema) → IsDeclared s → (limits : Limits) (bytes : List ℕ) (taken : List Statement) → AreTaken bytes taken
+UnfitIsDead = (s : Schema) → IsWellFormed s → (limits : Limits) (bytes : List ℕ) (taken : List Statement) → AreTaken bytes taken
     → (n : ℕ) (record_ : Record) (meaning : Typed) (needs : List Need) (need : Need) → Contains taken (instance n record_) → MeansWith s record_ meaning needs → Contains needs need
     → (target : Record) (kinds : Kinds) (target_meaning : Typed) → Contains taken (instance need.target target) → RecordMeans s kinds target target_meaning → ¬ Serves s need.wanted target_meaning.entities → IsDead s limits bytes

@@ -2,7 +2,7 @@
 use Rattle.std.specs.Prelude.{◌≡◌, ◌≢◌, ℕ, List, map, Contains}
 use Rattle.std.specs.List.{AllByRecursion as Each}
 use Rattle.p21_files.specs.Accepted.{IsAccepted, IsCanonicalFile, IsDead}
-use Rattle.p21_claim_values.specs.DeclaredSchema.{IsDeclared}
+use Rattle.p21_schemas.specs.WellFormed.{IsWellFormed}
 use Rattle.p21_exchange.specs.Grammar.{IsFile}
 use Rattle.p21_exchange.specs.Laying.{Laid}
 use Rattle.p21_basics.specs.Limits.{Limits}
@@ -25,17 +25,17 @@ NoTreeIsRefused = (s : Schema) (limits : Limits) (bytes : List ℕ) (tokens : Li
 
 -- a need that no instance of the file serves
 abbrev pub UnservedIsRefused : Type 0
-UnservedIsRefused = (s : Schema) → IsDeclared s → (limits : Limits) (bytes : List ℕ) (parts : List Part) (groups : List Group) → Laid bytes (tokens_of (structure_of parts groups)) → Each (IsMeant s) (entries_in groups)
+UnservedIsRefused = (s : Schema) → IsWellFormed s → (limits : Limits) (bytes : List ℕ) (parts : List Part) (groups : List Group) → Laid bytes (tokens_of (structure_of parts groups)) → Each (IsMeant s) (entries_in groups)
     → (entry : Entry) (need : Need) → Contains (entries_in groups) entry → Contains entry.needs need → ¬ IsServed s (kinds_in (entries_in groups)) need → ¬ IsAccepted s limits bytes
 
 -- a reference to a name that no instance has
 abbrev pub UnknownIsRefused : Type 0
-UnknownIsRefused = (s : Schema) → IsDeclared s → (limits : Limits) (bytes : List ℕ) (parts : List Part) (groups : List Group) → Laid bytes (tokens_of (structure_of parts groups)) → Each (IsMeant s) (entries_in groups)
+UnknownIsRefused = (s : Schema) → IsWellFormed s → (limits : Limits) (bytes : List ℕ) (parts : List Part) (groups : List Group) → Laid bytes (tokens_of (structure_of parts groups)) → Each (IsMeant s) (entries_in groups)
     → (entry : Entry) (need : Need) → Contains (entries_in groups) entry → Contains entry.needs need → ¬ Contains (map (λ e. e.name) (entries_in groups)) need.target → ¬ IsAccepted s limits bytes
 
 -- a reference to an instance whose set doesn't serve
 abbrev pub UnfitIsRefused : Type 0
-UnfitIsRefused = (s : Schema) → IsDeclared s → (limits : Limits) (bytes : List ℕ) (parts : List Part) (groups : List Group) → Laid bytes (tokens_of (structure_of parts groups)) → Each (IsMeant s) (entries_in groups)
+UnfitIsRefused = (s : Schema) → IsWellFormed s → (limits : Limits) (bytes : List ℕ) (parts : List Part) (groups : List Group) → Laid bytes (tokens_of (structure_of parts groups)) → Each (IsMeant s) (entries_in groups)
     → (entry target : Entry) (need : Need) → Contains (entries_in groups) entry → Contains entry.needs need → Contains (entries_in groups) target → target.name ≡ need.target → ¬ Serves s need.wanted target.meaning.entities → ¬ IsAccepted s limits bytes
 
 -- what is dead is refused at its end too
@@ -46,10 +46,10 @@ DeadIsRefused = (s : Schema) (limits : Limits) (bytes : List ℕ) → IsDead s l
 
 -- a file of which nothing of this is wrong is accepted, and its sections and their lines by rising names are its canonical file
 abbrev pub EndedIsAccepted : Type 0
-EndedIsAccepted = (s : Schema) → IsDeclared s → (limits : Limits) (bytes : List ℕ) (parts : List Part) (groups : List Group) (blocks : List Block) → IsEnded s limits bytes parts groups blocks
+EndedIsAccepted = (s : Schema) → IsWellFormed s → (limits : Limits) (bytes : List ℕ) (parts : List Part) (groups : List Group) (blocks : List Block) → IsEnded s limits bytes parts groups blocks
     → IsCanonicalFile s limits bytes (file_text parts blocks)
 
 -- and each accepted file is such
 abbrev pub AcceptedIsEnded : Type 0
-AcceptedIsEnded = (s : Schema) → IsDeclared s → (limits : Limits) (bytes : List ℕ) → IsAccepted s limits bytes
+AcceptedIsEnded = (s : Schema) → IsWellFormed s → (limits : Limits) (bytes : List ℕ) → IsAccepted s limits bytes
     → (parts : List Part) × (groups : List Group) × (blocks : List Block) × IsEnded s limits bytes parts groups blocks

@@ -1,7 +1,7 @@
 -- The laws by which bytes are read in one way.
 use Rattle.std.specs.Prelude.{◌≡◌, ℕ, List}
 use Rattle.p21_basics.specs.Limits.{Limits}
-use Rattle.p21_claim_values.specs.DeclaredSchema.{IsDeclared}
+use Rattle.p21_schemas.specs.WellFormed.{IsWellFormed}
 use Rattle.p21_exchange.specs.Grammar.{InGrammar}
 use Rattle.p21_exchange.specs.Laying.{AreStatementsWithin, LaidAs, Lexeme}
 use Rattle.p21_exchange.specs.Structure.{Structure}
@@ -19,11 +19,11 @@ OneTreeOfBytes = (bytes : List ℕ) (structure other : Structure) (text other_te
 
 -- bytes read as one meaning
 abbrev pub OneMeaningOfBytes : Type 0
-OneMeaningOfBytes = (s : Schema) → IsDeclared s → (bytes : List ℕ) (m n : FileMeaning) → Reads s bytes m → Reads s bytes n → m ≡ n
+OneMeaningOfBytes = (s : Schema) → IsWellFormed s → (bytes : List ℕ) (m n : FileMeaning) → Reads s bytes m → Reads s bytes n → m ≡ n
 
 -- within whatever limits, too
 abbrev pub OneMeaningWithin : Type 0
-OneMeaningWithin = (s : Schema) → IsDeclared s → (limits others : Limits) (bytes : List ℕ) (m n : FileMeaning) → Means s limits bytes m → Means s others bytes n → m ≡ n
+OneMeaningWithin = (s : Schema) → IsWellFormed s → (limits others : Limits) (bytes : List ℕ) (m n : FileMeaning) → Means s limits bytes m → Means s others bytes n → m ≡ n
 
 -- the limit on statements holds for each reading of bytes that mean something within it
 abbrev pub LimitHoldsForEachReading : Type 0

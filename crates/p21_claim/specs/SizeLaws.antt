@@ -1,12 +1,13 @@
 -- The laws by which bytes are dead that are too long, or whose canonical lines are.
-use Rattle.std.specs.Prelude.{◌<◌, ◌+◌, ℕ, List, [], ◌∷◌, ◌++◌, length, Contains}
+use Rattle.std.specs.Prelude.{◌<◌, ◌+◌, ℕ, List, [], ◌∷◌, ◌++◌, length, Contains, ◌≤◌}
 use Rattle.std.specs.List.{AllByRecursion as Each}
 use Rattle.p21_basics.specs.Digits.{IsByte}
 use Rattle.p21_basics.specs.Limits.{Limits}
 use Rattle.p21_claim.specs.Taken.{AreTaken, BeginsWith}
-use Rattle.p21_claim_values.specs.DeclaredSchema.{IsDeclared}
+use Rattle.p21_schemas.specs.WellFormed.{IsWellFormed}
 use Rattle.p21_exchange.specs.CanonicalText.{line, statement_text}
-use Rattle.p21_exchange.specs.Laying.{AreStatementsWithin, LaidAs, Lexeme}
+use Rattle.p21_exchange.specs.Laying.{AreStatementsWithin, LaidAs, Lexeme, open_bytes}
+use Rattle.p21_exchange.specs.Pending.{IsTokenByte, LaidUpTo, Tail, tail_size}
 use Rattle.p21_exchange.specs.Record.{Part, Record}
 use Rattle.p21_exchange.specs.Statement.{SectionLine, Statement, section, header, instance}
 use Rattle.p21_files.specs.Accepted.{IsDead}
@@ -28,6 +29,11 @@ abbrev pub LongLexemesAreDead : Type 0
 LongLexemesAreDead = (s : Schema) (limits : Limits) (bytes : List ℕ) (given : List Lexeme) → ((more : List ℕ) → Each IsByte more → (lexemes : List Lexeme) → LaidAs (bytes ++ more) lexemes → BeginsWith given lexemes)
     → ¬ AreStatementsWithin limits.record_source 0 given → IsDead s limits bytes
 
+-- a byte that is one more than the tokens of a statement may have, behind bytes in which lexemes are laid up to a tail
+abbrev pub FullStatementIsDead : Type 0
+FullStatementIsDead = (s : Schema) (limits : Limits) (bytes : List ℕ) (lexemes : List Lexeme) (tail : Tail) (byte : ℕ) → LaidUpTo bytes lexemes tail → IsTokenByte tail byte → limits.record_source ≤ open_bytes 0 lexemes + tail_size tail
+    → IsDead s limits (bytes ++ (byte ∷ []))
+
 -- ---- canonical lines
 
 -- a section line over its limit: that of a data section with a name, or under a limit that no file keeps
@@ -40,7 +46,7 @@ LongHeaderIsDead = (s : Schema) (limits : Limits) (bytes : List ℕ) (taken : Li
 
 -- an instance whose canonical line is over its limit
 abbrev pub LongInstanceIsDead : Type 0
-LongInstanceIsDead = (s : Schema) → IsDeclared s → (limits : Limits) (bytes : List ℕ) (taken : List Statement) → AreTaken bytes taken
+LongInstanceIsDead = (s : Schema) → IsWellFormed s → (limits : Limits) (bytes : List ℕ) (taken : List Statement) → AreTaken bytes taken
     → (n : ℕ) (record_ : Record) (text : List ℕ) → Contains taken (instance n record_) → IsInstanceText s n record_ text → limits.record_canonical < length text → IsDead s limits bytes
 
 -- the last line of each canonical file has 17 bytes: under a lower limit on lines nothing is accepted
@@ -57,5 +63,5 @@ framing (other ∷ rest) = 1 + framing rest
 
 -- the canonical lines of the statements that have ended are more than a canonical file may have
 abbrev pub LongFileIsDead : Type 0
-LongFileIsDead = (s : Schema) → IsDeclared s → (limits : Limits) (bytes : List ℕ) (taken : List Statement) → AreTaken bytes taken
+LongFileIsDead = (s : Schema) → IsWellFormed s → (limits : Limits) (bytes : List ℕ) (taken : List Statement) → AreTaken bytes taken
     → (kept : ℕ) → AreKept s taken kept → limits.file_canonical < kept + framing taken → IsDead s limits bytes

@@ -6,7 +6,7 @@ ghost use Rattle.p21_claim.specs.DeadLaws.{BrokenRuleIsDead, EqualNamesAreDead, 
 ghost use Rattle.p21_claim.specs.EndLaws.{AcceptedIsEnded, DeadIsRefused, EndedIsAccepted, NoLayingIsRefused, NoTreeIsRefused, UnfitIsRefused, UnknownIsRefused, UnservedIsRefused};
 ghost use Rattle.p21_claim.specs.Headline.{Headline};
 ghost use Rattle.p21_claim.specs.ReadingLaws.{LimitHoldsForEachReading, OneListOfLexemes, OneMeaningOfBytes, OneMeaningWithin, OneTreeOfBytes};
-ghost use Rattle.p21_claim.specs.SizeLaws.{LongFileIsDead, LongHeaderIsDead, LongInstanceIsDead, LongLexemesAreDead, LongSectionLineIsDead, LongSourceIsDead, LongStatementIsDead, NarrowIsDead};
+ghost use Rattle.p21_claim.specs.SizeLaws.{FullStatementIsDead, LongFileIsDead, LongHeaderIsDead, LongInstanceIsDead, LongLexemesAreDead, LongSectionLineIsDead, LongSourceIsDead, LongStatementIsDead, NarrowIsDead};
 ghost use Rattle.p21_claim.specs.TakenLaws.{DeadFurther, FrontIsTaken, NoFrontIsDead, NoLayingIsDead, StatementsAreEnded, TakenFurther};
 
 /// The claim: two accepted files mean the same exactly if their canonical files are equal, and a canonical file is
@@ -68,6 +68,7 @@ pub fn size_laws()
     ensures long_source { LongSourceIsDead }
     ensures long_statement { LongStatementIsDead }
     ensures long_lexemes { LongLexemesAreDead }
+    ensures full_statement { FullStatementIsDead }
     ensures long_section_line { LongSectionLineIsDead }
     ensures long_header { LongHeaderIsDead }
     ensures long_instance { LongInstanceIsDead }

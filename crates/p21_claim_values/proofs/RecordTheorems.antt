@@ -7,21 +7,18 @@ use Rattle.p21_claim_values.specs.RecordLaws.{InstanceHasText, OneMeaningOfRecor
 use Rattle.p21_files.proofs.OneMeaning.{RecordMeans-one}
 use Rattle.p21_files.specs.Meaning.{Typed}
 use Rattle.p21_files.specs.SameFile.{SameTyped}
-use Rattle.p21_schemas.proofs.DeclaredSchemas.{declared-well_formed}
-use Rattle.p21_schemas.specs.WellFormed.{IsWellFormed}
 
 pub one-meaning : OneMeaningOfRecord
-one-meaning s (tree, declares) = RecordMeans-one s (declared-well_formed tree s declares)
+one-meaning s formed = RecordMeans-one s formed
 
 pub instance-has_text : InstanceHasText
-instance-has_text s (tree, declares) = has-text s (declared-well_formed tree s declares)
+instance-has_text s formed = has-text s formed
 
 pub one-text : OneTextOfInstance
-one-text s (tree, declares) = one-text_of s (declared-well_formed tree s declares)
+one-text s formed = one-text_of s formed
 
 pub texts-tell : TextsTellInstances
-texts-tell s (tree, declares) kinds others n m record_ other a b text other_text means means_ is is_ =
-    let formed : IsWellFormed s = declared-well_formed tree s declares in
+texts-tell s formed kinds others n m record_ other a b text other_text means means_ is is_ =
     let first : is.meaning ≡ a = RecordMeans-one s formed is.kinds kinds record_ is.meaning a is.means means in
     let second : is_.meaning ≡ b = RecordMeans-one s formed is_.kinds others other is_.meaning b is_.means means_ in (
       λ (name, same).
@@ -33,11 +30,10 @@ texts-tell s (tree, declares) kinds others n m record_ other a b text other_text
     )
 
 pub one-number_kept : OneNumberKept
-one-number_kept s (tree, declares) = kept-one s (declared-well_formed tree s declares)
+one-number_kept s formed = kept-one s formed
 
 pub needs-decide : NeedsDecide
-needs-decide s (tree, declares) record_ meaning needs is kinds =
-    let formed : IsWellFormed s = declared-well_formed tree s declares in
+needs-decide s formed record_ meaning needs is kinds =
     (λ means. means-served s formed record_ meaning needs is kinds means, λ served. served-means s formed record_ meaning needs is kinds served)
 
 pub has-needs_apart : RecordHasNeeds

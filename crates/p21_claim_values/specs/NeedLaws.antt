@@ -1,7 +1,7 @@
 -- The laws of what a record needs of the instances that it refers to.
 use Rattle.std.specs.Prelude.{◌≡◌, ◌↔◌, List, map}
 use Rattle.std.specs.List.{AllByRecursion as Each}
-use Rattle.p21_claim_values.specs.DeclaredSchema.{IsDeclared}
+use Rattle.p21_schemas.specs.WellFormed.{IsWellFormed}
 use Rattle.p21_claim_values.specs.Needs.{FitPlacesWith, MeansWith, RecordNeeds}
 use Rattle.p21_exchange.specs.Parameter.{Params}
 use Rattle.p21_exchange.specs.Record.{Record}
@@ -11,7 +11,7 @@ use Rattle.p21_schemas.specs.Schema.{Place, Schema}
 
 -- a record that means something among some instances means it exactly among those that serve its needs
 abbrev pub NeedsDecide : Type 0
-NeedsDecide = (s : Schema) → IsDeclared s → (record_ : Record) (meaning : Typed) (needs : List Need) → MeansWith s record_ meaning needs → (kinds : Kinds) → RecordMeans s kinds record_ meaning ↔ Each (IsServed s kinds) needs
+NeedsDecide = (s : Schema) → IsWellFormed s → (record_ : Record) (meaning : Typed) (needs : List Need) → MeansWith s record_ meaning needs → (kinds : Kinds) → RecordMeans s kinds record_ meaning ↔ Each (IsServed s kinds) needs
 
 -- each record that means something has needs
 abbrev pub RecordHasNeeds : Type 0

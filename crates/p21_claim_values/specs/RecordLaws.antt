@@ -1,6 +1,6 @@
 -- The laws of instances: what their records mean, and their canonical texts.
 use Rattle.std.specs.Prelude.{◌≡◌, ◌↔◌, ℕ, List}
-use Rattle.p21_claim_values.specs.DeclaredSchema.{IsDeclared}
+use Rattle.p21_schemas.specs.WellFormed.{IsWellFormed}
 use Rattle.p21_claim_values.specs.Written.{IsWrittenStatement}
 use Rattle.p21_exchange.specs.Grammar.{IsDataRecord}
 use Rattle.p21_exchange.specs.Record.{Record}
@@ -13,22 +13,22 @@ use Rattle.p21_schemas.specs.Schema.{Schema}
 
 -- a record has one meaning, whatever the other instances are
 abbrev pub OneMeaningOfRecord : Type 0
-OneMeaningOfRecord = (s : Schema) → IsDeclared s → (kinds others : Kinds) (record_ : Record) (a b : Typed) → RecordMeans s kinds record_ a → RecordMeans s others record_ b → a ≡ b
+OneMeaningOfRecord = (s : Schema) → IsWellFormed s → (kinds others : Kinds) (record_ : Record) (a b : Typed) → RecordMeans s kinds record_ a → RecordMeans s others record_ b → a ≡ b
 
 -- an instance that a file may have, whose record means something, has a canonical text
 abbrev pub InstanceHasText : Type 0
-InstanceHasText = (s : Schema) → IsDeclared s → (kinds : Kinds) (n : ℕ) (record_ : Record) (meaning : Typed) → RecordMeans s kinds record_ meaning → IsDataRecord record_ → IsWrittenStatement (instance n record_)
+InstanceHasText = (s : Schema) → IsWellFormed s → (kinds : Kinds) (n : ℕ) (record_ : Record) (meaning : Typed) → RecordMeans s kinds record_ meaning → IsDataRecord record_ → IsWrittenStatement (instance n record_)
     → (text : List ℕ) × IsInstanceText s n record_ text
 
 -- and one only, whatever the other instances are
 abbrev pub OneTextOfInstance : Type 0
-OneTextOfInstance = (s : Schema) → IsDeclared s → (n : ℕ) (record_ : Record) (text other : List ℕ) → IsInstanceText s n record_ text → IsInstanceText s n record_ other → text ≡ other
+OneTextOfInstance = (s : Schema) → IsWellFormed s → (n : ℕ) (record_ : Record) (text other : List ℕ) → IsInstanceText s n record_ text → IsInstanceText s n record_ other → text ≡ other
 
 -- two instances, of one file or of two, have one name and mean the same exactly if their canonical texts are equal
 abbrev pub TextsTellInstances : Type 0
-TextsTellInstances = (s : Schema) → IsDeclared s → (kinds others : Kinds) (n m : ℕ) (record_ other : Record) (a b : Typed) (text other_text : List ℕ) → RecordMeans s kinds record_ a → RecordMeans s others other b
+TextsTellInstances = (s : Schema) → IsWellFormed s → (kinds others : Kinds) (n m : ℕ) (record_ other : Record) (a b : Typed) (text other_text : List ℕ) → RecordMeans s kinds record_ a → RecordMeans s others other b
     → IsInstanceText s n record_ text → IsInstanceText s m other other_text → ((n ≡ m) × SameTyped a b) ↔ (text ≡ other_text)
 
 -- the bytes that are kept of statements are one number
 abbrev pub OneNumberKept : Type 0
-OneNumberKept = (s : Schema) → IsDeclared s → (statements : List Statement) (kept other : ℕ) → AreKept s statements kept → AreKept s statements other → kept ≡ other
+OneNumberKept = (s : Schema) → IsWellFormed s → (statements : List Statement) (kept other : ℕ) → AreKept s statements kept → AreKept s statements other → kept ≡ other

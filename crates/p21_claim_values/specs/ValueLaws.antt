@@ -1,6 +1,6 @@
 -- The laws of values and of their canonical texts.
 use Rattle.std.specs.Prelude.{◌≡◌, ◌↔◌}
-use Rattle.p21_claim_values.specs.DeclaredSchema.{IsDeclared}
+use Rattle.p21_schemas.specs.WellFormed.{IsWellFormed}
 use Rattle.p21_claim_values.specs.Written.{IsWritten}
 use Rattle.p21_exchange.specs.CanonicalText.{param_text}
 use Rattle.p21_exchange.specs.Parameter.{Param}
@@ -15,11 +15,11 @@ use Rattle.p21_schemas.specs.Schema.{Schema, TypeUse}
 
 -- a parameter stands for one value at a type, whatever the other instances are
 abbrev pub OneValue : Type 0
-OneValue = (s : Schema) → IsDeclared s → (kinds others : Kinds) (type : TypeUse) (p : Param) (v w : Value) → Fits s kinds type p v → Fits s others type p w → v ≡ w
+OneValue = (s : Schema) → IsWellFormed s → (kinds others : Kinds) (type : TypeUse) (p : Param) (v w : Value) → Fits s kinds type p v → Fits s others type p w → v ≡ w
 
 -- and at a place
 abbrev pub OneValueAtPlace : Type 0
-OneValueAtPlace = (s : Schema) → IsDeclared s → (kinds others : Kinds) (at : PlaceType) (p : Param) (v w : Value) → FitsAt s kinds at p v → FitsAt s others at p w → v ≡ w
+OneValueAtPlace = (s : Schema) → IsWellFormed s → (kinds others : Kinds) (at : PlaceType) (p : Param) (v w : Value) → FitsAt s kinds at p v → FitsAt s others at p w → v ≡ w
 
 -- the value stands at the place in some file
 abbrev pub StandsAt : Schema → Kinds → PlaceType → Value → Type 0
@@ -27,7 +27,7 @@ StandsAt s kinds at v = (p : Param) × FitsAt s kinds at p v × IsWritten p
 
 -- two values at one place are the same exactly if their texts are equal, whatever the files that they stand in
 abbrev pub TextsTellValues : Type 0
-TextsTellValues = (s : Schema) → IsDeclared s → (kinds others : Kinds) (at : PlaceType) (v w : Value) → StandsAt s kinds at v → StandsAt s others at w → Same v w ↔ (value_text s v ≡ value_text s w)
+TextsTellValues = (s : Schema) → IsWellFormed s → (kinds others : Kinds) (at : PlaceType) (v w : Value) → StandsAt s kinds at v → StandsAt s others at w → Same v w ↔ (value_text s v ≡ value_text s w)
 
 -- a canonical parameter has the text of its value
 abbrev pub CanonicalHasValueText : Type 0
@@ -43,5 +43,5 @@ pub record IsCanonicalFor (s : Schema) (kinds : Kinds) (at : PlaceType) (v : Val
 
 -- each value has one canonical parameter, and one only
 abbrev pub OneCanonicalParameter : Type 0
-OneCanonicalParameter = (s : Schema) → IsDeclared s → (kinds : Kinds) (at : PlaceType) (v : Value) → StandsAt s kinds at v
+OneCanonicalParameter = (s : Schema) → IsWellFormed s → (kinds : Kinds) (at : PlaceType) (v : Value) → StandsAt s kinds at v
     → (p : Param) × IsCanonicalFor s kinds at v p × ((q : Param) → IsCanonicalFor s kinds at v q → q ≡ p)

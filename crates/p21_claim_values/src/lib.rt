@@ -6,7 +6,13 @@ ghost use Rattle.p21_claim_values.specs.HeaderLaws.{LinesTellHeaderRecords, Text
 ghost use Rattle.p21_claim_values.specs.LineLaws.{LinesAreGraphic};
 ghost use Rattle.p21_claim_values.specs.NeedLaws.{NeedsAreReferences, NeedsCanBeServed, NeedsDecide, RecordHasNeeds, ServedFit};
 ghost use Rattle.p21_claim_values.specs.RecordLaws.{InstanceHasText, OneMeaningOfRecord, OneNumberKept, OneTextOfInstance, TextsTellInstances};
+ghost use Rattle.p21_claim_values.specs.SchemaLaws.{DeclaredIsWellFormed};
 ghost use Rattle.p21_claim_values.specs.ValueLaws.{CanonicalHasValueText, OneCanonicalParameter, OneValue, OneValueAtPlace, TextsTellValues};
+
+/// Each schema that is declared is well formed, which the laws below and those of files ask for.
+pub fn schema_laws()
+    ensures well_formed { DeclaredIsWellFormed }
+{}
 
 /// A parameter stands for one value. A value has one canonical text, and values are the same exactly if their texts are
 /// equal, at any nesting.

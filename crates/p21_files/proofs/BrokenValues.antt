@@ -1,7 +1,6 @@
 -- A parameter that breaks a rule where it stands, or holds one that does, fits no type there, whatever the sets of the instances.
-use Rattle.std.specs.Prelude.{◌≡◌, ℕ, List, ◌++◌, length, Some, Contains, refl}
+use Rattle.std.specs.Prelude.{◌≡◌, ℕ, List, length, Some, Contains, refl}
 use Rattle.std.proofs.Common.{arith, sym, subst, ◌∙◌}
-use Rattle.std.proofs.lemmas.List.Elements.{Contains-append_left, Contains-append_right}
 use Rattle.p21_exchange.specs.Number.{ratio_of, whole_ratio}
 use Rattle.p21_exchange.specs.Parameter as parameter
 use Rattle.p21_exchange.specs.Parameter.{Param, Params, listed}
@@ -17,7 +16,6 @@ use Rattle.p21_schemas.specs.Schema.{Schema, TypeUse, alias, items}
 use Rattle.p21_schemas.specs.WellFormed.{HasDistinctTypes}
 use Rattle.p21_exchange.proofs.Exponents.{in_range_of_same}
 use Rattle.p21_exchange.proofs.Ratios.{ratio-positive}
-use Rattle.p21_files.proofs.FitsWider.{each-wider}
 use Rattle.p21_files.proofs.OneValue.{FitEach-one_value, dollar-fits_nothing}
 use Rattle.p21_files.proofs.Taken.{Fits-takes, each-fits, elements-fit, underlying-fits, chosen-fits}
 
@@ -55,9 +53,7 @@ broken-fits_nothing s distinct kinds number type p v (wrong_width _ _ other) fit
 broken-fits_nothing s distinct kinds number type p v (out_of_bounds _ ps other) fit = other (count-fits s kinds type ps v fit)
 broken-fits_nothing s distinct kinds number type p v (not_distinct _ ps (unique, (optional, element, element_is, (others, vs, each, same)))) fit =
     let elements = elements-fit s kinds type optional element ps v element_is fit in
-    let one : elements.values ≡ vs = FitEach-one_value s (kinds ++ others) distinct optional element ps elements.values vs
-    (each-wider s kinds (kinds ++ others) (λ x among. Contains-append_left kinds others x among) optional element ps elements.values elements.each)
-    (each-wider s others (kinds ++ others) (λ x among. Contains-append_right kinds others x among) optional element ps vs each) in
+    let one : elements.values ≡ vs = FitEach-one_value s kinds others distinct optional element ps elements.values vs elements.each each in
     same (subst AreDistinct one (elements.distinct unique))
 broken-fits_nothing s distinct kinds number type p v (unknown_item _ words word has other) fit = other (item-fits s kinds type words word v has fit)
 

@@ -13,13 +13,13 @@ use Rattle.p21_tokens_automaton.proofs.Once.{means-once, spells-means}
 use Rattle.p21_tokens_automaton.proofs.Steps.{lex-nil, lex-end}
 use Rattle.p21_tokens_automaton.proofs.Theorems.{readings}
 
-begins-no_separator : (bytes : List ℕ) → BeginsNoSeparator bytes → HasNoSeparator bytes
+pub begins-no_separator : (bytes : List ℕ) → BeginsNoSeparator bytes → HasNoSeparator bytes
 begins-no_separator [] begins separator rest is same = begins
 begins-no_separator (byte ∷ bytes) begins (blank b) rest (inl low) same = let h : byte ≡ b = head_is byte b _ _ same in omega (arith, h, low, begins.0)
 begins-no_separator (byte ∷ bytes) begins (blank b) rest (inr delete) same = begins.1 (head_is byte b _ _ same ∙ delete)
 begins-no_separator (byte ∷ bytes) begins (comment inside) rest is same = begins.2 (head_is byte 47 _ _ same)
 
-begins-on : (bytes more : List ℕ) → BeginsNoSeparator bytes → BeginsNoSeparator (bytes ++ more)
+pub begins-on : (bytes more : List ℕ) → BeginsNoSeparator bytes → BeginsNoSeparator (bytes ++ more)
 begins-on [] more begins = absurd begins
 begins-on (byte ∷ bytes) more begins = begins
 
@@ -61,7 +61,7 @@ reads t p (b ∷ rest) s followed = elim (readings t p s) [
   | inr g ↦ given (lex start (b ∷ rest)) (g.run (b ∷ rest))
 ]
 
-front-one : (t u : Token) (p q r w : List ℕ) → Spells t p → Spells u q → IsFollowed t p r → IsFollowed u q w → p ++ r ≡ q ++ w → SameFront t u p q
+pub front-one : (t u : Token) (p q r w : List ℕ) → Spells t p → Spells u q → IsFollowed t p r → IsFollowed u q w → p ++ r ≡ q ++ w → SameFront t u p q
 front-one t u p q r w s z followed followed_ same = by (reads t p r s followed) (reads u q w z followed_)
   where
     one : lex start (p ++ r) ≡ lex start (q ++ w)
@@ -81,14 +81,14 @@ front-one t u p q r w s z followed followed_ same = by (reads t p r s followed) 
         let found : found_of t p ≡ found_of u q = (let h : Some (found_of t p) ≡ Some (found_of u q) = sym ended_is ∙ ap (λ (x : State). ended x) state ∙ ended_is_ in cc) in
         record { token = found-one t u p q s z found; size = sym size_is ∙ ap (λ (x : State). x.size) state ∙ size_is_ }
 
-append-rest : (p q r w : List ℕ) → length p ≡ length q → p ++ r ≡ q ++ w → r ≡ w
+pub append-rest : (p q r w : List ℕ) → length p ≡ length q → p ++ r ≡ q ++ w → r ≡ w
 append-rest [] [] r w size same = same
 append-rest [] (y ∷ q) r w size same = absurd (omega (arith, size))
 append-rest (x ∷ p) [] r w size same = absurd (omega (arith, size))
 append-rest (x ∷ p) (y ∷ q) r w size same = append-rest p q r w (omega (arith, size)) (tail_is x y _ _ same)
 
 -- a token that is not whole by its last byte counts
-count-more : (token : Token) (size count : ℕ) → (IsWholeAtOnce token → ⊥) → count_behind count (record { token = token; size = size }) ≡ count + size
+pub count-more : (token : Token) (size count : ℕ) → (IsWholeAtOnce token → ⊥) → count_behind count (record { token = token; size = size }) ≡ count + size
 count-more begin size count open_ = refl
 count-more finish size count open_ = refl
 count-more (keyword word) size count open_ = refl
