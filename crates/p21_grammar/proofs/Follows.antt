@@ -1,30 +1,28 @@
 -- What a step leaves: the tokens that are held, how they stand, and the place in the file.
-use Rattle.std.proofs.Common.{◌≡◌, ℕ, ◌+◌, ◌<◌, ◌≤◌, suc, max, Bool, true, false, List, [], ◌∷◌, ◌++◌, length, Option, Some, None, Result, Ok, Err, refl, ap, sym, ◌∙◌, arith, append_assoc, subst}
+use Rattle.std.proofs.Common.{◌≡◌, ℕ, ◌+◌, ◌<◌, ◌≤◌, suc, max, Bool, true, false, List, [], ◌∷◌, ◌++◌, length, Result, Ok, Err, refl, ap, sym, ◌∙◌, arith, append_assoc}
 use Rattle.std.proofs.lemmas.Bool.{ltb-true}
 use Rattle.std.proofs.lemmas.List.{append-nil}
 use Rattle.std.proofs.lemmas.Slice.Eq.{bytes_eq-Decides}
 use Rattle.std.specs.Prelude.{if◌then◌else◌, nat_lt, codes}
 use Rattle.std.specs.List.{flat_map, AllByRecursion as Each}
 use Rattle.std.specs.Str.{bytes_eq}
-use Rattle.p21_exchange.specs.DataSection.{unnamed, named}
-use Rattle.p21_exchange.specs.Grammar.{IsNoUserKeyword, IsShallowPart, IsDataRecord}
-use Rattle.p21_exchange.specs.Header.{IsNoName}
+use Rattle.p21_exchange.specs.DataSection.{unnamed}
+use Rattle.p21_exchange.specs.Grammar.{IsShallowPart}
 use Rattle.p21_exchange.specs.Nesting.{depth, params_depth}
-use Rattle.p21_exchange.specs.OpenNesting.{IsNoSemicolon}
 use Rattle.p21_exchange.specs.Parameter.{Key, key_of, Param, dollar, star, whole, real, text, name, item, bits, list, typed, Params, no_params, param, key_token, param_tokens, params_tokens, more_tokens}
-use Rattle.p21_exchange.specs.Record.{Part, Record, simple, complex, parts_of, part_tokens, record_tokens}
-use Rattle.p21_exchange.specs.Statement.{SectionLine, Statement, section, header, instance, begin, header_start, section_end, data_start, finish, section_tokens, statement_tokens}
+use Rattle.p21_exchange.specs.Record.{Part, Record, parts_of, part_tokens}
+use Rattle.p21_exchange.specs.Statement.{SectionLine, Statement, section, header, instance, header_start, section_end, data_start, section_tokens, statement_tokens}
 use Rattle.p21_exchange.specs.Token as token
 use Rattle.p21_exchange.specs.Token.{Token}
-use Rattle.p21_grammar_machine.specs.Machine.{Head, bare, simply, among, Opening, part_row, list_row, typed_row, Open, open_at, Spot, idle, line, named as name_taken, equal, inside, keyed, next, word, behind, record_end, instance_end, Move, go, emit, refuse, ended, step, push, pushed, put, put_back, enter, close, close_typed, close_empty, closed_part, comma, at_next, at_behind, at_word, at_line, at_named, at_equal, at_inside, close_records, at_keyed, end_keyword, end_heading, end_record, at_record_end, at_instance_end, at_start, at_begun, at_header, at_data_keyword, at_headed, at_data, at_behind_unnamed, at_behind_named, at_end, at_idle}
+use Rattle.p21_grammar_machine.specs.Machine.{Head, bare, simply, among, Opening, part_row, list_row, typed_row, Open, open_at, Spot, idle, line, named as name_taken, equal, inside, keyed, next, word, behind, record_end, instance_end, Move, go, emit, refuse, ended, step, push, pushed, put, enter, close, close_typed, close_empty, closed_part, comma, at_next, at_keyed, end_keyword, end_heading, end_record, at_idle}
 use Rattle.p21_grammar_machine.specs.Place.{is_in_header, after, after_heading}
-use Rattle.p21_grammar_machine.specs.Shape.{is_key, is_heading, is_name_and_schema, heading_of}
+use Rattle.p21_grammar_machine.specs.Shape.{is_key, is_heading, heading_of}
 use Rattle.p21_grammar_machine.specs.declared.fault.GrammarFault.{GrammarFault}
 use Rattle.p21_grammar_machine.specs.declared.fault.GrammarFault.TheVariants.{Unexpected, TooDeep, LeftOut, SectionShape}
 use Rattle.p21_tokens_automaton.specs.declared.mode.Absent.TheVariants.{UserKeyword}
 use Rattle.p21_grammar_machine.specs.declared.place.Place.{Place}
 use Rattle.p21_grammar_machine.specs.declared.place.Place.TheVariants.{Start, Begun, Description, FileName, FileSchema, Further, Headed, Unnamed, Named, BehindUnnamed, BehindNamed, Ended}
-use Rattle.p21_grammar.proofs.Tests.{key-is, heading-tokens}
+use Rattle.p21_grammar.proofs.Shapes.{key-is, heading-tokens}
 use Rattle.p21_grammar.specs.Runs.{ready_tokens, head_tokens, opening_tokens, row_tokens, stack_tokens, filled_tokens, pending}
 
 -- where a parameter may begin: a typed parameter has none yet

@@ -1,23 +1,22 @@
 -- A step of a parser, by what it holds and by the histories that it stands for.
-use Rattle.std.proofs.Common.{◌≡◌, ◌≢◌, ℕ, ◌≤◌, List, [], ◌∷◌, ◌++◌, Option, Some, None, Result, Ok, Err, refl, ap, sym, ◌∙◌, append_assoc, subst}
+use Rattle.std.proofs.Common.{arith, ◌≡◌, ℕ, ◌≤◌, List, [], ◌∷◌, ◌++◌, Option, Some, None, Result, Ok, Err, refl, ap, sym, ◌∙◌, append_assoc, subst}
 use Rattle.std.proofs.lemmas.List.{append-nil}
 use Rattle.std.specs.List.{flat_map, AllByRecursion as Each}
 use Rattle.p21_basics.specs.History.{empty, extended, first_refusal}
 use Rattle.p21_exchange.proofs.Semicolons.{Each-append, statements-end}
-use Rattle.p21_exchange.specs.OpenNesting.{IsDepth, IsOpenStatement}
+use Rattle.p21_exchange.specs.OpenNesting.{IsDepth}
 use Rattle.p21_exchange.specs.Statement.{Statement, statement_tokens}
 use Rattle.p21_exchange.specs.Token.{Token}
 use Rattle.p21_grammar.proofs.Depths.{pending-depth, depth-within}
-use Rattle.p21_grammar.proofs.Led.{IsGood, Kept, step-kept, led}
+use Rattle.p21_grammar.proofs.Led.{IsGood, Kept, step-kept, step-blamed, led}
 use Rattle.p21_grammar.proofs.RunsStatements.{run-statements}
-use Rattle.p21_grammar.proofs.Tests.{heading-is}
+use Rattle.p21_grammar.proofs.Shapes.{heading-is}
 use Rattle.p21_grammar.proofs.Theorems.{chain, run-append, no_file, given_first, at_end, begin_file, whole_file}
 use Rattle.p21_grammar.specs.Held.{Held}
-use Rattle.p21_grammar.specs.Histories.{GrammarHistory, call_of, refused_call, AreGivenFirst, IsWholeFile, AreNoFile, IsLive, Stands, GivesOfFile, IsShapedEvent, Answers, Refuses, RefusesToken, BeginNoFile}
-use Rattle.p21_grammar.specs.Inside.{IsAt}
-use Rattle.p21_grammar.specs.Runs.{Out, out, with_first, moved, run, pending}
+use Rattle.p21_grammar.specs.Histories.{GrammarHistory, call_of, IsWholeFile, AreNoFile, Stands, GivesOfFile, IsShapedEvent, Answers, Refuses, RefusesToken, BeginNoFile}
+use Rattle.p21_grammar.specs.Runs.{out, with_first, moved, run, pending}
 use Rattle.p21_grammar.specs.Sound.{IsSound}
-use Rattle.p21_grammar_machine.specs.Machine.{Spot, idle, Move, go, emit, refuse, step, spot_of, depth_of, Moves, Refuses as MachineRefuses}
+use Rattle.p21_grammar_machine.specs.Machine.{Spot, idle, go, emit, refuse, step, spot_of, depth_of, Moves, Refuses as MachineRefuses}
 use Rattle.p21_grammar_machine.specs.Place.{walk, then_walk, after}
 use Rattle.p21_grammar_machine.specs.Shaped.{IsShaped}
 use Rattle.p21_grammar_machine.specs.Statements.{statement_of, statements_of}
@@ -167,16 +166,30 @@ answers_with p sp depth t m event depth_ refused_ ran move e none history stands
     let Goal : ℕ → Option GrammarFault → Type 0 = λ d r. Answers (held_at m.place (spot_of m) d r) event (extended history (call_of t event)) in
     (found.0, subst (λ d. Goal d refused_) (sym e) (subst (Goal (depth_of (spot_of m))) (sym none) found.1))
 
-refuses-by : (p : Place) (sp : Spot) (t : Token) (why : GrammarFault) → (taken : List Token) (given : List Statement) → run taken Start idle ≡ Some (out given p sp)
-    → MachineRefuses (step p sp t) why → Refuses taken t why
-refuses-by p sp t fault.NoMemory taken given ran refused = tt
-refuses-by p sp t fault.EndsEarly taken given ran refused = no_file taken given p sp ran t fault.EndsEarly (refused (λ e. cc))
-refuses-by p sp t fault.Unexpected taken given ran refused = no_file taken given p sp ran t fault.Unexpected (refused (λ e. cc))
-refuses-by p sp t fault.TooDeep taken given ran refused = no_file taken given p sp ran t fault.TooDeep (refused (λ e. cc))
-refuses-by p sp t fault.AfterEnd taken given ran refused = no_file taken given p sp ran t fault.AfterEnd (refused (λ e. cc))
-refuses-by p sp t (fault.LeftOut absent) taken given ran refused = no_file taken given p sp ran t (fault.LeftOut absent) (refused (λ e. cc))
-refuses-by p sp t fault.HeaderShape taken given ran refused = no_file taken given p sp ran t fault.HeaderShape (refused (λ e. cc))
-refuses-by p sp t fault.SectionShape taken given ran refused = no_file taken given p sp ran t fault.SectionShape (refused (λ e. cc))
+refuses-by : (p : Place) (sp : Spot) (t : Token) (why : GrammarFault) → Reaches p sp → (taken : List Token) (given : List Statement) → IsLed taken given p sp → MachineRefuses (step p sp t) why → Refuses taken given t why
+refuses-by p sp t why ran taken given is refused = by why refused where
+  was_ran : run taken Start idle ≡ Some (out given p sp)
+  was_ran = history-ran p sp ran taken given is.taken_are is.leads is.sound
+
+  dead : (f : GrammarFault) → step p sp t ≡ refuse f → BeginNoFile (taken ++ t ∷ [])
+  dead f e = no_file taken given p sp was_ran t f e
+
+  by : (f : GrammarFault) → MachineRefuses (step p sp t) f → Refuses taken given t f
+  by fault.NoMemory e = tt
+  by fault.EndsEarly e = step-blamed p sp t fault.EndsEarly (e (λ i. cc))
+  by fault.Unexpected e = dead fault.Unexpected (e (λ i. cc))
+  by fault.TooDeep e =
+      let blamed = step-blamed p sp t fault.TooDeep (e (λ i. cc)) in
+      let full : depth_of sp ≡ 64 = omega (arith, blamed.1, reaches-within p sp ran) in
+      (dead fault.TooDeep (e (λ i. cc)), blamed.0, subst (IsDepth taken) full (history-depth p sp ran taken given is.taken_are))
+  by fault.AfterEnd e =
+      let blamed = step-blamed p sp t fault.AfterEnd (e (λ i. cc)) in (
+        dead fault.AfterEnd (e (λ i. cc)),
+        whole_file taken given (is.taken_are ∙ ap (λ z. flat_map statement_tokens given ++ pending z) blamed.1 ∙ append-nil (flat_map statement_tokens given)) (is.leads ∙ ap Ok blamed.0) is.sound,
+      )
+  by (fault.LeftOut absent) e = dead (fault.LeftOut absent) (e (λ i. cc))
+  by fault.HeaderShape e = dead fault.HeaderShape (e (λ i. cc))
+  by fault.SectionShape e = dead fault.SectionShape (e (λ i. cc))
 
 -- a call that refused
 pub refuses : (p : Place) (sp : Spot) (depth : ℕ) (t : Token) (why : GrammarFault) (q : Place) (sq : Spot) → Reaches p sp → MachineRefuses (step p sp t) why
@@ -184,9 +197,8 @@ pub refuses : (p : Place) (sp : Spot) (depth : ℕ) (t : Token) (why : GrammarFa
 unfolding Stands
 refuses p sp depth t why q sq ran refused history stands open_ =
     let live = stands.2 open_ in
-    let was_ran = history-ran p sp ran history.taken history.given live.taken_are live.leads live.sound in
     record {
-      refuses = refuses-by p sp t why history.taken history.given was_ran refused;
+      refuses = refuses-by p sp t why ran history.taken history.given (record { taken_are = live.taken_are; leads = live.leads; sound = live.sound }) refused;
       stands = (
         sym (ap (λ z. first_refusal z (Some why)) open_),
         subst (λ z. IsDepth z depth) (sym (append-nil history.taken)) stands.1,

@@ -1,6 +1,6 @@
 pub mod RunsParams
 pub mod RunsStatements
-pub mod Tests
+pub mod Shapes
 pub mod Follows
 pub mod Led
 pub mod Walks

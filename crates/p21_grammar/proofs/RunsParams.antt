@@ -1,7 +1,7 @@
 -- A run over the tokens of a parameter takes the parameter.
-use Rattle.std.proofs.Common.{◌≡◌, ℕ, ◌+◌, ◌<◌, ◌≤◌, suc, max, Bool, true, false, cond, List, [], ◌∷◌, ◌++◌, length, Option, Some, None, refl, ap, sym, ◌∙◌, arith, append_assoc}
+use Rattle.std.proofs.Common.{◌≡◌, ℕ, ◌+◌, ◌<◌, ◌≤◌, Bool, true, false, List, [], ◌∷◌, ◌++◌, length, refl, ap, ◌∙◌, arith, append_assoc}
 use Rattle.std.proofs.lemmas.Bool.{lt-ltb}
-use Rattle.std.specs.Prelude.{if◌then◌else◌, nat_lt}
+use Rattle.std.specs.Prelude.{if◌then◌else◌}
 use Rattle.std.specs.List.{AllByRecursion as Each}
 use Rattle.p21_exchange.specs.Grammar.{IsNoUserKeyword}
 use Rattle.p21_exchange.specs.Header.{IsNoName}
@@ -10,10 +10,10 @@ use Rattle.p21_exchange.specs.Parameter.{Key, Param, dollar, star, whole, real, 
 use Rattle.p21_exchange.specs.Token as token
 use Rattle.p21_exchange.specs.Token.{Token}
 use Rattle.p21_tokens_automaton.specs.declared.mode.Absent.TheVariants.{UserKeyword}
-use Rattle.p21_grammar_machine.specs.Machine.{Head, Opening, part_row, list_row, typed_row, Open, open_at, Spot, next, word, behind, Move, go, refuse, push, enter, close, closed_part}
+use Rattle.p21_grammar_machine.specs.Machine.{Opening, part_row, list_row, typed_row, Open, open_at, next, word, behind, go, refuse, push, enter, close}
 use Rattle.p21_grammar_machine.specs.Place.{is_in_header}
-use Rattle.p21_grammar.specs.Runs.{Out, moved, run}
-use Rattle.p21_grammar_machine.specs.declared.fault.GrammarFault.TheVariants.{Unexpected, TooDeep, LeftOut}
+use Rattle.p21_grammar.specs.Runs.{moved, run}
+use Rattle.p21_grammar_machine.specs.declared.fault.GrammarFault.TheVariants.{Unexpected, LeftOut}
 use Rattle.p21_grammar_machine.specs.declared.place.Place.{Place}
 
 -- in the header no name, elsewhere no user keyword

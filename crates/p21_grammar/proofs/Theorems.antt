@@ -1,15 +1,15 @@
 -- What a run from the start of a file says of the files that begin with the tokens taken.
-use Rattle.std.proofs.Common.{◌≡◌, ℕ, List, [], ◌∷◌, ◌++◌, Option, Some, None, Result, Ok, Err, refl, ap, sym, ◌∙◌, append_assoc, subst}
+use Rattle.std.proofs.Common.{◌≡◌, ℕ, List, [], ◌∷◌, ◌++◌, Option, Some, None, Ok, refl, ap, sym, ◌∙◌, append_assoc}
 use Rattle.std.proofs.lemmas.List.{append-nil}
 use Rattle.std.specs.List.{flat_map, AllByRecursion as Each}
 use Rattle.p21_exchange.specs.Grammar.{IsFile}
 use Rattle.p21_exchange.specs.Statement.{Statement, statement_tokens}
-use Rattle.p21_exchange.specs.Structure.{Structure, statements, tokens_of, AreFirst}
+use Rattle.p21_exchange.specs.Structure.{Structure, statements, tokens_of}
 use Rattle.p21_exchange.specs.Token.{Token}
 use Rattle.p21_grammar.proofs.RunsStatements.{run-statements, with_first-none, with_first-append}
-use Rattle.p21_grammar.proofs.Walks.{file-walk, file-sound, led-file, ended-file, HasFile}
-use Rattle.p21_grammar.specs.Histories.{BeginsSo, AreGivenFirst, BeginsFile, IsWholeFile, BeginNoFile, AreNoFile}
-use Rattle.p21_grammar.specs.Runs.{Out, out, with_first, moved, run, pending}
+use Rattle.p21_grammar.proofs.Walks.{file-walk, file-sound, led-file, ended-file}
+use Rattle.p21_grammar.specs.Histories.{AreGivenFirst, BeginsFile, IsWholeFile, BeginNoFile}
+use Rattle.p21_grammar.specs.Runs.{Out, out, with_first, moved, run}
 use Rattle.p21_grammar.specs.Sound.{IsSound}
 use Rattle.p21_grammar_machine.specs.Machine.{Spot, idle, Move, go, emit, refuse, step}
 use Rattle.p21_grammar_machine.specs.Place.{walk}

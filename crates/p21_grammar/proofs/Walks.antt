@@ -1,5 +1,5 @@
 -- The statements of each file lead to its end, and statements that lead somewhere are the first of those of some file.
-use Rattle.std.proofs.Common.{◌≡◌, ℕ, ◌+◌, ◌≤◌, Bool, true, false, List, [], ◌∷◌, ◌++◌, map, length, Result, Ok, Err, inl, inr, refl, ap, sym, ◌∙◌, arith, append_assoc, subst}
+use Rattle.std.proofs.Common.{◌≡◌, ℕ, Bool, true, false, List, [], ◌∷◌, ◌++◌, map, Result, Ok, Err, inl, refl, ap, sym, ◌∙◌, arith, subst}
 use Rattle.std.proofs.lemmas.List.{append-nil}
 use Rattle.std.specs.Prelude.{codes}
 use Rattle.std.specs.List.{flat_map, AllByRecursion as Each}
@@ -7,9 +7,9 @@ use Rattle.p21_exchange.proofs.Semicolons.{Each-append}
 use Rattle.p21_exchange.proofs.SectionOrder.{instance_of, sections_with}
 use Rattle.p21_exchange.specs.DataSection.{Heading, unnamed, named, DataSection, headings, instances_in, IsNamed, AreHeadings}
 use Rattle.p21_exchange.specs.Grammar.{IsShallowPart, IsDataRecord, IsFile}
-use Rattle.p21_exchange.specs.Header.{string, strings, IsFileDescription, IsFileName, IsFileSchema, IsFurther, IsHeader, IsNoName}
+use Rattle.p21_exchange.specs.Header.{string, strings, IsFileDescription, IsFileName, IsFileSchema, IsFurther}
 use Rattle.p21_exchange.specs.Parameter.{key_of, dollar, no_params, param}
-use Rattle.p21_exchange.specs.Record.{Part, Record, part_tokens}
+use Rattle.p21_exchange.specs.Record.{Part, Record}
 use Rattle.p21_exchange.specs.Statement.{SectionLine, Statement, section, header, instance, begin, header_start, section_end, data_start, finish}
 use Rattle.p21_exchange.specs.Structure.{Structure, section_statements, statements}
 use Rattle.p21_grammar_machine.specs.Place.{after, after_line, after_part, shaped, then_walk, walk}
@@ -19,7 +19,7 @@ use Rattle.p21_grammar_machine.specs.declared.place.Place.{Place}
 use Rattle.p21_grammar_machine.specs.declared.place.Place.TheVariants.{Start, Begun, Description, FileName, FileSchema, Further, Headed, Unnamed, Named, BehindUnnamed, BehindNamed, Ended}
 use Rattle.p21_grammar.proofs.RunsParams.{Each-front, Each-back}
 use Rattle.p21_grammar.proofs.RunsStatements.{ok-same}
-use Rattle.p21_grammar.proofs.Tests.{record-is, is-record, record-no_names, schema-is, is-schema, schema-no_names, further-is, is-further, only_schema}
+use Rattle.p21_grammar.proofs.Shapes.{record-is, is-record, record-no_names, schema-is, is-schema, schema-no_names, further-is, is-further, only_schema}
 use Rattle.p21_grammar.specs.Sound.{IsSound}
 
 abbrev IsInstance : ℕ × Record → Type 0

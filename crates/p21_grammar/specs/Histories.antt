@@ -1,6 +1,6 @@
 -- What a parser has taken and answered, and what each call adds to it (ISO 10303-21, formal definition of the exchange
 -- structure).
-use Rattle.std.specs.Prelude.{◌≡◌, ℕ, ◌≤◌, List, [], ◌∷◌, ◌++◌, Option, Some, None, Result, Ok, Err, IsSome}
+use Rattle.std.specs.Prelude.{◌≡◌, ℕ, List, [], ◌∷◌, ◌++◌, Option, Some, None, Result, Ok, Err}
 use Rattle.std.specs.List.{flat_map, AllByRecursion as Each}
 use Rattle.p21_basics.specs.History.{History, extended}
 use Rattle.p21_exchange.specs.DataSection.{data_part}
@@ -8,15 +8,15 @@ use Rattle.p21_exchange.specs.Grammar.{IsFile}
 use Rattle.p21_exchange.specs.OpenNesting.{IsDepth}
 use Rattle.p21_exchange.specs.Statement.{Statement, statement_tokens}
 use Rattle.p21_exchange.specs.Structure.{Structure, statements, tokens_of, AreFirst}
-use Rattle.p21_exchange.specs.Token.{Token}
+use Rattle.p21_exchange.specs.Token.{Token, left}
 use Rattle.p21_grammar.specs.Held.{Held}
 use Rattle.p21_grammar.specs.Sound.{IsSound}
 use Rattle.p21_grammar_machine.specs.Place.{walk}
 use Rattle.p21_grammar_machine.specs.Statements.{statements_of}
 use Rattle.p21_grammar_machine.specs.declared.event.Event.{Event}
-use Rattle.p21_grammar_machine.specs.declared.event.Event.TheVariants.{Section, Named, Header, Instance}
+use Rattle.p21_grammar_machine.specs.declared.event.Event.TheVariants.{Named}
 use Rattle.p21_grammar_machine.specs.declared.fault.GrammarFault.{GrammarFault}
-use Rattle.p21_grammar_machine.specs.declared.fault.GrammarFault.TheVariants.{EndsEarly, NoMemory}
+use Rattle.p21_grammar_machine.specs.declared.fault.GrammarFault.TheVariants.{AfterEnd, EndsEarly, NoMemory, TooDeep}
 use Rattle.p21_grammar_machine.specs.declared.place.Place.TheVariants.{Start}
 use Rattle.p21_grammar_tree.specs.View.{part_view}
 
@@ -98,14 +98,18 @@ pub record Answers (held : Held) (event : Option Event) (history : GrammarHistor
   pub of_file : GivesOfFile event history
   pub depth_is : IsDepth history.taken held.depth
 
--- why a call refuses a token
-abbrev pub Refuses : List Token → Token → GrammarFault → Type 0
-Refuses taken token NoMemory = Unit {0}
-Refuses taken token fault = BeginNoFile (taken ++ token ∷ [])
+-- Why a call refuses a token: no file begins so. The 65th list or typed parameter opens with it; or the tokens taken are
+-- those of a file
+abbrev pub Refuses : List Token → List Statement → Token → GrammarFault → Type 0
+Refuses taken given token NoMemory = Unit {0}
+Refuses taken given token EndsEarly = ⊥
+Refuses taken given token TooDeep = BeginNoFile (taken ++ token ∷ []) × (token ≡ left) × IsDepth taken 64
+Refuses taken given token AfterEnd = BeginNoFile (taken ++ token ∷ []) × IsWholeFile taken given
+Refuses taken given token fault = BeginNoFile (taken ++ token ∷ [])
 
 -- a call refuses a token, for that reason; the token is not taken
 pub record RefusesToken (history : GrammarHistory) (token : Token) (fault : GrammarFault) (new : Held) : Type 0 where
-  pub refuses : Refuses history.taken token fault
+  pub refuses : Refuses history.taken history.given token fault
   pub stands : Stands new (extended history (refused_call token fault))
 
 -- what a call of `take` gives, for each history that the parser stood for

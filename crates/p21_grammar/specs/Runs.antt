@@ -1,5 +1,5 @@
 -- A parser over many tokens, and the tokens that it holds: for private clauses.
-use Rattle.std.specs.Prelude.{◌≡◌, List, [], ◌∷◌, ◌++◌, Option, Some, None}
+use Rattle.std.specs.Prelude.{List, [], ◌∷◌, ◌++◌, Option, Some, None}
 use Rattle.std.specs.List.{flat_map}
 use Rattle.p21_exchange.specs.Parameter.{Params, no_params, param, key_token, param_tokens, params_tokens}
 use Rattle.p21_exchange.specs.Record.{part_tokens, record_tokens}

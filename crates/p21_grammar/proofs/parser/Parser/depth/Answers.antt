@@ -1,4 +1,4 @@
-use Rattle.std.proofs.Common.{◌≡◌, ap, sym, subst, ◌∙◌}
+use Rattle.std.proofs.Common.{ap, sym, subst}
 use Rattle.p21_exchange.specs.OpenNesting.{IsDepth}
 use Rattle.p21_grammar.proofs.Holding.{stands_depth}
 use Rattle.p21_grammar.specs.Held.{Held}

@@ -1,4 +1,4 @@
-use Rattle.std.proofs.Common.{◌≡◌, refl, ap, sym, ◌∙◌}
+use Rattle.std.proofs.Common.{refl}
 use Rattle.p21_grammar.proofs.Holding.{finished, unfinished, not_refused, was_refused}
 use Rattle.p21_grammar_machine.specs.Machine.{spot_of}
 use Rattle.p21_grammar.proofs.parser.Parser.finish.Goals as goal

@@ -1,4 +1,4 @@
-use Rattle.std.proofs.Common.{◌≡◌, ◌≤◌, refl, ap, sym, subst, ◌∙◌}
+use Rattle.std.proofs.Common.{◌≤◌, sym, subst}
 use Rattle.p21_grammar.proofs.Holding.{answers_with, refuses, not_refused, was_refused, reached-on, reaches-within, shaped-event}
 use Rattle.p21_grammar_machine.specs.Machine.{spot_of}
 use Rattle.p21_tokens.specs.Token.{meant}
