@@ -1,6 +1,6 @@
 #!/bin/sh
-# Builds a benchmark's two programs into benchmarks/out/: NAME, from benchmarks/NAME/main.rattle over the crates that
-# follow, and NAME_plain, from benchmarks/NAME/plain.rs.
+# Builds a benchmark's programs into benchmarks/out/: NAME, from benchmarks/NAME/main.rattle over the crates that follow,
+# and NAME_plain, from benchmarks/NAME/plain.rs, where there is one.
 #
 # The gate takes no Rattle source outside the crates of crates.txt, and the benchmarks are none of its business. So their
 # sources are named .rattle, and are built in a temporary repository that holds a copy of the crates.
@@ -15,7 +15,9 @@ shift
 program=bench_$name
 
 mkdir -p "$out"
-rustc --edition 2021 -C opt-level=3 -o "$out/${name}_plain" "$benchmarks/$name/plain.rs"
+if [ -f "$benchmarks/$name/plain.rs" ]; then
+    rustc --edition 2021 -C opt-level=3 -o "$out/${name}_plain" "$benchmarks/$name/plain.rs"
+fi
 
 # The crates are proved where they stand, so that what is kept there serves the next time.
 for crate in "$@"; do

@@ -3,3 +3,4 @@ pub mod Place
 pub mod Statements
 pub mod Machine
 pub mod Fault
+pub mod Shaped

@@ -3,6 +3,7 @@ ghost use Rattle.p21_exchange.specs.Parameter.{key_of, no_params};
 ghost use Rattle.p21_exchange.specs.Statement.{section, header, instance};
 ghost use Rattle.p21_grammar_machine.specs.Place.{after};
 ghost use Rattle.p21_grammar_machine.specs.Machine.{open_of, opening_of, stack_of, closed_part, put_back, close_typed, spot_of, spot_at, head_of, step, enter, close, close_empty, comma, put, at_next, at_behind, at_word, at_line, at_named, at_equal, at_inside, at_keyed, at_record_end, at_instance_end, end_keyword, end_record, at_idle, at_start, at_begun, at_header, at_headed, at_data, at_behind_unnamed, at_behind_named, at_end, misplaced, misplaced_param, other_section, idle, next, go, refuse, part_row, open_at, depth_of, ended, end_heading, close_records, at_data_keyword, Goes, Moves, Refuses};
+ghost use Rattle.p21_grammar_machine.specs.Shaped.{IsShaped};
 ghost use Rattle.p21_grammar_machine.specs.Statements.{line_of};
 ghost use Rattle.p21_grammar_tree.specs.View.{key_view, part_view, part_views, record_view, view, views};
 ghost use Rattle.p21_exchange.specs.Token as token;
@@ -348,6 +349,7 @@ impl Machine {
     fn end_line(&mut self, line: Line) -> Result<Option<Event>, GrammarFault>
         ensures ok { IfOk result (λ event. Moves (ended (section (line_of line)) (after self.old.place (section (line_of line)))) self.new event) }
         ensures err { IfErr result (λ why. Refuses (ended (section (line_of line)) (after self.old.place (section (line_of line)))) why) }
+        ensures shaped { IfOk result IsShaped }
     {
         self.place = self.place.after_line(line)?;
         self.at = At::Idle;
@@ -358,6 +360,7 @@ impl Machine {
     fn end_header(&mut self, part: Part) -> Result<Option<Event>, GrammarFault>
         ensures ok { IfOk result (λ event. Moves (ended (header (part_view part)) (after self.old.place (header (part_view part)))) self.new event) }
         ensures err { IfErr result (λ why. Refuses (ended (header (part_view part)) (after self.old.place (header (part_view part)))) why) }
+        ensures shaped { IfOk result IsShaped }
     {
         self.place = self.place.after_part(&part)?;
         self.at = At::Idle;
@@ -368,6 +371,7 @@ impl Machine {
     fn end_heading(&mut self, part: Part) -> Result<Option<Event>, GrammarFault>
         ensures ok { IfOk result (λ event. Moves (end_heading self.old.place (part_view part)) self.new event) }
         ensures err { IfErr result (λ why. Refuses (end_heading self.old.place (part_view part)) why) }
+        ensures shaped { IfOk result IsShaped }
     {
         if !is_heading(&part) {
             return Err(GrammarFault::SectionShape);
@@ -381,6 +385,7 @@ impl Machine {
     fn end_record(&mut self, part: Part) -> Result<Option<Event>, GrammarFault>
         ensures ok { IfOk result (λ event. Moves (end_record self.old.place (part_view part)) self.new event) }
         ensures err { IfErr result (λ why. Refuses (end_record self.old.place (part_view part)) why) }
+        ensures shaped { IfOk result IsShaped }
     {
         if self.place.is_in_header() {
             self.end_header(part)
@@ -393,6 +398,7 @@ impl Machine {
     fn end_keyword(&mut self, key: &Key) -> Result<Option<Event>, GrammarFault>
         ensures ok { IfOk result (λ event. Moves (end_keyword self.old.place (key_view key.now)) self.new event) }
         ensures err { IfErr result (λ why. Refuses (end_keyword self.old.place (key_view key.now)) why) }
+        ensures shaped { IfOk result IsShaped }
     {
         if self.place.is_in_header() {
             if is_key(key, b"ENDSEC") {
@@ -411,6 +417,7 @@ impl Machine {
     fn end_instance(&mut self, name: Name, body: Record) -> Result<Option<Event>, GrammarFault>
         ensures ok { IfOk result (λ event. Moves (ended (instance name (record_view body)) (after self.old.place (instance name (record_view body)))) self.new event) }
         ensures err { IfErr result (λ why. Refuses (ended (instance name (record_view body)) (after self.old.place (instance name (record_view body)))) why) }
+        ensures shaped { IfOk result IsShaped }
     {
         self.place = self.place.after_instance()?;
         self.at = At::Idle;
@@ -421,6 +428,7 @@ impl Machine {
     fn line(&mut self, line: Line, token: Token) -> Result<Option<Event>, GrammarFault>
         ensures ok { IfOk result (λ event. Moves (at_line self.old.place (line_of line) (meant token)) self.new event) }
         ensures err { IfErr result (λ why. Refuses (at_line self.old.place (line_of line) (meant token)) why) }
+        ensures shaped { IfOk result IsShaped }
     {
         match token {
             Token::Semicolon => self.end_line(line),
@@ -503,6 +511,7 @@ impl Machine {
     fn keyed(&mut self, head: Head, key: Key, token: Token) -> Result<Option<Event>, GrammarFault>
         ensures ok { IfOk result (λ event. Moves (at_keyed self.old.place (head_of head) (key_view key) (meant token)) self.new event) }
         ensures err { IfErr result (λ why. Refuses (at_keyed self.old.place (head_of head) (key_view key) (meant token)) why) }
+        ensures shaped { IfOk result IsShaped }
     {
         match token {
             Token::Left => {
@@ -521,6 +530,7 @@ impl Machine {
     fn record_end(&mut self, part: Part, token: Token) -> Result<Option<Event>, GrammarFault>
         ensures ok { IfOk result (λ event. Moves (at_record_end self.old.place (part_view part) (meant token)) self.new event) }
         ensures err { IfErr result (λ why. Refuses (at_record_end self.old.place (part_view part) (meant token)) why) }
+        ensures shaped { IfOk result IsShaped }
     {
         match token {
             Token::Semicolon => self.end_record(part),
@@ -537,6 +547,7 @@ impl Machine {
     ) -> Result<Option<Event>, GrammarFault>
         ensures ok { IfOk result (λ event. Moves (at_instance_end self.old.place name (record_view body) (meant token)) self.new event) }
         ensures err { IfErr result (λ why. Refuses (at_instance_end self.old.place name (record_view body) (meant token)) why) }
+        ensures shaped { IfOk result IsShaped }
     {
         match token {
             Token::Semicolon => self.end_instance(name, body),
@@ -699,6 +710,7 @@ impl Machine {
     fn other(&mut self, at: At, token: Token) -> Result<Option<Event>, GrammarFault>
         ensures ok { IfOk result (λ event. Moves (step self.old.place (spot_at at self.old.row self.old.frames.items) (meant token)) self.new event) }
         ensures err { IfErr result (λ why. Refuses (step self.old.place (spot_at at self.old.row self.old.frames.items) (meant token)) why) }
+        ensures shaped { IfOk result IsShaped }
     {
         match at {
             At::Idle => self.idle(token)?,
@@ -720,6 +732,7 @@ impl Machine {
     pub fn step(&mut self, token: Token) -> Result<Option<Event>, GrammarFault>
         ensures ok { IfOk result (λ event. Moves (step self.old.place (spot_of self.old) (meant token)) self.new event) }
         ensures err { IfErr result (λ why. Refuses (step self.old.place (spot_of self.old) (meant token)) why) }
+        ensures shaped { IfOk result IsShaped }
     {
         match &self.at {
             At::Next => self.next(token)?,

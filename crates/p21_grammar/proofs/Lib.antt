@@ -1,0 +1,9 @@
+pub mod RunsParams
+pub mod RunsStatements
+pub mod Shapes
+pub mod Follows
+pub mod Led
+pub mod Walks
+pub mod Depths
+pub mod Theorems
+pub mod Holding

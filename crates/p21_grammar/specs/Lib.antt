@@ -1,0 +1,5 @@
+pub mod Runs
+pub mod Sound
+pub mod Held
+pub mod Histories
+pub mod Inside

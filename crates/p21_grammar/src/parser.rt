@@ -1,0 +1,102 @@
+ghost use Rattle.std.specs.Prelude.{◌≡◌, ◌≤◌, Some, None, Err, IfOk};
+ghost use Rattle.p21_basics.specs.History.{StandsNew};
+ghost use Rattle.p21_exchange.specs.OpenNesting.{IsDepth};
+ghost use Rattle.p21_grammar.specs.Histories.{GrammarHistory, Stands, TakeGives, FinishGives, IsShapedEvent};
+ghost use Rattle.p21_grammar_machine.specs.declared.fault.GrammarFault.{GrammarFault};
+ghost use Rattle.p21_tokens.specs.Token.{meant};
+
+use p21_grammar_machine::{Event, GrammarFault, Machine};
+use p21_tokens::Token;
+use std::alloc::Global;
+use std::marker::Model;
+
+/// Takes tokens one by one, and answers each statement with its `;`.
+#[derive(Drop)]
+pub struct Parser {
+    machine: Machine,
+    depth: usize,
+    refused: Option<GrammarFault>,
+}
+
+impl Model for Parser {
+    ghost use Rattle.p21_grammar.specs.Held.{Held};
+
+    ghost Value = { Held };
+
+    ghost use Rattle.p21_grammar.specs.Inside.{held_of, IsReached};
+
+    ghost view = { held_of };
+
+    ghost invariant = { IsReached };
+}
+
+impl Parser {
+    /// A parser that has taken nothing. It takes no memory.
+    pub fn new(alloc: Global) -> Parser
+        ensures stands { StandsNew Stands result }
+        ensures goes_on { result.refused ≡ None }
+    {
+        Parser {
+            machine: Machine::new(alloc),
+            depth: 0,
+            refused: None,
+        }
+    }
+
+    /// Takes the next token. Each statement is answered with its `;`.
+    ///
+    /// # Errors
+    ///
+    /// `Unexpected` at the first token with which no statement continues, `TooDeep` at the opening of a 65th list or typed
+    /// parameter one in another, `AfterEnd` behind the end of the file, `LeftOut` at a part of the standard that is left
+    /// out, `HeaderShape` and `SectionShape` at the `;` of a statement that has not the form it should have there,
+    /// `NoMemory`. After a refusal each call answers it.
+    pub fn take(&mut self, token: Token) -> Result<Option<Event>, GrammarFault>
+        ensures gives { TakeGives self.old (meant token) result self.new }
+        ensures shaped { IfOk result IsShapedEvent }
+        ensures goes_on { IfOk result (λ event. self.new.refused ≡ None) }
+        ensures again { (fault : GrammarFault) → self.old.refused ≡ Some fault → result ≡ Err fault }
+        ensures within { self.new.depth ≤ 64 }
+    {
+        if let Some(fault) = self.refused {
+            return Err(fault);
+        }
+        match self.machine.step(token) {
+            Ok(event) => {
+                self.depth = self.machine.depth();
+                Ok(event)
+            }
+            Err(fault) => {
+                self.refused = Some(fault);
+                Err(fault)
+            }
+        }
+    }
+
+    /// The end of the tokens. It takes no memory.
+    ///
+    /// # Errors
+    ///
+    /// `EndsEarly` unless the last statement was `END-ISO-10303-21;`. After a refusal it answers that.
+    pub fn finish(self) -> Result<(), GrammarFault>
+        ensures gives { FinishGives self result }
+        ensures again { (fault : GrammarFault) → self.refused ≡ Some fault → result ≡ Err fault }
+    {
+        if let Some(fault) = self.refused {
+            return Err(fault);
+        }
+        if self.machine.is_ended() {
+            Ok(())
+        } else {
+            Err(GrammarFault::EndsEarly)
+        }
+    }
+
+    /// How many lists and typed parameters are open in the tokens taken, at most 64. It takes no memory.
+    pub fn depth(&self) -> usize
+        ensures within { result ≤ 64 }
+        ensures depth { (history : GrammarHistory) → Stands self.now history → IsDepth history.taken result }
+    {
+        self.depth
+    }
+}
