@@ -1,12 +1,12 @@
 -- What look-ups over lists of entities find.
-use Rattle.std.specs.Prelude.{◌≡◌, ◌≢◌, ℕ, zero, suc, ◌+◌, ◌<◌, ◌≤◌, List, [], ◌∷◌, ◌++◌, length, map, take, Contains, refl, slice_get, Some, None, Option, MatchOption}
-use Rattle.std.specs.List.{enumerate_from, flat_map}
+use Rattle.std.specs.Prelude.{◌≡◌, ℕ, zero, suc, ◌+◌, ◌<◌, List, [], ◌∷◌, ◌++◌, length, map, take, Contains, refl, slice_get, Some, None, Option, MatchOption}
+use Rattle.std.specs.List.{enumerate_from}
 use Rattle.std.proofs.Common.{arith, ap, sym, ◌∙◌, subst, inl, inr, get_or, append_assoc}
 use Rattle.std.specs.Option.{option_map}
 use Rattle.std.proofs.lemmas.Bool.{cases_lt}
 use Rattle.std.proofs.lemmas.List.{map-append}
 use Rattle.std.proofs.lemmas.Option.{slice_get-map, slice_get_read}
-use Rattle.p21_basics.proofs.Members.{Contains-none, Contains-first, Contains-later, Contains-cases}
+use Rattle.p21_basics.proofs.Members.{Contains-none, Contains-cases}
 use Rattle.p21_schemas.specs.Schema.{Schema, Place, Attribute, attributes_of}
 use Rattle.p21_schemas.specs.Supertype.{IsLeaf, LeavesAmong, no_more, leaf_next, other_next}
 use Rattle.p21_schemas.specs.Order.{own_places}

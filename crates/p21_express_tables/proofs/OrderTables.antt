@@ -1,11 +1,11 @@
 -- The table of the orders of all entities.
-use Rattle.std.specs.Prelude.{◌≡◌, ◌≢◌, ◌↔◌, ℕ, zero, suc, ◌+◌, ◌<◌, ◌≤◌, ◌⊎◌, List, [], ◌∷◌, ◌++◌, Some, None, Option, length, map, slice_get, slice_set, take, drop, Contains, refl}
-use Rattle.std.specs.List.{flat_map, AllByRecursion as Each}
+use Rattle.std.specs.Prelude.{◌≡◌, ◌≢◌, ◌↔◌, ℕ, zero, suc, ◌+◌, ◌<◌, ◌⊎◌, List, [], ◌∷◌, ◌++◌, Some, None, Option, length, map, slice_get, slice_set, take, drop, Contains, refl}
+use Rattle.std.specs.List.{flat_map}
 use Rattle.std.proofs.Common.{arith, ap, sym, ◌∙◌, subst, inl, inr, append_assoc, get_or, length-append, drop-cons}
 use Rattle.std.proofs.lemmas.List.{map-append}
 use Rattle.std.specs.Option.{option_map}
 use Rattle.std.proofs.lemmas.Bool.{cases_eq}
-use Rattle.std.proofs.lemmas.Option.{slice_get-map, slice_get_within, slice_get_read, slice_get-get_or}
+use Rattle.std.proofs.lemmas.Option.{slice_get-map, slice_get_read}
 use Rattle.p21_basics.proofs.Members.{Contains-none, Contains-first, Contains-later, Contains-cases, Contains-found, Each-member, Each-at}
 use Rattle.p21_schemas.specs.Schema.{Schema, Entity}
 use Rattle.p21_schemas.specs.Supertype.{IsA, itself, above, supertypes_of}

@@ -1,4 +1,4 @@
-use Rattle.std.specs.Prelude.{◌≡◌, ℕ, List, Option, None, Vec, MatchOption, map}
+use Rattle.std.specs.Prelude.{◌≡◌, ℕ, List, Option, Vec, MatchOption, map}
 use Rattle.std.specs.declared.alloc.Global.{Global}
 use Rattle.std.proofs.Common.{ap, sym, ◌∙◌, subst}
 use Rattle.p21_schemas.specs.Declared.{HasNoCircle}

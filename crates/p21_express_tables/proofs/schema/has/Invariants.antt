@@ -1,5 +1,4 @@
 use Rattle.std.proofs.Common.{ℕ, ◌≡◌, ◌<◌, slice_index_or}
-use Rattle.p21_express_types.specs.declared.number.EntityId.{EntityId}
 use Rattle.p21_express_tables.proofs.schema.has.Given as goal
 
 abbrev pub invariant-loop-other : goal.invariant-loop-other

@@ -1,5 +1,5 @@
-use Rattle.std.specs.Prelude.{◌≡◌, ◌<◌, ℕ, List, Some, length, slice_get, true, false}
-use Rattle.std.proofs.Common.{arith, ap, sym, ◌∙◌, subst, get_or}
+use Rattle.std.specs.Prelude.{◌≡◌, ℕ, List, Some, length, slice_get, true, false}
+use Rattle.std.proofs.Common.{arith, ap, sym, ◌∙◌, subst}
 use Rattle.std.proofs.lemmas.Option.{slice_get_within}
 use Rattle.p21_basics.proofs.Members.{Contains-at}
 use Rattle.p21_express_tables.specs.Lookups.{HasTwo}

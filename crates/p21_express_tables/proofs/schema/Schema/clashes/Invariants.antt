@@ -1,6 +1,6 @@
 use Rattle.std.proofs.Common.{ℕ, ◌<◌, slice_get, Some}
 use Rattle.std.specs.Prelude.{◌≡◌, List}
-use Rattle.p21_express_tables.specs.Orders.{numbers, tabled}
+use Rattle.p21_express_tables.specs.Orders.{numbers}
 use Rattle.p21_express_tables.specs.Lookups.{HasTwo}
 use Rattle.p21_express_tables.proofs.schema.Schema.clashes.Given as goal
 

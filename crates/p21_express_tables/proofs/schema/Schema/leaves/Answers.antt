@@ -1,4 +1,4 @@
-use Rattle.std.specs.Prelude.{◌≡◌, ◌+◌, ℕ, List, [], take, true, false}
+use Rattle.std.specs.Prelude.{◌≡◌, ◌+◌, List, [], take, true, false}
 use Rattle.std.proofs.Common.{ap, sym, ◌∙◌, subst}
 use Rattle.p21_express_types.specs.declared.number.EntityId.{EntityId}
 use Rattle.p21_schemas.specs.Supertype.{LeavesAmong, no_more}

@@ -1,4 +1,4 @@
-use Rattle.std.specs.Prelude.{◌≡◌, ℕ, List, Contains, length}
+use Rattle.std.specs.Prelude.{ℕ, List, Contains, length}
 use Rattle.std.proofs.Common.{subst, get_or}
 use Rattle.p21_schemas.proofs.Orders.{order_within-only}
 use Rattle.p21_express_tables.proofs.schema.Schema.places.Goals as goal

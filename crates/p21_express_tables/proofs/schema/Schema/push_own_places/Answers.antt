@@ -1,5 +1,5 @@
-use Rattle.std.specs.Prelude.{◌≡◌, ◌++◌, ℕ, length, map, refl}
-use Rattle.std.proofs.Common.{arith, ap, sym, ◌∙◌}
+use Rattle.std.specs.Prelude.{◌≡◌, ◌++◌, length, map, refl}
+use Rattle.std.proofs.Common.{arith, ap, ◌∙◌}
 use Rattle.p21_express_types.specs.Meaning.{place}
 use Rattle.p21_schemas.specs.Schema.{attributes_of}
 use Rattle.p21_express_tables.specs.Lookups.{places_from}
