@@ -1,5 +1,5 @@
 -- Numbers that are gathered, each once.
-use Rattle.std.specs.Prelude.{◌≡◌, ◌≢◌, ℕ, zero, suc, ◌+◌, ◌<◌, ◌≤◌, ◌⊎◌, ◌||◌, Bool, true, false, cond, not, List, [], ◌∷◌, ◌++◌, Some, None, Option, length, slice_get, slice_index_or, slice_set, nat_eq, filter, map, Contains, refl, if◌then◌else◌}
+use Rattle.std.specs.Prelude.{◌≡◌, ◌≢◌, ℕ, zero, suc, ◌<◌, ◌≤◌, ◌⊎◌, ◌||◌, Bool, true, false, cond, not, List, [], ◌∷◌, ◌++◌, Some, None, length, slice_get, slice_index_or, slice_set, nat_eq, filter, map, Contains, refl, if◌then◌else◌}
 use Rattle.std.specs.List.{list_any}
 use Rattle.std.proofs.Common.{arith, ap, sym, ◌∙◌, subst, inl, inr, append_assoc, get_or}
 use Rattle.std.proofs.lemmas.Bool.Decides.{Decides-eqb}
@@ -9,7 +9,7 @@ use Rattle.std.specs.Option.{option_map}
 use Rattle.std.proofs.lemmas.Bool.{cases_eq, eqb-true, ne_eqb}
 use Rattle.std.proofs.lemmas.List.{get_or-set_other, get_or-set_same, map-append}
 use Rattle.std.proofs.lemmas.List.Elements.{Contains-get_or}
-use Rattle.p21_basics.proofs.Members.{Contains-none, Contains-first, Contains-later, Contains-cases, Contains-found, Contains-at, Contains-mapped}
+use Rattle.p21_basics.proofs.Members.{Contains-none, Contains-later, Contains-cases, Contains-found, Contains-at, Contains-mapped}
 use Rattle.p21_schemas.specs.Order.{firsts}
 use Rattle.p21_express_tables.specs.Gathering.{add_first, add_firsts, ArePlaced}
 use Rattle.p21_express_tables.proofs.Walks.{snoc_cases}

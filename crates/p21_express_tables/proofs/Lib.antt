@@ -1,4 +1,5 @@
 pub mod Gatherings
+pub mod Lookups
 pub mod Naming
 pub mod OrderTables
 pub mod Ranks

@@ -1,21 +1,23 @@
 -- The table of the orders of all entities.
-use Rattle.std.specs.Prelude.{◌≡◌, ◌≢◌, ℕ, zero, suc, ◌+◌, ◌<◌, ◌≤◌, ◌⊎◌, List, [], ◌∷◌, ◌++◌, Some, None, Option, length, map, slice_get, slice_set, take, drop, Contains, refl}
-use Rattle.std.specs.List.{flat_map, AllByRecursion as Each}
+use Rattle.std.specs.Prelude.{◌≡◌, ◌≢◌, ◌↔◌, ℕ, zero, suc, ◌+◌, ◌<◌, ◌⊎◌, List, [], ◌∷◌, ◌++◌, Some, None, Option, length, map, slice_get, slice_set, take, drop, Contains, refl}
+use Rattle.std.specs.List.{flat_map}
 use Rattle.std.proofs.Common.{arith, ap, sym, ◌∙◌, subst, inl, inr, append_assoc, get_or, length-append, drop-cons}
 use Rattle.std.proofs.lemmas.List.{map-append}
 use Rattle.std.specs.Option.{option_map}
 use Rattle.std.proofs.lemmas.Bool.{cases_eq}
-use Rattle.std.proofs.lemmas.Option.{slice_get-map, slice_get_within, slice_get_read, slice_get-get_or}
+use Rattle.std.proofs.lemmas.Option.{slice_get-map, slice_get_read}
 use Rattle.p21_basics.proofs.Members.{Contains-none, Contains-first, Contains-later, Contains-cases, Contains-found, Each-member, Each-at}
 use Rattle.p21_schemas.specs.Schema.{Schema, Entity}
 use Rattle.p21_schemas.specs.Supertype.{IsA, itself, above, supertypes_of}
 use Rattle.p21_schemas.specs.Order.{order, firsts}
-use Rattle.p21_schemas.proofs.Orders.{order-is, order_within-only}
-use Rattle.p21_schemas.specs.WellFormed.{AreEntities}
-use Rattle.p21_express_tables.specs.Settled.{nexts_of, IsSettled}
+use Rattle.p21_schemas.specs.Declared.{HasNoCircle, HasSupertype}
+use Rattle.p21_schemas.proofs.Orders.{AreEntities, order-is, order-has, order_within-only}
+use Rattle.p21_express_tables.specs.Settled.{nexts_of, IsNext, IsSettled, AreWithin}
 use Rattle.p21_express_tables.specs.Gathering.{add_first, add_firsts}
 use Rattle.p21_express_tables.specs.Resolved.{HoldsTogether, IsEntity}
-use Rattle.p21_express_tables.specs.Orders.{AreOrders, supertype_lists}
+use Rattle.p21_express_tables.specs.Orders.{AreOrders, supertype_lists, numbers}
+use Rattle.p21_express_tables.specs.Parts.{entity}
+use Rattle.p21_express_tables.specs.declared.parts.Entity.{Entity as Declared}
 use Rattle.p21_express_tables.proofs.Gatherings.{gathers, mapped-length}
 
 -- the list of a number, after a list was set
@@ -147,3 +149,24 @@ empty-more {X} items xs after x n size none after_is empty =
       (let e = ap length after_is in let f = length-append xs (x ∷ []) in omega (arith, e, f, size)),
       subst P (sym (ap (map items) after_is ∙ map-append items xs (x ∷ []))) (subst Q (sym empty) (nexts-empty (map items xs) none)),
     )
+
+-- the supertypes of the entities of parts
+pub lists-are : (entities : List Declared) → map (λ x. x.supertypes) (map entity entities) ≡ map (λ x. numbers x.supertypes.items) entities
+lists-are [] = refl
+lists-are (x ∷ entities) = ap (λ ls. numbers x.supertypes.items ∷ ls) (lists-are entities)
+
+pub no-circle : (s : Schema) → HasNoCircle (HasSupertype s) → HasNoCircle (IsNext (supertype_lists s))
+no-circle s ends = (ends.0, λ x y next. ends.1 x y (let P : List ℕ → Type 0 = λ xs. Contains xs y in subst P (supertypes-listed s x) next))
+
+pub lists-within : (s : Schema) → HoldsTogether s → AreWithin (supertype_lists s)
+lists-within s holds x y next = let below = are-entities s holds x y (let P : List ℕ → Type 0 = λ xs. Contains xs y in subst P (supertypes-listed s x) next) in omega (arith, below, mapped-length (λ z. z.supertypes) s.entities)
+
+-- the order that a table has
+pub order-at : {X : Type 0} (items : X → List ℕ) (s : Schema) (table : List X) (e : ℕ) (x : X) → AreOrders s (map items table) → e < length s.entities → x ≡ get_or table e x → items x ≡ order s e
+order-at items s table e x are below is =
+    let at : slice_get (map items table) e ≡ Some (items x) = slice_get-map items table e ∙ ap (option_map items) (slice_get_read table (length table) e x refl (omega (arith, below, are.size, mapped-length items table)) is) in
+    let same : Some (items x) ≡ Some (order s e) = sym at ∙ are.each e below in cc
+
+-- an entity is a supertype just where it is in the order
+pub order-tells : (s : Schema) → HoldsTogether s → (e f : ℕ) → Contains (order s e) f ↔ IsA s e f
+order-tells s holds e f = (λ among. order_within-only s (length s.entities) e f among, λ is. order-has s (are-entities s holds) holds.supertypes_end e f is)

@@ -1,5 +1,6 @@
 pub mod Coding
 pub mod Gathering
+pub mod Lookups
 pub mod Names
 pub mod Orders
 pub mod Parts

@@ -1,6 +1,6 @@
 -- What holds of a schema once all names are resolved: each number is that of an entity, a type or a place of it, and no
 -- chain comes back (ISO 10303-11, Scope and visibility).
-use Rattle.std.specs.Prelude.{ℕ, ◌+◌, ◌<◌, ◌≤◌, length}
+use Rattle.std.specs.Prelude.{ℕ, ◌+◌, ◌<◌, ◌≤◌, ◌^◌, length}
 use Rattle.std.specs.List.{AllByRecursion as Each}
 use Rattle.p21_schemas.specs.Schema.{Schema, TypeUse, entity, defined, array, list, set, bag, Member, entity_member, type_member, Kind, alias, items, choice, Place, Attribute, Redeclared, Entity, attributes_of}
 use Rattle.p21_schemas.specs.Declared.{HasNoCircle, HasSupertype, Renames, HasSelect, most_declarations}
@@ -43,8 +43,9 @@ IsAttribute s a = IsTypeUse s a.type
 abbrev pub IsRedeclared : Schema → Redeclared → Type 0
 IsRedeclared s r = IsPlace s r.place × IsTypeUse s r.type
 
--- all that an entity names is of the schema
+-- all that an entity names is of the schema; its attributes can be numbered
 pub record IsResolved (s : Schema) (x : Entity) : Type 0 where
+  pub few : length x.attributes < 2 ^ 32
   pub supertypes_are : Each (IsEntity s) x.supertypes
   pub attributes_are : Each (IsAttribute s) x.attributes
   pub redeclared_are : Each (IsRedeclared s) x.redeclared

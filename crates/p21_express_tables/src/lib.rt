@@ -5,6 +5,7 @@ mod gathered;
 mod names;
 mod orders;
 mod parts;
+mod place_types;
 mod schema;
 mod settle;
 

@@ -1,24 +1,51 @@
-ghost use Rattle.std.specs.Prelude.{◌≡◌, ◌<◌, ℕ, [], ◌∷◌, ◌++◌, length, slice_set, Contains, IfOk, OnOk};
+ghost use Rattle.std.specs.Prelude.{◌≡◌, ◌<◌, ℕ, [], ◌∷◌, ◌++◌, length, map, slice_set, Contains, IfOk, OnOk};
 ghost use Rattle.std.specs.List.{flat_map};
 ghost use Rattle.p21_schemas.specs.Supertype.{supertypes_of as supertypes};
 ghost use Rattle.p21_express_tables.specs.Gathering.{add_firsts};
 ghost use Rattle.p21_express_tables.specs.Orders.{AreOrders, numbers, supertype_lists, tabled};
 ghost use Rattle.p21_express_tables.specs.Parts.{schema_of};
 ghost use Rattle.p21_express_tables.specs.Resolved.{HoldsTogether};
-ghost use Rattle.p21_express_tables.specs.Settled.{AreWithin, IsSettled, nexts_of};
+ghost use Rattle.p21_express_tables.specs.Settled.{IsSettled, lists_of, nexts_of};
 
 use crate::gathered::Gathered;
-use crate::parts::Parts;
+use crate::parts::{Entity, Parts};
+use crate::settle::settled;
 use p21_express_types::EntityId;
 use p21_values::NoMemory;
 use std::alloc::Global;
 
+/// The order of each entity.
+pub(crate) fn all_orders(alloc: Global, parts: &Parts) -> Result<Vec<Vec<EntityId>>, NoMemory>
+    requires { HoldsTogether (schema_of parts.now) }
+    ensures { IfOk result (λ orders. AreOrders (schema_of parts.now) (tabled orders.items)) }
+{
+    let lists = supertype_numbers(alloc, &parts.entities)?;
+    match settled(alloc, &lists)? {
+        Some(listed) => orders(alloc, parts, &listed),
+        None => unreachable!(),
+    }
+}
+
+fn supertype_numbers(alloc: Global, entities: &[Entity]) -> Result<Vec<Vec<u32>>, NoMemory>
+    ensures { IfOk result (λ lists. lists_of lists.items ≡ map (λ x. numbers x.supertypes.items) entities.now) }
+{
+    let mut lists = Vec::with_capacity(alloc, entities.len())?;
+    for entity in entities {
+        let entity: &Entity = entity;
+        lists.push(numbers_of(alloc, &entity.supertypes)?)?;
+    }
+    Ok(lists)
+}
+
+fn numbers_of(alloc: Global, entities: &[EntityId]) -> Result<Vec<u32>, NoMemory>
+    ensures { IfOk result (λ found. found.items ≡ numbers entities.now) }
+{
+    let found = entities.iter().map(|entity| entity.0).collect(alloc)?;
+    Ok(found)
+}
+
 /// The order of each entity, where each is listed behind its supertypes.
-pub(crate) fn orders(
-    alloc: Global,
-    parts: &Parts,
-    listed: &[u32],
-) -> Result<Vec<Vec<EntityId>>, NoMemory>
+fn orders(alloc: Global, parts: &Parts, listed: &[u32]) -> Result<Vec<Vec<EntityId>>, NoMemory>
     requires holds { HoldsTogether (schema_of parts.now) }
     requires settled { IsSettled (supertype_lists (schema_of parts.now)) listed.now }
     ensures { IfOk result (λ orders. AreOrders (schema_of parts.now) (tabled orders.items)) }

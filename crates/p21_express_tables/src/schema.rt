@@ -1,9 +1,15 @@
-ghost use Rattle.std.specs.Prelude.{◌≡◌, ◌↔◌, ℕ, IsTrue, length, slice_get, MatchOption, Some};
-ghost use Rattle.p21_schemas.specs.Schema.{EntityNamed, TypeNamed, PlaceNamed, IsAbstract, kind_of, attribute_at};
+ghost use Rattle.std.specs.Prelude.{◌≡◌, ◌↔◌, ℕ, IsTrue, length, map, ◌++◌, slice_get, Contains, MatchOption, IfOk, OnOk, Some};
+ghost use Rattle.p21_schemas.specs.Schema.{EntityNamed, TypeNamed, PlaceNamed, IsAbstract, kind_of, attribute_at, attributes_of};
+ghost use Rattle.p21_schemas.specs.Supertype.{IsA, IsLeaf, AreLeaves};
+ghost use Rattle.p21_schemas.specs.OneOf.{Clashes};
+ghost use Rattle.p21_express_tables.specs.Lookups.{AreEntities, HasTwo, IsOther};
+ghost use Rattle.p21_schemas.specs.Order.{order, places, own_places};
+ghost use Rattle.p21_express_tables.specs.Orders.{numbers};
 ghost use Rattle.p21_express_types.specs.Meaning.{place as place_of, kind};
 ghost use Rattle.p21_express_tables.specs.Resolved.{HoldsTogether, IsEntity, IsType, IsPlace};
 ghost use Rattle.p21_express_tables.specs.Parts.{schema_of, AreNamed, entity as entity_of, attribute as attribute_of, defined as defined_of};
 
+use crate::orders::all_orders;
 use crate::parts::{Attribute, Defined, Entity, Parts};
 use p21_express_types::{EntityId, Place, TypeId, TypeKind};
 use p21_values::NoMemory;
@@ -13,7 +19,9 @@ use std::marker::Model;
 /// A schema with all names resolved (ISO 10303-11), prepared for look-ups.
 #[derive(Drop)]
 pub struct Schema {
+    alloc: Global,
     parts: Parts,
+    orders: Vec<Vec<EntityId>>,
 }
 
 impl Model for Schema {
@@ -26,10 +34,11 @@ impl Model for Schema {
 
     ghost use Rattle.p21_express_tables.specs.Parts.{schema_of, AreNamed};
     ghost use Rattle.p21_express_tables.specs.Resolved.{HoldsTogether};
+    ghost use Rattle.p21_express_tables.specs.Orders.{AreOrders, tabled};
 
     ghost view = { λ schema. schema_of schema.parts };
 
-    ghost invariant = { λ schema. HoldsTogether (schema_of schema.parts) × AreNamed schema.parts };
+    ghost invariant = { λ schema. HoldsTogether (schema_of schema.parts) × AreNamed schema.parts × AreOrders (schema_of schema.parts) (tabled schema.orders.items) };
 }
 
 impl Schema {
@@ -38,12 +47,24 @@ impl Schema {
     /// # Errors
     ///
     /// `NoMemory`.
-    pub fn new(parts: Parts) -> Schema
+    pub fn new(alloc: Global, parts: Parts) -> Result<Schema, NoMemory>
         requires named { AreNamed parts }
         requires holds_together { HoldsTogether (schema_of parts) }
-        ensures { result ≡ schema_of parts }
+        ensures { IfOk result (λ schema. schema ≡ schema_of parts) }
     {
-        Schema { parts }
+        let orders = all_orders(alloc, &parts)?;
+        Ok(Schema {
+            alloc,
+            parts,
+            orders,
+        })
+    }
+
+    /// All names are resolved, and no chain comes back.
+    pub fn holds_together(&self)
+        ensures { HoldsTogether self.now }
+    {
+        let _ = &self.parts;
     }
 
     /// The name of the schema.
@@ -84,6 +105,116 @@ impl Schema {
         ensures { IsTrue result ↔ IsAbstract self.now entity.0 }
     {
         self.entity_at(entity).is_abstract
+    }
+
+    /// Whether an entity is another one, or that is a direct or indirect supertype of it.
+    pub fn is_a(&self, sub: EntityId, sup: EntityId) -> bool
+        requires { IsEntity self.now sub.0 }
+        ensures { IsTrue result ↔ IsA self.now sub.0 sup.0 }
+    {
+        self.holds_together();
+        has(self.order_of(sub), sup)
+    }
+
+    /// The order of an entity in an instance (ISO 10303-21, Mapping of EXPRESS entity data types: internal mapping).
+    ///
+    /// # Errors
+    ///
+    /// `NoMemory`.
+    pub fn order(&self, entity: EntityId) -> Result<Vec<EntityId>, NoMemory>
+        requires { IsEntity self.now entity.0 }
+        ensures { IfOk result (λ entities. numbers entities.items ≡ order self.now entity.0) }
+    {
+        let entities = Vec::from_slice(self.alloc, self.order_of(entity))?;
+        Ok(entities)
+    }
+
+    /// The same, without memory.
+    pub fn order_of(&self, entity: EntityId) -> &[EntityId]
+        requires { IsEntity self.now entity.0 }
+        ensures { numbers result.now ≡ order self.now entity.0 }
+    {
+        &self.orders[entity.0 as usize]
+    }
+
+    /// The places of an entity in an instance, in the order of internal mapping.
+    ///
+    /// # Errors
+    ///
+    /// `NoMemory`.
+    pub fn places(&self, entity: EntityId) -> Result<Vec<Place>, NoMemory>
+        requires { IsEntity self.now entity.0 }
+        ensures { IfOk result (λ found. map place_of found.items ≡ places self.now entity.0) }
+    {
+        let mut found = Vec::new(self.alloc);
+        self.holds_together();
+        for owner in self.order_of(entity) {
+            self.push_own_places(*owner, &mut found)?;
+        }
+        Ok(found)
+    }
+
+    fn push_own_places(&self, entity: EntityId, found: &mut Vec<Place>) -> Result<(), NoMemory>
+        requires { IsEntity self.now entity.0 }
+        ensures { OnOk result (map place_of found.new.items ≡ map place_of found.old.items ++ own_places self.now entity.0) }
+    {
+        let count = self.attribute_count(entity);
+        for index in 0..count {
+            found.push(Place { entity, index })?;
+        }
+        Ok(())
+    }
+
+    /// How many attributes an entity declares itself.
+    pub fn attribute_count(&self, entity: EntityId) -> u32
+        requires { IsEntity self.now entity.0 }
+        ensures { result ≡ length (attributes_of self.now entity.0) }
+    {
+        self.holds_together();
+        self.entity_at(entity).attributes.len() as u32
+    }
+
+    /// The entities of a list that are no supertype of another one in it, in the order of the list.
+    ///
+    /// # Errors
+    ///
+    /// `NoMemory`.
+    pub fn leaves(&self, entities: &[EntityId]) -> Result<Vec<EntityId>, NoMemory>
+        requires { AreEntities self.now (numbers entities.now) }
+        ensures { IfOk result (λ leaves. AreLeaves self.now (numbers entities.now) (numbers leaves.items)) }
+    {
+        let mut leaves = Vec::new(self.alloc);
+        for entity in entities {
+            if self.is_leaf(*entity, entities) {
+                leaves.push(*entity)?;
+            }
+        }
+        Ok(leaves)
+    }
+
+    fn is_leaf(&self, entity: EntityId, entities: &[EntityId]) -> bool
+        requires entities { AreEntities self.now (numbers entities.now) }
+        requires listed { Contains (numbers entities.now) entity.0 }
+        ensures { IsTrue result ↔ IsLeaf self.now (numbers entities.now) entity.0 }
+    {
+        for other in entities {
+            if other.0 != entity.0 && self.is_a(*other, entity) {
+                return false;
+            }
+        }
+        true
+    }
+
+    /// Whether a list has two different entities of one ONEOF list (ISO 10303-11, Subtype/supertype constraints).
+    pub fn clashes(&self, entities: &[EntityId]) -> bool
+        ensures { IsTrue result ↔ Clashes self.now (numbers entities.now) }
+    {
+        for listed in &self.parts.one_of_lists {
+            if has_two(listed, entities) {
+                return true;
+            }
+        }
+        false
     }
 
     /// The name of the attribute at a place, in upper case.
@@ -143,4 +274,47 @@ impl Schema {
     {
         &self.parts.types[of.0 as usize]
     }
+}
+
+/// Whether an entity is among others.
+pub(crate) fn has(entities: &[EntityId], entity: EntityId) -> bool
+    ensures { IsTrue result ↔ Contains (numbers entities.now) entity.0 }
+{
+    for other in entities {
+        if other.0 == entity.0 {
+            return true;
+        }
+    }
+    false
+}
+
+fn has_two(listed: &[EntityId], entities: &[EntityId]) -> bool
+    ensures { IsTrue result ↔ HasTwo (numbers listed.now) (numbers entities.now) }
+{
+    match first_among(listed, entities) {
+        Some(first) => has_other(listed, entities, first),
+        None => false,
+    }
+}
+
+fn first_among(listed: &[EntityId], entities: &[EntityId]) -> Option<EntityId>
+    ensures { MatchOption result ((e : ℕ) → Contains (numbers listed.now) e → Contains (numbers entities.now) e → ⊥) (λ e. Contains (numbers listed.now) e.0 × Contains (numbers entities.now) e.0) }
+{
+    for entity in listed {
+        if has(entities, *entity) {
+            return Some(*entity);
+        }
+    }
+    None
+}
+
+fn has_other(listed: &[EntityId], entities: &[EntityId], first: EntityId) -> bool
+    ensures { IsTrue result ↔ ((e : ℕ) × IsOther (numbers listed.now) (numbers entities.now) first.0 e) }
+{
+    for entity in listed {
+        if entity.0 != first.0 && has(entities, *entity) {
+            return true;
+        }
+    }
+    false
 }

@@ -1,10 +1,9 @@
-use Rattle.std.specs.Prelude.{◌≡◌, ◌<◌, ◌+◌, ◌++◌, ◌∷◌, [], suc, ℕ, List, Some, Contains, length, slice_get, slice_set, take}
+use Rattle.std.specs.Prelude.{◌≡◌, ◌+◌, ◌++◌, ◌∷◌, [], suc, ℕ, List, Some, Contains, length, slice_get, slice_set, take}
 use Rattle.std.specs.List.{flat_map}
 use Rattle.std.proofs.Common.{arith, ap, sym, ◌∙◌, subst, get_or}
 use Rattle.std.proofs.lemmas.List.{take_all}
 use Rattle.std.proofs.lemmas.Option.{slice_get-get_or}
 use Rattle.p21_schemas.specs.Order.{order}
-use Rattle.p21_schemas.specs.Supertype.{supertypes_of}
 use Rattle.p21_express_tables.specs.Gathering.{add_firsts}
 use Rattle.p21_express_tables.specs.Orders.{numbers, tabled}
 use Rattle.p21_express_tables.specs.Settled.{nexts_of}

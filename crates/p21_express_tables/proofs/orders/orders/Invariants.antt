@@ -1,5 +1,4 @@
 use Rattle.std.proofs.Common.{◌≡◌, take, length, []}
-use Rattle.p21_express_tables.specs.Gathering.{Numbers}
 use Rattle.p21_express_tables.specs.Orders.{tabled}
 use Rattle.p21_express_tables.specs.Parts.{schema_of}
 use Rattle.p21_express_tables.proofs.OrderTables.{AreSoFar}

@@ -1,4 +1,3 @@
-use Rattle.std.specs.Prelude.{◌≡◌}
 use Rattle.std.proofs.Common.{arith, get_or}
 use Rattle.p21_express_tables.proofs.gathered.Gathered.add_all.Goals as goal
 use Rattle.p21_express_tables.proofs.Gatherings.{numbered-at}

@@ -1,0 +1,8 @@
+use Rattle.std.proofs.Common.{ℕ, ◌≡◌, ◌<◌, map, slice_get, Some}
+use Rattle.p21_schemas.specs.Schema.{Redeclared}
+use Rattle.p21_express_types.specs.Meaning.{place}
+use Rattle.p21_express_tables.specs.Parts.{redeclared}
+use Rattle.p21_express_tables.proofs.place_types.redeclaration_among.Given as goal
+
+abbrev pub invariant-loop-other : goal.invariant-loop-other
+invariant-loop-other l = (k : ℕ) (r : Redeclared) → k < l.other-index → slice_get (map redeclared l.redeclared) k ≡ Some r → r.place ≡ place l.place → ⊥

@@ -1,0 +1,18 @@
+use Rattle.std.specs.Prelude.{◌≡◌, List, Some, map, Contains}
+use Rattle.std.proofs.Common.{ap, sym, ◌∙◌, subst}
+use Rattle.p21_schemas.specs.Schema.{Redeclared}
+use Rattle.p21_express_tables.specs.Parts.{redeclared, entity}
+use Rattle.p21_express_tables.proofs.schema.Schema.redeclaration.Goals as goal
+use Rattle.p21_express_tables.proofs.Lookups.{map-option}
+
+pub returns : goal.returns
+returns c =
+    let same : map redeclared c.deref.result.now ≡ (entity c.entity_at.result.now).redeclared = ap (map redeclared) c.deref.ensures.value in
+    map-option c.redeclaration_among.result _ _ _ _
+    (λ none r (redeclares, is). let (x, at, among) = redeclares in
+    let e : Some x ≡ Some (entity c.entity_at.result.now) = sym at ∙ c.entity_at.ensures in
+    let x_is : x ≡ entity c.entity_at.result.now = cc in
+    let P : List Redeclared → Type 0 = λ rs. Contains rs r in
+    none r (subst P (ap (λ y. y.redeclared) x_is ∙ sym same) among) is)
+    (λ r found. let P : List Redeclared → Type 0 = λ rs. Contains rs (redeclared r.now) in ((entity c.entity_at.result.now, c.entity_at.ensures, subst P same found.0), found.1))
+    c.redeclaration_among.ensures
