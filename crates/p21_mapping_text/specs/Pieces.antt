@@ -1,5 +1,5 @@
 -- Texts that stand one behind the other.
-use Rattle.std.specs.Prelude.{ℕ, List, [], ◌∷◌, map, take, drop, Contains}
+use Rattle.std.specs.Prelude.{ℕ, Bool, true, false, List, [], ◌∷◌, map, take, drop, Contains}
 use denote.Ref.{Bor}
 
 -- what the texts are
@@ -15,3 +15,8 @@ pieces bytes (n ∷ ns) = take n bytes ∷ pieces (drop n bytes) ns
 abbrev pub NoneTwice : List (List ℕ) → Type 0
 NoneTwice [] = Unit {0}
 NoneTwice (x ∷ xs) = ¬ Contains xs x × NoneTwice xs
+
+-- the text of an element, behind a comma where it is not the first
+abbrev pub element_text : Bool → List ℕ → List ℕ
+element_text true text = text
+element_text false text = 44 ∷ text

@@ -2,5 +2,7 @@
 #![tactic(auto)]
 
 mod texts;
+mod value_text;
 
 pub use texts::{append_rising, are_distinct};
+pub use value_text::write_value;

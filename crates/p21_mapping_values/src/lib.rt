@@ -9,3 +9,6 @@ mod value;
 pub use need::Need;
 pub use typed::{Ids, Rows, Typed};
 pub use value::{Value, Values};
+
+#[cfg(test)]
+mod tests;

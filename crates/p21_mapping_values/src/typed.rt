@@ -15,7 +15,7 @@ pub struct Typed {
 /// Entities in a row.
 #[derive(Drop)]
 pub struct Ids {
-    all: Vec<EntityId>,
+    entities: Vec<EntityId>,
 }
 
 impl Model for Ids {
@@ -24,36 +24,37 @@ impl Model for Ids {
 
     ghost Value = { List EntityId };
 
-    ghost view = { λ ids. ids.all.items };
+    ghost view = { λ ids. ids.entities.items };
 }
 
 impl Ids {
     /// These entities in this order.
-    pub fn from_vec(all: Vec<EntityId>) -> Ids
-        ensures { result ≡ all.items }
+    pub fn from_vec(ids: Vec<EntityId>) -> Ids
+        ensures { result ≡ ids.items }
     {
-        Ids { all }
+        Ids { entities: ids }
     }
 
     /// The entities, first to last. It takes no memory.
     pub fn items(&self) -> &[EntityId]
         ensures { result.now ≡ self.now }
     {
-        &self.all
+        &self.entities
     }
 
     /// The entities, first to last.
     pub fn into_items(self) -> Vec<EntityId>
         ensures { result.items ≡ self }
     {
-        self.all
+        let Ids { entities } = self;
+        entities
     }
 }
 
 /// Rows of values, one behind the other.
 #[derive(Drop)]
 pub struct Rows {
-    all: Vec<Values>,
+    rows: Vec<Values>,
 }
 
 impl Model for Rows {
@@ -66,7 +67,7 @@ impl Model for Rows {
 
     ghost coded = { Prim.hlevel (codes, values.the_row.coded) };
 
-    ghost view = { λ rows. rows.all.items };
+    ghost view = { λ rows. rows.rows.items };
 }
 
 impl Rows {
@@ -74,20 +75,21 @@ impl Rows {
     pub fn from_vec(all: Vec<Values>) -> Rows
         ensures { result ≡ all.items }
     {
-        Rows { all }
+        Rows { rows: all }
     }
 
     /// The rows, first to last. It takes no memory.
     pub fn items(&self) -> &[Values]
         ensures { result.now ≡ self.now }
     {
-        &self.all
+        &self.rows
     }
 
     /// The rows, first to last.
     pub fn into_items(self) -> Vec<Values>
         ensures { result.items ≡ self }
     {
-        self.all
+        let Rows { rows } = self;
+        rows
     }
 }

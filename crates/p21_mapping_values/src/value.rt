@@ -35,10 +35,10 @@ impl Values {
     ghost use Rattle.p21_mapping_values.specs.View.{list_of};
 
     /// These values in this order.
-    pub fn from_vec(all: Vec<Value>) -> Values
-        ensures { list_of result ≡ all.items }
+    pub fn from_vec(values: Vec<Value>) -> Values
+        ensures { list_of result ≡ values.items }
     {
-        Values { all }
+        Values { all: values }
     }
 
     /// The values, first to last. It takes no memory.
@@ -52,6 +52,7 @@ impl Values {
     pub fn into_items(self) -> Vec<Value>
         ensures { result.items ≡ list_of self }
     {
-        self.all
+        let Values { all } = self;
+        all
     }
 }
