@@ -5,5 +5,4 @@ pub mod Fronting
 pub mod Following
 pub mod Extending
 pub mod Finishing
-pub mod Scalars
 pub mod OneScalar

@@ -3,12 +3,16 @@ use Rattle.std.proofs.Common.{◌≡◌, ℕ, zero, suc, ◌+◌, ◌-◌, ◌^�
 use Rattle.std.specs.List.{slice_get, slice_range}
 use Rattle.std.proofs.lemmas.List.{take-append-drop}
 use Rattle.p21_basics.specs.History.{extended, seen_behind, first_refusal, looked_at, IsOffered, empty}
-use Rattle.p21_exchange.specs.Laying.{Lexeme, Laid, HoldsScalar, open_bytes, count_behind}
+use Rattle.p21_exchange.specs.Laying.{Lexeme, Laid, LaidAs, HoldsScalar, open_bytes, count_behind, tokens_in}
 use Rattle.p21_basics.specs.Limits.{text_limit}
 use Rattle.p21_exchange.specs.Pending.{Tail, nothing, unfinished, slash, open_comment, tail_bytes, tail_size, LaidUpTo}
-use Rattle.p21_exchange.specs.Token.{Token, semicolon, IsScalarToken}
+use Rattle.p21_exchange.specs.Token.{Token, semicolon, IsScalarToken, Spells}
 use Rattle.p21_tokens_automaton.proofs.Theorems.{one-laying}
 use Rattle.p21_tokens.specs.Finding.{FindsScalar, FindsOnly}
+use Rattle.p21_exchange.specs.Spelling.{spelling}
+use Rattle.p21_tokens_automaton.proofs.Spellings.{same-spelling, spells-itself}
+use Rattle.p21_tokens_automaton.specs.SameToken.{IsSpelled}
+use Rattle.p21_tokens.specs.Parameter.{IsAnswer}
 use Rattle.p21_tokens.specs.Held.{Held}
 use Rattle.p21_tokens.specs.Histories.{TokenHistory, call_of, Stands, GoesOn, AreDead, Answers, RefusesAtByte, NextGives, FinishGives}
 use Rattle.p21_tokens.specs.Token.{meant, meant_all, waits}
@@ -243,3 +247,23 @@ finds-only bytes None (Some last) (Err fault.NotOneParameter) s laid o = λ toke
     o (subst IsScalarToken (sym same) held.0)
 finds-only bytes (Some first) (Some last) (Err fault.NotOneParameter) s laid o = λ token held. let e = one-laying bytes (meant first ∷ meant last ∷ []) (token ∷ []) laid held.1 in cc
 finds-only bytes _ _ _ s laid o = absurd o
+
+-- ---- the answer
+
+pub answer-of : (input : List ℕ) (token : Token) → length input ≤ text_limit → HoldsScalar input token → IsSpelled token → IsAnswer input (spelling token)
+answer-of input token within held spelled = record {
+  within = within;
+  token = token;
+  held = held;
+  spelling_is = refl;
+  spells = spells-itself token spelled.0 spelled.1;
+  same = λ other value. let equal = same-spelling token other spelled value.1 in (equal.1, equal.0);
+}
+
+-- the one token of a text is spelled
+pub spelled-in : (input : List ℕ) (token : Token) → Laid input (token ∷ []) → IsSpelled token
+spelled-in input token laid = at laid.lexemes laid.tokens_are laid.laid
+  where
+    at : (ls : List Lexeme) → tokens_in ls ≡ token ∷ [] → LaidAs input ls → IsSpelled token
+    at [] e l = absurd cc
+    at (x ∷ ls) e l = let same : x.token ≡ token = cc in (l.1, subst (λ (t : Token). Spells t l.1) same l.5)

@@ -1,7 +1,7 @@
 -- The refusals of the lexer and of one parameter: their numbers and names.
 use Rattle.std.specs.Prelude.{ℕ, List, codes}
 use Rattle.p21_tokens_automaton.specs.declared.mode.Absent.{Absent}
-use Rattle.p21_tokens_automaton.specs.declared.mode.Absent.TheVariants.{Scope, ValueName, ConstantName, UserKeyword, Anchor, Reference, Signature, NamedSection, SecondSection, NoDataSection}
+use Rattle.p21_tokens_automaton.specs.declared.mode.Absent.TheVariants.{Scope, ValueName, ConstantName, UserKeyword, Anchor, Reference, Signature, SecondSection, NoDataSection}
 use Rattle.p21_tokens_automaton.specs.declared.mode.Wrong.{Wrong}
 use Rattle.p21_tokens_automaton.specs.declared.mode.Wrong.TheVariants as wrong
 use Rattle.p21_tokens.specs.declared.fault.TokenFault.{TokenFault}
@@ -36,7 +36,6 @@ absent_name UserKeyword = codes "LeftOut(UserKeyword)"
 absent_name Anchor = codes "LeftOut(Anchor)"
 absent_name Reference = codes "LeftOut(Reference)"
 absent_name Signature = codes "LeftOut(Signature)"
-absent_name NamedSection = codes "LeftOut(NamedSection)"
 absent_name SecondSection = codes "LeftOut(SecondSection)"
 absent_name NoDataSection = codes "LeftOut(NoDataSection)"
 

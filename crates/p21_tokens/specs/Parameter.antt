@@ -2,20 +2,15 @@
 use Rattle.std.specs.Prelude.{◌≡◌, ◌↔◌, ℕ, ◌<◌, ◌≤◌, List, length}
 use Rattle.p21_exchange.specs.Laying.{HoldsScalar}
 use Rattle.p21_basics.specs.Limits.{text_limit}
-use Rattle.p21_exchange.specs.Number.{SameRatio, ratio_of}
 use Rattle.p21_exchange.specs.Spelling.{spelling}
-use Rattle.p21_exchange.specs.Token.{Token, real, Spells, IsScalarToken}
+use Rattle.p21_exchange.specs.Token.{Token, Spells, IsScalarToken}
+use Rattle.p21_tokens_automaton.specs.SameToken.{IsSpelled, SameToken}
 use Rattle.p21_tokens.specs.declared.fault.TokenFault.{TokenFault}
 use Rattle.p21_tokens.specs.declared.fault.TokenFault.TheVariants.{RecordTooLong, FileTooLong, NoMemory}
 
 -- a scalar that some bytes spell
 abbrev pub IsScalarValue : Token → Type 0
-IsScalarValue token = IsScalarToken token × ((bytes : List ℕ) × Spells token bytes)
-
--- reals are the same where their ratios are equal, other scalars where they are equal
-abbrev pub SameScalar : Token → Token → Type 0
-SameScalar (real number) (real other) = SameRatio (ratio_of number) (ratio_of other)
-SameScalar token other = token ≡ other
+IsScalarValue token = IsScalarToken token × IsSpelled token
 
 -- the canonical spelling of the text's one scalar, which spells it, and is that of the same scalars alone
 pub record IsAnswer (text answer : List ℕ) : Type 0 where
@@ -24,7 +19,7 @@ pub record IsAnswer (text answer : List ℕ) : Type 0 where
   pub held : HoldsScalar text token
   pub spelling_is : answer ≡ spelling token
   pub spells : Spells token answer
-  pub same : (other : Token) → IsScalarValue other → (answer ≡ spelling other) ↔ SameScalar token other
+  pub same : (other : Token) → IsScalarValue other → (answer ≡ spelling other) ↔ SameToken token other
 
 -- a text is refused only where it is too long or holds no scalar, or for want of memory
 abbrev pub IsRefusal : List ℕ → TokenFault → Type 0

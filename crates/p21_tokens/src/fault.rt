@@ -108,7 +108,6 @@ fn absent_name(absent: Absent) -> &'static str
         Absent::Anchor => "LeftOut(Anchor)",
         Absent::Reference => "LeftOut(Reference)",
         Absent::Signature => "LeftOut(Signature)",
-        Absent::NamedSection => "LeftOut(NamedSection)",
         Absent::SecondSection => "LeftOut(SecondSection)",
         Absent::NoDataSection => "LeftOut(NoDataSection)",
     }

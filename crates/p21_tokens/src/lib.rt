@@ -18,5 +18,8 @@ pub use fault::TokenFault;
 pub use laying::one_laying;
 pub use lexer::Lexer;
 pub use p21_tokens_automaton::Absent;
+pub use p21_values::{
+    Bits, Canonical, Decimal, Limits, Name, NoMemory, Text, ValueFault, Whole, Word,
+};
 pub use param::canonical_param;
 pub use token::Token;

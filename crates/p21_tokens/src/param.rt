@@ -1,6 +1,5 @@
 ghost use Rattle.std.specs.Prelude.{◌≡◌, ◌≤◌, ◌↔◌, ◌++◌, ◌∷◌, [], length, IsTrue, OnOk, IfOk, MatchResult};
 ghost use Rattle.p21_basics.specs.Limits.{text_limit};
-ghost use Rattle.p21_exchange.specs.Spelling.{spelling};
 ghost use Rattle.p21_exchange.specs.Token.{IsScalarToken};
 ghost use Rattle.p21_tokens.specs.Finding.{FindsScalar, FindsOnly};
 ghost use Rattle.p21_tokens.specs.Parameter.{IsAnswer, IsRefusal};
@@ -9,7 +8,7 @@ ghost use Rattle.p21_tokens.specs.Token.{meant};
 use crate::fault::TokenFault;
 use crate::lexer::Lexer;
 use crate::token::Token;
-use p21_values::{Canonical, Limits, NoMemory, Word};
+use p21_values::{Canonical, Limits};
 use std::alloc::Global;
 
 /// The most bytes of a text.
@@ -28,14 +27,10 @@ pub fn canonical_param(alloc: Global, text: &[u8]) -> Result<Vec<u8>, TokenFault
     if text.len() > LONGEST {
         return Err(TokenFault::FileTooLong);
     }
-    let token = match one_scalar(alloc, text) {
-        Ok(token) => token,
-        Err(fault) => return Err(fault),
-    };
-    match spelled(alloc, &token) {
-        Ok(answer) => Ok(answer),
-        Err(_) => Err(TokenFault::NoMemory),
-    }
+    let token = one_scalar(alloc, text)?;
+    let mut answer = Vec::new(alloc);
+    token.write_canonical(&mut answer)?;
+    Ok(answer)
 }
 
 /// The one token of a text, if it is a scalar.
@@ -102,36 +97,6 @@ fn is_scalar(token: &Token) -> bool
         | Token::Star => true,
         _ => false,
     }
-}
-
-/// The canonical spelling of a scalar.
-fn spelled(alloc: Global, token: &Token) -> Result<Vec<u8>, NoMemory>
-    requires { IsScalarToken (meant token.now) }
-    ensures { IfOk result (λ answer. answer.items ≡ spelling (meant token.now)) }
-{
-    let mut out = Vec::new(alloc);
-    match token {
-        Token::Name(name) => name.write_canonical(&mut out)?,
-        Token::Whole(number) => number.write_canonical(&mut out)?,
-        Token::Real(number) => number.write_canonical(&mut out)?,
-        Token::Text(text) => text.write_canonical(&mut out)?,
-        Token::Item(word) => append_item(word, &mut out)?,
-        Token::Bits(bits) => bits.write_canonical(&mut out)?,
-        Token::Dollar => out.push(b'$')?,
-        Token::Star => out.push(b'*')?,
-        _ => {}
-    }
-    Ok(out)
-}
-
-/// Appends an enumeration item between its points.
-fn append_item(word: &Word, out: &mut Vec<u8>) -> Result<(), NoMemory>
-    ensures { OnOk result (out.new.items ≡ out.old.items ++ (46 ∷ (word.now ++ (46 ∷ [])))) }
-{
-    out.push(b'.')?;
-    word.write_canonical(out)?;
-    out.push(b'.')?;
-    Ok(())
 }
 
 #[cfg(test)]

@@ -20,4 +20,5 @@ pub mod Lanes
 pub mod Decoded
 pub mod Rows
 pub mod Theorems
+pub mod Spellings
 pub mod Fronts

@@ -3,3 +3,4 @@ pub mod Step
 pub mod Reading
 pub mod Meaning
 pub mod Run
+pub mod SameToken

@@ -157,7 +157,6 @@ pub enum Absent {
     Anchor,
     Reference,
     Signature,
-    NamedSection,
     SecondSection,
     NoDataSection,
 }

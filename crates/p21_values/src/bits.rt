@@ -9,7 +9,7 @@ use std::alloc::Global;
 use std::marker::Model;
 
 /// A list of bits (ISO 10303-21, tokens: binary).
-#[derive(Drop)]
+#[derive(Debug, Drop)]
 pub struct Bits {
     token: Bytes,
 }

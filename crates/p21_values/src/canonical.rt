@@ -1,4 +1,4 @@
-ghost use Rattle.std.specs.Prelude.{◌≡◌, ℕ, ◌↔◌, ◌++◌, List, OnOk, OnErr};
+ghost use Rattle.std.specs.Prelude.{◌≡◌, ℕ, ◌↔◌, ◌++◌, List, OnOk, OnErr, take};
 
 use crate::fault::NoMemory;
 
@@ -27,6 +27,22 @@ pub trait Canonical {
 
     /// The canonical spelling spells the value.
     ghost spells_value: { (a : Self) → is_value a → spells (spelling a) a };
+}
+
+/// Answers whether all was written, and leaves only the first bytes where memory ran out on the way.
+pub fn or_restored(
+    out: &mut Vec<u8>,
+    before: usize,
+    written: Result<(), NoMemory>,
+) -> Result<(), NoMemory>
+    ensures answer { result ≡ written }
+    ensures ok { OnOk result (out.new.items ≡ out.old.items) }
+    ensures err { OnErr result (out.new.items ≡ take before out.old.items) }
+{
+    if written.is_err() {
+        out.truncate(before);
+    }
+    written
 }
 
 /// The canonical spelling by itself.

@@ -9,7 +9,7 @@ ghost use Rattle.p21_values.specs.Stored.{significand_spelling};
 ghost use Rattle.p21_values.specs.Digits.{WithoutEndZeros, WithoutFrontZeros};
 
 use crate::bytes::Bytes;
-use crate::canonical::Canonical;
+use crate::canonical::{Canonical, or_restored};
 use crate::digits::{
     behind, short_number, split_digits, split_integer, split_sign, without_end_zeros,
     without_front_zeros,
@@ -282,10 +282,7 @@ impl Canonical for Decimal {
     fn write_canonical(&self, out: &mut Vec<u8>) -> Result<(), NoMemory> {
         let before = out.len();
         let written = append(self, out);
-        if written.is_err() {
-            out.truncate(before);
-        }
-        written
+        or_restored(out, before, written)
     }
 }
 

@@ -17,7 +17,7 @@ mod whole;
 mod word;
 
 pub use bits::Bits;
-pub use canonical::Canonical;
+pub use canonical::{Canonical, or_restored};
 pub use decimal::Decimal;
 pub use fault::{NoMemory, ValueFault};
 pub use limits::Limits;

@@ -6,7 +6,7 @@ ghost use Rattle.p21_exchange.specs.Spelling.{character_spelling, text_spelling}
 ghost use Rattle.p21_exchange.specs.Text.{end_extended};
 ghost use Rattle.p21_values.specs.Canonical.{Continues};
 
-use crate::canonical::Canonical;
+use crate::canonical::{Canonical, or_restored};
 use crate::fault::NoMemory;
 use std::alloc::Global;
 use std::marker::Model;
@@ -15,7 +15,7 @@ use std::marker::Model;
 const SHORT: usize = 16;
 
 /// The characters of a string (ISO 10303-21, tokens: string), each a Unicode scalar value.
-#[derive(Drop)]
+#[derive(Debug, Drop)]
 pub struct Text {
     characters: Vec<char>,
 }
@@ -137,10 +137,7 @@ impl Canonical for Text {
     fn write_canonical(&self, out: &mut Vec<u8>) -> Result<(), NoMemory> {
         let before = out.len();
         let written = append(&self.characters, out);
-        if written.is_err() {
-            out.truncate(before);
-        }
-        written
+        or_restored(out, before, written)
     }
 }
 

@@ -7,7 +7,7 @@ ghost use Rattle.p21_values.specs.declared.fault.ValueFault.TheVariants.{BadNumb
 ghost use Rattle.p21_values.specs.Fault.{Reads};
 
 use crate::bytes::Bytes;
-use crate::canonical::Canonical;
+use crate::canonical::{Canonical, or_restored};
 use crate::digits::{split_integer, without_front_zeros};
 use crate::fault::{NoMemory, ValueFault};
 use std::alloc::Global;
@@ -108,10 +108,7 @@ impl Canonical for Whole {
     fn write_canonical(&self, out: &mut Vec<u8>) -> Result<(), NoMemory> {
         let before = out.len();
         let written = append(self, out);
-        if written.is_err() {
-            out.truncate(before);
-        }
-        written
+        or_restored(out, before, written)
     }
 }
 
