@@ -17,9 +17,9 @@ ghost use Rattle.p21_tokens.specs.Token.{meant};
 use crate::fault::{TokenFault, fault_of};
 use crate::front::front_token;
 use crate::reading::{marker_of, read_closed, read_end, read_ended, single_token};
-use crate::run::{at_most, whole_characters};
 use crate::step::{Step, is_token_byte};
 use crate::token::Token;
+use crate::within::{at_most, whole_characters};
 use p21_tokens_automaton::{Action, Mode, NameMode, Run, Single, advance, blanks, run_of};
 use p21_values::{Limits, Text};
 use std::alloc::Global;
@@ -97,9 +97,7 @@ impl Lexer {
         ensures ok { OnOk result (self.new ≡ with_kept self.old mode (byte ∷ []) 1) }
         ensures err { LacksMemory self.old result self.new }
     {
-        if self.kept.push(byte).is_err() {
-            return Err(TokenFault::NoMemory);
-        }
+        self.kept.push(byte)?;
         self.file += 1;
         self.size += 1;
         self.mode = mode;
@@ -113,9 +111,7 @@ impl Lexer {
         ensures ok { OnOk result (self.new ≡ with_characters self.old mode (character ∷ []) 1) }
         ensures err { LacksMemory self.old result self.new }
     {
-        if self.text.push(character).is_err() {
-            return Err(TokenFault::NoMemory);
-        }
+        self.text.push(character)?;
         self.file += 1;
         self.size += 1;
         self.mode = mode;
@@ -148,9 +144,7 @@ impl Lexer {
         requires statement { pending_of self.old < self.old.statement_limit }
         ensures { Closes self.old byte result self.new }
     {
-        if self.kept.push(byte).is_err() {
-            return Err(TokenFault::NoMemory);
-        }
+        self.kept.push(byte)?;
         let token = read_closed(self.alloc, self.mode, &self.kept);
         // Of a token of no bytes nothing may be kept.
         self.kept.clear();
@@ -276,9 +270,7 @@ impl Lexer {
         ensures err { LacksMemory self.old result self.new }
     {
         let run = &run[..at_most(run.len(), self.room())];
-        if self.kept.extend_from_slice(run).is_err() {
-            return Err(TokenFault::NoMemory);
-        }
+        self.kept.extend_from_slice(run)?;
         self.file += run.len() as u64;
         self.size += run.len() as u64;
         Ok(run.len())
@@ -291,9 +283,7 @@ impl Lexer {
         ensures err { LacksMemory self.old result self.new }
     {
         let run = &run[..at_most(run.len(), self.room())];
-        if self.text.push_latin1(run).is_err() {
-            return Err(TokenFault::NoMemory);
-        }
+        self.text.push_latin1(run)?;
         self.file += run.len() as u64;
         self.size += run.len() as u64;
         Ok(run.len())
@@ -310,9 +300,7 @@ impl Lexer {
         if text.is_empty() {
             return Ok(0);
         }
-        if self.text.push_str(text).is_err() {
-            return Err(TokenFault::NoMemory);
-        }
+        self.text.push_str(text)?;
         self.file += text.len() as u64;
         self.size += text.len() as u64;
         Ok(text.len())
