@@ -2,11 +2,11 @@
 use Rattle.std.proofs.Common.{◌≡◌, ◌≢◌, ℕ, zero, suc, ◌+◌, ◌≤◌, ◌<◌, Bool, true, false, cond, if◌then◌else◌, eqb, List, [], ◌∷◌, ◌++◌, ◌⊎◌, inl, inr, length, length-append, get_or, take, refl, sym, ap, ◌∙◌, subst, append_assoc, append-nil, arith, Option, Some, None, Ok, Err}
 use Rattle.std.specs.List.{slice_get}
 use Rattle.std.specs.Option.{option_map}
-use Rattle.std.proofs.lemmas.List.{length-take-le, take_more}
+use Rattle.std.proofs.lemmas.List.{append_cancel_left, length-take-le, take_more}
 use Rattle.std.proofs.lemmas.Option.{slice_get-get_or}
 use Rattle.std.proofs.Math.Seq.{take-length}
 use Rattle.p21_basics.specs.History.{extended, seen_behind, first_refusal, IsOffered, empty}
-use Rattle.p21_exchange.specs.Laying.{Lexeme, tokens_in, open_bytes, count_behind, AreStatementsWithin}
+use Rattle.p21_exchange.specs.Laying.{Lexeme, Laid, tokens_in, open_bytes, count_behind, AreStatementsWithin}
 use Rattle.p21_exchange.specs.Pending.{Tail, nothing, unfinished, slash, open_comment, tail_size, LaidUpTo, IsPending, IsTokenByte, BeginsNoSeparator}
 use Rattle.p21_exchange.specs.Token.{Token, begin, finish, keyword, user_keyword, name, whole, real, text}
 use Rattle.p21_tokens_automaton.proofs.Complete.{all_of-after}
@@ -14,7 +14,7 @@ use Rattle.p21_tokens_automaton.proofs.Sound.{TailIs, UpTo, FirstFits}
 use Rattle.p21_tokens_automaton.proofs.Fits.{ModeFits, StepFits}
 use Rattle.p21_tokens_automaton.proofs.TokenSound.{first-fits}
 use Rattle.p21_tokens_automaton.proofs.Steps.{lex-nil}
-use Rattle.p21_tokens_automaton.proofs.Theorems.{laid_read, tail-is, tail-ends, form-ends, steps-on, laid-up-to, size-is}
+use Rattle.p21_tokens_automaton.proofs.Theorems.{laid_read, tail-is, tail-ends, form-ends, steps-on, laid-up-to, size-is, one-laying, same-tokens}
 use Rattle.std.proofs.lemmas.Bool.{cond_both}
 use Rattle.std.proofs.lemmas.Bool.Decides.{nat_tests}
 use Rattle.p21_tokens_automaton.specs.Bytes.{is_blank, is_digit, is_upper}
@@ -27,11 +27,13 @@ use Rattle.p21_tokens_automaton.specs.declared.mode.NumberMode.TheVariants as nu
 use Rattle.p21_tokens_automaton.specs.declared.mode.WordMode.TheVariants as word_mode
 use Rattle.p21_tokens_automaton.specs.declared.mode.Wrong.TheVariants as wrong
 use Rattle.p21_tokens_automaton.proofs.Once.{spells-means}
-use Rattle.p21_tokens_automaton.specs.Meaning.{MeanAll, found_of}
-use Rattle.p21_tokens_automaton.specs.Reading.{State, start, Answer, open_at, after, Found, Sized, ended, all_of, lex}
-use Rattle.p21_tokens.proofs.Following.{tokens-append, mean-append, in-parts, open-append, within-append, after-append, after-nothing, live-laid, live-pending, live-within, live-few, live-first, live-at_once}
+use Rattle.p21_tokens_automaton.specs.Meaning.{MeanAll, Means, found_of}
+use Rattle.p21_tokens_automaton.specs.Reading.{State, start, Answer, open_at, after, Found, Sized, ended, closing, all_after, all_of, lex}
+use Rattle.p21_tokens.proofs.Stepping.{ended-waits}
+use Rattle.p21_tokens.proofs.Following.{handed-laid, live-open, whole-read, tokens-append, mean-append, in-parts, open-append, within-append, after-append, after-nothing, live-laid, live-pending, live-within, live-few, live-first, live-at_once}
 use Rattle.p21_tokens.specs.Held.{Held, pending_of, state_of}
-use Rattle.p21_tokens.specs.Histories.{TokenHistory, call_of, Stands, IsLive, IsHandedOver, GoesOn, AreDead, IsStatementFull, IsNoToken, EndsOutOfRange, IsOfForm, IsOfLimit, Answers, Refuses, NextGives}
+use Rattle.p21_tokens.specs.Histories.{TokenHistory, call_of, Stands, IsLive, IsHandedOver, GoesOn, AreDead, IsStatementFull, IsNoToken, EndsOutOfRange, IsOpen, EndsAtOnce, TakesNoMore, Answers, Refuses, NextGives}
+use Rattle.p21_tokens.specs.Fault.{IsOfForm, IsOfLimit}
 use Rattle.p21_tokens.specs.Steps.{rest_of, is_slash, is_token_byte, IsDeadAt, SameLimits, TakesRun, Gives, Hands, RefusesByte, EndsNone, IsInLimits, Scanned, ScansToken, gave, handed, Scans, RefusesAt}
 use Rattle.p21_tokens.specs.Token.{meant, waits}
 use Rattle.p21_tokens.specs.declared.fault.TokenFault.{TokenFault}
@@ -42,20 +44,19 @@ use Rattle.p21_tokens.specs.declared.token.Token.{Token as TokenRead}
 
 pub stands-new : (v : Held) → state_of v ≡ start → v.file ≡ 0 → v.statement ≡ 0 → v.refused ≡ None → Stands v empty
 unfolding Stands
-stands-new v s f n r = (
-  r,
-  λ _. record {
-    founds = [];
-    lexemes = [];
-    mean = tt;
-    given_are = refl;
-    file_is = f;
-    statement_is = n;
-    statements_within = tt;
-    reads = λ rest _. ap (λ (x : State). lex x rest) (sym s);
-    seen_is = inl refl;
-  },
-)
+stands-new v s f n r =
+    let live : IsLive v empty = record {
+      founds = [];
+      lexemes = [];
+      mean = tt;
+      given_are = refl;
+      file_is = f;
+      statement_is = n;
+      statements_within = tt;
+      reads = λ rest _. ap (λ (x : State). lex x rest) (sym s);
+      seen_is = inl refl;
+    } in
+    (r, λ _. live, live-pending v empty live)
 
 -- ---- the byte that was seen
 
@@ -280,6 +281,85 @@ live-scanned v w h piece count (Some token) live alive o s r = by_scan (take cou
         (same-history _ _ _ _ _ _ _ _ (ap (λ (x : List ℕ). h.taken ++ x) q)
         (sym (ap (λ (x : Option ℕ). seen_behind h.seen (take count piece) x) (waits-cond token piece count true g.waited ∙ e) ∙ seen-some h.seen (take count piece) byte)) refl (sym (ap (λ (x : Option TokenFault). first_refusal x None) alive))) here
 
+pub stands-live : (v : Held) (h : TokenHistory) → Stands v h → v.refused ≡ None → (h.refusal ≡ None) × IsLive v h
+unfolding Stands
+stands-live v h s e = let alive = sym s.0 ∙ e in (alive, s.1 alive)
+
+-- ---- the last byte of a token that does not wait
+
+offered-part : (seen : Option ℕ) (front rest : List ℕ) → IsOffered seen (front ++ rest) → IsOffered seen front
+offered-part None front rest o = tt
+offered-part (Some x) [] rest o = tt
+offered-part (Some x) (b ∷ front) rest o = o
+
+one-more : (tokens : List Token) (token : Token) → tokens ≡ tokens ++ token ∷ [] → ⊥
+one-more tokens token e = let l = ap length e in let k = length-append tokens (token ∷ []) in omega arith
+
+-- what the end leaves waits
+closing-waits : (s : State) (o : Option Found) → ended s ≡ o → (last : List Sized) (lexemes : List Lexeme) (token : Token) → closing o s.mode s.size ≡ Some last → MeanAll last lexemes → tokens_in lexemes ≡ token ∷ [] → waits token ≡ true
+closing-waits s (Some found) e last lexemes token q m t = by_list lexemes (subst (λ (x : List Sized). MeanAll x lexemes) (sym (some-list q)) m) t
+  where
+    some-list : Some (record { found = found; size = s.size } ∷ []) ≡ Some last → (record { found = found; size = s.size } ∷ []) ≡ last
+    some-list q = cc
+
+    by_list : (ls : List Lexeme) → MeanAll (record { found = found; size = s.size } ∷ []) ls → tokens_in ls ≡ token ∷ [] → waits token ≡ true
+    by_list [] m t = absurd m
+    by_list (l ∷ []) m t = let same : l.token ≡ token = cc in ended-waits s.mode s.kept s.characters found e token (subst (λ (x : Token). Means found x) same m.0)
+    by_list (l ∷ k ∷ ls) m t = absurd m.2
+closing-waits s None e last lexemes token q m t = by_mode s.mode q
+  where
+    by_list : (ls : List Lexeme) → MeanAll [] ls → tokens_in ls ≡ token ∷ [] → waits token ≡ true
+    by_list [] m t = absurd cc
+    by_list (l ∷ ls) m t = absurd m
+
+    some-list : Some [] ≡ Some last → [] ≡ last
+    some-list q = cc
+
+    by_mode : (mode : Mode) → closing None mode s.size ≡ Some last → waits token ≡ true
+    by_mode Between q = by_list lexemes (subst (λ (x : List Sized). MeanAll x lexemes) (sym (some-list q)) m) t
+    by_mode _ q = absurd cc
+
+-- what is given behind the bytes, and a token, are not laid in them where the token does not wait
+live-unlaid : (v : Held) (h : TokenHistory) (token : Token) → IsLive v h → waits token ≡ false → Laid h.taken (h.given ++ token ∷ []) → ⊥
+live-unlaid v h token live waits_not laid = elim live.seen_is [
+  | inl e ↦ by_end e
+  | inr told ↦ one-more h.given token (one-laying h.taken h.given (h.given ++ token ∷ []) (record { lexemes = live.lexemes; tokens_are = live.given_are; laid = handed-laid v h live told }) laid)
+]
+  where
+    by_end : h.seen ≡ None → ⊥
+    by_end e =
+        let found = laid_read laid.lexemes h.taken laid.laid in
+        at (closing (ended (state_of v)) v.mode v.size) refl found.0 (sym (ap all_of (whole-read v h live e)) ∙ found.1) found.2
+      where
+        at : (o : Option (List Sized)) → closing (ended (state_of v)) v.mode v.size ≡ o → (founds : List Sized) → all_after live.founds o ≡ Some founds → MeanAll founds laid.lexemes → ⊥
+        at None q founds a m = cc
+        at (Some last) q founds a m =
+            let same : live.founds ++ last ≡ founds = cc in
+            let parts = in-parts live.founds last laid.lexemes (subst (λ (x : List Sized). MeanAll x laid.lexemes) (sym same) m) in
+            let front : tokens_in parts.front ≡ h.given = same-tokens live.founds parts.front live.lexemes parts.mean_front live.mean ∙ live.given_are in
+            let all : h.given ++ tokens_in parts.behind ≡ h.given ++ token ∷ [] =
+            ap (λ (x : List Token). x ++ tokens_in parts.behind) (sym front) ∙ (sym (tokens-append parts.front parts.behind) ∙ (sym (ap tokens_in parts.lexemes_are) ∙ laid.tokens_are)) in
+            let yes = closing-waits (state_of v) (ended (state_of v)) refl last parts.behind token q parts.mean_behind (append_cancel_left h.given (tokens_in parts.behind) (token ∷ []) all) in
+            let clash : true ≡ false = sym yes ∙ waits_not in cc
+
+pub next-takes_no_more : (v w : Held) (piece : List ℕ) (count : ℕ) (token : TokenRead) → v.refused ≡ None → Scans v piece (Ok (count, Some token)) w → TakesNoMore v piece (Ok (count, Some token))
+next-takes_no_more v w piece count token r s h stands alive o waits_not = by_scan s.1.1
+  where
+    live : IsLive v h
+    live = (stands-live v h stands r).1
+
+    by_scan : ScansToken v (take count piece) (slice_get piece count) (meant token) w → EndsAtOnce (h.taken ++ take count piece) (h.given ++ meant token ∷ [])
+    by_scan (gave middle front byte same run g e) =
+        let offered = offered-part h.seen front (byte ∷ []) (subst (IsOffered h.seen) e (offered-front h.seen piece count o)) in
+        let here = live-none v middle h front live offered same run in
+        record {
+          front = h.taken ++ front;
+          byte = byte;
+          taken_are = ap (λ (x : List ℕ). h.taken ++ x) e ∙ sym (append_assoc h.taken front (byte ∷ []));
+          unlaid = λ laid. live-unlaid middle _ (meant token) here waits_not (subst (λ (x : List Token). Laid (h.taken ++ front) (x ++ meant token ∷ [])) (sym (append-nil h.given)) laid);
+        }
+    by_scan (handed middle byte same run g e) = let clash : true ≡ false = sym g.waited ∙ waits_not in absurd cc
+
 -- a live lexer's answers
 answers-live : (v : Held) (h : TokenHistory) → Stands v h → h.refusal ≡ None → IsLive v h → pending_of v ≤ v.statement_limit → v.file ≤ v.file_limit → Answers v h
 answers-live v h s alive live p f = record {
@@ -295,17 +375,13 @@ call-refusal : (piece : List ℕ) (count : ℕ) (token : Option Token) (h : Toke
 call-refusal piece count None h e = ap (λ (x : Option TokenFault). first_refusal x None) e
 call-refusal piece count (Some token) h e = ap (λ (x : Option TokenFault). first_refusal x None) e
 
-pub stands-live : (v : Held) (h : TokenHistory) → Stands v h → v.refused ≡ None → (h.refusal ≡ None) × IsLive v h
-unfolding Stands
-stands-live v h s e = let alive = sym s.0 ∙ e in (alive, s.1 alive)
-
 pub next-answers : (v w : Held) (piece : List ℕ) (answer : ℕ × Option TokenRead) → v.refused ≡ None → pending_of w ≤ w.statement_limit → w.file ≤ w.file_limit → Scans v piece (Ok answer) w → NextGives v piece (Ok answer) w
 unfolding Stands
 next-answers v w piece answer r p f s h stands o =
     let now = stands-live v h stands r in
     let live = live-scanned v w h piece answer.0 (option_map meant answer.1) now.1 now.0 o s.0 s.1 in
     let alive = call-refusal piece answer.0 (option_map meant answer.1) h now.0 in
-    answers-live w _ (s.0.refused ∙ (r ∙ sym alive), λ _. live) alive live p f
+    answers-live w _ (s.0.refused ∙ (r ∙ sym alive), λ _. live, live-pending w _ live) alive live p f
 
 -- ---- a call that refused
 
@@ -460,6 +536,12 @@ module _ (v w : Held) (h : TokenHistory) (piece : List ℕ) (live : IsLive v h) 
   abbrev tail : Tail
   tail = before-it.0
 
+  open-before : IsOpen (h.taken ++ take count piece)
+  open-before = live-open middle _ front-live
+
+  pending-before : IsPending (h.taken ++ take count piece) (pending_of middle)
+  pending-before = live-pending middle _ front-live
+
   laid : LaidUpTo (h.taken ++ take count piece) lexemes tail
   laid = laid-up-to (h.taken ++ take count piece) front-live.lexemes before-it.0 before-it.1 (tail-is (state_of middle) before-it.0 before-it.2)
 
@@ -541,15 +623,16 @@ module _ (v w : Held) (h : TokenHistory) (piece : List ℕ) (live : IsLive v h) 
   refuses-byte fault.BadName r = dead r.0
   refuses-byte (fault.LeftOut absent) r = dead r.0
 
-pub next-refuses : (v u w : Held) (piece : List ℕ) (x : TokenFault) → v.refused ≡ None → w.refused ≡ Some x → RefusesAt v piece x u → NextGives v piece (Err x) w
+pub next-refuses : (v u w : Held) (piece : List ℕ) (x : TokenFault) → v.refused ≡ None → w.refused ≡ Some x → pending_of w ≡ pending_of u → RefusesAt v piece x u → NextGives v piece (Err x) w
 unfolding Stands
-next-refuses v u w piece x r e s h stands o alive =
+next-refuses v u w piece x r e k s h stands o alive =
     let now = stands-live v h stands r in
     record {
       count = s.1;
       within = some-length piece s.1 s.2 s.3;
       byte = s.2;
       byte_is = s.3;
+      is_open = open-before v w h piece now.1 alive o s.0 s.1 s.2 s.3 s.4 s.5;
       refuses = refuses-byte v w h piece now.1 alive o s.0 s.1 s.2 s.3 s.4 s.5 x s.7;
       lexemes = lexemes v w h piece now.1 alive o s.0 s.1 s.2 s.3 s.4 s.5;
       tail = tail v w h piece now.1 alive o s.0 s.1 s.2 s.3 s.4 s.5;
@@ -559,12 +642,24 @@ next-refuses v u w piece x r e s h stands o alive =
       range_first = range-first v w h piece now.1 alive o s.0 s.1 s.2 s.3 s.4 s.5 x s.7;
       file_first = file-first v w h piece now.1 alive o s.0 s.1 s.2 s.3 s.4 s.5 x s.7;
       statement_first = statement-first v w h piece now.1 alive o s.0 s.1 s.2 s.3 s.4 s.5 x s.7;
-      stands = (e ∙ sym (ap (λ (y : Option TokenFault). first_refusal y (Some x)) alive), λ q. absurd (not-none x (sym (ap (λ (y : Option TokenFault). first_refusal y (Some x)) alive) ∙ q)));
+      stands = (
+        e ∙ sym (ap (λ (y : Option TokenFault). first_refusal y (Some x)) alive),
+        λ q. absurd (not-none x (sym (ap (λ (y : Option TokenFault). first_refusal y (Some x)) alive) ∙ q)),
+        subst (λ (n : ℕ). IsPending (h.taken ++ take s.1 piece) n) (sym (k ∙ s.8)) (pending-before v w h piece now.1 alive o s.0 s.1 s.2 s.3 s.4 s.5),
+      );
     }
   where
     not-none : (x : TokenFault) → Some x ≡ None → ⊥
     not-none x q = cc
 
-pub stands-pending : (v : Held) (h : TokenHistory) → Stands v h → h.refusal ≡ None → IsPending h.taken (pending_of v)
+pub stands-pending : (v : Held) (h : TokenHistory) → Stands v h → IsPending h.taken (pending_of v)
 unfolding Stands
-stands-pending v h s alive = live-pending v h (s.1 alive)
+stands-pending v h s = s.2
+
+-- the tokens given are laid in the bytes taken, up to a tail
+pub stands-laid : (v : Held) (h : TokenHistory) → Stands v h → h.refusal ≡ None → (lexemes : List Lexeme) × (tail : Tail) × LaidUpTo h.taken lexemes tail × (tokens_in lexemes ≡ h.given)
+unfolding Stands
+stands-laid v h s alive =
+    let live = s.1 alive in
+    let u = live-laid v h live in
+    (live.lexemes, u.0, laid-up-to h.taken live.lexemes u.0 u.1 (tail-is (state_of v) u.0 u.2), live.given_are)

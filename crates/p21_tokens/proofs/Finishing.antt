@@ -18,9 +18,10 @@ use Rattle.p21_tokens_automaton.specs.declared.mode.Mode.{Mode}
 use Rattle.p21_tokens_automaton.specs.declared.mode.Mode.TheVariants.{Between, Slash, Comment, Star}
 use Rattle.p21_tokens.proofs.Extending.{stands-live}
 use Rattle.p21_tokens.proofs.Following.{tokens-append, in-parts, live-laid, whole-read}
+use Rattle.p21_tokens.specs.Fault.{IsOfTheEnd}
 use Rattle.p21_tokens.specs.Held.{Held, pending_of, state_of}
 use Rattle.p21_tokens.specs.Histories.{TokenHistory, Stands, IsLive, NextGives, FinishGives, AreSeparators}
-use Rattle.p21_tokens.specs.Steps.{is_gap, AreBlank, IsFaultAtEnd, MayNotEnd, ReadsEnd, RefusesAt}
+use Rattle.p21_tokens.specs.Steps.{is_gap, AreBlank, MayNotEnd, ReadsEnd, RefusesAt}
 use Rattle.p21_tokens.specs.Token.{meant}
 use Rattle.p21_tokens.specs.declared.fault.TokenFault.{TokenFault}
 use Rattle.p21_tokens.specs.declared.fault.TokenFault.TheVariants as fault
@@ -56,7 +57,7 @@ finish-dead v h live e n tokens laid =
         let parts = in-parts live.founds last laid.lexemes (subst (λ (x : List Sized). MeanAll x laid.lexemes) (sym same) m) in
         n v.size last parts.behind q parts.mean_behind
 
-finish-err : (v : Held) (x : TokenFault) → v.refused ≡ None → IsFaultAtEnd x → MayNotEnd v.mode v.kept v.characters → FinishGives v (Err x)
+finish-err : (v : Held) (x : TokenFault) → v.refused ≡ None → IsOfTheEnd x → MayNotEnd v.mode v.kept v.characters → FinishGives v (Err x)
 finish-err v fault.NoMemory r f n = tt
 finish-err v _ r f n = λ h s e _. (f, finish-dead v h (stands-live v h s r).1 e n)
 

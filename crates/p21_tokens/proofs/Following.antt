@@ -12,7 +12,7 @@ use Rattle.p21_tokens_automaton.proofs.Fronts.{ended-laid, laid-few, front-run}
 use Rattle.p21_tokens_automaton.specs.Meaning.{MeanAll}
 use Rattle.p21_tokens_automaton.specs.Reading.{State, start, Answer, nothing_but, open_at, before, after, Sized, all_of, lex}
 use Rattle.p21_tokens.specs.Held.{Held, pending_of, state_of}
-use Rattle.p21_tokens.specs.Histories.{TokenHistory, IsLive, IsHandedOver, GoesOn, AreGivenFirst, AreGivenAtOnce, IsLaidWithin}
+use Rattle.p21_tokens.specs.Histories.{TokenHistory, IsLive, IsHandedOver, GoesOn, AreGivenFirst, AreGivenAtOnce, IsLaidWithin, IsOpen}
 use Rattle.p21_tokens.specs.Steps.{rest_of}
 
 -- ---- lists of tokens and what they were found as
@@ -92,7 +92,7 @@ module _ (v : Held) (h : TokenHistory) (live : IsLive v h) where
       ∙ (ap (λ (a : Answer). after live.founds a) (lex-nil (state_of v)) ∙ after-nothing live.founds (state_of v)))
 
   -- the token handed over, behind those in front of it
-  handed-laid : (told : IsHandedOver v h.taken live.founds) → LaidAs h.taken live.lexemes
+  pub handed-laid : (told : IsHandedOver v h.taken live.founds) → LaidAs h.taken live.lexemes
   handed-laid told =
       let last : Sized = record { found = told.last; size = told.state.size } in
       at (in-parts told.front (last ∷ []) live.lexemes (subst (λ (x : List Sized). MeanAll x live.lexemes) told.founds_are live.mean))
@@ -104,6 +104,12 @@ module _ (v : Held) (h : TokenHistory) (live : IsLive v h) where
           one [] m = absurd m
           one (l ∷ []) m = ended-laid h.taken parts.front told.state told.last l (read_laid h.taken told.front parts.front told.state told.read parts.mean_front) told.ended_is m.0 m.1
           one (l ∷ k ∷ ls) m = absurd m.2
+
+  pub live-open : IsOpen h.taken
+  live-open = elim live.seen_is [
+    | inl e ↦ record { founds = live.founds; state = state_of v; reads = whole-read e }
+    | inr told ↦ record { founds = told.front; state = told.state; reads = told.read }
+  ]
 
   -- the tokens given are laid in the bytes taken, up to what is open
   pub live-laid : UpTo h.taken live.lexemes (state_of v)

@@ -12,7 +12,8 @@ use Rattle.p21_tokens.specs.Finding.{FindsScalar, FindsOnly}
 use Rattle.p21_exchange.specs.Spelling.{spelling}
 use Rattle.p21_tokens_automaton.proofs.Spellings.{same-spelling, spells-itself}
 use Rattle.p21_tokens_automaton.specs.SameToken.{IsSpelled}
-use Rattle.p21_tokens.specs.Parameter.{IsAnswer}
+use Rattle.p21_tokens.specs.Parameter.{AreNoScalar, HoldsOthers, stand_first, are_all, EndsUnfinished, IsAnswer, IsRefusal}
+use Rattle.p21_tokens.proofs.Extending.{stands-laid}
 use Rattle.p21_tokens.specs.Held.{Held}
 use Rattle.p21_tokens.specs.Histories.{TokenHistory, call_of, Stands, GoesOn, AreDead, Answers, RefusesAtByte, NextGives, FinishGives}
 use Rattle.p21_tokens.specs.Token.{meant, meant_all, waits}
@@ -133,19 +134,34 @@ module _ (v w : Held) (bytes rest : List ℕ) (found : Option TokenRead) (n : �
       let first = answers.given_first all.0 (other ∷ []) (subst (λ (x : List ℕ). Laid x (other ∷ [])) (sym same) laid) in
       (first.0, first.1 ∙ ap (λ (x : List Token). (x ++ meant token ∷ []) ++ first.0) k.given_is)
 
-  pub second-token : (before : TokenRead) → found ≡ Some before → (other : Token) → HoldsScalar bytes other → ⊥
-  second-token before e other held =
+  -- the tokens that were given
+  given-are : (lexemes : List Lexeme) → tokens_in lexemes ≡ k.history.given ++ meant token ∷ [] → tokens_in lexemes ≡ meant_all found ++ meant token ∷ []
+  given-are lexemes e = e ∙ ap (λ (x : List Token). x ++ meant token ∷ []) k.given_is
+
+  others : AreNoScalar (meant_all found ++ meant token ∷ []) → HoldsOthers bytes
+  others more =
+      let within = answers.laid_within in
+      stand_first (k.history.taken ++ take n rest) (drop n rest) within.lexemes within.tail (sym (taken-rest k.history.taken rest n ∙ k.all_is)) within.laid (subst AreNoScalar (sym (given-are within.lexemes within.given_are)) more)
+
+  no-second : (before : TokenRead) → found ≡ Some before → (other : Token) → HoldsScalar bytes other → ⊥
+  no-second before e other held =
       let first = first-given other held.1 in
       let same : other ∷ [] ≡ (meant before ∷ meant token ∷ []) ++ first.0 = first.1 ∙ ap (λ (x : Option TokenRead). (meant_all x ++ meant token ∷ []) ++ first.0) e in
       let l = ap length same in
       cc
 
-  pub no-scalar : found ≡ None → (IsScalarToken (meant token) → ⊥) → (other : Token) → HoldsScalar bytes other → ⊥
-  no-scalar e not other held =
+  pub second-token : (before : TokenRead) → found ≡ Some before → FindsScalar bytes (Err fault.NotOneParameter)
+  second-token before e = (others (subst (λ (x : Option TokenRead). AreNoScalar (meant_all x ++ meant token ∷ [])) (sym e) tt), λ _. no-second before e)
+
+  none-first : found ≡ None → (IsScalarToken (meant token) → ⊥) → (other : Token) → HoldsScalar bytes other → ⊥
+  none-first e not other held =
       let first = first-given other held.1 in
       let same : other ∷ [] ≡ (meant token ∷ []) ++ first.0 = first.1 ∙ ap (λ (x : Option TokenRead). (meant_all x ++ meant token ∷ []) ++ first.0) e in
       let one : other ≡ meant token = cc in
       not (subst IsScalarToken one held.0)
+
+  pub no-scalar : found ≡ None → (IsScalarToken (meant token) → ⊥) → FindsScalar bytes (Err fault.NotOneParameter)
+  no-scalar e not = (others (subst (λ (x : Option TokenRead). AreNoScalar (meant_all x ++ meant token ∷ [])) (sym e) not), λ _. none-first e not)
 
 -- ---- a call that refused
 
@@ -180,7 +196,7 @@ finds-refused v w bytes rest found x k g = at x (g k.history k.stands (offered k
     dead n d token held = d (drop n rest) (token ∷ []) (subst (λ (y : List ℕ). Laid y (token ∷ [])) (sym (taken-rest k.history.taken rest n ∙ k.all_is)) held.1)
 
     at : (x : TokenFault) → RefusesAtByte v k.history rest x w → FindsScalar bytes (Err x)
-    at fault.NoMemory r = tt
+    at fault.NoMemory r = (tt, λ n. absurd (n refl))
     at fault.FileTooLong r = let m = front (r.count + 1) in let n = r.refuses in let f = k.file_limit in absurd (omega arith)
     at fault.RecordTooLong r =
         let full = r.refuses.2 in
@@ -193,16 +209,16 @@ finds-refused v w bytes rest found x k g = at x (g k.history k.stands (offered k
     at fault.OpenComment r = absurd r.refuses
     at fault.NotOneParameter r = absurd r.refuses
     at fault.EndsEarly r = absurd r.refuses
-    at fault.BadByte r = dead (r.count + 1) r.refuses
-    at fault.BadDirective r = dead (r.count + 1) r.refuses
-    at fault.BadCodePoint r = dead (r.count + 1) r.refuses
-    at fault.NotUtf8 r = dead (r.count + 1) r.refuses
-    at fault.BadNumber r = dead (r.count + 1) r.refuses
-    at fault.NumberRange r = dead (r.count + 1) r.refuses
-    at fault.BadBinary r = dead (r.count + 1) r.refuses
-    at fault.NameRange r = dead (r.count + 1) r.refuses
-    at fault.BadName r = dead (r.count + 1) r.refuses
-    at (fault.LeftOut absent) r = dead (r.count + 1) r.refuses
+    at fault.BadByte r = (tt, λ _. dead (r.count + 1) r.refuses)
+    at fault.BadDirective r = (tt, λ _. dead (r.count + 1) r.refuses)
+    at fault.BadCodePoint r = (tt, λ _. dead (r.count + 1) r.refuses)
+    at fault.NotUtf8 r = (tt, λ _. dead (r.count + 1) r.refuses)
+    at fault.BadNumber r = (tt, λ _. dead (r.count + 1) r.refuses)
+    at fault.NumberRange r = (tt, λ _. dead (r.count + 1) r.refuses)
+    at fault.BadBinary r = (tt, λ _. dead (r.count + 1) r.refuses)
+    at fault.NameRange r = (tt, λ _. dead (r.count + 1) r.refuses)
+    at fault.BadName r = (tt, λ _. dead (r.count + 1) r.refuses)
+    at (fault.LeftOut absent) r = (tt, λ _. dead (r.count + 1) r.refuses)
 
 -- ---- the end of the text
 
@@ -224,12 +240,33 @@ module _ (v : Held) (bytes rest : List ℕ) (found : Option TokenRead) (k : Kept
   taken-all : k.history.taken ≡ bytes
   taken-all = sym (append-nil k.history.taken) ∙ (ap (λ (x : List ℕ). k.history.taken ++ x) (sym empty-rest) ∙ k.all_is)
 
+  one-found : (found : Option TokenRead) → IsFoundScalar found → ¬ AreNoScalar (meant_all found)
+  one-found None s a = a
+  one-found (Some token) s a = a s
+
+  pub ends-unfinished : ((tokens : List Token) → Laid bytes tokens → tokens ≡ []) → EndsUnfinished bytes
+  ends-unfinished n =
+      let l = stands-laid v k.history k.stands k.alive in
+      record {
+        lexemes = l.0;
+        tail = l.1;
+        laid = subst (λ (x : List ℕ). LaidUpTo x l.0 l.1) taken-all l.2;
+        no_others = λ a. one-found found k.scalar (subst AreNoScalar (l.3 ∙ k.given_is) a);
+        none = n;
+      }
+
+  unlaid : (tokens : List Token) → (Laid k.history.taken tokens → ⊥) → Laid bytes tokens → ⊥
+  unlaid tokens none-laid laid = none-laid (subst (λ (x : List ℕ). Laid x tokens) (sym taken-all) laid)
+
   pub finds-end : (x : TokenFault) → FinishGives v (Err x) → FindsScalar bytes (Err x)
-  finds-end fault.NoMemory g = tt
-  finds-end fault.FileTooLong g = (g k.history k.stands unseen k.alive).0
-  finds-end fault.RecordTooLong g = (g k.history k.stands unseen k.alive).0
+  finds-end fault.NoMemory g = (tt, λ n. absurd (n refl))
+  finds-end fault.FileTooLong g = absurd (g k.history k.stands unseen k.alive).0
+  finds-end fault.RecordTooLong g = absurd (g k.history k.stands unseen k.alive).0
   finds-end fault.NotOneParameter g = absurd (g k.history k.stands unseen k.alive).0
-  finds-end _ g = λ token held. (g k.history k.stands unseen k.alive).1 (token ∷ []) (subst (λ (x : List ℕ). Laid x (token ∷ [])) (sym taken-all) held.1)
+  finds-end fault.EndsEarly g =
+      let none-laid = (g k.history k.stands unseen k.alive).1 in
+      (ends-unfinished (λ tokens laid. absurd (unlaid tokens (none-laid tokens) laid)), λ _ token held. unlaid (token ∷ []) (none-laid (token ∷ [])) held.1)
+  finds-end _ g = (tt, λ _ token held. unlaid (token ∷ []) ((g k.history k.stands unseen k.alive).1 (token ∷ [])) held.1)
 
   -- the tokens of the text
   pub tokens-are : (last : Option TokenRead) → FinishGives v (Ok last) → Laid bytes (meant_all found ++ meant_all last)
@@ -237,16 +274,22 @@ module _ (v : Held) (bytes rest : List ℕ) (found : Option TokenRead) (k : Kept
       let laid = (g k.history k.stands unseen).1 in
       subst (λ (x : List Token). Laid bytes (x ++ meant_all last)) k.given_is (subst (λ (x : List ℕ). Laid x (k.history.given ++ meant_all last)) taken-all laid)
 
-pub finds-only : (bytes : List ℕ) (found last : Option TokenRead) (result : Result TokenRead TokenFault) → IsFoundScalar found → Laid bytes (meant_all found ++ meant_all last) → FindsOnly found last result → FindsScalar bytes result
-finds-only bytes None None (Err fault.EndsEarly) s laid o = λ token held. let e = one-laying bytes [] (token ∷ []) laid held.1 in cc
-finds-only bytes (Some first) None (Ok answer) s laid o = subst (λ (x : Token). HoldsScalar bytes x) (sym o) (s, laid)
-finds-only bytes None (Some last) (Ok answer) s laid o = subst (λ (x : Token). HoldsScalar bytes x) (sym o.0) (o.1, laid)
-finds-only bytes None (Some last) (Err fault.NotOneParameter) s laid o = λ token held.
-    let e = one-laying bytes (meant last ∷ []) (token ∷ []) laid held.1 in
-    let same : meant last ≡ token = cc in
-    o (subst IsScalarToken (sym same) held.0)
-finds-only bytes (Some first) (Some last) (Err fault.NotOneParameter) s laid o = λ token held. let e = one-laying bytes (meant first ∷ meant last ∷ []) (token ∷ []) laid held.1 in cc
-finds-only bytes _ _ _ s laid o = absurd o
+pub finds-only : (bytes : List ℕ) (found last : Option TokenRead) (result : Result TokenRead TokenFault) → IsFoundScalar found → (((tokens : List Token) → Laid bytes tokens → tokens ≡ []) → EndsUnfinished bytes) → Laid bytes (meant_all found ++ meant_all last) → FindsOnly found last result → FindsScalar bytes result
+finds-only bytes None None (Err fault.EndsEarly) s early laid o = (early (λ tokens other. one-laying bytes tokens [] other laid), λ _ token held. let e = one-laying bytes [] (token ∷ []) laid held.1 in cc)
+finds-only bytes (Some first) None (Ok answer) s early laid o = subst (λ (x : Token). HoldsScalar bytes x) (sym o) (s, laid)
+finds-only bytes None (Some last) (Ok answer) s early laid o = subst (λ (x : Token). HoldsScalar bytes x) (sym o.0) (o.1, laid)
+finds-only bytes None (Some last) (Err fault.NotOneParameter) s early laid o = (
+  are_all (meant last ∷ []) laid o,
+  λ _ token held.
+      let e = one-laying bytes (meant last ∷ []) (token ∷ []) laid held.1 in
+      let same : meant last ≡ token = cc in
+      o (subst IsScalarToken (sym same) held.0),
+)
+finds-only bytes (Some first) (Some last) (Err fault.NotOneParameter) s early laid o = (
+  are_all (meant first ∷ meant last ∷ []) laid tt,
+  λ _ token held. let e = one-laying bytes (meant first ∷ meant last ∷ []) (token ∷ []) laid held.1 in cc,
+)
+finds-only bytes _ _ _ s early laid o = absurd o
 
 -- ---- the answer
 
@@ -267,3 +310,7 @@ spelled-in input token laid = at laid.lexemes laid.tokens_are laid.laid
     at : (ls : List Lexeme) → tokens_in ls ≡ token ∷ [] → LaidAs input ls → IsSpelled token
     at [] e l = absurd cc
     at (x ∷ ls) e l = let same : x.token ≡ token = cc in (l.1, subst (λ (t : Token). Spells t l.1) same l.5)
+
+pub refusal_of : (text : List ℕ) (x : TokenFault) → length text ≤ text_limit → FindsScalar text (Err x) → IsRefusal text x
+refusal_of text fault.FileTooLong within f = absurd f.0
+refusal_of text _ within f = (within, f.0, f.1)

@@ -62,7 +62,7 @@ module _ (v w u : Held) (piece : List ℕ) (n b : ℕ) (h : n < length piece) (e
   along-handed t s = (limits-after v w u a.same s.0, (omega arith, handed w b a.same a.run s.1 found))
 
   pub along-refused : (x : TokenFault) → Steps w b (Err x) u → Scans v piece (Err x) u
-  along-refused x s = (w, n, b, found, a.same, a.run, limits-after v w u a.same s.0, s.1)
+  along-refused x s = (w, n, b, found, a.same, a.run, limits-after v w u a.same s.0, s.1, s.2)
 
 -- ---- a run, or one byte
 
@@ -73,7 +73,7 @@ run-nothing v w bytes m z r = let same : 0 + m ≡ 0 = omega arith in subst (λ 
 pub walked-no_memory : (v u : Held) (bytes : List ℕ) (x : TokenFault) → 0 < length bytes → Runs v bytes (Err x) u → Walks v bytes (Err x) u
 walked-no_memory v u bytes x h r =
     let a = along-none v bytes in
-    (v, 0, get_or bytes 0 0, slice_get-get_or bytes 0 0 h, a.same, a.run, r.1, subst (λ (y : TokenFault). RefusesByte v (get_or bytes 0 0) y) (sym r.0) (λ g _. r.2 g))
+    (v, 0, get_or bytes 0 0, slice_get-get_or bytes 0 0 h, a.same, a.run, r.1, subst (λ (y : TokenFault). RefusesByte v (get_or bytes 0 0) y) (sym r.0) (λ g _. r.2 g), r.3)
 
 -- ---- the bytes behind those that gave no token
 
@@ -116,8 +116,8 @@ module _ (v w u : Held) (piece : List ℕ) (n : ℕ) (a : Along v w piece n) whe
   along-fault x k = on_rest (subst (λ (y : List ℕ). RefusesAt w y x u) (behind-those piece n a.within) k)
     where
       on_rest : RefusesAt w (drop n piece) x u → RefusesAt v piece x u
-      on_rest (middle, m, byte, is, same, run, limits, refuses) =
-          (middle, n + m, byte, byte-behind piece n m byte is, limits-after v w middle a.same same, subst (λ (y : List ℕ). TakesRun v y middle) (sym (take-add n m piece)) (on middle (take m (drop n piece)) run), limits-after v w u a.same limits, refuses)
+      on_rest (middle, m, byte, is, same, run, limits, refuses, pending) =
+          (middle, n + m, byte, byte-behind piece n m byte is, limits-after v w middle a.same same, subst (λ (y : List ℕ). TakesRun v y middle) (sym (take-add n m piece)) (on middle (take m (drop n piece)) run), limits-after v w u a.same limits, refuses, pending)
 
 pub along-all : (v w : Held) (piece : List ℕ) (n : ℕ) → length piece ≤ n → Along v w piece n → Scans v piece (Ok (n, None)) w
 along-all v w piece n l a =

@@ -1,5 +1,5 @@
 -- What each action makes of what is held.
-use Rattle.std.proofs.Common.{eqb, cond, ◌≡◌, ℕ, ◌+◌, ◌<◌, true, false, List, [], ◌∷◌, ◌++◌, refl, sym, ap, ◌∙◌, subst, arith, Option, Some, None, Result, Ok, Err}
+use Rattle.std.proofs.Common.{eqb, cond, ◌≡◌, ℕ, ◌+◌, ◌<◌, true, false, List, [], ◌∷◌, ◌++◌, refl, sym, ap, ◌∙◌, subst, arith, Option, Some, None, Ok, Err}
 use Rattle.std.proofs.lemmas.Bool.{cond_both}
 use Rattle.p21_exchange.specs.Laying.{Lexeme, count_behind}
 use Rattle.p21_exchange.specs.Token as meaning
@@ -31,9 +31,11 @@ use Rattle.p21_tokens.specs.Steps.{is_gap, rest_of, IsDeadAt, EndsNone, IsInLimi
 use Rattle.p21_tokens.specs.Token.{meant, waits}
 use Rattle.p21_tokens.specs.declared.fault.TokenFault.{TokenFault}
 use Rattle.p21_tokens.specs.declared.fault.TokenFault.TheVariants as fault
-use Rattle.p21_tokens.specs.declared.step.Step.{Step}
 use Rattle.p21_tokens.specs.declared.step.Step.TheVariants.{Took, Gave, Handed}
 use Rattle.p21_tokens.specs.declared.token.Token.{Token}
+
+pub same-limits : (v w : Held) → w.statement_limit ≡ v.statement_limit → w.file_limit ≡ v.file_limit → w.refused ≡ v.refused → SameLimits v w
+same-limits v w e f g = record { statement_limit = e; file_limit = f; refused = g }
 
 -- ---- separators between tokens need nothing
 
@@ -52,6 +54,9 @@ blank-passes Star b g h =
 blank-passes _ b g h = cc
 
 -- ---- refusals
+
+some-is : (f g : Found) → Some f ≡ Some g → f ≡ g
+some-is f g e = cc
 
 all-first : (found : Found) (size : ℕ) (a : Answer) (founds : List Sized) (lexemes : List Lexeme) → all_of (before (record { found = found; size = size }) a) ≡ Some founds → MeanAll founds lexemes → (token : meaning.Token) × Means found token
 all-first found size a founds lexemes e m = at (at_end a.ending) e
@@ -81,9 +86,6 @@ reads-refuses v b o size go x e i n l r = by_fault x o e i r
     none : (o : Option Found) → ((bs : List ℕ) → rest_of v (b ∷ bs) ≡ given_first o size (go bs)) → (advance v.mode b ≡ End → ended (state_of v) ≡ o) → ((found : Found) → o ≡ Some found → (token : meaning.Token) → Means found token → ⊥) → IsDeadAt v (b ∷ []) × EndsNone v b × IsInLimits v b
     none o e i h = (dead-first v b o size go e h, (λ q found token f m. h found (sym (i q) ∙ f) token m), l)
 
-    some-is : (f g : Found) → Some f ≡ Some g → f ≡ g
-    some-is f g e = cc
-
     of_some : (f : Found) → ((token : meaning.Token) → Means f token → ⊥) → (found : Found) → Some f ≡ Some found → (token : meaning.Token) → Means found token → ⊥
     of_some f h found q token m = h token (subst (λ (y : Found). Means y token) (sym (some-is f found q)) m)
 
@@ -111,41 +113,35 @@ module _ (v : Held) (b : ℕ) where
   pub needs-memory : (a : Action) → advance v.mode b ≡ a → (Passes a → ⊥) → is_gap v.mode ≡ true → is_blank b ≡ true → ⊥
   needs-memory a e n g h = n (subst Passes e (blank-passes v.mode b g h))
 
-  same_limits : (w : Held) → w.statement_limit ≡ v.statement_limit → w.file_limit ≡ v.file_limit → w.refused ≡ v.refused → SameLimits v w
-  same_limits w e f g = record { statement_limit = e; file_limit = f; refused = g }
-
   pub took-pass : (m : Mode) (w : Held) → advance v.mode b ≡ Pass m → w ≡ record v { mode = m; file = v.file + 1 } → Steps v b (Ok Took) w
   took-pass m w e q = subst (λ (x : Held). Steps v b (Ok Took) x) (sym q) (
-    same_limits _ refl refl refl,
+    same-limits v _ refl refl refl,
     record { file_is = refl; statement_is = refl; rest_is = λ rest. lex-pass (state_of v) m b rest e; gap = λ g h. subst Passes e (blank-passes v.mode b g h) },
   )
 
   pub took-skip : (m : Mode) (w : Held) → advance v.mode b ≡ Skip m → w ≡ record v { mode = m; size = v.size + 1; file = v.file + 1 } → Steps v b (Ok Took) w
   took-skip m w e q = subst (λ (x : Held). Steps v b (Ok Took) x) (sym q) (
-    same_limits _ refl refl refl,
+    same-limits v _ refl refl refl,
     record { file_is = refl; statement_is = refl; rest_is = λ rest. lex-skip (state_of v) m b rest e; gap = λ g h. absurd (subst Passes e (blank-passes v.mode b g h)) },
   )
 
   pub took-keep : (m : Mode) (w : Held) → advance v.mode b ≡ Keep m → w ≡ record v { mode = m; kept = v.kept ++ b ∷ []; size = v.size + 1; file = v.file + 1 } → Steps v b (Ok Took) w
   took-keep m w e q = subst (λ (x : Held). Steps v b (Ok Took) x) (sym q) (
-    same_limits _ refl refl refl,
+    same-limits v _ refl refl refl,
     record { file_is = refl; statement_is = refl; rest_is = λ rest. lex-keep (state_of v) m b rest e; gap = λ g h. absurd (subst Passes e (blank-passes v.mode b g h)) },
   )
 
   pub took-put : (m : Mode) (c : ℕ) (w : Held) → advance v.mode b ≡ Put m c → w ≡ record v { mode = m; characters = v.characters ++ c ∷ []; size = v.size + 1; file = v.file + 1 } → Steps v b (Ok Took) w
   took-put m c w e q = subst (λ (x : Held). Steps v b (Ok Took) x) (sym q) (
-    same_limits _ refl refl refl,
+    same-limits v _ refl refl refl,
     record { file_is = refl; statement_is = refl; rest_is = λ rest. lex-put (state_of v) m c b rest e; gap = λ g h. absurd (subst Passes e (blank-passes v.mode b g h)) },
   )
 
   pub took-dash : (m : Mode) (w : Held) → advance v.mode b ≡ Dash → marker_of v.kept ≡ Some m → w ≡ record v { mode = m; kept = v.kept ++ b ∷ []; size = v.size + 1; file = v.file + 1 } → Steps v b (Ok Took) w
   took-dash m w e f q = subst (λ (x : Held). Steps v b (Ok Took) x) (sym q) (
-    same_limits _ refl refl refl,
+    same-limits v _ refl refl refl,
     record { file_is = refl; statement_is = refl; rest_is = λ rest. lex-dash (state_of v) m b rest e f; gap = λ g h. absurd (subst Passes e (blank-passes v.mode b g h)) },
   )
-
-  pub no-memory : (a : Action) (w : Held) → advance v.mode b ≡ a → (Passes a → ⊥) → SameLimits v w → (r : Result Step TokenFault) → r ≡ Err fault.NoMemory → Steps v b r w
-  no-memory a w e n s r q = subst (λ (x : Result Step TokenFault). Steps v b x w) (sym q) (s, needs-memory a e n)
 
   dead-refused : (x : Wrong) → advance v.mode b ≡ Refuse x → IsDeadAt v (b ∷ [])
   dead-refused x e rest founds lexemes a m =
@@ -164,9 +160,6 @@ single-at_once single.Dollar = refl
 single-at_once single.Star = refl
 
 -- ---- tokens that are given
-
-some-is : (f g : Found) → Some f ≡ Some g → f ≡ g
-some-is f g e = cc
 
 -- a token that its last byte ends does not wait, and is no `;`
 record EndsItself (t : meaning.Token) : Type 0 where
@@ -304,12 +297,14 @@ module _ (v : Held) (b : ℕ) where
   refused-closed x w e l h = (
     h.1,
     reads-refuses v b (closed v.mode (v.kept ++ b ∷ [])) (v.size + 1) (λ bs. lex start bs) x (λ bs. lex-byte (state_of v) b bs ∙ ap (λ (y : Action). act y (state_of v) b (λ next. lex next bs)) e) (λ q. absurd (let clash : Close ≡ End = sym e ∙ q in cc)) (needs-memory v b Close e (λ p. p)) l h.0,
+    h.2,
   )
 
   pub refused-ended : (x : TokenFault) (w : Held) → advance v.mode b ≡ End → Ends v (Err x) w → Steps v b (Err x) w
   refused-ended x w e h = (
     h.1,
     reads-refuses v b (ended (state_of v)) v.size (λ bs. first (advance Between b) b (λ next. lex next bs)) x (λ bs. lex-byte (state_of v) b bs ∙ ap (λ (y : Action). act y (state_of v) b (λ next. lex next bs)) e) (λ _. refl) (needs-memory v b End e (λ p. p)) (λ n. absurd (n e)) h.0,
+    h.2,
   )
 
   pub refused-byte : (x : Wrong) → advance v.mode b ≡ Refuse x → IsInLimits v b → RefusesByte v b (fault_of x)

@@ -9,6 +9,68 @@ use Rattle.p21_tokens.specs.declared.fault.TokenFault.TheVariants.{BadByte, Open
 use Rattle.p21_values.specs.declared.fault.ValueFault.{ValueFault}
 use Rattle.p21_values.specs.declared.fault.ValueFault.TheVariants as value
 
+-- what a fault is of: a byte that nothing goes on with, the end of the bytes, the limit on a statement or on a file, a
+-- parameter that is no scalar, or want of memory
+pub data Cause : Type 0 where
+  of_form : Cause
+  of_end : Cause
+  of_statement : Cause
+  of_file : Cause
+  of_parameter : Cause
+  of_memory : Cause
+
+-- each fault stands here, so that a new one has to be put somewhere
+abbrev pub cause_of : TokenFault → Cause
+cause_of BadByte = of_form
+cause_of OpenString = of_end
+cause_of OpenComment = of_end
+cause_of BadDirective = of_form
+cause_of BadCodePoint = of_form
+cause_of NotUtf8 = of_form
+cause_of BadNumber = of_form
+cause_of NumberRange = of_form
+cause_of BadBinary = of_form
+cause_of NameRange = of_form
+cause_of BadName = of_form
+cause_of NotOneParameter = of_parameter
+cause_of RecordTooLong = of_statement
+cause_of FileTooLong = of_file
+cause_of EndsEarly = of_end
+cause_of (LeftOut absent) = of_form
+cause_of NoMemory = of_memory
+
+-- a fault of the bytes, not of limits or memory
+abbrev pub IsOfForm : TokenFault → Type 0
+IsOfForm fault = elim (cause_of fault) [
+  | of_form ↦ Unit {0}
+  | of_end ↦ ⊥
+  | of_statement ↦ ⊥
+  | of_file ↦ ⊥
+  | of_parameter ↦ ⊥
+  | of_memory ↦ ⊥
+]
+
+abbrev pub IsOfLimit : TokenFault → Type 0
+IsOfLimit fault = elim (cause_of fault) [
+  | of_form ↦ ⊥
+  | of_end ↦ ⊥
+  | of_statement ↦ Unit {0}
+  | of_file ↦ Unit {0}
+  | of_parameter ↦ ⊥
+  | of_memory ↦ ⊥
+]
+
+-- a fault that the end of the bytes may have: a last real may be out of range
+abbrev pub IsOfTheEnd : TokenFault → Type 0
+IsOfTheEnd fault = elim (cause_of fault) [
+  | of_form ↦ Unit {0}
+  | of_end ↦ Unit {0}
+  | of_statement ↦ ⊥
+  | of_file ↦ ⊥
+  | of_parameter ↦ ⊥
+  | of_memory ↦ Unit {0}
+]
+
 abbrev pub fault_number : TokenFault → ℕ
 fault_number BadByte = 1
 fault_number OpenString = 2

@@ -1,19 +1,16 @@
 -- What the search for the one scalar of a text owes.
-use Rattle.std.specs.Prelude.{◌≡◌, ℕ, List, Option, Some, None, Result, Ok, Err}
+use Rattle.std.specs.Prelude.{◌≡◌, ◌≢◌, ℕ, List, Option, Some, None, Result, Ok, Err}
 use Rattle.p21_exchange.specs.Laying.{HoldsScalar}
-use Rattle.p21_exchange.specs.Token as meaning
 use Rattle.p21_exchange.specs.Token.{IsScalarToken}
+use Rattle.p21_tokens.specs.Parameter.{HoldsNoScalar, RefusesText}
 use Rattle.p21_tokens.specs.Token.{meant}
 use Rattle.p21_tokens.specs.declared.fault.TokenFault.{TokenFault}
-use Rattle.p21_tokens.specs.declared.fault.TokenFault.TheVariants.{NotOneParameter, RecordTooLong, FileTooLong, EndsEarly, NoMemory}
+use Rattle.p21_tokens.specs.declared.fault.TokenFault.TheVariants.{NotOneParameter, EndsEarly, NoMemory}
 use Rattle.p21_tokens.specs.declared.token.Token.{Token}
 
 abbrev pub FindsScalar : List ℕ → Result Token TokenFault → Type 0
 FindsScalar text (Ok token) = HoldsScalar text (meant token)
-FindsScalar text (Err NoMemory) = Unit {0}
-FindsScalar text (Err FileTooLong) = ⊥
-FindsScalar text (Err RecordTooLong) = ⊥
-FindsScalar text (Err fault) = (token : meaning.Token) → HoldsScalar text token → ⊥
+FindsScalar text (Err fault) = RefusesText text fault × (fault ≢ NoMemory → HoldsNoScalar text)
 
 -- of two tokens, the one that is there and is a scalar
 abbrev pub FindsOnly : Option Token → Option Token → Result Token TokenFault → Type 0

@@ -21,6 +21,17 @@ pub record Held : Type 0 where
 abbrev pub pending_of : Held → ℕ
 pending_of held = held.statement + held.size
 
+-- what a caller may know besides: the fault that was answered, and the limits on a statement and on the file
+abbrev pub refusal_of : Held → Option TokenFault
+refusal_of held = held.refused
+
+abbrev pub record_limit_of : Held → ℕ
+record_limit_of held = held.statement_limit
+
+abbrev pub file_limit_of : Held → ℕ
+file_limit_of held = held.file_limit
+
+-- where the states stand
 abbrev pub state_of : Held → State
 state_of held = record { mode = held.mode; kept = held.kept; characters = held.characters; size = held.size }
 

@@ -1,19 +1,20 @@
 -- What a lexer has taken and answered, and what each call adds to it (ISO 10303-21, tokens).
-use Rattle.std.specs.Prelude.{◌≡◌, ◌≢◌, ℕ, ◌+◌, ◌≤◌, ◌<◌, ◌⊎◌, if◌then◌else◌, List, [], ◌∷◌, ◌++◌, length, take, slice_get, Option, Some, None, Result, Ok, Err}
+use Rattle.std.specs.Prelude.{◌≡◌, ◌≢◌, ℕ, ◌+◌, ◌≤◌, ◌<◌, ◌⊎◌, false, if◌then◌else◌, List, [], ◌∷◌, ◌++◌, length, take, slice_get, Option, Some, None, Result, Ok, Err}
 use Rattle.std.specs.Option.{option_map}
 use Rattle.std.specs.List.{AllByRecursion as Each}
 use Rattle.p21_basics.specs.History.{History, extended, looked_at, IsOffered}
 use Rattle.p21_exchange.specs.Laying.{Lexeme, Laid, tokens_in, open_bytes, AreStatementsWithin}
-use Rattle.p21_exchange.specs.Pending.{Tail, unfinished, tail_size, LaidUpTo, IsTokenByte}
+use Rattle.p21_exchange.specs.Pending.{Tail, unfinished, tail_size, LaidUpTo, IsPending, IsTokenByte}
 use Rattle.p21_exchange.specs.Separator.{blank, IsSeparator}
 use Rattle.p21_exchange.specs.Token.{Token, Spells, MayFollow, IsWholeAtOnce}
 use Rattle.p21_tokens_automaton.specs.Meaning.{IsOutOfRange, MeanAll}
 use Rattle.p21_tokens_automaton.specs.Reading.{State, start, open_at, Found, Sized, ended, after, lex}
-use Rattle.p21_tokens.specs.Held.{Held, pending_of, state_of}
-use Rattle.p21_tokens.specs.Steps.{rest_of, IsFaultAtEnd}
+use Rattle.p21_tokens.specs.Fault.{of_form, of_end, of_statement, of_file, of_parameter, of_memory, cause_of, IsOfForm, IsOfLimit, IsOfTheEnd}
+use Rattle.p21_tokens.specs.Held.{Held, pending_of, state_of, refusal_of, record_limit_of, file_limit_of}
+use Rattle.p21_tokens.specs.Steps.{rest_of}
 use Rattle.p21_tokens.specs.Token.{meant, meant_all, waits}
 use Rattle.p21_tokens.specs.declared.fault.TokenFault.{TokenFault}
-use Rattle.p21_tokens.specs.declared.fault.TokenFault.TheVariants.{OpenString, OpenComment, NotOneParameter, RecordTooLong, FileTooLong, EndsEarly, NoMemory}
+use Rattle.p21_tokens.specs.declared.fault.TokenFault.TheVariants.{NoMemory}
 use Rattle.p21_tokens.specs.declared.token.Token.{Token as TokenRead}
 
 -- the bytes taken, the byte behind them if it was looked at, the tokens given, and the refusal
@@ -58,6 +59,10 @@ pub record IsLaidWithin (limit pending : ℕ) (history : TokenHistory) : Type 0 
 abbrev pub AreDead : List ℕ → Type 0
 AreDead bytes = (rest : List ℕ) (tokens : List Token) → Laid (bytes ++ rest) tokens → ⊥
 
+-- no tokens are laid in the bytes
+abbrev pub IsUnlaid : List ℕ → Type 0
+IsUnlaid bytes = (tokens : List Token) → Laid bytes tokens → ⊥
+
 -- one byte more is one token byte more than a statement may have
 pub record IsStatementFull (limit : ℕ) (bytes : List ℕ) (byte : ℕ) : Type 0 where
   pub lexemes : List Lexeme
@@ -75,18 +80,6 @@ IsNoToken other byte = Unit {0}
 abbrev pub EndsOutOfRange : Tail → ℕ → Type 0
 EndsOutOfRange (unfinished bytes) byte = IsOutOfRange bytes byte
 EndsOutOfRange other byte = ⊥
-
--- a fault of the bytes, not of limits or memory
-abbrev pub IsOfForm : TokenFault → Type 0
-IsOfForm NoMemory = ⊥
-IsOfForm FileTooLong = ⊥
-IsOfForm RecordTooLong = ⊥
-IsOfForm fault = Unit {0}
-
-abbrev pub IsOfLimit : TokenFault → Type 0
-IsOfLimit FileTooLong = Unit {0}
-IsOfLimit RecordTooLong = Unit {0}
-IsOfLimit fault = ⊥
 
 -- ---- the relation
 
@@ -113,13 +106,13 @@ pub record IsLive (held : Held) (history : TokenHistory) : Type 0 where
   pub given_are : tokens_in lexemes ≡ history.given
   pub file_is : held.file ≡ length history.taken
   pub statement_is : held.statement ≡ open_bytes 0 lexemes
-  pub statements_within : AreStatementsWithin held.statement_limit 0 lexemes
+  pub statements_within : AreStatementsWithin (record_limit_of held) 0 lexemes
   pub reads : (rest : List ℕ) → GoesOn history.seen rest → lex start (history.taken ++ rest) ≡ after founds (rest_of held rest)
   pub seen_is : (history.seen ≡ None) ⊎ IsHandedOver held history.taken founds
 
 -- what is held stands for a history: what it says is what `new`, `next` and `finish` say of it
 unfoldable pub Stands : Held → TokenHistory → Type 0
-Stands held history = (held.refused ≡ history.refusal) × (history.refusal ≡ None → IsLive held history)
+Stands held history = (refusal_of held ≡ history.refusal) × (history.refusal ≡ None → IsLive held history) × IsPending history.taken (pending_of held)
 
 -- ---- the calls
 
@@ -129,22 +122,27 @@ pub record Answers (held : Held) (history : TokenHistory) : Type 0 where
   pub given_first : AreGivenFirst history
   pub given_at_once : AreGivenAtOnce history
   pub given_few : length history.given ≤ length history.taken
-  pub file_within : length history.taken ≤ held.file_limit
-  pub laid_within : IsLaidWithin held.statement_limit (pending_of held) history
+  pub file_within : length history.taken ≤ file_limit_of held
+  pub laid_within : IsLaidWithin (record_limit_of held) (pending_of held) history
 
 -- why a call refuses the byte behind so many of the piece
 abbrev pub Refuses : Held → TokenHistory → List ℕ → ℕ → TokenFault → Type 0
-Refuses held history piece count NoMemory = Unit {0}
-Refuses held history piece count FileTooLong = held.file_limit < length (history.taken ++ take (count + 1) piece)
-Refuses held history piece count RecordTooLong =
-    (byte : ℕ) × (slice_get piece count ≡ Some byte) × IsStatementFull held.statement_limit (history.taken ++ take count piece) byte × (length (history.taken ++ take (count + 1) piece) ≤ held.file_limit)
-Refuses held history piece count OpenString = ⊥
-Refuses held history piece count OpenComment = ⊥
-Refuses held history piece count NotOneParameter = ⊥
-Refuses held history piece count EndsEarly = ⊥
-Refuses held history piece count fault = AreDead (history.taken ++ take (count + 1) piece)
+Refuses held history piece count fault = elim (cause_of fault) [
+  | of_form ↦ AreDead (history.taken ++ take (count + 1) piece)
+  | of_end ↦ ⊥
+  | of_statement ↦ (byte : ℕ) × (slice_get piece count ≡ Some byte) × IsStatementFull (record_limit_of held) (history.taken ++ take count piece) byte × (length (history.taken ++ take (count + 1) piece) ≤ file_limit_of held)
+  | of_file ↦ file_limit_of held < length (history.taken ++ take (count + 1) piece)
+  | of_parameter ↦ ⊥
+  | of_memory ↦ Unit {0}
+]
 
--- A call refuses a byte, for that reason. The tokens given are laid in the bytes in front of it, up to a tail. Where
+-- no byte is refused so far: the states lead to an open one
+pub record IsOpen (bytes : List ℕ) : Type 0 where
+  pub founds : List Sized
+  pub state : State
+  pub reads : lex start bytes ≡ record { given = founds; ending = open_at state }
+
+-- A call refuses a byte, for that reason, and none in front of it. The tokens given are laid in the bytes in front of it, up to a tail. Where
 -- several reasons meet, the first is the answer: a token that the byte may follow, which is given; a real out of range
 -- that it ends; the limit of the file; the limit of a statement; a fault of form
 pub record RefusesAtByte (old : Held) (history : TokenHistory) (piece : List ℕ) (fault : TokenFault) (new : Held) : Type 0 where
@@ -153,14 +151,15 @@ pub record RefusesAtByte (old : Held) (history : TokenHistory) (piece : List ℕ
   pub byte : ℕ
   pub byte_is : slice_get piece count ≡ Some byte
   pub refuses : Refuses old history piece count fault
+  pub is_open : IsOpen (history.taken ++ take count piece)
   pub lexemes : List Lexeme
   pub tail : Tail
   pub laid : LaidUpTo (history.taken ++ take count piece) lexemes tail
   pub given_are : tokens_in lexemes ≡ history.given
   pub token_first : fault ≢ NoMemory → IsNoToken tail byte
   pub range_first : IsOfLimit fault → ¬ EndsOutOfRange tail byte
-  pub file_first : IsOfForm fault → ¬ EndsOutOfRange tail byte → length (history.taken ++ take count piece) < old.file_limit
-  pub statement_first : IsOfForm fault → ¬ EndsOutOfRange tail byte → IsTokenByte tail byte → open_bytes 0 lexemes + tail_size tail < old.statement_limit
+  pub file_first : IsOfForm fault → ¬ EndsOutOfRange tail byte → length (history.taken ++ take count piece) < file_limit_of old
+  pub statement_first : IsOfForm fault → ¬ EndsOutOfRange tail byte → IsTokenByte tail byte → open_bytes 0 lexemes + tail_size tail < record_limit_of old
   pub stands : Stands new (extended history (refused_call piece count fault))
 
 -- what a call of `next` gives, for each history that the lexer stood for, where the caller offered first what was seen
@@ -169,13 +168,42 @@ NextGives old piece (Ok answer) new =
     (history : TokenHistory) → Stands old history → IsOffered history.seen piece → Answers new (extended history (call_of piece answer.0 (option_map meant answer.1)))
 NextGives old piece (Err fault) new = (history : TokenHistory) → Stands old history → IsOffered history.seen piece → history.refusal ≡ None → RefusesAtByte old history piece fault new
 
+-- a token of which no byte follows is given with its last byte: without that byte, the tokens given are not laid
+pub record EndsAtOnce (taken : List ℕ) (given : List Token) : Type 0 where
+  pub front : List ℕ
+  pub byte : ℕ
+  pub taken_are : taken ≡ front ++ byte ∷ []
+  pub unlaid : Laid front given → ⊥
+
+abbrev pub TakesNoMore : Held → List ℕ → Result (ℕ × Option TokenRead) TokenFault → Type 0
+TakesNoMore old piece (Ok (count, Some token)) =
+    (history : TokenHistory) → Stands old history → history.refusal ≡ None → IsOffered history.seen piece → waits (meant token) ≡ false
+    → EndsAtOnce (history.taken ++ take count piece) (history.given ++ meant token ∷ [])
+TakesNoMore old piece other = Unit {0}
+
 -- what the end of the bytes gives, for each history that the lexer stood for, where all that was seen has been taken
 abbrev pub FinishGives : Held → Result (Option TokenRead) TokenFault → Type 0
 FinishGives held (Ok last) = (history : TokenHistory) → Stands held history → history.seen ≡ None → (history.refusal ≡ None) × Laid history.taken (history.given ++ meant_all last)
 FinishGives held (Err NoMemory) = Unit {0}
-FinishGives held (Err fault) =
-    (history : TokenHistory) → Stands held history → history.seen ≡ None → history.refusal ≡ None → IsFaultAtEnd fault × ((tokens : List Token) → Laid history.taken tokens → ⊥)
+FinishGives held (Err fault) = (history : TokenHistory) → Stands held history → history.seen ≡ None → history.refusal ≡ None → IsOfTheEnd fault × IsUnlaid history.taken
 
 -- bytes that stand between tokens by themselves
 abbrev pub AreSeparators : List ℕ → Type 0
 AreSeparators bytes = Each (λ byte. IsSeparator (blank byte)) bytes
+
+-- between tokens, separators need no memory
+abbrev pub NeedsNoMemory : Held → List ℕ → Result (ℕ × Option TokenRead) TokenFault → Type 0
+NeedsNoMemory old piece result = (history : TokenHistory) → Stands old history → history.refusal ≡ None → pending_of old ≡ 0 → AreSeparators piece → result ≢ Err NoMemory
+
+-- so many bytes of the piece at most; all of them, where no token is given
+abbrev pub TakesOf : List ℕ → Result (ℕ × Option TokenRead) TokenFault → Type 0
+TakesOf piece (Ok answer) = (answer.0 ≤ length piece) × (answer.1 ≡ None → answer.0 ≡ length piece)
+TakesOf piece (Err fault) = Unit {0}
+
+-- the limits of a lexer stay
+abbrev pub KeepsLimits : Held → Held → Type 0
+KeepsLimits old new = (record_limit_of new ≡ record_limit_of old) × (file_limit_of new ≡ file_limit_of old)
+
+-- a lexer that has refused answers the same again, and stays as it is
+abbrev pub RefusesAgain : Held → Result (ℕ × Option TokenRead) TokenFault → Held → Type 0
+RefusesAgain old result new = (fault : TokenFault) → refusal_of old ≡ Some fault → (result ≡ Err fault) × (new ≡ old)

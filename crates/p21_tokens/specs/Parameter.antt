@@ -1,12 +1,13 @@
 -- One scalar parameter between separators (ISO 10303-21, tokens and parameters), and its canonical spelling.
-use Rattle.std.specs.Prelude.{◌≡◌, ◌↔◌, ℕ, ◌<◌, ◌≤◌, List, length}
-use Rattle.p21_exchange.specs.Laying.{HoldsScalar}
+use Rattle.std.specs.Prelude.{◌≡◌, ◌≢◌, ◌↔◌, ℕ, ◌<◌, ◌≤◌, List, [], ◌∷◌, ◌++◌, length}
+use Rattle.p21_exchange.specs.Laying.{Lexeme, Laid, tokens_in, HoldsScalar}
+use Rattle.p21_exchange.specs.Pending.{Tail, LaidUpTo}
 use Rattle.p21_basics.specs.Limits.{text_limit}
 use Rattle.p21_exchange.specs.Spelling.{spelling}
 use Rattle.p21_exchange.specs.Token.{Token, Spells, IsScalarToken}
 use Rattle.p21_tokens_automaton.specs.SameToken.{IsSpelled, SameToken}
 use Rattle.p21_tokens.specs.declared.fault.TokenFault.{TokenFault}
-use Rattle.p21_tokens.specs.declared.fault.TokenFault.TheVariants.{RecordTooLong, FileTooLong, NoMemory}
+use Rattle.p21_tokens.specs.declared.fault.TokenFault.TheVariants.{NotOneParameter, RecordTooLong, FileTooLong, EndsEarly, NoMemory}
 
 -- a scalar that some bytes spell
 abbrev pub IsScalarValue : Token → Type 0
@@ -21,9 +22,40 @@ pub record IsAnswer (text answer : List ℕ) : Type 0 where
   pub spells : Spells token answer
   pub same : (other : Token) → IsScalarValue other → (answer ≡ spelling other) ↔ SameToken token other
 
+-- tokens that are more than one, or one that is no scalar
+abbrev pub AreNoScalar : List Token → Type 0
+AreNoScalar [] = ⊥
+AreNoScalar (token ∷ []) = ¬ IsScalarToken token
+AreNoScalar (token ∷ others) = Unit {0}
+
+-- such tokens stand first in the text, or are all of it
+pub data HoldsOthers (text : List ℕ) : Type 0 where
+  stand_first : (front rest : List ℕ) (lexemes : List Lexeme) (tail : Tail) → text ≡ front ++ rest → LaidUpTo front lexemes tail → AreNoScalar (tokens_in lexemes) → HoldsOthers text
+  are_all : (tokens : List Token) → Laid text tokens → AreNoScalar tokens → HoldsOthers text
+
+-- the text ends behind separators, or behind or in one scalar that is not whole: no tokens are laid in it but none
+pub record EndsUnfinished (text : List ℕ) : Type 0 where
+  pub lexemes : List Lexeme
+  pub tail : Tail
+  pub laid : LaidUpTo text lexemes tail
+  pub no_others : ¬ AreNoScalar (tokens_in lexemes)
+  pub none : (tokens : List Token) → Laid text tokens → tokens ≡ []
+
+-- What a refusal says of the text, which in each case but want of memory holds no scalar: a text too long is not
+-- read; another token is named only where there is one, and an early end only there; want of memory of no text too long
+abbrev pub RefusesText : List ℕ → TokenFault → Type 0
+RefusesText text NoMemory = Unit {0}
+RefusesText text NotOneParameter = HoldsOthers text
+RefusesText text EndsEarly = EndsUnfinished text
+RefusesText text RecordTooLong = ⊥
+RefusesText text FileTooLong = ⊥
+RefusesText text fault = Unit {0}
+
+-- the text holds no scalar
+abbrev pub HoldsNoScalar : List ℕ → Type 0
+HoldsNoScalar text = (token : Token) → ¬ HoldsScalar text token
+
 -- a text is refused only where it is too long or holds no scalar, or for want of memory
 abbrev pub IsRefusal : List ℕ → TokenFault → Type 0
-IsRefusal text NoMemory = Unit {0}
 IsRefusal text FileTooLong = text_limit < length text
-IsRefusal text RecordTooLong = ⊥
-IsRefusal text fault = (length text ≤ text_limit) × ((token : Token) → HoldsScalar text token → ⊥)
+IsRefusal text fault = (length text ≤ text_limit) × RefusesText text fault × (fault ≢ NoMemory → HoldsNoScalar text)

@@ -1,5 +1,5 @@
 -- What the parts of the lexer owe: how a byte, a run of bytes and a piece change what is held.
-use Rattle.std.specs.Prelude.{◌≡◌, ◌≢◌, ℕ, ◌+◌, ◌≤◌, ◌<◌, Bool, true, false, if◌then◌else◌, List, [], ◌∷◌, ◌++◌, length, take, slice_get, Option, Some, None, Result, Ok, Err}
+use Rattle.std.specs.Prelude.{◌≡◌, ◌≢◌, ℕ, ◌+◌, ◌≤◌, ◌<◌, Bool, true, false, if◌then◌else◌, List, [], ◌∷◌, ◌++◌, length, take, slice_get, Option, Some, None, Result, Ok, Err, OnErr}
 use Rattle.std.specs.Option.{option_map}
 use Rattle.p21_exchange.specs.Token as meaning
 use Rattle.p21_exchange.specs.Laying.{Lexeme, count_behind}
@@ -11,10 +11,11 @@ use Rattle.p21_tokens_automaton.specs.Bytes.{is_blank}
 use Rattle.p21_tokens_automaton.specs.Meaning.{Means, MeanAll}
 use Rattle.p21_tokens_automaton.specs.Reading.{start, Answer, Found, Sized, ended, ended_in, closed, closing, before, all_of, lex}
 use Rattle.p21_tokens_automaton.specs.Step.{advance}
+use Rattle.p21_tokens.specs.Fault.{Cause, of_form, of_end, of_statement, of_file, of_parameter, of_memory, cause_of, IsOfTheEnd}
 use Rattle.p21_tokens.specs.Held.{Held, pending_of, state_of}
 use Rattle.p21_tokens.specs.Token.{meant, waits}
 use Rattle.p21_tokens.specs.declared.fault.TokenFault.{TokenFault}
-use Rattle.p21_tokens.specs.declared.fault.TokenFault.TheVariants.{OpenString, OpenComment, NotOneParameter, RecordTooLong, FileTooLong, EndsEarly, NoMemory}
+use Rattle.p21_tokens.specs.declared.fault.TokenFault.TheVariants.{NoMemory}
 use Rattle.p21_tokens.specs.declared.step.Step.{Step}
 use Rattle.p21_tokens.specs.declared.step.Step.TheVariants.{Took, Gave, Handed}
 use Rattle.p21_tokens.specs.declared.token.Token.{Token}
@@ -45,26 +46,21 @@ rest_of held bytes = lex (state_of held) bytes
 abbrev pub IsDeadAt : Held → List ℕ → Type 0
 IsDeadAt held bytes = (rest : List ℕ) (founds : List Sized) (lexemes : List Lexeme) → all_of (rest_of held (bytes ++ rest)) ≡ Some founds → MeanAll founds lexemes → ⊥
 
+-- a refusal of form, only where what is found means no token; memory may run out
+abbrev pub MeansNone : Option Found → Cause → Type 0
+MeansNone None of_form = Unit {0}
+MeansNone (Some found) of_form = (token : meaning.Token) → Means found token → ⊥
+MeansNone found of_end = ⊥
+MeansNone found of_statement = ⊥
+MeansNone found of_file = ⊥
+MeansNone found of_parameter = ⊥
+MeansNone found of_memory = Unit {0}
+
 -- what is found means the token; a refusal, memory apart, only where it means none
 abbrev pub ReadsFound : Option Found → Result Token TokenFault → Type 0
 ReadsFound None (Ok token) = ⊥
 ReadsFound (Some found) (Ok token) = Means found (meant token)
-ReadsFound found (Err NoMemory) = Unit {0}
-ReadsFound found (Err FileTooLong) = ⊥
-ReadsFound found (Err RecordTooLong) = ⊥
-ReadsFound found (Err OpenString) = ⊥
-ReadsFound found (Err OpenComment) = ⊥
-ReadsFound found (Err NotOneParameter) = ⊥
-ReadsFound found (Err EndsEarly) = ⊥
-ReadsFound None (Err fault) = Unit {0}
-ReadsFound (Some found) (Err fault) = (token : meaning.Token) → Means found token → ⊥
-
--- faults that the end of the bytes has not
-abbrev pub IsFaultAtEnd : TokenFault → Type 0
-IsFaultAtEnd NotOneParameter = ⊥
-IsFaultAtEnd RecordTooLong = ⊥
-IsFaultAtEnd FileTooLong = ⊥
-IsFaultAtEnd fault = Unit {0}
+ReadsFound found (Err fault) = MeansNone found (cause_of fault)
 
 -- no token that means something is left, and the bytes do not end between tokens
 abbrev pub MayNotEnd : Mode → List ℕ → List ℕ → Type 0
@@ -75,13 +71,30 @@ abbrev pub ReadsEnd : Mode → List ℕ → List ℕ → Result (Option Token) T
 ReadsEnd mode kept characters (Ok None) = mode ≡ Between
 ReadsEnd mode kept characters (Ok (Some token)) = (found : Found) × (ended_in mode kept characters ≡ Some found) × Means found (meant token)
 ReadsEnd mode kept characters (Err NoMemory) = Unit {0}
-ReadsEnd mode kept characters (Err fault) = IsFaultAtEnd fault × MayNotEnd mode kept characters
+ReadsEnd mode kept characters (Err fault) = IsOfTheEnd fault × MayNotEnd mode kept characters
 
 -- the limits and the refusal stay
 pub record SameLimits (old new : Held) : Type 0 where
   pub statement_limit : new.statement_limit ≡ old.statement_limit
   pub file_limit : new.file_limit ≡ old.file_limit
   pub refused : new.refused ≡ old.refused
+
+-- as many token bytes are pending, which is what a refusal leaves
+abbrev pub SamePending : Held → Held → Type 0
+SamePending old new = pending_of new ≡ pending_of old
+
+-- memory ran out
+abbrev pub LacksMemory : {Answer : Type 0} → Held → Result Answer TokenFault → Held → Type 0
+LacksMemory {Answer = Answer} old result new = OnErr result ((result ≡ Err NoMemory) × SameLimits old new × SamePending old new)
+
+-- what is held behind so many bytes of a token, with these kept
+abbrev pub with_kept : Held → Mode → List ℕ → ℕ → Held
+with_kept old mode bytes count = record old { mode = mode; kept = old.kept ++ bytes; size = old.size + count; file = old.file + count }
+
+-- what is held behind so many bytes of a string, with these characters known
+abbrev pub with_characters : Held → Mode → List ℕ → ℕ → Held
+with_characters old mode characters count =
+    record old { mode = mode; characters = old.characters ++ characters; size = old.size + count; file = old.file + count }
 
 -- what is held behind a token of which nothing is open any more
 abbrev pub behind_token : Held → ℕ → ℕ → Held
@@ -90,12 +103,12 @@ behind_token old statement file = record old { mode = Between; kept = []; charac
 -- a byte that is kept and ends the token
 abbrev pub Closes : Held → ℕ → Result Token TokenFault → Held → Type 0
 Closes old byte (Ok token) new = ReadsFound (closed old.mode (old.kept ++ byte ∷ [])) (Ok token) × (new ≡ behind_token old (old.statement + (old.size + 1)) (old.file + 1))
-Closes old byte (Err fault) new = ReadsFound (closed old.mode (old.kept ++ byte ∷ [])) (Err fault) × SameLimits old new
+Closes old byte (Err fault) new = ReadsFound (closed old.mode (old.kept ++ byte ∷ [])) (Err fault) × SameLimits old new × SamePending old new
 
 -- the token that a byte behind it ends
 abbrev pub Ends : Held → Result Token TokenFault → Held → Type 0
 Ends old (Ok token) new = ReadsFound (ended (state_of old)) (Ok token) × (new ≡ behind_token old (old.statement + old.size) old.file) × (pending_of old ≤ old.statement_limit)
-Ends old (Err fault) new = ReadsFound (ended (state_of old)) (Err fault) × SameLimits old new
+Ends old (Err fault) new = ReadsFound (ended (state_of old)) (Err fault) × SameLimits old new × SamePending old new
 
 -- the byte ends no token that means something
 abbrev pub EndsNone : Held → ℕ → Type 0
@@ -107,15 +120,14 @@ IsInLimits held byte = advance held.mode byte ≢ End → (held.file < held.file
 
 -- why a byte is refused
 abbrev pub RefusesByte : Held → ℕ → TokenFault → Type 0
-RefusesByte held byte NoMemory = is_gap held.mode ≡ true → is_blank byte ≡ true → ⊥
-RefusesByte held byte FileTooLong = (held.file_limit ≤ held.file) × (advance held.mode byte ≢ End)
-RefusesByte held byte RecordTooLong =
-    (held.statement_limit ≤ pending_of held) × (is_token_byte held.mode (advance held.mode byte) ≡ true) × (advance held.mode byte ≢ End) × (held.file < held.file_limit)
-RefusesByte held byte OpenString = ⊥
-RefusesByte held byte OpenComment = ⊥
-RefusesByte held byte NotOneParameter = ⊥
-RefusesByte held byte EndsEarly = ⊥
-RefusesByte held byte fault = IsDeadAt held (byte ∷ []) × EndsNone held byte × IsInLimits held byte
+RefusesByte held byte fault = elim (cause_of fault) [
+  | of_form ↦ IsDeadAt held (byte ∷ []) × EndsNone held byte × IsInLimits held byte
+  | of_end ↦ ⊥
+  | of_statement ↦ (held.statement_limit ≤ pending_of held) × (is_token_byte held.mode (advance held.mode byte) ≡ true) × (advance held.mode byte ≢ End) × (held.file < held.file_limit)
+  | of_file ↦ (held.file_limit ≤ held.file) × (advance held.mode byte ≢ End)
+  | of_parameter ↦ ⊥
+  | of_memory ↦ is_gap held.mode ≡ true → is_blank byte ≡ true → ⊥
+]
 
 -- a byte that gave no token
 pub record Takes (old : Held) (byte : ℕ) (new : Held) : Type 0 where
@@ -151,7 +163,7 @@ abbrev pub Steps : Held → ℕ → Result Step TokenFault → Held → Type 0
 Steps old byte (Ok Took) new = SameLimits old new × Takes old byte new
 Steps old byte (Ok (Gave token)) new = SameLimits old new × Gives old byte (meant token) new
 Steps old byte (Ok (Handed token)) new = SameLimits old new × Hands old byte (meant token) new
-Steps old byte (Err fault) new = SameLimits old new × RefusesByte old byte fault
+Steps old byte (Err fault) new = SameLimits old new × RefusesByte old byte fault × SamePending old new
 
 -- separator bytes, as a test
 abbrev pub AreBlank : List ℕ → Type 0
@@ -168,7 +180,7 @@ pub record TakesRun (old : Held) (bytes : List ℕ) (new : Held) : Type 0 where
 -- how many bytes at the front were taken as a run, which needs memory only inside a token
 abbrev pub Runs : Held → List ℕ → Result ℕ TokenFault → Held → Type 0
 Runs old piece (Ok count) new = (count ≤ length piece) × SameLimits old new × TakesRun old (take count piece) new
-Runs old piece (Err fault) new = (fault ≡ NoMemory) × SameLimits old new × (is_gap old.mode ≡ true → ⊥)
+Runs old piece (Err fault) new = (fault ≡ NoMemory) × SameLimits old new × (is_gap old.mode ≡ true → ⊥) × SamePending old new
 
 -- bytes behind which a token was given with the last of them, or by the byte behind them
 pub data ScansToken (old : Held) (bytes : List ℕ) (behind : Option ℕ) (token : meaning.Token) (new : Held) : Type 0 where
@@ -183,7 +195,7 @@ Scanned old piece count (Some token) new = (count ≤ length piece) × ScansToke
 -- why a byte of the piece is refused, behind so many that were taken
 abbrev pub RefusesAt : Held → List ℕ → TokenFault → Held → Type 0
 RefusesAt old piece fault new =
-    (middle : Held) × (count byte : ℕ) × (slice_get piece count ≡ Some byte) × SameLimits old middle × TakesRun old (take count piece) middle × SameLimits old new × RefusesByte middle byte fault
+    (middle : Held) × (count byte : ℕ) × (slice_get piece count ≡ Some byte) × SameLimits old middle × TakesRun old (take count piece) middle × SameLimits old new × RefusesByte middle byte fault × SamePending middle new
 
 -- what a run of bytes or one byte leaves: some bytes taken, or those up to a token
 abbrev pub Walks : Held → List ℕ → Result (ℕ × Option Token) TokenFault → Held → Type 0

@@ -5,21 +5,21 @@ ghost use Rattle.p21_tokens_automaton.specs.Reading.{closed, ended, single_token
 ghost use Rattle.p21_tokens_automaton.specs.declared.mode.Mode.TheVariants.{Between, Name};
 ghost use Rattle.p21_tokens_automaton.specs.declared.mode.NameMode.TheVariants.{Digits};
 ghost use Rattle.p21_tokens.specs.Front.{TakesFront};
-ghost use Rattle.p21_tokens.specs.Held.{pending_of, state_of};
+ghost use Rattle.p21_tokens.specs.Held.{file_limit_of, pending_of, record_limit_of, refusal_of, state_of};
 ghost use Rattle.p21_tokens_automaton.specs.Step.{advance};
 ghost use Rattle.p21_basics.specs.History.{empty};
 ghost use Rattle.p21_exchange.specs.Pending.{IsPending};
 ghost use Rattle.p21_tokens.specs.declared.fault.TokenFault.{TokenFault};
-ghost use Rattle.p21_tokens.specs.Histories.{TokenHistory, Stands, NextGives, FinishGives, AreSeparators};
-ghost use Rattle.p21_tokens.specs.Steps.{SameLimits, Steps, Closes, Ends, Runs, Scans, Walks, is_token_byte};
+ghost use Rattle.p21_tokens.specs.Histories.{FinishGives, KeepsLimits, NeedsNoMemory, NextGives, RefusesAgain, Stands, TakesNoMore, TakesOf, TokenHistory};
+ghost use Rattle.p21_tokens.specs.Steps.{Closes, Ends, LacksMemory, Runs, Scans, Steps, Walks, behind_token, is_token_byte, with_characters, with_kept};
 ghost use Rattle.p21_tokens.specs.Token.{meant};
 
 use crate::fault::{TokenFault, fault_of};
 use crate::front::front_token;
 use crate::reading::{marker_of, read_closed, read_end, read_ended, single_token};
-use crate::run::{at_most, whole_characters};
 use crate::step::{Step, is_token_byte};
 use crate::token::Token;
+use crate::within::{at_most, whole_characters};
 use p21_tokens_automaton::{Action, Mode, NameMode, Run, Single, advance, blanks, run_of};
 use p21_values::{Limits, Text};
 use std::alloc::Global;
@@ -28,15 +28,23 @@ use std::marker::Model;
 /// Reads tokens from bytes that come in pieces of any size.
 #[derive(Drop)]
 pub struct Lexer {
+    // For what the tokens keep.
     alloc: Global,
+    // Where the states stand.
     mode: Mode,
+    // Of the open token: its bytes, where it is a number, a word or a binary; its characters, where it is a string; and
+    // how many bytes of it are taken.
     kept: Vec<u8>,
     text: Text,
     size: u64,
+    // The token bytes behind the last `;`, without those of the open token.
     statement: u64,
+    // All bytes taken.
     file: u64,
+    // The most of both.
     statement_limit: u64,
     file_limit: u64,
+    // The fault that was answered, and is answered again.
     refused: Option<TokenFault>,
 }
 
@@ -86,12 +94,10 @@ impl Lexer {
     fn keep(&mut self, mode: Mode, byte: u8) -> Result<(), TokenFault>
         requires file { self.old.file < self.old.file_limit }
         requires statement { pending_of self.old < self.old.statement_limit }
-        ensures ok { OnOk result (self.new ≡ record self.old { mode = mode; kept = self.old.kept ++ byte ∷ []; size = self.old.size + 1; file = self.old.file + 1 }) }
-        ensures err { OnErr result ((result ≡ Err TokenFault.NoMemory) × SameLimits self.old self.new) }
+        ensures ok { OnOk result (self.new ≡ with_kept self.old mode (byte ∷ []) 1) }
+        ensures err { LacksMemory self.old result self.new }
     {
-        if self.kept.push(byte).is_err() {
-            return Err(TokenFault::NoMemory);
-        }
+        self.kept.push(byte)?;
         self.file += 1;
         self.size += 1;
         self.mode = mode;
@@ -102,12 +108,10 @@ impl Lexer {
     fn put(&mut self, mode: Mode, character: char) -> Result<(), TokenFault>
         requires file { self.old.file < self.old.file_limit }
         requires statement { pending_of self.old < self.old.statement_limit }
-        ensures ok { OnOk result (self.new ≡ record self.old { mode = mode; characters = self.old.characters ++ character ∷ []; size = self.old.size + 1; file = self.old.file + 1 }) }
-        ensures err { OnErr result ((result ≡ Err TokenFault.NoMemory) × SameLimits self.old self.new) }
+        ensures ok { OnOk result (self.new ≡ with_characters self.old mode (character ∷ []) 1) }
+        ensures err { LacksMemory self.old result self.new }
     {
-        if self.text.push(character).is_err() {
-            return Err(TokenFault::NoMemory);
-        }
+        self.text.push(character)?;
         self.file += 1;
         self.size += 1;
         self.mode = mode;
@@ -119,7 +123,7 @@ impl Lexer {
         requires file { self.old.file < self.old.file_limit }
         requires statement { pending_of self.old < self.old.statement_limit }
         ensures token { meant result ≡ single_token single }
-        ensures held { self.new ≡ record self.old { mode = Between; kept = []; characters = []; size = 0; statement = count_behind self.old.statement (record { token = single_token single; size = 1 }); file = self.old.file + 1 } }
+        ensures held { self.new ≡ behind_token self.old (count_behind self.old.statement (record { token = single_token single; size = 1 })) (self.old.file + 1) }
     {
         self.mode = Mode::Between;
         self.kept.clear();
@@ -140,18 +144,12 @@ impl Lexer {
         requires statement { pending_of self.old < self.old.statement_limit }
         ensures { Closes self.old byte result self.new }
     {
-        if self.kept.push(byte).is_err() {
-            return Err(TokenFault::NoMemory);
-        }
-        let token = match read_closed(self.alloc, self.mode, &self.kept) {
-            Ok(token) => token,
-            Err(fault) => {
-                self.kept.clear();
-                return Err(fault);
-            }
-        };
-        self.mode = Mode::Between;
+        self.kept.push(byte)?;
+        let token = read_closed(self.alloc, self.mode, &self.kept);
+        // Of a token of no bytes nothing may be kept.
         self.kept.clear();
+        let token = token?;
+        self.mode = Mode::Between;
         self.text = Text::new(self.alloc);
         self.file += 1;
         self.statement += self.size + 1;
@@ -163,10 +161,7 @@ impl Lexer {
     fn hand(&mut self) -> Result<Token, TokenFault>
         ensures { Ends self.old result self.new }
     {
-        let token = match read_ended(self.alloc, self.mode, &self.kept, &mut self.text) {
-            Ok(token) => token,
-            Err(fault) => return Err(fault),
-        };
+        let token = read_ended(self.alloc, self.mode, &self.kept, &mut self.text)?;
         self.mode = Mode::Between;
         self.kept.clear();
         self.text = Text::new(self.alloc);
@@ -270,13 +265,12 @@ impl Lexer {
 
     /// Bytes of a token that are kept, as many as the limits allow.
     fn keep_run(&mut self, run: &[u8]) -> Result<usize, TokenFault>
-        ensures ok { IfOk result (λ count. (count ≤ length run.now) × (self.new ≡ record self.old { kept = self.old.kept ++ take count run.now; size = self.old.size + count; file = self.old.file + count })) }
-        ensures err { OnErr result ((result ≡ Err TokenFault.NoMemory) × SameLimits self.old self.new) }
+        ensures within { IfOk result (λ count. count ≤ length run.now) }
+        ensures ok { IfOk result (λ count. self.new ≡ with_kept self.old self.old.mode (take count run.now) count) }
+        ensures err { LacksMemory self.old result self.new }
     {
         let run = &run[..at_most(run.len(), self.room())];
-        if self.kept.extend_from_slice(run).is_err() {
-            return Err(TokenFault::NoMemory);
-        }
+        self.kept.extend_from_slice(run)?;
         self.file += run.len() as u64;
         self.size += run.len() as u64;
         Ok(run.len())
@@ -284,13 +278,12 @@ impl Lexer {
 
     /// Characters of a string, as many as the limits allow.
     fn put_run(&mut self, run: &[u8]) -> Result<usize, TokenFault>
-        ensures ok { IfOk result (λ count. (count ≤ length run.now) × (self.new ≡ record self.old { characters = self.old.characters ++ take count run.now; size = self.old.size + count; file = self.old.file + count })) }
-        ensures err { OnErr result ((result ≡ Err TokenFault.NoMemory) × SameLimits self.old self.new) }
+        ensures within { IfOk result (λ count. count ≤ length run.now) }
+        ensures ok { IfOk result (λ count. self.new ≡ with_characters self.old self.old.mode (take count run.now) count) }
+        ensures err { LacksMemory self.old result self.new }
     {
         let run = &run[..at_most(run.len(), self.room())];
-        if self.text.push_latin1(run).is_err() {
-            return Err(TokenFault::NoMemory);
-        }
+        self.text.push_latin1(run)?;
         self.file += run.len() as u64;
         self.size += run.len() as u64;
         Ok(run.len())
@@ -298,16 +291,16 @@ impl Lexer {
 
     /// Characters of a string in UTF-8, as many as are whole and the limits allow.
     fn put_utf8_run(&mut self, run: &[u8]) -> Result<usize, TokenFault>
-        ensures ok { IfOk result (λ count. (count ≤ length run.now) × IsUtf8 (take count run.now) × (self.new ≡ record self.old { characters = self.old.characters ++ chars (take count run.now); size = self.old.size + count; file = self.old.file + count })) }
-        ensures err { OnErr result ((result ≡ Err TokenFault.NoMemory) × SameLimits self.old self.new) }
+        ensures within { IfOk result (λ count. count ≤ length run.now) }
+        ensures utf8 { IfOk result (λ count. IsUtf8 (take count run.now)) }
+        ensures ok { IfOk result (λ count. self.new ≡ with_characters self.old self.old.mode (chars (take count run.now)) count) }
+        ensures err { LacksMemory self.old result self.new }
     {
         let text = whole_characters(&run[..at_most(run.len(), self.room())]);
         if text.is_empty() {
             return Ok(0);
         }
-        if self.text.push_str(text).is_err() {
-            return Err(TokenFault::NoMemory);
-        }
+        self.text.push_str(text)?;
         self.file += text.len() as u64;
         self.size += text.len() as u64;
         Ok(text.len())
@@ -455,8 +448,8 @@ impl Lexer {
     /// A lexer that has taken nothing. It takes no memory.
     pub fn new(alloc: Global, limits: Limits) -> Lexer
         ensures stands { Stands result empty }
-        ensures statement_limit { result.statement_limit ≡ limits.record_source }
-        ensures file_limit { result.file_limit ≡ limits.file_source }
+        ensures statement_limit { record_limit_of result ≡ limits.record_source }
+        ensures file_limit { file_limit_of result ≡ limits.file_source }
     {
         Lexer {
             alloc,
@@ -481,18 +474,20 @@ impl Lexer {
     /// The fault of the first byte that the limits or the standard refuse, or `NoMemory`; each later call answers the
     /// same.
     pub fn next(&mut self, piece: &[u8]) -> Result<(usize, Option<Token>), TokenFault>
-        ensures whole { IfOk result (λ answer. (answer.0 ≤ length piece.now) × (answer.1 ≡ None → answer.0 ≡ length piece.now)) }
+        ensures whole { TakesOf piece.now result }
         ensures history { NextGives self.old piece.now result self.new }
-        ensures again { (fault : TokenFault) → self.old.refused ≡ Some fault → (result ≡ Err fault) × (self.new ≡ self.old) }
-        ensures refused { IfErr result (λ fault. self.new.refused ≡ Some fault) }
-        ensures no_memory { (history : TokenHistory) → Stands self.old history → history.refusal ≡ None → pending_of self.old ≡ 0 → AreSeparators piece.now → result ≢ Err TokenFault.NoMemory }
-        ensures limits { (self.new.statement_limit ≡ self.old.statement_limit) × (self.new.file_limit ≡ self.old.file_limit) }
+        ensures at_once { TakesNoMore self.old piece.now result }
+        ensures again { RefusesAgain self.old result self.new }
+        ensures refused { IfErr result (λ fault. refusal_of self.new ≡ Some fault) }
+        ensures no_memory { NeedsNoMemory self.old piece.now result }
+        ensures limits { KeepsLimits self.old self.new }
     {
         if let Some(fault) = self.refused {
             return Err(fault);
         }
         match self.scan(piece) {
             Ok(answer) => {
+                // Looked at, so that the proof knows what holds of each lexer.
                 let _mode = self.mode;
                 Ok(answer)
             }
@@ -511,7 +506,7 @@ impl Lexer {
     /// `EndsEarly` inside any other token or behind a lone `/`, `NoMemory`; the refusal of an earlier call.
     pub fn finish(self) -> Result<Option<Token>, TokenFault>
         ensures history { FinishGives self result }
-        ensures again { (fault : TokenFault) → self.refused ≡ Some fault → result ≡ Err fault }
+        ensures again { (fault : TokenFault) → refusal_of self ≡ Some fault → result ≡ Err fault }
     {
         if let Some(fault) = self.refused {
             return Err(fault);
@@ -520,12 +515,14 @@ impl Lexer {
         read_end(self.alloc, self.mode, &self.kept, &mut text)
     }
 
-    /// The token bytes behind the last `;`, with those of a token that isn't whole yet; a lone `/` doesn't count.
+    /// The token bytes behind the last `;`, with those of a token that isn't whole yet; a lone `/` doesn't count. After a
+    /// refusal, those in front of the refused byte.
     pub fn pending(&self) -> u64
         ensures value { result ≡ pending_of self.now }
-        ensures within { result ≤ self.now.statement_limit }
-        ensures pending { (history : TokenHistory) → Stands self.now history → history.refusal ≡ None → IsPending history.taken result }
+        ensures within { result ≤ record_limit_of self.now }
+        ensures pending { (history : TokenHistory) → Stands self.now history → IsPending history.taken result }
     {
+        // Looked at, so that the proof knows what holds of each lexer.
         let _limit = self.statement_limit;
         self.statement + self.size
     }

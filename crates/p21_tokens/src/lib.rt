@@ -8,11 +8,11 @@ mod laying;
 mod lexer;
 mod param;
 mod reading;
-mod run;
 mod step;
 #[cfg(test)]
 mod tests;
 mod token;
+mod within;
 
 pub use fault::TokenFault;
 pub use laying::one_laying;

@@ -21,6 +21,7 @@ const LONGEST: usize = 16_777_216;
 ///
 /// `FileTooLong` for a text of more than 16,777,216 bytes; `NotOneParameter` at the first token that is no scalar, and at
 /// a second token; `EndsEarly` where there is no token; the faults of the lexer; `NoMemory`.
+#[tactic(auto, using(crate::proofs::OneScalar::refusal_of))]
 pub fn canonical_param(alloc: Global, text: &[u8]) -> Result<Vec<u8>, TokenFault>
     ensures { MatchResult result (λ answer. IsAnswer text.now answer.items) (λ fault. IsRefusal text.now fault) }
 {

@@ -4,7 +4,6 @@ mod limits;
 mod texts;
 
 use super::*;
-use p21_values::{Canonical, Limits};
 use std::alloc::Global;
 use std::process::Abort;
 use std::test::Fail;
@@ -38,7 +37,7 @@ impl Reader {
                     rest = &rest[taken..];
                     if let Some(token) = token {
                         self.space()?;
-                        spell(&token, &mut self.answers)?;
+                        token.write_canonical(&mut self.answers)?;
                     }
                 }
                 Err(fault) => return self.refuse(fault),
@@ -72,7 +71,7 @@ impl Reader {
             answers.push(b' ')?;
         }
         match self.lexer.finish() {
-            Ok(Some(token)) => spell(&token, &mut answers)?,
+            Ok(Some(token)) => token.write_canonical(&mut answers)?,
             Ok(None) => {
                 let _ = answers.pop();
             }
@@ -93,45 +92,6 @@ impl Reader {
             self.answers.push(b' ')?;
         }
         Ok(())
-    }
-}
-
-/// Appends a token: its canonical spelling, and its marks.
-fn spell(token: &Token, out: &mut Vec<u8>) -> Result<(), Fail> {
-    match token {
-        Token::Begin => out.extend_from_slice(b"ISO-10303-21")?,
-        Token::Finish => out.extend_from_slice(b"END-ISO-10303-21")?,
-        Token::Keyword(word) => word.write_canonical(out)?,
-        Token::UserKeyword(word) => {
-            out.push(b'!')?;
-            word.write_canonical(out)?;
-        }
-        Token::Name(name) => name.write_canonical(out)?,
-        Token::Whole(number) => number.write_canonical(out)?,
-        Token::Real(number) => number.write_canonical(out)?,
-        Token::Text(text) => text.write_canonical(out)?,
-        Token::Item(word) => {
-            out.push(b'.')?;
-            word.write_canonical(out)?;
-            out.push(b'.')?;
-        }
-        Token::Bits(bits) => bits.write_canonical(out)?,
-        _ => out.push(mark(token))?,
-    }
-    Ok(())
-}
-
-/// The byte of a token of one byte.
-fn mark(token: &Token) -> u8 {
-    match token {
-        Token::Left => b'(',
-        Token::Right => b')',
-        Token::Comma => b',',
-        Token::Semicolon => b';',
-        Token::Equals => b'=',
-        Token::Dollar => b'$',
-        Token::Star => b'*',
-        _ => b'?',
     }
 }
 
@@ -202,7 +162,7 @@ fn expect_next(
     assert_eq!(rt; count, taken);
     let mut out = Vec::new(alloc);
     if let Some(token) = token {
-        spell(&token, &mut out)?;
+        token.write_canonical(&mut out)?;
     }
     assert_eq!(rt; out.as_slice(), given);
     Ok(())
@@ -223,10 +183,9 @@ fn gives_a_last_number_at_the_end(rt: HostRuntime) -> Result<(), Fail> {
     let mut lexer = Lexer::new(rt.alloc(), Limits::usual());
     expect_next(&rt, rt.alloc(), &mut lexer, b"12", 2, b"")?;
     let mut out = Vec::new(rt.alloc());
-    let Some(Token::Whole(number)) = lexer.finish()? else {
-        return Err("no whole number".into());
-    };
-    number.write_canonical(&mut out)?;
+    let last = lexer.finish()?.ok_or("no token")?;
+    assert!(rt; matches!(last, Token::Whole(_)));
+    last.write_canonical(&mut out)?;
     assert_eq!(rt; out.as_slice(), b"12".as_slice());
     Ok(())
 }
@@ -289,4 +248,52 @@ fn names_faults(rt: HostRuntime) {
         assert_eq!(rt; fault.number(), *number);
         assert_eq!(rt; fault.name(), *name);
     }
+}
+
+#[test]
+fn stops_behind_a_token_of_one_byte(rt: HostRuntime) -> Result<(), Fail> {
+    let mut lexer = Lexer::new(rt.alloc(), Limits::usual());
+    expect_next(&rt, rt.alloc(), &mut lexer, b" ( )", 2, b"(")?;
+    expect_next(&rt, rt.alloc(), &mut lexer, b" .T. ", 4, b".T.")?;
+    expect_next(&rt, rt.alloc(), &mut lexer, b" )", 2, b")")?;
+    Ok(())
+}
+
+#[test]
+fn keeps_what_is_pending_at_a_refusal(rt: HostRuntime) -> Result<(), Fail> {
+    let cases: [(u64, &[u8], u64, TokenFault); 4] = [
+        (9, b"A=%", 2, TokenFault::BadByte),
+        (9, b"A='b\\Z", 5, TokenFault::BadDirective),
+        (4, b"12345678", 4, TokenFault::RecordTooLong),
+        (9, b"1;2 \"4\"", 2, TokenFault::BadBinary),
+    ];
+    for (record, bytes, pending, fault) in cases {
+        let limits = Limits::new(record, record, 99, 99).ok_or("no limits")?;
+        let mut reader = Reader::new(rt.alloc(), limits);
+        reader.feed(bytes)?;
+        assert_eq!(rt; reader.refused, Some(fault));
+        assert_eq!(rt; reader.lexer.pending(), pending);
+    }
+    Ok(())
+}
+
+#[test]
+fn shows_faults_and_tokens(rt: HostRuntime) -> Result<(), Fail> {
+    let shown = format!(in rt.alloc(); "{}", TokenFault::NumberRange)?;
+    assert_eq!(rt; shown.as_str(), "a real whose exponent is out of range");
+    let tokens: [(&[u8], &str); 3] = [
+        (b"#7;", "Name(Name(7))"),
+        (b"-7;", "Whole(Whole { negative: true, digits: [55] })"),
+        (
+            b"2.5;",
+            "Real(Decimal { negative: false, exponent: 0, digits: [50, 53] })",
+        ),
+    ];
+    for (bytes, text) in tokens {
+        let (_taken, token) = Lexer::new(rt.alloc(), Limits::usual()).next(bytes)?;
+        let token = token.ok_or("no token")?;
+        let shown = format!(in rt.alloc(); "{token:?}")?;
+        assert_eq!(rt; shown.as_str(), text);
+    }
+    Ok(())
 }

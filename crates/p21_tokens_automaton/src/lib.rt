@@ -2,6 +2,8 @@
 //! one to the next. It keeps no bytes and makes no tokens; p21_tokens does.
 #![tactic(auto)]
 
+mod action;
+mod binary;
 mod bytes;
 mod gap;
 mod mode;
@@ -12,7 +14,7 @@ mod text;
 mod wide;
 mod word;
 
-pub use gap::advance;
+pub use action::advance;
 pub use mode::{
     Absent, Action, BinaryMode, Marker, Mode, NameMode, NumberMode, Single, TextMode, WordMode,
     Wrong,

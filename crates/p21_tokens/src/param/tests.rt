@@ -51,7 +51,11 @@ const REFUSALS: &[(&[u8], u8)] = &[
     (b"", 24),
     (b" /* none */ ", 24),
     (b"1 2", 12),
+    (b"1 2 ", 12),
+    (b"1 (", 12),
+    (b"1 /* one */ .T", 24),
     (b"(1)", 12),
+    (b"RED ", 12),
     (b"RED", 12),
     (b"!RED", 12),
     (b"ISO-10303-21;", 12),
@@ -97,4 +101,11 @@ fn measures_the_text(rt: HostRuntime) -> Result<(), Fail> {
     expect_spelled(&rt, rt.alloc(), &text, b"7")?;
     text.push(b' ')?;
     expect_spelled(&rt, rt.alloc(), &text, b"FileTooLong")
+}
+
+#[test]
+fn spells_long_numbers(rt: HostRuntime) -> Result<(), Fail> {
+    let mut text: Vec<u8> = Vec::new(rt.alloc());
+    text.resize(5_000, b'7')?;
+    expect_spelled(&rt, rt.alloc(), &text, &text)
 }

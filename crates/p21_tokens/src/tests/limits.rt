@@ -53,6 +53,7 @@ const PASSED: Rows = &[
     (8, 8, "1.E99999;", "NumberRange"),
     (9, 4, "'\\S\\a", "FileTooLong"),
     (9, 0, " ", "FileTooLong"),
+    (9, 1, "%", "BadByte"),
 ];
 
 #[test]
@@ -66,5 +67,12 @@ fn refuses_past_the_limits(rt: HostRuntime) -> Result<(), Fail> {
             answers,
         )?;
     }
+    Ok(())
+}
+
+#[test]
+fn refuses_a_bad_byte_in_front_of_a_limit(rt: HostRuntime) -> Result<(), Fail> {
+    let found = read_cut(rt.alloc(), small(9, 1)?, b"%%", b"")?;
+    assert_eq!(rt; found.as_slice(), b"BadByte".as_slice());
     Ok(())
 }

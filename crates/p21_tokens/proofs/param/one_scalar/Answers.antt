@@ -1,9 +1,10 @@
-use Rattle.std.proofs.Common.{◌≡◌, ◌<◌, ℕ, length, IsTrue, true, false, arith, List, ◌==◌, refl, Option, Some, None, Ok, subst}
+use Rattle.std.proofs.Common.{◌≡◌, ◌<◌, ℕ, length, IsTrue, true, false, arith, List, ◌==◌, refl, Option, Some, None, Ok, Err, subst}
 use Rattle.std.proofs.lemmas.Bool.Decides.{nat_tests}
 use Rattle.std.specs.Option.{is_some}
-use Rattle.p21_exchange.specs.Laying.{HoldsScalar}
-use Rattle.p21_exchange.specs.Token.{Token, IsScalarToken}
-use Rattle.p21_tokens.proofs.OneScalar.{kept-none, kept-some, second-token, no-scalar, finds-refused, finds-end, tokens-are, finds-only}
+use Rattle.p21_exchange.specs.Token.{IsScalarToken}
+use Rattle.p21_tokens.proofs.OneScalar.{kept-none, kept-some, second-token, no-scalar, finds-refused, finds-end, ends-unfinished, tokens-are, finds-only}
+use Rattle.p21_tokens.specs.Finding.{FindsScalar}
+use Rattle.p21_tokens.specs.declared.fault.TokenFault.TheVariants.{NotOneParameter}
 use Rattle.p21_tokens.specs.Histories.{NextGives}
 use Rattle.p21_tokens.specs.Token.{meant}
 use Rattle.p21_tokens.specs.declared.token.Token.{Token as TokenRead}
@@ -35,7 +36,7 @@ loop-rest-preserved-in-Ok-default-None c =
 pub returns-then-is_some : goal.returns-then-is_some
 returns-then-is_some c = at c.loop-rest.found refl
   where
-    at : (found : Option TokenRead) → c.loop-rest.found ≡ found → (token : Token) → HoldsScalar c.args.text.now token → ⊥
+    at : (found : Option TokenRead) → c.loop-rest.found ≡ found → FindsScalar c.args.text.now (Err NotOneParameter)
     at None e = absurd (none-is e c.if-is_some.ensures)
     at (Some before) e = second-token c.loop-rest.lexer c.next.new.self c.args.text.now c.loop-rest.rest.now c.loop-rest.found c.in-Ok-default-Some.taken c.in-Ok-default-Some.token c.loop-rest.invariant (some c.loop-rest.rest.now c.loop-rest-test.ensures) (subst (λ (o : Option TokenRead). NextGives c.loop-rest.lexer c.loop-rest.rest.now (Ok (c.in-Ok-default-Some.taken, o)) c.next.new.self) c.in-Ok-default-Some.field-0-1-is (c.in-Ok-default-Some.ensures {u = tt}).history) before e
 
@@ -49,4 +50,4 @@ pub returns-in-Err-finish : goal.returns-in-Err-finish
 returns-in-Err-finish c = finds-end c.loop-rest.lexer c.args.text.now c.loop-rest.rest.now c.loop-rest.found c.loop-rest.invariant (none c.loop-rest.rest.now c.loop-rest-test.ensures) c.in-Err-finish.fault (c.in-Err-finish.ensures {u = tt}).history
 
 pub returns : goal.returns
-returns c = finds-only c.args.text.now c.loop-rest.found c.in-Ok.last c.only.result c.loop-rest.invariant.scalar (tokens-are c.loop-rest.lexer c.args.text.now c.loop-rest.rest.now c.loop-rest.found c.loop-rest.invariant (none c.loop-rest.rest.now c.loop-rest-test.ensures) c.in-Ok.last (c.in-Ok.ensures {u = tt}).history) c.only.ensures
+returns c = finds-only c.args.text.now c.loop-rest.found c.in-Ok.last c.only.result c.loop-rest.invariant.scalar (ends-unfinished c.loop-rest.lexer c.args.text.now c.loop-rest.rest.now c.loop-rest.found c.loop-rest.invariant (none c.loop-rest.rest.now c.loop-rest-test.ensures)) (tokens-are c.loop-rest.lexer c.args.text.now c.loop-rest.rest.now c.loop-rest.found c.loop-rest.invariant (none c.loop-rest.rest.now c.loop-rest-test.ensures) c.in-Ok.last (c.in-Ok.ensures {u = tt}).history) c.only.ensures

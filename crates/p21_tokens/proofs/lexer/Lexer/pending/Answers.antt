@@ -5,4 +5,4 @@ use Rattle.p21_tokens.proofs.Extending.{stands-pending}
 use Rattle.p21_tokens.proofs.lexer.Lexer.pending.Goals as goal
 
 pub returns-clause-pending : goal.returns-clause-pending
-returns-clause-pending c history stands alive = subst (λ (n : ℕ). IsPending history.taken n) (ap pending_of (sym c.self.view_is)) (stands-pending c.args.self.now history stands alive)
+returns-clause-pending c history stands = subst (λ (n : ℕ). IsPending history.taken n) (ap pending_of (sym c.self.view_is)) (stands-pending c.args.self.now history stands)

@@ -9,4 +9,7 @@ unchanged held characters size file c s f = rw (c, s, f) refl
 pub returns-then-is_empty-clause-ok : goal.returns-then-is_empty-clause-ok
 returns-then-is_empty-clause-ok c =
     let held = c.args.self.now in
-    (omega arith, ([], (refl, refl)), unchanged held _ _ _ (ap (λ xs. held.characters ++ xs) chars-nil ∙ append-nil held.characters) (omega arith) (omega arith))
+    unchanged held _ _ _ (ap (λ xs. held.characters ++ xs) chars-nil ∙ append-nil held.characters) (omega arith) (omega arith)
+
+pub returns-then-is_empty-clause-utf8 : goal.returns-then-is_empty-clause-utf8
+returns-then-is_empty-clause-utf8 c = ([], (refl, refl))

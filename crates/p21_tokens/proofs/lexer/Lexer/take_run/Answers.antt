@@ -14,17 +14,17 @@ returns-in-Passed c =
 pub returns-else-count-eq0 : goal.returns-else-count-eq0
 returns-else-count-eq0 c =
     ran-kept_or_failed c.args.self.now c.args.piece.now c.in-Kept.count c.keep_run.new.self c.keep_run.result (omega arith)
-    (subst (λ (m : Mode). EachDoes m c.args.piece.now c.in-Kept.count (λ b. Keep m)) (ap (λ (h : Held). h.mode) c.self.view_is) (c.in-Kept.ensures {u = tt})) c.keep_run.ensures.ok c.keep_run.ensures.err
+    (subst (λ (m : Mode). EachDoes m c.args.piece.now c.in-Kept.count (λ b. Keep m)) (ap (λ (h : Held). h.mode) c.self.view_is) (c.in-Kept.ensures {u = tt})) c.keep_run.ensures.within c.keep_run.ensures.ok c.keep_run.ensures.err
 
 pub returns-else-count-eq0-2 : goal.returns-else-count-eq0-2
 returns-else-count-eq0-2 c =
     ran-put_or_failed c.args.self.now c.args.piece.now c.in-Characters.count c.put_run.new.self c.put_run.result (omega arith)
-    (subst (λ (m : Mode). EachDoes m c.args.piece.now c.in-Characters.count (λ b. Put m b)) (ap (λ (h : Held). h.mode) c.self.view_is) (c.in-Characters.ensures {u = tt})) c.put_run.ensures.ok c.put_run.ensures.err
+    (subst (λ (m : Mode). EachDoes m c.args.piece.now c.in-Characters.count (λ b. Put m b)) (ap (λ (h : Held). h.mode) c.self.view_is) (c.in-Characters.ensures {u = tt})) c.put_run.ensures.within c.put_run.ensures.ok c.put_run.ensures.err
 
 pub returns-else-count-eq0-3 : goal.returns-else-count-eq0-3
 returns-else-count-eq0-3 c =
     ran-utf8_or_failed c.args.self.now c.args.piece.now c.in-Utf8.count c.put_utf8_run.new.self c.put_utf8_run.result
-    (subst (λ (m : Mode). AreCharacterBytes m c.args.piece.now c.in-Utf8.count) (ap (λ (h : Held). h.mode) c.self.view_is) (c.in-Utf8.ensures {u = tt})) c.put_utf8_run.ensures.ok c.put_utf8_run.ensures.err
+    (subst (λ (m : Mode). AreCharacterBytes m c.args.piece.now c.in-Utf8.count) (ap (λ (h : Held). h.mode) c.self.view_is) (c.in-Utf8.ensures {u = tt})) c.put_utf8_run.ensures.within c.put_utf8_run.ensures.utf8 c.put_utf8_run.ensures.ok c.put_utf8_run.ensures.err
 
 pub returns-then-name_run : goal.returns-then-name_run
 returns-then-name_run c =
