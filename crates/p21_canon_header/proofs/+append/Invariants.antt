@@ -1,0 +1,7 @@
+use Rattle.std.proofs.Common.{◌≡◌, ◌++◌, ◌∷◌, [], take}
+use Rattle.p21_canon_header.proofs.Listed.{row_text}
+use Rattle.p21_canon_header.proofs.+append.Given as goal
+
+-- what is written so far
+abbrev pub invariant-append_list-loop-i : goal.invariant-append_list-loop-i
+invariant-append_list-loop-i l = l.out.items ≡ (l.fn.out.items ++ 40 ∷ []) ++ row_text (take l.i l.params)

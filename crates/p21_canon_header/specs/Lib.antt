@@ -1,0 +1,2 @@
+-- What stands between parameters.
+pub mod Row
