@@ -1,1 +1,13 @@
+pub mod Apart
 pub mod Nesting
+pub mod Sounding
+pub mod Repeated
+pub mod TypesSound
+pub mod Lists
+pub mod ListsRead
+pub mod Declared
+pub mod Schemas
+pub mod TypesRead
+pub mod Counting
+pub mod DeclaredRead
+pub mod SchemasRead

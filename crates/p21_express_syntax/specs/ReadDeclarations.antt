@@ -20,3 +20,7 @@ pub record IsTextOf (x : SchemaDeclaration) (text : List ℕ) : Type 0 where
 abbrev pub ReadsDeclarations : List ℕ → Result Declarations SyntaxFault → Type 0
 ReadsDeclarations text (Ok declarations) = (x : SchemaDeclaration) × IsTextOf x text × (schema_view declarations ≡ kept_schema x)
 ReadsDeclarations text (Err fault) = Refused fault ((x : SchemaDeclaration) → IsTextOf x text → ⊥)
+
+-- what is kept of a text is one
+abbrev pub OneTextKept : Type 0
+OneTextKept = (text : List ℕ) (x y : SchemaDeclaration) → IsTextOf x text → IsTextOf y text → kept_schema x ≡ kept_schema y

@@ -8,6 +8,10 @@ use Rattle.p21_express_syntax.specs.declared.defined_type.DefinedType.{DefinedTy
 use Rattle.p21_express_syntax.specs.declared.entity.Constraint.{Constraint}
 use Rattle.p21_express_syntax.specs.declared.entity.Entity.{Entity}
 use Rattle.p21_express_syntax.specs.declared.schema.Declarations.{Declarations}
+use Rattle.p21_express_syntax.specs.declared.schema.Declaration.{Declaration}
+use Rattle.p21_express_syntax.specs.declared.schema.Declaration.TheVariants as declaration
+use Rattle.p21_express_syntax.specs.Declaring as kept
+use Rattle.p21_express_syntax.specs.Declaring.{KeptDeclaration}
 use Rattle.p21_express_syntax.specs.declared.types.DataType.{DataType}
 
 abbrev pub list_view : {A Z : Type 0} → Vec A Z → List A
@@ -18,6 +22,9 @@ type_view type = record { aggregates = type.aggregates.items; element = type.ele
 
 abbrev pub attributes_view : ExplicitAttributes → KeptAttributes
 attributes_view attributes = record { names = attributes.names.items; optional = attributes.optional; type = type_view attributes.data_type }
+
+abbrev pub attributes_views : {Z : Type 0} → Vec ExplicitAttributes Z → List KeptAttributes
+attributes_views all = map attributes_view all.items
 
 abbrev pub some_list : {A Z : Type 0} → Option (Vec A Z) → Option (List A)
 some_list None = None
@@ -39,3 +46,8 @@ defined_view defined = record { name = defined.name; body = body_view defined.bo
 
 abbrev pub schema_view : Declarations → KeptSchema
 schema_view schema = record { name = schema.name; entities = map entity_view schema.entities.items; types = map defined_view schema.types.items }
+
+abbrev pub declaration_view : Declaration → KeptDeclaration
+declaration_view (declaration.Entity x) = kept.entity (entity_view x)
+declaration_view (declaration.Type x) = kept.defined (defined_view x)
+declaration_view declaration.Passed = kept.passed

@@ -2,7 +2,10 @@ ghost use Rattle.std.specs.Prelude.{◌≡◌, IfOk, map};
 ghost use Rattle.p21_exchange.specs.Keyword.{IsKeyword};
 ghost use Rattle.p21_schemas.specs.Express.{upper};
 ghost use Rattle.p21_express_lexemes.specs.Taking.{ReadBy, Refused, take_name};
+ghost use Rattle.p21_express_syntax.specs.Declaring.{comma_name_of, names_from, names_of};
+ghost use Rattle.p21_express_syntax.specs.Many.{StepRead};
 ghost use Rattle.p21_express_syntax.specs.Reading.{IsWordOf, itself};
+ghost use Rattle.p21_express_syntax.specs.Views.{list_view};
 
 use p21_express_lexemes::{Lexemes, SyntaxFault, upper};
 use p21_values::Word;
@@ -17,7 +20,7 @@ pub(crate) fn read_name(alloc: Global, lexemes: &mut Lexemes) -> Result<Word, Sy
 }
 
 /// An identifier in upper case.
-fn word_of(alloc: Global, name: &[u8]) -> Result<Word, SyntaxFault>
+pub(crate) fn word_of(alloc: Global, name: &[u8]) -> Result<Word, SyntaxFault>
     requires { IsKeyword (map upper name.now) }
     ensures { IsWordOf (map upper name.now) result }
 {
@@ -26,4 +29,47 @@ fn word_of(alloc: Global, name: &[u8]) -> Result<Word, SyntaxFault>
         Ok(word) => Ok(word),
         Err(_no_memory) => Err(SyntaxFault::NoMemory),
     }
+}
+
+/// The names between parentheses: `(` name {`,` name} `)`.
+#[tactic(auto, unfolding(crate::specs::Declaring::names_of))]
+pub(crate) fn read_names(alloc: Global, lexemes: &mut Lexemes) -> Result<Vec<Word>, SyntaxFault>
+    ensures { ReadBy list_view result (names_of lexemes.old) lexemes.new }
+{
+    lexemes.expect_symbol(b'(')?;
+    let first = read_name(alloc, lexemes)?;
+    let names = read_names_from(alloc, lexemes, first)?;
+    lexemes.expect_symbol(b')')?;
+    Ok(names)
+}
+
+/// The first name, and those behind commas.
+#[tactic(auto, unfolding(crate::specs::Declaring::names_from))]
+fn read_names_from(
+    alloc: Global,
+    lexemes: &mut Lexemes,
+    first: Word,
+) -> Result<Vec<Word>, SyntaxFault>
+    ensures { ReadBy list_view result (names_from first lexemes.old) lexemes.new }
+{
+    let mut names = Vec::new(alloc);
+    names.push(first)?;
+    loop {
+        match read_comma_name(alloc, lexemes) {
+            Ok(Some(name)) => names.push(name)?,
+            Ok(None) => return Ok(names),
+            Err(fault) => return Err(fault),
+        }
+    }
+}
+
+/// A comma and a name, if the comma stands there.
+#[tactic(auto, unfolding(crate::specs::Declaring::comma_name_of))]
+fn read_comma_name(alloc: Global, lexemes: &mut Lexemes) -> Result<Option<Word>, SyntaxFault>
+    ensures { StepRead itself result (comma_name_of lexemes.old) lexemes.old lexemes.new }
+{
+    if !lexemes.take_symbol(b',') {
+        return Ok(None);
+    }
+    Ok(Some(read_name(alloc, lexemes)?))
 }
