@@ -107,3 +107,6 @@ fn same_paired(a: &[Value], b: &[Value]) -> bool
     }
     true
 }
+
+#[cfg(test)]
+mod tests;
