@@ -58,4 +58,66 @@ impl Reader {
             }
         }
     }
+
+    /// Takes two texts, and keeps the statements of the second. After a refusal it looks that the next call answers it.
+    fn read(&mut self, head: &str, text: &str) -> Result<(), Fail> {
+        self.feed(head)?;
+        self.given.clear();
+        self.feed(text)?;
+        if self.refused.is_some() && self.parser.take(Token::Semicolon).err() != self.refused {
+            self.given.extend_from_slice(b"and then another ")?;
+        }
+        Ok(())
+    }
+
+    /// Takes a text so many times.
+    fn repeat(&mut self, text: &str, count: u32) -> Result<(), Fail> {
+        for _ in 0..count {
+            self.feed(text)?;
+        }
+        Ok(())
+    }
+
+    /// The statements, and then the refusal, `end` and that of `finish`, or nothing.
+    fn end(self) -> Result<Vec<u8>, Fail> {
+        let Reader {
+            lexer,
+            parser,
+            given,
+            refused,
+        } = self;
+        drop(lexer);
+        let ended = parser.finish().err();
+        verdict(given, refused, ended)
+    }
+}
+
+fn verdict(
+    given: Vec<u8>,
+    refused: Option<GrammarFault>,
+    ended: Option<GrammarFault>,
+) -> Result<Vec<u8>, Fail> {
+    let mut given = given;
+    match (refused, ended) {
+        (Some(fault), Some(last)) => {
+            given.extend_from_slice(fault.name().as_bytes())?;
+            if fault != last {
+                given.extend_from_slice(b" and not at the end")?;
+            }
+        }
+        (Some(_), None) => given.extend_from_slice(b"accepted though refused")?,
+        (None, Some(fault)) => {
+            given.extend_from_slice(b"end ")?;
+            given.extend_from_slice(fault.name().as_bytes())?;
+        }
+        (None, None) => {}
+    }
+    Ok(given)
+}
+
+/// What comes of two texts: the statements of the second, and then the refusal, `end` and that of `finish`, or nothing.
+fn answers(rt: &HostRuntime, head: &str, text: &str) -> Result<Vec<u8>, Fail> {
+    let mut reader = Reader::new(rt.alloc());
+    reader.read(head, text)?;
+    reader.end()
 }

@@ -1,58 +1,20 @@
 use super::*;
 
-/// What comes of the header, a text and nothing more: the statements behind the header, and then the refusal, `end` and
-/// that of `finish`, or nothing.
-fn behind_header(rt: &HostRuntime, text: &str) -> Result<Vec<u8>, Fail> {
-    let mut reader = Reader::new(rt.alloc());
-    reader.feed(HEAD)?;
-    reader.given.clear();
-    reader.feed(text)?;
-    ended(reader)
-}
-
-fn ended(reader: Reader) -> Result<Vec<u8>, Fail> {
-    let Reader {
-        lexer: _lexer,
-        parser,
-        given,
-        refused,
-    } = reader;
-    let mut given = given;
-    let mut parser = parser;
-    match refused {
-        Some(fault) => {
-            given.extend_from_slice(fault.name().as_bytes())?;
-            // each later call answers the refusal
-            if parser.take(Token::Semicolon).err() != Some(fault) {
-                given.extend_from_slice(b" and then another")?;
-            }
-            if parser.finish().err() != Some(fault) {
-                given.extend_from_slice(b" and not at the end")?;
-            }
-        }
-        None => match parser.finish() {
-            Ok(()) => {}
-            Err(fault) => {
-                given.extend_from_slice(b"end ")?;
-                given.extend_from_slice(fault.name().as_bytes())?;
-            }
-        },
-    }
-    Ok(given)
-}
-
 #[test]
 fn gives_statements(rt: HostRuntime) -> Result<(), Fail> {
-    let mut reader = Reader::new(rt.alloc());
-    reader.feed(HEAD)?;
-    reader.feed("DATA;#7=K('a',-0.0,((),1),A(B($)),*,#2,.T.,\"23B\");#8=(B()A(!C));")?;
+    let found = answers(&rt, "", HEAD)?;
     assert_eq!(rt;
-        reader.refused,
-        Some(GrammarFault::LeftOut(Absent::UserKeyword))
+        found.as_slice(),
+        b"begin header FILE_DESCRIPTION(('' ) '2;1' ) FILE_NAME('' '' ('' ) ('' ) '' '' '' ) FILE_SCHEMA(('DEMO' ) ) end end EndsEarly".as_slice()
     );
+    let found = answers(
+        &rt,
+        HEAD,
+        "DATA;#7=K('a',-0.0,((),1),A(B($)),*,#2,.T.,\"23B\");#8=(B()A(!C(",
+    )?;
     assert_eq!(rt;
-        reader.given.as_slice(),
-        b"begin header FILE_DESCRIPTION(('' ) '2;1' ) FILE_NAME('' '' ('' ) ('' ) '' '' '' ) FILE_SCHEMA(('DEMO' ) ) end data #7=K('a' 0. (() 1 ) A:B:$ * #2 .T. \"23B\" ) ".as_slice()
+        found.as_slice(),
+        b"data #7=K('a' 0. (() 1 ) A:B:$ * #2 .T. \"23B\" ) LeftOut(UserKeyword)".as_slice()
     );
     Ok(())
 }
@@ -108,9 +70,23 @@ fn reads_sections(rt: HostRuntime) -> Result<(), Fail> {
         ("DATA;X=", "data Unexpected"),
     ];
     for (text, expected) in cases {
-        let found = behind_header(&rt, text)?;
+        let found = answers(&rt, HEAD, text)?;
         assert_eq!(rt; found.as_slice(), expected.as_bytes(), "{text}");
     }
+    Ok(())
+}
+
+/// What comes of a header, its statements apart.
+fn refusal(rt: &HostRuntime, text: &str) -> Result<Vec<u8>, Fail> {
+    let mut reader = Reader::new(rt.alloc());
+    feed_all_of_header(&mut reader, text)?;
+    reader.end()
+}
+
+fn feed_all_of_header(reader: &mut Reader, text: &str) -> Result<(), Fail> {
+    reader.feed("ISO-10303-21;HEADER;")?;
+    reader.feed(text)?;
+    reader.given.clear();
     Ok(())
 }
 
@@ -159,53 +135,51 @@ fn reads_headers(rt: HostRuntime) -> Result<(), Fail> {
         ("DATA;", "Unexpected"),
     ];
     for (text, expected) in cases {
-        let mut reader = Reader::new(rt.alloc());
-        reader.feed("ISO-10303-21;HEADER;")?;
-        reader.feed(text)?;
-        reader.given.clear();
-        let found = ended(reader)?;
+        let found = refusal(&rt, text)?;
         assert_eq!(rt; found.as_slice(), expected.as_bytes(), "{text}");
     }
     Ok(())
 }
 
-/// The header, `#1=A(`, so many openings, `$` or nothing, as many closings, and the rest.
+/// What comes of the header, `#1=A(`, so many openings, a parameter or nothing, and as many closings.
 fn nested(rt: &HostRuntime, opening: &str, inner: &str, count: u32) -> Result<Vec<u8>, Fail> {
     let mut reader = Reader::new(rt.alloc());
-    reader.feed(HEAD)?;
-    reader.feed("DATA;#1=A(")?;
-    for _ in 0..count {
-        reader.feed(opening)?;
-    }
+    nest(&mut reader, opening, inner, count)?;
+    reader.end()
+}
+
+fn nest(reader: &mut Reader, opening: &str, inner: &str, count: u32) -> Result<(), Fail> {
+    reader.read(HEAD, "DATA;#1=A(")?;
+    reader.repeat(opening, count)?;
     reader.feed(inner)?;
-    for _ in 0..count {
-        reader.feed(")")?;
-    }
+    reader.repeat(")", count)?;
+    reader.feed(");")?;
     reader.given.clear();
-    reader.feed(");ENDSEC;END-ISO-10303-21;")?;
-    if reader.given.len() > 12 {
-        let kept = reader.given.len() - 12;
-        reader.given = Vec::from_slice(rt.alloc(), &reader.given[kept..])?;
-    }
-    ended(reader)
+    reader.feed("ENDSEC;END-ISO-10303-21;")
 }
 
 #[test]
 fn nests_up_to_64(rt: HostRuntime) -> Result<(), Fail> {
     assert_eq!(rt;
         nested(&rt, "(", "", 64)?.as_slice(),
-        b" end finish ".as_slice()
+        b"end finish ".as_slice()
     );
     assert_eq!(rt; nested(&rt, "(", "", 65)?.as_slice(), b"TooDeep".as_slice());
     assert_eq!(rt;
         nested(&rt, "B(", "$", 64)?.as_slice(),
-        b" end finish ".as_slice()
+        b"end finish ".as_slice()
     );
     assert_eq!(rt;
         nested(&rt, "B(", "$", 65)?.as_slice(),
         b"TooDeep".as_slice()
     );
     Ok(())
+}
+
+fn depth_behind(rt: &HostRuntime, text: &str) -> Result<usize, Fail> {
+    let mut reader = Reader::new(rt.alloc());
+    reader.read(HEAD, text)?;
+    Ok(reader.parser.depth())
 }
 
 #[test]
@@ -222,11 +196,25 @@ fn counts_depth(rt: HostRuntime) -> Result<(), Fail> {
         ("DATA;#1=CLOUD((#2),((=", 2),
     ];
     for (text, depth) in cases {
-        let mut reader = Reader::new(rt.alloc());
-        reader.feed(HEAD)?;
-        reader.feed(text)?;
-        assert_eq!(rt; reader.parser.depth(), depth, "{text}");
+        assert_eq!(rt; depth_behind(&rt, text)?, depth, "{text}");
     }
+    Ok(())
+}
+
+/// What comes of the header and these tokens, statements apart.
+fn cut(rt: &HostRuntime, tokens: &[&str]) -> Result<Vec<u8>, Fail> {
+    let mut reader = Reader::new(rt.alloc());
+    feed_all(&mut reader, tokens)?;
+    reader.end()
+}
+
+fn feed_all(reader: &mut Reader, tokens: &[&str]) -> Result<(), Fail> {
+    reader.feed(HEAD)?;
+    for token in tokens {
+        reader.feed(token)?;
+        reader.feed(" ")?;
+    }
+    reader.given.clear();
     Ok(())
 }
 
@@ -265,18 +253,8 @@ fn ends_early(rt: HostRuntime) -> Result<(), Fail> {
         "END-ISO-10303-21",
     ];
     for count in 0..tokens.len() {
-        let mut reader = Reader::new(rt.alloc());
-        reader.feed(HEAD)?;
-        for token in &tokens[..count] {
-            reader.feed(token)?;
-            reader.feed(" ")?;
-        }
-        assert_eq!(rt; reader.refused, None);
-        assert_eq!(rt;
-            reader.parser.finish().err(),
-            Some(GrammarFault::EndsEarly),
-            "{count}"
-        );
+        let found = cut(&rt, &tokens[..count])?;
+        assert_eq!(rt; found.as_slice(), b"end EndsEarly".as_slice(), "{count}");
     }
     Ok(())
 }

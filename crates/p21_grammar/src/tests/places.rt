@@ -24,15 +24,13 @@ const KINDS: [&str; 17] = [
 /// What a token does behind a text: `.` it is taken, `E` a statement ends, and a letter for each refusal.
 fn letter(rt: &HostRuntime, before: &str, kind: &str) -> Result<u8, Fail> {
     let mut reader = Reader::new(rt.alloc());
-    reader.feed(before)?;
-    if reader.refused.is_some() {
-        return Ok(b'-');
-    }
-    reader.given.clear();
-    reader.feed(kind)?;
-    Ok(match reader.refused {
-        None if reader.given.is_empty() => b'.',
-        None => b'E',
+    reader.read(before, kind)?;
+    Ok(letter_of(reader.refused, reader.given.is_empty()))
+}
+
+fn letter_of(refused: Option<GrammarFault>, is_open: bool) -> u8 {
+    match refused {
+        None => { if is_open { b'.' } else { b'E' } }
         Some(GrammarFault::Unexpected) => b'x',
         Some(GrammarFault::LeftOut(Absent::UserKeyword)) => b'u',
         Some(GrammarFault::LeftOut(Absent::NoDataSection)) => b'n',
@@ -40,7 +38,7 @@ fn letter(rt: &HostRuntime, before: &str, kind: &str) -> Result<u8, Fail> {
         Some(GrammarFault::HeaderShape) => b'h',
         Some(GrammarFault::SectionShape) => b's',
         Some(_) => b'?',
-    })
+    }
 }
 
 fn row(rt: &HostRuntime, first: &str, before: &str) -> Result<Vec<u8>, Fail> {
