@@ -2,6 +2,8 @@
 #![tactic(auto)]
 
 mod fault;
+#[cfg(test)]
+mod tests;
 mod transfer;
 mod waiting;
 mod watched;

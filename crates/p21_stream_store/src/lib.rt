@@ -5,8 +5,8 @@
 mod instances;
 mod lines;
 mod names;
+#[cfg(test)]
+mod tests;
 mod texts;
 
 pub use instances::Instances;
-pub use lines::Lines;
-pub use texts::Texts;
