@@ -8,10 +8,7 @@ use Rattle.p21_exchange.specs.DataSection.{unnamed, named, data_part}
 use Rattle.p21_exchange.specs.Statement.{SectionLine, begin, header_start, section_end, data_start, finish, Statement, section, header, instance, section_tokens, statement_tokens}
 use Rattle.p21_exchange.specs.Token as token
 use Rattle.p21_exchange.specs.Token.{Token}
-
-pub Each-append : {A : Type 0} (P : A → Type 0) → (xs ys : List A) → Each P xs → Each P ys → Each P (xs ++ ys)
-Each-append P [] ys first second = second
-Each-append P (x ∷ xs) ys first second = (first.0, Each-append P xs ys first.1 second)
+pub use Rattle.p21_basics.proofs.Members.{Each-append}
 
 abbrev HaveNone : List Token → Type 0
 HaveNone tokens = Each IsNoSemicolon tokens

@@ -5,7 +5,7 @@ use Rattle.p21_files.specs.Accepted.{IsAccepted, IsDead}
 use Rattle.p21_basics.specs.Digits.{IsByte}
 use Rattle.p21_basics.specs.Limits.{Limits}
 use Rattle.p21_schemas.specs.Schema.{Schema}
-use Rattle.p21_exchange.proofs.Semicolons.{Each-append}
+use Rattle.p21_basics.proofs.Members.{Each-append}
 
 pub dead_further : (s : Schema) (limits : Limits) (bytes more : List ℕ) → Each IsByte more → IsDead s limits bytes → IsDead s limits (bytes ++ more)
 dead_further s limits bytes more are_bytes dead rest are_rest accepted =
