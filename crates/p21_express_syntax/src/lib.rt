@@ -14,3 +14,6 @@ pub use defined_type::{Body, DefinedType};
 pub use entity::{Constraint, Entity};
 pub use schema::{Declarations, one_text, read_declarations};
 pub use types::{Aggregate, DataType, Range, SimpleType, Width};
+
+#[cfg(test)]
+mod tests;
