@@ -13,6 +13,9 @@ ghost use Rattle.p21_canon_header.specs.Row.{separator};
 use p21_grammar_tree::{Key, Param, Part};
 use p21_values::{Canonical, NoMemory, Word};
 
+#[cfg(test)]
+mod tests;
+
 /// Appends the canonical text of a header record, or of the `DATA` of a named section, with its `;` and without a line
 /// feed. A refusal leaves `out` as it was.
 ///
