@@ -6,7 +6,7 @@ use Rattle.std.specs.Ordering.{nat_cmp}
 use Rattle.std.proofs.Common.{arith, ap, sym, subst, ◌∙◌, append_assoc, inl, inr, append-nil}
 use Rattle.std.proofs.lemmas.Grind.{flat_map-append}
 use Rattle.std.proofs.lemmas.List.{map-append}
-use Rattle.p21_schemas.proofs.DeclaredSchemas.{IsWellFormed}
+use Rattle.p21_schemas.specs.WellFormed.{IsWellFormed}
 use Rattle.p21_basics.proofs.Members.{Contains-none, Contains-first, Contains-later, Contains-cases, Contains-mapped, Each-member, AllZip-member, Each-append, Each-mapped, Each-unmapped}
 use Rattle.p21_exchange.proofs.OneTree.{one_tree}
 use Rattle.p21_files.specs.Accepted.{IsAccepted, IsCanonicalOf, IsLineWithin, Means}

@@ -6,7 +6,7 @@ use Rattle.std.proofs.Common.{ap, sym, subst, ◌∙◌}
 use Rattle.std.proofs.lemmas.List.Elements.{Contains-append_left, Contains-append_right}
 use Rattle.p21_claim_values.proofs.CanonicalLaid.{statement_laid}
 use Rattle.p21_claim.proofs.OneReading.{within-one}
-use Rattle.p21_schemas.proofs.DeclaredSchemas.{IsWellFormed}
+use Rattle.p21_schemas.specs.WellFormed.{IsWellFormed}
 use Rattle.p21_basics.proofs.Members.{Contains-first, Contains-later, Contains-flat_map, Contains-mapped, Each-member, AllZip-member, AllZip-second_member, AllZip-both, Contains-unmapped, Each-of_members}
 use Rattle.p21_files.proofs.SameFiles.{SameTyped-symmetric}
 use Rattle.p21_files.specs.Accepted.{IsLineWithin}

@@ -11,7 +11,8 @@ use Rattle.p21_schemas.specs.Schema.{Schema, Entity}
 use Rattle.p21_schemas.specs.Supertype.{IsA, itself, above, supertypes_of}
 use Rattle.p21_schemas.specs.Order.{order, firsts}
 use Rattle.p21_schemas.specs.Declared.{HasNoCircle, HasSupertype}
-use Rattle.p21_schemas.proofs.Orders.{AreEntities, order-is, order-has, order_within-only}
+use Rattle.p21_schemas.proofs.Orders.{order-is, order-has, order_within-only}
+use Rattle.p21_schemas.specs.WellFormed.{AreEntities}
 use Rattle.p21_express_tables.specs.Settled.{nexts_of, IsNext, IsSettled, AreWithin}
 use Rattle.p21_express_tables.specs.Gathering.{add_first, add_firsts}
 use Rattle.p21_express_tables.specs.Resolved.{HoldsTogether, IsEntity}
