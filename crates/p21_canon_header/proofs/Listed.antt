@@ -8,7 +8,7 @@ use Rattle.p21_exchange.specs.Parameter.{list, more_tokens, param_tokens, params
 use Rattle.p21_exchange.specs.Spelling.{spelling}
 use Rattle.p21_exchange.specs.Token.{Token, comma, right}
 use Rattle.p21_values.specs.Canonical.{Continues}
-use Rattle.p21_canon_header.specs.Row.{separator}
+use Rattle.p21_canon_tokens.specs.Row.{separator}
 use Rattle.p21_grammar_tree.specs.declared.param.Param.{Param}
 use Rattle.p21_grammar_tree.specs.View.{view, views}
 

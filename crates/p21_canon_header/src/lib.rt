@@ -1,29 +1,32 @@
 //! The canonical text of a header record, and of the record that begins a named data section.
 #![tactic(auto)]
 
-ghost use Rattle.std.specs.Prelude.{◌≡◌, ◌++◌, ◌∷◌, [], OnErr, OnOk};
+ghost use Rattle.std.specs.Prelude.{◌≡◌, ◌++◌, OnErr, OnOk};
+ghost use Rattle.p21_claim_values.specs.Written.{IsSpelled, IsWritten, IsWrittenStatement};
 ghost use Rattle.p21_exchange.specs.CanonicalText.{param_text, statement_text};
+ghost use Rattle.p21_exchange.specs.Laying.{Laid};
 ghost use Rattle.p21_exchange.specs.Parameter.{key_token, list, typed};
 ghost use Rattle.p21_exchange.specs.Spelling.{spelling};
-ghost use Rattle.p21_exchange.specs.Statement.{header};
+ghost use Rattle.p21_exchange.specs.Statement.{header, statement_tokens};
 ghost use Rattle.p21_values.specs.Canonical.{Continues};
 ghost use Rattle.p21_grammar_tree.specs.View.{key_view, part_view, view, views};
-ghost use Rattle.p21_canon_header.specs.Row.{separator};
 
+use p21_canon_tokens::{append_byte, append_item, append_separator};
 use p21_grammar_tree::{Key, Param, Part};
-use p21_values::{Canonical, NoMemory, Word};
+use p21_values::{Canonical, NoMemory};
 
 #[cfg(test)]
 mod tests;
 
 /// Appends the canonical text of a header record, or of the `DATA` of a named section, with its `;` and without a line
-/// feed. A refusal leaves `out` as it was.
+/// feed: its tokens are laid in it. A refusal leaves `out` as it was.
 ///
 /// # Errors
 ///
 /// `NoMemory`.
 pub fn write_header(part: &Part, out: &mut Vec<u8>) -> Result<(), NoMemory>
     ensures ok { OnOk result (out.new.items ≡ out.old.items ++ statement_text (header (part_view part.now))) }
+    ensures laid { OnOk result (Laid (statement_text (header (part_view part.now))) (statement_tokens (header (part_view part.now)))) }
     ensures err { OnErr result (out.new.items ≡ out.old.items) }
 {
     let before = out.len();
@@ -37,6 +40,7 @@ pub fn write_header(part: &Part, out: &mut Vec<u8>) -> Result<(), NoMemory>
 /// Appends the text of a record, or a part of it where memory runs out.
 fn append_statement(part: &Part, out: &mut Vec<u8>) -> Result<(), NoMemory>
     ensures ok { OnOk result (out.new.items ≡ out.old.items ++ statement_text (header (part_view part.now))) }
+    ensures written { OnOk result (IsWrittenStatement (header (part_view part.now))) }
     ensures err { OnErr result (Continues out.old.items out.new.items) }
 {
     append_key(&part.key, out)?;
@@ -48,6 +52,7 @@ fn append_statement(part: &Part, out: &mut Vec<u8>) -> Result<(), NoMemory>
 /// Appends a keyword, or a part of it where memory runs out.
 fn append_key(key: &Key, out: &mut Vec<u8>) -> Result<(), NoMemory>
     ensures ok { OnOk result (out.new.items ≡ out.old.items ++ spelling (key_token (key_view key.now))) }
+    ensures written { OnOk result (IsSpelled (key_token (key_view key.now))) }
     ensures err { OnErr result (Continues out.old.items out.new.items) }
 {
     if key.user {
@@ -60,6 +65,7 @@ fn append_key(key: &Key, out: &mut Vec<u8>) -> Result<(), NoMemory>
 #[cycle(append)]
 fn append_param(param: &Param, out: &mut Vec<u8>) -> Result<(), NoMemory>
     ensures ok { OnOk result (out.new.items ≡ out.old.items ++ param_text (view param.now)) }
+    ensures written { OnOk result (IsWritten (view param.now)) }
     ensures err { OnErr result (Continues out.old.items out.new.items) }
 {
     match param {
@@ -76,30 +82,11 @@ fn append_param(param: &Param, out: &mut Vec<u8>) -> Result<(), NoMemory>
     }
 }
 
-/// Appends one byte.
-fn append_byte(byte: u8, out: &mut Vec<u8>) -> Result<(), NoMemory>
-    ensures ok { OnOk result (out.new.items ≡ out.old.items ++ byte ∷ []) }
-    ensures err { OnErr result (out.new.items ≡ out.old.items) }
-{
-    out.push(byte)?;
-    Ok(())
-}
-
-/// Appends the text of an enumeration item, or a part of it where memory runs out.
-fn append_item(word: &Word, out: &mut Vec<u8>) -> Result<(), NoMemory>
-    ensures ok { OnOk result (out.new.items ≡ out.old.items ++ 46 ∷ (word.now ++ 46 ∷ [])) }
-    ensures err { OnErr result (Continues out.old.items out.new.items) }
-{
-    out.push(b'.')?;
-    word.write_canonical(out)?;
-    out.push(b'.')?;
-    Ok(())
-}
-
 /// Appends the text of a typed parameter, or a part of it where memory runs out.
 #[cycle(append)]
 fn append_tagged(key: &Key, inner: &Param, out: &mut Vec<u8>) -> Result<(), NoMemory>
     ensures ok { OnOk result (out.new.items ≡ out.old.items ++ param_text (typed (key_view key.now) (view inner.now))) }
+    ensures written { OnOk result (IsWritten (typed (key_view key.now) (view inner.now))) }
     ensures err { OnErr result (Continues out.old.items out.new.items) }
 {
     append_key(key, out)?;
@@ -113,6 +100,7 @@ fn append_tagged(key: &Key, inner: &Param, out: &mut Vec<u8>) -> Result<(), NoMe
 #[cycle(append)]
 fn append_list(params: &[Param], out: &mut Vec<u8>) -> Result<(), NoMemory>
     ensures ok { OnOk result (out.new.items ≡ out.old.items ++ param_text (list (views params.now))) }
+    ensures written { OnOk result (IsWritten (list (views params.now))) }
     ensures err { OnErr result (Continues out.old.items out.new.items) }
 {
     out.push(b'(')?;
@@ -125,15 +113,4 @@ fn append_list(params: &[Param], out: &mut Vec<u8>) -> Result<(), NoMemory>
         }
     }
     append_byte(b')', out)
-}
-
-/// Appends a comma, unless what comes is the first.
-fn append_separator(first: bool, out: &mut Vec<u8>) -> Result<(), NoMemory>
-    ensures ok { OnOk result (out.new.items ≡ out.old.items ++ separator first) }
-    ensures err { OnErr result (out.new.items ≡ out.old.items) }
-{
-    if first {
-        return Ok(());
-    }
-    append_byte(b',', out)
 }

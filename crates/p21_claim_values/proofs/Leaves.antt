@@ -23,7 +23,7 @@ decide-is_a s formed f e = elim (decide-member (order s f) e) [
   | inr h ↦ inr (λ is. h (order-has s formed.supertypes_are formed.supertypes_end f e is))
 ]
 
-is_a-transitive : (s : Schema) (e f g : ℕ) → IsA s e f → IsA s f g → IsA s e g
+pub is_a-transitive : (s : Schema) (e f g : ℕ) → IsA s e f → IsA s f g → IsA s e g
 is_a-transitive s e f g (itself _) more = more
 is_a-transitive s e f g (above _ next _ up first) more = above e next g up (is_a-transitive s next f g first more)
 

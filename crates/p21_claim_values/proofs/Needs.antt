@@ -22,7 +22,7 @@ use Rattle.p21_files.specs.Value.{Value, Values}
 use Rattle.p21_files.proofs.OneMeaning.{NamesEntity-one}
 use Rattle.p21_claim_values.specs.Needs.{FitsWith, with_whole, with_real, with_number, with_whole_number, with_boolean, with_logical, with_text, with_binary, with_instance, with_underlying, with_item, with_chosen_instance, with_chosen_type, with_array, with_list, with_set, with_bag, FitEachWith, with_none, with_next, with_empty, FitsAtWith, with_star, with_dollar, with_fit, FitPlacesWith, PartsNeed, RecordNeeds, MeansWith}
 
-abbrev AreServed : Schema → Kinds → List Need → Type 0
+abbrev pub AreServed : Schema → Kinds → List Need → Type 0
 AreServed s kinds needs = Each (IsServed s kinds) needs
 
 -- ---- where the needs are served, the parameter fits
@@ -47,7 +47,7 @@ mutual
   served-fits s kinds type p v needs (with_set low high element ps vs _ each bounded distinct) served = a_set low high element ps vs (served-each s kinds false element ps vs needs each served) bounded distinct
   served-fits s kinds type p v needs (with_bag low high element ps vs _ each bounded) served = a_bag low high element ps vs (served-each s kinds false element ps vs needs each served) bounded
 
-  served-each : (s : Schema) (kinds : Kinds) (optional : Bool) (type : TypeUse) (ps : Params) (vs : Values) (needs : List Need) → FitEachWith s optional type ps vs needs → AreServed s kinds needs → FitEach s kinds optional type ps vs
+  pub served-each : (s : Schema) (kinds : Kinds) (optional : Bool) (type : TypeUse) (ps : Params) (vs : Values) (needs : List Need) → FitEachWith s optional type ps vs needs → AreServed s kinds needs → FitEach s kinds optional type ps vs
   served-each s kinds optional type ps vs needs (with_none _ _) served = none_left optional type
   served-each s kinds optional type ps vs needs (with_next _ _ p v ps_ vs_ first more fit each) served =
       fits_next optional type p v ps_ vs_ (served-fits s kinds type p v first fit (Each-front (IsServed s kinds) first more served)) (served-each s kinds optional type ps_ vs_ more each (Each-back (IsServed s kinds) first more served))
@@ -248,14 +248,14 @@ has-needs s kinds (complex parts) m means = let (needs, found) = parts-needs s k
 
 -- ---- some sets serve the needs
 
-abbrev CanServe : Schema → Need → Type 0
+abbrev pub CanServe : Schema → Need → Type 0
 CanServe s need = (entities : List ℕ) × Serves s need.wanted entities
 
-abbrev CanServeEach : Schema → List Need → Type 0
+abbrev pub CanServeEach : Schema → List Need → Type 0
 CanServeEach s needs = Each (CanServe s) needs
 
 mutual
-  fits-servable : (s : Schema) (type : TypeUse) (p : Param) (v : Value) (needs : List Need) → FitsWith s type p v needs → CanServeEach s needs
+  pub fits-servable : (s : Schema) (type : TypeUse) (p : Param) (v : Value) (needs : List Need) → FitsWith s type p v needs → CanServeEach s needs
   fits-servable s type p v needs (with_instance e n) = ((e ∷ [], Contains-first e []), tt)
   fits-servable s type p v needs (with_chosen_instance t n e offers) = ((e ∷ [], (e, offers, Contains-first e [])), tt)
   fits-servable s type p v needs (with_underlying t under _ _ _ is fit) = fits-servable s under p v needs fit
@@ -266,7 +266,7 @@ mutual
   fits-servable s type p v needs (with_bag _ _ element ps vs _ each _) = each-servable s false element ps vs needs each
   fits-servable s type p v needs other = tt
 
-  each-servable : (s : Schema) (optional : Bool) (type : TypeUse) (ps : Params) (vs : Values) (needs : List Need) → FitEachWith s optional type ps vs needs → CanServeEach s needs
+  pub each-servable : (s : Schema) (optional : Bool) (type : TypeUse) (ps : Params) (vs : Values) (needs : List Need) → FitEachWith s optional type ps vs needs → CanServeEach s needs
   each-servable s optional type ps vs needs (with_none _ _) = tt
   each-servable s optional type ps vs needs (with_next _ _ p v ps_ vs_ first more fit each) = Each-append (CanServe s) first more (fits-servable s type p v first fit) (each-servable s optional type ps_ vs_ more each)
   each-servable s optional type ps vs needs (with_empty _ ps_ vs_ _ each) = each-servable s true type ps_ vs_ needs each
@@ -290,7 +290,7 @@ served-later s kinds entry (need ∷ needs) served =
     let (entities, at, serves) = served.0 in
     ((entities, Contains-later entry kinds (need.target, entities) at, serves), served-later s kinds entry needs served.1)
 
-assignment : (s : Schema) (needs : List Need) → CanServeEach s needs → (kinds : Kinds) × Each (IsServed s kinds) needs
+pub assignment : (s : Schema) (needs : List Need) → CanServeEach s needs → (kinds : Kinds) × Each (IsServed s kinds) needs
 assignment s [] can = ([], tt)
 assignment s (need ∷ needs) can =
     let (kinds, served) = assignment s needs can.1 in

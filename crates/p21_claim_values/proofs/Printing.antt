@@ -116,7 +116,7 @@ row-at s no_values i v at = cc
 row-at s (value w ws) zero v at = let same : w ≡ v = cc in ap (λ (x : Value). Some (canonical_value s x)) same
 row-at s (value w ws) (suc i) v at = row-at s ws i v at
 
-has-canonical_value : (s : Schema) (a : Typed) (place : Place) (v : Value) → HasValueAt a place v → HasValueAt (canonical_typed s a) place (canonical_value s v)
+pub has-canonical_value : (s : Schema) (a : Typed) (place : Place) (v : Value) → HasValueAt a place v → HasValueAt (canonical_typed s a) place (canonical_value s v)
 has-canonical_value s a place v (vs, has, at) = (row s vs, rows-zip s a.entities a.values place.entity vs has, row-at s vs place.index v at)
 
 -- ---- canonical parameters at places
@@ -129,7 +129,7 @@ pub record Printed (s : Schema) (kinds : Kinds) (b : Typed) (ps : List Place) : 
   pub plain : ArePlain params
   pub shallow : IsShallow params
 
-at-fits : (s : Schema) (kinds : Kinds) (at : PlaceType) (p : Param) (v : Value) → FitsAt s kinds at p v → FitsAt s kinds at (canonical_param s v) (canonical_value s v)
+pub at-fits : (s : Schema) (kinds : Kinds) (at : PlaceType) (p : Param) (v : Value) → FitsAt s kinds at p v → FitsAt s kinds at (canonical_param s v) (canonical_value s v)
 at-fits s kinds at p v star = star
 at-fits s kinds at p v (dollar type) = dollar type
 at-fits s kinds at p v (fits optional type _ _ fit) = fits optional type (canonical_param s v) (canonical_value s v) (canonical-fits s kinds type p v fit)

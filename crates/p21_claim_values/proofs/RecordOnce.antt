@@ -47,7 +47,7 @@ in_order-at vs ws both_end i v at = cc
 in_order-at vs ws (both_next x y vs_ ws_ same more) zero v at = let is : x ≡ v = cc in let P : Value → Type 0 = λ z. Same z y in (y, refl, subst P is same)
 in_order-at vs ws (both_next x y vs_ ws_ same more) (suc i) v at = in_order-at vs_ ws_ more i v at
 
-value-once : (a : Typed) → NoneTwice a.entities → (place : Place) (v w : Value) → HasValueAt a place v → HasValueAt a place w → v ≡ w
+pub value-once : (a : Typed) → NoneTwice a.entities → (place : Place) (v w : Value) → HasValueAt a place v → HasValueAt a place w → v ≡ w
 value-once a none place v w (vs, has, at) (ws, has_, at_) =
     let one : vs ≡ ws = zip-one a.entities a.values place.entity vs ws none has has_ in
     let P : Values → Type 0 = λ us. value_at us place.index ≡ Some v in

@@ -4,6 +4,9 @@ use std::alloc::Global;
 use std::process::Abort;
 use std::test::Fail;
 
+mod limits;
+mod listing;
+
 const DEMO: &str = "SCHEMA demo;
 TYPE distance = REAL; END_TYPE;
 TYPE tally = INTEGER; END_TYPE;

@@ -1,6 +1,12 @@
+pub mod Closures
+pub mod Collecting
 pub mod Gatherings
 pub mod Lookups
 pub mod Naming
+pub mod Offering
 pub mod OrderTables
+pub mod OwnSets
 pub mod Ranks
+pub mod Renaming
+pub mod Resolving
 pub mod Walks

@@ -7,7 +7,7 @@ use Rattle.p21_express_tables.specs.Settled.{IsNext}
 use Rattle.p21_express_tables.specs.Walk.{IsWay}
 
 -- how many of the first n numbers are below a rank
-abbrev lower : (ℕ → ℕ) → ℕ → ℕ → ℕ
+abbrev pub lower : (ℕ → ℕ) → ℕ → ℕ → ℕ
 lower rank r zero = 0
 lower rank r (suc n) = min 1 (r - rank n) + lower rank r n
 
@@ -19,7 +19,7 @@ lower-rises : (rank : ℕ → ℕ) (q r n : ℕ) → q ≤ r → lower rank q n 
 lower-rises rank q r zero le = omega arith
 lower-rises rank q r (suc n) le = omega (arith, le, lower-rises rank q r n le)
 
-lower-rises_past : (rank : ℕ → ℕ) (f r n : ℕ) → f < n → rank f < r → lower rank (rank f) n < lower rank r n
+pub lower-rises_past : (rank : ℕ → ℕ) (f r n : ℕ) → f < n → rank f < r → lower rank (rank f) n < lower rank r n
 lower-rises_past rank f r zero below lt = omega (arith, below)
 lower-rises_past rank f r (suc n) below lt = elim (last f n below) [
   | inl is ↦ let same : rank f ≡ rank n = ap rank is in omega (arith, lt, same, lower-rises rank (rank f) r n (omega (arith, lt)))
@@ -29,7 +29,7 @@ lower-rises_past rank f r (suc n) below lt = elim (last f n below) [
     last : (f n : ℕ) → f < suc n → (f ≡ n) ⊎ (f < n)
     last f n below = elim (cases_lt f n) [ inl h ↦ inr h | inr h ↦ inl (omega (arith, h, below)) ]
 
-lower-less : (rank : ℕ → ℕ) (f n : ℕ) → f < n → lower rank (rank f) n < n
+pub lower-less : (rank : ℕ → ℕ) (f n : ℕ) → f < n → lower rank (rank f) n < n
 lower-less rank f n below = omega (arith, lower-rises_past rank f (suc (rank f)) n below (omega arith), lower-le rank (suc (rank f)) n)
 
 way_low : (lists : List (List ℕ)) (done : List Bool) (ends : HasNoCircle (IsNext lists)) (x : ℕ) (way : List ℕ) → IsWay lists done (x ∷ way) → lower ends.0 (ends.0 x) (length lists) + length way < length lists

@@ -1,8 +1,12 @@
+pub mod Base
 pub mod Coding
+pub mod Collected
 pub mod Gathering
 pub mod Lookups
 pub mod Names
+pub mod Offered
 pub mod Orders
+pub mod OwnSets
 pub mod Parts
 pub mod Resolved
 pub mod Settled

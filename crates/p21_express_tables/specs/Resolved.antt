@@ -4,6 +4,7 @@ use Rattle.std.specs.Prelude.{ℕ, ◌+◌, ◌<◌, ◌≤◌, ◌^◌, length}
 use Rattle.std.specs.List.{AllByRecursion as Each}
 use Rattle.p21_schemas.specs.Schema.{Schema, TypeUse, entity, defined, array, list, set, bag, Member, entity_member, type_member, Kind, alias, items, choice, Place, Attribute, Redeclared, Entity, attributes_of}
 use Rattle.p21_schemas.specs.Declared.{HasNoCircle, HasSupertype, Renames, HasSelect, most_declarations}
+use Rattle.p21_schemas.specs.WellFormed.{HasDistinctEntities, HasDistinctTypes, RedeclaresOnce}
 
 -- the number is that of an entity
 abbrev pub IsEntity : Schema → ℕ → Type 0
@@ -51,7 +52,8 @@ pub record IsResolved (s : Schema) (x : Entity) : Type 0 where
   pub redeclared_are : Each (IsRedeclared s) x.redeclared
   pub derived_are : Each (IsPlace s) x.derived
 
--- all names are resolved, and no chain of supertypes, of renamed types or of selects in selects comes back
+-- all names are resolved and told apart, no place is redeclared twice by an entity, and no chain of supertypes, of renamed
+-- types or of selects in selects comes back
 pub record HoldsTogether (s : Schema) : Type 0 where
   pub entities_are : Each (IsResolved s) s.entities
   pub types_are : Each (λ x. IsKind s x.kind) s.types
@@ -60,3 +62,6 @@ pub record HoldsTogether (s : Schema) : Type 0 where
   pub supertypes_end : HasNoCircle (HasSupertype s)
   pub renaming_ends : HasNoCircle (Renames s)
   pub selects_end : HasNoCircle (HasSelect s)
+  pub entities_distinct : HasDistinctEntities s
+  pub types_distinct : HasDistinctTypes s
+  pub redeclares_once : RedeclaresOnce s

@@ -1,15 +1,23 @@
 //! A schema with all names resolved (ISO 10303-11), prepared so that each look-up costs little.
 #![tactic(auto)]
 
+mod base;
+mod collected;
 mod gathered;
 mod names;
+mod offered;
 mod orders;
+mod own_sets;
 mod parts;
 mod place_types;
 mod schema;
 mod settle;
+mod words;
 
+pub use base::Base;
 pub use names::Names;
+pub use offered::type_lists;
+pub use own_sets::OwnFaults;
 pub use parts::{Attribute, Defined, Entity, Parts, Redeclared};
 pub use schema::Schema;
 pub use settle::settled;

@@ -1,12 +1,14 @@
 ghost use Rattle.std.specs.Prelude.{◌≡◌, ◌<◌, ℕ, [], ◌∷◌, ◌++◌, length, map, slice_set, Contains, IfOk, OnOk};
 ghost use Rattle.std.specs.List.{flat_map};
 ghost use Rattle.p21_schemas.specs.Supertype.{supertypes_of as supertypes};
+ghost use Rattle.p21_express_tables.specs.Collected.{AreRisingOf};
 ghost use Rattle.p21_express_tables.specs.Gathering.{add_firsts};
 ghost use Rattle.p21_express_tables.specs.Orders.{AreOrders, numbers, supertype_lists, tabled};
 ghost use Rattle.p21_express_tables.specs.Parts.{schema_of};
 ghost use Rattle.p21_express_tables.specs.Resolved.{HoldsTogether};
 ghost use Rattle.p21_express_tables.specs.Settled.{IsSettled, lists_of, nexts_of};
 
+use crate::collected::risen;
 use crate::gathered::Gathered;
 use crate::parts::{Entity, Parts};
 use crate::settle::settled;
@@ -24,6 +26,18 @@ pub(crate) fn all_orders(alloc: Global, parts: &Parts) -> Result<Vec<Vec<EntityI
         Some(listed) => orders(alloc, parts, &listed),
         None => unreachable!(),
     }
+}
+
+/// The entities of each order as numbers that rise.
+pub(crate) fn closures(alloc: Global, orders: &[Vec<EntityId>]) -> Result<Vec<Vec<u32>>, NoMemory>
+    ensures { IfOk result (λ lists. AreRisingOf (tabled orders.now) (lists_of lists.items)) }
+{
+    let mut lists = Vec::with_capacity(alloc, orders.len())?;
+    for order in orders {
+        let order: &Vec<EntityId> = order;
+        lists.push(risen(numbers_of(alloc, order)?))?;
+    }
+    Ok(lists)
 }
 
 fn supertype_numbers(alloc: Global, entities: &[Entity]) -> Result<Vec<Vec<u32>>, NoMemory>

@@ -1,17 +1,22 @@
 ghost use Rattle.std.specs.Prelude.{◌≡◌, ◌↔◌, ℕ, IsTrue, length, map, ◌++◌, slice_get, Contains, MatchOption, IfOk, OnOk, Some};
-ghost use Rattle.p21_schemas.specs.Schema.{EntityNamed, TypeNamed, PlaceNamed, IsAbstract, kind_of, attribute_at, attributes_of};
+ghost use Rattle.p21_schemas.specs.Schema.{EntityNamed, TypeNamed, PlaceNamed, IsAbstract, entity_member, kind_of, attribute_at, attributes_of};
+ghost use Rattle.p21_schemas.specs.Select.{Offers};
 ghost use Rattle.p21_schemas.specs.Supertype.{IsA, IsLeaf, AreLeaves};
 ghost use Rattle.p21_schemas.specs.OneOf.{Clashes};
+ghost use Rattle.p21_schemas.specs.WellFormed.{IsWellFormed};
 ghost use Rattle.p21_express_tables.specs.Lookups.{AreEntities, HasTwo, IsOther};
 ghost use Rattle.p21_schemas.specs.Order.{order, places, own_places};
 ghost use Rattle.p21_express_tables.specs.Orders.{numbers};
-ghost use Rattle.p21_express_types.specs.Meaning.{place as place_of, kind};
+ghost use Rattle.p21_express_types.specs.Meaning.{place as place_of, kind, member as member_of};
 ghost use Rattle.p21_express_tables.specs.Resolved.{HoldsTogether, IsEntity, IsType, IsPlace};
 ghost use Rattle.p21_express_tables.specs.Parts.{schema_of, AreNamed, entity as entity_of, attribute as attribute_of, defined as defined_of};
 
-use crate::orders::all_orders;
+use crate::collected::is_among;
+use crate::offered::{Offered, all_offered};
+use crate::orders::{all_orders, closures};
+use crate::own_sets::OwnSet;
 use crate::parts::{Attribute, Defined, Entity, Parts};
-use p21_express_types::{EntityId, Place, TypeId, TypeKind};
+use p21_express_types::{EntityId, Member, Place, TypeId, TypeKind};
 use p21_values::NoMemory;
 use std::alloc::Global;
 use std::marker::Model;
@@ -22,6 +27,10 @@ pub struct Schema {
     alloc: Global,
     parts: Parts,
     orders: Vec<Vec<EntityId>>,
+    closures: Vec<Vec<u32>>,
+    offered: Offered,
+    // What holds of the own sets of the first entities; of all once the schema is made.
+    pub(crate) own: Vec<OwnSet>,
 }
 
 impl Model for Schema {
@@ -35,10 +44,15 @@ impl Model for Schema {
     ghost use Rattle.p21_express_tables.specs.Parts.{schema_of, AreNamed};
     ghost use Rattle.p21_express_tables.specs.Resolved.{HoldsTogether};
     ghost use Rattle.p21_express_tables.specs.Orders.{AreOrders, tabled};
+    ghost use Rattle.p21_schemas.specs.Schema.{entity_member, type_member};
+    ghost use Rattle.p21_express_tables.specs.Offered.{AreOffered};
+    ghost use Rattle.p21_express_tables.specs.Collected.{AreRisingOf};
+    ghost use Rattle.p21_express_tables.specs.OwnSets.{AreOwnSets};
+    ghost use Rattle.p21_express_tables.specs.Settled.{lists_of};
 
     ghost view = { λ schema. schema_of schema.parts };
 
-    ghost invariant = { λ schema. HoldsTogether (schema_of schema.parts) × AreNamed schema.parts × AreOrders (schema_of schema.parts) (tabled schema.orders.items) };
+    ghost invariant = { λ schema. HoldsTogether (schema_of schema.parts) × AreNamed schema.parts × AreOrders (schema_of schema.parts) (tabled schema.orders.items) × AreOffered (schema_of schema.parts) entity_member (lists_of schema.offered.entities.items) × AreOffered (schema_of schema.parts) type_member (lists_of schema.offered.types.items) × AreRisingOf (tabled schema.orders.items) (lists_of schema.closures.items) × AreOwnSets (schema_of schema.parts) schema.own.items };
 }
 
 impl Schema {
@@ -53,11 +67,26 @@ impl Schema {
         ensures { IfOk result (λ schema. schema ≡ schema_of parts) }
     {
         let orders = all_orders(alloc, &parts)?;
-        Ok(Schema {
+        let closures = closures(alloc, &orders)?;
+        let offered = all_offered(alloc, &parts)?;
+        let mut schema = Schema {
             alloc,
             parts,
             orders,
-        })
+            closures,
+            offered,
+            own: Vec::new(alloc),
+        };
+        schema.prepare_own_sets()?;
+        Ok(schema)
+    }
+
+    /// The parts of the schema.
+    pub fn into_parts(self) -> Parts
+        ensures value { schema_of result ≡ self }
+        ensures named { AreNamed result }
+    {
+        self.parts
     }
 
     /// All names are resolved, and no chain comes back.
@@ -65,6 +94,14 @@ impl Schema {
         ensures { HoldsTogether self.now }
     {
         let _ = &self.parts;
+    }
+
+    /// No two entities and no two types have one name, no entity redeclares a place twice as an explicit attribute, and
+    /// no chain comes back.
+    pub fn well_formed(&self)
+        ensures { IsWellFormed self.now }
+    {
+        self.holds_together();
     }
 
     /// The name of the schema.
@@ -79,6 +116,13 @@ impl Schema {
         ensures { result ≡ length self.now.entities }
     {
         self.parts.entities.len()
+    }
+
+    /// How many types there are.
+    pub fn types(&self) -> usize
+        ensures { result ≡ length self.now.types }
+    {
+        self.parts.types.len()
     }
 
     /// The entity of this name, in upper case.
@@ -113,7 +157,7 @@ impl Schema {
         ensures { IsTrue result ↔ IsA self.now sub.0 sup.0 }
     {
         self.holds_together();
-        has(self.order_of(sub), sup)
+        is_among(&self.closures[sub.0 as usize], sup.0)
     }
 
     /// The order of an entity in an instance (ISO 10303-21, Mapping of EXPRESS entity data types: internal mapping).
@@ -249,6 +293,26 @@ impl Schema {
         ensures { kind_of self.now of.0 ≡ Some (kind result.now) }
     {
         &self.defined_at(of).kind
+    }
+
+    /// Whether a select offers an entity, or a type other than a select, itself or by a select in it (ISO 10303-11, Select
+    /// data type). Another type offers nothing.
+    pub fn offers(&self, of: TypeId, member: Member) -> bool
+        requires { IsType self.now of.0 }
+        ensures { IsTrue result ↔ Offers self.now of.0 (member_of member) }
+    {
+        match member {
+            Member::Entity(entity) => is_among(&self.offered.entities[of.0 as usize], entity.0),
+            Member::Defined(other) => is_among(&self.offered.types[of.0 as usize], other.0),
+        }
+    }
+
+    /// Whether a select offers an entity.
+    pub fn offers_entity(&self, of: TypeId) -> bool
+        requires { IsType self.now of.0 }
+        ensures { IsTrue result ↔ ((e : ℕ) × Offers self.now of.0 (entity_member e)) }
+    {
+        !self.offered.entities[of.0 as usize].is_empty()
     }
 
     /// The entity of this number.

@@ -140,7 +140,7 @@ some-apart f e = cc
 -- a call that answered
 pub answers : (p : Place) (sp : Spot) (depth : ℕ) (t : Token) (event : Option Event) (q : Place) (sq : Spot) → Reaches p sp → Steps p sp t event q sq
     → (history : GrammarHistory) → Stands (held_at p sp depth None) history → (history.refusal ≡ None) × Answers (held_at q sq (depth_of sq) None) event (extended history (call_of t event))
-unfolding Stands
+unfolding Stands history-depth
 answers p sp depth t event q sq ran steps history stands =
     let open_ : history.refusal ≡ None = sym stands.0 in
     let live = stands.2 open_ in
@@ -155,6 +155,7 @@ answers p sp depth t event q sq ran steps history stands =
         given_first = given_first (history.taken ++ t ∷ []) (history.given ++ statements_of event) q sq now_ran;
         of_file = of_file p sp t event q sq steps (extended history (call_of t event)) next;
         depth_is = depth_now;
+        ended_are = refl;
       },
     )
 

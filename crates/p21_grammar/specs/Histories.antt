@@ -97,6 +97,8 @@ pub record Answers (held : Held) (event : Option Event) (history : GrammarHistor
   pub given_first : AreGivenFirst history.taken history.given
   pub of_file : GivesOfFile event history
   pub depth_is : IsDepth history.taken held.depth
+  -- the tokens that ended statements are those of the statements given
+  pub ended_are : depth_is.open_statement.ended ≡ flat_map statement_tokens history.given
 
 -- Why a call refuses a token: no file begins so. The 65th list or typed parameter opens with it; or the tokens taken are
 -- those of a file

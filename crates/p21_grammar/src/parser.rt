@@ -94,6 +94,7 @@ impl Parser {
 
     /// How many lists and typed parameters are open in the tokens taken, at most 64. It takes no memory.
     pub fn depth(&self) -> usize
+        ensures value { result ≡ self.now.depth }
         ensures within { result ≤ 64 }
         ensures depth { (history : GrammarHistory) → Stands self.now history → IsDepth history.taken result }
     {

@@ -1,15 +1,17 @@
-ghost use Rattle.std.specs.Prelude.{◌≡◌, ◌++◌, ◌∷◌, [], OnErr, OnOk};
+ghost use Rattle.std.specs.Prelude.{◌≡◌, ◌++◌, OnErr, OnOk};
 ghost use Rattle.p21_files.specs.Sorting.{sort_texts};
 ghost use Rattle.p21_files.specs.ValueText.{list_text, value_text, value_texts};
 ghost use Rattle.p21_values.specs.Canonical.{Continues};
 ghost use Rattle.p21_mapping_values.specs.View.{view, views};
 ghost use Rattle.p21_mapping_text.specs.KnownTypes.{HasKnownTypes, HaveKnownTypes};
 ghost use Rattle.p21_mapping_text.specs.Pieces.{element_text};
+ghost use Rattle.p21_mapping_text.specs.Spelled.{AreSpelled, IsSpelledValue};
 
 use crate::texts::append_rising;
+use p21_canon_tokens::{append_byte, append_item};
 use p21_express_tables::Schema;
 use p21_mapping_values::Value;
-use p21_values::{Canonical, NoMemory, Word};
+use p21_values::{Canonical, NoMemory};
 
 /// Appends the canonical text of a value: the texts of a set's or a bag's elements rise, and a NUMBER is written as a
 /// real. A refusal leaves `out` as it was.
@@ -20,6 +22,7 @@ use p21_values::{Canonical, NoMemory, Word};
 pub fn write_value(schema: &Schema, value: &Value, out: &mut Vec<u8>) -> Result<(), NoMemory>
     requires { HasKnownTypes schema.now (view value.now) }
     ensures ok { OnOk result (out.new.items ≡ out.old.items ++ value_text schema.now (view value.now)) }
+    ensures spelled { OnOk result (IsSpelledValue schema.now (view value.now)) }
     ensures err { OnErr result (out.new.items ≡ out.old.items) }
 {
     let before = out.len();
@@ -35,6 +38,7 @@ pub fn write_value(schema: &Schema, value: &Value, out: &mut Vec<u8>) -> Result<
 fn append_value(schema: &Schema, value: &Value, out: &mut Vec<u8>) -> Result<(), NoMemory>
     requires { HasKnownTypes schema.now (view value.now) }
     ensures ok { OnOk result (out.new.items ≡ out.old.items ++ value_text schema.now (view value.now)) }
+    ensures spelled { OnOk result (IsSpelledValue schema.now (view value.now)) }
     ensures err { OnErr result (Continues out.old.items out.new.items) }
 {
     match value {
@@ -52,7 +56,7 @@ fn append_value(schema: &Schema, value: &Value, out: &mut Vec<u8>) -> Result<(),
         Value::Set(values) => append_unordered(schema, values.items(), out),
         Value::Bag(values) => append_unordered(schema, values.items(), out),
         Value::Tagged(tag, inner) => {
-            out.extend_from_slice(schema.type_name(*tag))?;
+            schema.type_word(*tag).write_canonical(out)?;
             out.push(b'(')?;
             append_value(schema, inner, out)?;
             out.push(b')')?;
@@ -61,31 +65,12 @@ fn append_value(schema: &Schema, value: &Value, out: &mut Vec<u8>) -> Result<(),
     }
 }
 
-/// Appends one byte.
-fn append_byte(byte: u8, out: &mut Vec<u8>) -> Result<(), NoMemory>
-    ensures ok { OnOk result (out.new.items ≡ out.old.items ++ byte ∷ []) }
-    ensures err { OnErr result (out.new.items ≡ out.old.items) }
-{
-    out.push(byte)?;
-    Ok(())
-}
-
-/// Appends the text of an enumeration item, or a part of it where memory runs out.
-fn append_item(word: &Word, out: &mut Vec<u8>) -> Result<(), NoMemory>
-    ensures ok { OnOk result (out.new.items ≡ out.old.items ++ 46 ∷ (word.now ++ 46 ∷ [])) }
-    ensures err { OnErr result (Continues out.old.items out.new.items) }
-{
-    out.push(b'.')?;
-    word.write_canonical(out)?;
-    out.push(b'.')?;
-    Ok(())
-}
-
 /// Appends the texts of values as a list, or a part of it where memory runs out.
 #[cycle(append)]
 fn append_list(schema: &Schema, values: &[Value], out: &mut Vec<u8>) -> Result<(), NoMemory>
     requires { HaveKnownTypes schema.now (views values.now) }
     ensures ok { OnOk result (out.new.items ≡ out.old.items ++ list_text (value_texts schema.now (views values.now))) }
+    ensures spelled { OnOk result (AreSpelled schema.now (views values.now)) }
     ensures err { OnErr result (Continues out.old.items out.new.items) }
 {
     out.push(b'(')?;
@@ -106,6 +91,7 @@ fn append_element(
 ) -> Result<(), NoMemory>
     requires { HasKnownTypes schema.now (view value.now) }
     ensures ok { OnOk result (out.new.items ≡ out.old.items ++ element_text first (value_text schema.now (view value.now))) }
+    ensures spelled { OnOk result (IsSpelledValue schema.now (view value.now)) }
     ensures err { OnErr result (Continues out.old.items out.new.items) }
 {
     if !first {
@@ -119,6 +105,7 @@ fn append_element(
 fn append_unordered(schema: &Schema, values: &[Value], out: &mut Vec<u8>) -> Result<(), NoMemory>
     requires { HaveKnownTypes schema.now (views values.now) }
     ensures ok { OnOk result (out.new.items ≡ out.old.items ++ list_text (sort_texts (value_texts schema.now (views values.now)))) }
+    ensures spelled { OnOk result (AreSpelled schema.now (views values.now)) }
     ensures err { OnErr result (out.new.items ≡ out.old.items) }
 {
     let alloc = *out.allocator();

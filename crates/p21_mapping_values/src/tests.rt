@@ -1,6 +1,7 @@
-use crate::{Ids, Need, Rows, Typed, Value, Values};
+use crate::{CheckFault, Ids, Need, Rows, Typed, Value, Values};
 use p21_express_types::{EntityId, Member, TypeId};
-use p21_values::Name;
+use p21_values::{Name, NoMemory, ValueFault};
+use std::alloc::AllocError;
 use std::test::Fail;
 
 /// `(#7,$)`
@@ -57,4 +58,46 @@ fn compares_needs(rt: HostRuntime) {
         wanted: Member::Defined(TypeId(3)),
     };
     assert_ne!(rt; need, other);
+}
+
+#[test]
+fn faults_have_numbers_and_names(rt: HostRuntime) {
+    let cases = [
+        (CheckFault::NumberRange, 8, "NumberRange"),
+        (CheckFault::UnknownEntity, 41, "UnknownEntity"),
+        (CheckFault::Abstract, 42, "Abstract"),
+        (CheckFault::PartMissing, 43, "PartMissing"),
+        (CheckFault::PartTwice, 44, "PartTwice"),
+        (CheckFault::Count, 45, "Count"),
+        (CheckFault::Missing, 46, "Missing"),
+        (CheckFault::StarNotDerived, 47, "StarNotDerived"),
+        (CheckFault::DerivedNotStar, 48, "DerivedNotStar"),
+        (CheckFault::WrongKind, 49, "WrongKind"),
+        (CheckFault::Width, 50, "Width"),
+        (CheckFault::Bounds, 51, "Bounds"),
+        (CheckFault::NotDistinct, 52, "NotDistinct"),
+        (CheckFault::UnknownItem, 53, "UnknownItem"),
+        (CheckFault::SelectType, 54, "SelectType"),
+        (CheckFault::TwoRedeclarations, 55, "TwoRedeclarations"),
+        (CheckFault::OneOf, 58, "OneOf"),
+        (CheckFault::NoMemory, 90, "NoMemory"),
+    ];
+    for (fault, number, name) in cases {
+        assert_eq!(rt; fault.number(), number, "{name}");
+        assert_eq!(rt; fault.name(), name);
+    }
+}
+
+#[test]
+fn faults_come_from_those_below(rt: HostRuntime) {
+    assert_eq!(rt; CheckFault::from(NoMemory), CheckFault::NoMemory);
+    assert_eq!(rt; CheckFault::from(AllocError), CheckFault::NoMemory);
+    assert_eq!(rt;
+        CheckFault::from(ValueFault::NoMemory),
+        CheckFault::NoMemory
+    );
+    assert_eq!(rt;
+        CheckFault::from(ValueFault::NumberRange),
+        CheckFault::NumberRange
+    );
 }

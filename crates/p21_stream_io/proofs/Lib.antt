@@ -1,1 +1,1 @@
-mod TransferLemmas
+pub mod TransferLemmas

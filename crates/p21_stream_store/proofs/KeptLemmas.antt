@@ -1,5 +1,5 @@
 -- Instances among those that are kept.
-use Rattle.std.proofs.Common.{◌≡◌, ◌+◌, ◌<◌, ℕ, zero, suc, List, [], ◌∷◌, ◌++◌, length, Some, inl, inr, refl, sym, ap, subst, ◌∙◌, arith}
+use Rattle.std.proofs.Common.{◌≡◌, ◌+◌, ◌-◌, ◌<◌, ◌≤◌, ℕ, zero, suc, List, [], ◌∷◌, ◌++◌, length, get_or, Some, inl, inr, refl, sym, ap, subst, ◌∙◌, arith}
 use Rattle.std.proofs.lemmas.List.{append_assoc, length-append, map-append}
 use Rattle.std.proofs.lemmas.List.Elements.{Contains-append_cases, Contains-append_left, Contains-append_right}
 use Rattle.std.proofs.lemmas.List.Sorted.{IsPermutation-middle, IsPermutation-sym, IsPermutation-to_front, sum_by-IsPermutation}
@@ -94,3 +94,48 @@ pub absent_late : (rising late : List ℕ) (rising_lines late_lines : List (ℕ 
     → (Contains (kept_names all) n → ⊥) → Contains late n → ⊥
 absent_late rising late rising_lines late_lines all n all_are e f absent has =
     absent (subst (λ (l : List ℕ). Contains l n) (sym (names_are rising late rising_lines late_lines all all_are e f)) (Contains-append_right rising late n has))
+
+-- ---- instances by their places
+
+kept-size : (names : List ℕ) (lines : List (ℕ × List ℕ)) → length names ≡ length lines → length (kept_of names lines) ≡ length names
+kept-size [] lines e = refl
+kept-size (a ∷ names) [] e = absurd (omega (arith, e))
+kept-size (a ∷ names) (b ∷ lines) e = let rest = kept-size names lines (omega (arith, e)) in omega (arith, rest)
+
+got-front : {X : Type 0} (xs ys : List X) (i : ℕ) (x : X) → slice_get xs i ≡ Some x → slice_get (xs ++ ys) i ≡ Some x
+got-front [] ys i x e = cc
+got-front (a ∷ xs) ys zero x e = e
+got-front (a ∷ xs) ys (suc i) x e = got-front xs ys i x e
+
+-- what is read at a place within
+pub got-read : (xs : List ℕ) (i n : ℕ) → i < length xs → n ≡ get_or xs i n → slice_get xs i ≡ Some n
+got-read [] i n below e = absurd (omega (arith, below))
+got-read (a ∷ xs) zero n below e = ap Some (sym e)
+got-read (a ∷ xs) (suc i) n below e = got-read xs i n (omega (arith, below)) e
+
+got-behind : {X : Type 0} (xs ys : List X) (i : ℕ) (x : X) → slice_get ys i ≡ Some x → slice_get (xs ++ ys) (length xs + i) ≡ Some x
+got-behind {X} [] ys i x e = let P : ℕ → Type 0 = λ n. slice_get ys n ≡ Some x in let same : i ≡ 0 + i = omega arith in subst P same e
+got-behind {X} (a ∷ xs) ys i x e = let P : ℕ → Type 0 = λ n. slice_get (a ∷ (xs ++ ys)) n ≡ Some x in let same : suc (length xs + i) ≡ suc (length xs) + i = omega arith in subst P same (got-behind xs ys i x e)
+
+module _ (rising late : List ℕ) (rising_lines late_lines : List (ℕ × List ℕ)) (all : List Kept) (all_are : kept_of rising rising_lines ++ kept_of late late_lines ≡ all) where
+  pub all_size : length rising ≡ length rising_lines → length late ≡ length late_lines → length all ≡ length rising + length late
+  all_size e f =
+      let whole = ap length (sym all_are) in
+      let parts = length-append (kept_of rising rising_lines) (kept_of late late_lines) in
+      let one = kept-size rising rising_lines e in
+      let two = kept-size late late_lines f in
+      omega (arith, whole, parts, one, two)
+
+  pub rising_got : (i n : ℕ) (l : ℕ × List ℕ) → slice_get rising i ≡ Some n → slice_get rising_lines i ≡ Some l → slice_get all i ≡ Some (kept n l)
+  rising_got i n l e f = subst (λ (x : List Kept). slice_get x i ≡ Some (kept n l)) all_are (got-front (kept_of rising rising_lines) (kept_of late late_lines) i (kept n l) (kept-get rising rising_lines i n l e f))
+
+  pub late_got : (first i n : ℕ) (l : ℕ × List ℕ) → length rising ≡ length rising_lines → first ≡ length rising_lines → first ≤ i → slice_get late (i - first) ≡ Some n → slice_get late_lines (i - first) ≡ Some l → slice_get all i ≡ Some (kept n l)
+  late_got first i n l same is above e f =
+      let size = kept-size rising rising_lines same in
+      let place : length (kept_of rising rising_lines) + (i - first) ≡ i = omega (arith, size, is, above, same) in
+      subst (λ (x : List Kept). slice_get x i ≡ Some (kept n l)) all_are
+      (subst (λ (k : ℕ). slice_get (kept_of rising rising_lines ++ kept_of late late_lines) k ≡ Some (kept n l)) place
+      (got-behind (kept_of rising rising_lines) (kept_of late late_lines) (i - first) (kept n l) (kept-get late late_lines (i - first) n l e f)))
+
+  pub late_within : (first i : ℕ) → length rising ≡ length rising_lines → length late ≡ length late_lines → first ≡ length rising_lines → first ≤ i → i < length all → i - first < length late
+  late_within first i same same_ is above below = let size = all_size same same_ in omega (arith, size, is, above, below, same)

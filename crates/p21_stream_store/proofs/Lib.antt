@@ -3,3 +3,4 @@ mod KeptLemmas
 mod LineLemmas
 mod NameLemmas
 mod TextLemmas
+pub mod OrderLemmas

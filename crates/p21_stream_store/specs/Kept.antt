@@ -7,11 +7,15 @@ pub record Kept : Type 0 where
   pub kind : ℕ
   pub text : List ℕ
 
+-- of a name and a line
+abbrev pub kept_at : ℕ → ℕ × List ℕ → Kept
+kept_at name line = record { name = name; kind = line.0; text = line.1 }
+
 -- names side by side with kinds and texts
 abbrev pub kept_of : List ℕ → List (ℕ × List ℕ) → List Kept
 kept_of [] lines = []
 kept_of (name ∷ names) [] = []
-kept_of (name ∷ names) (line ∷ lines) = record { name = name; kind = line.0; text = line.1 } ∷ kept_of names lines
+kept_of (name ∷ names) (line ∷ lines) = kept_at name line ∷ kept_of names lines
 
 -- the names of the instances
 abbrev pub kept_names : List Kept → List ℕ

@@ -1,7 +1,7 @@
 //! The instances that a session has taken.
-ghost use Rattle.std.specs.Prelude.{◌≡◌, ◌<◌, [], ◌∷◌, ◌++◌, length, Contains, IfSome, IsNone, IsPermutation, IsTrue, OnErr, OnOk};
+ghost use Rattle.std.specs.Prelude.{◌≡◌, ◌<◌, [], ◌∷◌, ◌++◌, length, slice_get, Contains, IfSome, IsNone, IsPermutation, IsTrue, OnErr, OnOk, Some};
 ghost use Rattle.std.specs.List.Sorted.{IsStrictlyIncreasing};
-ghost use Rattle.p21_stream_store.specs.Kept.{Kept, kept_names, text_bytes};
+ghost use Rattle.p21_stream_store.specs.Kept.{Kept, kept_at, kept_names, text_bytes};
 
 use crate::lines::Lines;
 use crate::names::{add_name, place_among, place_in};
@@ -53,6 +53,28 @@ impl Instances {
         ensures { result ≡ text_bytes self.now }
     {
         self.size
+    }
+
+    /// How many instances.
+    pub fn len(&self) -> usize
+        ensures { result ≡ length self.now }
+    {
+        self.rising.len() + self.late.len()
+    }
+
+    /// The name, the number of the kind and the canonical text of the instance at a place. The places are counted in the
+    /// order of coming where all names rose; else those with names that came late stand behind the others.
+    pub fn get(&self, place: usize) -> (u64, u32, &[u8])
+        requires { place < length self.now }
+        ensures { slice_get self.now place ≡ Some (kept_at result.0 (result.1, result.2.now)) }
+    {
+        let first = self.rising_lines.len();
+        if place < first {
+            let (kind, text) = self.rising_lines.get(place);
+            return (self.rising[place], kind, text);
+        }
+        let (kind, text) = self.late_lines.get(place - first);
+        (self.late[place - first], kind, text)
     }
 
     /// The number of the kind and the canonical text of the instance of this name, if there is one.

@@ -5,6 +5,7 @@
 mod instances;
 mod lines;
 mod names;
+mod order;
 #[cfg(test)]
 mod tests;
 mod texts;

@@ -65,3 +65,41 @@ fn instances_in_any_order(rt: HostRuntime) -> Result<(), Fail> {
     assert_eq!(rt; instances.size(), 42);
     Ok(())
 }
+
+#[test]
+fn written_by_rank_and_name(rt: HostRuntime) -> Result<(), Fail> {
+    let mut instances = Instances::new(rt.alloc());
+    // By kind: the first is of the second section, the second and a kind with no rank of the first.
+    let named = [
+        (5, 0),
+        (10, 1),
+        (u64::MAX, 0),
+        (0, 1),
+        (7, 0),
+        (6, 2),
+        (15, 1),
+    ];
+    for (name, kind) in named {
+        if instances.find(name).is_none() {
+            instances.push(name, kind, b"#=A();")?;
+        }
+    }
+    assert_eq!(rt; instances.len(), 7);
+    let order = instances.order(rt.alloc(), &[1, 0])?;
+    let mut names = Vec::new(rt.alloc());
+    for place in &order {
+        if (*place as usize) < instances.len() {
+            names.push(instances.get(*place as usize).0)?;
+        }
+    }
+    assert_eq!(rt; names.as_slice(), [0, 6, 10, 15, 5, 7, u64::MAX].as_slice());
+    Ok(())
+}
+
+#[test]
+fn nothing_has_an_empty_order(rt: HostRuntime) -> Result<(), Fail> {
+    let instances = Instances::new(rt.alloc());
+    assert_eq!(rt; instances.len(), 0);
+    assert_eq!(rt; instances.order(rt.alloc(), &[])?.len(), 0);
+    Ok(())
+}

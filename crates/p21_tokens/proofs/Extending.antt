@@ -7,7 +7,7 @@ use Rattle.std.proofs.lemmas.Option.{slice_get-get_or}
 use Rattle.std.proofs.Math.Seq.{take-length}
 use Rattle.p21_basics.specs.History.{extended, seen_behind, first_refusal, IsOffered, empty}
 use Rattle.p21_exchange.specs.Laying.{Lexeme, Laid, tokens_in, open_bytes, count_behind, AreStatementsWithin}
-use Rattle.p21_exchange.specs.Pending.{Tail, nothing, unfinished, slash, open_comment, tail_size, LaidUpTo, IsPending, IsTokenByte, BeginsNoSeparator}
+use Rattle.p21_exchange.specs.Pending.{Tail, nothing, unfinished, slash, open_comment, tail_size, LaidUpTo, IsTokenByte, BeginsNoSeparator}
 use Rattle.p21_exchange.specs.Token.{Token, begin, finish, keyword, user_keyword, name, whole, real, text}
 use Rattle.p21_tokens_automaton.proofs.Complete.{all_of-after}
 use Rattle.p21_tokens_automaton.proofs.Sound.{TailIs, UpTo, FirstFits}
@@ -32,7 +32,7 @@ use Rattle.p21_tokens_automaton.specs.Reading.{State, start, Answer, open_at, af
 use Rattle.p21_tokens.proofs.Stepping.{ended-waits}
 use Rattle.p21_tokens.proofs.Following.{handed-laid, live-open, whole-read, tokens-append, mean-append, in-parts, open-append, within-append, after-append, after-nothing, live-laid, live-pending, live-within, live-few, live-first, live-at_once}
 use Rattle.p21_tokens.specs.Held.{Held, pending_of, state_of}
-use Rattle.p21_tokens.specs.Histories.{TokenHistory, call_of, Stands, IsLive, IsHandedOver, GoesOn, AreDead, IsStatementFull, IsNoToken, EndsOutOfRange, IsOpen, EndsAtOnce, TakesNoMore, Answers, Refuses, NextGives}
+use Rattle.p21_tokens.specs.Histories.{TokenHistory, call_of, refused_call, Stands, IsLive, IsHandedOver, GoesOn, AreDead, IsStatementFull, IsNoToken, EndsOutOfRange, IsOpen, IsPendingBehind, EndsAtOnce, TakesNoMore, Answers, Refuses, NextGives}
 use Rattle.p21_tokens.specs.Fault.{IsOfForm, IsOfLimit}
 use Rattle.p21_tokens.specs.Steps.{rest_of, is_slash, is_token_byte, IsDeadAt, SameLimits, TakesRun, Gives, Hands, RefusesByte, EndsNone, IsInLimits, Scanned, ScansToken, gave, handed, Scans, RefusesAt}
 use Rattle.p21_tokens.specs.Token.{meant, waits}
@@ -539,8 +539,8 @@ module _ (v w : Held) (h : TokenHistory) (piece : List ℕ) (live : IsLive v h) 
   open-before : IsOpen (h.taken ++ take count piece)
   open-before = live-open middle _ front-live
 
-  pending-before : IsPending (h.taken ++ take count piece) (pending_of middle)
-  pending-before = live-pending middle _ front-live
+  pending-before : (why : TokenFault) → IsPendingBehind (extended h (refused_call piece count why)) (pending_of middle)
+  pending-before why = live-pending middle _ front-live
 
   laid : LaidUpTo (h.taken ++ take count piece) lexemes tail
   laid = laid-up-to (h.taken ++ take count piece) front-live.lexemes before-it.0 before-it.1 (tail-is (state_of middle) before-it.0 before-it.2)
@@ -645,14 +645,14 @@ next-refuses v u w piece x r e k s h stands o alive =
       stands = (
         e ∙ sym (ap (λ (y : Option TokenFault). first_refusal y (Some x)) alive),
         λ q. absurd (not-none x (sym (ap (λ (y : Option TokenFault). first_refusal y (Some x)) alive) ∙ q)),
-        subst (λ (n : ℕ). IsPending (h.taken ++ take s.1 piece) n) (sym (k ∙ s.8)) (pending-before v w h piece now.1 alive o s.0 s.1 s.2 s.3 s.4 s.5),
+        subst (λ (n : ℕ). IsPendingBehind (extended h (refused_call piece s.1 x)) n) (sym (k ∙ s.8)) (pending-before v w h piece now.1 alive o s.0 s.1 s.2 s.3 s.4 s.5 x),
       );
     }
   where
     not-none : (x : TokenFault) → Some x ≡ None → ⊥
     not-none x q = cc
 
-pub stands-pending : (v : Held) (h : TokenHistory) → Stands v h → IsPending h.taken (pending_of v)
+pub stands-pending : (v : Held) (h : TokenHistory) → Stands v h → IsPendingBehind h (pending_of v)
 unfolding Stands
 stands-pending v h s = s.2
 

@@ -12,7 +12,7 @@ use Rattle.p21_tokens_automaton.proofs.Fronts.{ended-laid, laid-few, front-run}
 use Rattle.p21_tokens_automaton.specs.Meaning.{MeanAll}
 use Rattle.p21_tokens_automaton.specs.Reading.{State, start, Answer, nothing_but, open_at, before, after, Sized, all_of, lex}
 use Rattle.p21_tokens.specs.Held.{Held, pending_of, state_of}
-use Rattle.p21_tokens.specs.Histories.{TokenHistory, IsLive, IsHandedOver, GoesOn, AreGivenFirst, AreGivenAtOnce, IsLaidWithin, IsOpen}
+use Rattle.p21_tokens.specs.Histories.{TokenHistory, IsLive, IsHandedOver, GoesOn, AreGivenFirst, AreGivenAtOnce, IsLaidWithin, IsOpen, IsPendingBehind}
 use Rattle.p21_tokens.specs.Steps.{rest_of}
 
 -- ---- lists of tokens and what they were found as
@@ -131,15 +131,16 @@ module _ (v : Held) (h : TokenHistory) (live : IsLive v h) where
         pending_within = l;
       }
 
-  pub live-pending : IsPending h.taken (pending_of v)
+  pub live-pending : IsPendingBehind h (pending_of v)
   live-pending =
       let u = live-laid in
-      record {
+      let pending : IsPending h.taken (pending_of v) = record {
         lexemes = live.lexemes;
         tail = u.0;
         laid = laid-up-to h.taken live.lexemes u.0 u.1 (tail-is (state_of v) u.0 u.2);
         pending_is = let s = live.statement_is in let n = size-is (state_of v) u.0 u.2 in omega arith;
-      }
+      } in
+      (pending, live.given_are)
 
   pub live-few : length h.given ≤ length h.taken
   live-few =

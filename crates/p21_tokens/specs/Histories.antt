@@ -55,6 +55,10 @@ pub record IsLaidWithin (limit pending : ℕ) (history : TokenHistory) : Type 0 
   pub pending_is : pending ≡ open_bytes 0 lexemes + tail_size tail
   pub pending_within : pending ≤ limit
 
+-- so many token bytes are pending behind the tokens given
+abbrev pub IsPendingBehind : TokenHistory → ℕ → Type 0
+IsPendingBehind history pending = (p : IsPending history.taken pending) × (tokens_in p.lexemes ≡ history.given)
+
 -- no tokens are laid in any bytes that begin so
 abbrev pub AreDead : List ℕ → Type 0
 AreDead bytes = (rest : List ℕ) (tokens : List Token) → Laid (bytes ++ rest) tokens → ⊥
@@ -112,7 +116,7 @@ pub record IsLive (held : Held) (history : TokenHistory) : Type 0 where
 
 -- what is held stands for a history: what it says is what `new`, `next` and `finish` say of it
 unfoldable pub Stands : Held → TokenHistory → Type 0
-Stands held history = (refusal_of held ≡ history.refusal) × (history.refusal ≡ None → IsLive held history) × IsPending history.taken (pending_of held)
+Stands held history = (refusal_of held ≡ history.refusal) × (history.refusal ≡ None → IsLive held history) × IsPendingBehind history (pending_of held)
 
 -- ---- the calls
 

@@ -8,9 +8,8 @@ ghost use Rattle.p21_tokens.specs.Front.{TakesFront};
 ghost use Rattle.p21_tokens.specs.Held.{file_limit_of, pending_of, record_limit_of, refusal_of, state_of};
 ghost use Rattle.p21_tokens_automaton.specs.Step.{advance};
 ghost use Rattle.p21_basics.specs.History.{empty};
-ghost use Rattle.p21_exchange.specs.Pending.{IsPending};
 ghost use Rattle.p21_tokens.specs.declared.fault.TokenFault.{TokenFault};
-ghost use Rattle.p21_tokens.specs.Histories.{FinishGives, KeepsLimits, NeedsNoMemory, NextGives, RefusesAgain, Stands, TakesNoMore, TakesOf, TokenHistory};
+ghost use Rattle.p21_tokens.specs.Histories.{FinishGives, IsPendingBehind, KeepsLimits, NeedsNoMemory, NextGives, RefusesAgain, Stands, TakesNoMore, TakesOf, TokenHistory};
 ghost use Rattle.p21_tokens.specs.Steps.{Closes, Ends, LacksMemory, Runs, Scans, Steps, Walks, behind_token, is_token_byte, with_characters, with_kept};
 ghost use Rattle.p21_tokens.specs.Token.{meant};
 
@@ -520,7 +519,7 @@ impl Lexer {
     pub fn pending(&self) -> u64
         ensures value { result ≡ pending_of self.now }
         ensures within { result ≤ record_limit_of self.now }
-        ensures pending { (history : TokenHistory) → Stands self.now history → IsPending history.taken result }
+        ensures pending { (history : TokenHistory) → Stands self.now history → IsPendingBehind history result }
     {
         // Looked at, so that the proof knows what holds of each lexer.
         let _limit = self.statement_limit;

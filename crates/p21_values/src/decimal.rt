@@ -103,6 +103,13 @@ impl Decimal {
         Decimal::of_digits(alloc, negative, digits, 0)
     }
 
+    /// Each decimal is reduced, and in the range of a real.
+    pub fn holds(&self)
+        ensures { IsDecimal self.now }
+    {
+        let _negative = self.negative;
+    }
+
     // The number of the digits, times ten to the exponent.
     #[inline(always)]
     fn of_digits(

@@ -23,6 +23,13 @@ impl Model for Name {
 }
 
 impl Name {
+    /// The number is one of 64 bits.
+    pub fn holds(&self)
+        ensures { self.now < 2 ^ 64 }
+    {
+        let _number = self.0;
+    }
+
     /// Reads one instance name: `#` and one digit or more, where leading zeros do not count. It takes no memory.
     ///
     /// # Errors

@@ -1,5 +1,6 @@
 ghost use Rattle.std.specs.Prelude.{◌≡◌, ◌%◌, [], ◌∷◌, ◌++◌, length, OnOk, OnErr};
-ghost use Rattle.std.specs.List.{flat_map};
+ghost use Rattle.std.specs.Char.{IsScalar};
+ghost use Rattle.std.specs.List.{AllByRecursion, flat_map};
 ghost use Rattle.std.specs.Str.{chars};
 ghost use Rattle.p21_basics.specs.Digits.{hex_digit, hex_digits};
 ghost use Rattle.p21_exchange.specs.Spelling.{character_spelling, text_spelling};
@@ -86,6 +87,13 @@ impl Text {
         ensures { result ≡ length self.now }
     {
         self.characters.len()
+    }
+
+    /// Each character is a Unicode scalar value.
+    pub fn holds(&self)
+        ensures { AllByRecursion IsScalar self.now }
+    {
+        let _characters = &self.characters;
     }
 
     /// The characters, first to last.

@@ -61,6 +61,13 @@ impl Word {
         })
     }
 
+    /// Each word is that of a keyword.
+    pub fn holds(&self)
+        ensures { IsKeyword self.now }
+    {
+        let _bytes = &self.bytes;
+    }
+
     /// The characters, in ASCII.
     pub fn bytes(&self) -> &[u8]
         ensures { result.now ≡ self.now }

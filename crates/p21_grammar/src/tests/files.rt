@@ -76,6 +76,40 @@ fn reads_sections(rt: HostRuntime) -> Result<(), Fail> {
     Ok(())
 }
 
+/// Sections that are left out, where a section or the end may begin, and elsewhere.
+#[test]
+fn leaves_out_other_sections(rt: HostRuntime) -> Result<(), Fail> {
+    let cases = [
+        ("ISO-10303-21;", "ANCHOR ", "LeftOut(Anchor)"),
+        ("ISO-10303-21;", "REFERENCE ", "LeftOut(Reference)"),
+        ("ISO-10303-21;", "SIGNATURE ", "LeftOut(Signature)"),
+        ("ISO-10303-21;", "DATA ", "Unexpected"),
+        ("ISO-10303-21;", "!ANCHOR ", "Unexpected"),
+        ("ISO-10303-21;HEADER;", "ANCHOR;", "Unexpected"),
+        ("ISO-10303-21;HEADER;", "ANCHOR(1);", "HeaderShape"),
+        (
+            HEAD,
+            "DATA;ENDSEC;REFERENCE ",
+            "data end LeftOut(Reference)",
+        ),
+        (
+            HEAD,
+            "DATA('a',('D'));ENDSEC;ANCHOR ",
+            "named DATA('a' ('D' ) ) end LeftOut(Anchor)",
+        ),
+        (
+            HEAD,
+            "DATA('a',('D'));ENDSEC;HEADER ",
+            "named DATA('a' ('D' ) ) end Unexpected",
+        ),
+    ];
+    for (head, text, expected) in cases {
+        let found = answers(&rt, head, text)?;
+        assert_eq!(rt; found.as_slice(), expected.as_bytes(), "{head}{text}");
+    }
+    Ok(())
+}
+
 /// What comes of a header, its statements apart.
 fn refusal(rt: &HostRuntime, text: &str) -> Result<Vec<u8>, Fail> {
     let mut reader = Reader::new(rt.alloc());

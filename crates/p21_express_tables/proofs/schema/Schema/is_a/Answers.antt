@@ -1,10 +1,12 @@
-use Rattle.std.specs.Prelude.{ℕ, List, Contains}
-use Rattle.std.proofs.Common.{subst, sym}
+use Rattle.p21_express_tables.specs.Orders.{tabled}
+use Rattle.p21_express_tables.specs.Parts.{schema_of}
 use Rattle.p21_express_tables.proofs.schema.Schema.is_a.Goals as goal
-use Rattle.p21_express_tables.proofs.OrderTables.{order-tells}
+use Rattle.p21_express_tables.proofs.Closures.{closure-rises, closure-tells}
+
+pub is_among-requires : goal.is_among-requires
+is_among-requires c = closure-rises (λ v. v.items) (schema_of c.self.inside.parts) c.args.self.now (tabled c.self.inside.orders.items) c.self.inside.closures.items c.args.sub.0 c.index.result.now c.deref.result.now c.self.view_is c.self.invariant.2 c.self.invariant.5 c.requires c.index.ensures c.deref.ensures.value
 
 pub returns : goal.returns
 returns c =
-    let (tells, told) = order-tells c.args.self.now c.holds_together.ensures c.args.sub.0 c.args.sup.0 in
-    let P : List ℕ → Type 0 = λ xs. Contains xs c.args.sup.0 in
-    (λ is. tells (subst P c.order_of.ensures (c.has.ensures.0 is)), λ is_a. c.has.ensures.1 (subst P (sym c.order_of.ensures) (told is_a)))
+    let (has, got) = closure-tells (λ v. v.items) (schema_of c.self.inside.parts) c.args.self.now (tabled c.self.inside.orders.items) c.self.inside.closures.items c.args.sub.0 c.index.result.now c.deref.result.now c.self.view_is c.self.invariant.2 c.self.invariant.5 c.requires c.index.ensures c.deref.ensures.value c.holds_together.ensures c.args.sup.0 in
+    (λ told. has (c.is_among.ensures.0 told), λ is. c.is_among.ensures.1 (got is))

@@ -1,0 +1,6 @@
+mod Closure
+mod Pieces
+mod Places
+mod Records
+mod Rows
+pub mod Statements

@@ -1,0 +1,3 @@
+pub mod Meant
+pub mod Pieces
+pub mod Statement

@@ -1,0 +1,2 @@
+pub mod SpelledScalars
+pub mod WrittenParams

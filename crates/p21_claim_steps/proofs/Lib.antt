@@ -1,0 +1,12 @@
+pub mod Among
+pub mod Growing
+pub mod Growth
+pub mod Offenders
+pub mod Waits
+pub mod Sizes
+pub mod Whole
+pub mod Holding
+pub mod Storing
+pub mod Keeps
+pub mod Fitting
+pub mod Output

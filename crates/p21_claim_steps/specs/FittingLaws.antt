@@ -1,0 +1,38 @@
+-- The laws of statements that may stand by themselves, and of texts that name a schema.
+use Rattle.std.specs.Prelude.{◌≡◌, ◌↔◌, ℕ, List, [], ◌∷◌}
+use Rattle.p21_basics.specs.Limits.{Limits}
+use Rattle.p21_claim_steps.specs.Grown.{IsFitting}
+use Rattle.p21_exchange.specs.Header.{IsFileSchema}
+use Rattle.p21_exchange.specs.Record.{Part}
+use Rattle.p21_exchange.specs.Statement.{header}
+use Rattle.p21_files.specs.Accepted.{IsLineWithin}
+use Rattle.p21_schemas.specs.Express.{IsIdentifierByte, upper}
+use Rattle.p21_schemas.specs.Schema.{Schema}
+use Rattle.p21_schemas.specs.SchemaName.{NamesSchema}
+
+-- ---- header records
+
+-- a FILE_SCHEMA whose text names the schema
+abbrev pub FitsBySchemaText : Type 0
+FitsBySchemaText = (s : Schema) (limits : Limits) (part : Part) (chars : List ℕ) → IsFileSchema part chars → NamesSchema chars s.name → IsLineWithin limits (header part) → IsFitting s limits (header part)
+
+-- and every other record
+abbrev pub FitsWithNoSchemaText : Type 0
+FitsWithNoSchemaText = (s : Schema) (limits : Limits) (part : Part) → ((chars : List ℕ) → ¬ IsFileSchema part chars) → IsLineWithin limits (header part) → IsFitting s limits (header part)
+
+-- ---- schema texts, character by character
+
+abbrev pub NamesAtEnd : Type 0
+NamesAtEnd = (name : List ℕ) → NamesSchema [] name ↔ (name ≡ [])
+
+-- a character that the name may have is the next one of the name, without case
+abbrev pub NamesByCharacter : Type 0
+NamesByCharacter = (char : ℕ) (chars : List ℕ) (next : ℕ) (name : List ℕ) → IsIdentifierByte char → NamesSchema (char ∷ chars) (next ∷ name) ↔ ((upper char ≡ next) × NamesSchema chars name)
+
+-- behind the name no such character stands
+abbrev pub NamesNoMore : Type 0
+NamesNoMore = (char : ℕ) (chars : List ℕ) → IsIdentifierByte char → ¬ NamesSchema (char ∷ chars) []
+
+-- any other character ends the name
+abbrev pub NamesUpToOther : Type 0
+NamesUpToOther = (char : ℕ) (chars name : List ℕ) → ¬ IsIdentifierByte char → NamesSchema (char ∷ chars) name ↔ (name ≡ [])

@@ -1,0 +1,14 @@
+pub mod Among
+pub mod FittingLaws
+pub mod Grown
+pub mod GrownLaws
+pub mod Keeping
+pub mod KeepingLaws
+pub mod OffenderLaws
+pub mod OutputLaws
+pub mod Offending
+pub mod Stored
+pub mod StoredLaws
+pub mod Waiting
+pub mod WaitingLaws
+pub mod WholeLaws

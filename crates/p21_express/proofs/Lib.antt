@@ -1,0 +1,3 @@
+pub mod Outlines
+pub mod Counted
+pub mod Holding

@@ -1,0 +1,201 @@
+-- What an outline has, and what all schemas of a text have in common with it.
+use Rattle.std.specs.Prelude.{◌≡◌, ◌≢◌, ℕ, ◌+◌, ◌<◌, ◌≤◌, List, [], ◌∷◌, length, map, Option, Some, None, slice_get, Contains, Result, Ok, Err, refl}
+use Rattle.std.specs.Result.{IsErr, IsErrAnd}
+use Rattle.std.proofs.Common.{arith, ap, sym, ◌∙◌, subst, inl, inr}
+use Rattle.std.proofs.lemmas.List.{length-map}
+use Rattle.std.proofs.lemmas.Option.{slice_get_within}
+use Rattle.std.proofs.lemmas.Slice.Zip.{AllZip-long}
+use Rattle.p21_basics.proofs.Members.{Contains-none, Contains-found, AllZip-member, AllZip-second_member}
+use Rattle.p21_schemas.specs.Schema as schema
+use Rattle.p21_schemas.specs.Schema.{Schema, TypeUse, Kind, Entity, Defined, kind_of}
+use Rattle.p21_schemas.specs.Declared.{Declares, HasNoCircle, HasSupertype, Renames, HasSelect, most_declarations}
+use Rattle.p21_schemas.specs.SchemaDeclaration.{SchemaDeclaration, entities_of, types_of}
+use Rattle.p21_schemas.specs.Supertype.{supertypes_of}
+use Rattle.p21_schemas.specs.WellFormed.{AreEntities}
+use Rattle.p21_express.specs.ReadOutline.{OutlineRead}
+use Rattle.p21_express_circles.specs.Chains.{AreTypes}
+use Rattle.p21_express_lexemes.specs.declared.fault.SyntaxFault.{SyntaxFault}
+use Rattle.p21_express_lexemes.specs.declared.fault.SyntaxFault.TheVariants as syntax
+use Rattle.p21_express_outline.specs.Fault.{of_syntax}
+use Rattle.p21_express_syntax.specs.Views.{schema_view, entity_view, defined_view}
+use Rattle.p21_express_syntax.specs.declared.schema.Declarations.{Declarations}
+use Rattle.p21_express_tables.specs.Parts.{schema_of, AreNamed, entity, defined}
+use Rattle.p21_express_tables.specs.declared.parts.Parts.{Parts}
+use Rattle.p21_express_outline.specs.Finding.{Refused}
+use Rattle.p21_express_outline.specs.declared.fault.SchemaFault.{SchemaFault}
+use Rattle.p21_express_resolve.specs.Bare.{bare}
+use Rattle.p21_express_resolve.specs.DeclaredBy.{DeclaredBy, RenamesNoSelect}
+use Rattle.p21_express_resolve.specs.Outline.{Named, kept_named, IsNamed, SimpleIs, KeptKindIs, EntityOutline, TypeOutline, IsOutline, aggregates_of}
+use Rattle.p21_express_resolve.proofs.Agreeing.{supertypes-bare}
+use Rattle.p21_express_resolve.proofs.KeptSchemas.{declared-text}
+use Rattle.p21_express_resolve.proofs.OneOutline.{outline-one}
+use Rattle.p21_express_syntax.specs.Kept.{KeptSchema, KeptBody, enumeration, select, underlying}
+use Rattle.p21_express_syntax.specs.Keeping.{kept_schema, kept_entity, kept_defined}
+use Rattle.p21_express_syntax.specs.ReadDeclarations.{IsTextOf}
+use Rattle.p21_express_syntax.specs.declared.types.Aggregate.{Aggregate}
+use Rattle.p21_express_syntax.specs.declared.types.Aggregate.TheVariants as aggregate
+use Rattle.p21_express_syntax.specs.declared.types.SimpleType.{SimpleType}
+use Rattle.p21_express_syntax.specs.declared.types.SimpleType.TheVariants as simple
+use Rattle.p21_express_syntax.proofs.SchemasRead.{one_kept}
+
+-- ---- numbers are those of the schema
+
+pub outline-entities : (k : KeptSchema) (s : Schema) → IsOutline k s → AreEntities s
+outline-entities k s outline e f up = by (slice_get s.entities e) refl up
+  where
+    count : length s.entities ≡ length (kept_named k).entities
+    count = AllZip-long (EntityOutline (kept_named k)) k.entities s.entities outline.entities_are ∙ sym (length-map k.entities (λ x. x.name))
+
+    by : (o : Option Entity) → slice_get s.entities e ≡ o → Contains (elim o [ Some x ↦ x.supertypes | None ↦ [] ]) f → f < length s.entities
+    by None at among = absurd (Contains-none f among)
+    by (Some x) at among =
+        let (d, d_among, is) = AllZip-second_member (EntityOutline (kept_named k)) k.entities s.entities x outline.entities_are (Contains-found s.entities e x at) in
+        let (name, name_among, named) = AllZip-member (IsNamed (kept_named k).entities) x.supertypes d.supertypes f is.supertypes_are among in
+        let below = slice_get_within (kept_named k).entities f name named in omega (arith, below, count)
+
+named-defined : (n : Named) (kept : SimpleType) (u : ℕ) → SimpleIs n kept (schema.defined u) → u < length n.types
+named-defined n simple.Integer u is = cc
+named-defined n simple.Real u is = cc
+named-defined n simple.Number u is = cc
+named-defined n simple.Boolean u is = cc
+named-defined n simple.Logical u is = cc
+named-defined n (simple.String width) u is = cc
+named-defined n (simple.Binary width) u is = cc
+named-defined n (simple.Named name) u (inl h) = let same : schema.defined u ≡ schema.entity h.0 = h.2 in cc
+named-defined n (simple.Named name) u (inr h) = let same : schema.defined u ≡ schema.defined h.0 = h.2 in let one : u ≡ h.0 = cc in let below = slice_get_within n.types h.0 name h.1 in omega (arith, one, below)
+
+type-defined : (n : Named) (aggregates : List Aggregate) (simple_ : SimpleType) (element : TypeUse) (u : ℕ) → SimpleIs n simple_ element → schema.defined u ≡ aggregates_of aggregates element → u < length n.types
+type-defined n [] simple_ element u is same = named-defined n simple_ u (subst (SimpleIs n simple_) (sym same) is)
+type-defined n (aggregate.Array low high optional unique ∷ aggregates) simple_ element u is same = cc
+type-defined n (aggregate.List range unique ∷ aggregates) simple_ element u is same = cc
+type-defined n (aggregate.Set range ∷ aggregates) simple_ element u is same = cc
+type-defined n (aggregate.Bag range ∷ aggregates) simple_ element u is same = cc
+
+kind-defined : (n : Named) (body : KeptBody) (u : ℕ) → KeptKindIs n body (schema.alias (schema.defined u)) → u < length n.types
+kind-defined n (underlying kept) u (type, (element, is, type_is), alone, same) =
+    let one : schema.defined u ≡ type = (let h : schema.alias (schema.defined u) ≡ schema.alias type = same in cc) in
+    type-defined n kept.aggregates kept.element element u is (one ∙ type_is)
+kind-defined n (enumeration names) u is = let h : schema.alias (schema.defined u) ≡ schema.items names = is.0 in cc
+kind-defined n (select names) u (members, are, distinct, same) = cc
+
+pub outline-types : (k : KeptSchema) (s : Schema) → IsOutline k s → AreTypes s
+outline-types k s outline t u renames = by (slice_get s.types t) refl renames
+  where
+    count : length s.types ≡ length (kept_named k).types
+    count = AllZip-long (TypeOutline (kept_named k)) k.types s.types outline.types_are ∙ sym (length-map k.types (λ x. x.name))
+
+    by : (o : Option Defined) → slice_get s.types t ≡ o → ◌≡◌ {A = Option Kind} (elim o [ Some x ↦ Some x.kind | None ↦ None ]) (Some (schema.alias (schema.defined u))) → u < length s.types
+    by None at is = cc
+    by (Some x) at is =
+        let (d, d_among, holds) = AllZip-second_member (TypeOutline (kept_named k)) k.types s.types x outline.types_are (Contains-found s.types t x at) in
+        let same : x.kind ≡ schema.alias (schema.defined u) = cc in
+        let below = kind-defined (kept_named k) d.body u (subst (KeptKindIs (kept_named k) d.body) same holds.kind_is) in omega (arith, below, count)
+
+-- ---- how many there are
+
+pub outline-few : (tree : SchemaDeclaration) (s : Schema) (text : List ℕ) → IsTextOf tree text → IsOutline (kept_schema tree) s → length s.entities + length s.types ≤ most_declarations
+outline-few tree s text is outline =
+    let e : length s.entities ≡ length (map kept_entity (entities_of tree.declarations)) = AllZip-long (EntityOutline (kept_named (kept_schema tree))) (map kept_entity (entities_of tree.declarations)) s.entities outline.entities_are in
+    let t : length s.types ≡ length (map kept_defined (types_of tree.declarations)) = AllZip-long (TypeOutline (kept_named (kept_schema tree))) (map kept_defined (types_of tree.declarations)) s.types outline.types_are in
+    omega (arith, e, t, length-map (entities_of tree.declarations) kept_entity, length-map (types_of tree.declarations) kept_defined, is.is_within.count_within)
+
+-- ---- refusals
+
+-- each schema of the text is declared by what is kept
+pub declared-of : (text : List ℕ) (tree : SchemaDeclaration) (s : Schema) → IsTextOf tree text → Declares text s → DeclaredBy (kept_schema tree) s
+declared-of text tree s is declares =
+    let (x, x_text, by) = declared-text text s declares in
+    let P : KeptSchema → Type 0 = λ k. DeclaredBy k s in
+    subst P (one_kept text x tree x_text is) by
+
+-- and has the supertypes of its outline
+supertypes-same : (k : KeptSchema) (s t : Schema) → IsOutline k s → IsOutline k t → HasNoCircle (HasSupertype t) → HasNoCircle (HasSupertype s)
+supertypes-same k s t is is_ ends = (
+  ends.0,
+  λ e f up.
+      let P : List ℕ → Type 0 = λ fs. Contains fs f in
+      let Q : Schema → Type 0 = λ v. Contains (supertypes_of v e) f in
+      ends.1 e f (subst P (supertypes-bare t e) (subst Q (outline-one k s t is is_) (subst P (sym (supertypes-bare s e)) up))),
+)
+
+types-same : (k : KeptSchema) (s t : Schema) → IsOutline k s → IsOutline k t → s.types ≡ t.types
+types-same k s t is is_ = let f : Schema → List Defined = λ v. v.types in ap f (outline-one k s t is is_)
+
+renaming-same : (k : KeptSchema) (s t : Schema) → IsOutline k s → IsOutline k t → HasNoCircle (Renames t) → HasNoCircle (Renames s)
+renaming-same k s t is is_ ends = (
+  ends.0,
+  λ x y renames.
+      let P : List Defined → Type 0 = λ ts. ◌≡◌ {A = Option Kind} (elim (slice_get ts x) [ Some z ↦ Some z.kind | None ↦ None ]) (Some (schema.alias (schema.defined y))) in
+      ends.1 x y (subst P (types-same k s t is is_) renames),
+)
+
+no_select-same : (k : KeptSchema) (s t : Schema) → IsOutline k s → IsOutline k t → RenamesNoSelect t → RenamesNoSelect s
+no_select-same k s t is is_ none = λ x y renames (members, select_is).
+    let P : List Defined → Type 0 = λ ts. ◌≡◌ {A = Option Kind} (elim (slice_get ts x) [ Some z ↦ Some z.kind | None ↦ None ]) (Some (schema.alias (schema.defined y))) in
+    let Q : List Defined → Type 0 = λ ts. ◌≡◌ {A = Option Kind} (elim (slice_get ts y) [ Some z ↦ Some z.kind | None ↦ None ]) (Some (schema.choice members)) in
+    none x y (subst P (types-same k s t is is_) renames) (members, subst Q (types-same k s t is is_) select_is)
+
+selects-same : (k : KeptSchema) (s t : Schema) → IsOutline k s → IsOutline k t → HasNoCircle (HasSelect t) → HasNoCircle (HasSelect s)
+selects-same k s t is is_ ends = (
+  ends.0,
+  λ x y ((members, choice_is, among), (others, select_is)).
+      let P : List Defined → Type 0 = λ ts. ◌≡◌ {A = Option Kind} (elim (slice_get ts x) [ Some z ↦ Some z.kind | None ↦ None ]) (Some (schema.choice members)) in
+      let Q : List Defined → Type 0 = λ ts. ◌≡◌ {A = Option Kind} (elim (slice_get ts y) [ Some z ↦ Some z.kind | None ↦ None ]) (Some (schema.choice others)) in
+      ends.1 x y ((members, subst P (types-same k s t is is_) choice_is, among), (others, subst Q (types-same k s t is is_) select_is)),
+)
+
+-- where a test of the outline fails no schema is declared
+pub supertypes-refused : (text : List ℕ) (tree : SchemaDeclaration) (s t : Schema) → IsTextOf tree text → IsOutline (kept_schema tree) s → Declares text t → HasNoCircle (HasSupertype s)
+supertypes-refused text tree s t is outline declares = let by = declared-of text tree t is declares in supertypes-same (kept_schema tree) s t outline by.outline by.supertypes_end
+
+pub renaming-refused : (text : List ℕ) (tree : SchemaDeclaration) (s t : Schema) → IsTextOf tree text → IsOutline (kept_schema tree) s → Declares text t → HasNoCircle (Renames s)
+renaming-refused text tree s t is outline declares = let by = declared-of text tree t is declares in renaming-same (kept_schema tree) s t outline by.outline by.renaming_ends
+
+pub no_select-refused : (text : List ℕ) (tree : SchemaDeclaration) (s t : Schema) → IsTextOf tree text → IsOutline (kept_schema tree) s → Declares text t → RenamesNoSelect s
+no_select-refused text tree s t is outline declares = let by = declared-of text tree t is declares in no_select-same (kept_schema tree) s t outline by.outline by.no_select
+
+pub selects-refused : (text : List ℕ) (tree : SchemaDeclaration) (s t : Schema) → IsTextOf tree text → IsOutline (kept_schema tree) s → Declares text t → HasNoCircle (HasSelect s)
+selects-refused text tree s t is outline declares = let by = declared-of text tree t is declares in selects-same (kept_schema tree) s t outline by.outline by.selects_end
+
+-- ---- the steps of the reader
+
+pub syntax-refused : (text : List ℕ) (fault : SyntaxFault) (result : Result Parts SchemaFault) → IsErr result → IsErrAnd result (λ found. found ≡ of_syntax fault) → (fault ≢ syntax.NoMemory → (x : SchemaDeclaration) → IsTextOf x text → ⊥) → OutlineRead text result
+syntax-refused text fault (Ok parts) is_err is refused = cc
+syntax-refused text fault (Err found) is_err is refused = λ other s declares. let (x, x_text, by) = declared-text text s declares in refused (λ e. other (is ∙ ap of_syntax e)) x x_text
+
+pub few-of : (text : List ℕ) (tree : SchemaDeclaration) (d : Declarations) → IsTextOf tree text → schema_view d ≡ kept_schema tree → length d.entities.items + length d.types.items ≤ most_declarations
+few-of text tree d is same =
+    let e : length (map entity_view d.entities.items) ≡ length (map kept_entity (entities_of tree.declarations)) = ap (λ k. length k.entities) same in
+    let t : length (map defined_view d.types.items) ≡ length (map kept_defined (types_of tree.declarations)) = ap (λ k. length k.types) same in
+    omega (arith, e, t, length-map d.entities.items entity_view, length-map d.types.items defined_view, length-map (entities_of tree.declarations) kept_entity, length-map (types_of tree.declarations) kept_defined, is.is_within.count_within)
+
+pub parts-refused : (text : List ℕ) (tree : SchemaDeclaration) (d : Declarations) (fault : SchemaFault) (result : Result Parts SchemaFault) → IsTextOf tree text → schema_view d ≡ kept_schema tree → IsErr result → IsErrAnd result (λ found. found ≡ fault)
+    → Refused fault ((s : Schema) → IsOutline (schema_view d) s → ⊥) → OutlineRead text result
+parts-refused text tree d fault (Ok parts) is_text same is_err is refused = cc
+parts-refused text tree d fault (Err found) is_text same is_err is refused = λ other s declares.
+    let P : KeptSchema → Type 0 = λ k. IsOutline k s in
+    refused (λ e. other (is ∙ e)) s (subst P (sym same) (declared-of text tree s is_text declares).outline)
+
+pub test-refused : (text : List ℕ) (claim : Type 0) (fault : SchemaFault) (result : Result Parts SchemaFault) → IsErr result → IsErrAnd result (λ found. found ≡ fault) → ((s : Schema) → Declares text s → claim) → Refused fault (claim → ⊥) → OutlineRead text result
+test-refused text claim fault (Ok parts) is_err is so refused = cc
+test-refused text claim fault (Err found) is_err is so refused = λ other s declares. refused (λ e. other (is ∙ e)) (so s declares)
+
+-- what is found of the text and its parts
+pub record Found (text : List ℕ) (d : Declarations) (parts : Parts) : Type 0 where
+  pub tree : SchemaDeclaration
+  pub text_is : IsTextOf tree text
+  pub outline : IsOutline (kept_schema tree) (schema_of parts)
+  pub named : AreNamed parts
+  pub is_bare : bare (schema_of parts) ≡ schema_of parts
+
+pub found-of : (text : List ℕ) (d : Declarations) (parts : Parts) → ((x : SchemaDeclaration) × IsTextOf x text × (schema_view d ≡ kept_schema x)) → IsOutline (schema_view d) (schema_of parts) × AreNamed parts × (bare (schema_of parts) ≡ schema_of parts) → Found text d parts
+found-of text d parts (x, is, same) (outline, named, is_bare) =
+    let P : KeptSchema → Type 0 = λ k. IsOutline k (schema_of parts) in
+    record { tree = x; text_is = is; outline = subst P same outline; named = named; is_bare = is_bare }
+
+pub few-entities : (text : List ℕ) (d : Declarations) (parts : Parts) → Found text d parts → length parts.entities.items ≤ most_declarations
+few-entities text d parts found = let few = outline-few found.tree (schema_of parts) text found.text_is found.outline in omega (arith, few, length-map parts.entities.items entity)
+
+pub few-types : (text : List ℕ) (d : Declarations) (parts : Parts) → Found text d parts → length parts.types.items ≤ most_declarations
+few-types text d parts found = let few = outline-few found.tree (schema_of parts) text found.text_is found.outline in omega (arith, few, length-map parts.types.items defined)
+

@@ -1,0 +1,7 @@
+//! Schemas read from their texts (ISO 10303-11).
+#![tactic(auto)]
+
+mod reading;
+
+pub use p21_express_outline::SchemaFault;
+pub use reading::read_outline;

@@ -1,0 +1,46 @@
+ghost use Rattle.std.specs.Prelude.{◌≡◌, ◌≤◌, IfOk, length, map};
+ghost use Rattle.p21_schemas.specs.Declared.{HasNoCircle, HasSupertype, most_declarations};
+ghost use Rattle.p21_schemas.specs.WellFormed.{AreEntities};
+ghost use Rattle.p21_express_outline.specs.Finding.{Checked};
+ghost use Rattle.p21_express_tables.specs.Orders.{numbers};
+ghost use Rattle.p21_express_tables.specs.Parts.{schema_of};
+ghost use Rattle.p21_express_tables.specs.Settled.{lists_of};
+
+use crate::chains::check_ends;
+use p21_express_outline::SchemaFault;
+use p21_express_tables::{Entity, Parts};
+use p21_express_types::EntityId;
+use p21_values::NoMemory;
+use std::alloc::Global;
+
+fn numbers_of(alloc: Global, entities: &[EntityId]) -> Result<Vec<u32>, NoMemory>
+    ensures { IfOk result (λ found. found.items ≡ numbers entities.now) }
+{
+    let found = entities.iter().map(|entity| entity.0).collect(alloc)?;
+    Ok(found)
+}
+
+fn supertype_numbers(alloc: Global, entities: &[Entity]) -> Result<Vec<Vec<u32>>, NoMemory>
+    ensures { IfOk result (λ lists. lists_of lists.items ≡ map (λ x. numbers x.supertypes.items) entities.now) }
+{
+    let mut lists = Vec::with_capacity(alloc, entities.len())?;
+    for entity in entities {
+        let entity: &Entity = entity;
+        lists.push(numbers_of(alloc, &entity.supertypes)?)?;
+    }
+    Ok(lists)
+}
+
+/// No chain of supertypes comes back.
+///
+/// # Errors
+///
+/// `Circular`, `NoMemory`.
+pub fn check_supertypes(alloc: Global, parts: &Parts) -> Result<(), SchemaFault>
+    requires few { length parts.now.entities.items ≤ most_declarations }
+    requires within { AreEntities (schema_of parts.now) }
+    ensures { Checked (HasNoCircle (HasSupertype (schema_of parts.now))) result }
+{
+    let lists = supertype_numbers(alloc, &parts.entities)?;
+    check_ends(alloc, &lists)
+}

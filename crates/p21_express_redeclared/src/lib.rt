@@ -1,0 +1,6 @@
+//! The places that redeclarations stand for (ISO 10303-11, Attribute redeclaration).
+#![tactic(auto)]
+
+mod lookups;
+
+pub use lookups::{own_place, proper_supertype};

@@ -1,0 +1,4 @@
+pub mod Bare
+pub mod DeclaredBy
+pub mod Outline
+pub mod Redeclarations

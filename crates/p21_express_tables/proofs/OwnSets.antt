@@ -1,0 +1,94 @@
+-- The set that an entity and its supertypes make.
+use Rattle.std.specs.Prelude.{◌≡◌, ℕ, zero, suc, ◌+◌, ◌<◌, ◌≤◌, ◌⊎◌, List, [], ◌∷◌, ◌++◌, Some, length, slice_get, Contains, refl}
+use Rattle.std.proofs.Common.{arith, ap, sym, subst, inl, inr}
+use Rattle.std.proofs.lemmas.Bool.{cases_lt}
+use Rattle.p21_basics.proofs.Members.{Contains-none, Contains-first, Contains-later, Contains-cases, Contains-flat_map, Contains-one_of, Each-member, Each-at}
+use Rattle.p21_schemas.specs.Order.{order, places, own_places}
+use Rattle.p21_schemas.specs.PlaceType.{TypeAt, two_redeclarations, IsDerivedIn, IsRedeclared}
+use Rattle.p21_schemas.specs.Schema.{Schema, Place, Entity, Redeclared}
+use Rattle.p21_schemas.specs.Supertype.{IsA}
+use Rattle.p21_schemas.proofs.PlaceTypes.{TypeAt-one}
+use Rattle.p21_express_types.specs.Meaning.{place_type}
+use Rattle.p21_express_types.specs.declared.place_type.PlaceType.{PlaceType}
+use Rattle.p21_express_types.specs.declared.place_type.PlaceType.TheVariants.{Derived, Stored, Two}
+use Rattle.p21_express_tables.specs.Lookups.{AreEntities, places_from}
+use Rattle.p21_express_tables.specs.OwnSets.{AreOwnSets, IsOwnSet, RedeclaresNothing}
+use Rattle.p21_express_tables.specs.declared.own_sets.OwnSet.{OwnSet}
+use Rattle.p21_express_tables.specs.Resolved.{HoldsTogether, IsEntity, IsPlace, IsResolved, IsRedeclared as IsRedeclaredOf}
+use Rattle.p21_express_tables.proofs.Lookups.{own-places-are}
+use Rattle.p21_express_tables.proofs.OrderTables.{are-entities, IsA-within, order-tells}
+
+-- the places of an entity by their numbers
+places_from-has : (e k n i : ℕ) → k ≤ i → i < k + n → Contains (places_from e k n) (record { entity = e; index = i })
+places_from-has e k zero i from below = absurd (omega (arith, from, below))
+places_from-has e k (suc n) i from below = elim (cases_lt k i) [
+  | inl h ↦ Contains-later (record { entity = e; index = k }) (places_from e (k + 1) n) (record { entity = e; index = i }) (places_from-has e (k + 1) n i (omega (arith, h)) (omega (arith, below)))
+  | inr h ↦
+      let same : k ≡ i = omega (arith, from, h) in
+      let P : ℕ → Type 0 = λ j. Contains (places_from e k (suc n)) (record { entity = e; index = j }) in
+      subst P same (Contains-first (record { entity = e; index = k }) (places_from e (k + 1) n))
+]
+
+places_from-of : (e k n : ℕ) (place : Place) → Contains (places_from e k n) place → e ≡ place.entity
+places_from-of e k zero place among = absurd (Contains-none place among)
+places_from-of e k (suc n) place among = elim (Contains-cases (record { entity = e; index = k }) (places_from e (k + 1) n) place among) [
+  | inl h ↦ ap (λ p. p.entity) h
+  | inr h ↦ places_from-of e (k + 1) n place h
+]
+
+module _ (s : Schema) (holds : HoldsTogether s) (e : ℕ) where
+  -- a place stands in an own set where the entity that declares it does
+  pub place-among : (place : Place) → IsPlace s place → IsA s e place.entity → Contains (places s e) place
+  place-among place is up =
+      let P : List Place → Type 0 = λ ps. Contains ps place in
+      Contains-flat_map (own_places s) (order s e) place.entity place ((order-tells s holds e place.entity).1 up)
+      (subst P (own-places-are s place.entity) (places_from-has place.entity 0 _ place.index (omega arith) (omega (arith, is))))
+
+  pub place-of : (place : Place) → Contains (places s e) place → IsA s e place.entity
+  place-of place among =
+      let (f, in_order, own) = Contains-one_of (own_places s) (order s e) place among in
+      let P : List Place → Type 0 = λ ps. Contains ps place in
+      let Q : ℕ → Type 0 = λ g. IsA s e g in
+      subst Q (places_from-of f 0 _ place (subst P (sym (own-places-are s f)) own)) ((order-tells s holds e f).0 in_order)
+
+  -- the entities of an own set are those of the schema
+  pub own-entities : IsEntity s e → (entities : List ℕ) → entities ≡ order s e → AreEntities s entities
+  own-entities is entities same f among =
+      let P : List ℕ → Type 0 = λ fs. Contains fs f in
+      IsA-within s (are-entities s holds) e f ((order-tells s holds e f).0 (subst P same among)) is
+
+-- where no entity redeclares a place, the set doesn't
+pub none-redeclared : (s : Schema) (entities : List ℕ) → ((f : ℕ) → Contains entities f → RedeclaresNothing s f) → (place : Place) → (¬ IsDerivedIn s entities place) × (¬ IsRedeclared s entities place)
+none-redeclared s entities none place = (
+  λ (f, x, among, at, derives). let P : List Place → Type 0 = λ ps. Contains ps place in Contains-none place (subst P (none f among x at).1 derives),
+  λ (f, r, (among, (x, at, redeclares), is)). let P : List Redeclared → Type 0 = λ rs. Contains rs r in Contains-none r (subst P (none f among x at).0 redeclares),
+)
+
+-- what an entity redeclares are places
+pub redeclared-place : (s : Schema) → HoldsTogether s → (e : ℕ) (x : Entity) (r : Redeclared) → slice_get s.entities e ≡ Some x → Contains x.redeclared r → IsPlace s r.place
+redeclared-place s holds e x r at among = (Each-member (IsRedeclaredOf s) x.redeclared r (Each-at (IsResolved s) s.entities e x holds.entities_are at).redeclared_are among).0
+
+-- one answer says that a place is left open
+pub two-only : (s : Schema) → HoldsTogether s → (entities : List ℕ) (place : Place) (found : PlaceType) → TypeAt s entities place (place_type found) → TypeAt s entities place two_redeclarations → found ≡ Two
+two-only s holds entities place found is open_ = by found (TypeAt-one s holds.supertypes_end holds.redeclares_once entities place (place_type found) two_redeclarations is open_)
+  where
+    by : (found : PlaceType) → place_type found ≡ two_redeclarations → found ≡ Two
+    by Derived same = cc
+    by (Stored optional type) same = cc
+    by Two same = refl
+
+-- one set more
+pub own-more : (s : Schema) (sets : List OwnSet) (own : OwnSet) → AreOwnSets s sets → IsOwnSet s (length sets) own → AreOwnSets s (sets ++ own ∷ [])
+own-more s sets own are is e other at = elim (snoc-get sets own e other at) [
+  | inl h ↦ are e other h
+  | inr h ↦
+      let P : ℕ → Type 0 = λ n. IsOwnSet s n other in
+      let Q : OwnSet → Type 0 = λ o. IsOwnSet s (length sets) o in
+      subst P (sym h.0) (subst Q (sym h.1) is)
+]
+  where
+    snoc-get : (xs : List OwnSet) (z : OwnSet) (k : ℕ) (x : OwnSet) → slice_get (xs ++ z ∷ []) k ≡ Some x → (slice_get xs k ≡ Some x) ⊎ ((k ≡ length xs) × (x ≡ z))
+    snoc-get [] z zero x at = let same : z ≡ x = cc in inr (refl, sym same)
+    snoc-get [] z (suc k) x at = cc
+    snoc-get (y ∷ xs) z zero x at = inl at
+    snoc-get (y ∷ xs) z (suc k) x at = elim (snoc-get xs z k x at) [ inl h ↦ inl h | inr h ↦ inr (ap suc h.0, h.1) ]

@@ -1,0 +1,12 @@
+use Rattle.std.specs.Prelude.{◌≡◌, IsTrue, Some, length, slice_get, refl}
+use Rattle.std.proofs.Common.{subst, ap, sym, ◌∙◌}
+use Rattle.std.proofs.lemmas.Option.{slice_get_read}
+use Rattle.p21_schemas.specs.Schema.{Schema, Place}
+use Rattle.p21_express_tables.specs.OwnSets.{IsDeclaredAt}
+use Rattle.p21_express_tables.proofs.schema.Schema.may_redeclare.Goals as goal
+
+pub returns-in-Some : goal.returns-in-Some
+returns-in-Some c =
+    let P : Schema → Type 0 = λ s. (IsTrue c.in-Some.own.now.redeclares → ⊥) → (place : Place) → IsDeclaredAt s c.args.entity.0 place in
+    let at : slice_get c.self.inside.own.items c.args.entity.0 ≡ Some c.in-Some.own.now = ap (λ xs. slice_get xs c.args.entity.0) (sym c.deref.ensures.value) ∙ slice_get_read c.deref.result.now (length c.deref.result.now) c.args.entity.0 c.in-Some.own.now refl c.in-Some.ensures.lookup.3.0 c.in-Some.ensures.lookup.1 in
+    subst P c.self.view_is (c.self.invariant.6 c.args.entity.0 c.in-Some.own.now at).declared

@@ -1,0 +1,175 @@
+ghost use Rattle.std.specs.Prelude.{◌≡◌, ◌↔◌, ℕ, IsTrue, map, Contains, OnOk};
+ghost use Rattle.p21_schemas.specs.Schema.{Place as MeantPlace, Redeclared as MeantRedeclared};
+ghost use Rattle.p21_schemas.specs.Order.{order};
+ghost use Rattle.p21_schemas.specs.PlaceType.{TypeAt};
+ghost use Rattle.p21_express_types.specs.Meaning.{place as place_of, place_type};
+ghost use Rattle.p21_express_tables.specs.OwnSets.{HasOwnFaults, IsDeclaredAt, IsOpenAt, LeavesOpen, RedeclaresNothing};
+ghost use Rattle.p21_express_tables.specs.Parts.{redeclared as redeclared_of};
+ghost use Rattle.p21_express_tables.specs.Resolved.{IsEntity, IsPlace};
+
+use crate::parts::Redeclared;
+use crate::schema::Schema;
+use p21_express_types::{EntityId, Place, PlaceType};
+use p21_values::NoMemory;
+
+/// What makes the set of an entity and its supertypes no set of an instance.
+#[derive(Clone, Copy, Debug, Drop, PartialEq, Eq)]
+pub struct OwnFaults {
+    /// The entity is abstract (ISO 10303-11, Abstract supertypes).
+    pub is_abstract: bool,
+    /// Entities redeclare a place, and none of them is a subtype of all others that do (ISO 10303-11, Attribute
+    /// redeclaration).
+    pub leaves_open: bool,
+    /// Two entities stand in one ONEOF list (ISO 10303-11, Subtype/supertype constraints).
+    pub clashes: bool,
+}
+
+/// What is known beforehand of the set of an entity and its supertypes.
+#[derive(Clone, Copy, Debug, Drop)]
+pub(crate) struct OwnSet {
+    pub(crate) faults: OwnFaults,
+    // Whether an entity of it may redeclare a place.
+    pub(crate) redeclares: bool,
+}
+
+impl Schema {
+    /// What makes the set of an entity and its supertypes no set of an instance.
+    pub fn own_faults(&self, entity: EntityId) -> OwnFaults
+        requires { IsEntity self.now entity.0 }
+        ensures { HasOwnFaults self.now entity.0 result }
+    {
+        match self.own.get(entity.0 as usize) {
+            Some(own) => own.faults,
+            None => self.find_own_faults(entity),
+        }
+    }
+
+    /// What may stand at a place of an instance whose set is an entity and its supertypes (ISO 10303-11, Attribute
+    /// redeclaration).
+    pub fn own_type(&self, entity: EntityId, place: Place) -> PlaceType<'_>
+        requires entity { IsEntity self.now entity.0 }
+        requires place { IsPlace self.now (place_of place) }
+        ensures { TypeAt self.now (order self.now entity.0) (place_of place) (place_type result) }
+    {
+        self.holds_together();
+        if self.may_redeclare(entity) {
+            return self.type_at(self.order_of(entity), place);
+        }
+        let attribute = self.attribute_at(place);
+        PlaceType::Stored(attribute.optional, &attribute.type_use)
+    }
+
+    fn may_redeclare(&self, entity: EntityId) -> bool
+        ensures { (IsTrue result → ⊥) → (place : MeantPlace) → IsDeclaredAt self.now entity.0 place }
+    {
+        match self.own.get(entity.0 as usize) {
+            Some(own) => own.redeclares,
+            None => true,
+        }
+    }
+
+    /// Prepares what is known of the own sets of all entities.
+    pub(crate) fn prepare_own_sets(&mut self) -> Result<(), NoMemory>
+        ensures { OnOk result (self.new ≡ self.old) }
+    {
+        for _ in 0..self.entities() {
+            self.prepare_own_set()?;
+        }
+        Ok(())
+    }
+
+    /// Prepares what is known of the own set of the next entity.
+    fn prepare_own_set(&mut self) -> Result<(), NoMemory>
+        ensures { OnOk result (self.new ≡ self.old) }
+    {
+        self.holds_together();
+        let number = self.own.len();
+        if number >= self.entities() {
+            return Ok(());
+        }
+        let entity = EntityId(number as u32);
+        let own = OwnSet {
+            faults: self.find_own_faults(entity),
+            redeclares: self.set_redeclares(entity),
+        };
+        self.own.push(own)?;
+        Ok(())
+    }
+
+    fn find_own_faults(&self, entity: EntityId) -> OwnFaults
+        requires { IsEntity self.now entity.0 }
+        ensures { HasOwnFaults self.now entity.0 result }
+    {
+        OwnFaults {
+            is_abstract: self.is_abstract(entity),
+            leaves_open: self.leaves_open(entity),
+            clashes: self.clashes(self.order_of(entity)),
+        }
+    }
+
+    /// Whether an entity of the own set redeclares a place, explicit or derived.
+    fn set_redeclares(&self, entity: EntityId) -> bool
+        requires { IsEntity self.now entity.0 }
+        ensures { (IsTrue result → ⊥) → (place : MeantPlace) → IsDeclaredAt self.now entity.0 place }
+    {
+        self.holds_together();
+        for owner in self.order_of(entity) {
+            if !self.redeclares_nothing(*owner) {
+                return true;
+            }
+        }
+        false
+    }
+
+    fn redeclares_nothing(&self, entity: EntityId) -> bool
+        requires { IsEntity self.now entity.0 }
+        ensures { IsTrue result → RedeclaresNothing self.now entity.0 }
+    {
+        let entity = self.entity_at(entity);
+        entity.redeclared.is_empty() && entity.derived.is_empty()
+    }
+
+    /// Whether redeclarations leave a place of the own set open.
+    fn leaves_open(&self, entity: EntityId) -> bool
+        requires { IsEntity self.now entity.0 }
+        ensures { IsTrue result ↔ LeavesOpen self.now entity.0 }
+    {
+        self.holds_together();
+        for owner in self.order_of(entity) {
+            if self.opens_among(entity, &self.entity_at(*owner).redeclared) {
+                return true;
+            }
+        }
+        false
+    }
+
+    /// Whether redeclarations leave one of these places of the own set open.
+    fn opens_among(&self, entity: EntityId, redeclared: &[Redeclared]) -> bool
+        requires entity { IsEntity self.now entity.0 }
+        requires places { (r : MeantRedeclared) → Contains (map redeclared_of redeclared.now) r → IsPlace self.now r.place }
+        ensures { IsTrue result ↔ ((r : MeantRedeclared) × Contains (map redeclared_of redeclared.now) r × IsOpenAt self.now entity.0 r.place) }
+    {
+        for other in redeclared {
+            let other: &Redeclared = other;
+            if self.is_open_at(entity, other.place) {
+                return true;
+            }
+        }
+        false
+    }
+
+    fn is_open_at(&self, entity: EntityId, place: Place) -> bool
+        requires entity { IsEntity self.now entity.0 }
+        requires place { IsPlace self.now (place_of place) }
+        ensures { IsTrue result ↔ IsOpenAt self.now entity.0 (place_of place) }
+    {
+        self.holds_together();
+        if !self.is_a(entity, place.entity) {
+            return false;
+        }
+        match self.type_at(self.order_of(entity), place) {
+            PlaceType::Two => true,
+            _ => false,
+        }
+    }
+}

@@ -1,0 +1,10 @@
+use Rattle.std.proofs.Common.{take}
+use Rattle.std.specs.Vec.Iter.{into_iter_items}
+use Rattle.p21_express_tables.specs.Orders.{numbers}
+use Rattle.p21_mapping.specs.Checked.{needs_view}
+use Rattle.p21_mapping.specs.Rows.{TakesRows, param_views}
+use Rattle.p21_mapping_values.specs.TypedView.{rows_view}
+use Rattle.p21_mapping.proofs.fitted.simple_rows.Given as goal
+
+abbrev pub invariant-loop-owner : goal.invariant-loop-owner
+invariant-loop-owner l = TakesRows l.schema (numbers l.entities) (numbers (take l.owner-index l.listed)) (param_views l.fn.params.items) (param_views (into_iter_items l.left)) (rows_view l.rows.items) (needs_view l.fn.needs.items) (needs_view l.needs.items)

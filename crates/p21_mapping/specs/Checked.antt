@@ -1,0 +1,47 @@
+-- What the check of a record answers.
+use Rattle.std.specs.Prelude.{◌≡◌, ◌≢◌, ◌↔◌, List, map, Result, Ok, Err, Vec}
+use Rattle.std.specs.Global.{Global}
+use Rattle.std.specs.List.{AllByRecursion as Each}
+use Rattle.p21_claim_values.specs.Needs.{MeansWith}
+use Rattle.p21_exchange.specs.Record.{Record}
+use Rattle.p21_files.specs.BrokenRule.{Breaks}
+use Rattle.p21_files.specs.Meaning.{RecordMeans}
+use Rattle.p21_files.specs.Meaning as meaning
+use Rattle.p21_files.specs.Reference.{IsServed, Kinds, record_references}
+use Rattle.p21_files.specs.Reference as reference
+use Rattle.p21_mapping_text.specs.KnownTypes.{HaveKnownTypes}
+use Rattle.p21_mapping_values.specs.declared.fault.CheckFault.{CheckFault}
+use Rattle.p21_mapping_values.specs.declared.fault.CheckFault.TheVariants.{NoMemory}
+use Rattle.p21_mapping_values.specs.declared.need.Need.{Need}
+use Rattle.p21_mapping_values.specs.declared.typed.Typed.{Typed}
+use Rattle.p21_mapping_values.specs.Fault.{fault_number}
+use Rattle.p21_mapping_values.specs.TypedView.{need_view, typed_view}
+use Rattle.p21_schemas.specs.Schema.{Schema}
+
+-- the needs one by one
+abbrev pub needs_view : List Need → List reference.Need
+needs_view needs = map need_view needs
+
+-- the record has no meaning, whatever the sets of the instances
+abbrev pub MeansNothing : Schema → Record → Type 0
+MeansNothing s record_ = (kinds : Kinds) (m : meaning.Typed) → ¬ RecordMeans s kinds record_ m
+
+-- The record means this with these needs: it has a meaning exactly among instances that serve each of them, and that is
+-- this one. Some instances serve them all; they are the names in its parameters, in their order. Each keyword of a value names a type
+pub record IsChecked (s : Schema) (record_ : Record) (m : meaning.Typed) (needs : List reference.Need) : Type 0 where
+  pub means : MeansWith s record_ m needs
+  pub decided : (kinds : Kinds) → RecordMeans s kinds record_ m ↔ Each (IsServed s kinds) needs
+  pub sole : (kinds : Kinds) (other : meaning.Typed) → RecordMeans s kinds record_ other → other ≡ m
+  pub can_be_served : (kinds : Kinds) × Each (IsServed s kinds) needs
+  pub targets_are : map (λ (need : reference.Need). need.target) needs ≡ record_references record_
+  pub known : Each (HaveKnownTypes s) m.values
+
+-- a refused record means nothing, and breaks the rule of the number
+pub record IsRefused (s : Schema) (record_ : Record) (fault : CheckFault) : Type 0 where
+  pub means_nothing : MeansNothing s record_
+  pub breaks : Breaks s record_ (fault_number fault)
+
+-- a record is checked; want of memory says nothing of it
+abbrev pub ChecksRecord : Schema → Record → Result (Typed × Vec Need Global) CheckFault → Type 0
+ChecksRecord s record_ (Ok (typed, needs)) = IsChecked s record_ (typed_view typed) (needs_view needs.items)
+ChecksRecord s record_ (Err fault) = fault ≢ NoMemory → IsRefused s record_ fault

@@ -1,0 +1,92 @@
+ghost use Rattle.std.specs.Prelude.{MatchResult};
+ghost use Rattle.p21_express_tables.specs.Orders.{numbers};
+ghost use Rattle.p21_express_tables.specs.Resolved.{HoldsTogether};
+ghost use Rattle.p21_grammar_tree.specs.View.{record_view};
+ghost use Rattle.p21_mapping.specs.Arranged.{HasRows, RefusesRows};
+ghost use Rattle.p21_mapping.specs.Checked.{ChecksRecord, needs_view};
+ghost use Rattle.p21_mapping_sets.specs.Shape.{HasShape};
+ghost use Rattle.p21_mapping_values.specs.TypedView.{rows_view};
+ghost use Rattle.p21_schemas.specs.WellFormed.{IsWellFormed};
+
+use crate::arranged::arranged;
+use crate::fitted::{complex_rows, simple_rows};
+use p21_express_tables::Schema;
+use p21_express_types::EntityId;
+use p21_grammar_tree::Record;
+use p21_mapping_sets::{Shape, shape_of};
+use p21_mapping_values::{CheckFault, Ids, Need, Rows, Typed, Values};
+use std::alloc::Global;
+
+/// Checks a record against a schema, and moves its texts, numbers and names into the typed record that it means (ISO
+/// 10303-21, Mapping of EXPRESS entity data types: internal mapping, external mapping). It also answers what the record
+/// needs of the instances that it refers to, in the order in which it names them.
+///
+/// # Errors
+///
+/// In this order: `UnknownEntity`, `PartTwice`, `PartMissing`, `Abstract`, `OneOf`, `TwoRedeclarations`, `Count`; then the
+/// fault of the first parameter that doesn't fit its place. `NoMemory`.
+pub fn check_moved(
+    alloc: Global,
+    schema: &Schema,
+    of: Record,
+) -> Result<(Typed, Vec<Need>), CheckFault>
+    ensures { ChecksRecord schema.now (record_view of) result }
+{
+    schema.well_formed();
+    schema.holds_together();
+    match shape_of(alloc, schema, &of) {
+        Ok(shape) => check_shaped(alloc, schema, shape, of),
+        Err(fault) => Err(fault),
+    }
+}
+
+/// Checks a record whose entities are known.
+fn check_shaped(
+    alloc: Global,
+    schema: &Schema,
+    shape: Shape,
+    of: Record,
+) -> Result<(Typed, Vec<Need>), CheckFault>
+    requires formed { IsWellFormed schema.now }
+    requires holds { HoldsTogether schema.now }
+    requires shape { HasShape schema.now (record_view of) (numbers shape.listed.items) (numbers shape.entities.items) }
+    ensures { ChecksRecord schema.now (record_view of) result }
+{
+    let Shape { listed, entities } = shape;
+    let mut needs = Vec::new(alloc);
+    let rows = match rows_of(alloc, schema, &listed, &entities, of, &mut needs) {
+        Ok(rows) => rows,
+        Err(fault) => return Err(fault),
+    };
+    let values = arranged(alloc, &entities, &listed, rows)?;
+    let typed = Typed {
+        parts: Ids::from_vec(entities),
+        values: Rows::from_vec(values),
+    };
+    Ok((typed, needs))
+}
+
+/// The values of the places of each entity, in the order of the record.
+fn rows_of(
+    alloc: Global,
+    schema: &Schema,
+    listed: &[EntityId],
+    entities: &[EntityId],
+    of: Record,
+    needs: &mut Vec<Need>,
+) -> Result<Vec<Values>, CheckFault>
+    requires holds { HoldsTogether schema.now }
+    requires formed { IsWellFormed schema.now }
+    requires shape { HasShape schema.now (record_view of) (numbers listed.now) (numbers entities.now) }
+    ensures { MatchResult result (λ rows. HasRows schema.now (record_view of) (numbers listed.now) (numbers entities.now) (rows_view rows.items) (needs_view needs.old.items) (needs_view needs.new.items)) (RefusesRows schema.now (record_view of)) }
+{
+    match of {
+        Record::Simple(part) => {
+            let params = part.params.into_items();
+            simple_rows(alloc, schema, entities, listed, params, needs)
+        }
+        Record::Complex(parts) => {
+            complex_rows(alloc, schema, entities, listed, parts.into_items(), needs)
+        }
+    }
+}

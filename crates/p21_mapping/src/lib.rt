@@ -1,0 +1,11 @@
+//! Records checked against a schema (ISO 10303-21, Mapping of EXPRESS entity data types: internal mapping, external
+//! mapping): the typed record that each means, and what it needs of the instances that it refers to.
+#![tactic(auto)]
+
+mod arranged;
+mod check;
+mod fitted;
+
+pub use check::check_moved;
+pub use p21_mapping_sets::serves;
+pub use p21_mapping_values::{CheckFault, Ids, Need, Rows, Typed, Value, Values};

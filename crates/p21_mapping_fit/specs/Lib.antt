@@ -1,0 +1,4 @@
+pub mod Aggregate
+pub mod Outcome
+pub mod Choosing
+pub mod Present

@@ -1,0 +1,22 @@
+-- The texts of the values in a row, those that are missing apart.
+use Rattle.std.specs.Prelude.{ℕ, List, [], ◌∷◌, ◌++◌, map, length}
+use Rattle.p21_schemas.specs.Schema.{Schema}
+use Rattle.p21_files.specs.Value.{Value, Values, missing, no_values, value}
+use Rattle.p21_files.specs.ValueText.{value_text}
+
+-- one value in a row
+abbrev pub one : Value → Values
+one v = value v no_values
+
+abbrev pub present_texts : Schema → Values → List (List ℕ)
+present_texts s no_values = []
+present_texts s (value missing vs) = present_texts s vs
+present_texts s (value v vs) = value_text s v ∷ present_texts s vs
+
+-- texts one behind the other, and how long each is
+abbrev pub joined : List (List ℕ) → List ℕ
+joined [] = []
+joined (text ∷ texts) = text ++ joined texts
+
+abbrev pub lengths_of : List (List ℕ) → List ℕ
+lengths_of texts = map (λ (text : List ℕ). length text) texts

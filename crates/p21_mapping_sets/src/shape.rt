@@ -1,0 +1,127 @@
+ghost use Rattle.std.specs.Prelude.{ℕ, Contains, MatchBool, MatchResult, IfOk};
+ghost use Rattle.p21_exchange.specs.Record.{simple, complex};
+ghost use Rattle.p21_express_tables.specs.Lookups.{AreEntities};
+ghost use Rattle.p21_express_tables.specs.Orders.{numbers};
+ghost use Rattle.p21_grammar_tree.specs.View.{part_view, part_views, record_view};
+ghost use Rattle.p21_schemas.specs.Schema.{IsAbstract};
+ghost use Rattle.p21_schemas.specs.WellFormed.{IsWellFormed};
+ghost use Rattle.p21_mapping_sets.specs.Shape.{HasLeaf, HasNoLeaf, HasShape, PassesSet, Refuses, RefusesSet};
+
+use crate::key::{named, named_entities};
+use crate::members::{has_twice, is_closed};
+use crate::places::{has_count, has_open_place, have_counts};
+use crate::rising::rising;
+use p21_express_tables::Schema;
+use p21_express_types::EntityId;
+use p21_grammar_tree::{Part, Record};
+use p21_mapping_values::CheckFault;
+use p21_values::NoMemory;
+use std::alloc::Global;
+
+/// The entities of a record: those whose places its parameters stand at, in their order, and its set, rising by keyword.
+#[derive(Debug, Drop)]
+pub struct Shape {
+    pub listed: Vec<EntityId>,
+    pub entities: Vec<EntityId>,
+}
+
+/// The entities of a record, where nothing is wrong with them, nor with the numbers of its parameters.
+///
+/// # Errors
+///
+/// In this order: `UnknownEntity`, `PartTwice`, `PartMissing`, `Abstract`, `OneOf`, `TwoRedeclarations`, `Count`.
+/// `NoMemory`.
+pub fn shape_of(alloc: Global, schema: &Schema, of: &Record) -> Result<Shape, CheckFault>
+    requires { IsWellFormed schema.now }
+    ensures { MatchResult result (λ shape. HasShape schema.now (record_view of.now) (numbers shape.listed.items) (numbers shape.entities.items)) (Refuses schema.now (record_view of.now)) }
+{
+    match of {
+        Record::Simple(part) => simple_shape(alloc, schema, part),
+        Record::Complex(parts) => complex_shape(alloc, schema, parts.items()),
+    }
+}
+
+fn simple_shape(alloc: Global, schema: &Schema, part: &Part) -> Result<Shape, CheckFault>
+    requires { IsWellFormed schema.now }
+    ensures { MatchResult result (λ shape. HasShape schema.now (simple (part_view part.now)) (numbers shape.listed.items) (numbers shape.entities.items)) (Refuses schema.now (simple (part_view part.now))) }
+{
+    let Some(entity) = named(schema, &part.key) else {
+        return Err(CheckFault::UnknownEntity);
+    };
+    schema.holds_together();
+    let listed = schema.order(entity)?;
+    let entities = rising(alloc, schema, &listed)?;
+    if schema.is_abstract(entity) {
+        return Err(CheckFault::Abstract);
+    }
+    match check_set(schema, &entities) {
+        Ok(()) => {}
+        Err(fault) => return Err(fault),
+    }
+    if !has_count(schema, &listed, part.params.items().len()) {
+        return Err(CheckFault::Count);
+    }
+    Ok(Shape { listed, entities })
+}
+
+fn complex_shape(alloc: Global, schema: &Schema, parts: &[Part]) -> Result<Shape, CheckFault>
+    requires { IsWellFormed schema.now }
+    ensures { MatchResult result (λ shape. HasShape schema.now (complex (part_views parts.now)) (numbers shape.listed.items) (numbers shape.entities.items)) (Refuses schema.now (complex (part_views parts.now))) }
+{
+    let listed = named_entities(alloc, schema, parts)?;
+    if has_twice(&listed) {
+        return Err(CheckFault::PartTwice);
+    }
+    if !is_closed(schema, &listed) {
+        return Err(CheckFault::PartMissing);
+    }
+    let entities = rising(alloc, schema, &listed)?;
+    let found = has_abstract_leaf(schema, &entities)?;
+    if found {
+        return Err(CheckFault::Abstract);
+    }
+    match check_set(schema, &entities) {
+        Ok(()) => {}
+        Err(fault) => return Err(fault),
+    }
+    if !have_counts(schema, &listed, parts) {
+        return Err(CheckFault::Count);
+    }
+    Ok(Shape { listed, entities })
+}
+
+/// No two entities of the set are of one ONEOF list, and no place of it is open.
+fn check_set(schema: &Schema, entities: &[EntityId]) -> Result<(), CheckFault>
+    requires { AreEntities schema.now (numbers entities.now) }
+    ensures { MatchResult result (λ _. PassesSet schema.now (numbers entities.now)) (RefusesSet schema.now (numbers entities.now)) }
+{
+    if schema.clashes(entities) {
+        return Err(CheckFault::OneOf);
+    }
+    if has_open_place(schema, entities) {
+        return Err(CheckFault::TwoRedeclarations);
+    }
+    Ok(())
+}
+
+/// Whether a leaf of the set is abstract.
+fn has_abstract_leaf(schema: &Schema, entities: &[EntityId]) -> Result<bool, NoMemory>
+    requires { AreEntities schema.now (numbers entities.now) }
+    ensures { IfOk result (λ found. MatchBool found (HasLeaf schema.now (numbers entities.now)) (HasNoLeaf schema.now (numbers entities.now))) }
+{
+    let leaves = schema.leaves(entities)?;
+    Ok(has_abstract(schema, &leaves))
+}
+
+/// Whether one of the entities is abstract.
+fn has_abstract(schema: &Schema, entities: &[EntityId]) -> bool
+    requires { AreEntities schema.now (numbers entities.now) }
+    ensures { MatchBool result ((e : ℕ) × Contains (numbers entities.now) e × IsAbstract schema.now e) ((e : ℕ) → Contains (numbers entities.now) e → IsAbstract schema.now e → ⊥) }
+{
+    for entity in entities {
+        if schema.is_abstract(*entity) {
+            return true;
+        }
+    }
+    false
+}

@@ -1,0 +1,3 @@
+-- The canonical file as it is written.
+pub mod Output
+pub mod Stored

@@ -1,0 +1,37 @@
+-- The bytes of a canonical file from its lines.
+use Rattle.std.specs.Prelude.{ℕ, List, [], ◌∷◌, ◌++◌, codes}
+use Rattle.std.specs.List.{flat_map}
+use Rattle.p21_stream_store.specs.Kept.{Kept}
+
+-- a data section: its DATA with its `;`, and the statements of its instances
+pub record Written : Type 0 where
+  pub line : List ℕ
+  pub texts : List (List ℕ)
+
+-- the lines of the header records, each with its LF; the data sections; and the instances, in whatever order
+pub record Output : Type 0 where
+  pub header : List ℕ
+  pub sections : List Written
+  pub kept : List Kept
+
+-- a text and an LF
+abbrev pub line_of : List ℕ → List ℕ
+line_of text = text ++ (10 ∷ [])
+
+abbrev pub lines_of : List (List ℕ) → List ℕ
+lines_of texts = flat_map line_of texts
+
+-- a section from its DATA to its ENDSEC
+abbrev pub section_text : Written → List ℕ
+section_text written = line_of written.line ++ (lines_of written.texts ++ line_of (codes "ENDSEC;"))
+
+abbrev pub sections_text : List Written → List ℕ
+sections_text sections = flat_map section_text sections
+
+-- what stands before the data sections
+abbrev pub header_text : List ℕ → List ℕ
+header_text header = (line_of (codes "ISO-10303-21;") ++ line_of (codes "HEADER;")) ++ (header ++ line_of (codes "ENDSEC;"))
+
+-- the whole file
+abbrev pub output_text : Output → List ℕ
+output_text o = header_text o.header ++ (sections_text o.sections ++ line_of (codes "END-ISO-10303-21;"))

@@ -1,0 +1,4 @@
+pub mod Seen
+pub mod Stepping
+pub mod Finishing
+pub mod Opening

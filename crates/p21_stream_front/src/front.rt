@@ -1,0 +1,130 @@
+ghost use Rattle.std.specs.Prelude.{◌≡◌, ◌≤◌, ◌+◌, [], length, None};
+ghost use Rattle.p21_exchange.specs.OpenNesting.{IsDepth};
+ghost use Rattle.p21_stream_front.specs.Front.{FinishGives, HasOpen, IsLive, Reading, StepGives, TakesOf, limits_of, new_reading};
+
+use p21_grammar::{Event, GrammarFault, Line, Parser};
+use p21_stream_fault::Fault;
+use p21_tokens::{Lexer, Token};
+use p21_values::Limits;
+use std::alloc::Global;
+use std::marker::Model;
+
+/// A lexer, and a parser that takes its tokens.
+#[derive(Drop)]
+pub struct Front {
+    lexer: Lexer,
+    parser: Parser,
+    // Whether the last statement ended the file.
+    ended: bool,
+}
+
+impl Model for Front {
+    ghost use Rattle.p21_stream_front.specs.Front.{Held};
+
+    ghost Value = { Held };
+
+    ghost view = { λ front. record { lexer = front.lexer; parser = front.parser } };
+}
+
+impl Front {
+    /// No bytes taken. It takes no memory.
+    pub fn new(alloc: Global, limits: Limits) -> Front
+        ensures live { IsLive result new_reading }
+        ensures limits { limits_of result ≡ (limits.record_source, limits.file_source) }
+    {
+        Front {
+            lexer: Lexer::new(alloc, limits),
+            parser: Parser::new(alloc),
+            ended: false,
+        }
+    }
+
+    /// Takes the bytes of one token, or of the rest of a piece in which none is whole, and says how many; with the `;` of
+    /// a statement, the statement. The byte behind a token may have been looked at: it has to be offered next.
+    ///
+    /// # Errors
+    ///
+    /// The lexer's, or the parser's at the token.
+    pub fn step(&mut self, piece: &[u8]) -> Result<Option<(usize, Option<Event>)>, Fault>
+        ensures takes { TakesOf piece.now result }
+        ensures gives { StepGives self.old piece.now result self.new }
+        ensures limits { limits_of self.new ≡ limits_of self.old }
+    {
+        let (count, token) = match self.lexer.next(piece) {
+            Ok(answer) => answer,
+            Err(fault) => return Err(Fault::from(fault)),
+        };
+        let Some(token) = token else {
+            return Ok(None);
+        };
+        match self.parser.take(token) {
+            Ok(event) => {
+                self.ended = has_ended(&event, self.ended);
+                Ok(Some((count, event)))
+            }
+            Err(fault) => Err(Fault::from(fault)),
+        }
+    }
+
+    /// The end of the bytes. A last whole token is looked at only where the file has ended before it.
+    ///
+    /// # Errors
+    ///
+    /// The lexer's, `EndsEarly`, or the parser's at a last token.
+    pub fn finish(self) -> Result<(), Fault>
+        ensures gives { FinishGives self result }
+    {
+        let Front {
+            lexer,
+            parser,
+            ended,
+        } = self;
+        let last = match lexer.finish() {
+            Ok(last) => last,
+            Err(fault) => return Err(Fault::from(fault)),
+        };
+        let Some(token) = last else {
+            return match parser.finish() {
+                Ok(()) => Ok(()),
+                Err(fault) => Err(Fault::from(fault)),
+            };
+        };
+        Err(last_fault(parser, token, ended))
+    }
+
+    /// The token bytes of the open statement. It takes no memory.
+    pub fn pending(&self) -> u64
+        ensures within { result ≤ (limits_of self.now).0 }
+        ensures pending { (reading : Reading) → IsLive self.now reading → HasOpen reading result self.now.parser.depth }
+    {
+        self.lexer.pending()
+    }
+
+    /// The lists and typed parameters that are open, at most 64. It takes no memory.
+    pub fn depth(&self) -> u64
+        ensures within { result ≤ 64 }
+        ensures depth { result ≡ self.now.parser.depth }
+    {
+        self.parser.depth() as u64
+    }
+}
+
+/// The fault of a last token, behind which no `;` stands.
+fn last_fault(mut parser: Parser, token: Token, ended: bool) -> Fault {
+    if !ended {
+        return Fault::Grammar(GrammarFault::EndsEarly);
+    }
+    match parser.take(token) {
+        Ok(_) => Fault::Grammar(GrammarFault::EndsEarly),
+        Err(fault) => Fault::from(fault),
+    }
+}
+
+/// Whether the last statement behind this call is the last line of a file.
+fn has_ended(event: &Option<Event>, before: bool) -> bool {
+    match event {
+        Some(Event::Section(Line::Finish)) => true,
+        Some(_) => false,
+        None => before,
+    }
+}

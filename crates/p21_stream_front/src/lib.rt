@@ -1,0 +1,8 @@
+//! From the bytes of a file, which come in pieces, to its statements.
+#![tactic(auto)]
+
+mod front;
+#[cfg(test)]
+mod tests;
+
+pub use front::Front;

@@ -1,0 +1,63 @@
+-- An instance more, by what is kept.
+use Rattle.std.proofs.Common.{◌≡◌, ◌+◌, ◌⊎◌, ◌∙◌, ℕ, suc, List, [], ◌∷◌, ◌++◌, length, map, Option, Some, None, Ok, Err, refl, sym, ap, subst}
+use Rattle.std.specs.List.{AllByRecursion as Each}
+use Rattle.std.specs.List.Sorted.{IsPermutation}
+use Rattle.std.specs.Prelude.{Contains}
+use Rattle.p21_basics.specs.Limits.{Limits}
+use Rattle.p21_claim.specs.Ended.{Entry}
+use Rattle.p21_claim.specs.Taken.{names_among}
+use Rattle.p21_claim_steps.proofs.Keeps.{keeps-by_instance, keeps-names}
+use Rattle.p21_claim_steps.specs.Grown.{IsFound}
+use Rattle.p21_claim_steps.specs.Keeping.{IsServedBy, Keeps, Kept, keep_instance}
+use Rattle.p21_claim_steps.specs.Offending.{broken, name_again}
+use Rattle.p21_claim_steps.specs.Stored as claim
+use Rattle.p21_claim_steps.specs.Stored.{Stored}
+use Rattle.p21_exchange.specs.Record.{Record}
+use Rattle.p21_exchange.specs.Statement.{instance}
+use Rattle.p21_files.specs.BrokenRule.{Breaks}
+use Rattle.p21_files.specs.Kept.{IsInstanceText}
+use Rattle.p21_files.specs.Reference.{Need}
+use Rattle.p21_mapping_values.specs.Fault as check
+use Rattle.p21_mapping_values.specs.declared.fault.CheckFault.{CheckFault}
+use Rattle.p21_schemas.specs.Schema.{Schema}
+use Rattle.p21_stream_fault.specs.declared.fault.Fault.TheVariants.{CanonicalTooLong, Check, DuplicateName}
+use Rattle.p21_stream_kept.proofs.Stepping.{long}
+use Rattle.p21_stream_kept.specs.Inside.{stored_of, stored_with}
+use Rattle.p21_stream_kept.specs.Steps.{HasRoom, StepGives}
+use Rattle.p21_stream_kinds.specs.Kinds.{Kind}
+use Rattle.p21_stream_store.specs.Kept as store
+use Rattle.p21_stream_store.specs.Kept.{kept_names}
+
+-- ---- names
+
+with-name : (kind : Option Kind) (x : store.Kept) → (stored_with kind x).name ≡ x.name
+with-name (Some kind) x = refl
+with-name None x = refl
+
+-- the names that are stored, whatever their kinds
+pub stored-names : (kinds : List Kind) (instances : List store.Kept) → map (λ (x : Stored). x.name) (stored_of kinds instances) ≡ kept_names instances
+stored-names kinds [] = refl
+stored-names kinds (x ∷ xs) =
+    ap (λ (n : ℕ). n ∷ map (λ (y : Stored). y.name) (stored_of kinds xs)) (with-name _ x) ∙ ap (λ (ns : List ℕ). x.name ∷ ns) (stored-names kinds xs)
+
+-- ---- steps
+
+pub took-instance : (s : Schema) (limits : Limits) (old new : Kept) (entry : Entry) → IsFound s limits entry → (Contains (map (λ (x : Stored). x.name) old.stored) entry.name → ⊥)
+    → (added : List Need) → Each (Contains entry.needs) added → Each (λ (need : Need). Contains added need ⊎ IsServedBy s old.stored need) entry.needs
+    → (number : ℕ) → suc number ≡ length old.headings → (stored : List Stored) → IsPermutation (claim.stored_of (number, entry) ∷ old.stored) stored
+    → HasRoom limits (old.bytes + old.framing) (length entry.text) → new ≡ keep_instance old entry added stored → StepGives s limits old (instance entry.name entry.record_) (Ok tt) new
+took-instance s limits old new entry found none added are_needs waits number last stored permuted room is given keeps =
+    subst (λ (k : Kept). Keeps s limits (given ++ instance entry.name entry.record_ ∷ []) k) (sym is)
+    (keeps-by_instance s limits given old keeps entry found none added are_needs waits number last stored permuted room.1)
+
+-- the instance of the name that is stored was given
+pub instance-again : (s : Schema) (limits : Limits) (old new : Kept) (n : ℕ) (record_ : Record) (x : Stored) → Contains old.stored x → x.name ≡ n → StepGives s limits old (instance n record_) (Err DuplicateName) new
+instance-again s limits old new n record_ x among is other given keeps =
+    name_again n record_ (subst (λ (m : ℕ). Contains (names_among given) m) is (keeps-names s limits given old keeps x among))
+
+pub instance-broken : (s : Schema) (limits : Limits) (old new : Kept) (n : ℕ) (record_ : Record) (fault : CheckFault) → Breaks s record_ (check.fault_number fault) → StepGives s limits old (instance n record_) (Err (Check fault)) new
+instance-broken s limits old new n record_ fault breaks other given keeps = broken n record_ (check.fault_number fault) breaks
+
+pub refused-instance : (s : Schema) (limits : Limits) (old new : Kept) (n : ℕ) (record_ : Record) (text : List ℕ) → IsInstanceText s n record_ text → (HasRoom limits (old.bytes + old.framing) (length text) → ⊥)
+    → StepGives s limits old (instance n record_) (Err CanonicalTooLong) new
+refused-instance s limits old new n record_ text is none other given keeps = long s limits given (old.bytes + old.framing) (instance n record_) text is none

@@ -1,0 +1,4 @@
+pub mod Stepping
+pub mod SectionNames
+pub mod Instances
+pub mod ByKind

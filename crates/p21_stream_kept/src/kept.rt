@@ -1,0 +1,258 @@
+ghost use Rattle.std.specs.Prelude.{◌≡◌, ◌≤◌, OnErr, OnOk};
+ghost use Rattle.p21_claim_steps.specs.Keeping.{nothing_kept};
+ghost use Rattle.p21_exchange.specs.Statement.{data_start, header, section};
+ghost use Rattle.p21_grammar_machine.specs.Shape.{heading_of};
+ghost use Rattle.p21_grammar_machine.specs.Statements.{line_of};
+ghost use Rattle.p21_grammar_tree.specs.View.{items_of, part_view, views};
+ghost use Rattle.p21_stream_kept.specs.Steps.{StepGives, StepKeepsBound, TakesLine};
+
+use crate::room::has_room;
+use p21_canon_header::write_header;
+use p21_express_tables::Schema;
+use p21_grammar_machine::Line;
+use p21_grammar_tree::Part;
+use p21_mapping_values::Need;
+use p21_stream_fault::Fault;
+use p21_stream_header::{heading, line_size, names_schema, schema_text};
+use p21_stream_kinds::Kinds;
+use p21_stream_store::Instances;
+use p21_values::{Canonical, Limits, Name, NoMemory, Text};
+use std::alloc::Global;
+use std::marker::Model;
+
+/// The canonical lines of header records and instances, the data sections, and the references that wait for the end of
+/// the file.
+#[derive(Drop)]
+pub struct Kept {
+    alloc: Global,
+    // The canonical lines of the header records, each with its line feed.
+    header: Vec<u8>,
+    sections: Vec<Section>,
+    kinds: Kinds,
+    instances: Instances,
+    waiting: Vec<Reference>,
+    // All references, those that don't wait among them.
+    references: u64,
+    // The bytes of the canonical lines of header records and instances, without line feeds.
+    bytes: u64,
+    // Those of section lines, and the line feeds of the others.
+    framing: u64,
+}
+
+/// A reference to an instance that has not come, or that doesn't serve.
+#[derive(Clone, Copy)]
+pub struct Reference {
+    pub holder: Name,
+    pub need: Need,
+}
+
+/// A data section: the record that begins it, where it has a name, and its canonical line.
+#[derive(Drop)]
+struct Section {
+    part: Option<Part>,
+    line: Vec<u8>,
+}
+
+impl Model for Kept {
+    ghost use Rattle.p21_claim_steps.specs.Keeping.{Kept as Meant};
+    ghost use Rattle.p21_stream_kept.specs.Inside.{kept_of};
+
+    ghost Value = { Meant };
+
+    ghost view = { kept_of };
+}
+
+impl Kept {
+    /// Nothing taken. It takes no memory.
+    pub fn new(alloc: Global) -> Kept
+        ensures { result ≡ nothing_kept }
+    {
+        Kept {
+            alloc,
+            header: Vec::new(alloc),
+            sections: Vec::new(alloc),
+            kinds: Kinds::new(alloc),
+            instances: Instances::new(alloc),
+            waiting: Vec::new(alloc),
+            references: 0,
+            bytes: 0,
+            framing: 0,
+        }
+    }
+
+    /// Takes a section line without a name.
+    ///
+    /// # Errors
+    ///
+    /// `CanonicalTooLong`, `NoMemory`.
+    pub fn take_line(&mut self, limits: Limits, line: Line) -> Result<(), Fault>
+        ensures gives { TakesLine limits self.old (line_of line) result self.new }
+        ensures bound { StepKeepsBound limits self.old self.new }
+    {
+        let size = line_size(line);
+        if !has_room(limits, self.bytes, self.framing, size) {
+            return Err(Fault::CanonicalTooLong);
+        }
+        let Ok(()) = begin_section(self.alloc, &mut self.sections, line) else {
+            return Err(Fault::NoMemory);
+        };
+        self.framing += size + 1;
+        Ok(())
+    }
+
+    /// Takes the line that begins a data section, by its record.
+    ///
+    /// # Errors
+    ///
+    /// `SchemaName` where its text doesn't name the schema, `SectionTwice` where a section before it has its name,
+    /// `CanonicalTooLong`, `NoMemory`.
+    pub fn take_heading(&mut self, schema: &Schema, limits: Limits, part: Part) -> Result<(), Fault>
+        ensures gives { StepGives schema.now limits self.old (section (data_start (heading_of (views (items_of part.params))))) result self.new }
+        ensures bound { StepKeepsBound limits self.old self.new }
+    {
+        let Some((name, text)) = heading(&part) else {
+            return self.take_line(limits, Line::DataStart);
+        };
+        if !names_schema(text.chars(), schema.name()) {
+            return Err(Fault::SchemaName);
+        }
+        if has_section(&self.sections, name) {
+            return Err(Fault::SectionTwice);
+        }
+        let Ok(line) = heading_line(self.alloc, name, text) else {
+            return Err(Fault::NoMemory);
+        };
+        let bytes = line.len() as u64;
+        if !has_room(limits, self.bytes, self.framing, bytes) {
+            return Err(Fault::CanonicalTooLong);
+        }
+        let section = Section {
+            part: Some(part),
+            line,
+        };
+        let Ok(()) = add_section(&mut self.sections, section) else {
+            return Err(Fault::NoMemory);
+        };
+        self.framing += bytes + 1;
+        Ok(())
+    }
+
+    /// Takes a record of the header section.
+    ///
+    /// # Errors
+    ///
+    /// `SchemaName` where it is a `FILE_SCHEMA` whose text doesn't name the schema, `CanonicalTooLong`, `NoMemory`.
+    pub fn take_header(&mut self, schema: &Schema, limits: Limits, part: &Part) -> Result<(), Fault>
+        ensures gives { StepGives schema.now limits self.old (header (part_view part.now)) result self.new }
+        ensures bound { StepKeepsBound limits self.old self.new }
+    {
+        if !has_schema_name(part, schema.name()) {
+            return Err(Fault::SchemaName);
+        }
+        let Ok(size) = append_record(part, &mut self.header) else {
+            return Err(Fault::NoMemory);
+        };
+        if !has_room(limits, self.bytes, self.framing, size) {
+            return Err(Fault::CanonicalTooLong);
+        }
+        self.bytes += size;
+        self.framing += 1;
+        Ok(())
+    }
+}
+
+ghost use Rattle.std.specs.Prelude.{◌++◌, ℕ, List, IfOk, IsTrue, false, length};
+ghost use Rattle.p21_exchange.specs.CanonicalText.{line, statement_text};
+ghost use Rattle.p21_exchange.specs.Header.{IsFileSchema};
+ghost use Rattle.p21_schemas.specs.SchemaName.{NamesSchema};
+
+/// Whether the text of a `FILE_SCHEMA` names the schema; any other record is as good.
+fn has_schema_name(part: &Part, name: &[u8]) -> bool
+    ensures yes { IsTrue result → (chars : List ℕ) → IsFileSchema (part_view part.now) chars → NamesSchema chars name.now }
+    ensures no { result ≡ false → (chars : List ℕ) × IsFileSchema (part_view part.now) chars × ¬ NamesSchema chars name.now }
+{
+    match schema_text(part) {
+        Some(text) => names_schema(text.chars(), name),
+        None => true,
+    }
+}
+
+/// Appends the canonical line of a header record, and says how many bytes it has, its line feed apart.
+fn append_record(part: &Part, out: &mut Vec<u8>) -> Result<u64, NoMemory>
+    ensures size { IfOk result (λ size. size ≡ length (statement_text (header (part_view part.now)))) }
+    ensures line { OnOk result (out.new.items ≡ out.old.items ++ line (header (part_view part.now))) }
+{
+    let before = out.len();
+    write_header(part, out)?;
+    let size = (out.len() - before) as u64;
+    out.push(b'\n')?;
+    Ok(size)
+}
+
+ghost use Rattle.p21_claim_steps.specs.Keeping.{headings_behind};
+ghost use Rattle.p21_stream_kept.specs.Inside.{headings_of};
+
+/// Adds a data section where the line begins one.
+fn begin_section(alloc: Global, sections: &mut Vec<Section>, line: Line) -> Result<(), NoMemory>
+    ensures ok { OnOk result (headings_of sections.new.items ≡ headings_behind (headings_of sections.old.items) (line_of line)) }
+{
+    match line {
+        Line::DataStart => {
+            let line = Vec::from_slice(alloc, b"DATA;")?;
+            sections.push(Section { part: None, line })?;
+            Ok(())
+        }
+        _ => Ok(()),
+    }
+}
+
+ghost use Rattle.std.specs.Prelude.{◌↔◌, [], ◌∷◌, Contains};
+ghost use Rattle.p21_exchange.specs.DataSection.{heading_names, named, section_names};
+ghost use Rattle.p21_stream_kept.specs.Inside.{heading_in};
+
+/// Whether a section has this name.
+fn has_section(sections: &[Section], name: &Text) -> bool
+    ensures { IsTrue result ↔ Contains (section_names (headings_of sections.now)) name.now }
+{
+    let mut rest = sections;
+    while let Some((first, more)) = rest.split_first() {
+        if has_name(first, name) {
+            return true;
+        }
+        rest = more;
+    }
+    false
+}
+
+/// Whether this is the name of the section.
+fn has_name(section: &Section, name: &Text) -> bool
+    ensures { IsTrue result ↔ Contains (heading_names (heading_in section.now.part)) name.now }
+{
+    let Some(part) = &section.part else {
+        return false;
+    };
+    match heading(part) {
+        Some((other, _)) => other == name,
+        None => false,
+    }
+}
+
+/// The canonical line that begins a data section with a name, its line feed apart.
+fn heading_line(alloc: Global, name: &Text, text: &Text) -> Result<Vec<u8>, NoMemory>
+    ensures { IfOk result (λ line. line.items ≡ statement_text (section (data_start (named name.now text.now)))) }
+{
+    let mut line = Vec::from_slice(alloc, b"DATA(")?;
+    name.write_canonical(&mut line)?;
+    line.extend_from_slice(b",(")?;
+    text.write_canonical(&mut line)?;
+    line.extend_from_slice(b"));")?;
+    Ok(line)
+}
+
+/// Adds a data section behind the others. An `Err` changes nothing.
+fn add_section(sections: &mut Vec<Section>, section: Section) -> Result<(), NoMemory>
+    ensures ok { OnOk result (headings_of sections.new.items ≡ headings_of sections.old.items ++ heading_in section.part ∷ []) }
+{
+    sections.push(section)?;
+    Ok(())
+}

@@ -1,0 +1,7 @@
+//! What a session keeps of the statements of a file that it has taken.
+#![tactic(auto)]
+
+mod kept;
+mod room;
+
+pub use kept::{Kept, Reference};

@@ -1,0 +1,8 @@
+//! The kinds of instances that a session has taken: the data section that an instance stands in, and its set of entities.
+#![tactic(auto)]
+
+mod kinds;
+#[cfg(test)]
+mod tests;
+
+pub use kinds::Kinds;
