@@ -18,7 +18,11 @@ pub fn proper_supertype(schema: &Schema, entity: EntityId, name: &[u8]) -> Optio
             if sup.0 == entity.0 {
                 return None;
             }
-            if schema.is_a(entity, sup) { Some(sup) } else { None }
+            if schema.is_a(entity, sup) {
+                Some(sup)
+            } else {
+                None
+            }
         }
         None => None,
     }
