@@ -2,3 +2,4 @@ pub mod Stepping
 pub mod SectionNames
 pub mod Instances
 pub mod ByKind
+pub mod Ended

@@ -24,19 +24,19 @@ use std::marker::Model;
 /// the file.
 #[derive(Drop)]
 pub struct Kept {
-    alloc: Global,
+    pub(crate) alloc: Global,
     // The canonical lines of the header records, each with its line feed.
-    header: Vec<u8>,
-    sections: Vec<Section>,
-    kinds: Kinds,
-    instances: Instances,
-    waiting: Vec<Reference>,
+    pub(crate) header: Vec<u8>,
+    pub(crate) sections: Vec<Section>,
+    pub(crate) kinds: Kinds,
+    pub(crate) instances: Instances,
+    pub(crate) waiting: Vec<Reference>,
     // All references, those that don't wait among them.
-    references: u64,
+    pub(crate) references: u64,
     // The bytes of the canonical lines of header records and instances, without line feeds.
-    bytes: u64,
+    pub(crate) bytes: u64,
     // Those of section lines, and the line feeds of the others.
-    framing: u64,
+    pub(crate) framing: u64,
 }
 
 /// A reference to an instance that has not come, or that doesn't serve.
@@ -48,18 +48,20 @@ pub struct Reference {
 
 /// A data section: the record that begins it, where it has a name, and its canonical line.
 #[derive(Drop)]
-struct Section {
-    part: Option<Part>,
-    line: Vec<u8>,
+pub(crate) struct Section {
+    pub(crate) part: Option<Part>,
+    pub(crate) line: Vec<u8>,
 }
 
 impl Model for Kept {
     ghost use Rattle.p21_claim_steps.specs.Keeping.{Kept as Meant};
-    ghost use Rattle.p21_stream_kept.specs.Inside.{kept_of};
+    ghost use Rattle.p21_stream_kept.specs.Inside.{HasKinds, kept_of};
 
     ghost Value = { Meant };
 
     ghost view = { kept_of };
+
+    ghost invariant = { HasKinds };
 }
 
 impl Kept {
@@ -238,7 +240,7 @@ fn has_name(section: &Section, name: &Text) -> bool
 }
 
 /// The canonical line that begins a data section with a name, its line feed apart.
-fn heading_line(alloc: Global, name: &Text, text: &Text) -> Result<Vec<u8>, NoMemory>
+pub(crate) fn heading_line(alloc: Global, name: &Text, text: &Text) -> Result<Vec<u8>, NoMemory>
     ensures { IfOk result (λ line. line.items ≡ statement_text (section (data_start (named name.now text.now)))) }
 {
     let mut line = Vec::from_slice(alloc, b"DATA(")?;
