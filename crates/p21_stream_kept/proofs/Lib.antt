@@ -3,3 +3,5 @@ pub mod SectionNames
 pub mod Instances
 pub mod ByKind
 pub mod Ended
+pub mod Unserved
+pub mod Finding

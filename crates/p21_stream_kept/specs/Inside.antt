@@ -24,12 +24,15 @@ headings_of sections = map (λ (x : Section). heading_in x.part) sections
 abbrev pub reference_of : Reference → waiting.Reference
 reference_of r = (r.holder, need_view r.need)
 
+abbrev pub references_of : List Reference → List waiting.Reference
+references_of all = map reference_of all
+
 abbrev pub kept_of : Inside → Kept
 kept_of a = record {
   header = a.header.items;
   headings = headings_of a.sections.items;
   stored = stored_of a.kinds a.instances;
-  waiting = map reference_of a.waiting.items;
+  waiting = references_of a.waiting.items;
   references = a.references;
   bytes = a.bytes;
   framing = a.framing;

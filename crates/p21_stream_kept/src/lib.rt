@@ -2,7 +2,10 @@
 #![tactic(auto)]
 
 mod end;
+mod found;
 mod kept;
 mod room;
+mod served;
+mod stored;
 
 pub use kept::{Kept, Reference};
