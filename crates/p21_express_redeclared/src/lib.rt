@@ -3,4 +3,4 @@
 
 mod lookups;
 
-pub use lookups::{own_place, proper_supertype};
+pub use lookups::{Sought, own_place, proper_supertype, redeclared_place};
