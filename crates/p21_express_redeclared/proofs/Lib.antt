@@ -1,1 +1,2 @@
+pub mod Deriving
 pub mod Places

@@ -1,6 +1,8 @@
 //! The places that redeclarations stand for (ISO 10303-11, Attribute redeclaration).
 #![tactic(auto)]
 
+mod derived;
 mod lookups;
 
-pub use lookups::{own_place, proper_supertype};
+pub use derived::derived_of;
+pub use lookups::{Sought, own_place, proper_supertype, redeclared_place};
