@@ -1,1 +1,3 @@
+pub mod Explicit
+pub mod Keys
 pub mod Places

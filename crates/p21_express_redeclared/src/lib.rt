@@ -1,6 +1,8 @@
 //! The places that redeclarations stand for (ISO 10303-11, Attribute redeclaration).
 #![tactic(auto)]
 
+mod distinct;
 mod lookups;
+mod redeclared;
 
 pub use lookups::{Sought, own_place, proper_supertype, redeclared_place};
