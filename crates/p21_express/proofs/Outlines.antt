@@ -198,4 +198,3 @@ few-entities text d parts found = let few = outline-few found.tree (schema_of pa
 
 pub few-types : (text : List ℕ) (d : Declarations) (parts : Parts) → Found text d parts → length parts.types.items ≤ most_declarations
 few-types text d parts found = let few = outline-few found.tree (schema_of parts) text found.text_is found.outline in omega (arith, few, length-map parts.types.items defined)
-

@@ -1,8 +1,10 @@
 //! The places that redeclarations stand for (ISO 10303-11, Attribute redeclaration).
 #![tactic(auto)]
 
+mod derived;
 mod distinct;
 mod lookups;
 mod redeclared;
 
+pub use derived::derived_of;
 pub use lookups::{Sought, own_place, proper_supertype, redeclared_place};
