@@ -1,2 +1,4 @@
 pub mod Deriving
+pub mod Explicit
+pub mod Keys
 pub mod Places

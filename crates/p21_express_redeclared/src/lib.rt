@@ -2,7 +2,9 @@
 #![tactic(auto)]
 
 mod derived;
+mod distinct;
 mod lookups;
+mod redeclared;
 
 pub use derived::derived_of;
 pub use lookups::{Sought, own_place, proper_supertype, redeclared_place};
