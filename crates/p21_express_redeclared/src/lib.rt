@@ -2,7 +2,11 @@
 #![tactic(auto)]
 
 mod derived;
+mod distinct;
 mod lookups;
+mod redeclarations;
+mod redeclared;
 
 pub use derived::derived_of;
 pub use lookups::{Sought, own_place, proper_supertype, redeclared_place};
+pub use redeclarations::{Redeclarations, redeclarations_of};
