@@ -1,5 +1,5 @@
 -- New attributes of a DERIVE clause, and the places of what it redeclares.
-use Rattle.std.specs.Prelude.{◌≡◌, ℕ, ◌+◌, ◌<◌, ◌≤◌, List, [], ◌∷◌, ◌++◌, length, map, take, drop, Bool, IsTrue, ◌↔◌, Some, slice_get, Contains, Result, Ok, Err, Vec, refl}
+use Rattle.std.specs.Prelude.{◌≡◌, ℕ, ◌+◌, ◌<◌, ◌≤◌, List, [], ◌∷◌, ◌++◌, length, map, take, drop, Bool, IsTrue, ◌↔◌, Some, slice_get, Contains, Result, Ok, Err, Vec}
 use Rattle.std.specs.Result.{IsErr, IsErrAnd}
 use Rattle.std.proofs.Common.{arith, ap, sym, ◌∙◌, subst, inl, inr, get_or}
 use Rattle.std.proofs.lemmas.List.{append-nil, length-map, map-append}
@@ -12,7 +12,6 @@ use Rattle.p21_express_types.specs.Meaning.{place as place_of}
 use Rattle.p21_express_types.specs.declared.number.Place.{Place}
 use Rattle.p21_express_syntax.specs.Kept.{KeptEntity}
 use Rattle.p21_express_syntax.specs.declared.attributes.AttributeName.{AttributeName}
-use Rattle.p21_express_syntax.specs.declared.attributes.AttributeName.TheVariants.{Own, Redeclared}
 use Rattle.p21_express_syntax.specs.declared.entity.Entity.{Entity}
 use Rattle.p21_express_syntax.specs.Views.{entity_view}
 use Rattle.p21_express_resolve.specs.Outline.{kept_own_names, kept_redeclared_names}
@@ -22,6 +21,7 @@ use Rattle.p21_express_outline.specs.Finding.{Refused}
 use Rattle.p21_express_outline.specs.declared.fault.SchemaFault.{SchemaFault}
 use Rattle.p21_express_outline.proofs.Adding.{own_names-append}
 use Rattle.p21_express_outline.proofs.Finding.{split-at}
+use Rattle.p21_express_redeclared.proofs.Explicit.{names-append}
 use Rattle.p21_express_redeclared.specs.Derived.{DeriveNothing, DerivesItself, FindsDerived}
 use Rattle.p21_express_redeclared.specs.Sought.{IsMissing}
 
@@ -69,11 +69,6 @@ unclear-nothing s entities e supertype name unplaced placed _ (no_place _ _ sup 
 
 -- ---- lists of redeclarations
 
-redeclared_names-append : (xs ys : List AttributeName) → kept_redeclared_names (xs ++ ys) ≡ kept_redeclared_names xs ++ kept_redeclared_names ys
-redeclared_names-append [] ys = refl
-redeclared_names-append (Own name ∷ xs) ys = redeclared_names-append xs ys
-redeclared_names-append (Redeclared entity name ∷ xs) ys = ap (λ ns. (entity, name) ∷ ns) (redeclared_names-append xs ys)
-
 -- a new attribute redeclares nothing
 pub adds-none : {Z : Type 0} (s : Schema) (entities : List KeptEntity) (e : ℕ) (names : List (List ℕ × List ℕ)) (out : Vec Place Z) → KeptDerivedAre s entities e names [] → (places : List pure.Place) × (map place_of out.items ≡ map place_of out.items ++ places) × KeptDerivedAre s entities e names places
 adds-none s entities e names out are = ([], sym (append-nil (map place_of out.items)), are)
@@ -99,7 +94,7 @@ module _ (s : Schema) (entities : List KeptEntity) (e : ℕ) where
   derived-more names k x now new below is so_far (places, new_is, are) =
       let P : List (List ℕ × List ℕ) → Type 0 = λ ns. KeptDerivedAre s entities e ns (map place_of new.items) in
       let Q : List pure.Place → Type 0 = λ ps. KeptDerivedAre s entities e (kept_redeclared_names (take k names) ++ kept_redeclared_names (x ∷ [])) ps in
-      subst P (sym (ap kept_redeclared_names (split-at names k x below is).0 ∙ redeclared_names-append (take k names) (x ∷ [])))
+      subst P (sym (ap kept_redeclared_names (split-at names k x below is).0 ∙ names-append (take k names) (x ∷ [])))
       (subst Q (sym new_is) (places-append (kept_redeclared_names (take k names)) (kept_redeclared_names (x ∷ [])) (map place_of now.items) places so_far are))
 
   -- where one stands for nothing, all do
@@ -110,7 +105,7 @@ module _ (s : Schema) (entities : List KeptEntity) (e : ℕ) where
       let front = kept_redeclared_names (take k names) in
       let own = kept_redeclared_names (x ∷ []) in
       let behind = kept_redeclared_names (drop (k + 1) names) in
-      let split = redeclared_names-append (take k names) (x ∷ [] ++ drop (k + 1) names) ∙ ap (λ ns. front ++ ns) (redeclared_names-append (x ∷ []) (drop (k + 1) names)) in
+      let split = names-append (take k names) (x ∷ [] ++ drop (k + 1) names) ∙ ap (λ ns. front ++ ns) (names-append (x ∷ []) (drop (k + 1) names)) in
       let h = places-apart front (own ++ behind) places (subst Q split (subst P (split-at names k x below is).1 are)) in
       let mine = places-apart own behind h.1.0 h.1.1 in
       nothing mine.0.0 mine.0.1

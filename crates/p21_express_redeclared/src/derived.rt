@@ -117,7 +117,7 @@ fn add_derived(
 /// # Errors
 ///
 /// `RedeclaredPlace` for a redeclaration of several places, or of no place and no derived attribute; `NoMemory`.
-pub fn derived_of(
+pub(crate) fn derived_of(
     alloc: Global,
     schema: &Schema,
     entity: EntityId,

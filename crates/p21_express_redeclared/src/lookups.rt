@@ -9,8 +9,8 @@ use p21_express_tables::Schema;
 use p21_express_types::{EntityId, Place};
 
 /// What `SELF\supertype.name` stands for in an entity (ISO 10303-11, Attribute redeclaration).
-#[derive(Clone, Copy, Debug, Drop, PartialEq, Eq)]
-pub enum Sought {
+#[derive(Clone, Copy, Debug, Drop)]
+pub(crate) enum Sought {
     /// The place that it redeclares.
     Place(Place),
     /// This proper supertype, which has no place of the name.
@@ -20,7 +20,7 @@ pub enum Sought {
 }
 
 /// The proper supertype of this name, in upper case.
-pub fn proper_supertype(schema: &Schema, entity: EntityId, name: &[u8]) -> Option<EntityId>
+fn proper_supertype(schema: &Schema, entity: EntityId, name: &[u8]) -> Option<EntityId>
     requires { IsEntity schema.now entity.0 }
     ensures { MatchOption result ((sup : ℕ) → IsProperSupertype schema.now entity.0 sup name.now → ⊥) (λ sup. IsProperSupertype schema.now entity.0 sup.0 name.now) }
 {
@@ -41,7 +41,7 @@ pub fn proper_supertype(schema: &Schema, entity: EntityId, name: &[u8]) -> Optio
 }
 
 /// The place of this name, in upper case, that the entity declares itself.
-pub fn own_place(schema: &Schema, entity: EntityId, name: &[u8]) -> Option<Place>
+fn own_place(schema: &Schema, entity: EntityId, name: &[u8]) -> Option<Place>
     requires { IsEntity schema.now entity.0 }
     ensures { MatchOption result ((place : pure.Place) → IsOwnPlace schema.now entity.0 name.now place → ⊥) (λ place. IsOwnPlace schema.now entity.0 name.now (place_of place)) }
 {
@@ -129,7 +129,12 @@ fn place_in(schema: &Schema, entity: EntityId, name: &[u8]) -> Sought
 
 /// What `SELF\supertype.name` stands for in an entity, with both names in upper case: the place that the proper supertype
 /// declares itself, else the only one of this name in its order.
-pub fn redeclared_place(schema: &Schema, entity: EntityId, supertype: &[u8], name: &[u8]) -> Sought
+pub(crate) fn redeclared_place(
+    schema: &Schema,
+    entity: EntityId,
+    supertype: &[u8],
+    name: &[u8],
+) -> Sought
     requires { IsEntity schema.now entity.0 }
     ensures { StandsFor schema.now entity.0 supertype.now name.now result }
 {
