@@ -10,11 +10,7 @@ use p21_values::NoMemory as OutOfMemory;
 use std::alloc::Global;
 
 /// The refusal that comes first for declarations that declare no schema, of which one was found. Want of memory stays.
-pub fn first_refusal(
-    alloc: Global,
-    declarations: &Declarations,
-    found: SchemaFault,
-) -> SchemaFault
+pub fn first_refusal(alloc: Global, declarations: &Declarations, found: SchemaFault) -> SchemaFault
     ensures { found ≡ NoMemory → result ≡ NoMemory }
 {
     match found {
