@@ -1,10 +1,13 @@
 -- What is stored of instances, where their kinds have numbers.
-use Rattle.std.proofs.Common.{◌≡◌, ◌<◌, ◌∙◌, ℕ, zero, suc, List, [], ◌∷◌, ◌++◌, length, slice_get, Some, inl, inr, refl, ap, subst, arith}
-use Rattle.std.proofs.lemmas.List.Sorted.{IsPermutation-map}
+use Rattle.std.proofs.Common.{◌≡◌, ◌≤◌, ◌<◌, ◌∙◌, ℕ, zero, suc, List, [], ◌∷◌, ◌++◌, length, slice_get, Option, Some, Result, Ok, Err, inl, inr, refl, ap, subst, arith, length-append}
+use Rattle.std.proofs.lemmas.List.Sorted.{Contains-permutation, IsPermutation-map, IsPermutation-sym}
+use Rattle.std.proofs.lemmas.Option.{slice_get_within}
 use Rattle.std.specs.List.{AllByRecursion as Each}
 use Rattle.std.specs.List.Sorted.{IsPermutation}
+use Rattle.std.specs.Prelude.{Contains, OnOk}
+use Rattle.p21_basics.proofs.Members.{Contains-mapped, Each-member, Each-of_members, Each-weaker}
 use Rattle.p21_claim_steps.specs.Stored.{Stored}
-use Rattle.p21_stream_kept.specs.Inside.{stored_of, stored_with}
+use Rattle.p21_stream_kept.specs.Inside.{AreKinds, stored_of, stored_with}
 use Rattle.p21_stream_kinds.specs.Kinds.{Interns, Kind}
 use Rattle.p21_stream_store.specs.Kept as store
 
@@ -36,3 +39,37 @@ stored-more old new kind number interned instances all each name text permuted =
     let P : Stored → Type 0 = λ y. IsPermutation (y ∷ stored_of old instances) (stored_of new all) in
     let Q : List Stored → Type 0 = λ ys. IsPermutation (stored_with (slice_get new number) x ∷ ys) (stored_of new all) in
     subst P front (subst Q (stored-interned old new kind number interned instances each) whole)
+
+pub stored-pushed : {T F : Type 0} (old new : List Kind) (kind : Kind) (number : ℕ) → Interns old kind number new → (instances all : List store.Kept) → AreKinds old instances → (name own : ℕ) → own ≡ name → (text : List ℕ)
+    → (r : Result T F) → OnOk r (IsPermutation (record { name = own; kind = number; text = text } ∷ instances) all) → OnOk r (IsPermutation (record { name = name; section = kind.section; entities = kind.entities; text = text } ∷ stored_of old instances) (stored_of new all))
+stored-pushed old new kind number interned instances all each name own same text (Ok value) permuted =
+    let P : ℕ → Type 0 = λ n. IsPermutation (record { name = n; section = kind.section; entities = kind.entities; text = text } ∷ stored_of old instances) (stored_of new all) in
+    subst P same (stored-more old new kind number interned instances all each own text permuted)
+stored-pushed old new kind number interned instances all each name own same text (Err fault) permuted = tt
+
+-- ---- each instance has the number of a kind
+
+interned-longer : (old new : List Kind) (kind : Kind) (number : ℕ) → Interns old kind number new → length old ≤ length new
+interned-longer old new kind number interned = elim interned.1 [
+  | inl same ↦ (let e = ap length same in omega (arith, e))
+  | inr added ↦ (let e = ap length added.0 in let long = length-append old (kind ∷ []) in omega (arith, e, long))
+]
+
+pub kinds-interned : (old new : List Kind) (kind : Kind) (number : ℕ) → Interns old kind number new → (instances : List store.Kept) → AreKinds old instances → AreKinds new instances
+kinds-interned old new kind number interned instances each =
+    let longer = interned-longer old new kind number interned in
+    Each-weaker (λ (x : store.Kept). x.kind < length old) (λ (x : store.Kept). x.kind < length new) (λ x below. omega (arith, below, longer)) instances each
+
+pub kinds-more : (kinds : List Kind) (kind : Kind) (x : store.Kept) → slice_get kinds x.kind ≡ Some kind → (instances all : List store.Kept) → AreKinds kinds instances → IsPermutation (x ∷ instances) all → AreKinds kinds all
+kinds-more kinds kind x is instances all each permuted =
+    let P : store.Kept → Type 0 = λ y. y.kind < length kinds in
+    Each-of_members P all (λ y among. Each-member P (x ∷ instances) y (slice_get_within kinds x.kind kind is, each)
+    (Contains-permutation all (x ∷ instances) y (IsPermutation-sym (x ∷ instances) all permuted) among))
+
+-- ---- what is found of it
+
+-- an instance with its kind
+pub stored-found : (kinds : List Kind) (instances : List store.Kept) (x : store.Kept) (kind : Kind) → Contains instances x → slice_get kinds x.kind ≡ Some kind → Contains (stored_of kinds instances) (stored_with (Some kind) x)
+stored-found kinds instances x kind among is =
+    let P : Option Kind → Type 0 = λ k. Contains (stored_of kinds instances) (stored_with k x) in
+    subst P is (Contains-mapped (λ (y : store.Kept). stored_with (slice_get kinds y.kind) y) instances x among)

@@ -2,7 +2,7 @@
 use Rattle.std.proofs.Common.{◌≡◌, ◌+◌, ◌⊎◌, ◌∙◌, ℕ, suc, List, [], ◌∷◌, ◌++◌, length, map, Option, Some, None, Ok, Err, refl, sym, ap, subst}
 use Rattle.std.specs.List.{AllByRecursion as Each}
 use Rattle.std.specs.List.Sorted.{IsPermutation}
-use Rattle.std.specs.Prelude.{Contains}
+use Rattle.std.specs.Prelude.{◌≢◌, Contains}
 use Rattle.p21_basics.specs.Limits.{Limits}
 use Rattle.p21_claim.specs.Ended.{Entry}
 use Rattle.p21_claim.specs.Taken.{names_among}
@@ -17,10 +17,10 @@ use Rattle.p21_exchange.specs.Statement.{instance}
 use Rattle.p21_files.specs.BrokenRule.{Breaks}
 use Rattle.p21_files.specs.Kept.{IsInstanceText}
 use Rattle.p21_files.specs.Reference.{Need}
-use Rattle.p21_mapping_values.specs.Fault as check
-use Rattle.p21_mapping_values.specs.declared.fault.CheckFault.{CheckFault}
 use Rattle.p21_schemas.specs.Schema.{Schema}
-use Rattle.p21_stream_fault.specs.declared.fault.Fault.TheVariants.{CanonicalTooLong, Check, DuplicateName}
+use Rattle.p21_stream_fault.specs.Fault.{fault_number}
+use Rattle.p21_stream_fault.specs.declared.fault.Fault.{Fault}
+use Rattle.p21_stream_fault.specs.declared.fault.Fault.TheVariants.{CanonicalTooLong, DuplicateName, NoMemory}
 use Rattle.p21_stream_kept.proofs.Stepping.{long}
 use Rattle.p21_stream_kept.specs.Inside.{stored_of, stored_with}
 use Rattle.p21_stream_kept.specs.Steps.{HasRoom, StepGives}
@@ -30,7 +30,7 @@ use Rattle.p21_stream_store.specs.Kept.{kept_names}
 
 -- ---- names
 
-with-name : (kind : Option Kind) (x : store.Kept) → (stored_with kind x).name ≡ x.name
+pub with-name : (kind : Option Kind) (x : store.Kept) → (stored_with kind x).name ≡ x.name
 with-name (Some kind) x = refl
 with-name None x = refl
 
@@ -55,8 +55,9 @@ pub instance-again : (s : Schema) (limits : Limits) (old new : Kept) (n : ℕ) (
 instance-again s limits old new n record_ x among is other given keeps =
     name_again n record_ (subst (λ (m : ℕ). Contains (names_among given) m) is (keeps-names s limits given old keeps x among))
 
-pub instance-broken : (s : Schema) (limits : Limits) (old new : Kept) (n : ℕ) (record_ : Record) (fault : CheckFault) → Breaks s record_ (check.fault_number fault) → StepGives s limits old (instance n record_) (Err (Check fault)) new
-instance-broken s limits old new n record_ fault breaks other given keeps = broken n record_ (check.fault_number fault) breaks
+-- the record breaks the rule of the number
+pub instance-broken : (s : Schema) (limits : Limits) (old new : Kept) (n : ℕ) (record_ : Record) (fault : Fault) → (fault ≢ NoMemory → Breaks s record_ (fault_number fault)) → StepGives s limits old (instance n record_) (Err fault) new
+instance-broken s limits old new n record_ fault breaks other given keeps = broken n record_ (fault_number fault) (breaks other)
 
 pub refused-instance : (s : Schema) (limits : Limits) (old new : Kept) (n : ℕ) (record_ : Record) (text : List ℕ) → IsInstanceText s n record_ text → (HasRoom limits (old.bytes + old.framing) (length text) → ⊥)
     → StepGives s limits old (instance n record_) (Err CanonicalTooLong) new

@@ -2,3 +2,5 @@ pub mod Stepping
 pub mod SectionNames
 pub mod Instances
 pub mod ByKind
+pub mod Unserved
+pub mod Finding

@@ -1,5 +1,6 @@
 -- What the fields hold, as pure data.
-use Rattle.std.specs.Prelude.{List, [], map, slice_get, Option, Some, None}
+use Rattle.std.specs.Prelude.{◌<◌, List, [], length, map, slice_get, Option, Some, None}
+use Rattle.std.specs.List.{AllByRecursion as Each}
 use Rattle.p21_claim_steps.specs.Keeping.{Kept}
 use Rattle.p21_claim_steps.specs.Stored.{Stored}
 use Rattle.p21_claim_steps.specs.Waiting as waiting
@@ -30,16 +31,26 @@ stored_with None kept = record { name = kept.name; section = 0; entities = []; t
 abbrev pub stored_of : List Kind → List store.Kept → List Stored
 stored_of kinds instances = map (λ (x : store.Kept). stored_with (slice_get kinds x.kind) x) instances
 
+-- each instance has the number of a kind
+abbrev pub AreKinds : List Kind → List store.Kept → Type 0
+AreKinds kinds instances = Each (λ (x : store.Kept). x.kind < length kinds) instances
+
 abbrev pub reference_of : Reference → waiting.Reference
 reference_of r = (r.holder, need_view r.need)
+
+abbrev pub references_of : List Reference → List waiting.Reference
+references_of all = map reference_of all
 
 abbrev pub kept_of : Inside → Kept
 kept_of a = record {
   header = a.header.items;
   headings = headings_of a.sections.items;
   stored = stored_of a.kinds a.instances;
-  waiting = map reference_of a.waiting.items;
+  waiting = references_of a.waiting.items;
   references = a.references;
   bytes = a.bytes;
   framing = a.framing;
 }
+
+abbrev pub HasKinds : Inside → Type 0
+HasKinds a = AreKinds a.kinds a.instances

@@ -1,2 +1,4 @@
+pub mod Found
 pub mod Inside
+pub mod Served
 pub mod Steps

@@ -1,16 +1,20 @@
 ghost use Rattle.std.specs.Prelude.{◌≡◌, ◌≤◌, OnErr, OnOk};
 ghost use Rattle.p21_claim_steps.specs.Keeping.{nothing_kept};
-ghost use Rattle.p21_exchange.specs.Statement.{data_start, header, section};
+ghost use Rattle.p21_exchange.specs.Statement.{data_start, header, instance, section};
 ghost use Rattle.p21_grammar_machine.specs.Shape.{heading_of};
 ghost use Rattle.p21_grammar_machine.specs.Statements.{line_of};
-ghost use Rattle.p21_grammar_tree.specs.View.{items_of, part_view, views};
+ghost use Rattle.p21_grammar_tree.specs.View.{items_of, part_view, record_view, views};
+ghost use Rattle.p21_stream_kept.specs.Served.{AnswersUnserved};
 ghost use Rattle.p21_stream_kept.specs.Steps.{StepGives, StepKeepsBound, TakesLine};
 
+use crate::found::found_of;
 use crate::room::has_room;
+use crate::served::{first_unserved, wait};
+use crate::stored::store;
 use p21_canon_header::write_header;
 use p21_express_tables::Schema;
 use p21_grammar_machine::Line;
-use p21_grammar_tree::Part;
+use p21_grammar_tree::{Part, Record};
 use p21_mapping_values::Need;
 use p21_stream_fault::Fault;
 use p21_stream_header::{heading, line_size, names_schema, schema_text};
@@ -24,19 +28,19 @@ use std::marker::Model;
 /// the file.
 #[derive(Drop)]
 pub struct Kept {
-    alloc: Global,
+    pub(crate) alloc: Global,
     // The canonical lines of the header records, each with its line feed.
-    header: Vec<u8>,
-    sections: Vec<Section>,
-    kinds: Kinds,
-    instances: Instances,
-    waiting: Vec<Reference>,
+    pub(crate) header: Vec<u8>,
+    pub(crate) sections: Vec<Section>,
+    pub(crate) kinds: Kinds,
+    pub(crate) instances: Instances,
+    pub(crate) waiting: Vec<Reference>,
     // All references, those that don't wait among them.
-    references: u64,
+    pub(crate) references: u64,
     // The bytes of the canonical lines of header records and instances, without line feeds.
-    bytes: u64,
+    pub(crate) bytes: u64,
     // Those of section lines, and the line feeds of the others.
-    framing: u64,
+    pub(crate) framing: u64,
 }
 
 /// A reference to an instance that has not come, or that doesn't serve.
@@ -48,18 +52,20 @@ pub struct Reference {
 
 /// A data section: the record that begins it, where it has a name, and its canonical line.
 #[derive(Drop)]
-struct Section {
-    part: Option<Part>,
-    line: Vec<u8>,
+pub(crate) struct Section {
+    pub(crate) part: Option<Part>,
+    pub(crate) line: Vec<u8>,
 }
 
 impl Model for Kept {
     ghost use Rattle.p21_claim_steps.specs.Keeping.{Kept as Meant};
-    ghost use Rattle.p21_stream_kept.specs.Inside.{kept_of};
+    ghost use Rattle.p21_stream_kept.specs.Inside.{HasKinds, kept_of};
 
     ghost Value = { Meant };
 
     ghost view = { kept_of };
+
+    ghost invariant = { HasKinds };
 }
 
 impl Kept {
@@ -159,6 +165,88 @@ impl Kept {
         self.framing += 1;
         Ok(())
     }
+
+    /// Takes an instance: its record is checked, its canonical line is kept, and so are its references to instances that
+    /// haven't come or don't serve.
+    ///
+    /// # Errors
+    ///
+    /// In this order: `DuplicateName`, `Check`, `CanonicalTooLong`. `NoMemory`.
+    pub fn take_instance(
+        &mut self,
+        schema: &Schema,
+        limits: Limits,
+        name: Name,
+        of: Record,
+    ) -> Result<(), Fault>
+        ensures gives { StepGives schema.now limits self.old (instance name (record_view of)) result self.new }
+        ensures bound { StepKeepsBound limits self.old self.new }
+    {
+        if let Some(_) = self.instances.find(name.0) {
+            return Err(Fault::DuplicateName);
+        }
+        let found = match found_of(self.alloc, schema, name, of) {
+            Ok(found) => found,
+            Err(fault) => return Err(fault),
+        };
+        let size = found.line.len() as u64;
+        if !has_room(limits, self.bytes, self.framing, size) {
+            return Err(Fault::CanonicalTooLong);
+        }
+        let Some(section) = last_section(&self.sections) else {
+            return Err(Fault::NoMemory);
+        };
+        let Some(references) = self.references.checked_add(found.needs.len() as u64) else {
+            return Err(Fault::NoMemory);
+        };
+        let Ok(()) = wait(
+            schema,
+            &self.kinds,
+            &self.instances,
+            name,
+            &found.needs,
+            &mut self.waiting,
+        ) else {
+            return Err(Fault::NoMemory);
+        };
+        let Ok(()) = store(
+            self.alloc,
+            &mut self.kinds,
+            &mut self.instances,
+            name,
+            section,
+            found.entities.items(),
+            &found.line,
+        ) else {
+            return Err(Fault::NoMemory);
+        };
+        self.references = references;
+        self.bytes += size;
+        self.framing += 1;
+        Ok(())
+    }
+
+    /// The bytes of the canonical lines of header records and instances, without line feeds.
+    pub fn size(&self) -> u64
+        ensures { result ≡ self.now.bytes }
+    {
+        self.bytes
+    }
+
+    /// How many references the instances have.
+    pub fn references(&self) -> u64
+        ensures { result ≡ self.now.references }
+    {
+        self.references
+    }
+
+    /// The first reference in the file that no instance serves, by the name of the instance that has it: `Dangling` where
+    /// it names no instance, `WrongTarget` where that isn't of the type. It takes no memory.
+    pub fn first_unserved(&self, schema: &Schema) -> Option<(Name, Fault)>
+        ensures { AnswersUnserved schema.now self.now.stored self.now.waiting result }
+    {
+        first_unserved(schema, &self.kinds, &self.instances, &self.waiting)
+    }
 }
 
 ghost use Rattle.std.specs.Prelude.{◌++◌, ℕ, List, IfOk, IsTrue, false, length};
@@ -255,4 +343,14 @@ fn add_section(sections: &mut Vec<Section>, section: Section) -> Result<(), NoMe
 {
     sections.push(section)?;
     Ok(())
+}
+
+ghost use Rattle.std.specs.Prelude.{◌+◌, IfSome};
+
+/// The number of the last data section, counted from the first.
+fn last_section(sections: &[Section]) -> Option<u32>
+    ensures { IfSome result (λ number. number + 1 ≡ length sections.now) }
+{
+    let number = sections.len().checked_sub(1)?;
+    u32::try_from(number).ok()
 }

@@ -1,7 +1,10 @@
 //! What a session keeps of the statements of a file that it has taken.
 #![tactic(auto)]
 
+mod found;
 mod kept;
 mod room;
+mod served;
+mod stored;
 
 pub use kept::{Kept, Reference};

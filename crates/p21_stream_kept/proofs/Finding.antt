@@ -1,0 +1,61 @@
+-- What is found of an instance, from its check and its text.
+use Rattle.std.proofs.Common.{◌≡◌, ◌+◌, ◌∷◌, ◌∙◌, List, [], ℕ, length, map, Ok, add-one, ap, refl, sym, subst}
+use Rattle.std.specs.List.Sorted.{IsPermutation}
+use Rattle.std.specs.Prelude.{◌≢◌, Contains}
+use Rattle.p21_basics.specs.Limits.{Limits}
+use Rattle.p21_canon_record.proofs.Statements.{statement-instance}
+use Rattle.p21_canon_record.specs.Meant.{IsMeant}
+use Rattle.p21_canon_record.specs.Statement.{AppendsStatement}
+use Rattle.p21_claim.specs.Ended.{Entry}
+use Rattle.p21_claim_steps.specs.Keeping.{Kept}
+use Rattle.p21_claim_steps.specs.Stored.{Stored}
+use Rattle.p21_claim_steps.specs.Waiting.{Reference}
+use Rattle.p21_exchange.specs.Record.{Record}
+use Rattle.p21_exchange.specs.Statement.{instance}
+use Rattle.p21_files.specs.BrokenRule.{Breaks}
+use Rattle.p21_files.specs.Kept.{IsInstanceText}
+use Rattle.p21_files.specs.Meaning.{Typed}
+use Rattle.p21_files.specs.Reference.{Need}
+use Rattle.p21_mapping.specs.Checked.{IsChecked, IsRefused}
+use Rattle.p21_mapping_values.specs.declared.fault.CheckFault.{CheckFault}
+use Rattle.p21_mapping_values.specs.declared.fault.CheckFault.TheVariants as check_fault
+use Rattle.p21_schemas.specs.Schema.{Schema}
+use Rattle.p21_stream_fault.specs.Fault.{fault_number, of_check}
+use Rattle.p21_stream_fault.specs.declared.fault.Fault.TheVariants as fault
+use Rattle.p21_stream_kept.proofs.Instances.{took-instance}
+use Rattle.p21_stream_kept.specs.Found.{HasFound}
+use Rattle.p21_stream_kept.specs.Served.{AddsWaiting}
+use Rattle.p21_stream_kept.specs.Steps.{HasRoom, StepGives}
+
+-- a checked record can be written
+pub checked-meant : (s : Schema) (r : Record) (m : Typed) (needs : List Need) → IsChecked s r m needs → IsMeant s m
+checked-meant s r m needs checked = record { record_ = r; needs = needs; means = checked.means; types_known = checked.known }
+
+pub found : (s : Schema) (n : ℕ) (r : Record) (m : Typed) (needs : List Need) → IsChecked s r m needs → (text : List ℕ) → AppendsStatement s n m [] text → HasFound s n r m.entities needs text
+found s n r m needs checked text (own, is, statement) =
+    let P : List ℕ → Type 0 = λ bytes. IsInstanceText s n r bytes in
+    record {
+      meaning = m;
+      meant = checked.means;
+      entities_are = refl;
+      printed = subst P (sym is) (statement-instance s n m own statement checked.means.kinds r checked.means.means);
+    }
+
+-- a refused record breaks a rule
+pub refused-breaks : (s : Schema) (r : Record) (f : CheckFault) → (f ≢ check_fault.NoMemory → IsRefused s r f) → of_check f ≢ fault.NoMemory → Breaks s r (fault_number (of_check f))
+refused-breaks s r check_fault.NoMemory refused other = absurd (other refl)
+refused-breaks s r f refused other = (refused (λ same. cc)).breaks
+
+-- ---- the step
+
+-- all of it is kept
+pub took-found : (s : Schema) (limits : Limits) (old new : Kept) (n : ℕ) (r : Record) (entities : List ℕ) (needs : List Need) (text : List ℕ) → HasFound s n r entities needs text → (Contains (map (λ (x : Stored). x.name) old.stored) n → ⊥)
+    → (waiting : List Reference) → AddsWaiting s old.stored n needs old.waiting waiting → (number : ℕ) → number + 1 ≡ length old.headings
+    → (stored : List Stored) → IsPermutation (record { name = n; section = number; entities = entities; text = text } ∷ old.stored) stored → HasRoom limits (old.bytes + old.framing) (length text)
+    → new ≡ record old { stored = stored; waiting = waiting; references = old.references + length needs; bytes = old.bytes + length text; framing = old.framing + 1 } → StepGives s limits old (instance n r) (Ok tt) new
+took-found s limits old new n r entities needs text is none waiting adds number last stored permuted room same =
+    let entry : Entry = record { name = n; record_ = r; meaning = is.meaning; needs = needs; text = text } in
+    let P : List ℕ → Type 0 = λ es. IsPermutation (record { name = n; section = number; entities = es; text = text } ∷ old.stored) stored in
+    let W : List Reference → Kept = λ w. record old { stored = stored; waiting = w; references = old.references + length needs; bytes = old.bytes + length text; framing = old.framing + 1 } in
+    took-instance s limits old new entry (record { meant = is.meant; printed = is.printed; within = room.0 }) none adds.added adds.are_needs adds.others_served number (sym (add-one number) ∙ last) stored
+    (subst P (sym is.entities_are) permuted) room (same ∙ ap W adds.new_is)

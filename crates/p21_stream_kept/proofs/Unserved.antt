@@ -1,0 +1,112 @@
+-- Needs that are served by what is stored, those that wait, and the first that none serves.
+use Rattle.std.proofs.Common.{◌≡◌, ◌+◌, ◌<◌, ◌⊎◌, ◌∙◌, ℕ, suc, List, [], ◌∷◌, ◌++◌, length, map, get_or, take, drop, Option, Some, None, inl, inr, refl, sym, ap, subst, add-one, append_assoc, append-nil}
+use Rattle.std.proofs.Math.Seq.{drop-cons}
+use Rattle.std.proofs.lemmas.List.{map-append, take_more}
+use Rattle.std.proofs.lemmas.List.Elements.{Contains-append_left, Contains-append_right}
+use Rattle.std.specs.Prelude.{Contains}
+use Rattle.p21_basics.proofs.Members.{Contains-first, Each-append, Each-weaker}
+use Rattle.p21_basics.specs.Limits.{Limits}
+use Rattle.p21_claim_steps.proofs.Keeps.{keeps-unserved}
+use Rattle.p21_claim_steps.specs.Keeping.{IsServedBy, IsServedByNone, Keeps, Kept}
+use Rattle.p21_claim_steps.specs.Stored.{Stored}
+use Rattle.p21_claim_steps.specs.Waiting.{Reference}
+use Rattle.p21_exchange.specs.Laying.{Laid}
+use Rattle.p21_exchange.specs.Statement.{Statement}
+use Rattle.p21_exchange.specs.Structure.{Structure, statements, tokens_of}
+use Rattle.p21_files.specs.Accepted.{IsAccepted}
+use Rattle.p21_files.specs.Reference.{Need}
+use Rattle.p21_schemas.specs.Schema.{Schema}
+use Rattle.p21_schemas.specs.WellFormed.{IsWellFormed}
+use Rattle.p21_stream_fault.specs.declared.fault.Fault.{Fault}
+use Rattle.p21_stream_fault.specs.declared.fault.Fault.TheVariants.{Dangling, WrongTarget}
+use Rattle.p21_stream_kept.proofs.Instances.{stored-names}
+use Rattle.p21_stream_kept.specs.Inside.{reference_of, references_of, stored_of}
+use Rattle.p21_mapping.specs.Checked.{needs_view}
+use Rattle.p21_mapping_values.specs.TypedView.{need_view}
+use Rattle.p21_mapping_values.specs.declared.need.Need as need
+use Rattle.p21_stream_kept.specs.declared.kept.Reference as held
+use Rattle.p21_stream_kept.specs.Served.{AddsWaiting, AnswersUnserved, IsFirstUnserved, RefusesNeed}
+use Rattle.p21_stream_kinds.specs.Kinds.{Kind}
+use Rattle.p21_stream_store.specs.Kept as store
+use Rattle.p21_stream_store.specs.Kept.{kept_names}
+
+-- ---- one need
+
+-- no instance has the name
+pub none-of_name : (s : Schema) (kinds : List Kind) (instances : List store.Kept) (need : Need) → (Contains (kept_names instances) need.target → ⊥) → RefusesNeed s (stored_of kinds instances) need Dangling
+none-of_name s kinds instances need none = λ among. none (subst (λ (names : List ℕ). Contains names need.target) (stored-names kinds instances) among)
+
+-- ---- needs that wait
+
+pub waiting-none : (s : Schema) (stored : List Stored) (holder : ℕ) (old : List Reference) → AddsWaiting s stored holder [] old old
+waiting-none s stored holder old = record { added = []; are_needs = tt; others_served = tt; new_is = sym (append-nil old) }
+
+-- one that is served
+pub waiting-served : (s : Schema) (stored : List Stored) (holder : ℕ) (need : Need) (old : List Reference) → IsServedBy s stored need → AddsWaiting s stored holder (need ∷ []) old old
+waiting-served s stored holder need old served = record { added = []; are_needs = tt; others_served = (inr served, tt); new_is = sym (append-nil old) }
+
+-- one that waits
+pub waiting-one : (s : Schema) (stored : List Stored) (holder : ℕ) (need : Need) (old : List Reference) → AddsWaiting s stored holder (need ∷ []) old (old ++ (holder, need) ∷ [])
+waiting-one s stored holder need old = record { added = need ∷ []; are_needs = (Contains-first need [], tt); others_served = (inl (Contains-first need []), tt); new_is = refl }
+
+-- some and then others
+pub waiting-joined : (s : Schema) (stored : List Stored) (holder : ℕ) (first later : List Need) (old middle new : List Reference) → AddsWaiting s stored holder first old middle → AddsWaiting s stored holder later middle new → AddsWaiting s stored holder (first ++ later) old new
+waiting-joined s stored holder first later old middle new a b =
+    let added : List Need = a.added ++ b.added in
+    let Waits : Need → Type 0 = λ x. Contains added x ⊎ IsServedBy s stored x in
+    let named : Need → Reference = λ x. (holder, x) in
+    record {
+      added = added;
+      are_needs = Each-append (Contains (first ++ later)) a.added b.added (Each-weaker (Contains first) (Contains (first ++ later)) (λ x among. Contains-append_left first later x among) a.added a.are_needs)
+          (Each-weaker (Contains later) (Contains (first ++ later)) (λ x among. Contains-append_right first later x among) b.added b.are_needs);
+      others_served = Each-append Waits first later
+          (Each-weaker (λ (x : Need). Contains a.added x ⊎ IsServedBy s stored x) Waits (λ x it. elim it [ inl h ↦ inl (Contains-append_left a.added b.added x h) | inr h ↦ inr h ]) first a.others_served)
+          (Each-weaker (λ (x : Need). Contains b.added x ⊎ IsServedBy s stored x) Waits (λ x it. elim it [ inl h ↦ inl (Contains-append_right a.added b.added x h) | inr h ↦ inr h ]) later b.others_served);
+      new_is = b.new_is ∙ ap (λ (rs : List Reference). rs ++ map named b.added) a.new_is ∙ append_assoc old (map named a.added) (map named b.added)
+          ∙ ap (λ (rs : List Reference). old ++ rs) (sym (map-append named a.added b.added));
+    }
+
+-- ---- the first that none serves
+
+pub unserved-behind : (s : Schema) (stored : List Stored) (r : Reference) (rest : List Reference) → IsServedBy s stored r.1 → (result : Option (ℕ × Fault)) → AnswersUnserved s stored rest result → AnswersUnserved s stored (r ∷ rest) result
+unserved-behind s stored r rest served None each = (served, each)
+unserved-behind s stored r rest served (Some (holder, fault)) is = record {
+  before = r ∷ is.before;
+  need = is.need;
+  behind = is.behind;
+  waiting_are = ap (λ (rs : List Reference). r ∷ rs) is.waiting_are;
+  before_served = (served, is.before_served);
+  refused = is.refused;
+}
+
+pub unserved-here : (s : Schema) (stored : List Stored) (holder : ℕ) (need : Need) (rest : List Reference) (fault : Fault) → RefusesNeed s stored need fault → AnswersUnserved s stored ((holder, need) ∷ rest) (Some (holder, fault))
+unserved-here s stored holder need rest fault refused = record {
+  before = [];
+  need = need;
+  behind = rest;
+  waiting_are = refl;
+  before_served = tt;
+  refused = refused;
+}
+
+none-serves : (s : Schema) (stored : List Stored) (need : Need) (fault : Fault) → RefusesNeed s stored need fault → IsServedByNone s stored need
+none-serves s stored need Dangling none = inl none
+none-serves s stored need WrongTarget unfit = inr unfit
+none-serves s stored need other refused = absurd refused
+
+-- the bytes of a file with such a reference are not accepted
+pub unserved-not_accepted : (s : Schema) → IsWellFormed s → (limits : Limits) (bytes : List ℕ) (given : List Statement) (kept : Kept) → Keeps s limits given kept → (structure : Structure) → statements structure ≡ given → Laid bytes (tokens_of structure)
+    → (holder : ℕ) (fault : Fault) → IsFirstUnserved s kept.stored kept.waiting holder fault → ¬ IsAccepted s limits bytes
+unserved-not_accepted s formed limits bytes given kept keeps structure same laid holder fault is =
+    let P : List Reference → Type 0 = λ rs. Contains rs (holder, is.need) in
+    keeps-unserved s formed limits bytes given kept keeps structure same laid (holder, is.need)
+    (subst P (sym is.waiting_are) (Contains-append_right is.before ((holder, is.need) ∷ is.behind) (holder, is.need) (Contains-first (holder, is.need) is.behind)))
+    (none-serves s kept.stored is.need fault is.refused)
+
+-- ---- as they are gone through
+
+pub needs-more : (xs : List need.Need) (i : ℕ) (x : need.Need) → x ≡ get_or xs i x → i < length xs → needs_view (take (i + 1) xs) ≡ needs_view (take i xs) ++ need_view x ∷ []
+needs-more xs i x is low = ap needs_view (take_more xs i x low ∙ ap (λ (y : need.Need). take i xs ++ y ∷ []) (sym is)) ∙ map-append need_view (take i xs) (x ∷ [])
+
+pub references-from : (xs : List held.Reference) (i : ℕ) (x : held.Reference) → x ≡ get_or xs i x → i < length xs → references_of (drop i xs) ≡ reference_of x ∷ references_of (drop (i + 1) xs)
+references-from xs i x is low = ap references_of (drop-cons xs i x low ∙ ap (λ (y : held.Reference). y ∷ drop (suc i) xs) (sym is)) ∙ ap (λ (k : ℕ). reference_of x ∷ references_of (drop k xs)) (sym (add-one i))

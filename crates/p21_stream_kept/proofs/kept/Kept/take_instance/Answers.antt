@@ -1,0 +1,73 @@
+use Rattle.std.proofs.Common.{◌≡◌, ◌+◌, ◌∷◌, ℕ, List, true, ap, length, map, refl, subst, sym, slice_get, ◌∙◌, Ok, Err, arith}
+use Rattle.std.proofs.lemmas.List.{length-map}
+use Rattle.std.specs.List.Sorted.{IsPermutation}
+use Rattle.std.specs.Prelude.{Contains, vec_len}
+use Rattle.p21_basics.proofs.Members.{Contains-mapped}
+use Rattle.p21_claim_steps.specs.Keeping.{Kept}
+use Rattle.p21_claim_steps.specs.Stored.{Stored}
+use Rattle.p21_claim_steps.specs.Waiting.{Reference}
+use Rattle.p21_exchange.specs.Statement.{instance}
+use Rattle.p21_express_types.specs.declared.number.EntityId.{EntityId}
+use Rattle.p21_grammar_tree.specs.View.{record_view}
+use Rattle.p21_mapping.specs.Checked.{needs_view}
+use Rattle.p21_mapping_values.specs.TypedView.{ids_view, need_view}
+use Rattle.p21_mapping_values.specs.declared.need.Need.{Need}
+use Rattle.p21_stream_fault.specs.declared.fault.Fault.TheVariants.{CanonicalTooLong, DuplicateName}
+use Rattle.p21_stream_kept.proofs.Finding.{took-found}
+use Rattle.p21_stream_kept.proofs.Instances.{instance-again, instance-broken, refused-instance, stored-names, with-name}
+use Rattle.p21_stream_kept.specs.Inside.{heading_in, kept_of, references_of, stored_of, stored_with}
+use Rattle.p21_stream_kept.specs.Served.{AddsWaiting}
+use Rattle.p21_stream_kept.specs.Steps.{HasRoom, StepGives}
+use Rattle.p21_stream_kept.specs.declared.kept.Section.{Section}
+use Rattle.p21_stream_store.specs.Kept as store
+use Rattle.p21_stream_kept.proofs.kept.Kept.take_instance.Goals as goal
+
+pub returns-in-Err-clause-gives : goal.returns-in-Err-clause-gives
+returns-in-Err-clause-gives c = instance-broken c.args.schema.now c.args.limits c.args.self.now c.args.self.now c.args.name (record_view c.args.of) c.in-Err.fault c.in-Err.ensures
+
+pub returns-then-not-has_room-clause-gives : goal.returns-then-not-has_room-clause-gives
+returns-then-not-has_room-clause-gives c =
+    let old : Kept = kept_of c.self.inside in
+    let same : vec_len c.in-Ok.found.line ≡ length c.in-Ok.found.line.items = omega (arith, c.in-Ok.found.line.ok.0) in
+    let size = c.len-size.ensures ∙ same in
+    subst (λ (k : Kept). StepGives c.args.schema.now c.args.limits k (instance c.args.name (record_view c.args.of)) (Err CanonicalTooLong) k) c.self.view_is
+    (refused-instance c.args.schema.now c.args.limits old old c.args.name (record_view c.args.of) c.in-Ok.found.line.items c.in-Ok.ensures.printed (λ room.
+    let passes : c.has_room.result ≡ true = c.has_room.ensures.decides.1 (subst (λ n. HasRoom c.args.limits (old.bytes + old.framing) n) (sym size) room) in
+    let fails = c.if-not-has_room.true in
+    cc))
+
+pub returns-in-Some-clause-gives : goal.returns-in-Some-clause-gives
+returns-in-Some-clause-gives c =
+    let old : Kept = kept_of c.self.inside in
+    let x : store.Kept = record { name = c.name.inside.0; kind = c.in-Some.field-0.0; text = c.in-Some.field-0.1.now } in
+    let kinds = c.self.inside.kinds in
+    subst (λ (k : Kept). StepGives c.args.schema.now c.args.limits k (instance c.args.name (record_view c.args.of)) (Err DuplicateName) k) c.self.view_is
+    (instance-again c.args.schema.now c.args.limits old old c.args.name (record_view c.args.of) (stored_with (slice_get kinds x.kind) x)
+    (Contains-mapped (λ (y : store.Kept). stored_with (slice_get kinds y.kind) y) c.self.inside.instances x c.in-Some.ensures.some) (with-name (slice_get kinds x.kind) x ∙ c.name.view_is))
+
+pub returns-clause-gives : goal.returns-clause-gives
+returns-clause-gives c =
+    let s = c.args.schema.now in
+    let old : Kept = kept_of c.self.inside in
+    let found = c.in-Ok.found in
+    let stored : List Stored = stored_of c.store.new.kinds c.store.new.instances in
+    let waiting : List Reference = references_of c.wait.new.waiting.items in
+    let same : vec_len found.line ≡ length found.line.items = omega (arith, found.line.ok.0) in
+    let size : c.len-size.result ≡ length found.line.items = c.len-size.ensures ∙ same in
+    let long : vec_len found.needs ≡ length found.needs.items = omega (arith, found.needs.ok.0) in
+    let needs : c.len.result ≡ length (needs_view found.needs.items) = c.len.ensures ∙ long ∙ sym (length-map found.needs.items need_view) in
+    let sum : c.in-Some-checked_add.references ≡ old.references + c.len.result = omega (arith, c.in-Some-checked_add.ensures) in
+    let references : c.in-Some-checked_add.references ≡ old.references + length (needs_view found.needs.items) = sum ∙ ap (λ n. old.references + n) needs in
+    let bytes = ap (λ n. old.bytes + n) size in
+    let new : Kept = record old { stored = stored; waiting = waiting; references = c.in-Some-checked_add.references; bytes = old.bytes + c.len-size.result; framing = old.framing + 1 } in
+    let N : List ℕ → ℕ → Type 0 = λ names n. Contains names n → ⊥ in
+    let none : N (map (λ (x : Stored). x.name) old.stored) c.args.name = subst (N (map (λ (x : Stored). x.name) old.stored)) c.name.view_is (subst (λ names. N names c.name.inside.0) (sym (stored-names c.self.inside.kinds c.self.inside.instances)) (c.in_default.ensures.none refl)) in
+    let A : List Need → Type 0 = λ xs. AddsWaiting s old.stored c.args.name (needs_view xs) old.waiting waiting in
+    let adds : A found.needs.items = subst A c.deref-2.ensures.value c.in-Ok-wait.ensures in
+    let E : List EntityId → List ℕ → Type 0 = λ ids text. IsPermutation (record { name = c.args.name; section = c.in-Some-last_section.section; entities = ids_view ids; text = text } ∷ old.stored) stored in
+    let permuted : E found.entities found.line.items = subst (E found.entities) c.deref-3.ensures.value (subst (λ ids. E ids c.deref-3.result.now) c.items.ensures c.in-Ok-store.ensures.ok) in
+    let last : c.in-Some-last_section.section + 1 ≡ length old.headings = c.in-Some-last_section.ensures ∙ ap length c.deref.ensures.value ∙ sym (length-map c.self.inside.sections.items (λ (x : Section). heading_in x.part)) in
+    subst (λ (k : Kept). StepGives s c.args.limits k (instance c.args.name (record_view c.args.of)) (Ok tt) new) c.self.view_is
+    (took-found s c.args.limits old new c.args.name (record_view c.args.of) (ids_view found.entities) (needs_view found.needs.items) found.line.items c.in-Ok.ensures none waiting adds c.in-Some-last_section.section last stored permuted
+    (subst (λ n. HasRoom c.args.limits (old.bytes + old.framing) n) size (c.has_room.ensures.decides.0 c.if-not-has_room.false))
+    (λ i. record old { stored = stored; waiting = waiting; references = references i; bytes = bytes i; framing = old.framing + 1 }))

@@ -1,0 +1,49 @@
+ghost use Rattle.p21_grammar_tree.specs.View.{record_view};
+ghost use Rattle.p21_stream_kept.specs.Found.{FindsInstance};
+
+use p21_canon_record::write_record;
+use p21_express_tables::Schema;
+use p21_grammar_tree::Record;
+use p21_mapping::check_moved;
+use p21_mapping_values::{Ids, Need, Typed};
+use p21_stream_fault::Fault;
+use p21_values::Name;
+use std::alloc::Global;
+
+/// What is found of an instance: its set of entities, what it needs of other instances, and its canonical line without a
+/// line feed.
+#[derive(Drop)]
+pub(crate) struct Found {
+    pub(crate) entities: Ids,
+    pub(crate) needs: Vec<Need>,
+    pub(crate) line: Vec<u8>,
+}
+
+/// Checks the record of an instance, and writes its canonical line.
+///
+/// # Errors
+///
+/// `Check`, `NoMemory`.
+pub(crate) fn found_of(
+    alloc: Global,
+    schema: &Schema,
+    name: Name,
+    of: Record,
+) -> Result<Found, Fault>
+    ensures { FindsInstance schema.now name (record_view of) result }
+{
+    let (typed, needs) = match check_moved(alloc, schema, of) {
+        Ok(checked) => checked,
+        Err(fault) => return Err(Fault::from(fault)),
+    };
+    let mut line = Vec::new(alloc);
+    let Ok(()) = write_record(schema, name, &typed, &mut line) else {
+        return Err(Fault::NoMemory);
+    };
+    let Typed { parts, .. } = typed;
+    Ok(Found {
+        entities: parts,
+        needs,
+        line,
+    })
+}

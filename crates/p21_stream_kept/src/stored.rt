@@ -1,0 +1,32 @@
+ghost use Rattle.std.specs.Prelude.{◌∷◌, Contains, IsPermutation, OnOk};
+ghost use Rattle.p21_mapping_values.specs.TypedView.{ids_view};
+ghost use Rattle.p21_stream_kept.specs.Inside.{AreKinds, stored_of};
+ghost use Rattle.p21_stream_store.specs.Kept.{kept_names};
+
+use p21_express_types::EntityId;
+use p21_stream_kinds::Kinds;
+use p21_stream_store::Instances;
+use p21_values::{Name, NoMemory};
+use std::alloc::Global;
+
+/// Adds an instance of a data section, which has a name that none has before it.
+pub(crate) fn store(
+    alloc: Global,
+    kinds: &mut Kinds,
+    instances: &mut Instances,
+    name: Name,
+    section: u32,
+    entities: &[EntityId],
+    line: &[u8],
+) -> Result<(), NoMemory>
+    requires kinds { AreKinds kinds.old instances.old }
+    requires another { Contains (kept_names instances.old) name → ⊥ }
+    ensures kinds { AreKinds kinds.new instances.new }
+    ensures ok { OnOk result (IsPermutation (record { name = name; section = section; entities = ids_view entities.now; text = line.now } ∷ stored_of kinds.old instances.old) (stored_of kinds.new instances.new)) }
+{
+    let kind = match kinds.add(alloc, section, entities) {
+        Ok(kind) => kind,
+        Err(fault) => return Err(fault),
+    };
+    instances.push(name.0, kind, line)
+}
