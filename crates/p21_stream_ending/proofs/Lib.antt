@@ -4,3 +4,7 @@ pub mod Output
 pub mod Lines
 pub mod Headings
 pub mod Blocks
+pub mod Places
+pub mod Zipped
+pub mod Sizes
+pub mod Whole

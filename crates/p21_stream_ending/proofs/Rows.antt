@@ -1,9 +1,13 @@
 -- Rows, one place more.
-use Rattle.std.proofs.Common.{◌≡◌, ◌+◌, ◌<◌, ◌≤◌, ℕ, zero, suc, List, [], ◌∷◌, ◌++◌, Bool, cond, length, take, get_or, nat_eq, inl, inr, Vec, Global, slice_set, refl, sym, ap, subst, ◌∙◌, arith}
+use Rattle.std.proofs.Common.{◌≡◌, ◌+◌, ◌<◌, ◌≤◌, ℕ, zero, suc, List, [], ◌∷◌, ◌++◌, Bool, cond, length, take, get_or, nat_eq, inl, inr, slice_set, refl, sym, ap, subst, ◌∙◌, arith}
 use Rattle.std.proofs.lemmas.Bool.Decides.{eqb_tells}
 use Rattle.std.specs.Prelude.{filter}
-use Rattle.std.proofs.lemmas.List.{append_assoc, append-nil, map-append, take_more, take_all}
-use Rattle.p21_stream_ending.specs.Filing.{empty_rows, filed, rows_of, with_place}
+use Rattle.std.proofs.lemmas.List.{append_assoc, append-nil, take_more, take_all}
+use Rattle.std.specs.List.{AllByRecursion as Each}
+use Rattle.std.specs.Prelude.{slice_get, Some}
+use Rattle.p21_stream_ending.specs.Filing.{filed, heads_of, rows_of, with_place}
+use Rattle.p21_stream_ending.specs.Parts.{AreEmpty}
+use Rattle.p21_stream_ending.specs.declared.parts.Part.{Part}
 
 filed-more : (f : ℕ → ℕ) (order : List ℕ) (place : ℕ) (rows : List (List ℕ)) → filed f (order ++ place ∷ []) rows ≡ with_place (f place) place (filed f order rows)
 filed-more f [] place rows = refl
@@ -18,26 +22,23 @@ more-filed f order k d section old now new low so_far is more =
 pub all-filed : (f : ℕ → ℕ) (order : List ℕ) (k : ℕ) (old now : List (List ℕ)) → length order ≤ k → now ≡ filed f (take k order) old → now ≡ filed f order old
 all-filed f order k old now above so_far = so_far ∙ ap (λ (o : List ℕ). filed f o old) (take_all k order above)
 
-more-empty : (n : ℕ) → empty_rows (suc n) ≡ empty_rows n ++ [] ∷ []
-more-empty zero = refl
-more-empty (suc n) = ap (λ (rows : List (List ℕ)). [] ∷ rows) (more-empty n)
+-- ---- one row is longer, and the names and lines are as before
 
-pub empty-more : (n : ℕ) (old new : List (Vec ℕ Global)) (row : Vec ℕ Global) → rows_of old ≡ empty_rows n → new ≡ old ++ row ∷ [] → row.items ≡ [] → rows_of new ≡ empty_rows (n + 1)
-empty-more n old new row so_far is none =
-    let next : suc n ≡ n + 1 = omega arith in
-    ap rows_of is ∙ map-append (λ (x : Vec ℕ Global). x.items) old (row ∷ []) ∙ ap (λ (rows : List (List ℕ)). rows ++ row.items ∷ []) so_far ∙ ap (λ (ns : List ℕ). empty_rows n ++ ns ∷ []) none ∙ sym (more-empty n) ∙ ap empty_rows next
-
--- ---- one row is longer
-
-pub row-put : (rows : List (Vec ℕ Global)) (section place : ℕ) (old new : Vec ℕ Global) → section < length rows → ((d : Vec ℕ Global) → old ≡ get_or rows section d) → new.items ≡ old.items ++ place ∷ [] → rows_of (slice_set rows section new) ≡ with_place section place (rows_of rows)
+pub row-put : (parts : List Part) (section place : ℕ) (old new : Part) → section < length parts → ((d : Part) → old ≡ get_or parts section d) → new.places.items ≡ old.places.items ++ place ∷ [] → rows_of (slice_set parts section new) ≡ with_place section place (rows_of parts)
 row-put [] section place old new low at longer = absurd (omega (arith, low))
-row-put (row ∷ rows) zero place old new low at longer = ap (λ (ns : List ℕ). ns ∷ rows_of rows) (longer ∙ ap (λ (v : Vec ℕ Global). v.items ++ place ∷ []) (at row))
-row-put (row ∷ rows) (suc section) place old new low at longer = ap (λ (more : List (List ℕ)). row.items ∷ more) (row-put rows section place old new (omega (arith, low)) (λ d. at d) longer)
+row-put (part ∷ parts) zero place old new low at longer = ap (λ (ns : List ℕ). ns ∷ rows_of parts) (longer ∙ ap (λ (x : Part). x.places.items ++ place ∷ []) (at part))
+row-put (part ∷ parts) (suc section) place old new low at longer = ap (λ (more : List (List ℕ)). part.places.items ∷ more) (row-put parts section place old new (omega (arith, low)) (λ d. at d) longer)
 
-pub row-none : (rows : List (Vec ℕ Global)) (section place : ℕ) → length rows ≤ section → rows_of rows ≡ with_place section place (rows_of rows)
+pub row-none : (parts : List Part) (section place : ℕ) → length parts ≤ section → rows_of parts ≡ with_place section place (rows_of parts)
 row-none [] section place above = refl
-row-none (row ∷ rows) zero place above = absurd (omega (arith, above))
-row-none (row ∷ rows) (suc section) place above = ap (λ (more : List (List ℕ)). row.items ∷ more) (row-none rows section place (omega (arith, above)))
+row-none (part ∷ parts) zero place above = absurd (omega (arith, above))
+row-none (part ∷ parts) (suc section) place above = ap (λ (more : List (List ℕ)). part.places.items ∷ more) (row-none parts section place (omega (arith, above)))
+
+pub heads-put : (parts : List Part) (section : ℕ) (old new : Part) → ((d : Part) → old ≡ get_or parts section d) → new.name.items ≡ old.name.items → new.line.items ≡ old.line.items → heads_of (slice_set parts section new) ≡ heads_of parts
+heads-put [] section old new at name line = refl
+heads-put (part ∷ parts) zero old new at name line =
+    ap (λ (n : List ℕ). (n, new.line.items) ∷ heads_of parts) (name ∙ ap (λ (x : Part). x.name.items) (at part)) ∙ ap (λ (l : List ℕ). (part.name.items, l) ∷ heads_of parts) (line ∙ ap (λ (x : Part). x.line.items) (at part))
+heads-put (part ∷ parts) (suc section) old new at name line = ap (λ (more : List (List ℕ × List ℕ)). (part.name.items, part.line.items) ∷ more) (heads-put parts section old new (λ d. at d) name line)
 
 -- ---- what each row holds at the end
 
@@ -80,3 +81,23 @@ row-filed f (place ∷ order) rows i low =
           ap (λ (xs : List ℕ). xs ++ filter (λ (p : ℕ). nat_eq (f p) i) order) (other-row (f place) i place rows differ)
           ∙ ap (λ (b : Bool). get_or rows i [] ++ cond b (place ∷ filter (λ (p : ℕ). nat_eq (f p) i) order) (filter (λ (p : ℕ). nat_eq (f p) i) order)) (sym other)
     ]
+
+row-at : (parts : List Part) (i : ℕ) (part : Part) → slice_get parts i ≡ Some part → (part.places.items ≡ get_or (rows_of parts) i []) × (i < length (rows_of parts))
+row-at [] i part at = cc
+row-at (x ∷ parts) zero part at = let same : x ≡ part = cc in (ap (λ (y : Part). y.places.items) (sym same), omega arith)
+row-at (x ∷ parts) (suc i) part at = let rest = row-at parts i part at in (rest.0, let below = rest.1 in omega (arith, below))
+
+row-empty : (parts : List Part) (i : ℕ) → AreEmpty parts → get_or (rows_of parts) i [] ≡ []
+row-empty [] i none = refl
+row-empty (x ∷ parts) zero none = none.0
+row-empty (x ∷ parts) (suc i) none = row-empty parts i none.1
+
+-- where they held none
+pub part-filed : (f : ℕ → ℕ) (order : List ℕ) (old new : List Part) → AreEmpty old → rows_of new ≡ filed f order (rows_of old) → (i : ℕ) (part : Part) → slice_get new i ≡ Some part → part.places.items ≡ filter (λ (place : ℕ). nat_eq (f place) i) order
+part-filed f order old new none are i part at =
+    let (row, low) = row-at new i part at in
+    let many = ap length are ∙ filed-size f order (rows_of old) in
+    row
+    ∙ ap (λ (rows : List (List ℕ)). get_or rows i []) are
+    ∙ row-filed f order (rows_of old) i (omega (arith, low, many))
+    ∙ ap (λ (ns : List ℕ). ns ++ filter (λ (place : ℕ). nat_eq (f place) i) order) (row-empty old i none)

@@ -3,3 +3,4 @@ pub mod Parts
 pub mod Filing
 pub mod Writing
 pub mod Spelled
+pub mod Ending

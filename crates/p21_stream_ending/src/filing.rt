@@ -1,66 +1,57 @@
 //! The instances of each data section, by rising names.
-ghost use Rattle.std.specs.Prelude.{◌≡◌, length, IfOk, OnOk};
-ghost use Rattle.p21_stream_ending.specs.Filing.{AreKinds, IsFiling, empty_rows, filed, rows_of, section_at, with_place};
+ghost use Rattle.std.specs.Prelude.{◌≡◌, OnOk};
+ghost use Rattle.p21_stream_ending.specs.Filing.{AreKinds, IsFiling, filed, heads_of, rows_of, section_at, with_place};
 
+use crate::parts::Part;
 use p21_stream_kinds::Kinds;
 use p21_stream_store::Instances;
 use p21_values::NoMemory;
 use std::alloc::Global;
 
-/// The places of the instances of each of so many data sections, by rising names.
+/// Adds the places of all instances to those of their data sections, by rising names.
 ///
 /// # Errors
 ///
 /// `NoMemory`.
-pub fn file_instances(
+pub(crate) fn file_instances(
     alloc: Global,
-    sections: usize,
+    parts: &mut Vec<Part>,
     kinds: &Kinds,
     instances: &Instances,
-) -> Result<Vec<Vec<u32>>, NoMemory>
+) -> Result<(), NoMemory>
     requires { AreKinds kinds.now instances.now }
-    ensures { IfOk result (λ rows. IsFiling kinds.now instances.now sections (rows_of rows.items)) }
+    ensures heads { heads_of parts.new.items ≡ heads_of parts.old.items }
+    ensures rows { OnOk result (IsFiling kinds.now instances.now (rows_of parts.old.items) (rows_of parts.new.items)) }
 {
     let order = instances.order(alloc, &[])?;
-    let mut rows = no_places(alloc, sections)?;
-    file(&mut rows, kinds, instances, &order)?;
-    Ok(rows)
+    file(parts, kinds, instances, &order)
 }
 
 /// Adds places behind those of their sections.
 fn file(
-    rows: &mut Vec<Vec<u32>>,
+    parts: &mut Vec<Part>,
     kinds: &Kinds,
     instances: &Instances,
     order: &[u32],
 ) -> Result<(), NoMemory>
     requires { AreKinds kinds.now instances.now }
-    ensures { OnOk result (rows_of rows.new.items ≡ filed (section_at kinds.now instances.now) order.now (rows_of rows.old.items)) }
+    ensures heads { heads_of parts.new.items ≡ heads_of parts.old.items }
+    ensures rows { OnOk result (rows_of parts.new.items ≡ filed (section_at kinds.now instances.now) order.now (rows_of parts.old.items)) }
 {
     for place in order {
         let section = section_of(kinds, instances, *place);
-        put(rows, section, *place)?;
+        put(parts, section, *place)?;
     }
     Ok(())
 }
 
-/// No place for each of so many sections.
-fn no_places(alloc: Global, sections: usize) -> Result<Vec<Vec<u32>>, NoMemory>
-    ensures { IfOk result (λ rows. rows_of rows.items ≡ empty_rows sections) }
-{
-    let mut rows = Vec::new(alloc);
-    for _ in 0..sections {
-        rows.push(Vec::new(alloc))?;
-    }
-    Ok(rows)
-}
-
 /// Adds a place to a section, if there is one of this number.
-fn put(rows: &mut Vec<Vec<u32>>, section: u32, place: u32) -> Result<(), NoMemory>
-    ensures { OnOk result (rows_of rows.new.items ≡ with_place section place (rows_of rows.old.items)) }
+fn put(parts: &mut Vec<Part>, section: u32, place: u32) -> Result<(), NoMemory>
+    ensures heads { heads_of parts.new.items ≡ heads_of parts.old.items }
+    ensures rows { OnOk result (rows_of parts.new.items ≡ with_place section place (rows_of parts.old.items)) }
 {
-    if let Some(row) = rows.get_mut(section as usize) {
-        row.push(place)?;
+    if let Some(part) = parts.get_mut(section as usize) {
+        part.places.push(place)?;
     }
     Ok(())
 }
