@@ -2,5 +2,6 @@ pub mod Stepping
 pub mod SectionNames
 pub mod Instances
 pub mod ByKind
+pub mod Ended
 pub mod Unserved
 pub mod Finding

@@ -10,7 +10,7 @@ ghost use Rattle.p21_stream_kept.specs.Steps.{StepGives, StepKeepsBound, TakesLi
 use crate::found::found_of;
 use crate::room::has_room;
 use crate::served::{first_unserved, wait};
-use crate::stored::store;
+use crate::stored::{has_instance, store};
 use p21_canon_header::write_header;
 use p21_express_tables::Schema;
 use p21_grammar_machine::Line;
@@ -50,11 +50,10 @@ pub struct Reference {
     pub need: Need,
 }
 
-/// A data section: the record that begins it, where it has a name, and its canonical line.
+/// A data section: the record that begins it, where it has a name.
 #[derive(Drop)]
 pub(crate) struct Section {
     pub(crate) part: Option<Part>,
-    pub(crate) line: Vec<u8>,
 }
 
 impl Model for Kept {
@@ -99,7 +98,7 @@ impl Kept {
         if !has_room(limits, self.bytes, self.framing, size) {
             return Err(Fault::CanonicalTooLong);
         }
-        let Ok(()) = begin_section(self.alloc, &mut self.sections, line) else {
+        let Ok(()) = begin_section(&mut self.sections, line) else {
             return Err(Fault::NoMemory);
         };
         self.framing += size + 1;
@@ -132,10 +131,7 @@ impl Kept {
         if !has_room(limits, self.bytes, self.framing, bytes) {
             return Err(Fault::CanonicalTooLong);
         }
-        let section = Section {
-            part: Some(part),
-            line,
-        };
+        let section = Section { part: Some(part) };
         let Ok(()) = add_section(&mut self.sections, section) else {
             return Err(Fault::NoMemory);
         };
@@ -182,7 +178,7 @@ impl Kept {
         ensures gives { StepGives schema.now limits self.old (instance name (record_view of)) result self.new }
         ensures bound { StepKeepsBound limits self.old self.new }
     {
-        if let Some(_) = self.instances.find(name.0) {
+        if has_instance(&self.instances, name) {
             return Err(Fault::DuplicateName);
         }
         let found = match found_of(self.alloc, schema, name, of) {
@@ -281,13 +277,12 @@ ghost use Rattle.p21_claim_steps.specs.Keeping.{headings_behind};
 ghost use Rattle.p21_stream_kept.specs.Inside.{headings_of};
 
 /// Adds a data section where the line begins one.
-fn begin_section(alloc: Global, sections: &mut Vec<Section>, line: Line) -> Result<(), NoMemory>
+fn begin_section(sections: &mut Vec<Section>, line: Line) -> Result<(), NoMemory>
     ensures ok { OnOk result (headings_of sections.new.items ≡ headings_behind (headings_of sections.old.items) (line_of line)) }
 {
     match line {
         Line::DataStart => {
-            let line = Vec::from_slice(alloc, b"DATA;")?;
-            sections.push(Section { part: None, line })?;
+            sections.push(Section { part: None })?;
             Ok(())
         }
         _ => Ok(()),
@@ -326,7 +321,7 @@ fn has_name(section: &Section, name: &Text) -> bool
 }
 
 /// The canonical line that begins a data section with a name, its line feed apart.
-fn heading_line(alloc: Global, name: &Text, text: &Text) -> Result<Vec<u8>, NoMemory>
+pub(crate) fn heading_line(alloc: Global, name: &Text, text: &Text) -> Result<Vec<u8>, NoMemory>
     ensures { IfOk result (λ line. line.items ≡ statement_text (section (data_start (named name.now text.now)))) }
 {
     let mut line = Vec::from_slice(alloc, b"DATA(")?;

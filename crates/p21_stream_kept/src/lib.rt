@@ -1,6 +1,7 @@
 //! What a session keeps of the statements of a file that it has taken.
 #![tactic(auto)]
 
+mod end;
 mod found;
 mod kept;
 mod room;

@@ -1,0 +1,49 @@
+-- What is kept at the end.
+use Rattle.std.proofs.Common.{◌≡◌, ◌+◌, ◌<◌, ℕ, List, [], ◌∷◌, ◌++◌, length, map, take, get_or, sym, subst, ap, ◌∙◌}
+use Rattle.std.proofs.lemmas.List.{map-append, take_more}
+use Rattle.std.proofs.lemmas.Result.{IfOk-weaker}
+use Rattle.std.proofs.lemmas.Slice.Zip.{all_zipped_more}
+use Rattle.std.specs.List.{AllZip, IsDistinct}
+use Rattle.std.specs.Prelude.{IfOk, Result}
+use Rattle.std.specs.Str.{bytes_eq}
+use Rattle.p21_basics.proofs.Members.{Each-append}
+use Rattle.p21_basics.specs.Limits.{Limits}
+use Rattle.p21_claim_steps.proofs.Keeps.{keeps-section_names}
+use Rattle.p21_claim_steps.proofs.Output.{keeps-names_differ}
+use Rattle.p21_claim_steps.specs.Keeping.{Keeps, Kept}
+use Rattle.p21_exchange.specs.DataSection.{Heading}
+use Rattle.p21_exchange.specs.Statement.{Statement}
+use Rattle.p21_schemas.specs.Schema.{Schema}
+use Rattle.p21_stream_ending.specs.Ending.{HasNamesOnce, IsEndOf, StandsIn}
+use Rattle.p21_stream_ending.specs.Parts.{AreEmpty, Begins}
+use Rattle.p21_stream_ending.specs.declared.parts.Part.{Part}
+use Rattle.p21_stream_kept.specs.Inside.{heading_in, headings_of}
+use Rattle.p21_stream_kept.specs.declared.kept.Section.{Section}
+use Rattle.p21_stream_accepted.specs.Output.{Output}
+use Rattle.p21_stream_kinds.specs.Kinds.{Kind}
+use Rattle.p21_stream_store.specs.Kept as store
+
+-- names differ
+pub keeps-names_once : (s : Schema) (limits : Limits) (given : List Statement) (kept : Kept) → Keeps s limits given kept → HasNamesOnce kept
+keeps-names_once s limits given kept keeps = record {
+  sections = subst (λ (ns : List (List ℕ)). IsDistinct bytes_eq ns) (keeps-section_names s limits given kept keeps) keeps.grown.section_names_differ;
+  instances = keeps-names_differ s limits given kept keeps;
+}
+
+-- a section more
+pub parts-more : (sections : List Section) (k : ℕ) (d : Section) (old new : List Part) (part : Part) → k < length sections → new ≡ old ++ part ∷ [] → AllZip Begins (headings_of (take k sections)) old → Begins (heading_in (get_or sections k d).part) part → AllZip Begins (headings_of (take (k + 1) sections)) new
+parts-more sections k d old new part low is so_far begins =
+    let P : List Heading → Type 0 = λ hs. AllZip Begins hs new in
+    let Q : List Part → Type 0 = λ ps. AllZip Begins (headings_of (take k sections) ++ heading_in (get_or sections k d).part ∷ []) ps in
+    subst P (sym (ap headings_of (take_more sections k d low) ∙ map-append (λ (x : Section). heading_in x.part) (take k sections) (get_or sections k d ∷ [])))
+    (subst Q (sym is) (all_zipped_more Begins (headings_of (take k sections)) old (heading_in (get_or sections k d).part) part so_far begins))
+
+pub empty-more : (old new : List Part) (part : Part) → new ≡ old ++ part ∷ [] → AreEmpty old → part.places.items ≡ [] → AreEmpty new
+empty-more old new part is so_far none = subst AreEmpty (sym is) (Each-append (λ (x : Part). x.places.items ≡ []) old (part ∷ []) so_far (none, tt))
+
+-- what stands in these has this end
+pub end-is : {E : Type 0} (kept : Kept) (header : List ℕ) (parts : List Part) (kinds : List Kind) (instances : List store.Kept) (result : Result Output E) → StandsIn kept header parts kinds instances
+    → IfOk result (λ (file : Output). (k : Kept) → StandsIn k header parts kinds instances → HasNamesOnce k → IsEndOf k file) → IfOk result (λ (file : Output). (s : Schema) (limits : Limits) (given : List Statement) → Keeps s limits given kept → IsEndOf kept file)
+end-is kept header parts kinds instances result stands ends =
+    IfOk-weaker result (λ (file : Output). (k : Kept) → StandsIn k header parts kinds instances → HasNamesOnce k → IsEndOf k file) (λ (file : Output). (s : Schema) (limits : Limits) (given : List Statement) → Keeps s limits given kept → IsEndOf kept file)
+    (λ file each s limits given keeps. each kept stands (keeps-names_once s limits given kept keeps)) ends

@@ -1,0 +1,11 @@
+use Rattle.std.proofs.Common.{take}
+use Rattle.std.specs.List.{AllZip}
+use Rattle.p21_stream_ending.specs.Parts.{AreEmpty, Begins}
+use Rattle.p21_stream_kept.specs.Inside.{headings_of}
+use Rattle.p21_stream_kept.proofs.end.parts_of.Given as goal
+
+abbrev pub invariant-loop-section : goal.invariant-loop-section
+invariant-loop-section l = record {
+  begin : AllZip Begins (headings_of (take l.section-index l.sections)) l.parts.items;
+  empty : AreEmpty l.parts.items;
+}

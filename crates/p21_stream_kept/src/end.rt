@@ -1,0 +1,95 @@
+//! The end of an accepted file.
+ghost use Rattle.std.specs.List.{AllZip};
+ghost use Rattle.std.specs.Prelude.{◌≡◌, [], IfOk, List};
+ghost use Rattle.p21_basics.specs.Limits.{Limits};
+ghost use Rattle.p21_claim_steps.specs.Keeping.{Keeps};
+ghost use Rattle.p21_exchange.specs.DataSection.{named, unnamed};
+ghost use Rattle.p21_exchange.specs.Statement.{Statement};
+ghost use Rattle.p21_schemas.specs.Schema.{Schema};
+ghost use Rattle.p21_stream_ending.specs.Ending.{IsEndOf};
+ghost use Rattle.p21_stream_ending.specs.Parts.{AreEmpty, Begins};
+ghost use Rattle.p21_stream_kept.specs.Inside.{heading_in, headings_of};
+
+use crate::kept::{Kept, Section, heading_line};
+use p21_stream_accepted::Accepted;
+use p21_stream_ending::{Part, accepted};
+use p21_stream_header::heading;
+use p21_values::{Canonical, NoMemory, Text};
+use std::alloc::Global;
+
+impl Kept {
+    /// The accepted file of what is kept, where the statements are those of a whole file and all references are served.
+    ///
+    /// # Errors
+    ///
+    /// `NoMemory`.
+    pub fn into_accepted(self) -> Result<Accepted, NoMemory>
+        ensures { IfOk result (λ file. (s : Schema) (limits : Limits) (given : List Statement) → Keeps s limits given self → IsEndOf self file) }
+    {
+        let Kept {
+            alloc,
+            header,
+            sections,
+            kinds,
+            instances,
+            ..
+        } = self;
+        let parts = parts_of(alloc, &sections)?;
+        accepted(alloc, header, parts, &kinds, instances)
+    }
+}
+
+/// The data sections as they begin, in the order of the source.
+fn parts_of(alloc: Global, sections: &[Section]) -> Result<Vec<Part>, NoMemory>
+    ensures begin { IfOk result (λ parts. AllZip Begins (headings_of sections.now) parts.items) }
+    ensures empty { IfOk result (λ parts. AreEmpty parts.items) }
+{
+    let mut parts = Vec::new(alloc);
+    for section in sections {
+        let part = part_of(alloc, section)?;
+        parts.push(part)?;
+    }
+    Ok(parts)
+}
+
+/// A data section as it begins.
+fn part_of(alloc: Global, section: &Section) -> Result<Part, NoMemory>
+    ensures begins { IfOk result (λ part. Begins (heading_in section.now.part) part) }
+    ensures empty { IfOk result (λ part. part.places.items ≡ []) }
+{
+    let Some(record) = &section.part else {
+        return unnamed_part(alloc);
+    };
+    match heading(record) {
+        Some((name, text)) => named_part(alloc, name, text),
+        None => unnamed_part(alloc),
+    }
+}
+
+/// A data section with a name as it begins.
+fn named_part(alloc: Global, name: &Text, text: &Text) -> Result<Part, NoMemory>
+    ensures begins { IfOk result (λ part. Begins (named name.now text.now) part) }
+    ensures empty { IfOk result (λ part. part.places.items ≡ []) }
+{
+    name.holds();
+    let line = heading_line(alloc, name, text)?;
+    let mut spelled = Vec::new(alloc);
+    name.write_canonical(&mut spelled)?;
+    Ok(Part {
+        name: spelled,
+        line,
+        places: Vec::new(alloc),
+    })
+}
+
+/// A data section without a name as it begins.
+fn unnamed_part(alloc: Global) -> Result<Part, NoMemory>
+    ensures begins { IfOk result (λ part. Begins unnamed part) }
+    ensures empty { IfOk result (λ part. part.places.items ≡ []) }
+{
+    Ok(Part {
+        name: Vec::new(alloc),
+        line: Vec::from_slice(alloc, b"DATA;")?,
+        places: Vec::new(alloc),
+    })
+}
