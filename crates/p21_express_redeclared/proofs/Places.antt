@@ -4,7 +4,7 @@ use Rattle.std.proofs.Common.{arith, ap, sym, ◌∙◌, subst, inl, inr, get_or
 use Rattle.std.proofs.lemmas.Bool.{cases_eq}
 use Rattle.std.proofs.lemmas.Option.{slice_get_within}
 use Rattle.p21_basics.proofs.Members.{Contains-none, Contains-first, Contains-later, Contains-cases, Contains-one_of, Contains-flat_map}
-use Rattle.p21_schemas.specs.Order.{order, places, own_places}
+use Rattle.p21_schemas.specs.Order.{order, own_places}
 use Rattle.p21_schemas.specs.Redeclaration.{IsOwnPlace, IsPlaceOf, IsProperSupertype, RedeclaresPlace, HasNoPlace}
 use Rattle.p21_schemas.specs.Schema.{Schema, Place, EntityNamed, PlaceNamed, attributes_of}
 use Rattle.p21_schemas.specs.Supertype.{IsA}
@@ -15,7 +15,7 @@ use Rattle.p21_express_redeclared.specs.declared.lookups.Sought.{Sought}
 use Rattle.p21_express_redeclared.specs.declared.lookups.Sought.TheVariants as sought
 use Rattle.p21_express_tables.specs.Lookups.{places_from}
 use Rattle.p21_express_tables.specs.Orders.{numbers}
-use Rattle.p21_express_tables.specs.Resolved.{HoldsTogether, IsPlace}
+use Rattle.p21_express_tables.specs.Resolved.{HoldsTogether}
 use Rattle.p21_express_tables.proofs.Gatherings.{numbered-at}
 use Rattle.p21_express_tables.proofs.Lookups.{each-number, own-places-are}
 use Rattle.p21_express_tables.proofs.OrderTables.{IsA-within, are-entities}
@@ -58,15 +58,6 @@ places_from-within e k (suc n) place among = elim (Contains-cases (record { enti
   | inr h ↦ (let (same, below) = places_from-within e (k + 1) n place h in (same, omega (arith, below)))
 ]
 
--- what an entity has places of are places of the schema
-pub places-within : (s : Schema) (e : ℕ) (place : Place) → Contains (places s e) place → IsPlace s place
-places-within s e place among =
-    let (f, in_order, own) = Contains-one_of (own_places s) (order s e) place among in
-    let P : List Place → Type 0 = λ ps. Contains ps place in
-    let (same, below) = places_from-within f 0 (length (attributes_of s f)) place (subst P (sym (own-places-are s f)) own) in
-    let Q : ℕ → Type 0 = λ g. place.index < length (attributes_of s g) in
-    subst Q same (omega (arith, below))
-
 places_from-has : (e k n i : ℕ) → i < n → Contains (places_from e k n) (record { entity = e; index = k + i })
 places_from-has e k zero i below = absurd (omega (arith, below))
 places_from-has e k (suc n) zero below =
@@ -96,10 +87,6 @@ owner-place s e f name place in_order (same, named) =
     let zero_ : 0 + place.index ≡ place.index = omega arith in
     let is : at f (0 + place.index) ≡ place = ap (at f) zero_ ∙ ap (λ g. at g place.index) (sym same) in
     (Contains-flat_map (own_places s) (order s e) f place in_order (subst (Contains (own_places s f)) is own), named)
-
--- none of the entities of the order declares a place of the name itself
-pub none-of-owners : (s : Schema) (e : ℕ) (name : List ℕ) → ((f : ℕ) → Contains (order s e) f → (place : Place) → IsOwnPlace s f name place → ⊥) → HasNoPlace s e name
-none-of-owners s e name none place is = let (f, in_order, own) = place-owner s e name place is in none f in_order place own
 
 -- the place that a name stands for is a place of the entity
 pub place-of : (s : Schema) (e : ℕ) (name : List ℕ) (place : Place) → IsPlaceIn s e name place → IsPlaceOf s e name place
