@@ -12,4 +12,6 @@ mod outlines;
 mod types;
 
 pub use fault::SchemaFault;
+pub use names::{Known, known_names};
 pub use outlines::outline;
+pub use types::resolve_type;

@@ -138,7 +138,11 @@ fn check_apart(entities: &Names, types: &[DefinedType]) -> Result<(), SchemaFaul
 }
 
 /// The names of all entities and types, which are different.
-pub(crate) fn known_names(alloc: Global, declarations: &Declarations) -> Result<Known, SchemaFault>
+///
+/// # Errors
+///
+/// `Duplicate` for a name twice, `NoMemory`.
+pub fn known_names(alloc: Global, declarations: &Declarations) -> Result<Known, SchemaFault>
     ensures { KnowsNames (kept_named (schema_view declarations.now)) result }
 {
     let mut entities = Names::new(alloc);

@@ -93,8 +93,12 @@ fn around(alloc: Global, aggregate: Aggregate, element: TypeUse) -> Result<TypeU
     })
 }
 
-/// The type that is written.
-pub(crate) fn resolve_type(
+/// The type that is written, with its name resolved.
+///
+/// # Errors
+///
+/// `UnknownName` for a name that isn't declared, `NoMemory`.
+pub fn resolve_type(
     alloc: Global,
     known: &Known,
     written: &DataType,

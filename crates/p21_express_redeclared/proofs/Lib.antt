@@ -1,1 +1,5 @@
+pub mod Deriving
+pub mod Explicit
+pub mod Keys
 pub mod Places
+pub mod Redeclaring

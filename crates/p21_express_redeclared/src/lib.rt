@@ -1,6 +1,10 @@
-//! The places that redeclarations stand for (ISO 10303-11, Attribute redeclaration).
+//! What the entities of a schema redeclare (ISO 10303-11, Attribute redeclaration).
 #![tactic(auto)]
 
+mod derived;
+mod distinct;
 mod lookups;
+mod redeclarations;
+mod redeclared;
 
-pub use lookups::{own_place, proper_supertype};
+pub use redeclarations::{Redeclarations, redeclarations_of};

@@ -3,9 +3,11 @@
 #![tactic(auto)]
 
 mod arranged;
+mod by_reference;
 mod check;
 mod fitted;
 
+pub use by_reference::check_record;
 pub use check::check_moved;
 pub use p21_mapping_sets::serves;
 pub use p21_mapping_values::{CheckFault, Ids, Need, Rows, Typed, Value, Values};

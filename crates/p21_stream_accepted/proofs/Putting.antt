@@ -41,14 +41,14 @@ part_more old new w x y a = record {
 
 -- ---- rows
 
-row-more : {X Y : Type 0} (g : Y → List ℕ) (h : X → Y) (xs : List X) (k : ℕ) (d : X) → k < length xs → flat_map g (map h (take (k + 1) xs)) ≡ flat_map g (map h (take k xs)) ++ g (h (get_or xs k d))
+pub row-more : {X Y : Type 0} (g : Y → List ℕ) (h : X → Y) (xs : List X) (k : ℕ) (d : X) → k < length xs → flat_map g (map h (take (k + 1) xs)) ≡ flat_map g (map h (take k xs)) ++ g (h (get_or xs k d))
 row-more {X} {Y} g h xs k d low =
     ap (λ (ys : List X). flat_map g (map h ys)) (take_more xs k d low)
     ∙ ap (flat_map g) (map-append h (take k xs) (get_or xs k d ∷ []))
     ∙ flat_map-append g (map h (take k xs)) (h (get_or xs k d) ∷ [])
     ∙ ap (λ (l : List ℕ). flat_map g (map h (take k xs)) ++ l) (append-nil (g (h (get_or xs k d))))
 
-row-rest : {X Y : Type 0} (g : Y → List ℕ) (h : X → Y) (xs : List X) (n : ℕ) → flat_map g (map h xs) ≡ flat_map g (map h (take n xs)) ++ flat_map g (map h (drop n xs))
+pub row-rest : {X Y : Type 0} (g : Y → List ℕ) (h : X → Y) (xs : List X) (n : ℕ) → flat_map g (map h xs) ≡ flat_map g (map h (take n xs)) ++ flat_map g (map h (drop n xs))
 row-rest {X} {Y} g h xs n =
     ap (λ (ys : List X). flat_map g (map h ys)) (sym (take-append-drop n xs)) ∙ ap (flat_map g) (map-append h (take n xs) (drop n xs)) ∙ flat_map-append g (map h (take n xs)) (map h (drop n xs))
 

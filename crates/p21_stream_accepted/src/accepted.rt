@@ -1,4 +1,4 @@
-ghost use Rattle.std.specs.Prelude.{◌≡◌, ℕ, length, Contains, IfSome, IsNone, OnErr, OnOk};
+ghost use Rattle.std.specs.Prelude.{◌≡◌, ◌↔◌, ℕ, length, Contains, IfSome, IsNone, IsTrue, OnErr, OnOk};
 ghost use Rattle.std.specs.Io.KnownBytes.{Appends};
 ghost use Rattle.p21_stream_accepted.specs.Output.{output_text};
 ghost use Rattle.p21_stream_accepted.specs.Stored.{ArePlaced, output_of};
@@ -6,6 +6,7 @@ ghost use Rattle.p21_stream_io.specs.Transfer.{AppendsPartOf};
 ghost use Rattle.p21_stream_io.specs.Watch.{counted};
 ghost use Rattle.p21_stream_store.specs.Kept.{Kept, kept_names};
 
+use crate::compare::is_file;
 use crate::output::write_file;
 use p21_stream_io::{Watched, WriteFault};
 use p21_stream_store::Instances;
@@ -97,5 +98,12 @@ impl Accepted {
         ensures failed { OnErr result (writer.new.failures ≡ counted writer.old.failures) }
     {
         write_file(writer, &self.header, &self.sections, &self.instances)
+    }
+
+    /// Whether a text is the canonical file. It takes no memory.
+    pub fn is_text(&self, text: &[u8]) -> bool
+        ensures { IsTrue result ↔ (text.now ≡ output_text self.now) }
+    {
+        is_file(text, &self.header, &self.sections, &self.instances)
     }
 }

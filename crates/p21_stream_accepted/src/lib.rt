@@ -1,7 +1,8 @@
-//! An accepted file: its canonical lines in their order, and how they are written.
+//! An accepted file: its canonical lines in their order, how they are written, and whether a text is theirs.
 #![tactic(auto)]
 
 mod accepted;
+mod compare;
 mod output;
 
 pub use accepted::{Accepted, Section};

@@ -1,3 +1,4 @@
+use crate::compare::is_file;
 use crate::output::write_file;
 use p21_stream_io::Watched;
 use p21_stream_store::Instances;
@@ -53,4 +54,19 @@ fn writes_a_beginning_where_the_writer_is_full(rt: HostRuntime) -> Result<(), Fa
         b"ISO-10303-21;\nHEADER".as_slice()
     );
     Ok(())
+}
+
+#[test]
+fn tells_the_text_of_a_file_from_others(rt: HostRuntime) {
+    let instances = Instances::new(rt.alloc());
+    let text = b"ISO-10303-21;\nHEADER;\nA();\nENDSEC;\nEND-ISO-10303-21;\n".as_slice();
+    assert!(rt; is_file(text, b"A();\n", &[], &instances));
+    for other in [
+        b"ISO-10303-21;\nHEADER;\nB();\nENDSEC;\nEND-ISO-10303-21;\n".as_slice(),
+        b"ISO-10303-21;\nHEADER;\nA();\nENDSEC;\nEND-ISO-10303-21;".as_slice(),
+        b"ISO-10303-21;\nHEADER;\nA();\nENDSEC;\nEND-ISO-10303-21;\n\n".as_slice(),
+        b"".as_slice(),
+    ] {
+        assert!(rt; !is_file(other, b"A();\n", &[], &instances));
+    }
 }

@@ -1,0 +1,4 @@
+pub mod Derived
+pub mod Explicit
+pub mod Found
+pub mod Sought

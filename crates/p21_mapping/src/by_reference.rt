@@ -1,0 +1,26 @@
+ghost use Rattle.p21_grammar_tree.specs.View.{record_view};
+ghost use Rattle.p21_mapping.specs.Checked.{ChecksRecord};
+
+use crate::check::check_moved;
+use p21_express_tables::Schema;
+use p21_grammar_tree::Record;
+use p21_mapping_copies::copied_record;
+use p21_mapping_values::{CheckFault, Need, Typed};
+use std::alloc::Global;
+
+/// Checks a record against a schema as `check_moved` does, and leaves the record as it is: the typed record has copies of its
+/// texts, numbers and names.
+///
+/// # Errors
+///
+/// Those of `check_moved`, in the same order.
+pub fn check_record(
+    alloc: Global,
+    schema: &Schema,
+    of: &Record,
+) -> Result<(Typed, Vec<Need>), CheckFault>
+    ensures { ChecksRecord schema.now (record_view of.now) result }
+{
+    let copy = copied_record(alloc, of)?;
+    check_moved(alloc, schema, copy)
+}

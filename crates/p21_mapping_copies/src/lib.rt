@@ -1,0 +1,11 @@
+//! Copies of records, each of which stands for the same tree of the definitions.
+#![tactic(auto)]
+
+mod param;
+mod record;
+mod scalar;
+#[cfg(test)]
+mod tests;
+
+pub use param::{copied_param, copied_params};
+pub use record::copied_record;

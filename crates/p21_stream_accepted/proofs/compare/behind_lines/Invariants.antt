@@ -1,0 +1,8 @@
+use Rattle.std.proofs.Common.{◌≡◌, ◌++◌, map, take}
+use Rattle.std.specs.List.{flat_map}
+use Rattle.p21_stream_accepted.specs.Output.{line_of}
+use Rattle.p21_stream_accepted.specs.Stored.{text_at}
+use Rattle.p21_stream_accepted.proofs.compare.behind_lines.Given as goal
+
+abbrev pub invariant-loop-place : goal.invariant-loop-place
+invariant-loop-place l = l.text ≡ flat_map line_of (map (text_at l.instances) (take l.place-index l.places)) ++ l.left
