@@ -3,7 +3,6 @@ use Rattle.std.proofs.Common.{◌≡◌, ◌+◌, ◌<◌, ◌≤◌, ℕ, zero,
 use Rattle.std.proofs.lemmas.Bool.Decides.{eqb_tells}
 use Rattle.std.specs.Prelude.{filter}
 use Rattle.std.proofs.lemmas.List.{append_assoc, append-nil, take_more, take_all}
-use Rattle.std.specs.List.{AllByRecursion as Each}
 use Rattle.std.specs.Prelude.{slice_get, Some}
 use Rattle.p21_stream_ending.specs.Filing.{filed, heads_of, rows_of, with_place}
 use Rattle.p21_stream_ending.specs.Parts.{AreEmpty}
