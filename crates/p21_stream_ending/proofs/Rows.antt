@@ -2,8 +2,7 @@
 use Rattle.std.proofs.Common.{◌≡◌, ◌+◌, ◌<◌, ◌≤◌, ℕ, zero, suc, List, [], ◌∷◌, ◌++◌, Bool, cond, length, take, get_or, nat_eq, inl, inr, slice_set, refl, sym, ap, subst, ◌∙◌, arith}
 use Rattle.std.proofs.lemmas.Bool.Decides.{eqb_tells}
 use Rattle.std.specs.Prelude.{filter}
-use Rattle.std.proofs.lemmas.List.{append_assoc, append-nil, take_more, take_all}
-use Rattle.std.specs.List.{AllByRecursion as Each}
+use Rattle.std.proofs.lemmas.List.{append_assoc, append-nil, take_more}
 use Rattle.std.specs.Prelude.{slice_get, Some}
 use Rattle.p21_stream_ending.specs.Filing.{filed, heads_of, rows_of, with_place}
 use Rattle.p21_stream_ending.specs.Parts.{AreEmpty}
@@ -17,10 +16,6 @@ filed-more f (x ∷ order) place rows = filed-more f order place (with_place (f 
 pub more-filed : (f : ℕ → ℕ) (order : List ℕ) (k d section : ℕ) (old now new : List (List ℕ)) → k < length order → now ≡ filed f (take k order) old → section ≡ f (get_or order k d) → new ≡ with_place section (get_or order k d) now → new ≡ filed f (take (k + 1) order) old
 more-filed f order k d section old now new low so_far is more =
     more ∙ ap (λ (n : ℕ). with_place n (get_or order k d) now) is ∙ ap (with_place (f (get_or order k d)) (get_or order k d)) so_far ∙ sym (filed-more f (take k order) (get_or order k d) old) ∙ ap (λ (o : List ℕ). filed f o old) (sym (take_more order k d low))
-
--- all are
-pub all-filed : (f : ℕ → ℕ) (order : List ℕ) (k : ℕ) (old now : List (List ℕ)) → length order ≤ k → now ≡ filed f (take k order) old → now ≡ filed f order old
-all-filed f order k old now above so_far = so_far ∙ ap (λ (o : List ℕ). filed f o old) (take_all k order above)
 
 -- ---- one row is longer, and the names and lines are as before
 

@@ -19,7 +19,3 @@ size-more {X} {Y} g h xs k d size now new text low is so_far more =
 -- all of them
 pub size-all : {X Y : Type 0} (g : Y → List ℕ) (h : X → Y) (xs : List X) (k size now : ℕ) → length xs ≤ k → now ≡ size + length (flat_map g (map h (take k xs))) → now ≡ size + length (flat_map g (map h xs))
 size-all {X} g h xs k size now above so_far = so_far ∙ ap (λ (ys : List X). size + length (flat_map g (map h ys))) (take_all k xs above)
-
--- three texts
-pub size-three : (a b c : List ℕ) (size first second third : ℕ) → first ≡ size + length a → second ≡ first + length b → third ≡ second + length c → third ≡ size + length (a ++ (b ++ c))
-size-three a b c size first second third one two three = let x = length-append a (b ++ c) in let y = length-append b c in omega (arith, x, y, one, two, three)

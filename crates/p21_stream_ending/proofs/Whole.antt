@@ -15,7 +15,6 @@ use Rattle.p21_exchange.specs.CanonicalText.{statement_text}
 use Rattle.p21_exchange.specs.DataSection.{Heading, heading_names, unnamed}
 use Rattle.p21_exchange.specs.Statement.{data_start, section}
 use Rattle.p21_files.specs.Canonical.{AreSectionsRising}
-use Rattle.p21_stream_accepted.specs.Output.{Written}
 use Rattle.p21_stream_accepted.specs.Stored.{ArePlaced, ArePlaces, output_of, texts_at, written_of}
 use Rattle.p21_stream_accepted.specs.declared.accepted.Section.{Section}
 use Rattle.p21_stream_ending.proofs.Blocks.{blocks-sorted}
@@ -26,7 +25,7 @@ use Rattle.p21_stream_ending.proofs.Places.{all-lines, filter-by_section, names-
 use Rattle.p21_stream_ending.proofs.Rows.{part-filed}
 use Rattle.p21_stream_ending.proofs.Sorting.{DoNotFall, sorted-none_falls}
 use Rattle.p21_stream_ending.proofs.Zipped.{zip-permuted}
-use Rattle.p21_stream_ending.specs.Ending.{HasNamesOnce, IsEndOf, StandsIn, stored_of}
+use Rattle.p21_stream_ending.specs.Ending.{HasNamesOnce, IsEndOf, StandsIn}
 use Rattle.p21_stream_ending.specs.Filing.{IsFiling, heads_of, rows_of, section_at}
 use Rattle.p21_stream_ending.specs.Parts.{AreEmpty, AreSorted, Begins, bodies_of, sections_bodies}
 use Rattle.p21_stream_ending.specs.Spelled.{spelled_name}

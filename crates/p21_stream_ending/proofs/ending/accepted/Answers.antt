@@ -1,6 +1,3 @@
-use Rattle.std.proofs.Common.{List, sym, subst, ◌∙◌}
-use Rattle.p21_stream_accepted.specs.Stored.{ArePlaced}
-use Rattle.p21_stream_accepted.specs.declared.accepted.Section.{Section}
 use Rattle.p21_stream_ending.proofs.Whole.{ended, placed}
 use Rattle.p21_stream_ending.proofs.ending.accepted.Goals as goal
 
