@@ -1,6 +1,6 @@
 -- An outline holds together once no chain of it comes back.
 use Rattle.std.specs.Prelude.{◌≡◌, ℕ, ◌<◌, ◌^◌, List, [], ◌∷◌, ◌++◌, length, map, Option, Some, None, slice_get, Contains, refl}
-use Rattle.std.specs.List.{IsDistinct, AllByRecursion as Each}
+use Rattle.std.specs.List.{IsDistinct, enumerate_from, AllByRecursion as Each}
 use Rattle.std.specs.Str.{bytes_eq}
 use Rattle.std.proofs.Common.{arith, ap, sym, ◌∙◌, subst, inl, inr}
 use Rattle.std.proofs.lemmas.List.{length-map}
@@ -11,15 +11,21 @@ use Rattle.p21_schemas.specs.Schema as schema
 use Rattle.p21_schemas.specs.Schema.{Schema, TypeUse, Member, entity_member, type_member, Kind, Attribute, Redeclared, Place, Entity, Defined}
 use Rattle.p21_schemas.specs.Declared.{HasNoCircle, HasSupertype, Renames, HasSelect}
 use Rattle.p21_schemas.specs.SchemaDeclaration.{SchemaDeclaration, entities_of}
+use Rattle.p21_schemas.specs.Redeclaration.{RedeclaresPlace}
 use Rattle.p21_schemas.specs.WellFormed.{RedeclaresOnce}
-use Rattle.p21_schemas.proofs.DeclaredSchemas.{distinct_names-entities, distinct_names-types}
+use Rattle.p21_schemas.proofs.DeclaredSchemas.{distinct_names-entities, distinct_names-types, declared-redeclares_once}
+use Rattle.p21_express.specs.ReadSchema.{AreOfText, IsBareSchema}
 use Rattle.p21_express.proofs.Counted.{few-attributes}
 use Rattle.p21_express.proofs.Outlines.{outline-few}
 use Rattle.p21_express_circles.specs.Chains.{AreMembers}
+use Rattle.p21_express_redeclared.proofs.Places.{named-within}
 use Rattle.p21_express_resolve.specs.Bare.{bare, bare_entity}
-use Rattle.p21_express_resolve.specs.Outline.{Named, kept_named, IsNamed, SimpleIs, KeptKindIs, MemberIs, KeptAttributeIs, KeptOneOfIs, EntityOutline, TypeOutline, IsOutline, kept_own, kept_one_of, aggregates_of}
+use Rattle.p21_express_resolve.specs.DeclaredBy.{DeclaredBy}
+use Rattle.p21_express_resolve.specs.Redeclarations.{KeptRedeclaredIs, KeptDerivedAre, no_more, a_place, no_place, RedeclarationsAre}
+use Rattle.p21_express_resolve.specs.Outline.{Named, kept_named, IsNamed, SimpleIs, KeptTypeIs, KeptKindIs, MemberIs, KeptAttributeIs, KeptOneOfIs, EntityOutline, TypeOutline, IsOutline, kept_own, kept_one_of, kept_redeclared, kept_redeclared_names, aggregates_of}
+use Rattle.p21_express_resolve.proofs.KeptSchemas.{kept-declares}
 use Rattle.p21_express_resolve.proofs.Zips.{AllZip-same}
-use Rattle.p21_express_syntax.specs.Kept.{KeptSchema, KeptEntity, KeptBody, enumeration, select, underlying}
+use Rattle.p21_express_syntax.specs.Kept.{KeptSchema, KeptEntity, KeptType, KeptBody, enumeration, select, underlying}
 use Rattle.p21_express_syntax.specs.Keeping.{kept_schema, kept_entity}
 use Rattle.p21_express_syntax.specs.ReadDeclarations.{IsTextOf}
 use Rattle.p21_express_syntax.specs.declared.types.Aggregate.{Aggregate}
@@ -66,6 +72,9 @@ module _ (k : KeptSchema) (s : Schema) (outline : IsOutline k s) where
   around_is (aggregate.Set range ∷ aggregates) element is = around_is aggregates element is
   around_is (aggregate.Bag range ∷ aggregates) element is = around_is aggregates element is
 
+  type_use_is : (kept : KeptType) (type : TypeUse) → KeptTypeIs n kept type → IsTypeUse s type
+  type_use_is kept type (element, is, same) = subst (IsTypeUse s) (sym same) (around_is kept.aggregates element (simple_is kept.element element is))
+
   member_is : (m : Member) (name : List ℕ) → MemberIs n m name → IsMember s m
   member_is (entity_member e) name named = entity_is e name named
   member_is (type_member t) name named = type_is t name named
@@ -95,21 +104,25 @@ module _ (k : KeptSchema) (s : Schema) (outline : IsOutline k s) where
       let (y, _, same) = Contains-unmapped bare_entity s.entities x (subst P (sym is_bare) among) in
       (ap (λ z. z.redeclared) (sym same), ap (λ z. z.derived) (sym same))
 
-  entities_are : bare s ≡ s → ((d : KeptEntity) → Contains k.entities d → length (kept_own d.explicit) < 2 ^ 32) → Each (IsResolved s) s.entities
-  entities_are is_bare few = Each-of_members (IsResolved s) s.entities (λ x among.
-      let (d, d_among, is) = AllZip-second_member (EntityOutline n) k.entities s.entities x outline.entities_are among in
+  -- in a bare schema nothing that is redeclared is wrong
+  bare_holds : bare s ≡ s → (x : Entity) → Contains s.entities x → Each (IsRedeclared s) x.redeclared × Each (IsPlace s) x.derived
+  bare_holds is_bare x among =
       let (none, none_derived) = bare_is is_bare x among in
+      let P : List Redeclared → Type 0 = Each (IsRedeclared s) in
+      let Q : List Place → Type 0 = Each (IsPlace s) in
+      (subst P (sym none) tt, subst Q (sym none_derived) tt)
+
+  entities_are : ((x : Entity) → Contains s.entities x → Each (IsRedeclared s) x.redeclared × Each (IsPlace s) x.derived) → ((d : KeptEntity) → Contains k.entities d → length (kept_own d.explicit) < 2 ^ 32) → Each (IsResolved s) s.entities
+  entities_are redeclared few = Each-of_members (IsResolved s) s.entities (λ x among.
+      let (d, d_among, is) = AllZip-second_member (EntityOutline n) k.entities s.entities x outline.entities_are among in
       let long : length x.attributes ≡ length (kept_own d.explicit) = AllZip-long (KeptAttributeIs n) (kept_own d.explicit) x.attributes is.attributes_are in
       let small : length (kept_own d.explicit) < 2 ^ 32 = few d d_among in
       record {
         few = let P : ℕ → Type 0 = λ m. m < 2 ^ 32 in subst P (sym long) small;
         supertypes_are = Each-of_members (IsEntity s) x.supertypes (λ e e_among. let (name, _, named) = AllZip-member (IsNamed n.entities) x.supertypes d.supertypes e is.supertypes_are e_among in entity_is e name named);
-        attributes_are = Each-of_members (IsAttribute s) x.attributes (λ a a_among.
-            let (kept, _, found) = AllZip-second_member (KeptAttributeIs n) (kept_own d.explicit) x.attributes a is.attributes_are a_among in
-            let (element, element_is, same) = found.2 in
-            subst (IsTypeUse s) (sym same) (around_is kept.2.aggregates element (simple_is kept.2.element element element_is)));
-        redeclared_are = let P : List Redeclared → Type 0 = Each (IsRedeclared s) in subst P (sym none) tt;
-        derived_are = let P : List Place → Type 0 = Each (IsPlace s) in subst P (sym none_derived) tt;
+        attributes_are = Each-of_members (IsAttribute s) x.attributes (λ a a_among. let (kept, _, found) = AllZip-second_member (KeptAttributeIs n) (kept_own d.explicit) x.attributes a is.attributes_are a_among in type_use_is kept.2 a.type found.2);
+        redeclared_are = (redeclared x among).0;
+        derived_are = (redeclared x among).1;
       })
 
   redeclares_once : bare s ≡ s → RedeclaresOnce s
@@ -137,9 +150,32 @@ outline-members k s outline t u members is among = by (slice_get s.types t) refl
         let holds : IsKind s x.kind = Each-member (λ (y : Defined). IsKind s y.kind) s.types x (types_are k s outline) (Contains-found s.types t x at) in
         Each-member (IsMember s) members (type_member u) (subst (IsKind s) kind_same holds) among
 
-pub outline-holds : (tree : SchemaDeclaration) (text : List ℕ) (s : Schema) → IsTextOf tree text → IsOutline (kept_schema tree) s → bare s ≡ s → HasNoCircle (HasSupertype s) → HasNoCircle (Renames s) → HasNoCircle (HasSelect s) → HoldsTogether s
-outline-holds tree text s is outline is_bare supertypes renaming selects = record {
-  entities_are = entities_are (kept_schema tree) s outline is_bare (λ d among.
+-- ---- what is redeclared
+
+redeclares-within : (s : Schema) (e : ℕ) (supertype name : List ℕ) (place : Place) → RedeclaresPlace s e supertype name place → IsPlace s place
+redeclares-within s e supertype name place (sup, proper, inl own) = named-within s place name own.1
+redeclares-within s e supertype name place (sup, proper, inr is) = named-within s place name is.1.1
+
+derived-within : (s : Schema) (entities : List KeptEntity) (e : ℕ) (names : List (List ℕ × List ℕ)) (found : List Place) → KeptDerivedAre s entities e names found → Each (IsPlace s) found
+derived-within s entities e _ _ no_more = tt
+derived-within s entities e _ _ (a_place supertype name place names found is rest) = (redeclares-within s e supertype name place is, derived-within s entities e names found rest)
+derived-within s entities e _ _ (no_place supertype name sup names found is none derives rest) = derived-within s entities e names found rest
+
+redeclared-within : (k : KeptSchema) (s : Schema) → DeclaredBy k s → (x : Entity) → Contains s.entities x → Each (IsRedeclared s) x.redeclared × Each (IsPlace s) x.derived
+redeclared-within k s by x among =
+    let (own, _, are) = AllZip-second_member (λ p found. RedeclarationsAre s (kept_named k) k.entities p.0 p.1 found) (enumerate_from 0 k.entities) s.entities x by.redeclared among in (
+      Each-of_members (IsRedeclared s) x.redeclared (λ r r_among.
+          let (kept, _, is) = AllZip-second_member (KeptRedeclaredIs s (kept_named k) own.0) (kept_redeclared own.1.explicit) x.redeclared r are.redeclared_are r_among in
+          (redeclares-within s own.0 kept.0.0 kept.0.1 r.place is.0, type_use_is k s by.outline kept.2 r.type is.2)),
+      derived-within s k.entities own.0 (kept_redeclared_names own.1.derived) x.derived are.derived_are,
+    )
+
+-- ---- the schema
+
+outline-holds : (tree : SchemaDeclaration) (text : List ℕ) (s : Schema) → IsTextOf tree text → IsOutline (kept_schema tree) s → ((x : Entity) → Contains s.entities x → Each (IsRedeclared s) x.redeclared × Each (IsPlace s) x.derived) → HasNoCircle (HasSupertype s) → HasNoCircle (Renames s)
+    → HasNoCircle (HasSelect s) → RedeclaresOnce s → HoldsTogether s
+outline-holds tree text s is outline redeclared supertypes renaming selects once = record {
+  entities_are = entities_are (kept_schema tree) s outline redeclared (λ d among.
       let (x, x_among, same) = Contains-unmapped kept_entity (entities_of tree.declarations) d among in
       let P : KeptEntity → Type 0 = λ z. length (kept_own z.explicit) < 2 ^ 32 in
       subst P same (few-attributes tree text x is x_among));
@@ -151,5 +187,17 @@ outline-holds tree text s is outline is_bare supertypes renaming selects = recor
   selects_end = selects;
   entities_distinct = distinct_names-entities s (distinct (kept_schema tree) s outline);
   types_distinct = distinct_names-types s (distinct (kept_schema tree) s outline);
-  redeclares_once = redeclares_once (kept_schema tree) s outline is_bare;
+  redeclares_once = once;
 }
+
+pub bare-holds : (k : KeptSchema) (s : Schema) → AreOfText k → IsBareSchema k s → HoldsTogether s
+bare-holds k s (tree, text, is, same) is_bare_schema =
+    let P : KeptSchema → Type 0 = λ v. IsOutline v s in
+    let outline = subst P same is_bare_schema.outline in
+    outline-holds tree text s is outline (bare_holds (kept_schema tree) s outline is_bare_schema.is_bare) is_bare_schema.supertypes_end is_bare_schema.renaming_ends is_bare_schema.selects_end (redeclares_once (kept_schema tree) s outline is_bare_schema.is_bare)
+
+pub whole-holds : (k : KeptSchema) (s : Schema) → AreOfText k → DeclaredBy k s → HoldsTogether s
+whole-holds k s (tree, text, is, same) declared =
+    let P : KeptSchema → Type 0 = λ v. DeclaredBy v s in
+    let by : DeclaredBy (kept_schema tree) s = subst P same declared in
+    outline-holds tree text s is by.outline (redeclared-within (kept_schema tree) s by) by.supertypes_end by.renaming_ends by.selects_end (declared-redeclares_once tree s (kept-declares tree s is.is_within by))

@@ -1,3 +1,4 @@
-pub mod Outlines
 pub mod Counted
 pub mod Holding
+pub mod Outlines
+pub mod Whole

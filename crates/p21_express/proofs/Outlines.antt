@@ -12,22 +12,21 @@ use Rattle.p21_schemas.specs.Declared.{Declares, HasNoCircle, HasSupertype, Rena
 use Rattle.p21_schemas.specs.SchemaDeclaration.{SchemaDeclaration, entities_of, types_of}
 use Rattle.p21_schemas.specs.Supertype.{supertypes_of}
 use Rattle.p21_schemas.specs.WellFormed.{AreEntities}
-use Rattle.p21_express.specs.ReadOutline.{OutlineRead}
+use Rattle.p21_express.specs.ReadSchema.{AreOfText, DeclaresNone, OutlineChecked, SchemaRead}
 use Rattle.p21_express_circles.specs.Chains.{AreTypes}
 use Rattle.p21_express_lexemes.specs.declared.fault.SyntaxFault.{SyntaxFault}
 use Rattle.p21_express_lexemes.specs.declared.fault.SyntaxFault.TheVariants as syntax
 use Rattle.p21_express_outline.specs.Fault.{of_syntax}
 use Rattle.p21_express_syntax.specs.Views.{schema_view, entity_view, defined_view}
 use Rattle.p21_express_syntax.specs.declared.schema.Declarations.{Declarations}
-use Rattle.p21_express_tables.specs.Parts.{schema_of, AreNamed, entity, defined}
+use Rattle.p21_express_tables.specs.Parts.{schema_of, entity, defined}
 use Rattle.p21_express_tables.specs.declared.parts.Parts.{Parts}
 use Rattle.p21_express_outline.specs.Finding.{Refused}
 use Rattle.p21_express_outline.specs.declared.fault.SchemaFault.{SchemaFault}
-use Rattle.p21_express_resolve.specs.Bare.{bare}
 use Rattle.p21_express_resolve.specs.DeclaredBy.{DeclaredBy, RenamesNoSelect}
 use Rattle.p21_express_resolve.specs.Outline.{Named, kept_named, IsNamed, SimpleIs, KeptKindIs, EntityOutline, TypeOutline, IsOutline, aggregates_of}
 use Rattle.p21_express_resolve.proofs.Agreeing.{supertypes-bare}
-use Rattle.p21_express_resolve.proofs.KeptSchemas.{declared-text}
+use Rattle.p21_express_resolve.proofs.KeptSchemas.{declared-text, text-declared}
 use Rattle.p21_express_resolve.proofs.OneOutline.{outline-one}
 use Rattle.p21_express_syntax.specs.Kept.{KeptSchema, KeptBody, enumeration, select, underlying}
 use Rattle.p21_express_syntax.specs.Keeping.{kept_schema, kept_entity, kept_defined}
@@ -109,7 +108,7 @@ declared-of text tree s is declares =
     subst P (one_kept text x tree x_text is) by
 
 -- and has the supertypes of its outline
-supertypes-same : (k : KeptSchema) (s t : Schema) → IsOutline k s → IsOutline k t → HasNoCircle (HasSupertype t) → HasNoCircle (HasSupertype s)
+pub supertypes-same : (k : KeptSchema) (s t : Schema) → IsOutline k s → IsOutline k t → HasNoCircle (HasSupertype t) → HasNoCircle (HasSupertype s)
 supertypes-same k s t is is_ ends = (
   ends.0,
   λ e f up.
@@ -121,7 +120,7 @@ supertypes-same k s t is is_ ends = (
 types-same : (k : KeptSchema) (s t : Schema) → IsOutline k s → IsOutline k t → s.types ≡ t.types
 types-same k s t is is_ = let f : Schema → List Defined = λ v. v.types in ap f (outline-one k s t is is_)
 
-renaming-same : (k : KeptSchema) (s t : Schema) → IsOutline k s → IsOutline k t → HasNoCircle (Renames t) → HasNoCircle (Renames s)
+pub renaming-same : (k : KeptSchema) (s t : Schema) → IsOutline k s → IsOutline k t → HasNoCircle (Renames t) → HasNoCircle (Renames s)
 renaming-same k s t is is_ ends = (
   ends.0,
   λ x y renames.
@@ -129,13 +128,13 @@ renaming-same k s t is is_ ends = (
       ends.1 x y (subst P (types-same k s t is is_) renames),
 )
 
-no_select-same : (k : KeptSchema) (s t : Schema) → IsOutline k s → IsOutline k t → RenamesNoSelect t → RenamesNoSelect s
+pub no_select-same : (k : KeptSchema) (s t : Schema) → IsOutline k s → IsOutline k t → RenamesNoSelect t → RenamesNoSelect s
 no_select-same k s t is is_ none = λ x y renames (members, select_is).
     let P : List Defined → Type 0 = λ ts. ◌≡◌ {A = Option Kind} (elim (slice_get ts x) [ Some z ↦ Some z.kind | None ↦ None ]) (Some (schema.alias (schema.defined y))) in
     let Q : List Defined → Type 0 = λ ts. ◌≡◌ {A = Option Kind} (elim (slice_get ts y) [ Some z ↦ Some z.kind | None ↦ None ]) (Some (schema.choice members)) in
     none x y (subst P (types-same k s t is is_) renames) (members, subst Q (types-same k s t is is_) select_is)
 
-selects-same : (k : KeptSchema) (s t : Schema) → IsOutline k s → IsOutline k t → HasNoCircle (HasSelect t) → HasNoCircle (HasSelect s)
+pub selects-same : (k : KeptSchema) (s t : Schema) → IsOutline k s → IsOutline k t → HasNoCircle (HasSelect t) → HasNoCircle (HasSelect s)
 selects-same k s t is is_ ends = (
   ends.0,
   λ x y ((members, choice_is, among), (others, select_is)).
@@ -145,56 +144,52 @@ selects-same k s t is is_ ends = (
 )
 
 -- where a test of the outline fails no schema is declared
-pub supertypes-refused : (text : List ℕ) (tree : SchemaDeclaration) (s t : Schema) → IsTextOf tree text → IsOutline (kept_schema tree) s → Declares text t → HasNoCircle (HasSupertype s)
-supertypes-refused text tree s t is outline declares = let by = declared-of text tree t is declares in supertypes-same (kept_schema tree) s t outline by.outline by.supertypes_end
+pub supertypes-refused : (k : KeptSchema) (s t : Schema) → IsOutline k s → DeclaredBy k t → HasNoCircle (HasSupertype s)
+supertypes-refused k s t outline by = supertypes-same k s t outline by.outline by.supertypes_end
 
-pub renaming-refused : (text : List ℕ) (tree : SchemaDeclaration) (s t : Schema) → IsTextOf tree text → IsOutline (kept_schema tree) s → Declares text t → HasNoCircle (Renames s)
-renaming-refused text tree s t is outline declares = let by = declared-of text tree t is declares in renaming-same (kept_schema tree) s t outline by.outline by.renaming_ends
+pub renaming-refused : (k : KeptSchema) (s t : Schema) → IsOutline k s → DeclaredBy k t → HasNoCircle (Renames s)
+renaming-refused k s t outline by = renaming-same k s t outline by.outline by.renaming_ends
 
-pub no_select-refused : (text : List ℕ) (tree : SchemaDeclaration) (s t : Schema) → IsTextOf tree text → IsOutline (kept_schema tree) s → Declares text t → RenamesNoSelect s
-no_select-refused text tree s t is outline declares = let by = declared-of text tree t is declares in no_select-same (kept_schema tree) s t outline by.outline by.no_select
+pub no_select-refused : (k : KeptSchema) (s t : Schema) → IsOutline k s → DeclaredBy k t → RenamesNoSelect s
+no_select-refused k s t outline by = no_select-same k s t outline by.outline by.no_select
 
-pub selects-refused : (text : List ℕ) (tree : SchemaDeclaration) (s t : Schema) → IsTextOf tree text → IsOutline (kept_schema tree) s → Declares text t → HasNoCircle (HasSelect s)
-selects-refused text tree s t is outline declares = let by = declared-of text tree t is declares in selects-same (kept_schema tree) s t outline by.outline by.selects_end
+pub selects-refused : (k : KeptSchema) (s t : Schema) → IsOutline k s → DeclaredBy k t → HasNoCircle (HasSelect s)
+selects-refused k s t outline by = selects-same k s t outline by.outline by.selects_end
 
--- ---- the steps of the reader
+-- ---- the steps of the outline
 
-pub syntax-refused : (text : List ℕ) (fault : SyntaxFault) (result : Result Parts SchemaFault) → IsErr result → IsErrAnd result (λ found. found ≡ of_syntax fault) → (fault ≢ syntax.NoMemory → (x : SchemaDeclaration) → IsTextOf x text → ⊥) → OutlineRead text result
-syntax-refused text fault (Ok parts) is_err is refused = cc
-syntax-refused text fault (Err found) is_err is refused = λ other s declares. let (x, x_text, by) = declared-text text s declares in refused (λ e. other (is ∙ ap of_syntax e)) x x_text
-
-pub few-of : (text : List ℕ) (tree : SchemaDeclaration) (d : Declarations) → IsTextOf tree text → schema_view d ≡ kept_schema tree → length d.entities.items + length d.types.items ≤ most_declarations
-few-of text tree d is same =
+pub few-of : (d : Declarations) → AreOfText (schema_view d) → length d.entities.items + length d.types.items ≤ most_declarations
+few-of d (tree, text, is, same) =
     let e : length (map entity_view d.entities.items) ≡ length (map kept_entity (entities_of tree.declarations)) = ap (λ k. length k.entities) same in
     let t : length (map defined_view d.types.items) ≡ length (map kept_defined (types_of tree.declarations)) = ap (λ k. length k.types) same in
     omega (arith, e, t, length-map d.entities.items entity_view, length-map d.types.items defined_view, length-map (entities_of tree.declarations) kept_entity, length-map (types_of tree.declarations) kept_defined, is.is_within.count_within)
 
-pub parts-refused : (text : List ℕ) (tree : SchemaDeclaration) (d : Declarations) (fault : SchemaFault) (result : Result Parts SchemaFault) → IsTextOf tree text → schema_view d ≡ kept_schema tree → IsErr result → IsErrAnd result (λ found. found ≡ fault)
-    → Refused fault ((s : Schema) → IsOutline (schema_view d) s → ⊥) → OutlineRead text result
-parts-refused text tree d fault (Ok parts) is_text same is_err is refused = cc
-parts-refused text tree d fault (Err found) is_text same is_err is refused = λ other s declares.
-    let P : KeptSchema → Type 0 = λ k. IsOutline k s in
-    refused (λ e. other (is ∙ e)) s (subst P (sym same) (declared-of text tree s is_text declares).outline)
+pub few-outline : (k : KeptSchema) (s : Schema) → AreOfText k → IsOutline k s → length s.entities + length s.types ≤ most_declarations
+few-outline k s (tree, text, is, same) outline = let P : KeptSchema → Type 0 = λ v. IsOutline v s in outline-few tree s text is (subst P same outline)
 
-pub test-refused : (text : List ℕ) (claim : Type 0) (fault : SchemaFault) (result : Result Parts SchemaFault) → IsErr result → IsErrAnd result (λ found. found ≡ fault) → ((s : Schema) → Declares text s → claim) → Refused fault (claim → ⊥) → OutlineRead text result
-test-refused text claim fault (Ok parts) is_err is so refused = cc
-test-refused text claim fault (Err found) is_err is so refused = λ other s declares. refused (λ e. other (is ∙ e)) (so s declares)
+pub few-entities : (k : KeptSchema) (parts : Parts) → AreOfText k → IsOutline k (schema_of parts) → length parts.entities.items ≤ most_declarations
+few-entities k parts of_text outline = let few = few-outline k (schema_of parts) of_text outline in omega (arith, few, length-map parts.entities.items entity)
 
--- what is found of the text and its parts
-pub record Found (text : List ℕ) (d : Declarations) (parts : Parts) : Type 0 where
-  pub tree : SchemaDeclaration
-  pub text_is : IsTextOf tree text
-  pub outline : IsOutline (kept_schema tree) (schema_of parts)
-  pub named : AreNamed parts
-  pub is_bare : bare (schema_of parts) ≡ schema_of parts
+pub few-types : (k : KeptSchema) (parts : Parts) → AreOfText k → IsOutline k (schema_of parts) → length parts.types.items ≤ most_declarations
+few-types k parts of_text outline = let few = few-outline k (schema_of parts) of_text outline in omega (arith, few, length-map parts.types.items defined)
 
-pub found-of : (text : List ℕ) (d : Declarations) (parts : Parts) → ((x : SchemaDeclaration) × IsTextOf x text × (schema_view d ≡ kept_schema x)) → IsOutline (schema_view d) (schema_of parts) × AreNamed parts × (bare (schema_of parts) ≡ schema_of parts) → Found text d parts
-found-of text d parts (x, is, same) (outline, named, is_bare) =
-    let P : KeptSchema → Type 0 = λ k. IsOutline k (schema_of parts) in
-    record { tree = x; text_is = is; outline = subst P same outline; named = named; is_bare = is_bare }
+pub outline-refused : (k : KeptSchema) (fault : SchemaFault) (result : Result Parts SchemaFault) → IsErr result → IsErrAnd result (λ found. found ≡ fault) → Refused fault ((s : Schema) → IsOutline k s → ⊥) → OutlineChecked k result
+outline-refused k fault (Ok parts) is_err is refused = cc
+outline-refused k fault (Err found) is_err is refused = λ other s by. refused (λ e. other (is ∙ e)) s by.outline
 
-pub few-entities : (text : List ℕ) (d : Declarations) (parts : Parts) → Found text d parts → length parts.entities.items ≤ most_declarations
-few-entities text d parts found = let few = outline-few found.tree (schema_of parts) text found.text_is found.outline in omega (arith, few, length-map parts.entities.items entity)
+pub test-refused : (k : KeptSchema) (claim : Type 0) (fault : SchemaFault) (result : Result Parts SchemaFault) → IsErr result → IsErrAnd result (λ found. found ≡ fault) → ((s : Schema) → DeclaredBy k s → claim) → Refused fault (claim → ⊥) → OutlineChecked k result
+test-refused k claim fault (Ok parts) is_err is so refused = cc
+test-refused k claim fault (Err found) is_err is so refused = λ other s by. refused (λ e. other (is ∙ e)) (so s by)
 
-pub few-types : (text : List ℕ) (d : Declarations) (parts : Parts) → Found text d parts → length parts.types.items ≤ most_declarations
-few-types text d parts found = let few = outline-few found.tree (schema_of parts) text found.text_is found.outline in omega (arith, few, length-map parts.types.items defined)
+-- ---- texts
+
+pub syntax-refused : (text : List ℕ) (fault : SyntaxFault) (result : Result Schema SchemaFault) → IsErr result → IsErrAnd result (λ found. found ≡ of_syntax fault) → (fault ≢ syntax.NoMemory → (x : SchemaDeclaration) → IsTextOf x text → ⊥) → SchemaRead text result
+syntax-refused text fault (Ok s) is_err is refused = cc
+syntax-refused text fault (Err found) is_err is refused = λ other s declares. let (x, x_text, by) = declared-text text s declares in refused (λ e. other (is ∙ ap of_syntax e)) x x_text
+
+-- what the declarations of a text declare, the text declares
+pub declared-read : (text : List ℕ) (k : KeptSchema) (s : Schema) → ((x : SchemaDeclaration) × IsTextOf x text × (k ≡ kept_schema x)) → DeclaredBy k s → Declares text s
+declared-read text k s (tree, is, same) by = let P : KeptSchema → Type 0 = λ v. DeclaredBy v s in text-declared text tree s is (subst P same by)
+
+pub none-read : (text : List ℕ) (k : KeptSchema) → ((x : SchemaDeclaration) × IsTextOf x text × (k ≡ kept_schema x)) → DeclaresNone k → (s : Schema) → Declares text s → ⊥
+none-read text k (tree, is, same) none s declares = let P : KeptSchema → Type 0 = λ v. DeclaredBy v s in none s (subst P (sym same) (declared-of text tree s is declares))

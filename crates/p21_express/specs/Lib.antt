@@ -1,1 +1,2 @@
-pub mod ReadOutline
+pub mod ReadSchema
+pub mod Redeclaring

@@ -1,4 +1,4 @@
--- What is read of a schema text before its redeclarations are resolved.
+-- What is read of a schema text, step by step.
 use Rattle.std.specs.Prelude.{◌≡◌, ℕ, List, Result, Ok, Err}
 use Rattle.p21_schemas.specs.Declared.{Declares, HasNoCircle, HasSupertype, Renames, HasSelect}
 use Rattle.p21_schemas.specs.Schema.{Schema}
@@ -6,26 +6,47 @@ use Rattle.p21_schemas.specs.SchemaDeclaration.{SchemaDeclaration}
 use Rattle.p21_express_outline.specs.Finding.{Refused}
 use Rattle.p21_express_outline.specs.declared.fault.SchemaFault.{SchemaFault}
 use Rattle.p21_express_resolve.specs.Bare.{bare}
-use Rattle.p21_express_resolve.specs.DeclaredBy.{RenamesNoSelect}
+use Rattle.p21_express_resolve.specs.DeclaredBy.{DeclaredBy, RenamesNoSelect}
 use Rattle.p21_express_resolve.specs.Outline.{IsOutline}
+use Rattle.p21_express_syntax.specs.Kept.{KeptSchema}
 use Rattle.p21_express_syntax.specs.Keeping.{kept_schema}
 use Rattle.p21_express_syntax.specs.ReadDeclarations.{IsTextOf}
 use Rattle.p21_express_tables.specs.Parts.{schema_of, AreNamed}
 use Rattle.p21_express_tables.specs.declared.parts.Parts.{Parts}
 
--- the parts are what a declaration of this text declares, with nothing redeclared
-pub record IsRead (text : List ℕ) (parts : Parts) : Type 0 where
-  pub tree : SchemaDeclaration
-  pub text_is : IsTextOf tree text
-  pub outline : IsOutline (kept_schema tree) (schema_of parts)
-  pub named : AreNamed parts
-  pub is_bare : bare (schema_of parts) ≡ schema_of parts
-  pub supertypes_end : HasNoCircle (HasSupertype (schema_of parts))
-  pub renaming_ends : HasNoCircle (Renames (schema_of parts))
-  pub no_select : RenamesNoSelect (schema_of parts)
-  pub selects_end : HasNoCircle (HasSelect (schema_of parts))
+-- the declarations are those of a text
+abbrev pub AreOfText : KeptSchema → Type 0
+AreOfText k = (tree : SchemaDeclaration) × (text : List ℕ) × IsTextOf tree text × (k ≡ kept_schema tree)
 
--- a refusal, where the text declares no schema
-abbrev pub OutlineRead : List ℕ → Result Parts SchemaFault → Type 0
-OutlineRead text (Ok parts) = IsRead text parts
-OutlineRead text (Err fault) = Refused fault ((s : Schema) → Declares text s → ⊥)
+-- the schema is what the declarations declare, but that nothing is redeclared
+pub record IsBareSchema (k : KeptSchema) (s : Schema) : Type 0 where
+  pub outline : IsOutline k s
+  pub is_bare : bare s ≡ s
+  pub supertypes_end : HasNoCircle (HasSupertype s)
+  pub renaming_ends : HasNoCircle (Renames s)
+  pub no_select : RenamesNoSelect s
+  pub selects_end : HasNoCircle (HasSelect s)
+
+-- the declarations declare no schema
+abbrev pub DeclaresNone : KeptSchema → Type 0
+DeclaresNone k = (s : Schema) → DeclaredBy k s → ⊥
+
+-- the parts of such a schema, or none is declared
+abbrev pub OutlineChecked : KeptSchema → Result Parts SchemaFault → Type 0
+OutlineChecked k (Ok parts) = IsBareSchema k (schema_of parts) × AreNamed parts
+OutlineChecked k (Err fault) = Refused fault (DeclaresNone k)
+
+-- such a schema, or none is declared
+abbrev pub BareRead : KeptSchema → Result Schema SchemaFault → Type 0
+BareRead k (Ok s) = IsBareSchema k s
+BareRead k (Err fault) = Refused fault (DeclaresNone k)
+
+-- the schema that is declared, or none is
+abbrev pub SchemaDeclared : KeptSchema → Result Schema SchemaFault → Type 0
+SchemaDeclared k (Ok s) = DeclaredBy k s
+SchemaDeclared k (Err fault) = Refused fault (DeclaresNone k)
+
+-- the schema that the text declares, or it declares none
+abbrev pub SchemaRead : List ℕ → Result Schema SchemaFault → Type 0
+SchemaRead text (Ok s) = Declares text s
+SchemaRead text (Err fault) = Refused fault ((s : Schema) → Declares text s → ⊥)

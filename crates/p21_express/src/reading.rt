@@ -1,25 +1,83 @@
-ghost use Rattle.p21_express.specs.ReadOutline.{OutlineRead};
+ghost use Rattle.std.specs.Prelude.{◌≡◌, IfOk, length, map};
+ghost use Rattle.std.specs.List.{enumerate_from};
+ghost use Rattle.p21_express.specs.ReadSchema.{AreOfText, BareRead, IsBareSchema, SchemaDeclared, SchemaRead};
+ghost use Rattle.p21_express.specs.Redeclaring.{redeclaring, redeclaring_each, redeclaring_schema};
+ghost use Rattle.p21_express_outline.specs.Finding.{FindsEach};
+ghost use Rattle.p21_express_resolve.specs.Outline.{kept_named};
+ghost use Rattle.p21_express_resolve.specs.Redeclarations.{RedeclarationsAre};
+ghost use Rattle.p21_express_syntax.specs.Views.{schema_view};
+ghost use Rattle.p21_express_tables.specs.Resolved.{HoldsTogether};
 
-use p21_express_circles::{check_no_select, check_renaming, check_selects, check_supertypes};
-use p21_express_outline::{SchemaFault, outline};
-use p21_express_syntax::read_declarations;
-use p21_express_tables::Parts;
+use crate::checked::checked_outline;
+use crate::redeclaring::{all_redeclarations, all_with_redeclarations};
+use p21_express_outline::{SchemaFault, known_names};
+use p21_express_redeclared::Redeclarations;
+use p21_express_refusals::first_refusal;
+use p21_express_syntax::{Declarations, read_declarations};
+use p21_express_tables::Schema;
+use p21_values::NoMemory;
 use std::alloc::Global;
 
-/// Reads what a schema text declares, all but redeclarations.
+/// What declarations declare, but that nothing is redeclared.
+fn bare_schema(alloc: Global, declarations: &Declarations) -> Result<Schema, SchemaFault>
+    requires { AreOfText (schema_view declarations.now) }
+    ensures { BareRead (schema_view declarations.now) result }
+{
+    let parts = checked_outline(alloc, declarations)?;
+    Ok(Schema::new(alloc, parts)?)
+}
+
+/// What the entities of declarations redeclare.
+fn redeclarations(
+    alloc: Global,
+    declarations: &Declarations,
+    bare: &Schema,
+) -> Result<Vec<Redeclarations>, SchemaFault>
+    requires text { AreOfText (schema_view declarations.now) }
+    requires bare { IsBareSchema (schema_view declarations.now) bare.now }
+    ensures { FindsEach redeclaring (λ own found. RedeclarationsAre bare.now (kept_named (schema_view declarations.now)) (schema_view declarations.now).entities own.0 own.1 found) (enumerate_from 0 (schema_view declarations.now).entities) result }
+{
+    let known = known_names(alloc, declarations)?;
+    all_redeclarations(alloc, bare, &known, &declarations.entities)
+}
+
+/// A schema with what its entities redeclare.
+fn with_redeclarations(
+    alloc: Global,
+    bare: Schema,
+    found: Vec<Redeclarations>,
+) -> Result<Schema, NoMemory>
+    requires each { length bare.entities ≡ length found.items }
+    requires whole { HoldsTogether (redeclaring_schema bare (map redeclaring found.items)) }
+    ensures { IfOk result (λ schema. schema ≡ redeclaring_schema bare (map redeclaring found.items)) }
+{
+    let mut parts = bare.into_parts();
+    parts.entities = all_with_redeclarations(alloc, parts.entities, found)?;
+    Schema::new(alloc, parts)
+}
+
+/// The schema that declarations declare.
+fn declared_schema(alloc: Global, declarations: &Declarations) -> Result<Schema, SchemaFault>
+    requires { AreOfText (schema_view declarations.now) }
+    ensures { SchemaDeclared (schema_view declarations.now) result }
+{
+    let bare = bare_schema(alloc, declarations)?;
+    let found = redeclarations(alloc, declarations, &bare)?;
+    Ok(with_redeclarations(alloc, bare, found)?)
+}
+
+/// The schema that a text declares (ISO 10303-11, Schema declaration): a text declares one at most.
 ///
 /// # Errors
 ///
-/// What `read_declarations` and `outline` refuse; `Circular` for a chain of supertypes, of types that are just names or of
-/// selects in selects which comes back; `LeftOut` for a type that is just the name of a select; `NoMemory`.
-pub fn read_outline(alloc: Global, text: &[u8]) -> Result<Parts, SchemaFault>
-    ensures { OutlineRead text.now result }
+/// The first of `Token`, `Syntax`, `LeftOut`, `Bounds` and `TooLarge` in the text; else, over the whole schema, `Duplicate`,
+/// `UnknownName`, `Circular`, `LeftOut` for a type that is just the name of a select, `RedeclaredPlace`; `NoMemory`.
+pub fn read_schema(alloc: Global, text: &[u8]) -> Result<Schema, SchemaFault>
+    ensures { SchemaRead text.now result }
 {
     let declarations = read_declarations(alloc, text)?;
-    let parts = outline(alloc, &declarations)?;
-    check_supertypes(alloc, &parts)?;
-    check_renaming(alloc, &parts)?;
-    check_no_select(alloc, &parts)?;
-    check_selects(alloc, &parts)?;
-    Ok(parts)
+    match declared_schema(alloc, &declarations) {
+        Ok(schema) => Ok(schema),
+        Err(fault) => Err(first_refusal(alloc, &declarations, fault)),
+    }
 }

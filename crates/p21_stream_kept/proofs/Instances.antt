@@ -1,8 +1,9 @@
 -- An instance more, by what is kept.
-use Rattle.std.proofs.Common.{◌≡◌, ◌+◌, ◌⊎◌, ◌∙◌, ℕ, suc, List, [], ◌∷◌, ◌++◌, length, map, Option, Some, None, Ok, Err, refl, sym, ap, subst}
+use Rattle.std.proofs.Common.{◌≡◌, ◌+◌, ◌⊎◌, ◌∙◌, ℕ, suc, List, [], ◌∷◌, ◌++◌, length, map, true, Option, Some, None, Ok, Err, refl, sym, ap, subst}
 use Rattle.std.specs.List.{AllByRecursion as Each}
 use Rattle.std.specs.List.Sorted.{IsPermutation}
-use Rattle.std.specs.Prelude.{◌≢◌, Contains}
+use Rattle.std.specs.Prelude.{◌≢◌, Contains, IfSome, IsNone, is_some}
+use Rattle.p21_basics.proofs.Members.{Contains-mapped, Contains-unmapped}
 use Rattle.p21_basics.specs.Limits.{Limits}
 use Rattle.p21_claim.specs.Ended.{Entry}
 use Rattle.p21_claim.specs.Taken.{names_among}
@@ -30,7 +31,7 @@ use Rattle.p21_stream_store.specs.Kept.{kept_names}
 
 -- ---- names
 
-pub with-name : (kind : Option Kind) (x : store.Kept) → (stored_with kind x).name ≡ x.name
+with-name : (kind : Option Kind) (x : store.Kept) → (stored_with kind x).name ≡ x.name
 with-name (Some kind) x = refl
 with-name None x = refl
 
@@ -39,6 +40,15 @@ pub stored-names : (kinds : List Kind) (instances : List store.Kept) → map (λ
 stored-names kinds [] = refl
 stored-names kinds (x ∷ xs) =
     ap (λ (n : ℕ). n ∷ map (λ (y : Stored). y.name) (stored_of kinds xs)) (with-name _ x) ∙ ap (λ (ns : List ℕ). x.name ∷ ns) (stored-names kinds xs)
+
+-- what is found by a name has it; where nothing is found, none has it
+pub named-found : {T : Type 0} (instances : List store.Kept) (n : ℕ) (kind : T → ℕ) (text : T → List ℕ) (found : Option T) → IfSome found (λ x. Contains instances (record { name = n; kind = kind x; text = text x })) → is_some found ≡ true → Contains (kept_names instances) n
+named-found instances n kind text (Some x) among there = Contains-mapped (λ (y : store.Kept). y.name) instances (record { name = n; kind = kind x; text = text x }) among
+named-found instances n kind text None among there = cc
+
+pub named-none : {T : Type 0} (instances : List store.Kept) (n : ℕ) (found : Option T) → (IsNone found → Contains (kept_names instances) n → ⊥) → Contains (kept_names instances) n → is_some found ≡ true
+named-none instances n (Some x) none among = refl
+named-none instances n None none among = absurd (none refl among)
 
 -- ---- steps
 
@@ -51,8 +61,9 @@ took-instance s limits old new entry found none added are_needs waits number las
     (keeps-by_instance s limits given old keeps entry found none added are_needs waits number last stored permuted room.1)
 
 -- the instance of the name that is stored was given
-pub instance-again : (s : Schema) (limits : Limits) (old new : Kept) (n : ℕ) (record_ : Record) (x : Stored) → Contains old.stored x → x.name ≡ n → StepGives s limits old (instance n record_) (Err DuplicateName) new
-instance-again s limits old new n record_ x among is other given keeps =
+pub instance-again : (s : Schema) (limits : Limits) (old new : Kept) (n : ℕ) (record_ : Record) → Contains (map (λ (x : Stored). x.name) old.stored) n → StepGives s limits old (instance n record_) (Err DuplicateName) new
+instance-again s limits old new n record_ named other given keeps =
+    let (x, among, is) = Contains-unmapped (λ (y : Stored). y.name) old.stored n named in
     name_again n record_ (subst (λ (m : ℕ). Contains (names_among given) m) is (keeps-names s limits given old keeps x among))
 
 -- the record breaks the rule of the number

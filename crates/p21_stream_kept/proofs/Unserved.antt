@@ -1,9 +1,9 @@
 -- Needs that are served by what is stored, those that wait, and the first that none serves.
-use Rattle.std.proofs.Common.{◌≡◌, ◌+◌, ◌<◌, ◌⊎◌, ◌∙◌, ℕ, suc, List, [], ◌∷◌, ◌++◌, length, map, get_or, take, drop, Option, Some, None, inl, inr, refl, sym, ap, subst, add-one, append_assoc, append-nil}
+use Rattle.std.proofs.Common.{◌≡◌, ◌+◌, ◌<◌, ◌⊎◌, ◌∙◌, ℕ, suc, List, [], ◌∷◌, ◌++◌, length, map, get_or, take, drop, false, Option, Some, None, inl, inr, refl, sym, ap, subst, add-one, append_assoc, append-nil}
 use Rattle.std.proofs.Math.Seq.{drop-cons}
 use Rattle.std.proofs.lemmas.List.{map-append, take_more}
 use Rattle.std.proofs.lemmas.List.Elements.{Contains-append_left, Contains-append_right}
-use Rattle.std.specs.Prelude.{Contains}
+use Rattle.std.specs.Prelude.{Contains, is_some}
 use Rattle.p21_basics.proofs.Members.{Contains-first, Each-append, Each-weaker}
 use Rattle.p21_basics.specs.Limits.{Limits}
 use Rattle.p21_claim_steps.proofs.Keeps.{keeps-unserved}
@@ -25,7 +25,7 @@ use Rattle.p21_mapping.specs.Checked.{needs_view}
 use Rattle.p21_mapping_values.specs.TypedView.{need_view}
 use Rattle.p21_mapping_values.specs.declared.need.Need as need
 use Rattle.p21_stream_kept.specs.declared.kept.Reference as held
-use Rattle.p21_stream_kept.specs.Served.{AddsWaiting, AnswersUnserved, IsFirstUnserved, RefusesNeed}
+use Rattle.p21_stream_kept.specs.Served.{AddsWaiting, AnswersNeed, AnswersUnserved, IsFirstUnserved, RefusesNeed}
 use Rattle.p21_stream_kinds.specs.Kinds.{Kind}
 use Rattle.p21_stream_store.specs.Kept as store
 use Rattle.p21_stream_store.specs.Kept.{kept_names}
@@ -35,6 +35,11 @@ use Rattle.p21_stream_store.specs.Kept.{kept_names}
 -- no instance has the name
 pub none-of_name : (s : Schema) (kinds : List Kind) (instances : List store.Kept) (need : Need) → (Contains (kept_names instances) need.target → ⊥) → RefusesNeed s (stored_of kinds instances) need Dangling
 none-of_name s kinds instances need none = λ among. none (subst (λ (names : List ℕ). Contains names need.target) (stored-names kinds instances) among)
+
+-- what is not refused is served
+pub none-refused : (s : Schema) (stored : List Stored) (need : Need) (answer : Option Fault) → is_some answer ≡ false → AnswersNeed s stored need answer → IsServedBy s stored need
+none-refused s stored need None none served = served
+none-refused s stored need (Some fault) none refused = cc
 
 -- ---- needs that wait
 

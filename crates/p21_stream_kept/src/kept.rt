@@ -10,7 +10,7 @@ ghost use Rattle.p21_stream_kept.specs.Steps.{StepGives, StepKeepsBound, TakesLi
 use crate::found::found_of;
 use crate::room::has_room;
 use crate::served::{first_unserved, wait};
-use crate::stored::store;
+use crate::stored::{has_instance, store};
 use p21_canon_header::write_header;
 use p21_express_tables::Schema;
 use p21_grammar_machine::Line;
@@ -182,7 +182,7 @@ impl Kept {
         ensures gives { StepGives schema.now limits self.old (instance name (record_view of)) result self.new }
         ensures bound { StepKeepsBound limits self.old self.new }
     {
-        if let Some(_) = self.instances.find(name.0) {
+        if has_instance(&self.instances, name) {
             return Err(Fault::DuplicateName);
         }
         let found = match found_of(self.alloc, schema, name, of) {

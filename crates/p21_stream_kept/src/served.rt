@@ -60,7 +60,7 @@ fn wait_for(
     requires { AreKinds kinds.now instances.now }
     ensures { OnOk result (AddsWaiting schema.now (stored_of kinds.now instances.now) holder (need_view need.now ∷ []) (references_of waiting.old.items) (references_of waiting.new.items)) }
 {
-    if let None = refusal_of(schema, kinds, instances, need) {
+    if refusal_of(schema, kinds, instances, need).is_none() {
         return Ok(());
     }
     let reference = Reference {

@@ -1,4 +1,4 @@
-ghost use Rattle.std.specs.Prelude.{◌∷◌, Contains, IsPermutation, OnOk};
+ghost use Rattle.std.specs.Prelude.{◌↔◌, ◌∷◌, Contains, IsPermutation, IsTrue, OnOk};
 ghost use Rattle.p21_mapping_values.specs.TypedView.{ids_view};
 ghost use Rattle.p21_stream_kept.specs.Inside.{AreKinds, stored_of};
 ghost use Rattle.p21_stream_store.specs.Kept.{kept_names};
@@ -8,6 +8,13 @@ use p21_stream_kinds::Kinds;
 use p21_stream_store::Instances;
 use p21_values::{Name, NoMemory};
 use std::alloc::Global;
+
+/// Whether an instance has this name.
+pub(crate) fn has_instance(instances: &Instances, name: Name) -> bool
+    ensures { IsTrue result ↔ Contains (kept_names instances.now) name }
+{
+    instances.find(name.0).is_some()
+}
 
 /// Adds an instance of a data section, which has a name that none has before it.
 pub(crate) fn store(

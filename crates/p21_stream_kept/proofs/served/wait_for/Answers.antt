@@ -1,12 +1,18 @@
-use Rattle.std.proofs.Common.{List, [], ◌∷◌, ◌∙◌, ap, subst, sym}
+use Rattle.std.proofs.Common.{List, [], ◌∷◌, ◌∙◌, ap, not, subst, sym}
 use Rattle.std.proofs.lemmas.List.{map-append}
 use Rattle.p21_claim_steps.specs.Waiting as waiting
 use Rattle.p21_mapping_values.specs.TypedView.{need_view}
-use Rattle.p21_stream_kept.proofs.Unserved.{waiting-one}
+use Rattle.p21_stream_kept.proofs.Unserved.{none-refused, waiting-one, waiting-served}
 use Rattle.p21_stream_kept.specs.Inside.{reference_of, references_of, stored_of}
 use Rattle.p21_stream_kept.specs.Served.{AddsWaiting}
 use Rattle.p21_stream_kept.specs.declared.kept.Reference.{Reference}
 use Rattle.p21_stream_kept.proofs.served.wait_for.Goals as goal
+
+pub returns-then-is_none : goal.returns-then-is_none
+returns-then-is_none c =
+    let s = c.args.schema.now in
+    let stored = stored_of c.args.kinds.now c.args.instances.now in
+    waiting-served s stored c.args.holder (need_view c.args.need.now) (references_of c.args.waiting.now.items) (none-refused s stored (need_view c.args.need.now) c.refusal_of.result (c.is_none.ensures ∙ ap not c.if-is_none.true) c.refusal_of.ensures)
 
 pub returns : goal.returns
 returns c =

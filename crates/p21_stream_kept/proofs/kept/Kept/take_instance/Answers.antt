@@ -1,8 +1,7 @@
-use Rattle.std.proofs.Common.{◌≡◌, ◌+◌, ◌∷◌, ℕ, List, true, ap, length, map, refl, subst, sym, slice_get, ◌∙◌, Ok, Err, arith}
+use Rattle.std.proofs.Common.{◌≡◌, ◌+◌, ◌∷◌, ℕ, List, true, ap, length, map, subst, sym, ◌∙◌, Ok, Err, arith}
 use Rattle.std.proofs.lemmas.List.{length-map}
 use Rattle.std.specs.List.Sorted.{IsPermutation}
 use Rattle.std.specs.Prelude.{Contains, vec_len}
-use Rattle.p21_basics.proofs.Members.{Contains-mapped}
 use Rattle.p21_claim_steps.specs.Keeping.{Kept}
 use Rattle.p21_claim_steps.specs.Stored.{Stored}
 use Rattle.p21_claim_steps.specs.Waiting.{Reference}
@@ -14,12 +13,11 @@ use Rattle.p21_mapping_values.specs.TypedView.{ids_view, need_view}
 use Rattle.p21_mapping_values.specs.declared.need.Need.{Need}
 use Rattle.p21_stream_fault.specs.declared.fault.Fault.TheVariants.{CanonicalTooLong, DuplicateName}
 use Rattle.p21_stream_kept.proofs.Finding.{took-found}
-use Rattle.p21_stream_kept.proofs.Instances.{instance-again, instance-broken, refused-instance, stored-names, with-name}
-use Rattle.p21_stream_kept.specs.Inside.{heading_in, kept_of, references_of, stored_of, stored_with}
+use Rattle.p21_stream_kept.proofs.Instances.{instance-again, instance-broken, refused-instance, stored-names}
+use Rattle.p21_stream_kept.specs.Inside.{heading_in, kept_of, references_of, stored_of}
 use Rattle.p21_stream_kept.specs.Served.{AddsWaiting}
 use Rattle.p21_stream_kept.specs.Steps.{HasRoom, StepGives}
 use Rattle.p21_stream_kept.specs.declared.kept.Section.{Section}
-use Rattle.p21_stream_store.specs.Kept as store
 use Rattle.p21_stream_kept.proofs.kept.Kept.take_instance.Goals as goal
 
 pub returns-in-Err-clause-gives : goal.returns-in-Err-clause-gives
@@ -36,14 +34,12 @@ returns-then-not-has_room-clause-gives c =
     let fails = c.if-not-has_room.true in
     cc))
 
-pub returns-in-Some-clause-gives : goal.returns-in-Some-clause-gives
-returns-in-Some-clause-gives c =
+pub returns-then-has_instance-clause-gives : goal.returns-then-has_instance-clause-gives
+returns-then-has_instance-clause-gives c =
     let old : Kept = kept_of c.self.inside in
-    let x : store.Kept = record { name = c.name.inside.0; kind = c.in-Some.field-0.0; text = c.in-Some.field-0.1.now } in
-    let kinds = c.self.inside.kinds in
+    let P : List ℕ → Type 0 = λ names. Contains names c.args.name in
     subst (λ (k : Kept). StepGives c.args.schema.now c.args.limits k (instance c.args.name (record_view c.args.of)) (Err DuplicateName) k) c.self.view_is
-    (instance-again c.args.schema.now c.args.limits old old c.args.name (record_view c.args.of) (stored_with (slice_get kinds x.kind) x)
-    (Contains-mapped (λ (y : store.Kept). stored_with (slice_get kinds y.kind) y) c.self.inside.instances x c.in-Some.ensures.some) (with-name (slice_get kinds x.kind) x ∙ c.name.view_is))
+    (instance-again c.args.schema.now c.args.limits old old c.args.name (record_view c.args.of) (subst P (sym (stored-names c.self.inside.kinds c.self.inside.instances)) (c.has_instance.ensures.0 c.if-has_instance.true)))
 
 pub returns-clause-gives : goal.returns-clause-gives
 returns-clause-gives c =
@@ -60,14 +56,17 @@ returns-clause-gives c =
     let references : c.in-Some-checked_add.references ≡ old.references + length (needs_view found.needs.items) = sum ∙ ap (λ n. old.references + n) needs in
     let bytes = ap (λ n. old.bytes + n) size in
     let new : Kept = record old { stored = stored; waiting = waiting; references = c.in-Some-checked_add.references; bytes = old.bytes + c.len-size.result; framing = old.framing + 1 } in
-    let N : List ℕ → ℕ → Type 0 = λ names n. Contains names n → ⊥ in
-    let none : N (map (λ (x : Stored). x.name) old.stored) c.args.name = subst (N (map (λ (x : Stored). x.name) old.stored)) c.name.view_is (subst (λ names. N names c.name.inside.0) (sym (stored-names c.self.inside.kinds c.self.inside.instances)) (c.in_default.ensures.none refl)) in
+    let P : List ℕ → Type 0 = λ names. Contains names c.args.name in
+    let none : P (map (λ (x : Stored). x.name) old.stored) → ⊥ = λ among.
+    let passes : c.has_instance.result ≡ true = c.has_instance.ensures.1 (subst P (stored-names c.self.inside.kinds c.self.inside.instances) among) in
+    let fails = c.if-has_instance.false in
+    cc in
     let A : List Need → Type 0 = λ xs. AddsWaiting s old.stored c.args.name (needs_view xs) old.waiting waiting in
     let adds : A found.needs.items = subst A c.deref-2.ensures.value c.in-Ok-wait.ensures in
-    let E : List EntityId → List ℕ → Type 0 = λ ids text. IsPermutation (record { name = c.args.name; section = c.in-Some-last_section.section; entities = ids_view ids; text = text } ∷ old.stored) stored in
+    let E : List EntityId → List ℕ → Type 0 = λ ids text. IsPermutation (record { name = c.args.name; section = c.in-Some.section; entities = ids_view ids; text = text } ∷ old.stored) stored in
     let permuted : E found.entities found.line.items = subst (E found.entities) c.deref-3.ensures.value (subst (λ ids. E ids c.deref-3.result.now) c.items.ensures c.in-Ok-store.ensures.ok) in
-    let last : c.in-Some-last_section.section + 1 ≡ length old.headings = c.in-Some-last_section.ensures ∙ ap length c.deref.ensures.value ∙ sym (length-map c.self.inside.sections.items (λ (x : Section). heading_in x.part)) in
+    let last : c.in-Some.section + 1 ≡ length old.headings = c.in-Some.ensures ∙ ap length c.deref.ensures.value ∙ sym (length-map c.self.inside.sections.items (λ (x : Section). heading_in x.part)) in
     subst (λ (k : Kept). StepGives s c.args.limits k (instance c.args.name (record_view c.args.of)) (Ok tt) new) c.self.view_is
-    (took-found s c.args.limits old new c.args.name (record_view c.args.of) (ids_view found.entities) (needs_view found.needs.items) found.line.items c.in-Ok.ensures none waiting adds c.in-Some-last_section.section last stored permuted
+    (took-found s c.args.limits old new c.args.name (record_view c.args.of) (ids_view found.entities) (needs_view found.needs.items) found.line.items c.in-Ok.ensures none waiting adds c.in-Some.section last stored permuted
     (subst (λ n. HasRoom c.args.limits (old.bytes + old.framing) n) size (c.has_room.ensures.decides.0 c.if-not-has_room.false))
     (λ i. record old { stored = stored; waiting = waiting; references = references i; bytes = bytes i; framing = old.framing + 1 }))
