@@ -1,2 +1,9 @@
 pub mod Session
 pub mod Laws
+pub mod Held
+pub mod Histories
+pub mod Pieces
+pub mod Bounds
+pub mod Checked
+pub mod Canonical
+pub mod Inside

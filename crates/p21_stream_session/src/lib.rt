@@ -1,7 +1,14 @@
-//! How a session goes on by what its reader of statements and its store of them say: the laws, with no code beside them.
+//! A session reads a file piece by piece: its statements are checked as they come, and what they leave is kept.
 #![tactic(auto)]
 
+mod held;
+mod progress;
+mod session;
+
 ghost use Rattle.p21_stream_session.specs.Laws.{DeadByStatement, DeadByStep, HeldWhileLive, LiveAtStart, LiveByPiece, LiveByStatement, LiveByToken};
+
+pub use held::Held;
+pub use session::Session;
 
 /// What is known of the bytes taken stays known with each token and each statement; where one is refused, nothing that is
 /// accepted begins with the bytes taken; and what is held is what the definition says.

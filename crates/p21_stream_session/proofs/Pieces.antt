@@ -1,0 +1,102 @@
+-- A piece, token by token.
+use Rattle.std.proofs.Common.{◌≡◌, ◌+◌, ◌-◌, ◌≤◌, ℕ, zero, suc, List, [], ◌∷◌, ◌++◌, length, take, drop, Option, Some, None, Result, Ok, Err, refl, sym, ap, subst, ◌∙◌, append_assoc, arith}
+use Rattle.std.proofs.lemmas.List.{length-drop, take-append-drop}
+use Rattle.std.specs.List.{slice_get}
+use Rattle.p21_basics.specs.Limits.{Limits}
+use Rattle.p21_claim_steps.specs.Keeping.{Kept}
+use Rattle.p21_files.specs.Accepted.{IsDead}
+use Rattle.p21_grammar_machine.specs.Statements.{statement_of}
+use Rattle.p21_grammar_machine.specs.declared.event.Event.{Event}
+use Rattle.p21_schemas.specs.Schema.{Schema}
+use Rattle.p21_schemas.specs.WellFormed.{IsWellFormed}
+use Rattle.p21_stream_fault.specs.declared.fault.Fault.{Fault}
+use Rattle.p21_stream_fault.specs.declared.refusal.Refusal.{Refusal}
+use Rattle.p21_stream_front.specs.Front as front
+use Rattle.p21_stream_front.specs.Front.{IsSeenAt, Reading, limits_of}
+use Rattle.p21_stream_kept.specs.Steps as kept_steps
+use Rattle.p21_stream_kept.specs.Steps.{StepKeepsBound}
+use Rattle.p21_stream_session.proofs.Going.{dead-by_statement, dead-by_step, live-by_piece, live-by_statement, live-by_token}
+use Rattle.p21_stream_session.specs.Pieces.{ReadGives, StepGives}
+use Rattle.p21_stream_session.specs.Session.{IsLive}
+use Rattle.p21_stream_session.specs.declared.progress.Progress.{Progress}
+
+-- ---- pieces of pieces
+
+take-add : (m k : ℕ) (l : List ℕ) → take (m + k) l ≡ take m l ++ take k (drop m l)
+take-add zero k l = let same : zero + k ≡ k = omega arith in ap (λ (n : ℕ). take n l) same
+take-add (suc m) zero [] = let same : suc m + zero ≡ suc m = omega arith in ap (λ (n : ℕ). take {A = ℕ} n []) same
+take-add (suc m) (suc k) [] = let same : suc m + suc k ≡ suc (m + suc k) = omega arith in ap (λ (n : ℕ). take {A = ℕ} n []) same
+take-add (suc m) k (x ∷ xs) = let same : suc m + k ≡ suc (m + k) = omega arith in ap (λ (n : ℕ). take n (x ∷ xs)) same ∙ ap (λ (l : List ℕ). x ∷ l) (take-add m k xs)
+
+get-drop : (m : ℕ) (l : List ℕ) → slice_get (drop m l) 0 ≡ slice_get l m
+get-drop zero l = refl
+get-drop (suc m) [] = refl
+get-drop (suc m) (x ∷ xs) = get-drop m xs
+
+seen-first : (seen : Option ℕ) (m : ℕ) (l : List ℕ) → IsSeenAt seen l m → IsSeenAt seen (drop m l) 0
+seen-first None m l at = tt
+seen-first (Some byte) m l at = get-drop m l ∙ at
+
+-- ---- the rest of a piece behind a token
+
+pub read-on : (s : Schema) (limits : Limits) (held next last : front.Held) (kept after end : Kept) (piece : List ℕ) (count : ℕ) → StepGives s limits held kept piece (Ok (Some count)) next after → count ≤ length piece
+    → (result : Result (Unit {0}) Refusal) → ReadGives s limits next after (drop count piece) result last end → ReadGives s limits held kept piece result last end
+read-on s limits held next last kept after end piece count gives within (Ok done) reads = λ reading live at.
+    let on = gives reading live at in
+    let whole = reads on.reading on.live (seen-first on.reading.seen count piece on.seen_at) in
+    let same : on.reading.taken ++ drop count piece ≡ reading.taken ++ piece =
+    ap (λ (l : List ℕ). l ++ drop count piece) on.taken_are ∙ append_assoc reading.taken (take count piece) (drop count piece) ∙ ap (λ (l : List ℕ). reading.taken ++ l) (take-append-drop count piece) in
+    (whole.0, subst (λ (taken : List ℕ). IsLive s limits last end (record { taken = taken; seen = None; given = whole.0 })) same whole.1)
+read-on s limits held next last kept after end piece count gives within (Err refusal) reads = λ other reading live at.
+    let on = gives reading live at in
+    let d = reads other on.reading on.live (seen-first on.reading.seen count piece on.seen_at) in
+    let same : on.reading.taken ++ take d.upto (drop count piece) ≡ reading.taken ++ take (count + d.upto) piece =
+    ap (λ (l : List ℕ). l ++ take d.upto (drop count piece)) on.taken_are ∙ append_assoc reading.taken (take count piece) (take d.upto (drop count piece)) ∙ ap (λ (l : List ℕ). reading.taken ++ l) (sym (take-add count d.upto piece)) in
+    let below : d.upto ≤ length (drop count piece) = d.within in
+    let rest : length (drop count piece) ≡ length piece - count = length-drop count piece in
+    record { upto = count + d.upto; within = omega (arith, below, rest, within); dead = subst (λ (taken : List ℕ). IsDead s limits taken) same d.dead }
+
+pub read-last : (s : Schema) (limits : Limits) (held next : front.Held) (kept after : Kept) (piece : List ℕ) → StepGives s limits held kept piece (Ok None) next after → ReadGives s limits held kept piece (Ok tt) next after
+read-last s limits held next kept after piece gives = gives
+
+-- ---- a step
+
+pub step-piece : (s : Schema) (limits : Limits) (held next : front.Held) (kept : Kept) (piece : List ℕ) → front.StepGives held piece (Ok None) next → limits_of next ≡ limits_of held → StepGives s limits held kept piece (Ok None) next kept
+step-piece s limits held next kept piece gives same reading live at = (reading.given, live-by_piece s limits held next kept reading piece live (gives reading live.reads at) same)
+
+pub step-token : (s : Schema) (limits : Limits) (held next : front.Held) (kept : Kept) (piece : List ℕ) (count : ℕ) → front.StepGives held piece (Ok (Some (count, None))) next → limits_of next ≡ limits_of held → StepGives s limits held kept piece (Ok (Some count)) next kept
+step-token s limits held next kept piece count gives same reading live at = live-by_token s limits held next kept reading piece count live (gives reading live.reads at) same
+
+pub step-statement : (s : Schema) (limits : Limits) (held next : front.Held) (kept after : Kept) (piece : List ℕ) (count : ℕ) (event : Event) → front.StepGives held piece (Ok (Some (count, Some event))) next → limits_of next ≡ limits_of held
+    → kept_steps.StepGives s limits kept (statement_of event) (Ok tt) after → StepGives s limits held kept piece (Ok (Some count)) next after
+step-statement s limits held next kept after piece count event gives same takes reading live at =
+    live-by_statement s limits held next kept after reading piece count (statement_of event) live (gives reading live.reads at) same takes
+
+pub step-refused : (s : Schema) (limits : Limits) (held next : front.Held) (kept after : Kept) (piece : List ℕ) (refusal : Refusal) (fault : Fault) → refusal.fault ≡ fault → front.StepGives held piece (Err fault) next → StepGives s limits held kept piece (Err refusal) next after
+step-refused s limits held next kept after piece refusal fault is gives other reading live at = dead-by_step s limits held next kept reading piece fault live at gives (λ none. other (is ∙ none))
+
+pub step-offends : (s : Schema) → IsWellFormed s → (limits : Limits) (held next : front.Held) (kept after : Kept) (piece : List ℕ) (count : ℕ) (event : Event) (refusal : Refusal) (fault : Fault) → refusal.fault ≡ fault → front.StepGives held piece (Ok (Some (count, Some event))) next
+    → count ≤ length piece → kept_steps.StepGives s limits kept (statement_of event) (Err fault) after → StepGives s limits held kept piece (Err refusal) next after
+step-offends s formed limits held next kept after piece count event refusal fault is gives within takes other reading live at =
+    dead-by_statement s formed limits held next kept after reading piece count (statement_of event) fault live (gives reading live.reads at) within takes (λ none. other (is ∙ none))
+
+-- ---- all tokens of a piece
+
+-- what the rest gives, the piece gives
+pub record IsRest (s : Schema) (limits : Limits) (old : Progress) (piece : List ℕ) (now : Progress) (rest : List ℕ) : Type 0 where
+  pub gives : (result : Result (Unit {0}) Refusal) (last : front.Held) (end : Kept) → ReadGives s limits now.front now.kept rest result last end → ReadGives s limits old.front old.kept piece result last end
+  pub bound : StepKeepsBound limits old.kept now.kept
+  pub limits_are : limits_of now.front ≡ limits_of old.front
+  pub refused_is : now.refused ≡ old.refused
+
+pub rest-first : (s : Schema) (limits : Limits) (old : Progress) (piece : List ℕ) → IsRest s limits old piece old piece
+rest-first s limits old piece = record { gives = λ result last end reads. reads; bound = λ within. within; limits_are = refl; refused_is = refl }
+
+pub rest-on : (s : Schema) (limits : Limits) (old now next : Progress) (piece rest : List ℕ) (count : ℕ) → IsRest s limits old piece now rest → StepGives s limits now.front now.kept rest (Ok (Some count)) next.front next.kept → count ≤ length rest
+    → StepKeepsBound limits now.kept next.kept → limits_of next.front ≡ limits_of now.front → next.refused ≡ now.refused → IsRest s limits old piece next (drop count rest)
+rest-on s limits old now next piece rest count so_far gives within bound same refused = record {
+  gives = λ result last end reads. so_far.gives result last end (read-on s limits now.front next.front last now.kept next.kept end rest count gives within result reads);
+  bound = λ first. bound (so_far.bound first);
+  limits_are = same ∙ so_far.limits_are;
+  refused_is = refused ∙ so_far.refused_is;
+}

@@ -1,0 +1,30 @@
+use Rattle.std.proofs.Common.{Result, Some, refl, sym, subst}
+use Rattle.p21_stream_fault.specs.declared.refusal.Refusal.{Refusal}
+use Rattle.p21_stream_session.proofs.Feeding.{bounded-whole, fed-again, fed-checks, fed-refused, fed-whole}
+use Rattle.p21_stream_session.specs.Histories.{FeedChecks, FeedGives}
+use Rattle.p21_stream_session.specs.Inside.{held_in}
+use Rattle.p21_stream_session.proofs.progress.Progress.feed.Goals as goal
+
+pub returns-in-Some-clause-gives : goal.returns-in-Some-clause-gives
+returns-in-Some-clause-gives c = fed-again (held_in c.args.schema.now c.args.limits c.args.self.now) c.args.piece.now c.in-Some.refusal c.in-Some.is
+
+pub returns-in-Ok-clause-gives : goal.returns-in-Ok-clause-gives
+returns-in-Ok-clause-gives c =
+    fed-whole c.args.schema.now c.args.limits c.args.self.now.front c.read.new.self.front c.args.self.now.kept c.read.new.self.kept c.args.piece.now c.args.self.now.refused c.read.new.self.refused c.in_default.is c.in-Ok.ensures.refused c.in-Ok.ensures.gives
+
+pub returns-in-Ok-clause-checks : goal.returns-in-Ok-clause-checks
+returns-in-Ok-clause-checks c =
+    fed-checks c.args.schema.now c.args.limits c.args.self.now.front c.read.new.self.front c.args.self.now.kept c.read.new.self.kept c.args.piece.now c.args.self.now.refused c.read.new.self.refused c.in_default.is c.in-Ok.ensures.refused c.in-Ok.ensures.gives
+
+pub returns-in-Ok-clause-bounded : goal.returns-in-Ok-clause-bounded
+returns-in-Ok-clause-bounded c =
+    bounded-whole c.args.schema.now c.args.limits c.args.self.now.front c.read.new.self.front c.args.self.now.kept c.read.new.self.kept c.args.piece.now c.args.self.now.refused c.read.new.self.refused c.in_default.is c.in-Ok.ensures.refused c.in-Ok.ensures.gives
+    c.in-Ok.ensures.bound c.in-Ok.ensures.limits
+
+pub returns-in-Err-clause-gives : goal.returns-in-Err-clause-gives
+returns-in-Err-clause-gives c =
+    subst (λ (r : Result (Unit {0}) Refusal). FeedGives (held_in c.args.schema.now c.args.limits c.args.self.now) c.args.piece.now r (held_in c.args.schema.now c.args.limits (record c.read.new.self { kept = c.new.result; refused = Some c.in-Err.refusal }))) (sym (c.answered.ensures c.in-Err.refusal refl))
+    (fed-refused c.args.schema.now c.args.limits c.args.self.now.front c.read.new.self.front c.args.self.now.kept c.read.new.self.kept c.new.result c.args.piece.now c.args.self.now.refused c.in-Err.refusal c.in-Err.ensures.gives)
+
+pub returns-in-Err-clause-checks : goal.returns-in-Err-clause-checks
+returns-in-Err-clause-checks c = subst (λ (r : Result (Unit {0}) Refusal). FeedChecks (held_in c.args.schema.now c.args.limits c.args.self.now) c.args.piece.now r) (sym (c.answered.ensures c.in-Err.refusal refl)) tt

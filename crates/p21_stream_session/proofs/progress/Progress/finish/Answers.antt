@@ -1,0 +1,9 @@
+use Rattle.p21_stream_session.proofs.Ending.{ends, ends-again}
+use Rattle.p21_stream_session.specs.Inside.{held_in}
+use Rattle.p21_stream_session.proofs.progress.Progress.finish.Goals as goal
+
+pub returns-in-Some-clause-gives : goal.returns-in-Some-clause-gives
+returns-in-Some-clause-gives c = λ limits. ends-again (held_in c.args.schema.now limits c.args.self) c.in-Some.refusal c.in-Some.is
+
+pub returns-clause-gives : goal.returns-clause-gives
+returns-clause-gives c = λ limits. ends c.args.schema.now limits c.args.self.front c.args.self.kept c.args.self.refused c.in_default.is c.end.result c.end.ensures.gives

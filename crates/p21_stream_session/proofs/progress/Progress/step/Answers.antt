@@ -1,0 +1,30 @@
+use Rattle.std.proofs.Common.{ℕ, Ok, Option, Some, subst}
+use Rattle.p21_grammar_machine.specs.declared.event.Event.{Event}
+use Rattle.p21_stream_front.specs.Front as front
+use Rattle.p21_stream_session.proofs.Pieces.{step-offends, step-refused, step-statement, step-token}
+use Rattle.p21_stream_session.proofs.progress.Progress.step.Goals as goal
+
+pub returns-in-Err-clause-gives : goal.returns-in-Err-clause-gives
+returns-in-Err-clause-gives c = step-refused c.args.schema.now c.args.limits c.args.self.now.front c.step.new.self c.args.self.now.kept c.args.self.now.kept c.args.piece.now c.refused.result c.in-Err.fault c.refused.ensures c.in-Err.ensures.gives
+
+pub returns-in_default-event-clause-gives : goal.returns-in_default-event-clause-gives
+returns-in_default-event-clause-gives c =
+    step-token c.args.schema.now c.args.limits c.args.self.now.front c.step.new.self c.args.self.now.kept c.args.piece.now c.in-Some.count
+    (subst (λ (e : Option Event). front.StepGives c.args.self.now.front c.args.piece.now (Ok (Some (c.in-Some.count, e))) c.step.new.self) c.in_default-event.is
+    (subst (λ (a : Option (ℕ × Option Event)). front.StepGives c.args.self.now.front c.args.piece.now (Ok a) c.step.new.self) c.in-Some.is c.in-Ok.ensures.gives))
+    c.in-Ok.ensures.limits
+
+pub returns-in-Ok-take-clause-gives : goal.returns-in-Ok-take-clause-gives
+returns-in-Ok-take-clause-gives c =
+    step-statement c.args.schema.now c.args.limits c.args.self.now.front c.step.new.self c.args.self.now.kept c.take.new.kept c.args.piece.now c.in-Some.count c.in-Some-event.event
+    (subst (λ (e : Option Event). front.StepGives c.args.self.now.front c.args.piece.now (Ok (Some (c.in-Some.count, e))) c.step.new.self) c.in-Some-event.is
+    (subst (λ (a : Option (ℕ × Option Event)). front.StepGives c.args.self.now.front c.args.piece.now (Ok a) c.step.new.self) c.in-Some.is c.in-Ok.ensures.gives))
+    c.in-Ok.ensures.limits c.in-Ok-take.ensures.gives
+
+pub returns-in-Err-take-clause-gives : goal.returns-in-Err-take-clause-gives
+returns-in-Err-take-clause-gives c =
+    step-offends c.args.schema.now c.well_formed-2.ensures c.args.limits c.args.self.now.front c.step.new.self c.args.self.now.kept c.take.new.kept c.args.piece.now c.in-Some.count c.in-Some-event.event c.refused-in-Err-take.result c.in-Err-take.fault
+    c.refused-in-Err-take.ensures
+    (subst (λ (e : Option Event). front.StepGives c.args.self.now.front c.args.piece.now (Ok (Some (c.in-Some.count, e))) c.step.new.self) c.in-Some-event.is
+    (subst (λ (a : Option (ℕ × Option Event)). front.StepGives c.args.self.now.front c.args.piece.now (Ok a) c.step.new.self) c.in-Some.is c.in-Ok.ensures.gives))
+    (subst (λ (a : Option (ℕ × Option Event)). front.TakesOf c.args.piece.now (Ok a)) c.in-Some.is c.in-Ok.ensures.takes) c.in-Err-take.ensures.gives

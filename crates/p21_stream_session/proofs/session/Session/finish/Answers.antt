@@ -1,0 +1,10 @@
+use Rattle.std.proofs.Common.{subst}
+use Rattle.p21_stream_session.specs.Held.{SessionHeld}
+use Rattle.p21_stream_session.specs.Histories.{FinishGives, RefusesAtEnd}
+use Rattle.p21_stream_session.proofs.session.Session.finish.Goals as goal
+
+pub returns-clause-gives : goal.returns-clause-gives
+returns-clause-gives c = subst (λ (h : SessionHeld). FinishGives h c.finish.result) c.self.view_is (c.finish.ensures.gives c.self.inside.limits)
+
+pub returns-clause-again : goal.returns-clause-again
+returns-clause-again c = subst (λ (h : SessionHeld). RefusesAtEnd h c.finish.result) c.self.view_is (c.finish.ensures.again c.self.inside.limits)

@@ -1,0 +1,14 @@
+-- What each session keeps to, whatever it was fed.
+use Rattle.std.specs.Prelude.{◌≡◌, ◌≤◌, None}
+use Rattle.p21_stream_front.specs.Front as front
+use Rattle.p21_stream_front.specs.Front.{Reading}
+use Rattle.p21_stream_session.specs.Held.{SessionHeld}
+use Rattle.p21_stream_session.specs.Session.{IsLive}
+
+-- The limits of the reader are those of the session; the canonical lines and the references that are kept are within
+-- them; and where no byte was refused, the session stands for some bytes
+pub record IsBounded (held : SessionHeld) : Type 0 where
+  pub limits_are : front.limits_of held.front ≡ (held.limits.record_source, held.limits.file_source)
+  pub kept_within : held.kept.bytes ≤ held.limits.file_canonical
+  pub needs_within : held.kept.references ≤ held.limits.file_source
+  pub reads : held.refused ≡ None → (reading : Reading) × (reading.seen ≡ None) × IsLive held.schema held.limits held.front held.kept reading

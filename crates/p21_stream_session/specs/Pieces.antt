@@ -1,0 +1,39 @@
+-- What a session's progress owes for a token, and for a whole piece.
+use Rattle.std.specs.Prelude.{◌≢◌, ◌≤◌, ℕ, List, ◌++◌, length, Option, Some, None, Result, Ok, Err}
+use Rattle.p21_basics.specs.Limits.{Limits}
+use Rattle.p21_claim_steps.specs.Keeping.{Kept}
+use Rattle.p21_exchange.specs.Statement.{Statement}
+use Rattle.p21_files.specs.Accepted.{IsAccepted}
+use Rattle.p21_schemas.specs.Schema.{Schema}
+use Rattle.p21_stream_accepted.specs.Output.{Output}
+use Rattle.p21_stream_fault.specs.declared.fault.Fault.TheVariants.{NoMemory}
+use Rattle.p21_stream_fault.specs.declared.refusal.Refusal.{Refusal}
+use Rattle.p21_stream_front.specs.Front as front
+use Rattle.p21_stream_front.specs.Front.{IsSeenAt, Reading}
+use Rattle.p21_stream_session.specs.Canonical.{IsCanonicalOutput}
+use Rattle.p21_stream_session.specs.Session.{GoesOn, IsDeadWithin, IsLive}
+
+-- so many bytes of the piece at most
+abbrev pub TakesOf : List ℕ → Result (Option ℕ) Refusal → Type 0
+TakesOf piece (Ok (Some count)) = count ≤ length piece
+TakesOf piece other = Unit {0}
+
+-- the piece is read whole, with whatever statements
+abbrev pub IsReadWhole : Schema → Limits → Reading → List ℕ → front.Held → Kept → Type 0
+IsReadWhole s limits reading piece held kept = (given : List Statement) × IsLive s limits held kept (record { taken = reading.taken ++ piece; seen = None; given = given })
+
+-- what a token, or the rest of a piece, gives: for each reading that is live, where the byte that was seen is offered first
+abbrev pub StepGives : Schema → Limits → front.Held → Kept → List ℕ → Result (Option ℕ) Refusal → front.Held → Kept → Type 0
+StepGives s limits held kept piece (Ok None) next after = (reading : Reading) → IsLive s limits held kept reading → IsSeenAt reading.seen piece 0 → IsReadWhole s limits reading piece next after
+StepGives s limits held kept piece (Ok (Some count)) next after = (reading : Reading) → IsLive s limits held kept reading → IsSeenAt reading.seen piece 0 → GoesOn s limits reading piece count next after
+StepGives s limits held kept piece (Err refusal) next after = refusal.fault ≢ NoMemory → (reading : Reading) → IsLive s limits held kept reading → IsSeenAt reading.seen piece 0 → IsDeadWithin s limits reading piece
+
+-- what a whole piece gives
+abbrev pub ReadGives : Schema → Limits → front.Held → Kept → List ℕ → Result (Unit {0}) Refusal → front.Held → Kept → Type 0
+ReadGives s limits held kept piece (Ok done) next after = (reading : Reading) → IsLive s limits held kept reading → IsSeenAt reading.seen piece 0 → IsReadWhole s limits reading piece next after
+ReadGives s limits held kept piece (Err refusal) next after = refusal.fault ≢ NoMemory → (reading : Reading) → IsLive s limits held kept reading → IsSeenAt reading.seen piece 0 → IsDeadWithin s limits reading piece
+
+-- what the end of the bytes gives, whatever the canonical limits
+abbrev pub EndGives : Schema → front.Held → Kept → Result Output Refusal → Type 0
+EndGives s held kept (Ok accepted) = (limits : Limits) (taken : List ℕ) (given : List Statement) → IsLive s limits held kept (record { taken = taken; seen = None; given = given }) → IsCanonicalOutput s limits taken accepted
+EndGives s held kept (Err refusal) = refusal.fault ≢ NoMemory → (limits : Limits) (taken : List ℕ) (given : List Statement) → IsLive s limits held kept (record { taken = taken; seen = None; given = given }) → ¬ IsAccepted s limits taken

@@ -1,0 +1,231 @@
+ghost use Rattle.std.specs.Prelude.{◌≡◌, None, Some, Err};
+ghost use Rattle.p21_basics.specs.Limits.{Limits as MeantLimits};
+ghost use Rattle.p21_claim_steps.specs.Keeping.{nothing_kept};
+ghost use Rattle.p21_grammar_machine.specs.Statements.{statement_of};
+ghost use Rattle.p21_stream_front.specs.Front.{IsLive, limits_of, new_reading};
+ghost use Rattle.p21_stream_fault.specs.declared.refusal.Refusal.{Refusal};
+ghost use Rattle.p21_stream_kept.specs.Steps as kept_steps;
+ghost use Rattle.p21_stream_kept.specs.Steps.{StepKeepsBound};
+ghost use Rattle.p21_stream_session.specs.Bounds.{IsBounded};
+ghost use Rattle.p21_stream_session.specs.Histories.{FeedChecks, FeedGives, FinishGives, RefusesAgain, RefusesAtEnd};
+ghost use Rattle.p21_stream_session.specs.Inside.{held_in};
+ghost use Rattle.p21_stream_session.specs.Pieces.{EndGives, ReadGives, StepGives, TakesOf};
+
+use p21_express_tables::Schema;
+use p21_grammar::Event;
+use p21_stream_accepted::Accepted;
+use p21_stream_fault::{At, Fault, Refusal};
+use p21_stream_front::Front;
+use p21_stream_kept::Kept;
+use p21_values::{Limits, Name};
+use std::alloc::Global;
+
+/// How far a file is read.
+#[derive(Drop)]
+pub(crate) struct Progress {
+    alloc: Global,
+    // The reader of its statements, and what is kept of those that it gave.
+    pub front: Front,
+    pub kept: Kept,
+    // The number of the open one, counted from 1.
+    pub statement: u64,
+    // The refusal that was answered, and is answered again.
+    pub refused: Option<Refusal>,
+}
+
+impl Progress {
+    /// Nothing is read. It takes no memory.
+    pub(crate) fn new(alloc: Global, limits: Limits) -> Progress
+        ensures live { IsLive result.front new_reading }
+        ensures limits { limits_of result.front ≡ (limits.record_source, limits.file_source) }
+        ensures kept { result.kept ≡ nothing_kept }
+        ensures refused { result.refused ≡ None }
+    {
+        Progress {
+            alloc,
+            front: Front::new(alloc, limits),
+            kept: Kept::new(alloc),
+            statement: 1,
+            refused: None,
+        }
+    }
+
+    /// Takes a piece. Where it is refused, what is kept is given up, and each later call answers the same.
+    ///
+    /// # Errors
+    ///
+    /// The first refusal, in the order of the bytes.
+    pub(crate) fn feed(
+        &mut self,
+        schema: &Schema,
+        limits: Limits,
+        piece: &[u8],
+    ) -> Result<(), Refusal>
+        ensures gives { FeedGives (held_in schema.now limits self.old) piece.now result (held_in schema.now limits self.new) }
+        ensures checks { FeedChecks (held_in schema.now limits self.old) piece.now result }
+        ensures again { RefusesAgain (held_in schema.now limits self.old) result (held_in schema.now limits self.new) }
+        ensures bounded { IsBounded (held_in schema.now limits self.old) → IsBounded (held_in schema.now limits self.new) }
+    {
+        if let Some(refusal) = self.refused {
+            return Err(refusal);
+        }
+        match self.read(schema, limits, piece) {
+            Ok(()) => Ok(()),
+            Err(refusal) => {
+                self.kept = Kept::new(self.alloc);
+                self.refused = Some(refusal);
+                self.answered()
+            }
+        }
+    }
+
+    /// The end of the bytes.
+    ///
+    /// # Errors
+    ///
+    /// The refusal of an earlier call; else those of `end`.
+    pub(crate) fn finish(self, schema: &Schema) -> Result<Accepted, Refusal>
+        ensures gives { (limits : MeantLimits) → FinishGives (held_in schema.now limits self) result }
+        ensures again { (limits : MeantLimits) → RefusesAtEnd (held_in schema.now limits self) result }
+    {
+        let Progress {
+            alloc: _,
+            front,
+            kept,
+            statement,
+            refused,
+        } = self;
+        if let Some(refusal) = refused {
+            return Err(refusal);
+        }
+        end(front, kept, statement, schema)
+    }
+
+    /// The refusal that was answered, if there is one.
+    fn answered(&self) -> Result<(), Refusal>
+        ensures { (refusal : Refusal) → self.now.refused ≡ Some refusal → result ≡ Err refusal }
+    {
+        match self.refused {
+            Some(refusal) => Err(refusal),
+            None => Ok(()),
+        }
+    }
+
+    /// Reads a piece whole.
+    ///
+    /// # Errors
+    ///
+    /// The refusal of its first byte, token or statement that is refused.
+    fn read(&mut self, schema: &Schema, limits: Limits, piece: &[u8]) -> Result<(), Refusal>
+        ensures gives { ReadGives schema.now limits self.old.front self.old.kept piece.now result self.new.front self.new.kept }
+        ensures bound { StepKeepsBound limits self.old.kept self.new.kept }
+        ensures limits { limits_of self.new.front ≡ limits_of self.old.front }
+        ensures refused { self.new.refused ≡ self.old.refused }
+    {
+        let mut rest = piece;
+        for _ in 0..u64::MAX {
+            let taken = match self.step(schema, limits, rest) {
+                Ok(taken) => taken,
+                Err(refusal) => return Err(refusal),
+            };
+            let Some(count) = taken else {
+                return Ok(());
+            };
+            rest = &rest[count..];
+        }
+        Err(refused(Fault::NoMemory, None, self.statement))
+    }
+
+    /// Reads the bytes of one token, or the rest of a piece in which none is whole; says how many bytes where it was a
+    /// token.
+    ///
+    /// # Errors
+    ///
+    /// The refusal of a byte, of the token, or of the statement that it ends.
+    fn step(
+        &mut self,
+        schema: &Schema,
+        limits: Limits,
+        piece: &[u8],
+    ) -> Result<Option<usize>, Refusal>
+        ensures takes { TakesOf piece.now result }
+        ensures gives { StepGives schema.now limits self.old.front self.old.kept piece.now result self.new.front self.new.kept }
+        ensures bound { StepKeepsBound limits self.old.kept self.new.kept }
+        ensures limits { limits_of self.new.front ≡ limits_of self.old.front }
+        ensures refused { self.new.refused ≡ self.old.refused }
+    {
+        schema.well_formed();
+        let answer = match self.front.step(piece) {
+            Ok(answer) => answer,
+            Err(fault) => return Err(refused(fault, None, self.statement)),
+        };
+        let Some((count, event)) = answer else {
+            return Ok(None);
+        };
+        let Some(event) = event else {
+            return Ok(Some(count));
+        };
+        let name = name_of(&event);
+        match take(&mut self.kept, schema, limits, event) {
+            Ok(()) => {
+                self.statement = self.statement.saturating_add(1);
+                Ok(Some(count))
+            }
+            Err(fault) => Err(refused(fault, name, self.statement)),
+        }
+    }
+}
+
+/// Takes a statement.
+fn take(kept: &mut Kept, schema: &Schema, limits: Limits, event: Event) -> Result<(), Fault>
+    ensures gives { kept_steps.StepGives schema.now limits kept.old (statement_of event) result kept.new }
+    ensures bound { StepKeepsBound limits kept.old kept.new }
+{
+    match event {
+        Event::Section(line) => kept.take_line(limits, line),
+        Event::Named(part) => kept.take_heading(schema, limits, part),
+        Event::Header(part) => kept.take_header(schema, limits, &part),
+        Event::Instance(name, record) => kept.take_instance(schema, limits, name, record),
+    }
+}
+
+/// The end of the bytes, where no call was refused.
+///
+/// # Errors
+///
+/// That of the reader; then the first reference in the file that no instance serves; `NoMemory`.
+fn end(front: Front, kept: Kept, statement: u64, schema: &Schema) -> Result<Accepted, Refusal>
+    ensures gives { EndGives schema.now front kept result }
+{
+    schema.well_formed();
+    match front.finish() {
+        Ok(()) => {}
+        Err(fault) => return Err(refused(fault, None, statement)),
+    }
+    if let Some((holder, fault)) = kept.first_unserved(schema) {
+        return Err(refused(fault, Some(holder), statement));
+    }
+    let Ok(accepted) = kept.into_accepted() else {
+        return Err(refused(Fault::NoMemory, None, statement));
+    };
+    Ok(accepted)
+}
+
+/// The name of an instance.
+fn name_of(event: &Event) -> Option<Name> {
+    match event {
+        Event::Instance(name, _) => Some(*name),
+        _ => None,
+    }
+}
+
+/// A refusal of the open statement, or of an instance.
+pub(crate) fn refused(fault: Fault, name: Option<Name>, statement: u64) -> Refusal
+    ensures { result.fault ≡ fault }
+{
+    let at = match name {
+        Some(name) => At::of(fault, name, statement),
+        None => At::Statement(statement),
+    };
+    Refusal { fault, at }
+}

@@ -1,0 +1,106 @@
+ghost use Rattle.std.specs.Prelude.{◌≡◌, ◌≤◌};
+ghost use Rattle.p21_stream_session.specs.Held.{limits_of, schema_of};
+ghost use Rattle.p21_stream_session.specs.Histories.{FeedChecks, FeedGives, FinishGives, HoldsFor, KeepsSchema, RefusesAgain, RefusesAtEnd, Stands, nothing_taken};
+ghost use Rattle.p21_stream_session.specs.Inside.{held_of};
+
+use crate::held::Held;
+use crate::progress::Progress;
+use p21_express_tables::Schema;
+use p21_stream_accepted::Accepted;
+use p21_stream_fault::Refusal;
+use p21_values::Limits;
+use std::alloc::Global;
+use std::marker::Model;
+
+/// Reads a file that comes in pieces of any size, checks it against a schema, and keeps its canonical lines.
+#[derive(Drop)]
+pub struct Session<'s> {
+    schema: &'s Schema,
+    limits: Limits,
+    progress: Progress,
+}
+
+impl<'s> Model for Session<'s> {
+    ghost use Rattle.p21_stream_session.specs.Held.{SessionHeld, held_code};
+
+    ghost Value = { SessionHeld };
+
+    ghost coded = { held_code };
+
+    ghost use Rattle.p21_stream_session.specs.Bounds.{IsBounded};
+    ghost use Rattle.p21_stream_session.specs.Inside.{held_in};
+
+    ghost view = { λ a. held_in a.schema.now a.limits a.progress };
+
+    ghost invariant = { λ a. IsBounded (held_in a.schema.now a.limits a.progress) };
+}
+
+impl<'s> Session<'s> {
+    /// Nothing taken. It takes no memory.
+    pub fn new(alloc: Global, schema: &'s Schema, limits: Limits) -> Session<'s>
+        ensures stands { Stands result nothing_taken }
+        ensures schema { schema_of result ≡ schema.now }
+        ensures limits { limits_of result ≡ limits }
+    {
+        Session {
+            schema,
+            limits,
+            progress: Progress::new(alloc, limits),
+        }
+    }
+
+    /// Takes a piece. Where it is refused, the rest of it isn't read, and each later call answers the same.
+    ///
+    /// # Errors
+    ///
+    /// The first refusal, in the order of the bytes. What is kept is given up with it.
+    pub fn feed(&mut self, piece: &[u8]) -> Result<(), Refusal>
+        ensures gives { FeedGives self.old piece.now result self.new }
+        ensures checks { FeedChecks self.old piece.now result }
+        ensures again { RefusesAgain self.old result self.new }
+        ensures schema { KeepsSchema self.old self.new }
+    {
+        let schema = self.schema;
+        let limits = self.limits;
+        self.progress.feed(schema, limits, piece)
+    }
+
+    /// What is held of the bytes taken. It takes no memory.
+    pub fn held(&self) -> Held
+        ensures held { HoldsFor self.now (held_of result) }
+        ensures pending { result.pending ≤ (limits_of self.now).record_source }
+        ensures depth { result.depth ≤ 64 }
+        ensures kept { result.kept ≤ (limits_of self.now).file_canonical }
+        ensures needs { result.needs ≤ (limits_of self.now).file_source }
+    {
+        Held {
+            pending: self.progress.front.pending(),
+            depth: self.progress.front.depth(),
+            kept: self.progress.kept.size(),
+            needs: self.progress.kept.references(),
+        }
+    }
+
+    /// The end of the file. It takes memory for the order of the instances, and gives up what only the check needs.
+    ///
+    /// # Errors
+    ///
+    /// The refusal of an earlier call; else `EndsEarly` or another fault of the end; then that of the first reference, in the
+    /// order of the file, to no instance or to one that isn't of the type; `NoMemory`.
+    pub fn finish(self) -> Result<Accepted, Refusal>
+        ensures gives { FinishGives self.entry result }
+        ensures again { RefusesAtEnd self.entry result }
+    {
+        let Session {
+            schema,
+            limits: _,
+            progress,
+        } = self;
+        progress.finish(schema)
+    }
+
+    /// The number of the open statement, counted from 1. It takes no memory.
+    pub fn statement(&self) -> u64 {
+        self.progress.statement
+    }
+}
