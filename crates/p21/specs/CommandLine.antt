@@ -11,8 +11,16 @@ file_rule = record (new_rule (codes "FILE")) { action = Some Set; required = tru
 abbrev pub param_app : App
 param_app = with_rule (new_app (codes "param")) file_rule
 
--- the program, with one of its commands
+-- S: one word, and not none
+abbrev pub schema_rule : Rule
+schema_rule = record (new_rule (codes "S")) { action = Some Set; required = true }
+
+-- `schema S`
+abbrev pub schema_app : App
+schema_app = with_rule (new_app (codes "schema")) schema_rule
+
+-- the program, with one of its commands; it has a version
 abbrev pub program_app : App
 program_app =
     let program = new_app (codes "p21") in
-    with_subcommand (record program { top = record program.top { subcommand_required = true } }) param_app.top
+    with_subcommand (with_subcommand (record program { top = record program.top { subcommand_required = true; has_version = true } }) param_app.top) schema_app.top

@@ -4,8 +4,14 @@ ghost use Rattle.clap.specs.Words.{app_of};
 ghost use Rattle.clap.specs.declared.builder.command.Command.TheViews.{out-Command as fields_of};
 ghost use Rattle.p21.specs.CommandLine.{param_app, program_app};
 
+mod schema;
+
 use clap::{Arg, ArgAction, Command};
+use schema::schema;
 use std::alloc::{AllocError, Global};
+
+/// The version of the program.
+const VERSION: &str = "0.1.0";
 
 /// The program with its commands.
 pub fn command_line<'a>(alloc: Global) -> Result<Command<'a>, AllocError>
@@ -13,8 +19,10 @@ pub fn command_line<'a>(alloc: Global) -> Result<Command<'a>, AllocError>
 {
     Command::new(alloc, "p21")
         .about("Reads the clear text encoding of exchange structures (ISO 10303-21)")
+        .version(VERSION)
         .subcommand_required(true)
-        .subcommand(param(alloc)?)
+        .subcommand(param(alloc)?)?
+        .subcommand(schema(alloc)?)
 }
 
 /// `param FILE`.
@@ -49,12 +57,26 @@ mod tests {
     }
 
     #[test]
+    fn takes_the_path_of_a_schema(rt: HostRuntime) -> Result<(), Fail> {
+        let words = ["p21", "schema", "s.exp"];
+        let matches = command_line(rt.alloc())?.try_get_matches_from(&words)?;
+        let schema = matches.subcommand_matches("schema").ok_or("no command")?;
+        assert_eq!(rt; schema.get_str("S"), Some("s.exp"));
+        Ok(())
+    }
+
+    #[test]
     fn explains_what_it_does_not_take(rt: HostRuntime) -> Result<(), Fail> {
-        let cases: [(&[&str], ErrorKind, i32); 6] = [
+        let cases: [(&[&str], ErrorKind, i32); 11] = [
             (&["p21"], ErrorKind::MissingSubcommand, 2),
             (&["p21", "frob"], ErrorKind::InvalidSubcommand, 2),
             (&["p21", "param"], ErrorKind::MissingRequiredArgument, 2),
             (&["p21", "param", "a", "b"], ErrorKind::UnknownArgument, 2),
+            (&["p21", "schema"], ErrorKind::MissingRequiredArgument, 2),
+            (&["p21", "schema", "a", "b"], ErrorKind::UnknownArgument, 2),
+            (&["p21", "schema", "--help"], ErrorKind::DisplayHelp, 0),
+            (&["p21", "--version"], ErrorKind::DisplayVersion, 0),
+            (&["p21", "-V"], ErrorKind::DisplayVersion, 0),
             (&["p21", "--help"], ErrorKind::DisplayHelp, 0),
             (&["p21", "param", "--help"], ErrorKind::DisplayHelp, 0),
         ];

@@ -2,3 +2,4 @@ pub mod Seen
 pub mod Stepping
 pub mod Finishing
 pub mod Opening
+pub mod Quiet

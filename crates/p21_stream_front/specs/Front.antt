@@ -22,7 +22,7 @@ use Rattle.p21_stream_fault.specs.declared.fault.Fault.TheVariants.{NoMemory}
 use Rattle.p21_tokens.specs.Held as tokens_held
 use Rattle.p21_tokens.specs.Held.{file_limit_of, record_limit_of}
 use Rattle.p21_tokens.specs.Histories as tokens
-use Rattle.p21_tokens.specs.Histories.{TokenHistory}
+use Rattle.p21_tokens.specs.Histories.{AreSeparators, TokenHistory}
 
 -- what is held: what the lexer and what the parser holds
 pub record Held : Type 0 where
@@ -97,6 +97,16 @@ StepGives old piece (Err fault) new = fault ≢ NoMemory → (reading : Reading)
 abbrev pub TakesOf : List ℕ → Result (Option (ℕ × Option Event)) Fault → Type 0
 TakesOf piece (Ok (Some answer)) = answer.0 ≤ length piece
 TakesOf piece other = Unit {0}
+
+-- neither a token nor want of memory
+abbrev pub AsksForNothing : Result (Option (ℕ × Option Event)) Fault → Type 0
+AsksForNothing (Ok None) = Unit {0}
+AsksForNothing (Ok (Some answer)) = ⊥
+AsksForNothing (Err fault) = fault ≢ NoMemory
+
+-- between tokens, separators give no token and need no memory
+abbrev pub NeedsNoMemory : Held → List ℕ → Result (Option (ℕ × Option Event)) Fault → Type 0
+NeedsNoMemory old piece result = (reading : Reading) → IsLive old reading → IsSeenAt reading.seen piece 0 → IsPending reading.taken 0 → AreSeparators piece → AsksForNothing result
 
 -- the bytes have the tokens of a tree, and these are its statements
 pub record IsWhole (taken : List ℕ) (given : List Statement) : Type 0 where

@@ -1,6 +1,6 @@
 ghost use Rattle.std.specs.Prelude.{◌≡◌, ◌≤◌, ◌+◌, [], length, None};
 ghost use Rattle.p21_exchange.specs.OpenNesting.{IsDepth};
-ghost use Rattle.p21_stream_front.specs.Front.{FinishGives, HasOpen, IsLive, Reading, StepGives, TakesOf, limits_of, new_reading};
+ghost use Rattle.p21_stream_front.specs.Front.{FinishGives, HasOpen, IsLive, NeedsNoMemory, Reading, StepGives, TakesOf, limits_of, new_reading};
 
 use p21_grammar::{Event, GrammarFault, Line, Parser};
 use p21_stream_fault::Fault;
@@ -49,6 +49,7 @@ impl Front {
         ensures takes { TakesOf piece.now result }
         ensures gives { StepGives self.old piece.now result self.new }
         ensures limits { limits_of self.new ≡ limits_of self.old }
+        ensures no_memory { NeedsNoMemory self.old piece.now result }
     {
         let (count, token) = match self.lexer.next(piece) {
             Ok(answer) => answer,

@@ -1,6 +1,7 @@
-use Rattle.std.proofs.Common.{sym, subst, Ok, Some}
+use Rattle.std.proofs.Common.{sym, subst, Ok, Err, Some}
 use Rattle.p21_stream_front.proofs.Stepping.{Owes, parse-refused, token-refused, went-on}
-use Rattle.p21_stream_front.specs.Front.{Held, StepGives}
+use Rattle.p21_stream_front.proofs.Quiet.{quiet-refused, quiet-token}
+use Rattle.p21_stream_front.specs.Front.{Held, NeedsNoMemory, StepGives}
 use Rattle.p21_tokens.specs.Histories.{NextGives}
 use Rattle.p21_stream_front.proofs.front.Front.step.Goals as goal
 
@@ -27,3 +28,22 @@ returns-in-Err-take-clause-gives c =
     (subst (λ t. NextGives c.self.inside.lexer c.args.piece.now (Ok (c.in-Ok.answer.0, t)) c.next.new.self) c.in-Some.is c.in-Ok.ensures.history)
     c.in-Ok.ensures.whole.0
     c.in-Err-take.ensures.gives))
+
+pub returns-in-Err-clause-no_memory : goal.returns-in-Err-clause-no_memory
+returns-in-Err-clause-no_memory c =
+    subst (λ (h : Held). NeedsNoMemory h c.args.piece.now (Err c.from.result)) c.self.view_is
+    (quiet-refused (record { lexer = c.self.inside.lexer; parser = c.self.inside.parser }) c.args.piece.now c.in-Err.fault c.from.result c.from.ensures c.in-Err.ensures.no_memory)
+
+pub returns-in-Ok-take-clause-no_memory : goal.returns-in-Ok-take-clause-no_memory
+returns-in-Ok-take-clause-no_memory c =
+    let held : Held = record { lexer = c.self.inside.lexer; parser = c.self.inside.parser } in
+    subst (λ (h : Held). NeedsNoMemory h c.args.piece.now (Ok (Some (c.in-Ok.answer.0, c.in-Ok-take.event)))) c.self.view_is
+    (quiet-token held c.args.piece.now c.in-Ok.answer.0 c.in-Some.token c.next.new.self (subst (λ t. NextGives c.self.inside.lexer c.args.piece.now (Ok (c.in-Ok.answer.0, t)) c.next.new.self) c.in-Some.is c.in-Ok.ensures.history)
+    (Ok (Some (c.in-Ok.answer.0, c.in-Ok-take.event))))
+
+pub returns-in-Err-take-clause-no_memory : goal.returns-in-Err-take-clause-no_memory
+returns-in-Err-take-clause-no_memory c =
+    let held : Held = record { lexer = c.self.inside.lexer; parser = c.self.inside.parser } in
+    subst (λ (h : Held). NeedsNoMemory h c.args.piece.now (Err c.from-in-Err-take.result)) c.self.view_is
+    (quiet-token held c.args.piece.now c.in-Ok.answer.0 c.in-Some.token c.next.new.self (subst (λ t. NextGives c.self.inside.lexer c.args.piece.now (Ok (c.in-Ok.answer.0, t)) c.next.new.self) c.in-Some.is c.in-Ok.ensures.history)
+    (Err c.from-in-Err-take.result))

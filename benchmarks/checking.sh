@@ -1,0 +1,48 @@
+#!/bin/sh
+# Times a program that lexes, parses and checks a file in pieces of 64 KiB, moves each record into what it means and drops
+# that, beside the program that only lexes and parses: points; oriented edges with their two derived places; one set of
+# references, and ten times as many; instances of five parts. Prints a table: the least processor time of several runs,
+# checking as a multiple of parsing, and the peak resident memory.
+# Needs rt, rustc and python3. A folder in TMPDIR with 100 MB of room, best in memory, takes the files.
+
+benchmarks=$(dirname -- "$(readlink -f -- "$0")")
+"$benchmarks/build.sh" parsing p21_grammar p21_tokens p21_values || exit
+"$benchmarks/build.sh" checking p21_mapping p21_mapping_values p21_express p21_express_tables p21_grammar p21_tokens p21_values || exit
+
+PYTHONDONTWRITEBYTECODE=1 PYTHONPATH=$benchmarks exec python3 - "$benchmarks/out" <<'PROGRAM'
+import os
+import subprocess
+import sys
+import tempfile
+
+import models
+from measure import peak_memory, seconds
+
+OUT = sys.argv[1]
+RUNS = 5
+FILES = {
+    "1,000,000 points": models.points(1_000_000),
+    "1,000,000 oriented edges": models.edges(1_000_000),
+    "100,000 references in one set": models.one_set(100_000),
+    "1,000,000 references in one set": models.one_set(1_000_000),
+    "100,000 instances of five parts": models.complexes(100_000),
+}
+
+with tempfile.TemporaryDirectory() as folder:
+    path = os.path.join(folder, "file")
+    parsing = [os.path.join(OUT, "parsing"), path]
+    checking = [os.path.join(OUT, "checking"), models.SCHEMA, path]
+    print("| file | MB | parsing, ms | checking, ms | checking to parsing | peak memory, MB |")
+    print("|---|---|---|---|---|---|")
+    for name, lines in FILES.items():
+        size = models.write(path, lines)
+        counted = subprocess.run(checking, stdout=subprocess.PIPE, text=True, check=True).stdout.split()
+        if counted[0] != str(len(lines)):
+            sys.exit(f"{name}: counts {counted}")
+        alone, both = (min(seconds(words) for _ in range(RUNS)) for words in (parsing, checking))
+        print(
+            f"| {name} | {size / 1e6:.1f} | {alone * 1e3:.0f} | {both * 1e3:.0f} | {both / alone:.2f}"
+            f" | {peak_memory(checking) / 1e6:.1f} |",
+            flush=True,
+        )
+PROGRAM

@@ -1,0 +1,80 @@
+"""Files of the schema `examples/product.exp` that several benchmarks read."""
+
+import pathlib
+import random
+import re
+
+EXAMPLES = pathlib.Path(__file__).resolve().parent.parent / "examples"
+SCHEMA = str(EXAMPLES / "product.exp")
+HEAD = (
+    "ISO-10303-21;\nHEADER;\nFILE_DESCRIPTION((''),'2;1');\nFILE_NAME('','',(''),(''),'','','');\n"
+    "FILE_SCHEMA(('PRODUCT_MODEL'));\nENDSEC;\nDATA;\n"
+)
+END = "ENDSEC;\nEND-ISO-10303-21;\n"
+
+
+def points(count):
+    """Points, each with coordinates of its own."""
+    return [f"#{n}=CARTESIAN_POINT('',({n % 977}.,{n % 89}.5,-{n % 31}.125));\n" for n in range(1, count + 1)]
+
+
+def edges(count):
+    """A point, a vertex, a line and an edge; then oriented edges of it."""
+    lines = [
+        "#1=CARTESIAN_POINT('',(0.,0.,0.));\n",
+        "#2=VERTEX_POINT('',#1);\n",
+        "#3=DIRECTION('',(1.,0.,0.));\n",
+        "#4=VECTOR('',#3,1.);\n",
+        "#5=LINE('',#1,#4);\n",
+        "#6=EDGE_CURVE('',#2,#2,#5,.T.);\n",
+    ]
+    return lines + [f"#{n}=ORIENTED_EDGE('',*,*,#6,.{'TF'[n % 2]}.);\n" for n in range(7, count + 1)]
+
+
+def one_set(count):
+    """Points, and one shape that holds them all."""
+    names = ",".join(f"#{n}" for n in range(2, count + 2))
+    return [
+        "#1=REPRESENTATION_CONTEXT('','');\n",
+        *(f"#{n}=CARTESIAN_POINT('',(0.));\n" for n in range(2, count + 2)),
+        f"#{count + 2}=SHAPE_REPRESENTATION('',({names}),#1);\n",
+    ]
+
+
+def complexes(count):
+    """Instances of five parts each."""
+    return ["#1=SI_UNIT(*,$,.METRE.);\n", "#2=DIMENSIONAL_EXPONENTS(1.,0.,0.);\n"] + [
+        f"#{n}=(GEOMETRIC_REPRESENTATION_CONTEXT(3)GLOBAL_UNIT_ASSIGNED_CONTEXT((#1))LENGTH_UNIT()NAMED_UNIT(#2)"
+        f"REPRESENTATION_CONTEXT('{n}','3D'));\n"
+        for n in range(3, count + 3)
+    ]
+
+
+def boundary(count):
+    """Blocks as the one of the examples, one after the other: in every second one each instance stands in front of those
+    that it refers to."""
+    text = (EXAMPLES / "product.step").read_text()
+    block = [line for line in re.findall(r"^#.*;\n", text, re.M) if "REPRESENTATION(" not in line]
+    size = len(block) + 3
+    lines = []
+    for copy in range(count // len(block) + 1):
+        of_copy = [
+            re.sub(r"#(\d+)", lambda name: f"#{int(name[1]) + copy * size}", line).replace("80.", f"{copy % 997 + 1}.25")
+            for line in block
+        ]
+        lines += reversed(of_copy) if copy % 2 else of_copy
+    # A copy that is cut off could refer to what is left out.
+    return lines[: len(lines) // len(block) * len(block)]
+
+
+def shuffled(lines):
+    """The same instances in an order without order."""
+    mixed = list(lines)
+    random.Random(7).shuffle(mixed)
+    return mixed
+
+
+def write(path, lines):
+    """A file of these instances. Answers how many bytes it has."""
+    with open(path, "w") as file:
+        return sum(file.write(part) for part in [HEAD, *lines, END])
