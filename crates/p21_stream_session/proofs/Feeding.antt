@@ -15,8 +15,8 @@ use Rattle.p21_stream_session.proofs.Going.{held-while_live, live-at_start}
 use Rattle.p21_stream_session.proofs.Within.{references-within}
 use Rattle.p21_stream_session.specs.Bounds.{IsBounded}
 use Rattle.p21_stream_session.specs.Held.{SessionHeld}
-use Rattle.p21_stream_session.specs.Histories.{FeedChecks, FeedGives, HoldsFor, Stands, nothing_taken}
-use Rattle.p21_stream_session.specs.Pieces.{ReadGives}
+use Rattle.p21_stream_session.specs.Histories.{FeedChecks, FeedGives, FeedNeedsNoMemory, HoldsFor, Stands, nothing_taken}
+use Rattle.p21_stream_session.specs.Pieces.{NeedsNoMemory, ReadGives}
 use Rattle.p21_stream_session.specs.Session.{IsLive}
 
 -- want of memory, or not
@@ -109,6 +109,17 @@ fed-refused s limits held next kept after end piece was refusal gives history st
         stands = (refl, (λ clash. absurd (none-some refusal None refl (sym clash))), λ r is _. d.dead);
       })
     ]
+
+-- ---- separators
+
+pub fed-quiet : (s : Schema) (limits : Limits) (held : front.Held) (kept : Kept) (piece : List ℕ) (was : Option Refusal) (refusal : Refusal) → NeedsNoMemory {Answer = Unit {0}} s limits held kept piece (Err refusal)
+    → FeedNeedsNoMemory (record { schema = s; limits = limits; front = held; kept = kept; refused = was }) piece (Err refusal)
+unfolding Stands
+fed-quiet s limits held kept piece was refusal needs history stands none pending are = let going = stands.1 none in needs (record { taken = history.taken; seen = None; given = going.0 }) going.1 tt pending are
+
+pub again-quiet : (held : SessionHeld) (piece : List ℕ) (refusal : Refusal) → held.refused ≡ Some refusal → FeedNeedsNoMemory held piece (Err refusal)
+unfolding Stands
+again-quiet held piece refusal was history stands none pending are = absurd (none-some refusal held.refused (sym (stands.0 ∙ none)) was)
 
 -- ---- what is held
 

@@ -1,5 +1,5 @@
 -- A piece, token by token.
-use Rattle.std.proofs.Common.{◌≡◌, ◌+◌, ◌-◌, ◌≤◌, ℕ, zero, suc, List, [], ◌∷◌, ◌++◌, length, take, drop, Option, Some, None, Result, Ok, Err, refl, sym, ap, subst, ◌∙◌, append_assoc, arith}
+use Rattle.std.proofs.Common.{◌≡◌, ◌+◌, ◌-◌, ◌≤◌, ◌<◌, ◌⊎◌, ℕ, zero, suc, List, [], ◌∷◌, ◌++◌, length, take, drop, Option, Some, None, Result, Ok, Err, inl, inr, refl, sym, ap, subst, ◌∙◌, append_assoc, arith}
 use Rattle.std.proofs.lemmas.List.{length-drop, take-append-drop}
 use Rattle.std.specs.List.{slice_get}
 use Rattle.p21_basics.specs.Limits.{Limits}
@@ -16,7 +16,7 @@ use Rattle.p21_stream_front.specs.Front.{IsSeenAt, Reading, limits_of}
 use Rattle.p21_stream_kept.specs.Steps as kept_steps
 use Rattle.p21_stream_kept.specs.Steps.{StepKeepsBound}
 use Rattle.p21_stream_session.proofs.Going.{dead-by_statement, dead-by_step, live-by_piece, live-by_statement, live-by_token}
-use Rattle.p21_stream_session.specs.Pieces.{ReadGives, StepGives}
+use Rattle.p21_stream_session.specs.Pieces.{EndsNoToken, NeedsNoMemory, ReadGives, StepGives}
 use Rattle.p21_stream_session.specs.Session.{IsLive}
 use Rattle.p21_stream_session.specs.declared.progress.Progress.{Progress}
 
@@ -80,23 +80,44 @@ pub step-offends : (s : Schema) → IsWellFormed s → (limits : Limits) (held n
 step-offends s formed limits held next kept after piece count event refusal fault is gives within takes other reading live at =
     dead-by_statement s formed limits held next kept after reading piece count (statement_of event) fault live (gives reading live.reads at) within takes (λ none. other (is ∙ none))
 
+-- ---- separators
+
+pub step-quiet : (s : Schema) (limits : Limits) (held : front.Held) (kept : Kept) (piece : List ℕ) (refusal : Refusal) (fault : Fault) → refusal.fault ≡ fault → front.NeedsNoMemory held piece (Err fault) → NeedsNoMemory {Answer = Option ℕ} s limits held kept piece (Err refusal)
+step-quiet s limits held kept piece refusal fault is needs reading live at none are memory = needs reading live.reads at none are (sym is ∙ memory)
+
+-- a token can't have come
+pub token-quiet : (s : Schema) (limits : Limits) (held : front.Held) (kept : Kept) (piece : List ℕ) (answer : ℕ × Option Event) → front.NeedsNoMemory held piece (Ok (Some answer)) → (result : Result (Option ℕ) Refusal) → NeedsNoMemory s limits held kept piece result
+token-quiet s limits held kept piece answer needs result reading live at none are = absurd (needs reading live.reads at none are)
+
+pub token-none : (s : Schema) (limits : Limits) (held : front.Held) (kept : Kept) (piece : List ℕ) (answer : ℕ × Option Event) → front.NeedsNoMemory held piece (Ok (Some answer)) → (count : ℕ) → EndsNoToken s limits held kept piece (Ok (Some count))
+token-none s limits held kept piece answer needs count reading live at none are = needs reading live.reads at none are
+
 -- ---- all tokens of a piece
 
 -- what the rest gives, the piece gives
-pub record IsRest (s : Schema) (limits : Limits) (old : Progress) (piece : List ℕ) (now : Progress) (rest : List ℕ) : Type 0 where
+pub record IsRest (s : Schema) (limits : Limits) (old : Progress) (piece : List ℕ) (now : Progress) (rest : List ℕ) (rounds : ℕ) : Type 0 where
   pub gives : (result : Result (Unit {0}) Refusal) (last : front.Held) (end : Kept) → ReadGives s limits now.front now.kept rest result last end → ReadGives s limits old.front old.kept piece result last end
   pub bound : StepKeepsBound limits old.kept now.kept
   pub limits_are : limits_of now.front ≡ limits_of old.front
   pub refused_is : now.refused ≡ old.refused
+  pub quiet : (result : Result (Unit {0}) Refusal) → NeedsNoMemory s limits now.front now.kept rest result → NeedsNoMemory s limits old.front old.kept piece result
+  -- behind a token, the piece isn't separators alone
+  pub behind : (rounds ≡ 0) ⊎ ((result : Result (Unit {0}) Refusal) → NeedsNoMemory s limits old.front old.kept piece result)
 
-pub rest-first : (s : Schema) (limits : Limits) (old : Progress) (piece : List ℕ) → IsRest s limits old piece old piece
-rest-first s limits old piece = record { gives = λ result last end reads. reads; bound = λ within. within; limits_are = refl; refused_is = refl }
+pub rest-first : (s : Schema) (limits : Limits) (old : Progress) (piece : List ℕ) → IsRest s limits old piece old piece 0
+rest-first s limits old piece = record { gives = λ result last end reads. reads; bound = λ within. within; limits_are = refl; refused_is = refl; quiet = λ result needs. needs; behind = inl refl }
 
-pub rest-on : (s : Schema) (limits : Limits) (old now next : Progress) (piece rest : List ℕ) (count : ℕ) → IsRest s limits old piece now rest → StepGives s limits now.front now.kept rest (Ok (Some count)) next.front next.kept → count ≤ length rest
-    → StepKeepsBound limits now.kept next.kept → limits_of next.front ≡ limits_of now.front → next.refused ≡ now.refused → IsRest s limits old piece next (drop count rest)
-rest-on s limits old now next piece rest count so_far gives within bound same refused = record {
+pub rest-on : (s : Schema) (limits : Limits) (old now next : Progress) (piece rest : List ℕ) (count rounds : ℕ) → IsRest s limits old piece now rest rounds → StepGives s limits now.front now.kept rest (Ok (Some count)) next.front next.kept → count ≤ length rest
+    → StepKeepsBound limits now.kept next.kept → limits_of next.front ≡ limits_of now.front → next.refused ≡ now.refused → EndsNoToken s limits now.front now.kept rest (Ok (Some count)) → IsRest s limits old piece next (drop count rest) (rounds + 1)
+rest-on s limits old now next piece rest count rounds so_far gives within bound same refused none = record {
   gives = λ result last end reads. so_far.gives result last end (read-on s limits now.front next.front last now.kept next.kept end rest count gives within result reads);
   bound = λ first. bound (so_far.bound first);
   limits_are = same ∙ so_far.limits_are;
   refused_is = refused ∙ so_far.refused_is;
+  quiet = λ result needs. so_far.quiet result (λ reading live at pending are. absurd (none reading live at pending are));
+  behind = inr (λ result. so_far.quiet result (λ reading live at pending are. absurd (none reading live at pending are)));
 }
+
+-- the loop's end is never reached
+pub rest-end : (s : Schema) (limits : Limits) (old now : Progress) (piece rest : List ℕ) (rounds : ℕ) → IsRest s limits old piece now rest rounds → 0 < rounds → (result : Result (Unit {0}) Refusal) → NeedsNoMemory s limits old.front old.kept piece result
+rest-end s limits old now piece rest rounds so_far some result = elim so_far.behind [ inl none ↦ absurd (omega (arith, some, none)) | inr needs ↦ needs result ]

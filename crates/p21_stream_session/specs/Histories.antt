@@ -2,6 +2,7 @@
 use Rattle.std.specs.Prelude.{◌≡◌, ◌≢◌, ◌≤◌, ℕ, List, [], ◌++◌, length, take, Option, Some, None, Result, Ok, Err}
 use Rattle.p21_basics.specs.Limits.{Limits}
 use Rattle.p21_exchange.specs.Statement.{Statement}
+use Rattle.p21_exchange.specs.Pending.{IsPending}
 use Rattle.p21_files.specs.Accepted.{IsAccepted, IsDead}
 use Rattle.p21_files.specs.Held as files
 use Rattle.p21_files.specs.Held.{IsHeld}
@@ -13,6 +14,7 @@ use Rattle.p21_stream_session.specs.Canonical.{IsCanonicalOutput}
 use Rattle.p21_stream_session.specs.Checked.{ChecksStatements}
 use Rattle.p21_stream_session.specs.Held.{SessionHeld, limits_of, refusal_of, schema_of}
 use Rattle.p21_stream_session.specs.Session.{IsLive}
+use Rattle.p21_tokens.specs.Histories.{AreSeparators}
 
 -- the bytes taken, the refused one among them, and the refusal
 pub record SessionHistory : Type 0 where
@@ -86,3 +88,8 @@ HoldsFor held result = (history : SessionHistory) → Stands held history → hi
 abbrev pub FeedChecks : SessionHeld → List ℕ → Result (Unit {0}) Refusal → Type 0
 FeedChecks old piece (Ok done) = (history : SessionHistory) → Stands old history → ChecksStatements (schema_of old) (history.taken ++ piece)
 FeedChecks old piece (Err refusal) = Unit {0}
+
+-- where no byte was refused and no token byte is pending, a piece of separators alone asks for no memory
+abbrev pub FeedNeedsNoMemory : SessionHeld → List ℕ → Result (Unit {0}) Refusal → Type 0
+FeedNeedsNoMemory old piece (Ok done) = Unit {0}
+FeedNeedsNoMemory old piece (Err refusal) = (history : SessionHistory) → Stands old history → history.refusal ≡ None → IsPending history.taken 0 → AreSeparators piece → refusal.fault ≢ NoMemory

@@ -2,6 +2,7 @@
 use Rattle.std.specs.Prelude.{◌≢◌, ◌≤◌, ℕ, List, ◌++◌, length, Option, Some, None, Result, Ok, Err}
 use Rattle.p21_basics.specs.Limits.{Limits}
 use Rattle.p21_claim_steps.specs.Keeping.{Kept}
+use Rattle.p21_exchange.specs.Pending.{IsPending}
 use Rattle.p21_exchange.specs.Statement.{Statement}
 use Rattle.p21_files.specs.Accepted.{IsAccepted}
 use Rattle.p21_schemas.specs.Schema.{Schema}
@@ -12,6 +13,7 @@ use Rattle.p21_stream_front.specs.Front as front
 use Rattle.p21_stream_front.specs.Front.{IsSeenAt, Reading}
 use Rattle.p21_stream_session.specs.Canonical.{IsCanonicalOutput}
 use Rattle.p21_stream_session.specs.Session.{GoesOn, IsDeadWithin, IsLive}
+use Rattle.p21_tokens.specs.Histories.{AreSeparators}
 
 -- so many bytes of the piece at most
 abbrev pub TakesOf : List ℕ → Result (Option ℕ) Refusal → Type 0
@@ -32,6 +34,20 @@ StepGives s limits held kept piece (Err refusal) next after = refusal.fault ≢ 
 abbrev pub ReadGives : Schema → Limits → front.Held → Kept → List ℕ → Result (Unit {0}) Refusal → front.Held → Kept → Type 0
 ReadGives s limits held kept piece (Ok done) next after = (reading : Reading) → IsLive s limits held kept reading → IsSeenAt reading.seen piece 0 → IsReadWhole s limits reading piece next after
 ReadGives s limits held kept piece (Err refusal) next after = refusal.fault ≢ NoMemory → (reading : Reading) → IsLive s limits held kept reading → IsSeenAt reading.seen piece 0 → IsDeadWithin s limits reading piece
+
+-- between tokens, separators need no memory
+abbrev pub AsksForNone : {Answer : Type 0} → Result Answer Refusal → Type 0
+AsksForNone (Ok answer) = Unit {0}
+AsksForNone (Err refusal) = refusal.fault ≢ NoMemory
+
+-- for each reading that is live, where the byte that was seen is offered first
+abbrev pub NeedsNoMemory : {Answer : Type 0} → Schema → Limits → front.Held → Kept → List ℕ → Result Answer Refusal → Type 0
+NeedsNoMemory s limits held kept piece result = (reading : Reading) → IsLive s limits held kept reading → IsSeenAt reading.seen piece 0 → IsPending reading.taken 0 → AreSeparators piece → AsksForNone result
+
+-- and no token comes
+abbrev pub EndsNoToken : Schema → Limits → front.Held → Kept → List ℕ → Result (Option ℕ) Refusal → Type 0
+EndsNoToken s limits held kept piece (Ok (Some count)) = (reading : Reading) → IsLive s limits held kept reading → IsSeenAt reading.seen piece 0 → IsPending reading.taken 0 → AreSeparators piece → ⊥
+EndsNoToken s limits held kept piece other = Unit {0}
 
 -- what the end of the bytes gives, whatever the canonical limits
 abbrev pub EndGives : Schema → front.Held → Kept → Result Output Refusal → Type 0

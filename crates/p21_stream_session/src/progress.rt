@@ -7,9 +7,9 @@ ghost use Rattle.p21_stream_fault.specs.declared.refusal.Refusal.{Refusal};
 ghost use Rattle.p21_stream_kept.specs.Steps as kept_steps;
 ghost use Rattle.p21_stream_kept.specs.Steps.{StepKeepsBound};
 ghost use Rattle.p21_stream_session.specs.Bounds.{IsBounded};
-ghost use Rattle.p21_stream_session.specs.Histories.{FeedChecks, FeedGives, FinishGives, RefusesAgain, RefusesAtEnd};
+ghost use Rattle.p21_stream_session.specs.Histories.{FeedChecks, FeedGives, FeedNeedsNoMemory, FinishGives, RefusesAgain, RefusesAtEnd};
 ghost use Rattle.p21_stream_session.specs.Inside.{held_in};
-ghost use Rattle.p21_stream_session.specs.Pieces.{EndGives, ReadGives, StepGives, TakesOf};
+ghost use Rattle.p21_stream_session.specs.Pieces.{EndGives, EndsNoToken, NeedsNoMemory, ReadGives, StepGives, TakesOf};
 
 use p21_express_tables::Schema;
 use p21_grammar::Event;
@@ -63,6 +63,7 @@ impl Progress {
     ) -> Result<(), Refusal>
         ensures gives { FeedGives (held_in schema.now limits self.old) piece.now result (held_in schema.now limits self.new) }
         ensures checks { FeedChecks (held_in schema.now limits self.old) piece.now result }
+        ensures no_memory { FeedNeedsNoMemory (held_in schema.now limits self.old) piece.now result }
         ensures again { RefusesAgain (held_in schema.now limits self.old) result (held_in schema.now limits self.new) }
         ensures bounded { IsBounded (held_in schema.now limits self.old) → IsBounded (held_in schema.now limits self.new) }
     {
@@ -118,6 +119,7 @@ impl Progress {
     /// The refusal of its first byte, token or statement that is refused.
     fn read(&mut self, schema: &Schema, limits: Limits, piece: &[u8]) -> Result<(), Refusal>
         ensures gives { ReadGives schema.now limits self.old.front self.old.kept piece.now result self.new.front self.new.kept }
+        ensures no_memory { NeedsNoMemory schema.now limits self.old.front self.old.kept piece.now result }
         ensures bound { StepKeepsBound limits self.old.kept self.new.kept }
         ensures limits { limits_of self.new.front ≡ limits_of self.old.front }
         ensures refused { self.new.refused ≡ self.old.refused }
@@ -150,6 +152,8 @@ impl Progress {
     ) -> Result<Option<usize>, Refusal>
         ensures takes { TakesOf piece.now result }
         ensures gives { StepGives schema.now limits self.old.front self.old.kept piece.now result self.new.front self.new.kept }
+        ensures no_memory { NeedsNoMemory schema.now limits self.old.front self.old.kept piece.now result }
+        ensures no_token { EndsNoToken schema.now limits self.old.front self.old.kept piece.now result }
         ensures bound { StepKeepsBound limits self.old.kept self.new.kept }
         ensures limits { limits_of self.new.front ≡ limits_of self.old.front }
         ensures refused { self.new.refused ≡ self.old.refused }

@@ -1,6 +1,6 @@
 ghost use Rattle.std.specs.Prelude.{◌≡◌, ◌≤◌};
 ghost use Rattle.p21_stream_session.specs.Held.{limits_of, schema_of};
-ghost use Rattle.p21_stream_session.specs.Histories.{FeedChecks, FeedGives, FinishGives, HoldsFor, KeepsSchema, RefusesAgain, RefusesAtEnd, Stands, nothing_taken};
+ghost use Rattle.p21_stream_session.specs.Histories.{FeedChecks, FeedGives, FeedNeedsNoMemory, FinishGives, HoldsFor, KeepsSchema, RefusesAgain, RefusesAtEnd, Stands, nothing_taken};
 ghost use Rattle.p21_stream_session.specs.Inside.{held_of};
 
 use crate::held::Held;
@@ -57,6 +57,7 @@ impl<'s> Session<'s> {
     pub fn feed(&mut self, piece: &[u8]) -> Result<(), Refusal>
         ensures gives { FeedGives self.old piece.now result self.new }
         ensures checks { FeedChecks self.old piece.now result }
+        ensures no_memory { FeedNeedsNoMemory self.old piece.now result }
         ensures again { RefusesAgain self.old result self.new }
         ensures schema { KeepsSchema self.old self.new }
     {

@@ -1,7 +1,7 @@
 use Rattle.std.proofs.Common.{Result, Some, refl, sym, subst}
 use Rattle.p21_stream_fault.specs.declared.refusal.Refusal.{Refusal}
-use Rattle.p21_stream_session.proofs.Feeding.{bounded-whole, fed-again, fed-checks, fed-refused, fed-whole}
-use Rattle.p21_stream_session.specs.Histories.{FeedChecks, FeedGives}
+use Rattle.p21_stream_session.proofs.Feeding.{again-quiet, bounded-whole, fed-again, fed-checks, fed-quiet, fed-refused, fed-whole}
+use Rattle.p21_stream_session.specs.Histories.{FeedChecks, FeedGives, FeedNeedsNoMemory}
 use Rattle.p21_stream_session.specs.Inside.{held_in}
 use Rattle.p21_stream_session.proofs.progress.Progress.feed.Goals as goal
 
@@ -28,3 +28,11 @@ returns-in-Err-clause-gives c =
 
 pub returns-in-Err-clause-checks : goal.returns-in-Err-clause-checks
 returns-in-Err-clause-checks c = subst (λ (r : Result (Unit {0}) Refusal). FeedChecks (held_in c.args.schema.now c.args.limits c.args.self.now) c.args.piece.now r) (sym (c.answered.ensures c.in-Err.refusal refl)) tt
+
+pub returns-in-Some-clause-no_memory : goal.returns-in-Some-clause-no_memory
+returns-in-Some-clause-no_memory c = again-quiet (held_in c.args.schema.now c.args.limits c.args.self.now) c.args.piece.now c.in-Some.refusal c.in-Some.is
+
+pub returns-in-Err-clause-no_memory : goal.returns-in-Err-clause-no_memory
+returns-in-Err-clause-no_memory c =
+    subst (λ (r : Result (Unit {0}) Refusal). FeedNeedsNoMemory (held_in c.args.schema.now c.args.limits c.args.self.now) c.args.piece.now r) (sym (c.answered.ensures c.in-Err.refusal refl))
+    (fed-quiet c.args.schema.now c.args.limits c.args.self.now.front c.args.self.now.kept c.args.piece.now c.args.self.now.refused c.in-Err.refusal c.in-Err.ensures.no_memory)

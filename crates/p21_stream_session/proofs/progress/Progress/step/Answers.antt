@@ -1,7 +1,7 @@
-use Rattle.std.proofs.Common.{ℕ, Ok, Option, Some, subst}
+use Rattle.std.proofs.Common.{ℕ, Ok, Err, Option, Some, subst}
 use Rattle.p21_grammar_machine.specs.declared.event.Event.{Event}
 use Rattle.p21_stream_front.specs.Front as front
-use Rattle.p21_stream_session.proofs.Pieces.{step-offends, step-refused, step-statement, step-token}
+use Rattle.p21_stream_session.proofs.Pieces.{step-offends, step-quiet, step-refused, step-statement, step-token, token-none, token-quiet}
 use Rattle.p21_stream_session.proofs.progress.Progress.step.Goals as goal
 
 pub returns-in-Err-clause-gives : goal.returns-in-Err-clause-gives
@@ -28,3 +28,21 @@ returns-in-Err-take-clause-gives c =
     (subst (λ (e : Option Event). front.StepGives c.args.self.now.front c.args.piece.now (Ok (Some (c.in-Some.count, e))) c.step.new.self) c.in-Some-event.is
     (subst (λ (a : Option (ℕ × Option Event)). front.StepGives c.args.self.now.front c.args.piece.now (Ok a) c.step.new.self) c.in-Some.is c.in-Ok.ensures.gives))
     (subst (λ (a : Option (ℕ × Option Event)). front.TakesOf c.args.piece.now (Ok a)) c.in-Some.is c.in-Ok.ensures.takes) c.in-Err-take.ensures.gives
+
+pub returns-in-Err-clause-no_memory : goal.returns-in-Err-clause-no_memory
+returns-in-Err-clause-no_memory c = step-quiet c.args.schema.now c.args.limits c.args.self.now.front c.args.self.now.kept c.args.piece.now c.refused.result c.in-Err.fault c.refused.ensures c.in-Err.ensures.no_memory
+
+pub returns-in_default-event-clause-no_token : goal.returns-in_default-event-clause-no_token
+returns-in_default-event-clause-no_token c =
+    token-none c.args.schema.now c.args.limits c.args.self.now.front c.args.self.now.kept c.args.piece.now (c.in-Some.count, c.in-Some.event)
+    (subst (λ (a : Option (ℕ × Option Event)). front.NeedsNoMemory c.args.self.now.front c.args.piece.now (Ok a)) c.in-Some.is c.in-Ok.ensures.no_memory) c.in-Some.count
+
+pub returns-in-Ok-take-clause-no_token : goal.returns-in-Ok-take-clause-no_token
+returns-in-Ok-take-clause-no_token c =
+    token-none c.args.schema.now c.args.limits c.args.self.now.front c.args.self.now.kept c.args.piece.now (c.in-Some.count, c.in-Some.event)
+    (subst (λ (a : Option (ℕ × Option Event)). front.NeedsNoMemory c.args.self.now.front c.args.piece.now (Ok a)) c.in-Some.is c.in-Ok.ensures.no_memory) c.in-Some.count
+
+pub returns-in-Err-take-clause-no_memory : goal.returns-in-Err-take-clause-no_memory
+returns-in-Err-take-clause-no_memory c =
+    token-quiet c.args.schema.now c.args.limits c.args.self.now.front c.args.self.now.kept c.args.piece.now (c.in-Some.count, c.in-Some.event)
+    (subst (λ (a : Option (ℕ × Option Event)). front.NeedsNoMemory c.args.self.now.front c.args.piece.now (Ok a)) c.in-Some.is c.in-Ok.ensures.no_memory) (Err c.refused-in-Err-take.result)
