@@ -1,0 +1,3 @@
+pub mod Canonicals
+pub mod Feeding
+pub mod Texts

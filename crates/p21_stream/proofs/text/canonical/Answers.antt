@@ -1,0 +1,23 @@
+use Rattle.p21_stream.proofs.Canonicals.{one-meaning}
+use Rattle.p21_stream.proofs.Texts.{text-accepted, text-refused}
+use Rattle.p21_stream.proofs.text.canonical.Goals as goal
+
+pub returns-in-Err-clause-err : goal.returns-in-Err-clause-err
+returns-in-Err-clause-err c =
+    text-refused _ _ c.new-session.result c.feed.new.self c.args.text.now c.in-Err.refusal c.of_bytes.result.fault c.new-session.ensures.schema c.new-session.ensures.limits c.new-session.ensures.stands c.type_inv.text c.of_bytes.ensures.fault c.in-Err.ensures.gives
+
+pub returns-in-Err-clause-one_meaning : goal.returns-in-Err-clause-one_meaning
+returns-in-Err-clause-one_meaning c = one-meaning c.args.schema.now c.well_formed-2.ensures c.args.text.now
+
+pub returns-in-Err-finish-clause-one_meaning : goal.returns-in-Err-finish-clause-one_meaning
+returns-in-Err-finish-clause-one_meaning c = one-meaning c.args.schema.now c.well_formed-2.ensures c.args.text.now
+
+pub returns-in-Ok-text_of-clause-ok : goal.returns-in-Ok-text_of-clause-ok
+returns-in-Ok-text_of-clause-ok c =
+    text-accepted c.args.schema.now c.well_formed-2.ensures _ c.new-session.result c.feed.new.self c.args.text.now _ c.in-Ok-finish.accepted c.new-session.ensures.schema c.new-session.ensures.limits c.in-Ok.ensures.schema c.new-session.ensures.stands c.in-Ok.ensures.gives c.in-Ok-finish.ensures.gives c.in-Ok-text_of.ensures
+
+pub returns-in-Ok-text_of-clause-one_meaning : goal.returns-in-Ok-text_of-clause-one_meaning
+returns-in-Ok-text_of-clause-one_meaning c = one-meaning c.args.schema.now c.well_formed-2.ensures c.args.text.now
+
+pub returns-clause-one_meaning : goal.returns-clause-one_meaning
+returns-clause-one_meaning c = one-meaning c.args.schema.now c.well_formed-2.ensures c.args.text.now

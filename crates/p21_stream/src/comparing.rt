@@ -1,0 +1,83 @@
+//! Two files compared by what they mean.
+ghost use Rattle.std.specs.Prelude.{◌≡◌, ◌≤◌, ◌+◌, IfErr, IfOk, OnOk};
+ghost use Rattle.p21_stream.specs.Answers.{Compares, FailsToCompare, IsCanonicalOfRead, first_failures, second_failures};
+ghost use Rattle.p21_stream.specs.Reading.{ConsumesAtMost, RefusesRead, read_failures};
+
+use crate::text::{no_memory, text_of};
+use crate::read::{accept, read_file};
+use p21_express_tables::Schema;
+use p21_stream_fault::Refusal;
+use p21_stream_io::Watched;
+use p21_values::{Limits, NoMemory};
+use std::alloc::Global;
+use std::io::Read;
+
+/// One of two files.
+#[derive(Clone, Copy, Debug, PartialEq, Eq)]
+pub enum Which {
+    First,
+    Second,
+}
+
+/// Whether two files mean the same. The first is read to its end before the second; of neither is more than one byte past
+/// the limit of a file read.
+///
+/// # Errors
+///
+/// The file, with its refusal as `accept` answers it.
+pub fn same_meaning<R: Read, S: Read>(
+    alloc: Global,
+    schema: &Schema,
+    limits: Limits,
+    first: &mut Watched<R>,
+    second: &mut Watched<S>,
+) -> Result<bool, (Which, Refusal)>
+    ensures ok { IfOk result (λ same. Compares schema.now limits (R.remaining first.old.inner) (R.remaining first.new.inner)
+        (S.remaining second.old.inner) (S.remaining second.new.inner) same) }
+    ensures err { IfErr result (λ answer. FailsToCompare schema.now limits (R.remaining first.old.inner) (R.remaining first.new.inner)
+        (S.remaining second.old.inner) (S.remaining second.new.inner) answer.0 answer.1.fault) }
+    ensures consumed_first { ConsumesAtMost limits (R.remaining first.old.inner) (R.remaining first.new.inner) }
+    ensures consumed_second { ConsumesAtMost limits (S.remaining second.old.inner) (S.remaining second.new.inner) }
+
+    ensures moved_first { first.new.moved ≤ first.old.moved + (limits.file_source + 1) }
+    ensures moved_second { second.new.moved ≤ second.old.moved + (limits.file_source + 1) }
+    ensures read { OnOk result ((first.new.failures ≡ first.old.failures) × (second.new.failures ≡ second.old.failures)) }
+    ensures failed_first { IfErr result (λ answer. first.new.failures ≡ first_failures first.old.failures answer.0 answer.1.fault) }
+    ensures failed_second { IfErr result (λ answer. second.new.failures ≡ second_failures second.old.failures answer.0 answer.1.fault) }
+{
+    schema.well_formed();
+    let text = match canonical_read(alloc, schema, limits, first) {
+        Ok(text) => text,
+        Err(refusal) => return Err((Which::First, refusal)),
+    };
+    match accept(alloc, schema, limits, second) {
+        Ok(accepted) => Ok(accepted.is_text(&text)),
+        Err(refusal) => Err((Which::Second, refusal)),
+    }
+}
+
+/// The canonical file of what a reader gives.
+fn canonical_read<R: Read>(
+    alloc: Global,
+    schema: &Schema,
+    limits: Limits,
+    reader: &mut Watched<R>,
+) -> Result<Vec<u8>, Refusal>
+    ensures ok { IfOk result (λ text. IsCanonicalOfRead schema.now limits (R.remaining reader.old.inner) (R.remaining reader.new.inner) text.items) }
+    ensures err { IfErr result (λ refusal. RefusesRead schema.now limits (R.remaining reader.old.inner) (R.remaining reader.new.inner) refusal.fault) }
+    ensures consumed { ConsumesAtMost limits (R.remaining reader.old.inner) (R.remaining reader.new.inner) }
+
+    ensures moved { reader.new.moved ≤ reader.old.moved + (limits.file_source + 1) }
+    ensures read { OnOk result (reader.new.failures ≡ reader.old.failures) }
+    ensures failed { IfErr result (λ refusal. reader.new.failures ≡ read_failures reader.old.failures refusal.fault) }
+{
+    schema.well_formed();
+    let (accepted, statement) = match read_file(alloc, schema, limits, reader) {
+        Ok(read) => read,
+        Err(refusal) => return Err(refusal),
+    };
+    match text_of(alloc, &accepted) {
+        Ok(text) => Ok(text),
+        Err(NoMemory) => Err(no_memory(statement)),
+    }
+}

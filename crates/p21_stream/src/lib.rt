@@ -1,0 +1,16 @@
+//! Whole files: read in pieces, accepted or refused, written in their canonical form, and compared.
+#![tactic(auto)]
+
+mod comparing;
+mod read;
+mod text;
+mod writing;
+
+pub use comparing::{Which, same_meaning};
+pub use p21_stream_accepted::Accepted;
+pub use p21_stream_fault::{At, Fault, Refusal};
+pub use p21_stream_io::Watched;
+pub use p21_stream_session::{Held, Session};
+pub use read::accept;
+pub use text::canonical;
+pub use writing::rewrite;

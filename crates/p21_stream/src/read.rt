@@ -1,0 +1,164 @@
+//! Reading a file to its end.
+ghost use Rattle.std.specs.Prelude.{◌≡◌, ◌≤◌, ◌+◌, ◌<◌, ◌⊎◌, length, IfErr, IfOk, Ok, OnOk};
+ghost use Rattle.p21_stream.specs.Feeding.{FeedsOn, IsAlongWhole, RefusesOn, RefusesPiece, TakesAtMost};
+ghost use Rattle.p21_stream.specs.Reading.{ConsumesAtMost, IsAcceptedRead, IsOfBytes, RefusesRead, read_failures};
+ghost use Rattle.p21_stream_fault.specs.declared.fault.Fault.TheVariants.{NoMemory};
+ghost use Rattle.p21_stream_session.specs.Held.{limits_of, schema_of};
+ghost use Rattle.p21_stream_session.specs.Histories.{FeedGives, KeepsSchema, Stands, nothing_taken};
+
+use p21_express_tables::Schema;
+use p21_stream_accepted::Accepted;
+use p21_stream_fault::{At, Fault, Refusal};
+use p21_stream_io::{Watched, read_piece};
+use p21_stream_session::Session;
+use p21_values::Limits;
+use std::alloc::Global;
+use std::io::Read;
+
+/// The bytes that one read may give.
+const PIECE: usize = 65_536;
+
+/// Reads a file to its end, and never more than one byte past the limit of a file.
+///
+/// # Errors
+///
+/// Those of a session; `Read` where a read answers an error, whatever its kind.
+pub fn accept<R: Read>(
+    alloc: Global,
+    schema: &Schema,
+    limits: Limits,
+    reader: &mut Watched<R>,
+) -> Result<Accepted, Refusal>
+    ensures ok { IfOk result (λ accepted.
+        IsAcceptedRead schema.now limits (R.remaining reader.old.inner) (R.remaining reader.new.inner) accepted) }
+    ensures err { IfErr result (λ refusal.
+        RefusesRead schema.now limits (R.remaining reader.old.inner) (R.remaining reader.new.inner) refusal.fault) }
+    ensures consumed { ConsumesAtMost limits (R.remaining reader.old.inner) (R.remaining reader.new.inner) }
+
+    ensures moved { reader.new.moved ≤ reader.old.moved + (limits.file_source + 1) }
+    ensures read { OnOk result (reader.new.failures ≡ reader.old.failures) }
+    ensures failed { IfErr result (λ refusal. reader.new.failures ≡ read_failures reader.old.failures refusal.fault) }
+{
+    match read_file(alloc, schema, limits, reader) {
+        Ok((accepted, _)) => Ok(accepted),
+        Err(refusal) => Err(refusal),
+    }
+}
+
+/// Reads a file to its end, and says which statement is open there.
+pub(crate) fn read_file<R: Read>(
+    alloc: Global,
+    schema: &Schema,
+    limits: Limits,
+    reader: &mut Watched<R>,
+) -> Result<(Accepted, u64), Refusal>
+    ensures ok { IfOk result (λ answer.
+        IsAcceptedRead schema.now limits (R.remaining reader.old.inner) (R.remaining reader.new.inner) answer.0) }
+    ensures err { IfErr result (λ refusal.
+        RefusesRead schema.now limits (R.remaining reader.old.inner) (R.remaining reader.new.inner) refusal.fault) }
+    ensures consumed { ConsumesAtMost limits (R.remaining reader.old.inner) (R.remaining reader.new.inner) }
+
+    ensures moved { reader.new.moved ≤ reader.old.moved + (limits.file_source + 1) }
+    ensures read { OnOk result (reader.new.failures ≡ reader.old.failures) }
+    ensures failed { IfErr result (λ refusal. reader.new.failures ≡ read_failures reader.old.failures refusal.fault) }
+{
+    let mut session = Session::new(alloc, schema, limits);
+    match feed_all(&mut session, reader, limits.file_source()) {
+        Ok(()) => {}
+        Err(refusal) => return Err(refusal),
+    }
+    let statement = session.statement();
+    match session.finish() {
+        Ok(accepted) => Ok((accepted, statement)),
+        Err(refusal) => Err(of_bytes(refusal)),
+    }
+}
+
+/// Feeds a session that is new all that a reader has.
+fn feed_all<R: Read>(
+    session: &mut Session<'_>,
+    reader: &mut Watched<R>,
+    most: u64,
+) -> Result<(), Refusal>
+    requires new { Stands session.old nothing_taken }
+    requires most { most ≡ (limits_of session.old).file_source }
+    ensures ok { OnOk result (IsAlongWhole (R.remaining reader.old.inner) (R.remaining reader.new.inner) session.new) }
+    ensures err { IfErr result (λ refusal.
+        RefusesRead (schema_of session.old) (limits_of session.old) (R.remaining reader.old.inner) (R.remaining reader.new.inner) refusal.fault) }
+    ensures consumed { ConsumesAtMost (limits_of session.old) (R.remaining reader.old.inner) (R.remaining reader.new.inner) }
+
+    ensures schema { KeepsSchema session.old session.new }
+    ensures moved { reader.new.moved ≤ reader.old.moved + (most + 1) }
+    ensures read { OnOk result (reader.new.failures ≡ reader.old.failures) }
+    ensures failed { IfErr result (λ refusal. reader.new.failures ≡ read_failures reader.old.failures refusal.fault) }
+{
+    let mut piece = [0; PIECE];
+    let mut left = most;
+    loop {
+        let count = match feed_piece(session, reader, &mut piece, left) {
+            Ok(count) => count,
+            Err(refusal) => return Err(refusal),
+        };
+        if count == 0 {
+            return Ok(());
+        }
+        left -= count;
+    }
+}
+
+/// Feeds a session what a reader gives at once, and says how many bytes: 0 at the end alone.
+fn feed_piece<R: Read>(
+    session: &mut Session<'_>,
+    reader: &mut Watched<R>,
+    piece: &mut [u8],
+    most: u64,
+) -> Result<u64, Refusal>
+    requires room { 0 < length piece.old }
+    ensures ok { IfOk result (FeedsOn (R.remaining reader.old.inner) (R.remaining reader.new.inner) session.old session.new) }
+    ensures err { IfErr result (λ refusal. RefusesOn (R.remaining reader.old.inner) (R.remaining reader.new.inner) session.old refusal.fault) }
+    ensures consumed { TakesAtMost (most + 1) (R.remaining reader.old.inner) (R.remaining reader.new.inner) }
+
+    ensures schema { KeepsSchema session.old session.new }
+    ensures moved { IfOk result (λ count. reader.new.moved ≤ reader.old.moved + count) }
+    ensures moved_once { reader.new.moved ≤ reader.old.moved + 1 }
+    ensures read { OnOk result (reader.new.failures ≡ reader.old.failures) }
+    ensures failed { IfErr result (λ refusal. reader.new.failures ≡ read_failures reader.old.failures refusal.fault) }
+{
+    let Ok(count) = read_piece(reader, piece, most) else {
+        return Err(Refusal {
+            fault: Fault::Read,
+            at: At::Statement(session.statement()),
+        });
+    };
+    match feed(session, &piece[..count]) {
+        Ok(()) => Ok(count as u64),
+        Err(refusal) => Err(refusal),
+    }
+}
+
+/// Feeds a session a piece.
+fn feed(session: &mut Session<'_>, piece: &[u8]) -> Result<(), Refusal>
+    ensures gives { OnOk result (FeedGives session.old piece.now (Ok tt) session.new) }
+    ensures schema { KeepsSchema session.old session.new }
+    ensures refuses { IfErr result (λ refusal. RefusesPiece session.old piece.now refusal.fault) }
+    ensures kind { IfErr result (λ refusal. IsOfBytes refusal.fault) }
+{
+    match session.feed(piece) {
+        Ok(()) => Ok(()),
+        Err(refusal) => Err(of_bytes(refusal)),
+    }
+}
+
+/// The refusal of a session, which reads and writes nothing itself.
+pub(crate) fn of_bytes(refusal: Refusal) -> Refusal
+    ensures kind { IsOfBytes result.fault }
+    ensures fault { (result.fault ≡ refusal.fault) ⊎ (result.fault ≡ NoMemory) }
+{
+    match refusal.fault {
+        Fault::Read | Fault::Write => Refusal {
+            fault: Fault::NoMemory,
+            at: refusal.at,
+        },
+        _ => refusal,
+    }
+}

@@ -1,0 +1,69 @@
+//! The canonical file of a text.
+ghost use Rattle.std.specs.Prelude.{◌≡◌, ◌≢◌, IfErr, IfOk};
+ghost use Rattle.p21_files.specs.Accepted.{IsAccepted};
+ghost use Rattle.p21_stream.specs.Answers.{HasOneMeaning, IsOnlyCanonicalFile};
+ghost use Rattle.p21_stream.specs.Reading.{IsOfBytes};
+ghost use Rattle.p21_stream_accepted.specs.Output.{output_text};
+
+use crate::read::of_bytes;
+use p21_express_tables::Schema;
+use p21_stream_accepted::Accepted;
+use p21_stream_fault::{At, Fault, Refusal};
+use p21_stream_io::Watched;
+use p21_stream_session::Session;
+use p21_values::{Limits, NoMemory};
+use std::alloc::Global;
+
+/// The canonical file of a text that holds a file.
+///
+/// # Errors
+///
+/// Those of a session.
+pub fn canonical(
+    alloc: Global,
+    schema: &Schema,
+    limits: Limits,
+    text: &[u8],
+) -> Result<Vec<u8>, Refusal>
+    ensures ok { IfOk result (λ canonical. IsOnlyCanonicalFile schema.now limits text.now canonical.items) }
+    ensures err { IfErr result (λ refusal. refusal.fault ≢ Fault.NoMemory → ¬ IsAccepted schema.now limits text.now) }
+    ensures kind { IfErr result (λ refusal. IsOfBytes refusal.fault) }
+    ensures one_meaning { HasOneMeaning schema.now text.now }
+{
+    schema.well_formed();
+    let mut session = Session::new(alloc, schema, limits);
+    match session.feed(text) {
+        Ok(()) => {}
+        Err(refusal) => return Err(of_bytes(refusal)),
+    }
+    let statement = session.statement();
+    let accepted = match session.finish() {
+        Ok(accepted) => accepted,
+        Err(refusal) => return Err(of_bytes(refusal)),
+    };
+    match text_of(alloc, &accepted) {
+        Ok(text) => Ok(text),
+        Err(NoMemory) => Err(no_memory(statement)),
+    }
+}
+
+/// The canonical file of an accepted one.
+pub(crate) fn text_of(alloc: Global, accepted: &Accepted) -> Result<Vec<u8>, NoMemory>
+    ensures { IfOk result (λ text. text.items ≡ output_text accepted.now) }
+{
+    let mut writer = Watched::new(Vec::new(alloc));
+    match accepted.write_to(&mut writer) {
+        Ok(()) => Ok(writer.into_inner()),
+        Err(_) => Err(NoMemory),
+    }
+}
+
+/// Want of memory at a statement.
+pub(crate) fn no_memory(statement: u64) -> Refusal
+    ensures { result.fault ≡ Fault.NoMemory }
+{
+    Refusal {
+        fault: Fault::NoMemory,
+        at: At::Statement(statement),
+    }
+}
