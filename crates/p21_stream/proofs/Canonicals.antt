@@ -24,10 +24,10 @@ pub only-canonical : (s : Schema) → IsWellFormed s → (limits : Limits) (byte
 only-canonical s formed limits bytes text is = record {
   is_canonical = is;
   only = λ meaning means other c same.
-  let one : is.0 ≡ meaning = Means-one s formed limits limits bytes is.0 meaning is.1 means in
-  let of = is.2 in
-  let back : SameFileMeaning meaning of.canonical.meaning = SameFileMeaning-symmetric of.canonical.meaning meaning (subst (SameFileMeaning of.canonical.meaning) one of.same) in
-  file-once s formed other text c of.canonical (SameFileMeaning-transitive c.meaning meaning of.canonical.meaning same back);
+      let one : is.0 ≡ meaning = Means-one s formed limits limits bytes is.0 meaning is.1 means in
+      let of = is.2 in
+      let back : SameFileMeaning meaning of.canonical.meaning = SameFileMeaning-symmetric of.canonical.meaning meaning (subst (SameFileMeaning of.canonical.meaning) one of.same) in
+      file-once s formed other text c of.canonical (SameFileMeaning-transitive c.meaning meaning of.canonical.meaning same back);
 }
 
 pub one-meaning : (s : Schema) → IsWellFormed s → (bytes : List ℕ) → HasOneMeaning s bytes
