@@ -9,7 +9,6 @@ use Rattle.p21_claim.proofs.OneReading.{Reads-one}
 use Rattle.p21_claim.proofs.Theorems.{files-tell}
 use Rattle.p21_files.proofs.SameFiles.{SameFileMeaning-symmetric, SameFileMeaning-transitive}
 use Rattle.p21_files.specs.Accepted.{IsCanonicalFile}
-use Rattle.p21_files.specs.File.{FileMeaning}
 use Rattle.p21_files.specs.SameFile.{SameFileMeaning}
 use Rattle.p21_schemas.specs.Schema.{Schema}
 use Rattle.p21_schemas.specs.WellFormed.{IsWellFormed}
@@ -24,10 +23,10 @@ pub only-canonical : (s : Schema) → IsWellFormed s → (limits : Limits) (byte
 only-canonical s formed limits bytes text is = record {
   is_canonical = is;
   only = λ meaning means other c same.
-  let one : is.0 ≡ meaning = Means-one s formed limits limits bytes is.0 meaning is.1 means in
-  let of = is.2 in
-  let back : SameFileMeaning meaning of.canonical.meaning = SameFileMeaning-symmetric of.canonical.meaning meaning (subst (SameFileMeaning of.canonical.meaning) one of.same) in
-  file-once s formed other text c of.canonical (SameFileMeaning-transitive c.meaning meaning of.canonical.meaning same back);
+      let one : is.0 ≡ meaning = Means-one s formed limits limits bytes is.0 meaning is.1 means in
+      let of = is.2 in
+      let back : SameFileMeaning meaning of.canonical.meaning = SameFileMeaning-symmetric of.canonical.meaning meaning (subst (SameFileMeaning of.canonical.meaning) one of.same) in
+      file-once s formed other text c of.canonical (SameFileMeaning-transitive c.meaning meaning of.canonical.meaning same back);
 }
 
 pub one-meaning : (s : Schema) → IsWellFormed s → (bytes : List ℕ) → HasOneMeaning s bytes

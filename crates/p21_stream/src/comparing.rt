@@ -3,8 +3,8 @@ ghost use Rattle.std.specs.Prelude.{◌≡◌, ◌≤◌, ◌+◌, IfErr, IfOk, 
 ghost use Rattle.p21_stream.specs.Answers.{Compares, FailsToCompare, IsCanonicalOfRead, first_failures, second_failures};
 ghost use Rattle.p21_stream.specs.Reading.{ConsumesAtMost, RefusesRead, read_failures};
 
-use crate::text::{no_memory, text_of};
 use crate::read::{accept, read_file};
+use crate::text::{no_memory, text_of};
 use p21_express_tables::Schema;
 use p21_stream_fault::Refusal;
 use p21_stream_io::Watched;
