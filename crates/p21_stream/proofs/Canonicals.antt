@@ -9,7 +9,6 @@ use Rattle.p21_claim.proofs.OneReading.{Reads-one}
 use Rattle.p21_claim.proofs.Theorems.{files-tell}
 use Rattle.p21_files.proofs.SameFiles.{SameFileMeaning-symmetric, SameFileMeaning-transitive}
 use Rattle.p21_files.specs.Accepted.{IsCanonicalFile}
-use Rattle.p21_files.specs.File.{FileMeaning}
 use Rattle.p21_files.specs.SameFile.{SameFileMeaning}
 use Rattle.p21_schemas.specs.Schema.{Schema}
 use Rattle.p21_schemas.specs.WellFormed.{IsWellFormed}

@@ -1,7 +1,7 @@
 -- A session that is fed what a reader gives.
-use Rattle.std.proofs.Common.{◌≡◌, ◌≢◌, ◌≤◌, ◌<◌, ◌+◌, ◌-◌, ◌⊎◌, ℕ, suc, List, [], ◌∷◌, ◌++◌, length, take, drop, append_assoc, append-nil, Option, Some, None, Result, Ok, Err, inl, inr, refl, sym, ap, subst, ◌∙◌, length-append, take-append-drop, slice_index_or, Fits, w8, arith}
+use Rattle.std.proofs.Common.{◌≡◌, ◌≢◌, ◌≤◌, ◌+◌, ◌-◌, ◌⊎◌, ℕ, suc, List, [], ◌∷◌, ◌++◌, length, take, drop, append_assoc, append-nil, Option, None, Ok, Err, inl, inr, refl, sym, ap, subst, ◌∙◌, length-append, take-append-drop, slice_index_or, Fits, w8, arith}
 use Rattle.std.proofs.KnownBytes.{Consumes-nil, Consumes-trans}
-use Rattle.std.specs.Io.KnownBytes.{Consumes, IsAtEnd}
+use Rattle.std.specs.Io.KnownBytes.{Consumes}
 use Rattle.std.specs.List.{AllByRecursion as Each}
 use Rattle.p21_basics.proofs.Members.{Each-back}
 use Rattle.p21_basics.specs.Digits.{IsByte}
@@ -11,15 +11,14 @@ use Rattle.p21_files.proofs.Dead.{dead_further}
 use Rattle.p21_files.specs.Accepted.{IsAccepted, IsDead}
 use Rattle.p21_schemas.specs.Schema.{Schema}
 use Rattle.p21_stream.specs.Feeding.{FeedsOn, IsAlong, IsAlongWhole, RefusesOn, RefusesPiece, TakesAtMost, taken_all}
-use Rattle.p21_stream.specs.Reading.{ConsumesAtMost, IsAcceptedRead, IsOfBytes, IsReadWhole, IsRefused, RefusesRead}
+use Rattle.p21_stream.specs.Reading.{ConsumesAtMost, IsAcceptedRead, IsOfBytes, IsRefused, RefusesRead}
 use Rattle.p21_stream_accepted.specs.Output.{Output}
 use Rattle.p21_stream_fault.specs.declared.fault.Fault.{Fault}
 use Rattle.p21_stream_fault.specs.declared.fault.Fault.TheVariants.{Token, Grammar, Check, SchemaName, SectionTwice, DuplicateName, CanonicalTooLong, Dangling, WrongTarget, NoMemory, Read, Write}
 use Rattle.p21_stream_fault.specs.declared.refusal.Refusal.{Refusal}
 use Rattle.p21_stream_front.specs.Front as front
 use Rattle.p21_stream_session.specs.Held.{SessionHeld, limits_of, schema_of}
-use Rattle.p21_stream_session.specs.Histories.{FeedGives, FinishGives, IsGoing, KeepsSchema, SessionHistory, Stands, nothing_taken}
-use Rattle.p21_stream_session.specs.Session.{IsLive}
+use Rattle.p21_stream_session.specs.Histories.{FeedGives, FinishGives, KeepsSchema, SessionHistory, Stands, nothing_taken}
 use Rattle.p21_tokens.specs.Histories as tokens
 
 -- ---- within the limit of a file

@@ -1,3 +1,4 @@
 pub mod Canonicals
+pub mod Claiming
 pub mod Feeding
 pub mod Texts

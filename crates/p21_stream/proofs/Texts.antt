@@ -1,5 +1,5 @@
 -- A text that is fed in one piece.
-use Rattle.std.proofs.Common.{◌≡◌, ◌≢◌, ◌⊎◌, ℕ, List, [], ◌++◌, Ok, Err, refl, sym, subst, ◌∙◌, append-nil, slice_index_or, Fits, w8}
+use Rattle.std.proofs.Common.{◌≡◌, ◌≢◌, ◌⊎◌, ℕ, List, Ok, Err, refl, sym, subst, ◌∙◌, slice_index_or, Fits, w8}
 use Rattle.p21_basics.specs.Limits.{Limits}
 use Rattle.p21_files.specs.Accepted.{IsAccepted, IsCanonicalFile}
 use Rattle.p21_schemas.specs.Schema.{Schema}

@@ -1,6 +1,6 @@
 -- What the calls on whole files answer.
 use Rattle.std.specs.Prelude.{Option, ◌≡◌, ◌↔◌, ℕ, Bool, List, length, IsTrue}
-use Rattle.std.specs.Io.KnownBytes.{Appends, Consumes, Keeps}
+use Rattle.std.specs.Io.KnownBytes.{Appends, Keeps}
 use Rattle.p21_basics.specs.Limits.{Limits}
 use Rattle.p21_claim.specs.CanonicalLaws.{MeanTheSame}
 use Rattle.p21_files.specs.Accepted.{IsCanonicalFile, Means}

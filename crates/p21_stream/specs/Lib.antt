@@ -1,4 +1,5 @@
--- What the calls on whole files answer, and what they read and write.
+-- What the calls on whole files answer, what they read and write, and what is claimed of them.
 pub mod Answers
+pub mod Claim
 pub mod Feeding
 pub mod Reading

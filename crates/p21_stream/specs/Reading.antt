@@ -1,5 +1,5 @@
 -- What reading a file says of its bytes, where the reader's are known.
-use Rattle.std.specs.Prelude.{Option, ◌≡◌, ◌≤◌, ◌+◌, ◌⊎◌, ℕ, List, length}
+use Rattle.std.specs.Prelude.{Option, ◌≤◌, ◌+◌, ◌⊎◌, ℕ, List, length}
 use Rattle.std.specs.Io.KnownBytes.{Consumes, IsAtEnd}
 use Rattle.p21_basics.specs.Limits.{Limits}
 use Rattle.p21_files.specs.Accepted.{IsAccepted, IsDead}

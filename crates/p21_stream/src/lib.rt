@@ -1,11 +1,13 @@
 //! Whole files: read in pieces, accepted or refused, written in their canonical form, and compared.
 #![tactic(auto)]
 
+mod claim;
 mod comparing;
 mod read;
 mod text;
 mod writing;
 
+pub use claim::headline;
 pub use comparing::{Which, same_meaning};
 pub use p21_stream_accepted::Accepted;
 pub use p21_stream_fault::{At, Fault, Refusal};

@@ -1,4 +1,3 @@
-use Rattle.std.proofs.Common.{◌↔◌, ℕ, IsTrue, List, subst}
 use Rattle.p21_stream.proofs.Canonicals.{both-compared}
 use Rattle.p21_stream.proofs.comparing.same_meaning.Goals as goal
 

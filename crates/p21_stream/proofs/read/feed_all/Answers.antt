@@ -1,4 +1,4 @@
-use Rattle.std.proofs.Common.{◌+◌, ◌≤◌, ◌∙◌, arith}
+use Rattle.std.proofs.Common.{◌∙◌, arith}
 use Rattle.p21_stream.proofs.Feeding.{loop-consumed, loop-goes_on, loop-refused, loop-short, loop-whole}
 use Rattle.p21_stream.proofs.read.feed_all.Goals as goal
 
