@@ -1,8 +1,8 @@
 use Rattle.std.specs.Prelude.{List, map, Contains}
 use Rattle.std.proofs.Common.{subst, ap, ◌∙◌}
-use Rattle.p21_express_redeclared.proofs.Places.{places-within}
 use Rattle.p21_express_types.specs.Meaning.{place as place_of}
 use Rattle.p21_schemas.specs.Schema.{Place}
+use Rattle.p21_commands_schema.proofs.Within.{places-within}
 use Rattle.p21_commands_schema.proofs.print.push_places.Goals as goal
 
 pub push_words-requires-clause-places : goal.push_words-requires-clause-places
