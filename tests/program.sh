@@ -66,6 +66,69 @@ expect 'a file that is not there' 3 '' "cannot open $here/none"
 run param "$here"
 expect 'a folder' 3 '' 'read fault'
 
+run schema examples/demo.exp
+expect 'a schema' 0 'SCHEMA DEMO
+ABSTRACT SHAPE(LABEL)
+POINT(LABEL,X,Y)
+MARKED(LABEL,MARK)
+ORIGIN(LABEL,*,Y)
+CLOUD(MEMBERS,SIZES,VALUES)' ''
+
+# refused_schema NAME TEXT: the schema of this text is refused by this name.
+refused_schema() {
+    printf '%s' "$2" > "$here/schema"
+    run schema "$here/schema"
+    expect "a schema refused: $1" 1 '' "schema refused $1"
+}
+
+refused_schema 'S1 Token' 'SCHEMA s; (* END_SCHEMA;'
+refused_schema 'S2 Syntax' 'SCHEMA s; END_SCHEMA'
+refused_schema 'S3 Duplicate' 'SCHEMA s; ENTITY a; END_ENTITY; ENTITY a; END_ENTITY; END_SCHEMA;'
+refused_schema 'S4 UnknownName' 'SCHEMA s; ENTITY a; x : foo; END_ENTITY; END_SCHEMA;'
+refused_schema 'S5 Circular' \
+    'SCHEMA s; ENTITY a SUBTYPE OF (b); END_ENTITY; ENTITY b SUBTYPE OF (a); END_ENTITY; END_SCHEMA;'
+refused_schema 'S6 LeftOut' 'SCHEMA s; USE FROM t; END_SCHEMA;'
+refused_schema 'S7 Bounds' 'SCHEMA s; ENTITY a; x : LIST [3:1] OF REAL; END_ENTITY; END_SCHEMA;'
+refused_schema 'S8 RedeclaredPlace' 'SCHEMA s; ENTITY a; y : REAL; END_ENTITY;
+    ENTITY b SUBTYPE OF (a); DERIVE SELF\a.z : REAL := 0.0; END_ENTITY; END_SCHEMA;'
+
+run schema "$here/long"
+expect 'a schema too long' 1 '' 'schema refused S9 TooLarge'
+
+run schema
+expect 'no schema' 2 '' '*S*'
+
+run schema "$here/none"
+expect 'a schema that is not there' 3 '' "cannot open $here/none"
+
+run schema "$here"
+expect 'a folder as a schema' 3 '' 'read fault'
+
+run --version
+expect 'the version' 0 'p21 0.1.0
+proved by rattle-kit-13b logic dac8208d650f15bf' ''
+
+# Each refusal of the documents is listed with its number and name.
+run faults
+cp "$here/output" "$here/listed"
+: > "$here/output"
+expect 'the list of refusals: status and error' 0 '' ''
+sed -n 's/^### \(S\{0,1\}[0-9][0-9]* [A-Za-z0-9]*\)$/\1/p' docs/FAULTS.md | while read -r number name; do
+    grep -q "^ *$number $name  *[^ ]" "$here/listed" || echo "the list of refusals: no $number $name"
+done > "$here/unlisted"
+if [ -s "$here/unlisted" ]; then
+    cat "$here/unlisted" >&2
+    failed=1
+fi
+
+for command in param schema faults; do
+    ./p21 "$command" --help > "$here/help" 2> "$here/error" < /dev/null
+    status=$?
+    : > "$here/output"
+    expect "help of $command: status and error" 0 '' ''
+    grep -q "Usage: p21 $command" "$here/help" || { echo "help of $command: no usage" >&2; failed=1; }
+done
+
 ./p21 --help > "$here/help" 2> "$here/error"
 status=$?
 : > "$here/output"
@@ -77,6 +140,14 @@ if [ -w /dev/full ]; then
     ./p21 param "$here/real" > /dev/full 2> "$here/error"
     status=$?
     expect 'an answer that cannot be written' 3 '' 'write fault'
+
+    ./p21 schema examples/demo.exp > /dev/full 2> "$here/error"
+    status=$?
+    expect 'a schema that cannot be written' 3 '' 'write fault'
+
+    ./p21 faults > /dev/full 2> "$here/error"
+    status=$?
+    expect 'a list that cannot be written' 3 '' 'write fault'
 
     ./p21 --help > /dev/full 2> "$here/error"
     status=$?

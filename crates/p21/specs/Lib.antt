@@ -1,2 +1,3 @@
--- What the command line may say.
+-- What the command line may say, and what the program answers.
 pub mod CommandLine
+pub mod Statuses

@@ -1,28 +1,32 @@
-//! What the command line may say.
+//! What the command line may say, and what its help says.
 ghost use Rattle.std.specs.Prelude.{◌≡◌, IfOk, false};
-ghost use Rattle.clap.specs.Words.{app_of};
+ghost use Rattle.clap.specs.Words.{app_of, rule_of};
 ghost use Rattle.clap.specs.declared.builder.command.Command.TheViews.{out-Command as fields_of};
-ghost use Rattle.p21.specs.CommandLine.{param_app, program_app};
+ghost use Rattle.p21.specs.CommandLine.{bare_app, faults_app, given_rule, param_app, program_app, schema_app};
 
-mod schema;
-
+use crate::help;
 use clap::{Arg, ArgAction, Command};
-use schema::schema;
 use std::alloc::{AllocError, Global};
-
-/// The version of the program.
-const VERSION: &str = "0.1.0";
 
 /// The program with its commands.
 pub fn command_line<'a>(alloc: Global) -> Result<Command<'a>, AllocError>
     ensures { IfOk result (λ command. app_of command ≡ program_app) }
 {
+    program(alloc)
+        .subcommand(param(alloc)?)?
+        .subcommand(schema(alloc)?)?
+        .subcommand(faults(alloc))
+}
+
+/// The program, before its commands are added.
+fn program<'a>(alloc: Global) -> Command<'a>
+    ensures { app_of result ≡ bare_app }
+{
     Command::new(alloc, "p21")
         .about("Reads the clear text encoding of exchange structures (ISO 10303-21)")
-        .version(VERSION)
+        .version(help::VERSION)
+        .after_help(help::PROGRAM)
         .subcommand_required(true)
-        .subcommand(param(alloc)?)?
-        .subcommand(schema(alloc)?)
 }
 
 /// `param FILE`.
@@ -30,13 +34,50 @@ fn param<'a>(alloc: Global) -> Result<Command<'a>, AllocError>
     ensures app { IfOk result (λ command. app_of command ≡ param_app) }
     ensures local { IfOk result (λ command. (fields_of command).has_globals ≡ false) }
 {
-    let file = Arg::new(alloc, "FILE")
-        .help("Holds one scalar parameter, with separators around it or none")
-        .required(true)
-        .action(ArgAction::Set);
     Command::new(alloc, "param")
         .about("Prints the canonical spelling of one parameter")
-        .arg(file)
+        .after_help(help::PARAM)
+        .arg(given(
+            alloc,
+            "FILE",
+            "Holds one scalar parameter, with separators around it or none",
+        ))
+}
+
+/// `schema S`.
+fn schema<'a>(alloc: Global) -> Result<Command<'a>, AllocError>
+    ensures app { IfOk result (λ command. app_of command ≡ schema_app) }
+    ensures local { IfOk result (λ command. (fields_of command).has_globals ≡ false) }
+{
+    Command::new(alloc, "schema")
+        .about("Prints the entities of a schema with their attributes")
+        .after_help(help::SCHEMA)
+        .arg(given(
+            alloc,
+            "S",
+            "Holds the schema, one in EXPRESS (ISO 10303-11)",
+        ))
+}
+
+/// `faults`.
+fn faults<'a>(alloc: Global) -> Command<'a>
+    ensures app { app_of result ≡ faults_app }
+    ensures local { (fields_of result).has_globals ≡ false }
+{
+    Command::new(alloc, "faults")
+        .about("Lists the refusals with their numbers and names")
+        .after_help(help::FAULTS)
+}
+
+/// What has to be given, as one word.
+fn given<'a>(alloc: Global, id: &'a str, help: &'a str) -> Arg<'a>
+    ensures rule { rule_of result ≡ given_rule id.now }
+    ensures local { result.global ≡ false }
+{
+    Arg::new(alloc, id)
+        .help(help)
+        .required(true)
+        .action(ArgAction::Set)
 }
 
 #[cfg(test)]
@@ -57,34 +98,58 @@ mod tests {
     }
 
     #[test]
-    fn takes_the_path_of_a_schema(rt: HostRuntime) -> Result<(), Fail> {
-        let words = ["p21", "schema", "s.exp"];
-        let matches = command_line(rt.alloc())?.try_get_matches_from(&words)?;
-        let schema = matches.subcommand_matches("schema").ok_or("no command")?;
-        assert_eq!(rt; schema.get_str("S"), Some("s.exp"));
+    fn takes_each_command(rt: HostRuntime) -> Result<(), Fail> {
+        let cases: [(&[&str], &str, &[(&str, &str)]); 3] = [
+            (&["p21", "param", "f"], "param", &[("FILE", "f")]),
+            (&["p21", "schema", "s"], "schema", &[("S", "s")]),
+            (&["p21", "faults"], "faults", &[]),
+        ];
+        for (words, name, values) in cases {
+            let matches = command_line(rt.alloc())?.try_get_matches_from(words)?;
+            let found = matches.subcommand_matches(name).ok_or("no command")?;
+            for (id, value) in values {
+                assert_eq!(rt; found.get_str(id), Some(*value));
+            }
+        }
         Ok(())
     }
 
     #[test]
     fn explains_what_it_does_not_take(rt: HostRuntime) -> Result<(), Fail> {
-        let cases: [(&[&str], ErrorKind, i32); 11] = [
-            (&["p21"], ErrorKind::MissingSubcommand, 2),
-            (&["p21", "frob"], ErrorKind::InvalidSubcommand, 2),
-            (&["p21", "param"], ErrorKind::MissingRequiredArgument, 2),
-            (&["p21", "param", "a", "b"], ErrorKind::UnknownArgument, 2),
-            (&["p21", "schema"], ErrorKind::MissingRequiredArgument, 2),
-            (&["p21", "schema", "a", "b"], ErrorKind::UnknownArgument, 2),
-            (&["p21", "schema", "--help"], ErrorKind::DisplayHelp, 0),
-            (&["p21", "--version"], ErrorKind::DisplayVersion, 0),
-            (&["p21", "-V"], ErrorKind::DisplayVersion, 0),
-            (&["p21", "--help"], ErrorKind::DisplayHelp, 0),
-            (&["p21", "param", "--help"], ErrorKind::DisplayHelp, 0),
+        let cases: [(&[&str], ErrorKind); 8] = [
+            (&["p21"], ErrorKind::MissingSubcommand),
+            (&["p21", "frob"], ErrorKind::InvalidSubcommand),
+            (&["p21", "param"], ErrorKind::MissingRequiredArgument),
+            (&["p21", "param", "a", "b"], ErrorKind::UnknownArgument),
+            (&["p21", "param", "--name", "1"], ErrorKind::UnknownArgument),
+            (&["p21", "schema"], ErrorKind::MissingRequiredArgument),
+            (&["p21", "schema", "s", "f"], ErrorKind::UnknownArgument),
+            (&["p21", "faults", "1"], ErrorKind::UnknownArgument),
         ];
-        for (words, kind, status) in cases {
+        for (words, kind) in cases {
             let parsed = command_line(rt.alloc())?.try_get_matches_from(words);
             let error = parsed.err().ok_or("accepted")?;
             assert_eq!(rt; error.kind(), kind);
-            assert_eq!(rt; error.exit_code(), status);
+            assert_eq!(rt; error.exit_code(), 2);
+        }
+        Ok(())
+    }
+
+    #[test]
+    fn shows_help_and_its_version(rt: HostRuntime) -> Result<(), Fail> {
+        let cases: [(&[&str], ErrorKind); 6] = [
+            (&["p21", "--version"], ErrorKind::DisplayVersion),
+            (&["p21", "-V"], ErrorKind::DisplayVersion),
+            (&["p21", "--help"], ErrorKind::DisplayHelp),
+            (&["p21", "param", "--help"], ErrorKind::DisplayHelp),
+            (&["p21", "schema", "--help"], ErrorKind::DisplayHelp),
+            (&["p21", "help", "faults"], ErrorKind::DisplayHelp),
+        ];
+        for (words, kind) in cases {
+            let parsed = command_line(rt.alloc())?.try_get_matches_from(words);
+            let error = parsed.err().ok_or("accepted")?;
+            assert_eq!(rt; error.kind(), kind);
+            assert_eq!(rt; error.exit_code(), 0);
         }
         Ok(())
     }

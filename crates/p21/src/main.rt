@@ -8,14 +8,15 @@ ghost use Rattle.clap.specs.Words.{kind_of};
 ghost use Rattle.p21_commands.specs.Status.{done, refused, usage, failed};
 
 mod command_line;
+mod commands;
+mod help;
 
-use clap::ArgMatches;
 use clap::error::{Error, ErrorKind};
 use command_line::command_line;
-use p21_commands::{CommandFault, DONE, FAILED, USAGE, param_command, report};
-use p21_commands_schema::schema_command;
+use commands::{Stopped, run_command};
+use p21_commands::{CommandFault, DONE, FAILED, USAGE, report};
 use std::process::ExitCode;
-use std::{env, fs, io};
+use std::{env, io};
 
 fn main(rt: HostRuntime) -> ExitCode {
     ExitCode::from(run(&rt))
@@ -37,38 +38,10 @@ fn run(rt: &HostRuntime) -> u8
         Ok(matches) => matches,
         Err(error) => return explain(rt, &error),
     };
-    if let Some(param) = matches.subcommand_matches("param") {
-        return run_param(rt, param);
-    }
-    match matches.subcommand_matches("schema") {
-        Some(schema) => run_schema(rt, schema),
-        None => USAGE,
-    }
-}
-
-/// Runs `param FILE`.
-fn run_param(rt: &HostRuntime, matches: &ArgMatches) -> u8
-    ensures { (result ≡ done) ⊎ (result ≡ refused) ⊎ (result ≡ usage) ⊎ (result ≡ failed) }
-{
-    let Some(path) = matches.get_str("FILE") else {
-        return USAGE;
-    };
-    match fs::open(rt, path) {
-        Ok(mut file) => param_command(rt.alloc(), &mut file, &mut rt.stdout(), &mut rt.stderr()),
-        Err(error) => explain_open(rt, path, &error),
-    }
-}
-
-/// Runs `schema S`.
-fn run_schema(rt: &HostRuntime, matches: &ArgMatches) -> u8
-    ensures { (result ≡ done) ⊎ (result ≡ refused) ⊎ (result ≡ usage) ⊎ (result ≡ failed) }
-{
-    let Some(path) = matches.get_str("S") else {
-        return USAGE;
-    };
-    match fs::open(rt, path) {
-        Ok(mut file) => schema_command(rt.alloc(), &mut file, &mut rt.stdout(), &mut rt.stderr()),
-        Err(error) => explain_open(rt, path, &error),
+    match run_command(rt, &matches) {
+        Ok(status) => status,
+        Err(Stopped::Incomplete) => USAGE,
+        Err(Stopped::Unopened(path, error)) => explain_open(rt, path, &error),
     }
 }
 
