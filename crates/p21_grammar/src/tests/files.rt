@@ -57,6 +57,10 @@ fn reads_sections(rt: HostRuntime) -> Result<(), Fail> {
             "data end finish AfterEnd",
         ),
         (
+            "DATA;ENDSEC;END-ISO-10303-21;/* end */\x1a",
+            "data end finish ",
+        ),
+        (
             "DATA;ENDSEC;END-ISO-10303-21;SIGNATURE ",
             "data end finish LeftOut(Signature)",
         ),
@@ -210,6 +214,44 @@ fn nests_up_to_64(rt: HostRuntime) -> Result<(), Fail> {
     Ok(())
 }
 
+/// What comes of two texts, of so many openings behind them, and of one more text, statements apart.
+fn opened(
+    rt: &HostRuntime,
+    (first, before): (&str, &str),
+    (opening, count): (&str, u32),
+    last: &str,
+) -> Result<Vec<u8>, Fail> {
+    let mut reader = Reader::new(rt.alloc());
+    reader.read(first, before)?;
+    reader.repeat(opening, count)?;
+    reader.feed(last)?;
+    reader.given.clear();
+    reader.end()
+}
+
+/// The parentheses of a record and of an external mapping don't count; a list and a typed parameter count alike.
+#[test]
+fn counts_openings_everywhere(rt: HostRuntime) -> Result<(), Fail> {
+    let head = "ISO-10303-21;HEADER;";
+    let cases = [
+        (head, "K(", "(", 64),
+        (head, "K(", "!B(", 64),
+        (head, "K((),A(1),", "(", 64),
+        (head, "K((),", "(A(", 32),
+        (head, "K((", "A((", 31),
+        (HEAD, "DATA;#1=K((),", "(A(", 32),
+        (HEAD, "DATA;#1=(K(1)B(", "A((", 32),
+        (HEAD, "DATA(", "(", 64),
+    ];
+    for (first, before, opening, count) in cases {
+        let found = opened(&rt, (first, before), (opening, count), "")?;
+        assert_eq!(rt; found.as_slice(), b"end EndsEarly".as_slice(), "{before}");
+        let found = opened(&rt, (first, before), (opening, count), opening)?;
+        assert_eq!(rt; found.as_slice(), b"TooDeep".as_slice(), "{before}");
+    }
+    Ok(())
+}
+
 fn depth_behind(rt: &HostRuntime, text: &str) -> Result<usize, Fail> {
     let mut reader = Reader::new(rt.alloc());
     reader.read(HEAD, text)?;
@@ -235,7 +277,105 @@ fn counts_depth(rt: HostRuntime) -> Result<(), Fail> {
     Ok(())
 }
 
-/// What comes of the header and these tokens, statements apart.
+/// The tokens of a small file.
+const SMALL: [&str; 94] = [
+    "ISO-10303-21",
+    ";",
+    "HEADER",
+    ";",
+    "FILE_DESCRIPTION",
+    "(",
+    "(",
+    "''",
+    ",",
+    "$",
+    ")",
+    ",",
+    "'2;1'",
+    ")",
+    ";",
+    "FILE_NAME",
+    "(",
+    "''",
+    ",",
+    "''",
+    ",",
+    "(",
+    "''",
+    ")",
+    ",",
+    "(",
+    ")",
+    ",",
+    "$",
+    ",",
+    "$",
+    ",",
+    "$",
+    ")",
+    ";",
+    "FILE_SCHEMA",
+    "(",
+    "(",
+    "'D'",
+    ")",
+    ")",
+    ";",
+    "!K",
+    "(",
+    "A",
+    "(",
+    ".B.",
+    ")",
+    ")",
+    ";",
+    "ENDSEC",
+    ";",
+    "DATA",
+    "(",
+    "'a'",
+    ",",
+    "(",
+    "'D'",
+    ")",
+    ")",
+    ";",
+    "#1",
+    "=",
+    "(",
+    "A",
+    "(",
+    "1",
+    ",",
+    "$",
+    ")",
+    "B",
+    "(",
+    "C",
+    "(",
+    "*",
+    ")",
+    ")",
+    ")",
+    ";",
+    "#2",
+    "=",
+    "D",
+    "(",
+    "(",
+    "1.",
+    ",",
+    "\"0\"",
+    ")",
+    ")",
+    ";",
+    "ENDSEC",
+    ";",
+    "END-ISO-10303-21",
+    ";",
+];
+
+/// What comes of these tokens, statements apart.
 fn cut(rt: &HostRuntime, tokens: &[&str]) -> Result<Vec<u8>, Fail> {
     let mut reader = Reader::new(rt.alloc());
     feed_all(&mut reader, tokens)?;
@@ -243,7 +383,6 @@ fn cut(rt: &HostRuntime, tokens: &[&str]) -> Result<Vec<u8>, Fail> {
 }
 
 fn feed_all(reader: &mut Reader, tokens: &[&str]) -> Result<(), Fail> {
-    reader.feed(HEAD)?;
     for token in tokens {
         reader.feed(token)?;
         reader.feed(" ")?;
@@ -254,41 +393,61 @@ fn feed_all(reader: &mut Reader, tokens: &[&str]) -> Result<(), Fail> {
 
 #[test]
 fn ends_early(rt: HostRuntime) -> Result<(), Fail> {
-    let tokens = [
-        "DATA",
-        "(",
-        "'a'",
-        ",",
-        "(",
-        "'D'",
-        ")",
-        ")",
-        ";",
-        "#1",
-        "=",
-        "(",
-        "A",
-        "(",
-        "1",
-        ",",
-        "$",
-        ")",
-        "B",
-        "(",
-        "C",
-        "(",
-        "*",
-        ")",
-        ")",
-        ")",
-        ";",
-        "ENDSEC",
-        ";",
-        "END-ISO-10303-21",
-    ];
+    let tokens: &[&str] = &SMALL;
     for count in 0..tokens.len() {
         let found = cut(&rt, &tokens[..count])?;
         assert_eq!(rt; found.as_slice(), b"end EndsEarly".as_slice(), "{count}");
+    }
+    assert_eq!(rt; cut(&rt, tokens)?.as_slice(), b"".as_slice());
+    Ok(())
+}
+
+/// Takes each of these tokens behind a refusal, and looks that it is answered.
+fn repeats(parser: &mut Parser, fault: GrammarFault) -> bool {
+    let depth = parser.depth();
+    let tokens = [
+        Token::Semicolon,
+        Token::Left,
+        Token::Right,
+        Token::Begin,
+        Token::Finish,
+    ];
+    for token in tokens {
+        if parser.take(token).err() != Some(fault) {
+            return false;
+        }
+    }
+    parser.depth() == depth
+}
+
+#[test]
+fn answers_a_refusal_again(rt: HostRuntime) -> Result<(), Fail> {
+    let cases = [
+        ("DATA;#1=K((1 1 ", GrammarFault::Unexpected),
+        ("DATA;ENDSEC;END-ISO-10303-21;;", GrammarFault::AfterEnd),
+        ("ANCHOR ", GrammarFault::LeftOut(Absent::Anchor)),
+        ("REFERENCE ", GrammarFault::LeftOut(Absent::Reference)),
+        ("SIGNATURE ", GrammarFault::LeftOut(Absent::Signature)),
+        (
+            "DATA;#1=K(A(!B ",
+            GrammarFault::LeftOut(Absent::UserKeyword),
+        ),
+        (
+            "DATA;ENDSEC;DATA ",
+            GrammarFault::LeftOut(Absent::SecondSection),
+        ),
+        (
+            "END-ISO-10303-21 ",
+            GrammarFault::LeftOut(Absent::NoDataSection),
+        ),
+        ("DATA();", GrammarFault::SectionShape),
+    ];
+    for (text, fault) in cases {
+        let mut reader = Reader::new(rt.alloc());
+        reader.read(HEAD, text)?;
+        assert!(rt; reader.refused == Some(fault), "{text}");
+        assert!(rt; repeats(&mut reader.parser, fault), "{text}");
+        assert!(rt; reader.parser.finish().err() == Some(fault), "{text}");
     }
     Ok(())
 }
@@ -302,9 +461,29 @@ fn has_numbers_and_names(rt: HostRuntime) {
         (GrammarFault::AfterEnd, 25, "AfterEnd"),
         (GrammarFault::LeftOut(Absent::Anchor), 26, "LeftOut(Anchor)"),
         (
+            GrammarFault::LeftOut(Absent::Reference),
+            26,
+            "LeftOut(Reference)",
+        ),
+        (
+            GrammarFault::LeftOut(Absent::Signature),
+            26,
+            "LeftOut(Signature)",
+        ),
+        (
+            GrammarFault::LeftOut(Absent::UserKeyword),
+            26,
+            "LeftOut(UserKeyword)",
+        ),
+        (
             GrammarFault::LeftOut(Absent::SecondSection),
             26,
             "LeftOut(SecondSection)",
+        ),
+        (
+            GrammarFault::LeftOut(Absent::NoDataSection),
+            26,
+            "LeftOut(NoDataSection)",
         ),
         (GrammarFault::HeaderShape, 30, "HeaderShape"),
         (GrammarFault::SectionShape, 32, "SectionShape"),

@@ -34,6 +34,10 @@ fn letter_of(refused: Option<GrammarFault>, is_open: bool) -> u8 {
         Some(GrammarFault::Unexpected) => b'x',
         Some(GrammarFault::LeftOut(Absent::UserKeyword)) => b'u',
         Some(GrammarFault::LeftOut(Absent::NoDataSection)) => b'n',
+        Some(GrammarFault::LeftOut(Absent::SecondSection)) => b'2',
+        Some(GrammarFault::LeftOut(Absent::Anchor)) => b'a',
+        Some(GrammarFault::LeftOut(Absent::Reference)) => b'r',
+        Some(GrammarFault::LeftOut(Absent::Signature)) => b'g',
         Some(GrammarFault::AfterEnd) => b'e',
         Some(GrammarFault::HeaderShape) => b'h',
         Some(GrammarFault::SectionShape) => b's',
@@ -41,11 +45,12 @@ fn letter_of(refused: Option<GrammarFault>, is_open: bool) -> u8 {
     }
 }
 
-fn row(rt: &HostRuntime, first: &str, before: &str) -> Result<Vec<u8>, Fail> {
+/// A letter for each of these tokens behind two texts.
+fn row(rt: &HostRuntime, first: &str, before: &str, kinds: &[&str]) -> Result<Vec<u8>, Fail> {
     let mut text = String::from_str(rt.alloc(), first)?;
     text.push_str(before)?;
     let mut letters = Vec::new(rt.alloc());
-    for kind in KINDS {
+    for kind in kinds {
         letters.push(letter(rt, &text, kind)?)?;
     }
     Ok(letters)
@@ -68,9 +73,43 @@ fn takes_tokens_in_the_header(rt: HostRuntime) -> Result<(), Fail> {
         ("ISO-10303-21;HEADER;K(A(", "xx..x......xxxx.."),
         ("ISO-10303-21;HEADER;K(A(1 ", "xxxxxxxxxxx.xxxxx"),
         ("ISO-10303-21;HEADER;K(1)", "xxxxxxxxxxxxxhxxx"),
+        ("ISO-10303-21;HEADER;!K ", "xxxxxxxxxx.xxxxxx"),
+        ("ISO-10303-21;HEADER;K(!A ", "xxxxxxxxxx.xxxxxx"),
+        ("ISO-10303-21;HEADER;K((", "xx..x.......xxx.."),
+        ("ISO-10303-21;HEADER;K((1 ", "xxxxxxxxxxx..xxxx"),
+        ("ISO-10303-21;HEADER;K((1,", "xx..x......xxxx.."),
+        ("ISO-10303-21;HEADER;K(()", "xxxxxxxxxxx..xxxx"),
+        (
+            "ISO-10303-21;HEADER;FILE_DESCRIPTION($,$)",
+            "xxxxxxxxxxxxxExxx",
+        ),
+        (
+            "ISO-10303-21;HEADER;FILE_DESCRIPTION($,$);",
+            "xx..xxxxxxxxxxxxx",
+        ),
     ];
     for (before, letters) in cases {
-        let found = row(&rt, before, "")?;
+        let found = row(&rt, before, "", &KINDS)?;
+        assert_eq!(rt; found.as_slice(), letters.as_bytes(), "{before}");
+    }
+    Ok(())
+}
+
+#[test]
+fn takes_tokens_behind_the_schema_of_the_header(rt: HostRuntime) -> Result<(), Fail> {
+    let first =
+        "ISO-10303-21;HEADER;FILE_DESCRIPTION($,$);FILE_NAME($,$,$,$,$,$,$);FILE_SCHEMA(('S'));";
+    let cases = [
+        ("", "xx..xxxxxxxxxxxxx"),
+        ("K(1)", "xxxxxxxxxxxxxExxx"),
+        ("!K()", "xxxxxxxxxxxxxExxx"),
+        ("!K();", "xx..xxxxxxxxxxxxx"),
+        ("FILE_NAME($,$,$,$,$,$,$)", "xxxxxxxxxxxxxhxxx"),
+        ("ENDSEC ", "xxxxxxxxxx.xxExxx"),
+        ("ENDSEC()", "xxxxxxxxxxxxxExxx"),
+    ];
+    for (before, letters) in cases {
+        let found = row(&rt, first, before, &KINDS)?;
         assert_eq!(rt; found.as_slice(), letters.as_bytes(), "{before}");
     }
     Ok(())
@@ -89,6 +128,8 @@ fn takes_tokens_in_data(rt: HostRuntime) -> Result<(), Fail> {
         ("DATA;#1=K(1 ", "xxxuxxxxxxx..xxxx"),
         ("DATA;#1=K(1,", "xx.u.......xxxx.."),
         ("DATA;#1=K((", "xx.u........xxx.."),
+        ("DATA;#1=K((1 ", "xxxuxxxxxxx..xxxx"),
+        ("DATA;#1=K((1,", "xx.u.......xxxx.."),
         ("DATA;#1=K(()", "xxxuxxxxxxx..xxxx"),
         ("DATA;#1=K(A ", "xxxuxxxxxx.xxxxxx"),
         ("DATA;#1=K(A(", "xx.u.......xxxx.."),
@@ -96,20 +137,91 @@ fn takes_tokens_in_data(rt: HostRuntime) -> Result<(), Fail> {
         ("DATA;#1=K(1)", "xxxuxxxxxxxxxExxx"),
         ("DATA;#1=(", "xx.uxxxxxxxxxxxxx"),
         ("DATA;#1=(K ", "xxxuxxxxxx.xxxxxx"),
+        ("DATA;#1=(K(", "xx.u........xxx.."),
+        ("DATA;#1=(K(1 ", "xxxuxxxxxxx..xxxx"),
+        ("DATA;#1=(K(1,", "xx.u.......xxxx.."),
         ("DATA;#1=(K()", "xx.uxxxxxxx.xxxxx"),
         ("DATA;#1=(K())", "xxxuxxxxxxxxxExxx"),
+        ("DATA;#1=K();", "xxxu.xxxxxxxxxxxx"),
         ("DATA;ENDSEC ", "xxxuxxxxxxxxxExxx"),
         ("DATA;ENDSEC;", "x.xxxxxxxxxxxxxxx"),
         ("DATA;ENDSEC;END-ISO-10303-21 ", "xxxxxxxxxxxxxExxx"),
         ("DATA;ENDSEC;END-ISO-10303-21;", "eeeeeeeeeeeeeeeee"),
-        ("DATA(", "xx.u........xxx.."),
-        ("DATA('a' ", "xxxuxxxxxxx..xxxx"),
-        ("DATA('a')", "xxxxxxxxxxxxxsxxx"),
-        ("DATA('a',('S'))", "xxxxxxxxxxxxxExxx"),
-        ("DATA('a',('S'));ENDSEC;", "x.xxxxxxxxxxxxxxx"),
     ];
     for (before, letters) in cases {
-        let found = row(&rt, HEAD, before)?;
+        let found = row(&rt, HEAD, before, &KINDS)?;
+        assert_eq!(rt; found.as_slice(), letters.as_bytes(), "{before}");
+    }
+    Ok(())
+}
+
+#[test]
+fn takes_tokens_in_sections_with_a_name(rt: HostRuntime) -> Result<(), Fail> {
+    let cases = [
+        ("DATA(", "xx.u........xxx.."),
+        ("DATA()", "xxxxxxxxxxxxxsxxx"),
+        ("DATA('a' ", "xxxuxxxxxxx..xxxx"),
+        ("DATA('a')", "xxxxxxxxxxxxxsxxx"),
+        ("DATA('a',", "xx.u.......xxxx.."),
+        ("DATA(('S' ", "xxxuxxxxxxx..xxxx"),
+        ("DATA(K ", "xxxuxxxxxx.xxxxxx"),
+        ("DATA(K(", "xx.u.......xxxx.."),
+        ("DATA(K(1 ", "xxxuxxxxxxx.xxxxx"),
+        ("DATA('a',('S'))", "xxxxxxxxxxxxxExxx"),
+        ("DATA('a',('S'));", "xxxu.xxxxxxxxxxxx"),
+        ("DATA('a',('S'));#1=K(", "xx.u........xxx.."),
+        ("DATA('a',('S'));#1=K()", "xxxuxxxxxxxxxExxx"),
+        ("DATA('a',('S'));ENDSEC ", "xxxuxxxxxxxxxExxx"),
+        ("DATA('a',('S'));ENDSEC;", "x.xxxxxxxxxxxxxxx"),
+        ("DATA('a',('S'));ENDSEC;DATA ", "xxxxxxxxxx.xx2xxx"),
+        (
+            "DATA('a',('S'));ENDSEC;DATA('b',('S'))",
+            "xxxxxxxxxxxxxExxx",
+        ),
+        (
+            "DATA('a',('S'));ENDSEC;END-ISO-10303-21 ",
+            "xxxxxxxxxxxxxExxx",
+        ),
+        (
+            "DATA('a',('S'));ENDSEC;END-ISO-10303-21;",
+            "eeeeeeeeeeeeeeeee",
+        ),
+    ];
+    for (before, letters) in cases {
+        let found = row(&rt, HEAD, before, &KINDS)?;
+        assert_eq!(rt; found.as_slice(), letters.as_bytes(), "{before}");
+    }
+    Ok(())
+}
+
+/// Keywords with which sections begin or end.
+const KEYWORDS: [&str; 6] = [
+    "HEADER ",
+    "ENDSEC ",
+    "DATA ",
+    "ANCHOR ",
+    "REFERENCE ",
+    "SIGNATURE ",
+];
+
+#[test]
+fn takes_keywords_of_sections(rt: HostRuntime) -> Result<(), Fail> {
+    let cases = [
+        ("", "", "xxxxxx"),
+        ("", "ISO-10303-21;", ".xxarg"),
+        ("", "ISO-10303-21;HEADER;", "......"),
+        (HEAD, "", "xx.arg"),
+        (HEAD, "DATA;", "x.xxxx"),
+        (HEAD, "DATA;#1=", "......"),
+        (HEAD, "DATA;#1=K();", "x.xxxx"),
+        (HEAD, "DATA;ENDSEC;", "xx2arg"),
+        (HEAD, "DATA('a',('S'));", "x.xxxx"),
+        (HEAD, "DATA('a',('S'));ENDSEC;", "xx.arg"),
+        (HEAD, "DATA;ENDSEC;END-ISO-10303-21;", "eeeeeg"),
+        (HEAD, "DATA('a',('S'));ENDSEC;END-ISO-10303-21;", "eeeeeg"),
+    ];
+    for (first, before, letters) in cases {
+        let found = row(&rt, first, before, &KEYWORDS)?;
         assert_eq!(rt; found.as_slice(), letters.as_bytes(), "{before}");
     }
     Ok(())
