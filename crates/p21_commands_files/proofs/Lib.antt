@@ -1,0 +1,4 @@
+pub mod Comparing
+pub mod Failing
+pub mod Showing
+pub mod Writing

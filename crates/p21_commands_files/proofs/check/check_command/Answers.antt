@@ -1,0 +1,11 @@
+use Rattle.p21_commands_schema.proofs.Reporting.{failure_reported, not_done, refusal_written}
+use Rattle.p21_commands_files.proofs.check.check_command.Goals as goal
+
+pub returns-in-Err-clause-answered : goal.returns-in-Err-clause-answered
+returns-in-Err-clause-answered g c e = absurd (not_done _ _ _ _ c.report.ensures e)
+
+pub returns-in-Err-clause-refused : goal.returns-in-Err-clause-refused
+returns-in-Err-clause-refused g c = refusal_written _ _ _ _ _ _ _ _ c.in-Err.ensures.err c.report.ensures
+
+pub returns-in-Err-clause-failed : goal.returns-in-Err-clause-failed
+returns-in-Err-clause-failed g c = failure_reported _ _ _ _ _ _ _ _ c.in-Err.ensures.err c.report.ensures

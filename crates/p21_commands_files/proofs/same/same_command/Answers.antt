@@ -1,0 +1,19 @@
+use Rattle.std.proofs.Common.{inr}
+use Rattle.p21_commands_schema.proofs.Reporting.{failure_reported, not_done, refusal_written}
+use Rattle.p21_commands_files.specs.Same.{IsAnswered, IsRefused, read_of}
+use Rattle.p21_commands_files.proofs.Comparing.{refusal-kept}
+use Rattle.p21_commands_files.proofs.same.same_command.Goals as goal
+
+pub returns-in-Err-clause-answered : goal.returns-in-Err-clause-answered
+returns-in-Err-clause-answered g c e = absurd (not_done _ _ _ _ c.report.ensures e)
+
+pub returns-in-Err-clause-refused : goal.returns-in-Err-clause-refused
+returns-in-Err-clause-refused g c e =
+    let read = read_of (g.S.Read.remaining c.args.schema.now) (g.A.Read.remaining c.args.first.now.inner) (g.A.Read.remaining c.write_same.new.first.inner) (g.B.Read.remaining c.args.second.now.inner) (g.B.Read.remaining c.write_same.new.second.inner) in
+    inr (
+      refusal_written (IsAnswered read) (IsRefused read) _ _ _ _ c.in-Err.fault _ c.in-Err.ensures.err c.report.ensures e,
+      refusal-kept (IsAnswered read) (IsRefused read) _ _ _ _ c.in-Err.fault _ c.in-Err.ensures.err c.report.ensures e,
+    )
+
+pub returns-in-Err-clause-failed : goal.returns-in-Err-clause-failed
+returns-in-Err-clause-failed g c = failure_reported _ _ _ _ _ _ _ _ c.in-Err.ensures.err c.report.ensures

@@ -1,0 +1,79 @@
+//! The command `check`.
+ghost use Rattle.std.specs.Prelude.{◌≡◌, ◌⊎◌, IfErr, IfOk, OnOk, string_bytes, length};
+ghost use Rattle.std.specs.Io.KnownBytes.{Keeps};
+ghost use Rattle.p21_basics.specs.Limits.{usual};
+ghost use Rattle.p21_commands.specs.Status.{done, failed, refused};
+ghost use Rattle.p21_commands.specs.Transfer as text;
+ghost use Rattle.p21_commands.specs.Transfer.{Writes};
+ghost use Rattle.p21_commands_files.specs.Check.{IsChecked, check_line};
+ghost use Rattle.p21_commands_files.specs.Files.{IsRefusedUnder};
+ghost use Rattle.p21_commands_schema.specs.Command.{Fails, FailsBy};
+ghost use Rattle.p21_stream.specs.Reading.{ConsumesAtMost};
+ghost use Rattle.p21_stream_accepted.specs.Output.{output_text};
+
+use crate::reading::read_under;
+use p21_commands::{CommandFault, DONE, report, write_whole};
+use p21_stream::{Accepted, Watched};
+use std::alloc::{AllocError, Global};
+use std::io::{Read, Write};
+
+/// Reads a schema and a file, and writes to `output` how many instances the file has and how many bytes its canonical
+/// file; or to `faults` one line that says why it isn't accepted. Answers the exit status.
+pub fn check_command<S: Read, R: Read, W: Write, F: Write>(
+    alloc: Global,
+    schema: &mut S,
+    file: &mut Watched<R>,
+    output: &mut W,
+    faults: &mut F,
+) -> u8
+    ensures status { (result ≡ done) ⊎ (result ≡ refused) ⊎ (result ≡ failed) }
+    ensures consumed_schema { text.ConsumesAtMost (S.remaining schema.old) (S.remaining schema.new) }
+    ensures consumed_file { ConsumesAtMost usual (R.remaining file.old.inner) (R.remaining file.new.inner) }
+
+    ensures answered { result ≡ done
+        → Writes (IsChecked (S.remaining schema.old) (R.remaining file.old.inner) (R.remaining file.new.inner)) (W.contents output.old) (W.contents output.new) }
+    ensures silent { result ≡ done → Keeps (F.contents faults.old) (F.contents faults.new) }
+
+    ensures refused { result ≡ refused
+        → Writes (IsRefusedUnder (S.remaining schema.old) (R.remaining file.old.inner) (R.remaining file.new.inner)) (F.contents faults.old) (F.contents faults.new) }
+    ensures unwritten { result ≡ refused → Keeps (W.contents output.old) (W.contents output.new) }
+
+    ensures failed { result ≡ failed
+        → Fails (IsChecked (S.remaining schema.old) (R.remaining file.old.inner) (R.remaining file.new.inner)) (IsRefusedUnder (S.remaining schema.old) (R.remaining file.old.inner) (R.remaining file.new.inner))
+        (W.contents output.old) (W.contents output.new) (F.contents faults.old) (F.contents faults.new) }
+{
+    match write_check(alloc, schema, file, output) {
+        Ok(()) => DONE,
+        Err(fault) => report(&fault, faults),
+    }
+}
+
+/// Writes how many instances a file has, and how many bytes its canonical file.
+fn write_check<S: Read, R: Read, W: Write>(
+    alloc: Global,
+    schema: &mut S,
+    file: &mut Watched<R>,
+    output: &mut W,
+) -> Result<(), CommandFault>
+    ensures ok { OnOk result (Writes (IsChecked (S.remaining schema.old) (R.remaining file.old.inner) (R.remaining file.new.inner)) (W.contents output.old) (W.contents output.new)) }
+    ensures err { IfErr result (FailsBy (IsChecked (S.remaining schema.old) (R.remaining file.old.inner) (R.remaining file.new.inner)) (IsRefusedUnder (S.remaining schema.old) (R.remaining file.old.inner) (R.remaining file.new.inner))
+        (W.contents output.old) (W.contents output.new)) }
+    ensures consumed_schema { text.ConsumesAtMost (S.remaining schema.old) (S.remaining schema.new) }
+    ensures consumed_file { ConsumesAtMost usual (R.remaining file.old.inner) (R.remaining file.new.inner) }
+{
+    let accepted = read_under(alloc, schema, file)?;
+    let line = match line_of(alloc, &accepted) {
+        Ok(line) => line,
+        Err(AllocError) => return Err(CommandFault::NoMemory),
+    };
+    write_whole(output, line.as_bytes())
+}
+
+/// The line of a file that is accepted.
+fn line_of(alloc: Global, accepted: &Accepted) -> Result<String, AllocError>
+    ensures { IfOk result (λ line. string_bytes line ≡ check_line (length accepted.now.kept) (length (output_text accepted.now))) }
+{
+    let count = accepted.count();
+    let len = accepted.len();
+    format!(in alloc; "accepted, instances {count}, canonical bytes {len}\n")
+}

@@ -1,0 +1,32 @@
+//! A file read under a schema.
+ghost use Rattle.std.specs.Prelude.{◌≡◌, IfErr, IfOk};
+ghost use Rattle.p21_basics.specs.Limits.{usual};
+ghost use Rattle.p21_commands.specs.Transfer as text;
+ghost use Rattle.p21_commands_files.specs.Files.{IsAcceptedUnder, RefusesUnder};
+ghost use Rattle.p21_stream.specs.Reading.{ConsumesAtMost};
+
+use crate::fault::fault_of;
+use p21_commands::CommandFault;
+use p21_commands_schema::load_schema;
+use p21_stream::{Accepted, Watched, accept};
+use p21_values::Limits;
+use std::alloc::Global;
+use std::io::Read;
+
+/// Reads a schema, and a file under it.
+pub(crate) fn read_under<S: Read, R: Read>(
+    alloc: Global,
+    schema: &mut S,
+    file: &mut Watched<R>,
+) -> Result<Accepted, CommandFault>
+    ensures ok { IfOk result (IsAcceptedUnder (S.remaining schema.old) (R.remaining file.old.inner) (R.remaining file.new.inner)) }
+    ensures err { IfErr result (RefusesUnder (S.remaining schema.old) (R.remaining file.old.inner) (R.remaining file.new.inner)) }
+    ensures consumed_schema { text.ConsumesAtMost (S.remaining schema.old) (S.remaining schema.new) }
+    ensures consumed_file { ConsumesAtMost usual (R.remaining file.old.inner) (R.remaining file.new.inner) }
+{
+    let schema = load_schema(alloc, schema)?;
+    match accept(alloc, &schema, Limits::usual(), file) {
+        Ok(accepted) => Ok(accepted),
+        Err(refusal) => Err(fault_of(alloc, "", refusal)),
+    }
+}

@@ -1,0 +1,97 @@
+//! The command `same`.
+ghost use Rattle.std.specs.Prelude.{◌≡◌, ◌⊎◌, IfErr, IfOk, true, false};
+ghost use Rattle.std.specs.Io.KnownBytes.{Keeps};
+ghost use Rattle.p21_basics.specs.Limits.{usual};
+ghost use Rattle.p21_commands.specs.Status.{done, failed, refused};
+ghost use Rattle.p21_commands.specs.Transfer as text;
+ghost use Rattle.p21_commands.specs.Transfer.{Writes};
+ghost use Rattle.p21_commands_files.specs.Same.{IsAnswered, IsCompared, IsRefused, read_of, same_line, word_of};
+ghost use Rattle.p21_commands_schema.specs.Command.{Fails, FailsBy};
+ghost use Rattle.p21_stream.specs.Reading.{ConsumesAtMost};
+
+use crate::fault::fault_of;
+use p21_commands::{CommandFault, DONE, REFUSED, report, write_whole};
+use p21_commands_schema::load_schema;
+use p21_stream::{Watched, Which, same_meaning};
+use p21_values::Limits;
+use std::alloc::Global;
+use std::io::{Read, Write};
+
+/// Reads a schema and two files, the first to its end before the second, and writes to `output` whether they mean the
+/// same; or to `faults` one line that says why one of them isn't accepted. Answers the exit status.
+pub fn same_command<S: Read, A: Read, B: Read, W: Write, F: Write>(
+    alloc: Global,
+    schema: &mut S,
+    first: &mut Watched<A>,
+    second: &mut Watched<B>,
+    output: &mut W,
+    faults: &mut F,
+) -> u8
+    ensures status { (result ≡ done) ⊎ (result ≡ refused) ⊎ (result ≡ failed) }
+    ensures consumed_schema { text.ConsumesAtMost (S.remaining schema.old) (S.remaining schema.new) }
+    ensures consumed_first { ConsumesAtMost usual (A.remaining first.old.inner) (A.remaining first.new.inner) }
+    ensures consumed_second { ConsumesAtMost usual (B.remaining second.old.inner) (B.remaining second.new.inner) }
+
+    ensures answered { result ≡ done
+        → Writes (IsCompared (read_of (S.remaining schema.old) (A.remaining first.old.inner) (A.remaining first.new.inner) (B.remaining second.old.inner) (B.remaining second.new.inner)) true) (W.contents output.old) (W.contents output.new) }
+    ensures silent { result ≡ done → Keeps (F.contents faults.old) (F.contents faults.new) }
+
+    ensures refused { result ≡ refused
+        → (Writes (IsCompared (read_of (S.remaining schema.old) (A.remaining first.old.inner) (A.remaining first.new.inner) (B.remaining second.old.inner) (B.remaining second.new.inner)) false) (W.contents output.old) (W.contents output.new)
+        × Keeps (F.contents faults.old) (F.contents faults.new))
+        ⊎ (Writes (IsRefused (read_of (S.remaining schema.old) (A.remaining first.old.inner) (A.remaining first.new.inner) (B.remaining second.old.inner) (B.remaining second.new.inner))) (F.contents faults.old) (F.contents faults.new)
+        × Keeps (W.contents output.old) (W.contents output.new)) }
+
+    ensures failed { result ≡ failed
+        → Fails (IsAnswered (read_of (S.remaining schema.old) (A.remaining first.old.inner) (A.remaining first.new.inner) (B.remaining second.old.inner) (B.remaining second.new.inner))) (IsRefused (read_of (S.remaining schema.old) (A.remaining first.old.inner) (A.remaining first.new.inner) (B.remaining second.old.inner) (B.remaining second.new.inner)))
+        (W.contents output.old) (W.contents output.new) (F.contents faults.old) (F.contents faults.new) }
+{
+    match write_same(alloc, schema, first, second, output) {
+        Ok(true) => DONE,
+        Ok(false) => REFUSED,
+        Err(fault) => report(&fault, faults),
+    }
+}
+
+/// Writes whether two files mean the same, and says so.
+fn write_same<S: Read, A: Read, B: Read, W: Write>(
+    alloc: Global,
+    schema: &mut S,
+    first: &mut Watched<A>,
+    second: &mut Watched<B>,
+    output: &mut W,
+) -> Result<bool, CommandFault>
+    ensures ok { IfOk result (λ same. Writes (IsCompared (read_of (S.remaining schema.old) (A.remaining first.old.inner) (A.remaining first.new.inner) (B.remaining second.old.inner) (B.remaining second.new.inner)) same) (W.contents output.old) (W.contents output.new)) }
+    ensures err { IfErr result (FailsBy (IsAnswered (read_of (S.remaining schema.old) (A.remaining first.old.inner) (A.remaining first.new.inner) (B.remaining second.old.inner) (B.remaining second.new.inner))) (IsRefused (read_of (S.remaining schema.old) (A.remaining first.old.inner) (A.remaining first.new.inner) (B.remaining second.old.inner) (B.remaining second.new.inner)))
+        (W.contents output.old) (W.contents output.new)) }
+    ensures consumed_schema { text.ConsumesAtMost (S.remaining schema.old) (S.remaining schema.new) }
+    ensures consumed_first { ConsumesAtMost usual (A.remaining first.old.inner) (A.remaining first.new.inner) }
+    ensures consumed_second { ConsumesAtMost usual (B.remaining second.old.inner) (B.remaining second.new.inner) }
+{
+    let schema = load_schema(alloc, schema)?;
+    let same = match same_meaning(alloc, &schema, Limits::usual(), first, second) {
+        Ok(same) => same,
+        Err((which, refusal)) => return Err(fault_of(alloc, word_of(which), refusal)),
+    };
+    match write_whole(output, line_of(same)) {
+        Ok(()) => Ok(same),
+        Err(fault) => Err(fault),
+    }
+}
+
+/// The word for each file, in front of the line of its refusal.
+fn word_of(which: Which) -> &'static str
+    ensures { result.now ≡ word_of which }
+{
+    match which {
+        Which::First => "first: ",
+        Which::Second => "second: ",
+    }
+}
+
+/// The line of an answer.
+fn line_of(same: bool) -> &'static [u8]
+    ensures { result.now ≡ same_line same }
+{
+    if same { b"same\n" } else { b"different\n" }
+}
