@@ -104,6 +104,113 @@ expect 'a schema that is not there' 3 '' "cannot open $here/none"
 run schema "$here"
 expect 'a folder as a schema' 3 '' 'read fault'
 
+# file INSTANCES: a file of the schema DEMO with these lines in its data section, none where there is no argument.
+file() {
+    printf '%s\n' 'ISO-10303-21;' 'HEADER;' "FILE_DESCRIPTION((''),'2;1');" "FILE_NAME('','',(''),(''),'','','');" \
+        "FILE_SCHEMA(('DEMO'));" 'ENDSEC;' 'DATA;' "$@" 'ENDSEC;' 'END-ISO-10303-21;'
+}
+
+demo=examples/demo.exp
+file > "$here/empty"
+file '#2 = POINT($, 1.0, 10.E-1);' > "$here/point"
+file '#2=POINT($,1.,1.);' > "$here/canonical"
+file '#1=POINT($,1.,1.);' '#01=POINT($,1.,1.);' > "$here/twice"
+: > "$here/nothing"
+printf '%s' 'SCHEMA s; END_SCHEMA' > "$here/schema"
+
+run check "$demo" "$here/empty"
+expect 'a file without instances' 0 'accepted, instances 0, canonical bytes 152' ''
+
+run check "$demo" "$here/point"
+expect 'a file' 0 'accepted, instances 1, canonical bytes 171' ''
+
+run check "$demo" "$here/twice"
+expect 'a file refused in an instance' 1 '' 'refused 40 DuplicateName in #1'
+
+run check "$demo" "$here/nothing"
+expect 'a file refused at a statement' 1 '' 'refused 24 EndsEarly at statement 1'
+
+run check "$here/schema" "$here/point"
+expect 'a file with a schema that is refused' 1 '' 'schema refused S2 Syntax'
+
+run check "$demo"
+expect 'no file to check' 2 '' '*FILE*'
+
+run check "$demo" "$here/none"
+expect 'a file to check that is not there' 3 '' "cannot open $here/none"
+
+run check "$here/none" "$here/absent"
+expect 'neither schema nor file' 3 '' "cannot open $here/none"
+
+run check "$here/schema" "$here/none"
+expect 'a file that is not there, and a schema that would be refused' 3 '' "cannot open $here/none"
+
+run check "$demo" "$here"
+expect 'a folder to check' 3 '' 'read fault'
+
+run canon "$demo" "$here/point"
+expect 'a canonical file' 0 "$(cat "$here/canonical")" ''
+cmp -s "$here/output" "$here/canonical" || { echo 'a canonical file: other bytes' >&2; failed=1; }
+
+run canon "$demo" "$here/canonical"
+expect 'a canonical file again' 0 "$(cat "$here/canonical")" ''
+
+run canon "$demo" "$here/twice"
+expect 'no canonical file' 1 '' 'refused 40 DuplicateName in #1'
+
+run canon "$demo" "$here/none"
+expect 'a canonical file of none' 3 '' "cannot open $here/none"
+
+run show "$demo" "$here/point" --name 2
+expect 'an instance' 0 '#2=POINT($,1.,1.);' ''
+
+run show "$demo" "$here/point" --name=002
+expect 'an instance by another spelling of its number' 0 '#2=POINT($,1.,1.);' ''
+
+run show "$demo" "$here/point" --name 3
+expect 'no instance' 1 '' 'no #3'
+
+run show "$demo" "$here/point" --name 18446744073709551615
+expect 'no instance of the last number' 1 '' 'no #18446744073709551615'
+
+run show "$demo" "$here/twice" --name 1
+expect 'an instance of a refused file' 1 '' 'refused 40 DuplicateName in #1'
+
+for number in '#2' 18446744073709551616 -1 2. two ''; do
+    run show "$demo" "$here/point" --name "$number"
+    expect "the number '$number'" 2 '' '*--name*'
+done
+
+run show "$demo" "$here/point"
+expect 'no number' 2 '' '*--name*'
+
+run show "$demo" "$here/none" --name 2
+expect 'an instance of none' 3 '' "cannot open $here/none"
+
+run same "$demo" "$here/point" "$here/canonical"
+expect 'the same' 0 'same' ''
+
+run same "$demo" "$here/point" "$here/empty"
+expect 'not the same' 1 'different' ''
+
+run same "$demo" "$here/twice" "$here/nothing"
+expect 'the first refused' 1 '' 'first: refused 40 DuplicateName in #1'
+
+run same "$demo" "$here/point" "$here/nothing"
+expect 'the second refused' 1 '' 'second: refused 24 EndsEarly at statement 1'
+
+run same "$here/schema" "$here/point" "$here/canonical"
+expect 'files with a schema that is refused' 1 '' 'schema refused S2 Syntax'
+
+run same "$demo" "$here/point"
+expect 'one file alone' 2 '' '*B*'
+
+run same "$demo" "$here/point" "$here/none"
+expect 'a second file that is not there' 3 '' "cannot open $here/none"
+
+run same "$demo" "$here/none" "$here/absent"
+expect 'a first file that is not there' 3 '' "cannot open $here/none"
+
 run --version
 expect 'the version' 0 'p21 0.1.0
 proved by rattle-kit-13b logic dac8208d650f15bf' ''
@@ -121,7 +228,7 @@ if [ -s "$here/unlisted" ]; then
     failed=1
 fi
 
-for command in param schema faults; do
+for command in param schema check canon show same faults; do
     ./p21 "$command" --help > "$here/help" 2> "$here/error" < /dev/null
     status=$?
     : > "$here/output"
@@ -140,6 +247,10 @@ if [ -w /dev/full ]; then
     ./p21 param "$here/real" > /dev/full 2> "$here/error"
     status=$?
     expect 'an answer that cannot be written' 3 '' 'write fault'
+
+    ./p21 canon "$demo" "$here/point" > /dev/full 2> "$here/error"
+    status=$?
+    expect 'a canonical file that cannot be written' 3 '' 'write fault'
 
     ./p21 schema examples/demo.exp > /dev/full 2> "$here/error"
     status=$?

@@ -2,10 +2,19 @@
 use Rattle.std.specs.Prelude.{Some, true, codes}
 use Rattle.clap.specs.Words.{App, Rule, Text, new_app, new_rule, with_rule, with_subcommand}
 use Rattle.clap.specs.declared.builder.action.ArgAction.TheVariants.{Set}
+use Rattle.clap.specs.declared.builder.value_parser.ValueParser.TheVariants.{Unsigned}
 
 -- what has to be given: one word
 abbrev pub given_rule : Text → Rule
 given_rule id = record (new_rule id) { action = Some Set; required = true }
+
+-- `--name N`, with a whole number of 64 bits
+abbrev pub name_rule : Rule
+name_rule = record (given_rule (codes "name")) {
+  long = Some (codes "name");
+  value_names = 1;
+  parser = Some (Unsigned 0 18446744073709551615);
+}
 
 -- `param FILE`
 abbrev pub param_app : App
@@ -14,6 +23,27 @@ param_app = with_rule (new_app (codes "param")) (given_rule (codes "FILE"))
 -- `schema S`
 abbrev pub schema_app : App
 schema_app = with_rule (new_app (codes "schema")) (given_rule (codes "S"))
+
+-- a command on a schema and a file
+abbrev pub on_file : Text → App
+on_file name = with_rule (with_rule (new_app name) (given_rule (codes "S"))) (given_rule (codes "FILE"))
+
+-- `check S FILE`
+abbrev pub check_app : App
+check_app = on_file (codes "check")
+
+-- `canon S FILE`
+abbrev pub canon_app : App
+canon_app = on_file (codes "canon")
+
+-- `show S FILE --name N`
+abbrev pub show_app : App
+show_app = with_rule (on_file (codes "show")) name_rule
+
+-- `same S A B`
+abbrev pub same_app : App
+same_app = with_rule (with_rule (with_rule (new_app (codes "same"))
+    (given_rule (codes "S"))) (given_rule (codes "A"))) (given_rule (codes "B"))
 
 -- `faults`
 abbrev pub faults_app : App
@@ -28,4 +58,6 @@ bare_app =
 -- the program, with its commands
 abbrev pub program_app : App
 program_app =
-    with_subcommand (with_subcommand (with_subcommand bare_app param_app.top) schema_app.top) faults_app.top
+    with_subcommand (with_subcommand (with_subcommand (with_subcommand
+    (with_subcommand (with_subcommand (with_subcommand bare_app
+    param_app.top) schema_app.top) check_app.top) canon_app.top) show_app.top) same_app.top) faults_app.top

@@ -1,11 +1,12 @@
 //! What the command line may say, and what its help says.
-ghost use Rattle.std.specs.Prelude.{◌≡◌, IfOk, false};
+ghost use Rattle.std.specs.Prelude.{◌≡◌, IfOk, codes, false};
 ghost use Rattle.clap.specs.Words.{app_of, rule_of};
 ghost use Rattle.clap.specs.declared.builder.command.Command.TheViews.{out-Command as fields_of};
-ghost use Rattle.p21.specs.CommandLine.{bare_app, faults_app, given_rule, param_app, program_app, schema_app};
+ghost use Rattle.p21.specs.CommandLine.{bare_app, canon_app, check_app, faults_app, given_rule, name_rule, param_app};
+ghost use Rattle.p21.specs.CommandLine.{program_app, same_app, schema_app, show_app};
 
 use crate::help;
-use clap::{Arg, ArgAction, Command};
+use clap::{Arg, ArgAction, Command, value_parser};
 use std::alloc::{AllocError, Global};
 
 /// The program with its commands.
@@ -15,6 +16,10 @@ pub fn command_line<'a>(alloc: Global) -> Result<Command<'a>, AllocError>
     program(alloc)
         .subcommand(param(alloc)?)?
         .subcommand(schema(alloc)?)?
+        .subcommand(check(alloc)?)?
+        .subcommand(canon(alloc)?)?
+        .subcommand(show(alloc)?)?
+        .subcommand(same(alloc)?)?
         .subcommand(faults(alloc))
 }
 
@@ -23,7 +28,9 @@ fn program<'a>(alloc: Global) -> Command<'a>
     ensures { app_of result ≡ bare_app }
 {
     Command::new(alloc, "p21")
-        .about("Reads the clear text encoding of exchange structures (ISO 10303-21)")
+        .about(
+            "Reads, checks and rewrites the clear text encoding of exchange structures (ISO 10303-21)",
+        )
         .version(help::VERSION)
         .after_help(help::PROGRAM)
         .subcommand_required(true)
@@ -52,11 +59,57 @@ fn schema<'a>(alloc: Global) -> Result<Command<'a>, AllocError>
     Command::new(alloc, "schema")
         .about("Prints the entities of a schema with their attributes")
         .after_help(help::SCHEMA)
-        .arg(given(
-            alloc,
-            "S",
-            "Holds the schema, one in EXPRESS (ISO 10303-11)",
-        ))
+        .arg(schema_path(alloc))
+}
+
+/// `check S FILE`.
+fn check<'a>(alloc: Global) -> Result<Command<'a>, AllocError>
+    ensures app { IfOk result (λ command. app_of command ≡ check_app) }
+    ensures local { IfOk result (λ command. (fields_of command).has_globals ≡ false) }
+{
+    Command::new(alloc, "check")
+        .about("Checks a file against a schema")
+        .after_help(help::CHECK)
+        .arg(schema_path(alloc))?
+        .arg(file_path(alloc))
+}
+
+/// `canon S FILE`.
+fn canon<'a>(alloc: Global) -> Result<Command<'a>, AllocError>
+    ensures app { IfOk result (λ command. app_of command ≡ canon_app) }
+    ensures local { IfOk result (λ command. (fields_of command).has_globals ≡ false) }
+{
+    Command::new(alloc, "canon")
+        .about("Prints the canonical file of a file")
+        .after_help(help::CANON)
+        .arg(schema_path(alloc))?
+        .arg(file_path(alloc))
+}
+
+/// `show S FILE --name N`.
+fn show<'a>(alloc: Global) -> Result<Command<'a>, AllocError>
+    ensures app { IfOk result (λ command. app_of command ≡ show_app) }
+    ensures local { IfOk result (λ command. (fields_of command).has_globals ≡ false) }
+{
+    Command::new(alloc, "show")
+        .about("Prints the canonical statement of one instance of a file")
+        .after_help(help::SHOW)
+        .arg(schema_path(alloc))?
+        .arg(file_path(alloc))?
+        .arg(name(alloc))
+}
+
+/// `same S A B`.
+fn same<'a>(alloc: Global) -> Result<Command<'a>, AllocError>
+    ensures app { IfOk result (λ command. app_of command ≡ same_app) }
+    ensures local { IfOk result (λ command. (fields_of command).has_globals ≡ false) }
+{
+    Command::new(alloc, "same")
+        .about("Says whether two files mean the same")
+        .after_help(help::SAME)
+        .arg(schema_path(alloc))?
+        .arg(given(alloc, "A", "The first file"))?
+        .arg(given(alloc, "B", "The second file"))
 }
 
 /// `faults`.
@@ -67,6 +120,37 @@ fn faults<'a>(alloc: Global) -> Command<'a>
     Command::new(alloc, "faults")
         .about("Lists the refusals with their numbers and names")
         .after_help(help::FAULTS)
+}
+
+/// The path of a schema.
+fn schema_path<'a>(alloc: Global) -> Arg<'a>
+    ensures rule { rule_of result ≡ given_rule (codes "S") }
+    ensures local { result.global ≡ false }
+{
+    given(
+        alloc,
+        "S",
+        "Holds the schema, one in EXPRESS (ISO 10303-11)",
+    )
+}
+
+/// The path of a file of a schema.
+fn file_path<'a>(alloc: Global) -> Arg<'a>
+    ensures rule { rule_of result ≡ given_rule (codes "FILE") }
+    ensures local { result.global ≡ false }
+{
+    given(alloc, "FILE", "Holds the exchange structure")
+}
+
+/// `--name N`.
+fn name<'a>(alloc: Global) -> Arg<'a>
+    ensures rule { rule_of result ≡ name_rule }
+    ensures local { result.global ≡ false }
+{
+    given(alloc, "name", "The number of the instance, without #")
+        .long("name")
+        .value_name("N")
+        .value_parser(value_parser!(u64))
 }
 
 /// What has to be given, as one word.
@@ -99,9 +183,29 @@ mod tests {
 
     #[test]
     fn takes_each_command(rt: HostRuntime) -> Result<(), Fail> {
-        let cases: [(&[&str], &str, &[(&str, &str)]); 3] = [
+        let cases: [(&[&str], &str, &[(&str, &str)]); 7] = [
             (&["p21", "param", "f"], "param", &[("FILE", "f")]),
             (&["p21", "schema", "s"], "schema", &[("S", "s")]),
+            (
+                &["p21", "check", "s", "f"],
+                "check",
+                &[("S", "s"), ("FILE", "f")],
+            ),
+            (
+                &["p21", "canon", "s", "f"],
+                "canon",
+                &[("S", "s"), ("FILE", "f")],
+            ),
+            (
+                &["p21", "show", "s", "f", "--name", "7"],
+                "show",
+                &[("S", "s"), ("FILE", "f"), ("name", "7")],
+            ),
+            (
+                &["p21", "same", "s", "a", "b"],
+                "same",
+                &[("S", "s"), ("A", "a"), ("B", "b")],
+            ),
             (&["p21", "faults"], "faults", &[]),
         ];
         for (words, name, values) in cases {
@@ -115,8 +219,38 @@ mod tests {
     }
 
     #[test]
+    fn takes_numbers_of_64_bits(rt: HostRuntime) -> Result<(), Fail> {
+        let cases = [
+            ("0", Some(0)),
+            ("007", Some(7)),
+            ("18446744073709551615", Some(u64::MAX)),
+            ("18446744073709551616", None),
+            ("-1", None),
+            ("#1", None),
+            ("1.", None),
+            ("one", None),
+            ("", None),
+        ];
+        for (text, number) in cases {
+            let words = ["p21", "show", "s", "f", "--name", text];
+            let parsed = command_line(rt.alloc())?.try_get_matches_from(&words);
+            match parsed {
+                Ok(matches) => {
+                    let found = matches.subcommand_matches("show").ok_or("no command")?;
+                    assert_eq!(rt; found.get_one::<u64>("name"), number);
+                }
+                Err(error) => {
+                    assert_eq!(rt; number, None);
+                    assert_eq!(rt; error.exit_code(), 2);
+                }
+            }
+        }
+        Ok(())
+    }
+
+    #[test]
     fn explains_what_it_does_not_take(rt: HostRuntime) -> Result<(), Fail> {
-        let cases: [(&[&str], ErrorKind); 8] = [
+        let cases: [(&[&str], ErrorKind); 19] = [
             (&["p21"], ErrorKind::MissingSubcommand),
             (&["p21", "frob"], ErrorKind::InvalidSubcommand),
             (&["p21", "param"], ErrorKind::MissingRequiredArgument),
@@ -124,6 +258,41 @@ mod tests {
             (&["p21", "param", "--name", "1"], ErrorKind::UnknownArgument),
             (&["p21", "schema"], ErrorKind::MissingRequiredArgument),
             (&["p21", "schema", "s", "f"], ErrorKind::UnknownArgument),
+            (&["p21", "check", "s"], ErrorKind::MissingRequiredArgument),
+            (&["p21", "check", "s", "f", "g"], ErrorKind::UnknownArgument),
+            (&["p21", "canon", "s"], ErrorKind::MissingRequiredArgument),
+            (
+                &["p21", "canon", "s", "f", "--name", "1"],
+                ErrorKind::UnknownArgument,
+            ),
+            (
+                &["p21", "show", "s", "f"],
+                ErrorKind::MissingRequiredArgument,
+            ),
+            (
+                &["p21", "show", "s", "--name", "1"],
+                ErrorKind::MissingRequiredArgument,
+            ),
+            (
+                &["p21", "show", "s", "f", "--name"],
+                ErrorKind::InvalidValue,
+            ),
+            (
+                &["p21", "show", "s", "f", "--name", "#1"],
+                ErrorKind::ValueValidation,
+            ),
+            (
+                &["p21", "show", "s", "f", "--name", "1", "--name", "2"],
+                ErrorKind::ArgumentConflict,
+            ),
+            (
+                &["p21", "same", "s", "a"],
+                ErrorKind::MissingRequiredArgument,
+            ),
+            (
+                &["p21", "same", "s", "a", "b", "c"],
+                ErrorKind::UnknownArgument,
+            ),
             (&["p21", "faults", "1"], ErrorKind::UnknownArgument),
         ];
         for (words, kind) in cases {
@@ -137,12 +306,16 @@ mod tests {
 
     #[test]
     fn shows_help_and_its_version(rt: HostRuntime) -> Result<(), Fail> {
-        let cases: [(&[&str], ErrorKind); 6] = [
+        let cases: [(&[&str], ErrorKind); 10] = [
             (&["p21", "--version"], ErrorKind::DisplayVersion),
             (&["p21", "-V"], ErrorKind::DisplayVersion),
             (&["p21", "--help"], ErrorKind::DisplayHelp),
             (&["p21", "param", "--help"], ErrorKind::DisplayHelp),
             (&["p21", "schema", "--help"], ErrorKind::DisplayHelp),
+            (&["p21", "check", "--help"], ErrorKind::DisplayHelp),
+            (&["p21", "canon", "--help"], ErrorKind::DisplayHelp),
+            (&["p21", "show", "--help"], ErrorKind::DisplayHelp),
+            (&["p21", "help", "same"], ErrorKind::DisplayHelp),
             (&["p21", "help", "faults"], ErrorKind::DisplayHelp),
         ];
         for (words, kind) in cases {

@@ -6,7 +6,10 @@ ghost use Rattle.p21_commands.specs.Status.{done, failed};
 use crate::help;
 use clap::ArgMatches;
 use p21_commands::{CommandFault, DONE, param_command, report};
+use p21_commands_files::{canon_command, check_command, same_command, show_command};
 use p21_commands_schema::schema_command;
+use p21_stream_io::Watched;
+use p21_values::Name;
 use std::fs::{self, File};
 use std::io;
 
@@ -26,6 +29,10 @@ pub fn run_command<'a>(rt: &HostRuntime, matches: &ArgMatches<'a>) -> Result<u8,
     match matches.subcommand() {
         Some(("param", found)) => run_param(rt, found),
         Some(("schema", found)) => run_schema(rt, found),
+        Some(("check", found)) => run_check(rt, found),
+        Some(("canon", found)) => run_canon(rt, found),
+        Some(("show", found)) => run_show(rt, found),
+        Some(("same", found)) => run_same(rt, found),
         Some(("faults", _)) => Ok(run_faults(rt)),
         _ => Err(Stopped::Incomplete),
     }
@@ -45,6 +52,73 @@ fn run_schema<'a>(rt: &HostRuntime, found: &ArgMatches<'a>) -> Result<u8, Stoppe
 {
     let mut schema = open(rt, found, "S")?;
     Ok(schema_command(rt.alloc(), &mut schema, &mut rt.stdout(), &mut rt.stderr()))
+}
+
+/// `check S FILE`.
+fn run_check<'a>(rt: &HostRuntime, found: &ArgMatches<'a>) -> Result<u8, Stopped<'a>>
+    ensures { IfOk result IsOfCommand }
+{
+    let mut schema = open(rt, found, "S")?;
+    let mut file = Watched::new(open(rt, found, "FILE")?);
+    Ok(check_command(
+        rt.alloc(),
+        &mut schema,
+        &mut file,
+        &mut rt.stdout(),
+        &mut rt.stderr(),
+    ))
+}
+
+/// `canon S FILE`.
+fn run_canon<'a>(rt: &HostRuntime, found: &ArgMatches<'a>) -> Result<u8, Stopped<'a>>
+    ensures { IfOk result IsOfCommand }
+{
+    let mut schema = open(rt, found, "S")?;
+    let mut file = Watched::new(open(rt, found, "FILE")?);
+    let mut output = Watched::new(rt.stdout());
+    Ok(canon_command(
+        rt.alloc(),
+        &mut schema,
+        &mut file,
+        &mut output,
+        &mut rt.stderr(),
+    ))
+}
+
+/// `show S FILE --name N`.
+fn run_show<'a>(rt: &HostRuntime, found: &ArgMatches<'a>) -> Result<u8, Stopped<'a>>
+    ensures { IfOk result IsOfCommand }
+{
+    let Some(number) = found.get_one::<u64>("name") else {
+        return Err(Stopped::Incomplete);
+    };
+    let mut schema = open(rt, found, "S")?;
+    let mut file = Watched::new(open(rt, found, "FILE")?);
+    Ok(show_command(
+        rt.alloc(),
+        &mut schema,
+        &mut file,
+        Name(number),
+        &mut rt.stdout(),
+        &mut rt.stderr(),
+    ))
+}
+
+/// `same S A B`.
+fn run_same<'a>(rt: &HostRuntime, found: &ArgMatches<'a>) -> Result<u8, Stopped<'a>>
+    ensures { IfOk result IsOfCommand }
+{
+    let mut schema = open(rt, found, "S")?;
+    let mut first = Watched::new(open(rt, found, "A")?);
+    let mut second = Watched::new(open(rt, found, "B")?);
+    Ok(same_command(
+        rt.alloc(),
+        &mut schema,
+        &mut first,
+        &mut second,
+        &mut rt.stdout(),
+        &mut rt.stderr(),
+    ))
 }
 
 /// `faults`.

@@ -38,6 +38,51 @@ SCHEMA s; ENTITY point; x : REAL; y : REAL; END_ENTITY; END_SCHEMA;
     SCHEMA S
     POINT(X,Y)";
 
+/// What stands below the help of `check`.
+pub const CHECK: &str =
+    "Answer: one line that counts the instances and the bytes of the canonical file; or, on
+standard error, the first refusal and where it comes:
+    refused 52 NotDistinct in #1
+Statuses: 0 accepted; 1 refused; 3 out of memory, cannot open, read or write.
+
+Example:
+    $ p21 check product.exp product.step
+    accepted, instances 128, canonical bytes 4872";
+
+/// What stands below the help of `canon`.
+pub const CANON: &str = "Two files mean the same exactly if their canonical files are equal.
+
+Answer: the canonical file, of which nothing is written before the whole file is
+accepted; or, on standard error, the first refusal and where it comes:
+    refused 20 Unexpected at statement 7
+Statuses: 0 the file; 1 refused; 3 out of memory, cannot open, read or write.
+
+Example:
+    $ p21 canon product.exp product.step > canonical.step";
+
+/// What stands below the help of `show`.
+pub const SHOW: &str =
+    "Answer: one line with the statement; or, on standard error, the first refusal of the
+file, or that it has no instance of this number:
+    no #129
+Statuses: 0 the statement; 1 refused or not found; 3 out of memory, cannot open, read
+or write.
+
+Example:
+    $ p21 show product.exp product.step --name 18
+    #18=CARTESIAN_POINT('',(8.E1,0.,0.));";
+
+/// What stands below the help of `same`.
+pub const SAME: &str =
+    "Answer: the line same, or the line different; or, on standard error, the first refusal,
+with first: or second: in front for the file:
+    second: refused 24 EndsEarly at statement 10
+Statuses: 0 same; 1 different or refused; 3 out of memory, cannot open, read or write.
+
+Example:
+    $ p21 same product.exp product.step product-other.step
+    same";
+
 /// Each refusal, with its number and name.
 pub const FAULTS: &str = "Bytes and tokens:
    1 BadByte           No word, number or sign begins or goes on with this byte.
