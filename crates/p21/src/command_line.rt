@@ -182,43 +182,6 @@ mod tests {
     }
 
     #[test]
-    fn takes_each_command(rt: HostRuntime) -> Result<(), Fail> {
-        let cases: [(&[&str], &str, &[(&str, &str)]); 7] = [
-            (&["p21", "param", "f"], "param", &[("FILE", "f")]),
-            (&["p21", "schema", "s"], "schema", &[("S", "s")]),
-            (
-                &["p21", "check", "s", "f"],
-                "check",
-                &[("S", "s"), ("FILE", "f")],
-            ),
-            (
-                &["p21", "canon", "s", "f"],
-                "canon",
-                &[("S", "s"), ("FILE", "f")],
-            ),
-            (
-                &["p21", "show", "s", "f", "--name", "7"],
-                "show",
-                &[("S", "s"), ("FILE", "f"), ("name", "7")],
-            ),
-            (
-                &["p21", "same", "s", "a", "b"],
-                "same",
-                &[("S", "s"), ("A", "a"), ("B", "b")],
-            ),
-            (&["p21", "faults"], "faults", &[]),
-        ];
-        for (words, name, values) in cases {
-            let matches = command_line(rt.alloc())?.try_get_matches_from(words)?;
-            let found = matches.subcommand_matches(name).ok_or("no command")?;
-            for (id, value) in values {
-                assert_eq!(rt; found.get_str(id), Some(*value));
-            }
-        }
-        Ok(())
-    }
-
-    #[test]
     fn takes_numbers_of_64_bits(rt: HostRuntime) -> Result<(), Fail> {
         let cases = [
             ("0", Some(0)),
