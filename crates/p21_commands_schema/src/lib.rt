@@ -7,3 +7,6 @@ mod schema;
 
 pub use load::load_schema;
 pub use schema::schema_command;
+
+#[cfg(test)]
+mod tests;

@@ -1,0 +1,7 @@
+//! Schema texts, each with what is read of it, as tests.
+#![tactic(auto)]
+
+#[cfg(test)]
+mod meeting;
+#[cfg(test)]
+mod refusals;

@@ -1,0 +1,167 @@
+//! Texts with several faults, each with the refusal that comes first.
+use crate::refusals::refusal;
+use p21_express::SchemaFault;
+use std::alloc::Global;
+use std::process::Abort;
+use std::test::Fail;
+
+fn expect(rt: &impl Abort, alloc: Global, rows: &[(&str, SchemaFault)]) -> Result<(), Fail> {
+    for (text, fault) in rows {
+        let answer = refusal(alloc, text)?;
+        assert_eq!(rt; answer, Some(*fault), "{text}");
+    }
+    Ok(())
+}
+
+/// What is found as the text is read comes in the order of the text.
+#[test]
+fn reads_from_the_front(rt: HostRuntime) -> Result<(), Fail> {
+    let rows = [
+        ("TYPE t = STRING (0 (* open", SchemaFault::Bounds),
+        ("TYPE t = (* open STRING (0)", SchemaFault::Token),
+        ("TYPE t = STRING (0); USE", SchemaFault::Bounds),
+        ("USE TYPE t = STRING (0);", SchemaFault::LeftOut),
+        ("ENTITY USE 'open", SchemaFault::LeftOut),
+        ("ENTITY 1 USE", SchemaFault::Syntax),
+        ("TYPE t = LIST [2:1;", SchemaFault::Bounds),
+        ("TYPE t = LIST [1;", SchemaFault::Syntax),
+    ];
+    expect(&rt, rt.alloc(), &rows)
+}
+
+/// What is found as the text is read comes before what is looked for in the whole schema.
+#[test]
+fn reads_before_it_resolves(rt: HostRuntime) -> Result<(), Fail> {
+    let rows = [
+        (
+            "ENTITY a; END_ENTITY; ENTITY a; END_ENTITY; ENTITY",
+            SchemaFault::Syntax,
+        ),
+        (
+            "ENTITY a SUBTYPE OF (z); END_ENTITY; USE FROM t;",
+            SchemaFault::LeftOut,
+        ),
+        (
+            "ENTITY a SUBTYPE OF (a); x : STRING (0); END_ENTITY;",
+            SchemaFault::Bounds,
+        ),
+        (
+            "ENTITY a; SELF\\a.z : REAL; END_ENTITY; (* open",
+            SchemaFault::Token,
+        ),
+    ];
+    expect(&rt, rt.alloc(), &rows)
+}
+
+#[test]
+fn looks_for_duplicates_first(rt: HostRuntime) -> Result<(), Fail> {
+    let rows = [
+        (
+            "ENTITY a; x : foo; END_ENTITY; ENTITY a; END_ENTITY;",
+            SchemaFault::Duplicate,
+        ),
+        (
+            "TYPE t = t; END_TYPE; ENTITY a; x, x : REAL; END_ENTITY;",
+            SchemaFault::Duplicate,
+        ),
+        (
+            "TYPE s = SELECT (t, t); END_TYPE; TYPE t = s; END_TYPE;",
+            SchemaFault::Duplicate,
+        ),
+        (
+            "ENTITY a; DERIVE SELF\\a.z : REAL := 0.0; END_ENTITY; TYPE t = ENUMERATION OF (b, b); END_TYPE;",
+            SchemaFault::Duplicate,
+        ),
+        (
+            "ENTITY a SUBTYPE OF (z); END_ENTITY; ENTITY b SUBTYPE OF (a, a); END_ENTITY;",
+            SchemaFault::Duplicate,
+        ),
+        (
+            "ENTITY a SUPERTYPE OF (ONEOF (z, z)); END_ENTITY;",
+            SchemaFault::Duplicate,
+        ),
+    ];
+    expect(&rt, rt.alloc(), &rows)
+}
+
+/// Also where one place is redeclared twice, in a schema that is wrong elsewhere.
+#[test]
+fn looks_for_places_redeclared_twice(rt: HostRuntime) -> Result<(), Fail> {
+    let rows = [
+        (
+            "ENTITY r; k : foo; END_ENTITY; ENTITY a SUBTYPE OF (r); SELF\\r.k, SELF\\r.k : REAL; END_ENTITY;",
+            SchemaFault::Duplicate,
+        ),
+        (
+            "ENTITY r; k : REAL; END_ENTITY; ENTITY a; SELF\\r.k, SELF\\r.k : REAL; END_ENTITY;",
+            SchemaFault::Duplicate,
+        ),
+        (
+            "ENTITY r SUBTYPE OF (a); k : REAL; END_ENTITY; ENTITY a SUBTYPE OF (r); SELF\\r.k, SELF\\a.k : REAL; END_ENTITY;",
+            SchemaFault::Duplicate,
+        ),
+        (
+            "ENTITY r; END_ENTITY; ENTITY a SUBTYPE OF (r); SELF\\r.k, SELF\\r.k : REAL; END_ENTITY;",
+            SchemaFault::RedeclaredPlace,
+        ),
+        (
+            "ENTITY a; SELF\\r.k, SELF\\r.k : REAL; END_ENTITY;",
+            SchemaFault::UnknownName,
+        ),
+    ];
+    expect(&rt, rt.alloc(), &rows)
+}
+
+#[test]
+fn looks_for_unknown_names_then_for_circles(rt: HostRuntime) -> Result<(), Fail> {
+    let rows = [
+        (
+            "ENTITY a SUBTYPE OF (a); END_ENTITY; ENTITY b; x : foo; END_ENTITY;",
+            SchemaFault::UnknownName,
+        ),
+        (
+            "TYPE s = SELECT (s, foo); END_TYPE;",
+            SchemaFault::UnknownName,
+        ),
+        (
+            "ENTITY a; SELF\\a.z : REAL; SELF\\b.z : REAL; END_ENTITY;",
+            SchemaFault::UnknownName,
+        ),
+        (
+            "TYPE s = SELECT (e); END_TYPE; TYPE t = s; END_TYPE; ENTITY e; END_ENTITY; TYPE u = e; END_TYPE;",
+            SchemaFault::UnknownName,
+        ),
+        (
+            "TYPE s = SELECT (s); END_TYPE; TYPE t = s; END_TYPE;",
+            SchemaFault::Circular,
+        ),
+        (
+            "ENTITY a SUBTYPE OF (a); SELF\\a.z : REAL; END_ENTITY;",
+            SchemaFault::Circular,
+        ),
+        (
+            "ENTITY a; SELF\\a.z : REAL; END_ENTITY; TYPE t = t; END_TYPE;",
+            SchemaFault::Circular,
+        ),
+    ];
+    expect(&rt, rt.alloc(), &rows)
+}
+
+#[test]
+fn looks_for_renamed_selects_then_for_places(rt: HostRuntime) -> Result<(), Fail> {
+    let rows = [
+        (
+            "TYPE a = b; END_TYPE; TYPE b = SELECT (a); END_TYPE;",
+            SchemaFault::LeftOut,
+        ),
+        (
+            "ENTITY e; SELF\\e.z : REAL; END_ENTITY; TYPE s = SELECT (e); END_TYPE; TYPE t = s; END_TYPE;",
+            SchemaFault::LeftOut,
+        ),
+        (
+            "ENTITY e; SELF\\e.z : REAL; END_ENTITY; TYPE s = SELECT (e); END_TYPE; TYPE t = LIST OF s; END_TYPE;",
+            SchemaFault::RedeclaredPlace,
+        ),
+    ];
+    expect(&rt, rt.alloc(), &rows)
+}
