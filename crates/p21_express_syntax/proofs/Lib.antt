@@ -11,3 +11,4 @@ pub mod TypesRead
 pub mod Counting
 pub mod DeclaredRead
 pub mod SchemasRead
+pub mod Uppered

@@ -1,4 +1,4 @@
-ghost use Rattle.std.specs.Prelude.{◌≡◌, IfOk, map};
+ghost use Rattle.std.specs.Prelude.{◌≡◌, ◌≤◌, IfOk, map, length, take};
 ghost use Rattle.p21_exchange.specs.Keyword.{IsKeyword};
 ghost use Rattle.p21_schemas.specs.Express.{upper};
 ghost use Rattle.p21_express_lexemes.specs.Taking.{ReadBy, Refused, take_name};
@@ -19,13 +19,42 @@ pub(crate) fn read_name(alloc: Global, lexemes: &mut Lexemes) -> Result<Word, Sy
     word_of(alloc, name)
 }
 
+/// The longest names that are put into upper case without memory.
+const SHORT: usize = 24;
+
 /// An identifier in upper case.
 pub(crate) fn word_of(alloc: Global, name: &[u8]) -> Result<Word, SyntaxFault>
     requires { IsKeyword (map upper name.now) }
     ensures { IsWordOf (map upper name.now) result }
 {
+    if name.len() > SHORT {
+        return long_word_of(alloc, name);
+    }
+    let mut place = [0u8; SHORT];
+    let mut count = 0;
+    while count < name.len() {
+        place[count] = upper(name[count]);
+        count += 1;
+    }
+    front_word(alloc, &place, count)
+}
+
+/// The same, for one that is long.
+fn long_word_of(alloc: Global, name: &[u8]) -> Result<Word, SyntaxFault>
+    requires { IsKeyword (map upper name.now) }
+    ensures { IsWordOf (map upper name.now) result }
+{
     let bytes: Vec<u8> = name.iter().map(|byte| upper(*byte)).collect(alloc)?;
-    match Word::of_front(alloc, bytes.as_slice(), bytes.len()) {
+    front_word(alloc, bytes.as_slice(), bytes.len())
+}
+
+/// The word of so many bytes at the front.
+fn front_word(alloc: Global, bytes: &[u8], count: usize) -> Result<Word, SyntaxFault>
+    requires within { count ≤ length bytes.now }
+    requires keyword { IsKeyword (take count bytes.now) }
+    ensures { IsWordOf (take count bytes.now) result }
+{
+    match Word::of_front(alloc, bytes, count) {
         Ok(word) => Ok(word),
         Err(_no_memory) => Err(SyntaxFault::NoMemory),
     }

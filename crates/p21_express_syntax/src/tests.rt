@@ -4,8 +4,10 @@ use std::alloc::Global;
 use std::process::Abort;
 use std::test::Fail;
 
+mod cuts;
 mod limits;
 mod listing;
+mod refusals;
 
 const DEMO: &str = "SCHEMA demo;
 TYPE distance = REAL; END_TYPE;
@@ -313,6 +315,17 @@ fn reads_whole_texts(rt: HostRuntime) -> Result<(), Fail> {
             "{text}"
         );
     }
+    Ok(())
+}
+
+#[test]
+fn reads_nested_functions_and_remarks(rt: HostRuntime) -> Result<(), Fail> {
+    let text =
+        "(* a (* b *) c *) SCHEMA t 'v1'; FUNCTION f : REAL; FUNCTION g : REAL; END_FUNCTION; END_FUNCTION; END_SCHEMA; -- end";
+    let schema = read_declarations(rt.alloc(), text.as_bytes())?;
+    assert_eq!(rt; schema.name.bytes(), b"T".as_slice());
+    assert_eq!(rt; schema.entities.len(), 0);
+    assert_eq!(rt; schema.types.len(), 0);
     Ok(())
 }
 
