@@ -1,0 +1,5 @@
+//! Tests of whole files: a schema and a file are read, and what comes of them is compared with what must.
+#![tactic(auto)]
+
+#[cfg(test)]
+mod tests;
