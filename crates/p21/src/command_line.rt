@@ -182,6 +182,29 @@ mod tests {
     }
 
     #[test]
+    fn takes_each_command(rt: HostRuntime) -> Result<(), Fail> {
+        let cases: [(&[&str], &str, &str, &str); 11] = [
+            (&["p21", "param", "f"], "param", "FILE", "f"),
+            (&["p21", "schema", "s"], "schema", "S", "s"),
+            (&["p21", "check", "s", "f"], "check", "S", "s"),
+            (&["p21", "check", "s", "f"], "check", "FILE", "f"),
+            (&["p21", "canon", "s", "f"], "canon", "S", "s"),
+            (&["p21", "canon", "s", "f"], "canon", "FILE", "f"),
+            (&["p21", "show", "s", "f", "--name", "7"], "show", "S", "s"),
+            (&["p21", "show", "--name=7", "s", "f"], "show", "FILE", "f"),
+            (&["p21", "same", "s", "a", "b"], "same", "S", "s"),
+            (&["p21", "same", "s", "a", "b"], "same", "A", "a"),
+            (&["p21", "same", "s", "a", "b"], "same", "B", "b"),
+        ];
+        for (words, name, id, value) in cases {
+            let matches = command_line(rt.alloc())?.try_get_matches_from(words)?;
+            let found = matches.subcommand_matches(name).ok_or("no command")?;
+            assert_eq!(rt; found.get_str(id), Some(value), "{name} {id}");
+        }
+        Ok(())
+    }
+
+    #[test]
     fn takes_numbers_of_64_bits(rt: HostRuntime) -> Result<(), Fail> {
         let cases = [
             ("0", Some(0)),

@@ -18,7 +18,8 @@ pub const PARAM: &str =
 
 Answer: one line with the spelling; or, on standard error, a line as
     refused 12 NotOneParameter
-Statuses: 0 the spelling; 1 refused; 3 out of memory, cannot open, read or write.
+Statuses: 0 the spelling; 1 refused; 2 a wrong command line; 3 out of memory, cannot
+open, read or write.
 
 Example, where param.txt holds +012.500E+03:
     $ p21 param param.txt
@@ -30,7 +31,8 @@ pub const SCHEMA: &str =
 attributes with those of its supertypes, in the order of a file: * for one that is
 derived, ABSTRACT in front of an entity that needs a subtype. Or, on standard error:
     schema refused S5 Circular
-Statuses: 0 the schema; 1 refused; 3 out of memory, cannot open, read or write.
+Statuses: 0 the schema; 1 refused; 2 a wrong command line; 3 out of memory, cannot open,
+read or write.
 
 Example, where point.exp holds
 SCHEMA s; ENTITY point; x : REAL; y : REAL; END_ENTITY; END_SCHEMA;
@@ -41,9 +43,11 @@ SCHEMA s; ENTITY point; x : REAL; y : REAL; END_ENTITY; END_SCHEMA;
 /// What stands below the help of `check`.
 pub const CHECK: &str =
     "Answer: one line that counts the instances and the bytes of the canonical file; or, on
-standard error, the first refusal and where it comes:
+standard error, the first refusal and where it comes, or that of the schema:
     refused 52 NotDistinct in #1
-Statuses: 0 accepted; 1 refused; 3 out of memory, cannot open, read or write.
+    schema refused S5 Circular
+Statuses: 0 accepted; 1 refused; 2 a wrong command line; 3 out of memory, cannot open,
+read or write.
 
 Example:
     $ p21 check product.exp product.step
@@ -53,20 +57,23 @@ Example:
 pub const CANON: &str = "Two files mean the same exactly if their canonical files are equal.
 
 Answer: the canonical file, of which nothing is written before the whole file is
-accepted; or, on standard error, the first refusal and where it comes:
+accepted; or, on standard error, the first refusal and where it comes, or that of the
+schema:
     refused 20 Unexpected at statement 7
-Statuses: 0 the file; 1 refused; 3 out of memory, cannot open, read or write.
+    schema refused S5 Circular
+Statuses: 0 the file; 1 refused; 2 a wrong command line; 3 out of memory, cannot open,
+read or write.
 
 Example:
     $ p21 canon product.exp product.step > canonical.step";
 
 /// What stands below the help of `show`.
 pub const SHOW: &str =
-    "Answer: one line with the statement; or, on standard error, the first refusal of the
-file, or that it has no instance of this number:
+    "Answer: one line with the statement; or, on standard error, the refusal of the schema or
+of the file, as check has it, or that the file has no instance of this number:
     no #129
-Statuses: 0 the statement; 1 refused or not found; 3 out of memory, cannot open, read
-or write.
+Statuses: 0 the statement; 1 refused or not found; 2 a wrong command line; 3 out of
+memory, cannot open, read or write.
 
 Example:
     $ p21 show product.exp product.step --name 18
@@ -75,9 +82,11 @@ Example:
 /// What stands below the help of `same`.
 pub const SAME: &str =
     "Answer: the line same, or the line different; or, on standard error, the first refusal,
-with first: or second: in front for the file:
+with first: or second: in front for the file, or that of the schema:
     second: refused 24 EndsEarly at statement 10
-Statuses: 0 same; 1 different or refused; 3 out of memory, cannot open, read or write.
+    schema refused S5 Circular
+Statuses: 0 same; 1 different or refused; 2 a wrong command line; 3 out of memory, cannot
+open, read or write.
 
 Example:
     $ p21 same product.exp product.step product-other.step
@@ -136,10 +145,11 @@ Instances:
   57 WrongTarget       A reference names an instance of the wrong entity.
   58 OneOf             The instance is of two entities of which it may be one.
 
-The machine (status 3, without number):
+The machine (status 3, and the line that is printed has no number):
   90 NoMemory          out of memory: memory ran out.
   91 ReadFault         read fault: the system answered an error to a read.
   92 WriteFault        write fault: the answer could not be written.
+     cannot open FILE  There is no such file, or it may not be read.
 
 Schemas:
   S1 Token             A string or remark has no end, or a byte begins no word.
