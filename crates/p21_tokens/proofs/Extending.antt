@@ -91,7 +91,7 @@ some-length [] count byte e = absurd cc
 some-length (b ∷ piece) zero byte e = omega arith
 some-length (b ∷ piece) (suc count) byte e = let l = some-length piece count byte e in omega arith
 
-take-one : (piece : List ℕ) (count byte : ℕ) → slice_get piece count ≡ Some byte → take (count + 1) piece ≡ take count piece ++ byte ∷ []
+pub take-one : (piece : List ℕ) (count byte : ℕ) → slice_get piece count ≡ Some byte → take (count + 1) piece ≡ take count piece ++ byte ∷ []
 take-one piece count byte e =
     let l = some-length piece count byte e in
     let same : get_or piece count 0 ≡ byte = let p : Some (get_or piece count 0) ≡ Some byte = sym (slice_get-get_or piece count 0 l) ∙ e in cc in
