@@ -30,11 +30,12 @@ use Rattle.p21_tokens_automaton.proofs.Once.{spells-means}
 use Rattle.p21_tokens_automaton.specs.Meaning.{MeanAll, Means, found_of}
 use Rattle.p21_tokens_automaton.specs.Reading.{State, start, Answer, open_at, after, Found, Sized, ended, closing, all_after, all_of, lex}
 use Rattle.p21_tokens.proofs.Stepping.{ended-waits}
+use Rattle.p21_tokens.proofs.Naming.{names-byte}
 use Rattle.p21_tokens.proofs.Following.{handed-laid, live-open, whole-read, tokens-append, mean-append, in-parts, open-append, within-append, after-append, after-nothing, live-laid, live-pending, live-within, live-few, live-first, live-at_once}
 use Rattle.p21_tokens.specs.Held.{Held, pending_of, state_of}
-use Rattle.p21_tokens.specs.Histories.{TokenHistory, call_of, refused_call, Stands, IsLive, IsHandedOver, GoesOn, AreDead, IsStatementFull, IsNoToken, EndsOutOfRange, IsOpen, IsPendingBehind, EndsAtOnce, TakesNoMore, Answers, Refuses, NextGives}
+use Rattle.p21_tokens.specs.Histories.{TokenHistory, call_of, refused_call, Stands, IsLive, IsHandedOver, GoesOn, AreDead, IsStatementFull, IsNoToken, EndsOutOfRange, NamesByte, IsOpen, IsPendingBehind, EndsAtOnce, TakesNoMore, Answers, Refuses, NextGives}
 use Rattle.p21_tokens.specs.Fault.{IsOfForm, IsOfLimit}
-use Rattle.p21_tokens.specs.Steps.{rest_of, is_slash, is_token_byte, IsDeadAt, SameLimits, TakesRun, Gives, Hands, RefusesByte, EndsNone, IsInLimits, Scanned, ScansToken, gave, handed, Scans, RefusesAt}
+use Rattle.p21_tokens.specs.Steps.{rest_of, is_slash, is_token_byte, IsDeadAt, SameLimits, TakesRun, Gives, Hands, RefusesByte, EndsNone, IsFaultAt, IsInLimits, Scanned, ScansToken, gave, handed, Scans, RefusesAt}
 use Rattle.p21_tokens.specs.Token.{meant, waits}
 use Rattle.p21_tokens.specs.declared.fault.TokenFault.{TokenFault}
 use Rattle.p21_tokens.specs.declared.fault.TokenFault.TheVariants as fault
@@ -90,7 +91,7 @@ some-length [] count byte e = absurd cc
 some-length (b ∷ piece) zero byte e = omega arith
 some-length (b ∷ piece) (suc count) byte e = let l = some-length piece count byte e in omega arith
 
-take-one : (piece : List ℕ) (count byte : ℕ) → slice_get piece count ≡ Some byte → take (count + 1) piece ≡ take count piece ++ byte ∷ []
+pub take-one : (piece : List ℕ) (count byte : ℕ) → slice_get piece count ≡ Some byte → take (count + 1) piece ≡ take count piece ++ byte ∷ []
 take-one piece count byte e =
     let l = some-length piece count byte e in
     let same : get_or piece count 0 ≡ byte = let p : Some (get_or piece count 0) ≡ Some byte = sym (slice_get-get_or piece count 0 l) ∙ e in cc in
@@ -557,11 +558,14 @@ module _ (v w : Held) (h : TokenHistory) (piece : List ℕ) (live : IsLive v h) 
   ends-at slash t o = absurd o
   ends-at (open_comment inside) t o = absurd o
 
+  ended-at : (tail : Tail) → TailIs (state_of middle) tail → EndsNone middle byte → advance middle.mode byte ≡ End → EndsOutOfRange tail byte
+  ended-at (unfinished bytes) t n q = (subst (StepFits middle.mode middle.kept middle.characters bytes byte) q (steps-on (state_of middle) bytes byte t)).no_token (λ found token e m. n q found token e m)
+  ended-at nothing t n q = absurd (gap-ends-none middle nothing byte t tt q)
+  ended-at slash t n q = absurd (gap-ends-none middle slash byte t tt q)
+  ended-at (open_comment inside) t n q = absurd (gap-ends-none middle (open_comment inside) byte t tt q)
+
   not-ended : (tail : Tail) → TailIs (state_of middle) tail → EndsNone middle byte → ¬ EndsOutOfRange tail byte → advance middle.mode byte ≢ End
-  not-ended (unfinished bytes) t n o q = o ((subst (StepFits middle.mode middle.kept middle.characters bytes byte) q (steps-on (state_of middle) bytes byte t)).no_token (λ found token e m. n q found token e m))
-  not-ended nothing t n o q = gap-ends-none middle nothing byte t tt q
-  not-ended slash t n o q = gap-ends-none middle slash byte t tt q
-  not-ended (open_comment inside) t n o q = gap-ends-none middle (open_comment inside) byte t tt q
+  not-ended tail t n o q = o (ended-at tail t n q)
 
   counts : (tail : Tail) → TailIs (state_of middle) tail → IsTokenByte tail byte → is_token_byte middle.mode (advance middle.mode byte) ≡ true
   counts (unfinished bytes) t c = open-counts middle.mode middle.kept middle.characters bytes byte (advance middle.mode byte) t.0 (steps-on (state_of middle) bytes byte t)
@@ -574,27 +578,31 @@ module _ (v w : Held) (h : TokenHistory) (piece : List ℕ) (live : IsLive v h) 
   range-first fault.RecordTooLong r l o = r.2 (ends-at before-it.0 before-it.2 o)
   range-first _ r l o = absurd l
 
-  in-limits-at : (x : TokenFault) → RefusesByte middle byte x → IsOfForm x → IsInLimits middle byte
-  in-limits-at fault.NoMemory r i = absurd i
-  in-limits-at fault.FileTooLong r i = absurd i
-  in-limits-at fault.RecordTooLong r i = absurd i
-  in-limits-at fault.OpenString r i = absurd r
-  in-limits-at fault.OpenComment r i = absurd r
-  in-limits-at fault.NotOneParameter r i = absurd r
-  in-limits-at fault.EndsEarly r i = absurd r
-  in-limits-at fault.BadByte r i = r.2
-  in-limits-at fault.BadDirective r i = r.2
-  in-limits-at fault.BadCodePoint r i = r.2
-  in-limits-at fault.NotUtf8 r i = r.2
-  in-limits-at fault.BadNumber r i = r.2
-  in-limits-at fault.NumberRange r i = r.2
-  in-limits-at fault.BadBinary r i = r.2
-  in-limits-at fault.NameRange r i = r.2
-  in-limits-at fault.BadName r i = r.2
-  in-limits-at (fault.LeftOut absent) r i = r.2
+  form-at : (x : TokenFault) → RefusesByte middle byte x → IsOfForm x → IsInLimits middle byte × IsFaultAt middle byte (advance middle.mode byte) x
+  form-at fault.NoMemory r i = absurd i
+  form-at fault.FileTooLong r i = absurd i
+  form-at fault.RecordTooLong r i = absurd i
+  form-at fault.OpenString r i = absurd r
+  form-at fault.OpenComment r i = absurd r
+  form-at fault.NotOneParameter r i = absurd r
+  form-at fault.EndsEarly r i = absurd r
+  form-at fault.BadByte r i = (r.2, r.3)
+  form-at fault.BadDirective r i = (r.2, r.3)
+  form-at fault.BadCodePoint r i = (r.2, r.3)
+  form-at fault.NotUtf8 r i = (r.2, r.3)
+  form-at fault.BadNumber r i = (r.2, r.3)
+  form-at fault.NumberRange r i = (r.2, r.3)
+  form-at fault.BadBinary r i = (r.2, r.3)
+  form-at fault.NameRange r i = (r.2, r.3)
+  form-at fault.BadName r i = (r.2, r.3)
+  form-at (fault.LeftOut absent) r i = (r.2, r.3)
+
+  names : (x : TokenFault) → RefusesByte middle byte x → IsOfForm x → NamesByte tail byte x
+  names x r i =
+      names-byte middle before-it.0 byte x before-it.2 (ends-at before-it.0 before-it.2, ended-at before-it.0 before-it.2 (ends-none x r (λ q. subst IsOfForm q i))) (form-at x r i).1
 
   passes-none : (x : TokenFault) → RefusesByte middle byte x → IsOfForm x → ¬ EndsOutOfRange before-it.0 byte → (middle.file < middle.file_limit) × (is_token_byte middle.mode (advance middle.mode byte) ≡ true → pending_of middle < middle.statement_limit)
-  passes-none x r i o = in-limits-at x r i (not-ended before-it.0 before-it.2 (ends-none x r (λ q. subst IsOfForm q i)) o)
+  passes-none x r i o = (form-at x r i).0 (not-ended before-it.0 before-it.2 (ends-none x r (λ q. subst IsOfForm q i)) o)
 
   file-first : (x : TokenFault) → RefusesByte middle byte x → IsOfForm x → ¬ EndsOutOfRange tail byte → length (h.taken ++ take count piece) < v.file_limit
   file-first x r i o = let f = (passes-none x r i o).0 in let a = front-live.file_is in let b = same.file_limit in omega arith
@@ -642,6 +650,7 @@ next-refuses v u w piece x r e k s h stands o alive =
       range_first = range-first v w h piece now.1 alive o s.0 s.1 s.2 s.3 s.4 s.5 x s.7;
       file_first = file-first v w h piece now.1 alive o s.0 s.1 s.2 s.3 s.4 s.5 x s.7;
       statement_first = statement-first v w h piece now.1 alive o s.0 s.1 s.2 s.3 s.4 s.5 x s.7;
+      names = names v w h piece now.1 alive o s.0 s.1 s.2 s.3 s.4 s.5 x s.7;
       stands = (
         e ∙ sym (ap (λ (y : Option TokenFault). first_refusal y (Some x)) alive),
         λ q. absurd (not-none x (sym (ap (λ (y : Option TokenFault). first_refusal y (Some x)) alive) ∙ q)),

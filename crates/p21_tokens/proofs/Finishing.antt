@@ -10,18 +10,19 @@ use Rattle.p21_tokens_automaton.proofs.Fits.{ModeFits}
 use Rattle.p21_tokens_automaton.proofs.Fronts.{ended-laid}
 use Rattle.p21_tokens_automaton.proofs.Gaps.{gap}
 use Rattle.p21_tokens_automaton.proofs.Sound.{LaidTo, TailIs, UpTo}
-use Rattle.p21_tokens_automaton.proofs.Theorems.{laid_read, laid-whole}
+use Rattle.p21_tokens_automaton.proofs.Theorems.{laid_read, laid-whole, laid-up-to, tail-is}
 use Rattle.p21_tokens_automaton.specs.Bytes.{is_blank}
 use Rattle.p21_tokens_automaton.specs.Meaning.{MeanAll}
 use Rattle.p21_tokens_automaton.specs.Reading.{State, start, Sized, ended_in, closing, all_after, all_of}
 use Rattle.p21_tokens_automaton.specs.declared.mode.Mode.{Mode}
 use Rattle.p21_tokens_automaton.specs.declared.mode.Mode.TheVariants.{Between, Slash, Comment, Star}
 use Rattle.p21_tokens.proofs.Extending.{stands-live}
+use Rattle.p21_tokens.proofs.Naming.{names-end}
 use Rattle.p21_tokens.proofs.Following.{tokens-append, in-parts, live-laid, whole-read}
 use Rattle.p21_tokens.specs.Fault.{IsOfTheEnd}
 use Rattle.p21_tokens.specs.Held.{Held, pending_of, state_of}
-use Rattle.p21_tokens.specs.Histories.{TokenHistory, Stands, IsLive, NextGives, FinishGives, AreSeparators}
-use Rattle.p21_tokens.specs.Steps.{is_gap, AreBlank, MayNotEnd, ReadsEnd, RefusesAt}
+use Rattle.p21_tokens.specs.Histories.{TokenHistory, Stands, IsLive, NextGives, FinishGives, FinishNames, AreSeparators}
+use Rattle.p21_tokens.specs.Steps.{is_gap, AreBlank, IsFaultAtEnd, MayNotEnd, ReadsEnd, RefusesAt}
 use Rattle.p21_tokens.specs.Token.{meant}
 use Rattle.p21_tokens.specs.declared.fault.TokenFault.{TokenFault}
 use Rattle.p21_tokens.specs.declared.fault.TokenFault.TheVariants as fault
@@ -80,6 +81,25 @@ finish-gives v (Ok (Some token)) r e = λ h s seen.
 finish-gives v (Err fault.NoMemory) r e = tt
 finish-gives v (Err x) r e = finish-err v x r e.0 e.1
 
+-- which fault it has
+finish-wrong : (v : Held) (x : TokenFault) → v.refused ≡ None → MayNotEnd v.mode v.kept v.characters → IsFaultAtEnd v.mode v.kept v.characters x → FinishNames v (Err x)
+finish-wrong v fault.NoMemory r n named = tt
+finish-wrong v x r n named = λ h s seen alive.
+    let live = (stands-live v h s r).1 in
+    let u = live-laid v h live in
+    record {
+      lexemes = live.lexemes;
+      tail = u.0;
+      laid = laid-up-to h.taken live.lexemes u.0 u.1 (tail-is (state_of v) u.0 u.2);
+      given_are = live.given_are;
+      names = names-end v x n named u.0 u.2;
+    }
+
+pub finish-names : (v : Held) (result : Result (Option TokenRead) TokenFault) → v.refused ≡ None → ReadsEnd v.mode v.kept v.characters result → FinishNames v result
+finish-names v (Ok last) r e = tt
+finish-names v (Err fault.NoMemory) r e = tt
+finish-names v (Err x) r e = finish-wrong v x r e.1 e.2
+
 -- ---- a lexer that has refused
 
 dead-history : (v : Held) (h : TokenHistory) (x : TokenFault) → v.refused ≡ Some x → Stands v h → h.refusal ≡ None → ⊥
@@ -95,6 +115,10 @@ refused-none = dead-history
 pub finish-refused : (v : Held) (x : TokenFault) → v.refused ≡ Some x → FinishGives v (Err x)
 finish-refused v fault.NoMemory e = tt
 finish-refused v _ e = λ h s _ alive. absurd (dead-history v h _ e s alive)
+
+pub names-refused : (v : Held) (x : TokenFault) → v.refused ≡ Some x → FinishNames v (Err x)
+names-refused v fault.NoMemory e = tt
+names-refused v _ e = λ h s _ alive. absurd (dead-history v h _ e s alive)
 
 -- ---- separators need no memory
 

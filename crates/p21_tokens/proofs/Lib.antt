@@ -3,6 +3,7 @@ pub mod Running
 pub mod Scanning
 pub mod Fronting
 pub mod Following
+pub mod Naming
 pub mod Extending
 pub mod Finishing
 pub mod OneScalar

@@ -12,10 +12,10 @@ use Rattle.p21_tokens.specs.Finding.{FindsScalar, FindsOnly}
 use Rattle.p21_exchange.specs.Spelling.{spelling}
 use Rattle.p21_tokens_automaton.proofs.Spellings.{same-spelling, spells-itself}
 use Rattle.p21_tokens_automaton.specs.SameToken.{IsSpelled}
-use Rattle.p21_tokens.specs.Parameter.{AreNoScalar, HoldsOthers, stand_first, are_all, EndsUnfinished, IsAnswer, IsRefusal}
-use Rattle.p21_tokens.proofs.Extending.{stands-laid}
+use Rattle.p21_tokens.specs.Parameter.{AreNoScalar, HoldsOthers, stand_first, are_all, EndsUnfinished, IsRefusedFor, at_byte, at_end, IsAnswer, IsRefusal}
+use Rattle.p21_tokens.proofs.Extending.{stands-laid, take-one}
 use Rattle.p21_tokens.specs.Held.{Held}
-use Rattle.p21_tokens.specs.Histories.{TokenHistory, call_of, Stands, GoesOn, AreDead, Answers, RefusesAtByte, NextGives, FinishGives}
+use Rattle.p21_tokens.specs.Histories.{TokenHistory, call_of, Stands, GoesOn, AreDead, Answers, EndsWrong, NamesByte, RefusesAtByte, NextGives, FinishGives, FinishNames}
 use Rattle.p21_tokens.specs.Token.{meant, meant_all, waits}
 use Rattle.p21_tokens.specs.declared.fault.TokenFault.{TokenFault}
 use Rattle.p21_tokens.specs.declared.fault.TokenFault.TheVariants as fault
@@ -186,11 +186,26 @@ pending-few (x ∷ lexemes) bytes tail n l =
     let size = l.6 in
     omega arith
 
+-- a list divided at a byte
+divided : (rest : List ℕ) (n byte : ℕ) → slice_get rest n ≡ Some byte → take n rest ++ byte ∷ drop (n + 1) rest ≡ rest
+divided rest n byte e = sym (append_assoc (take n rest) (byte ∷ []) (drop (n + 1) rest)) ∙ (ap (λ (x : List ℕ). x ++ drop (n + 1) rest) (sym (take-one rest n byte e)) ∙ take-append-drop (n + 1) rest)
+
 pub finds-refused : (v w : Held) (bytes rest : List ℕ) (found : Option TokenRead) (x : TokenFault) → Kept v bytes rest found → NextGives v rest (Err x) w → FindsScalar bytes (Err x)
 finds-refused v w bytes rest found x k g = at x (g k.history k.stands (offered k.history.seen rest k.goes) k.alive)
   where
     front : (n : ℕ) → length (k.history.taken ++ take n rest) ≤ text_limit
     front n = let all = ap length (taken-rest k.history.taken rest n ∙ k.all_is) in let p = length-append (k.history.taken ++ take n rest) (drop n rest) in let m = k.within in omega arith
+
+    no-others : (token : Option TokenRead) → IsFoundScalar token → ¬ AreNoScalar (meant_all token)
+    no-others None s a = a
+    no-others (Some token) s a = a s
+
+    refused : (x : TokenFault) (r : RefusesAtByte v k.history rest x w) → NamesByte r.tail r.byte x → IsRefusedFor bytes x
+    refused x r names =
+        let front = k.history.taken ++ take r.count rest in
+        let joined : front ++ r.byte ∷ drop (r.count + 1) rest ≡ bytes =
+        (append_assoc k.history.taken (take r.count rest) (r.byte ∷ drop (r.count + 1) rest) ∙ ap (λ (x : List ℕ). k.history.taken ++ x) (divided rest r.count r.byte r.byte_is)) ∙ k.all_is in
+        at_byte front (drop (r.count + 1) rest) r.byte r.lexemes r.tail (sym joined) r.laid (λ a. no-others found k.scalar (subst AreNoScalar (r.given_are ∙ k.given_is) a)) names
 
     dead : (n : ℕ) → AreDead (k.history.taken ++ take n rest) → (token : Token) → HoldsScalar bytes token → ⊥
     dead n d token held = d (drop n rest) (token ∷ []) (subst (λ (y : List ℕ). Laid y (token ∷ [])) (sym (taken-rest k.history.taken rest n ∙ k.all_is)) held.1)
@@ -209,16 +224,16 @@ finds-refused v w bytes rest found x k g = at x (g k.history k.stands (offered k
     at fault.OpenComment r = absurd r.refuses
     at fault.NotOneParameter r = absurd r.refuses
     at fault.EndsEarly r = absurd r.refuses
-    at fault.BadByte r = (tt, λ _. dead (r.count + 1) r.refuses)
-    at fault.BadDirective r = (tt, λ _. dead (r.count + 1) r.refuses)
-    at fault.BadCodePoint r = (tt, λ _. dead (r.count + 1) r.refuses)
-    at fault.NotUtf8 r = (tt, λ _. dead (r.count + 1) r.refuses)
-    at fault.BadNumber r = (tt, λ _. dead (r.count + 1) r.refuses)
-    at fault.NumberRange r = (tt, λ _. dead (r.count + 1) r.refuses)
-    at fault.BadBinary r = (tt, λ _. dead (r.count + 1) r.refuses)
-    at fault.NameRange r = (tt, λ _. dead (r.count + 1) r.refuses)
-    at fault.BadName r = (tt, λ _. dead (r.count + 1) r.refuses)
-    at (fault.LeftOut absent) r = (tt, λ _. dead (r.count + 1) r.refuses)
+    at fault.BadByte r = (refused fault.BadByte r (r.names tt), λ _. dead (r.count + 1) r.refuses)
+    at fault.BadDirective r = (refused fault.BadDirective r (r.names tt), λ _. dead (r.count + 1) r.refuses)
+    at fault.BadCodePoint r = (refused fault.BadCodePoint r (r.names tt), λ _. dead (r.count + 1) r.refuses)
+    at fault.NotUtf8 r = (refused fault.NotUtf8 r (r.names tt), λ _. dead (r.count + 1) r.refuses)
+    at fault.BadNumber r = (refused fault.BadNumber r (r.names tt), λ _. dead (r.count + 1) r.refuses)
+    at fault.NumberRange r = (refused fault.NumberRange r (r.names tt), λ _. dead (r.count + 1) r.refuses)
+    at fault.BadBinary r = (refused fault.BadBinary r (r.names tt), λ _. dead (r.count + 1) r.refuses)
+    at fault.NameRange r = (refused fault.NameRange r (r.names tt), λ _. dead (r.count + 1) r.refuses)
+    at fault.BadName r = (refused fault.BadName r (r.names tt), λ _. dead (r.count + 1) r.refuses)
+    at (fault.LeftOut absent) r = (refused (fault.LeftOut absent) r (r.names tt), λ _. dead (r.count + 1) r.refuses)
 
 -- ---- the end of the text
 
@@ -244,8 +259,8 @@ module _ (v : Held) (bytes rest : List ℕ) (found : Option TokenRead) (k : Kept
   one-found None s a = a
   one-found (Some token) s a = a s
 
-  pub ends-unfinished : ((tokens : List Token) → Laid bytes tokens → tokens ≡ []) → EndsUnfinished bytes
-  ends-unfinished n =
+  pub ends-unfinished : Laid bytes [] → ((tokens : List Token) → Laid bytes tokens → tokens ≡ []) → EndsUnfinished bytes
+  ends-unfinished laid n =
       let l = stands-laid v k.history k.stands k.alive in
       record {
         lexemes = l.0;
@@ -253,20 +268,35 @@ module _ (v : Held) (bytes rest : List ℕ) (found : Option TokenRead) (k : Kept
         laid = subst (λ (x : List ℕ). LaidUpTo x l.0 l.1) taken-all l.2;
         no_others = λ a. one-found found k.scalar (subst AreNoScalar (l.3 ∙ k.given_is) a);
         none = n;
+        names = inl laid;
       }
+
+  wrong-end : (x : TokenFault) → EndsWrong k.history x → IsRefusedFor bytes x
+  wrong-end x w =
+      at_end w.lexemes w.tail (subst (λ (y : List ℕ). LaidUpTo y w.lexemes w.tail) taken-all w.laid) (λ a. one-found found k.scalar (subst AreNoScalar (w.given_are ∙ k.given_is) a)) w.names
+
+  wrong-early : EndsWrong k.history fault.EndsEarly → ((tokens : List Token) → Laid bytes tokens → tokens ≡ []) → EndsUnfinished bytes
+  wrong-early w n = record {
+    lexemes = w.lexemes;
+    tail = w.tail;
+    laid = subst (λ (y : List ℕ). LaidUpTo y w.lexemes w.tail) taken-all w.laid;
+    no_others = λ a. one-found found k.scalar (subst AreNoScalar (w.given_are ∙ k.given_is) a);
+    none = n;
+    names = inr w.names;
+  }
 
   unlaid : (tokens : List Token) → (Laid k.history.taken tokens → ⊥) → Laid bytes tokens → ⊥
   unlaid tokens none-laid laid = none-laid (subst (λ (x : List ℕ). Laid x tokens) (sym taken-all) laid)
 
-  pub finds-end : (x : TokenFault) → FinishGives v (Err x) → FindsScalar bytes (Err x)
-  finds-end fault.NoMemory g = (tt, λ n. absurd (n refl))
-  finds-end fault.FileTooLong g = absurd (g k.history k.stands unseen k.alive).0
-  finds-end fault.RecordTooLong g = absurd (g k.history k.stands unseen k.alive).0
-  finds-end fault.NotOneParameter g = absurd (g k.history k.stands unseen k.alive).0
-  finds-end fault.EndsEarly g =
+  pub finds-end : (x : TokenFault) → FinishGives v (Err x) → FinishNames v (Err x) → FindsScalar bytes (Err x)
+  finds-end fault.NoMemory g w = (tt, λ n. absurd (n refl))
+  finds-end fault.FileTooLong g w = absurd (g k.history k.stands unseen k.alive).0
+  finds-end fault.RecordTooLong g w = absurd (g k.history k.stands unseen k.alive).0
+  finds-end fault.NotOneParameter g w = absurd (g k.history k.stands unseen k.alive).0
+  finds-end fault.EndsEarly g w =
       let none-laid = (g k.history k.stands unseen k.alive).1 in
-      (ends-unfinished (λ tokens laid. absurd (unlaid tokens (none-laid tokens) laid)), λ _ token held. unlaid (token ∷ []) (none-laid (token ∷ [])) held.1)
-  finds-end _ g = (tt, λ _ token held. unlaid (token ∷ []) ((g k.history k.stands unseen k.alive).1 (token ∷ [])) held.1)
+      (wrong-early (w k.history k.stands unseen k.alive) (λ tokens laid. absurd (unlaid tokens (none-laid tokens) laid)), λ _ token held. unlaid (token ∷ []) (none-laid (token ∷ [])) held.1)
+  finds-end _ g w = (wrong-end _ (w k.history k.stands unseen k.alive), λ _ token held. unlaid (token ∷ []) ((g k.history k.stands unseen k.alive).1 (token ∷ [])) held.1)
 
   -- the tokens of the text
   pub tokens-are : (last : Option TokenRead) → FinishGives v (Ok last) → Laid bytes (meant_all found ++ meant_all last)
@@ -274,8 +304,8 @@ module _ (v : Held) (bytes rest : List ℕ) (found : Option TokenRead) (k : Kept
       let laid = (g k.history k.stands unseen).1 in
       subst (λ (x : List Token). Laid bytes (x ++ meant_all last)) k.given_is (subst (λ (x : List ℕ). Laid x (k.history.given ++ meant_all last)) taken-all laid)
 
-pub finds-only : (bytes : List ℕ) (found last : Option TokenRead) (result : Result TokenRead TokenFault) → IsFoundScalar found → (((tokens : List Token) → Laid bytes tokens → tokens ≡ []) → EndsUnfinished bytes) → Laid bytes (meant_all found ++ meant_all last) → FindsOnly found last result → FindsScalar bytes result
-finds-only bytes None None (Err fault.EndsEarly) s early laid o = (early (λ tokens other. one-laying bytes tokens [] other laid), λ _ token held. let e = one-laying bytes [] (token ∷ []) laid held.1 in cc)
+pub finds-only : (bytes : List ℕ) (found last : Option TokenRead) (result : Result TokenRead TokenFault) → IsFoundScalar found → (Laid bytes [] → ((tokens : List Token) → Laid bytes tokens → tokens ≡ []) → EndsUnfinished bytes) → Laid bytes (meant_all found ++ meant_all last) → FindsOnly found last result → FindsScalar bytes result
+finds-only bytes None None (Err fault.EndsEarly) s early laid o = (early laid (λ tokens other. one-laying bytes tokens [] other laid), λ _ token held. let e = one-laying bytes [] (token ∷ []) laid held.1 in cc)
 finds-only bytes (Some first) None (Ok answer) s early laid o = subst (λ (x : Token). HoldsScalar bytes x) (sym o) (s, laid)
 finds-only bytes None (Some last) (Ok answer) s early laid o = subst (λ (x : Token). HoldsScalar bytes x) (sym o.0) (o.1, laid)
 finds-only bytes None (Some last) (Err fault.NotOneParameter) s early laid o = (

@@ -27,7 +27,7 @@ use Rattle.p21_tokens_automaton.specs.declared.mode.Wrong.{Wrong}
 use Rattle.p21_tokens_automaton.specs.declared.mode.Wrong.TheVariants as wrong
 use Rattle.p21_tokens.specs.Fault.{fault_of}
 use Rattle.p21_tokens.specs.Held.{Held, pending_of, state_of}
-use Rattle.p21_tokens.specs.Steps.{is_gap, rest_of, IsDeadAt, EndsNone, IsInLimits, ReadsFound, SameLimits, RefusesByte, Steps, behind_token, Closes, Ends}
+use Rattle.p21_tokens.specs.Steps.{is_gap, rest_of, IsDeadAt, EndsNone, IsInLimits, IsFaultAt, IsFaultOf, ReadsFound, SameLimits, RefusesByte, Steps, behind_token, Closes, Ends}
 use Rattle.p21_tokens.specs.Token.{meant, waits}
 use Rattle.p21_tokens.specs.declared.fault.TokenFault.{TokenFault}
 use Rattle.p21_tokens.specs.declared.fault.TokenFault.TheVariants as fault
@@ -80,11 +80,12 @@ dead-first v b None size go e n rest founds lexemes a m = not-all wrong.Byte fou
 dead-first v b (Some found) size go e n rest founds lexemes a m =
     let x = all-first found size (go rest) founds lexemes (sym (ap all_of (e rest)) ∙ a) m in n found refl x.0 x.1
 
-reads-refuses : (v : Held) (b : ℕ) (o : Option Found) (size : ℕ) (go : List ℕ → Answer) (x : TokenFault) → ((bs : List ℕ) → rest_of v (b ∷ bs) ≡ given_first o size (go bs)) → (advance v.mode b ≡ End → ended (state_of v) ≡ o) → (is_gap v.mode ≡ true → is_blank b ≡ true → ⊥) → IsInLimits v b → ReadsFound o (Err x) → RefusesByte v b x
-reads-refuses v b o size go x e i n l r = by_fault x o e i r
+reads-refuses : (v : Held) (b : ℕ) (o : Option Found) (size : ℕ) (go : List ℕ → Answer) (x : TokenFault) → ((bs : List ℕ) → rest_of v (b ∷ bs) ≡ given_first o size (go bs)) → (advance v.mode b ≡ End → ended (state_of v) ≡ o) → (is_gap v.mode ≡ true → is_blank b ≡ true → ⊥) → IsInLimits v b → (IsFaultOf fault.BadByte o x → IsFaultAt v b (advance v.mode b) x) → ReadsFound o (Err x) → RefusesByte v b x
+reads-refuses v b o size go x e i n l w r = by_fault x o e i w r
   where
-    none : (o : Option Found) → ((bs : List ℕ) → rest_of v (b ∷ bs) ≡ given_first o size (go bs)) → (advance v.mode b ≡ End → ended (state_of v) ≡ o) → ((found : Found) → o ≡ Some found → (token : meaning.Token) → Means found token → ⊥) → IsDeadAt v (b ∷ []) × EndsNone v b × IsInLimits v b
-    none o e i h = (dead-first v b o size go e h, (λ q found token f m. h found (sym (i q) ∙ f) token m), l)
+    none : (x : TokenFault) (o : Option Found) → ((bs : List ℕ) → rest_of v (b ∷ bs) ≡ given_first o size (go bs)) → (advance v.mode b ≡ End → ended (state_of v) ≡ o) → ((found : Found) → o ≡ Some found → (token : meaning.Token) → Means found token → ⊥) → IsFaultAt v b (advance v.mode b) x
+        → IsDeadAt v (b ∷ []) × EndsNone v b × IsInLimits v b × IsFaultAt v b (advance v.mode b) x
+    none x o e i h named = (dead-first v b o size go e h, (λ q found token f m. h found (sym (i q) ∙ f) token m), l, named)
 
     of_some : (f : Found) → ((token : meaning.Token) → Means f token → ⊥) → (found : Found) → Some f ≡ Some found → (token : meaning.Token) → Means found token → ⊥
     of_some f h found q token m = h token (subst (λ (y : Found). Means y token) (sym (some-is f found q)) m)
@@ -92,22 +93,22 @@ reads-refuses v b o size go x e i n l r = by_fault x o e i r
     of_none : (found : Found) → (let o : Option Found = None in o) ≡ Some found → (token : meaning.Token) → Means found token → ⊥
     of_none found q = absurd cc
 
-    by_fault : (x : TokenFault) (o : Option Found) → ((bs : List ℕ) → rest_of v (b ∷ bs) ≡ given_first o size (go bs)) → (advance v.mode b ≡ End → ended (state_of v) ≡ o) → ReadsFound o (Err x) → RefusesByte v b x
-    by_fault fault.NoMemory o e i r = n
-    by_fault fault.FileTooLong None e i r = absurd r
-    by_fault fault.FileTooLong (Some f) e i r = absurd r
-    by_fault fault.RecordTooLong None e i r = absurd r
-    by_fault fault.RecordTooLong (Some f) e i r = absurd r
-    by_fault fault.OpenString None e i r = absurd r
-    by_fault fault.OpenString (Some f) e i r = absurd r
-    by_fault fault.OpenComment None e i r = absurd r
-    by_fault fault.OpenComment (Some f) e i r = absurd r
-    by_fault fault.NotOneParameter None e i r = absurd r
-    by_fault fault.NotOneParameter (Some f) e i r = absurd r
-    by_fault fault.EndsEarly None e i r = absurd r
-    by_fault fault.EndsEarly (Some f) e i r = absurd r
-    by_fault _ None e i r = none None e i of_none
-    by_fault _ (Some f) e i r = none (Some f) e i (of_some f r)
+    by_fault : (x : TokenFault) (o : Option Found) → ((bs : List ℕ) → rest_of v (b ∷ bs) ≡ given_first o size (go bs)) → (advance v.mode b ≡ End → ended (state_of v) ≡ o) → (IsFaultOf fault.BadByte o x → IsFaultAt v b (advance v.mode b) x) → ReadsFound o (Err x) → RefusesByte v b x
+    by_fault fault.NoMemory o e i w r = n
+    by_fault fault.FileTooLong None e i w r = absurd r.0
+    by_fault fault.FileTooLong (Some f) e i w r = absurd r.0
+    by_fault fault.RecordTooLong None e i w r = absurd r.0
+    by_fault fault.RecordTooLong (Some f) e i w r = absurd r.0
+    by_fault fault.OpenString None e i w r = absurd r.0
+    by_fault fault.OpenString (Some f) e i w r = absurd r.0
+    by_fault fault.OpenComment None e i w r = absurd r.0
+    by_fault fault.OpenComment (Some f) e i w r = absurd r.0
+    by_fault fault.NotOneParameter None e i w r = absurd r.0
+    by_fault fault.NotOneParameter (Some f) e i w r = absurd r.0
+    by_fault fault.EndsEarly None e i w r = absurd r.0
+    by_fault fault.EndsEarly (Some f) e i w r = absurd r.0
+    by_fault _ None e i w r = none _ None e i of_none (w (r.1 tt))
+    by_fault _ (Some f) e i w r = none _ (Some f) e i (of_some f r.0) (w (r.1 tt))
 
 module _ (v : Held) (b : ℕ) where
   pub needs-memory : (a : Action) → advance v.mode b ≡ a → (Passes a → ⊥) → is_gap v.mode ≡ true → is_blank b ≡ true → ⊥
@@ -147,8 +148,8 @@ module _ (v : Held) (b : ℕ) where
   dead-refused x e rest founds lexemes a m =
       not-all x founds (sym (ap all_of (lex-byte (state_of v) b rest ∙ ap (λ (y : Action). act y (state_of v) b (λ next. lex next rest)) e)) ∙ a)
 
-  refused : (x : Wrong) → advance v.mode b ≡ Refuse x → IsInLimits v b → IsDeadAt v (b ∷ []) × EndsNone v b × IsInLimits v b
-  refused x e l = (dead-refused x e, (λ q. absurd (let clash : Refuse x ≡ End = sym e ∙ q in cc)), l)
+  refused : (x : Wrong) → advance v.mode b ≡ Refuse x → IsInLimits v b → IsDeadAt v (b ∷ []) × EndsNone v b × IsInLimits v b × IsFaultAt v b (advance v.mode b) (fault_of x)
+  refused x e l = (dead-refused x e, (λ q. absurd (let clash : Refuse x ≡ End = sym e ∙ q in cc)), l, subst (λ (a : Action). IsFaultAt v b a (fault_of x)) (sym e) refl)
 
 pub single-at_once : (one : Single) → waits (single_token one) ≡ false
 single-at_once single.Left = refl
@@ -296,14 +297,14 @@ module _ (v : Held) (b : ℕ) where
   pub refused-closed : (x : TokenFault) (w : Held) → advance v.mode b ≡ Close → IsInLimits v b → Closes v b (Err x) w → Steps v b (Err x) w
   refused-closed x w e l h = (
     h.1,
-    reads-refuses v b (closed v.mode (v.kept ++ b ∷ [])) (v.size + 1) (λ bs. lex start bs) x (λ bs. lex-byte (state_of v) b bs ∙ ap (λ (y : Action). act y (state_of v) b (λ next. lex next bs)) e) (λ q. absurd (let clash : Close ≡ End = sym e ∙ q in cc)) (needs-memory v b Close e (λ p. p)) l h.0,
+    reads-refuses v b (closed v.mode (v.kept ++ b ∷ [])) (v.size + 1) (λ bs. lex start bs) x (λ bs. lex-byte (state_of v) b bs ∙ ap (λ (y : Action). act y (state_of v) b (λ next. lex next bs)) e) (λ q. absurd (let clash : Close ≡ End = sym e ∙ q in cc)) (needs-memory v b Close e (λ p. p)) l (λ k. subst (λ (a : Action). IsFaultAt v b a x) (sym e) k) h.0,
     h.2,
   )
 
   pub refused-ended : (x : TokenFault) (w : Held) → advance v.mode b ≡ End → Ends v (Err x) w → Steps v b (Err x) w
   refused-ended x w e h = (
     h.1,
-    reads-refuses v b (ended (state_of v)) v.size (λ bs. first (advance Between b) b (λ next. lex next bs)) x (λ bs. lex-byte (state_of v) b bs ∙ ap (λ (y : Action). act y (state_of v) b (λ next. lex next bs)) e) (λ _. refl) (needs-memory v b End e (λ p. p)) (λ n. absurd (n e)) h.0,
+    reads-refuses v b (ended (state_of v)) v.size (λ bs. first (advance Between b) b (λ next. lex next bs)) x (λ bs. lex-byte (state_of v) b bs ∙ ap (λ (y : Action). act y (state_of v) b (λ next. lex next bs)) e) (λ _. refl) (needs-memory v b End e (λ p. p)) (λ n. absurd (n e)) (λ k. subst (λ (a : Action). IsFaultAt v b a x) (sym e) k) h.0,
     h.2,
   )
 
@@ -324,8 +325,8 @@ module _ (v : Held) (b : ℕ) where
       not-all wrong.Byte founds (sym (ap all_of (lex-byte (state_of v) b rest ∙ (ap (λ (y : Action). act y (state_of v) b (λ next. lex next rest)) e
       ∙ ap (λ (o : Option Mode). dashed o (state_of v) b (λ next. lex next rest)) n))) ∙ a)
 
-  pub refused-dash : advance v.mode b ≡ Dash → marker_of v.kept ≡ None → IsInLimits v b → IsDeadAt v (b ∷ []) × EndsNone v b × IsInLimits v b
-  refused-dash e n l = (dead-dash e n, (λ q. absurd (let clash : Dash ≡ End = sym e ∙ q in cc)), l)
+  pub refused-dash : advance v.mode b ≡ Dash → marker_of v.kept ≡ None → IsInLimits v b → RefusesByte v b fault.BadByte
+  refused-dash e n l = (dead-dash e n, (λ q. absurd (let clash : Dash ≡ End = sym e ∙ q in cc)), l, subst (λ (a : Action). IsFaultAt v b a fault.BadByte) (sym e) refl)
 
 pub same-limits_itself : (v : Held) → SameLimits v v
 same-limits_itself v = record { statement_limit = refl; file_limit = refl; refused = refl }

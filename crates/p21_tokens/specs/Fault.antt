@@ -2,6 +2,11 @@
 use Rattle.std.specs.Prelude.{ℕ, List, codes}
 use Rattle.p21_tokens_automaton.specs.declared.mode.Absent.{Absent}
 use Rattle.p21_tokens_automaton.specs.declared.mode.Absent.TheVariants.{Scope, ValueName, ConstantName, UserKeyword, Anchor, Reference, Signature, SecondSection, NoDataSection}
+use Rattle.p21_tokens_automaton.specs.declared.mode.Action.{Action}
+use Rattle.p21_tokens_automaton.specs.declared.mode.Action.TheVariants.{Close, End, Refuse}
+use Rattle.p21_tokens_automaton.specs.declared.mode.Mode.{Mode}
+use Rattle.p21_tokens_automaton.specs.declared.mode.Mode.TheVariants.{Comment, Star, Number, Binary, Text}
+use Rattle.p21_tokens_automaton.specs.declared.mode.NumberMode.TheVariants.{Fraction, ExponentDigits}
 use Rattle.p21_tokens_automaton.specs.declared.mode.Wrong.{Wrong}
 use Rattle.p21_tokens_automaton.specs.declared.mode.Wrong.TheVariants as wrong
 use Rattle.p21_tokens.specs.declared.fault.TokenFault.{TokenFault}
@@ -131,6 +136,22 @@ fault_of wrong.Binary = BadBinary
 fault_of wrong.NameRange = NameRange
 fault_of wrong.Name = BadName
 fault_of (wrong.LeftOut absent) = LeftOut absent
+
+-- the fault of form of what a byte does: one that ends a token is refused only behind a real out of range
+abbrev pub form_fault : Mode → Action → TokenFault
+form_fault mode (Refuse wrong) = fault_of wrong
+form_fault mode End = NumberRange
+form_fault (Binary mode) Close = BadBinary
+form_fault mode other = BadByte
+
+-- the fault of bytes that end in a state: those that end behind a real are refused only where it is out of range
+abbrev pub end_fault : Mode → TokenFault
+end_fault Comment = OpenComment
+end_fault Star = OpenComment
+end_fault (Text mode) = OpenString
+end_fault (Number Fraction) = NumberRange
+end_fault (Number ExponentDigits) = NumberRange
+end_fault other = EndsEarly
 
 -- the fault of a token whose spelling a reader of values refuses
 abbrev pub value_fault : ValueFault → TokenFault

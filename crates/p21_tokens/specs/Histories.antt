@@ -1,20 +1,24 @@
 -- What a lexer has taken and answered, and what each call adds to it (ISO 10303-21, tokens).
-use Rattle.std.specs.Prelude.{◌≡◌, ◌≢◌, ℕ, ◌+◌, ◌≤◌, ◌<◌, ◌⊎◌, false, if◌then◌else◌, List, [], ◌∷◌, ◌++◌, length, take, slice_get, Option, Some, None, Result, Ok, Err}
+use Rattle.std.specs.Prelude.{◌≡◌, ◌≢◌, ◌↔◌, ℕ, ◌+◌, ◌≤◌, ◌<◌, ◌⊎◌, false, if◌then◌else◌, List, [], ◌∷◌, ◌++◌, length, take, slice_get, Option, Some, None, Result, Ok, Err}
 use Rattle.std.specs.Option.{option_map}
 use Rattle.std.specs.List.{AllByRecursion as Each}
 use Rattle.p21_basics.specs.History.{History, extended, looked_at, IsOffered}
 use Rattle.p21_exchange.specs.Laying.{Lexeme, Laid, tokens_in, open_bytes, AreStatementsWithin}
-use Rattle.p21_exchange.specs.Pending.{Tail, unfinished, tail_size, LaidUpTo, IsPending, IsTokenByte}
+use Rattle.p21_exchange.specs.Pending.{Tail, nothing, unfinished, slash, open_comment, tail_size, LaidUpTo, IsPending, IsTokenByte}
+use Rattle.p21_exchange.specs.Number.{Decimal, RealForm, SpellsReal}
 use Rattle.p21_exchange.specs.Separator.{blank, IsSeparator}
 use Rattle.p21_exchange.specs.Token.{Token, Spells, MayFollow, IsWholeAtOnce}
 use Rattle.p21_tokens_automaton.specs.Meaning.{IsOutOfRange, MeanAll}
-use Rattle.p21_tokens_automaton.specs.Reading.{State, start, open_at, Found, Sized, ended, after, lex}
-use Rattle.p21_tokens.specs.Fault.{of_form, of_end, of_statement, of_file, of_parameter, of_memory, cause_of, IsOfForm, IsOfLimit, IsOfTheEnd}
+use Rattle.p21_tokens_automaton.specs.Reading.{State, start, nothing_but, open_at, Found, Sized, ended, after, lex}
+use Rattle.p21_tokens_automaton.specs.Step.{advance}
+use Rattle.p21_tokens_automaton.specs.declared.mode.Mode.{Mode}
+use Rattle.p21_tokens_automaton.specs.declared.mode.Mode.TheVariants.{Between, Slash, Comment, Star}
+use Rattle.p21_tokens.specs.Fault.{form_fault, end_fault, of_form, of_end, of_statement, of_file, of_parameter, of_memory, cause_of, IsOfForm, IsOfLimit, IsOfTheEnd}
 use Rattle.p21_tokens.specs.Held.{Held, pending_of, state_of, refusal_of, record_limit_of, file_limit_of}
 use Rattle.p21_tokens.specs.Steps.{rest_of}
 use Rattle.p21_tokens.specs.Token.{meant, meant_all, waits}
 use Rattle.p21_tokens.specs.declared.fault.TokenFault.{TokenFault}
-use Rattle.p21_tokens.specs.declared.fault.TokenFault.TheVariants.{NoMemory}
+use Rattle.p21_tokens.specs.declared.fault.TokenFault.TheVariants.{NumberRange, NoMemory}
 use Rattle.p21_tokens.specs.declared.token.Token.{Token as TokenRead}
 
 -- the bytes taken, the byte behind them if it was looked at, the tokens given, and the refusal
@@ -84,6 +88,32 @@ IsNoToken other byte = Unit {0}
 abbrev pub EndsOutOfRange : Tail → ℕ → Type 0
 EndsOutOfRange (unfinished bytes) byte = IsOutOfRange bytes byte
 EndsOutOfRange other byte = ⊥
+
+-- a real out of range stands last
+abbrev pub IsOutOfRangeTail : Tail → Type 0
+IsOutOfRangeTail (unfinished bytes) = RealForm bytes × ((value : Decimal) → SpellsReal bytes value → ⊥)
+IsOutOfRangeTail other = ⊥
+
+-- the mode in which the bytes of a tail end
+abbrev pub EndsInMode : Tail → Mode → Type 0
+EndsInMode nothing mode = mode ≡ Between
+EndsInMode (unfinished bytes) mode = (state : State) × (lex start bytes ≡ nothing_but (open_at state)) × (mode ≡ state.mode)
+EndsInMode slash mode = mode ≡ Slash
+EndsInMode (open_comment inside) mode = (mode ≡ Comment) ⊎ (mode ≡ Star)
+
+-- a fault of form is the one of what is wrong at the byte, and `NumberRange` exactly where a real out of range ends
+pub record NamesByte (tail : Tail) (byte : ℕ) (fault : TokenFault) : Type 0 where
+  pub mode : Mode
+  pub ends_in : EndsInMode tail mode
+  pub fault_is : fault ≡ form_fault mode (advance mode byte)
+  pub out_of_range : (fault ≡ NumberRange) ↔ EndsOutOfRange tail byte
+
+-- the fault of bytes that may not end is the one of what is open, and `NumberRange` exactly where a real out of range ends
+pub record NamesEnd (tail : Tail) (fault : TokenFault) : Type 0 where
+  pub mode : Mode
+  pub ends_in : EndsInMode tail mode
+  pub fault_is : fault ≡ end_fault mode
+  pub out_of_range : (fault ≡ NumberRange) ↔ IsOutOfRangeTail tail
 
 -- ---- the relation
 
@@ -164,6 +194,7 @@ pub record RefusesAtByte (old : Held) (history : TokenHistory) (piece : List ℕ
   pub range_first : IsOfLimit fault → ¬ EndsOutOfRange tail byte
   pub file_first : IsOfForm fault → ¬ EndsOutOfRange tail byte → length (history.taken ++ take count piece) < file_limit_of old
   pub statement_first : IsOfForm fault → ¬ EndsOutOfRange tail byte → IsTokenByte tail byte → open_bytes 0 lexemes + tail_size tail < record_limit_of old
+  pub names : IsOfForm fault → NamesByte tail byte fault
   pub stands : Stands new (extended history (refused_call piece count fault))
 
 -- what a call of `next` gives, for each history that the lexer stood for, where the caller offered first what was seen
@@ -190,6 +221,20 @@ abbrev pub FinishGives : Held → Result (Option TokenRead) TokenFault → Type 
 FinishGives held (Ok last) = (history : TokenHistory) → Stands held history → history.seen ≡ None → (history.refusal ≡ None) × Laid history.taken (history.given ++ meant_all last)
 FinishGives held (Err NoMemory) = Unit {0}
 FinishGives held (Err fault) = (history : TokenHistory) → Stands held history → history.seen ≡ None → history.refusal ≡ None → IsOfTheEnd fault × IsUnlaid history.taken
+
+-- the tokens given are laid in the bytes, up to a tail in which these may not end
+pub record EndsWrong (history : TokenHistory) (fault : TokenFault) : Type 0 where
+  pub lexemes : List Lexeme
+  pub tail : Tail
+  pub laid : LaidUpTo history.taken lexemes tail
+  pub given_are : tokens_in lexemes ≡ history.given
+  pub names : NamesEnd tail fault
+
+-- what is wrong where the end of the bytes is refused
+abbrev pub FinishNames : Held → Result (Option TokenRead) TokenFault → Type 0
+FinishNames held (Ok last) = Unit {0}
+FinishNames held (Err NoMemory) = Unit {0}
+FinishNames held (Err fault) = (history : TokenHistory) → Stands held history → history.seen ≡ None → history.refusal ≡ None → EndsWrong history fault
 
 -- bytes that stand between tokens by themselves
 abbrev pub AreSeparators : List ℕ → Type 0

@@ -1,21 +1,22 @@
 -- What the parts of the lexer owe: how a byte, a run of bytes and a piece change what is held.
 use Rattle.std.specs.Prelude.{◌≡◌, ◌≢◌, ℕ, ◌+◌, ◌≤◌, ◌<◌, Bool, true, false, if◌then◌else◌, List, [], ◌∷◌, ◌++◌, length, take, slice_get, Option, Some, None, Result, Ok, Err, OnErr}
 use Rattle.std.specs.Option.{option_map}
+use Rattle.p21_exchange.specs.Number.{RealForm}
 use Rattle.p21_exchange.specs.Token as meaning
 use Rattle.p21_exchange.specs.Laying.{Lexeme, count_behind}
 use Rattle.p21_tokens_automaton.specs.declared.mode.Mode.{Mode}
-use Rattle.p21_tokens_automaton.specs.declared.mode.Mode.TheVariants.{Between, Slash, Comment, Star}
+use Rattle.p21_tokens_automaton.specs.declared.mode.Mode.TheVariants.{Between, Slash, Comment, Star, Text}
 use Rattle.p21_tokens_automaton.specs.declared.mode.Action.{Action}
-use Rattle.p21_tokens_automaton.specs.declared.mode.Action.TheVariants.{Pass, End, Refuse}
+use Rattle.p21_tokens_automaton.specs.declared.mode.Action.TheVariants.{Pass, Close, End, Refuse}
 use Rattle.p21_tokens_automaton.specs.Bytes.{is_blank}
 use Rattle.p21_tokens_automaton.specs.Meaning.{Means, MeanAll}
-use Rattle.p21_tokens_automaton.specs.Reading.{start, Answer, Found, Sized, ended, ended_in, closed, closing, before, all_of, lex}
+use Rattle.p21_tokens_automaton.specs.Reading.{start, Answer, Found, spelled, real, item, bits, Sized, ended, ended_in, closed, closing, before, all_of, lex}
 use Rattle.p21_tokens_automaton.specs.Step.{advance}
-use Rattle.p21_tokens.specs.Fault.{Cause, of_form, of_end, of_statement, of_file, of_parameter, of_memory, cause_of, IsOfTheEnd}
+use Rattle.p21_tokens.specs.Fault.{Cause, of_form, of_end, of_statement, of_file, of_parameter, of_memory, cause_of, fault_of, IsOfForm, IsOfTheEnd}
 use Rattle.p21_tokens.specs.Held.{Held, pending_of, state_of}
 use Rattle.p21_tokens.specs.Token.{meant, waits}
 use Rattle.p21_tokens.specs.declared.fault.TokenFault.{TokenFault}
-use Rattle.p21_tokens.specs.declared.fault.TokenFault.TheVariants.{NoMemory}
+use Rattle.p21_tokens.specs.declared.fault.TokenFault.TheVariants.{BadByte, OpenString, OpenComment, NumberRange, BadBinary, EndsEarly, NoMemory}
 use Rattle.p21_tokens.specs.declared.step.Step.{Step}
 use Rattle.p21_tokens.specs.declared.step.Step.TheVariants.{Took, Gave, Handed}
 use Rattle.p21_tokens.specs.declared.token.Token.{Token}
@@ -56,22 +57,38 @@ MeansNone found of_file = ⊥
 MeansNone found of_parameter = ⊥
 MeansNone found of_memory = Unit {0}
 
+-- the fault of what is found and means no token, where only some of it can be so; `none` where nothing is found
+abbrev pub IsFaultOf : TokenFault → Option Found → TokenFault → Type 0
+IsFaultOf none None fault = fault ≡ none
+IsFaultOf none (Some (spelled real spelling)) fault = RealForm spelling → fault ≡ NumberRange
+IsFaultOf none (Some (spelled item spelling)) fault = fault ≡ none
+IsFaultOf none (Some (spelled bits spelling)) fault = fault ≡ BadBinary
+IsFaultOf none (Some other) fault = Unit {0}
+
 -- what is found means the token; a refusal, memory apart, only where it means none
 abbrev pub ReadsFound : Option Found → Result Token TokenFault → Type 0
 ReadsFound None (Ok token) = ⊥
 ReadsFound (Some found) (Ok token) = Means found (meant token)
-ReadsFound found (Err fault) = MeansNone found (cause_of fault)
+ReadsFound found (Err fault) = MeansNone found (cause_of fault) × (IsOfForm fault → IsFaultOf BadByte found fault)
 
 -- no token that means something is left, and the bytes do not end between tokens
 abbrev pub MayNotEnd : Mode → List ℕ → List ℕ → Type 0
 MayNotEnd mode kept characters = (size : ℕ) (founds : List Sized) (lexemes : List Lexeme) → closing (ended_in mode kept characters) mode size ≡ Some founds → MeanAll founds lexemes → ⊥
+
+-- the fault of bytes that end here
+abbrev pub IsFaultAtEnd : Mode → List ℕ → List ℕ → TokenFault → Type 0
+IsFaultAtEnd Slash kept characters fault = fault ≡ EndsEarly
+IsFaultAtEnd Comment kept characters fault = fault ≡ OpenComment
+IsFaultAtEnd Star kept characters fault = fault ≡ OpenComment
+IsFaultAtEnd (Text mode) kept characters fault = fault ≡ OpenString
+IsFaultAtEnd mode kept characters fault = IsFaultOf EndsEarly (ended_in mode kept characters) fault
 
 -- the token that the end of the bytes leaves
 abbrev pub ReadsEnd : Mode → List ℕ → List ℕ → Result (Option Token) TokenFault → Type 0
 ReadsEnd mode kept characters (Ok None) = mode ≡ Between
 ReadsEnd mode kept characters (Ok (Some token)) = (found : Found) × (ended_in mode kept characters ≡ Some found) × Means found (meant token)
 ReadsEnd mode kept characters (Err NoMemory) = Unit {0}
-ReadsEnd mode kept characters (Err fault) = IsOfTheEnd fault × MayNotEnd mode kept characters
+ReadsEnd mode kept characters (Err fault) = IsOfTheEnd fault × MayNotEnd mode kept characters × IsFaultAtEnd mode kept characters fault
 
 -- the limits and the refusal stay
 pub record SameLimits (old new : Held) : Type 0 where
@@ -118,10 +135,17 @@ EndsNone held byte = advance held.mode byte ≡ End → (found : Found) (token :
 abbrev pub IsInLimits : Held → ℕ → Type 0
 IsInLimits held byte = advance held.mode byte ≢ End → (held.file < held.file_limit) × (is_token_byte held.mode (advance held.mode byte) ≡ true → pending_of held < held.statement_limit)
 
+-- the fault of form of what a byte does, with what is known of the token that it ends
+abbrev pub IsFaultAt : Held → ℕ → Action → TokenFault → Type 0
+IsFaultAt held byte (Refuse wrong) fault = fault ≡ fault_of wrong
+IsFaultAt held byte End fault = IsFaultOf BadByte (ended (state_of held)) fault
+IsFaultAt held byte Close fault = IsFaultOf BadByte (closed held.mode (held.kept ++ byte ∷ [])) fault
+IsFaultAt held byte other fault = fault ≡ BadByte
+
 -- why a byte is refused
 abbrev pub RefusesByte : Held → ℕ → TokenFault → Type 0
 RefusesByte held byte fault = elim (cause_of fault) [
-  | of_form ↦ IsDeadAt held (byte ∷ []) × EndsNone held byte × IsInLimits held byte
+  | of_form ↦ IsDeadAt held (byte ∷ []) × EndsNone held byte × IsInLimits held byte × IsFaultAt held byte (advance held.mode byte) fault
   | of_end ↦ ⊥
   | of_statement ↦ (held.statement_limit ≤ pending_of held) × (is_token_byte held.mode (advance held.mode byte) ≡ true) × (advance held.mode byte ≢ End) × (held.file < held.file_limit)
   | of_file ↦ (held.file_limit ≤ held.file) × (advance held.mode byte ≢ End)

@@ -9,7 +9,7 @@ ghost use Rattle.p21_tokens.specs.Held.{file_limit_of, pending_of, record_limit_
 ghost use Rattle.p21_tokens_automaton.specs.Step.{advance};
 ghost use Rattle.p21_basics.specs.History.{empty};
 ghost use Rattle.p21_tokens.specs.declared.fault.TokenFault.{TokenFault};
-ghost use Rattle.p21_tokens.specs.Histories.{FinishGives, IsPendingBehind, KeepsLimits, NeedsNoMemory, NextGives, RefusesAgain, Stands, TakesNoMore, TakesOf, TokenHistory};
+ghost use Rattle.p21_tokens.specs.Histories.{FinishGives, FinishNames, IsPendingBehind, KeepsLimits, NeedsNoMemory, NextGives, RefusesAgain, Stands, TakesNoMore, TakesOf, TokenHistory};
 ghost use Rattle.p21_tokens.specs.Steps.{Closes, Ends, LacksMemory, Runs, Scans, Steps, Walks, behind_token, is_token_byte, with_characters, with_kept};
 ghost use Rattle.p21_tokens.specs.Token.{meant};
 
@@ -505,6 +505,7 @@ impl Lexer {
     /// `EndsEarly` inside any other token or behind a lone `/`, `NoMemory`; the refusal of an earlier call.
     pub fn finish(self) -> Result<Option<Token>, TokenFault>
         ensures history { FinishGives self result }
+        ensures names { FinishNames self result }
         ensures again { (fault : TokenFault) → refusal_of self ≡ Some fault → result ≡ Err fault }
     {
         if let Some(fault) = self.refused {

@@ -28,7 +28,10 @@ pub fn canonical_param(alloc: Global, text: &[u8]) -> Result<Vec<u8>, TokenFault
     if text.len() > LONGEST {
         return Err(TokenFault::FileTooLong);
     }
-    let token = one_scalar(alloc, text)?;
+    let token = match one_scalar(alloc, text) {
+        Ok(token) => token,
+        Err(fault) => return Err(fault),
+    };
     let mut answer = Vec::new(alloc);
     token.write_canonical(&mut answer)?;
     Ok(answer)

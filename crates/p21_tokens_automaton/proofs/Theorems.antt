@@ -106,6 +106,13 @@ form-ends e bytes byte t form n m =
     let w = waits-form d bytes form in
     subst (λ (x : State). advance x.mode byte ≡ End) (same-waits e bytes t (real d) w) (w.ends byte (n, m))
 
+-- the end of a real is found as one, in range or not
+pub form-found : (e : State) (bytes : List ℕ) → TailIs e (unfinished bytes) → RealForm bytes → ended e ≡ Some (found_of (real (record { significand = pos 0; exponent = pos 0 })) bytes)
+form-found e bytes t form =
+    let d : Decimal = record { significand = pos 0; exponent = pos 0 } in
+    let w = waits-form d bytes form in
+    subst (λ (x : State). ended x ≡ Some (found_of (real d) bytes)) (same-waits e bytes t (real d) w) w.ended_is
+
 -- what a byte does behind an unfinished token
 pub steps-on : (e : State) (bytes : List ℕ) (byte : ℕ) → TailIs e (unfinished bytes) → StepFits e.mode e.kept e.characters bytes byte (advance e.mode byte)
 steps-on e bytes byte t = mode-fits text-fits e.mode byte e.kept e.characters bytes t.0

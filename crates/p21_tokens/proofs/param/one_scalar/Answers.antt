@@ -47,7 +47,7 @@ pub loop-rest-preserved : goal.loop-rest-preserved
 loop-rest-preserved c = kept-some c.loop-rest.lexer c.next.new.self c.args.text.now c.loop-rest.rest.now c.loop-rest.found c.in-Ok-default-Some.taken c.in-Ok-default-Some.token c.loop-rest.invariant (some c.loop-rest.rest.now c.loop-rest-test.ensures) (subst (λ (o : Option TokenRead). NextGives c.loop-rest.lexer c.loop-rest.rest.now (Ok (c.in-Ok-default-Some.taken, o)) c.next.new.self) c.in-Ok-default-Some.field-0-1-is (c.in-Ok-default-Some.ensures {u = tt}).history) (not-found c.loop-rest.found c.if-is_some.ensures) (c.if-not-is_scalar.ensures.0 refl) c.next.ensures.limits.0 c.next.ensures.limits.1
 
 pub returns-in-Err-finish : goal.returns-in-Err-finish
-returns-in-Err-finish c = finds-end c.loop-rest.lexer c.args.text.now c.loop-rest.rest.now c.loop-rest.found c.loop-rest.invariant (none c.loop-rest.rest.now c.loop-rest-test.ensures) c.in-Err-finish.fault (c.in-Err-finish.ensures {u = tt}).history
+returns-in-Err-finish c = finds-end c.loop-rest.lexer c.args.text.now c.loop-rest.rest.now c.loop-rest.found c.loop-rest.invariant (none c.loop-rest.rest.now c.loop-rest-test.ensures) c.in-Err-finish.fault (c.in-Err-finish.ensures {u = tt}).history (c.in-Err-finish.ensures {u = tt}).names
 
 pub returns : goal.returns
 returns c = finds-only c.args.text.now c.loop-rest.found c.in-Ok.last c.only.result c.loop-rest.invariant.scalar (ends-unfinished c.loop-rest.lexer c.args.text.now c.loop-rest.rest.now c.loop-rest.found c.loop-rest.invariant (none c.loop-rest.rest.now c.loop-rest-test.ensures)) (tokens-are c.loop-rest.lexer c.args.text.now c.loop-rest.rest.now c.loop-rest.found c.loop-rest.invariant (none c.loop-rest.rest.now c.loop-rest-test.ensures) c.in-Ok.last (c.in-Ok.ensures {u = tt}).history) c.only.ensures
