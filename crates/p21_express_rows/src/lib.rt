@@ -2,6 +2,8 @@
 #![tactic(auto)]
 
 #[cfg(test)]
+mod lookups;
+#[cfg(test)]
 mod meeting;
 #[cfg(test)]
 mod refusals;

@@ -84,6 +84,85 @@ fn looks_for_duplicates_first(rt: HostRuntime) -> Result<(), Fail> {
     expect(&rt, rt.alloc(), &rows)
 }
 
+/// Each kind of duplicate behind a name that isn't declared.
+#[test]
+fn finds_each_duplicate_behind_another_fault(rt: HostRuntime) -> Result<(), Fail> {
+    let rows = [
+        "ENTITY a; x, y, x : REAL; END_ENTITY;",
+        "ENTITY a; x : REAL; DERIVE x : REAL := 0.0; END_ENTITY;",
+        "ENTITY a; DERIVE x : REAL := 0.0; y : REAL := 0.0; X : REAL := 0.0; END_ENTITY;",
+        "ENTITY a SUBTYPE OF (u, u); END_ENTITY;",
+        "ENTITY a SUPERTYPE OF (ONEOF (a, u, a)); END_ENTITY;",
+        "TYPE t = ENUMERATION OF (red, green, red); END_TYPE;",
+        "TYPE t = SELECT (u, u); END_TYPE;",
+        "TYPE u = REAL; END_TYPE;",
+    ];
+    for declaration in rows {
+        let text = format!(in rt.alloc(); "ENTITY u; z : foo; END_ENTITY; {declaration}")?;
+        let answer = refusal(rt.alloc(), &text)?;
+        assert_eq!(rt; answer, Some(SchemaFault::Duplicate), "{declaration}");
+    }
+    Ok(())
+}
+
+/// Redeclarations in a diamond, behind a name that isn't declared.
+#[test]
+fn finds_each_place_redeclared_twice(rt: HostRuntime) -> Result<(), Fail> {
+    let rows = [
+        ("SELF\\r.k, SELF\\r.k : REAL;", SchemaFault::Duplicate),
+        (
+            "SELF\\c.k : REAL; DERIVE SELF\\r.k : REAL := 0.0;",
+            SchemaFault::Duplicate,
+        ),
+        (
+            "DERIVE SELF\\a.k : REAL := 0.0; SELF\\b.k : REAL := 0.0;",
+            SchemaFault::Duplicate,
+        ),
+        ("SELF\\b.l, SELF\\b.l : REAL;", SchemaFault::Duplicate),
+        ("SELF\\a.l, SELF\\b.l : REAL;", SchemaFault::UnknownName),
+        ("SELF\\c.l, SELF\\c.l : REAL;", SchemaFault::UnknownName),
+        ("SELF\\r.k, k : REAL;", SchemaFault::UnknownName),
+    ];
+    for (declared, fault) in rows {
+        let text = format!(in rt.alloc();
+            "TYPE t = foo; END_TYPE; ENTITY r; k : REAL; END_ENTITY; ENTITY a SUBTYPE OF (r); l : REAL; END_ENTITY; ENTITY b SUBTYPE OF (r); l : REAL; END_ENTITY; ENTITY c SUBTYPE OF (a, b); END_ENTITY; ENTITY d SUBTYPE OF (c); {declared} END_ENTITY;"
+        )?;
+        let answer = refusal(rt.alloc(), &text)?;
+        assert_eq!(rt; answer, Some(fault), "{declared}");
+    }
+    Ok(())
+}
+
+/// Names that only redeclarations have.
+#[test]
+fn finds_unknown_names_of_redeclarations_first(rt: HostRuntime) -> Result<(), Fail> {
+    let rows = [
+        "SELF\\r.k : foo;",
+        "SELF\\foo.k : REAL;",
+        "DERIVE SELF\\foo.k : REAL := 0.0;",
+        "SELF\\r.k : LIST OF foo;",
+    ];
+    let others = [
+        "TYPE t = t; END_TYPE;",
+        "TYPE s = SELECT (r); END_TYPE; TYPE t = s; END_TYPE;",
+        "ENTITY b; SELF\\r.k : REAL; END_ENTITY;",
+    ];
+    for declared in rows {
+        for other in others {
+            let text = format!(in rt.alloc();
+                "ENTITY r; k : REAL; END_ENTITY; {other} ENTITY a SUBTYPE OF (r); {declared} END_ENTITY;"
+            )?;
+            let answer = refusal(rt.alloc(), &text)?;
+            assert_eq!(rt;
+                answer,
+                Some(SchemaFault::UnknownName),
+                "{other} {declared}"
+            );
+        }
+    }
+    Ok(())
+}
+
 /// Also where one place is redeclared twice, in a schema that is wrong elsewhere.
 #[test]
 fn looks_for_places_redeclared_twice(rt: HostRuntime) -> Result<(), Fail> {

@@ -1,9 +1,15 @@
 mod demo;
+mod long;
+mod needs;
+mod places;
+mod sameness;
+mod schemas;
+mod values;
 
 use p21_canon::write_record;
 use p21_express::read_schema;
 use p21_express_tables::Schema;
-use p21_grammar::{Event, Lexer, Limits, Name, Parser, Record, Token};
+use p21_grammar::{Canonical, Event, Lexer, Limits, Name, Parser, Record, Token};
 use p21_mapping::{CheckFault, Need, check_moved, check_record};
 use std::alloc::Global;
 use std::process::Abort;
@@ -49,6 +55,15 @@ impl Reader {
         self.last = self.parser.take(token)?;
         Ok(())
     }
+
+    /// The instance that ended with the last token.
+    fn end(self) -> Result<Instance, Fail> {
+        let Reader { last, .. } = self;
+        match last {
+            Some(event) => instance_of(event),
+            None => Err(Fail::from("no statement")),
+        }
+    }
 }
 
 /// An instance.
@@ -58,16 +73,19 @@ struct Instance {
     record: Record,
 }
 
-/// The instance that a text is.
-fn read_instance(alloc: Global, text: &[u8]) -> Result<Instance, Fail> {
+/// The instance that texts are, one behind the other.
+fn read_pieces(alloc: Global, pieces: &[&[u8]]) -> Result<Instance, Fail> {
     let mut reader = Reader::new(alloc);
     reader.feed(HEAD.as_bytes())?;
-    reader.feed(text)?;
-    let Reader { last, .. } = reader;
-    match last {
-        Some(event) => instance_of(event),
-        None => Err(Fail::from("no statement")),
+    for piece in pieces {
+        reader.feed(piece)?;
     }
+    reader.end()
+}
+
+/// The instance that a text is.
+fn read_instance(alloc: Global, text: &[u8]) -> Result<Instance, Fail> {
+    read_pieces(alloc, &[text])
 }
 
 fn instance_of(event: Event) -> Result<Instance, Fail> {
@@ -145,4 +163,10 @@ fn expect(
         }
     }
     Ok(())
+}
+
+/// Looks that each instance has the answer beside it under the schema of a text.
+fn under(rt: &impl Abort, alloc: Global, schema: &str, rows: &[(&str, &str)]) -> Result<(), Fail> {
+    let schema = read_schema(alloc, schema.as_bytes())?;
+    expect(rt, alloc, &schema, rows)
 }

@@ -1,0 +1,12 @@
+use Rattle.std.specs.Prelude.{List}
+use Rattle.std.proofs.Common.{subst, sym}
+use Rattle.p21_express_tables.specs.Lookups.{AreEntities}
+use Rattle.p21_express_tables.specs.Orders.{numbers}
+use Rattle.p21_express_types.specs.declared.number.EntityId.{EntityId}
+use Rattle.p21_express_rows.proofs.Adding.{entities-more}
+use Rattle.p21_express_rows.proofs.lookups.entities_named.Goals as goal
+
+pub loop-name-preserved : goal.loop-name-preserved
+loop-name-preserved g c =
+    let P : List EntityId → Type 0 = λ es. AreEntities c.args.schema.now (numbers es) in
+    subst P (sym c.in_ok-push.ensures.items) (entities-more c.args.schema.now c.loop-name.entities.items c.entity_named.result c.loop-name.invariant c.entity_named.ensures)

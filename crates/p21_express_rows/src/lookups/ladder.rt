@@ -1,0 +1,69 @@
+//! Levels of two entities, each of them a subtype of both of the level before: as many ways up as two to the power of the
+//! levels.
+use super::{entity_named, names_of};
+use p21_express::read_schema;
+use p21_express_tables::Schema;
+use std::alloc::Global;
+use std::test::Fail;
+
+const LEVELS: usize = 31;
+
+fn ladder(alloc: Global) -> Result<Schema, Fail> {
+    let mut text = String::new(alloc);
+    text.push_str(
+        "SCHEMA ladder; ENTITY a0; x : INTEGER; END_ENTITY; ENTITY b0; x : INTEGER; END_ENTITY;",
+    )?;
+    for below in 1..LEVELS {
+        let above = below - 1;
+        let a = format!(in alloc;
+            "ENTITY a{below} SUBTYPE OF (a{above}, b{above}); x : INTEGER; END_ENTITY;"
+        )?;
+        text.push_str(&a)?;
+        let b = format!(in alloc;
+            "ENTITY b{below} SUBTYPE OF (a{above}, b{above}); x : INTEGER; END_ENTITY;"
+        )?;
+        text.push_str(&b)?;
+    }
+    text.push_str("END_SCHEMA;")?;
+    Ok(read_schema(alloc, text.as_bytes())?)
+}
+
+/// The names of both entities of each level but the last, and that of the first of the last.
+fn rungs(alloc: Global) -> Result<String, Fail> {
+    let mut names = String::new(alloc);
+    for level in 0..LEVELS - 1 {
+        let both = format!(in alloc; "A{level} B{level} ")?;
+        names.push_str(&both)?;
+    }
+    names.push_str("A30 ")?;
+    Ok(names)
+}
+
+#[test]
+fn orders_the_ladder(rt: HostRuntime) -> Result<(), Fail> {
+    let schema = ladder(rt.alloc())?;
+    let top = entity_named(&rt, &schema, "A30");
+    let wanted = rungs(rt.alloc())?;
+    let order = names_of(&rt, rt.alloc(), &schema, &schema.order(top)?)?;
+    assert_eq!(rt; order.as_str(), wanted.as_str());
+    let places = schema.places(top)?;
+    assert_eq!(rt; places.len(), 61);
+    for (place, entity) in places.iter().zip(schema.order_of(top)) {
+        assert_eq!(rt; place.entity, *entity);
+        assert_eq!(rt; place.index, 0);
+    }
+    Ok(())
+}
+
+#[test]
+fn looks_up_the_ladder(rt: HostRuntime) -> Result<(), Fail> {
+    let schema = ladder(rt.alloc())?;
+    let top = entity_named(&rt, &schema, "A30");
+    let beside = entity_named(&rt, &schema, "B30");
+    let first = entity_named(&rt, &schema, "B0");
+    assert!(rt; schema.is_a(top, first));
+    assert!(rt; !schema.is_a(top, beside));
+    let faults = schema.own_faults(top);
+    assert!(rt; !faults.leaves_open && !faults.clashes);
+    Ok(())
+}
