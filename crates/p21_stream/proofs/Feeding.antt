@@ -62,11 +62,6 @@ refused-by s limits start new CanonicalTooLong of refused = refused (λ e. cc e)
 refused-by s limits start new Dangling of refused = refused (λ e. cc e)
 refused-by s limits start new WrongTarget of refused = refused (λ e. cc e)
 
--- want of memory stays so
-pub of-memory : (fault was : Fault) → (fault ≡ was) ⊎ (fault ≡ NoMemory) → was ≡ NoMemory → fault ≡ NoMemory
-of-memory fault was (inl is) none = is ∙ none
-of-memory fault was (inr is) none = is
-
 -- ---- bytes
 
 -- the items of a buffer are bytes
@@ -85,25 +80,23 @@ pub dead-text : (s : Schema) (limits : Limits) (text : List ℕ) (count : ℕ) �
 dead-text s limits text count fits dead accepted = dead-piece s limits [] text count (each-byte text fits) dead [] tt (subst (IsAccepted s limits) (sym (append-nil text)) accepted)
 
 -- a piece with which nothing that is accepted goes on
-pub piece-refused : (before after : SessionHeld) (piece : List ℕ) (refusal : Refusal) (fault : Fault) → ((i : ℕ) → Fits w8 (slice_index_or piece i 0)) → IsOfBytes fault → (fault ≡ refusal.fault) ⊎ (fault ≡ NoMemory) → FeedGives before piece (Err refusal) after
-    → RefusesPiece before piece fault
-piece-refused before after piece refusal fault fits of is gives old new more start size along =
+pub piece-refused : (before after : SessionHeld) (piece : List ℕ) (refusal : Refusal) → ((i : ℕ) → Fits w8 (slice_index_or piece i 0)) → IsOfBytes refusal.fault → FeedGives before piece (Err refusal) after → RefusesPiece before piece refusal.fault
+piece-refused before after piece refusal fits of gives old new more start size along =
     let r = gives (taken_all along.bytes) along.stands refl in
-    refused-by (schema_of before) (limits_of before) start new fault of (λ other. record {
+    refused-by (schema_of before) (limits_of before) start new refusal.fault of (λ other. record {
       bytes = along.bytes ++ piece;
       consumed = Consumes-trans start old new along.bytes piece along.consumed more;
-      refused = inl (dead-piece (schema_of before) (limits_of before) along.bytes piece r.count (each-byte piece fits) (r.dead (λ none. other (of-memory fault refusal.fault is none))));
+      refused = inl (dead-piece (schema_of before) (limits_of before) along.bytes piece r.count (each-byte piece fits) (r.dead other));
     })
 
 -- ---- the end
 
-pub whole-refused : (old new : Option (List ℕ)) (session : SessionHeld) (refusal : Refusal) (fault : Fault) → IsAlongWhole old new session → IsOfBytes fault → (fault ≡ refusal.fault) ⊎ (fault ≡ NoMemory) → FinishGives session (Err refusal)
-    → RefusesRead (schema_of session) (limits_of session) old new fault
-whole-refused old new session refusal fault whole of is gives =
-    refused-by (schema_of session) (limits_of session) old new fault of (λ other. record {
+pub whole-refused : (old new : Option (List ℕ)) (session : SessionHeld) (refusal : Refusal) → IsAlongWhole old new session → IsOfBytes refusal.fault → FinishGives session (Err refusal) → RefusesRead (schema_of session) (limits_of session) old new refusal.fault
+whole-refused old new session refusal whole of gives =
+    refused-by (schema_of session) (limits_of session) old new refusal.fault of (λ other. record {
       bytes = whole.bytes;
       consumed = whole.read.consumed;
-      refused = inr (whole.read.at_end, gives (λ none. other (of-memory fault refusal.fault is none)) (taken_all whole.bytes) whole.stands);
+      refused = inr (whole.read.at_end, gives other (taken_all whole.bytes) whole.stands);
     })
 
 pub whole-accepted : (old new : Option (List ℕ)) (session : SessionHeld) (output : Output) → IsAlongWhole old new session → FinishGives session (Ok output) → IsAcceptedRead (schema_of session) (limits_of session) old new output

@@ -1,25 +1,24 @@
 -- A text that is fed in one piece.
-use Rattle.std.proofs.Common.{◌≡◌, ◌≢◌, ◌⊎◌, ℕ, List, Ok, Err, refl, sym, subst, ◌∙◌, slice_index_or, Fits, w8}
+use Rattle.std.proofs.Common.{◌≡◌, ◌≢◌, ℕ, List, Ok, Err, refl, sym, subst, ◌∙◌, slice_index_or, Fits, w8}
 use Rattle.p21_basics.specs.Limits.{Limits}
 use Rattle.p21_files.specs.Accepted.{IsAccepted, IsCanonicalFile}
 use Rattle.p21_schemas.specs.Schema.{Schema}
 use Rattle.p21_schemas.specs.WellFormed.{IsWellFormed}
 use Rattle.p21_stream.proofs.Canonicals.{only-canonical}
-use Rattle.p21_stream.proofs.Feeding.{dead-text, of-memory}
+use Rattle.p21_stream.proofs.Feeding.{dead-text}
 use Rattle.p21_stream.specs.Answers.{IsOnlyCanonicalFile}
 use Rattle.p21_stream_accepted.specs.Output.{Output, output_text}
-use Rattle.p21_stream_fault.specs.declared.fault.Fault.{Fault}
 use Rattle.p21_stream_fault.specs.declared.fault.Fault.TheVariants.{NoMemory}
 use Rattle.p21_stream_fault.specs.declared.refusal.Refusal.{Refusal}
 use Rattle.p21_stream_session.specs.Held.{SessionHeld, limits_of, schema_of}
 use Rattle.p21_stream_session.specs.Histories.{FeedGives, FinishGives, KeepsSchema, Stands, fed, nothing_taken}
 
-pub text-refused : (s : Schema) (limits : Limits) (session after : SessionHeld) (text : List ℕ) (refusal : Refusal) (fault : Fault) → schema_of session ≡ s → limits_of session ≡ limits → Stands session nothing_taken → ((i : ℕ) → Fits w8 (slice_index_or text i 0))
-    → (fault ≡ refusal.fault) ⊎ (fault ≡ NoMemory) → FeedGives session text (Err refusal) after → fault ≢ NoMemory → ¬ IsAccepted s limits text
-text-refused s limits session after text refusal fault is_schema are_limits stands fits is gives other accepted =
+pub text-refused : (s : Schema) (limits : Limits) (session after : SessionHeld) (text : List ℕ) (refusal : Refusal) → schema_of session ≡ s → limits_of session ≡ limits → Stands session nothing_taken → ((i : ℕ) → Fits w8 (slice_index_or text i 0))
+    → FeedGives session text (Err refusal) after → refusal.fault ≢ NoMemory → ¬ IsAccepted s limits text
+text-refused s limits session after text refusal is_schema are_limits stands fits gives other accepted =
     let r = gives nothing_taken stands refl in
     let held : IsAccepted (schema_of session) (limits_of session) text = subst (λ (l : Limits). IsAccepted (schema_of session) l text) (sym are_limits) (subst (λ (t : Schema). IsAccepted t limits text) (sym is_schema) accepted) in
-    dead-text (schema_of session) (limits_of session) text r.count fits (r.dead (λ none. other (of-memory fault refusal.fault is none))) held
+    dead-text (schema_of session) (limits_of session) text r.count fits (r.dead other) held
 
 pub text-accepted : (s : Schema) → IsWellFormed s → (limits : Limits) (session after : SessionHeld) (text out : List ℕ) (output : Output) → schema_of session ≡ s → limits_of session ≡ limits → KeepsSchema session after → Stands session nothing_taken → FeedGives session text (Ok tt) after
     → FinishGives after (Ok output) → out ≡ output_text output → IsOnlyCanonicalFile s limits text out

@@ -7,6 +7,7 @@ use Rattle.p21_schemas.specs.Schema.{Schema}
 use Rattle.p21_stream_fault.specs.declared.fault.Fault.{Fault}
 use Rattle.p21_stream_fault.specs.declared.fault.Fault.TheVariants.{NoMemory, Read, Write}
 use Rattle.p21_stream_accepted.specs.Output.{Output}
+pub use Rattle.p21_stream_fault.specs.Source.{IsOfBytes}
 use Rattle.p21_stream_io.specs.Watch.{counted}
 use Rattle.p21_stream_session.specs.Canonical.{IsCanonicalOutput}
 
@@ -37,12 +38,6 @@ RefusesRead s limits old new NoMemory = Unit {0}
 RefusesRead s limits old new Read = Unit {0}
 RefusesRead s limits old new Write = ⊥
 RefusesRead s limits old new fault = IsRefused s limits old new
-
--- the fault is none of a reader or a writer
-abbrev pub IsOfBytes : Fault → Type 0
-IsOfBytes Read = ⊥
-IsOfBytes Write = ⊥
-IsOfBytes fault = Unit {0}
 
 -- the failures of a reader behind a fault: one more where a read failed
 abbrev pub read_failures : ℕ → Fault → ℕ

@@ -1,8 +1,7 @@
 //! Reading a file to its end.
-ghost use Rattle.std.specs.Prelude.{◌≡◌, ◌≤◌, ◌+◌, ◌<◌, ◌⊎◌, length, IfErr, IfOk, Ok, OnOk};
+ghost use Rattle.std.specs.Prelude.{◌≡◌, ◌≤◌, ◌+◌, ◌<◌, length, IfErr, IfOk, Ok, OnOk};
 ghost use Rattle.p21_stream.specs.Feeding.{FeedsOn, IsAlongWhole, RefusesOn, RefusesPiece, TakesAtMost};
 ghost use Rattle.p21_stream.specs.Reading.{ConsumesAtMost, IsAcceptedRead, IsOfBytes, RefusesRead, read_failures};
-ghost use Rattle.p21_stream_fault.specs.declared.fault.Fault.TheVariants.{NoMemory};
 ghost use Rattle.p21_stream_session.specs.Held.{limits_of, schema_of};
 ghost use Rattle.p21_stream_session.specs.Histories.{FeedGives, KeepsSchema, Stands, nothing_taken};
 
@@ -70,7 +69,7 @@ pub(crate) fn read_file<R: Read>(
     let statement = session.statement();
     match session.finish() {
         Ok(accepted) => Ok((accepted, statement)),
-        Err(refusal) => Err(of_bytes(refusal)),
+        Err(refusal) => Err(refusal),
     }
 }
 
@@ -145,20 +144,6 @@ fn feed(session: &mut Session<'_>, piece: &[u8]) -> Result<(), Refusal>
 {
     match session.feed(piece) {
         Ok(()) => Ok(()),
-        Err(refusal) => Err(of_bytes(refusal)),
-    }
-}
-
-/// The refusal of a session, which reads and writes nothing itself.
-pub(crate) fn of_bytes(refusal: Refusal) -> Refusal
-    ensures kind { IsOfBytes result.fault }
-    ensures fault { (result.fault ≡ refusal.fault) ⊎ (result.fault ≡ NoMemory) }
-{
-    match refusal.fault {
-        Fault::Read | Fault::Write => Refusal {
-            fault: Fault::NoMemory,
-            at: refusal.at,
-        },
-        _ => refusal,
+        Err(refusal) => Err(refusal),
     }
 }

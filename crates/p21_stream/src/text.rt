@@ -5,7 +5,6 @@ ghost use Rattle.p21_stream.specs.Answers.{HasOneMeaning, IsOnlyCanonicalFile};
 ghost use Rattle.p21_stream.specs.Reading.{IsOfBytes};
 ghost use Rattle.p21_stream_accepted.specs.Output.{output_text};
 
-use crate::read::of_bytes;
 use p21_express_tables::Schema;
 use p21_stream_accepted::Accepted;
 use p21_stream_fault::{At, Fault, Refusal};
@@ -34,12 +33,12 @@ pub fn canonical(
     let mut session = Session::new(alloc, schema, limits);
     match session.feed(text) {
         Ok(()) => {}
-        Err(refusal) => return Err(of_bytes(refusal)),
+        Err(refusal) => return Err(refusal),
     }
     let statement = session.statement();
     let accepted = match session.finish() {
         Ok(accepted) => accepted,
-        Err(refusal) => return Err(of_bytes(refusal)),
+        Err(refusal) => return Err(refusal),
     };
     match text_of(alloc, &accepted) {
         Ok(text) => Ok(text),

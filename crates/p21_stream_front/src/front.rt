@@ -1,5 +1,6 @@
-ghost use Rattle.std.specs.Prelude.{◌≡◌, ◌≤◌, ◌+◌, [], length, None};
+ghost use Rattle.std.specs.Prelude.{◌≡◌, ◌≤◌, ◌+◌, [], length, IfErr, None};
 ghost use Rattle.p21_exchange.specs.OpenNesting.{IsDepth};
+ghost use Rattle.p21_stream_fault.specs.Source.{IsOfBytes};
 ghost use Rattle.p21_stream_front.specs.Front.{FinishGives, HasOpen, IsLive, NeedsNoMemory, Reading, StepGives, TakesOf, limits_of, new_reading};
 
 use p21_grammar::{Event, GrammarFault, Line, Parser};
@@ -50,6 +51,7 @@ impl Front {
         ensures gives { StepGives self.old piece.now result self.new }
         ensures limits { limits_of self.new ≡ limits_of self.old }
         ensures no_memory { NeedsNoMemory self.old piece.now result }
+        ensures kind { IfErr result (λ fault. IsOfBytes fault) }
     {
         let (count, token) = match self.lexer.next(piece) {
             Ok(answer) => answer,
@@ -74,6 +76,7 @@ impl Front {
     /// The lexer's, `EndsEarly`, or the parser's at a last token.
     pub fn finish(self) -> Result<(), Fault>
         ensures gives { FinishGives self result }
+        ensures kind { IfErr result (λ fault. IsOfBytes fault) }
     {
         let Front {
             lexer,
@@ -111,7 +114,9 @@ impl Front {
 }
 
 /// The fault of a last token, behind which no `;` stands.
-fn last_fault(mut parser: Parser, token: Token, ended: bool) -> Fault {
+fn last_fault(mut parser: Parser, token: Token, ended: bool) -> Fault
+    ensures { IsOfBytes result }
+{
     if !ended {
         return Fault::Grammar(GrammarFault::EndsEarly);
     }

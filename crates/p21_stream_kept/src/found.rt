@@ -1,4 +1,6 @@
+ghost use Rattle.std.specs.Prelude.{IfErr};
 ghost use Rattle.p21_grammar_tree.specs.View.{record_view};
+ghost use Rattle.p21_stream_fault.specs.Source.{IsOfBytes};
 ghost use Rattle.p21_stream_kept.specs.Found.{FindsInstance};
 
 use p21_canon_record::write_record;
@@ -30,7 +32,8 @@ pub(crate) fn found_of(
     name: Name,
     of: Record,
 ) -> Result<Found, Fault>
-    ensures { FindsInstance schema.now name (record_view of) result }
+    ensures finds { FindsInstance schema.now name (record_view of) result }
+    ensures kind { IfErr result (λ fault. IsOfBytes fault) }
 {
     let (typed, needs) = match check_moved(alloc, schema, of) {
         Ok(checked) => checked,

@@ -1,9 +1,10 @@
-ghost use Rattle.std.specs.Prelude.{◌≡◌, ◌≤◌, OnErr, OnOk};
+ghost use Rattle.std.specs.Prelude.{◌≡◌, ◌≤◌, IfErr, OnErr, OnOk};
 ghost use Rattle.p21_claim_steps.specs.Keeping.{nothing_kept};
 ghost use Rattle.p21_exchange.specs.Statement.{data_start, header, instance, section};
 ghost use Rattle.p21_grammar_machine.specs.Shape.{heading_of};
 ghost use Rattle.p21_grammar_machine.specs.Statements.{line_of};
 ghost use Rattle.p21_grammar_tree.specs.View.{items_of, part_view, record_view, views};
+ghost use Rattle.p21_stream_fault.specs.Source.{IsOfBytes};
 ghost use Rattle.p21_stream_kept.specs.Served.{AnswersUnserved};
 ghost use Rattle.p21_stream_kept.specs.Steps.{StepGives, StepKeepsBound, TakesLine};
 
@@ -93,6 +94,7 @@ impl Kept {
     pub fn take_line(&mut self, limits: Limits, line: Line) -> Result<(), Fault>
         ensures gives { TakesLine limits self.old (line_of line) result self.new }
         ensures bound { StepKeepsBound limits self.old self.new }
+        ensures kind { IfErr result (λ fault. IsOfBytes fault) }
     {
         let size = line_size(line);
         if !has_room(limits, self.bytes, self.framing, size) {
@@ -114,6 +116,7 @@ impl Kept {
     pub fn take_heading(&mut self, schema: &Schema, limits: Limits, part: Part) -> Result<(), Fault>
         ensures gives { StepGives schema.now limits self.old (section (data_start (heading_of (views (items_of part.params))))) result self.new }
         ensures bound { StepKeepsBound limits self.old self.new }
+        ensures kind { IfErr result (λ fault. IsOfBytes fault) }
     {
         let Some((name, text)) = heading(&part) else {
             return self.take_line(limits, Line::DataStart);
@@ -147,6 +150,7 @@ impl Kept {
     pub fn take_header(&mut self, schema: &Schema, limits: Limits, part: &Part) -> Result<(), Fault>
         ensures gives { StepGives schema.now limits self.old (header (part_view part.now)) result self.new }
         ensures bound { StepKeepsBound limits self.old self.new }
+        ensures kind { IfErr result (λ fault. IsOfBytes fault) }
     {
         if !has_schema_name(part, schema.name()) {
             return Err(Fault::SchemaName);
@@ -177,6 +181,7 @@ impl Kept {
     ) -> Result<(), Fault>
         ensures gives { StepGives schema.now limits self.old (instance name (record_view of)) result self.new }
         ensures bound { StepKeepsBound limits self.old self.new }
+        ensures kind { IfErr result (λ fault. IsOfBytes fault) }
     {
         if has_instance(&self.instances, name) {
             return Err(Fault::DuplicateName);

@@ -6,22 +6,26 @@ use Rattle.p21_claim.proofs.Ending.{dead-refused}
 use Rattle.p21_claim.specs.Ended.{Block}
 use Rattle.p21_claim_steps.proofs.Keeps.{keeps-accepted}
 use Rattle.p21_claim_steps.specs.Keeping.{AreBlocksOf, IsServedBy, Keeps, Kept, text_with}
+use Rattle.p21_claim_steps.specs.Stored.{Stored}
 use Rattle.p21_claim_steps.specs.Waiting.{Reference}
 use Rattle.p21_exchange.specs.Laying.{AreStatementsWithin, Laid}
 use Rattle.p21_exchange.specs.Statement.{Statement}
 use Rattle.p21_exchange.specs.Structure.{tokens_of}
 use Rattle.p21_exchange.specs.Token.{Token}
 use Rattle.p21_files.specs.Accepted.{IsCanonicalFile}
+use Rattle.p21_files.specs.Reference.{Need}
 use Rattle.p21_schemas.specs.Schema.{Schema}
 use Rattle.p21_schemas.specs.WellFormed.{IsWellFormed}
 use Rattle.p21_stream_accepted.specs.Output.{Output}
 use Rattle.p21_stream_ending.specs.Ending.{IsEndOf}
+use Rattle.p21_stream_fault.specs.Source.{IsOfBytes}
 use Rattle.p21_stream_fault.specs.declared.fault.Fault.{Fault}
+use Rattle.p21_stream_fault.specs.declared.fault.Fault.TheVariants as faults
 use Rattle.p21_stream_fault.specs.declared.refusal.Refusal.{Refusal}
 use Rattle.p21_stream_front.specs.Front as front
 use Rattle.p21_stream_front.specs.Front.{IsWhole, Reading, limits_of}
 use Rattle.p21_stream_kept.proofs.Unserved.{unserved-not_accepted}
-use Rattle.p21_stream_kept.specs.Served.{IsFirstUnserved}
+use Rattle.p21_stream_kept.specs.Served.{IsFirstUnserved, RefusesNeed}
 use Rattle.p21_stream_session.proofs.Instances.{are-instances}
 use Rattle.p21_stream_session.proofs.Within.{source-within, statements-within}
 use Rattle.p21_stream_session.specs.Held.{SessionHeld}
@@ -63,6 +67,24 @@ pub reference-refused : (s : Schema) → IsWellFormed s → (held : front.Held) 
 reference-refused s formed held kept refusal ends holder fault is other limits taken given live =
     let w = ends (record { taken = taken; seen = None; given = given }) live.reads refl in
     unserved-not_accepted s formed limits taken given kept live.keeps w.whole.structure w.whole.statements_are (tokens-laid taken given w) holder fault is
+
+-- none of a reader or a writer
+need-of_bytes : (s : Schema) (stored : List Stored) (need : Need) (fault : Fault) → RefusesNeed s stored need fault → IsOfBytes fault
+need-of_bytes s stored need (faults.Token fault) refuses = tt
+need-of_bytes s stored need (faults.Grammar fault) refuses = tt
+need-of_bytes s stored need (faults.Check fault) refuses = tt
+need-of_bytes s stored need faults.SchemaName refuses = tt
+need-of_bytes s stored need faults.SectionTwice refuses = tt
+need-of_bytes s stored need faults.DuplicateName refuses = tt
+need-of_bytes s stored need faults.CanonicalTooLong refuses = tt
+need-of_bytes s stored need faults.Dangling refuses = tt
+need-of_bytes s stored need faults.WrongTarget refuses = tt
+need-of_bytes s stored need faults.NoMemory refuses = tt
+need-of_bytes s stored need faults.Read refuses = refuses
+need-of_bytes s stored need faults.Write refuses = refuses
+
+pub reference-of_bytes : (s : Schema) (stored : List Stored) (waiting : List Reference) (holder : ℕ) (fault : Fault) → IsFirstUnserved s stored waiting holder fault → IsOfBytes fault
+reference-of_bytes s stored waiting holder fault is = need-of_bytes s stored is.need fault is.refused
 
 -- ---- by histories
 

@@ -4,6 +4,7 @@ use Rattle.p21_basics.specs.Limits.{Limits}
 use Rattle.p21_claim_steps.specs.Keeping.{Kept, nothing_kept}
 use Rattle.p21_files.specs.Held.{IsHeld}
 use Rattle.p21_schemas.specs.Schema.{Schema}
+use Rattle.p21_stream_fault.specs.Source.{IsOfBytes}
 use Rattle.p21_stream_fault.specs.declared.fault.Fault.{Fault}
 use Rattle.p21_stream_fault.specs.declared.fault.Fault.TheVariants.{Token, Grammar, Check, SchemaName, SectionTwice, DuplicateName, CanonicalTooLong, Dangling, WrongTarget, NoMemory, Read, Write}
 use Rattle.p21_stream_fault.specs.declared.refusal.Refusal.{Refusal}
@@ -51,7 +52,7 @@ module _ (s : Schema) (limits : Limits) (held : front.Held) (kept : Kept) (refus
   bounded-new =
       let bytes : kept.bytes ≡ 0 = ap (λ (k : Kept). k.bytes) nothing in
       let references : kept.references ≡ 0 = ap (λ (k : Kept). k.references) nothing in
-      record { limits_are = are; kept_within = omega (arith, bytes); needs_within = omega (arith, references); reads = λ same. (new_reading, refl, live-new) }
+      record { limits_are = are; kept_within = omega (arith, bytes); needs_within = omega (arith, references); reads = λ same. (new_reading, refl, live-new); of_bytes = λ r is. absurd (none-some r refused (sym none) is) }
 
 -- ---- a piece that is read
 
@@ -81,6 +82,7 @@ module _ (s : Schema) (limits : Limits) (held next : front.Held) (kept after : K
         kept_within = bound bounded.kept_within;
         needs_within = references-within s limits next after end whole.1;
         reads = λ _. (end, refl, whole.1);
+        of_bytes = λ r is. bounded.of_bytes r (sym same ∙ is);
       }
 
 -- ---- a piece that is refused
@@ -109,6 +111,19 @@ fed-refused s limits held next kept after end piece was refusal gives history st
         stands = (refl, (λ clash. absurd (none-some refusal None refl (sym clash))), λ r is _. d.dead);
       })
     ]
+
+pub bounded-refused : (s : Schema) (limits : Limits) (held next : front.Held) (kept end : Kept) (was : Option Refusal) (refusal : Refusal) → end ≡ nothing_kept → front.limits_of next ≡ front.limits_of held → IsOfBytes refusal.fault
+    → IsBounded (record { schema = s; limits = limits; front = held; kept = kept; refused = was }) → IsBounded (record { schema = s; limits = limits; front = next; kept = end; refused = Some refusal })
+bounded-refused s limits held next kept end was refusal nothing same of bounded =
+    let bytes : end.bytes ≡ 0 = ap (λ (k : Kept). k.bytes) nothing in
+    let references : end.references ≡ 0 = ap (λ (k : Kept). k.references) nothing in
+    record {
+      limits_are = same ∙ bounded.limits_are;
+      kept_within = omega (arith, bytes);
+      needs_within = omega (arith, references);
+      reads = λ clash. absurd (none-some refusal None refl (sym clash));
+      of_bytes = λ r is. let one : refusal ≡ r = cc in subst (λ (x : Refusal). IsOfBytes x.fault) one of;
+    }
 
 -- ---- separators
 

@@ -1,8 +1,9 @@
-ghost use Rattle.std.specs.Prelude.{◌≡◌, None, Some, Err};
+ghost use Rattle.std.specs.Prelude.{◌≡◌, IfErr, None, Some, Err};
 ghost use Rattle.p21_basics.specs.Limits.{Limits as MeantLimits};
 ghost use Rattle.p21_claim_steps.specs.Keeping.{nothing_kept};
 ghost use Rattle.p21_grammar_machine.specs.Statements.{statement_of};
 ghost use Rattle.p21_stream_front.specs.Front.{IsLive, limits_of, new_reading};
+ghost use Rattle.p21_stream_fault.specs.Source.{IsOfBytes};
 ghost use Rattle.p21_stream_fault.specs.declared.refusal.Refusal.{Refusal};
 ghost use Rattle.p21_stream_kept.specs.Steps as kept_steps;
 ghost use Rattle.p21_stream_kept.specs.Steps.{StepKeepsBound};
@@ -65,6 +66,7 @@ impl Progress {
         ensures checks { FeedChecks (held_in schema.now limits self.old) piece.now result }
         ensures no_memory { FeedNeedsNoMemory (held_in schema.now limits self.old) piece.now result }
         ensures again { RefusesAgain (held_in schema.now limits self.old) result (held_in schema.now limits self.new) }
+        ensures kind { IsBounded (held_in schema.now limits self.old) → IfErr result (λ refusal. IsOfBytes refusal.fault) }
         ensures bounded { IsBounded (held_in schema.now limits self.old) → IsBounded (held_in schema.now limits self.new) }
     {
         if let Some(refusal) = self.refused {
@@ -88,6 +90,7 @@ impl Progress {
     pub(crate) fn finish(self, schema: &Schema) -> Result<Accepted, Refusal>
         ensures gives { (limits : MeantLimits) → FinishGives (held_in schema.now limits self) result }
         ensures again { (limits : MeantLimits) → RefusesAtEnd (held_in schema.now limits self) result }
+        ensures kind { (limits : MeantLimits) → IsBounded (held_in schema.now limits self) → IfErr result (λ refusal. IsOfBytes refusal.fault) }
     {
         let Progress {
             alloc: _,
@@ -120,6 +123,7 @@ impl Progress {
     fn read(&mut self, schema: &Schema, limits: Limits, piece: &[u8]) -> Result<(), Refusal>
         ensures gives { ReadGives schema.now limits self.old.front self.old.kept piece.now result self.new.front self.new.kept }
         ensures no_memory { NeedsNoMemory schema.now limits self.old.front self.old.kept piece.now result }
+        ensures kind { IfErr result (λ refusal. IsOfBytes refusal.fault) }
         ensures bound { StepKeepsBound limits self.old.kept self.new.kept }
         ensures limits { limits_of self.new.front ≡ limits_of self.old.front }
         ensures refused { self.new.refused ≡ self.old.refused }
@@ -153,6 +157,7 @@ impl Progress {
         ensures takes { TakesOf piece.now result }
         ensures gives { StepGives schema.now limits self.old.front self.old.kept piece.now result self.new.front self.new.kept }
         ensures no_memory { NeedsNoMemory schema.now limits self.old.front self.old.kept piece.now result }
+        ensures kind { IfErr result (λ refusal. IsOfBytes refusal.fault) }
         ensures no_token { EndsNoToken schema.now limits self.old.front self.old.kept piece.now result }
         ensures bound { StepKeepsBound limits self.old.kept self.new.kept }
         ensures limits { limits_of self.new.front ≡ limits_of self.old.front }
@@ -183,6 +188,7 @@ impl Progress {
 /// Takes a statement.
 fn take(kept: &mut Kept, schema: &Schema, limits: Limits, event: Event) -> Result<(), Fault>
     ensures gives { kept_steps.StepGives schema.now limits kept.old (statement_of event) result kept.new }
+    ensures kind { IfErr result (λ fault. IsOfBytes fault) }
     ensures bound { StepKeepsBound limits kept.old kept.new }
 {
     match event {
@@ -200,19 +206,28 @@ fn take(kept: &mut Kept, schema: &Schema, limits: Limits, event: Event) -> Resul
 /// That of the reader; then the first reference in the file that no instance serves; `NoMemory`.
 fn end(front: Front, kept: Kept, statement: u64, schema: &Schema) -> Result<Accepted, Refusal>
     ensures gives { EndGives schema.now front kept result }
+    ensures kind { IfErr result (λ refusal. IsOfBytes refusal.fault) }
 {
     schema.well_formed();
     match front.finish() {
         Ok(()) => {}
         Err(fault) => return Err(refused(fault, None, statement)),
     }
-    if let Some((holder, fault)) = kept.first_unserved(schema) {
-        return Err(refused(fault, Some(holder), statement));
+    if let Some(found) = kept.first_unserved(schema) {
+        return Err(unserved(found, statement));
     }
     let Ok(accepted) = kept.into_accepted() else {
         return Err(refused(Fault::NoMemory, None, statement));
     };
     Ok(accepted)
+}
+
+/// The refusal of a reference, by the instance that has it.
+fn unserved(found: (Name, Fault), statement: u64) -> Refusal
+    ensures { result.fault ≡ found.1 }
+{
+    let (holder, fault) = found;
+    refused(fault, Some(holder), statement)
 }
 
 /// The name of an instance.

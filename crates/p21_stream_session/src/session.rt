@@ -1,4 +1,5 @@
-ghost use Rattle.std.specs.Prelude.{◌≡◌, ◌≤◌};
+ghost use Rattle.std.specs.Prelude.{◌≡◌, ◌≤◌, IfErr};
+ghost use Rattle.p21_stream_fault.specs.Source.{IsOfBytes};
 ghost use Rattle.p21_stream_session.specs.Held.{limits_of, schema_of};
 ghost use Rattle.p21_stream_session.specs.Histories.{FeedChecks, FeedGives, FeedNeedsNoMemory, FinishGives, HoldsFor, KeepsSchema, RefusesAgain, RefusesAtEnd, Stands, nothing_taken};
 ghost use Rattle.p21_stream_session.specs.Inside.{held_of};
@@ -59,6 +60,7 @@ impl<'s> Session<'s> {
         ensures checks { FeedChecks self.old piece.now result }
         ensures no_memory { FeedNeedsNoMemory self.old piece.now result }
         ensures again { RefusesAgain self.old result self.new }
+        ensures kind { IfErr result (λ refusal. IsOfBytes refusal.fault) }
         ensures schema { KeepsSchema self.old self.new }
     {
         let schema = self.schema;
@@ -91,6 +93,7 @@ impl<'s> Session<'s> {
     pub fn finish(self) -> Result<Accepted, Refusal>
         ensures gives { FinishGives self.entry result }
         ensures again { RefusesAtEnd self.entry result }
+        ensures kind { IfErr result (λ refusal. IsOfBytes refusal.fault) }
     {
         let Session {
             schema,

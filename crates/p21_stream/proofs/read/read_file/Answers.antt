@@ -7,8 +7,8 @@ use Rattle.p21_stream.proofs.read.read_file.Goals as goal
 
 pub returns-in-Err-finish-clause-err : goal.returns-in-Err-finish-clause-err
 returns-in-Err-finish-clause-err g c =
-    under (λ (s : Schema) (l : Limits). RefusesRead s l (g.R.Read.remaining c.args.reader.now.inner) (g.R.Read.remaining c.feed_all.new.reader.inner) c.of_bytes.result.fault) _ _ c.new-session.result c.feed_all.new.session c.new-session.ensures.schema c.new-session.ensures.limits c.in-Ok.ensures.schema
-    (whole-refused _ _ c.feed_all.new.session c.in-Err-finish.refusal c.of_bytes.result.fault c.in-Ok.ensures.ok c.of_bytes.ensures.kind c.of_bytes.ensures.fault c.in-Err-finish.ensures.gives)
+    under (λ (s : Schema) (l : Limits). RefusesRead s l (g.R.Read.remaining c.args.reader.now.inner) (g.R.Read.remaining c.feed_all.new.reader.inner) c.in-Err-finish.refusal.fault) _ _ c.new-session.result c.feed_all.new.session c.new-session.ensures.schema c.new-session.ensures.limits c.in-Ok.ensures.schema
+    (whole-refused _ _ c.feed_all.new.session c.in-Err-finish.refusal c.in-Ok.ensures.ok c.in-Err-finish.ensures.kind c.in-Err-finish.ensures.gives)
 
 pub returns-in-Err-finish-clause-consumed : goal.returns-in-Err-finish-clause-consumed
 returns-in-Err-finish-clause-consumed g c = subst (λ (l : Limits). ConsumesAtMost l (g.R.Read.remaining c.args.reader.now.inner) (g.R.Read.remaining c.feed_all.new.reader.inner)) c.new-session.ensures.limits c.in-Ok.ensures.consumed

@@ -4,7 +4,7 @@ use Rattle.p21_stream.proofs.text.canonical.Goals as goal
 
 pub returns-in-Err-clause-err : goal.returns-in-Err-clause-err
 returns-in-Err-clause-err c =
-    text-refused _ _ c.new-session.result c.feed.new.self c.args.text.now c.in-Err.refusal c.of_bytes.result.fault c.new-session.ensures.schema c.new-session.ensures.limits c.new-session.ensures.stands c.type_inv.text c.of_bytes.ensures.fault c.in-Err.ensures.gives
+    text-refused _ _ c.new-session.result c.feed.new.self c.args.text.now c.in-Err.refusal c.new-session.ensures.schema c.new-session.ensures.limits c.new-session.ensures.stands c.type_inv.text c.in-Err.ensures.gives
 
 pub returns-in-Err-clause-one_meaning : goal.returns-in-Err-clause-one_meaning
 returns-in-Err-clause-one_meaning c = one-meaning c.args.schema.now c.well_formed-2.ensures c.args.text.now

@@ -1,4 +1,6 @@
 use Rattle.std.proofs.Common.{sym, subst, Ok, Err, Some}
+use Rattle.p21_stream_fault.proofs.Sources.{grammar-of_bytes, token-of_bytes}
+use Rattle.p21_stream_fault.specs.Source.{IsOfBytes}
 use Rattle.p21_stream_front.proofs.Stepping.{Owes, parse-refused, token-refused, went-on}
 use Rattle.p21_stream_front.proofs.Quiet.{quiet-refused, quiet-token}
 use Rattle.p21_stream_front.specs.Front.{Held, NeedsNoMemory, StepGives}
@@ -47,3 +49,9 @@ returns-in-Err-take-clause-no_memory c =
     subst (λ (h : Held). NeedsNoMemory h c.args.piece.now (Err c.from-in-Err-take.result)) c.self.view_is
     (quiet-token held c.args.piece.now c.in-Ok.answer.0 c.in-Some.token c.next.new.self (subst (λ t. NextGives c.self.inside.lexer c.args.piece.now (Ok (c.in-Ok.answer.0, t)) c.next.new.self) c.in-Some.is c.in-Ok.ensures.history)
     (Err c.from-in-Err-take.result))
+
+pub returns-in-Err-clause-kind : goal.returns-in-Err-clause-kind
+returns-in-Err-clause-kind c = subst IsOfBytes (sym c.from.ensures) (token-of_bytes c.in-Err.fault)
+
+pub returns-in-Err-take-clause-kind : goal.returns-in-Err-take-clause-kind
+returns-in-Err-take-clause-kind c = subst IsOfBytes (sym c.from-in-Err-take.ensures) (grammar-of_bytes c.in-Err-take.fault)

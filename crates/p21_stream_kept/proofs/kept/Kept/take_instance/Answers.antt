@@ -21,7 +21,7 @@ use Rattle.p21_stream_kept.specs.declared.kept.Section.{Section}
 use Rattle.p21_stream_kept.proofs.kept.Kept.take_instance.Goals as goal
 
 pub returns-in-Err-clause-gives : goal.returns-in-Err-clause-gives
-returns-in-Err-clause-gives c = instance-broken c.args.schema.now c.args.limits c.args.self.now c.args.self.now c.args.name (record_view c.args.of) c.in-Err.fault c.in-Err.ensures
+returns-in-Err-clause-gives c = instance-broken c.args.schema.now c.args.limits c.args.self.now c.args.self.now c.args.name (record_view c.args.of) c.in-Err.fault c.in-Err.ensures.finds
 
 pub returns-then-not-has_room-clause-gives : goal.returns-then-not-has_room-clause-gives
 returns-then-not-has_room-clause-gives c =
@@ -29,7 +29,7 @@ returns-then-not-has_room-clause-gives c =
     let same : vec_len c.in-Ok.found.line ≡ length c.in-Ok.found.line.items = omega (arith, c.in-Ok.found.line.ok.0) in
     let size = c.len-size.ensures ∙ same in
     subst (λ (k : Kept). StepGives c.args.schema.now c.args.limits k (instance c.args.name (record_view c.args.of)) (Err CanonicalTooLong) k) c.self.view_is
-    (refused-instance c.args.schema.now c.args.limits old old c.args.name (record_view c.args.of) c.in-Ok.found.line.items c.in-Ok.ensures.printed (λ room.
+    (refused-instance c.args.schema.now c.args.limits old old c.args.name (record_view c.args.of) c.in-Ok.found.line.items c.in-Ok.ensures.finds.printed (λ room.
     let passes : c.has_room.result ≡ true = c.has_room.ensures.decides.1 (subst (λ n. HasRoom c.args.limits (old.bytes + old.framing) n) (sym size) room) in
     let fails = c.if-not-has_room.true in
     cc))
@@ -67,6 +67,6 @@ returns-clause-gives c =
     let permuted : E found.entities found.line.items = subst (E found.entities) c.deref-3.ensures.value (subst (λ ids. E ids c.deref-3.result.now) c.items.ensures c.in-Ok-store.ensures.ok) in
     let last : c.in-Some.section + 1 ≡ length old.headings = c.in-Some.ensures ∙ ap length c.deref.ensures.value ∙ sym (length-map c.self.inside.sections.items (λ (x : Section). heading_in x.part)) in
     subst (λ (k : Kept). StepGives s c.args.limits k (instance c.args.name (record_view c.args.of)) (Ok tt) new) c.self.view_is
-    (took-found s c.args.limits old new c.args.name (record_view c.args.of) (ids_view found.entities) (needs_view found.needs.items) found.line.items c.in-Ok.ensures none waiting adds c.in-Some.section last stored permuted
+    (took-found s c.args.limits old new c.args.name (record_view c.args.of) (ids_view found.entities) (needs_view found.needs.items) found.line.items c.in-Ok.ensures.finds none waiting adds c.in-Some.section last stored permuted
     (subst (λ n. HasRoom c.args.limits (old.bytes + old.framing) n) size (c.has_room.ensures.decides.0 c.if-not-has_room.false))
     (λ i. record old { stored = stored; waiting = waiting; references = references i; bytes = bytes i; framing = old.framing + 1 }))

@@ -8,3 +8,6 @@ returns-clause-gives c = subst (λ (h : SessionHeld). FinishGives h c.finish.res
 
 pub returns-clause-again : goal.returns-clause-again
 returns-clause-again c = subst (λ (h : SessionHeld). RefusesAtEnd h c.finish.result) c.self.view_is (c.finish.ensures.again c.self.inside.limits)
+
+pub returns-clause-kind : goal.returns-clause-kind
+returns-clause-kind c = c.finish.ensures.kind c.self.inside.limits c.self.invariant

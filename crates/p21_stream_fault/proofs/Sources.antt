@@ -1,0 +1,58 @@
+-- The faults of the layers below are none of a reader or a writer.
+use Rattle.p21_mapping_values.specs.declared.fault.CheckFault.{CheckFault}
+use Rattle.p21_mapping_values.specs.declared.fault.CheckFault.TheVariants as check_fault
+use Rattle.p21_grammar_machine.specs.declared.fault.GrammarFault.{GrammarFault}
+use Rattle.p21_grammar_machine.specs.declared.fault.GrammarFault.TheVariants as grammar_fault
+use Rattle.p21_stream_fault.specs.Fault.{of_check, of_grammar, of_token}
+use Rattle.p21_stream_fault.specs.Source.{IsOfBytes}
+use Rattle.p21_tokens.specs.declared.fault.TokenFault.{TokenFault}
+use Rattle.p21_tokens.specs.declared.fault.TokenFault.TheVariants as token_fault
+
+pub token-of_bytes : (fault : TokenFault) → IsOfBytes (of_token fault)
+token-of_bytes token_fault.BadByte = tt
+token-of_bytes token_fault.OpenString = tt
+token-of_bytes token_fault.OpenComment = tt
+token-of_bytes token_fault.BadDirective = tt
+token-of_bytes token_fault.BadCodePoint = tt
+token-of_bytes token_fault.NotUtf8 = tt
+token-of_bytes token_fault.BadNumber = tt
+token-of_bytes token_fault.NumberRange = tt
+token-of_bytes token_fault.BadBinary = tt
+token-of_bytes token_fault.NameRange = tt
+token-of_bytes token_fault.BadName = tt
+token-of_bytes token_fault.NotOneParameter = tt
+token-of_bytes token_fault.RecordTooLong = tt
+token-of_bytes token_fault.FileTooLong = tt
+token-of_bytes token_fault.EndsEarly = tt
+token-of_bytes (token_fault.LeftOut absent) = tt
+token-of_bytes token_fault.NoMemory = tt
+
+pub grammar-of_bytes : (fault : GrammarFault) → IsOfBytes (of_grammar fault)
+grammar-of_bytes grammar_fault.Unexpected = tt
+grammar-of_bytes grammar_fault.TooDeep = tt
+grammar-of_bytes grammar_fault.EndsEarly = tt
+grammar-of_bytes grammar_fault.AfterEnd = tt
+grammar-of_bytes (grammar_fault.LeftOut absent) = tt
+grammar-of_bytes grammar_fault.HeaderShape = tt
+grammar-of_bytes grammar_fault.SectionShape = tt
+grammar-of_bytes grammar_fault.NoMemory = tt
+
+pub check-of_bytes : (fault : CheckFault) → IsOfBytes (of_check fault)
+check-of_bytes check_fault.NumberRange = tt
+check-of_bytes check_fault.UnknownEntity = tt
+check-of_bytes check_fault.Abstract = tt
+check-of_bytes check_fault.PartMissing = tt
+check-of_bytes check_fault.PartTwice = tt
+check-of_bytes check_fault.Count = tt
+check-of_bytes check_fault.Missing = tt
+check-of_bytes check_fault.StarNotDerived = tt
+check-of_bytes check_fault.DerivedNotStar = tt
+check-of_bytes check_fault.WrongKind = tt
+check-of_bytes check_fault.Width = tt
+check-of_bytes check_fault.Bounds = tt
+check-of_bytes check_fault.NotDistinct = tt
+check-of_bytes check_fault.UnknownItem = tt
+check-of_bytes check_fault.SelectType = tt
+check-of_bytes check_fault.TwoRedeclarations = tt
+check-of_bytes check_fault.OneOf = tt
+check-of_bytes check_fault.NoMemory = tt
