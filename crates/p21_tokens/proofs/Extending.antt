@@ -8,7 +8,7 @@ use Rattle.std.proofs.Math.Seq.{take-length}
 use Rattle.p21_basics.specs.History.{extended, seen_behind, first_refusal, IsOffered, empty}
 use Rattle.p21_exchange.specs.Laying.{Lexeme, Laid, tokens_in, open_bytes, count_behind, AreStatementsWithin}
 use Rattle.p21_exchange.specs.Pending.{Tail, nothing, unfinished, slash, open_comment, tail_size, LaidUpTo, IsTokenByte, BeginsNoSeparator}
-use Rattle.p21_exchange.specs.Token.{Token, begin, finish, keyword, user_keyword, name, whole, real, text}
+use Rattle.p21_exchange.specs.Token.{Token}
 use Rattle.p21_tokens_automaton.proofs.Complete.{all_of-after}
 use Rattle.p21_tokens_automaton.proofs.Sound.{TailIs, UpTo, FirstFits}
 use Rattle.p21_tokens_automaton.proofs.Fits.{ModeFits, StepFits}
@@ -29,7 +29,7 @@ use Rattle.p21_tokens_automaton.specs.declared.mode.Wrong.TheVariants as wrong
 use Rattle.p21_tokens_automaton.proofs.Once.{spells-means}
 use Rattle.p21_tokens_automaton.specs.Meaning.{MeanAll, Means, found_of}
 use Rattle.p21_tokens_automaton.specs.Reading.{State, start, Answer, open_at, after, Found, Sized, ended, closing, all_after, all_of, lex}
-use Rattle.p21_tokens.proofs.Stepping.{ended-waits}
+use Rattle.p21_tokens.proofs.Stepping.{ended-waits, waits-count}
 use Rattle.p21_tokens.proofs.Naming.{names-byte}
 use Rattle.p21_tokens.proofs.Following.{handed-laid, live-open, whole-read, tokens-append, mean-append, in-parts, open-append, within-append, after-append, after-nothing, live-laid, live-pending, live-within, live-few, live-first, live-at_once}
 use Rattle.p21_tokens.specs.Held.{Held, pending_of, state_of}
@@ -101,18 +101,6 @@ take-one piece count byte e =
 same-state : (v w : Held) → TakesRun v [] w → state_of v ≡ state_of w
 same-state v w r =
     let e : open_at (state_of v) ≡ open_at (state_of w) = ap (λ (a : Answer). a.ending) (sym (lex-nil (state_of v)) ∙ (r.rest_is [] ∙ lex-nil (state_of w))) in cc
-
--- a token that waits is no `;`
-waits-count : (token : Token) (size n : ℕ) → waits token ≡ true → count_behind n (record { token = token; size = size }) ≡ n + size
-waits-count begin size n e = refl
-waits-count finish size n e = refl
-waits-count (keyword word) size n e = refl
-waits-count (user_keyword word) size n e = refl
-waits-count (name number) size n e = refl
-waits-count (whole number) size n e = refl
-waits-count (real number) size n e = refl
-waits-count (text characters) size n e = refl
-waits-count _ size n e = cc
 
 -- ---- bytes that gave no token
 

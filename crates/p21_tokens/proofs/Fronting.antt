@@ -41,7 +41,7 @@ use Rattle.p21_tokens.specs.declared.step.Step.TheVariants.{Gave}
 use Rattle.p21_tokens.specs.Token.{meant, waits}
 use Rattle.p21_tokens.specs.declared.token.Token.{Token}
 use Rattle.p21_tokens.proofs.Scanning.{Along, behind-those, byte-behind, run-join, along-gave}
-use Rattle.p21_tokens.proofs.Stepping.{ended-waits, single-at_once}
+use Rattle.p21_tokens.proofs.Stepping.{ended-waits, single-at_once, waits-count}
 
 -- separators alone lead nowhere
 blank-reads : (bytes : List ℕ) → AreBlank bytes → lex start bytes ≡ lex start []
@@ -67,18 +67,6 @@ no-blanks bytes state found reaches e k =
 -- what is held inside such a token
 abbrev within_token : Held → State → ℕ → Held
 within_token v s count = record v { mode = s.mode; kept = s.kept; characters = s.characters; size = s.size; file = v.file + count }
-
--- a token that waits is no `;`
-waits-counts : (t : meaning.Token) (n size : ℕ) → waits t ≡ true → count_behind n (record { token = t; size = size }) ≡ n + size
-waits-counts meaning.begin n size e = refl
-waits-counts meaning.finish n size e = refl
-waits-counts (meaning.keyword word) n size e = refl
-waits-counts (meaning.user_keyword word) n size e = refl
-waits-counts (meaning.name number) n size e = refl
-waits-counts (meaning.whole number) n size e = refl
-waits-counts (meaning.real number) n size e = refl
-waits-counts (meaning.text characters) n size e = refl
-waits-counts _ n size e = cc
 
 -- what is held behind a token
 abbrev behind : Held → meaning.Token → ℕ → Held
@@ -107,7 +95,7 @@ module _ (v : Held) (bytes : List ℕ) (count : ℕ) (token : meaning.Token) (is
     ended_is = f.ended_is;
     within = let e = f.size_is in omega arith;
     file_is = refl;
-    statement_is = waits-counts token v.statement count waited ∙ let e = f.size_is in omega arith;
+    statement_is = waits-count token count v.statement waited ∙ let e = f.size_is in omega arith;
     start_is = is_start;
     rest_is = λ rest. lex-end f.state f.found f.byte rest f.ends f.ended_is ∙ ap (λ (s : State). before (record { found = f.found; size = f.state.size }) (lex s (f.byte ∷ rest))) (sym is_start);
   }

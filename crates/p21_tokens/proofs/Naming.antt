@@ -1,22 +1,18 @@
 -- Which fault a refusal has.
-use Rattle.std.proofs.Common.{◌≡◌, ◌≢◌, ◌↔◌, ℕ, List, [], ◌∷◌, ◌++◌, inl, inr, length, refl, sym, ap, ◌∙◌, subst, arith, Option, Some, None, Result, Ok, Err}
-use Rattle.std.proofs.lemmas.Bool.Decides.{nat_tests}
-use Rattle.p21_exchange.specs.Laying.{Lexeme}
-use Rattle.p21_exchange.specs.Number.{Decimal, RealForm, SpellsReal}
+use Rattle.std.proofs.Common.{◌≡◌, ◌≢◌, ◌↔◌, ℕ, List, [], ◌∷◌, ◌++◌, inl, inr, refl, sym, ap, ◌∙◌, subst, Option, Some, None}
+use Rattle.p21_exchange.specs.Number.{RealForm}
 use Rattle.p21_exchange.specs.Pending.{Tail, nothing, unfinished, slash, open_comment}
 use Rattle.p21_exchange.specs.Token.{Token}
-use Rattle.p21_tokens_automaton.proofs.Fits.{ModeFits, StepFits}
-use Rattle.p21_tokens_automaton.proofs.Gaps.{gap}
+use Rattle.p21_tokens_automaton.proofs.Fits.{StepFits}
 use Rattle.p21_tokens_automaton.proofs.Sound.{TailIs}
 use Rattle.p21_tokens_automaton.proofs.Theorems.{form-found, steps-on}
-use Rattle.p21_tokens_automaton.specs.Meaning.{IsOutOfRange, Means, MeanAll}
-use Rattle.p21_tokens_automaton.specs.Reading.{State, start, Found, spelled, real, Sized, ended, ended_in, closed, closing}
+use Rattle.p21_tokens_automaton.specs.Meaning.{IsOutOfRange, Means}
+use Rattle.p21_tokens_automaton.specs.Reading.{State, Found, spelled, real, ended, ended_in, closed, closing}
 use Rattle.p21_tokens_automaton.specs.Step.{advance}
 use Rattle.p21_tokens_automaton.specs.declared.mode.Action.{Action}
-use Rattle.p21_tokens_automaton.specs.declared.mode.Action.TheVariants.{Pass, Skip, Keep, Put, Give, Close, End, Dash, Refuse}
+use Rattle.p21_tokens_automaton.specs.declared.mode.Action.TheVariants.{Close, End, Refuse}
 use Rattle.p21_tokens_automaton.specs.declared.mode.Mode.{Mode}
 use Rattle.p21_tokens_automaton.specs.declared.mode.Mode.TheVariants.{Between, Slash, Comment, Star, Number, Word, Name, Binary, Text}
-use Rattle.p21_tokens_automaton.specs.declared.mode.NumberMode.{NumberMode}
 use Rattle.p21_tokens_automaton.specs.declared.mode.NumberMode.TheVariants as number_mode
 use Rattle.p21_tokens_automaton.specs.declared.mode.WordMode.TheVariants as word_mode
 use Rattle.p21_tokens_automaton.specs.declared.mode.NameMode.TheVariants as name_mode
@@ -26,7 +22,7 @@ use Rattle.p21_tokens_automaton.specs.declared.mode.Wrong.TheVariants as wrong
 use Rattle.p21_tokens.specs.Fault.{fault_of, form_fault, end_fault}
 use Rattle.p21_tokens.specs.Held.{Held, state_of}
 use Rattle.p21_tokens.specs.Histories.{EndsInMode, EndsOutOfRange, IsOutOfRangeTail, NamesByte, NamesEnd}
-use Rattle.p21_tokens.specs.Steps.{EndsNone, IsFaultAt, IsFaultAtEnd, IsFaultOf, MayNotEnd}
+use Rattle.p21_tokens.specs.Steps.{IsFaultAt, IsFaultAtEnd, IsFaultOf, MayNotEnd}
 use Rattle.p21_tokens.specs.declared.fault.TokenFault.{TokenFault}
 use Rattle.p21_tokens.specs.declared.fault.TokenFault.TheVariants as fault
 

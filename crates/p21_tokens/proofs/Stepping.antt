@@ -1,6 +1,7 @@
 -- What each action makes of what is held.
 use Rattle.std.proofs.Common.{eqb, cond, ◌≡◌, ℕ, ◌+◌, ◌<◌, true, false, List, [], ◌∷◌, ◌++◌, refl, sym, ap, ◌∙◌, subst, arith, Option, Some, None, Ok, Err}
 use Rattle.std.proofs.lemmas.Bool.{cond_both}
+use Rattle.std.proofs.lemmas.Option.{same_Some}
 use Rattle.p21_exchange.specs.Laying.{Lexeme, count_behind}
 use Rattle.p21_exchange.specs.Token as meaning
 use Rattle.p21_tokens_automaton.proofs.Steps.{lex-pass, lex-skip, lex-keep, lex-put, lex-give, lex-close, lex-dash, lex-end, lex-byte}
@@ -37,6 +38,9 @@ use Rattle.p21_tokens.specs.declared.token.Token.{Token}
 pub same-limits : (v w : Held) → w.statement_limit ≡ v.statement_limit → w.file_limit ≡ v.file_limit → w.refused ≡ v.refused → SameLimits v w
 same-limits v w e f g = record { statement_limit = e; file_limit = f; refused = g }
 
+pub same-limits_itself : (v : Held) → SameLimits v v
+same-limits_itself v = same-limits v v refl refl refl
+
 -- ---- separators between tokens need nothing
 
 abbrev Passes : Action → Type 0
@@ -54,9 +58,6 @@ blank-passes Star b g h =
 blank-passes _ b g h = cc
 
 -- ---- refusals
-
-some-is : (f g : Found) → Some f ≡ Some g → f ≡ g
-some-is f g e = cc
 
 all-first : (found : Found) (size : ℕ) (a : Answer) (founds : List Sized) (lexemes : List Lexeme) → all_of (before (record { found = found; size = size }) a) ≡ Some founds → MeanAll founds lexemes → (token : meaning.Token) × Means found token
 all-first found size a founds lexemes e m = at (at_end a.ending) e
@@ -88,7 +89,7 @@ reads-refuses v b o size go x e i n l w r = by_fault x o e i w r
     none x o e i h named = (dead-first v b o size go e h, (λ q found token f m. h found (sym (i q) ∙ f) token m), l, named)
 
     of_some : (f : Found) → ((token : meaning.Token) → Means f token → ⊥) → (found : Found) → Some f ≡ Some found → (token : meaning.Token) → Means found token → ⊥
-    of_some f h found q token m = h token (subst (λ (y : Found). Means y token) (sym (some-is f found q)) m)
+    of_some f h found q token m = h token (subst (λ (y : Found). Means y token) (sym (same_Some f found q)) m)
 
     of_none : (found : Found) → (let o : Option Found = None in o) ≡ Some found → (token : meaning.Token) → Means found token → ⊥
     of_none found q = absurd cc
@@ -168,12 +169,12 @@ record EndsItself (t : meaning.Token) : Type 0 where
   counts : (n size : ℕ) → count_behind n (record { token = t; size = size }) ≡ n + size
 
 closed-ends : (m : Mode) (kept : List ℕ) (f : Found) (t : meaning.Token) → closed m kept ≡ Some f → Means f t → EndsItself t
-closed-ends (Word m) kept f t e h = by_item t (subst (λ (x : Found). Means x t) (sym (some-is _ f e)) h)
+closed-ends (Word m) kept f t e h = by_item t (subst (λ (x : Found). Means x t) (sym (same_Some _ f e)) h)
   where
     by_item : (t : meaning.Token) → Means (spelled item kept) t → EndsItself t
     by_item (meaning.item word) h = record { at_once = refl; counts = λ n size. refl }
     by_item other h = absurd h.0
-closed-ends (Binary m) kept f t e h = by_bits t (subst (λ (x : Found). Means x t) (sym (some-is _ f e)) h)
+closed-ends (Binary m) kept f t e h = by_bits t (subst (λ (x : Found). Means x t) (sym (same_Some _ f e)) h)
   where
     by_bits : (t : meaning.Token) → Means (spelled bits kept) t → EndsItself t
     by_bits (meaning.bits value) h = record { at_once = refl; counts = λ n size. refl }
@@ -204,7 +205,7 @@ real-waits kept (meaning.real number) h = refl
 real-waits kept other h = absurd h.0
 
 of_found : (f g : Found) → Some f ≡ Some g → Waited f → Waited g
-of_found f g e w = subst (λ (x : Found). (t : meaning.Token) → Means x t → waits t ≡ true) (some-is f g e) w
+of_found f g e w = subst (λ (x : Found). (t : meaning.Token) → Means x t → waits t ≡ true) (same_Some f g e) w
 
 pub ended-waits : (m : Mode) (kept characters : List ℕ) (f : Found) → ended_in m kept characters ≡ Some f → Waited f
 ended-waits (Number m) kept characters f e = by_mode m e
@@ -234,11 +235,23 @@ ended-waits (Text m) kept characters f e = by_mode m e
     by_mode _ e = cc
 ended-waits _ kept characters f e = cc
 
+-- a token that waits is no `;`
+pub waits-count : (token : meaning.Token) (size n : ℕ) → waits token ≡ true → count_behind n (record { token = token; size = size }) ≡ n + size
+waits-count meaning.begin size n e = refl
+waits-count meaning.finish size n e = refl
+waits-count (meaning.keyword word) size n e = refl
+waits-count (meaning.user_keyword word) size n e = refl
+waits-count (meaning.name number) size n e = refl
+waits-count (meaning.whole number) size n e = refl
+waits-count (meaning.real number) size n e = refl
+waits-count (meaning.text characters) size n e = refl
+waits-count _ size n e = cc
+
 module _ (v : Held) (b : ℕ) where
   pub gave-one : (one : Single) (token : Token) (w : Held) → advance v.mode b ≡ Give one → pending_of v < v.statement_limit → meant token ≡ single_token one
       → w ≡ behind_token v (count_behind v.statement (record { token = single_token one; size = 1 })) (v.file + 1) → Steps v b (Ok (Gave token)) w
   gave-one one token w e l t q = subst (λ (x : Held). Steps v b (Ok (Gave token)) x) (sym q) (
-    record { statement_limit = refl; file_limit = refl; refused = refl },
+    same-limits v _ refl refl refl,
     record {
       found = record { found = known (single_token one); size = 1 };
       means = sym t;
@@ -261,7 +274,7 @@ module _ (v : Held) (b : ℕ) where
       at None q r = absurd r
       at (Some f) q r =
           let ends = closed-ends v.mode (v.kept ++ b ∷ []) f (meant token) q r in (
-            record { statement_limit = refl; file_limit = refl; refused = refl },
+            same-limits v _ refl refl refl,
             record {
               found = record { found = f; size = v.size + 1 };
               means = r;
@@ -280,7 +293,7 @@ module _ (v : Held) (b : ℕ) where
       at : (o : Option Found) → ended (state_of v) ≡ o → ReadsFound o (Ok token) → Steps v b (Ok (Handed token)) (behind_token v (v.statement + v.size) v.file)
       at None q r = absurd r
       at (Some f) q r = (
-        record { statement_limit = refl; file_limit = refl; refused = refl },
+        same-limits v _ refl refl refl,
         record {
           found = f;
           means = r;
@@ -327,6 +340,3 @@ module _ (v : Held) (b : ℕ) where
 
   pub refused-dash : advance v.mode b ≡ Dash → marker_of v.kept ≡ None → IsInLimits v b → RefusesByte v b fault.BadByte
   refused-dash e n l = (dead-dash e n, (λ q. absurd (let clash : Dash ≡ End = sym e ∙ q in cc)), l, subst (λ (a : Action). IsFaultAt v b a fault.BadByte) (sym e) refl)
-
-pub same-limits_itself : (v : Held) → SameLimits v v
-same-limits_itself v = record { statement_limit = refl; file_limit = refl; refused = refl }

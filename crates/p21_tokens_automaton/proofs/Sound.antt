@@ -2,6 +2,7 @@
 use Rattle.std.proofs.Common.{◌≡◌, ◌≢◌, false, ℕ, ◌+◌, ◌<◌, List, [], ◌∷◌, ◌++◌, ◌⊎◌, inl, inr, length, length-append, refl, sym, ap, ◌∙◌, subst, append_assoc, append-nil, Option, Some, None, arith}
 use Rattle.std.proofs.lemmas.Bool.{cond_both, eqb-true, eqb-false}
 use Rattle.std.proofs.lemmas.Bool.Decides.{nat_tests}
+use Rattle.std.proofs.lemmas.Option.{same_Some}
 use Rattle.p21_exchange.specs.Token.{Token, item, bits, Spells, IsFollowed, MayFollow}
 use Rattle.p21_exchange.specs.Separator.{Separator, blank, comment, EndsOnce, IsSeparator, separator_bytes, IsSeparatorText}
 use Rattle.p21_exchange.specs.Laying.{Lexeme}
@@ -214,19 +215,13 @@ single-followed single.Star spelling (b ∷ rest) = tt
 
 closed-followed : (m : Mode) (kept : List ℕ) (f : Found) (t : Token) (spelling rest : List ℕ) → closed m kept ≡ Some f → Means f t → IsFollowed t spelling rest
 closed-followed m kept f t spelling [] e means = tt
-closed-followed (Word m) kept f t spelling (b ∷ rest) e means = by_item t (subst (λ (x : Found). Means x t) (found-is f (spelled item_kind kept) e) means)
+closed-followed (Word m) kept f t spelling (b ∷ rest) e means = by_item t (subst (λ (x : Found). Means x t) (sym (same_Some _ f e)) means)
   where
-    found-is : (f g : Found) → Some g ≡ Some f → f ≡ g
-    found-is f g e = cc
-
     by_item : (t : Token) → Means (spelled item_kind kept) t → IsFollowed t spelling (b ∷ rest)
     by_item (item word) h = tt
     by_item other h = absurd h.0
-closed-followed (Binary m) kept f t spelling (b ∷ rest) e means = by_bits t (subst (λ (x : Found). Means x t) (found-is f (spelled bits_kind kept) e) means)
+closed-followed (Binary m) kept f t spelling (b ∷ rest) e means = by_bits t (subst (λ (x : Found). Means x t) (sym (same_Some _ f e)) means)
   where
-    found-is : (f g : Found) → Some g ≡ Some f → f ≡ g
-    found-is f g e = cc
-
     by_bits : (t : Token) → Means (spelled bits_kind kept) t → IsFollowed t spelling (b ∷ rest)
     by_bits (bits value) h = tt
     by_bits other h = absurd h.0

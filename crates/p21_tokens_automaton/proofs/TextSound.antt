@@ -1,15 +1,16 @@
 -- A string that is read byte by byte up to its end is one that its bytes spell.
-use Rattle.std.proofs.Common.{◌≡◌, ℕ, ◌+◌, ◌*◌, ◌%◌, ◌^◌, ◌<◌, ◌≤◌, true, false, List, [], ◌∷◌, ◌++◌, length, inl, inr, refl, sym, ap, ◌∙◌, subst, append_assoc, append-nil, arith, length-append, eqb, lit<, lit≤, Some, None}
+use Rattle.std.proofs.Common.{◌≡◌, ℕ, ◌+◌, ◌*◌, ◌%◌, ◌^◌, ◌<◌, ◌≤◌, true, false, List, [], ◌∷◌, ◌++◌, length, inl, inr, refl, sym, ap, ◌∙◌, subst, append_assoc, append-nil, arith, length-append, eqb, lit<, lit≤}
 use Rattle.std.specs.Prelude.{◌==◌, nat_lt, ◌||◌}
 use Rattle.std.specs.Char.{IsScalar}
 use Rattle.std.specs.List.{flat_map, AllByRecursion as Each}
 use Rattle.std.proofs.lemmas.Bool.{cond_both, leb-true, ltb-true, ltb-false, eqb-true, eqb-false, or_cases, or_parts, and_parts}
 use Rattle.std.proofs.lemmas.List.{flat_map_more}
+use Rattle.std.proofs.lemmas.Option.{none-some, same_Some}
 use Rattle.p21_basics.specs.Digits.{hex_digit, hex_digits}
 use Rattle.p21_exchange.specs.Text.{StringUnit, ignored, plain, doubled, high_codepoint, page, alphabet_a, arbitrary, extended2, extended4, IsApostropheOrBackslash, IsStringUnit, unit_bytes, unit_characters, utf16_groups, Encodes}
 use Rattle.p21_exchange.specs.Token.{text, Spells, MayFollow}
 use Rattle.p21_tokens_automaton.specs.Meaning.{Means}
-use Rattle.p21_tokens_automaton.specs.Reading.{Found, known}
+use Rattle.p21_tokens_automaton.specs.Reading.{known}
 use Rattle.p21_tokens_automaton.specs.Bytes.{is_hex, hex_value}
 use Rattle.p21_tokens_automaton.specs.Step.{text_action, inside_action, utf8_action, utf8_value, utf8_last_action, directive, backslash_action, page_action, hex_mark_action, arbitrary_action, arbitrary_second_action, put_scalar, group2, low_group, group_value, long_value, first2_action, digits2_action, low_first_action, low_digits_action, first4_action, digits4_action}
 use Rattle.p21_tokens_automaton.specs.declared.mode.Mode.TheVariants.{Text}
@@ -132,12 +133,6 @@ in_end-end characters front s =
     let taken : s.taken ≡ unit_bytes s.unit = sym (s.unit_is ∙ append-nil s.taken) in
     let string : InString s.outer (unit_bytes s.unit) front = (s.inside, s.front_is ∙ ap (λ x. 39 ∷ (s.inside ++ x)) taken, s.encodes) in
     subst (λ x. InString x [] front) (sym s.characters_are) (in_string-unit s.outer front s.unit s.is_unit string)
-
-some-equal : (a b : Found) → Some a ≡ Some b → a ≡ b
-some-equal a b e = cc
-
-none-some : (a : Found) → Some a ≡ None → ⊥
-none-some a e = cc
 
 -- What a byte makes of each state
 
@@ -317,7 +312,7 @@ module _ (b : ℕ) (kept characters front : List ℕ) where
       follows : eqb b 39 ≡ false → StepFits (Text text_mode.Apostrophe) kept characters front b End
       follows e = record {
         follows = λ found token is means.
-            let known : Means (known (text characters)) token = subst (λ f. Means f token) (sym (some-equal (known (text characters)) found is)) means in
+            let known : Means (known (text characters)) token = subst (λ f. Means f token) (sym (same_Some (known (text characters)) found is)) means in
             subst (λ t. MayFollow t front b) known (eqb-false b 39 e);
         no_token = λ none. absurd (none (known (text characters)) (text characters) refl refl);
       }
@@ -433,6 +428,6 @@ text-fits (text_mode.Utf8Third low high value) b kept cs front h = utf8_third-st
 -- a string that ends is spelled by its bytes
 pub text-ends : (m : TextMode) (kept characters front : List ℕ) → TextFits m characters front → EndFits (Text m) kept characters front
 text-ends text_mode.Apostrophe kept cs front h found token is means =
-    let known : Means (known (text cs)) token = subst (λ f. Means f token) (sym (some-equal (known (text cs)) found is)) means in
+    let known : Means (known (text cs)) token = subst (λ f. Means f token) (sym (same_Some (known (text cs)) found is)) means in
     subst (λ t. Spells t front) known (record { inside = h.0; bytes_are = h.1; encodes = h.2 })
-text-ends other kept cs front h found token is means = absurd (none-some found (sym is))
+text-ends other kept cs front h found token is means = absurd (none-some found is)

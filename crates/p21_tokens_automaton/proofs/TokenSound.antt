@@ -6,6 +6,7 @@ use Rattle.std.proofs.lemmas.List.{take_more, take_all, length_push}
 use Rattle.std.proofs.lemmas.Option.{slice_get_within, get_or_from_slice_get}
 use Rattle.std.proofs.lemmas.Slice.Eq.{bytes_eq-Decides}
 use Rattle.std.specs.List.{AllByRecursion as Each}
+use Rattle.std.proofs.lemmas.Option.{none-some, same_Some}
 use Rattle.p21_basics.proofs.PlainDigits.{digits_append}
 use Rattle.p21_basics.specs.Digits.{IsDigit, AllDigits, number as number_of}
 use Rattle.p21_exchange.specs.Keyword.{IsKeyword, IsKeywordByte}
@@ -39,14 +40,6 @@ use Rattle.p21_tokens_automaton.proofs.Classes.{digit-decides, upper-decides, bl
 use Rattle.p21_tokens_automaton.proofs.Sound.{FirstFits}
 use Rattle.p21_tokens_automaton.proofs.TokenRuns.{number-more}
 use Rattle.p21_tokens_automaton.proofs.Fits.{HasExponentMark, IsInteger, IsPlainReal, HasExponent, NumberFits, NameFits, ModeFits, EndFits, StepFits}
-
--- ---- what is found
-
-some-is : {A : Type 0} (f g : A) → Some f ≡ Some g → f ≡ g
-some-is f g e = cc
-
-not-some : {A : Type 0} (f : A) → None ≡ Some f → ⊥
-not-some f e = cc
 
 -- ---- numbers
 
@@ -130,13 +123,13 @@ module _ (b : ℕ) (kept characters front : List ℕ) where
   -- what stands behind an ended token
   whole-end : kept ≡ front → IsInteger front → (IsDigit b → ⊥) → b ≢ 46 → StepFits (Number number.Whole) kept characters front b End
   whole-end h f n e = record {
-    follows = λ found t is means. whole-follows t front b (subst (λ f. Means f t) (sym (some-is _ _ is)) means).0 n e;
+    follows = λ found t is means. whole-follows t front b (subst (λ f. Means f t) (sym (same_Some _ _ is)) means).0 n e;
     no_token = λ none. absurd (none (spelled whole kept) (token.whole (signed (is_minus f.sign) (number_of f.digits))) refl (tt, subst (λ (x : List ℕ). SpellsWhole x (signed (is_minus f.sign) (number_of f.digits))) (sym h) (integer-spells front f)));
   }
 
   real-end : (m : NumberMode) → ended (record { mode = Number m; kept = kept; characters = characters; size = length front }) ≡ Some (spelled real kept) → kept ≡ front → RealForm front → (IsDigit b → ⊥) → (HasNoExponent front → b ≢ 69) → StepFits (Number m) kept characters front b End
   real-end m own h f n e = record {
-    follows = λ found t is means. real-follows t front b (subst (λ f. Means f t) (some-is _ _ (sym is ∙ own)) means).0 n e;
+    follows = λ found t is means. real-follows t front b (subst (λ f. Means f t) (same_Some _ _ (sym is ∙ own)) means).0 n e;
     no_token = λ none. (f, λ value s. none (spelled real kept) (token.real value) own (tt, subst (λ (x : List ℕ). SpellsReal x value) (sym h) s), n, e);
   }
 
@@ -230,14 +223,14 @@ number-fits m b kept characters front h =
 
 spelled-ends : (kind : Kind) (kept front : List ℕ) → kept ≡ front → (found : Found) (t : Token) → Some (spelled kind kept) ≡ Some found → Means found t → Spells t front
 spelled-ends kind kept front e found t is means =
-    subst (λ (x : List ℕ). Spells t x) e (subst (λ f. Means f t) (sym (some-is _ _ is)) means).1
+    subst (λ (x : List ℕ). Spells t x) e (subst (λ f. Means f t) (sym (same_Some _ _ is)) means).1
 
 pub number-ends : (m : NumberMode) (kept characters front : List ℕ) → ModeFits (Number m) kept characters front → EndFits (Number m) kept characters front
-number-ends number.Sign kept characters front h found t is means = absurd (not-some found is)
+number-ends number.Sign kept characters front h found t is means = absurd (none-some found is)
 number-ends number.Whole kept characters front h found t is means = spelled-ends whole kept front h.0 found t is means
 number-ends number.Fraction kept characters front h found t is means = spelled-ends real kept front h.0 found t is means
-number-ends number.Exponent kept characters front h found t is means = absurd (not-some found is)
-number-ends number.ExponentSign kept characters front h found t is means = absurd (not-some found is)
+number-ends number.Exponent kept characters front h found t is means = absurd (none-some found is)
+number-ends number.ExponentSign kept characters front h found t is means = absurd (none-some found is)
 number-ends number.ExponentDigits kept characters front h found t is means = spelled-ends real kept front h.0 found t is means
 
 -- ---- keywords, markers and items
@@ -262,14 +255,14 @@ module _ (b : ℕ) (kept characters front : List ℕ) where
   -- a token of this kind, spelled by the kept bytes, that ends before the byte
   kind-end : (m : Mode) (kind : Kind) (u : Token) → ended (record { mode = m; kept = kept; characters = characters; size = length front }) ≡ Some (spelled kind kept) → Means (spelled kind kept) u → ((t : Token) → IsOfKind kind t → MayFollow t front b) → StepFits m kept characters front b End
   kind-end m kind u own spells follows = record {
-    follows = λ found t is means. follows t (subst (λ f. Means f t) (some-is _ _ (sym is ∙ own)) means).0;
+    follows = λ found t is means. follows t (subst (λ f. Means f t) (same_Some _ _ (sym is ∙ own)) means).0;
     no_token = λ none. absurd (none (spelled kind kept) u own spells);
   }
 
   -- a token that is known
   known-end : (m : Mode) (u : Token) → ended (record { mode = m; kept = kept; characters = characters; size = length front }) ≡ Some (known u) → MayFollow u front b → StepFits m kept characters front b End
   known-end m u own follows = record {
-    follows = λ found t is means. subst (λ v. MayFollow v front b) (subst (λ f. Means f t) (some-is _ _ (sym is ∙ own)) means) follows;
+    follows = λ found t is means. subst (λ v. MayFollow v front b) (subst (λ f. Means f t) (same_Some _ _ (sym is ∙ own)) means) follows;
     no_token = λ none. absurd (none (known u) u own refl);
   }
 
@@ -278,10 +271,10 @@ module _ (b : ℕ) (kept characters front : List ℕ) where
       let P : Option Mode → Type 0 = λ o. o ≡ Some next → ModeFits next (kept ++ b ∷ []) characters (front ++ b ∷ []) in
       let behind_dash : (text : List ℕ) → kept ≡ text → front ++ b ∷ [] ≡ text ++ 45 ∷ [] = λ text k. ap (λ (x : List ℕ). x ++ b ∷ []) (sym h ∙ k) ∙ ap (λ (c : ℕ). text ++ c ∷ []) e in
       cond_both (bytes_eq kept (codes "ISO")) (Some (Word (word.Marker Begin 4))) _ P
-      (λ k is. subst (λ m. ModeFits m (kept ++ b ∷ []) characters (front ++ b ∷ [])) (some-is _ _ is) (ap (λ (x : List ℕ). x ++ b ∷ []) h, (behind_dash (codes "ISO") ((bytes_eq-Decides _ _).0 k), omega arith)))
+      (λ k is. subst (λ m. ModeFits m (kept ++ b ∷ []) characters (front ++ b ∷ [])) (same_Some _ _ is) (ap (λ (x : List ℕ). x ++ b ∷ []) h, (behind_dash (codes "ISO") ((bytes_eq-Decides _ _).0 k), omega arith)))
       (λ _. cond_both (bytes_eq kept (codes "END")) (Some (Word (word.Marker Finish 4))) None P
-      (λ k is. subst (λ m. ModeFits m (kept ++ b ∷ []) characters (front ++ b ∷ [])) (some-is _ _ is) (ap (λ (x : List ℕ). x ++ b ∷ []) h, (behind_dash (codes "END") ((bytes_eq-Decides _ _).0 k), omega arith)))
-      (λ _ is. absurd (not-some next is)))
+      (λ k is. subst (λ m. ModeFits m (kept ++ b ∷ []) characters (front ++ b ∷ [])) (same_Some _ _ is) (ap (λ (x : List ℕ). x ++ b ∷ []) h, (behind_dash (codes "END") ((bytes_eq-Decides _ _).0 k), omega arith)))
+      (λ _ is. absurd (none-some next is)))
 
   marker-fits : (marker : Marker) (taken : ℕ) → kept ≡ front → front ≡ take taken (marker_text marker) → (due : Option ℕ) → slice_get (marker_text marker) taken ≡ due → StepFits (Word (word.Marker marker taken)) kept characters front b (marker_action marker taken b due)
   marker-fits marker taken h f None due_is = tt
@@ -333,9 +326,9 @@ word-fits m b kept characters front h = word-step b kept characters front m h
 pub word-ends : (m : WordMode) (kept characters front : List ℕ) → ModeFits (Word m) kept characters front → EndFits (Word m) kept characters front
 word-ends word.Keyword kept characters front h found t is means = spelled-ends keyword kept front h.0 found t is means
 word-ends (word.Marked marker) kept characters front h found t is means =
-    subst (λ (u : Token). Spells u front) (subst (λ f. Means f t) (sym (some-is _ _ is)) means) (marker-spells marker front h.1)
+    subst (λ (u : Token). Spells u front) (subst (λ f. Means f t) (sym (same_Some _ _ is)) means) (marker-spells marker front h.1)
 word-ends word.UserKeyword kept characters front h found t is means = spelled-ends user_keyword kept front h.0 found t is means
-word-ends _ kept characters front h found t is means = absurd (not-some found is)
+word-ends _ kept characters front h found t is means = absurd (none-some found is)
 
 -- ---- names
 
@@ -368,10 +361,10 @@ pub name-fits : (m : NameMode) (b : ℕ) (kept characters front : List ℕ) → 
 name-fits m b kept characters front h = name-step b kept characters front m h
 
 pub name-ends : (m : NameMode) (kept characters front : List ℕ) → ModeFits (Name m) kept characters front → EndFits (Name m) kept characters front
-name-ends name_mode.Hash kept characters front h found t is means = absurd (not-some found is)
+name-ends name_mode.Hash kept characters front h found t is means = absurd (none-some found is)
 name-ends (name_mode.Digits value) kept characters front h found t is means =
     let own : SpellsName front value = record { form = record { digits = h.0; bytes_are = h.1; some_digits = h.2; are_digits = h.3 }; value_is = h.4; in_range = h.5 } in
-    subst (λ (u : Token). Spells u front) (subst (λ f. Means f t) (sym (some-is _ _ is)) means) own
+    subst (λ (u : Token). Spells u front) (subst (λ f. Means f t) (sym (same_Some _ _ is)) means) own
 
 -- ---- binaries
 
@@ -397,7 +390,7 @@ pub binary-fits : (m : BinaryMode) (b : ℕ) (kept characters front : List ℕ) 
 binary-fits m b kept characters front h = binary-step b kept characters front m h
 
 pub binary-ends : (m : BinaryMode) (kept characters front : List ℕ) → ModeFits (Binary m) kept characters front → EndFits (Binary m) kept characters front
-binary-ends m kept characters front h found t is means = absurd (not-some found is)
+binary-ends m kept characters front h found t is means = absurd (none-some found is)
 
 -- ---- between tokens
 
