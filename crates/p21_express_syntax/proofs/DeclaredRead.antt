@@ -30,7 +30,7 @@ use Rattle.p21_express_syntax.proofs.TypesSound.{over}
 
 -- ---- supertype constraints
 
-snoc_same : (a b : List Lexeme) (x : Lexeme) → a ++ x ∷ [] ≡ b ++ x ∷ [] → a ≡ b
+pub snoc_same : (a b : List Lexeme) (x : Lexeme) → a ++ x ∷ [] ≡ b ++ x ∷ [] → a ≡ b
 snoc_same [] [] x e = refl
 snoc_same [] (z ∷ b) x e = absurd (let l = ap length e in let m = length-append b (x ∷ []) in omega arith)
 snoc_same (y ∷ a) [] x e = absurd (let l = ap length e in let m = length-append a (x ∷ []) in omega arith)
@@ -46,7 +46,7 @@ same_run run other more rest is is_other e =
     snoc_same run other (symbol 41) (pair_is {A = List Lexeme} (run ++ symbol 41 ∷ []) (other ++ symbol 41 ∷ []) more rest (sym a ∙ b)).0
 
 -- a run that is no ONEOF list of names isn't read as one
-no_one_of : (run : List Lexeme) (more : Items) → IsExpression (other_run run) → ◌≡◌ {A = Option (List (List ℕ) × Items)} (one_of_of (put run (over (symbol 41) more))) None
+pub no_one_of : (run : List Lexeme) (more : Items) → IsExpression (other_run run) → ◌≡◌ {A = Option (List (List ℕ) × Items)} (one_of_of (put run (over (symbol 41) more))) None
 no_one_of run more is = by (one_of_of (put run (over (symbol 41) more))) refl
   where
     by : (o : Option (List (List ℕ) × Items)) → ◌≡◌ {A = Option (List (List ℕ) × Items)} (one_of_of (put run (over (symbol 41) more))) o → ◌≡◌ {A = Option (List (List ℕ) × Items)} o None
@@ -79,12 +79,12 @@ unfolding supertypes_of take_word
 supertypes_read None more is n = rw n refl
 supertypes_read (Some names) more is n = names_read names more is
 
-behind_constraint : (names : Option (List (List ℕ))) (more : Items) → NoConstraint (put (subtype_lexemes names) (over (symbol 59) more))
+pub behind_constraint : (names : Option (List (List ℕ))) (more : Items) → NoConstraint (put (subtype_lexemes names) (over (symbol 59) more))
 unfolding take_word
 behind_constraint None more = record { no_abstract = refl; no_supertype = refl; no_of = refl }
 behind_constraint (Some names) more = record { no_abstract = refl; no_supertype = refl; no_of = refl }
 
-no_subtype : (more : Items) → take_word (codes "SUBTYPE") (over (symbol 59) more) ≡ None
+pub no_subtype : (more : Items) → take_word (codes "SUBTYPE") (over (symbol 59) more) ≡ None
 unfolding take_word
 no_subtype more = refl
 
@@ -175,7 +175,7 @@ unfolding take_word
 no_body_word name more is = (rw (name_apart name (codes "ENUMERATION") (16, lit< tt, refl) is) refl, rw (name_apart name (codes "SELECT") (17, lit< tt, refl) is) refl)
 
 -- a type begins with neither of these words
-type_begins : (t : WrittenType) (more : Items) → IsWrittenType t → (take_word (codes "ENUMERATION") (put (type_lexemes t) more) ≡ None) × (take_word (codes "SELECT") (put (type_lexemes t) more) ≡ None)
+pub type_begins : (t : WrittenType) (more : Items) → IsWrittenType t → (take_word (codes "ENUMERATION") (put (type_lexemes t) more) ≡ None) × (take_word (codes "SELECT") (put (type_lexemes t) more) ≡ None)
 unfolding take_word
 type_begins integer_type more is = (refl, refl)
 type_begins (real_type precision) more is = (refl, refl)

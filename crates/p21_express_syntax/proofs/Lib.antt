@@ -12,3 +12,6 @@ pub mod Counting
 pub mod DeclaredRead
 pub mod SchemasRead
 pub mod Uppered
+pub mod TypeTrees
+pub mod FixedParts
+pub mod OneTree

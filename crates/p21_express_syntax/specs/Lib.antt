@@ -7,3 +7,4 @@ pub mod Keeping
 pub mod ReadSchema
 pub mod Within
 pub mod ReadDeclarations
+pub mod OneTree

@@ -12,7 +12,7 @@ mod types;
 pub use attributes::{AttributeName, ExplicitAttributes};
 pub use defined_type::{Body, DefinedType};
 pub use entity::{Constraint, Entity};
-pub use schema::{Declarations, one_text, read_declarations};
+pub use schema::{Declarations, one_text, one_tree, read_declarations};
 pub use types::{Aggregate, DataType, Range, SimpleType, Width};
 
 #[cfg(test)]

@@ -5,6 +5,7 @@ ghost use Rattle.p21_express_lexemes.specs.Runs.{AreApart, marks};
 ghost use Rattle.p21_express_lexemes.specs.Taking.{Expected};
 ghost use Rattle.p21_express_syntax.specs.Declaring.{ended, over_end, passed_word_of, passed_behind, WordTaken, over_of, declaration_of, declarations_of, schema_of, begins_kept, OverRead, Added};
 ghost use Rattle.p21_express_syntax.specs.Many.{StepRead};
+ghost use Rattle.p21_express_syntax.specs.OneTree.{LexemesHaveOneTree, TextHasOneTree};
 ghost use Rattle.p21_express_syntax.specs.ReadDeclarations.{ReadsDeclarations, OneTextKept};
 ghost use Rattle.p21_express_syntax.specs.ReadSchema.{DeclarationsRead, SchemaRead, RoomSaid};
 ghost use Rattle.p21_express_syntax.specs.Views.{schema_view, declaration_view};
@@ -209,6 +210,13 @@ pub fn read_declarations(alloc: Global, text: &[u8]) -> Result<Declarations, Syn
 #[tactic(auto, using(crate::proofs::SchemasRead::one_kept))]
 pub fn one_text()
     ensures { OneTextKept }
+{}
+
+/// A text is that of one schema declaration at most.
+#[tactic(auto, using(crate::proofs::OneTree::one_tree))]
+pub fn one_tree()
+    ensures lexemes { LexemesHaveOneTree }
+    ensures text { TextHasOneTree }
 {}
 
 /// Whether nothing is left.
