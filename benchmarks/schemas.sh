@@ -44,7 +44,7 @@ with tempfile.TemporaryDirectory() as folder:
         counted = subprocess.run([*PROGRAMS["reading"], path], stdout=subprocess.PIPE, text=True, check=True).stdout
         if counted.split() != [str(len(lines)), "0"]:
             sys.exit(f"{name}: counts {counted}")
-        best = {program: least([*words, path]) - started[program] for program, words in PROGRAMS.items()}
+        best = {program: max(0, least([*words, path]) - started[program]) for program, words in PROGRAMS.items()}
         peak = peak_memory([*PROGRAMS["reading"], path])
         ratio = f"{best['reading'] / best['sha256sum']:.1f}" if best["sha256sum"] > 0.005 else "-"
         print(

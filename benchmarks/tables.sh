@@ -46,7 +46,7 @@ with tempfile.TemporaryDirectory() as folder:
             counted = subprocess.run([*words, path], stdout=subprocess.PIPE, text=True, check=True).stdout
             if counted.split() != [str(len(lines)), "0"]:
                 sys.exit(f"{name}: {words} counts {counted}")
-        best = {program: least([*words, path]) - started[program] for program, words in PROGRAMS.items()}
+        best = {program: max(0, least([*words, path]) - started[program]) for program, words in PROGRAMS.items()}
         peak = peak_memory([*PROGRAMS["tables"], path])
         ratio = f"{best['tables'] / best['alone']:.1f}" if best["alone"] > 0.0005 else "-"
         print(
