@@ -62,3 +62,13 @@ fn faults_of_lexer_and_parser(rt: HostRuntime) -> Result<(), Fail> {
     }
     Ok(())
 }
+
+#[test]
+fn last_token_behind_the_end(rt: HostRuntime) -> Result<(), Fail> {
+    let mut front = Front::new(rt.alloc(), Limits::usual());
+    assert_eq!(rt; statements(&mut front, HEADER), Ok(6));
+    assert_eq!(rt; statements(&mut front, DATA), Ok(4));
+    assert_eq!(rt; statements(&mut front, b"X"), Ok(0));
+    assert_eq!(rt; front.finish().map_err(|fault| fault.number()), Err(25));
+    Ok(())
+}
