@@ -35,7 +35,7 @@ use Rattle.p21_tokens_automaton.specs.declared.mode.WordMode.TheVariants.{Keywor
 use Rattle.p21_tokens.specs.Front.{Leads, Fronts, single, leads, ArePlain, TakesFront}
 use Rattle.p21_tokens.specs.Held.{Held, pending_of, state_of}
 use Rattle.p21_tokens.specs.Steps.{AreBlank, TakesRun, Gives, Hands, Steps, Scans, handed}
-use Rattle.p21_tokens.specs.declared.step.Step.TheVariants.{Gave}
+use Rattle.p21_tokens.specs.declared.step.Outcome.TheVariants.{Gave}
 use Rattle.p21_tokens.specs.Token.{meant, waits}
 use Rattle.p21_tokens.specs.declared.token.Token.{Token}
 use Rattle.p21_tokens.proofs.Scanning.{Along, behind-those, byte-behind, run-join, along-gave}
