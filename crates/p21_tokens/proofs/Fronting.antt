@@ -1,20 +1,18 @@
 -- Tokens that stand whole at the front of bytes.
-use Rattle.std.proofs.Common.{◌≡◌, Bool, false, ◌==◌, if◌then◌else◌, inl, ◌≢◌, ℕ, zero, suc, ◌+◌, ◌-◌, ◌*◌, ◌^◌, ◌≤◌, ◌<◌, true, lt-ltb, append_assoc, List, [], ◌∷◌, ◌++◌, length, length-drop, get_or, take, drop, refl, sym, ap, ◌∙◌, subst, arith, append-nil, Some, Ok}
+use Rattle.std.proofs.Common.{◌≡◌, ℤ, Bool, false, ◌==◌, if◌then◌else◌, inl, ◌≢◌, ℕ, zero, suc, ◌+◌, ◌-◌, ◌*◌, ◌^◌, ◌≤◌, ◌<◌, true, lt-ltb, append_assoc, List, [], ◌∷◌, ◌++◌, length, length-drop, get_or, take, drop, refl, sym, ap, ◌∙◌, subst, arith, append-nil, Some, Ok}
 use Rattle.std.specs.List.{slice_range}
 use Rattle.std.proofs.lemmas.Bool.{ne_eqb}
 use Rattle.std.proofs.lemmas.Bool.Decides.{nat_tests}
-use Rattle.std.proofs.lemmas.List.{length-take-le, take_more, drop_more, get_or-drop}
+use Rattle.std.proofs.lemmas.List.{length-take-le, take_more, get_or-drop}
 use Rattle.std.proofs.lemmas.Option.{slice_get_within, slice_get-get_or}
 use Rattle.std.proofs.Math.Seq.{take-add}
 use Rattle.p21_exchange.specs.Laying.{count_behind}
 use Rattle.p21_exchange.specs.Token as meaning
 use Rattle.p21_basics.specs.Digits.{IsDigit}
 use Rattle.std.specs.List.{AllByRecursion as Each}
-use Rattle.p21_exchange.proofs.Forms.{NoDigitFirst}
 use Rattle.p21_exchange.specs.Keyword.{IsUpper, IsKeywordByte, IsKeyword}
 use Rattle.p21_exchange.specs.Number as number
-use Rattle.p21_exchange.specs.Number.{SpellsReal}
-use Rattle.p21_values.specs.RealParts.{IsFrontReal, NoExponentFirst}
+use Rattle.p21_exchange.specs.Number.{SpellsReal, SpellsWhole}
 use Rattle.p21_exchange.specs.Token.{Spells, MayFollow}
 use Rattle.p21_tokens_automaton.proofs.Once.{spells-means}
 use Rattle.p21_tokens_automaton.proofs.Classes.{digit-decides, keyword_byte-decides, false_from_not}
@@ -23,8 +21,8 @@ use Rattle.p21_tokens_automaton.proofs.Steps.{lex-nil, lex-pass, lex-skip, lex-g
 use Rattle.p21_tokens_automaton.proofs.TokenRuns.{waits-keyword, waits-whole, waits-real}
 use Rattle.p21_tokens_automaton.proofs.Waits.{Waits}
 use Rattle.p21_tokens_automaton.specs.Bytes.{is_blank, is_digit, is_keyword_byte}
-use Rattle.p21_tokens_automaton.specs.Meaning.{Means, found_of}
-use Rattle.p21_tokens_automaton.specs.Reading.{whole, real, known, spelled, State, start, Answer, nothing_but, open_at, before, Found, single_token, ended, lex}
+use Rattle.p21_tokens_automaton.specs.Meaning.{found_of}
+use Rattle.p21_tokens_automaton.specs.Reading.{known, State, start, Answer, nothing_but, open_at, before, Found, single_token, ended, lex}
 use Rattle.p21_tokens_automaton.specs.Step.{advance}
 use Rattle.p21_tokens_automaton.specs.Run.{AreNameDigits, EachDoes}
 use Rattle.p21_tokens_automaton.specs.declared.mode.Mode.TheVariants.{Between, Name, Text, Word}
@@ -37,7 +35,7 @@ use Rattle.p21_tokens_automaton.specs.declared.mode.WordMode.TheVariants.{Keywor
 use Rattle.p21_tokens.specs.Front.{Leads, Fronts, single, leads, ArePlain, TakesFront}
 use Rattle.p21_tokens.specs.Held.{Held, pending_of, state_of}
 use Rattle.p21_tokens.specs.Steps.{AreBlank, TakesRun, Gives, Hands, Steps, Scans, handed}
-use Rattle.p21_tokens.specs.declared.step.Step.TheVariants.{Gave}
+use Rattle.p21_tokens.specs.declared.step.Outcome.TheVariants.{Gave}
 use Rattle.p21_tokens.specs.Token.{meant, waits}
 use Rattle.p21_tokens.specs.declared.token.Token.{Token}
 use Rattle.p21_tokens.proofs.Scanning.{Along, behind-those, byte-behind, run-join, along-gave}
@@ -193,25 +191,11 @@ module _ (bytes : List ℕ) (count byte : ℕ) (found : (count < length bytes) �
         ends = w.ends byte m;
       }
 
-  pub leads_whole : (t : meaning.Token) → Means (spelled whole (take count bytes)) t → ¬ IsDigit byte → byte ≢ 46 → Leads bytes count t
-  leads_whole (meaning.whole z) m d p = waits-leads (meaning.whole z) m.1 (waits-whole z (take count bytes) m.1) (d, p)
-  leads_whole other m d p = absurd m.0
+  pub leads_whole : (z : ℤ) → SpellsWhole (take count bytes) z → ¬ IsDigit byte → byte ≢ 46 → Leads bytes count (meaning.whole z)
+  leads_whole z s d p = waits-leads (meaning.whole z) s (waits-whole z (take count bytes) s) (d, p)
 
-  pub leads_real : (t : meaning.Token) → Means (spelled real (take count bytes)) t → ¬ IsDigit byte → byte ≢ 69 → Leads bytes count t
-  leads_real (meaning.real z) m d e = waits-leads (meaning.real z) m.1 (waits-real z (take count bytes) m.1) (d, λ _. e)
-  leads_real other m d e = absurd m.0
-
-  pub leads_front_real : (z : number.Decimal) → IsFrontReal bytes count → SpellsReal (take count bytes) z → Leads bytes count (meaning.real z)
-  leads_front_real z f s = waits-leads (meaning.real z) s (waits-real z (take count bytes) s) (digit f.splits.no_digit, λ _. exponent f.no_exponent)
-    where
-      first : drop count bytes ≡ byte ∷ drop (count + 1) bytes
-      first = drop_more bytes count 0 found.0 ∙ ap (λ (b : ℕ). b ∷ drop (count + 1) bytes) (sym (found.1 0))
-
-      digit : NoDigitFirst (drop count bytes) → ¬ IsDigit byte
-      digit n = rw first at n
-
-      exponent : NoExponentFirst (drop count bytes) → byte ≢ 69
-      exponent n = rw first at n
+  pub leads_real : (z : number.Decimal) → SpellsReal (take count bytes) z → ¬ IsDigit byte → byte ≢ 69 → Leads bytes count (meaning.real z)
+  leads_real z s d e = waits-leads (meaning.real z) s (waits-real z (take count bytes) s) (d, λ _. e)
 
   pub leads_keyword : IsUpper (get_or bytes 0 0) → EachDoes (Word Keyword) bytes count (λ b. Keep (Word Keyword)) → (count < length bytes → is_keyword_byte (get_or bytes count 0) ≡ false) → byte ≢ 45 → Leads bytes count (meaning.keyword (take count bytes))
   leads_keyword u h ends d = waits-leads (meaning.keyword (take count bytes)) spells (waits-keyword (take count bytes) (take count bytes) spells) (other, d)

@@ -8,7 +8,7 @@ use Rattle.std.proofs.Math.Seq.{take-length, take-add}
 use Rattle.p21_tokens.specs.Held.{Held}
 use Rattle.p21_tokens.specs.Steps.{AreBlank, rest_of, SameLimits, RefusesAt, RefusesByte, Steps, TakesRun, Runs, Scans, ScansToken, Walks, gave, handed}
 use Rattle.p21_tokens.specs.declared.fault.TokenFault.{TokenFault}
-use Rattle.p21_tokens.specs.declared.step.Step.TheVariants.{Gave, Handed}
+use Rattle.p21_tokens.specs.declared.step.Outcome.TheVariants.{Gave, Handed}
 use Rattle.p21_tokens.specs.Token.{meant}
 use Rattle.p21_tokens.specs.declared.token.Token.{Token}
 

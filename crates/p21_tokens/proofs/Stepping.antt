@@ -32,7 +32,7 @@ use Rattle.p21_tokens.specs.Steps.{is_gap, rest_of, IsDeadAt, EndsNone, IsInLimi
 use Rattle.p21_tokens.specs.Token.{meant, waits}
 use Rattle.p21_tokens.specs.declared.fault.TokenFault.{TokenFault}
 use Rattle.p21_tokens.specs.declared.fault.TokenFault.TheVariants as fault
-use Rattle.p21_tokens.specs.declared.step.Step.TheVariants.{Took, Gave, Handed}
+use Rattle.p21_tokens.specs.declared.step.Outcome.TheVariants.{Took, Gave, Handed}
 use Rattle.p21_tokens.specs.declared.token.Token.{Token}
 
 pub same-limits : (v w : Held) → w.statement_limit ≡ v.statement_limit → w.file_limit ≡ v.file_limit → w.refused ≡ v.refused → SameLimits v w

@@ -17,8 +17,8 @@ use Rattle.p21_tokens.specs.Held.{Held, pending_of, state_of}
 use Rattle.p21_tokens.specs.Token.{meant, waits}
 use Rattle.p21_tokens.specs.declared.fault.TokenFault.{TokenFault}
 use Rattle.p21_tokens.specs.declared.fault.TokenFault.TheVariants.{BadByte, OpenString, OpenComment, NumberRange, BadBinary, EndsEarly, NoMemory}
-use Rattle.p21_tokens.specs.declared.step.Step.{Step}
-use Rattle.p21_tokens.specs.declared.step.Step.TheVariants.{Took, Gave, Handed}
+use Rattle.p21_tokens.specs.declared.step.Outcome.{Outcome}
+use Rattle.p21_tokens.specs.declared.step.Outcome.TheVariants.{Took, Gave, Handed}
 use Rattle.p21_tokens.specs.declared.token.Token.{Token}
 
 -- no token is open
@@ -183,7 +183,7 @@ pub record Hands (old : Held) (byte : ℕ) (token : meaning.Token) (new : Held) 
   pub start_is : state_of new ≡ start
   pub rest_is : (rest : List ℕ) → rest_of old (byte ∷ rest) ≡ before (record { found = found; size = old.size }) (rest_of new (byte ∷ rest))
 
-abbrev pub Steps : Held → ℕ → Result Step TokenFault → Held → Type 0
+abbrev pub Steps : Held → ℕ → Result Outcome TokenFault → Held → Type 0
 Steps old byte (Ok Took) new = SameLimits old new × Takes old byte new
 Steps old byte (Ok (Gave token)) new = SameLimits old new × Gives old byte (meant token) new
 Steps old byte (Ok (Handed token)) new = SameLimits old new × Hands old byte (meant token) new

@@ -7,10 +7,10 @@ ghost use Rattle.p21_tokens_automaton.specs.declared.mode.Action.TheVariants.{Gi
 ghost use Rattle.p21_tokens.specs.Front.{ArePlain, Fronts, Leads};
 ghost use Rattle.p21_tokens.specs.Token.{meant};
 
-use crate::reading::{behind, read_real, read_whole, single_token};
+use crate::reading::{behind, single_token};
 use crate::token::Token;
 use p21_tokens_automaton::{Single, keyword_bytes, name_digits, plain_characters};
-use p21_values::{Decimal, Name, Text, Word};
+use p21_values::{Name, Number, Text, Word, read_number};
 use std::alloc::Global;
 
 /// The token at the front of bytes, and how many bytes it has, where that is easily seen: one of one byte, or a keyword,
@@ -54,71 +54,28 @@ fn waiting_token(alloc: Global, first: u8, bytes: &[u8]) -> Option<(usize, Token
     }
 }
 
-/// Where the digits end that stand at a place. The readers test the bytes again.
-fn end_of_digits(bytes: &[u8], from: usize) -> usize
-    ensures { from ≤ result }
-{
-    let mut end = from;
-    while end < bytes.len() && bytes[end].is_ascii_digit() {
-        end += 1;
-    }
-    end
-}
-
+/// The byte behind it is none that a number goes on with.
 fn front_number(alloc: Global, bytes: &[u8]) -> Option<(usize, Token)>
     ensures { IfSome result (λ front. Leads bytes.now front.0 (meant front.1)) }
 {
-    match Decimal::read_front(alloc, bytes) {
-        Ok((count, number)) => {
-            let _behind = bytes.get(count)?;
+    let (count, number) = read_number(alloc, bytes)?;
+    let next = *bytes.get(count)?;
+    if next.is_ascii_digit() {
+        return None;
+    }
+    match number {
+        Number::Whole(number) => {
+            if next == b'.' {
+                return None;
+            }
+            Some((count, Token::Whole(number)))
+        }
+        Number::Real(number) => {
+            if next == b'E' {
+                return None;
+            }
             Some((count, Token::Real(number)))
         }
-        Err(_fault) => other_number(alloc, bytes),
-    }
-}
-
-/// A whole number, or a real with an exponent.
-fn other_number(alloc: Global, bytes: &[u8]) -> Option<(usize, Token)>
-    ensures { IfSome result (λ front. Leads bytes.now front.0 (meant front.1)) }
-{
-    let whole = end_of_digits(bytes, 1);
-    if *bytes.get(whole)? != b'.' {
-        return front_whole(alloc, bytes, whole);
-    }
-    let fraction = end_of_digits(bytes, whole + 1);
-    if *bytes.get(fraction)? != b'E' {
-        return front_real(alloc, bytes, fraction);
-    }
-    let exponent = match *bytes.get(fraction + 1)? {
-        b'+' | b'-' => fraction + 2,
-        _ => fraction + 1,
-    };
-    front_real(alloc, bytes, end_of_digits(bytes, exponent))
-}
-
-fn front_whole(alloc: Global, bytes: &[u8], count: usize) -> Option<(usize, Token)>
-    ensures { IfSome result (λ front. Leads bytes.now front.0 (meant front.1)) }
-{
-    let byte = *bytes.get(count)?;
-    if byte.is_ascii_digit() || byte == b'.' {
-        return None;
-    }
-    match read_whole(alloc, &bytes[..count]) {
-        Ok(token) => Some((count, token)),
-        Err(_fault) => None,
-    }
-}
-
-fn front_real(alloc: Global, bytes: &[u8], count: usize) -> Option<(usize, Token)>
-    ensures { IfSome result (λ front. Leads bytes.now front.0 (meant front.1)) }
-{
-    let byte = *bytes.get(count)?;
-    if byte.is_ascii_digit() || byte == b'E' {
-        return None;
-    }
-    match read_real(alloc, &bytes[..count]) {
-        Ok(token) => Some((count, token)),
-        Err(_fault) => None,
     }
 }
 

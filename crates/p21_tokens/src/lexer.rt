@@ -16,7 +16,7 @@ ghost use Rattle.p21_tokens.specs.Token.{meant};
 use crate::fault::{TokenFault, fault_of};
 use crate::front::front_token;
 use crate::reading::{marker_of, read_closed, read_end, read_ended, single_token};
-use crate::step::{Step, is_token_byte};
+use crate::step::{Outcome, is_token_byte};
 use crate::token::Token;
 use crate::within::{at_most, whole_characters};
 use p21_tokens_automaton::{Action, Mode, NameMode, Run, Single, advance, blanks, run_of};
@@ -170,7 +170,7 @@ impl Lexer {
     }
 
     /// A byte that the limits allow and that doesn't stand behind an ended token.
-    fn take(&mut self, action: Action, byte: u8) -> Result<Step, TokenFault>
+    fn take(&mut self, action: Action, byte: u8) -> Result<Outcome, TokenFault>
         requires action { action ≡ advance self.old.mode byte }
         requires not_end { action ≢ Action.End }
         requires file { self.old.file < self.old.file_limit }
@@ -180,23 +180,23 @@ impl Lexer {
         match action {
             Action::Pass(mode) => {
                 self.pass(mode);
-                Ok(Step::Took)
+                Ok(Outcome::Took)
             }
             Action::Skip(mode) => {
                 self.skip(mode);
-                Ok(Step::Took)
+                Ok(Outcome::Took)
             }
             Action::Keep(mode) => match self.keep(mode, byte) {
-                Ok(()) => Ok(Step::Took),
+                Ok(()) => Ok(Outcome::Took),
                 Err(fault) => Err(fault),
             },
             Action::Put(mode, character) => match self.put(mode, character) {
-                Ok(()) => Ok(Step::Took),
+                Ok(()) => Ok(Outcome::Took),
                 Err(fault) => Err(fault),
             },
-            Action::Give(single) => Ok(Step::Gave(self.give(single))),
+            Action::Give(single) => Ok(Outcome::Gave(self.give(single))),
             Action::Close => match self.close(byte) {
-                Ok(token) => Ok(Step::Gave(token)),
+                Ok(token) => Ok(Outcome::Gave(token)),
                 Err(fault) => Err(fault),
             },
             Action::Dash => self.dash(byte),
@@ -206,7 +206,7 @@ impl Lexer {
     }
 
     /// The `-` of the first or the last token of a file.
-    fn dash(&mut self, byte: u8) -> Result<Step, TokenFault>
+    fn dash(&mut self, byte: u8) -> Result<Outcome, TokenFault>
         requires action { advance self.old.mode byte ≡ Action.Dash }
         requires file { self.old.file < self.old.file_limit }
         requires statement { pending_of self.old < self.old.statement_limit }
@@ -216,19 +216,19 @@ impl Lexer {
             return Err(TokenFault::BadByte);
         };
         match self.keep(mode, byte) {
-            Ok(()) => Ok(Step::Took),
+            Ok(()) => Ok(Outcome::Took),
             Err(fault) => Err(fault),
         }
     }
 
     /// Takes a byte, or the token that it ends.
-    fn step(&mut self, byte: u8) -> Result<Step, TokenFault>
+    fn step(&mut self, byte: u8) -> Result<Outcome, TokenFault>
         ensures { Steps self.old byte result self.new }
     {
         let action = advance(self.mode, byte);
         if let Action::End = action {
             return match self.hand() {
-                Ok(token) => Ok(Step::Handed(token)),
+                Ok(token) => Ok(Outcome::Handed(token)),
                 Err(fault) => Err(fault),
             };
         }
@@ -402,9 +402,9 @@ impl Lexer {
     {
         match self.take_run(bytes) {
             Ok(0) => match self.step(bytes[0]) {
-                Ok(Step::Took) => Ok((1, None)),
-                Ok(Step::Gave(token)) => Ok((1, Some(token))),
-                Ok(Step::Handed(token)) => Ok((0, Some(token))),
+                Ok(Outcome::Took) => Ok((1, None)),
+                Ok(Outcome::Gave(token)) => Ok((1, Some(token))),
+                Ok(Outcome::Handed(token)) => Ok((0, Some(token))),
                 Err(fault) => Err(fault),
             },
             Ok(run) => Ok((run, None)),

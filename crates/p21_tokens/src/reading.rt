@@ -67,7 +67,7 @@ fn read_number(alloc: Global, mode: NumberMode, kept: &[u8]) -> Result<Token, To
     }
 }
 
-pub(crate) fn read_whole(alloc: Global, kept: &[u8]) -> Result<Token, TokenFault>
+fn read_whole(alloc: Global, kept: &[u8]) -> Result<Token, TokenFault>
     ensures { ReadsFound (Some (spelled whole kept.now)) result }
 {
     match Whole::read(alloc, kept) {
@@ -76,7 +76,7 @@ pub(crate) fn read_whole(alloc: Global, kept: &[u8]) -> Result<Token, TokenFault
     }
 }
 
-pub(crate) fn read_real(alloc: Global, kept: &[u8]) -> Result<Token, TokenFault>
+fn read_real(alloc: Global, kept: &[u8]) -> Result<Token, TokenFault>
     ensures { ReadsFound (Some (spelled real kept.now)) result }
 {
     match Decimal::read(alloc, kept) {

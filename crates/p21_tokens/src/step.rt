@@ -6,7 +6,7 @@ use p21_tokens_automaton::{Action, Mode};
 
 /// What one byte did.
 #[derive(Drop)]
-pub(crate) enum Step {
+pub(crate) enum Outcome {
     /// It was taken, and gave no token.
     Took,
     /// It was taken, and gave a token.

@@ -1,15 +1,16 @@
 -- What the readers cut off is what every form of the bytes has there.
-use Rattle.std.proofs.Common.{◌≡◌, ℕ, ◌-◌, ℤ, pos, Bool, List, [], ◌∷◌, ◌++◌, length, length-append, append_assoc, take, drop, Result, Ok, Err, refl, ap, sym, ◌∙◌, subst, arith}
-use Rattle.std.proofs.Math.Seq.{take-append_seam, drop-append_seam}
+use Rattle.std.proofs.Common.{◌≡◌, ℕ, ◌-◌, ◌^◌, ◌<◌, ℤ, Bool, cond, eqb, List, [], ◌∷◌, ◌++◌, length, length-append, append_assoc, take, Result, Ok, Err, refl, ap, sym, ◌∙◌, subst, arith}
+use Rattle.std.proofs.Math.Seq.{take-append_seam}
+use Rattle.std.proofs.lemmas.Bool.{cond_both, eqb-true}
 use Rattle.std.proofs.lemmas.List.{append-nil}
-use Rattle.p21_basics.specs.Digits.{AllDigits}
-use Rattle.p21_exchange.specs.Number.{Decimal, Exponent, IsInRange, IsShort, RealForm, exponent, exponent_bytes, exponent_value, is_minus, no_exponent, real_ratio, sign_bytes}
-use Rattle.p21_exchange.proofs.Forms.{NoDigitFirst, NoSignFirst, behind_sign, first_sign_bytes, no_digit_exponent, no_sign_first, same_form, sign_once, split_once}
+use Rattle.p21_basics.specs.Digits.{AllDigits, number}
+use Rattle.p21_exchange.specs.Number.{Decimal, Exponent, IsInRange, IsShort, RealForm, SpellsReal, SpellsWhole, exponent, exponent_bytes, exponent_value, is_minus, minus, no_exponent, none, plus, real_ratio, sign_bytes, signed}
+use Rattle.p21_exchange.proofs.Forms.{NoDigitFirst, NoSignFirst, behind_sign, first_sign, first_sign_bytes, no_digit_exponent, no_sign_first, same_form, sign_once, split_once}
 use Rattle.p21_exchange.proofs.RealSpellings.{form_ratio_once}
 use Rattle.p21_values.specs.declared.fault.ValueFault.{ValueFault}
 use Rattle.p21_values.specs.declared.fault.ValueFault.TheVariants.{BadBinary, BadName, BadNumber, BadWord, NameRange, NoMemory, NumberRange}
 use Rattle.p21_values.specs.Decimal.{KeepsRatio, ReadsReal}
-use Rattle.p21_values.specs.RealParts.{BeginsReal, HasExponentForm, IsFrontReal, NoExponentFirst, ReadsExponent, ReadsFrontReal, SplitsReal, digits_ratio}
+use Rattle.p21_values.specs.RealParts.{BeginsExponent, BeginsReal, HasExponentForm, ReadsExponent, SplitsReal, digits_ratio}
 use Rattle.p21_values.specs.Digits.{SignedDigits}
 
 -- what stands behind the sign are the digits and nothing else
@@ -111,66 +112,60 @@ reads_parts bytes negative whole fraction behind k r s (x, form, short, value) h
     real_of_ratio bytes (form_of bytes negative whole fraction behind s x form) r short (
     subst (λ (b : Bool). KeepsRatio (digits_ratio b whole fraction (exponent_value x)) r) s.negative_is (subst (λ (z : ℤ). KeepsRatio (digits_ratio negative whole fraction z) r) value h))
 
--- ---- a real at the front
+-- ---- a number at the front
 
-pub no_front_begins : (bytes : List ℕ) → (BeginsReal bytes → ⊥) → (count : ℕ) → IsFrontReal bytes count → ⊥
-no_front_begins bytes none_begins count f = none_begins (splits_begins bytes _ _ _ _ f.splits)
+sign_front : (bytes : List ℕ) → bytes ≡ sign_bytes (first_sign bytes) ++ behind_sign bytes
+sign_front [] = refl
+sign_front (c ∷ cs) =
+    cond_both (eqb c 43) plus (cond (eqb c 45) minus none) (λ s. c ∷ cs ≡ sign_bytes s ++ behind_sign (c ∷ cs)) (λ e. rw e (ap (λ (b : ℕ). b ∷ cs) (eqb-true c 43 e)))
+    (λ e. cond_both (eqb c 45) minus none (λ s. c ∷ cs ≡ sign_bytes s ++ behind_sign (c ∷ cs)) (λ f. rw (e, f) (ap (λ (b : ℕ). b ∷ cs) (eqb-true c 45 f))) (λ f. rw (e, f) refl))
 
-pub no_exponent_first : (bytes : List ℕ) → ((rest : List ℕ) → bytes ≡ 69 ∷ rest → ⊥) → NoExponentFirst bytes
-no_exponent_first [] h = tt
-no_exponent_first (byte ∷ bytes) h = λ e. h bytes (ap (λ b. b ∷ bytes) e)
+front_take : (bytes front rest : List ℕ) → bytes ≡ front ++ rest → take (length bytes - length rest) bytes ≡ front
+front_take bytes front rest e =
+    let count : length bytes - length rest ≡ length front = let l = ap length e ∙ length-append front rest in omega arith in
+    ap (λ n. take n bytes) count ∙ (ap (λ xs. take (length front) xs) e ∙ take-append_seam front rest)
 
-pub no_front_exponent : (bytes : List ℕ) (negative : Bool) (whole fraction rest : List ℕ) → SplitsReal bytes negative whole fraction rest → (tail : List ℕ) → rest ≡ 69 ∷ tail → (count : ℕ) → IsFrontReal bytes count → ⊥
-no_front_exponent bytes negative whole fraction rest s tail e count f = subst NoExponentFirst (behind_once bytes _ _ _ _ _ _ _ _ f.splits s ∙ e) f.no_exponent refl
+pub exponent_front : (bytes written digits rest : List ℕ) (negative : Bool) (value : ℤ) → bytes ≡ 69 ∷ written → behind_sign written ≡ digits ++ rest → negative ≡ is_minus (first_sign written) → 0 < length digits → AllDigits digits → number digits < 10 ^ 9 → value ≡ signed negative (number digits) → BeginsExponent bytes value rest
+exponent_front bytes written digits rest negative value e f n some are short value_is = record {
+  exponent = exponent (first_sign written) digits;
+  bytes_are = e ∙ ap (λ (xs : List ℕ). 69 ∷ xs) (sign_front written ∙ (ap (λ xs. sign_bytes (first_sign written) ++ xs) f ∙ sym (append_assoc (sign_bytes (first_sign written)) digits rest)));
+  is_exponent = (some, are);
+  is_short = short;
+  value_is = value_is ∙ ap (λ (b : Bool). signed b (number digits)) n;
+}
 
-module _ (bytes : List ℕ) (negative : Bool) (whole fraction rest : List ℕ) (s : SplitsReal bytes negative whole fraction rest) (e : NoExponentFirst rest) where
-  front : List ℕ
-  front = sign_bytes s.sign ++ (whole ++ (46 ∷ fraction))
-
-  parts : bytes ≡ front ++ rest
-  unfolding front
-  parts = s.bytes_are ∙ sym (append_assoc (sign_bytes s.sign) (whole ++ (46 ∷ fraction)) rest ∙ ap (λ xs. sign_bytes s.sign ++ xs) (append_assoc whole (46 ∷ fraction) rest))
-
-  count_is : length bytes - length rest ≡ length front
-  count_is = let l = ap length parts ∙ length-append front rest in omega arith
-
-  takes : take (length bytes - length rest) bytes ≡ front
-  takes = ap (λ n. take n bytes) count_is ∙ (ap (λ xs. take (length front) xs) parts ∙ take-append_seam front rest)
-
-  drops : drop (length bytes - length rest) bytes ≡ rest
-  drops = ap (λ n. drop n bytes) count_is ∙ (ap (λ xs. drop (length front) xs) parts ∙ drop-append_seam front rest)
-
-  pub is_front : IsFrontReal bytes (length bytes - length rest)
-  is_front = record {
-    within = omega arith;
-    negative = negative;
-    whole = whole;
-    fraction = fraction;
-    splits = subst (λ xs. SplitsReal bytes negative whole fraction xs) (sym drops) s;
-    no_exponent = subst NoExponentFirst (sym drops) e;
-  }
-
-  front_splits : SplitsReal (take (length bytes - length rest) bytes) negative whole fraction []
-  unfolding front
-  front_splits = record {
-    sign = s.sign;
-    bytes_are = takes ∙ ap (λ xs. sign_bytes s.sign ++ (whole ++ (46 ∷ xs))) (sym (append-nil fraction));
-    negative_is = s.negative_is;
-    some_digits = s.some_digits;
-    are_digits = s.are_digits;
-    are_fraction_digits = s.are_fraction_digits;
-    no_digit = tt;
+module _ (bytes whole rest : List ℕ) (unsigned : behind_sign bytes ≡ whole ++ rest) (some : 0 < length whole) (digits : AllDigits whole) where
+  pub front_whole : (negative : Bool) (value : ℤ) → negative ≡ is_minus (first_sign bytes) → value ≡ signed negative (number whole) → SpellsWhole (take (length bytes - length rest) bytes) value
+  front_whole negative value n e = record {
+    sign = first_sign bytes;
+    digits = whole;
+    bytes_are = front_take bytes (sign_bytes (first_sign bytes) ++ whole) rest (sign_front bytes ∙ (ap (λ xs. sign_bytes (first_sign bytes) ++ xs) unsigned ∙ sym (append_assoc (sign_bytes (first_sign bytes)) whole rest)));
+    some_digits = some;
+    are_digits = digits;
+    value_is = e ∙ ap (λ (b : Bool). signed b (number whole)) n;
   }
 
   -- the number of the parts is that of the bytes up to what stands behind
-  pub reads_front : (r : Result Decimal ValueFault) → KeepsRatio (digits_ratio negative whole fraction (pos 0)) r → ReadsReal (take (length bytes - length rest) bytes) r
-  reads_front r h = reads_parts _ negative whole fraction [] (pos 0) r front_splits (no_exponent, record { bytes_are = refl; is_exponent = tt }, tt, refl) h
+  pub front_real : (negative : Bool) (decimals fraction behind tail : List ℕ) (k : ℤ) (value : Decimal) → negative ≡ is_minus (first_sign bytes) → rest ≡ 46 ∷ decimals → decimals ≡ fraction ++ behind → AllDigits fraction → BeginsExponent behind k tail → KeepsRatio (digits_ratio negative whole fraction k) (Ok value)
+      → SpellsReal (take (length bytes - length tail) bytes) value
+  front_real negative decimals fraction behind tail k value n e f are x h =
+      reads_parts _ negative whole fraction (exponent_bytes x.exponent) k (Ok value) splits (x.exponent, record { bytes_are = refl; is_exponent = x.is_exponent }, x.is_short, x.value_is) h
+    where
+      all : bytes ≡ (sign_bytes (first_sign bytes) ++ (whole ++ (46 ∷ (fraction ++ exponent_bytes x.exponent)))) ++ tail
+      all =
+          sign_front bytes
+          ∙ (ap (λ xs. sign_bytes (first_sign bytes) ++ xs) (unsigned ∙ ap (λ xs. whole ++ xs) (e ∙ ap (λ xs. 46 ∷ xs) (f ∙ ap (λ xs. fraction ++ xs) x.bytes_are)))
+          ∙ sym (append_assoc (sign_bytes (first_sign bytes)) (whole ++ (46 ∷ (fraction ++ exponent_bytes x.exponent))) tail
+          ∙ ap (λ xs. sign_bytes (first_sign bytes) ++ xs) (append_assoc whole (46 ∷ (fraction ++ exponent_bytes x.exponent)) tail
+          ∙ ap (λ xs. whole ++ (46 ∷ xs)) (append_assoc fraction (exponent_bytes x.exponent) tail))))
 
-  pub reads_front_fault : (fault : ValueFault) → KeepsRatio (digits_ratio negative whole fraction (pos 0)) (Err fault) → ReadsFrontReal bytes (Err fault)
-  reads_front_fault NoMemory h = tt
-  reads_front_fault NumberRange h = (length bytes - length rest, is_front, (reads_front (Err NumberRange) h).1)
-  reads_front_fault BadNumber h = absurd h
-  reads_front_fault BadBinary h = absurd h
-  reads_front_fault NameRange h = absurd h
-  reads_front_fault BadName h = absurd h
-  reads_front_fault BadWord h = absurd h
+      splits : SplitsReal (take (length bytes - length tail) bytes) negative whole fraction (exponent_bytes x.exponent)
+      splits = record {
+        sign = first_sign bytes;
+        bytes_are = front_take bytes (sign_bytes (first_sign bytes) ++ (whole ++ (46 ∷ (fraction ++ exponent_bytes x.exponent)))) tail all;
+        negative_is = n;
+        some_digits = some;
+        are_digits = digits;
+        are_fraction_digits = are;
+        no_digit = no_digit_exponent x.exponent;
+      }

@@ -8,3 +8,4 @@ pub mod RealParts
 pub mod Kept
 pub mod Stored
 pub mod Word
+pub mod Front

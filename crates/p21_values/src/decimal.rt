@@ -1,10 +1,10 @@
-ghost use Rattle.std.specs.Prelude.{◌≡◌, ◌-◌, ◌<◌, ◌+ℤ◌, ◌-ℤ◌, pos, [], ◌∷◌, ◌++◌, length, if◌then◌else◌, IfNone, IfOk, IfSome, OnErr, OnOk};
+ghost use Rattle.std.specs.Prelude.{◌≡◌, ◌-◌, ◌^◌, ◌<◌, ◌≤◌, ◌+ℤ◌, ◌-ℤ◌, pos, [], ◌∷◌, ◌++◌, length, if◌then◌else◌, IfNone, IfOk, IfSome, OnErr, OnOk};
 ghost use Rattle.p21_basics.specs.Digits.{AllDigits, number};
-ghost use Rattle.p21_exchange.specs.Number.{IsExponentInRange, RealForm, whole_ratio};
+ghost use Rattle.p21_exchange.specs.Number.{IsExponentInRange, RealForm, signed, whole_ratio};
 ghost use Rattle.p21_exchange.specs.Spelling.{exponent_spelling, real_spelling};
 ghost use Rattle.p21_values.specs.Canonical.{Continues};
 ghost use Rattle.p21_values.specs.Decimal.{IsDecimal, KeepsRatio, ReadsReal};
-ghost use Rattle.p21_values.specs.RealParts.{BeginsReal, ReadsExponent, ReadsFrontReal, SplitsReal, digits_ratio};
+ghost use Rattle.p21_values.specs.RealParts.{BeginsExponent, BeginsReal, ReadsExponent, SplitsReal, digits_ratio};
 ghost use Rattle.p21_values.specs.Stored.{significand_spelling};
 ghost use Rattle.p21_values.specs.Digits.{WithoutEndZeros, WithoutFrontZeros};
 
@@ -42,9 +42,9 @@ impl Model for Decimal {
 
 // The digits of a real on both sides of the point.
 #[derive(Clone, Copy)]
-struct Digits<'a> {
-    whole: &'a [u8],
-    fraction: &'a [u8],
+pub(crate) struct Digits<'a> {
+    pub(crate) whole: &'a [u8],
+    pub(crate) fraction: &'a [u8],
 }
 
 impl Decimal {
@@ -64,27 +64,6 @@ impl Decimal {
         };
         let exponent = read_exponent(rest)?;
         Decimal::of_digits(alloc, negative, digits, exponent)
-    }
-
-    /// Reads the real that stands at the front of bytes without an exponent: a sign or none, digits, a point, and digits
-    /// or none, behind which neither a digit nor `E` stands. Says also how many bytes it has.
-    ///
-    /// # Errors
-    ///
-    /// `BadNumber` where no such real stands there. `NumberRange` where the exponent of the form with one digit before
-    /// the point isn't in -9999 to 9999. `NoMemory`.
-    #[inline(always)]
-    pub fn read_front(alloc: Global, bytes: &[u8]) -> Result<(usize, Decimal), ValueFault>
-        ensures { ReadsFrontReal bytes.now result }
-    {
-        let Some((negative, digits, rest)) = split_real(bytes) else {
-            return Err(ValueFault::BadNumber);
-        };
-        let None = behind(b'E', rest) else {
-            return Err(ValueFault::BadNumber);
-        };
-        let number = Decimal::of_digits(alloc, negative, digits, 0)?;
-        Ok((bytes.len() - rest.len(), number))
     }
 
     /// The number with the same ratio.
@@ -112,7 +91,7 @@ impl Decimal {
 
     // The number of the digits, times ten to the exponent.
     #[inline(always)]
-    fn of_digits(
+    pub(crate) fn of_digits(
         alloc: Global,
         negative: bool,
         digits: Digits<'_>,
@@ -213,12 +192,41 @@ fn read_exponent(bytes: &[u8]) -> Result<i32, ValueFault>
     let Some((negative, digits)) = split_integer(written) else {
         return Err(ValueFault::BadNumber);
     };
+    match short_exponent(negative, digits) {
+        Some(value) => Ok(value),
+        None => Err(ValueFault::NumberRange),
+    }
+}
+
+// The exponent that stands at the front of bytes, 0 where there is none, and what stands behind it.
+pub(crate) fn split_exponent(bytes: &[u8]) -> Option<(i32, &[u8])>
+    ensures { IfSome result (λ parts. BeginsExponent bytes.now parts.0 parts.1.now) }
+{
+    let Some(written) = behind(b'E', bytes) else {
+        return Some((0, bytes));
+    };
+    let (negative, unsigned) = split_sign(written);
+    let (digits, rest) = split_digits(unsigned);
+    if digits.is_empty() {
+        return None;
+    }
+    let value = short_exponent(negative, digits)?;
+    Some((value, rest))
+}
+
+// The number of an exponent's digits, if there are at most nine apart from leading zeros.
+fn short_exponent(negative: bool, digits: &[u8]) -> Option<i32>
+    requires { AllDigits digits.now }
+    ensures none { IfNone result (10 ^ 9 ≤ number digits.now) }
+    ensures short { IfSome result (λ value. number digits.now < 10 ^ 9) }
+    ensures some { IfSome result (λ value. value ≡ signed negative (number digits.now)) }
+{
     let significant = without_front_zeros(digits);
     if significant.len() > 9 {
-        return Err(ValueFault::NumberRange);
+        return None;
     }
     let value = short_number(significant) as i32;
-    Ok(if negative { -value } else { value })
+    Some(if negative { -value } else { value })
 }
 
 // The exponent of so many digits, `places` of them behind the point, times ten to the exponent that is written.
@@ -416,53 +424,6 @@ mod tests {
                 "{text}"
             );
         }
-    }
-
-    #[test]
-    fn reads_the_front(rt: HostRuntime) -> Result<(), Fail> {
-        let cases = [
-            ("0.)", 2, "0."),
-            ("1.5,2.5", 3, "1.5"),
-            ("-012.500", 8, "-1.25E1"),
-            ("+0.00250)", 8, "2.5E-3"),
-            ("1.e5", 2, "1."),
-            (
-                "12345678901234567890.12345678900,",
-                32,
-                "1.2345678901234567890123456789E19",
-            ),
-        ];
-        for (text, count, spelling) in cases {
-            let (found, number) = Decimal::read_front(rt.alloc(), text.as_bytes())?;
-            assert_eq!(rt; found, count, "{text}");
-            assert_eq!(rt;
-                spelled(&rt, &number)?.as_slice(),
-                spelling.as_bytes(),
-                "{text}"
-            );
-        }
-        Ok(())
-    }
-
-    #[test]
-    fn refuses_what_begins_as_no_real(rt: HostRuntime) {
-        for text in ["", "1", "1,5", ".5", "+.5", "A", "1.5E3", "1.E,"] {
-            let found = Decimal::read_front(rt.alloc(), text.as_bytes()).err();
-            assert_eq!(rt; found, Some(ValueFault::BadNumber), "{text}");
-        }
-    }
-
-    #[test]
-    fn refuses_a_front_out_of_range(rt: HostRuntime) -> Result<(), Fail> {
-        let mut text = Vec::from_slice(rt.alloc(), b"1")?;
-        text.resize(10_000, b'0')?;
-        text.extend_from_slice(b".)")?;
-        assert_eq!(rt; Decimal::read_front(rt.alloc(), &text)?.0, 10_001);
-        text[0] = b'0';
-        text.insert(0, b'1')?;
-        let found = Decimal::read_front(rt.alloc(), &text).err();
-        assert_eq!(rt; found, Some(ValueFault::NumberRange));
-        Ok(())
     }
 
     #[test]

@@ -1,7 +1,9 @@
 //! One value of each type, too long to lie in place, is made and written, where any allocation may be refused.
 //! `tests/fail_alloc.sh` refuses each in turn.
 
-use crate::{Bits, Canonical, Decimal, Name, NoMemory, Text, ValueFault, Whole, Word};
+use crate::{
+    Bits, Canonical, Decimal, Name, NoMemory, Number, Text, ValueFault, Whole, Word, read_number,
+};
 
 const BEFORE: &[u8] = b"before ";
 
@@ -42,10 +44,11 @@ fn decimals(rt: HostRuntime) {
 }
 
 #[test]
-fn decimals_at_the_front(rt: HostRuntime) {
-    let front = Decimal::read_front(rt.alloc(), b"12.34567890123456789012345678905,");
-    let decimal = front.map(|(_count, number)| number);
-    assert!(rt; reads(&rt, decimal, b"before 1.234567890123456789012345678905E1"));
+fn numbers_at_the_front(rt: HostRuntime) {
+    let front = read_number(rt.alloc(), b"12.34567890123456789012345678905,");
+    if let Some((_count, Number::Real(decimal))) = front {
+        assert!(rt; writes(&rt, &decimal, b"before 1.234567890123456789012345678905E1"));
+    }
 }
 
 #[test]

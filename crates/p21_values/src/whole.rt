@@ -1,4 +1,4 @@
-ghost use Rattle.std.specs.Prelude.{◌≡◌, ◌++◌, OnErr, OnOk};
+ghost use Rattle.std.specs.Prelude.{◌≡◌, ◌++◌, IfOk, OnErr, OnOk};
 ghost use Rattle.p21_basics.specs.Digits.{AllDigits, number};
 ghost use Rattle.p21_exchange.specs.Number.{SpellsWhole, signed};
 ghost use Rattle.p21_exchange.specs.Spelling.{whole_spelling};
@@ -10,7 +10,7 @@ use crate::bytes::Bytes;
 use crate::canonical::{Canonical, or_restored};
 use crate::digits::{split_integer, without_front_zeros};
 use crate::fault::{NoMemory, ValueFault};
-use std::alloc::Global;
+use std::alloc::{AllocError, Global};
 use std::marker::Model;
 
 /// A whole number of any size.
@@ -46,6 +46,19 @@ impl Whole {
         let Some((negative, digits)) = split_integer(bytes) else {
             return Err(ValueFault::BadNumber);
         };
+        Ok(Whole::of_digits(alloc, negative, digits)?)
+    }
+
+    // The number of the digits.
+    #[inline(always)]
+    pub(crate) fn of_digits(
+        alloc: Global,
+        negative: bool,
+        digits: &[u8],
+    ) -> Result<Whole, AllocError>
+        requires { AllDigits digits.now }
+        ensures { IfOk result (λ whole. whole ≡ signed negative (number digits.now)) }
+    {
         let significant = without_front_zeros(digits);
         Ok(Whole {
             negative: negative && !significant.is_empty(),
