@@ -11,7 +11,6 @@ ghost use Rattle.p21_mapping_sets.specs.Shape.{HasLeaf, HasNoLeaf, HasShape, IsO
 use crate::key::{named, named_entities};
 use crate::members::{has_twice, is_closed};
 use crate::places::{has_count, has_open_place, have_counts};
-use crate::rising::rising;
 use p21_express_tables::Schema;
 use p21_express_types::EntityId;
 use p21_grammar_tree::{Part, Record};
@@ -39,12 +38,12 @@ pub fn shape_of(alloc: Global, schema: &Schema, of: &Record) -> Result<Shape, Ch
     ensures { MatchResult result (λ shape. HasShape schema.now (record_view of.now) (numbers shape.listed.items) (numbers shape.entities.items) × IsOwn schema.now shape.own (numbers shape.entities.items)) (Refuses schema.now (record_view of.now)) }
 {
     match of {
-        Record::Simple(part) => simple_shape(alloc, schema, part),
+        Record::Simple(part) => simple_shape(schema, part),
         Record::Complex(parts) => complex_shape(alloc, schema, parts.items()),
     }
 }
 
-fn simple_shape(alloc: Global, schema: &Schema, part: &Part) -> Result<Shape, CheckFault>
+fn simple_shape(schema: &Schema, part: &Part) -> Result<Shape, CheckFault>
     requires { IsWellFormed schema.now }
     ensures { MatchResult result (λ shape. HasShape schema.now (simple (part_view part.now)) (numbers shape.listed.items) (numbers shape.entities.items) × IsOwn schema.now shape.own (numbers shape.entities.items)) (Refuses schema.now (simple (part_view part.now))) }
 {
@@ -60,7 +59,7 @@ fn simple_shape(alloc: Global, schema: &Schema, part: &Part) -> Result<Shape, Ch
     if !has_count(schema, &listed, part.params.items().len()) {
         return Err(CheckFault::Count);
     }
-    let entities = rising(alloc, schema, &listed)?;
+    let entities = schema.own_rising(entity)?;
     Ok(Shape {
         own: Some(entity),
         listed,
@@ -97,7 +96,7 @@ fn complex_shape(alloc: Global, schema: &Schema, parts: &[Part]) -> Result<Shape
     if !is_closed(schema, &listed) {
         return Err(CheckFault::PartMissing);
     }
-    let entities = rising(alloc, schema, &listed)?;
+    let entities = schema.rising(&listed)?;
     let found = has_abstract_leaf(schema, &entities)?;
     if found {
         return Err(CheckFault::Abstract);

@@ -1,5 +1,5 @@
-use Rattle.std.specs.Prelude.{◌≡◌, List, [], ℕ, true, false, nat_eq, length}
-use Rattle.std.specs.List.{IsDistinct, flat_map}
+use Rattle.std.specs.Prelude.{◌≡◌, List, [], ℕ, true, false, length}
+use Rattle.std.specs.List.{flat_map}
 use Rattle.std.proofs.Common.{ap, sym, ◌∙◌, subst}
 use Rattle.p21_basics.proofs.Members.{Contains-first}
 use Rattle.p21_express_tables.specs.Orders.{numbers}
@@ -10,8 +10,7 @@ use Rattle.p21_mapping_sets.specs.Shape.{AreSame}
 use Rattle.p21_mapping_sets.proofs.OwnSets.{own-passes, own-refuses}
 use Rattle.p21_mapping_sets.proofs.Shapes.{named-within, order-within, simple-miscount, simple-shape, part-length}
 use Rattle.p21_mapping_sets.proofs.shape.simple_shape.Goals as goal
-use Rattle.p21_schemas.proofs.OrderedOnce.{order-distinct}
-use Rattle.p21_schemas.specs.Order.{order, own_places}
+use Rattle.p21_schemas.specs.Order.{own_places}
 
 pub returns-in_default : goal.returns-in_default
 returns-in_default c = λ _. unknown_entity (part_view c.args.part.now, Contains-first (part_view c.args.part.now) [], λ e named. c.in_default.ensures e named)
@@ -27,16 +26,6 @@ has_count-requires c =
     order-within c.args.schema.now c.holds_together.ensures c.in-Some.entity.0 (numbers c.deref.result.now) (ap numbers c.deref.ensures.value ∙ c.in_ok-listed.ensures)
     (named-within c.args.schema.now (part_view c.args.part.now).key c.in-Some.entity.0 c.in-Some.ensures)
 
-pub rising-requires-clause-entities : goal.rising-requires-clause-entities
-rising-requires-clause-entities c =
-    order-within c.args.schema.now c.holds_together.ensures c.in-Some.entity.0 (numbers c.deref-2.result.now) (ap numbers c.deref-2.ensures.value ∙ c.in_ok-listed.ensures)
-    (named-within c.args.schema.now (part_view c.args.part.now).key c.in-Some.entity.0 c.in-Some.ensures)
-
-pub rising-requires-clause-distinct : goal.rising-requires-clause-distinct
-rising-requires-clause-distinct c =
-    let P : List ℕ → Type 0 = λ xs. IsDistinct nat_eq xs in
-    subst P (sym (ap numbers c.deref-2.ensures.value ∙ c.in_ok-listed.ensures)) (order-distinct c.args.schema.now c.in-Some.entity.0)
-
 pub returns-in-Err : goal.returns-in-Err
 returns-in-Err c = own-refuses c.args.schema.now c.in-Some.entity.0 c.holds_together.ensures c.requires.entities_distinct (part_view c.args.part.now) c.in-Some.ensures c.in-Err.fault c.in-Err.ensures
 
@@ -44,13 +33,16 @@ pub returns-then-not-has_count : goal.returns-then-not-has_count
 returns-then-not-has_count c = λ _. simple-miscount c.args.schema.now (part_view c.args.part.now) c.in-Some.entity.0 c.in-Some.ensures
     (λ count. let t : true ≡ false = sym (c.has_count.ensures.1 (ap length c.items.ensures ∙ sym (part-length c.args.part.now) ∙ count ∙ ap (λ xs. length (flat_map (own_places c.args.schema.now) xs)) (sym (ap numbers c.deref.ensures.value ∙ c.in_ok-listed.ensures)))) ∙ c.if-not-has_count.true in cc)
 
+pub own_rising-requires : goal.own_rising-requires
+own_rising-requires c = named-within c.args.schema.now (part_view c.args.part.now).key c.in-Some.entity.0 c.in-Some.ensures
+
 pub returns : goal.returns
 returns c =
-    let Q : List ℕ → Type 0 = λ xs. AreSame xs (numbers c.in_ok-entities.entities.items) in
-    let same : AreSame (order c.args.schema.now c.in-Some.entity.0) (numbers c.in_ok-entities.entities.items) = subst Q (ap numbers c.deref-2.ensures.value ∙ c.in_ok-listed.ensures) c.in_ok-entities.ensures.same in
-    let within : IsEntity c.args.schema.now c.in-Some.entity.0 = named-within c.args.schema.now (part_view c.args.part.now).key c.in-Some.entity.0 c.in-Some.ensures in (
+    let (same, rising) = c.in_ok-entities.ensures in
+    let within : IsEntity c.args.schema.now c.in-Some.entity.0 = named-within c.args.schema.now (part_view c.args.part.now).key c.in-Some.entity.0 c.in-Some.ensures in
+    let Q : List ℕ → Type 0 = λ xs. AreSame xs (numbers c.in_ok-entities.entities.items) in (
       simple-shape c.args.schema.now c.holds_together.ensures c.requires.entities_distinct (part_view c.args.part.now) c.in-Some.entity.0 (numbers c.in_ok-listed.listed.items) (numbers c.in_ok-entities.entities.items) c.in-Some.ensures
-          c.in_ok-listed.ensures (subst Q (ap numbers c.deref-2.ensures.value) c.in_ok-entities.ensures.same) c.in_ok-entities.ensures.rising c.in-Ok.ensures.0
+          c.in_ok-listed.ensures (subst Q (sym c.in_ok-listed.ensures) same) rising c.in-Ok.ensures.0
           (own-passes c.args.schema.now c.in-Some.entity.0 (numbers c.in_ok-entities.entities.items) same c.in-Ok.ensures)
           (part-length c.args.part.now ∙ sym (ap length c.items.ensures) ∙ c.has_count.ensures.0 c.if-not-has_count.false ∙ ap (λ xs. length (flat_map (own_places c.args.schema.now) (numbers xs))) c.deref.ensures.value),
       (within, same),
