@@ -10,3 +10,5 @@ pub mod Ranks
 pub mod Renaming
 pub mod Resolving
 pub mod Walks
+pub mod Pairs
+pub mod RisingNames

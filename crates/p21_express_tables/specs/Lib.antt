@@ -12,3 +12,4 @@ pub mod Resolved
 pub mod Settled
 pub mod Walk
 pub mod Walking
+pub mod Rising

@@ -4,6 +4,8 @@ use Rattle.p21_schemas.specs.Schema.{Schema, Place, Entity, IsAbstract}
 use Rattle.p21_schemas.specs.OneOf.{Clashes}
 use Rattle.p21_schemas.specs.Order.{order, places}
 use Rattle.p21_schemas.specs.PlaceType.{two_redeclarations, TypeAt, IsDerivedIn, IsRedeclared}
+use Rattle.p21_express_tables.specs.Orders.{numbers}
+use Rattle.p21_express_tables.specs.Rising.{IsOwnRising}
 use Rattle.p21_express_tables.specs.declared.own_sets.OwnFaults.{OwnFaults}
 use Rattle.p21_express_tables.specs.declared.own_sets.OwnSet.{OwnSet}
 
@@ -31,6 +33,7 @@ RedeclaresNothing s e = (x : Entity) → slice_get s.entities e ≡ Some x → (
 pub record IsOwnSet (s : Schema) (e : ℕ) (own : OwnSet) : Type 0 where
   pub faults_are : HasOwnFaults s e own.faults
   pub declared : (IsTrue own.redeclares → ⊥) → (place : Place) → IsDeclaredAt s e place
+  pub rising_is : IsOwnRising s e (numbers own.rising.items)
 
 -- each is that of the entity of its number
 abbrev pub AreOwnSets : Schema → List OwnSet → Type 0

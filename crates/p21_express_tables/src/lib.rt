@@ -10,6 +10,7 @@ mod orders;
 mod own_sets;
 mod parts;
 mod place_types;
+mod rising;
 mod schema;
 mod settle;
 mod words;

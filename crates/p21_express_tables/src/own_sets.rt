@@ -1,16 +1,19 @@
-ghost use Rattle.std.specs.Prelude.{◌≡◌, ◌↔◌, ℕ, IsTrue, map, Contains, OnOk};
+ghost use Rattle.std.specs.Prelude.{◌≡◌, ◌↔◌, ℕ, IsTrue, map, Contains, IfOk, OnOk};
 ghost use Rattle.p21_schemas.specs.Schema.{Place as MeantPlace, Redeclared as MeantRedeclared};
 ghost use Rattle.p21_schemas.specs.Order.{order};
 ghost use Rattle.p21_schemas.specs.PlaceType.{TypeAt};
 ghost use Rattle.p21_express_types.specs.Meaning.{place as place_of, place_type};
 ghost use Rattle.p21_express_tables.specs.OwnSets.{HasOwnFaults, IsDeclaredAt, IsOpenAt, LeavesOpen, RedeclaresNothing};
+ghost use Rattle.p21_express_tables.specs.Orders.{numbers};
 ghost use Rattle.p21_express_tables.specs.Parts.{redeclared as redeclared_of};
 ghost use Rattle.p21_express_tables.specs.Resolved.{IsEntity, IsPlace};
+ghost use Rattle.p21_express_tables.specs.Rising.{IsOwnRising};
 
 use crate::parts::Redeclared;
 use crate::schema::Schema;
 use p21_express_types::{EntityId, Place, PlaceType};
 use p21_values::NoMemory;
+use std::alloc::Global;
 
 /// What makes the set of an entity and its supertypes no set of an instance.
 #[derive(Clone, Copy, Debug, Drop, PartialEq, Eq)]
@@ -25,11 +28,13 @@ pub struct OwnFaults {
 }
 
 /// What is known beforehand of the set of an entity and its supertypes.
-#[derive(Clone, Copy, Debug, Drop)]
+#[derive(Debug, Drop)]
 pub(crate) struct OwnSet {
     pub(crate) faults: OwnFaults,
     // Whether an entity of it may redeclare a place.
     pub(crate) redeclares: bool,
+    // Its entities, rising by name.
+    pub(crate) rising: Vec<EntityId>,
 }
 
 impl Schema {
@@ -41,6 +46,21 @@ impl Schema {
         match self.own.get(entity.0 as usize) {
             Some(own) => own.faults,
             None => self.find_own_faults(entity),
+        }
+    }
+
+    /// An entity and its supertypes, rising by name.
+    ///
+    /// # Errors
+    ///
+    /// `NoMemory`.
+    pub fn own_rising(&self, entity: EntityId) -> Result<Vec<EntityId>, NoMemory>
+        requires { IsEntity self.now entity.0 }
+        ensures { IfOk result (λ entities. IsOwnRising self.now entity.0 (numbers entities.items)) }
+    {
+        match self.own.get(entity.0 as usize) {
+            Some(own) => copied(self.alloc, &own.rising),
+            None => self.find_rising(entity),
         }
     }
 
@@ -88,9 +108,11 @@ impl Schema {
             return Ok(());
         }
         let entity = EntityId(number as u32);
+        let rising = self.find_rising(entity)?;
         let own = OwnSet {
             faults: self.find_own_faults(entity),
             redeclares: self.set_redeclares(entity),
+            rising,
         };
         self.own.push(own)?;
         Ok(())
@@ -105,6 +127,14 @@ impl Schema {
             leaves_open: self.leaves_open(entity),
             clashes: self.clashes(self.order_of(entity)),
         }
+    }
+
+    fn find_rising(&self, entity: EntityId) -> Result<Vec<EntityId>, NoMemory>
+        requires { IsEntity self.now entity.0 }
+        ensures { IfOk result (λ entities. IsOwnRising self.now entity.0 (numbers entities.items)) }
+    {
+        self.holds_together();
+        self.rising(self.order_of(entity))
     }
 
     /// Whether an entity of the own set redeclares a place, explicit or derived.
@@ -172,4 +202,11 @@ impl Schema {
             _ => false,
         }
     }
+}
+
+fn copied(alloc: Global, entities: &[EntityId]) -> Result<Vec<EntityId>, NoMemory>
+    ensures { IfOk result (λ copy. copy.items ≡ entities.now) }
+{
+    let copy = Vec::from_slice(alloc, entities)?;
+    Ok(copy)
 }

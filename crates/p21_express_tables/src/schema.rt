@@ -24,7 +24,7 @@ use std::marker::Model;
 /// A schema with all names resolved (ISO 10303-11), prepared for look-ups.
 #[derive(Drop)]
 pub struct Schema {
-    alloc: Global,
+    pub(crate) alloc: Global,
     parts: Parts,
     orders: Vec<Vec<EntityId>>,
     closures: Vec<Vec<u32>>,

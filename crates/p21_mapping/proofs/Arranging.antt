@@ -13,7 +13,8 @@ use Rattle.p21_express_tables.specs.Orders.{numbers}
 use Rattle.p21_express_types.specs.declared.number.EntityId.{EntityId}
 use Rattle.p21_files.specs.Value.{Values}
 use Rattle.p21_mapping.specs.Arranged.{AreArranged, ArrangedSoFar}
-use Rattle.p21_mapping_sets.proofs.Rows.{AllZip-more, Contains-pushed, mapped-at}
+use Rattle.p21_express_tables.proofs.Pairs.{AllZip-more}
+use Rattle.p21_mapping_sets.proofs.Rows.{Contains-pushed, mapped-at}
 use Rattle.p21_mapping_values.specs.declared.value.Values.{Values as Stored}
 use Rattle.p21_mapping_values.specs.TypedView.{rows_view}
 use Rattle.p21_mapping_values.specs.View.{list_of, views}

@@ -4,7 +4,7 @@ ghost use Rattle.p21_express_tables.specs.Resolved.{HoldsTogether};
 ghost use Rattle.p21_grammar_tree.specs.View.{record_view};
 ghost use Rattle.p21_mapping.specs.Arranged.{HasRows, RefusesRows};
 ghost use Rattle.p21_mapping.specs.Checked.{ChecksRecord, needs_view};
-ghost use Rattle.p21_mapping_sets.specs.Shape.{HasShape};
+ghost use Rattle.p21_mapping_sets.specs.Shape.{HasShape, IsOwn};
 ghost use Rattle.p21_mapping_values.specs.TypedView.{rows_view};
 ghost use Rattle.p21_schemas.specs.WellFormed.{IsWellFormed};
 
@@ -49,12 +49,17 @@ fn check_shaped(
 ) -> Result<(Typed, Vec<Need>), CheckFault>
     requires formed { IsWellFormed schema.now }
     requires holds { HoldsTogether schema.now }
+    requires own { IsOwn schema.now shape.own (numbers shape.entities.items) }
     requires shape { HasShape schema.now (record_view of) (numbers shape.listed.items) (numbers shape.entities.items) }
     ensures { ChecksRecord schema.now (record_view of) result }
 {
-    let Shape { listed, entities } = shape;
+    let Shape {
+        own,
+        listed,
+        entities,
+    } = shape;
     let mut needs = Vec::new(alloc);
-    let rows = match rows_of(alloc, schema, &listed, &entities, of, &mut needs) {
+    let rows = match rows_of(alloc, schema, own, &listed, &entities, of, &mut needs) {
         Ok(rows) => rows,
         Err(fault) => return Err(fault),
     };
@@ -70,6 +75,7 @@ fn check_shaped(
 fn rows_of(
     alloc: Global,
     schema: &Schema,
+    own: Option<EntityId>,
     listed: &[EntityId],
     entities: &[EntityId],
     of: Record,
@@ -77,13 +83,14 @@ fn rows_of(
 ) -> Result<Vec<Values>, CheckFault>
     requires holds { HoldsTogether schema.now }
     requires formed { IsWellFormed schema.now }
+    requires own { IsOwn schema.now own (numbers entities.now) }
     requires shape { HasShape schema.now (record_view of) (numbers listed.now) (numbers entities.now) }
     ensures { MatchResult result (λ rows. HasRows schema.now (record_view of) (numbers listed.now) (numbers entities.now) (rows_view rows.items) (needs_view needs.old.items) (needs_view needs.new.items)) (RefusesRows schema.now (record_view of)) }
 {
     match of {
         Record::Simple(part) => {
             let params = part.params.into_items();
-            simple_rows(alloc, schema, entities, listed, params, needs)
+            simple_rows(alloc, schema, own, entities, listed, params, needs)
         }
         Record::Complex(parts) => {
             complex_rows(alloc, schema, entities, listed, parts.into_items(), needs)

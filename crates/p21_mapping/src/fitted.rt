@@ -4,13 +4,13 @@ ghost use Rattle.std.specs.Vec.Iter.{into_iter_items};
 ghost use Rattle.p21_express_tables.specs.Lookups.{AreEntities};
 ghost use Rattle.p21_express_tables.specs.Orders.{numbers};
 ghost use Rattle.p21_express_tables.specs.Resolved.{IsEntity, IsPlace};
-ghost use Rattle.p21_express_types.specs.Meaning.{place as place_of};
+ghost use Rattle.p21_express_types.specs.Meaning.{place as place_of, place_type};
 ghost use Rattle.p21_files.specs.Meaning.{HasPlaceTypes};
 ghost use Rattle.p21_grammar_tree.specs.View.{part_views, view as tree};
 ghost use Rattle.p21_mapping.specs.Checked.{needs_view};
 ghost use Rattle.p21_mapping.specs.Rows.{FitsHere, RefusesAmong, RefusesHere, RefusesPart, TakesParts, TakesRow, TakesRows, param_views};
 ghost use Rattle.p21_exchange.specs.Record.{complex};
-ghost use Rattle.p21_mapping_sets.specs.Shape.{AreNamed, HasCounts};
+ghost use Rattle.p21_mapping_sets.specs.Shape.{AreNamed, HasCounts, IsOwn};
 ghost use Rattle.p21_mapping_values.specs.TypedView.{rows_view};
 ghost use Rattle.p21_mapping_values.specs.View.{list_of, view};
 ghost use Rattle.p21_schemas.specs.Order.{own_places};
@@ -18,29 +18,49 @@ ghost use Rattle.p21_schemas.specs.PlaceType.{TypeAt, two_redeclarations};
 ghost use Rattle.p21_schemas.specs.Schema.{attributes_of};
 
 use p21_express_tables::Schema;
-use p21_express_types::{EntityId, Place};
+use p21_express_types::{EntityId, Place, PlaceType};
 use p21_grammar_tree::{Param, Part};
 use p21_mapping_fit::fit_place;
 use p21_mapping_values::{CheckFault, Need, Value, Values};
 use std::alloc::Global;
 use std::vec::IntoIter;
 
+/// What may stand at a place of a set of entities. Where the set is the closure of one, this is known beforehand.
+fn type_here<'a>(
+    schema: &'a Schema,
+    own: Option<EntityId>,
+    entities: &[EntityId],
+    place: Place,
+) -> PlaceType<'a>
+    requires own { IsOwn schema.now own (numbers entities.now) }
+    requires entities { AreEntities schema.now (numbers entities.now) }
+    requires place { IsPlace schema.now (place_of place) }
+    ensures { TypeAt schema.now (numbers entities.now) (place_of place) (place_type result) }
+{
+    match own {
+        Some(entity) => schema.own_type(entity, place),
+        None => schema.type_at(entities, place),
+    }
+}
+
 /// The value of a parameter at a place of a set of entities.
 fn fit_here(
     alloc: Global,
     schema: &Schema,
+    own: Option<EntityId>,
     entities: &[EntityId],
     place: Place,
     param: Param,
     needs: &mut Vec<Need>,
 ) -> Result<Value, CheckFault>
+    requires own { IsOwn schema.now own (numbers entities.now) }
     requires entities { AreEntities schema.now (numbers entities.now) }
     requires place { IsPlace schema.now (place_of place) }
     requires decided { TypeAt schema.now (numbers entities.now) (place_of place) two_redeclarations → ⊥ }
     ensures { MatchResult result (λ found. FitsHere schema.now (numbers entities.now) (place_of place) (tree param) (view found) (needs_view needs.old.items) (needs_view needs.new.items)) (RefusesHere schema.now (numbers entities.now) (place_of place) (tree param)) }
 {
     schema.holds_together();
-    let at = schema.type_at(entities, place);
+    let at = type_here(schema, own, entities, place);
     let found = fit_place(alloc, schema, at, param, needs);
     found
 }
@@ -49,11 +69,13 @@ fn fit_here(
 pub(crate) fn fit_row(
     alloc: Global,
     schema: &Schema,
+    own: Option<EntityId>,
     entities: &[EntityId],
     owner: EntityId,
     params: &mut IntoIter<Param, Global>,
     needs: &mut Vec<Need>,
 ) -> Result<Values, CheckFault>
+    requires own { IsOwn schema.now own (numbers entities.now) }
     requires entities { AreEntities schema.now (numbers entities.now) }
     requires owner { IsEntity schema.now owner.0 }
     requires decided { HasPlaceTypes schema.now (numbers entities.now) owner.0 }
@@ -69,7 +91,7 @@ pub(crate) fn fit_row(
             entity: owner,
             index,
         };
-        match fit_here(alloc, schema, entities, place, param, needs) {
+        match fit_here(alloc, schema, own, entities, place, param, needs) {
             Ok(value) => values.push(value)?,
             Err(fault) => return Err(fault),
         }
@@ -81,11 +103,13 @@ pub(crate) fn fit_row(
 pub(crate) fn simple_rows(
     alloc: Global,
     schema: &Schema,
+    own: Option<EntityId>,
     entities: &[EntityId],
     listed: &[EntityId],
     params: Vec<Param>,
     needs: &mut Vec<Need>,
 ) -> Result<Vec<Values>, CheckFault>
+    requires own { IsOwn schema.now own (numbers entities.now) }
     requires entities { AreEntities schema.now (numbers entities.now) }
     requires listed { AreEntities schema.now (numbers listed.now) }
     requires decided { Each (HasPlaceTypes schema.now (numbers entities.now)) (numbers listed.now) }
@@ -95,7 +119,7 @@ pub(crate) fn simple_rows(
     let mut left = params.into_iter();
     let mut rows = Vec::with_capacity(alloc, listed.len())?;
     for owner in listed {
-        match fit_row(alloc, schema, entities, *owner, &mut left, needs) {
+        match fit_row(alloc, schema, own, entities, *owner, &mut left, needs) {
             Ok(row) => rows.push(row)?,
             Err(fault) => return Err(fault),
         }
@@ -125,7 +149,7 @@ pub(crate) fn complex_rows(
             unreachable!()
         };
         let mut params = part.params.into_items().into_iter();
-        match fit_row(alloc, schema, entities, *owner, &mut params, needs) {
+        match fit_row(alloc, schema, None, entities, *owner, &mut params, needs) {
             Ok(row) => rows.push(row)?,
             Err(fault) => return Err(fault),
         }

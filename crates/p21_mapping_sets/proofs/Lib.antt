@@ -1,3 +1,3 @@
 pub mod Rows
-pub mod RisingNames
 pub mod Shapes
+pub mod OwnSets

@@ -2,37 +2,14 @@
 use Rattle.std.specs.Prelude.{◌≡◌, ℕ, zero, suc, ◌+◌, ◌<◌, ◌≤◌, ◌⊎◌, List, [], ◌∷◌, ◌++◌, length, map, take, slice_get, Some, Contains, refl}
 use Rattle.std.specs.List.{AllZip, flat_map}
 use Rattle.std.proofs.Common.{arith, ap, sym, ◌∙◌, subst, inl, inr, get_or, append_assoc}
-use Rattle.std.proofs.lemmas.List.{append-nil, length-append, map-append, take_more}
+use Rattle.std.proofs.lemmas.List.{append-nil, length-append, take_more}
 use Rattle.std.proofs.lemmas.Option.{slice_get-get_or, slice_get-map}
 use Rattle.std.specs.Option.{option_map}
 use Rattle.p21_basics.proofs.Members.{Contains-at, Contains-found, Contains-none, Contains-first, Contains-later, Contains-cases}
 use Rattle.p21_basics.proofs.Shuffles.{NoneTwice}
 use Rattle.p21_express_tables.proofs.Lookups.{numbers-more}
+use Rattle.p21_express_tables.proofs.Pairs.{AllZip-more}
 use Rattle.p21_mapping_sets.specs.Shape.{HasTwice}
-
--- one pair more
-pub AllZip-push : {X Y : Type 0} (R : X → Y → Type 0) (xs : List X) (ys : List Y) (x : X) (y : Y) → AllZip R xs ys → R x y → AllZip R (xs ++ x ∷ []) (ys ++ y ∷ [])
-AllZip-push R [] [] x y all one = (one, tt)
-AllZip-push R [] (z ∷ ys) x y all one = absurd all
-AllZip-push R (z ∷ xs) [] x y all one = absurd all
-AllZip-push R (z ∷ xs) (w ∷ ys) x y all one = (all.0, AllZip-push R xs ys x y all.1 one)
-
-pub AllZip-turned : {X Y : Type 0} (R : X → Y → Type 0) (xs : List X) (ys : List Y) → AllZip R xs ys → AllZip (λ y x. R x y) ys xs
-AllZip-turned R [] [] all = tt
-AllZip-turned R [] (y ∷ ys) all = absurd all
-AllZip-turned R (x ∷ xs) [] all = absurd all
-AllZip-turned R (x ∷ xs) (y ∷ ys) all = (all.0, AllZip-turned R xs ys all.1)
-
--- one element more of a list, beside what was pushed
-pub AllZip-more : {X Y Z W : Type 0} (R : Z → W → Type 0) (f : X → Z) (g : Y → W) (xs : List X) (k : ℕ) (d : X) (ys after : List Y) (y : Y) → k < length xs → after ≡ ys ++ y ∷ []
-    → AllZip R (map f (take k xs)) (map g ys) → R (f (get_or xs k d)) (g y) → AllZip R (map f (take (k + 1) xs)) (map g after)
-AllZip-more {X} {Y} {Z} {W} R f g xs k d ys after y below pushed all one =
-    let x : X = get_or xs k d in
-    let left : map f (take (k + 1) xs) ≡ map f (take k xs) ++ f x ∷ [] = ap (map f) (take_more xs k d below) ∙ map-append f (take k xs) (x ∷ []) in
-    let right : map g after ≡ map g ys ++ g y ∷ [] = ap (map g) pushed ∙ map-append g ys (y ∷ []) in
-    let P : List Z → Type 0 = λ zs. AllZip R zs (map g after) in
-    let Q : List W → Type 0 = λ ws. AllZip R (map f (take k xs) ++ f x ∷ []) ws in
-    subst P (sym left) (subst Q (sym right) (AllZip-push R (map f (take k xs)) (map g ys) (f x) (g y) all one))
 
 pub AllZip-length : {X Y : Type 0} (R : X → Y → Type 0) (xs : List X) (ys : List Y) → AllZip R xs ys → length xs ≡ length ys
 AllZip-length R [] [] all = refl
@@ -59,12 +36,6 @@ AllZip-at_both R (z ∷ xs) (w ∷ ys) (suc k) x y all at at_ = AllZip-at_both R
 pub AllZip-both_more : {X Y Z W : Type 0} (R : Z → W → Type 0) (f : X → Z) (g : Y → W) (xs : List X) (ys : List Y) (k : ℕ) (d : X) (e : Y) → k < length xs → k < length ys
     → AllZip R (map f (take k xs)) (map g (take k ys)) → R (f (get_or xs k d)) (g (get_or ys k e)) → AllZip R (map f (take (k + 1) xs)) (map g (take (k + 1) ys))
 AllZip-both_more R f g xs ys k d e below below_ all one = AllZip-more R f g xs k d (take k ys) (take (k + 1) ys) (get_or ys k e) below (take_more ys k e below_) all one
-
--- one element more of the second list
-pub AllZip-more_second : {X Y Z W : Type 0} (R : W → Z → Type 0) (f : X → Z) (g : Y → W) (xs : List X) (k : ℕ) (d : X) (ys after : List Y) (y : Y) → k < length xs → after ≡ ys ++ y ∷ []
-    → AllZip R (map g ys) (map f (take k xs)) → R (g y) (f (get_or xs k d)) → AllZip R (map g after) (map f (take (k + 1) xs))
-AllZip-more_second R f g xs k d ys after y below pushed all one =
-    AllZip-turned (λ z w. R w z) (map f (take (k + 1) xs)) (map g after) (AllZip-more (λ z w. R w z) f g xs k d ys after y below pushed (AllZip-turned R (map g ys) (map f (take k xs)) all) one)
 
 -- pairs place by place
 pub AllZip-from_places : {X Y Z W : Type 0} (R : Z → W → Type 0) (f : X → Z) (g : Y → W) (xs : List X) (ys : List Y) (d : X) (e : Y) → length xs ≡ length ys → ((k : ℕ) → k < length xs → R (f (get_or xs k d)) (g (get_or ys k e))) → AllZip R (map f xs) (map g ys)

@@ -1,14 +1,17 @@
 -- What is known of a record once its keywords and the numbers of its parameters are looked at.
-use Rattle.std.specs.Prelude.{◌≡◌, ◌≢◌, ◌↔◌, ℕ, List, length, nat_eq, slice_get, Some, Contains}
+use Rattle.std.specs.Prelude.{◌≡◌, ◌≢◌, ◌↔◌, ℕ, List, length, nat_eq, slice_get, Option, Some, None, Contains}
 use Rattle.std.specs.List.{AllByRecursion as Each, AllZip, IsDistinct}
 use Rattle.p21_exchange.specs.Parameter.{listed}
 use Rattle.p21_exchange.specs.Record.{Part, Record, simple, complex}
+use Rattle.p21_express_tables.specs.OwnSets.{LeavesOpen}
+use Rattle.p21_express_tables.specs.Resolved.{IsEntity}
+use Rattle.p21_express_types.specs.declared.number.EntityId.{EntityId}
 use Rattle.p21_files.specs.BrokenRule.{Breaks}
 use Rattle.p21_files.specs.Meaning.{AreKeywordsRising, HasPlaceTypes, NamesEntity}
 use Rattle.p21_files.specs.RecordPlaces.{HasPart, IsSetOf, part_places}
 use Rattle.p21_mapping_values.specs.Fault.{fault_number}
 use Rattle.p21_mapping_values.specs.declared.fault.CheckFault.{CheckFault}
-use Rattle.p21_mapping_values.specs.declared.fault.CheckFault.TheVariants.{OneOf, TwoRedeclarations, NoMemory}
+use Rattle.p21_mapping_values.specs.declared.fault.CheckFault.TheVariants.{Abstract, OneOf, TwoRedeclarations, NoMemory}
 use Rattle.p21_schemas.specs.OneOf.{Clashes}
 use Rattle.p21_schemas.specs.Order.{order, own_places}
 use Rattle.p21_schemas.specs.PlaceType.{TypeAt, two_redeclarations}
@@ -64,6 +67,23 @@ abbrev pub RefusesSet : Schema → List ℕ → CheckFault → Type 0
 RefusesSet s es OneOf = Clashes s es
 RefusesSet s es TwoRedeclarations = HasOpenPlace s es
 RefusesSet s es other = ⊥
+
+-- the entity can be that of an instance of internal form: it is no abstract one, its closure has no two of a ONEOF list, and
+-- no place of that is open
+abbrev pub PassesOwnSet : Schema → ℕ → Type 0
+PassesOwnSet s e = ¬ IsAbstract s e × ¬ Clashes s (order s e) × ¬ LeavesOpen s e
+
+-- or it can't
+abbrev pub RefusesOwnSet : Schema → ℕ → CheckFault → Type 0
+RefusesOwnSet s e Abstract = IsAbstract s e
+RefusesOwnSet s e OneOf = Clashes s (order s e)
+RefusesOwnSet s e TwoRedeclarations = LeavesOpen s e
+RefusesOwnSet s e other = ⊥
+
+-- the set is the closure of the entity, where there is one
+abbrev pub IsOwn : Schema → Option EntityId → List ℕ → Type 0
+IsOwn s None entities = Unit {0}
+IsOwn s (Some e) entities = IsEntity s e.0 × AreSame (order s e.0) entities
 
 -- as many parameters as the entity has places of its own
 abbrev pub HasCount : Schema → Part → ℕ → Type 0

@@ -6,7 +6,6 @@ mod key;
 mod members;
 mod needed;
 mod places;
-mod rising;
 mod shape;
 
 pub use key::named;

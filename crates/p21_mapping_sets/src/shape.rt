@@ -2,15 +2,15 @@ ghost use Rattle.std.specs.Prelude.{ℕ, Contains, MatchBool, MatchResult, IfOk}
 ghost use Rattle.p21_exchange.specs.Record.{simple, complex};
 ghost use Rattle.p21_express_tables.specs.Lookups.{AreEntities};
 ghost use Rattle.p21_express_tables.specs.Orders.{numbers};
+ghost use Rattle.p21_express_tables.specs.Resolved.{IsEntity};
 ghost use Rattle.p21_grammar_tree.specs.View.{part_view, part_views, record_view};
 ghost use Rattle.p21_schemas.specs.Schema.{IsAbstract};
 ghost use Rattle.p21_schemas.specs.WellFormed.{IsWellFormed};
-ghost use Rattle.p21_mapping_sets.specs.Shape.{HasLeaf, HasNoLeaf, HasShape, PassesSet, Refuses, RefusesSet};
+ghost use Rattle.p21_mapping_sets.specs.Shape.{HasLeaf, HasNoLeaf, HasShape, IsOwn, PassesOwnSet, PassesSet, Refuses, RefusesOwnSet, RefusesSet};
 
 use crate::key::{named, named_entities};
 use crate::members::{has_twice, is_closed};
 use crate::places::{has_count, has_open_place, have_counts};
-use crate::rising::rising;
 use p21_express_tables::Schema;
 use p21_express_types::EntityId;
 use p21_grammar_tree::{Part, Record};
@@ -18,9 +18,11 @@ use p21_mapping_values::CheckFault;
 use p21_values::NoMemory;
 use std::alloc::Global;
 
-/// The entities of a record: those whose places its parameters stand at, in their order, and its set, rising by keyword.
+/// The entities of a record: in internal form the one that its keyword names; those whose places its parameters stand at, in
+/// their order; and its set, rising by keyword.
 #[derive(Debug, Drop)]
 pub struct Shape {
+    pub own: Option<EntityId>,
     pub listed: Vec<EntityId>,
     pub entities: Vec<EntityId>,
 }
@@ -33,40 +35,59 @@ pub struct Shape {
 /// `NoMemory`.
 pub fn shape_of(alloc: Global, schema: &Schema, of: &Record) -> Result<Shape, CheckFault>
     requires { IsWellFormed schema.now }
-    ensures { MatchResult result (λ shape. HasShape schema.now (record_view of.now) (numbers shape.listed.items) (numbers shape.entities.items)) (Refuses schema.now (record_view of.now)) }
+    ensures { MatchResult result (λ shape. HasShape schema.now (record_view of.now) (numbers shape.listed.items) (numbers shape.entities.items) × IsOwn schema.now shape.own (numbers shape.entities.items)) (Refuses schema.now (record_view of.now)) }
 {
     match of {
-        Record::Simple(part) => simple_shape(alloc, schema, part),
+        Record::Simple(part) => simple_shape(schema, part),
         Record::Complex(parts) => complex_shape(alloc, schema, parts.items()),
     }
 }
 
-fn simple_shape(alloc: Global, schema: &Schema, part: &Part) -> Result<Shape, CheckFault>
+fn simple_shape(schema: &Schema, part: &Part) -> Result<Shape, CheckFault>
     requires { IsWellFormed schema.now }
-    ensures { MatchResult result (λ shape. HasShape schema.now (simple (part_view part.now)) (numbers shape.listed.items) (numbers shape.entities.items)) (Refuses schema.now (simple (part_view part.now))) }
+    ensures { MatchResult result (λ shape. HasShape schema.now (simple (part_view part.now)) (numbers shape.listed.items) (numbers shape.entities.items) × IsOwn schema.now shape.own (numbers shape.entities.items)) (Refuses schema.now (simple (part_view part.now))) }
 {
     let Some(entity) = named(schema, &part.key) else {
         return Err(CheckFault::UnknownEntity);
     };
     schema.holds_together();
-    let listed = schema.order(entity)?;
-    let entities = rising(alloc, schema, &listed)?;
-    if schema.is_abstract(entity) {
-        return Err(CheckFault::Abstract);
-    }
-    match check_set(schema, &entities) {
+    match check_own_set(schema, entity) {
         Ok(()) => {}
         Err(fault) => return Err(fault),
     }
+    let listed = schema.order(entity)?;
     if !has_count(schema, &listed, part.params.items().len()) {
         return Err(CheckFault::Count);
     }
-    Ok(Shape { listed, entities })
+    let entities = schema.own_rising(entity)?;
+    Ok(Shape {
+        own: Some(entity),
+        listed,
+        entities,
+    })
+}
+
+/// The entity isn't abstract, no two entities of its closure are of one ONEOF list, and no place of that is open.
+fn check_own_set(schema: &Schema, entity: EntityId) -> Result<(), CheckFault>
+    requires { IsEntity schema.now entity.0 }
+    ensures { MatchResult result (λ _. PassesOwnSet schema.now entity.0) (RefusesOwnSet schema.now entity.0) }
+{
+    let faults = schema.own_faults(entity);
+    if faults.is_abstract {
+        return Err(CheckFault::Abstract);
+    }
+    if faults.clashes {
+        return Err(CheckFault::OneOf);
+    }
+    if faults.leaves_open {
+        return Err(CheckFault::TwoRedeclarations);
+    }
+    Ok(())
 }
 
 fn complex_shape(alloc: Global, schema: &Schema, parts: &[Part]) -> Result<Shape, CheckFault>
     requires { IsWellFormed schema.now }
-    ensures { MatchResult result (λ shape. HasShape schema.now (complex (part_views parts.now)) (numbers shape.listed.items) (numbers shape.entities.items)) (Refuses schema.now (complex (part_views parts.now))) }
+    ensures { MatchResult result (λ shape. HasShape schema.now (complex (part_views parts.now)) (numbers shape.listed.items) (numbers shape.entities.items) × IsOwn schema.now shape.own (numbers shape.entities.items)) (Refuses schema.now (complex (part_views parts.now))) }
 {
     let listed = named_entities(alloc, schema, parts)?;
     if has_twice(&listed) {
@@ -75,7 +96,7 @@ fn complex_shape(alloc: Global, schema: &Schema, parts: &[Part]) -> Result<Shape
     if !is_closed(schema, &listed) {
         return Err(CheckFault::PartMissing);
     }
-    let entities = rising(alloc, schema, &listed)?;
+    let entities = schema.rising(&listed)?;
     let found = has_abstract_leaf(schema, &entities)?;
     if found {
         return Err(CheckFault::Abstract);
@@ -87,7 +108,11 @@ fn complex_shape(alloc: Global, schema: &Schema, parts: &[Part]) -> Result<Shape
     if !have_counts(schema, &listed, parts) {
         return Err(CheckFault::Count);
     }
-    Ok(Shape { listed, entities })
+    Ok(Shape {
+        own: None,
+        listed,
+        entities,
+    })
 }
 
 /// No two entities of the set are of one ONEOF list, and no place of it is open.

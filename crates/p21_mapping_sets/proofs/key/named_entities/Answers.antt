@@ -4,7 +4,8 @@ use Rattle.p21_files.specs.BrokenRule.{unknown_entity}
 use Rattle.p21_files.specs.Meaning.{NamesEntity}
 use Rattle.p21_grammar_tree.specs.declared.record.Part as tree
 use Rattle.p21_grammar_tree.specs.View.{part_view}
-use Rattle.p21_mapping_sets.proofs.Rows.{AllZip-more, numbered-is}
+use Rattle.p21_express_tables.proofs.Pairs.{AllZip-more}
+use Rattle.p21_mapping_sets.proofs.Rows.{numbered-is}
 use Rattle.p21_mapping_sets.proofs.key.named_entities.Goals as goal
 
 pub returns-in-None : goal.returns-in-None

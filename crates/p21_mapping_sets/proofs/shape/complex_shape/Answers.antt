@@ -51,7 +51,10 @@ pub returns-then-not-have_counts : goal.returns-then-not-have_counts
 returns-then-not-have_counts c = λ _. complex-miscount c.args.schema.now (part_views c.args.parts.now) (numbers c.in_ok-listed.listed.items) c.in_ok-listed.ensures (let P : List EntityId → Type 0 = λ xs. HasOtherCount c.args.schema.now (part_views c.args.parts.now) (numbers xs) in subst P c.deref-6.ensures.value c.if-not-have_counts.ensures)
 
 pub returns : goal.returns
-returns c = complex-shape c.args.schema.now c.requires.entities_distinct (part_views c.args.parts.now) (numbers c.in_ok-listed.listed.items) (numbers c.in_ok-entities.entities.items) c.in_ok-listed.ensures (let P : List EntityId → Type 0 = λ xs. IsDistinct nat_eq (numbers xs) in subst P c.deref.ensures.value c.if-has_twice.ensures) (let P : List EntityId → Type 0 = λ xs. IsClosed c.args.schema.now (numbers xs) in subst P c.deref-2.ensures.value c.if-not-is_closed.ensures) (let P : List EntityId → Type 0 = λ xs. AreSame (numbers xs) (numbers c.in_ok-entities.entities.items) in subst P c.deref-3.ensures.value c.in_ok-entities.ensures.same) c.in_ok-entities.ensures.rising
-    (let P : List EntityId → Type 0 = λ xs. HasNoLeaf c.args.schema.now (numbers xs) in subst P c.deref-4.ensures.value (MatchBool-at_false _ _ c.if-found.false c.in_ok-found.ensures))
-    (let P : List EntityId → Type 0 = λ xs. PassesSet c.args.schema.now (numbers xs) in subst P c.deref-5.ensures.value c.in-Ok.ensures)
-    (let P : List EntityId → Type 0 = λ xs. AllZip (HasCount c.args.schema.now) (part_views c.args.parts.now) (numbers xs) in subst P c.deref-6.ensures.value c.if-not-have_counts.ensures)
+returns c = (
+  complex-shape c.args.schema.now c.requires.entities_distinct (part_views c.args.parts.now) (numbers c.in_ok-listed.listed.items) (numbers c.in_ok-entities.entities.items) c.in_ok-listed.ensures (let P : List EntityId → Type 0 = λ xs. IsDistinct nat_eq (numbers xs) in subst P c.deref.ensures.value c.if-has_twice.ensures) (let P : List EntityId → Type 0 = λ xs. IsClosed c.args.schema.now (numbers xs) in subst P c.deref-2.ensures.value c.if-not-is_closed.ensures) (let P : List EntityId → Type 0 = λ xs. AreSame (numbers xs) (numbers c.in_ok-entities.entities.items) in subst P c.deref-3.ensures.value c.in_ok-entities.ensures.same) c.in_ok-entities.ensures.rising
+      (let P : List EntityId → Type 0 = λ xs. HasNoLeaf c.args.schema.now (numbers xs) in subst P c.deref-4.ensures.value (MatchBool-at_false _ _ c.if-found.false c.in_ok-found.ensures))
+      (let P : List EntityId → Type 0 = λ xs. PassesSet c.args.schema.now (numbers xs) in subst P c.deref-5.ensures.value c.in-Ok.ensures)
+      (let P : List EntityId → Type 0 = λ xs. AllZip (HasCount c.args.schema.now) (part_views c.args.parts.now) (numbers xs) in subst P c.deref-6.ensures.value c.if-not-have_counts.ensures),
+  tt,
+)

@@ -1,74 +1,49 @@
-use Rattle.std.specs.Prelude.{◌≡◌, List, [], ℕ, true, false, nat_eq, length}
-use Rattle.std.specs.List.{IsDistinct, flat_map}
+use Rattle.std.specs.Prelude.{◌≡◌, List, [], ℕ, true, false, length}
+use Rattle.std.specs.List.{flat_map}
 use Rattle.std.proofs.Common.{ap, sym, ◌∙◌, subst}
 use Rattle.p21_basics.proofs.Members.{Contains-first}
 use Rattle.p21_express_tables.specs.Orders.{numbers}
-use Rattle.p21_exchange.specs.Record.{simple}
-use Rattle.p21_express_types.specs.declared.number.EntityId.{EntityId}
+use Rattle.p21_express_tables.specs.Resolved.{IsEntity}
 use Rattle.p21_files.specs.BrokenRule.{unknown_entity}
 use Rattle.p21_grammar_tree.specs.View.{part_view}
-use Rattle.p21_mapping_sets.specs.Shape.{AreSame, PassesSet, RefusesSet}
-use Rattle.p21_mapping_sets.proofs.Shapes.{named-within, order-within, same-entities, leaf-breaks, simple-leaf, simple-set, set-refuses, simple-miscount, simple-shape, part-length}
+use Rattle.p21_mapping_sets.specs.Shape.{AreSame}
+use Rattle.p21_mapping_sets.proofs.OwnSets.{own-passes, own-refuses}
+use Rattle.p21_mapping_sets.proofs.Shapes.{named-within, order-within, simple-miscount, simple-shape, part-length}
 use Rattle.p21_mapping_sets.proofs.shape.simple_shape.Goals as goal
-use Rattle.p21_schemas.proofs.OrderedOnce.{order-distinct}
-use Rattle.p21_schemas.specs.Order.{order, own_places}
+use Rattle.p21_schemas.specs.Order.{own_places}
 
 pub returns-in_default : goal.returns-in_default
 returns-in_default c = λ _. unknown_entity (part_view c.args.part.now, Contains-first (part_view c.args.part.now) [], λ e named. c.in_default.ensures e named)
 
+pub check_own_set-requires : goal.check_own_set-requires
+check_own_set-requires c = named-within c.args.schema.now (part_view c.args.part.now).key c.in-Some.entity.0 c.in-Some.ensures
+
 pub order-requires : goal.order-requires
 order-requires c = named-within c.args.schema.now (part_view c.args.part.now).key c.in-Some.entity.0 c.in-Some.ensures
 
-pub is_abstract-requires : goal.is_abstract-requires
-is_abstract-requires c = named-within c.args.schema.now (part_view c.args.part.now).key c.in-Some.entity.0 c.in-Some.ensures
-
-pub rising-requires-clause-entities : goal.rising-requires-clause-entities
-rising-requires-clause-entities c =
+pub has_count-requires : goal.has_count-requires
+has_count-requires c =
     order-within c.args.schema.now c.holds_together.ensures c.in-Some.entity.0 (numbers c.deref.result.now) (ap numbers c.deref.ensures.value ∙ c.in_ok-listed.ensures)
     (named-within c.args.schema.now (part_view c.args.part.now).key c.in-Some.entity.0 c.in-Some.ensures)
 
-pub rising-requires-clause-distinct : goal.rising-requires-clause-distinct
-rising-requires-clause-distinct c =
-    let P : List ℕ → Type 0 = λ xs. IsDistinct nat_eq xs in
-    subst P (sym (ap numbers c.deref.ensures.value ∙ c.in_ok-listed.ensures)) (order-distinct c.args.schema.now c.in-Some.entity.0)
-
-pub returns-then-is_abstract : goal.returns-then-is_abstract
-returns-then-is_abstract c = λ _.
-    let P : List ℕ → Type 0 = λ xs. AreSame xs (numbers c.in_ok-entities.entities.items) in
-    let same : AreSame (order c.args.schema.now c.in-Some.entity.0) (numbers c.in_ok-entities.entities.items) = subst P (ap numbers c.deref.ensures.value ∙ c.in_ok-listed.ensures) c.in_ok-entities.ensures.same in
-    leaf-breaks c.args.schema.now (simple (part_view c.args.part.now)) (numbers c.in_ok-entities.entities.items)
-    (simple-set c.args.schema.now c.holds_together.ensures c.requires.entities_distinct (part_view c.args.part.now) c.in-Some.entity.0 (numbers c.in_ok-entities.entities.items) c.in-Some.ensures same)
-    (simple-leaf c.args.schema.now c.holds_together.ensures c.in-Some.entity.0 (numbers c.in_ok-entities.entities.items) same (c.is_abstract.ensures.0 c.if-is_abstract.true))
-
-pub check_set-requires : goal.check_set-requires
-check_set-requires c =
-    rw c.deref-2.ensures.value
-    (same-entities c.args.schema.now (numbers c.deref.result.now) (numbers c.in_ok-entities.entities.items) c.in_ok-entities.ensures.same
-    (order-within c.args.schema.now c.holds_together.ensures c.in-Some.entity.0 (numbers c.deref.result.now) (ap numbers c.deref.ensures.value ∙ c.in_ok-listed.ensures)
-    (named-within c.args.schema.now (part_view c.args.part.now).key c.in-Some.entity.0 c.in-Some.ensures)))
-
-pub has_count-requires : goal.has_count-requires
-has_count-requires c =
-    order-within c.args.schema.now c.holds_together.ensures c.in-Some.entity.0 (numbers c.deref-3.result.now) (ap numbers c.deref-3.ensures.value ∙ c.in_ok-listed.ensures)
-    (named-within c.args.schema.now (part_view c.args.part.now).key c.in-Some.entity.0 c.in-Some.ensures)
-
 pub returns-in-Err : goal.returns-in-Err
-returns-in-Err c =
-    let P : List ℕ → Type 0 = λ xs. AreSame xs (numbers c.in_ok-entities.entities.items) in
-    let same : AreSame (order c.args.schema.now c.in-Some.entity.0) (numbers c.in_ok-entities.entities.items) = subst P (ap numbers c.deref.ensures.value ∙ c.in_ok-listed.ensures) c.in_ok-entities.ensures.same in
-    set-refuses c.args.schema.now (simple (part_view c.args.part.now)) (numbers c.in_ok-entities.entities.items)
-    (simple-set c.args.schema.now c.holds_together.ensures c.requires.entities_distinct (part_view c.args.part.now) c.in-Some.entity.0 (numbers c.in_ok-entities.entities.items) c.in-Some.ensures same)
-    c.in-Err.fault (let Q : List EntityId → Type 0 = λ xs. RefusesSet c.args.schema.now (numbers xs) c.in-Err.fault in subst Q c.deref-2.ensures.value c.in-Err.ensures)
+returns-in-Err c = own-refuses c.args.schema.now c.in-Some.entity.0 c.holds_together.ensures c.requires.entities_distinct (part_view c.args.part.now) c.in-Some.ensures c.in-Err.fault c.in-Err.ensures
 
 pub returns-then-not-has_count : goal.returns-then-not-has_count
 returns-then-not-has_count c = λ _. simple-miscount c.args.schema.now (part_view c.args.part.now) c.in-Some.entity.0 c.in-Some.ensures
-    (λ count. let t : true ≡ false = sym (c.has_count.ensures.1 (ap length c.items.ensures ∙ sym (part-length c.args.part.now) ∙ count ∙ ap (λ xs. length (flat_map (own_places c.args.schema.now) xs)) (sym (ap numbers c.deref-3.ensures.value ∙ c.in_ok-listed.ensures)))) ∙ c.if-not-has_count.true in cc)
+    (λ count. let t : true ≡ false = sym (c.has_count.ensures.1 (ap length c.items.ensures ∙ sym (part-length c.args.part.now) ∙ count ∙ ap (λ xs. length (flat_map (own_places c.args.schema.now) xs)) (sym (ap numbers c.deref.ensures.value ∙ c.in_ok-listed.ensures)))) ∙ c.if-not-has_count.true in cc)
+
+pub own_rising-requires : goal.own_rising-requires
+own_rising-requires c = named-within c.args.schema.now (part_view c.args.part.now).key c.in-Some.entity.0 c.in-Some.ensures
 
 pub returns : goal.returns
 returns c =
-    let Q : List ℕ → Type 0 = λ xs. AreSame xs (numbers c.in_ok-entities.entities.items) in
-    let R : List EntityId → Type 0 = λ xs. PassesSet c.args.schema.now (numbers xs) in
-    simple-shape c.args.schema.now c.holds_together.ensures c.requires.entities_distinct (part_view c.args.part.now) c.in-Some.entity.0 (numbers c.in_ok-listed.listed.items) (numbers c.in_ok-entities.entities.items) c.in-Some.ensures
-    c.in_ok-listed.ensures (subst Q (ap numbers c.deref.ensures.value) c.in_ok-entities.ensures.same) c.in_ok-entities.ensures.rising (λ is. let t : true ≡ false = sym (c.is_abstract.ensures.1 is) ∙ c.if-is_abstract.false in cc)
-    (subst R c.deref-2.ensures.value c.in-Ok.ensures)
-    (part-length c.args.part.now ∙ sym (ap length c.items.ensures) ∙ c.has_count.ensures.0 c.if-not-has_count.false ∙ ap (λ xs. length (flat_map (own_places c.args.schema.now) (numbers xs))) c.deref-3.ensures.value)
+    let (same, rising) = c.in_ok-entities.ensures in
+    let within : IsEntity c.args.schema.now c.in-Some.entity.0 = named-within c.args.schema.now (part_view c.args.part.now).key c.in-Some.entity.0 c.in-Some.ensures in
+    let Q : List ℕ → Type 0 = λ xs. AreSame xs (numbers c.in_ok-entities.entities.items) in (
+      simple-shape c.args.schema.now c.holds_together.ensures c.requires.entities_distinct (part_view c.args.part.now) c.in-Some.entity.0 (numbers c.in_ok-listed.listed.items) (numbers c.in_ok-entities.entities.items) c.in-Some.ensures
+          c.in_ok-listed.ensures (subst Q (sym c.in_ok-listed.ensures) same) rising c.in-Ok.ensures.0
+          (own-passes c.args.schema.now c.in-Some.entity.0 (numbers c.in_ok-entities.entities.items) same c.in-Ok.ensures)
+          (part-length c.args.part.now ∙ sym (ap length c.items.ensures) ∙ c.has_count.ensures.0 c.if-not-has_count.false ∙ ap (λ xs. length (flat_map (own_places c.args.schema.now) (numbers xs))) c.deref.ensures.value),
+      (within, same),
+    )
