@@ -332,7 +332,7 @@ fn reads_nested_functions_and_remarks(rt: HostRuntime) -> Result<(), Fail> {
 #[test]
 fn refuses_the_demo_cut_short(rt: HostRuntime) -> Result<(), Fail> {
     let bytes = DEMO.as_bytes();
-    for end in 0..bytes.len() - 2 {
+    for end in 0..bytes.len() - 1 {
         let (front, _rest) = bytes.split_at(end);
         let fault = read_declarations(rt.alloc(), front).err();
         assert_eq!(rt; fault, Some(SyntaxFault::Syntax), "{end}");

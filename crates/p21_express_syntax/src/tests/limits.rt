@@ -59,3 +59,22 @@ fn counts_declarations_of_one_kind(rt: HostRuntime) -> Result<(), Fail> {
     }
     Ok(())
 }
+
+/// Names around the length up to which they take no memory, and a long one.
+#[test]
+fn keeps_names_of_any_length(rt: HostRuntime) -> Result<(), Fail> {
+    for length in [1usize, 23, 24, 25, 26, 300] {
+        let mut name = Vec::new(rt.alloc());
+        let mut text = Vec::new(rt.alloc());
+        text.extend_from_slice(b"SCHEMA s; ENTITY ")?;
+        for _byte in 0..length {
+            name.push(b'Z')?;
+            text.push(b'z')?;
+        }
+        text.extend_from_slice(b"; END_ENTITY; END_SCHEMA;")?;
+        let schema = read_declarations(rt.alloc(), text.as_slice())?;
+        let entity = schema.entities.get(0).expect(&rt, "an entity");
+        assert_eq!(rt; entity.name.bytes(), name.as_slice(), "{length}");
+    }
+    Ok(())
+}
