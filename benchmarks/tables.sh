@@ -49,8 +49,10 @@ with tempfile.TemporaryDirectory() as folder:
         best = {program: max(0, least([*words, path]) - started[program]) for program, words in PROGRAMS.items()}
         peak = peak_memory([*PROGRAMS["tables"], path])
         ratio = f"{best['tables'] / best['alone']:.1f}" if best["alone"] > 0.0005 else "-"
+        # A run of less than a millisecond ends before its memory is looked at.
+        memory = f"{peak / 1e6:.1f} | {peak / size:.1f}" if peak else "- | -"
         print(
             f"| {name} | {size / 1e6:.2f} | {best['alone'] * 1e3:.1f} | {best['tables'] * 1e3:.1f} | {ratio}"
-            f" | {peak / 1e6:.1f} | {peak / size:.1f} |"
+            f" | {memory} |"
         )
 PROGRAM

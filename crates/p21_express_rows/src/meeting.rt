@@ -187,6 +187,10 @@ fn looks_for_places_redeclared_twice(rt: HostRuntime) -> Result<(), Fail> {
             "ENTITY a; SELF\\r.k, SELF\\r.k : REAL; END_ENTITY;",
             SchemaFault::UnknownName,
         ),
+        (
+            "ENTITY a; k : REAL; SELF\\a.k, SELF\\a.k : REAL; END_ENTITY;",
+            SchemaFault::Duplicate,
+        ),
     ];
     expect(&rt, rt.alloc(), &rows)
 }

@@ -1,4 +1,5 @@
 mod demo;
+mod headers;
 mod long;
 mod needs;
 mod places;

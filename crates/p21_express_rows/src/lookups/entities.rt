@@ -115,7 +115,12 @@ fn puts_supertypes_first(rt: HostRuntime) -> Result<(), Fail> {
 }
 
 /// The names of the leaves of a set.
-fn leaves_of(rt: &impl Abort, alloc: Global, schema: &Schema, names: &str) -> Result<String, Fail> {
+pub(super) fn leaves_of(
+    rt: &impl Abort,
+    alloc: Global,
+    schema: &Schema,
+    names: &str,
+) -> Result<String, Fail> {
     let entities = entities_named(rt, alloc, schema, names)?;
     let leaves = schema.leaves(&entities)?;
     names_of(rt, alloc, schema, &leaves)

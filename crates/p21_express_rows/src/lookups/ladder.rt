@@ -1,5 +1,6 @@
 //! Levels of two entities, each of them a subtype of both of the level before: as many ways up as two to the power of the
 //! levels.
+use super::entities::leaves_of;
 use super::{entity_named, names_of};
 use p21_express::read_schema;
 use p21_express_tables::Schema;
@@ -65,5 +66,14 @@ fn looks_up_the_ladder(rt: HostRuntime) -> Result<(), Fail> {
     assert!(rt; !schema.is_a(top, beside));
     let faults = schema.own_faults(top);
     assert!(rt; !faults.leaves_open && !faults.clashes);
+    Ok(())
+}
+
+#[test]
+fn finds_the_leaf_of_the_ladder(rt: HostRuntime) -> Result<(), Fail> {
+    let schema = ladder(rt.alloc())?;
+    let names = rungs(rt.alloc())?;
+    let leaves = leaves_of(&rt, rt.alloc(), &schema, &names)?;
+    assert_eq!(rt; leaves.as_str(), "A30 ");
     Ok(())
 }
