@@ -130,6 +130,11 @@ expect 'a file refused in an instance' 1 '' 'refused 40 DuplicateName in #1'
 run check "$demo" "$here/nothing"
 expect 'a file refused at a statement' 1 '' 'refused 24 EndsEarly at statement 1'
 
+# The large run: 100,000 points.
+file "$(seq 100000 | sed 's/.*/#&=POINT($,1.,1.);/')" > "$here/large"
+run check "$demo" "$here/large"
+expect 'a file of 100,000 instances' 0 'accepted, instances 100000, canonical bytes 2289047' ''
+
 run check "$here/schema" "$here/point"
 expect 'a file with a schema that is refused' 1 '' 'schema refused S2 Syntax'
 
