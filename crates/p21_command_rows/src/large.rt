@@ -17,9 +17,9 @@ fn points(alloc: Global, count: u32) -> Result<String, Fail> {
 }
 
 #[test]
-fn counts_100_000_instances(rt: HostRuntime) -> Result<(), Fail> {
-    let file = file_of(rt.alloc(), DEMO, &points(rt.alloc(), 100_000)?)?;
-    let answer = "accepted, instances 100000, canonical bytes 2289047\n";
+fn counts_10_000_instances(rt: HostRuntime) -> Result<(), Fail> {
+    let file = file_of(rt.alloc(), DEMO, &points(rt.alloc(), 10_000)?)?;
+    let answer = "accepted, instances 10000, canonical bytes 219046\n";
     expect_answer(&rt, &check(rt.alloc(), DEMO, &file), answer, "points");
     Ok(())
 }
