@@ -1,13 +1,15 @@
 #!/bin/sh
 # Times a program that lexes, parses and checks a file in pieces of 64 KiB, moves each record into what it means and drops
-# that, beside the program that only lexes and parses: points; oriented edges with their two derived places; one set of
-# references, and ten times as many; instances of five parts. Prints a table: the least processor time of several runs,
-# checking as a multiple of parsing, and the peak resident memory.
+# that, beside the program that only lexes and parses, and one that also writes each canonical statement: points; oriented
+# edges with their two derived places; one set of references, and ten times as many; instances of five parts. Prints a table:
+# the least processor time of several runs, checking as a multiple of parsing, printing as one of checking, the canonical
+# megabytes that printing adds in a second, and the peak resident memory of the check.
 # Needs rt, rustc and python3. A folder in TMPDIR with 100 MB of room, best in memory, takes the files.
 
 benchmarks=$(dirname -- "$(readlink -f -- "$0")")
 "$benchmarks/build.sh" parsing p21_grammar p21_tokens p21_values || exit
 "$benchmarks/build.sh" checking p21_mapping p21_mapping_values p21_express p21_express_tables p21_grammar p21_tokens p21_values || exit
+"$benchmarks/build.sh" printing p21_canon p21_canon_record p21_mapping p21_mapping_values p21_express p21_express_tables p21_grammar p21_tokens p21_values || exit
 
 PYTHONDONTWRITEBYTECODE=1 PYTHONPATH=$benchmarks exec python3 - "$benchmarks/out" <<'PROGRAM'
 import os
@@ -32,17 +34,22 @@ with tempfile.TemporaryDirectory() as folder:
     path = os.path.join(folder, "file")
     parsing = [os.path.join(OUT, "parsing"), path]
     checking = [os.path.join(OUT, "checking"), models.SCHEMA, path]
-    print("| file | MB | parsing, ms | checking, ms | checking to parsing | peak memory, MB |")
-    print("|---|---|---|---|---|---|")
+    printing = [os.path.join(OUT, "printing"), models.SCHEMA, path]
+    print(
+        "| file | MB | parsing, ms | checking, ms | printing, ms | checking to parsing | printing to checking"
+        " | MB a second of printing alone | peak memory, MB |"
+    )
+    print("|---|---|---|---|---|---|---|---|---|")
     for name, lines in FILES.items():
         size = models.write(path, lines)
-        counted = subprocess.run(checking, stdout=subprocess.PIPE, text=True, check=True).stdout.split()
+        counted = subprocess.run(printing, stdout=subprocess.PIPE, text=True, check=True).stdout.split()
         if counted[0] != str(len(lines)):
             sys.exit(f"{name}: counts {counted}")
-        alone, both = (min(seconds(words) for _ in range(RUNS)) for words in (parsing, checking))
+        parsed, checked, printed = (min(seconds(words) for _ in range(RUNS)) for words in (parsing, checking, printing))
+        speed = int(counted[1]) / 1e6 / (printed - checked) if printed > checked else 0.0
         print(
-            f"| {name} | {size / 1e6:.1f} | {alone * 1e3:.0f} | {both * 1e3:.0f} | {both / alone:.2f}"
-            f" | {peak_memory(checking) / 1e6:.1f} |",
+            f"| {name} | {size / 1e6:.1f} | {parsed * 1e3:.0f} | {checked * 1e3:.0f} | {printed * 1e3:.0f}"
+            f" | {checked / parsed:.2f} | {printed / checked:.2f} | {speed:.0f} | {peak_memory(checking) / 1e6:.1f} |",
             flush=True,
         )
 PROGRAM

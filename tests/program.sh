@@ -181,7 +181,7 @@ expect 'no instance of the last number' 1 '' 'no #18446744073709551615'
 run show "$demo" "$here/twice" --name 1
 expect 'an instance of a refused file' 1 '' 'refused 40 DuplicateName in #1'
 
-for number in '#2' 18446744073709551616 -1 2. two ''; do
+for number in '#2' 18446744073709551616 -1 +2 2. two ''; do
     run show "$demo" "$here/point" --name "$number"
     expect "the number '$number'" 2 '' '*--name*'
 done

@@ -18,6 +18,8 @@ use std::io;
 pub enum Stopped<'a> {
     /// The command line lacks what the command wants.
     Incomplete,
+    /// The number of the instance has a sign.
+    Signed(&'a str),
     /// The file of this path can't be opened.
     Unopened(&'a str, io::Error),
 }
@@ -89,19 +91,28 @@ fn run_canon<'a>(rt: &HostRuntime, found: &ArgMatches<'a>) -> Result<u8, Stopped
 fn run_show<'a>(rt: &HostRuntime, found: &ArgMatches<'a>) -> Result<u8, Stopped<'a>>
     ensures { IfOk result IsOfCommand }
 {
-    let Some(number) = found.get_one::<u64>("name") else {
-        return Err(Stopped::Incomplete);
-    };
+    let number = name_given(found)?;
     let mut schema = open(rt, found, "S")?;
     let mut file = Watched::new(open(rt, found, "FILE")?);
     Ok(show_command(
         rt.alloc(),
         &mut schema,
         &mut file,
-        Name(number),
+        number,
         &mut rt.stdout(),
         &mut rt.stderr(),
     ))
+}
+
+/// The name that `--name` gives. `clap` reads numbers with a sign too; a name has digits alone.
+fn name_given<'a>(found: &ArgMatches<'a>) -> Result<Name, Stopped<'a>> {
+    let (Some(text), Some(number)) = (found.get_str("name"), found.get_one::<u64>("name")) else {
+        return Err(Stopped::Incomplete);
+    };
+    if text.as_bytes().first() == Some(&b'+') {
+        return Err(Stopped::Signed(text));
+    }
+    Ok(Name(number))
 }
 
 /// `same S A B`.

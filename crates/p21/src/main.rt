@@ -41,6 +41,7 @@ fn run(rt: &HostRuntime) -> u8
     match run_command(rt, &matches) {
         Ok(status) => status,
         Err(Stopped::Incomplete) => USAGE,
+        Err(Stopped::Signed(number)) => explain_sign(rt, number),
         Err(Stopped::Unopened(path, error)) => explain_open(rt, path, &error),
     }
 }
@@ -79,6 +80,18 @@ fn explain(rt: &HostRuntime, error: &Error) -> u8
         Ok(()) if error.use_stderr() => USAGE,
         Ok(()) => DONE,
         Err(_) => report(&CommandFault::Write, &mut rt.stderr()),
+    }
+}
+
+/// Says that the number of an instance has a sign, as `clap` says it of other mistakes.
+fn explain_sign(rt: &HostRuntime, number: &str) -> u8
+    ensures { (result ≡ usage) ⊎ (result ≡ failed) }
+{
+    match eprintln!(rt;
+        "error: invalid value '{number}' for '--name <N>': invalid digit found in string\n\nFor more information, try '--help'."
+    ) {
+        Ok(()) => USAGE,
+        Err(_) => FAILED,
     }
 }
 

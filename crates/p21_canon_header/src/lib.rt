@@ -15,9 +15,6 @@ use p21_canon_tokens::{append_byte, append_item, append_separator};
 use p21_grammar_tree::{Key, Param, Part};
 use p21_values::{Canonical, NoMemory};
 
-#[cfg(test)]
-mod tests;
-
 /// Appends the canonical text of a header record, or of the `DATA` of a named section, with its `;` and without a line
 /// feed: its tokens are laid in it. A refusal leaves `out` as it was.
 ///

@@ -1,5 +1,5 @@
 -- The canonical record of a meaning means it, and is canonical.
-use Rattle.std.proofs.Common.{◌≡◌, ℕ, zero, suc, ◌+◌, ◌<◌, false, List, [], ◌∷◌, length, map, Option, Some, None, Contains, arith, refl, ap, sym, subst, ◌∙◌, inl, inr}
+use Rattle.std.proofs.Common.{◌≡◌, ℕ, zero, suc, ◌+◌, ◌<◌, false, List, [], ◌∷◌, length, Option, Some, None, Contains, arith, refl, ap, sym, subst, ◌∙◌, inl, inr}
 use Rattle.std.specs.Cmp.Lexicographic.{slice_cmp}
 use Rattle.std.specs.List.{AllZip, zip, AllByRecursion as Each}
 use Rattle.std.specs.List.Sorted.{IsStrictlySortedBy}
@@ -10,6 +10,7 @@ use Rattle.p21_basics.proofs.Shuffles.{none_twice-distinct}
 use Rattle.p21_claim_values.proofs.CanonicalParam.{canonical_params, params_of}
 use Rattle.p21_claim_values.proofs.Leaves.{closure-leaf, is_a-transitive}
 use Rattle.p21_claim_values.proofs.Printing.{canonical_typed, means-with}
+use Rattle.p21_claim_values.proofs.RecordOnce.{words}
 use Rattle.p21_claim_values.proofs.Sorting.{below-not_back}
 use Rattle.p21_exchange.specs.Parameter.{key_of}
 use Rattle.p21_exchange.specs.Record.{Part, Record, simple, complex}
@@ -155,9 +156,6 @@ external-means s formed kinds r m means =
     })
 
 -- keywords that rise are in order
-abbrev words : List Part → List (List ℕ)
-words parts = map (λ (part : Part). part.key.word) parts
-
 strict-rises : (xs : List (List ℕ)) → IsStrictlySortedBy (slice_cmp nat_cmp) xs → AreRising xs
 unfolding IsStrictlySortedBy
 strict-rises [] rise k d low high = absurd (omega (arith, high))

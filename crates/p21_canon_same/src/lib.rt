@@ -107,6 +107,3 @@ fn same_paired(a: &[Value], b: &[Value]) -> bool
     }
     true
 }
-
-#[cfg(test)]
-mod tests;

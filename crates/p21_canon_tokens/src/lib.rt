@@ -8,9 +8,6 @@ ghost use Rattle.p21_canon_tokens.specs.Row.{separator};
 
 use p21_values::{Canonical, NoMemory, Word};
 
-#[cfg(test)]
-mod tests;
-
 /// Appends one byte.
 ///
 /// # Errors

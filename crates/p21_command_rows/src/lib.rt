@@ -1,4 +1,4 @@
-//! Tests of the commands on files: worked files over readers and writers in memory, each with both outputs and the exit
+//! Tests of the commands: worked texts and files over readers and writers in memory, each with both outputs and the exit
 //! status. It holds no other code.
 #![tactic(auto)]
 
@@ -15,11 +15,15 @@ mod headers;
 #[cfg(test)]
 mod large;
 #[cfg(test)]
+mod param_texts;
+#[cfg(test)]
 mod read_faults;
 #[cfg(test)]
 mod refused;
 #[cfg(test)]
 mod run;
+#[cfg(test)]
+mod schema_texts;
 #[cfg(test)]
 mod schemas;
 #[cfg(test)]

@@ -79,6 +79,3 @@ fn refusal_text(alloc: Global, fault: TokenFault) -> Result<String, AllocError>
     let name = fault.name();
     format!(in alloc; "refused {number} {name}\n")
 }
-
-#[cfg(test)]
-mod tests;

@@ -7,6 +7,3 @@ mod schema;
 
 pub use load::load_schema;
 pub use schema::schema_command;
-
-#[cfg(test)]
-mod tests;

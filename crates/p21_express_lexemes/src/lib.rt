@@ -15,6 +15,3 @@ pub use lexeme::{Front, Lexeme, one_laying, read_front};
 pub use lexemes::{Lexemes, lexemes_are_laid};
 pub use reserved::upper;
 pub use runs::{Mark, read_over};
-
-#[cfg(test)]
-mod tests;

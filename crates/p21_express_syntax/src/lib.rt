@@ -14,6 +14,3 @@ pub use defined_type::{Body, DefinedType};
 pub use entity::{Constraint, Entity};
 pub use schema::{Declarations, one_text, one_tree, read_declarations};
 pub use types::{Aggregate, DataType, Range, SimpleType, Width};
-
-#[cfg(test)]
-mod tests;

@@ -14,7 +14,7 @@ use Rattle.p21_schemas.specs.Order.{firsts}
 use Rattle.p21_express_tables.specs.Gathering.{add_first, add_firsts, ArePlaced}
 use Rattle.p21_express_tables.proofs.Walks.{snoc_cases}
 
-eqb-same : (x : ℕ) → nat_eq x x ≡ true
+pub eqb-same : (x : ℕ) → nat_eq x x ≡ true
 eqb-same x = (Decides-eqb x x).1 refl
 
 or-first : (a b : Bool) → a ≡ true → (a || b) ≡ true

@@ -1,9 +1,11 @@
 pub mod Closures
 pub mod Collecting
+pub mod Decisions
 pub mod Gatherings
 pub mod Lookups
 pub mod Naming
 pub mod Offering
+pub mod OneOf
 pub mod OrderTables
 pub mod OwnSets
 pub mod Ranks

@@ -62,7 +62,7 @@ list-at items xs lists k x listed same below is at =
     let e : Some listed ≡ Some (items x) = sym at ∙ ap (λ ls. slice_get ls k) (sym same) ∙ found in cc
 
 -- one number more of a list
-pub numbers-more : {X : Type 0} (number : X → ℕ) (xs : List X) (k : ℕ) (d : X) → k < length xs → map number (take (k + 1) xs) ≡ map number (take k xs) ++ number (get_or xs k d) ∷ []
+pub numbers-more : {X Y : Type 0} (number : X → Y) (xs : List X) (k : ℕ) (d : X) → k < length xs → map number (take (k + 1) xs) ≡ map number (take k xs) ++ number (get_or xs k d) ∷ []
 numbers-more number xs k d below =
     let next : k + 1 ≡ suc k = omega arith in
     ap (λ n. map number (take n xs)) next ∙ ap (map number) (take-snoc xs k d below) ∙ map-append number (take k xs) (get_or xs k d ∷ [])

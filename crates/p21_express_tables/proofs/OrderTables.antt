@@ -1,8 +1,7 @@
 -- The table of the orders of all entities.
 use Rattle.std.specs.Prelude.{◌≡◌, ◌≢◌, ◌↔◌, ℕ, zero, suc, ◌+◌, ◌<◌, ◌⊎◌, List, [], ◌∷◌, ◌++◌, Some, None, Option, length, map, slice_get, slice_set, take, drop, Contains, refl}
-use Rattle.std.specs.List.{flat_map}
-use Rattle.std.proofs.Common.{arith, ap, sym, ◌∙◌, subst, inl, inr, append_assoc, get_or, length-append, drop-cons}
-use Rattle.std.proofs.lemmas.List.{map-append}
+use Rattle.std.specs.List.{AllByRecursion as Each, flat_map}
+use Rattle.std.proofs.Common.{arith, ap, sym, ◌∙◌, subst, inl, inr, append_assoc, get_or, drop-cons}
 use Rattle.std.specs.Option.{option_map}
 use Rattle.std.proofs.lemmas.Bool.{cases_eq}
 use Rattle.std.proofs.lemmas.Option.{slice_get-map, slice_get_read}
@@ -79,6 +78,14 @@ pub record AreSoFar (s : Schema) (lists : List (List ℕ)) (done : List ℕ) : T
   pub orders : (e : ℕ) → Contains done e → nexts_of lists e ≡ order s e
   pub within : (e f : ℕ) → Contains (nexts_of lists e) f → f < length s.entities
 
+-- before the first
+pub none-so-far : (s : Schema) (lists : List (List ℕ)) → length lists ≡ length s.entities → ((x : ℕ) → nexts_of lists x ≡ []) → AreSoFar s lists []
+none-so-far s lists size none = record {
+  size = size;
+  orders = λ e among. absurd (Contains-none e among);
+  within = λ e f among. let P : List ℕ → Type 0 = λ xs. Contains xs f in absurd (Contains-none f (subst P (none e) among));
+}
+
 module _ (s : Schema) (holds : HoldsTogether s) (listed : List ℕ) (settled : IsSettled (supertype_lists s) listed) (lists : List (List ℕ)) (k e : ℕ) (at : slice_get listed k ≡ Some e) (so_far : AreSoFar s lists (take k listed)) where
   pub is-entity : e < length s.entities
   is-entity = omega (arith, mapped-length (λ x. x.supertypes) s.entities, settled.within e (Contains-found listed k e at))
@@ -118,12 +125,11 @@ all-orders s listed settled lists so_far = record { size = so_far.size; each = �
     found (l ∷ ls) zero list is below = ap Some is
     found (l ∷ ls) (suc x) list is below = found ls x list is (omega (arith, below))
 
--- an empty list more
-pub nexts-empty : (lists : List (List ℕ)) → ((x : ℕ) → nexts_of lists x ≡ []) → (x : ℕ) → nexts_of (lists ++ [] ∷ []) x ≡ []
-nexts-empty [] none zero = refl
-nexts-empty [] none (suc x) = refl
-nexts-empty (l ∷ lists) none zero = none zero
-nexts-empty (l ∷ lists) none (suc x) = nexts-empty lists (λ y. none (suc y)) x
+-- where all lists are empty, nothing comes next
+pub nexts-empty : {X : Type 0} (items : X → List ℕ) (xs : List X) → Each (λ x. items x ≡ []) xs → (x : ℕ) → nexts_of (map items xs) x ≡ []
+nexts-empty items [] none x = refl
+nexts-empty items (l ∷ lists) none zero = none.0
+nexts-empty items (l ∷ lists) none (suc x) = nexts-empty items lists none.1 x
 
 -- what is gathered of two lists
 pub add-both : (xs ys zs : List ℕ) → add_firsts xs (ys ++ zs) ≡ add_firsts (add_firsts xs ys) zs
@@ -142,14 +148,6 @@ gather-step {X} number nexts rest xs new ys k d below new_is =
     ∙ ap (λ zs. add_firsts zs (after ++ rest)) new_is
     ∙ sym (add-both xs (nexts (number (get_or ys k d))) (after ++ rest))
     ∙ ap (add_firsts xs) (sym split)
-
-pub empty-more : {X : Type 0} (items : X → List ℕ) (xs after : List X) (x : X) (n : ℕ) → length xs ≡ n → ((y : ℕ) → nexts_of (map items xs) y ≡ []) → after ≡ xs ++ x ∷ [] → items x ≡ [] → (length after ≡ n + 1) × ((y : ℕ) → nexts_of (map items after) y ≡ [])
-empty-more {X} items xs after x n size none after_is empty =
-    let P : List (List ℕ) → Type 0 = λ lists. (y : ℕ) → nexts_of lists y ≡ [] in
-    let Q : List ℕ → Type 0 = λ list. (y : ℕ) → nexts_of (map items xs ++ list ∷ []) y ≡ [] in (
-      (let e = ap length after_is in let f = length-append xs (x ∷ []) in omega (arith, e, f, size)),
-      subst P (sym (ap (map items) after_is ∙ map-append items xs (x ∷ []))) (subst Q (sym empty) (nexts-empty (map items xs) none)),
-    )
 
 -- the supertypes of the entities of parts
 pub lists-are : (entities : List Declared) → map (λ x. x.supertypes) (map entity entities) ≡ map (λ x. numbers x.supertypes.items) entities

@@ -4,7 +4,7 @@ use Rattle.std.proofs.Common.{arith, ap, sym, subst, inl, inr}
 use Rattle.std.proofs.lemmas.Bool.{cases_lt}
 use Rattle.p21_basics.proofs.Members.{Contains-none, Contains-first, Contains-later, Contains-cases, Contains-flat_map, Contains-one_of, Each-member, Each-at}
 use Rattle.p21_schemas.specs.Order.{order, places, own_places}
-use Rattle.p21_schemas.specs.PlaceType.{TypeAt, two_redeclarations, IsDerivedIn, IsRedeclared}
+use Rattle.p21_schemas.specs.PlaceType.{TypeAt, two_redeclarations}
 use Rattle.p21_schemas.specs.Schema.{Schema, Place, Entity, Redeclared}
 use Rattle.p21_schemas.specs.Supertype.{IsA}
 use Rattle.p21_schemas.proofs.PlaceTypes.{TypeAt-one}
@@ -12,7 +12,7 @@ use Rattle.p21_express_types.specs.Meaning.{place_type}
 use Rattle.p21_express_types.specs.declared.place_type.PlaceType.{PlaceType}
 use Rattle.p21_express_types.specs.declared.place_type.PlaceType.TheVariants.{Derived, Stored, Two}
 use Rattle.p21_express_tables.specs.Lookups.{AreEntities, places_from}
-use Rattle.p21_express_tables.specs.OwnSets.{AreOwnSets, IsOwnSet, RedeclaresNothing}
+use Rattle.p21_express_tables.specs.OwnSets.{AreOwnSets, IsOwnSet}
 use Rattle.p21_express_tables.specs.declared.own_sets.OwnSet.{OwnSet}
 use Rattle.p21_express_tables.specs.Resolved.{HoldsTogether, IsEntity, IsPlace, IsResolved, IsRedeclared as IsRedeclaredOf}
 use Rattle.p21_express_tables.proofs.Lookups.{own-places-are}
@@ -56,13 +56,6 @@ module _ (s : Schema) (holds : HoldsTogether s) (e : ℕ) where
   own-entities is entities same f among =
       let P : List ℕ → Type 0 = λ fs. Contains fs f in
       IsA-within s (are-entities s holds) e f ((order-tells s holds e f).0 (subst P same among)) is
-
--- where no entity redeclares a place, the set doesn't
-pub none-redeclared : (s : Schema) (entities : List ℕ) → ((f : ℕ) → Contains entities f → RedeclaresNothing s f) → (place : Place) → (¬ IsDerivedIn s entities place) × (¬ IsRedeclared s entities place)
-none-redeclared s entities none place = (
-  λ (f, x, among, at, derives). let P : List Place → Type 0 = λ ps. Contains ps place in Contains-none place (subst P (none f among x at).1 derives),
-  λ (f, r, (among, (x, at, redeclares), is)). let P : List Redeclared → Type 0 = λ rs. Contains rs r in Contains-none r (subst P (none f among x at).0 redeclares),
-)
 
 -- what an entity redeclares are places
 pub redeclared-place : (s : Schema) → HoldsTogether s → (e : ℕ) (x : Entity) (r : Redeclared) → slice_get s.entities e ≡ Some x → Contains x.redeclared r → IsPlace s r.place

@@ -1,10 +1,13 @@
 pub mod Base
 pub mod Coding
 pub mod Collected
+pub mod Decided
+pub mod Decisions
 pub mod Gathering
 pub mod Lookups
 pub mod Names
 pub mod Offered
+pub mod OneOf
 pub mod Orders
 pub mod OwnSets
 pub mod Parts

@@ -1,5 +1,5 @@
 -- Words of look-ups over lists of entities.
-use Rattle.std.specs.Prelude.{◌≡◌, ◌≢◌, ℕ, zero, suc, ◌+◌, List, [], ◌∷◌, Some, slice_get, Contains}
+use Rattle.std.specs.Prelude.{◌≡◌, ℕ, zero, suc, ◌+◌, List, [], ◌∷◌, Some, slice_get, Contains}
 use Rattle.p21_schemas.specs.Schema.{Schema, Place, Entity, Redeclared}
 use Rattle.p21_schemas.specs.Supertype.{IsA}
 use Rattle.p21_schemas.specs.PlaceType.{Redeclares, IsRedeclaredIn}
@@ -13,14 +13,6 @@ AreEntities s entities = (e : ℕ) → Contains entities e → IsEntity s e
 abbrev pub places_from : ℕ → ℕ → ℕ → List Place
 places_from e k zero = []
 places_from e k (suc n) = record { entity = e; index = k } ∷ places_from e (k + 1) n
-
--- both lists have the number, and it is another one
-abbrev pub IsOther : List ℕ → List ℕ → ℕ → ℕ → Type 0
-IsOther listed entities e f = Contains listed f × Contains entities f × (e ≢ f)
-
--- two different numbers that both lists have
-abbrev pub HasTwo : List ℕ → List ℕ → Type 0
-HasTwo listed entities = (e f : ℕ) × Contains listed e × Contains listed f × (e ≢ f) × Contains entities e × Contains entities f
 
 -- the entity redeclares the place as a derived attribute
 abbrev pub DerivesPlace : Schema → ℕ → Place → Type 0

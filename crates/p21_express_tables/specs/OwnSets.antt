@@ -1,9 +1,10 @@
 -- What holds of the set that an entity and its supertypes make.
-use Rattle.std.specs.Prelude.{◌≡◌, ◌↔◌, ℕ, IsTrue, List, [], Some, slice_get, Contains}
-use Rattle.p21_schemas.specs.Schema.{Schema, Place, Entity, IsAbstract}
+use Rattle.std.specs.Prelude.{◌≡◌, ◌↔◌, ℕ, IsTrue, List, Some, slice_get, Contains}
+use Rattle.p21_schemas.specs.Schema.{Schema, Place, IsAbstract}
 use Rattle.p21_schemas.specs.OneOf.{Clashes}
 use Rattle.p21_schemas.specs.Order.{order, places}
-use Rattle.p21_schemas.specs.PlaceType.{two_redeclarations, TypeAt, IsDerivedIn, IsRedeclared}
+use Rattle.p21_schemas.specs.PlaceType.{two_redeclarations, TypeAt}
+use Rattle.p21_express_tables.specs.Decided.{AreDecided}
 use Rattle.p21_express_tables.specs.Orders.{numbers}
 use Rattle.p21_express_tables.specs.Rising.{IsOwnRising}
 use Rattle.p21_express_tables.specs.declared.own_sets.OwnFaults.{OwnFaults}
@@ -22,17 +23,9 @@ pub record HasOwnFaults (s : Schema) (e : ℕ) (faults : OwnFaults) : Type 0 whe
   pub open_is : IsTrue faults.leaves_open ↔ LeavesOpen s e
   pub clash_is : IsTrue faults.clashes ↔ Clashes s (order s e)
 
--- no entity of the set redeclares the place
-abbrev pub IsDeclaredAt : Schema → ℕ → Place → Type 0
-IsDeclaredAt s e place = ¬ IsDerivedIn s (order s e) place × ¬ IsRedeclared s (order s e) place
-
--- the entity itself redeclares no place
-abbrev pub RedeclaresNothing : Schema → ℕ → Type 0
-RedeclaresNothing s e = (x : Entity) → slice_get s.entities e ≡ Some x → (x.redeclared ≡ []) × (x.derived ≡ [])
-
 pub record IsOwnSet (s : Schema) (e : ℕ) (own : OwnSet) : Type 0 where
   pub faults_are : HasOwnFaults s e own.faults
-  pub declared : (IsTrue own.redeclares → ⊥) → (place : Place) → IsDeclaredAt s e place
+  pub decided_are : AreDecided s (order s e) own.decided.items
   pub rising_is : IsOwnRising s e (numbers own.rising.items)
 
 -- each is that of the entity of its number

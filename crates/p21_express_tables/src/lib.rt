@@ -3,9 +3,11 @@
 
 mod base;
 mod collected;
+mod decided;
 mod gathered;
 mod names;
 mod offered;
+mod one_of;
 mod orders;
 mod own_sets;
 mod parts;

@@ -8,7 +8,7 @@ ghost use Rattle.p21_express_tables.specs.Parts.{schema_of};
 ghost use Rattle.p21_express_tables.specs.Resolved.{HoldsTogether};
 ghost use Rattle.p21_express_tables.specs.Settled.{IsSettled, lists_of, nexts_of};
 
-use crate::collected::risen;
+use crate::collected::{empty_lists, risen};
 use crate::gathered::Gathered;
 use crate::parts::{Entity, Parts};
 use crate::settle::settled;
@@ -87,16 +87,6 @@ fn put_order(orders: &mut Vec<Vec<EntityId>>, entity: u32, order: Vec<EntityId>)
     ensures { tabled orders.new.items ≡ slice_set (tabled orders.old.items) entity (numbers order.items) }
 {
     orders[entity as usize] = order;
-}
-
-fn empty_lists(alloc: Global, count: usize) -> Result<Vec<Vec<EntityId>>, NoMemory>
-    ensures { IfOk result (λ lists. (length lists.items ≡ count) × ((x : ℕ) → nexts_of (tabled lists.items) x ≡ [])) }
-{
-    let mut lists = Vec::with_capacity(alloc, count)?;
-    for _ in 0..count {
-        lists.push(Vec::new(alloc))?;
-    }
-    Ok(lists)
 }
 
 /// Gathers the orders of the supertypes, then the entity itself.

@@ -1,15 +1,21 @@
-ghost use Rattle.std.specs.Prelude.{◌≡◌, ◌↔◌, ℕ, IsTrue, map, Contains, IfOk, OnOk};
-ghost use Rattle.p21_schemas.specs.Schema.{Place as MeantPlace, Redeclared as MeantRedeclared};
+ghost use Rattle.std.specs.Prelude.{◌≡◌, ◌↔◌, IsTrue, map, Contains, IfOk, OnOk};
+ghost use Rattle.p21_schemas.specs.Schema.{Redeclared as MeantRedeclared};
 ghost use Rattle.p21_schemas.specs.Order.{order};
 ghost use Rattle.p21_schemas.specs.PlaceType.{TypeAt};
+ghost use Rattle.p21_schemas.specs.Supertype.{IsA};
 ghost use Rattle.p21_express_types.specs.Meaning.{place as place_of, place_type};
-ghost use Rattle.p21_express_tables.specs.OwnSets.{HasOwnFaults, IsDeclaredAt, IsOpenAt, LeavesOpen, RedeclaresNothing};
+ghost use Rattle.p21_express_tables.specs.Decided.{AreDecided};
+ghost use Rattle.p21_express_tables.specs.Decisions.{IsDecision};
+ghost use Rattle.p21_express_tables.specs.declared.place_types.Decision.TheVariants.{Two};
+ghost use Rattle.p21_express_tables.specs.OwnSets.{HasOwnFaults, IsOpenAt, LeavesOpen};
 ghost use Rattle.p21_express_tables.specs.Orders.{numbers};
 ghost use Rattle.p21_express_tables.specs.Parts.{redeclared as redeclared_of};
 ghost use Rattle.p21_express_tables.specs.Resolved.{IsEntity, IsPlace};
 ghost use Rattle.p21_express_tables.specs.Rising.{IsOwnRising};
 
+use crate::decided::{Decided, decision_at};
 use crate::parts::Redeclared;
+use crate::place_types::Decision;
 use crate::schema::Schema;
 use p21_express_types::{EntityId, Place, PlaceType};
 use p21_values::NoMemory;
@@ -31,8 +37,8 @@ pub struct OwnFaults {
 #[derive(Debug, Drop)]
 pub(crate) struct OwnSet {
     pub(crate) faults: OwnFaults,
-    // Whether an entity of it may redeclare a place.
-    pub(crate) redeclares: bool,
+    // What decides at each place that an entity of it redeclares.
+    pub(crate) decided: Vec<Decided>,
     // Its entities, rising by name.
     pub(crate) rising: Vec<EntityId>,
 }
@@ -71,20 +77,18 @@ impl Schema {
         requires place { IsPlace self.now (place_of place) }
         ensures { TypeAt self.now (order self.now entity.0) (place_of place) (place_type result) }
     {
-        self.holds_together();
-        if self.may_redeclare(entity) {
-            return self.type_at(self.order_of(entity), place);
-        }
-        let attribute = self.attribute_at(place);
-        PlaceType::Stored(attribute.optional, &attribute.type_use)
+        self.decided_type(place, self.own_decision(entity, place))
     }
 
-    fn may_redeclare(&self, entity: EntityId) -> bool
-        ensures { (IsTrue result → ⊥) → (place : MeantPlace) → IsDeclaredAt self.now entity.0 place }
+    /// What decides on that type.
+    fn own_decision(&self, entity: EntityId, place: Place) -> Decision
+        requires { IsEntity self.now entity.0 }
+        ensures { IsDecision self.now (order self.now entity.0) (place_of place) result }
     {
+        self.holds_together();
         match self.own.get(entity.0 as usize) {
-            Some(own) => own.redeclares,
-            None => true,
+            Some(own) => decision_at(&own.decided, place),
+            None => self.decision(self.order_of(entity), place),
         }
     }
 
@@ -108,10 +112,11 @@ impl Schema {
             return Ok(());
         }
         let entity = EntityId(number as u32);
+        let decided = self.find_decided(entity)?;
         let rising = self.find_rising(entity)?;
         let own = OwnSet {
-            faults: self.find_own_faults(entity),
-            redeclares: self.set_redeclares(entity),
+            faults: self.own_faults_with(entity, self.has_open(entity, &decided)),
+            decided,
             rising,
         };
         self.own.push(own)?;
@@ -122,10 +127,44 @@ impl Schema {
         requires { IsEntity self.now entity.0 }
         ensures { HasOwnFaults self.now entity.0 result }
     {
+        self.own_faults_with(entity, self.leaves_open(entity))
+    }
+
+    fn own_faults_with(&self, entity: EntityId, leaves_open: bool) -> OwnFaults
+        requires entity { IsEntity self.now entity.0 }
+        requires open { IsTrue leaves_open ↔ LeavesOpen self.now entity.0 }
+        ensures { HasOwnFaults self.now entity.0 result }
+    {
         OwnFaults {
             is_abstract: self.is_abstract(entity),
-            leaves_open: self.leaves_open(entity),
+            leaves_open,
             clashes: self.clashes(self.order_of(entity)),
+        }
+    }
+
+    /// Whether redeclarations leave a place of the own set open, by what decides at those that are redeclared.
+    fn has_open(&self, entity: EntityId, decided: &[Decided]) -> bool
+        requires entity { IsEntity self.now entity.0 }
+        requires decided { AreDecided self.now (order self.now entity.0) decided.now }
+        ensures { IsTrue result ↔ LeavesOpen self.now entity.0 }
+    {
+        self.holds_together();
+        for known in decided {
+            let known: &Decided = known;
+            if self.is_open(entity, known) {
+                return true;
+            }
+        }
+        false
+    }
+
+    fn is_open(&self, entity: EntityId, decided: &Decided) -> bool
+        requires { IsEntity self.now entity.0 }
+        ensures { IsTrue result ↔ (IsA self.now entity.0 (place_of decided.now.place).entity × (decided.now.decision ≡ Two)) }
+    {
+        match decided.decision {
+            Decision::Two => self.is_a(entity, decided.place.entity),
+            _ => false,
         }
     }
 
@@ -135,28 +174,6 @@ impl Schema {
     {
         self.holds_together();
         self.rising(self.order_of(entity))
-    }
-
-    /// Whether an entity of the own set redeclares a place, explicit or derived.
-    fn set_redeclares(&self, entity: EntityId) -> bool
-        requires { IsEntity self.now entity.0 }
-        ensures { (IsTrue result → ⊥) → (place : MeantPlace) → IsDeclaredAt self.now entity.0 place }
-    {
-        self.holds_together();
-        for owner in self.order_of(entity) {
-            if !self.redeclares_nothing(*owner) {
-                return true;
-            }
-        }
-        false
-    }
-
-    fn redeclares_nothing(&self, entity: EntityId) -> bool
-        requires { IsEntity self.now entity.0 }
-        ensures { IsTrue result → RedeclaresNothing self.now entity.0 }
-    {
-        let entity = self.entity_at(entity);
-        entity.redeclared.is_empty() && entity.derived.is_empty()
     }
 
     /// Whether redeclarations leave a place of the own set open.

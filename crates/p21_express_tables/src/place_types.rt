@@ -1,7 +1,8 @@
-ghost use Rattle.std.specs.Prelude.{◌≡◌, ◌↔◌, ℕ, IsTrue, map, Contains, MatchOption};
+ghost use Rattle.std.specs.Prelude.{◌≡◌, ◌↔◌, ℕ, List, IsTrue, map, slice_get, Contains, MatchOption, Some};
 ghost use Rattle.p21_schemas.specs.Schema.{Redeclared as MeantRedeclared};
-ghost use Rattle.p21_schemas.specs.PlaceType.{TypeAt, Decides, IsDerivedIn, IsRedeclared};
+ghost use Rattle.p21_schemas.specs.PlaceType.{TypeAt, IsDerivedIn, IsRedeclared};
 ghost use Rattle.p21_express_types.specs.Meaning.{place as place_of, place_type};
+ghost use Rattle.p21_express_tables.specs.Decisions.{IsBelowLast, IsDecision, IsLowest, IsRedeclaredAs, IsRedeclarer};
 ghost use Rattle.p21_express_tables.specs.Lookups.{AreEntities, DerivesPlace, IsBelow, RedeclaresAt};
 ghost use Rattle.p21_express_tables.specs.Orders.{numbers};
 ghost use Rattle.p21_express_tables.specs.Parts.{redeclared as redeclared_of};
@@ -11,6 +12,19 @@ use crate::parts::Redeclared;
 use crate::schema::Schema;
 use p21_express_types::{EntityId, Place, PlaceType};
 
+/// What decides on the type at a place of an instance.
+#[derive(Clone, Copy, Debug, Drop)]
+pub(crate) enum Decision {
+    /// The declaration: no entity of the instance redeclares the place.
+    Declared,
+    /// An entity derives the place.
+    Derived,
+    /// What this entity redeclares, by its place in its list.
+    Redeclared(EntityId, usize),
+    /// Entities redeclare the place, and none of them is a subtype of all others that do.
+    Two,
+}
+
 impl Schema {
     /// What may stand at a place of an instance with these entities (ISO 10303-11, Attribute redeclaration).
     pub fn type_at(&self, entities: &[EntityId], place: Place) -> PlaceType<'_>
@@ -18,28 +32,65 @@ impl Schema {
         requires place { IsPlace self.now (place_of place) }
         ensures { TypeAt self.now (numbers entities.now) (place_of place) (place_type result) }
     {
-        if self.is_derived_in(entities, place) {
-            return PlaceType::Derived;
-        }
-        match self.deciding(entities, place) {
-            Some(redeclared) => PlaceType::Stored(redeclared.optional, &redeclared.type_use),
-            None => self.declared_at(entities, place),
+        self.decided_type(place, self.decision(entities, place))
+    }
+
+    /// What may stand at a place where this is the decision.
+    pub(crate) fn decided_type(&self, place: Place, decision: Decision) -> PlaceType<'_>
+        requires place { IsPlace self.now (place_of place) }
+        requires decided { (entities : List ℕ) × IsDecision self.now entities (place_of place) decision }
+        ensures { (entities : List ℕ) → IsDecision self.now entities (place_of place) decision → TypeAt self.now entities (place_of place) (place_type result) }
+    {
+        match decision {
+            Decision::Declared => {
+                let attribute = self.attribute_at(place);
+                PlaceType::Stored(attribute.optional, &attribute.type_use)
+            }
+            Decision::Derived => PlaceType::Derived,
+            Decision::Redeclared(entity, at) => {
+                let redeclared = self.redeclared_at(entity, at);
+                PlaceType::Stored(redeclared.optional, &redeclared.type_use)
+            }
+            Decision::Two => PlaceType::Two,
         }
     }
 
-    /// What may stand at a place where no redeclaration decides.
-    fn declared_at(&self, entities: &[EntityId], place: Place) -> PlaceType<'_>
-        requires entities { AreEntities self.now (numbers entities.now) }
-        requires place { IsPlace self.now (place_of place) }
-        requires stored { IsDerivedIn self.now (numbers entities.now) (place_of place) → ⊥ }
-        requires undecided { (r : MeantRedeclared) → Decides self.now (numbers entities.now) (place_of place) r → ⊥ }
-        ensures { TypeAt self.now (numbers entities.now) (place_of place) (place_type result) }
+    /// What an entity redeclares, by its place in its list.
+    fn redeclared_at(&self, entity: EntityId, at: usize) -> &Redeclared
+        requires { (r : MeantRedeclared) × IsRedeclaredAs self.now entity.0 at r }
+        ensures { IsRedeclaredAs self.now entity.0 at (redeclared_of result.now) }
     {
-        if self.is_redeclared(entities, place) {
-            return PlaceType::Two;
+        &self.entity_at(entity).redeclared[at]
+    }
+
+    /// What decides on the type at a place of an instance with these entities.
+    pub(crate) fn decision(&self, entities: &[EntityId], place: Place) -> Decision
+        requires { AreEntities self.now (numbers entities.now) }
+        ensures { IsDecision self.now (numbers entities.now) (place_of place) result }
+    {
+        if self.is_derived_in(entities, place) {
+            return Decision::Derived;
         }
-        let attribute = self.attribute_at(place);
-        PlaceType::Stored(attribute.optional, &attribute.type_use)
+        match self.lowest(entities, place) {
+            Some(lowest) => self.decision_by(lowest, entities, place),
+            None => Decision::Declared,
+        }
+    }
+
+    /// Whether the lowest entity that redeclares a place decides.
+    fn decision_by(&self, lowest: EntityId, entities: &[EntityId], place: Place) -> Decision
+        requires entities { AreEntities self.now (numbers entities.now) }
+        requires stored { IsDerivedIn self.now (numbers entities.now) (place_of place) → ⊥ }
+        requires lowest { IsLowest self.now (numbers entities.now) (place_of place) lowest.0 }
+        ensures { IsDecision self.now (numbers entities.now) (place_of place) result }
+    {
+        if !self.is_below(lowest, entities, place) {
+            return Decision::Two;
+        }
+        match self.redeclaration(lowest, place) {
+            Some(at) => Decision::Redeclared(lowest, at),
+            None => unreachable!(),
+        }
     }
 
     fn is_derived_in(&self, entities: &[EntityId], place: Place) -> bool
@@ -54,50 +105,44 @@ impl Schema {
         false
     }
 
-    fn is_redeclared(&self, entities: &[EntityId], place: Place) -> bool
+    /// An entity that redeclares a place as an explicit attribute: where one of them is a subtype of all others, that one.
+    fn lowest(&self, entities: &[EntityId], place: Place) -> Option<EntityId>
         requires { AreEntities self.now (numbers entities.now) }
-        ensures { IsTrue result ↔ IsRedeclared self.now (numbers entities.now) (place_of place) }
+        ensures { MatchOption result (IsRedeclared self.now (numbers entities.now) (place_of place) → ⊥) (λ e. IsLowest self.now (numbers entities.now) (place_of place) e.0) }
     {
+        self.holds_together();
+        let mut lowest: Option<EntityId> = None;
         for entity in entities {
-            match self.redeclaration(*entity, place) {
-                Some(_) => return true,
-                None => {}
+            if self.redeclares_below(*entity, place, lowest) {
+                lowest = Some(*entity);
             }
         }
-        false
+        lowest
     }
 
-    /// The redeclaration of an entity that is a subtype of all others that redeclare the place.
-    fn deciding(&self, entities: &[EntityId], place: Place) -> Option<&Redeclared>
-        requires { AreEntities self.now (numbers entities.now) }
-        ensures { MatchOption result ((r : MeantRedeclared) → Decides self.now (numbers entities.now) (place_of place) r → ⊥) (λ r. Decides self.now (numbers entities.now) (place_of place) (redeclared_of r.now)) }
+    /// Whether an entity redeclares a place as an explicit attribute, and is a subtype of the last one that was found to.
+    fn redeclares_below(&self, entity: EntityId, place: Place, last: Option<EntityId>) -> bool
+        requires { IsEntity self.now entity.0 }
+        ensures { IsTrue result ↔ (IsRedeclarer self.now (place_of place) entity.0 × IsBelowLast self.now entity.0 last) }
     {
-        for entity in entities {
-            match self.redeclaration(*entity, place) {
-                Some(redeclared) => {
-                    if self.is_below(*entity, entities, place) {
-                        return Some(redeclared);
-                    }
-                }
-                None => {}
-            }
+        if !self.redeclares(entity, place) {
+            return false;
         }
-        None
+        match last {
+            Some(other) => self.is_a(entity, other),
+            None => true,
+        }
     }
 
+    /// Whether an entity is a subtype of all others that redeclare a place as an explicit attribute.
     fn is_below(&self, entity: EntityId, entities: &[EntityId], place: Place) -> bool
         requires entity { IsEntity self.now entity.0 }
         requires entities { AreEntities self.now (numbers entities.now) }
         ensures { IsTrue result ↔ IsBelow self.now (numbers entities.now) (place_of place) entity.0 }
     {
         for other in entities {
-            match self.redeclaration(*other, place) {
-                Some(_) => {
-                    if !self.is_a(entity, *other) {
-                        return false;
-                    }
-                }
-                None => {}
+            if self.redeclares(*other, place) && !self.is_a(entity, *other) {
+                return false;
             }
         }
         true
@@ -110,16 +155,27 @@ impl Schema {
         has_place(&self.entity_at(entity).derived, place)
     }
 
-    /// How an entity redeclares a place as an explicit attribute.
-    fn redeclaration(&self, entity: EntityId, place: Place) -> Option<&Redeclared>
+    /// Whether an entity redeclares a place as an explicit attribute.
+    fn redeclares(&self, entity: EntityId, place: Place) -> bool
         requires { IsEntity self.now entity.0 }
-        ensures { MatchOption result ((r : MeantRedeclared) → RedeclaresAt self.now entity.0 (place_of place) r → ⊥) (λ r. RedeclaresAt self.now entity.0 (place_of place) (redeclared_of r.now)) }
+        ensures { IsTrue result ↔ IsRedeclarer self.now (place_of place) entity.0 }
+    {
+        match self.redeclaration(entity, place) {
+            Some(_) => true,
+            None => false,
+        }
+    }
+
+    /// Where in its list an entity redeclares a place as an explicit attribute.
+    fn redeclaration(&self, entity: EntityId, place: Place) -> Option<usize>
+        requires { IsEntity self.now entity.0 }
+        ensures { MatchOption result ((r : MeantRedeclared) → RedeclaresAt self.now entity.0 (place_of place) r → ⊥) (λ at. (r : MeantRedeclared) × IsRedeclaredAs self.now entity.0 at r × (r.place ≡ place_of place)) }
     {
         redeclaration_among(&self.entity_at(entity).redeclared, place)
     }
 }
 
-fn has_place(places: &[Place], place: Place) -> bool
+pub(crate) fn has_place(places: &[Place], place: Place) -> bool
     ensures { IsTrue result ↔ Contains (map place_of places.now) (place_of place) }
 {
     for other in places {
@@ -130,19 +186,18 @@ fn has_place(places: &[Place], place: Place) -> bool
     false
 }
 
-fn redeclaration_among(redeclared: &[Redeclared], place: Place) -> Option<&Redeclared>
-    ensures { MatchOption result ((r : MeantRedeclared) → Contains (map redeclared_of redeclared.now) r → r.place ≡ place_of place → ⊥) (λ r. Contains (map redeclared_of redeclared.now) (redeclared_of r.now) × ((redeclared_of r.now).place ≡ place_of place)) }
+fn redeclaration_among(redeclared: &[Redeclared], place: Place) -> Option<usize>
+    ensures { MatchOption result ((r : MeantRedeclared) → Contains (map redeclared_of redeclared.now) r → r.place ≡ place_of place → ⊥) (λ at. (r : MeantRedeclared) × (slice_get (map redeclared_of redeclared.now) at ≡ Some r) × (r.place ≡ place_of place)) }
 {
-    for other in redeclared {
-        let other: &Redeclared = other;
-        if is_same(other.place, place) {
-            return Some(other);
+    for at in 0..redeclared.len() {
+        if is_same(redeclared[at].place, place) {
+            return Some(at);
         }
     }
     None
 }
 
-fn is_same(place: Place, other: Place) -> bool
+pub(crate) fn is_same(place: Place, other: Place) -> bool
     ensures { IsTrue result ↔ (place_of place ≡ place_of other) }
 {
     place.entity.0 == other.entity.0 && place.index == other.index

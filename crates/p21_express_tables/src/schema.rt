@@ -2,9 +2,8 @@ ghost use Rattle.std.specs.Prelude.{◌≡◌, ◌↔◌, ℕ, IsTrue, length, m
 ghost use Rattle.p21_schemas.specs.Schema.{EntityNamed, TypeNamed, PlaceNamed, IsAbstract, entity_member, kind_of, attribute_at, attributes_of};
 ghost use Rattle.p21_schemas.specs.Select.{Offers};
 ghost use Rattle.p21_schemas.specs.Supertype.{IsA, IsLeaf, AreLeaves};
-ghost use Rattle.p21_schemas.specs.OneOf.{Clashes};
 ghost use Rattle.p21_schemas.specs.WellFormed.{IsWellFormed};
-ghost use Rattle.p21_express_tables.specs.Lookups.{AreEntities, HasTwo, IsOther};
+ghost use Rattle.p21_express_tables.specs.Lookups.{AreEntities};
 ghost use Rattle.p21_schemas.specs.Order.{order, places, own_places};
 ghost use Rattle.p21_express_tables.specs.Orders.{numbers};
 ghost use Rattle.p21_express_types.specs.Meaning.{place as place_of, kind, member as member_of};
@@ -13,6 +12,7 @@ ghost use Rattle.p21_express_tables.specs.Parts.{schema_of, AreNamed, entity as 
 
 use crate::collected::is_among;
 use crate::offered::{Offered, all_offered};
+use crate::one_of::all_listed_in;
 use crate::orders::{all_orders, closures};
 use crate::own_sets::OwnSet;
 use crate::parts::{Attribute, Defined, Entity, Parts};
@@ -29,6 +29,8 @@ pub struct Schema {
     orders: Vec<Vec<EntityId>>,
     closures: Vec<Vec<u32>>,
     offered: Offered,
+    // For each entity the numbers of the ONEOF lists with it.
+    pub(crate) listed_in: Vec<Vec<usize>>,
     // What holds of the own sets of the first entities; of all once the schema is made.
     pub(crate) own: Vec<OwnSet>,
 }
@@ -48,11 +50,12 @@ impl Model for Schema {
     ghost use Rattle.p21_express_tables.specs.Offered.{AreOffered};
     ghost use Rattle.p21_express_tables.specs.Collected.{AreRisingOf};
     ghost use Rattle.p21_express_tables.specs.OwnSets.{AreOwnSets};
+    ghost use Rattle.p21_express_tables.specs.OneOf.{AreListedIn};
     ghost use Rattle.p21_express_tables.specs.Settled.{lists_of};
 
     ghost view = { λ schema. schema_of schema.parts };
 
-    ghost invariant = { λ schema. HoldsTogether (schema_of schema.parts) × AreNamed schema.parts × AreOrders (schema_of schema.parts) (tabled schema.orders.items) × AreOffered (schema_of schema.parts) entity_member (lists_of schema.offered.entities.items) × AreOffered (schema_of schema.parts) type_member (lists_of schema.offered.types.items) × AreRisingOf (tabled schema.orders.items) (lists_of schema.closures.items) × AreOwnSets (schema_of schema.parts) schema.own.items };
+    ghost invariant = { λ schema. HoldsTogether (schema_of schema.parts) × AreNamed schema.parts × AreOrders (schema_of schema.parts) (tabled schema.orders.items) × AreOffered (schema_of schema.parts) entity_member (lists_of schema.offered.entities.items) × AreOffered (schema_of schema.parts) type_member (lists_of schema.offered.types.items) × AreRisingOf (tabled schema.orders.items) (lists_of schema.closures.items) × AreOwnSets (schema_of schema.parts) schema.own.items × AreListedIn (schema_of schema.parts) (lists_of schema.listed_in.items) };
 }
 
 impl Schema {
@@ -69,12 +72,14 @@ impl Schema {
         let orders = all_orders(alloc, &parts)?;
         let closures = closures(alloc, &orders)?;
         let offered = all_offered(alloc, &parts)?;
+        let listed_in = all_listed_in(alloc, &parts)?;
         let mut schema = Schema {
             alloc,
             parts,
             orders,
             closures,
             offered,
+            listed_in,
             own: Vec::new(alloc),
         };
         schema.prepare_own_sets()?;
@@ -86,7 +91,8 @@ impl Schema {
         ensures value { schema_of result ≡ self }
         ensures named { AreNamed result }
     {
-        self.parts
+        let Schema { parts, .. } = self;
+        parts
     }
 
     /// All names are resolved, and no chain comes back.
@@ -249,18 +255,6 @@ impl Schema {
         true
     }
 
-    /// Whether a list has two different entities of one ONEOF list (ISO 10303-11, Subtype/supertype constraints).
-    pub fn clashes(&self, entities: &[EntityId]) -> bool
-        ensures { IsTrue result ↔ Clashes self.now (numbers entities.now) }
-    {
-        for listed in &self.parts.one_of_lists {
-            if has_two(listed, entities) {
-                return true;
-            }
-        }
-        false
-    }
-
     /// The name of the attribute at a place, in upper case.
     pub fn place_name(&self, place: Place) -> &[u8]
         requires { IsPlace self.now (place_of place) }
@@ -338,47 +332,4 @@ impl Schema {
     {
         &self.parts.types[of.0 as usize]
     }
-}
-
-/// Whether an entity is among others.
-pub(crate) fn has(entities: &[EntityId], entity: EntityId) -> bool
-    ensures { IsTrue result ↔ Contains (numbers entities.now) entity.0 }
-{
-    for other in entities {
-        if other.0 == entity.0 {
-            return true;
-        }
-    }
-    false
-}
-
-fn has_two(listed: &[EntityId], entities: &[EntityId]) -> bool
-    ensures { IsTrue result ↔ HasTwo (numbers listed.now) (numbers entities.now) }
-{
-    match first_among(listed, entities) {
-        Some(first) => has_other(listed, entities, first),
-        None => false,
-    }
-}
-
-fn first_among(listed: &[EntityId], entities: &[EntityId]) -> Option<EntityId>
-    ensures { MatchOption result ((e : ℕ) → Contains (numbers listed.now) e → Contains (numbers entities.now) e → ⊥) (λ e. Contains (numbers listed.now) e.0 × Contains (numbers entities.now) e.0) }
-{
-    for entity in listed {
-        if has(entities, *entity) {
-            return Some(*entity);
-        }
-    }
-    None
-}
-
-fn has_other(listed: &[EntityId], entities: &[EntityId], first: EntityId) -> bool
-    ensures { IsTrue result ↔ ((e : ℕ) × IsOther (numbers listed.now) (numbers entities.now) first.0 e) }
-{
-    for entity in listed {
-        if entity.0 != first.0 && has(entities, *entity) {
-            return true;
-        }
-    }
-    false
 }

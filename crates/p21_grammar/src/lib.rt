@@ -4,8 +4,6 @@
 
 mod laws;
 mod parser;
-#[cfg(test)]
-mod tests;
 
 pub use laws::one_tree;
 pub use p21_grammar_machine::{Event, GrammarFault, Line};

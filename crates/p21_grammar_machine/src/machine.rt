@@ -2,7 +2,7 @@ ghost use Rattle.std.specs.Prelude.{◌≡◌, ◌↔◌, [], IfOk, IfErr, IsTru
 ghost use Rattle.p21_exchange.specs.Parameter.{key_of, no_params};
 ghost use Rattle.p21_exchange.specs.Statement.{section, header, instance};
 ghost use Rattle.p21_grammar_machine.specs.Place.{after};
-ghost use Rattle.p21_grammar_machine.specs.Machine.{open_of, opening_of, stack_of, closed_part, put_back, close_typed, spot_of, spot_at, head_of, step, enter, close, close_empty, comma, put, at_next, at_behind, at_word, at_line, at_named, at_equal, at_inside, at_keyed, at_record_end, at_instance_end, end_keyword, end_record, at_idle, at_start, at_begun, at_header, at_headed, at_data, at_behind_unnamed, at_behind_named, at_end, misplaced, misplaced_param, other_section, idle, next, go, refuse, part_row, open_at, depth_of, ended, end_heading, close_records, at_data_keyword, Goes, Moves, Refuses};
+ghost use Rattle.p21_grammar_machine.specs.Machine.{open_of, opening_of, stack_of, closed_part, put_back, close_typed, spot_of, head_of, step, enter, close, close_empty, comma, put, at_next, at_behind, at_word, at_line, at_named, at_equal, at_inside, at_keyed, at_record_end, at_instance_end, end_keyword, end_record, at_idle, at_start, at_begun, at_header, at_headed, at_data, at_behind_unnamed, at_behind_named, at_end, misplaced, misplaced_param, other_section, idle, next, go, refuse, part_row, open_at, depth_of, ended, end_heading, close_records, at_data_keyword, Goes, Moves, Refuses};
 ghost use Rattle.p21_grammar_machine.specs.Shaped.{IsShaped};
 ghost use Rattle.p21_grammar_machine.specs.Statements.{line_of};
 ghost use Rattle.p21_grammar_tree.specs.View.{key_view, part_view, part_views, record_view, view, views};
@@ -77,6 +77,8 @@ pub enum At {
 }
 
 /// What is open, token by token.
+///
+/// What is met most is inlined into `step`, and stores `at` first: there it is known that nothing is dropped with the old one.
 #[derive(Drop)]
 pub struct Machine {
     alloc: Global,
@@ -160,6 +162,7 @@ impl Machine {
     }
 
     /// Opens a list or a typed parameter.
+    #[inline(always)]
     fn enter(&mut self, opening: Opening) -> Result<(), GrammarFault>
         ensures ok { IfOk result (λ _. Goes (enter self.old.place (opening_of opening) (open_of self.old.row) (stack_of self.old.frames.items)) self.new) }
         ensures err { IfErr result (λ why. Refuses (enter self.old.place (opening_of opening) (open_of self.old.row) (stack_of self.old.frames.items)) why) }
@@ -167,20 +170,21 @@ impl Machine {
         if self.frames.len() >= NESTING {
             return Err(GrammarFault::TooDeep);
         }
+        self.at = At::Next;
         let params = Vec::new(self.alloc);
         let around = mem::replace(&mut self.row, Row { opening, params });
         self.frames.push(around)?;
-        self.at = At::Next;
         Ok(())
     }
 
     /// A parameter of the open row.
+    #[inline(always)]
     fn put(&mut self, param: Param) -> Result<(), GrammarFault>
         ensures ok { IfOk result (λ _. Goes (put self.old.place (open_of self.old.row) (stack_of self.old.frames.items) (view param)) self.new) }
         ensures err { IfErr result (λ why. Refuses (put self.old.place (open_of self.old.row) (stack_of self.old.frames.items) (view param)) why) }
     {
-        self.row.params.push(param)?;
         self.at = At::Behind;
+        self.row.params.push(param)?;
         Ok(())
     }
 
@@ -261,6 +265,7 @@ impl Machine {
     }
 
     /// A comma behind a parameter.
+    #[inline(always)]
     fn comma(&mut self) -> Result<(), GrammarFault>
         ensures ok { IfOk result (λ _. Goes (comma self.old.place (open_of self.old.row) (stack_of self.old.frames.items)) self.new) }
         ensures err { IfErr result (λ why. Refuses (comma self.old.place (open_of self.old.row) (stack_of self.old.frames.items)) why) }
@@ -273,6 +278,7 @@ impl Machine {
     }
 
     /// The name of another instance as a parameter.
+    #[inline(always)]
     fn put_name(&mut self, name: Name) -> Result<(), GrammarFault>
         ensures ok { IfOk result (λ _. Goes (at_next self.old.place (open_of self.old.row) (stack_of self.old.frames.items) (token.name name)) self.new) }
         ensures err { IfErr result (λ why. Refuses (at_next self.old.place (open_of self.old.row) (stack_of self.old.frames.items) (token.name name)) why) }
@@ -296,33 +302,36 @@ impl Machine {
     }
 
     /// Where a parameter may begin.
+    #[inline(always)]
     fn next(&mut self, token: Token) -> Result<(), GrammarFault>
         ensures ok { IfOk result (λ _. Goes (at_next self.old.place (open_of self.old.row) (stack_of self.old.frames.items) (meant token)) self.new) }
         ensures err { IfErr result (λ why. Refuses (at_next self.old.place (open_of self.old.row) (stack_of self.old.frames.items) (meant token)) why) }
     {
-        match token {
-            Token::Dollar => self.put(Param::Dollar),
-            Token::Star => self.put(Param::Star),
-            Token::Whole(number) => self.put(Param::Whole(number)),
-            Token::Real(number) => self.put(Param::Real(number)),
-            Token::Text(text) => self.put(Param::Text(text)),
-            Token::Item(word) => self.put(Param::Item(word)),
-            Token::Bits(bits) => self.put(Param::Bits(bits)),
-            Token::Name(name) => self.put_name(name),
+        let param = match token {
+            Token::Dollar => Param::Dollar,
+            Token::Star => Param::Star,
+            Token::Whole(number) => Param::Whole(number),
+            Token::Real(number) => Param::Real(number),
+            Token::Text(text) => Param::Text(text),
+            Token::Item(word) => Param::Item(word),
+            Token::Bits(bits) => Param::Bits(bits),
+            Token::Name(name) => return self.put_name(name),
             Token::Keyword(word) => {
                 self.at = At::Word(key(word));
-                Ok(())
+                return Ok(());
             }
-            Token::UserKeyword(word) => self.put_user_keyword(word),
-            Token::Left => self.enter(Opening::List),
-            Token::Right => self.close_empty(),
-            Token::Begin | Token::Finish | Token::Comma | Token::Semicolon | Token::Equals => Err(
-                GrammarFault::Unexpected,
-            ),
-        }
+            Token::UserKeyword(word) => return self.put_user_keyword(word),
+            Token::Left => return self.enter(Opening::List),
+            Token::Right => return self.close_empty(),
+            Token::Begin | Token::Finish | Token::Comma | Token::Semicolon | Token::Equals => {
+                return Err(GrammarFault::Unexpected);
+            }
+        };
+        self.put(param)
     }
 
     /// Behind a parameter.
+    #[inline(always)]
     fn behind(&mut self, token: Token) -> Result<(), GrammarFault>
         ensures ok { IfOk result (λ _. Goes (at_behind self.old.place (open_of self.old.row) (stack_of self.old.frames.items) (meant token)) self.new) }
         ensures err { IfErr result (λ why. Refuses (at_behind self.old.place (open_of self.old.row) (stack_of self.old.frames.items) (meant token)) why) }
@@ -437,6 +446,7 @@ impl Machine {
     }
 
     /// Behind the name of an instance.
+    #[inline(always)]
     fn named(&mut self, name: Name, token: Token) -> Result<(), GrammarFault>
         ensures ok { IfOk result (λ _. Goes (at_named self.old.place name (meant token)) self.new) }
         ensures err { IfErr result (λ why. Refuses (at_named self.old.place name (meant token)) why) }
@@ -451,6 +461,7 @@ impl Machine {
     }
 
     /// Behind `#1=`.
+    #[inline(always)]
     fn equal(&mut self, name: Name, token: Token) -> Result<(), GrammarFault>
         ensures ok { IfOk result (λ _. Goes (at_equal self.old.place name (meant token)) self.new) }
         ensures err { IfErr result (λ why. Refuses (at_equal self.old.place name (meant token)) why) }
@@ -499,12 +510,12 @@ impl Machine {
     fn open_part(&mut self, head: Head, key: Key)
         ensures { Goes (go self.old.place (next (open_at (part_row (head_of head) (key_view key)) no_params) [])) self.new }
     {
+        self.at = At::Next;
         self.frames.clear();
         self.row = Row {
             opening: Opening::Part(head, key),
             params: Vec::new(self.alloc),
         };
-        self.at = At::Next;
     }
 
     /// Behind the keyword of a simple record.
@@ -631,6 +642,7 @@ impl Machine {
     }
 
     /// In a data section.
+    #[inline(always)]
     fn data(&mut self, token: Token) -> Result<(), GrammarFault>
         ensures ok { IfOk result (λ _. Goes (at_data self.old.place (meant token)) self.new) }
         ensures err { IfErr result (λ why. Refuses (at_data self.old.place (meant token)) why) }
@@ -688,6 +700,7 @@ impl Machine {
     }
 
     /// Where no statement is open.
+    #[inline(always)]
     fn idle(&mut self, token: Token) -> Result<(), GrammarFault>
         ensures ok { IfOk result (λ _. Goes (at_idle self.old.place (meant token)) self.new) }
         ensures err { IfErr result (λ why. Refuses (at_idle self.old.place (meant token)) why) }
@@ -706,13 +719,14 @@ impl Machine {
         }
     }
 
-    /// The next token, where no row of parameters is open or a keyword in one is.
-    fn other(&mut self, at: At, token: Token) -> Result<Option<Event>, GrammarFault>
-        ensures ok { IfOk result (λ event. Moves (step self.old.place (spot_at at self.old.row self.old.frames.items) (meant token)) self.new event) }
-        ensures err { IfErr result (λ why. Refuses (step self.old.place (spot_at at self.old.row self.old.frames.items) (meant token)) why) }
+    /// The next token, where what was taken last is moved out.
+    #[inline(never)]
+    fn other(&mut self, token: Token) -> Result<Option<Event>, GrammarFault>
+        ensures ok { IfOk result (λ event. Moves (step self.old.place (spot_of self.old) (meant token)) self.new event) }
+        ensures err { IfErr result (λ why. Refuses (step self.old.place (spot_of self.old) (meant token)) why) }
         ensures shaped { IfOk result IsShaped }
     {
-        match at {
+        match mem::replace(&mut self.at, At::Idle) {
             At::Idle => self.idle(token)?,
             At::Line(line) => return self.line(line, token),
             At::Named(name) => self.named(name, token)?,
@@ -737,10 +751,16 @@ impl Machine {
         match &self.at {
             At::Next => self.next(token)?,
             At::Behind => self.behind(token)?,
-            _ => {
-                let at = mem::replace(&mut self.at, At::Idle);
-                return self.other(at, token);
+            At::Idle => self.idle(token)?,
+            At::Named(name) => {
+                let name = *name;
+                self.named(name, token)?
             }
+            At::Equal(name) => {
+                let name = *name;
+                self.equal(name, token)?
+            }
+            _ => return self.other(token),
         }
         Ok(None)
     }

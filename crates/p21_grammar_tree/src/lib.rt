@@ -4,8 +4,6 @@
 
 mod param;
 mod record;
-#[cfg(test)]
-mod tests;
 
 pub use param::{Key, Param, Params};
 pub use record::{Part, Parts, Record};

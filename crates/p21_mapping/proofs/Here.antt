@@ -4,14 +4,13 @@ use Rattle.std.proofs.Common.{arith, ap, sym, ◌∙◌}
 use Rattle.std.proofs.lemmas.List.{map-append}
 use Rattle.p21_exchange.specs.Parameter.{Param, listed}
 use Rattle.p21_grammar_tree.specs.declared.record.Part as tree
-use Rattle.p21_grammar_tree.specs.View.{items_of, part_view, part_views}
-use Rattle.p21_mapping.specs.Checked.{needs_view}
+use Rattle.p21_grammar_tree.specs.View.{items_of, part_view}
 use Rattle.p21_files.specs.Reference as reference
 use Rattle.p21_files.specs.Value as meant
 use Rattle.p21_grammar_tree.specs.declared.param.Param.{Param as Parameter}
 use Rattle.p21_mapping.proofs.RowLists.{listed-params, row-left}
 use Rattle.p21_mapping.specs.Rows.{FitsHere, RefusesHere, RowSoFar, param_views}
-use Rattle.p21_mapping_fit.specs.Outcome.{FitsPlaceOrBreaks}
+use Rattle.p21_mapping_fit.specs.Outcome.{FitsPlaceOrBreaks, needs_view}
 use Rattle.p21_mapping_values.specs.declared.fault.CheckFault.{CheckFault}
 use Rattle.p21_mapping_values.specs.declared.need.Need.{Need}
 use Rattle.p21_mapping_values.specs.declared.value.Value.{Value}
@@ -36,7 +35,3 @@ row-room s entities owner index xs ys values old new row below enough none = abs
 
 pub part-params : (part : tree.Part) → param_views (items_of part.params) ≡ listed (part_view part).params
 part-params part = sym (listed-params (param_views (items_of part.params)))
-
-pub part_views-length : (parts : List tree.Part) → length (part_views parts) ≡ length parts
-part_views-length [] = refl
-part_views-length (part ∷ parts) = ap suc (part_views-length parts)

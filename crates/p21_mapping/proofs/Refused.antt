@@ -13,9 +13,9 @@ use Rattle.p21_files.specs.Meaning.{AreKeywordsRising, HasPlaceTypes}
 use Rattle.p21_files.specs.RecordPlaces.{StandsAt}
 use Rattle.p21_files.specs.Reference.{Need}
 use Rattle.p21_files.specs.Value.{Values}
-use Rattle.p21_mapping.specs.Arranged.{AreCut, HasRows, RefusesRows}
+use Rattle.p21_mapping.specs.Arranged.{AreCut, HasRows}
 use Rattle.p21_mapping.specs.Rows.{BreaksAmong, TakesRows, TakesParts, RefusesAmong, RefusesPart}
-use Rattle.p21_mapping_sets.specs.Shape.{AreSame, IsListed, HasShape, HasCounts}
+use Rattle.p21_mapping_sets.specs.Shape.{IsListed, HasShape, HasCounts, Refuses}
 use Rattle.p21_mapping_values.specs.declared.fault.CheckFault.{CheckFault}
 use Rattle.p21_mapping_values.specs.Fault.{fault_number}
 use Rattle.p21_mapping_values.specs.declared.value.Values.{Values as Stored}
@@ -45,7 +45,7 @@ simple-refused s part es entities shape number breaks =
     broken s (simple part) es entities shape (zip (flat_map (own_places s) es) (listed part.params))
     (λ place p among. (part, e, (Contains-first part [], named), let P : List ℕ → Type 0 = λ xs. Contains (zip (flat_map (own_places s) xs) (listed part.params)) (place, p) in subst P is among)) number breaks
 
-pub complex-refused : (s : Schema) (parts : List Part) (es entities : List ℕ) → HasShape s (complex parts) es entities → (fault : CheckFault) → RefusesPart s entities parts fault → RefusesRows s (complex parts) fault
+pub complex-refused : (s : Schema) (parts : List Part) (es entities : List ℕ) → HasShape s (complex parts) es entities → (fault : CheckFault) → RefusesPart s entities parts fault → Refuses s (complex parts) fault
 complex-refused s parts es entities shape fault refuses other =
     let (part, e, has, breaks) = refuses other in
     broken s (complex parts) es entities shape (zip (own_places s e) (listed part.params)) (λ place p among. (part, e, has, among)) (fault_number fault) breaks
@@ -54,7 +54,7 @@ complex-refused s parts es entities shape fault refuses other =
 
 pub simple-rows : (s : Schema) (part : Part) (es entities : List ℕ) (params : List Param) (old new : List Need) (result : Result (Vec Stored Global) CheckFault) → HasShape s (simple part) es entities → params ≡ listed part.params
     → MatchResult result (λ rows. TakesRows s entities es params [] (rows_view rows.items) old new) (RefusesAmong s entities (zip (flat_map (own_places s) es) params))
-    → MatchResult result (λ rows. HasRows s (simple part) es entities (rows_view rows.items) old new) (RefusesRows s (simple part))
+    → MatchResult result (λ rows. HasRows s (simple part) es entities (rows_view rows.items) old new) (Refuses s (simple part))
 simple-rows s part es entities params old new (Ok rows) shape are takes = record {
   params = takes.params;
   added = takes.added;
@@ -68,7 +68,7 @@ simple-rows s part es entities params old new (Err fault) shape are refuses = λ
 
 pub complex-rows : (s : Schema) (parts : List Part) (es entities : List ℕ) (old new : List Need) (result : Result (Vec Stored Global) CheckFault) → HasShape s (complex parts) es entities → 0 < length parts
     → MatchResult result (λ rows. TakesParts s entities es parts [] (rows_view rows.items) old new) (RefusesPart s entities parts)
-    → MatchResult result (λ rows. HasRows s (complex parts) es entities (rows_view rows.items) old new) (RefusesRows s (complex parts))
+    → MatchResult result (λ rows. HasRows s (complex parts) es entities (rows_view rows.items) old new) (Refuses s (complex parts))
 complex-rows s parts es entities old new (Ok rows) shape some takes = record {
   params = map (λ (part : Part). listed part.params) takes.parts;
   added = takes.added;

@@ -14,6 +14,7 @@ use Rattle.p21_files.specs.Reference.{Need}
 use Rattle.p21_files.specs.Value.{Value, Values, no_values, value, count, value_at}
 use Rattle.p21_grammar_tree.specs.View.{params_of}
 use Rattle.p21_mapping.specs.Rows.{Fitted, IsFitted, FitsHere, FitsRow, Row, IsRow, FitsRows, RowSoFar, TakesRow}
+use Rattle.p21_mapping_sets.proofs.Rows.{flat_map-append}
 use Rattle.p21_mapping_sets.proofs.Shapes.{own-count}
 use Rattle.p21_mapping_sets.specs.Shape.{AreNamed}
 use Rattle.p21_mapping_text.specs.KnownTypes.{HaveKnownTypes}
@@ -21,10 +22,6 @@ use Rattle.p21_mapping_values.specs.View.{in_row}
 use Rattle.p21_schemas.specs.Order.{own_places}
 use Rattle.p21_schemas.specs.PlaceType.{PlaceType, TypeAt}
 use Rattle.p21_schemas.specs.Schema.{Schema, Place, attributes_of}
-
-pub flat_map-append : {X Y : Type 0} (f : X → List Y) (xs ys : List X) → flat_map f (xs ++ ys) ≡ flat_map f xs ++ flat_map f ys
-flat_map-append f [] ys = refl
-flat_map-append f (x ∷ xs) ys = ap (λ zs. f x ++ zs) (flat_map-append f xs ys) ∙ sym (append_assoc (f x) (flat_map f xs) (flat_map f ys))
 
 -- ---- rows that grow
 

@@ -14,8 +14,8 @@ use Rattle.p21_files.specs.RecordPlaces.{HasPart}
 use Rattle.p21_files.specs.Reference.{Need}
 use Rattle.p21_files.specs.Value.{Value, Values}
 use Rattle.p21_mapping.specs.Rows.{Fitted, FitsRow, Row, IsRow, FitsRows, TakesRow, TakesRows, TakesParts, BreaksAmong}
-use Rattle.p21_mapping.proofs.RowLists.{rows-none, rows-push, row-long, flat_map-append}
-use Rattle.p21_mapping_sets.proofs.Rows.{flat_map-more, flat_map-front, AllZip-at_both, AllZip-length, mapped-at}
+use Rattle.p21_mapping.proofs.RowLists.{rows-none, rows-push, row-long}
+use Rattle.p21_mapping_sets.proofs.Rows.{flat_map-more, flat_map-front, AllZip-at_both, AllZip-length, mapped-at, flat_map-append}
 use Rattle.p21_mapping_sets.proofs.Shapes.{own-count}
 use Rattle.p21_mapping_sets.specs.Shape.{AreNamed, HasCounts}
 use Rattle.p21_mapping_values.specs.declared.value.Values.{Values as Stored}

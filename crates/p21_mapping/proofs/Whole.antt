@@ -16,11 +16,11 @@ use Rattle.p21_files.specs.Meaning.{Typed, HasValues, HasOwnCount, FitPlaces, Na
 use Rattle.p21_files.specs.Reference.{Kinds, Need, IsServed}
 use Rattle.p21_files.specs.Value.{Values, count}
 use Rattle.p21_grammar_tree.specs.View.{params_of}
-use Rattle.p21_mapping.specs.Arranged.{AreArranged, AreCut, HasRows, RefusesRows}
+use Rattle.p21_mapping.specs.Arranged.{AreArranged, AreCut, HasRows}
 use Rattle.p21_mapping.specs.Checked.{IsChecked, IsRefused}
 use Rattle.p21_mapping.specs.Rows.{Row, IsRow, FitsRows}
 use Rattle.p21_mapping.proofs.RowLists.{HaveValues, row-count, row-known, rows-joined, rows-parts, params-listed}
-use Rattle.p21_mapping_sets.specs.Shape.{AreNamed, AreSame, IsListed, HasShape}
+use Rattle.p21_mapping_sets.specs.Shape.{AreNamed, IsListed, HasShape, Refuses}
 use Rattle.p21_mapping_text.specs.KnownTypes.{HaveKnownTypes}
 use Rattle.p21_mapping_values.specs.declared.fault.CheckFault.{CheckFault}
 use Rattle.p21_mapping_values.specs.declared.fault.CheckFault.TheVariants.{NoMemory}
@@ -191,7 +191,7 @@ checked s formed holds r es entities shape vss needs rows values arranged =
     is-checked s formed holds r es entities shape rows.params vss needs (subst P (sym rows.needed) rows.fits) rows.cut values arranged
 
 -- what a refusal comes to
-pub refused : (s : Schema) → IsWellFormed s → (r : Record) (fault : CheckFault) → RefusesRows s r fault → fault ≢ NoMemory → IsRefused s r fault
+pub refused : (s : Schema) → IsWellFormed s → (r : Record) (fault : CheckFault) → Refuses s r fault → fault ≢ NoMemory → IsRefused s r fault
 refused s formed r fault refuses other = record { means_nothing = λ kinds m means. broken-means_nothing s formed r (fault_number fault) (refuses other) kinds m means; breaks = refuses other }
 
 -- a row for each entity

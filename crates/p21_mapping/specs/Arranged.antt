@@ -1,17 +1,13 @@
 -- Rows put in the order of a set.
-use Rattle.std.specs.Prelude.{◌≡◌, ◌≢◌, ◌<◌, ℕ, List, ◌++◌, length, map, take, slice_get, Some, nat_eq, Contains}
+use Rattle.std.specs.Prelude.{◌≡◌, ◌<◌, ℕ, List, ◌++◌, length, map, take, slice_get, Some, nat_eq, Contains}
 use Rattle.std.specs.List.{AllZip, IsDistinct, flat_map, zip}
 use Rattle.p21_exchange.specs.Parameter.{Param, listed}
 use Rattle.p21_exchange.specs.Record.{Part, Record, simple, complex}
 use Rattle.p21_express_tables.specs.Orders.{numbers}
 use Rattle.p21_express_types.specs.declared.number.EntityId.{EntityId}
-use Rattle.p21_files.specs.BrokenRule.{Breaks}
 use Rattle.p21_files.specs.Reference.{Need}
 use Rattle.p21_files.specs.Value.{Values}
 use Rattle.p21_mapping.specs.Rows.{FitsRows}
-use Rattle.p21_mapping_values.specs.declared.fault.CheckFault.{CheckFault}
-use Rattle.p21_mapping_values.specs.declared.fault.CheckFault.TheVariants.{NoMemory}
-use Rattle.p21_mapping_values.specs.Fault.{fault_number}
 use Rattle.p21_mapping_values.specs.declared.value.Values.{Values as Stored}
 use Rattle.p21_mapping_values.specs.TypedView.{rows_view}
 use Rattle.p21_schemas.specs.Schema.{Schema}
@@ -36,10 +32,6 @@ pub record HasRows (s : Schema) (record_ : Record) (es entities : List ℕ) (vss
   pub needed : new ≡ old ++ added
   pub fits : FitsRows s entities es params vss added
   pub cut : AreCut record_ params
-
--- or the record breaks the rule of the number
-abbrev pub RefusesRows : Schema → Record → CheckFault → Type 0
-RefusesRows s record_ fault = fault ≢ NoMemory → Breaks s record_ (fault_number fault)
 
 -- the first entities of a set have their rows, and the rows of the others are left
 pub record ArrangedSoFar (entities es : List EntityId) (rows : List Stored) (index : ℕ) (left all : List Stored) : Type 0 where

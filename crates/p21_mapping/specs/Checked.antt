@@ -9,18 +9,15 @@ use Rattle.p21_files.specs.Meaning.{RecordMeans}
 use Rattle.p21_files.specs.Meaning as meaning
 use Rattle.p21_files.specs.Reference.{IsServed, Kinds, record_references}
 use Rattle.p21_files.specs.Reference as reference
+pub use Rattle.p21_mapping_fit.specs.Outcome.{needs_view}
 use Rattle.p21_mapping_text.specs.KnownTypes.{HaveKnownTypes}
 use Rattle.p21_mapping_values.specs.declared.fault.CheckFault.{CheckFault}
 use Rattle.p21_mapping_values.specs.declared.fault.CheckFault.TheVariants.{NoMemory}
 use Rattle.p21_mapping_values.specs.declared.need.Need.{Need}
 use Rattle.p21_mapping_values.specs.declared.typed.Typed.{Typed}
 use Rattle.p21_mapping_values.specs.Fault.{fault_number}
-use Rattle.p21_mapping_values.specs.TypedView.{need_view, typed_view}
+use Rattle.p21_mapping_values.specs.TypedView.{typed_view}
 use Rattle.p21_schemas.specs.Schema.{Schema}
-
--- the needs one by one
-abbrev pub needs_view : List Need → List reference.Need
-needs_view needs = map need_view needs
 
 -- the record has no meaning, whatever the sets of the instances
 abbrev pub MeansNothing : Schema → Record → Type 0

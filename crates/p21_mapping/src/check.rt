@@ -2,9 +2,10 @@ ghost use Rattle.std.specs.Prelude.{MatchResult};
 ghost use Rattle.p21_express_tables.specs.Orders.{numbers};
 ghost use Rattle.p21_express_tables.specs.Resolved.{HoldsTogether};
 ghost use Rattle.p21_grammar_tree.specs.View.{record_view};
-ghost use Rattle.p21_mapping.specs.Arranged.{HasRows, RefusesRows};
-ghost use Rattle.p21_mapping.specs.Checked.{ChecksRecord, needs_view};
-ghost use Rattle.p21_mapping_sets.specs.Shape.{HasShape, IsOwn};
+ghost use Rattle.p21_mapping.specs.Arranged.{HasRows};
+ghost use Rattle.p21_mapping_fit.specs.Outcome.{needs_view};
+ghost use Rattle.p21_mapping.specs.Checked.{ChecksRecord};
+ghost use Rattle.p21_mapping_sets.specs.Shape.{HasShape, IsOwn, Refuses};
 ghost use Rattle.p21_mapping_values.specs.TypedView.{rows_view};
 ghost use Rattle.p21_schemas.specs.WellFormed.{IsWellFormed};
 
@@ -85,7 +86,7 @@ fn rows_of(
     requires formed { IsWellFormed schema.now }
     requires own { IsOwn schema.now own (numbers entities.now) }
     requires shape { HasShape schema.now (record_view of) (numbers listed.now) (numbers entities.now) }
-    ensures { MatchResult result (λ rows. HasRows schema.now (record_view of) (numbers listed.now) (numbers entities.now) (rows_view rows.items) (needs_view needs.old.items) (needs_view needs.new.items)) (RefusesRows schema.now (record_view of)) }
+    ensures { MatchResult result (λ rows. HasRows schema.now (record_view of) (numbers listed.now) (numbers entities.now) (rows_view rows.items) (needs_view needs.old.items) (needs_view needs.new.items)) (Refuses schema.now (record_view of)) }
 {
     match of {
         Record::Simple(part) => {

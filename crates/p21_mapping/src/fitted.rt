@@ -7,7 +7,7 @@ ghost use Rattle.p21_express_tables.specs.Resolved.{IsEntity, IsPlace};
 ghost use Rattle.p21_express_types.specs.Meaning.{place as place_of, place_type};
 ghost use Rattle.p21_files.specs.Meaning.{HasPlaceTypes};
 ghost use Rattle.p21_grammar_tree.specs.View.{part_views, view as tree};
-ghost use Rattle.p21_mapping.specs.Checked.{needs_view};
+ghost use Rattle.p21_mapping_fit.specs.Outcome.{needs_view};
 ghost use Rattle.p21_mapping.specs.Rows.{FitsHere, RefusesAmong, RefusesHere, RefusesPart, TakesParts, TakesRow, TakesRows, param_views};
 ghost use Rattle.p21_exchange.specs.Record.{complex};
 ghost use Rattle.p21_mapping_sets.specs.Shape.{AreNamed, HasCounts, IsOwn};

@@ -4,8 +4,6 @@
 mod param;
 mod record;
 mod scalar;
-#[cfg(test)]
-mod tests;
 
 pub use param::{copied_param, copied_params};
 pub use record::copied_record;

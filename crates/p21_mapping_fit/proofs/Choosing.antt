@@ -2,15 +2,12 @@
 use Rattle.std.proofs.Common.{◌≡◌, ◌≢◌, ◌∙◌, ◌↔◌, sym, ap, refl, subst, ℕ, ◌<◌, ◌^◌, Bool, true, false, List, [], ◌∷◌, ◌++◌, Result, Ok, Err, IsTrue, Option, Some, None}
 use Rattle.std.proofs.lemmas.Option.{slice_get_within}
 use denote.Ref.{Bor}
+use Rattle.p21_canon_tokens.proofs.SpelledScalars.{name-spelled}
 use Rattle.p21_claim_values.proofs.OfType.{OfType, of_entity, of_chosen_instance, of_chosen_type, offers-select}
 use Rattle.p21_claim_values.specs.Needs.{FitsWith, with_instance, with_chosen_instance, with_chosen_type}
-use Rattle.p21_claim_values.specs.Written.{IsSpelled}
-use Rattle.p21_exchange.proofs.Names.{name_spells}
 use Rattle.p21_exchange.specs.Keyword.{IsKeyword}
 use Rattle.p21_exchange.specs.Parameter as parameter
 use Rattle.p21_exchange.specs.Parameter.{Param, Key, key_of}
-use Rattle.p21_exchange.specs.Spelling.{spelling}
-use Rattle.p21_exchange.specs.Token as token
 use Rattle.p21_express_tables.specs.Base.{IsBase}
 use Rattle.p21_express_tables.specs.declared.base.Base.{Base}
 use Rattle.p21_express_tables.specs.declared.base.Base.TheVariants.{Plain, Items, Select}
@@ -36,18 +33,15 @@ use Rattle.p21_schemas.specs.Schema.{Schema, TypeUse, Defined, entity_member, ty
 use Rattle.p21_schemas.specs.Select.{IsSelect, Offers}
 use Rattle.p21_schemas.specs.WellFormed.{HasDistinctTypes}
 
-spelled-name : (n : ℕ) → n < 2 ^ 64 → IsSpelled (token.name n)
-spelled-name n low = (spelling (token.name n), name_spells n low)
-
 -- ---- names
 
 wants-entity : (s : Schema) (e : EntityId) → Wants s (schema.entity e.0) (wanted.Entity e)
-wants-entity s e = record { fits = λ n. with_instance e.0 n; of_type = λ n low. of_entity e.0 n (spelled-name n low) }
+wants-entity s e = record { fits = λ n. with_instance e.0 n; of_type = λ n low. of_entity e.0 n (name-spelled n low) }
 
 wants-select : (s : Schema) (t : TypeId) → ((e : ℕ) × Offers s t.0 (entity_member e)) → Wants s (schema.defined t.0) (wanted.Defined t)
 wants-select s t (e, offers) = record {
   fits = λ n. with_chosen_instance t.0 n e offers;
-  of_type = λ n low. of_chosen_instance t.0 n (offers-select s t.0 (entity_member e) offers) (spelled-name n low);
+  of_type = λ n low. of_chosen_instance t.0 n (offers-select s t.0 (entity_member e) offers) (name-spelled n low);
 }
 
 pub name-at_entity : (s : Schema) (base : Base) (b : Bor code.TypeUse) (e : EntityId) → base ≡ Plain b → b.now ≡ code.Entity e → DecidesName s base (Some (wanted.Entity e))

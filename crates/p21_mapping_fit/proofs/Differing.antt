@@ -1,7 +1,6 @@
 -- Values of one type are distinct exactly if their texts are.
-use Rattle.std.proofs.Common.{◌≡◌, ◌≢◌, ◌∙◌, ◌↔◌, sym, ap, refl, subst, inl, inr, ℕ, ◌+◌, ◌<◌, ◌≤◌, Bool, true, false, List, [], ◌∷◌, ◌++◌, length, map, take, get_or, sum, IsTrue, Contains, append_assoc}
+use Rattle.std.proofs.Common.{◌≡◌, ◌≢◌, ◌∙◌, ◌↔◌, sym, ap, refl, subst, inl, inr, ℕ, ◌+◌, ◌<◌, ◌≤◌, Bool, true, false, List, [], ◌∷◌, ◌++◌, length, map, take, get_or, IsTrue, Contains, append_assoc}
 use Rattle.std.proofs.lemmas.List.{append-nil, map-append, take_all, take_more}
-use Rattle.std.proofs.Math.Seq.{take-append_seam, drop-append_seam}
 use Rattle.p21_basics.proofs.Members.{Contains-none, Contains-first, Contains-later, Contains-cases}
 use Rattle.p21_claim_values.proofs.OfType.{OfType, EachOf, of_none, of_next, of_empty, missing-of_none}
 use Rattle.p21_claim_values.proofs.SameFromTexts.{same-from_text}
@@ -10,9 +9,9 @@ use Rattle.p21_files.specs.SameValue.{Same, Among, here, there, AreDistinct}
 use Rattle.p21_files.specs.Value as meant
 use Rattle.p21_files.specs.Value.{Values, no_values, value, missing}
 use Rattle.p21_files.specs.ValueText.{value_text}
-use Rattle.p21_mapping_fit.specs.Present.{joined, lengths_of, one, present_texts}
-use Rattle.p21_mapping_text.proofs.Elements as elements
-use Rattle.p21_mapping_text.specs.Pieces.{NoneTwice, pieces}
+use Rattle.p21_mapping_fit.specs.Present.{lengths_of, one, present_texts}
+use Rattle.p21_mapping_text.proofs.Elements.{pieces-joined}
+use Rattle.p21_mapping_text.specs.Pieces.{NoneTwice, joined, pieces}
 use Rattle.p21_mapping_values.specs.declared.value.Value.{Value}
 use Rattle.p21_mapping_values.specs.View.{in_row, view, views}
 use Rattle.p21_schemas.specs.Schema.{Schema, TypeUse}
@@ -23,17 +22,6 @@ use Rattle.p21_schemas.specs.WellFormed.{HasDistinctTypes}
 joined-append : (xs ys : List (List ℕ)) → joined (xs ++ ys) ≡ joined xs ++ joined ys
 joined-append [] ys = refl
 joined-append (x ∷ xs) ys = ap (λ (more : List ℕ). x ++ more) (joined-append xs ys) ∙ sym (append_assoc x (joined xs) (joined ys))
-
-joined-same : (xs : List (List ℕ)) → joined xs ≡ elements.joined xs
-joined-same [] = refl
-joined-same (x ∷ xs) = ap (λ (more : List ℕ). x ++ more) (joined-same xs)
-
-pieces-are : (xs : List (List ℕ)) → pieces (joined xs) (lengths_of xs) ≡ xs
-pieces-are [] = refl
-pieces-are (x ∷ xs) = rw (take-append_seam x (joined xs), drop-append_seam x (joined xs), pieces-are xs) refl
-
-pub pieces-within : (xs : List (List ℕ)) (bytes long : List ℕ) → bytes ≡ joined xs → long ≡ lengths_of xs → sum long ≤ length bytes
-pieces-within xs bytes long is are = elements.fits_bytes xs bytes long (is ∙ joined-same xs) are
 
 -- ---- one value more
 
@@ -99,5 +87,5 @@ module _ (s : Schema) (distinct : HasDistinctTypes s) where
       → IsTrue different ↔ NoneTwice (pieces bytes long) → IsTrue different ↔ AreDistinct (views vs)
   differ-by_texts optional type vs i bytes long different each above e f h =
       let all = ap (λ (ys : List Value). present_texts s (views ys)) (take_all i vs above) in
-      let same : pieces bytes long ≡ present_texts s (views vs) = ap (λ (ys : List ℕ). pieces ys long) e ∙ ap (pieces (joined (present_texts s (views (take i vs))))) f ∙ pieces-are (present_texts s (views (take i vs))) ∙ all in
+      let same : pieces bytes long ≡ present_texts s (views vs) = ap (λ (ys : List ℕ). pieces ys long) e ∙ ap (pieces (joined (present_texts s (views (take i vs))))) f ∙ pieces-joined (present_texts s (views (take i vs))) ∙ all in
       (λ is_true. values-differ optional type (views vs) each (subst NoneTwice same (h.0 is_true)), λ differ. h.1 (subst NoneTwice (sym same) (texts-differ optional type (views vs) each differ)))

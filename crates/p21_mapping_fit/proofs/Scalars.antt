@@ -3,17 +3,13 @@ use Rattle.std.proofs.Common.{◌≡◌, ◌≢◌, ◌∙◌, ◌↔◌, sym, a
 use Rattle.std.specs.List.{AllByRecursion as Each}
 use Rattle.std.specs.Char.{IsScalar}
 use denote.Ref.{Bor}
+use Rattle.p21_canon_tokens.proofs.SpelledScalars.{item-spelled, real-spelled, text-spelled}
 use Rattle.p21_claim_values.proofs.OfType.{OfType, of_whole, of_real, of_number, of_boolean, of_logical, of_text, of_binary, of_items}
 use Rattle.p21_claim_values.specs.Needs.{FitsWith, with_whole, with_real, with_number, with_whole_number, with_boolean, with_logical, with_text, with_binary, with_item}
-use Rattle.p21_claim_values.specs.Written.{IsSpelled}
-use Rattle.p21_exchange.proofs.RealSpellings.{real_spells}
-use Rattle.p21_exchange.proofs.Texts.{text_spells}
 use Rattle.p21_exchange.specs.Keyword.{IsKeyword}
 use Rattle.p21_exchange.specs.Number.{Decimal, whole_ratio}
 use Rattle.p21_exchange.specs.Parameter as parameter
 use Rattle.p21_exchange.specs.Parameter.{Param}
-use Rattle.p21_exchange.specs.Spelling.{spelling}
-use Rattle.p21_exchange.specs.Token as token
 use Rattle.p21_express_tables.specs.Base.{IsBase}
 use Rattle.p21_express_tables.specs.declared.base.Base.{Base}
 use Rattle.p21_express_tables.specs.declared.base.Base.TheVariants.{Plain, Items, Select}
@@ -37,17 +33,6 @@ use Rattle.p21_values.specs.Decimal.{IsDecimal, KeepsRatio}
 use Rattle.p21_values.specs.declared.fault.ValueFault.{ValueFault}
 use Rattle.p21_values.specs.declared.fault.ValueFault.TheVariants as of_value
 
--- ---- spellings
-
-spelled-real : (d : Decimal) → IsDecimal d → IsSpelled (token.real d)
-spelled-real d is = (spelling (token.real d), real_spells d is.reduced is.in_range)
-
-spelled-text : (chars : List ℕ) → Each IsScalar chars → IsSpelled (token.text chars)
-spelled-text chars are = (spelling (token.text chars), text_spells chars are)
-
-spelled-item : (word : List ℕ) → IsKeyword word → IsSpelled (token.item word)
-spelled-item word is = (spelling (token.item word), (refl, is))
-
 -- what comes to a type that is no declared one is this type
 plainly : (s : Schema) (type : TypeUse) (base : Base) (b : Bor code.TypeUse) (u : code.TypeUse) → base ≡ Plain b → b.now ≡ u → IsBase s type base → type ≡ type_use u
 plainly s type base b u same now is = (subst (IsBase s type) same is).0 ∙ ap type_use now
@@ -59,7 +44,7 @@ whole_at base b z same now s type old is = alone s type schema.whole (parameter.
 
 pub number_of_whole : (base : Base) (b : Bor code.TypeUse) (z : ℤ) (d : Decimal) → base ≡ Plain b → b.now ≡ code.Number → KeepsRatio (whole_ratio z) (Ok d) → IsDecimal d → FitsAlone base (parameter.whole z) (Ok (value.Number d))
 number_of_whole base b z d same now (reduced, range, ratio) decimal s type old is =
-    alone s type schema.number (parameter.whole z) (value.Number d) (meant.number d) old (plainly s type base b code.Number same now is) (view-Number d) (with_whole_number z d reduced decimal.in_range (sym ratio)) tt (of_number d (spelled-real d decimal))
+    alone s type schema.number (parameter.whole z) (value.Number d) (meant.number d) old (plainly s type base b code.Number same now is) (view-Number d) (with_whole_number z d reduced decimal.in_range (sym ratio)) tt (of_number d (real-spelled d decimal))
 
 pub number_out_of_range : (base : Base) (b : Bor code.TypeUse) (z : ℤ) (error : ValueFault) → base ≡ Plain b → b.now ≡ code.Number → KeepsRatio (whole_ratio z) (Err error) → FitsAlone base (parameter.whole z) (Err (value_fault error))
 number_out_of_range base b z of_value.NumberRange same now out s type old is =
@@ -68,16 +53,16 @@ number_out_of_range base b z of_value.NoMemory same now out s type old is = λ o
 number_out_of_range base b z other same now out s type old is = absurd out
 
 pub real_at : (base : Base) (b : Bor code.TypeUse) (d : Decimal) → base ≡ Plain b → b.now ≡ code.Real → IsDecimal d → FitsAlone base (parameter.real d) (Ok (value.Real d))
-real_at base b d same now decimal s type old is = alone s type schema.real (parameter.real d) (value.Real d) (meant.real d) old (plainly s type base b code.Real same now is) (view-Real d) (with_real d) tt (of_real d (spelled-real d decimal))
+real_at base b d same now decimal s type old is = alone s type schema.real (parameter.real d) (value.Real d) (meant.real d) old (plainly s type base b code.Real same now is) (view-Real d) (with_real d) tt (of_real d (real-spelled d decimal))
 
 pub number_at : (base : Base) (b : Bor code.TypeUse) (d : Decimal) → base ≡ Plain b → b.now ≡ code.Number → IsDecimal d → FitsAlone base (parameter.real d) (Ok (value.Number d))
-number_at base b d same now decimal s type old is = alone s type schema.number (parameter.real d) (value.Number d) (meant.number d) old (plainly s type base b code.Number same now is) (view-Number d) (with_number d) tt (of_number d (spelled-real d decimal))
+number_at base b d same now decimal s type old is = alone s type schema.number (parameter.real d) (value.Number d) (meant.number d) old (plainly s type base b code.Number same now is) (view-Number d) (with_number d) tt (of_number d (real-spelled d decimal))
 
 -- ---- texts and bits
 
 pub text_at : (base : Base) (b : Bor code.TypeUse) (width : Option Width) (chars : List ℕ) → base ≡ Plain b → b.now ≡ code.Text width → IsWithin (width_option width) (length chars) → Each IsScalar chars → FitsAlone base (parameter.text chars) (Ok (value.Text chars))
 text_at base b width chars same now within scalars s type old is =
-    alone s type (schema.text (width_option width)) (parameter.text chars) (value.Text chars) (meant.text chars) old (plainly s type base b (code.Text width) same now is) (view-Text chars) (with_text (width_option width) chars within) tt (of_text (width_option width) chars (spelled-text chars scalars))
+    alone s type (schema.text (width_option width)) (parameter.text chars) (value.Text chars) (meant.text chars) old (plainly s type base b (code.Text width) same now is) (view-Text chars) (with_text (width_option width) chars within) tt (of_text (width_option width) chars (text-spelled chars scalars))
 
 pub text_too_wide : (base : Base) (b : Bor code.TypeUse) (width : Option Width) (chars : List ℕ) → base ≡ Plain b → b.now ≡ code.Text width → ¬ IsWithin (width_option width) (length chars) → FitsAlone base (parameter.text chars) (Err fault.Width)
 text_too_wide base b width chars same now wide s type old is =
@@ -110,9 +95,9 @@ item-fits s type words word items_of_logical among = with_logical word among
 item-fits s type words word (of_enumeration t _ is) among = with_item t words word is among
 
 item-of : (s : Schema) (type : TypeUse) (words : List (List ℕ)) (word : List ℕ) → HasItems s type words → IsKeyword word → OfType s type (meant.item word)
-item-of s type words word items_of_boolean keyword = of_boolean word (spelled-item word keyword)
-item-of s type words word items_of_logical keyword = of_logical word (spelled-item word keyword)
-item-of s type words word (of_enumeration t _ is) keyword = of_items t words word is (spelled-item word keyword)
+item-of s type words word items_of_boolean keyword = of_boolean word (item-spelled word keyword)
+item-of s type words word items_of_logical keyword = of_logical word (item-spelled word keyword)
+item-of s type words word (of_enumeration t _ is) keyword = of_items t words word is (item-spelled word keyword)
 
 pub item_at : (base : Base) (word : List ℕ) (is_one : Bool) → DecidesItem base word is_one → is_one ≡ true → IsKeyword word → FitsAlone base (parameter.item word) (Ok (value.Item word))
 item_at base word is_one decides one keyword s type old is =

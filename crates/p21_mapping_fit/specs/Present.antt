@@ -1,5 +1,5 @@
 -- The texts of the values in a row, those that are missing apart.
-use Rattle.std.specs.Prelude.{ℕ, List, [], ◌∷◌, ◌++◌, map, length}
+use Rattle.std.specs.Prelude.{ℕ, List, [], ◌∷◌, map, length}
 use Rattle.p21_schemas.specs.Schema.{Schema}
 use Rattle.p21_files.specs.Value.{Value, Values, missing, no_values, value}
 use Rattle.p21_files.specs.ValueText.{value_text}
@@ -13,10 +13,6 @@ present_texts s no_values = []
 present_texts s (value missing vs) = present_texts s vs
 present_texts s (value v vs) = value_text s v ∷ present_texts s vs
 
--- texts one behind the other, and how long each is
-abbrev pub joined : List (List ℕ) → List ℕ
-joined [] = []
-joined (text ∷ texts) = text ++ joined texts
-
+-- how long each text is
 abbrev pub lengths_of : List (List ℕ) → List ℕ
 lengths_of texts = map (λ (text : List ℕ). length text) texts

@@ -8,7 +8,8 @@ use Rattle.p21_express_tables.specs.Resolved.{HoldsTogether}
 use Rattle.p21_files.specs.Meaning.{HasPlaceTypes, NamesEntity}
 use Rattle.p21_files.specs.RecordPlaces.{IsSetOf}
 use Rattle.p21_mapping_sets.proofs.Shapes.{leaf-breaks, set-refuses, simple-leaf, simple-set}
-use Rattle.p21_mapping_sets.specs.Shape.{AreSame, HasOpenPlace, PassesOwnSet, PassesSet, Refuses, RefusesOwnSet}
+use Rattle.p21_express_tables.specs.Rising.{HaveSame}
+use Rattle.p21_mapping_sets.specs.Shape.{HasOpenPlace, PassesOwnSet, PassesSet, Refuses, RefusesOwnSet}
 use Rattle.p21_mapping_values.specs.declared.fault.CheckFault.{CheckFault}
 use Rattle.p21_mapping_values.specs.declared.fault.CheckFault.TheVariants.{Abstract, OneOf, TwoRedeclarations}
 use Rattle.p21_schemas.specs.OneOf.{Clashes}
@@ -17,16 +18,16 @@ use Rattle.p21_schemas.specs.PlaceType.{PlaceType, TypeAt, derived_place, stored
 use Rattle.p21_schemas.specs.Schema.{Schema, Place, Redeclared}
 use Rattle.p21_schemas.specs.WellFormed.{HasDistinctEntities}
 
-pub same-itself : (es : List ℕ) → AreSame es es
+pub same-itself : (es : List ℕ) → HaveSame es es
 same-itself es f = (λ among. among, λ among. among)
 
-pub same-turned : (es fs : List ℕ) → AreSame es fs → AreSame fs es
+pub same-turned : (es fs : List ℕ) → HaveSame es fs → HaveSame fs es
 same-turned es fs same f = ((same f).1, (same f).0)
 
-clashes-same : (s : Schema) (es fs : List ℕ) → AreSame es fs → Clashes s es → Clashes s fs
+clashes-same : (s : Schema) (es fs : List ℕ) → HaveSame es fs → Clashes s es → Clashes s fs
 clashes-same s es fs same (listed, is, (e, f, e_listed, f_listed, differ, e_among, f_among)) = (listed, is, (e, f, e_listed, f_listed, differ, (same e).0 e_among, (same f).0 f_among))
 
-module _ (s : Schema) (es fs : List ℕ) (same : AreSame es fs) (place : Place) where
+module _ (s : Schema) (es fs : List ℕ) (same : HaveSame es fs) (place : Place) where
   derived-there : IsDerivedIn s es place → IsDerivedIn s fs place
   derived-there (e, x, among, at, derives) = (e, x, (same e).0 among, at, derives)
 
@@ -57,7 +58,7 @@ module _ (s : Schema) (e : ℕ) where
   open-place (place, (among, two)) = let (f, in_order, own) = Contains-one_of (own_places s) (order s e) place among in (f, in_order, (place, own, two))
 
   -- the closure of an entity passes as a set
-  pub own-passes : (entities : List ℕ) → AreSame (order s e) entities → PassesOwnSet s e → PassesSet s entities
+  pub own-passes : (entities : List ℕ) → HaveSame (order s e) entities → PassesOwnSet s e → PassesSet s entities
   own-passes entities same (_, no_clash, no_open) = (
     λ clashes. no_clash (clashes-same s entities (order s e) (same-turned (order s e) entities same) clashes),
     Each-of_members (HasPlaceTypes s entities) entities (λ f among. Each-of_members (λ place. ¬ TypeAt s entities place two_redeclarations) (own_places s f) (λ place own two.

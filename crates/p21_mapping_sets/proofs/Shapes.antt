@@ -22,7 +22,8 @@ use Rattle.p21_grammar_tree.specs.declared.record.Part as tree
 use Rattle.p21_grammar_tree.specs.View.{items_of, part_view, part_views, views}
 use Rattle.p21_mapping_values.specs.declared.fault.CheckFault.{CheckFault}
 use Rattle.p21_mapping_values.specs.declared.fault.CheckFault.TheVariants.{OneOf, TwoRedeclarations}
-use Rattle.p21_mapping_sets.specs.Shape.{Refuses, AreNamed, AreSame, HasTwice, IsClosed, LacksSupertype, HasLeaf, HasNoLeaf, PassesSet, RefusesSet, HasCount, HasOtherCount, HasCounts, HasShape}
+use Rattle.p21_express_tables.specs.Rising.{HaveSame}
+use Rattle.p21_mapping_sets.specs.Shape.{Refuses, AreNamed, HasTwice, IsClosed, LacksSupertype, HasLeaf, HasNoLeaf, PassesSet, RefusesSet, HasCount, HasOtherCount, HasCounts, HasShape}
 use Rattle.p21_mapping_sets.proofs.Rows.{AllZip-at_second, AllZip-at_both}
 use Rattle.p21_schemas.proofs.PlaceTypes.{IsA-antisymmetric}
 use Rattle.p21_schemas.specs.Order.{order, places, own_places}
@@ -52,21 +53,21 @@ missing-breaks s distinct parts es named (f, (e, among, up), none) =
 
 -- ---- the set
 
-pub simple-set : (s : Schema) → HoldsTogether s → HasDistinctEntities s → (part : Part) (e : ℕ) (entities : List ℕ) → NamesEntity s part.key e → AreSame (order s e) entities → IsSetOf s (simple part) entities
+pub simple-set : (s : Schema) → HoldsTogether s → HasDistinctEntities s → (part : Part) (e : ℕ) (entities : List ℕ) → NamesEntity s part.key e → HaveSame (order s e) entities → IsSetOf s (simple part) entities
 simple-set s holds distinct part e entities named same = internal-set s distinct part e entities named (λ f. (λ among. (order-tells s holds e f).0 ((same f).1 among), λ is. (same f).0 ((order-tells s holds e f).1 is)))
 
-pub complex-set : (s : Schema) → HasDistinctEntities s → (parts : List Part) (es entities : List ℕ) → AreNamed s parts es → IsClosed s es → AreSame es entities → IsSetOf s (complex parts) entities
+pub complex-set : (s : Schema) → HasDistinctEntities s → (parts : List Part) (es entities : List ℕ) → AreNamed s parts es → IsClosed s es → HaveSame es entities → IsSetOf s (complex parts) entities
 complex-set s distinct parts es entities named closed same = external-set s distinct parts es entities named (λ f. (λ among. (f, (same f).1 among, itself f), λ inside. (same f).0 (closed f inside)))
 
 -- ---- leaves
 
 -- in internal mapping the named entity is the only leaf
-pub simple-no_leaf : (s : Schema) → HoldsTogether s → (e : ℕ) (entities : List ℕ) → AreSame (order s e) entities → ¬ IsAbstract s e → HasNoLeaf s entities
+pub simple-no_leaf : (s : Schema) → HoldsTogether s → (e : ℕ) (entities : List ℕ) → HaveSame (order s e) entities → ¬ IsAbstract s e → HasNoLeaf s entities
 simple-no_leaf s holds e entities same concrete f leaf is_abstract =
     let own : e ≡ f = leaf.1 e ((same e).0 ((order-tells s holds e e).1 (itself e))) ((order-tells s holds e f).0 ((same f).1 leaf.0)) in
     concrete (let P : ℕ → Type 0 = λ x. IsAbstract s x in subst P (sym own) is_abstract)
 
-pub simple-leaf : (s : Schema) → HoldsTogether s → (e : ℕ) (entities : List ℕ) → AreSame (order s e) entities → IsAbstract s e → HasLeaf s entities
+pub simple-leaf : (s : Schema) → HoldsTogether s → (e : ℕ) (entities : List ℕ) → HaveSame (order s e) entities → IsAbstract s e → HasLeaf s entities
 simple-leaf s holds e entities same is_abstract =
     (e, ((same e).0 ((order-tells s holds e e).1 (itself e)), λ f among up. sym (IsA-antisymmetric s holds.supertypes_end e f ((order-tells s holds e f).0 ((same f).1 among)) up)), is_abstract)
 
@@ -133,7 +134,7 @@ order-within s holds e es is within f among = IsA-within s (are-entities s holds
 pub named-entities : (s : Schema) (parts : List Part) (es : List ℕ) → AreNamed s parts es → AreEntities s es
 named-entities s parts es named e among = let (part, among_, is) = AllZip-second_member (λ (x : Part) y. NamesEntity s x.key y) parts es e named among in named-within s part.key e is
 
-pub same-entities : (s : Schema) (es fs : List ℕ) → AreSame es fs → AreEntities s es → AreEntities s fs
+pub same-entities : (s : Schema) (es fs : List ℕ) → HaveSame es fs → AreEntities s es → AreEntities s fs
 same-entities s es fs same within f among = within f ((same f).1 among)
 
 -- ---- open places
@@ -183,11 +184,11 @@ stored-not_open s es place optional type (underived, inr (none, _)) two = none t
 
 -- ---- all that is known
 
-pub simple-shape : (s : Schema) → HoldsTogether s → HasDistinctEntities s → (part : Part) (e : ℕ) (es entities : List ℕ) → NamesEntity s part.key e → es ≡ order s e → AreSame es entities → AreKeywordsRising s entities → ¬ IsAbstract s e
+pub simple-shape : (s : Schema) → HoldsTogether s → HasDistinctEntities s → (part : Part) (e : ℕ) (es entities : List ℕ) → NamesEntity s part.key e → es ≡ order s e → HaveSame es entities → AreKeywordsRising s entities → ¬ IsAbstract s e
     → PassesSet s entities → length (listed part.params) ≡ length (flat_map (own_places s) es) → HasShape s (simple part) es entities
 simple-shape s holds distinct part e es entities named is same rising concrete passes count =
-    let P : List ℕ → Type 0 = λ xs. AreSame xs entities in
-    let same_ : AreSame (order s e) entities = subst P is same in
+    let P : List ℕ → Type 0 = λ xs. HaveSame xs entities in
+    let same_ : HaveSame (order s e) entities = subst P is same in
     record {
       listed_are = (e, named, is);
       same = same;
@@ -199,7 +200,7 @@ simple-shape s holds distinct part e es entities named is same rising concrete p
       counts = simple-counts s distinct part e named (count ∙ ap (λ xs. length (flat_map (own_places s) xs)) is);
     }
 
-pub complex-shape : (s : Schema) → HasDistinctEntities s → (parts : List Part) (es entities : List ℕ) → AreNamed s parts es → IsDistinct nat_eq es → IsClosed s es → AreSame es entities → AreKeywordsRising s entities → HasNoLeaf s entities
+pub complex-shape : (s : Schema) → HasDistinctEntities s → (parts : List Part) (es entities : List ℕ) → AreNamed s parts es → IsDistinct nat_eq es → IsClosed s es → HaveSame es entities → AreKeywordsRising s entities → HasNoLeaf s entities
     → PassesSet s entities → AllZip (HasCount s) parts es → HasShape s (complex parts) es entities
 complex-shape s distinct parts es entities named differ closed same rising concrete passes counts = record {
   listed_are = (named, differ, closed);

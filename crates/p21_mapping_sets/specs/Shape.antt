@@ -1,10 +1,11 @@
 -- What is known of a record once its keywords and the numbers of its parameters are looked at.
-use Rattle.std.specs.Prelude.{◌≡◌, ◌≢◌, ◌↔◌, ℕ, List, length, nat_eq, slice_get, Option, Some, None, Contains}
+use Rattle.std.specs.Prelude.{◌≡◌, ◌≢◌, ℕ, List, length, nat_eq, slice_get, Option, Some, None, Contains}
 use Rattle.std.specs.List.{AllByRecursion as Each, AllZip, IsDistinct}
 use Rattle.p21_exchange.specs.Parameter.{listed}
 use Rattle.p21_exchange.specs.Record.{Part, Record, simple, complex}
 use Rattle.p21_express_tables.specs.OwnSets.{LeavesOpen}
 use Rattle.p21_express_tables.specs.Resolved.{IsEntity}
+use Rattle.p21_express_tables.specs.Rising.{HaveSame}
 use Rattle.p21_express_types.specs.declared.number.EntityId.{EntityId}
 use Rattle.p21_files.specs.BrokenRule.{Breaks}
 use Rattle.p21_files.specs.Meaning.{AreKeywordsRising, HasPlaceTypes, NamesEntity}
@@ -25,10 +26,6 @@ Refuses s record_ fault = fault ≢ NoMemory → Breaks s record_ (fault_number 
 -- the keywords name the entities, one by one
 abbrev pub AreNamed : Schema → List Part → List ℕ → Type 0
 AreNamed s parts entities = AllZip (λ (part : Part) e. NamesEntity s part.key e) parts entities
-
--- both have the same members
-abbrev pub AreSame : List ℕ → List ℕ → Type 0
-AreSame es fs = (f : ℕ) → Contains es f ↔ Contains fs f
 
 -- a number stands at two places
 abbrev pub HasTwice : List ℕ → Type 0
@@ -83,7 +80,7 @@ RefusesOwnSet s e other = ⊥
 -- the set is the closure of the entity, where there is one
 abbrev pub IsOwn : Schema → Option EntityId → List ℕ → Type 0
 IsOwn s None entities = Unit {0}
-IsOwn s (Some e) entities = IsEntity s e.0 × AreSame (order s e.0) entities
+IsOwn s (Some e) entities = IsEntity s e.0 × HaveSame (order s e.0) entities
 
 -- as many parameters as the entity has places of its own
 abbrev pub HasCount : Schema → Part → ℕ → Type 0
@@ -106,7 +103,7 @@ HasCounts s record_ = (part : Part) (e : ℕ) → HasPart s record_ part e → l
 -- nothing is wrong with the entities of a record, nor with the numbers of its parameters
 pub record HasShape (s : Schema) (record_ : Record) (es entities : List ℕ) : Type 0 where
   pub listed_are : IsListed s record_ es
-  pub same : AreSame es entities
+  pub same : HaveSame es entities
   pub set_is : IsSetOf s record_ entities
   pub rising : AreKeywordsRising s entities
   pub no_abstract_leaf : HasNoLeaf s entities

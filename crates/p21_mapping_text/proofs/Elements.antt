@@ -10,7 +10,7 @@ use Rattle.p21_files.specs.ValueText.{value_text, value_texts, with_commas, with
 use Rattle.p21_mapping_values.specs.declared.value.Value.{Value}
 use Rattle.p21_mapping_values.specs.View.{view, views}
 use Rattle.p21_mapping_text.specs.KnownTypes.{HasKnownTypes, HaveKnownTypes}
-use Rattle.p21_mapping_text.specs.Pieces.{element_text, pieces}
+use Rattle.p21_mapping_text.specs.Pieces.{element_text, joined, pieces}
 use Rattle.p21_values.specs.Canonical.{Continues}
 use Rattle.p21_mapping_text.proofs.Rising.{with_commas-push}
 
@@ -57,11 +57,6 @@ text_by s v a r old new e h = subst (λ z. OnOk r (new ≡ old ++ value_text s z
 pub known_by : (s : Schema) (v a : meant.Value) → v ≡ a → HasKnownTypes s v → HasKnownTypes s a
 known_by s v a e known = subst (HasKnownTypes s) e known
 
--- the texts one behind the other
-abbrev pub joined : List (List ℕ) → List ℕ
-joined [] = []
-joined (t ∷ ts) = t ++ joined ts
-
 joined-push : (ts : List (List ℕ)) (t : List ℕ) → joined (ts ++ t ∷ []) ≡ joined ts ++ t
 joined-push [] t = append-nil t
 joined-push (u ∷ ts) t = ap (λ more. u ++ more) (joined-push ts t) ∙ sym (append_assoc u (joined ts) t)
@@ -74,7 +69,7 @@ lengths-sum : (ts : List (List ℕ)) → sum (map (λ (t : List ℕ). length t) 
 lengths-sum ts = omega (arith, sum_from 0 ts)
 
 -- cut by their lengths
-pieces-joined : (ts : List (List ℕ)) → pieces (joined ts) (map (λ (t : List ℕ). length t) ts) ≡ ts
+pub pieces-joined : (ts : List (List ℕ)) → pieces (joined ts) (map (λ (t : List ℕ). length t) ts) ≡ ts
 pieces-joined [] = refl
 pieces-joined (t ∷ ts) = rw (take-append_seam t (joined ts), drop-append_seam t (joined ts), pieces-joined ts) refl
 

@@ -1,15 +1,15 @@
 -- Texts that stand one behind the other.
-use Rattle.std.specs.Prelude.{ℕ, Bool, true, false, List, [], ◌∷◌, map, take, drop, Contains}
-use denote.Ref.{Bor}
-
--- what the texts are
-abbrev pub texts_of : List (Bor (List ℕ)) → List (List ℕ)
-texts_of texts = map (λ text. text.now) texts
+use Rattle.std.specs.Prelude.{ℕ, Bool, true, false, List, [], ◌∷◌, ◌++◌, take, drop, Contains}
 
 -- the texts of these lengths, as far as the bytes go
 abbrev pub pieces : List ℕ → List ℕ → List (List ℕ)
 pieces bytes [] = []
 pieces bytes (n ∷ ns) = take n bytes ∷ pieces (drop n bytes) ns
+
+-- texts one behind the other
+abbrev pub joined : List (List ℕ) → List ℕ
+joined [] = []
+joined (text ∷ texts) = text ++ joined texts
 
 -- no text is there twice
 abbrev pub NoneTwice : List (List ℕ) → Type 0

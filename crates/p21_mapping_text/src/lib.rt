@@ -6,6 +6,3 @@ mod value_text;
 
 pub use texts::{append_rising, are_distinct};
 pub use value_text::write_value;
-
-#[cfg(test)]
-mod tests;

@@ -11,6 +11,3 @@ pub use fault::CheckFault;
 pub use need::Need;
 pub use typed::{Ids, Rows, Typed};
 pub use value::{Value, Values};
-
-#[cfg(test)]
-mod tests;

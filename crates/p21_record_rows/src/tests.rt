@@ -1,10 +1,16 @@
+mod copies;
 mod demo;
 mod headers;
 mod long;
+mod names;
 mod needs;
 mod places;
+mod same_values;
 mod sameness;
 mod schemas;
+mod texts;
+mod trees;
+mod typed;
 mod values;
 
 use p21_canon::write_record;

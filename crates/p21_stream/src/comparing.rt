@@ -4,9 +4,9 @@ ghost use Rattle.p21_stream.specs.Answers.{Compares, FailsToCompare, IsCanonical
 ghost use Rattle.p21_stream.specs.Reading.{ConsumesAtMost, RefusesRead, read_failures};
 
 use crate::read::{accept, read_file};
-use crate::text::{no_memory, text_of};
+use crate::text::text_of;
 use p21_express_tables::Schema;
-use p21_stream_fault::Refusal;
+use p21_stream_fault::{Fault, Refusal};
 use p21_stream_io::Watched;
 use p21_values::{Limits, NoMemory};
 use std::alloc::Global;
@@ -72,12 +72,15 @@ fn canonical_read<R: Read>(
     ensures failed { IfErr result (λ refusal. reader.new.failures ≡ read_failures reader.old.failures refusal.fault) }
 {
     schema.well_formed();
-    let (accepted, statement) = match read_file(alloc, schema, limits, reader) {
+    let (accepted, at) = match read_file(alloc, schema, limits, reader) {
         Ok(read) => read,
         Err(refusal) => return Err(refusal),
     };
     match text_of(alloc, &accepted) {
         Ok(text) => Ok(text),
-        Err(NoMemory) => Err(no_memory(statement)),
+        Err(NoMemory) => Err(Refusal {
+            fault: Fault::NoMemory,
+            at,
+        }),
     }
 }

@@ -44,13 +44,13 @@ pub fn accept<R: Read>(
     }
 }
 
-/// Reads a file to its end, and says which statement is open there.
+/// Reads a file to its end, and says where a refusal behind it stands.
 pub(crate) fn read_file<R: Read>(
     alloc: Global,
     schema: &Schema,
     limits: Limits,
     reader: &mut Watched<R>,
-) -> Result<(Accepted, u64), Refusal>
+) -> Result<(Accepted, At), Refusal>
     ensures ok { IfOk result (λ answer.
         IsAcceptedRead schema.now limits (R.remaining reader.old.inner) (R.remaining reader.new.inner) answer.0) }
     ensures err { IfErr result (λ refusal.
@@ -66,9 +66,9 @@ pub(crate) fn read_file<R: Read>(
         Ok(()) => {}
         Err(refusal) => return Err(refusal),
     }
-    let statement = session.statement();
+    let at = session.refusal(Fault::NoMemory).at;
     match session.finish() {
-        Ok(accepted) => Ok((accepted, statement)),
+        Ok(accepted) => Ok((accepted, at)),
         Err(refusal) => Err(refusal),
     }
 }
@@ -124,10 +124,7 @@ fn feed_piece<R: Read>(
     ensures failed { IfErr result (λ refusal. reader.new.failures ≡ read_failures reader.old.failures refusal.fault) }
 {
     let Ok(count) = read_piece(reader, piece, most) else {
-        return Err(Refusal {
-            fault: Fault::Read,
-            at: At::Statement(session.statement()),
-        });
+        return Err(session.refusal(Fault::Read));
     };
     match feed(session, &piece[..count]) {
         Ok(()) => Ok(count as u64),

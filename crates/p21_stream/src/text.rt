@@ -7,7 +7,7 @@ ghost use Rattle.p21_stream_accepted.specs.Output.{output_text};
 
 use p21_express_tables::Schema;
 use p21_stream_accepted::Accepted;
-use p21_stream_fault::{At, Fault, Refusal};
+use p21_stream_fault::{Fault, Refusal};
 use p21_stream_io::Watched;
 use p21_stream_session::Session;
 use p21_values::{Limits, NoMemory};
@@ -35,14 +35,14 @@ pub fn canonical(
         Ok(()) => {}
         Err(refusal) => return Err(refusal),
     }
-    let statement = session.statement();
+    let no_memory = session.refusal(Fault::NoMemory);
     let accepted = match session.finish() {
         Ok(accepted) => accepted,
         Err(refusal) => return Err(refusal),
     };
     match text_of(alloc, &accepted) {
         Ok(text) => Ok(text),
-        Err(NoMemory) => Err(no_memory(statement)),
+        Err(NoMemory) => Err(no_memory),
     }
 }
 
@@ -54,15 +54,5 @@ pub(crate) fn text_of(alloc: Global, accepted: &Accepted) -> Result<Vec<u8>, NoM
     match accepted.write_to(&mut writer) {
         Ok(()) => Ok(writer.into_inner()),
         Err(_) => Err(NoMemory),
-    }
-}
-
-/// Want of memory at a statement.
-pub(crate) fn no_memory(statement: u64) -> Refusal
-    ensures { result.fault ≡ Fault.NoMemory }
-{
-    Refusal {
-        fault: Fault::NoMemory,
-        at: At::Statement(statement),
     }
 }

@@ -5,7 +5,7 @@ ghost use Rattle.p21_stream.specs.Reading.{ConsumesAtMost, read_failures, write_
 
 use crate::read::read_file;
 use p21_express_tables::Schema;
-use p21_stream_fault::{At, Fault, Refusal};
+use p21_stream_fault::{Fault, Refusal};
 use p21_stream_io::Watched;
 use p21_values::Limits;
 use std::alloc::Global;
@@ -38,7 +38,7 @@ pub fn rewrite<R: Read, W: Write>(
     ensures failed_write { IfErr result (λ refusal. writer.new.failures ≡ write_failures writer.old.failures refusal.fault) }
 {
     schema.well_formed();
-    let (accepted, statement) = match read_file(alloc, schema, limits, reader) {
+    let (accepted, at) = match read_file(alloc, schema, limits, reader) {
         Ok(read) => read,
         Err(refusal) => return Err(refusal),
     };
@@ -46,7 +46,7 @@ pub fn rewrite<R: Read, W: Write>(
         Ok(()) => Ok(accepted.len()),
         Err(_) => Err(Refusal {
             fault: Fault::Write,
-            at: At::Statement(statement),
+            at,
         }),
     }
 }

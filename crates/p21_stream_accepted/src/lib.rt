@@ -6,6 +6,3 @@ mod compare;
 mod output;
 
 pub use accepted::{Accepted, Section};
-
-#[cfg(test)]
-mod tests;

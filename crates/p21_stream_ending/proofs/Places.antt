@@ -12,8 +12,7 @@ use Rattle.p21_stream_accepted.specs.Stored.{text_at, texts_at}
 use Rattle.p21_stream_ending.specs.Ending.{line_of, stored_of, stored_with}
 use Rattle.p21_stream_ending.specs.Filing.{section_at, section_in}
 use Rattle.p21_stream_kinds.specs.Kinds.{Kind}
-use Rattle.p21_stream_store.specs.Kept.{Kept}
-use Rattle.p21_stream_store.specs.Order.{key_of, place_key}
+use Rattle.p21_stream_store.specs.Kept.{Kept, name_at}
 
 abbrev stored_in : List Kind → Option Kept → Stored
 stored_in kinds (Some x) = stored_with (slice_get kinds x.kind) x
@@ -45,8 +44,8 @@ in-text : (kinds : List Kind) (x : Option Kept) → (stored_in kinds x).text ≡
 in-text kinds (Some x) = with-text (slice_get kinds x.kind) x
 in-text kinds None = refl
 
-in-name : (kinds : List Kind) (x : Option Kept) → (stored_in kinds x).name ≡ elim x [ None ↦ 0 | Some y ↦ key_of [] y ]
-in-name kinds (Some x) = let named = with-name (slice_get kinds x.kind) x in omega (arith, named)
+in-name : (kinds : List Kind) (x : Option Kept) → (stored_in kinds x).name ≡ elim x [ None ↦ 0 | Some y ↦ y.name ]
+in-name kinds (Some x) = with-name (slice_get kinds x.kind) x
 in-name kinds None = refl
 
 pub place-section : (kinds : List Kind) (kept : List Kept) (place : ℕ) → (stored_at_place kinds kept place).section ≡ section_at kinds kept place
@@ -55,7 +54,7 @@ place-section kinds kept place = in-section kinds (slice_get kept place)
 place-text : (kinds : List Kind) (kept : List Kept) (place : ℕ) → (stored_at_place kinds kept place).text ≡ text_at kept place
 place-text kinds kept place = in-text kinds (slice_get kept place)
 
-place-name : (kinds : List Kind) (kept : List Kept) (place : ℕ) → (stored_at_place kinds kept place).name ≡ place_key kept [] place
+place-name : (kinds : List Kind) (kept : List Kept) (place : ℕ) → (stored_at_place kinds kept place).name ≡ name_at kept place
 place-name kinds kept place = in-name kinds (slice_get kept place)
 
 -- ---- at all places
@@ -80,12 +79,8 @@ stored-in_order kinds kept order places =
     let P : List Stored → Type 0 = λ xs. IsPermutation xs (map (stored_at_place kinds kept) order) in
     subst P (sym (stored-behind kinds [] kept)) (IsPermutation-map (stored_at_place kinds kept) (range_with_len 0 (length kept)) order places)
 
-pub names-in_order : (kinds : List Kind) (kept : List Kept) (order : List ℕ) → IsNonDecreasingBy (place_key kept []) order → IsNonDecreasingBy (λ (p : ℕ). (stored_at_place kinds kept p).name) order
-names-in_order kinds kept order rises i j d before within =
-    let least = rises i j d before within in
-    let first = place-name kinds kept (get_or order i d) in
-    let second = place-name kinds kept (get_or order j d) in
-    omega (arith, least, first, second)
+pub names-in_order : (kinds : List Kind) (kept : List Kept) (order : List ℕ) → IsNonDecreasingBy (name_at kept) order → IsNonDecreasingBy (λ (p : ℕ). (stored_at_place kinds kept p).name) order
+names-in_order kinds kept order rises i j d before within = omega (arith, rises i j d before within, place-name kinds kept (get_or order i d), place-name kinds kept (get_or order j d))
 
 -- ---- texts
 

@@ -4,8 +4,7 @@ use Rattle.std.specs.List.Sorted.{IsNonDecreasingBy}
 use Rattle.std.specs.Prelude.{◌≡◌, ◌<◌, ℕ, zero, suc, List, [], ◌∷◌, ◌++◌, length, map, slice_get, Some, None, IsPermutation}
 use Rattle.p21_stream_ending.specs.declared.parts.Part.{Part}
 use Rattle.p21_stream_kinds.specs.Kinds.{Kind}
-use Rattle.p21_stream_store.specs.Kept.{Kept}
-use Rattle.p21_stream_store.specs.Order.{place_key}
+use Rattle.p21_stream_store.specs.Kept.{Kept, name_at}
 
 -- each instance has the number of a kind
 abbrev pub AreKinds : List Kind → List Kept → Type 0
@@ -42,5 +41,5 @@ filed section_of (place ∷ more) rows = filed section_of more (with_place (sect
 pub record IsFiling (kinds : List Kind) (kept : List Kept) (old new : List (List ℕ)) : Type 0 where
   pub order : List ℕ
   pub places : IsPermutation (range_with_len 0 (length kept)) order
-  pub rises : IsNonDecreasingBy (place_key kept []) order
+  pub rises : IsNonDecreasingBy (name_at kept) order
   pub filed_ : new ≡ filed (section_at kinds kept) order old

@@ -23,7 +23,7 @@ pub(crate) fn file_instances(
     ensures heads { heads_of parts.new.items ≡ heads_of parts.old.items }
     ensures rows { OnOk result (IsFiling kinds.now instances.now (rows_of parts.old.items) (rows_of parts.new.items)) }
 {
-    let order = instances.order(alloc, &[])?;
+    let order = instances.order(alloc)?;
     file(parts, kinds, instances, &order)
 }
 

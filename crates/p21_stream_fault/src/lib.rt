@@ -3,8 +3,6 @@
 
 mod fault;
 mod refusal;
-#[cfg(test)]
-mod tests;
 
 pub use fault::Fault;
 pub use refusal::{At, Refusal};

@@ -1,10 +1,11 @@
 -- What was looked at in a piece without being taken.
-use Rattle.std.proofs.Common.{◌≡◌, ◌+◌, ◌≤◌, ◌⊎◌, ℕ, zero, suc, List, [], ◌∷◌, ◌++◌, length, take, Option, Some, None, inl, inr, refl, sym, ap, ◌∙◌, append_assoc, add-one, arith}
+use Rattle.std.proofs.Common.{◌≡◌, ◌+◌, ◌≤◌, ◌⊎◌, ℕ, zero, suc, List, [], ◌∷◌, ◌++◌, length, take, Option, Some, None, inl, inr, refl, sym, ap, ◌∙◌, append_assoc, arith}
 use Rattle.std.proofs.lemmas.List.{append-nil}
 use Rattle.std.proofs.lemmas.Option.{slice_get_within}
 use Rattle.std.specs.List.{slice_get}
 use Rattle.p21_basics.specs.History.{IsOffered, seen_behind}
 use Rattle.p21_stream_front.specs.Front.{IsSeenAt}
+use Rattle.p21_tokens.proofs.Extending.{take-one}
 
 -- what was seen is offered first
 pub offered : (seen : Option ℕ) (piece : List ℕ) → IsSeenAt seen piece 0 → IsOffered seen piece
@@ -32,15 +33,6 @@ seen-none None [] at = refl
 seen-none (Some byte) [] at = cc
 seen-none before (x ∷ xs) at = refl
 
--- a byte more is taken
-take-next : (piece : List ℕ) (count byte : ℕ) → slice_get piece count ≡ Some byte → take (suc count) piece ≡ take count piece ++ byte ∷ []
-take-next [] count byte is = cc
-take-next (x ∷ xs) zero byte is = let same : x ≡ byte = cc in ap (λ (y : ℕ). y ∷ []) same
-take-next (x ∷ xs) (suc count) byte is = ap (λ (l : List ℕ). x ∷ l) (take-next xs count byte is)
-
-pub take-byte : (piece : List ℕ) (count byte : ℕ) → slice_get piece count ≡ Some byte → take (count + 1) piece ≡ take count piece ++ byte ∷ []
-take-byte piece count byte is = rw add-one (take-next piece count byte is)
-
 -- what was looked at is the front of the piece up to some byte
 pub record IsLookedUpTo (taken piece : List ℕ) (count : ℕ) (seen : Option ℕ) : Type 0 where
   pub upto : ℕ
@@ -52,5 +44,5 @@ looked-up_to taken piece count None within at = record { upto = count; within = 
 looked-up_to taken piece count (Some byte) within at = record {
   upto = count + 1;
   within = let below = slice_get_within piece count byte at in omega (arith, below);
-  looked_are = append_assoc taken (take count piece) (byte ∷ []) ∙ ap (λ (l : List ℕ). taken ++ l) (sym (take-byte piece count byte at));
+  looked_are = append_assoc taken (take count piece) (byte ∷ []) ∙ ap (λ (l : List ℕ). taken ++ l) (sym (take-one piece count byte at));
 }

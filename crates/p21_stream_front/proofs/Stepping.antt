@@ -24,7 +24,8 @@ use Rattle.p21_schemas.specs.Schema.{Schema}
 use Rattle.p21_stream_fault.specs.Fault.{of_grammar, of_token}
 use Rattle.p21_stream_fault.specs.declared.fault.Fault.{Fault}
 use Rattle.p21_stream_fault.specs.declared.fault.Fault.TheVariants.{NoMemory}
-use Rattle.p21_stream_front.proofs.Seen.{looked-up_to, offered, seen-behind, seen-none, take-byte}
+use Rattle.p21_tokens.proofs.Extending.{take-one}
+use Rattle.p21_stream_front.proofs.Seen.{looked-up_to, offered, seen-behind, seen-none}
 use Rattle.p21_stream_front.specs.Front.{GoesOn, Held, IsEndedBy, IsLive, IsSeenAt, Reading, RefusesWithin, limits_of, looked, new_reading}
 use Rattle.p21_tokens.specs.Fault.{Cause, of_form, of_end, of_statement, of_file, of_parameter, of_memory, cause_of}
 use Rattle.p21_tokens.specs.Held as tokens_held
@@ -117,7 +118,7 @@ dead-says of_end held taken piece count says other s all record_is file_is = abs
 dead-says of_statement held taken piece count (byte, at, full, within) other s all record_is file_is =
     let long : IsDead s all ((taken ++ take count piece) ++ byte ∷ []) =
     full-statement s all (taken ++ take count piece) full.lexemes full.tail byte full.laid full.counts (rw record_is full.full) in
-    subst (λ (l : List ℕ). IsDead s all l) (append_assoc taken (take count piece) (byte ∷ []) ∙ ap (λ (l : List ℕ). taken ++ l) (sym (take-byte piece count byte at))) long
+    subst (λ (l : List ℕ). IsDead s all l) (append_assoc taken (take count piece) (byte ∷ []) ∙ ap (λ (l : List ℕ). taken ++ l) (sym (take-one piece count byte at))) long
 dead-says of_file held taken piece count says other s all record_is file_is = long-source s all (taken ++ take (count + 1) piece) (rw file_is says)
 dead-says of_parameter held taken piece count says other s all record_is file_is = absurd says
 dead-says of_memory held taken piece count says other s all record_is file_is = absurd (other refl)

@@ -3,8 +3,6 @@
 
 mod schema_name;
 mod shape;
-#[cfg(test)]
-mod tests;
 
 pub use schema_name::names_schema;
 pub use shape::{heading, line_size, schema_text};

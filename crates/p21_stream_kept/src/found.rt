@@ -1,4 +1,4 @@
-ghost use Rattle.std.specs.Prelude.{IfErr};
+ghost use Rattle.std.specs.Prelude.{◌≡◌, [], IfErr, IfOk};
 ghost use Rattle.p21_grammar_tree.specs.View.{record_view};
 ghost use Rattle.p21_stream_fault.specs.Source.{IsOfBytes};
 ghost use Rattle.p21_stream_kept.specs.Found.{FindsInstance};
@@ -9,7 +9,7 @@ use p21_grammar_tree::Record;
 use p21_mapping::check_moved;
 use p21_mapping_values::{Ids, Need, Typed};
 use p21_stream_fault::Fault;
-use p21_values::Name;
+use p21_values::{Name, NoMemory};
 use std::alloc::Global;
 
 /// What is found of an instance: its set of entities, what it needs of other instances, and its canonical line without a
@@ -39,7 +39,9 @@ pub(crate) fn found_of(
         Ok(checked) => checked,
         Err(fault) => return Err(Fault::from(fault)),
     };
-    let mut line = Vec::new(alloc);
+    let Ok(mut line) = empty_line(alloc) else {
+        return Err(Fault::NoMemory);
+    };
     let Ok(()) = write_record(schema, name, &typed, &mut line) else {
         return Err(Fault::NoMemory);
     };
@@ -49,4 +51,14 @@ pub(crate) fn found_of(
         needs,
         line,
     })
+}
+
+/// A line of most instances has no more bytes.
+const USUAL_LINE: usize = 120;
+
+/// A line without bytes, with room for a usual one.
+fn empty_line(alloc: Global) -> Result<Vec<u8>, NoMemory>
+    ensures { IfOk result (λ line. line.items ≡ []) }
+{
+    Ok(Vec::with_capacity(alloc, USUAL_LINE)?)
 }

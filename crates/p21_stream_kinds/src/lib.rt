@@ -2,7 +2,5 @@
 #![tactic(auto)]
 
 mod kinds;
-#[cfg(test)]
-mod tests;
 
 pub use kinds::Kinds;

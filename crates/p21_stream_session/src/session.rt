@@ -5,10 +5,10 @@ ghost use Rattle.p21_stream_session.specs.Histories.{FeedChecks, FeedGives, Feed
 ghost use Rattle.p21_stream_session.specs.Inside.{held_of};
 
 use crate::held::Held;
-use crate::progress::Progress;
+use crate::progress::{Progress, refused};
 use p21_express_tables::Schema;
 use p21_stream_accepted::Accepted;
-use p21_stream_fault::Refusal;
+use p21_stream_fault::{Fault, Refusal};
 use p21_values::Limits;
 use std::alloc::Global;
 use std::marker::Model;
@@ -103,8 +103,10 @@ impl<'s> Session<'s> {
         progress.finish(schema)
     }
 
-    /// The number of the open statement, counted from 1. It takes no memory.
-    pub fn statement(&self) -> u64 {
-        self.progress.statement
+    /// A refusal at the open statement, for what is no fault of a byte. It takes no memory.
+    pub fn refusal(&self, fault: Fault) -> Refusal
+        ensures fault { result.fault ≡ fault }
+    {
+        refused(fault, None, self.progress.statement)
     }
 }

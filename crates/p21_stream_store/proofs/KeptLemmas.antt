@@ -1,13 +1,13 @@
 -- Instances among those that are kept.
-use Rattle.std.proofs.Common.{◌≡◌, ◌+◌, ◌-◌, ◌<◌, ◌≤◌, ℕ, zero, suc, List, [], ◌∷◌, ◌++◌, length, get_or, Some, inl, inr, refl, sym, ap, subst, ◌∙◌, arith}
-use Rattle.std.proofs.lemmas.List.{append_assoc, length-append, map-append}
+use Rattle.std.proofs.Common.{◌≡◌, ◌+◌, ◌-◌, ◌<◌, ◌≤◌, ℕ, zero, suc, List, [], ◌∷◌, ◌++◌, length, get_or, Option, Some, inl, inr, refl, sym, ap, subst, ◌∙◌, arith, unwrap_or}
+use Rattle.std.proofs.lemmas.List.{append_assoc, get_or-append_right, get_or_append_left, get_or_read, length-append, map-append}
 use Rattle.std.proofs.lemmas.List.Elements.{Contains-append_cases, Contains-append_left, Contains-append_right}
 use Rattle.std.proofs.lemmas.List.Sorted.{IsPermutation-middle, IsPermutation-sym, IsPermutation-to_front, sum_by-IsPermutation}
 use Rattle.std.proofs.lemmas.List.Sums.{sum_by-append}
-use Rattle.std.proofs.lemmas.Option.{get_or_from_slice_get, slice_get_within}
+use Rattle.std.proofs.lemmas.Option.{get_or_from_slice_get, slice_get_within, unwrap_or-slice_get}
 use Rattle.std.specs.List.{Contains, slice_get}
 use Rattle.std.specs.List.Sorted.{IsPermutation}
-use Rattle.p21_stream_store.specs.Kept.{Kept, kept_names, kept_of, text_bytes}
+use Rattle.p21_stream_store.specs.Kept.{Kept, kept_names, kept_of, name_at, text_bytes}
 
 -- an instance of a line
 abbrev pub kept : ℕ → ℕ × List ℕ → Kept
@@ -139,3 +139,21 @@ module _ (rising late : List ℕ) (rising_lines late_lines : List (ℕ × List �
 
   pub late_within : (first i : ℕ) → length rising ≡ length rising_lines → length late ≡ length late_lines → first ≡ length rising_lines → first ≤ i → i < length all → i - first < length late
   late_within first i same same_ is above below = let size = all_size same same_ in omega (arith, size, is, above, below, same)
+
+-- ---- names by places
+
+name-at : (all : List Kept) (i : ℕ) → name_at all i ≡ get_or (kept_names all) i 0
+name-at [] i = refl
+name-at (x ∷ all) zero = refl
+name-at (x ∷ all) (suc i) = name-at all i
+
+module _ (rising late : List ℕ) (rising_lines late_lines : List (ℕ × List ℕ)) (all : List Kept) (all_are : kept_of rising rising_lines ++ kept_of late late_lines ≡ all) (same : length rising ≡ length rising_lines) (same_ : length late ≡ length late_lines) where
+  among : (i : ℕ) → name_at all i ≡ get_or (rising ++ late) i 0
+  among i = name-at all i ∙ ap (λ (names : List ℕ). get_or names i 0) (names_are rising late rising_lines late_lines all all_are same same_)
+
+  pub rising_name : (first i n : ℕ) → first ≡ length rising → i < first → n ≡ get_or rising i n → n ≡ name_at all i
+  rising_name first i n is below e = let within : i < length rising = omega (arith, is, below) in get_or_read rising i n within e 0 ∙ sym (get_or_append_left rising late 0 i within) ∙ sym (among i)
+
+  pub late_name : (first i : ℕ) (n : Option ℕ) → first ≡ length rising → first ≤ i → n ≡ slice_get late (i - first) → unwrap_or n 0 ≡ name_at all i
+  late_name first i n is above e =
+      ap (λ (x : Option ℕ). unwrap_or x 0) e ∙ unwrap_or-slice_get late (i - first) 0 ∙ sym (get_or-append_right rising late first i 0 (sym is) above) ∙ sym (among i)

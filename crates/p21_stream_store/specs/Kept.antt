@@ -1,5 +1,5 @@
 -- Instances as they are kept.
-use Rattle.std.specs.Prelude.{ℕ, List, [], ◌∷◌, length, map, sum_by}
+use Rattle.std.specs.Prelude.{ℕ, List, [], ◌∷◌, length, map, slice_get, Some, None, sum_by}
 
 -- the name of an instance, the number of its kind, and its canonical text
 pub record Kept : Type 0 where
@@ -20,6 +20,10 @@ kept_of (name ∷ names) (line ∷ lines) = kept_at name line ∷ kept_of names 
 -- the names of the instances
 abbrev pub kept_names : List Kept → List ℕ
 kept_names kept = map (λ (x : Kept). x.name) kept
+
+-- the name of the instance at a place
+abbrev pub name_at : List Kept → ℕ → ℕ
+name_at kept place = elim (slice_get kept place) [ None ↦ 0 | Some x ↦ x.name ]
 
 -- the bytes of their texts
 abbrev pub text_bytes : List Kept → ℕ

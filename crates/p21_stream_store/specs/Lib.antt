@@ -3,4 +3,3 @@ pub mod Texts
 pub mod Blocks
 pub mod Instances
 pub mod Kept
-pub mod Order

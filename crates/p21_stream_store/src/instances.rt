@@ -1,7 +1,7 @@
 //! The instances that a session has taken.
 ghost use Rattle.std.specs.Prelude.{◌≡◌, ◌<◌, [], ◌∷◌, ◌++◌, length, slice_get, Contains, IfSome, IsNone, IsPermutation, IsTrue, OnErr, OnOk, Some};
 ghost use Rattle.std.specs.List.Sorted.{IsStrictlyIncreasing};
-ghost use Rattle.p21_stream_store.specs.Kept.{Kept, kept_at, kept_names, text_bytes};
+ghost use Rattle.p21_stream_store.specs.Kept.{Kept, kept_at, kept_names, name_at, text_bytes};
 
 use crate::lines::Lines;
 use crate::names::{add_name, place_among, place_in};
@@ -75,6 +75,21 @@ impl Instances {
         }
         let (kind, text) = self.late_lines.get(place - first);
         (self.late[place - first], kind, text)
+    }
+
+    /// The name of the instance at a place, 0 where there is none.
+    pub(crate) fn name_at(&self, place: u32) -> u64
+        ensures { result ≡ name_at self.now place }
+    {
+        let place = place as usize;
+        let first = self.rising.len();
+        if place < first {
+            return self.rising[place];
+        }
+        match self.late.get_index(place - first) {
+            Some(name) => *name,
+            None => 0,
+        }
     }
 
     /// The number of the kind and the canonical text of the instance of this name, if there is one.

@@ -6,8 +6,6 @@ mod instances;
 mod lines;
 mod names;
 mod order;
-#[cfg(test)]
-mod tests;
 mod texts;
 
 pub use instances::Instances;

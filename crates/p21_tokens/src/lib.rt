@@ -9,8 +9,6 @@ mod lexer;
 mod param;
 mod reading;
 mod step;
-#[cfg(test)]
-mod tests;
 mod token;
 mod within;
 

@@ -102,6 +102,3 @@ fn is_scalar(token: &Token) -> bool
         _ => false,
     }
 }
-
-#[cfg(test)]
-mod tests;

@@ -135,39 +135,3 @@ impl PartialEq for Bytes {
         self[..] == other[..]
     }
 }
-
-#[cfg(test)]
-mod tests {
-    use super::*;
-    use std::test::Fail;
-
-    const MANY: &[u8] = b"0123456789abcdefghijklmnopqrstuvwxyz";
-
-    #[test]
-    fn keeps_few_and_many(rt: HostRuntime) -> Result<(), Fail> {
-        for count in [0, 1, SHORT - 1, SHORT, SHORT + 1, MANY.len()] {
-            let bytes = Bytes::of(rt.alloc(), &MANY[..count])?;
-            assert_eq!(rt; &bytes[..], &MANY[..count]);
-            assert_eq!(rt; bytes.len(), count);
-            for end in [count, MANY.len()] {
-                let front = Bytes::front(rt.alloc(), &MANY[..end], count)?;
-                assert_eq!(rt; &front[..], &MANY[..count]);
-            }
-        }
-        Ok(())
-    }
-
-    #[test]
-    fn keeps_both(rt: HostRuntime) -> Result<(), Fail> {
-        for count in [0, 1, SHORT - 1, SHORT, SHORT + 1] {
-            let (front, behind) = MANY.split_at(count);
-            let long = Bytes::of_both(rt.alloc(), front, behind)?;
-            assert!(rt; long == Bytes::of(rt.alloc(), MANY)?);
-            let (first, rest) = front.split_at(count / 2);
-            let front_again = Bytes::of_both(rt.alloc(), first, rest)?;
-            assert!(rt; front_again == Bytes::of(rt.alloc(), front)?);
-            assert!(rt; front_again != long);
-        }
-        Ok(())
-    }
-}

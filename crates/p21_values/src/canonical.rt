@@ -44,11 +44,3 @@ pub fn or_restored(
     }
     written
 }
-
-/// The canonical spelling by itself.
-#[cfg(test)]
-pub(crate) fn spelled<T: Canonical>(rt: &HostRuntime, value: &T) -> Result<Vec<u8>, NoMemory> {
-    let mut out = Vec::new(rt.alloc());
-    value.write_canonical(&mut out)?;
-    Ok(out)
-}

@@ -93,31 +93,3 @@ impl<T: Drop> From<AllocFailed<T>> for NoMemory {
         NoMemory
     }
 }
-
-#[cfg(test)]
-mod tests {
-    use super::*;
-
-    #[test]
-    fn has_numbers_and_names(rt: HostRuntime) {
-        let cases = [
-            (ValueFault::BadNumber, 7, "BadNumber"),
-            (ValueFault::NumberRange, 8, "NumberRange"),
-            (ValueFault::BadBinary, 9, "BadBinary"),
-            (ValueFault::NameRange, 10, "NameRange"),
-            (ValueFault::BadName, 11, "BadName"),
-            (ValueFault::BadWord, 13, "BadWord"),
-            (ValueFault::NoMemory, 90, "NoMemory"),
-        ];
-        for (fault, number, name) in cases {
-            assert_eq!(rt; fault.number(), number, "{name}");
-            assert_eq!(rt; fault.name(), name);
-        }
-    }
-
-    #[test]
-    fn comes_from_allocations(rt: HostRuntime) {
-        assert_eq!(rt; ValueFault::from(AllocError), ValueFault::NoMemory);
-        assert_eq!(rt; NoMemory::from(AllocError), NoMemory);
-    }
-}

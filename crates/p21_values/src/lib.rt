@@ -12,8 +12,6 @@ mod front;
 mod limits;
 mod name;
 mod text;
-#[cfg(test)]
-mod want_of_memory;
 mod whole;
 mod word;
 

@@ -58,3 +58,56 @@ fn knows_its_text(rt: HostRuntime) -> Result<(), Fail> {
     }
     Ok(())
 }
+
+#[test]
+fn knows_its_text_from_others(rt: HostRuntime) -> Result<(), Fail> {
+    let accepted = accepted_of(rt.alloc(), DEMO, "")?.expect(&rt, "an accepted file");
+    let data = "DATA;\nENDSEC;\n";
+    let rows = [
+        (SECTIONS, data, true),
+        (
+            HEADER,
+            "FILE_DESCRIPTION(('x'),'2;1');\nFILE_NAME('','',(''),(''),'','','');\nFILE_SCHEMA(('DEMO'));\n",
+            false,
+        ),
+        (
+            Frame {
+                behind: "END-ISO-10303-21;",
+                ..SECTIONS
+            },
+            data,
+            false,
+        ),
+        (
+            Frame {
+                behind: "END-ISO-10303-21;\n\n",
+                ..SECTIONS
+            },
+            data,
+            false,
+        ),
+        (
+            Frame {
+                before: "",
+                behind: "",
+            },
+            "",
+            false,
+        ),
+    ];
+    for (frame, text, wanted) in rows {
+        let file = framed(rt.alloc(), frame, text)?;
+        assert_eq!(rt; accepted.is_text(file.as_bytes()), wanted);
+    }
+    Ok(())
+}
+
+#[test]
+fn a_small_file_is_one_write(rt: HostRuntime) -> Result<(), Fail> {
+    let accepted = accepted_of(rt.alloc(), DEMO, "")?.expect(&rt, "an accepted file");
+    let mut writer = Watched::new(Vec::new(rt.alloc()));
+    accepted.write_to(&mut writer)?;
+    assert_eq!(rt; (writer.moved(), writer.failures()), (1, 0));
+    assert_eq!(rt; writer.into_inner().as_slice(), EMPTY.as_bytes());
+    Ok(())
+}

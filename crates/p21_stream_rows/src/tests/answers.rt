@@ -26,8 +26,8 @@ pub(super) fn differing_within(
     let schema = schema_of(alloc, frame)?;
     let mut others = String::new(alloc);
     for (text, wanted) in rows {
-        let file = framed(alloc, frame, text)?;
-        let answer = answer(alloc, &schema, limits, file.as_bytes())?;
+        let file = framed(alloc, frame, text.as_bytes())?;
+        let answer = answer(alloc, &schema, limits, &file)?;
         let found = within(frame, &answer);
         if found != *wanted {
             others.push_str(text)?;
@@ -44,10 +44,10 @@ pub(super) fn schema_of(alloc: Global, frame: Frame) -> Result<Schema, Fail> {
 }
 
 /// A text in a frame.
-pub(super) fn framed(alloc: Global, frame: Frame, text: &str) -> Result<String, Fail> {
-    let mut file = String::from_str(alloc, frame.before)?;
-    file.push_str(text)?;
-    file.push_str(frame.behind)?;
+pub(super) fn framed(alloc: Global, frame: Frame, text: &[u8]) -> Result<Vec<u8>, Fail> {
+    let mut file = Vec::from_slice(alloc, frame.before.as_bytes())?;
+    file.extend_from_slice(text)?;
+    file.extend_from_slice(frame.behind.as_bytes())?;
     Ok(file)
 }
 

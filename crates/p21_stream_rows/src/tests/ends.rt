@@ -90,6 +90,31 @@ fn scalars(rt: HostRuntime) -> Result<(), Fail> {
     Ok(())
 }
 
+/// What comes of bytes that are part of no character: `é` as ISO 8859-1 has it, the rest of a character without its
+/// beginning, and a beginning without its rest.
+#[test]
+fn bytes_of_no_character(rt: HostRuntime) -> Result<(), Fail> {
+    let rows: [(&[u8], &str); 4] = [
+        (
+            b"#1=POINT('caf\xE9',1.,1.);",
+            "refused 6 NotUtf8 at statement 8",
+        ),
+        (
+            b"#1=POINT('\xC3\xA9',1.,1.);#2=POINT('\xA9",
+            "refused 6 NotUtf8 at statement 9",
+        ),
+        (b"#1=POINT('\xC3',", "refused 6 NotUtf8 at statement 8"),
+        (b"#1=POINT(\xE9", "refused 1 BadByte at statement 8"),
+    ];
+    let schema = schema_of(rt.alloc(), OPEN)?;
+    for (text, wanted) in rows {
+        let file = framed(rt.alloc(), OPEN, text)?;
+        let found = answer(rt.alloc(), &schema, Limits::usual(), &file)?;
+        assert_eq!(rt; found.as_str(), wanted);
+    }
+    Ok(())
+}
+
 #[test]
 fn nothing_at_all(rt: HostRuntime) -> Result<(), Fail> {
     let rows = [

@@ -3,14 +3,24 @@ use Rattle.std.specs.List.{flat_map}
 use Rattle.std.proofs.Common.{arith, ap, sym, ◌∙◌, subst, get_or}
 use Rattle.std.proofs.lemmas.List.{take_all}
 use Rattle.std.proofs.lemmas.Option.{slice_get-get_or}
+use Rattle.p21_basics.proofs.Members.{Each-weaker}
 use Rattle.p21_schemas.specs.Order.{order}
 use Rattle.p21_express_tables.specs.Gathering.{add_firsts}
 use Rattle.p21_express_tables.specs.Orders.{numbers, tabled}
 use Rattle.p21_express_tables.specs.Settled.{nexts_of}
-use Rattle.p21_express_tables.specs.Parts.{schema_of}
+use Rattle.p21_express_tables.specs.Parts.{entity, schema_of}
 use Rattle.p21_express_tables.proofs.orders.orders.Goals as goal
 use Rattle.p21_express_tables.proofs.Gatherings.{mapped-length}
-use Rattle.p21_express_tables.proofs.OrderTables.{AreSoFar, is-entity, next-order, so-far-more, all-orders, are-entities}
+use Rattle.p21_express_tables.proofs.OrderTables.{AreSoFar, none-so-far, nexts-empty, is-entity, next-order, so-far-more, all-orders, are-entities}
+
+pub loop-number-init : goal.loop-number-init
+loop-number-init c =
+    let orders = c.in_ok-orders.orders.items in
+    let count : c.len-count.result ≡ length (schema_of c.args.parts.now).entities = (let n = mapped-length entity c.args.parts.now.entities.items in omega (arith, n, c.len-count.ensures, c.args.parts.now.entities.ok.0)) in
+    let size : length (tabled orders) ≡ length (schema_of c.args.parts.now).entities = (let n = mapped-length (λ x. numbers x.items) orders in omega (arith, n, c.in_ok-orders.ensures.size, count)) in (
+      none-so-far (schema_of c.args.parts.now) (tabled orders) size (nexts-empty (λ x. numbers x.items) orders (Each-weaker _ _ (λ x empty. ap numbers empty) orders c.in_ok-orders.ensures.empty)),
+      c.in_ok-gathered.ensures ∙ ap (λ n. record { count = n; numbers = [] }) count,
+    )
 
 pub supertypes_of-supertypes-requires : goal.supertypes_of-supertypes-requires
 supertypes_of-supertypes-requires c =

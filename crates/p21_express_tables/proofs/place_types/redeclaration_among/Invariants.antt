@@ -4,5 +4,5 @@ use Rattle.p21_express_types.specs.Meaning.{place}
 use Rattle.p21_express_tables.specs.Parts.{redeclared}
 use Rattle.p21_express_tables.proofs.place_types.redeclaration_among.Given as goal
 
-abbrev pub invariant-loop-other : goal.invariant-loop-other
-invariant-loop-other l = (k : ℕ) (r : Redeclared) → k < l.other-index → slice_get (map redeclared l.redeclared) k ≡ Some r → r.place ≡ place l.place → ⊥
+abbrev pub invariant-loop-at : goal.invariant-loop-at
+invariant-loop-at l = (k : ℕ) (r : Redeclared) → k < l.at → slice_get (map redeclared l.redeclared) k ≡ Some r → r.place ≡ place l.place → ⊥

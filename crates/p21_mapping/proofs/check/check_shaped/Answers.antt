@@ -8,7 +8,7 @@ use Rattle.p21_files.proofs.OneMeaning.{rising-none_twice}
 use Rattle.p21_grammar_tree.specs.View.{record_view}
 use Rattle.p21_mapping.proofs.Whole.{checked, refused, rows-count}
 use Rattle.p21_mapping.specs.Arranged.{AreArranged, HasRows}
-use Rattle.p21_mapping.specs.Checked.{needs_view}
+use Rattle.p21_mapping_fit.specs.Outcome.{needs_view}
 use Rattle.p21_mapping_sets.proofs.Shapes.{numbers-length}
 use Rattle.p21_mapping_values.specs.declared.need.Need.{Need}
 use Rattle.p21_mapping_values.specs.TypedView.{rows_view}

@@ -5,13 +5,13 @@ use Rattle.p21_express_tables.specs.Orders.{numbers}
 use Rattle.p21_grammar_tree.specs.declared.record.Part.{Part}
 use Rattle.p21_grammar_tree.specs.declared.record.Record.{Record}
 use Rattle.p21_grammar_tree.specs.View.{part_view, part_views, record_view}
-use Rattle.p21_mapping.proofs.Here.{part-params, part_views-length}
+use Rattle.p21_mapping.proofs.Here.{part-params}
 use Rattle.p21_mapping.proofs.Refused.{rising-within, listed-within, listed-decided, simple-long, simple-rows, complex-rows}
-use Rattle.p21_mapping.specs.Arranged.{HasRows, RefusesRows}
-use Rattle.p21_mapping.specs.Checked.{needs_view}
+use Rattle.p21_mapping.specs.Arranged.{HasRows}
+use Rattle.p21_mapping_fit.specs.Outcome.{needs_view}
 use Rattle.p21_mapping.specs.Rows.{RefusesPart, TakesParts, param_views}
-use Rattle.p21_mapping_sets.proofs.Shapes.{part-length}
-use Rattle.p21_mapping_sets.specs.Shape.{HasCounts, HasShape}
+use Rattle.p21_mapping_sets.proofs.Shapes.{part-length, views-length}
+use Rattle.p21_mapping_sets.specs.Shape.{HasCounts, HasShape, Refuses}
 use Rattle.p21_mapping_values.specs.TypedView.{rows_view}
 use Rattle.p21_mapping.proofs.check.rows_of.Goals as goal
 
@@ -44,15 +44,15 @@ complex_rows-requires-clause-counts c =
 pub returns-in-Simple : goal.returns-in-Simple
 returns-in-Simple c =
     let P : Record → Type 0 = λ r. HasShape c.args.schema.now (record_view r) (numbers c.args.listed.now) (numbers c.args.entities.now) in
-    let Q : Record → Type 0 = λ r. MatchResult c.simple_rows.result (λ rows. HasRows c.args.schema.now (record_view r) (numbers c.args.listed.now) (numbers c.args.entities.now) (rows_view rows.items) (needs_view c.args.needs.now.items) (needs_view c.simple_rows.new.needs.items)) (RefusesRows c.args.schema.now (record_view r)) in
+    let Q : Record → Type 0 = λ r. MatchResult c.simple_rows.result (λ rows. HasRows c.args.schema.now (record_view r) (numbers c.args.listed.now) (numbers c.args.entities.now) (rows_view rows.items) (needs_view c.args.needs.now.items) (needs_view c.simple_rows.new.needs.items)) (Refuses c.args.schema.now (record_view r)) in
     subst Q (sym c.in-Simple.is) (simple-rows c.args.schema.now (part_view c.in-Simple.part) (numbers c.args.listed.now) (numbers c.args.entities.now) (param_views c.into_items-params.result.items) (needs_view c.args.needs.now.items) (needs_view c.simple_rows.new.needs.items) c.simple_rows.result
     (subst P c.in-Simple.is c.requires.shape) (ap param_views c.into_items-params.ensures ∙ part-params c.in-Simple.part) c.simple_rows.ensures)
 
 pub returns-in-Complex : goal.returns-in-Complex
 returns-in-Complex c =
     let P : Record → Type 0 = λ r. HasShape c.args.schema.now (record_view r) (numbers c.args.listed.now) (numbers c.args.entities.now) in
-    let Q : Record → Type 0 = λ r. MatchResult c.complex_rows.result (λ rows. HasRows c.args.schema.now (record_view r) (numbers c.args.listed.now) (numbers c.args.entities.now) (rows_view rows.items) (needs_view c.args.needs.now.items) (needs_view c.complex_rows.new.needs.items)) (RefusesRows c.args.schema.now (record_view r)) in
+    let Q : Record → Type 0 = λ r. MatchResult c.complex_rows.result (λ rows. HasRows c.args.schema.now (record_view r) (numbers c.args.listed.now) (numbers c.args.entities.now) (rows_view rows.items) (needs_view c.args.needs.now.items) (needs_view c.complex_rows.new.needs.items)) (Refuses c.args.schema.now (record_view r)) in
     let R : List Part → Type 0 = λ ps. MatchResult c.complex_rows.result (λ rows. TakesParts c.args.schema.now (numbers c.args.entities.now) (numbers c.args.listed.now) (part_views ps) [] (rows_view rows.items) (needs_view c.args.needs.now.items) (needs_view c.complex_rows.new.needs.items)) (RefusesPart c.args.schema.now (numbers c.args.entities.now) (part_views ps)) in
-    let some : 0 < length (part_views c.in-Complex.parts) = omega (arith, c.into_items.ensures.some, part_views-length c.in-Complex.parts, ap length c.into_items.ensures.are) in
+    let some : 0 < length (part_views c.in-Complex.parts) = omega (arith, c.into_items.ensures.some, views-length c.in-Complex.parts, ap length c.into_items.ensures.are) in
     subst Q (sym c.in-Complex.is) (complex-rows c.args.schema.now (part_views c.in-Complex.parts) (numbers c.args.listed.now) (numbers c.args.entities.now) (needs_view c.args.needs.now.items) (needs_view c.complex_rows.new.needs.items) c.complex_rows.result
     (subst P c.in-Complex.is c.requires.shape) some (subst R c.into_items.ensures.are c.complex_rows.ensures))

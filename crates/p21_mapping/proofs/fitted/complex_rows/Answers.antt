@@ -10,11 +10,11 @@ use Rattle.p21_express_tables.specs.Orders.{numbers}
 use Rattle.p21_files.specs.Meaning.{HasPlaceTypes}
 use Rattle.p21_files.specs.RecordPlaces.{HasPart}
 use Rattle.p21_grammar_tree.specs.View.{items_of, part_view, part_views}
-use Rattle.p21_mapping.proofs.Here.{param_views-length, part-params, part_views-length}
+use Rattle.p21_mapping.proofs.Here.{param_views-length, part-params}
 use Rattle.p21_mapping.proofs.Taking.{parts-begin, parts-more, parts-room, parts-next, parts-end, row-whole}
-use Rattle.p21_mapping.specs.Checked.{needs_view}
+use Rattle.p21_mapping_fit.specs.Outcome.{needs_view}
 use Rattle.p21_mapping.specs.Rows.{BreaksAmong, TakesRow, param_views}
-use Rattle.p21_mapping_sets.proofs.Shapes.{named-within, own-count}
+use Rattle.p21_mapping_sets.proofs.Shapes.{named-within, own-count, views-length}
 use Rattle.p21_mapping_values.specs.Fault.{fault_number}
 use Rattle.p21_mapping_values.specs.TypedView.{rows_view}
 use Rattle.p21_mapping_values.specs.View.{list_of, view}
@@ -27,7 +27,7 @@ loop-owner-init c = rw (c.in_ok-rows.ensures.items, c.into_iter-left.ensures.res
 pub unreachable-requires : goal.unreachable-requires
 unreachable-requires c =
     parts-room c.args.schema.now (numbers c.args.entities.now) c.args.listed.now (part_views c.args.parts.items) c.requires.named c.loop-owner.owner-index (part_views (into_iter_items c.loop-owner.left)) (rows_view c.loop-owner.rows.items) (needs_view c.args.needs.now.items) (needs_view c.loop-owner.needs.items) c.loop-owner-test.true c.loop-owner.invariant
-    (part_views-length (into_iter_items c.loop-owner.left) ∙ sym c.loop-owner.left.rest.ok.0 ∙ c.in_default.ensures.cases.0)
+    (views-length (into_iter_items c.loop-owner.left) ∙ sym c.loop-owner.left.rest.ok.0 ∙ c.in_default.ensures.cases.0)
 
 pub fit_row-requires-clause-owner : goal.fit_row-requires-clause-owner
 fit_row-requires-clause-owner c =

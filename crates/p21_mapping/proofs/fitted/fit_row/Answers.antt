@@ -7,7 +7,7 @@ use Rattle.p21_express_tables.specs.Orders.{numbers}
 use Rattle.p21_grammar_tree.specs.View.{view as tree}
 use Rattle.p21_mapping.proofs.Here.{row-room}
 use Rattle.p21_mapping.proofs.RowLists.{row-begins, row-more, row-ends, row-next}
-use Rattle.p21_mapping.specs.Checked.{needs_view}
+use Rattle.p21_mapping_fit.specs.Outcome.{needs_view}
 use Rattle.p21_mapping.specs.Rows.{param_views}
 use Rattle.p21_mapping_sets.proofs.Shapes.{own-place}
 use Rattle.p21_mapping_values.specs.View.{view}

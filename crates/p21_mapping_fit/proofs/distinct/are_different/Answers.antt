@@ -1,7 +1,7 @@
 use Rattle.std.proofs.Common.{◌∙◌, rules}
 use Rattle.std.proofs.lemmas.Result.{IfOk-weaker}
-use Rattle.p21_mapping_text.proofs.Elements.{known_at}
-use Rattle.p21_mapping_fit.proofs.Differing.{bytes-more, differ-by_texts, lengths-more, pieces-within}
+use Rattle.p21_mapping_text.proofs.Elements.{fits_bytes, known_at}
+use Rattle.p21_mapping_fit.proofs.Differing.{bytes-more, differ-by_texts, lengths-more}
 use Rattle.p21_mapping_fit.proofs.distinct.are_different.Goals as goal
 
 pub append_present-requires : goal.append_present-requires
@@ -14,7 +14,7 @@ loop-value-preserved c = (
 )
 
 pub are_distinct-requires : goal.are_distinct-requires
-are_distinct-requires c = pieces-within _ _ _ (c.deref.ensures.value ∙ c.loop-value.invariant.0) (c.deref-2.ensures.value ∙ c.loop-value.invariant.1)
+are_distinct-requires c = fits_bytes _ _ _ (c.deref.ensures.value ∙ c.loop-value.invariant.0) (c.deref-2.ensures.value ∙ c.loop-value.invariant.1)
 
 pub returns : goal.returns
 returns c =

@@ -7,7 +7,8 @@ use Rattle.p21_express_tables.specs.Orders.{numbers}
 use Rattle.p21_express_types.specs.declared.number.EntityId.{EntityId}
 use Rattle.p21_files.specs.Meaning.{NamesEntity}
 use Rattle.p21_grammar_tree.specs.View.{part_views}
-use Rattle.p21_mapping_sets.specs.Shape.{AreSame, IsClosed, LacksSupertype, HasTwice, HasLeaf, HasNoLeaf, PassesSet, RefusesSet, HasCount, HasOtherCount}
+use Rattle.p21_express_tables.specs.Rising.{HaveSame}
+use Rattle.p21_mapping_sets.specs.Shape.{IsClosed, LacksSupertype, HasTwice, HasLeaf, HasNoLeaf, PassesSet, RefusesSet, HasCount, HasOtherCount}
 use Rattle.p21_mapping_sets.proofs.Rows.{AllZip-length}
 use Rattle.p21_mapping_sets.proofs.Shapes.{named-entities, same-entities, twice-breaks, missing-breaks, leaf-breaks, complex-set, set-refuses, complex-miscount, complex-shape, views-length, numbers-length}
 use Rattle.p21_mapping_sets.proofs.shape.complex_shape.Goals as goal
@@ -28,17 +29,17 @@ pub rising-requires-clause-distinct : goal.rising-requires-clause-distinct
 rising-requires-clause-distinct c = rw c.deref-3.ensures.value (let P : List EntityId → Type 0 = λ xs. IsDistinct nat_eq (numbers xs) in subst P c.deref.ensures.value c.if-has_twice.ensures)
 
 pub has_abstract_leaf-requires : goal.has_abstract_leaf-requires
-has_abstract_leaf-requires c = rw c.deref-4.ensures.value (same-entities c.args.schema.now (numbers c.in_ok-listed.listed.items) (numbers c.in_ok-entities.entities.items) (let P : List EntityId → Type 0 = λ xs. AreSame (numbers xs) (numbers c.in_ok-entities.entities.items) in subst P c.deref-3.ensures.value c.in_ok-entities.ensures.same) (named-entities c.args.schema.now (part_views c.args.parts.now) (numbers c.in_ok-listed.listed.items) c.in_ok-listed.ensures))
+has_abstract_leaf-requires c = rw c.deref-4.ensures.value (same-entities c.args.schema.now (numbers c.in_ok-listed.listed.items) (numbers c.in_ok-entities.entities.items) (let P : List EntityId → Type 0 = λ xs. HaveSame (numbers xs) (numbers c.in_ok-entities.entities.items) in subst P c.deref-3.ensures.value c.in_ok-entities.ensures.same) (named-entities c.args.schema.now (part_views c.args.parts.now) (numbers c.in_ok-listed.listed.items) c.in_ok-listed.ensures))
 
 pub returns-then-found : goal.returns-then-found
-returns-then-found c = λ _. leaf-breaks c.args.schema.now (complex (part_views c.args.parts.now)) (numbers c.in_ok-entities.entities.items) (complex-set c.args.schema.now c.requires.entities_distinct (part_views c.args.parts.now) (numbers c.in_ok-listed.listed.items) (numbers c.in_ok-entities.entities.items) c.in_ok-listed.ensures (let P : List EntityId → Type 0 = λ xs. IsClosed c.args.schema.now (numbers xs) in subst P c.deref-2.ensures.value c.if-not-is_closed.ensures) (let P : List EntityId → Type 0 = λ xs. AreSame (numbers xs) (numbers c.in_ok-entities.entities.items) in subst P c.deref-3.ensures.value c.in_ok-entities.ensures.same))
+returns-then-found c = λ _. leaf-breaks c.args.schema.now (complex (part_views c.args.parts.now)) (numbers c.in_ok-entities.entities.items) (complex-set c.args.schema.now c.requires.entities_distinct (part_views c.args.parts.now) (numbers c.in_ok-listed.listed.items) (numbers c.in_ok-entities.entities.items) c.in_ok-listed.ensures (let P : List EntityId → Type 0 = λ xs. IsClosed c.args.schema.now (numbers xs) in subst P c.deref-2.ensures.value c.if-not-is_closed.ensures) (let P : List EntityId → Type 0 = λ xs. HaveSame (numbers xs) (numbers c.in_ok-entities.entities.items) in subst P c.deref-3.ensures.value c.in_ok-entities.ensures.same))
     (let P : List EntityId → Type 0 = λ xs. HasLeaf c.args.schema.now (numbers xs) in subst P c.deref-4.ensures.value (MatchBool-at_true _ _ c.if-found.true c.in_ok-found.ensures))
 
 pub check_set-requires : goal.check_set-requires
-check_set-requires c = rw c.deref-5.ensures.value (same-entities c.args.schema.now (numbers c.in_ok-listed.listed.items) (numbers c.in_ok-entities.entities.items) (let P : List EntityId → Type 0 = λ xs. AreSame (numbers xs) (numbers c.in_ok-entities.entities.items) in subst P c.deref-3.ensures.value c.in_ok-entities.ensures.same) (named-entities c.args.schema.now (part_views c.args.parts.now) (numbers c.in_ok-listed.listed.items) c.in_ok-listed.ensures))
+check_set-requires c = rw c.deref-5.ensures.value (same-entities c.args.schema.now (numbers c.in_ok-listed.listed.items) (numbers c.in_ok-entities.entities.items) (let P : List EntityId → Type 0 = λ xs. HaveSame (numbers xs) (numbers c.in_ok-entities.entities.items) in subst P c.deref-3.ensures.value c.in_ok-entities.ensures.same) (named-entities c.args.schema.now (part_views c.args.parts.now) (numbers c.in_ok-listed.listed.items) c.in_ok-listed.ensures))
 
 pub returns-in-Err : goal.returns-in-Err
-returns-in-Err c = set-refuses c.args.schema.now (complex (part_views c.args.parts.now)) (numbers c.in_ok-entities.entities.items) (complex-set c.args.schema.now c.requires.entities_distinct (part_views c.args.parts.now) (numbers c.in_ok-listed.listed.items) (numbers c.in_ok-entities.entities.items) c.in_ok-listed.ensures (let P : List EntityId → Type 0 = λ xs. IsClosed c.args.schema.now (numbers xs) in subst P c.deref-2.ensures.value c.if-not-is_closed.ensures) (let P : List EntityId → Type 0 = λ xs. AreSame (numbers xs) (numbers c.in_ok-entities.entities.items) in subst P c.deref-3.ensures.value c.in_ok-entities.ensures.same)) c.in-Err.fault (let P : List EntityId → Type 0 = λ xs. RefusesSet c.args.schema.now (numbers xs) c.in-Err.fault in subst P c.deref-5.ensures.value c.in-Err.ensures)
+returns-in-Err c = set-refuses c.args.schema.now (complex (part_views c.args.parts.now)) (numbers c.in_ok-entities.entities.items) (complex-set c.args.schema.now c.requires.entities_distinct (part_views c.args.parts.now) (numbers c.in_ok-listed.listed.items) (numbers c.in_ok-entities.entities.items) c.in_ok-listed.ensures (let P : List EntityId → Type 0 = λ xs. IsClosed c.args.schema.now (numbers xs) in subst P c.deref-2.ensures.value c.if-not-is_closed.ensures) (let P : List EntityId → Type 0 = λ xs. HaveSame (numbers xs) (numbers c.in_ok-entities.entities.items) in subst P c.deref-3.ensures.value c.in_ok-entities.ensures.same)) c.in-Err.fault (let P : List EntityId → Type 0 = λ xs. RefusesSet c.args.schema.now (numbers xs) c.in-Err.fault in subst P c.deref-5.ensures.value c.in-Err.ensures)
 
 pub have_counts-requires-clause-entities : goal.have_counts-requires-clause-entities
 have_counts-requires-clause-entities c = rw c.deref-6.ensures.value (named-entities c.args.schema.now (part_views c.args.parts.now) (numbers c.in_ok-listed.listed.items) c.in_ok-listed.ensures)
@@ -52,7 +53,7 @@ returns-then-not-have_counts c = λ _. complex-miscount c.args.schema.now (part_
 
 pub returns : goal.returns
 returns c = (
-  complex-shape c.args.schema.now c.requires.entities_distinct (part_views c.args.parts.now) (numbers c.in_ok-listed.listed.items) (numbers c.in_ok-entities.entities.items) c.in_ok-listed.ensures (let P : List EntityId → Type 0 = λ xs. IsDistinct nat_eq (numbers xs) in subst P c.deref.ensures.value c.if-has_twice.ensures) (let P : List EntityId → Type 0 = λ xs. IsClosed c.args.schema.now (numbers xs) in subst P c.deref-2.ensures.value c.if-not-is_closed.ensures) (let P : List EntityId → Type 0 = λ xs. AreSame (numbers xs) (numbers c.in_ok-entities.entities.items) in subst P c.deref-3.ensures.value c.in_ok-entities.ensures.same) c.in_ok-entities.ensures.rising
+  complex-shape c.args.schema.now c.requires.entities_distinct (part_views c.args.parts.now) (numbers c.in_ok-listed.listed.items) (numbers c.in_ok-entities.entities.items) c.in_ok-listed.ensures (let P : List EntityId → Type 0 = λ xs. IsDistinct nat_eq (numbers xs) in subst P c.deref.ensures.value c.if-has_twice.ensures) (let P : List EntityId → Type 0 = λ xs. IsClosed c.args.schema.now (numbers xs) in subst P c.deref-2.ensures.value c.if-not-is_closed.ensures) (let P : List EntityId → Type 0 = λ xs. HaveSame (numbers xs) (numbers c.in_ok-entities.entities.items) in subst P c.deref-3.ensures.value c.in_ok-entities.ensures.same) c.in_ok-entities.ensures.rising
       (let P : List EntityId → Type 0 = λ xs. HasNoLeaf c.args.schema.now (numbers xs) in subst P c.deref-4.ensures.value (MatchBool-at_false _ _ c.if-found.false c.in_ok-found.ensures))
       (let P : List EntityId → Type 0 = λ xs. PassesSet c.args.schema.now (numbers xs) in subst P c.deref-5.ensures.value c.in-Ok.ensures)
       (let P : List EntityId → Type 0 = λ xs. AllZip (HasCount c.args.schema.now) (part_views c.args.parts.now) (numbers xs) in subst P c.deref-6.ensures.value c.if-not-have_counts.ensures),

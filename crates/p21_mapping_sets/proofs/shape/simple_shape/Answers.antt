@@ -6,7 +6,7 @@ use Rattle.p21_express_tables.specs.Orders.{numbers}
 use Rattle.p21_express_tables.specs.Resolved.{IsEntity}
 use Rattle.p21_files.specs.BrokenRule.{unknown_entity}
 use Rattle.p21_grammar_tree.specs.View.{part_view}
-use Rattle.p21_mapping_sets.specs.Shape.{AreSame}
+use Rattle.p21_express_tables.specs.Rising.{HaveSame}
 use Rattle.p21_mapping_sets.proofs.OwnSets.{own-passes, own-refuses}
 use Rattle.p21_mapping_sets.proofs.Shapes.{named-within, order-within, simple-miscount, simple-shape, part-length}
 use Rattle.p21_mapping_sets.proofs.shape.simple_shape.Goals as goal
@@ -40,7 +40,7 @@ pub returns : goal.returns
 returns c =
     let (same, rising) = c.in_ok-entities.ensures in
     let within : IsEntity c.args.schema.now c.in-Some.entity.0 = named-within c.args.schema.now (part_view c.args.part.now).key c.in-Some.entity.0 c.in-Some.ensures in
-    let Q : List ℕ → Type 0 = λ xs. AreSame xs (numbers c.in_ok-entities.entities.items) in (
+    let Q : List ℕ → Type 0 = λ xs. HaveSame xs (numbers c.in_ok-entities.entities.items) in (
       simple-shape c.args.schema.now c.holds_together.ensures c.requires.entities_distinct (part_view c.args.part.now) c.in-Some.entity.0 (numbers c.in_ok-listed.listed.items) (numbers c.in_ok-entities.entities.items) c.in-Some.ensures
           c.in_ok-listed.ensures (subst Q (sym c.in_ok-listed.ensures) same) rising c.in-Ok.ensures.0
           (own-passes c.args.schema.now c.in-Some.entity.0 (numbers c.in_ok-entities.entities.items) same c.in-Ok.ensures)

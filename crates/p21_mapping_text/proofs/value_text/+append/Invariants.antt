@@ -1,7 +1,8 @@
 use Rattle.std.proofs.Common.{◌≡◌, ◌++◌, ◌∷◌, [], ℕ, List, length, map, take}
 use Rattle.p21_files.specs.ValueText.{with_commas_between}
 use Rattle.p21_mapping_values.specs.View.{views}
-use Rattle.p21_mapping_text.proofs.Elements.{joined, texts}
+use Rattle.p21_mapping_text.specs.Pieces.{joined}
+use Rattle.p21_mapping_text.proofs.Elements.{texts}
 use Rattle.p21_mapping_text.specs.Spelled.{AreSpelled}
 use Rattle.p21_mapping_text.proofs.value_text.+append.Given as goal
 

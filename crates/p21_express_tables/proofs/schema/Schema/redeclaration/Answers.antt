@@ -1,4 +1,4 @@
-use Rattle.std.specs.Prelude.{◌≡◌, List, Some, map, Contains}
+use Rattle.std.specs.Prelude.{◌≡◌, List, Some, map, slice_get, Contains}
 use Rattle.std.proofs.Common.{ap, sym, ◌∙◌, subst}
 use Rattle.p21_schemas.specs.Schema.{Redeclared}
 use Rattle.p21_express_tables.specs.Parts.{redeclared, entity}
@@ -14,5 +14,5 @@ returns c =
     let x_is : x ≡ entity c.entity_at.result.now = cc in
     let P : List Redeclared → Type 0 = λ rs. Contains rs r in
     none r (subst P (ap (λ y. y.redeclared) x_is ∙ sym same) among) is)
-    (λ r found. let P : List Redeclared → Type 0 = λ rs. Contains rs (redeclared r.now) in ((entity c.entity_at.result.now, c.entity_at.ensures, subst P same found.0), found.1))
+    (λ k (r, at, is). let P : List Redeclared → Type 0 = λ rs. slice_get rs k ≡ Some r in (r, (entity c.entity_at.result.now, c.entity_at.ensures, subst P same at), is))
     c.redeclaration_among.ensures

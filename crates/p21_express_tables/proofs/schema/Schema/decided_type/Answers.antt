@@ -1,0 +1,14 @@
+use Rattle.std.proofs.Common.{◌≡◌, ap, subst, inl}
+use Rattle.p21_express_types.specs.Meaning.{place}
+use Rattle.p21_express_tables.specs.Decisions.{IsDecision}
+use Rattle.p21_express_tables.specs.Parts.{redeclared}
+use Rattle.p21_express_tables.specs.declared.place_types.Decision.{Decision}
+use Rattle.p21_express_tables.proofs.schema.Schema.decided_type.Goals as goal
+use Rattle.p21_express_tables.proofs.Decisions.{redeclared-one}
+
+pub returns-in-Redeclared : goal.returns-in-Redeclared
+returns-in-Redeclared c entities is =
+    let P : Decision → Type 0 = λ d. IsDecision c.args.self.now entities (place c.args.place) d in
+    let (stored, (r, stands, decides)) = subst P c.in-Redeclared.is is in
+    let same : r ≡ redeclared c.redeclared_at-redeclared.result.now = redeclared-one c.args.self.now c.in-Redeclared.entity.0 c.in-Redeclared.at r (redeclared c.redeclared_at-redeclared.result.now) stands c.redeclared_at-redeclared.ensures in
+    (stored, inl (r, decides, ap (λ x. x.optional) same, ap (λ x. x.type) same))

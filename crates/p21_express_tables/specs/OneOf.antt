@@ -1,0 +1,25 @@
+-- The ONEOF lists of a schema, by their numbers.
+use Rattle.std.specs.Prelude.{◌≡◌, ◌≢◌, ◌↔◌, ◌⊎◌, ℕ, List, Some, length, slice_get, Contains}
+use Rattle.p21_schemas.specs.Schema.{Schema}
+use Rattle.p21_express_tables.specs.Settled.{nexts_of}
+
+-- the list of this number has the entity
+abbrev pub IsListedIn : Schema → ℕ → ℕ → Type 0
+IsListedIn s k e = (listed : List ℕ) × (slice_get s.one_of_lists k ≡ Some listed) × Contains listed e
+
+-- a list has both
+abbrev pub StandTogether : Schema → ℕ → ℕ → Type 0
+StandTogether s e f = (k : ℕ) × IsListedIn s k e × IsListedIn s k f
+
+-- another one of these stands in a list with the entity
+abbrev pub ClashesWith : Schema → List ℕ → ℕ → Type 0
+ClashesWith s entities e = (f : ℕ) × Contains entities f × (f ≢ e) × StandTogether s e f
+
+-- the table has for each entity the numbers of the lists with it
+pub record AreListedIn (s : Schema) (lists : List (List ℕ)) : Type 0 where
+  pub each : (e k : ℕ) → Contains (nexts_of lists e) k ↔ IsListedIn s k e
+
+-- the number has been added for each of these
+pub record AddsNumber (number : ℕ) (listed : List ℕ) (before after : List (List ℕ)) : Type 0 where
+  pub size : length after ≡ length before
+  pub each : (e k : ℕ) → Contains (nexts_of after e) k ↔ (Contains (nexts_of before e) k ⊎ ((k ≡ number) × Contains listed e))
