@@ -1,3 +1,2 @@
--- What the command line may say, and what the program answers.
-pub mod CommandLine
+-- What the program answers.
 pub mod Statuses

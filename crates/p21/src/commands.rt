@@ -3,8 +3,8 @@ ghost use Rattle.std.specs.Prelude.{◌≡◌, ◌⊎◌, IfOk};
 ghost use Rattle.p21.specs.Statuses.{IsOfCommand};
 ghost use Rattle.p21_commands.specs.Status.{done, failed};
 
-use crate::help;
 use clap::ArgMatches;
+use p21_command_line::FAULTS;
 use p21_commands::{CommandFault, DONE, param_command, report};
 use p21_commands_files::{canon_command, check_command, same_command, show_command};
 use p21_commands_schema::schema_command;
@@ -136,7 +136,7 @@ fn run_same<'a>(rt: &HostRuntime, found: &ArgMatches<'a>) -> Result<u8, Stopped<
 fn run_faults(rt: &HostRuntime) -> u8
     ensures { (result ≡ done) ⊎ (result ≡ failed) }
 {
-    match println!(rt; "{}", help::FAULTS) {
+    match println!(rt; "{}", FAULTS) {
         Ok(()) => DONE,
         Err(_) => report(&CommandFault::Write, &mut rt.stderr()),
     }

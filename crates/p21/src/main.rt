@@ -7,13 +7,11 @@ ghost use Rattle.std.specs.declared.io.ErrorKind.TheVariants.{OutOfMemory};
 ghost use Rattle.clap.specs.Words.{kind_of};
 ghost use Rattle.p21_commands.specs.Status.{done, refused, usage, failed};
 
-mod command_line;
 mod commands;
-mod help;
 
 use clap::error::{Error, ErrorKind};
-use command_line::command_line;
 use commands::{Stopped, run_command};
+use p21_command_line::command_line;
 use p21_commands::{CommandFault, DONE, FAILED, USAGE, report};
 use std::process::ExitCode;
 use std::{env, io};

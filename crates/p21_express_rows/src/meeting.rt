@@ -16,7 +16,7 @@ fn expect(rt: &impl Abort, alloc: Global, rows: &[(&str, SchemaFault)]) -> Resul
 /// What is found as the text is read comes in the order of the text.
 #[test]
 fn reads_from_the_front(rt: HostRuntime) -> Result<(), Fail> {
-    let rows = [
+    const ROWS: [(&str, SchemaFault); 8] = [
         ("TYPE t = STRING (0 (* open", SchemaFault::Bounds),
         ("TYPE t = (* open STRING (0)", SchemaFault::Token),
         ("TYPE t = STRING (0); USE", SchemaFault::Bounds),
@@ -26,13 +26,13 @@ fn reads_from_the_front(rt: HostRuntime) -> Result<(), Fail> {
         ("TYPE t = LIST [2:1;", SchemaFault::Bounds),
         ("TYPE t = LIST [1;", SchemaFault::Syntax),
     ];
-    expect(&rt, rt.alloc(), &rows)
+    expect(&rt, rt.alloc(), &ROWS)
 }
 
 /// What is found as the text is read comes before what is looked for in the whole schema.
 #[test]
 fn reads_before_it_resolves(rt: HostRuntime) -> Result<(), Fail> {
-    let rows = [
+    const ROWS: [(&str, SchemaFault); 4] = [
         (
             "ENTITY a; END_ENTITY; ENTITY a; END_ENTITY; ENTITY",
             SchemaFault::Syntax,
@@ -50,12 +50,12 @@ fn reads_before_it_resolves(rt: HostRuntime) -> Result<(), Fail> {
             SchemaFault::Token,
         ),
     ];
-    expect(&rt, rt.alloc(), &rows)
+    expect(&rt, rt.alloc(), &ROWS)
 }
 
 #[test]
 fn looks_for_duplicates_first(rt: HostRuntime) -> Result<(), Fail> {
-    let rows = [
+    const ROWS: [(&str, SchemaFault); 6] = [
         (
             "ENTITY a; x : foo; END_ENTITY; ENTITY a; END_ENTITY;",
             SchemaFault::Duplicate,
@@ -81,13 +81,13 @@ fn looks_for_duplicates_first(rt: HostRuntime) -> Result<(), Fail> {
             SchemaFault::Duplicate,
         ),
     ];
-    expect(&rt, rt.alloc(), &rows)
+    expect(&rt, rt.alloc(), &ROWS)
 }
 
 /// Each kind of duplicate behind a name that isn't declared.
 #[test]
 fn finds_each_duplicate_behind_another_fault(rt: HostRuntime) -> Result<(), Fail> {
-    let rows = [
+    const ROWS: [&str; 8] = [
         "ENTITY a; x, y, x : REAL; END_ENTITY;",
         "ENTITY a; x : REAL; DERIVE x : REAL := 0.0; END_ENTITY;",
         "ENTITY a; DERIVE x : REAL := 0.0; y : REAL := 0.0; X : REAL := 0.0; END_ENTITY;",
@@ -97,7 +97,7 @@ fn finds_each_duplicate_behind_another_fault(rt: HostRuntime) -> Result<(), Fail
         "TYPE t = SELECT (u, u); END_TYPE;",
         "TYPE u = REAL; END_TYPE;",
     ];
-    for declaration in rows {
+    for declaration in ROWS {
         let text = format!(in rt.alloc(); "ENTITY u; z : foo; END_ENTITY; {declaration}")?;
         let answer = refusal(rt.alloc(), &text)?;
         assert_eq!(rt; answer, Some(SchemaFault::Duplicate), "{declaration}");
@@ -108,7 +108,7 @@ fn finds_each_duplicate_behind_another_fault(rt: HostRuntime) -> Result<(), Fail
 /// Redeclarations in a diamond, behind a name that isn't declared.
 #[test]
 fn finds_each_place_redeclared_twice(rt: HostRuntime) -> Result<(), Fail> {
-    let rows = [
+    const ROWS: [(&str, SchemaFault); 7] = [
         ("SELF\\r.k, SELF\\r.k : REAL;", SchemaFault::Duplicate),
         (
             "SELF\\c.k : REAL; DERIVE SELF\\r.k : REAL := 0.0;",
@@ -123,7 +123,7 @@ fn finds_each_place_redeclared_twice(rt: HostRuntime) -> Result<(), Fail> {
         ("SELF\\c.l, SELF\\c.l : REAL;", SchemaFault::UnknownName),
         ("SELF\\r.k, k : REAL;", SchemaFault::UnknownName),
     ];
-    for (declared, fault) in rows {
+    for (declared, fault) in ROWS {
         let text = format!(in rt.alloc();
             "TYPE t = foo; END_TYPE; ENTITY r; k : REAL; END_ENTITY; ENTITY a SUBTYPE OF (r); l : REAL; END_ENTITY; ENTITY b SUBTYPE OF (r); l : REAL; END_ENTITY; ENTITY c SUBTYPE OF (a, b); END_ENTITY; ENTITY d SUBTYPE OF (c); {declared} END_ENTITY;"
         )?;
@@ -136,19 +136,19 @@ fn finds_each_place_redeclared_twice(rt: HostRuntime) -> Result<(), Fail> {
 /// Names that only redeclarations have.
 #[test]
 fn finds_unknown_names_of_redeclarations_first(rt: HostRuntime) -> Result<(), Fail> {
-    let rows = [
+    const OTHERS: [&str; 3] = [
+        "TYPE t = t; END_TYPE;",
+        "TYPE s = SELECT (r); END_TYPE; TYPE t = s; END_TYPE;",
+        "ENTITY b; SELF\\r.k : REAL; END_ENTITY;",
+    ];
+    const ROWS: [&str; 4] = [
         "SELF\\r.k : foo;",
         "SELF\\foo.k : REAL;",
         "DERIVE SELF\\foo.k : REAL := 0.0;",
         "SELF\\r.k : LIST OF foo;",
     ];
-    let others = [
-        "TYPE t = t; END_TYPE;",
-        "TYPE s = SELECT (r); END_TYPE; TYPE t = s; END_TYPE;",
-        "ENTITY b; SELF\\r.k : REAL; END_ENTITY;",
-    ];
-    for declared in rows {
-        for other in others {
+    for declared in ROWS {
+        for other in OTHERS {
             let text = format!(in rt.alloc();
                 "ENTITY r; k : REAL; END_ENTITY; {other} ENTITY a SUBTYPE OF (r); {declared} END_ENTITY;"
             )?;
@@ -166,7 +166,7 @@ fn finds_unknown_names_of_redeclarations_first(rt: HostRuntime) -> Result<(), Fa
 /// Also where one place is redeclared twice, in a schema that is wrong elsewhere.
 #[test]
 fn looks_for_places_redeclared_twice(rt: HostRuntime) -> Result<(), Fail> {
-    let rows = [
+    const ROWS: [(&str, SchemaFault); 6] = [
         (
             "ENTITY r; k : foo; END_ENTITY; ENTITY a SUBTYPE OF (r); SELF\\r.k, SELF\\r.k : REAL; END_ENTITY;",
             SchemaFault::Duplicate,
@@ -192,12 +192,12 @@ fn looks_for_places_redeclared_twice(rt: HostRuntime) -> Result<(), Fail> {
             SchemaFault::Duplicate,
         ),
     ];
-    expect(&rt, rt.alloc(), &rows)
+    expect(&rt, rt.alloc(), &ROWS)
 }
 
 #[test]
 fn looks_for_unknown_names_then_for_circles(rt: HostRuntime) -> Result<(), Fail> {
-    let rows = [
+    const ROWS: [(&str, SchemaFault); 7] = [
         (
             "ENTITY a SUBTYPE OF (a); END_ENTITY; ENTITY b; x : foo; END_ENTITY;",
             SchemaFault::UnknownName,
@@ -227,12 +227,12 @@ fn looks_for_unknown_names_then_for_circles(rt: HostRuntime) -> Result<(), Fail>
             SchemaFault::Circular,
         ),
     ];
-    expect(&rt, rt.alloc(), &rows)
+    expect(&rt, rt.alloc(), &ROWS)
 }
 
 #[test]
 fn looks_for_renamed_selects_then_for_places(rt: HostRuntime) -> Result<(), Fail> {
-    let rows = [
+    const ROWS: [(&str, SchemaFault); 3] = [
         (
             "TYPE a = b; END_TYPE; TYPE b = SELECT (a); END_TYPE;",
             SchemaFault::LeftOut,
@@ -246,5 +246,5 @@ fn looks_for_renamed_selects_then_for_places(rt: HostRuntime) -> Result<(), Fail
             SchemaFault::RedeclaredPlace,
         ),
     ];
-    expect(&rt, rt.alloc(), &rows)
+    expect(&rt, rt.alloc(), &ROWS)
 }

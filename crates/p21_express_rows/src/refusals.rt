@@ -28,7 +28,7 @@ fn expect(
 
 #[test]
 fn refuses_bytes_that_are_no_tokens(rt: HostRuntime) -> Result<(), Fail> {
-    let rows = [
+    const ROWS: [(&str, &str); 6] = [
         ("(* open", "(* closed *)"),
         ("(* a (* b *) c", "(* a (* b *) c *)"),
         ("(*)", "(**)"),
@@ -42,12 +42,12 @@ fn refuses_bytes_that_are_no_tokens(rt: HostRuntime) -> Result<(), Fail> {
         ),
         ("\u{e9}", "-- \u{e9}\n"),
     ];
-    expect(&rt, rt.alloc(), SchemaFault::Token, &rows)
+    expect(&rt, rt.alloc(), SchemaFault::Token, &ROWS)
 }
 
 #[test]
 fn refuses_what_the_grammar_does_not_have(rt: HostRuntime) -> Result<(), Fail> {
-    let rows = [
+    const ROWS: [(&str, &str); 6] = [
         ("ENTITY a END_ENTITY;", "ENTITY a; END_ENTITY;"),
         (
             "ENTITY a; x : REAL END_ENTITY;",
@@ -67,12 +67,12 @@ fn refuses_what_the_grammar_does_not_have(rt: HostRuntime) -> Result<(), Fail> {
         ),
         ("END_SCHEMA; SCHEMA t;", "-- END_SCHEMA; SCHEMA t;\n"),
     ];
-    expect(&rt, rt.alloc(), SchemaFault::Syntax, &rows)
+    expect(&rt, rt.alloc(), SchemaFault::Syntax, &ROWS)
 }
 
 #[test]
 fn refuses_names_twice(rt: HostRuntime) -> Result<(), Fail> {
-    let rows = [
+    const ROWS: [(&str, &str); 7] = [
         (
             "ENTITY a; END_ENTITY; ENTITY A; END_ENTITY;",
             "ENTITY a; END_ENTITY; ENTITY aa; END_ENTITY;",
@@ -102,12 +102,12 @@ fn refuses_names_twice(rt: HostRuntime) -> Result<(), Fail> {
             "ENTITY r; END_ENTITY; ENTITY a SUBTYPE OF (r); END_ENTITY;",
         ),
     ];
-    expect(&rt, rt.alloc(), SchemaFault::Duplicate, &rows)
+    expect(&rt, rt.alloc(), SchemaFault::Duplicate, &ROWS)
 }
 
 #[test]
 fn refuses_attributes_twice(rt: HostRuntime) -> Result<(), Fail> {
-    let rows = [
+    const ROWS: [(&str, &str); 7] = [
         (
             "ENTITY a; x, y, X : REAL; END_ENTITY;",
             "ENTITY a; x, y, a : REAL; END_ENTITY;",
@@ -137,12 +137,12 @@ fn refuses_attributes_twice(rt: HostRuntime) -> Result<(), Fail> {
             "ENTITY r; k : REAL; END_ENTITY; ENTITY a SUBTYPE OF (r); k : REAL; END_ENTITY; ENTITY b SUBTYPE OF (a); SELF\\r.k, SELF\\a.k : REAL; END_ENTITY;",
         ),
     ];
-    expect(&rt, rt.alloc(), SchemaFault::Duplicate, &rows)
+    expect(&rt, rt.alloc(), SchemaFault::Duplicate, &ROWS)
 }
 
 #[test]
 fn refuses_names_that_are_not_declared(rt: HostRuntime) -> Result<(), Fail> {
-    let rows = [
+    const ROWS: [(&str, &str); 6] = [
         (
             "ENTITY a; x : foo; END_ENTITY;",
             "ENTITY a; x : foo; END_ENTITY; TYPE foo = REAL; END_TYPE;",
@@ -168,12 +168,12 @@ fn refuses_names_that_are_not_declared(rt: HostRuntime) -> Result<(), Fail> {
             "TYPE t = LIST OF SET OF t; END_TYPE;",
         ),
     ];
-    expect(&rt, rt.alloc(), SchemaFault::UnknownName, &rows)
+    expect(&rt, rt.alloc(), SchemaFault::UnknownName, &ROWS)
 }
 
 #[test]
 fn refuses_names_of_no_entity(rt: HostRuntime) -> Result<(), Fail> {
-    let rows = [
+    const ROWS: [(&str, &str); 5] = [
         (
             "ENTITY s SUPERTYPE OF (ONEOF (s, z)); END_ENTITY;",
             "ENTITY s SUPERTYPE OF (ONEOF (s, z)); END_ENTITY; ENTITY z; END_ENTITY;",
@@ -195,12 +195,12 @@ fn refuses_names_of_no_entity(rt: HostRuntime) -> Result<(), Fail> {
             "ENTITY r; k : REAL; END_ENTITY; ENTITY a SUBTYPE OF (r); SELF\\r.k : r; END_ENTITY;",
         ),
     ];
-    expect(&rt, rt.alloc(), SchemaFault::UnknownName, &rows)
+    expect(&rt, rt.alloc(), SchemaFault::UnknownName, &ROWS)
 }
 
 #[test]
 fn refuses_chains_that_come_back(rt: HostRuntime) -> Result<(), Fail> {
-    let rows = [
+    const ROWS: [(&str, &str); 7] = [
         (
             "ENTITY a SUBTYPE OF (b); END_ENTITY; ENTITY b SUBTYPE OF (a); END_ENTITY;",
             "ENTITY a SUBTYPE OF (b); END_ENTITY; ENTITY b; END_ENTITY;",
@@ -227,12 +227,12 @@ fn refuses_chains_that_come_back(rt: HostRuntime) -> Result<(), Fail> {
             "TYPE s = SELECT (t, u); END_TYPE; TYPE t = REAL; END_TYPE; TYPE u = SELECT (t); END_TYPE;",
         ),
     ];
-    expect(&rt, rt.alloc(), SchemaFault::Circular, &rows)
+    expect(&rt, rt.alloc(), SchemaFault::Circular, &ROWS)
 }
 
 #[test]
 fn refuses_what_is_left_out(rt: HostRuntime) -> Result<(), Fail> {
-    let rows = [
+    const ROWS: [(&str, &str); 7] = [
         ("USE FROM t;", "CONSTANT c : t := USE; END_CONSTANT;"),
         ("REFERENCE FROM t (a);", "(* REFERENCE FROM t (a); *)"),
         (
@@ -256,12 +256,12 @@ fn refuses_what_is_left_out(rt: HostRuntime) -> Result<(), Fail> {
             "ENTITY a; x : NUMBER; WHERE w : GENERIC; END_ENTITY;",
         ),
     ];
-    expect(&rt, rt.alloc(), SchemaFault::LeftOut, &rows)
+    expect(&rt, rt.alloc(), SchemaFault::LeftOut, &ROWS)
 }
 
 #[test]
 fn refuses_bounds_that_allow_nothing(rt: HostRuntime) -> Result<(), Fail> {
-    let rows = [
+    const ROWS: [(&str, &str); 7] = [
         (
             "ENTITY a; x : LIST [3:1] OF REAL; END_ENTITY;",
             "ENTITY a; x : LIST [1:3] OF REAL; END_ENTITY;",
@@ -291,12 +291,12 @@ fn refuses_bounds_that_allow_nothing(rt: HostRuntime) -> Result<(), Fail> {
             "TYPE t = ARRAY [0:4294967295] OF REAL; END_TYPE;",
         ),
     ];
-    expect(&rt, rt.alloc(), SchemaFault::Bounds, &rows)
+    expect(&rt, rt.alloc(), SchemaFault::Bounds, &ROWS)
 }
 
 #[test]
 fn refuses_redeclarations_of_no_place(rt: HostRuntime) -> Result<(), Fail> {
-    let rows = [
+    const ROWS: [(&str, &str); 6] = [
         (
             "ENTITY a; y : REAL; END_ENTITY; ENTITY b SUBTYPE OF (a); DERIVE SELF\\a.z : REAL := 0.0; END_ENTITY;",
             "ENTITY a; z : REAL; END_ENTITY; ENTITY b SUBTYPE OF (a); DERIVE SELF\\a.z : REAL := 0.0; END_ENTITY;",
@@ -322,12 +322,12 @@ fn refuses_redeclarations_of_no_place(rt: HostRuntime) -> Result<(), Fail> {
             "ENTITY a; z : REAL; END_ENTITY; ENTITY b SUBTYPE OF (a); END_ENTITY; ENTITY c SUBTYPE OF (b); SELF\\b.z : REAL; END_ENTITY;",
         ),
     ];
-    expect(&rt, rt.alloc(), SchemaFault::RedeclaredPlace, &rows)
+    expect(&rt, rt.alloc(), SchemaFault::RedeclaredPlace, &ROWS)
 }
 
 #[test]
 fn refuses_redeclarations_of_several_places(rt: HostRuntime) -> Result<(), Fail> {
-    let rows = [
+    const ROWS: [(&str, &str); 3] = [
         (
             "ENTITY p; k : REAL; END_ENTITY; ENTITY q; k : REAL; END_ENTITY; ENTITY a SUBTYPE OF (p, q); END_ENTITY; ENTITY b SUBTYPE OF (a); SELF\\a.k : REAL; END_ENTITY;",
             "ENTITY p; k : REAL; END_ENTITY; ENTITY q; k : REAL; END_ENTITY; ENTITY a SUBTYPE OF (p, q); END_ENTITY; ENTITY b SUBTYPE OF (a); SELF\\q.k : REAL; END_ENTITY;",
@@ -341,13 +341,13 @@ fn refuses_redeclarations_of_several_places(rt: HostRuntime) -> Result<(), Fail>
             "ENTITY p; k : REAL; END_ENTITY; ENTITY q; END_ENTITY; ENTITY a SUBTYPE OF (p, q); DERIVE k : REAL := 0.0; END_ENTITY; ENTITY b SUBTYPE OF (a); DERIVE SELF\\a.k : REAL := 0.0; END_ENTITY;",
         ),
     ];
-    expect(&rt, rt.alloc(), SchemaFault::RedeclaredPlace, &rows)
+    expect(&rt, rt.alloc(), SchemaFault::RedeclaredPlace, &ROWS)
 }
 
 /// A derived attribute that is derived anew has no place; only DERIVE may do that.
 #[test]
 fn reads_derived_attributes_that_are_derived_anew(rt: HostRuntime) -> Result<(), Fail> {
-    let rows = [
+    const ROWS: [(&str, &str); 3] = [
         (
             "ENTITY r; DERIVE z : REAL := 0.0; END_ENTITY; ENTITY a SUBTYPE OF (r); SELF\\r.z : REAL; END_ENTITY;",
             "ENTITY r; DERIVE z : REAL := 0.0; END_ENTITY; ENTITY a SUBTYPE OF (r); DERIVE SELF\\r.z : REAL := 1.0; END_ENTITY;",
@@ -361,7 +361,7 @@ fn reads_derived_attributes_that_are_derived_anew(rt: HostRuntime) -> Result<(),
             "ENTITY r; DERIVE z : REAL := 0.0; END_ENTITY; ENTITY a SUBTYPE OF (r); DERIVE SELF\\r.z : REAL := 1.0; SELF\\r.z : REAL := 2.0; END_ENTITY;",
         ),
     ];
-    expect(&rt, rt.alloc(), SchemaFault::RedeclaredPlace, &rows)
+    expect(&rt, rt.alloc(), SchemaFault::RedeclaredPlace, &ROWS)
 }
 
 /// Aggregate types, one in another.

@@ -6,7 +6,7 @@ use std::test::Fail;
 
 #[test]
 fn refuses_texts(rt: HostRuntime) {
-    let rows = [
+    const ROWS: [(&str, &str); 6] = [
         ("SCHEMA s; (* open END_SCHEMA;", "schema refused S1 Token\n"),
         ("SCHEMA s; END_SCHEMA", "schema refused S2 Syntax\n"),
         ("", "schema refused S2 Syntax\n"),
@@ -23,14 +23,14 @@ fn refuses_texts(rt: HostRuntime) {
             "schema refused S7 Bounds\n",
         ),
     ];
-    for (text, line) in rows {
+    for (text, line) in ROWS {
         expect_refused(&rt, rt.alloc(), text, line);
     }
 }
 
 #[test]
 fn refuses_schemas(rt: HostRuntime) {
-    let rows = [
+    const ROWS: [(&str, &str); 5] = [
         (
             "SCHEMA s; ENTITY a; END_ENTITY; ENTITY a; END_ENTITY; END_SCHEMA;",
             "schema refused S3 Duplicate\n",
@@ -52,7 +52,7 @@ fn refuses_schemas(rt: HostRuntime) {
             "schema refused S8 RedeclaredPlace\n",
         ),
     ];
-    for (text, line) in rows {
+    for (text, line) in ROWS {
         expect_refused(&rt, rt.alloc(), text, line);
     }
 }

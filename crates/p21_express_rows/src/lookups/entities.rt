@@ -73,8 +73,7 @@ fn expect_is_a(rt: &impl Abort, schema: &Schema, rows: &[(&str, &str, bool)]) {
 
 #[test]
 fn knows_supertypes(rt: HostRuntime) -> Result<(), Fail> {
-    let schema = read_schema(rt.alloc(), DIAMOND.as_bytes())?;
-    let rows = [
+    const ROWS: [(&str, &str, bool); 10] = [
         ("R", "R", true),
         ("A", "R", true),
         ("R", "A", false),
@@ -86,7 +85,8 @@ fn knows_supertypes(rt: HostRuntime) -> Result<(), Fail> {
         ("B", "C", false),
         ("D", "C", false),
     ];
-    expect_is_a(&rt, &schema, &rows);
+    let schema = read_schema(rt.alloc(), DIAMOND.as_bytes())?;
+    expect_is_a(&rt, &schema, &ROWS);
     Ok(())
 }
 
@@ -100,14 +100,14 @@ fn order_of(rt: &impl Abort, alloc: Global, schema: &Schema, name: &str) -> Resu
 
 #[test]
 fn puts_supertypes_first(rt: HostRuntime) -> Result<(), Fail> {
-    let schema = read_schema(rt.alloc(), DIAMOND.as_bytes())?;
-    let rows = [
+    const ROWS: [(&str, &str); 4] = [
         ("R", "R "),
         ("A", "R A "),
         ("C", "R A B C "),
         ("D", "R B A D "),
     ];
-    for (name, wanted) in rows {
+    let schema = read_schema(rt.alloc(), DIAMOND.as_bytes())?;
+    for (name, wanted) in ROWS {
         let order = order_of(&rt, rt.alloc(), &schema, name)?;
         assert_eq!(rt; order.as_str(), wanted, "{name}");
     }
@@ -129,8 +129,7 @@ pub(super) fn leaves_of(
 /// Also of sets that lack supertypes of their members, in any order.
 #[test]
 fn finds_leaves(rt: HostRuntime) -> Result<(), Fail> {
-    let schema = read_schema(rt.alloc(), DEMO.as_bytes())?;
-    let rows = [
+    const ROWS: [(&str, &str); 7] = [
         ("SHAPE POINT MARKED", "POINT MARKED "),
         ("MARKED POINT SHAPE", "MARKED POINT "),
         ("SHAPE POINT ORIGIN", "ORIGIN "),
@@ -139,7 +138,8 @@ fn finds_leaves(rt: HostRuntime) -> Result<(), Fail> {
         ("SHAPE", "SHAPE "),
         ("", ""),
     ];
-    for (names, wanted) in rows {
+    let schema = read_schema(rt.alloc(), DEMO.as_bytes())?;
+    for (names, wanted) in ROWS {
         let leaves = leaves_of(&rt, rt.alloc(), &schema, names)?;
         assert_eq!(rt; leaves.as_str(), wanted, "{names}");
     }
@@ -162,8 +162,7 @@ fn expect_clash(
 /// Also of sets that lack supertypes of their members.
 #[test]
 fn finds_clashes(rt: HostRuntime) -> Result<(), Fail> {
-    let schema = read_schema(rt.alloc(), ONE_OF.as_bytes())?;
-    let rows = [
+    const ROWS: [(&str, bool); 10] = [
         ("A B S", true),
         ("B A", true),
         ("A C S", false),
@@ -175,11 +174,19 @@ fn finds_clashes(rt: HostRuntime) -> Result<(), Fail> {
         ("S C", false),
         ("", false),
     ];
-    expect_clash(&rt, rt.alloc(), &schema, &rows)
+    let schema = read_schema(rt.alloc(), ONE_OF.as_bytes())?;
+    expect_clash(&rt, rt.alloc(), &schema, &ROWS)
 }
 
 #[test]
 fn knows_what_the_own_set_lacks(rt: HostRuntime) -> Result<(), Fail> {
+    const ROWS: [(&str, bool, bool, bool); 5] = [
+        ("R", false, false, false),
+        ("A", true, false, false),
+        ("B", false, false, false),
+        ("C", false, true, true),
+        ("D", false, false, true),
+    ];
     let text = "SCHEMA own;
 ENTITY r SUPERTYPE OF (ONEOF (a, b)); k : NUMBER; END_ENTITY;
 ENTITY a ABSTRACT SUBTYPE OF (r); SELF\\r.k : INTEGER; END_ENTITY;
@@ -189,14 +196,7 @@ ENTITY d SUBTYPE OF (c); SELF\\b.k : NUMBER; END_ENTITY;
 END_SCHEMA;
 ";
     let schema = read_schema(rt.alloc(), text.as_bytes())?;
-    let rows = [
-        ("R", false, false, false),
-        ("A", true, false, false),
-        ("B", false, false, false),
-        ("C", false, true, true),
-        ("D", false, false, true),
-    ];
-    for (name, is_abstract, leaves_open, clashes) in rows {
+    for (name, is_abstract, leaves_open, clashes) in ROWS {
         let faults = schema.own_faults(entity_named(&rt, &schema, name));
         assert_eq!(rt; faults.is_abstract, is_abstract, "{name}");
         assert_eq!(rt; faults.leaves_open, leaves_open, "{name}");

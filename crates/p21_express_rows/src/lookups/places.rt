@@ -26,15 +26,15 @@ fn places_of(rt: &impl Abort, alloc: Global, schema: &Schema, name: &str) -> Res
 
 #[test]
 fn lists_places(rt: HostRuntime) -> Result<(), Fail> {
-    let schema = read_schema(rt.alloc(), DEMO.as_bytes())?;
-    let rows = [
+    const ROWS: [(&str, &str); 5] = [
         ("SHAPE", "LABEL "),
         ("POINT", "LABEL X Y "),
         ("MARKED", "LABEL MARK "),
         ("ORIGIN", "LABEL X Y "),
         ("CLOUD", "MEMBERS SIZES VALUES "),
     ];
-    for (name, wanted) in rows {
+    let schema = read_schema(rt.alloc(), DEMO.as_bytes())?;
+    for (name, wanted) in ROWS {
         let places = places_of(&rt, rt.alloc(), &schema, name)?;
         assert_eq!(rt; places.as_str(), wanted, "{name}");
     }
@@ -88,14 +88,7 @@ fn knows_declared_types(rt: HostRuntime) -> Result<(), Fail> {
 
 #[test]
 fn knows_widths_and_bounds(rt: HostRuntime) -> Result<(), Fail> {
-    let text = "SCHEMA wide;
-ENTITY e; s : STRING(3); f : STRING(2) FIXED; b : BINARY(4);
-o : ARRAY [1:2] OF OPTIONAL INTEGER; n : BOOLEAN; u : ARRAY [0:7] OF UNIQUE LOGICAL;
-m : OPTIONAL NUMBER; END_ENTITY;
-END_SCHEMA;
-";
-    let schema = read_schema(rt.alloc(), text.as_bytes())?;
-    let rows = [
+    const ROWS: [&str; 7] = [
         "Stored(false, Text(Some(Width { most: 3, fixed: false })))",
         "Stored(false, Text(Some(Width { most: 2, fixed: true })))",
         "Stored(false, Bits(Some(Width { most: 4, fixed: false })))",
@@ -104,7 +97,14 @@ END_SCHEMA;
         "Stored(false, Array { low: 0, high: 7, optional: false, unique: true, element: Logical })",
         "Stored(true, Number)",
     ];
-    for (index, wanted) in rows.iter().enumerate() {
+    let text = "SCHEMA wide;
+ENTITY e; s : STRING(3); f : STRING(2) FIXED; b : BINARY(4);
+o : ARRAY [1:2] OF OPTIONAL INTEGER; n : BOOLEAN; u : ARRAY [0:7] OF UNIQUE LOGICAL;
+m : OPTIONAL NUMBER; END_ENTITY;
+END_SCHEMA;
+";
+    let schema = read_schema(rt.alloc(), text.as_bytes())?;
+    for (index, wanted) in ROWS.iter().enumerate() {
         let place = place_of(&rt, &schema, "E", index as u32);
         let found = type_at(&rt, rt.alloc(), &schema, "E", place)?;
         assert_eq!(rt; found.as_str(), *wanted, "{index}");
@@ -136,7 +136,7 @@ fn expect_at_r(rt: &impl Abort, alloc: Global, rows: &[(&str, &str)]) -> Result<
 
 #[test]
 fn knows_redeclared_types(rt: HostRuntime) -> Result<(), Fail> {
-    let rows = [
+    const ROWS: [(&str, &str); 11] = [
         ("R", "Stored(false, Number)"),
         ("R A", "Stored(false, Whole)"),
         ("R B", "Stored(false, Real)"),
@@ -149,13 +149,13 @@ fn knows_redeclared_types(rt: HostRuntime) -> Result<(), Fail> {
         ("R F", "Derived"),
         ("R A B F", "Derived"),
     ];
-    expect_at_r(&rt, rt.alloc(), &rows)
+    expect_at_r(&rt, rt.alloc(), &ROWS)
 }
 
 /// Entities without their supertypes, in any order.
 #[test]
 fn knows_types_at_parts_of_sets(rt: HostRuntime) -> Result<(), Fail> {
-    let rows = [
+    const ROWS: [(&str, &str); 10] = [
         ("", "Stored(false, Number)"),
         ("A", "Stored(false, Whole)"),
         ("B A", "Two"),
@@ -167,14 +167,12 @@ fn knows_types_at_parts_of_sets(rt: HostRuntime) -> Result<(), Fail> {
         ("E C", "Two"),
         ("F", "Derived"),
     ];
-    expect_at_r(&rt, rt.alloc(), &rows)
+    expect_at_r(&rt, rt.alloc(), &ROWS)
 }
 
 #[test]
 fn knows_types_in_own_sets(rt: HostRuntime) -> Result<(), Fail> {
-    let schema = read_schema(rt.alloc(), REDECLARED.as_bytes())?;
-    let place = place_of(&rt, &schema, "R", 0);
-    let rows = [
+    const ROWS: [(&str, &str); 7] = [
         ("R", "Stored(false, Number)"),
         ("A", "Stored(false, Whole)"),
         ("C", "Stored(true, Whole)"),
@@ -183,7 +181,9 @@ fn knows_types_in_own_sets(rt: HostRuntime) -> Result<(), Fail> {
         ("F", "Derived"),
         ("G", "Two"),
     ];
-    for (name, wanted) in rows {
+    let schema = read_schema(rt.alloc(), REDECLARED.as_bytes())?;
+    let place = place_of(&rt, &schema, "R", 0);
+    for (name, wanted) in ROWS {
         let entity = entity_named(&rt, &schema, name);
         let found = format!(in rt.alloc(); "{:?}", schema.own_type(entity, place))?;
         assert_eq!(rt; found.as_str(), wanted, "{name}");

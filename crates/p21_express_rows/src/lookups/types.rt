@@ -60,15 +60,15 @@ fn kind_of(alloc: Global, kind: &TypeKind) -> Result<String, Fail> {
 
 #[test]
 fn knows_what_types_are(rt: HostRuntime) -> Result<(), Fail> {
-    let schema = read_schema(rt.alloc(), DEMO.as_bytes())?;
-    let rows = [
+    const ROWS: [(&str, &str); 5] = [
         ("DISTANCE", "Real"),
         ("TALLY", "Whole"),
         ("COLOUR", "RED GREEN "),
         ("MEASURE", "[Defined(TypeId(0)), Defined(TypeId(1))]"),
         ("ITEM", "[Defined(TypeId(3)), Entity(EntityId(1))]"),
     ];
-    for (name, wanted) in rows {
+    let schema = read_schema(rt.alloc(), DEMO.as_bytes())?;
+    for (name, wanted) in ROWS {
         let kind = schema.type_kind(type_named(&rt, &schema, name));
         let found = kind_of(rt.alloc(), kind)?;
         assert_eq!(rt; found.as_str(), wanted, "{name}");
@@ -119,8 +119,7 @@ fn type_offered(rt: &impl Abort, schema: &Schema, of: TypeId, name: &str) -> boo
 
 #[test]
 fn knows_entities_that_selects_offer(rt: HostRuntime) -> Result<(), Fail> {
-    let schema = read_schema(rt.alloc(), CHAINS.as_bytes())?;
-    let rows = [
+    const ROWS: [(&str, bool); 7] = [
         ("S", true),
         ("T", true),
         ("U", true),
@@ -129,7 +128,8 @@ fn knows_entities_that_selects_offer(rt: HostRuntime) -> Result<(), Fail> {
         ("A", false),
         ("N", false),
     ];
-    for (name, wanted) in rows {
+    let schema = read_schema(rt.alloc(), CHAINS.as_bytes())?;
+    for (name, wanted) in ROWS {
         let of = type_named(&rt, &schema, name);
         assert_eq!(rt; schema.offers_entity(of), wanted, "{name}");
         assert_eq!(rt; entity_offered(&rt, &schema, of, "E"), wanted, "{name}");
@@ -140,8 +140,7 @@ fn knows_entities_that_selects_offer(rt: HostRuntime) -> Result<(), Fail> {
 
 #[test]
 fn knows_types_that_selects_offer(rt: HostRuntime) -> Result<(), Fail> {
-    let schema = read_schema(rt.alloc(), CHAINS.as_bytes())?;
-    let rows = [
+    const ROWS: [(&str, &str, bool); 11] = [
         ("S", "A", true),
         ("S", "M", true),
         ("S", "T", false),
@@ -154,7 +153,8 @@ fn knows_types_that_selects_offer(rt: HostRuntime) -> Result<(), Fail> {
         ("A", "B", false),
         ("A", "A", false),
     ];
-    for (name, other, wanted) in rows {
+    let schema = read_schema(rt.alloc(), CHAINS.as_bytes())?;
+    for (name, other, wanted) in ROWS {
         let of = type_named(&rt, &schema, name);
         assert_eq!(rt;
             type_offered(&rt, &schema, of, other),

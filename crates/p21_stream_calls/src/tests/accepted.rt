@@ -42,17 +42,17 @@ fn lines(rt: HostRuntime) -> Result<(), Fail> {
 
 #[test]
 fn knows_its_text(rt: HostRuntime) -> Result<(), Fail> {
-    let accepted = accepted_of(rt.alloc(), DEMO, "#2 = POINT($, 1.0, 10.E-1);")?.expect(
-        &rt,
-        "an accepted file",
-    );
-    let rows = [
+    const ROWS: [(&str, bool); 4] = [
         ("#2=POINT($,1.,1.);\n", true),
         ("#2=POINT($,1.,1.);", false),
         ("#2 = POINT($, 1.0, 10.E-1);\n", false),
         ("", false),
     ];
-    for (text, wanted) in rows {
+    let accepted = accepted_of(rt.alloc(), DEMO, "#2 = POINT($, 1.0, 10.E-1);")?.expect(
+        &rt,
+        "an accepted file",
+    );
+    for (text, wanted) in ROWS {
         let file = framed(rt.alloc(), DEMO, text)?;
         assert_eq!(rt; accepted.is_text(file.as_bytes()), wanted);
     }

@@ -65,7 +65,7 @@ fn of_texts(alloc: Global, schema: &Schema, first: &str, second: &str) -> Result
 
 #[test]
 fn same(rt: HostRuntime) -> Result<(), Fail> {
-    let rows = [
+    const ROWS: [(&str, &str); 8] = [
         ("", ""),
         ("#2 = POINT($, 1.0, 10.E-1);", "#2=POINT($,1.,1.);"),
         (
@@ -93,14 +93,14 @@ fn same(rt: HostRuntime) -> Result<(), Fail> {
             "#3=POINT($,1.,1.);#2=POINT($,1.,1.);#1=CLOUD((#03,#2),(),(#3));",
         ),
     ];
-    let others = comparing_other(rt.alloc(), DEMO, &rows, "same")?;
+    let others = comparing_other(rt.alloc(), DEMO, &ROWS, "same")?;
     assert_eq!(rt; others.as_str(), "");
     Ok(())
 }
 
 #[test]
 fn different_values(rt: HostRuntime) -> Result<(), Fail> {
-    let rows = [
+    const ROWS: [(&str, &str); 9] = [
         ("#2=POINT($,1.,1.);", ""),
         ("#2=POINT($,1.,1.);", "#2=POINT($,1.,1.01);"),
         ("#2=POINT($,1.,1.);", "#2=POINT($,1.,-1.);"),
@@ -111,14 +111,14 @@ fn different_values(rt: HostRuntime) -> Result<(), Fail> {
         ("#2=POINT($,1.,1.);", "#3=POINT($,1.,1.);"),
         ("#2=MARKED($,.RED.);", "#2=MARKED($,.GREEN.);"),
     ];
-    let others = comparing_other(rt.alloc(), DEMO, &rows, "different")?;
+    let others = comparing_other(rt.alloc(), DEMO, &ROWS, "different")?;
     assert_eq!(rt; others.as_str(), "");
     Ok(())
 }
 
 #[test]
 fn different_lists(rt: HostRuntime) -> Result<(), Fail> {
-    let rows = [
+    const ROWS: [(&str, &str); 8] = [
         (
             "#1=CLOUD((),((2.,1.),(3.)),(TALLY(1)));",
             "#1=CLOUD((),((1.),(2.,3.)),(TALLY(1)));",
@@ -152,14 +152,14 @@ fn different_lists(rt: HostRuntime) -> Result<(), Fail> {
             "#1=(MARKED(.RED.)POINT(1.,1.)SHAPE($));",
         ),
     ];
-    let others = comparing_other(rt.alloc(), DEMO, &rows, "different")?;
+    let others = comparing_other(rt.alloc(), DEMO, &ROWS, "different")?;
     assert_eq!(rt; others.as_str(), "");
     Ok(())
 }
 
 #[test]
 fn different_sections(rt: HostRuntime) -> Result<(), Fail> {
-    let rows = [
+    const ROWS: [(&str, &str); 5] = [
         ("DATA;ENDSEC;", "DATA('',('DEMO'));ENDSEC;"),
         ("DATA('a',('DEMO'));ENDSEC;", "DATA('b',('DEMO'));ENDSEC;"),
         ("DATA('a',('DEMO'));ENDSEC;", "DATA('a',('demo'));ENDSEC;"),
@@ -172,28 +172,28 @@ fn different_sections(rt: HostRuntime) -> Result<(), Fail> {
             "DATA('a',('DEMO'));ENDSEC;DATA('b',('DEMO'));ENDSEC;",
         ),
     ];
-    let others = comparing_other(rt.alloc(), SECTIONS, &rows, "different")?;
+    let others = comparing_other(rt.alloc(), SECTIONS, &ROWS, "different")?;
     assert_eq!(rt; others.as_str(), "");
     Ok(())
 }
 
 #[test]
 fn same_sections(rt: HostRuntime) -> Result<(), Fail> {
-    let rows = [
+    const ROWS: [(&str, &str); 2] = [
         (
             "DATA('b',('DEMO'));#1=POINT($,1.,1.);ENDSEC;DATA('a',('demo'));#2=POINT($,2.0,1.);ENDSEC;",
             "DATA('\\X\\61',('demo'));#2=POINT($,2.,1.);ENDSEC;DATA('b',('DEMO'));#01=POINT($,1.,1.);ENDSEC;",
         ),
         ("DATA;ENDSEC;", "DATA ; /* empty */ ENDSEC ;"),
     ];
-    let others = comparing_other(rt.alloc(), SECTIONS, &rows, "same")?;
+    let others = comparing_other(rt.alloc(), SECTIONS, &ROWS, "same")?;
     assert_eq!(rt; others.as_str(), "");
     Ok(())
 }
 
 #[test]
 fn different_headers(rt: HostRuntime) -> Result<(), Fail> {
-    let rows = [
+    const ROWS: [(&str, &str); 3] = [
         (
             "FILE_DESCRIPTION((''),'2;1');FILE_NAME('','',(''),(''),'','','');FILE_SCHEMA(('DEMO'));",
             "FILE_DESCRIPTION((''),'2;1');FILE_NAME('','',(''),(''),'','','');FILE_SCHEMA(('demo'));",
@@ -207,7 +207,7 @@ fn different_headers(rt: HostRuntime) -> Result<(), Fail> {
             "FILE_DESCRIPTION((''),'2;1');FILE_NAME('','',('b','a'),(''),'','','');FILE_SCHEMA(('DEMO'));",
         ),
     ];
-    let others = comparing_other(rt.alloc(), HEADER, &rows, "different")?;
+    let others = comparing_other(rt.alloc(), HEADER, &ROWS, "different")?;
     assert_eq!(rt; others.as_str(), "");
     Ok(())
 }

@@ -1,6 +1,6 @@
 use Rattle.std.proofs.lemmas.Result.{IfOk-weaker}
-use Rattle.p21.proofs.AddedCommands.{adds}
-use Rattle.p21.proofs.command_line.command_line.Goals as goal
+use Rattle.p21_command_line.proofs.AddedCommands.{adds}
+use Rattle.p21_command_line.proofs.commands.command_line.Goals as goal
 
 pub returns : goal.returns
 returns c =

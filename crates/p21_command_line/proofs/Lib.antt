@@ -1,0 +1,2 @@
+-- What the proofs of the command line share.
+mod AddedCommands

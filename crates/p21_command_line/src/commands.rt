@@ -1,0 +1,165 @@
+//! What the command line may say, and what its help says.
+ghost use Rattle.std.specs.Prelude.{◌≡◌, IfOk, codes, false};
+ghost use Rattle.clap.specs.Words.{app_of, rule_of};
+ghost use Rattle.clap.specs.declared.builder.command.Command.TheViews.{out-Command as fields_of};
+ghost use Rattle.p21_command_line.specs.CommandLine.{bare_app, canon_app, check_app, faults_app, given_rule, name_rule, param_app};
+ghost use Rattle.p21_command_line.specs.CommandLine.{program_app, same_app, schema_app, show_app};
+
+use crate::help;
+use clap::{Arg, ArgAction, Command, value_parser};
+use std::alloc::{AllocError, Global};
+
+/// The program with its commands.
+pub fn command_line<'a>(alloc: Global) -> Result<Command<'a>, AllocError>
+    ensures { IfOk result (λ command. app_of command ≡ program_app) }
+{
+    program(alloc)
+        .subcommand(param(alloc)?)?
+        .subcommand(schema(alloc)?)?
+        .subcommand(check(alloc)?)?
+        .subcommand(canon(alloc)?)?
+        .subcommand(show(alloc)?)?
+        .subcommand(same(alloc)?)?
+        .subcommand(faults(alloc))
+}
+
+/// The program, before its commands are added.
+fn program<'a>(alloc: Global) -> Command<'a>
+    ensures { app_of result ≡ bare_app }
+{
+    Command::new(alloc, "p21")
+        .about(
+            "Reads, checks and rewrites the clear text encoding of exchange structures (ISO 10303-21)",
+        )
+        .version(help::VERSION)
+        .after_help(help::PROGRAM)
+        .subcommand_required(true)
+}
+
+/// `param FILE`.
+fn param<'a>(alloc: Global) -> Result<Command<'a>, AllocError>
+    ensures app { IfOk result (λ command. app_of command ≡ param_app) }
+    ensures local { IfOk result (λ command. (fields_of command).has_globals ≡ false) }
+{
+    Command::new(alloc, "param")
+        .about("Prints the canonical spelling of one parameter")
+        .after_help(help::PARAM)
+        .arg(given(
+            alloc,
+            "FILE",
+            "Holds one scalar parameter, with separators around it or none",
+        ))
+}
+
+/// `schema S`.
+fn schema<'a>(alloc: Global) -> Result<Command<'a>, AllocError>
+    ensures app { IfOk result (λ command. app_of command ≡ schema_app) }
+    ensures local { IfOk result (λ command. (fields_of command).has_globals ≡ false) }
+{
+    Command::new(alloc, "schema")
+        .about("Prints the entities of a schema with their attributes")
+        .after_help(help::SCHEMA)
+        .arg(schema_path(alloc))
+}
+
+/// `check S FILE`.
+fn check<'a>(alloc: Global) -> Result<Command<'a>, AllocError>
+    ensures app { IfOk result (λ command. app_of command ≡ check_app) }
+    ensures local { IfOk result (λ command. (fields_of command).has_globals ≡ false) }
+{
+    Command::new(alloc, "check")
+        .about("Checks a file against a schema")
+        .after_help(help::CHECK)
+        .arg(schema_path(alloc))?
+        .arg(file_path(alloc))
+}
+
+/// `canon S FILE`.
+fn canon<'a>(alloc: Global) -> Result<Command<'a>, AllocError>
+    ensures app { IfOk result (λ command. app_of command ≡ canon_app) }
+    ensures local { IfOk result (λ command. (fields_of command).has_globals ≡ false) }
+{
+    Command::new(alloc, "canon")
+        .about("Prints the canonical file of a file")
+        .after_help(help::CANON)
+        .arg(schema_path(alloc))?
+        .arg(file_path(alloc))
+}
+
+/// `show S FILE --name N`.
+fn show<'a>(alloc: Global) -> Result<Command<'a>, AllocError>
+    ensures app { IfOk result (λ command. app_of command ≡ show_app) }
+    ensures local { IfOk result (λ command. (fields_of command).has_globals ≡ false) }
+{
+    Command::new(alloc, "show")
+        .about("Prints the canonical statement of one instance of a file")
+        .after_help(help::SHOW)
+        .arg(schema_path(alloc))?
+        .arg(file_path(alloc))?
+        .arg(name(alloc))
+}
+
+/// `same S A B`.
+fn same<'a>(alloc: Global) -> Result<Command<'a>, AllocError>
+    ensures app { IfOk result (λ command. app_of command ≡ same_app) }
+    ensures local { IfOk result (λ command. (fields_of command).has_globals ≡ false) }
+{
+    Command::new(alloc, "same")
+        .about("Says whether two files mean the same")
+        .after_help(help::SAME)
+        .arg(schema_path(alloc))?
+        .arg(given(alloc, "A", "The first file"))?
+        .arg(given(alloc, "B", "The second file"))
+}
+
+/// `faults`.
+fn faults<'a>(alloc: Global) -> Command<'a>
+    ensures app { app_of result ≡ faults_app }
+    ensures local { (fields_of result).has_globals ≡ false }
+{
+    Command::new(alloc, "faults")
+        .about("Lists the refusals with their numbers and names")
+        .after_help(help::FAULTS)
+}
+
+/// The path of a schema.
+fn schema_path<'a>(alloc: Global) -> Arg<'a>
+    ensures rule { rule_of result ≡ given_rule (codes "S") }
+    ensures local { result.global ≡ false }
+{
+    given(
+        alloc,
+        "S",
+        "Holds the schema, one in EXPRESS (ISO 10303-11)",
+    )
+}
+
+/// The path of a file of a schema.
+fn file_path<'a>(alloc: Global) -> Arg<'a>
+    ensures rule { rule_of result ≡ given_rule (codes "FILE") }
+    ensures local { result.global ≡ false }
+{
+    given(alloc, "FILE", "Holds the exchange structure")
+}
+
+/// `--name N`.
+fn name<'a>(alloc: Global) -> Arg<'a>
+    ensures rule { rule_of result ≡ name_rule }
+    ensures local { result.global ≡ false }
+{
+    given(alloc, "name", "The number of the instance, without #")
+        .long("name")
+        .value_name("N")
+        .value_parser(value_parser!(u64))
+}
+
+/// What has to be given, as one word.
+fn given<'a>(alloc: Global, id: &'a str, help: &'a str) -> Arg<'a>
+    ensures rule { rule_of result ≡ given_rule id.now }
+    ensures local { result.global ≡ false }
+{
+    Arg::new(alloc, id)
+        .help(help)
+        .required(true)
+        .action(ArgAction::Set)
+}
