@@ -22,7 +22,7 @@ fn expect_lines(
 
 #[test]
 fn counts_instances_and_bytes(rt: HostRuntime) -> Result<(), Fail> {
-    const CASES: [(&str, &str); 3] = [
+    let cases = [
         ("", "accepted, instances 0, canonical bytes 152\n"),
         (
             "#2 = POINT($, 1.0, 10.E-1);\n",
@@ -33,7 +33,7 @@ fn counts_instances_and_bytes(rt: HostRuntime) -> Result<(), Fail> {
             "accepted, instances 3, canonical bytes 210\n",
         ),
     ];
-    for (lines, answer) in CASES {
+    for (lines, answer) in cases {
         let file = file_of(rt.alloc(), DEMO, lines)?;
         expect_answer(&rt, &check(rt.alloc(), DEMO, &file), answer, lines);
     }
@@ -42,7 +42,7 @@ fn counts_instances_and_bytes(rt: HostRuntime) -> Result<(), Fail> {
 
 #[test]
 fn rewrites_scalars(rt: HostRuntime) -> Result<(), Fail> {
-    const CASES: [(&str, &str); 8] = [
+    let cases = [
         ("", ""),
         ("#2 = POINT($, 1.0, 10.E-1);\n", "#2=POINT($,1.,1.);\n"),
         (
@@ -61,7 +61,7 @@ fn rewrites_scalars(rt: HostRuntime) -> Result<(), Fail> {
         ("#1=ORIGIN($,*,2.);\n", "#1=ORIGIN($,*,2.);\n"),
         ("#1=POINT($,1.,1.);/* #9=NO(); */\n", "#1=POINT($,1.,1.);\n"),
     ];
-    for (lines, wanted) in CASES {
+    for (lines, wanted) in cases {
         expect_lines(&rt, rt.alloc(), DEMO, lines, wanted)?;
     }
     Ok(())
@@ -69,7 +69,7 @@ fn rewrites_scalars(rt: HostRuntime) -> Result<(), Fail> {
 
 #[test]
 fn sorts_instances_and_elements(rt: HostRuntime) -> Result<(), Fail> {
-    const CASES: [(&str, &str); 5] = [
+    let cases = [
         (
             "#1=CLOUD((),((2.,1.),(),(1.0,2.)),(TALLY(1)));\n",
             "#1=CLOUD((),((),(1.,2.),(1.,2.)),(TALLY(1)));\n",
@@ -91,7 +91,7 @@ fn sorts_instances_and_elements(rt: HostRuntime) -> Result<(), Fail> {
             "#1=CLOUD((),(),(DISTANCE(1.),TALLY(1),#2));\n#2=POINT($,1.,1.);\n",
         ),
     ];
-    for (lines, wanted) in CASES {
+    for (lines, wanted) in cases {
         expect_lines(&rt, rt.alloc(), DEMO, lines, wanted)?;
     }
     Ok(())
@@ -99,7 +99,7 @@ fn sorts_instances_and_elements(rt: HostRuntime) -> Result<(), Fail> {
 
 #[test]
 fn rewrites_both_mappings(rt: HostRuntime) -> Result<(), Fail> {
-    const CASES: [(&str, &str); 4] = [
+    let cases = [
         ("#1=(POINT(1.,2.)SHAPE('a'));\n", "#1=POINT('a',1.,2.);\n"),
         (
             "#1=(SHAPE($)POINT(1.,2.)MARKED(.RED.));\n",
@@ -114,7 +114,7 @@ fn rewrites_both_mappings(rt: HostRuntime) -> Result<(), Fail> {
             "#1=(CLOUD((),(),(TALLY(1)))POINT(1.,2.)SHAPE($));\n",
         ),
     ];
-    for (lines, wanted) in CASES {
+    for (lines, wanted) in cases {
         expect_lines(&rt, rt.alloc(), DEMO, lines, wanted)?;
     }
     Ok(())
@@ -143,15 +143,15 @@ fn rewrites_redeclared_and_bounded_values(rt: HostRuntime) -> Result<(), Fail> {
 
 #[test]
 fn shows_one_instance(rt: HostRuntime) -> Result<(), Fail> {
-    const CASES: [(u64, &str); 3] = [
+    let lines =
+        "#2 = POINT($, 1.0, 10.E-1);\n#18446744073709551615=ORIGIN('b',*,2.50);\n#0=(POINT(1.,2.)SHAPE('a'));\n";
+    let file = file_of(rt.alloc(), DEMO, lines)?;
+    let cases = [
         (0, "#0=POINT('a',1.,2.);\n"),
         (2, "#2=POINT($,1.,1.);\n"),
         (u64::MAX, "#18446744073709551615=ORIGIN('b',*,2.5);\n"),
     ];
-    let lines =
-        "#2 = POINT($, 1.0, 10.E-1);\n#18446744073709551615=ORIGIN('b',*,2.50);\n#0=(POINT(1.,2.)SHAPE('a'));\n";
-    let file = file_of(rt.alloc(), DEMO, lines)?;
-    for (name, answer) in CASES {
+    for (name, answer) in cases {
         expect_answer(&rt, &show(rt.alloc(), DEMO, &file, name), answer, answer);
     }
     Ok(())
@@ -159,15 +159,15 @@ fn shows_one_instance(rt: HostRuntime) -> Result<(), Fail> {
 
 #[test]
 fn shows_no_instance_of_another_name(rt: HostRuntime) -> Result<(), Fail> {
-    const CASES: [(u64, &str); 5] = [
+    let file = file_of(rt.alloc(), DEMO, "#2 = POINT($, 1.0, 10.E-1);\n")?;
+    let cases = [
         (0, "no #0\n"),
         (1, "no #1\n"),
         (3, "no #3\n"),
         (22, "no #22\n"),
         (u64::MAX, "no #18446744073709551615\n"),
     ];
-    let file = file_of(rt.alloc(), DEMO, "#2 = POINT($, 1.0, 10.E-1);\n")?;
-    for (name, line) in CASES {
+    for (name, line) in cases {
         expect_refusal(&rt, &show(rt.alloc(), DEMO, &file, name), line, line);
     }
     Ok(())

@@ -27,7 +27,7 @@ fn expect_different(rt: &impl Abort, alloc: Global, first: &str, second: &str) -
 
 #[test]
 fn finds_the_same_meaning(rt: HostRuntime) -> Result<(), Fail> {
-    const CASES: [(&str, &str); 6] = [
+    let cases = [
         ("", ""),
         ("#2 = POINT($, 1.0, 10.E-1);\n", "#2=POINT($,1.,1.);\n"),
         (
@@ -47,7 +47,7 @@ fn finds_the_same_meaning(rt: HostRuntime) -> Result<(), Fail> {
             "#3=ORIGIN($,*,1.);#2=POINT($,1.,1.);#1=CLOUD((#03,#02),(),(#3));",
         ),
     ];
-    for (first, second) in CASES {
+    for (first, second) in cases {
         expect_same(&rt, rt.alloc(), first, second)?;
     }
     Ok(())
@@ -55,7 +55,7 @@ fn finds_the_same_meaning(rt: HostRuntime) -> Result<(), Fail> {
 
 #[test]
 fn finds_different_meanings(rt: HostRuntime) -> Result<(), Fail> {
-    const CASES: [(&str, &str); 7] = [
+    let cases = [
         ("#2=POINT($,1.,1.);\n", ""),
         ("#2=POINT($,1.,1.);\n", "#3=POINT($,1.,1.);\n"),
         ("#2=POINT($,1.,1.);\n", "#2=POINT($,1.,2.);\n"),
@@ -70,7 +70,7 @@ fn finds_different_meanings(rt: HostRuntime) -> Result<(), Fail> {
             "#2=(MARKED(.RED.)POINT(1.,1.)SHAPE($));\n",
         ),
     ];
-    for (first, second) in CASES {
+    for (first, second) in cases {
         expect_different(&rt, rt.alloc(), first, second)?;
     }
     Ok(())
@@ -78,7 +78,7 @@ fn finds_different_meanings(rt: HostRuntime) -> Result<(), Fail> {
 
 #[test]
 fn finds_different_elements_and_references(rt: HostRuntime) -> Result<(), Fail> {
-    const CASES: [(&str, &str); 5] = [
+    let cases = [
         (
             "#1=CLOUD((),((2.,1.),(3.)),(TALLY(1)));\n",
             "#1=CLOUD((),((1.),(2.,3.)),(TALLY(1)));\n",
@@ -100,7 +100,7 @@ fn finds_different_elements_and_references(rt: HostRuntime) -> Result<(), Fail> 
             "#1=CLOUD((#3),(),(#2));#2=POINT($,1.,1.);#3=POINT($,1.,1.);",
         ),
     ];
-    for (first, second) in CASES {
+    for (first, second) in cases {
         expect_different(&rt, rt.alloc(), first, second)?;
     }
     Ok(())
@@ -108,13 +108,13 @@ fn finds_different_elements_and_references(rt: HostRuntime) -> Result<(), Fail> 
 
 #[test]
 fn compares_headers_as_they_stand(rt: HostRuntime) -> Result<(), Fail> {
-    const CASES: [(&str, &str); 4] = [
+    let cases = [
         ("('DEMO')", "('demo')"),
         ("'2;1'", "'2;2'"),
         ("('')", "()"),
         ("('DEMO'));", "('DEMO'));!A(1);"),
     ];
-    for (from, to) in CASES {
+    for (from, to) in cases {
         let other = EMPTY.replacen(rt.alloc(), from, to, 1)?;
         let compared = same(rt.alloc(), DEMO, EMPTY, &other);
         expect(&rt, &compared, 1, "different\n", "", to);

@@ -11,7 +11,7 @@ fn replaced(alloc: Global, from: &str, to: &str) -> Result<String, Fail> {
 
 #[test]
 fn keeps_headers(rt: HostRuntime) -> Result<(), Fail> {
-    const CASES: [(&str, &str); 5] = [
+    let cases = [
         ("FILE_SCHEMA(('DEMO'));", "FILE_SCHEMA(('demo'));"),
         (
             "FILE_SCHEMA(('DEMO'));",
@@ -24,7 +24,7 @@ fn keeps_headers(rt: HostRuntime) -> Result<(), Fail> {
             "FILE_SCHEMA(('DEMO'));\n!MY_RECORD(1.,.A.);",
         ),
     ];
-    for (from, to) in CASES {
+    for (from, to) in cases {
         let file = replaced(rt.alloc(), from, to)?;
         expect_answer(&rt, &canon(rt.alloc(), DEMO, &file), &file, to);
     }
@@ -33,7 +33,7 @@ fn keeps_headers(rt: HostRuntime) -> Result<(), Fail> {
 
 #[test]
 fn rewrites_headers(rt: HostRuntime) -> Result<(), Fail> {
-    const CASES: [(&str, &str, &str); 6] = [
+    let cases = [
         (
             "FILE_DESCRIPTION((''),'2;1');",
             "/* first */ FILE_DESCRIPTION ( ( '\\X\\E9' ) , '2;1' ) ;",
@@ -61,7 +61,7 @@ fn rewrites_headers(rt: HostRuntime) -> Result<(), Fail> {
             "END-ISO-10303-21;\n",
         ),
     ];
-    for (line, written, canonical) in CASES {
+    for (line, written, canonical) in cases {
         let file = replaced(rt.alloc(), line, written)?;
         let wanted = replaced(rt.alloc(), line, canonical)?;
         expect_answer(&rt, &canon(rt.alloc(), DEMO, &file), &wanted, written);
@@ -109,7 +109,7 @@ END-ISO-10303-21;
 
 #[test]
 fn refuses_headers(rt: HostRuntime) -> Result<(), Fail> {
-    const CASES: [(&str, &str, &str); 7] = [
+    let cases = [
         (
             "('DEMO')",
             "('OTHER')",
@@ -138,7 +138,7 @@ fn refuses_headers(rt: HostRuntime) -> Result<(), Fail> {
         ),
         ("'2;1'", "#1", "refused 20 Unexpected at statement 3\n"),
     ];
-    for (from, to, line) in CASES {
+    for (from, to, line) in cases {
         let file = replaced(rt.alloc(), from, to)?;
         expect_refusal(&rt, &check(rt.alloc(), DEMO, &file), line, to);
     }

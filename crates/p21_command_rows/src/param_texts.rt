@@ -32,7 +32,7 @@ impl Read for EndlessReader {
 
 #[test]
 fn answers(rt: HostRuntime) {
-    const CASES: [(&[u8], &[u8]); 9] = [
+    let cases: [(&[u8], &[u8]); 9] = [
         (b"+012.500E+03", b"1.25E4\n"),
         (b" +007\n", b"7\n"),
         (b"-0", b"0\n"),
@@ -43,7 +43,7 @@ fn answers(rt: HostRuntime) {
         (b".T.", b".T.\n"),
         (b"\t\r\n.RED.\x7f", b".RED.\n"),
     ];
-    for (text, want) in CASES {
+    for (text, want) in cases {
         let run = run_over(rt.alloc(), &mut &text[..]);
         assert_eq!(rt; run.status, 0, "{text:?}");
         assert_eq!(rt; run.output.as_slice(), want);
@@ -53,7 +53,7 @@ fn answers(rt: HostRuntime) {
 
 #[test]
 fn refuses(rt: HostRuntime) {
-    const CASES: [(&[u8], &[u8]); 9] = [
+    let cases: [(&[u8], &[u8]); 9] = [
         (b"10.E9999", b"refused 8 NumberRange\n"),
         (b"0.E1000000000", b"refused 8 NumberRange\n"),
         (b"1.E", b"refused 24 EndsEarly\n"),
@@ -64,7 +64,7 @@ fn refuses(rt: HostRuntime) {
         (b".t.", b"refused 1 BadByte\n"),
         (b"+", b"refused 24 EndsEarly\n"),
     ];
-    for (text, want) in CASES {
+    for (text, want) in cases {
         let run = run_over(rt.alloc(), &mut &text[..]);
         assert_eq!(rt; run.status, 1, "{text:?}");
         assert!(rt; run.output.is_empty());
@@ -94,8 +94,8 @@ fn reads_no_more_than_one_byte_too_many(rt: HostRuntime) {
 
 #[test]
 fn shows_read_faults(rt: HostRuntime) {
-    const CASES: [&[u8]; 3] = [b"", b"+012.5", b"+012.500E+03\n"];
-    for bytes in CASES {
+    let cases: [&[u8]; 3] = [b"", b"+012.5", b"+012.500E+03\n"];
+    for bytes in cases {
         let run = run_over(rt.alloc(), &mut FailingReader { bytes, most: 1 });
         assert_eq!(rt; run.status, 3);
         assert!(rt; run.output.is_empty());

@@ -22,7 +22,7 @@ fn expect_refused(
 
 #[test]
 fn refuses_bytes_and_tokens(rt: HostRuntime) -> Result<(), Fail> {
-    const CASES: [(&str, &str); 7] = [
+    let cases = [
         ("#1=point();\n", "refused 1 BadByte at statement 8\n"),
         (
             "\\N\\#1=POINT($,1.,1.);\n",
@@ -46,7 +46,7 @@ fn refuses_bytes_and_tokens(rt: HostRuntime) -> Result<(), Fail> {
         ),
         ("#)", "refused 11 BadName at statement 8\n"),
     ];
-    for (lines, line) in CASES {
+    for (lines, line) in cases {
         expect_refused(&rt, rt.alloc(), DEMO, lines, line)?;
     }
     Ok(())
@@ -54,7 +54,7 @@ fn refuses_bytes_and_tokens(rt: HostRuntime) -> Result<(), Fail> {
 
 #[test]
 fn refuses_statements(rt: HostRuntime) -> Result<(), Fail> {
-    const CASES: [(&str, &str); 7] = [
+    let cases = [
         ("#1=POINT(;\n", "refused 20 Unexpected at statement 8\n"),
         ("X=", "refused 20 Unexpected at statement 8\n"),
         (
@@ -72,7 +72,7 @@ fn refuses_statements(rt: HostRuntime) -> Result<(), Fail> {
             "refused 26 LeftOut(ConstantName) at statement 8\n",
         ),
     ];
-    for (lines, line) in CASES {
+    for (lines, line) in cases {
         expect_refused(&rt, rt.alloc(), DEMO, lines, line)?;
     }
     Ok(())
@@ -80,7 +80,7 @@ fn refuses_statements(rt: HostRuntime) -> Result<(), Fail> {
 
 #[test]
 fn refuses_records(rt: HostRuntime) -> Result<(), Fail> {
-    const CASES: [(&str, &str); 8] = [
+    let cases = [
         ("#1=FOO();\n", "refused 41 UnknownEntity in #1\n"),
         ("#1=SHAPE($);\n", "refused 42 Abstract in #1\n"),
         ("#1=(SHAPE('a'));\n", "refused 42 Abstract in #1\n"),
@@ -99,7 +99,7 @@ fn refuses_records(rt: HostRuntime) -> Result<(), Fail> {
         ("#1=POINT($,1.);\n", "refused 45 Count in #1\n"),
         ("#1=(POINT(1.)SHAPE('a'));\n", "refused 45 Count in #1\n"),
     ];
-    for (lines, line) in CASES {
+    for (lines, line) in cases {
         expect_refused(&rt, rt.alloc(), DEMO, lines, line)?;
     }
     Ok(())
@@ -107,7 +107,7 @@ fn refuses_records(rt: HostRuntime) -> Result<(), Fail> {
 
 #[test]
 fn refuses_values(rt: HostRuntime) -> Result<(), Fail> {
-    const CASES: [(&str, &str); 9] = [
+    let cases = [
         ("#1=POINT($,$,2.);\n", "refused 46 Missing in #1\n"),
         ("#1=POINT($,*,2.);\n", "refused 47 StarNotDerived in #1\n"),
         ("#1=ORIGIN($,0.,2.);\n", "refused 48 DerivedNotStar in #1\n"),
@@ -127,7 +127,7 @@ fn refuses_values(rt: HostRuntime) -> Result<(), Fail> {
             "refused 54 SelectType in #1\n",
         ),
     ];
-    for (lines, line) in CASES {
+    for (lines, line) in cases {
         expect_refused(&rt, rt.alloc(), DEMO, lines, line)?;
     }
     Ok(())
@@ -182,7 +182,7 @@ fn refuses_widths_items_and_redeclarations(rt: HostRuntime) -> Result<(), Fail> 
 
 #[test]
 fn refuses_names_and_references(rt: HostRuntime) -> Result<(), Fail> {
-    const CASES: [(&str, &str); 4] = [
+    let cases = [
         (
             "#1=POINT($,1.,1.);\n#01=POINT($,1.,1.);\n",
             "refused 40 DuplicateName in #1\n",
@@ -200,7 +200,7 @@ fn refuses_names_and_references(rt: HostRuntime) -> Result<(), Fail> {
             "refused 56 Dangling in #5\n",
         ),
     ];
-    for (lines, line) in CASES {
+    for (lines, line) in cases {
         expect_refused(&rt, rt.alloc(), DEMO, lines, line)?;
     }
     Ok(())

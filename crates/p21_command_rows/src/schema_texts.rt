@@ -44,8 +44,8 @@ const PRINTED_DIAMOND: &str = "SCHEMA DIAMOND\nR(K)\nA(K,P)\nB(K,Q)\nC(K,P,Q,Z)\
 
 #[test]
 fn shows_read_faults(rt: HostRuntime) {
-    const TEXTS: [&[u8]; 4] = [b"", b"SCHEMA", b"SCHEMA s; END_SCHEMA;", b"END_SCHEMA"];
-    for bytes in TEXTS {
+    let texts: [&[u8]; 4] = [b"", b"SCHEMA", b"SCHEMA s; END_SCHEMA;", b"END_SCHEMA"];
+    for bytes in texts {
         let run = run_over(rt.alloc(), &mut FailingReader { bytes, most: 1 });
         assert_eq!(rt; run.status, 3);
         assert!(rt; run.output.is_empty());

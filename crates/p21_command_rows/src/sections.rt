@@ -83,7 +83,7 @@ fn refers_across_sections(rt: HostRuntime) -> Result<(), Fail> {
 
 #[test]
 fn refuses_sections(rt: HostRuntime) -> Result<(), Fail> {
-    const CASES: [(&str, &str); 8] = [
+    let cases = [
         (
             "DATA('b',('DEMO'));\n#1=POINT($,1.,1.);\nENDSEC;\nDATA('a',('DEMO'));\n#1=POINT($,1.,1.);\nENDSEC;\n",
             "refused 40 DuplicateName in #1\n",
@@ -114,7 +114,7 @@ fn refuses_sections(rt: HostRuntime) -> Result<(), Fail> {
             "refused 26 LeftOut(SecondSection) at statement 9\n",
         ),
     ];
-    for (lines, line) in CASES {
+    for (lines, line) in cases {
         let file = file_with_sections(rt.alloc(), lines)?;
         expect_refusal(&rt, &check(rt.alloc(), DEMO, &file), line, lines);
     }

@@ -69,7 +69,7 @@ fn prints_a_schema_with_one_of(rt: HostRuntime) {
 
 #[test]
 fn prints_small_schemas(rt: HostRuntime) {
-    const ROWS: [(&str, &str); 6] = [
+    let rows = [
         ("SCHEMA s; END_SCHEMA;", "SCHEMA S\n"),
         (
             "(* a (* b *) c *) SCHEMA t 'v1'; FUNCTION f : REAL; FUNCTION g : REAL; END_FUNCTION; END_FUNCTION; END_SCHEMA; -- end",
@@ -92,7 +92,7 @@ fn prints_small_schemas(rt: HostRuntime) {
             "SCHEMA S\n",
         ),
     ];
-    for (text, wanted) in ROWS {
+    for (text, wanted) in rows {
         expect_printed(&rt, rt.alloc(), text, wanted);
     }
 }
@@ -100,7 +100,7 @@ fn prints_small_schemas(rt: HostRuntime) {
 /// A place is derived in the entities below the one that derives it, and not beside or above it.
 #[test]
 fn prints_stars_for_derived_places(rt: HostRuntime) {
-    const ROWS: [(&str, &str); 4] = [
+    let rows = [
         (
             "SCHEMA s; ENTITY r; k, l : REAL; END_ENTITY; ENTITY a SUBTYPE OF (r); DERIVE SELF\\r.l : REAL := 0.0; END_ENTITY; ENTITY b SUBTYPE OF (r); END_ENTITY; ENTITY c SUBTYPE OF (b, a); m : REAL; END_ENTITY; END_SCHEMA;",
             "SCHEMA S\nR(K,L)\nA(K,*)\nB(K,L)\nC(K,*,M)\n",
@@ -118,7 +118,7 @@ fn prints_stars_for_derived_places(rt: HostRuntime) {
             "SCHEMA S\nR(K)\nA(K)\nB(K)\nC(K)\n",
         ),
     ];
-    for (text, wanted) in ROWS {
+    for (text, wanted) in rows {
         expect_printed(&rt, rt.alloc(), text, wanted);
     }
 }

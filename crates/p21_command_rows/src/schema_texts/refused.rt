@@ -6,7 +6,7 @@ use std::test::Fail;
 
 #[test]
 fn refuses_texts(rt: HostRuntime) {
-    const ROWS: [(&str, &str); 6] = [
+    let rows = [
         ("SCHEMA s; (* open END_SCHEMA;", "schema refused S1 Token\n"),
         ("SCHEMA s; END_SCHEMA", "schema refused S2 Syntax\n"),
         ("", "schema refused S2 Syntax\n"),
@@ -23,14 +23,14 @@ fn refuses_texts(rt: HostRuntime) {
             "schema refused S7 Bounds\n",
         ),
     ];
-    for (text, line) in ROWS {
+    for (text, line) in rows {
         expect_refused(&rt, rt.alloc(), text, line);
     }
 }
 
 #[test]
 fn refuses_schemas(rt: HostRuntime) {
-    const ROWS: [(&str, &str); 5] = [
+    let rows = [
         (
             "SCHEMA s; ENTITY a; END_ENTITY; ENTITY a; END_ENTITY; END_SCHEMA;",
             "schema refused S3 Duplicate\n",
@@ -52,7 +52,7 @@ fn refuses_schemas(rt: HostRuntime) {
             "schema refused S8 RedeclaredPlace\n",
         ),
     ];
-    for (text, line) in ROWS {
+    for (text, line) in rows {
         expect_refused(&rt, rt.alloc(), text, line);
     }
 }

@@ -21,7 +21,7 @@ fn gives_statements(rt: HostRuntime) -> Result<(), Fail> {
 
 #[test]
 fn reads_sections(rt: HostRuntime) -> Result<(), Fail> {
-    const CASES: [(&str, &str); 29] = [
+    let cases = [
         ("DATA;ENDSEC;END-ISO-10303-21;", "data end finish "),
         (
             "DATA;#1=(B()A(1));ENDSEC;END-ISO-10303-21;",
@@ -73,7 +73,7 @@ fn reads_sections(rt: HostRuntime) -> Result<(), Fail> {
         ("DATA;#1=A(B());", "data Unexpected"),
         ("DATA;X=", "data Unexpected"),
     ];
-    for (text, expected) in CASES {
+    for (text, expected) in cases {
         let found = answers(&rt, HEAD, text)?;
         assert_eq!(rt; found.as_slice(), expected.as_bytes(), "{text}");
     }
@@ -130,7 +130,7 @@ fn feed_all_of_header(reader: &mut Reader, text: &str) -> Result<(), Fail> {
 
 #[test]
 fn reads_headers(rt: HostRuntime) -> Result<(), Fail> {
-    const CASES: [(&str, &str); 16] = [
+    let cases = [
         (
             "FILE_DESCRIPTION($,$);FILE_NAME($,$,$,(),$,$,$);FILE_SCHEMA(('demo'));ENDSEC;",
             "end EndsEarly",
@@ -172,7 +172,7 @@ fn reads_headers(rt: HostRuntime) -> Result<(), Fail> {
         ("FILE_DESCRIPTION((''),#1 ,", "Unexpected"),
         ("DATA;", "Unexpected"),
     ];
-    for (text, expected) in CASES {
+    for (text, expected) in cases {
         let found = refusal(&rt, text)?;
         assert_eq!(rt; found.as_slice(), expected.as_bytes(), "{text}");
     }
@@ -404,15 +404,15 @@ fn ends_early(rt: HostRuntime) -> Result<(), Fail> {
 
 /// Takes each of these tokens behind a refusal, and looks that it is answered.
 fn repeats(parser: &mut Parser, fault: GrammarFault) -> bool {
-    const TOKENS: [Token; 5] = [
+    let depth = parser.depth();
+    let tokens = [
         Token::Semicolon,
         Token::Left,
         Token::Right,
         Token::Begin,
         Token::Finish,
     ];
-    let depth = parser.depth();
-    for token in TOKENS {
+    for token in tokens {
         if parser.take(token).err() != Some(fault) {
             return false;
         }

@@ -58,7 +58,7 @@ fn row(rt: &HostRuntime, first: &str, before: &str, kinds: &[&str]) -> Result<Ve
 
 #[test]
 fn takes_tokens_in_the_header(rt: HostRuntime) -> Result<(), Fail> {
-    const CASES: [(&str, &str); 22] = [
+    let cases = [
         ("", ".xxxxxxxxxxxxxxxx"),
         ("ISO-10303-21 ", "xxxxxxxxxxxxxExxx"),
         ("ISO-10303-21;", "xxxxxxxxxxxxxxxxx"),
@@ -88,7 +88,7 @@ fn takes_tokens_in_the_header(rt: HostRuntime) -> Result<(), Fail> {
             "xx..xxxxxxxxxxxxx",
         ),
     ];
-    for (before, letters) in CASES {
+    for (before, letters) in cases {
         let found = row(&rt, before, "", &KINDS)?;
         assert_eq!(rt; found.as_slice(), letters.as_bytes(), "{before}");
     }
@@ -97,7 +97,9 @@ fn takes_tokens_in_the_header(rt: HostRuntime) -> Result<(), Fail> {
 
 #[test]
 fn takes_tokens_behind_the_schema_of_the_header(rt: HostRuntime) -> Result<(), Fail> {
-    const CASES: [(&str, &str); 7] = [
+    let first =
+        "ISO-10303-21;HEADER;FILE_DESCRIPTION($,$);FILE_NAME($,$,$,$,$,$,$);FILE_SCHEMA(('S'));";
+    let cases = [
         ("", "xx..xxxxxxxxxxxxx"),
         ("K(1)", "xxxxxxxxxxxxxExxx"),
         ("!K()", "xxxxxxxxxxxxxExxx"),
@@ -106,9 +108,7 @@ fn takes_tokens_behind_the_schema_of_the_header(rt: HostRuntime) -> Result<(), F
         ("ENDSEC ", "xxxxxxxxxx.xxExxx"),
         ("ENDSEC()", "xxxxxxxxxxxxxExxx"),
     ];
-    let first =
-        "ISO-10303-21;HEADER;FILE_DESCRIPTION($,$);FILE_NAME($,$,$,$,$,$,$);FILE_SCHEMA(('S'));";
-    for (before, letters) in CASES {
+    for (before, letters) in cases {
         let found = row(&rt, first, before, &KINDS)?;
         assert_eq!(rt; found.as_slice(), letters.as_bytes(), "{before}");
     }
@@ -117,7 +117,7 @@ fn takes_tokens_behind_the_schema_of_the_header(rt: HostRuntime) -> Result<(), F
 
 #[test]
 fn takes_tokens_in_data(rt: HostRuntime) -> Result<(), Fail> {
-    const CASES: [(&str, &str); 29] = [
+    let cases = [
         ("", "xnxxxxxxxxxxxxxxx"),
         ("DATA ", "xxxxxxxxxx.xxExxx"),
         ("DATA;", "xxxu.xxxxxxxxxxxx"),
@@ -148,7 +148,7 @@ fn takes_tokens_in_data(rt: HostRuntime) -> Result<(), Fail> {
         ("DATA;ENDSEC;END-ISO-10303-21 ", "xxxxxxxxxxxxxExxx"),
         ("DATA;ENDSEC;END-ISO-10303-21;", "eeeeeeeeeeeeeeeee"),
     ];
-    for (before, letters) in CASES {
+    for (before, letters) in cases {
         let found = row(&rt, HEAD, before, &KINDS)?;
         assert_eq!(rt; found.as_slice(), letters.as_bytes(), "{before}");
     }
@@ -157,7 +157,7 @@ fn takes_tokens_in_data(rt: HostRuntime) -> Result<(), Fail> {
 
 #[test]
 fn takes_tokens_in_sections_with_a_name(rt: HostRuntime) -> Result<(), Fail> {
-    const CASES: [(&str, &str); 19] = [
+    let cases = [
         ("DATA(", "xx.u........xxx.."),
         ("DATA()", "xxxxxxxxxxxxxsxxx"),
         ("DATA('a' ", "xxxuxxxxxxx..xxxx"),
@@ -187,7 +187,7 @@ fn takes_tokens_in_sections_with_a_name(rt: HostRuntime) -> Result<(), Fail> {
             "eeeeeeeeeeeeeeeee",
         ),
     ];
-    for (before, letters) in CASES {
+    for (before, letters) in cases {
         let found = row(&rt, HEAD, before, &KINDS)?;
         assert_eq!(rt; found.as_slice(), letters.as_bytes(), "{before}");
     }

@@ -3,7 +3,7 @@ use std::test::Fail;
 
 #[test]
 fn reads_and_spells_bits(rt: HostRuntime) -> Result<(), Fail> {
-    const CASES: [(&[u8], usize); 6] = [
+    let cases: [(&[u8], usize); 6] = [
         (b"\"23B\"", 6),
         (b"\"0\"", 0),
         (b"\"30\"", 1),
@@ -11,7 +11,7 @@ fn reads_and_spells_bits(rt: HostRuntime) -> Result<(), Fail> {
         (b"\"0A\"", 4),
         (b"\"17F\"", 7),
     ];
-    for (text, count) in CASES {
+    for (text, count) in cases {
         let bits = Bits::read(rt.alloc(), text)?;
         assert_eq!(rt; bits.len(), count);
         let mut out = Vec::new(rt.alloc());
@@ -23,11 +23,11 @@ fn reads_and_spells_bits(rt: HostRuntime) -> Result<(), Fail> {
 
 #[test]
 fn refuses_other_spellings(rt: HostRuntime) {
-    const TEXTS: [&[u8]; 10] = [
+    let texts: [&[u8]; 10] = [
         b"\"33B\"", b"\"1\"", b"\"18\"", b"\"40\"", b"\"23b\"", b"\"23B", b"23B\"", b"\"\"", b"\"",
         b"",
     ];
-    for text in TEXTS {
+    for text in texts {
         assert_eq!(rt;
             Bits::read(rt.alloc(), text).err(),
             Some(ValueFault::BadBinary)

@@ -3,7 +3,7 @@ use std::test::Fail;
 
 #[test]
 fn reads_and_spells_names(rt: HostRuntime) -> Result<(), Fail> {
-    const CASES: [(&[u8], u64, &[u8]); 5] = [
+    let cases: [(&[u8], u64, &[u8]); 5] = [
         (b"#007", 7, b"#7"),
         (b"#0", 0, b"#0"),
         (b"#00", 0, b"#0"),
@@ -14,7 +14,7 @@ fn reads_and_spells_names(rt: HostRuntime) -> Result<(), Fail> {
             b"#18446744073709551615",
         ),
     ];
-    for (text, number, spelling) in CASES {
+    for (text, number, spelling) in cases {
         let name = Name::read(text)?;
         assert_eq!(rt; name, Name(number));
         let mut out = Vec::new(rt.alloc());
@@ -26,7 +26,7 @@ fn reads_and_spells_names(rt: HostRuntime) -> Result<(), Fail> {
 
 #[test]
 fn refuses_names(rt: HostRuntime) {
-    const CASES: [(&[u8], ValueFault); 8] = [
+    let cases: [(&[u8], ValueFault); 8] = [
         (b"#18446744073709551616", ValueFault::NameRange),
         (b"#99999999999999999999999999", ValueFault::NameRange),
         (b"#18446744073709551616X", ValueFault::BadName),
@@ -36,7 +36,7 @@ fn refuses_names(rt: HostRuntime) {
         (b"#-7", ValueFault::BadName),
         (b"#7 ", ValueFault::BadName),
     ];
-    for (text, fault) in CASES {
+    for (text, fault) in cases {
         assert_eq!(rt; Name::read(text), Err(fault));
     }
 }

@@ -8,7 +8,7 @@ fn read(rt: &HostRuntime, text: &str) -> Result<Whole, ValueFault> {
 
 #[test]
 fn reads_and_spells(rt: HostRuntime) -> Result<(), Fail> {
-    const CASES: [(&str, &str); 6] = [
+    let cases = [
         ("+007", "7"),
         ("-0", "0"),
         ("+0", "0"),
@@ -16,7 +16,7 @@ fn reads_and_spells(rt: HostRuntime) -> Result<(), Fail> {
         ("-0120", "-120"),
         ("18446744073709551616", "18446744073709551616"),
     ];
-    for (text, spelling) in CASES {
+    for (text, spelling) in cases {
         let found = spelled(&rt, &read(&rt, text)?)?;
         assert_eq!(rt; found.as_slice(), spelling.as_bytes(), "{text}");
     }
