@@ -36,14 +36,14 @@ fn answer_repeated(
 
 #[test]
 fn reads_long_numbers(rt: HostRuntime) -> Result<(), Fail> {
-    const ROWS: [(&str, u32, &str); 4] = [
+    let schema = read_schema(rt.alloc(), REDECL.as_bytes())?;
+    let rows: [(&str, u32, &str); 4] = [
         ("#1=R(1", 9_999, "#1=R(1.E9999);"),
         ("#1=R(1", 10_000, "8 NumberRange"),
         ("#1=R(-0", 10_000, "#1=R(0.);"),
         ("#1=B(1", 10_000, "49 WrongKind"),
     ];
-    let schema = read_schema(rt.alloc(), REDECL.as_bytes())?;
-    for (front, count, wanted) in ROWS {
+    for (front, count, wanted) in rows {
         let found = answer_repeated(rt.alloc(), &schema, front, ("0", count), ");")?;
         assert_eq!(rt; found.as_slice(), wanted.as_bytes(), "{count}");
     }

@@ -3,24 +3,24 @@ use p21_express_tables::Names;
 
 #[test]
 fn names_in_the_order_in_which_they_are_added(rt: HostRuntime) -> Result<(), Fail> {
-    const PLACES: [(&[u8], Option<usize>); 4] = [
-        (b"SHAPE", Some(0)),
-        (b"POINT", Some(1)),
-        (b"MARKED", Some(2)),
-        (b"CLOUD", None),
-    ];
-    const ROWS: [(&[u8], bool); 4] = [
+    let mut names = Names::new(rt.alloc());
+    let rows: [(&[u8], bool); 4] = [
         (b"SHAPE", true),
         (b"POINT", true),
         (b"SHAPE", false),
         (b"MARKED", true),
     ];
-    let mut names = Names::new(rt.alloc());
-    for (name, new) in ROWS {
+    for (name, new) in rows {
         let added = names.add(rt.alloc(), name)?;
         assert_eq!(rt; added, new);
     }
-    for (name, place) in PLACES {
+    let places: [(&[u8], Option<usize>); 4] = [
+        (b"SHAPE", Some(0)),
+        (b"POINT", Some(1)),
+        (b"MARKED", Some(2)),
+        (b"CLOUD", None),
+    ];
+    for (name, place) in places {
         assert_eq!(rt; names.position(name), place);
     }
     Ok(())

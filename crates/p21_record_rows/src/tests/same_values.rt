@@ -30,7 +30,7 @@ fn value(rt: &HostRuntime, spelled: &[u8]) -> Result<Value, Fail> {
 
 #[test]
 fn compares_scalars(rt: HostRuntime) -> Result<(), Fail> {
-    const CASES: [(&[u8], &[u8], bool); 19] = [
+    let cases: [(&[u8], &[u8], bool); 19] = [
         (b"w+012", b"w12", true),
         (b"w12", b"w-12", false),
         (b"r12.5", b"r1.25E1", true),
@@ -51,7 +51,7 @@ fn compares_scalars(rt: HostRuntime) -> Result<(), Fail> {
         (b"", b"", true),
         (b"", b"*", false),
     ];
-    for (a, b, expected) in CASES {
+    for (a, b, expected) in cases {
         let a = value(&rt, a)?;
         let b = value(&rt, b)?;
         assert_eq!(rt; same(&a, &b), expected);
@@ -101,7 +101,7 @@ fn compared(rt: &HostRuntime, a: &[u8], b: &[u8]) -> Result<[bool; 4], Fail> {
 
 #[test]
 fn compares_aggregates(rt: HostRuntime) -> Result<(), Fail> {
-    const CASES: [(&[u8], &[u8], [bool; 4]); 10] = [
+    let cases: [(&[u8], &[u8], [bool; 4]); 10] = [
         (b"", b"", [true, true, true, true]),
         (b"", b"1", [false, false, false, false]),
         (b"12", b"12", [true, true, true, true]),
@@ -113,7 +113,7 @@ fn compares_aggregates(rt: HostRuntime) -> Result<(), Fail> {
         (b"1.", b"1.", [true, true, true, true]),
         (b"1.", b".1", [false, false, true, true]),
     ];
-    for (a, b, expected) in CASES {
+    for (a, b, expected) in cases {
         assert_eq!(rt; compared(&rt, a, b)?, expected);
     }
     Ok(())

@@ -56,7 +56,7 @@ fn expect_same(
 
 #[test]
 fn compares_records(rt: HostRuntime) -> Result<(), Fail> {
-    const ROWS: [(&str, &str, bool); 7] = [
+    let rows = [
         (
             "#1=CLOUD((),((1.,2.)),(TALLY(1)));",
             "#1=CLOUD((),((2.,1.)),(TALLY(1)));",
@@ -93,12 +93,12 @@ fn compares_records(rt: HostRuntime) -> Result<(), Fail> {
             false,
         ),
     ];
-    expect_same(&rt, rt.alloc(), DEMO, &ROWS)
+    expect_same(&rt, rt.alloc(), DEMO, &rows)
 }
 
 #[test]
 fn compares_aggregates_in_aggregates(rt: HostRuntime) -> Result<(), Fail> {
-    const ROWS: [(&str, &str, bool); 8] = [
+    let rows = [
         ("#1=N(((1,1,2),(3)));", "#1=N(((3),(2,1,1)));", true),
         ("#1=N(((1,1,2),(3)));", "#1=N(((3),(2,2,1)));", false),
         ("#1=M(((1,2),(1,2)));", "#1=M(((2,1),(1,2)));", true),
@@ -108,5 +108,5 @@ fn compares_aggregates_in_aggregates(rt: HostRuntime) -> Result<(), Fail> {
         ("#1=U((1,$,$));", "#1=U(($,1,$));", false),
         ("#1=L(((1,2),(3)));", "#1=L(((2.,1.),(3.)));", true),
     ];
-    expect_same(&rt, rt.alloc(), NESTED, &ROWS)
+    expect_same(&rt, rt.alloc(), NESTED, &rows)
 }

@@ -2,7 +2,7 @@ use super::*;
 
 #[test]
 fn behind_the_end(rt: HostRuntime) -> Result<(), Fail> {
-    const ROWS: [(&str, &str); 9] = [
+    let rows = [
         ("", ""),
         ("/* end */", ""),
         ("\x1a", ""),
@@ -16,14 +16,14 @@ fn behind_the_end(rt: HostRuntime) -> Result<(), Fail> {
         ),
         ("1.E99999", "refused 8 NumberRange at statement 10"),
     ];
-    let others = differing(rt.alloc(), ENDED, &ROWS)?;
+    let others = differing(rt.alloc(), ENDED, &rows)?;
     assert_eq!(rt; others.as_str(), "");
     Ok(())
 }
 
 #[test]
 fn ends_early(rt: HostRuntime) -> Result<(), Fail> {
-    const ROWS: [(&str, &str); 9] = [
+    let rows = [
         ("ENDSEC;\nEND-ISO-10303-21;", "ENDSEC;\nEND-ISO-10303-21;\n"),
         ("", "refused 24 EndsEarly at statement 8"),
         ("ENDSEC;\n", "refused 24 EndsEarly at statement 9"),
@@ -40,14 +40,14 @@ fn ends_early(rt: HostRuntime) -> Result<(), Fail> {
             "refused 8 NumberRange at statement 8",
         ),
     ];
-    let others = differing(rt.alloc(), OPEN, &ROWS)?;
+    let others = differing(rt.alloc(), OPEN, &rows)?;
     assert_eq!(rt; others.as_str(), "");
     Ok(())
 }
 
 #[test]
 fn left_out(rt: HostRuntime) -> Result<(), Fail> {
-    const ROWS: [(&str, &str); 8] = [
+    let rows = [
         ("#1=&SCOPE", "refused 26 LeftOut(Scope) at statement 8"),
         ("#1=@", "refused 26 LeftOut(ValueName) at statement 8"),
         ("#A", "refused 26 LeftOut(ConstantName) at statement 8"),
@@ -60,14 +60,14 @@ fn left_out(rt: HostRuntime) -> Result<(), Fail> {
         ("#1=POINT(;", "refused 20 Unexpected at statement 8"),
         ("X=", "refused 20 Unexpected at statement 8"),
     ];
-    let others = differing(rt.alloc(), OPEN, &ROWS)?;
+    let others = differing(rt.alloc(), OPEN, &rows)?;
     assert_eq!(rt; others.as_str(), "");
     Ok(())
 }
 
 #[test]
 fn scalars(rt: HostRuntime) -> Result<(), Fail> {
-    const ROWS: [(&str, &str); 7] = [
+    let rows = [
         ("#1=POINT('\\N\\", "refused 4 BadDirective at statement 8"),
         (
             "#1=POINT('\\X2\\DC00",
@@ -85,7 +85,7 @@ fn scalars(rt: HostRuntime) -> Result<(), Fail> {
             "refused 10 NameRange at statement 8",
         ),
     ];
-    let others = differing(rt.alloc(), OPEN, &ROWS)?;
+    let others = differing(rt.alloc(), OPEN, &rows)?;
     assert_eq!(rt; others.as_str(), "");
     Ok(())
 }
@@ -94,7 +94,7 @@ fn scalars(rt: HostRuntime) -> Result<(), Fail> {
 /// beginning, and a beginning without its rest.
 #[test]
 fn bytes_of_no_character(rt: HostRuntime) -> Result<(), Fail> {
-    const ROWS: [(&[u8], &str); 4] = [
+    let rows: [(&[u8], &str); 4] = [
         (
             b"#1=POINT('caf\xE9',1.,1.);",
             "refused 6 NotUtf8 at statement 8",
@@ -107,7 +107,7 @@ fn bytes_of_no_character(rt: HostRuntime) -> Result<(), Fail> {
         (b"#1=POINT(\xE9", "refused 1 BadByte at statement 8"),
     ];
     let schema = schema_of(rt.alloc(), OPEN)?;
-    for (text, wanted) in ROWS {
+    for (text, wanted) in rows {
         let file = framed(rt.alloc(), OPEN, text)?;
         let found = answer(rt.alloc(), &schema, Limits::usual(), &file)?;
         assert_eq!(rt; found.as_str(), wanted);
@@ -117,7 +117,7 @@ fn bytes_of_no_character(rt: HostRuntime) -> Result<(), Fail> {
 
 #[test]
 fn nothing_at_all(rt: HostRuntime) -> Result<(), Fail> {
-    const ROWS: [(&str, &str); 6] = [
+    let rows = [
         ("", "refused 24 EndsEarly at statement 1"),
         (" /* no file */\n", "refused 24 EndsEarly at statement 1"),
         ("\u{feff}", "refused 1 BadByte at statement 1"),
@@ -125,7 +125,7 @@ fn nothing_at_all(rt: HostRuntime) -> Result<(), Fail> {
         ("ISO-10303-21 ;", "refused 24 EndsEarly at statement 2"),
         ("HEADER;", "refused 20 Unexpected at statement 1"),
     ];
-    let others = differing(rt.alloc(), WHOLE, &ROWS)?;
+    let others = differing(rt.alloc(), WHOLE, &rows)?;
     assert_eq!(rt; others.as_str(), "");
     Ok(())
 }

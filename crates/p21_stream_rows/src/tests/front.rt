@@ -43,19 +43,19 @@ fn statements_of_a_file_in_two_pieces(rt: HostRuntime) -> Result<(), Fail> {
 
 #[test]
 fn faults_of_lexer_and_parser(rt: HostRuntime) -> Result<(), Fail> {
-    const ENDS: [(&[u8], u8); 3] = [(b"ISO-10303-21;", 24), (b"'a", 2), (b"HEADER", 24)];
-    const ROWS: [(&[u8], u8); 4] = [
+    let rows: [(&[u8], u8); 4] = [
         (b"ISO-10303-21;?", 1),
         (b"ISO-10303-21;DATA;", 20),
         (b"DATA;", 20),
         (b"'\xFF'", 6),
     ];
-    for (text, number) in ROWS {
+    for (text, number) in rows {
         let mut front = Front::new(rt.alloc(), Limits::usual());
         let found = statements(&mut front, text);
         assert_eq!(rt; found.map_err(|fault| fault.number()), Err(number));
     }
-    for (text, number) in ENDS {
+    let ends: [(&[u8], u8); 3] = [(b"ISO-10303-21;", 24), (b"'a", 2), (b"HEADER", 24)];
+    for (text, number) in ends {
         let mut front = Front::new(rt.alloc(), Limits::usual());
         assert!(rt; statements(&mut front, text).is_ok());
         assert_eq!(rt; front.finish().map_err(|fault| fault.number()), Err(number));

@@ -4,7 +4,7 @@ use p21_stream_header::{line_size, names_schema};
 
 #[test]
 fn texts_that_name_a_schema(rt: HostRuntime) {
-    const ROWS: [(&[char], &[u8], bool); 8] = [
+    let rows: [(&[char], &[u8], bool); 8] = [
         (&['D', 'e', 'M', 'o'], b"DEMO", true),
         (&['D', 'E', 'M', 'O', ' ', '{', '1', '}'], b"DEMO", true),
         (&['D', 'E', 'M', 'O', '_', '1'], b"DEMO_1", true),
@@ -14,7 +14,7 @@ fn texts_that_name_a_schema(rt: HostRuntime) {
         (&[' ', 'D', 'E', 'M', 'O'], b"DEMO", false),
         (&['D', 'É'], b"D", true),
     ];
-    for (text, name, is_named) in ROWS {
+    for (text, name, is_named) in rows {
         assert_eq!(rt; names_schema(text, name), is_named);
     }
 }

@@ -11,13 +11,13 @@ fn add(instances: &mut Instances, name: u64, kind: u32, text: &[u8]) -> Result<(
 
 #[test]
 fn texts_with_their_kinds(rt: HostRuntime) -> Result<(), Fail> {
-    const ROWS: [(u64, u32, &[u8]); 3] = [(1, 7, b"#1=A();"), (2, 3, b""), (3, 7, b"#3=B();")];
     let mut instances = Instances::new(rt.alloc());
-    for (name, kind, text) in ROWS {
+    let rows: [(u64, u32, &[u8]); 3] = [(1, 7, b"#1=A();"), (2, 3, b""), (3, 7, b"#3=B();")];
+    for (name, kind, text) in rows {
         add(&mut instances, name, kind, text)?;
     }
     assert_eq!(rt; instances.len(), 3);
-    for (name, kind, text) in ROWS {
+    for (name, kind, text) in rows {
         assert_eq!(rt; instances.find(name), Some((kind, text)));
     }
     Ok(())
@@ -46,12 +46,12 @@ fn a_long_text_has_a_block_of_its_own(rt: HostRuntime) -> Result<(), Fail> {
 
 #[test]
 fn instances_in_any_order(rt: HostRuntime) -> Result<(), Fail> {
-    const NAMES: [u64; 7] = [5, 10, u64::MAX, 0, 7, 6, 15];
     let mut instances = Instances::new(rt.alloc());
-    for name in NAMES {
+    let names = [5, 10, u64::MAX, 0, 7, 6, 15];
+    for name in names {
         add(&mut instances, name, 1, b"#=A();")?;
     }
-    for name in NAMES {
+    for name in names {
         assert_eq!(rt; instances.find(name), Some((1, b"#=A();".as_slice())));
     }
     assert!(rt; instances.find(1).is_none());
