@@ -1,7 +1,6 @@
-use super::trees::key;
 use super::*;
 use p21_canon::write_header;
-use p21_grammar::{Bits, Param, Params, Part, Whole};
+use p21_grammar::Part;
 
 /// The statements of a header up to its schema.
 const HEADER: &str =
@@ -92,30 +91,5 @@ fn writes_names_of_sections(rt: HostRuntime) -> Result<(), Fail> {
         let found = header_line(rt.alloc(), HEADER, text)?;
         assert_eq!(rt; found.as_slice(), wanted.as_bytes(), "{text}");
     }
-    Ok(())
-}
-
-/// Parameters in a row.
-fn params<const N: usize>(rt: &HostRuntime, all: [Param; N]) -> Result<Params, Fail> {
-    Ok(Params::from_vec(Vec::from_array(rt.alloc(), all)?))
-}
-
-#[test]
-fn writes_each_parameter(rt: HostRuntime) -> Result<(), Fail> {
-    let tagged = Param::Tagged(
-        key(&rt, false, b"TALLY")?,
-        Box::new(rt.alloc(), Param::Star)?,
-    );
-    let whole = Param::Whole(Whole::read(rt.alloc(), b"+007")?);
-    let bits = Param::Bits(Bits::read(rt.alloc(), b"\"23B\"")?);
-    let empty = Param::List(params(&rt, [])?);
-    let part = Part {
-        key: key(&rt, false, b"DATA")?,
-        params: params(&rt, [tagged, whole, bits, Param::Name(Name(7)), empty])?,
-    };
-    assert_eq!(rt;
-        written(rt.alloc(), &part)?.as_slice(),
-        b"DATA(TALLY(*),7,\"23B\",#7,());".as_slice()
-    );
     Ok(())
 }
