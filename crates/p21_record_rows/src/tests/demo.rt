@@ -3,7 +3,7 @@ use super::*;
 
 #[test]
 fn writes_internal_mapping(rt: HostRuntime) -> Result<(), Fail> {
-    let rows = [
+    const ROWS: [(&str, &str); 6] = [
         ("#007=POINT('a',-0.0,0.00250);", "#7=POINT('a',0.,2.5E-3);"),
         ("#2 = POINT($, 1.0, 10.E-1);", "#2=POINT($,1.,1.);"),
         ("#00=POINT($,1.,1.);", "#0=POINT($,1.,1.);"),
@@ -14,12 +14,12 @@ fn writes_internal_mapping(rt: HostRuntime) -> Result<(), Fail> {
         ("#1=ORIGIN($,*,2.);", "#1=ORIGIN($,*,2.);"),
         ("#1=MARKED('',.GREEN.);", "#1=MARKED('',.GREEN.);"),
     ];
-    under(&rt, rt.alloc(), DEMO, &rows)
+    under(&rt, rt.alloc(), DEMO, &ROWS)
 }
 
 #[test]
 fn refuses_simple_records(rt: HostRuntime) -> Result<(), Fail> {
-    let rows = [
+    const ROWS: [(&str, &str); 10] = [
         ("#1=ORIGIN($,0.,2.);", "48 DerivedNotStar"),
         ("#1=POINT($,*,2.);", "47 StarNotDerived"),
         ("#1=SHAPE($);", "42 Abstract"),
@@ -31,12 +31,12 @@ fn refuses_simple_records(rt: HostRuntime) -> Result<(), Fail> {
         ("#1=POINT($,$,2.);", "46 Missing"),
         ("#1=MARKED($,.BLUE.);", "53 UnknownItem"),
     ];
-    under(&rt, rt.alloc(), DEMO, &rows)
+    under(&rt, rt.alloc(), DEMO, &ROWS)
 }
 
 #[test]
 fn reads_sets_bags_and_lists(rt: HostRuntime) -> Result<(), Fail> {
-    let rows = [
+    const ROWS: [(&str, &str); 5] = [
         (
             "#1=CLOUD((),((2.,1.),(),(1.0,2.)),(TALLY(1)));",
             "#1=CLOUD((),((),(1.,2.),(1.,2.)),(TALLY(1)));",
@@ -49,12 +49,12 @@ fn reads_sets_bags_and_lists(rt: HostRuntime) -> Result<(), Fail> {
         ("#1=CLOUD((),(1.),(TALLY(1)));", "49 WrongKind"),
         ("#1=CLOUD(#2,(),(TALLY(1)));", "49 WrongKind"),
     ];
-    under(&rt, rt.alloc(), DEMO, &rows)
+    under(&rt, rt.alloc(), DEMO, &ROWS)
 }
 
 #[test]
 fn reads_a_list_of_a_select(rt: HostRuntime) -> Result<(), Fail> {
-    let rows = [
+    const ROWS: [(&str, &str); 7] = [
         (
             "#1=CLOUD((),(),(DISTANCE(1.0),TALLY(1),#2));",
             "#1=CLOUD((),(),(DISTANCE(1.),TALLY(1),#2));",
@@ -72,12 +72,12 @@ fn reads_a_list_of_a_select(rt: HostRuntime) -> Result<(), Fail> {
             "51 Bounds",
         ),
     ];
-    under(&rt, rt.alloc(), DEMO, &rows)
+    under(&rt, rt.alloc(), DEMO, &ROWS)
 }
 
 #[test]
 fn writes_external_mapping(rt: HostRuntime) -> Result<(), Fail> {
-    let rows = [
+    const ROWS: [(&str, &str); 6] = [
         ("#1=(POINT(1.,2.)SHAPE('a'));", "#1=POINT('a',1.,2.);"),
         (
             "#1=(SHAPE($)POINT(1.,2.)MARKED(.RED.));",
@@ -97,12 +97,12 @@ fn writes_external_mapping(rt: HostRuntime) -> Result<(), Fail> {
             "#1=CLOUD((),(),(TALLY(1)));",
         ),
     ];
-    under(&rt, rt.alloc(), DEMO, &rows)
+    under(&rt, rt.alloc(), DEMO, &ROWS)
 }
 
 #[test]
 fn refuses_external_mapping(rt: HostRuntime) -> Result<(), Fail> {
-    let rows = [
+    const ROWS: [(&str, &str); 8] = [
         ("#1=(POINT(1.,2.)MARKED(.RED.));", "43 PartMissing"),
         ("#1=(POINT(1.,2.));", "43 PartMissing"),
         ("#1=(SHAPE($)POINT(1.,2.)SHAPE($));", "44 PartTwice"),
@@ -112,7 +112,7 @@ fn refuses_external_mapping(rt: HostRuntime) -> Result<(), Fail> {
         ("#1=(POINT(1.,2.)SHAPE());", "45 Count"),
         ("#1=(ORIGIN()POINT(1.,2.)SHAPE($));", "48 DerivedNotStar"),
     ];
-    under(&rt, rt.alloc(), DEMO, &rows)
+    under(&rt, rt.alloc(), DEMO, &ROWS)
 }
 
 #[test]
@@ -136,7 +136,7 @@ fn reads_two_leaves_in_every_order(rt: HostRuntime) -> Result<(), Fail> {
 /// these before equal ones.
 #[test]
 fn refuses_the_first_value(rt: HostRuntime) -> Result<(), Fail> {
-    let rows = [
+    const ROWS: [(&str, &str); 10] = [
         ("#1=POINT(1,$,*);", "49 WrongKind"),
         ("#1=POINT('a',$,*);", "46 Missing"),
         ("#1=POINT('a',1.,*);", "47 StarNotDerived"),
@@ -148,5 +148,5 @@ fn refuses_the_first_value(rt: HostRuntime) -> Result<(), Fail> {
         ("#1=CLOUD((#2),((*)),(1,2,3,4));", "47 StarNotDerived"),
         ("#1=CLOUD((#2),(),(1,2,3,4));", "51 Bounds"),
     ];
-    under(&rt, rt.alloc(), DEMO, &rows)
+    under(&rt, rt.alloc(), DEMO, &ROWS)
 }

@@ -51,7 +51,7 @@ fn expect_lines(
 
 #[test]
 fn writes_descriptions(rt: HostRuntime) -> Result<(), Fail> {
-    let rows = [
+    const ROWS: [(&str, &str); 2] = [
         (
             "FILE_DESCRIPTION(('\\X\\E9'),$);",
             "FILE_DESCRIPTION(('\\X2\\00E9\\X0\\'),$);",
@@ -61,12 +61,12 @@ fn writes_descriptions(rt: HostRuntime) -> Result<(), Fail> {
             "FILE_DESCRIPTION(('b','a','b'),'2;1');",
         ),
     ];
-    expect_lines(&rt, rt.alloc(), "ISO-10303-21;HEADER;", &rows)
+    expect_lines(&rt, rt.alloc(), "ISO-10303-21;HEADER;", &ROWS)
 }
 
 #[test]
 fn writes_further_header_records(rt: HostRuntime) -> Result<(), Fail> {
-    let rows = [
+    const ROWS: [(&str, &str); 4] = [
         ("!MY_RECORD(1.0,.A.);", "!MY_RECORD(1.,.A.);"),
         ("MY_RECORD(+01,1.0);", "MY_RECORD(1,1.);"),
         (
@@ -75,19 +75,19 @@ fn writes_further_header_records(rt: HostRuntime) -> Result<(), Fail> {
         ),
         ("K();", "K();"),
     ];
-    expect_lines(&rt, rt.alloc(), HEADER, &rows)
+    expect_lines(&rt, rt.alloc(), HEADER, &ROWS)
 }
 
 #[test]
 fn writes_names_of_sections(rt: HostRuntime) -> Result<(), Fail> {
-    let rows = [
+    const ROWS: [(&str, &str); 2] = [
         ("ENDSEC;DATA('a',('DEMO'));", "DATA('a',('DEMO'));"),
         (
             "ENDSEC;DATA ( '\\X\\61' , ( 'demo' ) ) ;",
             "DATA('a',('demo'));",
         ),
     ];
-    for (text, wanted) in rows {
+    for (text, wanted) in ROWS {
         let found = header_line(rt.alloc(), HEADER, text)?;
         assert_eq!(rt; found.as_slice(), wanted.as_bytes(), "{text}");
     }

@@ -68,7 +68,7 @@ fn expect_needs(
 
 #[test]
 fn needs_stand_in_the_order_of_the_parameters(rt: HostRuntime) -> Result<(), Fail> {
-    let rows = [
+    const ROWS: [(&str, &str); 4] = [
         ("#1=CLOUD((#2),(),(TALLY(1)));", "#2 POINT;"),
         (
             "#1=CLOUD((#10,#2,#3),(),(#3,TALLY(1),#2));",
@@ -80,12 +80,12 @@ fn needs_stand_in_the_order_of_the_parameters(rt: HostRuntime) -> Result<(), Fai
         ),
         ("#1=POINT($,1.,2.);", ""),
     ];
-    expect_needs(&rt, rt.alloc(), DEMO, &rows)
+    expect_needs(&rt, rt.alloc(), DEMO, &ROWS)
 }
 
 #[test]
 fn each_kind_of_place_needs(rt: HostRuntime) -> Result<(), Fail> {
-    let rows = [
+    const ROWS: [(&str, &str); 6] = [
         ("#1=NODE();", ""),
         ("#1=EDGE(#2,$);", "#2 NODE;"),
         ("#1=EDGE(#1,#3);", "#1 NODE;#3 TARGET;"),
@@ -96,7 +96,7 @@ fn each_kind_of_place_needs(rt: HostRuntime) -> Result<(), Fail> {
         ),
         ("#1=(WEB((#9,$),())EDGE(#2,$));", "#9 NODE;#2 NODE;"),
     ];
-    expect_needs(&rt, rt.alloc(), LINKS, &rows)
+    expect_needs(&rt, rt.alloc(), LINKS, &ROWS)
 }
 
 /// Does an instance serve the last that another one needs?
@@ -127,7 +127,7 @@ fn expect_served(
 
 #[test]
 fn entities_serve(rt: HostRuntime) -> Result<(), Fail> {
-    let rows = [
+    const ROWS: [(&str, bool); 5] = [
         ("#2=POINT($,1.,1.);", true),
         ("#2=ORIGIN($,*,2.);", true),
         ("#2=(MARKED(.RED.)POINT(1.,2.)SHAPE($));", true),
@@ -136,14 +136,14 @@ fn entities_serve(rt: HostRuntime) -> Result<(), Fail> {
     ];
     let holders = ["#1=CLOUD((#2),(),(TALLY(1)));", "#1=CLOUD((),(),(#2));"];
     for holder in holders {
-        expect_served(&rt, rt.alloc(), (DEMO, holder), &rows)?;
+        expect_served(&rt, rt.alloc(), (DEMO, holder), &ROWS)?;
     }
     Ok(())
 }
 
 #[test]
 fn members_of_a_select_serve(rt: HostRuntime) -> Result<(), Fail> {
-    let rows = [
+    const ROWS: [(&str, bool); 5] = [
         ("#2=NODE();", true),
         ("#2=EDGE(#2,$);", true),
         ("#2=WEB(#2,$,($,$),());", true),
@@ -152,7 +152,7 @@ fn members_of_a_select_serve(rt: HostRuntime) -> Result<(), Fail> {
     ];
     let holders = ["#1=EDGE(#2,#2);", "#1=WEB(#2,$,($,$),((#2)));"];
     for holder in holders {
-        expect_served(&rt, rt.alloc(), (LINKS, holder), &rows)?;
+        expect_served(&rt, rt.alloc(), (LINKS, holder), &ROWS)?;
     }
     Ok(())
 }

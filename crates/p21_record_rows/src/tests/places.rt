@@ -3,7 +3,7 @@ use super::*;
 
 #[test]
 fn reads_a_diamond(rt: HostRuntime) -> Result<(), Fail> {
-    let rows = [
+    const ROWS: [(&str, &str); 8] = [
         ("#1=C(1,2,3,4);", "#1=C(1,2,3,4);"),
         ("#1=(R(1)A(2)B(3)C(4));", "#1=C(1,2,3,4);"),
         ("#1=(C(4)B(3)A(2)R(1));", "#1=C(1,2,3,4);"),
@@ -13,12 +13,12 @@ fn reads_a_diamond(rt: HostRuntime) -> Result<(), Fail> {
         ("#1=C(1,2,3);", "45 Count"),
         ("#1=C(1,2,3,4,5);", "45 Count"),
     ];
-    under(&rt, rt.alloc(), DIAMOND, &rows)
+    under(&rt, rt.alloc(), DIAMOND, &ROWS)
 }
 
 #[test]
 fn reads_redeclared_places(rt: HostRuntime) -> Result<(), Fail> {
-    let rows = [
+    const ROWS: [(&str, &str); 8] = [
         ("#1=R(1);", "#1=R(1.);"),
         ("#1=R(1.0);", "#1=R(1.);"),
         ("#1=A(1);", "#1=A(1);"),
@@ -28,12 +28,12 @@ fn reads_redeclared_places(rt: HostRuntime) -> Result<(), Fail> {
         ("#1=(R(1)A());", "#1=A(1);"),
         ("#1=(A()B()R(1));", "55 TwoRedeclarations"),
     ];
-    under(&rt, rt.alloc(), REDECL, &rows)
+    under(&rt, rt.alloc(), REDECL, &ROWS)
 }
 
 #[test]
 fn reads_redeclared_places_of_a_diamond(rt: HostRuntime) -> Result<(), Fail> {
-    let rows = [
+    const ROWS: [(&str, &str); 9] = [
         ("#1=R($);", "#1=R($);"),
         ("#1=A($);", "46 Missing"),
         ("#1=A(1);", "#1=A(1.);"),
@@ -44,12 +44,12 @@ fn reads_redeclared_places_of_a_diamond(rt: HostRuntime) -> Result<(), Fail> {
         ("#1=E($);", "#1=E($);"),
         ("#1=E(1.);", "49 WrongKind"),
     ];
-    under(&rt, rt.alloc(), CORNERS, &rows)
+    under(&rt, rt.alloc(), CORNERS, &ROWS)
 }
 
 #[test]
 fn decides_between_redeclarations(rt: HostRuntime) -> Result<(), Fail> {
-    let rows = [
+    const ROWS: [(&str, &str); 7] = [
         ("#1=(A()B()R(1));", "55 TwoRedeclarations"),
         ("#1=(C()A()B()R(1));", "#1=C(1);"),
         ("#1=(C()E()A()B()R(1));", "55 TwoRedeclarations"),
@@ -58,25 +58,25 @@ fn decides_between_redeclarations(rt: HostRuntime) -> Result<(), Fail> {
         ("#1=D($);", "48 DerivedNotStar"),
         ("#1=(D()C()A()B()R(*));", "#1=(A()B()C()D()R(*));"),
     ];
-    under(&rt, rt.alloc(), CORNERS, &rows)
+    under(&rt, rt.alloc(), CORNERS, &ROWS)
 }
 
 #[test]
 fn reads_one_of_several_subtypes(rt: HostRuntime) -> Result<(), Fail> {
-    let rows = [
+    const ROWS: [(&str, &str); 5] = [
         ("#1=(A()B()S(1));", "58 OneOf"),
         ("#1=(S(1)C()A());", "#1=(A()C()S(1));"),
         ("#1=A(1);", "#1=A(1);"),
         ("#1=S(1);", "#1=S(1);"),
         ("#1=(B()A()C()S(1));", "58 OneOf"),
     ];
-    under(&rt, rt.alloc(), SOLE, &rows)
+    under(&rt, rt.alloc(), SOLE, &ROWS)
 }
 
 /// Which comes of several refusals of a set of entities.
 #[test]
 fn refuses_sets_in_order(rt: HostRuntime) -> Result<(), Fail> {
-    let rows = [
+    const ROWS: [(&str, &str); 9] = [
         ("#1=(MID(1)FOO()MID(1));", "41 UnknownEntity"),
         ("#1=(MID(1)MID(1));", "44 PartTwice"),
         ("#1=(MID(1));", "43 PartMissing"),
@@ -87,12 +87,12 @@ fn refuses_sets_in_order(rt: HostRuntime) -> Result<(), Fail> {
         ("#1=(BASE()MID()LEFT()RIGHT(1));", "58 OneOf"),
         ("#1=(BASE()MID(1)LEFT()LOW()RIGHT());", "58 OneOf"),
     ];
-    under(&rt, rt.alloc(), RANK, &rows)
+    under(&rt, rt.alloc(), RANK, &ROWS)
 }
 
 #[test]
 fn refuses_places_in_order(rt: HostRuntime) -> Result<(), Fail> {
-    let rows = [
+    const ROWS: [(&str, &str); 7] = [
         ("#1=(BASE()MID()LEFT()THIRD(1));", "55 TwoRedeclarations"),
         ("#1=(BASE()MID()LEFT());", "45 Count"),
         ("#1=(BASE()MID('')LEFT(1));", "45 Count"),
@@ -101,5 +101,5 @@ fn refuses_places_in_order(rt: HostRuntime) -> Result<(), Fail> {
         ("#1=(LOW()MID(1)LEFT()BASE());", "#1=LOW(1);"),
         ("#1=BASE();", "#1=BASE();"),
     ];
-    under(&rt, rt.alloc(), RANK, &rows)
+    under(&rt, rt.alloc(), RANK, &ROWS)
 }

@@ -3,7 +3,7 @@ use super::*;
 
 #[test]
 fn counts_characters_and_bits(rt: HostRuntime) -> Result<(), Fail> {
-    let rows = [
+    const ROWS: [(&str, &str); 8] = [
         (
             "#1=E('abc','xy',\"0A\",($,1),.T.);",
             "#1=E('abc','xy',\"0A\",($,1),.T.);",
@@ -25,12 +25,12 @@ fn counts_characters_and_bits(rt: HostRuntime) -> Result<(), Fail> {
         ("#1=E('abc','xyz',\"0A\",($,1),.T.);", "50 Width"),
         ("#1=E('abc','xy',\"23B\",($,1),.T.);", "50 Width"),
     ];
-    under(&rt, rt.alloc(), WIDE, &rows)
+    under(&rt, rt.alloc(), WIDE, &ROWS)
 }
 
 #[test]
 fn refuses_other_values_at_widths(rt: HostRuntime) -> Result<(), Fail> {
-    let rows = [
+    const ROWS: [(&str, &str); 7] = [
         ("#1=E(5,'xy',\"0A\",($,1),.T.);", "49 WrongKind"),
         ("#1=E('abc',\"0A\",'xy',($,1),.T.);", "49 WrongKind"),
         ("#1=E('abc','xy',\"0A\",(1),.T.);", "51 Bounds"),
@@ -39,12 +39,12 @@ fn refuses_other_values_at_widths(rt: HostRuntime) -> Result<(), Fail> {
         ("#1=E('abc','xy',\"0A\",($,1),.U.);", "53 UnknownItem"),
         ("#1=E('abc','xy',\"0A\",($,1),$);", "46 Missing"),
     ];
-    under(&rt, rt.alloc(), WIDE, &rows)
+    under(&rt, rt.alloc(), WIDE, &ROWS)
 }
 
 #[test]
 fn writes_scalars(rt: HostRuntime) -> Result<(), Fail> {
-    let rows = [
+    const ROWS: [(&str, &str); 10] = [
         ("#1=OF_INTEGER(-000);", "#1=OF_INTEGER(0);"),
         (
             "#1=OF_INTEGER(+0123456789012345678901234567890);",
@@ -59,12 +59,12 @@ fn writes_scalars(rt: HostRuntime) -> Result<(), Fail> {
         ("#1=OF_STRING('\\X\\41''\\\\');", "#1=OF_STRING('A''\\\\');"),
         ("#1=OF_BINARY(\"30\");", "#1=OF_BINARY(\"30\");"),
     ];
-    under(&rt, rt.alloc(), KINDS, &rows)
+    under(&rt, rt.alloc(), KINDS, &ROWS)
 }
 
 #[test]
 fn puts_elements_in_order(rt: HostRuntime) -> Result<(), Fail> {
-    let rows = [
+    const ROWS: [(&str, &str); 9] = [
         ("#1=I((100,2,+10,1,-1));", "#1=I((-1,1,10,100,2));"),
         (
             "#1=W((('b','a'),('a'),(),('ab')));",
@@ -78,12 +78,12 @@ fn puts_elements_in_order(rt: HostRuntime) -> Result<(), Fail> {
         ("#1=L(((3),(2,1)));", "#1=L(((3.),(1.,2.)));"),
         ("#1=U(($,1,$));", "#1=U(($,1,$));"),
     ];
-    under(&rt, rt.alloc(), NESTED, &rows)
+    under(&rt, rt.alloc(), NESTED, &ROWS)
 }
 
 #[test]
 fn refuses_equal_elements(rt: HostRuntime) -> Result<(), Fail> {
-    let rows = [
+    const ROWS: [(&str, &str); 9] = [
         ("#1=I((1,2,+01));", "52 NotDistinct"),
         ("#1=W((('a','b'),('b','a')));", "52 NotDistinct"),
         ("#1=W((('a'),('\\X\\61')));", "52 NotDistinct"),
@@ -94,12 +94,12 @@ fn refuses_equal_elements(rt: HostRuntime) -> Result<(), Fail> {
         ("#1=U((1,$,01));", "52 NotDistinct"),
         ("#1=A(((1,1)));", "51 Bounds"),
     ];
-    under(&rt, rt.alloc(), NESTED, &rows)
+    under(&rt, rt.alloc(), NESTED, &ROWS)
 }
 
 #[test]
 fn reads_typed_parameters(rt: HostRuntime) -> Result<(), Fail> {
-    let rows = [
+    const ROWS: [(&str, &str); 8] = [
         ("#1=OF_CHOICE(LENGTH(1.0));", "#1=OF_CHOICE(LENGTH(1.));"),
         ("#1=OF_CHOICE(ROW((02,1)));", "#1=OF_CHOICE(ROW((2,1)));"),
         ("#1=OF_CHOICE(LENGTH(1));", "49 WrongKind"),
@@ -109,12 +109,12 @@ fn reads_typed_parameters(rt: HostRuntime) -> Result<(), Fail> {
         ("#1=OPTIONAL_CHOICE(LENGTH($));", "46 Missing"),
         ("#1=OPTIONAL_CHOICE(LENGTH(*));", "47 StarNotDerived"),
     ];
-    under(&rt, rt.alloc(), KINDS, &rows)
+    under(&rt, rt.alloc(), KINDS, &ROWS)
 }
 
 #[test]
 fn refuses_keywords_of_other_types(rt: HostRuntime) -> Result<(), Fail> {
-    let rows = [
+    const ROWS: [(&str, &str); 7] = [
         ("#1=OF_CHOICE(DEPTH(1.));", "54 SelectType"),
         ("#1=OF_CHOICE(PLAIN(LENGTH(1.)));", "54 SelectType"),
         ("#1=OF_CHOICE(CHOICE(#2));", "54 SelectType"),
@@ -123,7 +123,7 @@ fn refuses_keywords_of_other_types(rt: HostRuntime) -> Result<(), Fail> {
         ("#1=OF_DEPTH(DEPTH(1.));", "49 WrongKind"),
         ("#1=OF_PLAIN(#2);", "54 SelectType"),
     ];
-    under(&rt, rt.alloc(), KINDS, &rows)
+    under(&rt, rt.alloc(), KINDS, &ROWS)
 }
 
 /// A parameter of each kind.
@@ -179,10 +179,19 @@ fn letters(alloc: Global, schema: &Schema, key: &str) -> Result<Vec<u8>, Fail> {
     Ok(all)
 }
 
+/// Looks that each entity takes and refuses the parameters as the letters beside it say.
+fn expect_letters(rt: &impl Abort, alloc: Global, rows: &[(&str, &str)]) -> Result<(), Fail> {
+    let schema = read_schema(alloc, KINDS.as_bytes())?;
+    for (key, wanted) in rows {
+        let found = letters(alloc, &schema, *key)?;
+        assert_eq!(rt; found.as_slice(), wanted.as_bytes(), "{key}");
+    }
+    Ok(())
+}
+
 #[test]
 fn takes_each_kind_at_simple_types(rt: HostRuntime) -> Result<(), Fail> {
-    let schema = read_schema(rt.alloc(), KINDS.as_bytes())?;
-    let rows = [
+    const ROWS: [(&str, &str); 9] = [
         ("OF_INTEGER", "ms.kkkkkkkkkkkkkk"),
         ("OF_REAL", "msk.kkkkkkkkkkkkk"),
         ("OF_NUMBER", "ms..kkkkkkkkkkkkk"),
@@ -193,17 +202,12 @@ fn takes_each_kind_at_simple_types(rt: HostRuntime) -> Result<(), Fail> {
         ("OPTIONAL_INTEGER", ".s.kkkkkkkkkkkkkk"),
         ("DERIVED", "d.ddddddddddddddd"),
     ];
-    for (key, wanted) in rows {
-        let found = letters(rt.alloc(), &schema, key)?;
-        assert_eq!(rt; found.as_slice(), wanted.as_bytes(), "{key}");
-    }
-    Ok(())
+    expect_letters(&rt, rt.alloc(), &ROWS)
 }
 
 #[test]
 fn takes_each_kind_at_other_types(rt: HostRuntime) -> Result<(), Fail> {
-    let schema = read_schema(rt.alloc(), KINDS.as_bytes())?;
-    let rows = [
+    const ROWS: [(&str, &str); 11] = [
         ("OF_COLOUR", "mskkkkii.kkkkkkkk"),
         ("OF_PAINT", "mskkkkii.kkkkkkkk"),
         ("OF_DEPTH", "msk.kkkkkkkkkkkkk"),
@@ -216,9 +220,5 @@ fn takes_each_kind_at_other_types(rt: HostRuntime) -> Result<(), Fail> {
         ("OF_CHOICE", "msttttttt.ttt...t"),
         ("OPTIONAL_CHOICE", ".sttttttt.ttt...t"),
     ];
-    for (key, wanted) in rows {
-        let found = letters(rt.alloc(), &schema, key)?;
-        assert_eq!(rt; found.as_slice(), wanted.as_bytes(), "{key}");
-    }
-    Ok(())
+    expect_letters(&rt, rt.alloc(), &ROWS)
 }

@@ -2,7 +2,7 @@ use super::*;
 
 #[test]
 fn behind_the_end(rt: HostRuntime) -> Result<(), Fail> {
-    let rows = [
+    const ROWS: [(&str, &str); 9] = [
         ("", ""),
         ("/* end */", ""),
         ("\x1a", ""),
@@ -16,14 +16,14 @@ fn behind_the_end(rt: HostRuntime) -> Result<(), Fail> {
         ),
         ("1.E99999", "refused 8 NumberRange at statement 10"),
     ];
-    let others = differing(rt.alloc(), ENDED, &rows)?;
+    let others = differing(rt.alloc(), ENDED, &ROWS)?;
     assert_eq!(rt; others.as_str(), "");
     Ok(())
 }
 
 #[test]
 fn ends_early(rt: HostRuntime) -> Result<(), Fail> {
-    let rows = [
+    const ROWS: [(&str, &str); 9] = [
         ("ENDSEC;\nEND-ISO-10303-21;", "ENDSEC;\nEND-ISO-10303-21;\n"),
         ("", "refused 24 EndsEarly at statement 8"),
         ("ENDSEC;\n", "refused 24 EndsEarly at statement 9"),
@@ -40,14 +40,14 @@ fn ends_early(rt: HostRuntime) -> Result<(), Fail> {
             "refused 8 NumberRange at statement 8",
         ),
     ];
-    let others = differing(rt.alloc(), OPEN, &rows)?;
+    let others = differing(rt.alloc(), OPEN, &ROWS)?;
     assert_eq!(rt; others.as_str(), "");
     Ok(())
 }
 
 #[test]
 fn left_out(rt: HostRuntime) -> Result<(), Fail> {
-    let rows = [
+    const ROWS: [(&str, &str); 8] = [
         ("#1=&SCOPE", "refused 26 LeftOut(Scope) at statement 8"),
         ("#1=@", "refused 26 LeftOut(ValueName) at statement 8"),
         ("#A", "refused 26 LeftOut(ConstantName) at statement 8"),
@@ -60,14 +60,14 @@ fn left_out(rt: HostRuntime) -> Result<(), Fail> {
         ("#1=POINT(;", "refused 20 Unexpected at statement 8"),
         ("X=", "refused 20 Unexpected at statement 8"),
     ];
-    let others = differing(rt.alloc(), OPEN, &rows)?;
+    let others = differing(rt.alloc(), OPEN, &ROWS)?;
     assert_eq!(rt; others.as_str(), "");
     Ok(())
 }
 
 #[test]
 fn scalars(rt: HostRuntime) -> Result<(), Fail> {
-    let rows = [
+    const ROWS: [(&str, &str); 7] = [
         ("#1=POINT('\\N\\", "refused 4 BadDirective at statement 8"),
         (
             "#1=POINT('\\X2\\DC00",
@@ -85,7 +85,7 @@ fn scalars(rt: HostRuntime) -> Result<(), Fail> {
             "refused 10 NameRange at statement 8",
         ),
     ];
-    let others = differing(rt.alloc(), OPEN, &rows)?;
+    let others = differing(rt.alloc(), OPEN, &ROWS)?;
     assert_eq!(rt; others.as_str(), "");
     Ok(())
 }
@@ -117,7 +117,7 @@ fn bytes_of_no_character(rt: HostRuntime) -> Result<(), Fail> {
 
 #[test]
 fn nothing_at_all(rt: HostRuntime) -> Result<(), Fail> {
-    let rows = [
+    const ROWS: [(&str, &str); 6] = [
         ("", "refused 24 EndsEarly at statement 1"),
         (" /* no file */\n", "refused 24 EndsEarly at statement 1"),
         ("\u{feff}", "refused 1 BadByte at statement 1"),
@@ -125,7 +125,7 @@ fn nothing_at_all(rt: HostRuntime) -> Result<(), Fail> {
         ("ISO-10303-21 ;", "refused 24 EndsEarly at statement 2"),
         ("HEADER;", "refused 20 Unexpected at statement 1"),
     ];
-    let others = differing(rt.alloc(), WHOLE, &rows)?;
+    let others = differing(rt.alloc(), WHOLE, &ROWS)?;
     assert_eq!(rt; others.as_str(), "");
     Ok(())
 }

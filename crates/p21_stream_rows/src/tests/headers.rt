@@ -2,7 +2,7 @@ use super::*;
 
 #[test]
 fn accepted(rt: HostRuntime) -> Result<(), Fail> {
-    let rows = [
+    const ROWS: [(&str, &str); 3] = [
         (
             "FILE_DESCRIPTION($,$);\nFILE_NAME('','',(''),(''),'','','');\nFILE_SCHEMA(('demo'));\n",
             "FILE_DESCRIPTION($,$);\nFILE_NAME('','',(''),(''),'','','');\nFILE_SCHEMA(('demo'));\n",
@@ -16,14 +16,14 @@ fn accepted(rt: HostRuntime) -> Result<(), Fail> {
             "FILE_DESCRIPTION(('\\X2\\00E9\\X0\\'),$);\nFILE_NAME('','',(''),(''),'','','');\nFILE_SCHEMA(('DEMO'));\n!MY_RECORD(1.,.A.);\nOTHER((2));\n",
         ),
     ];
-    let others = differing(rt.alloc(), HEADER, &rows)?;
+    let others = differing(rt.alloc(), HEADER, &ROWS)?;
     assert_eq!(rt; others.as_str(), "");
     Ok(())
 }
 
 #[test]
 fn refused(rt: HostRuntime) -> Result<(), Fail> {
-    let rows = [
+    const ROWS: [(&str, &str); 7] = [
         (
             "FILE_DESCRIPTION((''),'2;1');\nFILE_NAME('','',(''),(''),'','','');\nFILE_SCHEMA(('OTHER'));\n",
             "refused 31 SchemaName at statement 5",
@@ -50,7 +50,7 @@ fn refused(rt: HostRuntime) -> Result<(), Fail> {
             "refused 20 Unexpected at statement 3",
         ),
     ];
-    let others = differing(rt.alloc(), HEADER, &rows)?;
+    let others = differing(rt.alloc(), HEADER, &ROWS)?;
     assert_eq!(rt; others.as_str(), "");
     Ok(())
 }

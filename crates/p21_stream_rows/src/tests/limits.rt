@@ -2,7 +2,7 @@ use super::*;
 
 #[test]
 fn of_records(rt: HostRuntime) -> Result<(), Fail> {
-    let rows = [
+    const ROWS: [(&str, &str); 4] = [
         (
             "#2=POINT('éé',1.,1.);",
             "refused 27 CanonicalTooLong at statement 8",
@@ -21,20 +21,20 @@ fn of_records(rt: HostRuntime) -> Result<(), Fail> {
         ),
     ];
     let limits = Limits::new(50, 40, 1000, 1000).expect(&rt, "limits");
-    let others = differing_within(rt.alloc(), limits, DEMO, &rows)?;
+    let others = differing_within(rt.alloc(), limits, DEMO, &ROWS)?;
     assert_eq!(rt; others.as_str(), "");
     Ok(())
 }
 
 #[test]
 fn of_files(rt: HostRuntime) -> Result<(), Fail> {
-    let rows = [
+    const ROWS: [(&str, &str); 3] = [
         ("", ""),
         ("\n", "refused 23 FileTooLong at statement 10"),
         ("X", "refused 23 FileTooLong at statement 10"),
     ];
     let limits = Limits::new(100, 100, 152, 152).expect(&rt, "limits");
-    let others = differing_within(rt.alloc(), limits, ENDED, &rows)?;
+    let others = differing_within(rt.alloc(), limits, ENDED, &ROWS)?;
     assert_eq!(rt; others.as_str(), "");
     assert!(rt; Limits::new(10, 11, 10, 10).is_none());
     assert!(rt; Limits::new(10, 10, 10, 11).is_none());
@@ -43,9 +43,9 @@ fn of_files(rt: HostRuntime) -> Result<(), Fail> {
 
 #[test]
 fn of_canonical_files(rt: HostRuntime) -> Result<(), Fail> {
-    let rows = [("", "refused 27 CanonicalTooLong at statement 9")];
+    const ROWS: [(&str, &str); 1] = [("", "refused 27 CanonicalTooLong at statement 9")];
     let limits = Limits::new(100, 100, 1000, 151).expect(&rt, "limits");
-    let others = differing_within(rt.alloc(), limits, ENDED, &rows)?;
+    let others = differing_within(rt.alloc(), limits, ENDED, &ROWS)?;
     assert_eq!(rt; others.as_str(), "");
     Ok(())
 }
@@ -53,7 +53,7 @@ fn of_canonical_files(rt: HostRuntime) -> Result<(), Fail> {
 /// A token is refused before the byte that ends it.
 #[test]
 fn behind_a_token(rt: HostRuntime) -> Result<(), Fail> {
-    let rows = [
+    const ROWS: [(&str, &str); 5] = [
         (
             "#1=POINT($,1.E99999",
             "refused 8 NumberRange at statement 8",
@@ -76,7 +76,7 @@ fn behind_a_token(rt: HostRuntime) -> Result<(), Fail> {
         ),
     ];
     let limits = Limits::new(100, 100, 145, 145).expect(&rt, "limits");
-    let others = differing_within(rt.alloc(), limits, OPEN, &rows)?;
+    let others = differing_within(rt.alloc(), limits, OPEN, &ROWS)?;
     assert_eq!(rt; others.as_str(), "");
     Ok(())
 }

@@ -2,7 +2,7 @@ use super::*;
 
 #[test]
 fn sets_and_bags(rt: HostRuntime) -> Result<(), Fail> {
-    let rows = [
+    const ROWS: [(&str, &str); 5] = [
         (
             "#1=CLOUD((),((2.,1.),(),(1.0,2.)),(TALLY(1)));",
             "#1=CLOUD((),((),(1.,2.),(1.,2.)),(TALLY(1)));\n",
@@ -21,14 +21,14 @@ fn sets_and_bags(rt: HostRuntime) -> Result<(), Fail> {
             "refused 49 WrongKind in #1",
         ),
     ];
-    let others = differing(rt.alloc(), DEMO, &rows)?;
+    let others = differing(rt.alloc(), DEMO, &ROWS)?;
     assert_eq!(rt; others.as_str(), "");
     Ok(())
 }
 
 #[test]
 fn selected_values(rt: HostRuntime) -> Result<(), Fail> {
-    let rows = [
+    const ROWS: [(&str, &str); 9] = [
         (
             "#1=CLOUD((),(),(DISTANCE(1.0),TALLY(1),#2));#2=POINT($,1.,1.);",
             "#1=CLOUD((),(),(DISTANCE(1.),TALLY(1),#2));\n#2=POINT($,1.,1.);\n",
@@ -51,14 +51,14 @@ fn selected_values(rt: HostRuntime) -> Result<(), Fail> {
         ("#1=CLOUD((),(),($));", "refused 46 Missing in #1"),
         ("#1=CLOUD((),(),(*));", "refused 47 StarNotDerived in #1"),
     ];
-    let others = differing(rt.alloc(), DEMO, &rows)?;
+    let others = differing(rt.alloc(), DEMO, &ROWS)?;
     assert_eq!(rt; others.as_str(), "");
     Ok(())
 }
 
 #[test]
 fn nested_lists(rt: HostRuntime) -> Result<(), Fail> {
-    let rows = [
+    const ROWS: [(&str, &str); 2] = [
         (
             "#1=POINT($,(((((((((((((((((((((((((((((((((((((((((((((((((((((((((((((((()))))))))))))))))))))))))))))))))))))))))))))))))))))))))))))))),1.);",
             "refused 49 WrongKind in #1",
@@ -68,7 +68,7 @@ fn nested_lists(rt: HostRuntime) -> Result<(), Fail> {
             "refused 21 TooDeep at statement 8",
         ),
     ];
-    let others = differing(rt.alloc(), DEMO, &rows)?;
+    let others = differing(rt.alloc(), DEMO, &ROWS)?;
     assert_eq!(rt; others.as_str(), "");
     Ok(())
 }

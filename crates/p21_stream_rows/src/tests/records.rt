@@ -2,7 +2,7 @@ use super::*;
 
 #[test]
 fn points(rt: HostRuntime) -> Result<(), Fail> {
-    let rows = [
+    const ROWS: [(&str, &str); 10] = [
         ("", ""),
         ("#2 = POINT($, 1.0, 10.E-1);\n", "#2=POINT($,1.,1.);\n"),
         (
@@ -17,14 +17,14 @@ fn points(rt: HostRuntime) -> Result<(), Fail> {
         ("#1=POINT($,1.);", "refused 45 Count in #1"),
         ("#1=POINT($,1,2.);", "refused 49 WrongKind in #1"),
     ];
-    let others = differing(rt.alloc(), DEMO, &rows)?;
+    let others = differing(rt.alloc(), DEMO, &ROWS)?;
     assert_eq!(rt; others.as_str(), "");
     Ok(())
 }
 
 #[test]
 fn sets_of_entities(rt: HostRuntime) -> Result<(), Fail> {
-    let rows = [
+    const ROWS: [(&str, &str); 10] = [
         ("#1=(POINT(1.,2.)SHAPE('a'));\n", "#1=POINT('a',1.,2.);\n"),
         (
             "#1=(SHAPE($)POINT(1.,2.)MARKED(.RED.));\n",
@@ -48,7 +48,7 @@ fn sets_of_entities(rt: HostRuntime) -> Result<(), Fail> {
             "#1=(CLOUD((),(),(TALLY(1)))POINT(1.,2.)SHAPE($));\n",
         ),
     ];
-    let others = differing(rt.alloc(), DEMO, &rows)?;
+    let others = differing(rt.alloc(), DEMO, &ROWS)?;
     assert_eq!(rt; others.as_str(), "");
     Ok(())
 }

@@ -2,7 +2,7 @@ use super::*;
 
 #[test]
 fn names(rt: HostRuntime) -> Result<(), Fail> {
-    let rows = [
+    const ROWS: [(&str, &str); 5] = [
         (
             "#1=POINT($,1.,1.);\n#01=POINT($,1.,1.);\n",
             "refused 40 DuplicateName in #1",
@@ -24,14 +24,14 @@ fn names(rt: HostRuntime) -> Result<(), Fail> {
             "refused 40 DuplicateName in #9",
         ),
     ];
-    let others = differing(rt.alloc(), DEMO, &rows)?;
+    let others = differing(rt.alloc(), DEMO, &ROWS)?;
     assert_eq!(rt; others.as_str(), "");
     Ok(())
 }
 
 #[test]
 fn targets(rt: HostRuntime) -> Result<(), Fail> {
-    let rows = [
+    const ROWS: [(&str, &str); 8] = [
         (
             "#1=CLOUD((#2),(),(TALLY(1)));#2=ORIGIN($,*,2.);",
             "#1=CLOUD((#2),(),(TALLY(1)));\n#2=ORIGIN($,*,2.);\n",
@@ -62,7 +62,7 @@ fn targets(rt: HostRuntime) -> Result<(), Fail> {
             "refused 57 WrongTarget in #1",
         ),
     ];
-    let others = differing(rt.alloc(), DEMO, &rows)?;
+    let others = differing(rt.alloc(), DEMO, &ROWS)?;
     assert_eq!(rt; others.as_str(), "");
     Ok(())
 }
@@ -70,7 +70,7 @@ fn targets(rt: HostRuntime) -> Result<(), Fail> {
 /// The first of several in the order of the file is refused.
 #[test]
 fn first_of_several(rt: HostRuntime) -> Result<(), Fail> {
-    let rows = [
+    const ROWS: [(&str, &str); 5] = [
         (
             "#5=CLOUD((#6),(),(TALLY(1)));#1=CLOUD((#5),(),(TALLY(1)));",
             "refused 56 Dangling in #5",
@@ -92,7 +92,7 @@ fn first_of_several(rt: HostRuntime) -> Result<(), Fail> {
             "refused 45 Count in #1",
         ),
     ];
-    let others = differing(rt.alloc(), DEMO, &rows)?;
+    let others = differing(rt.alloc(), DEMO, &ROWS)?;
     assert_eq!(rt; others.as_str(), "");
     Ok(())
 }

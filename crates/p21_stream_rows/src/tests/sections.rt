@@ -2,7 +2,7 @@ use super::*;
 
 #[test]
 fn named(rt: HostRuntime) -> Result<(), Fail> {
-    let rows = [
+    const ROWS: [(&str, &str); 5] = [
         (
             "DATA('b',('DEMO'));\n#1=POINT($,1.,1.);\nENDSEC;\nDATA('a',('demo'));\n#2=POINT($,2.0,1.);\nENDSEC;\n",
             "DATA('a',('demo'));\n#2=POINT($,2.,1.);\nENDSEC;\nDATA('b',('DEMO'));\n#1=POINT($,1.,1.);\nENDSEC;\n",
@@ -21,14 +21,14 @@ fn named(rt: HostRuntime) -> Result<(), Fail> {
             "DATA('a',('DEMO'));\n#2=POINT($,2.,1.);\nENDSEC;\nDATA('b',('DEMO'));\n#1=CLOUD((#2),(),(TALLY(1)));\nENDSEC;\n",
         ),
     ];
-    let others = differing(rt.alloc(), SECTIONS, &rows)?;
+    let others = differing(rt.alloc(), SECTIONS, &ROWS)?;
     assert_eq!(rt; others.as_str(), "");
     Ok(())
 }
 
 #[test]
 fn twice_the_same(rt: HostRuntime) -> Result<(), Fail> {
-    let rows = [
+    const ROWS: [(&str, &str); 5] = [
         (
             "DATA('b',('DEMO'));#1=POINT($,1.,1.);ENDSEC;DATA('a',('DEMO'));#1=POINT($,1.,1.);ENDSEC;",
             "refused 40 DuplicateName in #1",
@@ -50,14 +50,14 @@ fn twice_the_same(rt: HostRuntime) -> Result<(), Fail> {
             "refused 26 LeftOut(SecondSection) at statement 9",
         ),
     ];
-    let others = differing(rt.alloc(), SECTIONS, &rows)?;
+    let others = differing(rt.alloc(), SECTIONS, &ROWS)?;
     assert_eq!(rt; others.as_str(), "");
     Ok(())
 }
 
 #[test]
 fn refused(rt: HostRuntime) -> Result<(), Fail> {
-    let rows = [
+    const ROWS: [(&str, &str); 9] = [
         (
             "DATA('a',('OTHER'));",
             "refused 31 SchemaName at statement 7",
@@ -80,7 +80,7 @@ fn refused(rt: HostRuntime) -> Result<(), Fail> {
         ("REFERENCE;", "refused 26 LeftOut(Reference) at statement 7"),
         ("SIGNATURE;", "refused 26 LeftOut(Signature) at statement 7"),
     ];
-    let others = differing(rt.alloc(), SECTIONS, &rows)?;
+    let others = differing(rt.alloc(), SECTIONS, &ROWS)?;
     assert_eq!(rt; others.as_str(), "");
     Ok(())
 }
