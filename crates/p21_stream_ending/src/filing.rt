@@ -65,7 +65,7 @@ fn section_of(kinds: &Kinds, instances: &Instances, place: u32) -> u32
     if place >= instances.len() {
         return 0;
     }
-    let (_, kind, _) = instances.get(place);
+    let kind = instances.kind_at(place);
     let (section, _) = kinds.get(kind);
     section
 }

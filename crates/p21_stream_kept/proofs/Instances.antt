@@ -42,12 +42,12 @@ stored-names kinds (x ∷ xs) =
     ap (λ (n : ℕ). n ∷ map (λ (y : Stored). y.name) (stored_of kinds xs)) (with-name _ x) ∙ ap (λ (ns : List ℕ). x.name ∷ ns) (stored-names kinds xs)
 
 -- what is found by a name has it; where nothing is found, none has it
-pub named-found : {T : Type 0} (instances : List store.Kept) (n : ℕ) (kind : T → ℕ) (text : T → List ℕ) (found : Option T) → IfSome found (λ x. Contains instances (record { name = n; kind = kind x; text = text x })) → is_some found ≡ true → Contains (kept_names instances) n
-named-found instances n kind text (Some x) among there = Contains-mapped (λ (y : store.Kept). y.name) instances (record { name = n; kind = kind x; text = text x }) among
-named-found instances n kind text None among there = cc
+pub named-found : (instances : List store.Kept) (n : ℕ) (found : Option ℕ) → IfSome found (λ kind. (text : List ℕ) × Contains instances (record { name = n; kind = kind; text = text })) → is_some found ≡ true → Contains (kept_names instances) n
+named-found instances n (Some kind) (text, among) there = Contains-mapped (λ (y : store.Kept). y.name) instances (record { name = n; kind = kind; text = text }) among
+named-found instances n None among there = cc
 
-pub named-none : {T : Type 0} (instances : List store.Kept) (n : ℕ) (found : Option T) → (IsNone found → Contains (kept_names instances) n → ⊥) → Contains (kept_names instances) n → is_some found ≡ true
-named-none instances n (Some x) none among = refl
+pub named-none : (instances : List store.Kept) (n : ℕ) (found : Option ℕ) → (IsNone found → Contains (kept_names instances) n → ⊥) → Contains (kept_names instances) n → is_some found ≡ true
+named-none instances n (Some kind) none among = refl
 named-none instances n None none among = absurd (none refl among)
 
 -- ---- steps

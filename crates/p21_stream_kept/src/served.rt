@@ -19,7 +19,7 @@ fn refusal_of(schema: &Schema, kinds: &Kinds, instances: &Instances, need: &Need
     requires { AreKinds kinds.now instances.now }
     ensures { AnswersNeed schema.now (stored_of kinds.now instances.now) (need_view need.now) result }
 {
-    let Some((kind, _)) = instances.find(need.target.0) else {
+    let Some(kind) = instances.kind_of(need.target.0) else {
         return Some(Fault::Dangling);
     };
     let (_, entities) = kinds.get(kind);

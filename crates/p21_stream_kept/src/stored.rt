@@ -13,7 +13,7 @@ use std::alloc::Global;
 pub(crate) fn has_instance(instances: &Instances, name: Name) -> bool
     ensures { IsTrue result ↔ Contains (kept_names instances.now) name }
 {
-    instances.find(name.0).is_some()
+    instances.kind_of(name.0).is_some()
 }
 
 /// Adds an instance of a data section, which has a name that none has before it.

@@ -1,12 +1,14 @@
 -- Instances among those that are kept.
 use Rattle.std.proofs.Common.{◌≡◌, ◌+◌, ◌-◌, ◌<◌, ◌≤◌, ℕ, zero, suc, List, [], ◌∷◌, ◌++◌, length, get_or, Option, Some, inl, inr, refl, sym, ap, subst, ◌∙◌, arith, unwrap_or}
-use Rattle.std.proofs.lemmas.List.{append_assoc, get_or-append_right, get_or_append_left, get_or_read, length-append, map-append}
+use Rattle.std.proofs.lemmas.List.{append-nil, append_assoc, get_or-append_right, get_or_append_left, get_or_read, length-append, length-map, map-append, nil_from_length}
 use Rattle.std.proofs.lemmas.List.Elements.{Contains-append_cases, Contains-append_left, Contains-append_right}
 use Rattle.std.proofs.lemmas.List.Sorted.{IsPermutation-middle, IsPermutation-sym, IsPermutation-to_front, sum_by-IsPermutation}
+use Rattle.std.proofs.lemmas.List.FromFn.{get_or-range_with_len, length-range_with_len}
 use Rattle.std.proofs.lemmas.List.Sums.{sum_by-append}
 use Rattle.std.proofs.lemmas.Option.{get_or_from_slice_get, slice_get_within, unwrap_or-slice_get}
-use Rattle.std.specs.List.{Contains, slice_get}
-use Rattle.std.specs.List.Sorted.{IsPermutation}
+use Rattle.std.specs.List.{Contains, range_with_len, slice_get}
+use Rattle.std.specs.List.Sorted.{IsNonDecreasingBy, IsPermutation, IsStrictlyIncreasing}
+use Rattle.p21_stream_store.proofs.NameLemmas.{never_fall}
 use Rattle.p21_stream_store.specs.Kept.{Kept, kept_names, kept_of, name_at, text_bytes}
 
 -- an instance of a line
@@ -45,6 +47,10 @@ module _ (rising late : List ℕ) (rising_lines late_lines : List (ℕ × List �
       ap kept_names (sym all_are) ∙ map-append (λ (x : Kept). x.name) (kept_of rising rising_lines) (kept_of late late_lines)
       ∙ ap (λ (l : List ℕ). l ++ kept_names (kept_of late late_lines)) (names-kept_of rising rising_lines e)
       ∙ ap (λ (l : List ℕ). rising ++ l) (names-kept_of late late_lines f)
+
+  -- with no late name the names rise from place to place
+  pub rising_names : length rising ≡ length rising_lines → length late ≡ length late_lines → length late ≡ 0 → IsStrictlyIncreasing rising → IsStrictlyIncreasing (kept_names all)
+  rising_names e f none rises = subst (λ (l : List ℕ). IsStrictlyIncreasing l) (sym (names_are e f ∙ ap (λ (l : List ℕ). rising ++ l) (nil_from_length late none) ∙ append-nil rising)) rises
 
   pub none_found : (n : ℕ) → length rising ≡ length rising_lines → length late ≡ length late_lines → (Contains rising n → ⊥) → (Contains late n → ⊥) → Contains (kept_names all) n → ⊥
   none_found n e f first second has =
@@ -146,6 +152,18 @@ name-at : (all : List Kept) (i : ℕ) → name_at all i ≡ get_or (kept_names a
 name-at [] i = refl
 name-at (x ∷ all) zero = refl
 name-at (x ∷ all) (suc i) = name-at all i
+
+-- where the names rise from place to place, the places are in their order
+pub rising_places : (all : List Kept) → IsStrictlyIncreasing (kept_names all) → IsNonDecreasingBy (name_at all) (range_with_len 0 (length all))
+rising_places all rises i j d h within =
+    let size = length-range_with_len 0 (length all) in
+    let names = length-map all (λ (x : Kept). x.name) in
+    let one : get_or (range_with_len 0 (length all)) i d ≡ i = get_or-range_with_len 0 (length all) i d (omega (arith, h, within, size)) ∙ (let e : 0 + i ≡ i = omega arith in e) in
+    let two : get_or (range_with_len 0 (length all)) j d ≡ j = get_or-range_with_len 0 (length all) j d (omega (arith, within, size)) ∙ (let e : 0 + j ≡ j = omega arith in e) in
+    let first : name_at all (get_or (range_with_len 0 (length all)) i d) ≡ get_or (kept_names all) i 0 = ap (name_at all) one ∙ name-at all i in
+    let second : name_at all (get_or (range_with_len 0 (length all)) j d) ≡ get_or (kept_names all) j 0 = ap (name_at all) two ∙ name-at all j in
+    let below = never_fall (kept_names all) rises i j h (omega (arith, within, size, names)) in
+    omega (arith, first, second, below)
 
 module _ (rising late : List ℕ) (rising_lines late_lines : List (ℕ × List ℕ)) (all : List Kept) (all_are : kept_of rising rising_lines ++ kept_of late late_lines ≡ all) (same : length rising ≡ length rising_lines) (same_ : length late ≡ length late_lines) where
   among : (i : ℕ) → name_at all i ≡ get_or (rising ++ late) i 0

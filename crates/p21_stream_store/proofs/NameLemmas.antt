@@ -1,11 +1,11 @@
 -- Where a name stands among rising names, and in a set.
-use Rattle.std.proofs.Common.{◌≡◌, ◌+◌, ◌≤◌, ◌<◌, ℕ, zero, suc, Bool, true, false, List, [], ◌∷◌, ◌++◌, length, get_or, Option, Some, None, Result, Ok, Err, IfSome, IsNone, refl, sym, ap, ◌∙◌, arith, eqb, cond, ◌-◌, inl, inr}
+use Rattle.std.proofs.Common.{◌≡◌, ◌+◌, ◌≤◌, ◌<◌, ℕ, zero, suc, Bool, true, false, List, [], ◌∷◌, ◌++◌, length, get_or, Option, Some, None, Result, Ok, Err, IfSome, IsNone, refl, sym, ap, ◌∙◌, arith, eqb, ltb, cond, ◌-◌, inl, inr}
 use Rattle.std.proofs.lemmas.Bool.Decides.{leb_tells, nat_tests}
 use Rattle.std.proofs.lemmas.Grind.{get_or_default_zero}
 use Rattle.std.proofs.lemmas.List.Quantifiers.{position-Some}
 use Rattle.std.proofs.lemmas.List.Sorted.{searched}
 use Rattle.std.proofs.lemmas.Map.Views.{Contains-from_any}
-use Rattle.std.proofs.lemmas.Option.{slice_get-get_or}
+use Rattle.std.proofs.lemmas.Option.{get_or_from_slice_get, slice_get-get_or}
 use Rattle.std.specs.List.{Contains, list_any, position, slice_get}
 use Rattle.std.specs.List.Sorted.{IsBinarySearchResult, IsStrictlyIncreasing}
 use Rattle.std.specs.Ordering.{nat_cmp}
@@ -22,11 +22,20 @@ rise_to xs r i (suc n) h =
     let same : get_or xs (i + suc n) 0 ≡ get_or xs (i + n + 1) 0 = ap (λ (k : ℕ). get_or xs k 0) (let e : i + suc n ≡ i + n + 1 = omega arith in e) in
     omega (arith, before, step, same)
 
-never_fall : (xs : List ℕ) → IsStrictlyIncreasing xs → (i j : ℕ) → i ≤ j → j < length xs → get_or xs i 0 ≤ get_or xs j 0
+pub never_fall : (xs : List ℕ) → IsStrictlyIncreasing xs → (i j : ℕ) → i ≤ j → j < length xs → get_or xs i 0 ≤ get_or xs j 0
 never_fall xs r i j h k =
     let same : get_or xs (i + (j - i)) 0 ≡ get_or xs j 0 = ap (λ (n : ℕ). get_or xs n 0) (let e : i + (j - i) ≡ j = omega (arith, h) in e) in
     let to = rise_to xs r i (j - i) (omega (arith, h, k)) in
     omega (arith, to, same)
+
+-- a name above the last of rising names is none of them
+pub absent_above : (xs : List ℕ) (last x : ℕ) → IsStrictlyIncreasing xs → Some last ≡ slice_get xs (length xs - 1) → ltb last x ≡ true → Contains xs x → ⊥
+absent_above xs last x rising is tested (k, h, at) =
+    let above : last < x = grind (arith, nat_tests) in
+    let most = never_fall xs rising k (length xs - 1) (omega (arith, h)) (omega (arith, h)) in
+    let here : get_or xs k x ≡ get_or xs k 0 = get_or_default_zero xs k x h in
+    let end : get_or xs (length xs - 1) 0 ≡ last = get_or_from_slice_get xs (length xs - 1) last 0 (sym is) in
+    omega (arith, most, here, end, above, at)
 
 pub not_found : (xs : List ℕ) (x : ℕ) (r : Result ℕ ℕ) (place : Option ℕ) → IsStrictlyIncreasing xs → IsBinarySearchResult (λ y. nat_cmp y x) xs r → place ≡ result_ok r → IsNone place → Contains xs x → ⊥
 not_found xs x (Ok i) None rising s e none has = cc

@@ -1,10 +1,10 @@
 //! The instances that a session has taken.
-ghost use Rattle.std.specs.Prelude.{◌≡◌, ◌<◌, [], ◌∷◌, ◌++◌, length, slice_get, Contains, IfSome, IsNone, IsPermutation, IsTrue, OnErr, OnOk, Some};
+ghost use Rattle.std.specs.Prelude.{◌≡◌, ◌<◌, ℕ, List, [], ◌∷◌, ◌++◌, length, slice_get, Contains, IfSome, IsNone, IsPermutation, IsTrue, OnErr, OnOk, Some};
 ghost use Rattle.std.specs.List.Sorted.{IsStrictlyIncreasing};
 ghost use Rattle.p21_stream_store.specs.Kept.{Kept, kept_at, kept_names, name_at, text_bytes};
 
 use crate::lines::Lines;
-use crate::names::{add_name, place_among, place_in};
+use crate::names::{add_name, is_above, place_among, place_in};
 use indexmap::IndexSet;
 use p21_values::NoMemory;
 use std::alloc::Global;
@@ -77,6 +77,18 @@ impl Instances {
         (self.late[place - first], kind, text)
     }
 
+    /// The number of the kind of the instance at a place.
+    pub fn kind_at(&self, place: usize) -> u32
+        requires { place < length self.now }
+        ensures { (found : Kept) × (slice_get self.now place ≡ Some found) × (found.kind ≡ result) }
+    {
+        let first = self.rising_lines.len();
+        if place < first {
+            return self.rising_lines.kind(place);
+        }
+        self.late_lines.kind(place - first)
+    }
+
     /// The name of the instance at a place, 0 where there is none.
     pub(crate) fn name_at(&self, place: u32) -> u64
         ensures { result ≡ name_at self.now place }
@@ -92,6 +104,13 @@ impl Instances {
         }
     }
 
+    /// Whether the names rise from place to place, as where none came late.
+    pub(crate) fn is_rising(&self) -> bool
+        ensures { IsTrue result → IsStrictlyIncreasing (kept_names self.now) }
+    {
+        self.late.is_empty()
+    }
+
     /// The number of the kind and the canonical text of the instance of this name, if there is one.
     pub fn find(&self, name: u64) -> Option<(u32, &[u8])>
         ensures some { IfSome result (λ found. Contains self.now (record { name = name; kind = found.0; text = found.1.now })) }
@@ -102,6 +121,20 @@ impl Instances {
         }
         match place_among(&self.late, name) {
             Some(place) => Some(self.late_lines.get(place)),
+            None => None,
+        }
+    }
+
+    /// The number of the kind of the instance of this name, if there is one.
+    pub fn kind_of(&self, name: u64) -> Option<u32>
+        ensures some { IfSome result (λ kind. (text : List ℕ) × Contains self.now (record { name = name; kind = kind; text = text })) }
+        ensures none { IsNone result → Contains (kept_names self.now) name → ⊥ }
+    {
+        if let Some(place) = place_in(&self.rising, name) {
+            return Some(self.rising_lines.kind(place));
+        }
+        match place_among(&self.late, name) {
+            Some(place) => Some(self.late_lines.kind(place)),
             None => None,
         }
     }
@@ -132,17 +165,6 @@ impl Instances {
         };
         self.size = size;
         Ok(())
-    }
-}
-
-/// Whether a name is above the last of rising names.
-fn is_above(names: &[u64], name: u64) -> bool
-    requires { IsStrictlyIncreasing names.now }
-    ensures { IsTrue result → IsStrictlyIncreasing (names.now ++ name ∷ []) }
-{
-    match names.last() {
-        Some(last) => *last < name,
-        None => true,
     }
 }
 

@@ -1,5 +1,5 @@
 //! Lines by number: a text, and a number for what it is a line of.
-ghost use Rattle.std.specs.Prelude.{◌≡◌, ◌<◌, [], ◌∷◌, ◌++◌, length, slice_get, OnErr, OnOk, Some};
+ghost use Rattle.std.specs.Prelude.{◌≡◌, ◌<◌, ℕ, List, [], ◌∷◌, ◌++◌, length, slice_get, OnErr, OnOk, Some};
 
 use crate::texts::Texts;
 use p21_values::NoMemory;
@@ -48,6 +48,14 @@ impl Lines {
         ensures { slice_get self.now index ≡ Some (result.0, result.1.now) }
     {
         (self.kinds[index], self.texts.get(index))
+    }
+
+    /// The kind of a line.
+    pub fn kind(&self, index: usize) -> u32
+        requires { index < length self.now }
+        ensures { (text : List ℕ) × (slice_get self.now index ≡ Some (result, text)) }
+    {
+        self.kinds[index]
     }
 
     /// Adds a line.

@@ -1,12 +1,36 @@
 //! Where a name stands among names.
-ghost use Rattle.std.specs.Prelude.{◌≡◌, ◌<◌, [], ◌∷◌, ◌++◌, Contains, IfSome, IsNone, OnErr, OnOk, slice_get, Some};
+ghost use Rattle.std.specs.Prelude.{◌≡◌, ◌<◌, [], ◌∷◌, ◌++◌, Contains, IfSome, IsNone, IsTrue, OnErr, OnOk, slice_get, Some};
 ghost use Rattle.std.specs.List.Sorted.{IsStrictlyIncreasing};
 
 use indexmap::IndexSet;
 use p21_values::NoMemory;
 
-/// The place of a name among rising names. Names that rise by like steps are found at once.
+/// Whether a name is above the last of rising names.
+pub fn is_above(names: &[u64], name: u64) -> bool
+    requires { IsStrictlyIncreasing names.now }
+    ensures rises { IsTrue result → IsStrictlyIncreasing (names.now ++ name ∷ []) }
+    ensures absent { IsTrue result → Contains names.now name → ⊥ }
+{
+    match names.last() {
+        Some(last) => *last < name,
+        None => true,
+    }
+}
+
+/// The place of a name among rising names. A name above them costs no search.
 pub fn place_in(names: &[u64], name: u64) -> Option<usize>
+    requires rising { IsStrictlyIncreasing names.now }
+    ensures some { IfSome result (λ place. slice_get names.now place ≡ Some name) }
+    ensures none { IsNone result → Contains names.now name → ⊥ }
+{
+    if is_above(names, name) {
+        return None;
+    }
+    place_below(names, name)
+}
+
+/// The place of a name among rising names. Names that rise by like steps are found at once.
+fn place_below(names: &[u64], name: u64) -> Option<usize>
     requires rising { IsStrictlyIncreasing names.now }
     ensures some { IfSome result (λ place. slice_get names.now place ≡ Some name) }
     ensures none { IsNone result → Contains names.now name → ⊥ }
@@ -35,11 +59,14 @@ fn guess(names: &[u64], name: u64) -> usize {
     }
 }
 
-/// The place of a name in a set.
+/// The place of a name in a set. Where the set has no name, it costs no search.
 pub fn place_among(names: &IndexSet<u64>, name: u64) -> Option<usize>
     ensures some { IfSome result (λ place. slice_get names.now.keys place ≡ Some name) }
     ensures none { IsNone result → Contains names.now.keys name → ⊥ }
 {
+    if names.is_empty() {
+        return None;
+    }
     names.get_index_of(&name)
 }
 

@@ -18,15 +18,15 @@ returns-in_default c =
 pub returns-then-serves : goal.returns-then-serves
 returns-then-serves c =
     let kind = kind_of c.get.result.0 c.get.result.1.now in
-    let x : store.Kept = record { name = c.need.inside.0.0.0; kind = c.in-Some.kind; text = c.in-Some.field-0-1.now } in
-    (stored_with (Some kind) x, stored-found c.args.kinds.now c.args.instances.now x kind c.in-Some.ensures.some c.get.ensures, ap (λ (n : Need). n.target) c.need.view_is, c.serves.ensures.0 (search rules))
+    let x : store.Kept = record { name = c.need.inside.0.0.0; kind = c.in-Some.kind; text = c.in-Some.ensures.some.0 } in
+    (stored_with (Some kind) x, stored-found c.args.kinds.now c.args.instances.now x kind c.in-Some.ensures.some.1 c.get.ensures, ap (λ (n : Need). n.target) c.need.view_is, c.serves.ensures.0 (search rules))
 
 pub returns-else-serves : goal.returns-else-serves
 returns-else-serves c =
     let kind = kind_of c.get.result.0 c.get.result.1.now in
-    let x : store.Kept = record { name = c.need.inside.0.0.0; kind = c.in-Some.kind; text = c.in-Some.field-0-1.now } in (
+    let x : store.Kept = record { name = c.need.inside.0.0.0; kind = c.in-Some.kind; text = c.in-Some.ensures.some.0 } in (
       stored_with (Some kind) x,
-      stored-found c.args.kinds.now c.args.instances.now x kind c.in-Some.ensures.some c.get.ensures,
+      stored-found c.args.kinds.now c.args.instances.now x kind c.in-Some.ensures.some.1 c.get.ensures,
       ap (λ (n : Need). n.target) c.need.view_is,
       λ serves.
           let passes : c.serves.result ≡ true = c.serves.ensures.1 serves in

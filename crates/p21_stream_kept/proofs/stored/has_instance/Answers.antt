@@ -1,4 +1,4 @@
-use Rattle.std.proofs.Common.{Bor, ℕ, List, sym, subst, ◌∙◌}
+use Rattle.std.proofs.Common.{ℕ, subst, sym, ◌∙◌}
 use Rattle.std.specs.Prelude.{Contains}
 use Rattle.p21_stream_kept.proofs.Instances.{named-found, named-none}
 use Rattle.p21_stream_store.specs.Kept.{kept_names}
@@ -8,6 +8,6 @@ pub returns : goal.returns
 returns c =
     let names = kept_names c.args.instances.now in
     let P : ℕ → Type 0 = λ n. Contains names n in (
-      λ there. subst P c.name.view_is (named-found c.args.instances.now c.name.inside.0 (λ (found : ℕ × Bor (List ℕ)). found.0) (λ (found : ℕ × Bor (List ℕ)). found.1.now) c.find.result c.find.ensures.some (sym c.is_some.ensures ∙ there)),
-      λ among. c.is_some.ensures ∙ named-none c.args.instances.now c.name.inside.0 c.find.result c.find.ensures.none (subst P (sym c.name.view_is) among),
+      λ there. subst P c.name.view_is (named-found c.args.instances.now c.name.inside.0 c.kind_of.result c.kind_of.ensures.some (sym c.is_some.ensures ∙ there)),
+      λ among. c.is_some.ensures ∙ named-none c.args.instances.now c.name.inside.0 c.kind_of.result c.kind_of.ensures.none (subst P (sym c.name.view_is) among),
     )

@@ -9,7 +9,7 @@ invariant_of-self-then-is_above c =
     let added : IsAdded c.self.inside.rising.items c.self.inside.rising_lines c.args.name (c.args.kind, c.args.text.now) c.add_rising.new.names.items c.add_rising.new.lines =
     record { lengths = c.self.invariant.rising_lines; names_are = c.in-Ok.ensures.names; lines_are = c.in-Ok.ensures.lines } in
     record {
-      rising = subst (λ (l : List ℕ). IsStrictlyIncreasing l) (ap (λ (l : List ℕ). l ++ c.args.name ∷ []) c.deref.ensures.value ∙ sym c.in-Ok.ensures.names) (c.if-is_above.ensures refl);
+      rising = subst (λ (l : List ℕ). IsStrictlyIncreasing l) (ap (λ (l : List ℕ). l ++ c.args.name ∷ []) c.deref.ensures.value ∙ sym c.in-Ok.ensures.names) (c.if-is_above.ensures.rises refl);
       rising_lines = added_lengths _ _ _ _ _ _ added;
       late_lines = c.self.invariant.late_lines;
       size = added_size (kept c.args.name (c.args.kind, c.args.text.now)) _ _ _ _ (added_in_front _ _ _ _ _ _ added _ _ refl) c.self.invariant.size c.in-Some.ensures.1;
