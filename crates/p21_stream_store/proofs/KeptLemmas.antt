@@ -1,7 +1,7 @@
 -- Instances among those that are kept.
 use Rattle.std.proofs.Common.{◌≡◌, ◌+◌, ◌-◌, ◌<◌, ◌≤◌, ℕ, zero, suc, List, [], ◌∷◌, ◌++◌, length, get_or, Option, Some, inl, inr, refl, sym, ap, subst, ◌∙◌, arith, unwrap_or}
 use Rattle.std.proofs.lemmas.List.{append-nil, append_assoc, get_or-append_right, get_or_append_left, get_or_read, length-append, length-map, map-append, nil_from_length}
-use Rattle.std.proofs.lemmas.List.Elements.{Contains-append_cases, Contains-append_left, Contains-append_right}
+use Rattle.std.proofs.lemmas.List.Elements.{Contains-append_cases, Contains-append_left, Contains-append_right, Contains-push_cases}
 use Rattle.std.proofs.lemmas.List.Sorted.{IsPermutation-middle, IsPermutation-sym, IsPermutation-to_front, sum_by-IsPermutation}
 use Rattle.std.proofs.lemmas.List.FromFn.{get_or-range_with_len, length-range_with_len}
 use Rattle.std.proofs.lemmas.List.Sums.{sum_by-append}
@@ -56,6 +56,13 @@ module _ (rising late : List ℕ) (rising_lines late_lines : List (ℕ × List �
   none_found n e f first second has =
       elim (Contains-append_cases rising late n (subst (λ (l : List ℕ). Contains l n) (names_are e f) has)) [ inl here ↦ first here | inr there ↦ second there ]
 
+  -- a name above all that rose is none of them, and no late one
+  pub above_none : (n : ℕ) → length rising ≡ length rising_lines → length late ≡ length late_lines → ((other : ℕ) → Contains rising other → other < n)
+      → ((name : ℕ) → Contains late name → (other : ℕ) × Contains rising other × (name ≤ other)) → Contains (kept_names all) n → ⊥
+  above_none n e f above below =
+      none_found n e f (λ here. let less = above n here in omega (arith, less))
+      (λ there. let found = below n there in let less = above found.0 found.1 in let most = found.2 in omega (arith, less, most))
+
 -- ---- an instance more
 
 kept-more : (names : List ℕ) (lines : List (ℕ × List ℕ)) (n : ℕ) (l : ℕ × List ℕ) → length names ≡ length lines → kept_of (names ++ n ∷ []) (lines ++ l ∷ []) ≡ kept_of names lines ++ kept n l ∷ []
@@ -89,6 +96,16 @@ module _ (names : List ℕ) (lines : List (ℕ × List ℕ)) (n : ℕ) (l : ℕ 
       let new : others ++ kept_of new_names new_lines ≡ old ++ kept n l ∷ [] =
       ap (λ (x : List Kept). others ++ x) added-kept_of ∙ sym (append_assoc others (kept_of names lines) (kept n l ∷ [])) ∙ ap (λ (x : List Kept). x ++ kept n l ∷ []) e in
       subst (λ (x : List Kept). IsPermutation (kept n l ∷ old) x) (sym new) (IsPermutation-sym _ _ (IsPermutation-to_front old (kept n l)))
+
+-- a late name is still not above all that rose when another one rises
+pub still_below : (rising late : List ℕ) (x : ℕ) → ((name : ℕ) → Contains late name → (other : ℕ) × Contains rising other × (name ≤ other)) → (name : ℕ) → Contains late name → (other : ℕ) × Contains (rising ++ x ∷ []) other × (name ≤ other)
+still_below rising late x below name has = let found = below name has in (found.0, Contains-append_left rising (x ∷ []) found.0 found.1, found.2)
+
+-- nor is another late one
+pub also_below : (rising late : List ℕ) (x : ℕ) → ((name : ℕ) → Contains late name → (other : ℕ) × Contains rising other × (name ≤ other)) → (other : ℕ) × Contains rising other × (x ≤ other) → (name : ℕ) → Contains (late ++ x ∷ []) name → (other : ℕ) × Contains rising other × (name ≤ other)
+also_below rising late x below within name has =
+    let P : ℕ → Type 0 = λ n. (other : ℕ) × Contains rising other × (n ≤ other) in
+    elim (Contains-push_cases late x name has) [ inl before ↦ below name before | inr same ↦ subst P same within ]
 
 pub added_size : (x : Kept) (old new : List Kept) (size new_size : ℕ) → IsPermutation (x ∷ old) new → size ≡ text_bytes old → new_size ≡ size + length x.text → new_size ≡ text_bytes new
 added_size x old new size new_size p e f =

@@ -5,7 +5,7 @@ use Rattle.std.proofs.lemmas.Grind.{get_or_default_zero}
 use Rattle.std.proofs.lemmas.List.Quantifiers.{position-Some}
 use Rattle.std.proofs.lemmas.List.Sorted.{searched}
 use Rattle.std.proofs.lemmas.Map.Views.{Contains-from_any}
-use Rattle.std.proofs.lemmas.Option.{get_or_from_slice_get, slice_get-get_or}
+use Rattle.std.proofs.lemmas.Option.{get_or_from_slice_get, slice_get-get_or, slice_get_within}
 use Rattle.std.specs.List.{Contains, list_any, position, slice_get}
 use Rattle.std.specs.List.Sorted.{IsBinarySearchResult, IsStrictlyIncreasing}
 use Rattle.std.specs.Ordering.{nat_cmp}
@@ -28,14 +28,20 @@ never_fall xs r i j h k =
     let to = rise_to xs r i (j - i) (omega (arith, h, k)) in
     omega (arith, to, same)
 
--- a name above the last of rising names is none of them
-pub absent_above : (xs : List ℕ) (last x : ℕ) → IsStrictlyIncreasing xs → Some last ≡ slice_get xs (length xs - 1) → ltb last x ≡ true → Contains xs x → ⊥
-absent_above xs last x rising is tested (k, h, at) =
+-- a name above the last of rising names is above them all
+pub above_all : (xs : List ℕ) (last x : ℕ) → IsStrictlyIncreasing xs → Some last ≡ slice_get xs (length xs - 1) → ltb last x ≡ true → (y : ℕ) → Contains xs y → y < x
+above_all xs last x rising is tested y (k, h, at) =
     let above : last < x = grind (arith, nat_tests) in
     let most = never_fall xs rising k (length xs - 1) (omega (arith, h)) (omega (arith, h)) in
-    let here : get_or xs k x ≡ get_or xs k 0 = get_or_default_zero xs k x h in
+    let here : get_or xs k y ≡ get_or xs k 0 = get_or_default_zero xs k y h in
     let end : get_or xs (length xs - 1) 0 ≡ last = get_or_from_slice_get xs (length xs - 1) last 0 (sym is) in
     omega (arith, most, here, end, above, at)
+
+-- another name has one among them that is not below it
+pub within_last : (xs : List ℕ) (last x : ℕ) → Some last ≡ slice_get xs (length xs - 1) → ltb last x ≡ false → (y : ℕ) × Contains xs y × (x ≤ y)
+within_last xs last x is tested =
+    let below : x ≤ last = grind (arith, nat_tests) in
+    (last, (length xs - 1, slice_get_within xs (length xs - 1) last (sym is), get_or_from_slice_get xs (length xs - 1) last last (sym is)), below)
 
 pub not_found : (xs : List ℕ) (x : ℕ) (r : Result ℕ ℕ) (place : Option ℕ) → IsStrictlyIncreasing xs → IsBinarySearchResult (λ y. nat_cmp y x) xs r → place ≡ result_ok r → IsNone place → Contains xs x → ⊥
 not_found xs x (Ok i) None rising s e none has = cc

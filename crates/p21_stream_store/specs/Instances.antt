@@ -1,5 +1,5 @@
 -- What instances hold: those with rising names, and the others.
-use Rattle.std.specs.Prelude.{◌≡◌, List, ◌++◌, length}
+use Rattle.std.specs.Prelude.{◌≡◌, ◌≤◌, ℕ, List, ◌++◌, length, Contains}
 use Rattle.std.specs.List.Sorted.{IsStrictlyIncreasing}
 use Rattle.p21_stream_store.specs.Kept.{Kept, kept_of, text_bytes}
 use Rattle.p21_stream_store.specs.declared.instances.Instances.TheInside.{Inside}
@@ -9,6 +9,8 @@ all_kept a = kept_of a.rising.items a.rising_lines ++ kept_of a.late.keys a.late
 
 pub record IsSound (a : Inside) : Type 0 where
   pub rising : IsStrictlyIncreasing a.rising.items
+  -- a late name is not above all that rose
+  pub late_below : (name : ℕ) → Contains a.late.keys name → (other : ℕ) × Contains a.rising.items other × (name ≤ other)
   pub rising_lines : length a.rising.items ≡ length a.rising_lines
   pub late_lines : length a.late.keys ≡ length a.late_lines
   pub size : a.size ≡ text_bytes (all_kept a)

@@ -111,11 +111,15 @@ impl Instances {
         self.late.is_empty()
     }
 
-    /// The number of the kind and the canonical text of the instance of this name, if there is one.
+    /// The number of the kind and the canonical text of the instance of this name, if there is one. A name that rises costs
+    /// no search.
     pub fn find(&self, name: u64) -> Option<(u32, &[u8])>
         ensures some { IfSome result (λ found. Contains self.now (record { name = name; kind = found.0; text = found.1.now })) }
         ensures none { IsNone result → Contains (kept_names self.now) name → ⊥ }
     {
+        if is_above(&self.rising, name) {
+            return None;
+        }
         if let Some(place) = place_in(&self.rising, name) {
             return Some(self.rising_lines.get(place));
         }
@@ -125,11 +129,14 @@ impl Instances {
         }
     }
 
-    /// The number of the kind of the instance of this name, if there is one.
+    /// The number of the kind of the instance of this name, if there is one. A name that rises costs no search.
     pub fn kind_of(&self, name: u64) -> Option<u32>
         ensures some { IfSome result (λ kind. (text : List ℕ) × Contains self.now (record { name = name; kind = kind; text = text })) }
         ensures none { IsNone result → Contains (kept_names self.now) name → ⊥ }
     {
+        if is_above(&self.rising, name) {
+            return None;
+        }
         if let Some(place) = place_in(&self.rising, name) {
             return Some(self.rising_lines.kind(place));
         }

@@ -1,5 +1,5 @@
 //! Where a name stands among names.
-ghost use Rattle.std.specs.Prelude.{◌≡◌, ◌<◌, [], ◌∷◌, ◌++◌, Contains, IfSome, IsNone, IsTrue, OnErr, OnOk, slice_get, Some};
+ghost use Rattle.std.specs.Prelude.{◌≡◌, ◌<◌, ◌≤◌, ℕ, false, [], ◌∷◌, ◌++◌, Contains, IfSome, IsNone, IsTrue, OnErr, OnOk, slice_get, Some};
 ghost use Rattle.std.specs.List.Sorted.{IsStrictlyIncreasing};
 
 use indexmap::IndexSet;
@@ -9,7 +9,8 @@ use p21_values::NoMemory;
 pub fn is_above(names: &[u64], name: u64) -> bool
     requires { IsStrictlyIncreasing names.now }
     ensures rises { IsTrue result → IsStrictlyIncreasing (names.now ++ name ∷ []) }
-    ensures absent { IsTrue result → Contains names.now name → ⊥ }
+    ensures above { IsTrue result → (other : ℕ) → Contains names.now other → other < name }
+    ensures within { result ≡ false → (other : ℕ) × Contains names.now other × (name ≤ other) }
 {
     match names.last() {
         Some(last) => *last < name,
@@ -17,20 +18,8 @@ pub fn is_above(names: &[u64], name: u64) -> bool
     }
 }
 
-/// The place of a name among rising names. A name above them costs no search.
-pub fn place_in(names: &[u64], name: u64) -> Option<usize>
-    requires rising { IsStrictlyIncreasing names.now }
-    ensures some { IfSome result (λ place. slice_get names.now place ≡ Some name) }
-    ensures none { IsNone result → Contains names.now name → ⊥ }
-{
-    if is_above(names, name) {
-        return None;
-    }
-    place_below(names, name)
-}
-
 /// The place of a name among rising names. Names that rise by like steps are found at once.
-fn place_below(names: &[u64], name: u64) -> Option<usize>
+pub fn place_in(names: &[u64], name: u64) -> Option<usize>
     requires rising { IsStrictlyIncreasing names.now }
     ensures some { IfSome result (λ place. slice_get names.now place ≡ Some name) }
     ensures none { IsNone result → Contains names.now name → ⊥ }
