@@ -1,6 +1,5 @@
-use super::spelled;
-use p21_values::{Canonical, NoMemory, Text};
-use std::test::Fail;
+use super::{Pairs, Spellings, appended, are_equal, spelled};
+use p21_values::{NoMemory, Text, ValueFault};
 
 fn text(rt: &HostRuntime, characters: &str) -> Result<Text, NoMemory> {
     let mut text = Text::new(rt.alloc());
@@ -10,75 +9,106 @@ fn text(rt: &HostRuntime, characters: &str) -> Result<Text, NoMemory> {
     Ok(text)
 }
 
-#[test]
-fn spells(rt: HostRuntime) -> Result<(), Fail> {
-    let cases = [
-        ("", r"''"),
-        ("é'", r"'\X2\00E9\X0\'''"),
-        ("café", r"'caf\X2\00E9\X0\'"),
-        (r"it's \", r"'it''s \\'"),
-        ("§x", r"'\X2\00A7\X0\x'"),
-        ("Ü~", r"'\X2\00DC\X0\~'"),
-        ("\u{7F}\n", r"'\X2\007F\X0\\X2\000A\X0\'"),
-        ("\u{FFFF}", r"'\X2\FFFF\X0\'"),
-        ("\u{1F600}", r"'\X4\0001F600\X0\'"),
-        (
-            "a label of more than sixteen",
-            r"'a label of more than sixteen'",
-        ),
-    ];
-    for (characters, spelling) in cases {
-        let found = spelled(&rt, &text(&rt, characters)?)?;
-        assert_eq!(rt; found.as_slice(), spelling.as_bytes(), "{characters}");
+fn read(rt: &HostRuntime, characters: &str) -> Result<Text, ValueFault> {
+    match text(rt, characters) {
+        Ok(text) => Ok(text),
+        Err(_) => Err(ValueFault::NoMemory),
     }
-    Ok(())
+}
+
+const ROWS: Spellings = &[
+    ("", r"''"),
+    ("é'", r"'\X2\00E9\X0\'''"),
+    ("café", r"'caf\X2\00E9\X0\'"),
+    (r"it's \", r"'it''s \\'"),
+    ("§x", r"'\X2\00A7\X0\x'"),
+    ("Ü~", r"'\X2\00DC\X0\~'"),
+    ("\u{7F}\n", r"'\X2\007F\X0\\X2\000A\X0\'"),
+    ("\u{FFFF}", r"'\X2\FFFF\X0\'"),
+    ("\u{1F600}", r"'\X4\0001F600\X0\'"),
+    (
+        "a label of more than sixteen",
+        r"'a label of more than sixteen'",
+    ),
+];
+
+fn first_wrong(rt: &HostRuntime, rows: Spellings) -> &'static str {
+    for (text, spelling) in rows {
+        if spelled(rt, read(rt, text)).as_slice() != spelling.as_bytes() {
+            return text;
+        }
+    }
+    "none"
 }
 
 #[test]
-fn appends(rt: HostRuntime) -> Result<(), Fail> {
-    let mut out = Vec::from_slice(rt.alloc(), b"(")?;
-    text(&rt, "a")?.write_canonical(&mut out)?;
+fn spells(rt: HostRuntime) {
+    assert_eq!(rt; first_wrong(&rt, ROWS), "none");
+}
+
+#[test]
+fn appends(rt: HostRuntime) {
+    let out = appended(&rt, b"(", read(&rt, "a"));
     assert_eq!(rt; out.as_slice(), b"('a'".as_slice());
-    Ok(())
 }
 
 #[test]
-fn holds_characters(rt: HostRuntime) -> Result<(), Fail> {
-    let word = text(&rt, "é'")?;
-    assert_eq!(rt; word.len(), 2);
-    assert_eq!(rt; word.chars(), ['é', '\''].as_slice());
+fn begins_with_no_character(rt: HostRuntime) {
     assert_eq!(rt; Text::new(rt.alloc()).len(), 0);
-    Ok(())
+}
+
+/// Whether a text of one character and others behind it, added by each call, has these characters.
+fn has_characters(rt: &HostRuntime, text: &str, latin1: &[u8], characters: &[char]) -> bool {
+    let mut word = Text::new(rt.alloc());
+    if word.push('\u{20AC}').is_err()
+        || word.push_str(text).is_err()
+        || word.push_latin1(latin1).is_err()
+    {
+        return false;
+    }
+    word.len() == characters.len() && word.chars() == characters
+}
+
+/// What is added by each call, and the characters that then stand there.
+type Added = &'static [(&'static str, &'static [u8], &'static [char])];
+
+const ADDED: Added = &[
+    ("", b"", &['\u{20AC}']),
+    (
+        "a\u{E9}\u{1F600}",
+        b"",
+        &['\u{20AC}', 'a', '\u{E9}', '\u{1F600}'],
+    ),
+    ("", b"a ~\xE9", &['\u{20AC}', 'a', ' ', '~', '\u{E9}']),
+    ("é'", b"", &['\u{20AC}', 'é', '\'']),
+];
+
+fn first_otherwise_added(rt: &HostRuntime, rows: Added) -> &'static str {
+    for (text, latin1, characters) in rows {
+        if !has_characters(rt, text, latin1, characters) {
+            return text;
+        }
+    }
+    "none"
 }
 
 #[test]
-fn compares(rt: HostRuntime) -> Result<(), Fail> {
-    assert!(rt; text(&rt, "é'")? == text(&rt, "é'")?);
-    assert!(rt; text(&rt, "é'")? != text(&rt, "é\"")?);
-    assert!(rt; text(&rt, "é")? != text(&rt, "é'")?);
-    Ok(())
+fn adds(rt: HostRuntime) {
+    assert_eq!(rt; first_otherwise_added(&rt, ADDED), "none");
+}
+
+const PAIRS: Pairs = &[("é'", "é'", true), ("é'", "é\"", false), ("é", "é'", false)];
+
+fn first_unlike(rt: &HostRuntime, pairs: Pairs) -> &'static str {
+    for (one, other, equal) in pairs {
+        if are_equal(read(rt, one), read(rt, other)) != Some(*equal) {
+            return other;
+        }
+    }
+    "none"
 }
 
 #[test]
-fn adds_text(rt: HostRuntime) -> Result<(), Fail> {
-    let mut word = text(&rt, "\u{20AC}")?;
-    word.push_str("")?;
-    word.push_str("a\u{E9}\u{1F600}")?;
-    assert_eq!(rt;
-        word.chars(),
-        ['\u{20AC}', 'a', '\u{E9}', '\u{1F600}'].as_slice()
-    );
-    Ok(())
-}
-
-#[test]
-fn adds_bytes(rt: HostRuntime) -> Result<(), Fail> {
-    let mut word = text(&rt, "\u{20AC}")?;
-    word.push_latin1(b"")?;
-    word.push_latin1(b"a ~\xE9")?;
-    assert_eq!(rt;
-        word.chars(),
-        ['\u{20AC}', 'a', ' ', '~', '\u{E9}'].as_slice()
-    );
-    Ok(())
+fn compares(rt: HostRuntime) {
+    assert_eq!(rt; first_unlike(&rt, PAIRS), "none");
 }

@@ -1,40 +1,104 @@
-use super::spelled;
+use super::{Pairs, Refusals, are_equal, spelled};
 use p21_values::{ValueFault, Word};
-use std::test::Fail;
 
 fn read(rt: &HostRuntime, text: &str) -> Result<Word, ValueFault> {
     Word::read(rt.alloc(), text.as_bytes())
 }
 
-#[test]
-fn reads_and_spells(rt: HostRuntime) -> Result<(), Fail> {
-    for text in ["RED", "T", "_", "A_1", "CARTESIAN_POINT"] {
-        let word = read(&rt, text)?;
-        assert_eq!(rt; word.bytes(), text.as_bytes());
-        assert_eq!(rt; spelled(&rt, &word)?.as_slice(), text.as_bytes());
+/// Words of fewer bytes than lie in place, of as many, of one more and of many more: 24 do.
+const WORDS: &[&str] = &[
+    "RED",
+    "T",
+    "_",
+    "A_1",
+    "CARTESIAN_POINT",
+    "AB_1",
+    "A",
+    "ABCDEFGHIJKLMNOPQRSTUVW",
+    "ABCDEFGHIJKLMNOPQRSTUVWX",
+    "ABCDEFGHIJKLMNOPQRSTUVWXY",
+    "ABCDEFGHIJKLMNOPQRSTUVWXYZ_012345678",
+];
+
+/// Whether the word has these bytes.
+fn is_kept(word: Result<Word, ValueFault>, text: &[u8]) -> bool {
+    let Ok(word) = word else {
+        return false;
+    };
+    word.holds();
+    word.bytes() == text
+}
+
+/// The word that is the front of a line, of as many bytes as it has itself.
+fn of_front(
+    rt: &HostRuntime,
+    word: Result<Word, ValueFault>,
+    behind: &[u8],
+) -> Result<Word, ValueFault> {
+    let word = word?;
+    let mut line = Vec::from_slice(rt.alloc(), word.bytes())?;
+    line.extend_from_slice(behind)?;
+    match Word::of_front(rt.alloc(), &line, word.bytes().len()) {
+        Ok(front) => Ok(front),
+        Err(_) => Err(ValueFault::NoMemory),
     }
-    Ok(())
+}
+
+fn first_wrong(rt: &HostRuntime, words: &'static [&'static str], behind: &[u8]) -> &'static str {
+    for text in words {
+        let front = of_front(rt, read(rt, text), behind);
+        if !is_kept(read(rt, text), text.as_bytes())
+            || spelled(rt, front).as_slice() != text.as_bytes()
+        {
+            return text;
+        }
+    }
+    "none"
+}
+
+#[test]
+fn reads_and_spells(rt: HostRuntime) {
+    assert_eq!(rt; first_wrong(&rt, WORDS, b""), "none");
+    assert_eq!(rt; first_wrong(&rt, &["AB_1"], b"("), "none");
+    assert_eq!(rt; first_wrong(&rt, WORDS, b"('A',(0.,1.5,2.25));"), "none");
+}
+
+const REFUSED: Refusals = &[
+    ("red", ValueFault::BadWord),
+    ("", ValueFault::BadWord),
+    ("1A", ValueFault::BadWord),
+    ("Red", ValueFault::BadWord),
+    ("A-B", ValueFault::BadWord),
+    ("A ", ValueFault::BadWord),
+    (".T.", ValueFault::BadWord),
+];
+
+fn first_taken(rt: &HostRuntime, rows: Refusals) -> &'static str {
+    for (text, fault) in rows {
+        if read(rt, text).err() != Some(*fault) {
+            return text;
+        }
+    }
+    "none"
 }
 
 #[test]
 fn refuses_what_is_no_keyword(rt: HostRuntime) {
-    for text in ["red", "", "1A", "Red", "A-B", "A ", ".T."] {
-        assert_eq!(rt; read(&rt, text).err(), Some(ValueFault::BadWord), "{text}");
+    assert_eq!(rt; first_taken(&rt, REFUSED), "none");
+}
+
+const PAIRS: Pairs = &[("RED", "RED", true), ("RED", "REDS", false)];
+
+fn first_unlike(rt: &HostRuntime, pairs: Pairs) -> &'static str {
+    for (one, other, equal) in pairs {
+        if are_equal(read(rt, one), read(rt, other)) != Some(*equal) {
+            return other;
+        }
     }
+    "none"
 }
 
 #[test]
-fn takes_the_front(rt: HostRuntime) -> Result<(), Fail> {
-    let word = Word::of_front(rt.alloc(), b"AB_1(", 4)?;
-    assert_eq!(rt; spelled(&rt, &word)?.as_slice(), b"AB_1".as_slice());
-    let word = Word::of_front(rt.alloc(), b"AB_1('A',(0.,1.5,2.25));", 4)?;
-    assert_eq!(rt; spelled(&rt, &word)?.as_slice(), b"AB_1".as_slice());
-    Ok(())
-}
-
-#[test]
-fn compares(rt: HostRuntime) -> Result<(), Fail> {
-    assert!(rt; read(&rt, "RED")? == read(&rt, "RED")?);
-    assert!(rt; read(&rt, "RED")? != read(&rt, "REDS")?);
-    Ok(())
+fn compares(rt: HostRuntime) {
+    assert_eq!(rt; first_unlike(&rt, PAIRS), "none");
 }
