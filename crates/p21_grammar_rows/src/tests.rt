@@ -3,17 +3,20 @@ mod places;
 mod spelled;
 
 use p21_grammar::{
-    Absent, Canonical, Event, GrammarFault, Key, Lexer, Limits, Line, Param, Params, Parser, Part,
-    Record, Token, one_tree,
+    Absent, Canonical, Event, GrammarFault, Key, Lexer, Limits, Line, NoMemory, Param, Params,
+    Parser, Part, Record, Token, Word, one_tree,
 };
-use spelled::spell_event;
-use std::alloc::Global;
-use std::process::Abort;
-use std::test::Fail;
+use spelled::{put, spell_event};
 
 /// The statements up to the end of the header, as every file here begins.
 const HEAD: &str =
     "ISO-10303-21;HEADER;FILE_DESCRIPTION((''),'2;1');FILE_NAME('','',(''),(''),'','','');FILE_SCHEMA(('DEMO'));ENDSEC;";
+
+/// What a header stands in.
+const HEADER: &str = "ISO-10303-21;HEADER;";
+
+/// Texts, with the statements of each and then the refusal, `end` and the refusal of the end, or nothing.
+type Rows = &'static [(&'static str, &'static str)];
 
 /// A lexer and a parser, and the statements that were given.
 #[derive(Drop)]
@@ -22,105 +25,140 @@ struct Reader {
     parser: Parser,
     given: Vec<u8>,
     refused: Option<GrammarFault>,
+    // Whether the lexer refused a text, or memory ran out.
+    is_lost: bool,
 }
 
 impl Reader {
-    fn new(alloc: Global) -> Reader {
+    fn new(rt: &HostRuntime) -> Reader {
         Reader {
-            lexer: Lexer::new(alloc, Limits::usual()),
-            parser: Parser::new(alloc),
-            given: Vec::new(alloc),
+            lexer: Lexer::new(rt.alloc(), Limits::usual()),
+            parser: Parser::new(rt.alloc()),
+            given: Vec::new(rt.alloc()),
             refused: None,
+            is_lost: false,
         }
     }
 
-    /// Takes a text up to its end or to a refusal of the parser.
-    fn feed(&mut self, text: &str) -> Result<(), Fail> {
-        let mut rest = text.as_bytes();
+    /// A reader that has taken two texts.
+    fn behind(rt: &HostRuntime, first: &str, second: &str) -> Reader {
+        let mut reader = Reader::new(rt);
+        reader.feed(first);
+        reader.feed(second);
+        reader
+    }
+
+    fn feed(&mut self, text: &str) {
+        self.feed_bytes(text.as_bytes());
+    }
+
+    /// Takes a text up to its end or to a refusal.
+    fn feed_bytes(&mut self, text: &[u8]) {
+        let mut rest = text;
         for _ in 0..u64::MAX {
-            if rest.is_empty() || self.refused.is_some() {
+            if rest.is_empty() || self.refused.is_some() || self.is_lost {
                 break;
             }
-            let (taken, token) = self.lexer.next(rest)?;
-            rest = &rest[taken..];
-            match token {
-                Some(token) => self.take(token)?,
-                None => {}
-            }
+            rest = self.take_front(rest);
         }
-        Ok(())
     }
 
-    fn take(&mut self, token: Token) -> Result<(), Fail> {
+    /// Takes the next token, and answers what is left behind it.
+    fn take_front<'a>(&mut self, text: &'a [u8]) -> &'a [u8] {
+        match self.lexer.next(text) {
+            Ok((taken, token)) => {
+                if let Some(token) = token {
+                    self.take(token);
+                }
+                &text[taken..]
+            }
+            Err(_) => {
+                self.is_lost = true;
+                text
+            }
+        }
+    }
+
+    fn take(&mut self, token: Token) {
         match self.parser.take(token) {
-            Ok(Some(event)) => spell_event(&event, &mut self.given),
-            Ok(None) => Ok(()),
-            Err(fault) => {
-                self.refused = Some(fault);
-                Ok(())
+            Ok(Some(event)) => {
+                if spell_event(&event, &mut self.given).is_err() {
+                    self.is_lost = true;
+                }
             }
+            Ok(None) => {}
+            Err(fault) => self.refused = Some(fault),
         }
-    }
-
-    /// Takes two texts, and keeps the statements of the second. After a refusal it looks that the next call answers it.
-    fn read(&mut self, head: &str, text: &str) -> Result<(), Fail> {
-        self.feed(head)?;
-        self.given.clear();
-        self.feed(text)?;
-        if self.refused.is_some() && self.parser.take(Token::Semicolon).err() != self.refused {
-            self.given.extend_from_slice(b"and then another ")?;
-        }
-        Ok(())
     }
 
     /// Takes a text so many times.
-    fn repeat(&mut self, text: &str, count: u32) -> Result<(), Fail> {
+    fn repeat(&mut self, text: &str, count: u32) {
         for _ in 0..count {
-            self.feed(text)?;
+            self.feed(text);
         }
-        Ok(())
     }
 
-    /// The statements, and then the refusal, `end` and that of `finish`, or nothing.
-    fn end(self) -> Result<Vec<u8>, Fail> {
-        let Reader {
-            lexer,
-            parser,
-            given,
-            refused,
-        } = self;
-        drop(lexer);
-        let ended = parser.finish().err();
-        verdict(given, refused, ended)
+    /// Whether nothing was lost, and a refusal is answered again.
+    fn is_steady(&mut self) -> bool {
+        match self.refused {
+            Some(fault) => repeats(&mut self.parser, fault),
+            None => !self.is_lost,
+        }
     }
 }
 
-fn verdict(
-    given: Vec<u8>,
+/// Whether each of these tokens behind a refusal is answered by that refusal, and the depth is kept.
+fn repeats(parser: &mut Parser, fault: GrammarFault) -> bool {
+    let depth = parser.depth();
+    let tokens = [
+        Token::Semicolon,
+        Token::Left,
+        Token::Right,
+        Token::Begin,
+        Token::Finish,
+    ];
+    for token in tokens {
+        if parser.take(token).err() != Some(fault) {
+            return false;
+        }
+    }
+    parser.depth() == depth
+}
+
+/// Appends the refusal, `end` and that of `finish`, or nothing.
+fn put_ending(
+    out: &mut Vec<u8>,
     refused: Option<GrammarFault>,
     ended: Option<GrammarFault>,
-) -> Result<Vec<u8>, Fail> {
-    let mut given = given;
+) -> Result<(), NoMemory> {
     match (refused, ended) {
+        (None, None) => Ok(()),
+        (None, Some(last)) => {
+            put(out, "end ")?;
+            put(out, last.name())
+        }
+        (Some(fault), None) => {
+            put(out, "not at the end ")?;
+            put(out, fault.name())
+        }
         (Some(fault), Some(last)) => {
-            given.extend_from_slice(fault.name().as_bytes())?;
             if fault != last {
-                given.extend_from_slice(b" and not at the end")?;
+                put(out, "otherwise at the end ")?;
             }
+            put(out, fault.name())
         }
-        (Some(_), None) => given.extend_from_slice(b"accepted though refused")?,
-        (None, Some(fault)) => {
-            given.extend_from_slice(b"end ")?;
-            given.extend_from_slice(fault.name().as_bytes())?;
-        }
-        (None, None) => {}
     }
-    Ok(given)
 }
 
-/// What comes of two texts: the statements of the second, and then the refusal, `end` and that of `finish`, or nothing.
-fn answers(rt: &HostRuntime, head: &str, text: &str) -> Result<Vec<u8>, Fail> {
-    let mut reader = Reader::new(rt.alloc());
-    reader.read(head, text)?;
-    reader.end()
+/// Whether the statements of a further text are these, and then the refusal, `end` and that of `finish`, or nothing.
+fn comes_to(reader: Reader, text: &str, expected: &str) -> bool {
+    let mut reader = reader;
+    reader.given.clear();
+    reader.feed(text);
+    if !reader.is_steady() {
+        return false;
+    }
+    let ended = reader.parser.finish().err();
+    put_ending(&mut reader.given, reader.refused, ended).is_ok()
+        && reader.given.as_slice() == expected.as_bytes()
 }

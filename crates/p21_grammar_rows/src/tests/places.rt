@@ -21,11 +21,16 @@ const KINDS: [&str; 17] = [
     "*",
 ];
 
-/// What a token does behind a text: `.` it is taken, `E` a statement ends, and a letter for each refusal.
-fn letter(rt: &HostRuntime, before: &str, kind: &str) -> Result<u8, Fail> {
-    let mut reader = Reader::new(rt.alloc());
-    reader.read(before, kind)?;
-    Ok(letter_of(reader.refused, reader.given.is_empty()))
+/// What a token does behind two texts: `.` it is taken, `E` a statement ends, and a letter for each refusal.
+fn letter(rt: &HostRuntime, first: &str, before: &str, kind: &str) -> u8 {
+    let mut reader = Reader::behind(rt, first, before);
+    reader.given.clear();
+    reader.feed(kind);
+    if reader.is_steady() {
+        letter_of(reader.refused, reader.given.is_empty())
+    } else {
+        b'?'
+    }
 }
 
 fn letter_of(refused: Option<GrammarFault>, is_open: bool) -> u8 {
@@ -45,153 +50,160 @@ fn letter_of(refused: Option<GrammarFault>, is_open: bool) -> u8 {
     }
 }
 
-/// A letter for each of these tokens behind two texts.
-fn row(rt: &HostRuntime, first: &str, before: &str, kinds: &[&str]) -> Result<Vec<u8>, Fail> {
-    let mut text = String::from_str(rt.alloc(), first)?;
-    text.push_str(before)?;
-    let mut letters = Vec::new(rt.alloc());
-    for kind in kinds {
-        letters.push(letter(rt, &text, kind)?)?;
+/// Whether these are the letters of these tokens behind two texts.
+fn has_letters(
+    rt: &HostRuntime,
+    first: &str,
+    before: &str,
+    kinds: &[&str],
+    letters: &[u8],
+) -> bool {
+    for (kind, expected) in kinds.iter().zip(letters.iter()) {
+        if letter(rt, first, before, kind) != *expected {
+            return false;
+        }
     }
-    Ok(letters)
+    letters.len() == kinds.len()
 }
 
-#[test]
-fn takes_tokens_in_the_header(rt: HostRuntime) -> Result<(), Fail> {
-    let cases = [
-        ("", ".xxxxxxxxxxxxxxxx"),
-        ("ISO-10303-21 ", "xxxxxxxxxxxxxExxx"),
-        ("ISO-10303-21;", "xxxxxxxxxxxxxxxxx"),
-        ("ISO-10303-21;HEADER ", "xxxxxxxxxxxxxExxx"),
-        ("ISO-10303-21;HEADER;", "xx..xxxxxxxxxxxxx"),
-        ("ISO-10303-21;HEADER;K ", "xxxxxxxxxx.xxxxxx"),
-        ("ISO-10303-21;HEADER;ENDSEC ", "xxxxxxxxxx.xxhxxx"),
-        ("ISO-10303-21;HEADER;K(", "xx..x.......xxx.."),
-        ("ISO-10303-21;HEADER;K(1 ", "xxxxxxxxxxx..xxxx"),
-        ("ISO-10303-21;HEADER;K(1,", "xx..x......xxxx.."),
-        ("ISO-10303-21;HEADER;K(A ", "xxxxxxxxxx.xxxxxx"),
-        ("ISO-10303-21;HEADER;K(A(", "xx..x......xxxx.."),
-        ("ISO-10303-21;HEADER;K(A(1 ", "xxxxxxxxxxx.xxxxx"),
-        ("ISO-10303-21;HEADER;K(1)", "xxxxxxxxxxxxxhxxx"),
-        ("ISO-10303-21;HEADER;!K ", "xxxxxxxxxx.xxxxxx"),
-        ("ISO-10303-21;HEADER;K(!A ", "xxxxxxxxxx.xxxxxx"),
-        ("ISO-10303-21;HEADER;K((", "xx..x.......xxx.."),
-        ("ISO-10303-21;HEADER;K((1 ", "xxxxxxxxxxx..xxxx"),
-        ("ISO-10303-21;HEADER;K((1,", "xx..x......xxxx.."),
-        ("ISO-10303-21;HEADER;K(()", "xxxxxxxxxxx..xxxx"),
-        (
-            "ISO-10303-21;HEADER;FILE_DESCRIPTION($,$)",
-            "xxxxxxxxxxxxxExxx",
-        ),
-        (
-            "ISO-10303-21;HEADER;FILE_DESCRIPTION($,$);",
-            "xx..xxxxxxxxxxxxx",
-        ),
-    ];
-    for (before, letters) in cases {
-        let found = row(&rt, before, "", &KINDS)?;
-        assert_eq!(rt; found.as_slice(), letters.as_bytes(), "{before}");
+/// Texts, with a letter for each kind of token behind them.
+type Letters = &'static [(&'static str, &'static str)];
+
+/// The first text behind which a token does something else, where another stands before it.
+fn first_wrong(rt: &HostRuntime, first: &str, rows: Letters) -> &'static str {
+    for (before, letters) in rows {
+        if !has_letters(rt, first, before, &KINDS, letters.as_bytes()) {
+            return before;
+        }
     }
-    Ok(())
+    "none"
 }
 
-#[test]
-fn takes_tokens_behind_the_schema_of_the_header(rt: HostRuntime) -> Result<(), Fail> {
-    let first =
-        "ISO-10303-21;HEADER;FILE_DESCRIPTION($,$);FILE_NAME($,$,$,$,$,$,$);FILE_SCHEMA(('S'));";
-    let cases = [
-        ("", "xx..xxxxxxxxxxxxx"),
-        ("K(1)", "xxxxxxxxxxxxxExxx"),
-        ("!K()", "xxxxxxxxxxxxxExxx"),
-        ("!K();", "xx..xxxxxxxxxxxxx"),
-        ("FILE_NAME($,$,$,$,$,$,$)", "xxxxxxxxxxxxxhxxx"),
-        ("ENDSEC ", "xxxxxxxxxx.xxExxx"),
-        ("ENDSEC()", "xxxxxxxxxxxxxExxx"),
-    ];
-    for (before, letters) in cases {
-        let found = row(&rt, first, before, &KINDS)?;
-        assert_eq!(rt; found.as_slice(), letters.as_bytes(), "{before}");
-    }
-    Ok(())
-}
+const IN_HEADER: Letters = &[
+    ("", ".xxxxxxxxxxxxxxxx"),
+    ("ISO-10303-21 ", "xxxxxxxxxxxxxExxx"),
+    ("ISO-10303-21;", "xxxxxxxxxxxxxxxxx"),
+    ("ISO-10303-21;HEADER ", "xxxxxxxxxxxxxExxx"),
+    ("ISO-10303-21;HEADER;", "xx..xxxxxxxxxxxxx"),
+    ("ISO-10303-21;HEADER;K ", "xxxxxxxxxx.xxxxxx"),
+    ("ISO-10303-21;HEADER;ENDSEC ", "xxxxxxxxxx.xxhxxx"),
+    ("ISO-10303-21;HEADER;K(", "xx..x.......xxx.."),
+    ("ISO-10303-21;HEADER;K(1 ", "xxxxxxxxxxx..xxxx"),
+    ("ISO-10303-21;HEADER;K(1,", "xx..x......xxxx.."),
+    ("ISO-10303-21;HEADER;K(A ", "xxxxxxxxxx.xxxxxx"),
+    ("ISO-10303-21;HEADER;K(A(", "xx..x......xxxx.."),
+    ("ISO-10303-21;HEADER;K(A(1 ", "xxxxxxxxxxx.xxxxx"),
+    ("ISO-10303-21;HEADER;K(1)", "xxxxxxxxxxxxxhxxx"),
+    ("ISO-10303-21;HEADER;!K ", "xxxxxxxxxx.xxxxxx"),
+    ("ISO-10303-21;HEADER;K(!A ", "xxxxxxxxxx.xxxxxx"),
+    ("ISO-10303-21;HEADER;K((", "xx..x.......xxx.."),
+    ("ISO-10303-21;HEADER;K((1 ", "xxxxxxxxxxx..xxxx"),
+    ("ISO-10303-21;HEADER;K((1,", "xx..x......xxxx.."),
+    ("ISO-10303-21;HEADER;K(()", "xxxxxxxxxxx..xxxx"),
+    (
+        "ISO-10303-21;HEADER;FILE_DESCRIPTION($,$)",
+        "xxxxxxxxxxxxxExxx",
+    ),
+    (
+        "ISO-10303-21;HEADER;FILE_DESCRIPTION($,$);",
+        "xx..xxxxxxxxxxxxx",
+    ),
+];
 
 #[test]
-fn takes_tokens_in_data(rt: HostRuntime) -> Result<(), Fail> {
-    let cases = [
-        ("", "xnxxxxxxxxxxxxxxx"),
-        ("DATA ", "xxxxxxxxxx.xxExxx"),
-        ("DATA;", "xxxu.xxxxxxxxxxxx"),
-        ("DATA;#1 ", "xxxuxxxxxxxxxx.xx"),
-        ("DATA;#1=", "xx.uxxxxxx.xxxxxx"),
-        ("DATA;#1=K ", "xxxuxxxxxx.xxxxxx"),
-        ("DATA;#1=K(", "xx.u........xxx.."),
-        ("DATA;#1=K(1 ", "xxxuxxxxxxx..xxxx"),
-        ("DATA;#1=K(1,", "xx.u.......xxxx.."),
-        ("DATA;#1=K((", "xx.u........xxx.."),
-        ("DATA;#1=K((1 ", "xxxuxxxxxxx..xxxx"),
-        ("DATA;#1=K((1,", "xx.u.......xxxx.."),
-        ("DATA;#1=K(()", "xxxuxxxxxxx..xxxx"),
-        ("DATA;#1=K(A ", "xxxuxxxxxx.xxxxxx"),
-        ("DATA;#1=K(A(", "xx.u.......xxxx.."),
-        ("DATA;#1=K(A(1 ", "xxxuxxxxxxx.xxxxx"),
-        ("DATA;#1=K(1)", "xxxuxxxxxxxxxExxx"),
-        ("DATA;#1=(", "xx.uxxxxxxxxxxxxx"),
-        ("DATA;#1=(K ", "xxxuxxxxxx.xxxxxx"),
-        ("DATA;#1=(K(", "xx.u........xxx.."),
-        ("DATA;#1=(K(1 ", "xxxuxxxxxxx..xxxx"),
-        ("DATA;#1=(K(1,", "xx.u.......xxxx.."),
-        ("DATA;#1=(K()", "xx.uxxxxxxx.xxxxx"),
-        ("DATA;#1=(K())", "xxxuxxxxxxxxxExxx"),
-        ("DATA;#1=K();", "xxxu.xxxxxxxxxxxx"),
-        ("DATA;ENDSEC ", "xxxuxxxxxxxxxExxx"),
-        ("DATA;ENDSEC;", "x.xxxxxxxxxxxxxxx"),
-        ("DATA;ENDSEC;END-ISO-10303-21 ", "xxxxxxxxxxxxxExxx"),
-        ("DATA;ENDSEC;END-ISO-10303-21;", "eeeeeeeeeeeeeeeee"),
-    ];
-    for (before, letters) in cases {
-        let found = row(&rt, HEAD, before, &KINDS)?;
-        assert_eq!(rt; found.as_slice(), letters.as_bytes(), "{before}");
-    }
-    Ok(())
+fn takes_tokens_in_the_header(rt: HostRuntime) {
+    assert_eq!(rt; first_wrong(&rt, "", IN_HEADER), "none");
 }
 
+const SCHEMA: &str =
+    "ISO-10303-21;HEADER;FILE_DESCRIPTION($,$);FILE_NAME($,$,$,$,$,$,$);FILE_SCHEMA(('S'));";
+
+const BEHIND_SCHEMA: Letters = &[
+    ("", "xx..xxxxxxxxxxxxx"),
+    ("K(1)", "xxxxxxxxxxxxxExxx"),
+    ("!K()", "xxxxxxxxxxxxxExxx"),
+    ("!K();", "xx..xxxxxxxxxxxxx"),
+    ("FILE_NAME($,$,$,$,$,$,$)", "xxxxxxxxxxxxxhxxx"),
+    ("ENDSEC ", "xxxxxxxxxx.xxExxx"),
+    ("ENDSEC()", "xxxxxxxxxxxxxExxx"),
+];
+
 #[test]
-fn takes_tokens_in_sections_with_a_name(rt: HostRuntime) -> Result<(), Fail> {
-    let cases = [
-        ("DATA(", "xx.u........xxx.."),
-        ("DATA()", "xxxxxxxxxxxxxsxxx"),
-        ("DATA('a' ", "xxxuxxxxxxx..xxxx"),
-        ("DATA('a')", "xxxxxxxxxxxxxsxxx"),
-        ("DATA('a',", "xx.u.......xxxx.."),
-        ("DATA(('S' ", "xxxuxxxxxxx..xxxx"),
-        ("DATA(K ", "xxxuxxxxxx.xxxxxx"),
-        ("DATA(K(", "xx.u.......xxxx.."),
-        ("DATA(K(1 ", "xxxuxxxxxxx.xxxxx"),
-        ("DATA('a',('S'))", "xxxxxxxxxxxxxExxx"),
-        ("DATA('a',('S'));", "xxxu.xxxxxxxxxxxx"),
-        ("DATA('a',('S'));#1=K(", "xx.u........xxx.."),
-        ("DATA('a',('S'));#1=K()", "xxxuxxxxxxxxxExxx"),
-        ("DATA('a',('S'));ENDSEC ", "xxxuxxxxxxxxxExxx"),
-        ("DATA('a',('S'));ENDSEC;", "x.xxxxxxxxxxxxxxx"),
-        ("DATA('a',('S'));ENDSEC;DATA ", "xxxxxxxxxx.xx2xxx"),
-        (
-            "DATA('a',('S'));ENDSEC;DATA('b',('S'))",
-            "xxxxxxxxxxxxxExxx",
-        ),
-        (
-            "DATA('a',('S'));ENDSEC;END-ISO-10303-21 ",
-            "xxxxxxxxxxxxxExxx",
-        ),
-        (
-            "DATA('a',('S'));ENDSEC;END-ISO-10303-21;",
-            "eeeeeeeeeeeeeeeee",
-        ),
-    ];
-    for (before, letters) in cases {
-        let found = row(&rt, HEAD, before, &KINDS)?;
-        assert_eq!(rt; found.as_slice(), letters.as_bytes(), "{before}");
-    }
-    Ok(())
+fn takes_tokens_behind_the_schema_of_the_header(rt: HostRuntime) {
+    assert_eq!(rt; first_wrong(&rt, SCHEMA, BEHIND_SCHEMA), "none");
+}
+
+const IN_DATA: Letters = &[
+    ("", "xnxxxxxxxxxxxxxxx"),
+    ("DATA ", "xxxxxxxxxx.xxExxx"),
+    ("DATA;", "xxxu.xxxxxxxxxxxx"),
+    ("DATA;#1 ", "xxxuxxxxxxxxxx.xx"),
+    ("DATA;#1=", "xx.uxxxxxx.xxxxxx"),
+    ("DATA;#1=K ", "xxxuxxxxxx.xxxxxx"),
+    ("DATA;#1=K(", "xx.u........xxx.."),
+    ("DATA;#1=K(1 ", "xxxuxxxxxxx..xxxx"),
+    ("DATA;#1=K(1,", "xx.u.......xxxx.."),
+    ("DATA;#1=K((", "xx.u........xxx.."),
+    ("DATA;#1=K((1 ", "xxxuxxxxxxx..xxxx"),
+    ("DATA;#1=K((1,", "xx.u.......xxxx.."),
+    ("DATA;#1=K(()", "xxxuxxxxxxx..xxxx"),
+    ("DATA;#1=K(A ", "xxxuxxxxxx.xxxxxx"),
+    ("DATA;#1=K(A(", "xx.u.......xxxx.."),
+    ("DATA;#1=K(A(1 ", "xxxuxxxxxxx.xxxxx"),
+    ("DATA;#1=K(1)", "xxxuxxxxxxxxxExxx"),
+    ("DATA;#1=(", "xx.uxxxxxxxxxxxxx"),
+    ("DATA;#1=(K ", "xxxuxxxxxx.xxxxxx"),
+    ("DATA;#1=(K(", "xx.u........xxx.."),
+    ("DATA;#1=(K(1 ", "xxxuxxxxxxx..xxxx"),
+    ("DATA;#1=(K(1,", "xx.u.......xxxx.."),
+    ("DATA;#1=(K()", "xx.uxxxxxxx.xxxxx"),
+    ("DATA;#1=(K())", "xxxuxxxxxxxxxExxx"),
+    ("DATA;#1=K();", "xxxu.xxxxxxxxxxxx"),
+    ("DATA;ENDSEC ", "xxxuxxxxxxxxxExxx"),
+    ("DATA;ENDSEC;", "x.xxxxxxxxxxxxxxx"),
+    ("DATA;ENDSEC;END-ISO-10303-21 ", "xxxxxxxxxxxxxExxx"),
+    ("DATA;ENDSEC;END-ISO-10303-21;", "eeeeeeeeeeeeeeeee"),
+];
+
+#[test]
+fn takes_tokens_in_data(rt: HostRuntime) {
+    assert_eq!(rt; first_wrong(&rt, HEAD, IN_DATA), "none");
+}
+
+const IN_NAMED: Letters = &[
+    ("DATA(", "xx.u........xxx.."),
+    ("DATA()", "xxxxxxxxxxxxxsxxx"),
+    ("DATA('a' ", "xxxuxxxxxxx..xxxx"),
+    ("DATA('a')", "xxxxxxxxxxxxxsxxx"),
+    ("DATA('a',", "xx.u.......xxxx.."),
+    ("DATA(('S' ", "xxxuxxxxxxx..xxxx"),
+    ("DATA(K ", "xxxuxxxxxx.xxxxxx"),
+    ("DATA(K(", "xx.u.......xxxx.."),
+    ("DATA(K(1 ", "xxxuxxxxxxx.xxxxx"),
+    ("DATA('a',('S'))", "xxxxxxxxxxxxxExxx"),
+    ("DATA('a',('S'));", "xxxu.xxxxxxxxxxxx"),
+    ("DATA('a',('S'));#1=K(", "xx.u........xxx.."),
+    ("DATA('a',('S'));#1=K()", "xxxuxxxxxxxxxExxx"),
+    ("DATA('a',('S'));ENDSEC ", "xxxuxxxxxxxxxExxx"),
+    ("DATA('a',('S'));ENDSEC;", "x.xxxxxxxxxxxxxxx"),
+    ("DATA('a',('S'));ENDSEC;DATA ", "xxxxxxxxxx.xx2xxx"),
+    (
+        "DATA('a',('S'));ENDSEC;DATA('b',('S'))",
+        "xxxxxxxxxxxxxExxx",
+    ),
+    (
+        "DATA('a',('S'));ENDSEC;END-ISO-10303-21 ",
+        "xxxxxxxxxxxxxExxx",
+    ),
+    (
+        "DATA('a',('S'));ENDSEC;END-ISO-10303-21;",
+        "eeeeeeeeeeeeeeeee",
+    ),
+];
+
+#[test]
+fn takes_tokens_in_sections_with_a_name(rt: HostRuntime) {
+    assert_eq!(rt; first_wrong(&rt, HEAD, IN_NAMED), "none");
 }
 
 /// Keywords with which sections begin or end.
@@ -204,25 +216,31 @@ const KEYWORDS: [&str; 6] = [
     "SIGNATURE ",
 ];
 
-#[test]
-fn takes_keywords_of_sections(rt: HostRuntime) -> Result<(), Fail> {
-    let cases = [
-        ("", "", "xxxxxx"),
-        ("", "ISO-10303-21;", ".xxarg"),
-        ("", "ISO-10303-21;HEADER;", "......"),
-        (HEAD, "", "xx.arg"),
-        (HEAD, "DATA;", "x.xxxx"),
-        (HEAD, "DATA;#1=", "......"),
-        (HEAD, "DATA;#1=K();", "x.xxxx"),
-        (HEAD, "DATA;ENDSEC;", "xx2arg"),
-        (HEAD, "DATA('a',('S'));", "x.xxxx"),
-        (HEAD, "DATA('a',('S'));ENDSEC;", "xx.arg"),
-        (HEAD, "DATA;ENDSEC;END-ISO-10303-21;", "eeeeeg"),
-        (HEAD, "DATA('a',('S'));ENDSEC;END-ISO-10303-21;", "eeeeeg"),
-    ];
-    for (first, before, letters) in cases {
-        let found = row(&rt, first, before, &KEYWORDS)?;
-        assert_eq!(rt; found.as_slice(), letters.as_bytes(), "{before}");
+const BEHIND: &[(&str, &str, &str)] = &[
+    ("", "", "xxxxxx"),
+    ("", "ISO-10303-21;", ".xxarg"),
+    ("", "ISO-10303-21;HEADER;", "......"),
+    (HEAD, "", "xx.arg"),
+    (HEAD, "DATA;", "x.xxxx"),
+    (HEAD, "DATA;#1=", "......"),
+    (HEAD, "DATA;#1=K();", "x.xxxx"),
+    (HEAD, "DATA;ENDSEC;", "xx2arg"),
+    (HEAD, "DATA('a',('S'));", "x.xxxx"),
+    (HEAD, "DATA('a',('S'));ENDSEC;", "xx.arg"),
+    (HEAD, "DATA;ENDSEC;END-ISO-10303-21;", "eeeeeg"),
+    (HEAD, "DATA('a',('S'));ENDSEC;END-ISO-10303-21;", "eeeeeg"),
+];
+
+fn first_wrong_keyword(rt: &HostRuntime) -> Option<(&'static str, &'static str)> {
+    for (first, before, letters) in BEHIND {
+        if !has_letters(rt, first, before, &KEYWORDS, letters.as_bytes()) {
+            return Some((first, before));
+        }
     }
-    Ok(())
+    None
+}
+
+#[test]
+fn takes_keywords_of_sections(rt: HostRuntime) {
+    assert_eq!(rt; first_wrong_keyword(&rt), None);
 }

@@ -1,42 +1,44 @@
 use super::*;
 
+pub(super) fn put(out: &mut Vec<u8>, text: &str) -> Result<(), NoMemory> {
+    out.extend_from_slice(text.as_bytes())?;
+    Ok(())
+}
+
 /// Appends a statement without its `;`, and a space.
-pub(super) fn spell_event(event: &Event, out: &mut Vec<u8>) -> Result<(), Fail> {
+pub(super) fn spell_event(event: &Event, out: &mut Vec<u8>) -> Result<(), NoMemory> {
     match event {
-        Event::Section(line) => spell_line(*line, out)?,
+        Event::Section(line) => put(out, line_text(*line))?,
         Event::Named(part) => {
-            out.extend_from_slice(b"named ")?;
+            put(out, "named ")?;
             spell_part(part, out)?;
         }
         Event::Header(part) => spell_part(part, out)?,
         Event::Instance(name, record) => {
             name.write_canonical(out)?;
-            out.push(b'=')?;
+            put(out, "=")?;
             spell_record(record, out)?;
         }
     }
-    out.push(b' ')?;
-    Ok(())
+    put(out, " ")
 }
 
-fn spell_line(line: Line, out: &mut Vec<u8>) -> Result<(), Fail> {
-    let text = match line {
+fn line_text(line: Line) -> &'static str {
+    match line {
         Line::Begin => "begin",
         Line::HeaderStart => "header",
         Line::SectionEnd => "end",
         Line::DataStart => "data",
         Line::Finish => "finish",
-    };
-    out.extend_from_slice(text.as_bytes())?;
-    Ok(())
+    }
 }
 
-fn spell_record(record: &Record, out: &mut Vec<u8>) -> Result<(), Fail> {
+fn spell_record(record: &Record, out: &mut Vec<u8>) -> Result<(), NoMemory> {
     match record {
         Record::Simple(part) => spell_part(part, out),
         Record::Complex(parts) => {
             for part in parts.items() {
-                out.push(b'/')?;
+                put(out, "/")?;
                 spell_part(part, out)?;
             }
             Ok(())
@@ -44,51 +46,50 @@ fn spell_record(record: &Record, out: &mut Vec<u8>) -> Result<(), Fail> {
     }
 }
 
-fn spell_part(part: &Part, out: &mut Vec<u8>) -> Result<(), Fail> {
+fn spell_part(part: &Part, out: &mut Vec<u8>) -> Result<(), NoMemory> {
     spell_key(&part.key, out)?;
     spell_params(&part.params, out)
 }
 
-fn spell_key(key: &Key, out: &mut Vec<u8>) -> Result<(), Fail> {
+fn spell_key(key: &Key, out: &mut Vec<u8>) -> Result<(), NoMemory> {
     if key.user {
-        out.push(b'!')?;
+        put(out, "!")?;
     }
-    key.word.write_canonical(out)?;
-    Ok(())
+    key.word.write_canonical(out)
 }
 
 #[cycle(spell)]
-fn spell_params(params: &Params, out: &mut Vec<u8>) -> Result<(), Fail> {
-    out.push(b'(')?;
+fn spell_params(params: &Params, out: &mut Vec<u8>) -> Result<(), NoMemory> {
+    put(out, "(")?;
     for param in params.items() {
         spell_param(param, out)?;
-        out.push(b' ')?;
+        put(out, " ")?;
     }
-    out.push(b')')?;
-    Ok(())
+    put(out, ")")
 }
 
 #[cycle(spell)]
-fn spell_param(param: &Param, out: &mut Vec<u8>) -> Result<(), Fail> {
+fn spell_param(param: &Param, out: &mut Vec<u8>) -> Result<(), NoMemory> {
     match param {
-        Param::Dollar => out.push(b'$')?,
-        Param::Star => out.push(b'*')?,
-        Param::Whole(number) => number.write_canonical(out)?,
-        Param::Real(number) => number.write_canonical(out)?,
-        Param::Text(text) => text.write_canonical(out)?,
-        Param::Name(name) => name.write_canonical(out)?,
-        Param::Item(word) => {
-            out.push(b'.')?;
-            word.write_canonical(out)?;
-            out.push(b'.')?;
-        }
-        Param::Bits(bits) => bits.write_canonical(out)?,
-        Param::List(params) => spell_params(params, out)?,
+        Param::Dollar => put(out, "$"),
+        Param::Star => put(out, "*"),
+        Param::Whole(number) => number.write_canonical(out),
+        Param::Real(number) => number.write_canonical(out),
+        Param::Text(text) => text.write_canonical(out),
+        Param::Name(name) => name.write_canonical(out),
+        Param::Item(word) => spell_item(word, out),
+        Param::Bits(bits) => bits.write_canonical(out),
+        Param::List(params) => spell_params(params, out),
         Param::Tagged(key, inner) => {
             spell_key(key, out)?;
-            out.push(b':')?;
-            spell_param(inner, out)?;
+            put(out, ":")?;
+            spell_param(inner, out)
         }
     }
-    Ok(())
+}
+
+fn spell_item(word: &Word, out: &mut Vec<u8>) -> Result<(), NoMemory> {
+    put(out, ".")?;
+    word.write_canonical(out)?;
+    put(out, ".")
 }
