@@ -1,11 +1,12 @@
 //! Files that are cut off, and files that come in pieces.
-use crate::devices::SlowReader;
-use crate::run::{canon_reader, check, expect_answer, expect_refusal};
-use crate::schemas::{DEMO, file_of};
+use crate::devices::{Behind, SmallReader};
+use crate::run::Command::Check;
+use crate::run::Left::{Answer, Refusal};
+use crate::run::{AMPLE_ROOMS, canon, leaves_of};
+use crate::schemas::DEMO;
+use crate::schemas::File::{self, Lines};
 use std::alloc::Global;
 use std::io::Read;
-use std::process::Abort;
-use std::test::Fail;
 
 /// What the last character of a text stands in.
 #[derive(Clone, Copy, PartialEq)]
@@ -48,70 +49,118 @@ impl Front {
     }
 }
 
-/// Looks that a file is refused wherever it is cut off before its last semicolon.
-fn expect_cuts_refused(rt: &impl Abort, alloc: Global, file: &str) -> Result<(), Fail> {
+/// Whether a file that ends here is refused so.
+fn is_refused(alloc: Global, cut: &str, front: Front) -> bool {
+    let fault = front.fault();
+    let statement = front.statement;
+    match format!(in alloc; "refused {fault} at statement {statement}\n") {
+        Ok(line) => leaves_of(alloc, Check, DEMO, cut, AMPLE_ROOMS, Refusal(&line)),
+        Err(_) => false,
+    }
+}
+
+/// Where a text that is cut off before its last semicolon isn't refused.
+fn first_cut_taken(alloc: Global, text: &str) -> Option<usize> {
     let mut front = Front {
         inside: Inside::Nothing,
         last: ' ',
         statement: 1,
     };
-    let whole = file.trim_end().len();
-    for (end, next) in file.char_indices() {
+    let whole = text.trim_end().len();
+    for (end, next) in text.char_indices() {
         if end + 1 >= whole {
-            return Ok(());
+            return None;
         }
-        let (cut, _rest) = file.split_at(end);
-        let statement = front.statement;
-        let fault = front.fault();
-        let line = format!(in alloc; "refused {fault} at statement {statement}\n")?;
-        expect_refusal(rt, &check(alloc, DEMO, cut), &line, cut);
+        if !is_refused(alloc, text.split_at(end).0, front) {
+            return Some(end);
+        }
         front.take(next);
     }
-    Ok(())
+    Some(whole)
+}
+
+/// Files that are refused wherever they are cut off.
+const CUT: &[File] = &[
+    Lines("#2 = POINT($, 1.0, 10.E-1);\n"),
+    Lines(
+        "/* a /* b */#10 = ( SHAPE('it''s /* ') POINT(1.E-07,-2.5)\r\n MARKED(.GREEN.) );\r\n/**/",
+    ),
+];
+
+/// Which file isn't refused, and where it is cut off then.
+fn first_file_taken(alloc: Global) -> Option<(usize, usize)> {
+    for (number, file) in CUT.iter().enumerate() {
+        let Some(text) = file.text(alloc) else {
+            return Some((number, 0));
+        };
+        if let Some(end) = first_cut_taken(alloc, &text) {
+            return Some((number, end));
+        }
+    }
+    None
 }
 
 #[test]
-fn refuses_a_file_cut_anywhere(rt: HostRuntime) -> Result<(), Fail> {
-    let file = file_of(rt.alloc(), DEMO, "#2 = POINT($, 1.0, 10.E-1);\n")?;
-    expect_cuts_refused(&rt, rt.alloc(), &file)
+fn refuses_a_file_cut_anywhere(rt: HostRuntime) {
+    assert_eq!(rt; first_file_taken(rt.alloc()), None);
 }
 
-#[test]
-fn refuses_a_file_with_remarks_cut_anywhere(rt: HostRuntime) -> Result<(), Fail> {
-    let lines =
-        "/* a /* b */#10 = ( SHAPE('it''s /* ') POINT(1.E-07,-2.5)\r\n MARKED(.GREEN.) );\r\n/**/";
-    let file = file_of(rt.alloc(), DEMO, lines)?;
-    expect_cuts_refused(&rt, rt.alloc(), &file)
-}
+const WRITTEN: File = Lines("#1=POINT('it''s \\X2\\00E9\\X0\\',1.E2,2.)/**/;\n");
 
-const WRITTEN: &str = "#1=POINT('it''s \\X2\\00E9\\X0\\',1.E2,2.)/**/;\n";
+const CANONICAL: File = Lines("#1=POINT('it''s \\X2\\00E9\\X0\\',1.E2,2.);\n");
 
-const CANONICAL: &str = "#1=POINT('it''s \\X2\\00E9\\X0\\',1.E2,2.);\n";
-
-#[test]
-fn reads_a_file_in_two_pieces(rt: HostRuntime) -> Result<(), Fail> {
-    let file = file_of(rt.alloc(), DEMO, WRITTEN)?;
-    let canonical = file_of(rt.alloc(), DEMO, CANONICAL)?;
+/// Where a file that comes in two pieces is rewritten otherwise.
+fn first_wrong_cut(alloc: Global, file: &str, canonical: &str) -> Option<usize> {
     for end in 0..=file.len() {
         let (first, second) = file.as_bytes().split_at(end);
-        let run = canon_reader(rt.alloc(), &mut DEMO.text.as_bytes(), first.chain(second));
-        expect_answer(&rt, &run, &canonical, "two pieces");
+        let run = canon(
+            alloc,
+            &mut DEMO.as_bytes(),
+            first.chain(second),
+            AMPLE_ROOMS,
+        );
+        if !run.is(Answer(canonical)) {
+            return Some(end);
+        }
     }
-    Ok(())
+    None
+}
+
+/// Of how many bytes the pieces are where a file in small pieces is rewritten otherwise.
+fn first_wrong_size(alloc: Global, file: &str, canonical: &str) -> Option<usize> {
+    for most in [1, 2, 7, 64] {
+        let mut schema = in_pieces(DEMO, most);
+        let run = canon(alloc, &mut schema, in_pieces(file, most), AMPLE_ROOMS);
+        if !run.is(Answer(canonical)) {
+            return Some(most);
+        }
+    }
+    None
+}
+
+fn in_pieces(text: &str, most: usize) -> SmallReader<'_> {
+    SmallReader {
+        bytes: text.as_bytes(),
+        most,
+        then: Behind::Ends,
+    }
+}
+
+/// What is wrong of the file in two pieces, and in small ones.
+fn wrong_of_pieces(alloc: Global) -> (Option<usize>, Option<usize>) {
+    let Some(file) = WRITTEN.text(alloc) else {
+        return (Some(0), Some(0));
+    };
+    let Some(canonical) = CANONICAL.text(alloc) else {
+        return (Some(0), Some(0));
+    };
+    (
+        first_wrong_cut(alloc, &file, &canonical),
+        first_wrong_size(alloc, &file, &canonical),
+    )
 }
 
 #[test]
-fn reads_small_pieces(rt: HostRuntime) -> Result<(), Fail> {
-    let file = file_of(rt.alloc(), DEMO, WRITTEN)?;
-    let canonical = file_of(rt.alloc(), DEMO, CANONICAL)?;
-    for most in [1, 2, 7, 64] {
-        let mut schema = SlowReader {
-            bytes: DEMO.text.as_bytes(),
-            most,
-        };
-        let bytes = file.as_bytes();
-        let run = canon_reader(rt.alloc(), &mut schema, SlowReader { bytes, most });
-        expect_answer(&rt, &run, &canonical, "small pieces");
-    }
-    Ok(())
+fn reads_a_file_in_pieces(rt: HostRuntime) {
+    assert_eq!(rt; wrong_of_pieces(rt.alloc()), (None, None));
 }

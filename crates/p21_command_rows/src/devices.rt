@@ -2,17 +2,28 @@
 use std::alloc::Global;
 use std::io::{self, Error, ErrorKind, Read, Write};
 
-/// Gives its bytes, so many a call, and then an error.
-#[derive(Drop)]
-pub(crate) struct FailingReader<'a> {
-    pub(crate) bytes: &'a [u8],
-    pub(crate) most: usize,
+/// What a reader does behind its last byte.
+#[derive(Clone, Copy)]
+pub(crate) enum Behind {
+    Ends,
+    Fails,
 }
 
-impl Read for FailingReader<'_> {
+/// Gives its bytes, so many a call.
+#[derive(Clone, Copy)]
+pub(crate) struct SmallReader<'a> {
+    pub(crate) bytes: &'a [u8],
+    pub(crate) most: usize,
+    pub(crate) then: Behind,
+}
+
+impl Read for SmallReader<'_> {
     fn read(&mut self, buf: &mut [u8]) -> io::Result<usize> {
         if self.bytes.is_empty() {
-            return Err(Error::from(ErrorKind::Interrupted));
+            return match self.then {
+                Behind::Ends => Ok(0),
+                Behind::Fails => Err(Error::from(ErrorKind::Interrupted)),
+            };
         }
         let count = buf.len().min(self.most).min(self.bytes.len());
         buf[..count].copy_from_slice(&self.bytes[..count]);
@@ -21,19 +32,17 @@ impl Read for FailingReader<'_> {
     }
 }
 
-/// Gives its bytes, so many a call, up to its end.
+/// Gives spaces for ever, and counts them.
 #[derive(Drop)]
-pub(crate) struct SlowReader<'a> {
-    pub(crate) bytes: &'a [u8],
-    pub(crate) most: usize,
+pub(crate) struct EndlessReader {
+    pub(crate) given: u64,
 }
 
-impl Read for SlowReader<'_> {
+impl Read for EndlessReader {
     fn read(&mut self, buf: &mut [u8]) -> io::Result<usize> {
-        let count = buf.len().min(self.most).min(self.bytes.len());
-        buf[..count].copy_from_slice(&self.bytes[..count]);
-        self.bytes = &self.bytes[count..];
-        Ok(count)
+        buf.fill(b' ');
+        self.given = self.given.saturating_add(buf.len() as u64);
+        Ok(buf.len())
     }
 }
 
@@ -48,13 +57,13 @@ pub(crate) enum Full {
 #[derive(Drop)]
 pub(crate) struct SmallWriter {
     pub(crate) taken: Vec<u8>,
-    pub(crate) most: usize,
-    pub(crate) room: usize,
-    pub(crate) then: Full,
+    most: usize,
+    room: usize,
+    then: Full,
 }
 
 impl SmallWriter {
-    pub(crate) fn new(alloc: Global, most: usize, room: usize, then: Full) -> SmallWriter {
+    pub(crate) fn new(alloc: Global, (most, room): (usize, usize), then: Full) -> SmallWriter {
         SmallWriter {
             taken: Vec::new(alloc),
             most,

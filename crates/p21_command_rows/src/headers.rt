@@ -1,73 +1,7 @@
 //! Headers, and what stands around the sections.
-use crate::run::{canon, check, expect_answer, expect_refusal};
-use crate::schemas::{DEMO, EMPTY};
-use std::alloc::Global;
-use std::test::Fail;
-
-/// The file without instances, with another text in place of one that it has.
-fn replaced(alloc: Global, from: &str, to: &str) -> Result<String, Fail> {
-    Ok(EMPTY.replacen(alloc, from, to, 1)?)
-}
-
-#[test]
-fn keeps_headers(rt: HostRuntime) -> Result<(), Fail> {
-    let cases = [
-        ("FILE_SCHEMA(('DEMO'));", "FILE_SCHEMA(('demo'));"),
-        (
-            "FILE_SCHEMA(('DEMO'));",
-            "FILE_SCHEMA(('DEMO { 1 0 10303 214 1 1 1 1 }'));",
-        ),
-        ("FILE_DESCRIPTION((''),'2;1');", "FILE_DESCRIPTION($,$);"),
-        ("(''),(''),'','',''", "$,(),$,$,$"),
-        (
-            "FILE_SCHEMA(('DEMO'));",
-            "FILE_SCHEMA(('DEMO'));\n!MY_RECORD(1.,.A.);",
-        ),
-    ];
-    for (from, to) in cases {
-        let file = replaced(rt.alloc(), from, to)?;
-        expect_answer(&rt, &canon(rt.alloc(), DEMO, &file), &file, to);
-    }
-    Ok(())
-}
-
-#[test]
-fn rewrites_headers(rt: HostRuntime) -> Result<(), Fail> {
-    let cases = [
-        (
-            "FILE_DESCRIPTION((''),'2;1');",
-            "/* first */ FILE_DESCRIPTION ( ( '\\X\\E9' ) , '2;1' ) ;",
-            "FILE_DESCRIPTION(('\\X2\\00E9\\X0\\'),'2;1');",
-        ),
-        (
-            "FILE_SCHEMA(('DEMO'));",
-            "FILE_SCHEMA(('\\X\\44EMO'));",
-            "FILE_SCHEMA(('DEMO'));",
-        ),
-        (
-            "FILE_SCHEMA(('DEMO'));",
-            "FILE_SCHEMA(('DEMO')); !MY_RECORD(1.0,.A.);",
-            "FILE_SCHEMA(('DEMO'));\n!MY_RECORD(1.,.A.);",
-        ),
-        ("ENDSEC;\nDATA;\n", "ENDSEC;DATA;", "ENDSEC;\nDATA;\n"),
-        (
-            "END-ISO-10303-21;\n",
-            "END-ISO-10303-21;",
-            "END-ISO-10303-21;\n",
-        ),
-        (
-            "END-ISO-10303-21;\n",
-            "END-ISO-10303-21;/* end */\x1a",
-            "END-ISO-10303-21;\n",
-        ),
-    ];
-    for (line, written, canonical) in cases {
-        let file = replaced(rt.alloc(), line, written)?;
-        let wanted = replaced(rt.alloc(), line, canonical)?;
-        expect_answer(&rt, &canon(rt.alloc(), DEMO, &file), &wanted, written);
-    }
-    Ok(())
-}
+use crate::run::Row::{Refused, Rewritten};
+use crate::run::{Rows, first_wrong};
+use crate::schemas::File::{Replaced, Text};
 
 /// A file as a converter writes it, with other line ends.
 const CONVERTED: &str = "ISO-10303-21;\r
@@ -85,9 +19,8 @@ ENDSEC;\r
 END-ISO-10303-21;\r
 ";
 
-#[test]
-fn rewrites_a_converted_file(rt: HostRuntime) {
-    let wanted = "ISO-10303-21;
+/// Its canonical file.
+const CANONICAL: &str = "ISO-10303-21;
 HEADER;
 FILE_DESCRIPTION(('ViewDefinition [CoordinationView]'),'2;1');
 FILE_NAME('','',(''),(''),'','','');
@@ -99,94 +32,141 @@ DATA;
 ENDSEC;
 END-ISO-10303-21;
 ";
-    expect_answer(
-        &rt,
-        &canon(rt.alloc(), DEMO, CONVERTED),
-        wanted,
-        "converted",
-    );
-}
+
+const ROWS: Rows = &[
+    // kept as they stand
+    Rewritten(
+        Replaced("FILE_SCHEMA(('DEMO'));", "FILE_SCHEMA(('demo'));"),
+        Replaced("FILE_SCHEMA(('DEMO'));", "FILE_SCHEMA(('demo'));"),
+    ),
+    Rewritten(
+        Replaced(
+            "FILE_SCHEMA(('DEMO'));",
+            "FILE_SCHEMA(('DEMO { 1 0 10303 214 1 1 1 1 }'));",
+        ),
+        Replaced(
+            "FILE_SCHEMA(('DEMO'));",
+            "FILE_SCHEMA(('DEMO { 1 0 10303 214 1 1 1 1 }'));",
+        ),
+    ),
+    Rewritten(
+        Replaced("FILE_DESCRIPTION((''),'2;1');", "FILE_DESCRIPTION($,$);"),
+        Replaced("FILE_DESCRIPTION((''),'2;1');", "FILE_DESCRIPTION($,$);"),
+    ),
+    Rewritten(
+        Replaced("(''),(''),'','',''", "$,(),$,$,$"),
+        Replaced("(''),(''),'','',''", "$,(),$,$,$"),
+    ),
+    Rewritten(
+        Replaced(
+            "FILE_SCHEMA(('DEMO'));",
+            "FILE_SCHEMA(('DEMO'));\n!MY_RECORD(1.,.A.);",
+        ),
+        Replaced(
+            "FILE_SCHEMA(('DEMO'));",
+            "FILE_SCHEMA(('DEMO'));\n!MY_RECORD(1.,.A.);",
+        ),
+    ),
+    // written otherwise
+    Rewritten(
+        Replaced(
+            "FILE_DESCRIPTION((''),'2;1');",
+            "/* first */ FILE_DESCRIPTION ( ( '\\X\\E9' ) , '2;1' ) ;",
+        ),
+        Replaced(
+            "FILE_DESCRIPTION((''),'2;1');",
+            "FILE_DESCRIPTION(('\\X2\\00E9\\X0\\'),'2;1');",
+        ),
+    ),
+    Rewritten(
+        Replaced("FILE_SCHEMA(('DEMO'));", "FILE_SCHEMA(('\\X\\44EMO'));"),
+        Replaced("FILE_SCHEMA(('DEMO'));", "FILE_SCHEMA(('DEMO'));"),
+    ),
+    Rewritten(
+        Replaced(
+            "FILE_SCHEMA(('DEMO'));",
+            "FILE_SCHEMA(('DEMO')); !MY_RECORD(1.0,.A.);",
+        ),
+        Replaced(
+            "FILE_SCHEMA(('DEMO'));",
+            "FILE_SCHEMA(('DEMO'));\n!MY_RECORD(1.,.A.);",
+        ),
+    ),
+    Rewritten(
+        Replaced("ENDSEC;\nDATA;\n", "ENDSEC;DATA;"),
+        Replaced("ENDSEC;\nDATA;\n", "ENDSEC;\nDATA;\n"),
+    ),
+    Rewritten(
+        Replaced("END-ISO-10303-21;\n", "END-ISO-10303-21;"),
+        Replaced("END-ISO-10303-21;\n", "END-ISO-10303-21;\n"),
+    ),
+    Rewritten(
+        Replaced("END-ISO-10303-21;\n", "END-ISO-10303-21;/* end */\x1a"),
+        Replaced("END-ISO-10303-21;\n", "END-ISO-10303-21;\n"),
+    ),
+    Rewritten(Text(CONVERTED), Text(CANONICAL)),
+    // refused
+    Refused(
+        Replaced("('DEMO')", "('OTHER')"),
+        "refused 31 SchemaName at statement 5\n",
+    ),
+    Refused(
+        Replaced("('DEMO')", "('DEMO1')"),
+        "refused 31 SchemaName at statement 5\n",
+    ),
+    Refused(
+        Replaced("('DEMO')", "$"),
+        "refused 30 HeaderShape at statement 5\n",
+    ),
+    Refused(
+        Replaced("('DEMO')", "('DEMO','DEMO')"),
+        "refused 30 HeaderShape at statement 5\n",
+    ),
+    Refused(
+        Replaced("FILE_NAME('',", "FILE_NAME("),
+        "refused 30 HeaderShape at statement 4\n",
+    ),
+    Refused(
+        Replaced("FILE_SCHEMA(('DEMO'));\n", ""),
+        "refused 30 HeaderShape at statement 5\n",
+    ),
+    Refused(
+        Replaced("'2;1'", "#1"),
+        "refused 20 Unexpected at statement 3\n",
+    ),
+    // what stands around the sections
+    Refused(
+        Replaced("ISO", "\u{feff}ISO"),
+        "refused 1 BadByte at statement 1\n",
+    ),
+    Refused(
+        Replaced("DATA;", "ANCHOR;"),
+        "refused 26 LeftOut(Anchor) at statement 7\n",
+    ),
+    Refused(
+        Replaced("DATA;\nENDSEC;\n", ""),
+        "refused 26 LeftOut(NoDataSection) at statement 7\n",
+    ),
+    Refused(
+        Replaced("END-ISO-10303-21;\n", "END-ISO-10303-21;\nX"),
+        "refused 25 AfterEnd at statement 10\n",
+    ),
+    Refused(
+        Replaced("END-ISO-10303-21;\n", "END-ISO-10303-21;\nSIGNATURE;"),
+        "refused 26 LeftOut(Signature) at statement 10\n",
+    ),
+    Refused(
+        Replaced("END-ISO-10303-21;\n", "END-ISO-10303-21;\n/*"),
+        "refused 3 OpenComment at statement 10\n",
+    ),
+    Refused(
+        Replaced("END-ISO-10303-21;\n", ""),
+        "refused 24 EndsEarly at statement 9\n",
+    ),
+    Refused(Text(""), "refused 24 EndsEarly at statement 1\n"),
+];
 
 #[test]
-fn refuses_headers(rt: HostRuntime) -> Result<(), Fail> {
-    let cases = [
-        (
-            "('DEMO')",
-            "('OTHER')",
-            "refused 31 SchemaName at statement 5\n",
-        ),
-        (
-            "('DEMO')",
-            "('DEMO1')",
-            "refused 31 SchemaName at statement 5\n",
-        ),
-        ("('DEMO')", "$", "refused 30 HeaderShape at statement 5\n"),
-        (
-            "('DEMO')",
-            "('DEMO','DEMO')",
-            "refused 30 HeaderShape at statement 5\n",
-        ),
-        (
-            "FILE_NAME('',",
-            "FILE_NAME(",
-            "refused 30 HeaderShape at statement 4\n",
-        ),
-        (
-            "FILE_SCHEMA(('DEMO'));\n",
-            "",
-            "refused 30 HeaderShape at statement 5\n",
-        ),
-        ("'2;1'", "#1", "refused 20 Unexpected at statement 3\n"),
-    ];
-    for (from, to, line) in cases {
-        let file = replaced(rt.alloc(), from, to)?;
-        expect_refusal(&rt, &check(rt.alloc(), DEMO, &file), line, to);
-    }
-    Ok(())
-}
-
-#[test]
-fn refuses_what_stands_around_sections(rt: HostRuntime) -> Result<(), Fail> {
-    let end = "END-ISO-10303-21;\n";
-    let cases = [
-        ("ISO", "\u{feff}ISO", "refused 1 BadByte at statement 1\n"),
-        (
-            "DATA;",
-            "ANCHOR;",
-            "refused 26 LeftOut(Anchor) at statement 7\n",
-        ),
-        (
-            "DATA;\nENDSEC;\n",
-            "",
-            "refused 26 LeftOut(NoDataSection) at statement 7\n",
-        ),
-        (
-            end,
-            "END-ISO-10303-21;\nX",
-            "refused 25 AfterEnd at statement 10\n",
-        ),
-        (
-            end,
-            "END-ISO-10303-21;\nSIGNATURE;",
-            "refused 26 LeftOut(Signature) at statement 10\n",
-        ),
-        (
-            end,
-            "END-ISO-10303-21;\n/*",
-            "refused 3 OpenComment at statement 10\n",
-        ),
-        (end, "", "refused 24 EndsEarly at statement 9\n"),
-    ];
-    for (from, to, line) in cases {
-        let file = replaced(rt.alloc(), from, to)?;
-        expect_refusal(&rt, &check(rt.alloc(), DEMO, &file), line, to);
-    }
-    Ok(())
-}
-
-#[test]
-fn refuses_an_empty_file(rt: HostRuntime) {
-    let line = "refused 24 EndsEarly at statement 1\n";
-    expect_refusal(&rt, &check(rt.alloc(), DEMO, ""), line, "check");
-    expect_refusal(&rt, &canon(rt.alloc(), DEMO, ""), line, "canon");
+fn rewrites_and_refuses_headers(rt: HostRuntime) {
+    assert_eq!(rt; first_wrong(rt.alloc(), ROWS), "none");
 }

@@ -1,67 +1,44 @@
 //! Many instances, and a schema without end.
-use crate::run::{canon_reader, check, expect, expect_answer, same};
-use crate::schemas::{DEMO, EMPTY, file_of};
+use crate::devices::EndlessReader;
+use crate::run::Command::{Check, Same};
+use crate::run::Left::{Answer, Different, Refusal};
+use crate::run::Row::Leaves;
+use crate::run::{AMPLE_ROOMS, Rows, canon, first_wrong};
+use crate::schemas::EMPTY;
+use crate::schemas::File::{self, Points};
 use std::alloc::Global;
-use std::io::{self, Read};
-use std::test::Fail;
 
-/// The lines of so many points, from the first name on.
-fn points(alloc: Global, count: u32) -> Result<String, Fail> {
-    let mut lines = String::new(alloc);
-    for number in 0..count {
-        let name = number.saturating_add(1);
-        let line = format!(in alloc; "#{name}=POINT($,1.,1.);\n")?;
-        lines.push_str(&line)?;
-    }
-    Ok(lines)
-}
+/// Files of some pieces of 64 KiB.
+const POINTS: File = Points("10 000 points", "", 10_000, "");
+
+const LATE: File = Points("a point before", "#0=POINT($,1.,1.);\n", 10_000, "");
+
+const EARLY: File = Points("a point behind", "", 10_000, "#00=POINT($,1.0,1.0);\n");
+
+const ROWS: Rows = &[
+    Leaves(
+        Check,
+        POINTS,
+        Answer("accepted, instances 10000, canonical bytes 219046\n"),
+    ),
+    Leaves(Same(EARLY), LATE, Answer("same\n")),
+    Leaves(Same(POINTS), LATE, Different),
+];
 
 #[test]
-fn counts_10_000_instances(rt: HostRuntime) -> Result<(), Fail> {
-    let file = file_of(rt.alloc(), DEMO, &points(rt.alloc(), 10_000)?)?;
-    let answer = "accepted, instances 10000, canonical bytes 219046\n";
-    expect_answer(&rt, &check(rt.alloc(), DEMO, &file), answer, "points");
-    Ok(())
+fn counts_and_compares_10_000_instances(rt: HostRuntime) {
+    assert_eq!(rt; first_wrong(rt.alloc(), ROWS), "none");
 }
 
-/// Gives spaces for ever, and counts them.
-#[derive(Drop)]
-struct EndlessReader {
-    given: u64,
-}
-
-impl Read for EndlessReader {
-    fn read(&mut self, buf: &mut [u8]) -> io::Result<usize> {
-        buf.fill(b' ');
-        self.given = self.given.saturating_add(buf.len() as u64);
-        Ok(buf.len())
-    }
+/// How much of an endless schema is read: none where it isn't refused so.
+fn read_of_endless_schema(alloc: Global) -> Option<u64> {
+    let mut schema = EndlessReader { given: 0 };
+    let run = canon(alloc, &mut schema, EMPTY.as_bytes(), AMPLE_ROOMS);
+    run.is(Refusal("schema refused S9 TooLarge\n"))
+        .then_some(schema.given)
 }
 
 #[test]
 fn reads_no_more_of_a_schema_than_one_byte_too_many(rt: HostRuntime) {
-    let mut schema = EndlessReader { given: 0 };
-    let run = canon_reader(rt.alloc(), &mut schema, EMPTY.as_bytes());
-    expect(&rt, &run, 1, "", "schema refused S9 TooLarge\n", "endless");
-    assert_eq!(rt; schema.given, 16_777_217);
-}
-
-/// Files of some pieces of 64 KiB.
-#[test]
-fn compares_10_000_instances(rt: HostRuntime) -> Result<(), Fail> {
-    let lines = points(rt.alloc(), 10_000)?;
-    let file = file_of(rt.alloc(), DEMO, &lines)?;
-    let late = format!(in rt.alloc(); "#0=POINT($,1.,1.);\n{lines}")?;
-    let early = format!(in rt.alloc(); "{lines}#00=POINT($,1.0,1.0);\n")?;
-    let first = file_of(rt.alloc(), DEMO, &late)?;
-    let second = file_of(rt.alloc(), DEMO, &early)?;
-    expect_answer(
-        &rt,
-        &same(rt.alloc(), DEMO, &first, &second),
-        "same\n",
-        "same",
-    );
-    let other = same(rt.alloc(), DEMO, &first, &file);
-    expect(&rt, &other, 1, "different\n", "", "different");
-    Ok(())
+    assert_eq!(rt; read_of_endless_schema(rt.alloc()), Some(16_777_217));
 }

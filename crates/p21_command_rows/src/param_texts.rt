@@ -1,150 +1,100 @@
 //! The command `param` over texts, and over readers and writers that fail.
-use crate::devices::{FailingReader, Full, SmallWriter};
-use crate::run::Run;
-use p21_commands::{CommandFault, param_command, report};
+use crate::devices::EndlessReader;
+use crate::run::Command::Param;
+use crate::run::Left::{Answer, Failure, Refusal};
+use crate::run::Row::{Leaves, LeavesIn, ParamFails};
+use crate::run::{AMPLE, AMPLE_ROOMS, Rows, first_wrong, param};
+use crate::schemas::File::Text;
+use p21_commands::{CommandFault, report};
 use std::alloc::Global;
 use std::io::{self, Read};
 
-fn run_over<R: Read>(alloc: Global, input: &mut R) -> Run {
-    let mut output = Vec::new(alloc);
-    let mut faults = Vec::new(alloc);
-    let status = param_command(alloc, input, &mut output, &mut faults);
-    Run {
-        status,
-        output,
-        faults,
-    }
-}
-
-/// Gives spaces for ever, and counts them.
-#[derive(Drop)]
-struct EndlessReader {
-    given: u64,
-}
-
-impl Read for EndlessReader {
-    fn read(&mut self, buf: &mut [u8]) -> io::Result<usize> {
-        buf.fill(b' ');
-        self.given = self.given.saturating_add(buf.len() as u64);
-        Ok(buf.len())
-    }
-}
+const ROWS: Rows = &[
+    Leaves(Param, Text("+012.500E+03"), Answer("1.25E4\n")),
+    Leaves(Param, Text(" +007\n"), Answer("7\n")),
+    Leaves(Param, Text("-0"), Answer("0\n")),
+    Leaves(Param, Text("123.450"), Answer("1.2345E2\n")),
+    Leaves(Param, Text("1.E0000000001"), Answer("1.E1\n")),
+    Leaves(Param, Text("0.E999999999"), Answer("0.\n")),
+    Leaves(Param, Text("1.E9999"), Answer("1.E9999\n")),
+    Leaves(Param, Text(".T."), Answer(".T.\n")),
+    Leaves(Param, Text("\t\r\n.RED.\x7f"), Answer(".RED.\n")),
+    Leaves(Param, Text("10.E9999"), Refusal("refused 8 NumberRange\n")),
+    Leaves(
+        Param,
+        Text("0.E1000000000"),
+        Refusal("refused 8 NumberRange\n"),
+    ),
+    Leaves(Param, Text("1.E"), Refusal("refused 24 EndsEarly\n")),
+    Leaves(Param, Text("1.EX"), Refusal("refused 7 BadNumber\n")),
+    Leaves(Param, Text("1 2"), Refusal("refused 12 NotOneParameter\n")),
+    Leaves(Param, Text(""), Refusal("refused 24 EndsEarly\n")),
+    Leaves(Param, Text("+x"), Refusal("refused 7 BadNumber\n")),
+    Leaves(Param, Text(".t."), Refusal("refused 1 BadByte\n")),
+    Leaves(Param, Text("+"), Refusal("refused 24 EndsEarly\n")),
+    // a reader that fails
+    ParamFails("read fault at once", ""),
+    ParamFails("read fault inside", "+012.5"),
+    ParamFails("read fault behind", "+012.500E+03\n"),
+    // writers that take little
+    LeavesIn(
+        "room for 3 bytes",
+        Param,
+        Text("1250."),
+        ((1, 3), AMPLE),
+        Failure("1.2", "write fault\n"),
+    ),
+    LeavesIn(
+        "no room for a fault line",
+        Param,
+        Text("1 2"),
+        (AMPLE, (1, 8)),
+        Failure("", "refused "),
+    ),
+    LeavesIn(
+        "just enough room",
+        Param,
+        Text("+012.500E+03"),
+        ((1, 7), AMPLE),
+        Answer("1.25E4\n"),
+    ),
+];
 
 #[test]
-fn answers(rt: HostRuntime) {
-    let cases: [(&[u8], &[u8]); 9] = [
-        (b"+012.500E+03", b"1.25E4\n"),
-        (b" +007\n", b"7\n"),
-        (b"-0", b"0\n"),
-        (b"123.450", b"1.2345E2\n"),
-        (b"1.E0000000001", b"1.E1\n"),
-        (b"0.E999999999", b"0.\n"),
-        (b"1.E9999", b"1.E9999\n"),
-        (b".T.", b".T.\n"),
-        (b"\t\r\n.RED.\x7f", b".RED.\n"),
-    ];
-    for (text, want) in cases {
-        let run = run_over(rt.alloc(), &mut &text[..]);
-        assert_eq!(rt; run.status, 0, "{text:?}");
-        assert_eq!(rt; run.output.as_slice(), want);
-        assert!(rt; run.faults.is_empty());
-    }
+fn answers_refuses_and_fails(rt: HostRuntime) {
+    assert_eq!(rt; first_wrong(rt.alloc(), ROWS), "none");
 }
 
-#[test]
-fn refuses(rt: HostRuntime) {
-    let cases: [(&[u8], &[u8]); 9] = [
-        (b"10.E9999", b"refused 8 NumberRange\n"),
-        (b"0.E1000000000", b"refused 8 NumberRange\n"),
-        (b"1.E", b"refused 24 EndsEarly\n"),
-        (b"1.EX", b"refused 7 BadNumber\n"),
-        (b"1 2", b"refused 12 NotOneParameter\n"),
-        (b"", b"refused 24 EndsEarly\n"),
-        (b"+x", b"refused 7 BadNumber\n"),
-        (b".t.", b"refused 1 BadByte\n"),
-        (b"+", b"refused 24 EndsEarly\n"),
-    ];
-    for (text, want) in cases {
-        let run = run_over(rt.alloc(), &mut &text[..]);
-        assert_eq!(rt; run.status, 1, "{text:?}");
-        assert!(rt; run.output.is_empty());
-        assert_eq!(rt; run.faults.as_slice(), want);
-    }
+/// Whether as many blanks as are read at all end early.
+fn reads_most(alloc: Global) -> bool {
+    let mut blanks = io::repeat(b' ').take(16_777_216);
+    param(alloc, &mut blanks, AMPLE_ROOMS).is(Refusal("refused 24 EndsEarly\n"))
+}
+
+/// How much of an endless text is read: none where it isn't refused so.
+fn read_of_endless_text(alloc: Global) -> Option<u64> {
+    let mut text = EndlessReader { given: 0 };
+    let run = param(alloc, &mut text, AMPLE_ROOMS);
+    run.is(Refusal("refused 23 FileTooLong\n"))
+        .then_some(text.given)
 }
 
 #[test]
 fn reads_no_more_than_one_byte_too_many(rt: HostRuntime) {
-    let mut blanks = io::repeat(b' ').take(16_777_216);
-    let whole = run_over(rt.alloc(), &mut blanks);
-    assert_eq!(rt; whole.status, 1);
     assert_eq!(rt;
-        whole.faults.as_slice(),
-        b"refused 24 EndsEarly\n".as_slice()
+        (reads_most(rt.alloc()), read_of_endless_text(rt.alloc())),
+        (true, Some(16_777_217))
     );
-
-    let mut endless = EndlessReader { given: 0 };
-    let cut = run_over(rt.alloc(), &mut endless);
-    assert_eq!(rt; cut.status, 1);
-    assert_eq!(rt;
-        cut.faults.as_slice(),
-        b"refused 23 FileTooLong\n".as_slice()
-    );
-    assert_eq!(rt; endless.given, 16_777_217);
 }
 
-#[test]
-fn shows_read_faults(rt: HostRuntime) {
-    let cases: [&[u8]; 3] = [b"", b"+012.5", b"+012.500E+03\n"];
-    for bytes in cases {
-        let run = run_over(rt.alloc(), &mut FailingReader { bytes, most: 1 });
-        assert_eq!(rt; run.status, 3);
-        assert!(rt; run.output.is_empty());
-        assert_eq!(rt; run.faults.as_slice(), b"read fault\n".as_slice());
-    }
-}
-
-#[test]
-fn shows_write_faults(rt: HostRuntime) {
-    for then in [Full::TakesNone, Full::Fails] {
-        let mut output = SmallWriter::new(rt.alloc(), 1, 3, then);
-        let mut faults = Vec::new(rt.alloc());
-        let status = param_command(rt.alloc(), &mut &b"1250."[..], &mut output, &mut faults);
-        assert_eq!(rt; status, 3);
-        assert_eq!(rt; output.taken.as_slice(), b"1.2".as_slice());
-        assert_eq!(rt; faults.as_slice(), b"write fault\n".as_slice());
-    }
-}
-
-#[test]
-fn fails_without_a_fault_line(rt: HostRuntime) {
-    for then in [Full::TakesNone, Full::Fails] {
-        let mut output = Vec::new(rt.alloc());
-        let mut faults = SmallWriter::new(rt.alloc(), 1, 8, then);
-        let status = param_command(rt.alloc(), &mut &b"1 2"[..], &mut output, &mut faults);
-        assert_eq!(rt; status, 3);
-        assert!(rt; output.is_empty());
-        assert_eq!(rt; faults.taken.as_slice(), b"refused ".as_slice());
-    }
-}
-
-#[test]
-fn writes_in_small_pieces(rt: HostRuntime) {
-    let mut output = SmallWriter::new(rt.alloc(), 1, 7, Full::Fails);
-    let mut faults = Vec::new(rt.alloc());
-    let status = param_command(
-        rt.alloc(),
-        &mut &b"+012.500E+03"[..],
-        &mut output,
-        &mut faults,
-    );
-    assert_eq!(rt; status, 0);
-    assert_eq!(rt; output.taken.as_slice(), b"1.25E4\n".as_slice());
-    assert!(rt; faults.is_empty());
+/// The status of want of memory, where its line is written.
+fn want_of_memory(alloc: Global) -> Option<u8> {
+    let mut faults = Vec::new(alloc);
+    let status = report(&CommandFault::NoMemory, &mut faults);
+    (faults.as_slice() == b"out of memory\n".as_slice()).then_some(status)
 }
 
 #[test]
 fn shows_want_of_memory(rt: HostRuntime) {
-    let mut faults = Vec::new(rt.alloc());
-    assert_eq!(rt; report(&CommandFault::NoMemory, &mut faults), 3);
-    assert_eq!(rt; faults.as_slice(), b"out of memory\n".as_slice());
+    assert_eq!(rt; want_of_memory(rt.alloc()), Some(3));
 }

@@ -1,79 +1,90 @@
 //! Readers that fail, schemas that are refused, and what is read at all.
-use crate::devices::FailingReader;
-use crate::run::{
-    Run, canon_reader, check_reader, expect_failure, expect_refusal, same_readers, show_reader,
-};
+use crate::devices::{Behind, SmallReader};
+use crate::run::Left::{self, Refusal};
+use crate::run::{AMPLE_ROOMS, READ_FAULT, canon, check, same, show};
 use crate::schemas::{DEMO, EMPTY};
-use p21_commands_files::{check_command, same_command};
-use p21_stream::Watched;
 use std::alloc::Global;
-use std::test::Fail;
+
+/// A reader that gives a text, and then fails.
+fn failing(text: &str, most: usize) -> SmallReader<'_> {
+    SmallReader {
+        bytes: text.as_bytes(),
+        most,
+        then: Behind::Fails,
+    }
+}
 
 /// A reader that gives the first bytes of the file without instances, and then fails.
-fn failing(count: usize) -> FailingReader<'static> {
+fn failing_file(count: usize) -> SmallReader<'static> {
     let bytes = EMPTY.as_bytes();
-    FailingReader {
+    SmallReader {
         bytes: bytes.split_at(count.min(bytes.len())).0,
         most: 7,
+        then: Behind::Fails,
     }
+}
+
+/// A reader that gives a text up to its end.
+fn whole(text: &str) -> SmallReader<'_> {
+    SmallReader {
+        bytes: text.as_bytes(),
+        most: text.len(),
+        then: Behind::Ends,
+    }
+}
+
+/// The first command that leaves something else.
+fn first_command(
+    alloc: Global,
+    schema: SmallReader,
+    file: SmallReader,
+    left: Left,
+) -> &'static str {
+    if !check(alloc, &mut { schema }, file, AMPLE_ROOMS).is(left) {
+        return "check";
+    }
+    if !canon(alloc, &mut { schema }, file, AMPLE_ROOMS).is(left) {
+        return "canon";
+    }
+    if !show(alloc, &mut { schema }, file, 1, AMPLE_ROOMS).is(left) {
+        return "show";
+    }
+    if !same(alloc, &mut { schema }, file, file, AMPLE_ROOMS).is(left) {
+        return "same";
+    }
+    "none"
+}
+
+/// Whether two files are shown to fail of which one does.
+fn fails_compared(alloc: Global, first: SmallReader, second: SmallReader) -> bool {
+    same(alloc, &mut DEMO.as_bytes(), first, second, AMPLE_ROOMS).is(READ_FAULT)
+}
+
+/// Where a file begins to fail that isn't shown to fail, by itself or beside another.
+fn first_count(alloc: Global, counts: &[usize]) -> Option<usize> {
+    for count in counts {
+        let file = failing_file(*count);
+        if first_command(alloc, whole(DEMO), file, READ_FAULT) != "none"
+            || !fails_compared(alloc, file, whole(EMPTY))
+            || !fails_compared(alloc, whole(EMPTY), file)
+        {
+            return Some(*count);
+        }
+    }
+    None
 }
 
 #[test]
 fn shows_read_faults_of_files(rt: HostRuntime) {
-    for count in [0, 20, 87, 151, 152] {
-        let schema = DEMO.text.as_bytes();
-        let checked = check_reader(rt.alloc(), &mut { schema }, failing(count));
-        expect_failure(&rt, &checked, "read fault\n", "check");
-        let rewritten = canon_reader(rt.alloc(), &mut { schema }, failing(count));
-        expect_failure(&rt, &rewritten, "read fault\n", "canon");
-        let shown = show_reader(rt.alloc(), &mut { schema }, failing(count), 1);
-        expect_failure(&rt, &shown, "read fault\n", "show");
-    }
-}
-
-#[test]
-fn shows_read_faults_of_compared_files(rt: HostRuntime) {
-    for count in [0, 20, 152] {
-        let schema = DEMO.text.as_bytes();
-        let file = EMPTY.as_bytes();
-        let first = same_readers(rt.alloc(), &mut { schema }, failing(count), file);
-        expect_failure(&rt, &first, "read fault\n", "first");
-        let second = same_readers(rt.alloc(), &mut { schema }, file, failing(count));
-        expect_failure(&rt, &second, "read fault\n", "second");
-    }
-}
-
-/// A reader that gives the text of a schema, and then fails.
-fn failing_schema() -> FailingReader<'static> {
-    FailingReader {
-        bytes: DEMO.text.as_bytes(),
-        most: 100,
-    }
+    assert_eq!(rt; first_count(rt.alloc(), &[0, 20, 87, 151, 152]), None);
 }
 
 #[test]
 fn shows_read_faults_of_schemas(rt: HostRuntime) {
-    let file = EMPTY.as_bytes();
-    let checked = check_reader(rt.alloc(), &mut failing_schema(), file);
-    expect_failure(&rt, &checked, "read fault\n", "check");
-    let rewritten = canon_reader(rt.alloc(), &mut failing_schema(), file);
-    expect_failure(&rt, &rewritten, "read fault\n", "canon");
-    let shown = show_reader(rt.alloc(), &mut failing_schema(), file, 1);
-    expect_failure(&rt, &shown, "read fault\n", "show");
-    let compared = same_readers(rt.alloc(), &mut failing_schema(), file, file);
-    expect_failure(&rt, &compared, "read fault\n", "same");
-}
-
-/// A file is refused before its reader fails.
-#[test]
-fn refuses_before_the_read_fault(rt: HostRuntime) {
-    let file = FailingReader {
-        bytes: b"ISO-10303-21;HEADER;DATA;",
-        most: 100,
-    };
-    let checked = check_reader(rt.alloc(), &mut DEMO.text.as_bytes(), file);
-    let line = "refused 20 Unexpected at statement 3\n";
-    expect_refusal(&rt, &checked, line, "refused first");
+    assert_eq!(rt;
+        first_command(rt.alloc(), failing(DEMO, 100), whole(EMPTY), READ_FAULT),
+        "none"
+    );
 }
 
 /// Schemas that are refused, each with its line.
@@ -106,72 +117,62 @@ const REFUSED: &[(&str, &str)] = &[
     ),
 ];
 
-/// The file would fail at its first read, so it isn't read.
+/// The first schema that isn't refused so. The file would fail at its first read, so it isn't read.
+fn first_schema(alloc: Global, rows: &'static [(&'static str, &'static str)]) -> &'static str {
+    for (schema, line) in rows {
+        if first_command(alloc, whole(schema), failing_file(0), Refusal(line)) != "none" {
+            return schema;
+        }
+    }
+    "none"
+}
+
 #[test]
 fn reads_no_file_where_the_schema_is_refused(rt: HostRuntime) {
-    for (schema, line) in REFUSED {
-        let text = schema.as_bytes();
-        let checked = check_reader(rt.alloc(), &mut { text }, failing(0));
-        expect_refusal(&rt, &checked, line, schema);
-        let rewritten = canon_reader(rt.alloc(), &mut { text }, failing(0));
-        expect_refusal(&rt, &rewritten, line, schema);
-        let shown = show_reader(rt.alloc(), &mut { text }, failing(0), 1);
-        expect_refusal(&rt, &shown, line, schema);
-        let compared = same_readers(rt.alloc(), &mut { text }, failing(0), failing(0));
-        expect_refusal(&rt, &compared, line, schema);
-    }
+    assert_eq!(rt; first_schema(rt.alloc(), REFUSED), "none");
 }
 
-/// A run of `check` on a file that is refused, with the reads that gave bytes and those that failed.
-fn watched_check(alloc: Global, schema: &str) -> (Run, u64, u64) {
-    let mut file = Watched::new(failing(0));
-    let mut output = Vec::new(alloc);
-    let mut faults = Vec::new(alloc);
-    let status = check_command(
-        alloc,
-        &mut schema.as_bytes(),
-        &mut file,
-        &mut output,
-        &mut faults,
-    );
-    let run = Run {
-        status,
-        output,
-        faults,
-    };
-    (run, file.moved(), file.failures())
+/// Whether a file is refused before its reader fails.
+fn refuses_first(alloc: Global) -> bool {
+    let file = failing("ISO-10303-21;HEADER;DATA;", 100);
+    let run = check(alloc, &mut DEMO.as_bytes(), file, AMPLE_ROOMS);
+    run.is(Refusal("refused 20 Unexpected at statement 3\n"))
 }
 
-#[test]
-fn reads_the_schema_first(rt: HostRuntime) {
-    let (refused, moved, failures) = watched_check(rt.alloc(), "SCHEMA s; END_SCHEMA");
-    expect_refusal(&rt, &refused, "schema refused S2 Syntax\n", "refused");
-    assert_eq!(rt; (moved, failures), (0, 0));
-    let (read, moved, failures) = watched_check(rt.alloc(), DEMO.text);
-    expect_failure(&rt, &read, "read fault\n", "read");
-    assert_eq!(rt; (moved, failures), (0, 1));
+/// The reads that gave bytes of a file that fails, and those that failed: none where something else is left.
+fn reads_under(alloc: Global, schema: &str, left: Left) -> Option<(u64, u64)> {
+    let run = check(alloc, &mut schema.as_bytes(), failing_file(0), AMPLE_ROOMS);
+    run.is(left).then_some((run.moved.0, run.failures))
 }
 
-/// How often each file was read, by a run of `same` on a first file and one without instances.
+/// How often each file was read, of a first file and one without instances.
 fn reads_of_both(alloc: Global, first: &str) -> (u64, u64) {
-    let mut one = Watched::new(first.as_bytes());
-    let mut other = Watched::new(EMPTY.as_bytes());
-    let mut output = Vec::new(alloc);
-    let mut faults = Vec::new(alloc);
-    let _status = same_command(
-        alloc,
-        &mut DEMO.text.as_bytes(),
-        &mut one,
-        &mut other,
-        &mut output,
-        &mut faults,
-    );
-    (one.moved(), other.moved())
+    let (file, other) = (first.as_bytes(), EMPTY.as_bytes());
+    same(alloc, &mut DEMO.as_bytes(), file, other, AMPLE_ROOMS).moved
+}
+
+/// The first rule of what is read that isn't kept.
+fn first_broken(alloc: Global) -> &'static str {
+    if !refuses_first(alloc) {
+        return "a file is refused before its reader fails";
+    }
+    let line = "schema refused S2 Syntax\n";
+    if reads_under(alloc, "SCHEMA s; END_SCHEMA", Refusal(line)) != Some((0, 0)) {
+        return "no file is read where the schema is refused";
+    }
+    if reads_under(alloc, DEMO, READ_FAULT) != Some((0, 1)) {
+        return "the file is read behind the schema";
+    }
+    if reads_of_both(alloc, EMPTY) != (1, 1) {
+        return "both files are read";
+    }
+    if reads_of_both(alloc, "ISO-10303-21;") != (1, 0) {
+        return "no second file is read where the first is refused";
+    }
+    "none"
 }
 
 #[test]
-fn reads_no_second_file_where_the_first_is_refused(rt: HostRuntime) -> Result<(), Fail> {
-    assert_eq!(rt; reads_of_both(rt.alloc(), EMPTY), (1, 1));
-    assert_eq!(rt; reads_of_both(rt.alloc(), "ISO-10303-21;"), (1, 0));
-    Ok(())
+fn reads_in_order(rt: HostRuntime) {
+    assert_eq!(rt; first_broken(rt.alloc()), "none");
 }

@@ -1,166 +1,151 @@
 //! Writers that take little, and fail.
-use crate::devices::{Full, SmallWriter};
-use crate::run::{Run, expect};
-use crate::schemas::{DEMO, EMPTY, file_of};
-use p21_commands_files::{canon_command, check_command, same_command, show_command};
-use p21_stream::Watched;
-use p21_values::Name;
-use std::alloc::Global;
-use std::test::Fail;
+use crate::run::Command::{Canon, Check, Same, Show};
+use crate::run::Left::{Answer, Failure, Refusal};
+use crate::run::Row::LeavesIn;
+use crate::run::{AMPLE, Rows, Space, first_wrong};
+use crate::schemas::EMPTY;
+use crate::schemas::File::{self, Lines, Text};
 
-/// What a small writer has room for, and what it then does.
-#[derive(Clone, Copy)]
-struct Room {
-    most: usize,
-    in_all: usize,
-    then: Full,
-}
+const NO_INSTANCES: File = Text(EMPTY);
 
-impl Room {
-    fn writer(self, alloc: Global) -> SmallWriter {
-        SmallWriter::new(alloc, self.most, self.in_all, self.then)
-    }
-}
+const ONE: File = Lines("#2 = POINT($, 1.0, 10.E-1);\n");
 
-/// Room for so many bytes, for what each kind of full writer does then.
-fn rooms(most: usize, in_all: usize) -> [Room; 2] {
-    [Full::TakesNone, Full::Fails].map(|then| Room { most, in_all, then })
-}
+const NOTHING: File = Text("");
 
-fn check_into(alloc: Global, file: &str, output: Room, faults: Room) -> Run {
-    let mut output = output.writer(alloc);
-    let mut faults = faults.writer(alloc);
-    let status = check_command(
-        alloc,
-        &mut DEMO.text.as_bytes(),
-        &mut Watched::new(file.as_bytes()),
-        &mut output,
-        &mut faults,
-    );
-    Run {
-        status,
-        output: output.taken,
-        faults: faults.taken,
-    }
-}
+/// The file without instances up to its last line feed.
+const UNENDED: &str = "ISO-10303-21;
+HEADER;
+FILE_DESCRIPTION((''),'2;1');
+FILE_NAME('','',(''),(''),'','','');
+FILE_SCHEMA(('DEMO'));
+ENDSEC;
+DATA;
+ENDSEC;
+END-ISO-10303-21;";
 
-fn canon_into(alloc: Global, file: &str, output: Room, faults: Room) -> Run {
-    let mut output = Watched::new(output.writer(alloc));
-    let mut faults = faults.writer(alloc);
-    let status = canon_command(
-        alloc,
-        &mut DEMO.text.as_bytes(),
-        &mut Watched::new(file.as_bytes()),
-        &mut output,
-        &mut faults,
-    );
-    Run {
-        status,
-        output: output.into_inner().taken,
-        faults: faults.taken,
-    }
-}
+/// One byte a call.
+const ONE_BYTE: Space = (1, 1000);
 
-fn show_into(alloc: Global, file: &str, output: Room, faults: Room) -> Run {
-    let mut output = output.writer(alloc);
-    let mut faults = faults.writer(alloc);
-    let status = show_command(
-        alloc,
-        &mut DEMO.text.as_bytes(),
-        &mut Watched::new(file.as_bytes()),
-        Name(2),
-        &mut output,
-        &mut faults,
-    );
-    Run {
-        status,
-        output: output.taken,
-        faults: faults.taken,
-    }
-}
-
-fn same_into(alloc: Global, first: &str, output: Room, faults: Room) -> Run {
-    let mut output = output.writer(alloc);
-    let mut faults = faults.writer(alloc);
-    let status = same_command(
-        alloc,
-        &mut DEMO.text.as_bytes(),
-        &mut Watched::new(first.as_bytes()),
-        &mut Watched::new(EMPTY.as_bytes()),
-        &mut output,
-        &mut faults,
-    );
-    Run {
-        status,
-        output: output.taken,
-        faults: faults.taken,
-    }
-}
-
-/// Room for every line.
-const AMPLE: Room = Room {
-    most: 1000,
-    in_all: 1000,
-    then: Full::Fails,
-};
-
-#[test]
-fn shows_write_faults_of_canonical_files(rt: HostRuntime) {
-    for in_all in [0, 10, 151] {
-        for room in rooms(1000, in_all) {
-            let run = canon_into(rt.alloc(), EMPTY, room, AMPLE);
-            let (written, _rest) = EMPTY.split_at(in_all);
-            expect(&rt, &run, 3, written, "write fault\n", written);
-        }
-    }
-}
-
-#[test]
-fn shows_write_faults_of_answers(rt: HostRuntime) -> Result<(), Fail> {
-    let file = file_of(rt.alloc(), DEMO, "#2 = POINT($, 1.0, 10.E-1);\n")?;
-    for room in rooms(1, 8) {
-        let checked = check_into(rt.alloc(), &file, room, AMPLE);
-        expect(&rt, &checked, 3, "accepted", "write fault\n", "check");
-        let shown = show_into(rt.alloc(), &file, room, AMPLE);
-        expect(&rt, &shown, 3, "#2=POINT", "write fault\n", "show");
-    }
-    for room in rooms(1, 3) {
-        let same = same_into(rt.alloc(), EMPTY, room, AMPLE);
-        expect(&rt, &same, 3, "sam", "write fault\n", "same");
-        let different = same_into(rt.alloc(), &file, room, AMPLE);
-        expect(&rt, &different, 3, "dif", "write fault\n", "different");
-    }
-    Ok(())
-}
-
-#[test]
-fn writes_one_byte_at_a_time(rt: HostRuntime) {
-    let one = Room { most: 1, ..AMPLE };
-    let rewritten = canon_into(rt.alloc(), EMPTY, one, AMPLE);
-    expect(&rt, &rewritten, 0, EMPTY, "", "canon");
-    let line = "accepted, instances 0, canonical bytes 152\n";
-    let checked = check_into(rt.alloc(), EMPTY, one, AMPLE);
-    expect(&rt, &checked, 0, line, "", "check");
-    let shown = show_into(rt.alloc(), EMPTY, one, one);
-    expect(&rt, &shown, 1, "", "no #2\n", "show");
-    let compared = same_into(rt.alloc(), EMPTY, one, AMPLE);
-    expect(&rt, &compared, 0, "same\n", "", "same");
-}
+const ROWS: Rows = &[
+    // canonical files that are cut off
+    LeavesIn(
+        "canon 0",
+        Canon,
+        NO_INSTANCES,
+        ((1000, 0), AMPLE),
+        Failure("", "write fault\n"),
+    ),
+    LeavesIn(
+        "canon 10",
+        Canon,
+        NO_INSTANCES,
+        ((1000, 10), AMPLE),
+        Failure("ISO-10303-", "write fault\n"),
+    ),
+    LeavesIn(
+        "canon 151",
+        Canon,
+        NO_INSTANCES,
+        ((1000, 151), AMPLE),
+        Failure(UNENDED, "write fault\n"),
+    ),
+    // answers that are cut off
+    LeavesIn(
+        "check 8",
+        Check,
+        ONE,
+        ((1, 8), AMPLE),
+        Failure("accepted", "write fault\n"),
+    ),
+    LeavesIn(
+        "show 8",
+        Show(2),
+        ONE,
+        ((1, 8), AMPLE),
+        Failure("#2=POINT", "write fault\n"),
+    ),
+    LeavesIn(
+        "same 3",
+        Same(NO_INSTANCES),
+        NO_INSTANCES,
+        ((1, 3), AMPLE),
+        Failure("sam", "write fault\n"),
+    ),
+    LeavesIn(
+        "different 3",
+        Same(NO_INSTANCES),
+        ONE,
+        ((1, 3), AMPLE),
+        Failure("dif", "write fault\n"),
+    ),
+    // one byte at a time
+    LeavesIn(
+        "canon",
+        Canon,
+        NO_INSTANCES,
+        (ONE_BYTE, AMPLE),
+        Answer(EMPTY),
+    ),
+    LeavesIn(
+        "check",
+        Check,
+        NO_INSTANCES,
+        (ONE_BYTE, AMPLE),
+        Answer("accepted, instances 0, canonical bytes 152\n"),
+    ),
+    LeavesIn(
+        "show",
+        Show(2),
+        NO_INSTANCES,
+        (ONE_BYTE, ONE_BYTE),
+        Refusal("no #2\n"),
+    ),
+    LeavesIn(
+        "same",
+        Same(NO_INSTANCES),
+        NO_INSTANCES,
+        (ONE_BYTE, AMPLE),
+        Answer("same\n"),
+    ),
+    // no room for a fault line
+    LeavesIn(
+        "check refused",
+        Check,
+        NOTHING,
+        (AMPLE, (1000, 7)),
+        Failure("", "refused"),
+    ),
+    LeavesIn(
+        "canon refused",
+        Canon,
+        NOTHING,
+        (AMPLE, (1000, 7)),
+        Failure("", "refused"),
+    ),
+    LeavesIn(
+        "show refused",
+        Show(2),
+        NOTHING,
+        (AMPLE, (1000, 7)),
+        Failure("", "refused"),
+    ),
+    LeavesIn(
+        "same refused",
+        Same(NO_INSTANCES),
+        NOTHING,
+        (AMPLE, (1000, 7)),
+        Failure("", "first: "),
+    ),
+    LeavesIn(
+        "no instance",
+        Show(2),
+        NO_INSTANCES,
+        (AMPLE, (1, 4)),
+        Failure("", "no #"),
+    ),
+];
 
 #[test]
-fn fails_without_a_fault_line(rt: HostRuntime) {
-    for room in rooms(1000, 7) {
-        let checked = check_into(rt.alloc(), "", AMPLE, room);
-        expect(&rt, &checked, 3, "", "refused", "check");
-        let rewritten = canon_into(rt.alloc(), "", AMPLE, room);
-        expect(&rt, &rewritten, 3, "", "refused", "canon");
-        let shown = show_into(rt.alloc(), "", AMPLE, room);
-        expect(&rt, &shown, 3, "", "refused", "show");
-        let compared = same_into(rt.alloc(), "", AMPLE, room);
-        expect(&rt, &compared, 3, "", "first: ", "same");
-    }
-    for room in rooms(1, 4) {
-        let shown = show_into(rt.alloc(), EMPTY, AMPLE, room);
-        expect(&rt, &shown, 3, "", "no #", "no instance");
-    }
+fn writes_into_small_rooms(rt: HostRuntime) {
+    assert_eq!(rt; first_wrong(rt.alloc(), ROWS), "none");
 }
