@@ -37,6 +37,15 @@ fn appended<T: Canonical + Drop>(
     out
 }
 
+/// Whether these bytes are the canonical spelling: they aren't where there is no value.
+fn is_spelled<T: Canonical + Drop>(
+    rt: &HostRuntime,
+    value: Result<T, ValueFault>,
+    spelling: &[u8],
+) -> bool {
+    spelled(rt, value).as_slice() == spelling
+}
+
 /// Whether two values mean the same: none where one is no value.
 fn are_equal<T: PartialEq + Drop>(
     one: Result<T, ValueFault>,
@@ -56,6 +65,9 @@ type Spellings = &'static [(&'static str, &'static str)];
 
 /// Pairs of texts, and whether they mean the same.
 type Pairs = &'static [(&'static str, &'static str, bool)];
+
+/// A pair of texts that doesn't mean what its row says: none where all do.
+type Unlike = Option<(&'static str, &'static str)>;
 
 /// Texts with their refusals.
 type Refusals = &'static [(&'static str, ValueFault)];

@@ -1,4 +1,4 @@
-use super::{are_equal, spelled};
+use super::{are_equal, is_spelled};
 use p21_values::{Bits, ValueFault};
 
 /// Tokens, and how many bits they have.
@@ -29,7 +29,7 @@ fn count(rt: &HostRuntime, token: &[u8]) -> Option<usize> {
 fn first_wrong(rt: &HostRuntime, tokens: Tokens) -> &'static [u8] {
     for (token, bits) in tokens {
         if count(rt, token) != Some(*bits)
-            || spelled(rt, Bits::read(rt.alloc(), token)).as_slice() != *token
+            || !is_spelled(rt, Bits::read(rt.alloc(), token), token)
         {
             return token;
         }

@@ -1,4 +1,4 @@
-use super::{Pairs, Refusals, Spellings, are_equal, spelled};
+use super::{Pairs, Refusals, Spellings, Unlike, are_equal, is_spelled};
 use p21_values::{Decimal, ValueFault, Whole};
 
 fn read(rt: &HostRuntime, text: &str) -> Result<Decimal, ValueFault> {
@@ -58,7 +58,7 @@ const ROWS: Spellings = &[
 fn first_wrong(rt: &HostRuntime, rows: Spellings) -> &'static str {
     for (text, spelling) in rows {
         let is_equal = are_equal(read(rt, text), read(rt, spelling)) == Some(true);
-        if !is_equal || spelled(rt, read(rt, text)).as_slice() != spelling.as_bytes() {
+        if !is_equal || !is_spelled(rt, read(rt, text), spelling.as_bytes()) {
             return text;
         }
     }
@@ -138,18 +138,18 @@ const PAIRS: Pairs = &[
     ),
 ];
 
-fn first_unlike(rt: &HostRuntime, pairs: Pairs) -> &'static str {
+fn first_unlike(rt: &HostRuntime, pairs: Pairs) -> Unlike {
     for (one, other, equal) in pairs {
         if are_equal(read(rt, one), read(rt, other)) != Some(*equal) {
-            return other;
+            return Some((one, other));
         }
     }
-    "none"
+    None
 }
 
 #[test]
 fn compares(rt: HostRuntime) {
-    assert_eq!(rt; first_unlike(&rt, PAIRS), "none");
+    assert_eq!(rt; first_unlike(&rt, PAIRS), None);
 }
 
 fn of_whole(rt: &HostRuntime, whole: Result<Whole, ValueFault>) -> Result<Decimal, ValueFault> {
@@ -171,7 +171,7 @@ const WHOLES: Spellings = &[("0", "0."), ("-7", "-7."), ("1250", "1.25E3")];
 fn first_of_another_ratio(rt: &HostRuntime, rows: Spellings) -> &'static str {
     for (text, spelling) in rows {
         let whole = Whole::read(rt.alloc(), text.as_bytes());
-        if spelled(rt, of_whole(rt, whole)).as_slice() != spelling.as_bytes() {
+        if !is_spelled(rt, of_whole(rt, whole), spelling.as_bytes()) {
             return text;
         }
     }
@@ -181,8 +181,8 @@ fn first_of_another_ratio(rt: &HostRuntime, rows: Spellings) -> &'static str {
 #[test]
 fn keeps_the_ratio_of_a_whole_number(rt: HostRuntime) {
     assert_eq!(rt; first_of_another_ratio(&rt, WHOLES), "none");
-    let greatest = spelled(&rt, of_whole(&rt, power_of_ten(&rt, 10000)));
-    assert_eq!(rt; greatest.as_slice(), b"1.E9999".as_slice());
+    let greatest = of_whole(&rt, power_of_ten(&rt, 10000));
+    assert!(rt; is_spelled(&rt, greatest, b"1.E9999"));
     let above = of_whole(&rt, power_of_ten(&rt, 10001)).err();
     assert_eq!(rt; above, Some(ValueFault::NumberRange));
 }

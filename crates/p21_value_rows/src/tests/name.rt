@@ -1,4 +1,4 @@
-use super::spelled;
+use super::is_spelled;
 use p21_values::{Name, ValueFault};
 
 type Names = &'static [(&'static [u8], u64, &'static [u8])];
@@ -17,9 +17,7 @@ const NAMES: Names = &[
 
 fn first_wrong(rt: &HostRuntime, names: Names) -> &'static [u8] {
     for (text, number, spelling) in names {
-        if Name::read(text) != Ok(Name(*number))
-            || spelled(rt, Name::read(text)).as_slice() != *spelling
-        {
+        if Name::read(text) != Ok(Name(*number)) || !is_spelled(rt, Name::read(text), spelling) {
             return text;
         }
     }

@@ -1,4 +1,4 @@
-use super::{Pairs, Spellings, appended, are_equal, spelled};
+use super::{Pairs, Spellings, Unlike, appended, are_equal, is_spelled};
 use p21_values::{NoMemory, Text, ValueFault};
 
 fn text(rt: &HostRuntime, characters: &str) -> Result<Text, NoMemory> {
@@ -34,7 +34,7 @@ const ROWS: Spellings = &[
 
 fn first_wrong(rt: &HostRuntime, rows: Spellings) -> &'static str {
     for (text, spelling) in rows {
-        if spelled(rt, read(rt, text)).as_slice() != spelling.as_bytes() {
+        if !is_spelled(rt, read(rt, text), spelling.as_bytes()) {
             return text;
         }
     }
@@ -57,11 +57,19 @@ fn begins_with_no_character(rt: HostRuntime) {
     assert_eq!(rt; Text::new(rt.alloc()).len(), 0);
 }
 
-/// Whether a text of one character and others behind it, added by each call, has these characters.
-fn has_characters(rt: &HostRuntime, text: &str, latin1: &[u8], characters: &[char]) -> bool {
-    let mut word = Text::new(rt.alloc());
-    if word.push('\u{20AC}').is_err()
-        || word.push_str(text).is_err()
+/// Whether a text, with nothing and then with characters and bytes added, has these characters.
+fn has_characters(
+    word: Result<Text, NoMemory>,
+    added: &str,
+    latin1: &[u8],
+    characters: &[char],
+) -> bool {
+    let Ok(mut word) = word else {
+        return false;
+    };
+    if word.push_str("").is_err()
+        || word.push_str(added).is_err()
+        || word.push_latin1(b"").is_err()
         || word.push_latin1(latin1).is_err()
     {
         return false;
@@ -69,46 +77,52 @@ fn has_characters(rt: &HostRuntime, text: &str, latin1: &[u8], characters: &[cha
     word.len() == characters.len() && word.chars() == characters
 }
 
-/// What is added by each call, and the characters that then stand there.
-type Added = &'static [(&'static str, &'static [u8], &'static [char])];
+/// Characters, what is added to them by each call, and the characters that then stand there.
+type Added = &'static [(&'static str, &'static str, &'static [u8], &'static [char])];
 
 const ADDED: Added = &[
-    ("", b"", &['\u{20AC}']),
+    ("é'", "", b"", &['é', '\'']),
     (
+        "\u{20AC}",
         "a\u{E9}\u{1F600}",
         b"",
         &['\u{20AC}', 'a', '\u{E9}', '\u{1F600}'],
     ),
-    ("", b"a ~\xE9", &['\u{20AC}', 'a', ' ', '~', '\u{E9}']),
-    ("é'", b"", &['\u{20AC}', 'é', '\'']),
+    (
+        "\u{20AC}",
+        "",
+        b"a ~\xE9",
+        &['\u{20AC}', 'a', ' ', '~', '\u{E9}'],
+    ),
 ];
 
-fn first_otherwise_added(rt: &HostRuntime, rows: Added) -> &'static str {
-    for (text, latin1, characters) in rows {
-        if !has_characters(rt, text, latin1, characters) {
-            return text;
+/// The place of the first row with other characters.
+fn first_otherwise_added(rt: &HostRuntime, rows: Added) -> Option<usize> {
+    for (place, (before, added, latin1, characters)) in rows.iter().enumerate() {
+        if !has_characters(text(rt, before), added, latin1, characters) {
+            return Some(place);
         }
     }
-    "none"
+    None
 }
 
 #[test]
 fn adds(rt: HostRuntime) {
-    assert_eq!(rt; first_otherwise_added(&rt, ADDED), "none");
+    assert_eq!(rt; first_otherwise_added(&rt, ADDED), None);
 }
 
 const PAIRS: Pairs = &[("é'", "é'", true), ("é'", "é\"", false), ("é", "é'", false)];
 
-fn first_unlike(rt: &HostRuntime, pairs: Pairs) -> &'static str {
+fn first_unlike(rt: &HostRuntime, pairs: Pairs) -> Unlike {
     for (one, other, equal) in pairs {
         if are_equal(read(rt, one), read(rt, other)) != Some(*equal) {
-            return other;
+            return Some((one, other));
         }
     }
-    "none"
+    None
 }
 
 #[test]
 fn compares(rt: HostRuntime) {
-    assert_eq!(rt; first_unlike(&rt, PAIRS), "none");
+    assert_eq!(rt; first_unlike(&rt, PAIRS), None);
 }

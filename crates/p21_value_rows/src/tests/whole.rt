@@ -1,4 +1,4 @@
-use super::{Pairs, Refusals, Spellings, appended, are_equal, spelled};
+use super::{Pairs, Refusals, Spellings, Unlike, appended, are_equal, is_spelled};
 use p21_values::{ValueFault, Whole};
 
 fn read(rt: &HostRuntime, text: &str) -> Result<Whole, ValueFault> {
@@ -16,7 +16,7 @@ const ROWS: Spellings = &[
 
 fn first_wrong(rt: &HostRuntime, rows: Spellings) -> &'static str {
     for (text, spelling) in rows {
-        if spelled(rt, read(rt, text)).as_slice() != spelling.as_bytes() {
+        if !is_spelled(rt, read(rt, text), spelling.as_bytes()) {
             return text;
         }
     }
@@ -62,18 +62,18 @@ const PAIRS: Pairs = &[
     ("12", "120", false),
 ];
 
-fn first_unlike(rt: &HostRuntime, pairs: Pairs) -> &'static str {
+fn first_unlike(rt: &HostRuntime, pairs: Pairs) -> Unlike {
     for (one, other, equal) in pairs {
         if are_equal(read(rt, one), read(rt, other)) != Some(*equal) {
-            return other;
+            return Some((one, other));
         }
     }
-    "none"
+    None
 }
 
 #[test]
 fn compares(rt: HostRuntime) {
-    assert_eq!(rt; first_unlike(&rt, PAIRS), "none");
+    assert_eq!(rt; first_unlike(&rt, PAIRS), None);
 }
 
 #[test]

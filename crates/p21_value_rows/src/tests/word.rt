@@ -1,4 +1,4 @@
-use super::{Pairs, Refusals, are_equal, spelled};
+use super::{Pairs, Refusals, Unlike, are_equal, is_spelled};
 use p21_values::{ValueFault, Word};
 
 fn read(rt: &HostRuntime, text: &str) -> Result<Word, ValueFault> {
@@ -44,12 +44,18 @@ fn of_front(
     }
 }
 
+/// Whether a word is read and spelled as it stands, and the front of a line is the same word.
+fn is_right(rt: &HostRuntime, text: &str, behind: &[u8]) -> bool {
+    is_kept(read(rt, text), text.as_bytes())
+        && is_spelled(rt, read(rt, text), text.as_bytes())
+        && is_spelled(rt, of_front(rt, read(rt, text), behind), text.as_bytes())
+        && are_equal(of_front(rt, read(rt, text), behind), read(rt, text)) == Some(true)
+}
+
+/// The first word that isn't right in a line with these bytes behind it.
 fn first_wrong(rt: &HostRuntime, words: &'static [&'static str], behind: &[u8]) -> &'static str {
     for text in words {
-        let front = of_front(rt, read(rt, text), behind);
-        if !is_kept(read(rt, text), text.as_bytes())
-            || spelled(rt, front).as_slice() != text.as_bytes()
-        {
+        if !is_right(rt, text, behind) {
             return text;
         }
     }
@@ -89,16 +95,16 @@ fn refuses_what_is_no_keyword(rt: HostRuntime) {
 
 const PAIRS: Pairs = &[("RED", "RED", true), ("RED", "REDS", false)];
 
-fn first_unlike(rt: &HostRuntime, pairs: Pairs) -> &'static str {
+fn first_unlike(rt: &HostRuntime, pairs: Pairs) -> Unlike {
     for (one, other, equal) in pairs {
         if are_equal(read(rt, one), read(rt, other)) != Some(*equal) {
-            return other;
+            return Some((one, other));
         }
     }
-    "none"
+    None
 }
 
 #[test]
 fn compares(rt: HostRuntime) {
-    assert_eq!(rt; first_unlike(&rt, PAIRS), "none");
+    assert_eq!(rt; first_unlike(&rt, PAIRS), None);
 }
