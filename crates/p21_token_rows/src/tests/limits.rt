@@ -3,10 +3,6 @@ use super::*;
 /// The limits on a statement and on the file, the text, and the answers.
 type Rows = &'static [(u64, u64, &'static str, &'static str)];
 
-fn small(record: u64, file: u64) -> Result<Limits, Fail> {
-    Ok(Limits::new(record, record, file, file).ok_or("no limits")?)
-}
-
 const KEPT: Rows = &[
     (5, 10, "12 /**/34;", "12 34 ;"),
     (5, 10, "1234;1234;", "1234 ; 1234 ;"),
@@ -19,18 +15,35 @@ const KEPT: Rows = &[
     (0, 4, "/**/", ""),
 ];
 
-#[test]
-fn keeps_to_the_limits(rt: HostRuntime) -> Result<(), Fail> {
-    for (record, file, text, answers) in KEPT {
-        expect_answers(
-            &rt,
-            rt.alloc(),
-            small(*record, *file)?,
-            text.as_bytes(),
-            answers,
-        )?;
+/// The first text that gives other answers under its limits.
+fn first_wrong(rows: Rows, alloc: Global) -> &'static str {
+    for (record, file, text, answers) in rows {
+        let Some(limits) = Limits::new(*record, *record, *file, *file) else {
+            return "no limits";
+        };
+        if !gives(alloc, limits, text.as_bytes(), answers) {
+            return text;
+        }
     }
-    Ok(())
+    "none"
+}
+
+/// The first text that isn't refused so at its last byte.
+fn first_taken(rows: Rows, alloc: Global) -> &'static str {
+    for (record, file, text, answers) in rows {
+        let Some(limits) = Limits::new(*record, *record, *file, *file) else {
+            return "no limits";
+        };
+        if !is_refused_at_the_last(alloc, limits, text.as_bytes(), answers) {
+            return text;
+        }
+    }
+    "none"
+}
+
+#[test]
+fn keeps_to_the_limits(rt: HostRuntime) {
+    assert_eq!(rt; first_wrong(KEPT, rt.alloc()), "none");
 }
 
 const PASSED: Rows = &[
@@ -57,22 +70,15 @@ const PASSED: Rows = &[
 ];
 
 #[test]
-fn refuses_past_the_limits(rt: HostRuntime) -> Result<(), Fail> {
-    for (record, file, text, answers) in PASSED {
-        expect_refused(
-            &rt,
-            rt.alloc(),
-            small(*record, *file)?,
-            text.as_bytes(),
-            answers,
-        )?;
-    }
-    Ok(())
+fn refuses_past_the_limits(rt: HostRuntime) {
+    assert_eq!(rt; first_taken(PASSED, rt.alloc()), "none");
 }
 
 #[test]
-fn refuses_a_bad_byte_in_front_of_a_limit(rt: HostRuntime) -> Result<(), Fail> {
-    let found = read_cut(rt.alloc(), small(9, 1)?, b"%%", b"")?;
-    assert_eq!(rt; found.as_slice(), b"BadByte".as_slice());
-    Ok(())
+fn refuses_a_bad_byte_in_front_of_a_limit(rt: HostRuntime) {
+    let answers = match Limits::new(9, 9, 1, 1) {
+        Some(limits) => read_cut(rt.alloc(), limits, b"%%", b""),
+        None => Vec::new(rt.alloc()),
+    };
+    assert_eq!(rt; answers.as_slice(), b"BadByte".as_slice());
 }

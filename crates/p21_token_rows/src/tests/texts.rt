@@ -4,29 +4,34 @@ type Texts = &'static [(&'static str, &'static str)];
 
 type Bytes = &'static [(&'static [u8], &'static str)];
 
-fn all_answers(rt: &impl Abort, alloc: Global, rows: &[(&str, &str)]) -> Result<(), Fail> {
+/// The first text that gives other answers.
+fn first_wrong(alloc: Global, rows: Texts) -> &'static str {
     for (text, answers) in rows {
-        expect_answers(rt, alloc, Limits::usual(), text.as_bytes(), answers)?;
+        if !gives(alloc, Limits::usual(), text.as_bytes(), answers) {
+            return text;
+        }
     }
-    Ok(())
+    "none"
 }
 
-fn all_refused(rt: &impl Abort, alloc: Global, rows: &[(&str, &str)]) -> Result<(), Fail> {
+/// The first text that isn't refused so at its last byte.
+fn first_taken(alloc: Global, rows: Texts) -> &'static str {
     for (text, answers) in rows {
-        expect_refused(rt, alloc, Limits::usual(), text.as_bytes(), answers)?;
+        if !is_refused_at_the_last(alloc, Limits::usual(), text.as_bytes(), answers) {
+            return text;
+        }
     }
-    Ok(())
+    "none"
 }
 
-fn all_refused_of_bytes(
-    rt: &impl Abort,
-    alloc: Global,
-    rows: &[(&[u8], &str)],
-) -> Result<(), Fail> {
+/// The first bytes that aren't refused so at their last one.
+fn first_bytes_taken(alloc: Global, rows: Bytes) -> &'static [u8] {
     for (bytes, answers) in rows {
-        expect_refused(rt, alloc, Limits::usual(), bytes, answers)?;
+        if !is_refused_at_the_last(alloc, Limits::usual(), bytes, answers) {
+            return bytes;
+        }
     }
-    Ok(())
+    b"none"
 }
 
 const CAFE: &str = "'caf\\X2\\00E9\\X0\\'";
@@ -59,8 +64,8 @@ const STRINGS: Texts = &[
 ];
 
 #[test]
-fn reads_strings(rt: HostRuntime) -> Result<(), Fail> {
-    all_answers(&rt, rt.alloc(), STRINGS)
+fn reads_strings(rt: HostRuntime) {
+    assert_eq!(rt; first_wrong(rt.alloc(), STRINGS), "none");
 }
 
 const SCALARS: Texts = &[
@@ -90,8 +95,8 @@ const SCALARS: Texts = &[
 ];
 
 #[test]
-fn reads_scalars(rt: HostRuntime) -> Result<(), Fail> {
-    all_answers(&rt, rt.alloc(), SCALARS)
+fn reads_scalars(rt: HostRuntime) {
+    assert_eq!(rt; first_wrong(rt.alloc(), SCALARS), "none");
 }
 
 const STATEMENTS: Texts = &[
@@ -113,8 +118,8 @@ const STATEMENTS: Texts = &[
 ];
 
 #[test]
-fn reads_statements(rt: HostRuntime) -> Result<(), Fail> {
-    all_answers(&rt, rt.alloc(), STATEMENTS)
+fn reads_statements(rt: HostRuntime) {
+    assert_eq!(rt; first_wrong(rt.alloc(), STATEMENTS), "none");
 }
 
 const COMMENTS: Texts = &[
@@ -138,8 +143,8 @@ const COMMENTS: Texts = &[
 ];
 
 #[test]
-fn reads_comments(rt: HostRuntime) -> Result<(), Fail> {
-    all_answers(&rt, rt.alloc(), COMMENTS)
+fn reads_comments(rt: HostRuntime) {
+    assert_eq!(rt; first_wrong(rt.alloc(), COMMENTS), "none");
 }
 
 const ENDS: Texts = &[
@@ -166,8 +171,8 @@ const ENDS: Texts = &[
 ];
 
 #[test]
-fn refuses_ends(rt: HostRuntime) -> Result<(), Fail> {
-    all_answers(&rt, rt.alloc(), ENDS)
+fn refuses_ends(rt: HostRuntime) {
+    assert_eq!(rt; first_wrong(rt.alloc(), ENDS), "none");
 }
 
 const BYTES_OF_STRINGS: Bytes = &[
@@ -195,8 +200,11 @@ const BYTES_OF_STRINGS: Bytes = &[
 ];
 
 #[test]
-fn refuses_bytes_of_strings(rt: HostRuntime) -> Result<(), Fail> {
-    all_refused_of_bytes(&rt, rt.alloc(), BYTES_OF_STRINGS)
+fn refuses_bytes_of_strings(rt: HostRuntime) {
+    assert_eq!(rt;
+        first_bytes_taken(rt.alloc(), BYTES_OF_STRINGS),
+        b"none".as_slice()
+    );
 }
 
 const BYTES_OF_TOKENS: Texts = &[
@@ -237,6 +245,6 @@ const BYTES_OF_TOKENS: Texts = &[
 ];
 
 #[test]
-fn refuses_bytes_of_tokens(rt: HostRuntime) -> Result<(), Fail> {
-    all_refused(&rt, rt.alloc(), BYTES_OF_TOKENS)
+fn refuses_bytes_of_tokens(rt: HostRuntime) {
+    assert_eq!(rt; first_taken(rt.alloc(), BYTES_OF_TOKENS), "none");
 }
