@@ -2,6 +2,7 @@
 use Rattle.std.specs.Io.KnownBytes.{Keeps}
 use Rattle.std.proofs.Common.{◌≡◌, ℕ, List, [], Option, inr, subst, string_bytes}
 use Rattle.p21_basics.specs.Limits.{Limits, usual}
+use Rattle.p21_commands.specs.Transfer.{Writes}
 use Rattle.p21_commands.specs.declared.fault.CommandFault.{CommandFault}
 use Rattle.p21_commands.specs.declared.fault.CommandFault.TheVariants as command
 use Rattle.p21_commands_files.specs.Canon.{IsCanonicalUnder}
@@ -11,7 +12,7 @@ use Rattle.p21_commands_files.proofs.Failing.{file-refused}
 use Rattle.p21_commands_schema.specs.Command.{FailsBy}
 use Rattle.p21_commands_schema.specs.Load.{DeclaresRead}
 use Rattle.p21_schemas.specs.Schema.{Schema}
-use Rattle.p21_stream.specs.Answers.{FailsToWrite}
+use Rattle.p21_stream.specs.Answers.{FailsToWrite, IsWritten}
 use Rattle.p21_stream.specs.Reading.{RefusesRead}
 use Rattle.p21_stream_fault.specs.declared.fault.Fault.{Fault}
 use Rattle.p21_stream_fault.specs.declared.fault.Fault.TheVariants as file
@@ -61,6 +62,16 @@ module _ (schema old new output_old output_new : Option (List ℕ)) (s : Schema)
         line = w.text;
         is_line = record { declared = s; declares = declares; canonical = w.canonical };
         part = record { written = w.part.written; missing = w.part.missing; some = w.part.some; whole = w.part.whole; appended = w.part.appended };
+      }
+
+  -- what the writer got where nothing fails
+  pub canonical-written : (limits : Limits) (size : ℕ) → limits ≡ usual → IsWritten s limits old new output_old output_new size → Writes (IsCanonicalUnder schema old new) output_old output_new
+  canonical-written limits size is_usual is =
+      let w : IsWritten s usual old new output_old output_new size = subst (λ l. IsWritten s l old new output_old output_new size) is_usual is in
+      record {
+        line = w.text;
+        is_line = record { declared = s; declares = declares; canonical = w.canonical };
+        appended = w.written;
       }
 
   pub canonical-fails : (limits : Limits) (refusal : Refusal) (fault : CommandFault) → limits ≡ usual → IsFaultOf [] refusal fault → FailsToWrite s limits old new output_old output_new refusal.fault
