@@ -17,7 +17,7 @@ pub refused-of : (s : Schema) (old new : Option (List ℕ)) (fault : Fault) → 
 refused-of s old new file.NoMemory of refuses = absurd of
 refused-of s old new file.Read of refuses = absurd of
 refused-of s old new file.Write of refuses = absurd of
-refused-of s old new (file.Token fault) of refuses = refuses
+refused-of s old new (file.Token fault) of refuses = refuses.1
 refused-of s old new (file.Grammar fault) of refuses = refuses
 refused-of s old new (file.Check fault) of refuses = refuses
 refused-of s old new file.SchemaName of refuses = refuses

@@ -2,37 +2,38 @@
 use Rattle.std.specs.Io.KnownBytes.{Keeps}
 use Rattle.std.proofs.Common.{◌≡◌, ℕ, List, [], Option, inr, subst, string_bytes}
 use Rattle.p21_basics.specs.Limits.{Limits, usual}
+use Rattle.p21_commands.specs.Transfer.{Writes}
 use Rattle.p21_commands.specs.declared.fault.CommandFault.{CommandFault}
 use Rattle.p21_commands.specs.declared.fault.CommandFault.TheVariants as command
 use Rattle.p21_commands_files.specs.Canon.{IsCanonicalUnder}
 use Rattle.p21_commands_files.specs.Files.{IsRefusedUnder}
-use Rattle.p21_commands_files.specs.Refusals.{IsFaultOf, IsOfFile}
+use Rattle.p21_commands_files.specs.Refusals.{IsFaultOf, IsNoDevice, IsOfFile}
 use Rattle.p21_commands_files.proofs.Failing.{file-refused}
 use Rattle.p21_commands_schema.specs.Command.{FailsBy}
 use Rattle.p21_commands_schema.specs.Load.{DeclaresRead}
 use Rattle.p21_schemas.specs.Schema.{Schema}
-use Rattle.p21_stream.specs.Answers.{FailsToWrite}
-use Rattle.p21_stream.specs.Reading.{IsOfBytes, RefusesRead}
+use Rattle.p21_stream.specs.Answers.{FailsToWrite, IsWritten}
+use Rattle.p21_stream.specs.Reading.{RefusesRead}
 use Rattle.p21_stream_fault.specs.declared.fault.Fault.{Fault}
 use Rattle.p21_stream_fault.specs.declared.fault.Fault.TheVariants as file
 use Rattle.p21_stream_fault.specs.declared.refusal.Refusal.{Refusal}
 
-of-bytes : (fault : Fault) → IsOfFile fault → IsOfBytes fault
-of-bytes file.NoMemory of = absurd of
-of-bytes file.Read of = absurd of
-of-bytes file.Write of = absurd of
-of-bytes (file.Token fault) of = tt
-of-bytes (file.Grammar fault) of = tt
-of-bytes (file.Check fault) of = tt
-of-bytes file.SchemaName of = tt
-of-bytes file.SectionTwice of = tt
-of-bytes file.DuplicateName of = tt
-of-bytes file.CanonicalTooLong of = tt
-of-bytes file.Dangling of = tt
-of-bytes file.WrongTarget of = tt
+of-no_device : (fault : Fault) → IsOfFile fault → IsNoDevice fault
+of-no_device file.NoMemory of = absurd of
+of-no_device file.Read of = absurd of
+of-no_device file.Write of = absurd of
+of-no_device (file.Token fault) of = tt
+of-no_device (file.Grammar fault) of = tt
+of-no_device (file.Check fault) of = tt
+of-no_device file.SchemaName of = tt
+of-no_device file.SectionTwice of = tt
+of-no_device file.DuplicateName of = tt
+of-no_device file.CanonicalTooLong of = tt
+of-no_device file.Dangling of = tt
+of-no_device file.WrongTarget of = tt
 
 module _ (schema old new output_old output_new : Option (List ℕ)) (s : Schema) (declares : DeclaresRead schema s) where
-  before-writing : (fault : Fault) → IsOfBytes fault → FailsToWrite s usual old new output_old output_new fault → RefusesRead s usual old new fault × Keeps output_old output_new
+  before-writing : (fault : Fault) → IsNoDevice fault → FailsToWrite s usual old new output_old output_new fault → RefusesRead s usual old new fault × Keeps output_old output_new
   before-writing file.NoMemory of fails = fails
   before-writing file.Read of fails = absurd of
   before-writing file.Write of fails = absurd of
@@ -49,7 +50,7 @@ module _ (schema old new output_old output_new : Option (List ℕ)) (s : Schema)
   rewrite-fails : (refusal : Refusal) (fault : CommandFault) → IsFaultOf [] refusal fault → FailsToWrite s usual old new output_old output_new refusal.fault
       → FailsBy (IsCanonicalUnder schema old new) (IsRefusedUnder schema old new) output_old output_new fault
   rewrite-fails refusal (command.Refused line) is fails =
-      let (refuses, keeps) = before-writing refusal.fault (of-bytes refusal.fault is.0) fails in
+      let (refuses, keeps) = before-writing refusal.fault (of-no_device refusal.fault is.0) fails in
       (inr (file-refused [] schema old new s refusal (string_bytes line) declares is refuses), keeps)
   rewrite-fails refusal command.NoMemory is fails = let (refuses, keeps) = before-writing refusal.fault is fails in keeps
   rewrite-fails refusal command.Read is fails =
@@ -61,6 +62,16 @@ module _ (schema old new output_old output_new : Option (List ℕ)) (s : Schema)
         line = w.text;
         is_line = record { declared = s; declares = declares; canonical = w.canonical };
         part = record { written = w.part.written; missing = w.part.missing; some = w.part.some; whole = w.part.whole; appended = w.part.appended };
+      }
+
+  -- what the writer got where nothing fails
+  pub canonical-written : (limits : Limits) (size : ℕ) → limits ≡ usual → IsWritten s limits old new output_old output_new size → Writes (IsCanonicalUnder schema old new) output_old output_new
+  canonical-written limits size is_usual is =
+      let w : IsWritten s usual old new output_old output_new size = subst (λ l. IsWritten s l old new output_old output_new size) is_usual is in
+      record {
+        line = w.text;
+        is_line = record { declared = s; declares = declares; canonical = w.canonical };
+        appended = w.written;
       }
 
   pub canonical-fails : (limits : Limits) (refusal : Refusal) (fault : CommandFault) → limits ≡ usual → IsFaultOf [] refusal fault → FailsToWrite s limits old new output_old output_new refusal.fault

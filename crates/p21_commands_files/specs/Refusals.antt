@@ -2,7 +2,6 @@
 use Rattle.std.specs.Prelude.{◌≡◌, ◌≢◌, ℕ, List, ◌++◌, codes, decimal, string_bytes}
 use Rattle.p21_commands.specs.declared.fault.CommandFault.{CommandFault}
 use Rattle.p21_commands.specs.declared.fault.CommandFault.TheVariants as command
-use Rattle.p21_stream.specs.Reading.{IsOfBytes}
 use Rattle.p21_stream_fault.specs.Fault.{fault_name, fault_number}
 use Rattle.p21_stream_fault.specs.declared.fault.Fault.{Fault}
 use Rattle.p21_stream_fault.specs.declared.fault.Fault.TheVariants.{NoMemory, Read, Write}
@@ -26,9 +25,15 @@ IsOfFile Read = ⊥
 IsOfFile Write = ⊥
 IsOfFile fault = Unit {0}
 
+-- the fault is none of a reader or a writer
+abbrev pub IsNoDevice : Fault → Type 0
+IsNoDevice Read = ⊥
+IsNoDevice Write = ⊥
+IsNoDevice fault = Unit {0}
+
 -- what a command answers to a refusal: its line, or the fault of memory, reader or writer; memory may run out for the line too
 abbrev pub IsFaultOf : List ℕ → Refusal → CommandFault → Type 0
 IsFaultOf file refusal (command.Refused line) = IsOfFile refusal.fault × (string_bytes line ≡ refusal_line file refusal)
-IsFaultOf file refusal command.NoMemory = IsOfBytes refusal.fault
+IsFaultOf file refusal command.NoMemory = IsNoDevice refusal.fault
 IsFaultOf file refusal command.Read = refusal.fault ≡ Read
 IsFaultOf file refusal command.Write = refusal.fault ≡ Write

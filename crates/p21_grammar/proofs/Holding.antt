@@ -13,7 +13,7 @@ use Rattle.p21_grammar.proofs.RunsStatements.{run-statements}
 use Rattle.p21_grammar.proofs.Shapes.{heading-is}
 use Rattle.p21_grammar.proofs.Theorems.{chain, run-append, no_file, given_first, at_end, begin_file, whole_file}
 use Rattle.p21_grammar.specs.Held.{Held}
-use Rattle.p21_grammar.specs.Histories.{GrammarHistory, call_of, IsWholeFile, AreNoFile, Stands, GivesOfFile, IsShapedEvent, Answers, Refuses, RefusesToken, BeginNoFile}
+use Rattle.p21_grammar.specs.Histories.{GrammarHistory, call_of, IsWholeFile, AreNoFile, Stands, GivesOfFile, IsShapedEvent, Answers, RefusalIsKnown, Refuses, RefusesToken, BeginNoFile}
 use Rattle.p21_grammar.specs.Runs.{out, with_first, moved, run, pending}
 use Rattle.p21_grammar.specs.Sound.{IsSound}
 use Rattle.p21_grammar_machine.specs.Machine.{Spot, idle, go, emit, refuse, step, spot_of, depth_of, Moves, Refuses as MachineRefuses}
@@ -70,6 +70,10 @@ pub reaches-within : (p : Place) (sp : Spot) → Reaches p sp → depth_of sp �
 reaches-within p sp ran = depth-within sp (good p sp ran).fine
 
 -- ---- histories
+
+pub refusal-known : (held : Held) → RefusalIsKnown held
+unfolding Stands
+refusal-known held history stands = sym stands.0
 
 -- the history leads there
 history-ran : (p : Place) (sp : Spot) → Reaches p sp → (taken : List Token) (given : List Statement) → taken ≡ flat_map statement_tokens given ++ pending sp → walk given Start ≡ Ok p → Each IsSound given

@@ -119,6 +119,14 @@ abbrev pub TakeGives : Held → Token → Result (Option Event) GrammarFault →
 TakeGives old token (Ok event) new = (history : GrammarHistory) → Stands old history → (history.refusal ≡ None) × Answers new event (extended history (call_of token event))
 TakeGives old token (Err fault) new = (history : GrammarHistory) → Stands old history → history.refusal ≡ None → RefusesToken history token fault new
 
+-- a parser that has refused answers the same again, and stays as it is
+abbrev pub RefusesAgain : Held → Result (Option Event) GrammarFault → Held → Type 0
+RefusesAgain old result new = (fault : GrammarFault) → old.refused ≡ Some fault → (result ≡ Err fault) × (new ≡ old)
+
+-- each history that it stands for has the refusal that it holds
+abbrev pub RefusalIsKnown : Held → Type 0
+RefusalIsKnown held = (history : GrammarHistory) → Stands held history → history.refusal ≡ held.refused
+
 -- what the end of the tokens gives, for each history that the parser stood for
 abbrev pub FinishGives : Held → Result (Unit {0}) GrammarFault → Type 0
 FinishGives held (Ok done) = (history : GrammarHistory) → Stands held history → (history.refusal ≡ None) × IsWholeFile history.taken history.given

@@ -1,7 +1,7 @@
-ghost use Rattle.std.specs.Prelude.{◌≡◌, ◌≤◌, Some, None, Err, IfOk};
+ghost use Rattle.std.specs.Prelude.{◌≡◌, ◌≤◌, Some, None, Err, IfErr, IfOk};
 ghost use Rattle.p21_basics.specs.History.{StandsNew};
 ghost use Rattle.p21_exchange.specs.OpenNesting.{IsDepth};
-ghost use Rattle.p21_grammar.specs.Histories.{GrammarHistory, Stands, TakeGives, FinishGives, IsShapedEvent};
+ghost use Rattle.p21_grammar.specs.Histories.{GrammarHistory, Stands, TakeGives, FinishGives, IsShapedEvent, RefusalIsKnown, RefusesAgain};
 ghost use Rattle.p21_grammar_machine.specs.declared.fault.GrammarFault.{GrammarFault};
 ghost use Rattle.p21_tokens.specs.Token.{meant};
 
@@ -55,7 +55,9 @@ impl Parser {
         ensures gives { TakeGives self.old (meant token) result self.new }
         ensures shaped { IfOk result IsShapedEvent }
         ensures goes_on { IfOk result (λ event. self.new.refused ≡ None) }
-        ensures again { (fault : GrammarFault) → self.old.refused ≡ Some fault → result ≡ Err fault }
+        ensures again { RefusesAgain self.old result self.new }
+        ensures refused { IfErr result (λ fault. self.new.refused ≡ Some fault) }
+        ensures known { RefusalIsKnown self.new }
         ensures within { self.new.depth ≤ 64 }
     {
         if let Some(fault) = self.refused {

@@ -2,26 +2,28 @@
 use Rattle.std.proofs.Common.{◌≡◌, ◌↔◌, ℕ, Bool, IsTrue, List, length, Option, refl, sym, subst}
 use Rattle.std.proofs.KnownBytes.{Keeps-refl}
 use Rattle.std.specs.Io.KnownBytes.{Appends}
-use Rattle.p21_basics.specs.Limits.{Limits}
+use Rattle.p21_basics.specs.Limits.{AreLimits, Limits}
 use Rattle.p21_claim.proofs.FileOnce.{file-once}
 use Rattle.p21_claim.proofs.OneAccepted.{Means-one}
-use Rattle.p21_claim.proofs.OneReading.{Reads-one}
-use Rattle.p21_claim.proofs.Theorems.{files-tell}
+use Rattle.p21_claim.proofs.Theorems.{files-tell, is-accepted, is-own, means-the_same, one-lexemes, one-meaning, one-tree}
 use Rattle.p21_files.proofs.SameFiles.{SameFileMeaning-symmetric, SameFileMeaning-transitive}
 use Rattle.p21_files.specs.Accepted.{IsCanonicalFile}
 use Rattle.p21_files.specs.SameFile.{SameFileMeaning}
 use Rattle.p21_schemas.specs.Schema.{Schema}
 use Rattle.p21_schemas.specs.WellFormed.{IsWellFormed}
-use Rattle.p21_stream.specs.Answers.{Compares, FailsToWrite, HasOneMeaning, IsCanonicalOfRead, IsOnlyCanonicalFile, IsPartWritten, IsWritten}
+use Rattle.p21_stream.specs.Answers.{AreReadInOneWay, Compares, FailsToWrite, IsCanonicalOfRead, IsOnlyCanonicalFile, IsPartWritten, IsWritten}
 use Rattle.p21_stream.specs.Reading.{IsAcceptedRead, RefusesRead, write_failures}
 use Rattle.p21_stream_accepted.specs.Output.{Output, output_text}
 use Rattle.p21_stream_fault.specs.declared.fault.Fault.{Fault}
 use Rattle.p21_stream_fault.specs.declared.fault.Fault.TheVariants.{Token, Grammar, Check, SchemaName, SectionTwice, DuplicateName, CanonicalTooLong, Dangling, WrongTarget, NoMemory, Read, Write}
 use Rattle.p21_stream_io.specs.Transfer.{AppendsPartOf}
 
-pub only-canonical : (s : Schema) → IsWellFormed s → (limits : Limits) (bytes text : List ℕ) → IsCanonicalFile s limits bytes text → IsOnlyCanonicalFile s limits bytes text
-only-canonical s formed limits bytes text is = record {
+pub only-canonical : (s : Schema) → IsWellFormed s → (limits : Limits) → AreLimits limits → (bytes text : List ℕ) → IsCanonicalFile s limits bytes text → IsOnlyCanonicalFile s limits bytes text
+only-canonical s formed limits are bytes text is = record {
   is_canonical = is;
+  is_accepted = is-accepted s limits are bytes text is;
+  means_the_same = means-the_same s formed limits are bytes text is;
+  is_its_own = is-own s limits are bytes text is;
   only = λ meaning means other c same.
       let one : is.0 ≡ meaning = Means-one s formed limits limits bytes is.0 meaning is.1 means in
       let of = is.2 in
@@ -29,35 +31,40 @@ only-canonical s formed limits bytes text is = record {
       file-once s formed other text c of.canonical (SameFileMeaning-transitive c.meaning meaning of.canonical.meaning same back);
 }
 
-pub one-meaning : (s : Schema) → IsWellFormed s → (bytes : List ℕ) → HasOneMeaning s bytes
-one-meaning s formed bytes m n reads also = Reads-one s formed bytes m n reads also
+pub in-one_way : (s : Schema) → IsWellFormed s → (bytes : List ℕ) → AreReadInOneWay s bytes
+in-one_way s formed bytes = record {
+  one_laying = one-lexemes bytes;
+  one_tree = one-tree bytes;
+  one_meaning = one-meaning s formed bytes;
+}
 
 -- ---- of what a reader gave
 
-pub canonical-of_read : (s : Schema) → IsWellFormed s → (limits : Limits) (old new : Option (List ℕ)) (output : Output) → IsAcceptedRead s limits old new output → IsCanonicalOfRead s limits old new (output_text output)
-canonical-of_read s formed limits old new output is = record {
+pub canonical-of_read : (s : Schema) → IsWellFormed s → (limits : Limits) → AreLimits limits → (old new : Option (List ℕ)) (output : Output) → IsAcceptedRead s limits old new output → IsCanonicalOfRead s limits old new (output_text output)
+canonical-of_read s formed limits are old new output is = record {
   bytes = is.bytes;
   read = is.read;
-  canonical = only-canonical s formed limits is.bytes (output_text output) is.accepted.is_canonical;
+  canonical = only-canonical s formed limits are is.bytes (output_text output) is.accepted.is_canonical;
+  in_one_way = in-one_way s formed is.bytes;
 }
 
-pub canonical-text : (s : Schema) → IsWellFormed s → (limits : Limits) (old new : Option (List ℕ)) (output : Output) (text : List ℕ) → IsAcceptedRead s limits old new output → text ≡ output_text output → IsCanonicalOfRead s limits old new text
-canonical-text s formed limits old new output text is text_is = subst (IsCanonicalOfRead s limits old new) (sym text_is) (canonical-of_read s formed limits old new output is)
+pub canonical-text : (s : Schema) → IsWellFormed s → (limits : Limits) → AreLimits limits → (old new : Option (List ℕ)) (output : Output) (text : List ℕ) → IsAcceptedRead s limits old new output → text ≡ output_text output → IsCanonicalOfRead s limits old new text
+canonical-text s formed limits are old new output text is text_is = subst (IsCanonicalOfRead s limits old new) (sym text_is) (canonical-of_read s formed limits are old new output is)
 
 -- ---- written
 
-pub all-written : (s : Schema) → IsWellFormed s → (limits : Limits) (old new writer_old writer_new : Option (List ℕ)) (output : Output) (size : ℕ) → IsAcceptedRead s limits old new output → Appends writer_old writer_new (output_text output) → size ≡ length (output_text output)
+pub all-written : (s : Schema) → IsWellFormed s → (limits : Limits) → AreLimits limits → (old new writer_old writer_new : Option (List ℕ)) (output : Output) (size : ℕ) → IsAcceptedRead s limits old new output → Appends writer_old writer_new (output_text output) → size ≡ length (output_text output)
     → IsWritten s limits old new writer_old writer_new size
-all-written s formed limits old new writer_old writer_new output size is written size_is = record {
+all-written s formed limits are old new writer_old writer_new output size is written size_is = record {
   text = output_text output;
-  canonical = canonical-of_read s formed limits old new output is;
+  canonical = canonical-of_read s formed limits are old new output is;
   written = written;
   size_is = size_is;
 }
 
-pub part-written : (s : Schema) → IsWellFormed s → (limits : Limits) (old new writer_old writer_new : Option (List ℕ)) (output : Output) → IsAcceptedRead s limits old new output → AppendsPartOf writer_old writer_new (output_text output)
+pub part-written : (s : Schema) → IsWellFormed s → (limits : Limits) → AreLimits limits → (old new writer_old writer_new : Option (List ℕ)) (output : Output) → IsAcceptedRead s limits old new output → AppendsPartOf writer_old writer_new (output_text output)
     → IsPartWritten s limits old new writer_old writer_new
-part-written s formed limits old new writer_old writer_new output is part = record { text = output_text output; canonical = canonical-of_read s formed limits old new output is; part = part }
+part-written s formed limits are old new writer_old writer_new output is part = record { text = output_text output; canonical = canonical-of_read s formed limits are old new output is; part = part }
 
 -- what is refused is not written
 pub read-fails : (s : Schema) (limits : Limits) (old new writer : Option (List ℕ)) (fault : Fault) → RefusesRead s limits old new fault → FailsToWrite s limits old new writer writer fault
@@ -90,10 +97,10 @@ read-no_write s limits old new WrongTarget count refuses = refl
 
 -- ---- compared
 
-pub both-compared : (s : Schema) → IsWellFormed s → (limits : Limits) (first_old first_new second_old second_new : Option (List ℕ)) (text : List ℕ) (output : Output) (same : Bool) → IsCanonicalOfRead s limits first_old first_new text → IsAcceptedRead s limits second_old second_new output
+pub both-compared : (s : Schema) → IsWellFormed s → (limits : Limits) → AreLimits limits → (first_old first_new second_old second_new : Option (List ℕ)) (text : List ℕ) (output : Output) (same : Bool) → IsCanonicalOfRead s limits first_old first_new text → IsAcceptedRead s limits second_old second_new output
     → IsTrue same ↔ (text ≡ output_text output) → Compares s limits first_old first_new second_old second_new same
-both-compared s formed limits first_old first_new second_old second_new text output same first second is =
-    let other : IsCanonicalOfRead s limits second_old second_new (output_text output) = canonical-of_read s formed limits second_old second_new output second in
+both-compared s formed limits are first_old first_new second_old second_new text output same first second is =
+    let other : IsCanonicalOfRead s limits second_old second_new (output_text output) = canonical-of_read s formed limits are second_old second_new output second in
     let tell = files-tell s formed limits first.bytes other.bytes text (output_text output) first.canonical.is_canonical other.canonical.is_canonical in
     record {
       first_text = text;

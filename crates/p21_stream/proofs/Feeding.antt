@@ -52,7 +52,7 @@ pub refused-by : (s : Schema) (limits : Limits) (start new : Option (List ℕ)) 
 refused-by s limits start new NoMemory of refused = tt
 refused-by s limits start new Read of refused = tt
 refused-by s limits start new Write of refused = of
-refused-by s limits start new (Token fault) of refused = refused (λ e. cc e)
+refused-by s limits start new (Token fault) of refused = (of, refused (λ e. cc e))
 refused-by s limits start new (Grammar fault) of refused = refused (λ e. cc e)
 refused-by s limits start new (Check fault) of refused = refused (λ e. cc e)
 refused-by s limits start new SchemaName of refused = refused (λ e. cc e)

@@ -1,6 +1,6 @@
 -- A text that is fed in one piece.
 use Rattle.std.proofs.Common.{◌≡◌, ◌≢◌, ℕ, List, Ok, Err, refl, sym, subst, ◌∙◌, slice_index_or, Fits, w8}
-use Rattle.p21_basics.specs.Limits.{Limits}
+use Rattle.p21_basics.specs.Limits.{AreLimits, Limits}
 use Rattle.p21_files.specs.Accepted.{IsAccepted, IsCanonicalFile}
 use Rattle.p21_schemas.specs.Schema.{Schema}
 use Rattle.p21_schemas.specs.WellFormed.{IsWellFormed}
@@ -20,10 +20,10 @@ text-refused s limits session after text refusal is_schema are_limits stands fit
     let held : IsAccepted (schema_of session) (limits_of session) text = subst (λ (l : Limits). IsAccepted (schema_of session) l text) (sym are_limits) (subst (λ (t : Schema). IsAccepted t limits text) (sym is_schema) accepted) in
     dead-text (schema_of session) (limits_of session) text r.count fits (r.dead other) held
 
-pub text-accepted : (s : Schema) → IsWellFormed s → (limits : Limits) (session after : SessionHeld) (text out : List ℕ) (output : Output) → schema_of session ≡ s → limits_of session ≡ limits → KeepsSchema session after → Stands session nothing_taken → FeedGives session text (Ok tt) after
+pub text-accepted : (s : Schema) → IsWellFormed s → (limits : Limits) → AreLimits limits → (session after : SessionHeld) (text out : List ℕ) (output : Output) → schema_of session ≡ s → limits_of session ≡ limits → KeepsSchema session after → Stands session nothing_taken → FeedGives session text (Ok tt) after
     → FinishGives after (Ok output) → out ≡ output_text output → IsOnlyCanonicalFile s limits text out
-text-accepted s formed limits session after text out output is_schema are_limits keeps stands fed_ finished is =
+text-accepted s formed limits are session after text out output is_schema are_limits keeps stands fed_ finished is =
     let found = (finished (fed nothing_taken text) (fed_ nothing_taken stands).1).1 in
     let canonical : IsCanonicalFile s limits text (output_text output) =
     subst (λ (l : Limits). IsCanonicalFile s l text (output_text output)) (keeps.1 ∙ are_limits) (subst (λ (t : Schema). IsCanonicalFile t (limits_of after) text (output_text output)) (keeps.0 ∙ is_schema) found.is_canonical) in
-    only-canonical s formed limits text out (subst (λ (l : List ℕ). IsCanonicalFile s limits text l) (sym is) canonical)
+    only-canonical s formed limits are text out (subst (λ (l : List ℕ). IsCanonicalFile s limits text l) (sym is) canonical)

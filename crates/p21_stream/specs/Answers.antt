@@ -3,7 +3,10 @@ use Rattle.std.specs.Prelude.{Option, ◌≡◌, ◌↔◌, ℕ, Bool, List, len
 use Rattle.std.specs.Io.KnownBytes.{Appends, Keeps}
 use Rattle.p21_basics.specs.Limits.{Limits}
 use Rattle.p21_claim.specs.CanonicalLaws.{MeanTheSame}
-use Rattle.p21_files.specs.Accepted.{IsCanonicalFile, Means}
+use Rattle.p21_exchange.specs.Grammar.{InGrammar}
+use Rattle.p21_exchange.specs.Laying.{LaidAs, Lexeme}
+use Rattle.p21_exchange.specs.Structure.{Structure}
+use Rattle.p21_files.specs.Accepted.{IsAccepted, IsCanonicalFile, Means}
 use Rattle.p21_files.specs.Canonical.{Canonical}
 use Rattle.p21_files.specs.File.{FileMeaning, Reads}
 use Rattle.p21_files.specs.SameFile.{SameFileMeaning}
@@ -17,20 +20,28 @@ use Rattle.p21_stream_io.specs.Transfer.{AppendsPartOf}
 
 -- ---- one canonical file
 
--- a canonical file of accepted bytes, and the only canonical bytes that mean the same
+-- The canonical file of accepted bytes: it is itself accepted, means what they mean, is its own canonical file, and no other
+-- canonical bytes mean the same
 pub record IsOnlyCanonicalFile (s : Schema) (limits : Limits) (bytes text : List ℕ) : Type 0 where
   pub is_canonical : IsCanonicalFile s limits bytes text
+  pub is_accepted : IsAccepted s limits text
+  pub means_the_same : MeanTheSame s limits text bytes
+  pub is_its_own : IsCanonicalFile s limits text text
   pub only : (meaning : FileMeaning) → Means s limits bytes meaning → (other : List ℕ) (c : Canonical s other) → SameFileMeaning c.meaning meaning → other ≡ text
 
--- the bytes read as one meaning at most
-abbrev pub HasOneMeaning : Schema → List ℕ → Type 0
-HasOneMeaning s bytes = (m n : FileMeaning) → Reads s bytes m → Reads s bytes n → m ≡ n
+-- Bytes are read in one way: they have one list of tokens, each of one size; one tree, with one text of a schema in its
+-- header; and one meaning
+pub record AreReadInOneWay (s : Schema) (bytes : List ℕ) : Type 0 where
+  pub one_laying : (lexemes others : List Lexeme) → LaidAs bytes lexemes → LaidAs bytes others → lexemes ≡ others
+  pub one_tree : (structure other : Structure) (text other_text : List ℕ) → InGrammar bytes structure text → InGrammar bytes other other_text → (structure ≡ other) × (text ≡ other_text)
+  pub one_meaning : (m n : FileMeaning) → Reads s bytes m → Reads s bytes n → m ≡ n
 
 -- the reader was read to its end, and this is the canonical file of what it gave
 pub record IsCanonicalOfRead (s : Schema) (limits : Limits) (old new : Option (List ℕ)) (text : List ℕ) : Type 0 where
   pub bytes : List ℕ
   pub read : IsReadWhole old new bytes
   pub canonical : IsOnlyCanonicalFile s limits bytes text
+  pub in_one_way : AreReadInOneWay s bytes
 
 -- ---- written
 

@@ -5,11 +5,12 @@ use Rattle.p21_basics.specs.Limits.{Limits}
 use Rattle.p21_files.specs.Accepted.{IsAccepted, IsDead}
 use Rattle.p21_schemas.specs.Schema.{Schema}
 use Rattle.p21_stream_fault.specs.declared.fault.Fault.{Fault}
-use Rattle.p21_stream_fault.specs.declared.fault.Fault.TheVariants.{NoMemory, Read, Write}
+use Rattle.p21_stream_fault.specs.declared.fault.Fault.TheVariants.{Token, NoMemory, Read, Write}
 use Rattle.p21_stream_accepted.specs.Output.{Output}
 pub use Rattle.p21_stream_fault.specs.Source.{IsOfBytes}
 use Rattle.p21_stream_io.specs.Watch.{counted}
 use Rattle.p21_stream_session.specs.Canonical.{IsCanonicalOutput}
+use Rattle.p21_tokens.specs.Fault.{IsOfTokens}
 
 -- the reader gave these bytes, and has no more
 pub record IsReadWhole (old new : Option (List ℕ)) (bytes : List ℕ) : Type 0 where
@@ -32,11 +33,12 @@ pub record IsRefused (s : Schema) (limits : Limits) (old new : Option (List ℕ)
   pub consumed : Consumes old new bytes
   pub refused : IsDead s limits bytes ⊎ (IsAtEnd new × ¬ IsAccepted s limits bytes)
 
--- what a fault says of the bytes read
+-- what a fault says of the bytes read: the faults of tokens are those of a file, not of a single parameter
 abbrev pub RefusesRead : Schema → Limits → Option (List ℕ) → Option (List ℕ) → Fault → Type 0
 RefusesRead s limits old new NoMemory = Unit {0}
 RefusesRead s limits old new Read = Unit {0}
 RefusesRead s limits old new Write = ⊥
+RefusesRead s limits old new (Token fault) = IsOfTokens fault × IsRefused s limits old new
 RefusesRead s limits old new fault = IsRefused s limits old new
 
 -- the failures of a reader behind a fault: one more where a read failed

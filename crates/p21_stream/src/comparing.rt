@@ -1,8 +1,10 @@
 //! Two files compared by what they mean.
 ghost use Rattle.std.specs.Prelude.{◌≡◌, ◌≤◌, ◌+◌, IfErr, IfOk, OnOk};
 ghost use Rattle.p21_stream.specs.Answers.{Compares, FailsToCompare, IsCanonicalOfRead, first_failures, second_failures};
+ghost use Rattle.p21_stream.specs.Claim.{Claim};
 ghost use Rattle.p21_stream.specs.Reading.{ConsumesAtMost, RefusesRead, read_failures};
 
+use crate::claim::headline;
 use crate::read::{accept, read_file};
 use crate::text::text_of;
 use p21_express_tables::Schema;
@@ -38,6 +40,7 @@ pub fn same_meaning<R: Read, S: Read>(
         (S.remaining second.old.inner) (S.remaining second.new.inner) answer.0 answer.1.fault) }
     ensures consumed_first { ConsumesAtMost limits (R.remaining first.old.inner) (R.remaining first.new.inner) }
     ensures consumed_second { ConsumesAtMost limits (S.remaining second.old.inner) (S.remaining second.new.inner) }
+    ensures claim { Claim schema.now limits }
 
     ensures moved_first { first.new.moved ≤ first.old.moved + (limits.file_source + 1) }
     ensures moved_second { second.new.moved ≤ second.old.moved + (limits.file_source + 1) }
@@ -45,7 +48,7 @@ pub fn same_meaning<R: Read, S: Read>(
     ensures failed_first { IfErr result (λ answer. first.new.failures ≡ first_failures first.old.failures answer.0 answer.1.fault) }
     ensures failed_second { IfErr result (λ answer. second.new.failures ≡ second_failures second.old.failures answer.0 answer.1.fault) }
 {
-    schema.well_formed();
+    headline(schema, limits);
     let text = match canonical_read(alloc, schema, limits, first) {
         Ok(text) => text,
         Err(refusal) => return Err((Which::First, refusal)),
@@ -71,7 +74,7 @@ fn canonical_read<R: Read>(
     ensures read { OnOk result (reader.new.failures ≡ reader.old.failures) }
     ensures failed { IfErr result (λ refusal. reader.new.failures ≡ read_failures reader.old.failures refusal.fault) }
 {
-    schema.well_formed();
+    headline(schema, limits);
     let (accepted, at) = match read_file(alloc, schema, limits, reader) {
         Ok(read) => read,
         Err(refusal) => return Err(refusal),

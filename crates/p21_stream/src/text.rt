@@ -1,10 +1,14 @@
 //! The canonical file of a text.
 ghost use Rattle.std.specs.Prelude.{◌≡◌, ◌≢◌, IfErr, IfOk};
+ghost use Rattle.p21_basics.specs.Limits.{AreLimits};
 ghost use Rattle.p21_files.specs.Accepted.{IsAccepted};
-ghost use Rattle.p21_stream.specs.Answers.{HasOneMeaning, IsOnlyCanonicalFile};
+ghost use Rattle.p21_schemas.specs.WellFormed.{IsWellFormed};
+ghost use Rattle.p21_stream.specs.Answers.{AreReadInOneWay, IsOnlyCanonicalFile};
+ghost use Rattle.p21_stream.specs.Claim.{Claim};
 ghost use Rattle.p21_stream.specs.Reading.{IsOfBytes};
 ghost use Rattle.p21_stream_accepted.specs.Output.{output_text};
 
+use crate::claim::headline;
 use p21_express_tables::Schema;
 use p21_stream_accepted::Accepted;
 use p21_stream_fault::{Fault, Refusal};
@@ -27,9 +31,26 @@ pub fn canonical(
     ensures ok { IfOk result (λ canonical. IsOnlyCanonicalFile schema.now limits text.now canonical.items) }
     ensures err { IfErr result (λ refusal. refusal.fault ≢ Fault.NoMemory → ¬ IsAccepted schema.now limits text.now) }
     ensures kind { IfErr result (λ refusal. IsOfBytes refusal.fault) }
-    ensures one_meaning { HasOneMeaning schema.now text.now }
+    ensures in_one_way { AreReadInOneWay schema.now text.now }
+    ensures claim { Claim schema.now limits }
 {
-    schema.well_formed();
+    headline(schema, limits);
+    canonical_of(alloc, schema, limits, text)
+}
+
+/// The canonical file of a text, under limits and a schema of which the claim holds.
+fn canonical_of(
+    alloc: Global,
+    schema: &Schema,
+    limits: Limits,
+    text: &[u8],
+) -> Result<Vec<u8>, Refusal>
+    requires formed { IsWellFormed schema.now }
+    requires limits { AreLimits limits }
+    ensures ok { IfOk result (λ canonical. IsOnlyCanonicalFile schema.now limits text.now canonical.items) }
+    ensures err { IfErr result (λ refusal. refusal.fault ≢ Fault.NoMemory → ¬ IsAccepted schema.now limits text.now) }
+    ensures kind { IfErr result (λ refusal. IsOfBytes refusal.fault) }
+{
     let mut session = Session::new(alloc, schema, limits);
     match session.feed(text) {
         Ok(()) => {}

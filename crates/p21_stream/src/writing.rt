@@ -1,8 +1,10 @@
 //! A file read, and its canonical file written.
 ghost use Rattle.std.specs.Prelude.{◌≡◌, ◌≤◌, ◌+◌, IfErr, IfOk, OnOk};
 ghost use Rattle.p21_stream.specs.Answers.{IsWritten, FailsToWrite};
+ghost use Rattle.p21_stream.specs.Claim.{Claim};
 ghost use Rattle.p21_stream.specs.Reading.{ConsumesAtMost, read_failures, write_failures};
 
+use crate::claim::headline;
 use crate::read::read_file;
 use p21_express_tables::Schema;
 use p21_stream_fault::{Fault, Refusal};
@@ -30,6 +32,7 @@ pub fn rewrite<R: Read, W: Write>(
     ensures err { IfErr result (λ refusal. FailsToWrite schema.now limits (R.remaining reader.old.inner) (R.remaining reader.new.inner)
         (W.contents writer.old.inner) (W.contents writer.new.inner) refusal.fault) }
     ensures consumed { ConsumesAtMost limits (R.remaining reader.old.inner) (R.remaining reader.new.inner) }
+    ensures claim { Claim schema.now limits }
 
     ensures moved { reader.new.moved ≤ reader.old.moved + (limits.file_source + 1) }
     ensures read { OnOk result (reader.new.failures ≡ reader.old.failures) }
@@ -37,7 +40,7 @@ pub fn rewrite<R: Read, W: Write>(
     ensures failed_read { IfErr result (λ refusal. reader.new.failures ≡ read_failures reader.old.failures refusal.fault) }
     ensures failed_write { IfErr result (λ refusal. writer.new.failures ≡ write_failures writer.old.failures refusal.fault) }
 {
-    schema.well_formed();
+    headline(schema, limits);
     let (accepted, at) = match read_file(alloc, schema, limits, reader) {
         Ok(read) => read,
         Err(refusal) => return Err(refusal),

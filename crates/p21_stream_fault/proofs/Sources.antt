@@ -5,27 +5,28 @@ use Rattle.p21_grammar_machine.specs.declared.fault.GrammarFault.{GrammarFault}
 use Rattle.p21_grammar_machine.specs.declared.fault.GrammarFault.TheVariants as grammar_fault
 use Rattle.p21_stream_fault.specs.Fault.{of_check, of_grammar, of_token}
 use Rattle.p21_stream_fault.specs.Source.{IsOfBytes}
+use Rattle.p21_tokens.specs.Fault.{IsOfTokens}
 use Rattle.p21_tokens.specs.declared.fault.TokenFault.{TokenFault}
 use Rattle.p21_tokens.specs.declared.fault.TokenFault.TheVariants as token_fault
 
-pub token-of_bytes : (fault : TokenFault) → IsOfBytes (of_token fault)
-token-of_bytes token_fault.BadByte = tt
-token-of_bytes token_fault.OpenString = tt
-token-of_bytes token_fault.OpenComment = tt
-token-of_bytes token_fault.BadDirective = tt
-token-of_bytes token_fault.BadCodePoint = tt
-token-of_bytes token_fault.NotUtf8 = tt
-token-of_bytes token_fault.BadNumber = tt
-token-of_bytes token_fault.NumberRange = tt
-token-of_bytes token_fault.BadBinary = tt
-token-of_bytes token_fault.NameRange = tt
-token-of_bytes token_fault.BadName = tt
-token-of_bytes token_fault.NotOneParameter = tt
-token-of_bytes token_fault.RecordTooLong = tt
-token-of_bytes token_fault.FileTooLong = tt
-token-of_bytes token_fault.EndsEarly = tt
-token-of_bytes (token_fault.LeftOut absent) = tt
-token-of_bytes token_fault.NoMemory = tt
+pub token-of_bytes : (fault : TokenFault) → IsOfTokens fault → IsOfBytes (of_token fault)
+token-of_bytes token_fault.BadByte of = of
+token-of_bytes token_fault.OpenString of = of
+token-of_bytes token_fault.OpenComment of = of
+token-of_bytes token_fault.BadDirective of = of
+token-of_bytes token_fault.BadCodePoint of = of
+token-of_bytes token_fault.NotUtf8 of = of
+token-of_bytes token_fault.BadNumber of = of
+token-of_bytes token_fault.NumberRange of = of
+token-of_bytes token_fault.BadBinary of = of
+token-of_bytes token_fault.NameRange of = of
+token-of_bytes token_fault.BadName of = of
+token-of_bytes token_fault.NotOneParameter of = of
+token-of_bytes token_fault.RecordTooLong of = of
+token-of_bytes token_fault.FileTooLong of = of
+token-of_bytes token_fault.EndsEarly of = of
+token-of_bytes (token_fault.LeftOut absent) of = of
+token-of_bytes token_fault.NoMemory of = tt
 
 pub grammar-of_bytes : (fault : GrammarFault) → IsOfBytes (of_grammar fault)
 grammar-of_bytes grammar_fault.Unexpected = tt

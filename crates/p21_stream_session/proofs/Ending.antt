@@ -70,7 +70,7 @@ reference-refused s formed held kept refusal ends holder fault is other limits t
 
 -- none of a reader or a writer
 need-of_bytes : (s : Schema) (stored : List Stored) (need : Need) (fault : Fault) → RefusesNeed s stored need fault → IsOfBytes fault
-need-of_bytes s stored need (faults.Token fault) refuses = tt
+need-of_bytes s stored need (faults.Token fault) refuses = absurd refuses
 need-of_bytes s stored need (faults.Grammar fault) refuses = tt
 need-of_bytes s stored need (faults.Check fault) refuses = tt
 need-of_bytes s stored need faults.SchemaName refuses = tt

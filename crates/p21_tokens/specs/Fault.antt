@@ -1,5 +1,5 @@
 -- The refusals of the lexer and of one parameter: their numbers and names.
-use Rattle.std.specs.Prelude.{ℕ, List, codes}
+use Rattle.std.specs.Prelude.{ℕ, List, Option, Some, None, codes}
 use Rattle.p21_tokens_automaton.specs.declared.mode.Absent.{Absent}
 use Rattle.p21_tokens_automaton.specs.declared.mode.Absent.TheVariants.{Scope, ValueName, ConstantName, UserKeyword, Anchor, Reference, Signature, SecondSection, NoDataSection}
 use Rattle.p21_tokens_automaton.specs.declared.mode.Action.{Action}
@@ -75,6 +75,21 @@ IsOfTheEnd fault = elim (cause_of fault) [
   | of_parameter ↦ ⊥
   | of_memory ↦ Unit {0}
 ]
+
+-- a fault that reading tokens may have, which is each but that of a text that is no single parameter
+abbrev pub IsOfTokens : TokenFault → Type 0
+IsOfTokens fault = elim (cause_of fault) [
+  | of_form ↦ Unit {0}
+  | of_end ↦ Unit {0}
+  | of_statement ↦ Unit {0}
+  | of_file ↦ Unit {0}
+  | of_parameter ↦ ⊥
+  | of_memory ↦ Unit {0}
+]
+
+abbrev pub IsRefusalOfTokens : Option TokenFault → Type 0
+IsRefusalOfTokens None = Unit {0}
+IsRefusalOfTokens (Some fault) = IsOfTokens fault
 
 abbrev pub fault_number : TokenFault → ℕ
 fault_number BadByte = 1

@@ -4,6 +4,7 @@ ghost use Rattle.p21_exchange.specs.Laying.{count_behind};
 ghost use Rattle.p21_tokens_automaton.specs.Reading.{closed, ended, single_token, start};
 ghost use Rattle.p21_tokens_automaton.specs.declared.mode.Mode.TheVariants.{Between, Name};
 ghost use Rattle.p21_tokens_automaton.specs.declared.mode.NameMode.TheVariants.{Digits};
+ghost use Rattle.p21_tokens.specs.Fault.{IsOfTokens};
 ghost use Rattle.p21_tokens.specs.Front.{TakesFront};
 ghost use Rattle.p21_tokens.specs.Held.{file_limit_of, pending_of, record_limit_of, refusal_of, state_of};
 ghost use Rattle.p21_tokens_automaton.specs.Step.{advance};
@@ -49,6 +50,7 @@ pub struct Lexer {
 
 impl Model for Lexer {
     ghost use Rattle.std.specs.Prelude.{◌+◌, ◌≤◌};
+    ghost use Rattle.p21_tokens.specs.Fault.{IsRefusalOfTokens};
     ghost use Rattle.p21_tokens.specs.Held.{Held, KeepsBySize};
 
     ghost Value = { Held };
@@ -65,7 +67,7 @@ impl Model for Lexer {
       refused = lexer.refused;
     } };
 
-    ghost invariant = { λ lexer. (lexer.statement + lexer.size ≤ lexer.statement_limit) × (lexer.file ≤ lexer.file_limit) × KeepsBySize lexer.size lexer.kept.items lexer.text };
+    ghost invariant = { λ lexer. (lexer.statement + lexer.size ≤ lexer.statement_limit) × (lexer.file ≤ lexer.file_limit) × KeepsBySize lexer.size lexer.kept.items lexer.text × IsRefusalOfTokens lexer.refused };
 }
 
 impl Lexer {
@@ -478,6 +480,7 @@ impl Lexer {
         ensures at_once { TakesNoMore self.old piece.now result }
         ensures again { RefusesAgain self.old result self.new }
         ensures refused { IfErr result (λ fault. refusal_of self.new ≡ Some fault) }
+        ensures kind { IfErr result IsOfTokens }
         ensures no_memory { NeedsNoMemory self.old piece.now result }
         ensures limits { KeepsLimits self.old self.new }
     {
@@ -506,6 +509,7 @@ impl Lexer {
     pub fn finish(self) -> Result<Option<Token>, TokenFault>
         ensures history { FinishGives self result }
         ensures names { FinishNames self result }
+        ensures kind { IfErr result IsOfTokens }
         ensures again { (fault : TokenFault) → refusal_of self ≡ Some fault → result ≡ Err fault }
     {
         if let Some(fault) = self.refused {

@@ -1,6 +1,8 @@
-use Rattle.std.proofs.Common.{inr}
+use Rattle.std.proofs.Common.{inl, inr, subst}
+use Rattle.std.proofs.KnownBytes.{Keeps-refl}
+use Rattle.p21_commands.specs.Transfer.{Writes}
 use Rattle.p21_commands_schema.proofs.Reporting.{failure_reported, not_done, refusal_written}
-use Rattle.p21_commands_files.specs.Same.{IsAnswered, IsRefused, read_of}
+use Rattle.p21_commands_files.specs.Same.{IsAnswered, IsCompared, IsRefused, read_of}
 use Rattle.p21_commands_files.proofs.Comparing.{refusal-kept}
 use Rattle.p21_commands_files.proofs.same.same_command.Goals as goal
 
@@ -17,3 +19,11 @@ returns-in-Err-clause-refused g c e =
 
 pub returns-in-Err-clause-failed : goal.returns-in-Err-clause-failed
 returns-in-Err-clause-failed g c = failure_reported _ _ _ _ _ _ _ _ c.in-Err.ensures.err c.report.ensures
+
+pub returns-in-Ok-true-clause-silent : goal.returns-in-Ok-true-clause-silent
+returns-in-Ok-true-clause-silent g c e = Keeps-refl _
+
+pub returns-in-Ok-false-clause-refused : goal.returns-in-Ok-false-clause-refused
+returns-in-Ok-false-clause-refused g c e =
+    let read = read_of (g.S.Read.remaining c.args.schema.now) (g.A.Read.remaining c.args.first.now.inner) (g.A.Read.remaining c.write_same.new.first.inner) (g.B.Read.remaining c.args.second.now.inner) (g.B.Read.remaining c.write_same.new.second.inner) in
+    inl (subst (λ same. Writes (IsCompared read same) (g.W.Write.contents c.args.output.now) (g.W.Write.contents c.write_same.new.output)) c.in-Ok-false.field-0-test c.in-Ok-false.ensures.ok, Keeps-refl _)

@@ -2,7 +2,7 @@ use Rattle.p21_stream.proofs.Canonicals.{all-written, part-written}
 use Rattle.p21_stream.proofs.writing.rewrite.Goals as goal
 
 pub returns-in-Ok-write_to-clause-ok : goal.returns-in-Ok-write_to-clause-ok
-returns-in-Ok-write_to-clause-ok g c = all-written _ c.well_formed-2.ensures _ _ _ _ _ _ _ c.in-Ok.ensures.ok c.in-Ok-write_to.ensures.ok c.len.ensures
+returns-in-Ok-write_to-clause-ok g c = all-written _ c.headline.ensures.formed _ c.headline.ensures.limits _ _ _ _ _ _ c.in-Ok.ensures.ok c.in-Ok-write_to.ensures.ok c.len.ensures
 
 pub returns-clause-err : goal.returns-clause-err
-returns-clause-err g c = part-written _ c.well_formed-2.ensures _ _ _ _ _ _ c.in-Ok.ensures.ok c.in-Err-write_to.ensures.err
+returns-clause-err g c = part-written _ c.headline.ensures.formed _ c.headline.ensures.limits _ _ _ _ _ c.in-Ok.ensures.ok c.in-Err-write_to.ensures.err

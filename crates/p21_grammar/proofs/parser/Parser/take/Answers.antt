@@ -1,5 +1,5 @@
 use Rattle.std.proofs.Common.{◌≤◌, sym, subst}
-use Rattle.p21_grammar.proofs.Holding.{answers_with, refuses, not_refused, was_refused, reached-on, reaches-within, shaped-event}
+use Rattle.p21_grammar.proofs.Holding.{answers_with, refuses, not_refused, was_refused, reached-on, reaches-within, refusal-known, shaped-event}
 use Rattle.p21_grammar_machine.specs.Machine.{spot_of}
 use Rattle.p21_tokens.specs.Token.{meant}
 use Rattle.p21_grammar.proofs.parser.Parser.take.Goals as goal
@@ -32,3 +32,12 @@ returns-in-Err-clause-gives c = λ history stands open_.
     refuses c.self.inside.machine.place (spot_of c.self.inside.machine) c.self.inside.depth (meant c.args.token) c.in-Err.fault c.step.new.self.place (spot_of c.step.new.self)
     (c.self.invariant.0 c.in_default.is).ran c.in-Err.ensures.err history
     (not_refused c.self.inside.machine.place (spot_of c.self.inside.machine) c.self.inside.depth c.self.inside.refused c.args.self.now c.self.view_is c.in_default.is history stands) open_
+
+pub returns-in-Some-clause-known : goal.returns-in-Some-clause-known
+returns-in-Some-clause-known c = refusal-known c.args.self.now
+
+pub returns-in-Ok-clause-known : goal.returns-in-Ok-clause-known
+returns-in-Ok-clause-known c = refusal-known _
+
+pub returns-in-Err-clause-known : goal.returns-in-Err-clause-known
+returns-in-Err-clause-known c = refusal-known _

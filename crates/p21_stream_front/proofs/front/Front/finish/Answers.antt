@@ -12,7 +12,7 @@ returns-in-Err-clause-gives c =
     subst (λ (h : Held). OwesEnd h c.from.result) c.self.view_is (subst (λ f. OwesEnd held f) (sym c.from.ensures) (lexer-refused held c.in-Err.fault c.in-Err.ensures.history))
 
 pub returns-in-Err-clause-kind : goal.returns-in-Err-clause-kind
-returns-in-Err-clause-kind c = subst IsOfBytes (sym c.from.ensures) (token-of_bytes c.in-Err.fault)
+returns-in-Err-clause-kind c = subst IsOfBytes (sym c.from.ensures) (token-of_bytes c.in-Err.fault c.in-Err.ensures.kind)
 
 pub returns-in-Err-finish-clause-gives : goal.returns-in-Err-finish-clause-gives
 returns-in-Err-finish-clause-gives c =

@@ -51,7 +51,7 @@ returns-in-Err-take-clause-no_memory c =
     (Err c.from-in-Err-take.result))
 
 pub returns-in-Err-clause-kind : goal.returns-in-Err-clause-kind
-returns-in-Err-clause-kind c = subst IsOfBytes (sym c.from.ensures) (token-of_bytes c.in-Err.fault)
+returns-in-Err-clause-kind c = subst IsOfBytes (sym c.from.ensures) (token-of_bytes c.in-Err.fault c.in-Err.ensures.kind)
 
 pub returns-in-Err-take-clause-kind : goal.returns-in-Err-take-clause-kind
 returns-in-Err-take-clause-kind c = subst IsOfBytes (sym c.from-in-Err-take.ensures) (grammar-of_bytes c.in-Err-take.fault)
