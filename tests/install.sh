@@ -1,0 +1,96 @@
+#!/bin/sh
+# Tries, with a program that is a stand-in: that ./p21 runs the program that stands where P21_KEEP says so, and which files
+# tools/install copies. It stands beside the gate and needs no toolchain.
+
+cd "$(dirname -- "$(readlink -f -- "$0")")/.." || exit
+here=$(mktemp -d)
+trap 'rm -rf "$here"' EXIT
+failed=0
+
+# A repository with a program that says its arguments, and sources that are newer.
+tree=$here/tree
+mkdir -p "$tree/crates/p21/out" "$tree/crates/p21/src" "$tree/tools"
+cp p21 "$tree/p21"
+cp tools/install "$tree/tools/install"
+cp LICENSE "$tree/LICENSE"
+program=$tree/crates/p21/out/p21
+printf '#!/bin/sh\necho "stands: $*"\n' > "$program"
+chmod +x "$program"
+touch -d '2001-01-01' "$tree/crates/p21/out/begun"
+touch "$tree/crates/p21/src/main.rt" "$tree/crates.txt"
+
+# A path with the programs that the scripts call, and no toolchain.
+mkdir "$here/path"
+for name in sh awk basename env cat cp dirname find grep install ln mkdir mktemp readlink rm touch; do
+    ln -s "$(command -v "$name")" "$here/path/$name"
+done
+
+# expect NAME STATUS TEXT COMMAND..: the command ends with this status, and its output has the text.
+expect() {
+    name=$1 wanted=$2 text=$3
+    shift 3
+    output=$(PATH=$here/path "$@" 2>&1)
+    status=$?
+    case $output in
+        *"$text"*) [ "$status" -eq "$wanted" ] && { echo "$name: as it must be"; return; } ;;
+    esac
+    echo "$name: status $status; output: $output" >&2
+    failed=1
+}
+
+expect 'newer sources' 127 'rt of the toolchain is not in PATH' "$tree/p21" check s f
+expect 'newer sources, and the program is kept' 0 'stands: check s f' env P21_KEEP=1 "$tree/p21" check s f
+expect 'another word than 1 keeps nothing' 127 'rt of the toolchain is not in PATH' env P21_KEEP=0 "$tree/p21" check s f
+touch -d '2000-01-01' "$tree/crates/p21/src/main.rt" "$tree/crates.txt"
+expect 'older sources' 0 'stands: check s f' "$tree/p21" check s f
+rm "$tree/crates/p21/out/begun"
+expect 'a program of unknown age is kept' 0 'stands: faults' env P21_KEEP=1 "$tree/p21" faults
+expect 'a program of unknown age' 127 'rt of the toolchain is not in PATH' "$tree/p21" faults
+
+# files NAME LINES: the files and links below the folder `prefix`.
+files() {
+    found=$(cd "$here/prefix" 2> /dev/null && find . ! -type d | sort)
+    if [ "$found" = "$2" ]; then
+        echo "$1: as it must be"
+    else
+        printf '%s: files: %s\n' "$1" "$found" >&2
+        failed=1
+    fi
+    rm -rf "$here/prefix"
+}
+
+expect 'no folder' 2 'usage: tools/install PREFIX' "$tree/tools/install"
+expect 'two folders' 2 'usage: tools/install PREFIX' "$tree/tools/install" "$here/prefix" "$here/other"
+
+expect 'a program alone' 0 'there is no man/p21.1' "$tree/tools/install" "$here/prefix"
+files 'the files of a program alone' './bin/p21
+./share/doc/p21/LICENSE'
+
+mkdir "$tree/man" "$tree/completions"
+for part in man/p21.1 completions/p21.bash completions/_p21 completions/p21.fish tools/shared.py tools/p21-a tools/p21-b; do
+    echo "$part" > "$tree/$part"
+done
+expect 'each part' 0 "$here/prefix/bin/p21" "$tree/tools/install" "$here/prefix"
+expect 'the program that was copied' 0 'stands: check s f' "$here/prefix/bin/p21" check s f
+expect 'a tool by its link' 0 'tools/p21-b' cat "$here/prefix/bin/p21-b"
+expect 'each part once more' 0 "$here/prefix/bin/p21" "$tree/tools/install" "$here/prefix"
+files 'the files of each part' './bin/p21
+./bin/p21-a
+./bin/p21-b
+./lib/p21/p21-a
+./lib/p21/p21-b
+./lib/p21/shared.py
+./share/bash-completion/completions/p21
+./share/doc/p21/LICENSE
+./share/fish/vendor_completions.d/p21.fish
+./share/man/man1/p21.1
+./share/zsh/site-functions/_p21'
+
+rm "$program"
+expect 'no program to keep' 127 'rt of the toolchain is not in PATH' env P21_KEEP=1 "$tree/p21" faults
+expect 'no program to copy' 1 'the program is not built' "$tree/tools/install" "$here/prefix"
+files 'no file where there is no program' ''
+
+expect 'a folder that may not be written' 1 '' "$tree/tools/install" /proc/none
+
+exit "$failed"
