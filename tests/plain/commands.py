@@ -1,0 +1,83 @@
+"""The commands: what is written to standard output and to standard error, and the status."""
+
+from . import canonical
+from .files import read_file
+from .refusal import Refused, RefusedFile, RefusedSchema
+from .schema import read_schema
+from .tokens import canonical_param
+
+
+def answered(*lines):
+    """Lines on standard output, and status 0."""
+    return "".join(line + "\n" for line in lines), "", 0
+
+
+def refused(line):
+    """A line on standard error, and status 1."""
+    return "", f"{line}\n", 1
+
+
+def of_files(command):
+    """A command over a schema and files: what is refused first is its answer."""
+
+    def run(schema_text, *arguments):
+        try:
+            return command(read_schema(schema_text), *arguments)
+        except (RefusedSchema, RefusedFile) as refusal:
+            return refused(refusal)
+
+    return run
+
+
+def param(text):
+    """The canonical spelling of the one scalar in a text."""
+    try:
+        return answered(canonical_param(text))
+    except Refused as refusal:
+        return refused(refusal)
+
+
+@of_files
+def schema(found):
+    """The entities of a schema with their attributes."""
+    return answered(*found.listing())
+
+
+@of_files
+def check(found, file):
+    """How many instances a file has, and how long its canonical file is."""
+    meaning = read_file(found, file)
+    return answered(
+        f"accepted, instances {len(meaning.instances)}, canonical bytes {len(canonical.file(found, meaning))}"
+    )
+
+
+@of_files
+def canon(found, file):
+    """The canonical file."""
+    return canonical.file(found, read_file(found, file)), "", 0
+
+
+@of_files
+def show(found, file, name):
+    """The canonical statement of an instance."""
+    meaning = read_file(found, file)
+    if name not in meaning.instances:
+        return refused(f"no #{name}")
+    return answered(canonical.instance(found, name, meaning.instances[name][1]))
+
+
+@of_files
+def same(found, first, second):
+    """Whether two files mean the same: by their meanings, and not by their texts."""
+    meanings = []
+    for which, file in (("first", first), ("second", second)):
+        try:
+            meanings.append(read_file(found, file))
+        except RefusedFile as refusal:
+            return refused(f"{which}: {refusal}")
+    if meanings[0] == meanings[1]:
+        return answered("same")
+    return "different\n", "", 1
+
+

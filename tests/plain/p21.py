@@ -1,0 +1,46 @@
+#!/usr/bin/env python3
+"""p21.py COMMAND ..: the commands param, schema, check, canon, show and same, answered by the plain reading."""
+
+import argparse
+import pathlib
+import sys
+
+sys.path.insert(0, str(pathlib.Path(__file__).resolve().parent.parent))
+
+from plain import commands  # noqa: E402
+
+
+def arguments():
+    """The command line, as that of the program."""
+    parser = argparse.ArgumentParser(description=__doc__)
+    of = parser.add_subparsers(dest="command", required=True)
+    for command, names in {
+        "param": ["file"],
+        "schema": ["schema"],
+        "check": ["schema", "file"],
+        "canon": ["schema", "file"],
+        "show": ["schema", "file"],
+        "same": ["schema", "first", "second"],
+    }.items():
+        command_line = of.add_parser(command)
+        for name in names:
+            command_line.add_argument(name, type=pathlib.Path)
+        if command == "show":
+            command_line.add_argument("--name", type=int, required=True)
+    return parser.parse_args()
+
+
+def main():
+    """Reads the files, runs the command and writes its answer."""
+    given = vars(arguments())
+    command = getattr(commands, given.pop("command"))
+    name = given.pop("name", None)
+    texts = [path.read_bytes() for path in given.values()]
+    output, error, status = command(*texts, *([] if name is None else [name]))
+    sys.stdout.write(output)
+    sys.stderr.write(error)
+    return status
+
+
+if __name__ == "__main__":
+    sys.exit(main())
