@@ -1,0 +1,73 @@
+"""What the tests of the tools share: files that are made, and runs that are held against what they must answer."""
+
+import os
+import pathlib
+import subprocess
+import sys
+import tempfile
+
+ROOT = pathlib.Path(__file__).resolve().parent.parent
+SCHEMA = "examples/product.exp"
+
+# The files that stand in the repository are named from its top.
+os.chdir(ROOT)
+os.environ.setdefault("P21", str(ROOT / "p21"))
+
+FRAME = """ISO-10303-21;
+HEADER;
+FILE_DESCRIPTION((''),'2;1');
+FILE_NAME('','',(''),(''),'','','');
+FILE_SCHEMA(('PRODUCT_MODEL'));
+ENDSEC;
+{data}
+END-ISO-10303-21;
+"""
+
+
+def file_of(instances, changes=()):
+    """A file of the example's schema with these lines in its data section, changed by pairs of texts."""
+    text = FRAME.format(data=f"DATA;\n{instances}\nENDSEC;")
+    for old, new in changes:
+        assert text.count(old) == 1, old
+        text = text.replace(old, new)
+    return text
+
+
+class Tests:
+    """The runs of one tool. Files that are made stand in a folder of their own, which `{here}` names."""
+
+    def __init__(self, tool):
+        self.tool = tool
+        self.folder = tempfile.TemporaryDirectory()
+        self.here = pathlib.Path(self.folder.name)
+        self.passed = self.failed = 0
+
+    def make(self, name, text):
+        """A file of this name and text."""
+        path = self.here / name
+        path.write_bytes(text.encode("utf-8") if isinstance(text, str) else text)
+        return str(path)
+
+    def run(self, arguments, text=None):
+        """What the tool writes to each stream, and its status."""
+        command = [f"tools/{self.tool}", *(argument.format(here=self.here) for argument in arguments)]
+        done = subprocess.run(command, capture_output=True, check=False, input=text)
+        return done.stdout.decode(), done.stderr.decode(), done.returncode
+
+    def judge(self, name, wanted, found):
+        """One row: what is found is what is wanted."""
+        if wanted == found:
+            self.passed += 1
+        else:
+            self.failed += 1
+            print(f"{self.tool}, {name}:\n  wanted {wanted}\n  found  {found}")
+
+    def expect(self, name, arguments, status, output, error=""):
+        """A run that writes just these lines to each stream and ends with this status."""
+        lines = [text.format(here=self.here) + "\n" if text else "" for text in ("\n".join(output), error)]
+        self.judge(name, (*lines, status), self.run(arguments))
+
+    def end(self):
+        """Says how many rows passed, and ends with status 0 or 1."""
+        print(f"{self.tool}: {self.passed} passed, {self.failed} failed")
+        sys.exit(int(self.failed > 0))
