@@ -9,28 +9,31 @@
 //   READ_CUT=K          no read passes byte K of its file
 //   READ_STOPS=N        the program stops itself by SIGSTOP in front of the Nth read
 //   COUNTS=PATH         at exit the counts are written there: allocations, refused ones, reads, writes
-//   TRACE=PATH          the calls that lead to each refused allocation are written there
+//   TRACE=PATH          for each refused allocation a line is written there: places in the program that may be those of
+//                       the calls that led to it, the innermost first
 //
 // The program takes memory by malloc and realloc alone, as `nm -D` shows; a call of either is an allocation. rigged.py
 // builds the library.
 #define _GNU_SOURCE
 #include <errno.h>
-#include <execinfo.h>
 #include <fcntl.h>
 #include <signal.h>
 #include <stdio.h>
 #include <stdlib.h>
+#include <sys/auxv.h>
 #include <sys/syscall.h>
 #include <unistd.h>
 
 extern void *__libc_malloc(size_t);
 extern void *__libc_realloc(void *, size_t);
 
+#define LARGEST_PROGRAM (64UL << 20)
+
 static long refuse_at, refuse_on, refuse_behind_write, seed, one_in;
 static long read_fails, write_fails, error_number, empty, read_most, read_cut, read_stops, write_most;
 static long allocations, refused, reads, writes;
 static const char *counts_path, *trace_path;
-static int is_ready, is_tracing;
+static int is_ready;
 
 static long number(const char *name, long otherwise) {
     const char *value = getenv(name);
@@ -53,23 +56,23 @@ __attribute__((constructor)) static void begin(void) {
     write_most = number("WRITE_MOST", 0);
     counts_path = getenv("COUNTS");
     trace_path = getenv("TRACE");
-    if (trace_path) {
-        // The first call loads what it needs, which takes memory.
-        void *frames[1];
-        backtrace(frames, 1);
-    }
     allocations = refused = reads = writes = 0;
     is_ready = 1;
 }
 
+// Writes the place in the program of each word on the stack that may be where a call returns to, the innermost first.
 static void write_trace(void) {
-    void *frames[40];
-    is_tracing = 1;
-    int count = backtrace(frames, 40);
+    unsigned long program = getauxval(AT_PHDR) & ~4095UL;
     int file = syscall(SYS_open, trace_path, O_WRONLY | O_CREAT | O_APPEND, 0644);
-    backtrace_symbols_fd(frames, count, file);
+    for (unsigned long *word = __builtin_frame_address(0); word < (unsigned long *)environ; word++) {
+        char text[20];
+        unsigned long place = *word - program;
+        if (place >= LARGEST_PROGRAM) continue;
+        int length = snprintf(text, sizeof text, "%lx ", place);
+        syscall(SYS_write, file, text, length);
+    }
+    syscall(SYS_write, file, "\n", 1);
     syscall(SYS_close, file);
-    is_tracing = 0;
 }
 
 static int by_chance(void) {
@@ -78,7 +81,7 @@ static int by_chance(void) {
 }
 
 static int is_refused(void) {
-    if (!is_ready || is_tracing) return 0;
+    if (!is_ready) return 0;
     allocations++;
     int is_next = refuse_at && (allocations == refuse_at || (refuse_on && allocations > refuse_at));
     int is_behind = refuse_behind_write && writes;

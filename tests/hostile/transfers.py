@@ -164,19 +164,22 @@ COMPLAINING = [
     ["show", "demo.exp", "point", "--name", "3"],
     ["same", "demo.exp", "twice", "point"],
     ["same", "demo.exp", "point", "twice"],
-    ["frob"],
     ["show", "demo.exp", "point", "--name", "+2"],
 ]
+# What is wrong with a command line is said in a text; where it can't be written, the fault has its own line.
+MISTAKEN = [["frob"], ["check", "demo.exp"]]
 
 
 def failing_complaints(rigged, tally):
     """The line of a refusal can't be written: status 3, and nothing on the other stream."""
-    for arguments in COMPLAINING:
+    for arguments in COMPLAINING + MISTAKEN:
         line = rigged.answer(arguments).error
+        behind = b"write fault\n" if arguments in MISTAKEN else b""
         for taken in range(len(line)):
             for failure in ({}, {"EMPTY": 1}):
                 found = rigged.failing(arguments, WRITE_MOST=1, WRITE_FAILS=taken + 1, **failure)[0]
-                tally.check(f"{' '.join(arguments)}, {taken} bytes of the line", found, Answer(3, b"", line[:taken]))
+                wanted = Answer(3, b"", line[:taken] + behind)
+                tally.check(f"{' '.join(arguments)}, {taken} bytes of the line", found, wanted)
     tally.part("lines of refusals that can't be written")
 
 
