@@ -38,6 +38,7 @@ class Tests:
 
     def __init__(self, tool):
         self.tool = tool
+        self.program = os.environ["P21"]
         self.folder = tempfile.TemporaryDirectory()
         self.here = pathlib.Path(self.folder.name)
         self.passed = self.failed = 0

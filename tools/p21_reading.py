@@ -60,14 +60,17 @@ def find_program():
     return str(installed) if installed.exists() else shutil.which("p21") or "p21"
 
 
+def line_of(error, status):
+    """What the program wrote to its second stream, without the last line end, and the signal that ended it."""
+    line = error.decode("utf-8", "backslashreplace").rstrip("\n")
+    return line if status >= 0 else f"{line} ended by signal {-status}".lstrip()
+
+
 def run(program, *arguments, text=None, output=subprocess.PIPE):
     """The answer of the program. A text is given to it as /dev/stdin."""
     given = {"stdin": subprocess.DEVNULL} if text is None else {"input": text}
     done = subprocess.run([program, *arguments], stdout=output, stderr=subprocess.PIPE, check=False, **given)
-    error = done.stderr.decode("utf-8", "backslashreplace").rstrip("\n")
-    if done.returncode < 0:
-        error = f"{error}\nended by signal {-done.returncode}".lstrip()
-    return Answer(done.stdout or b"", error, done.returncode)
+    return Answer(done.stdout or b"", line_of(done.stderr, done.returncode), done.returncode)
 
 
 class Listing(NamedTuple):

@@ -1,0 +1,105 @@
+#!/usr/bin/env python3
+"""Runs tools/p21-table over the examples and over files that are made. P21 names another program than ./p21."""
+
+import hashlib
+import json
+import subprocess
+
+from tooling import ROOT, SCHEMA, Tests, file_of
+
+BLOCK = "5d11fa2abae65fa2bff1265d357ae88c5adf85242cd77e53a1c8b9877eff411c"
+CHANGED = "2c7249104ea26fc6fa7c66495f8df8c2bf8f9ed06ab1ca0553e38d142f7e1c20"
+HEAD = "file\tanswer\tinstances\tsha256"
+
+# Of each example the answer, how many instances it has, and its hash, as `p21 canon .. | sha256sum` has it.
+EXAMPLES = [
+    ("examples/product-changed.step", "accepted", 128, CHANGED),
+    ("examples/product-other.step", "accepted", 128, BLOCK),
+    ("examples/product.step", "accepted", 128, BLOCK),
+    ("examples/refused/BadByte.step", "refused 1 BadByte at statement 1", None, None),
+    ("examples/refused/BadDirective.step", "refused 4 BadDirective at statement 4", None, None),
+    ("examples/refused/Count.step", "refused 45 Count in #3", None, None),
+    ("examples/refused/Dangling.step", "refused 56 Dangling in #2", None, None),
+    ("examples/refused/EndsEarly.step", "refused 24 EndsEarly at statement 10", None, None),
+    ("examples/refused/Missing.step", "refused 46 Missing in #2", None, None),
+    ("examples/refused/NotUtf8.step", "refused 6 NotUtf8 at statement 8", None, None),
+    ("examples/refused/SchemaName.step", "refused 31 SchemaName at statement 5", None, None),
+    ("examples/refused/UnknownEntity.step", "refused 41 UnknownEntity in #3", None, None),
+    ("examples/refused/WrongKind.step", "refused 49 WrongKind in #1", None, None),
+]
+SUMMARY = """13 files, 3 accepted, 10 not
+     1 refused 1 BadByte
+     1 refused 4 BadDirective
+     1 refused 45 Count
+     1 refused 56 Dangling
+     1 refused 24 EndsEarly
+     1 refused 46 Missing
+     1 refused 6 NotUtf8
+     1 refused 31 SchemaName
+     1 refused 41 UnknownEntity
+     1 refused 49 WrongKind
+the same: examples/product-other.step examples/product.step"""
+
+
+def tsv(row):
+    """A row as a line with tabs."""
+    return "\t".join("" if field is None else str(field) for field in row)
+
+
+def examples(tests):
+    """The folder of the examples, in each form and with several processes."""
+    lines = [HEAD, *map(tsv, EXAMPLES)]
+    for jobs in ("1", "5"):
+        tests.expect(f"tabs, -j {jobs}", ["--format", "tsv", "-j", jobs, SCHEMA, "examples"], 1, lines, SUMMARY)
+    output, error, status = tests.run(["--format", "json", SCHEMA, "examples"])
+    found = [tuple(json.loads(line).values()) for line in output.splitlines()]
+    tests.judge("JSON", (EXAMPLES, SUMMARY + "\n", 1), (found, error, status))
+    output, error, status = tests.run([SCHEMA, "examples"])
+    wanted = [f"{file:35}  {answer:40}  {count or '-':>9}  {sha or '-'}" for file, answer, count, sha in EXAMPLES]
+    tests.judge("text", (wanted, SUMMARY + "\n", 1), (output.splitlines(), error, status))
+
+
+def hashes(tests):
+    """The hash is that of what `p21 canon` writes, for files of several lengths."""
+    for count in (0, 1, 2000):
+        points = (f"#{name}=CARTESIAN_POINT('a;#1=',({name}.,0.,0.));" for name in range(1, count + 1))
+        path = tests.make(f"{count}.step", file_of("\n".join(points)))
+        written = subprocess.run([tests.program, "canon", SCHEMA, path], capture_output=True, check=True).stdout
+        row = (path, "accepted", count, hashlib.sha256(written).hexdigest())
+        lines = [HEAD, tsv(row)]
+        tests.expect(f"{count} instances", ["--format", "tsv", SCHEMA, path], 0, lines, "1 files, 1 accepted, 0 not")
+
+
+def names(tests):
+    """Which files are checked: those of folders and lists too, in the order of the command line."""
+    file = file_of("")
+    for name in ("b.STP", "a.p21", "c.ifc", "notes.txt", "deep/d.step", "a\ttab.step"):
+        (tests.here / "many" / name).parent.mkdir(parents=True, exist_ok=True)
+        tests.make(f"many/{name}", file)
+    made = tests.make("list", f"{tests.here}/many/notes.txt\n\n{tests.here}/none.step\n")
+    output, error, status = tests.run(["--format", "tsv", "--files-from", made, SCHEMA, "{here}/many"])
+    found = [tuple(line.split("\t")[:2]) for line in output.splitlines()[1:]]
+    wanted = [("many/a\\ttab.step", "accepted"), ("many/a.p21", "accepted"), ("many/b.STP", "accepted")]
+    wanted += [("many/c.ifc", "accepted"), ("many/deep/d.step", "accepted"), ("many/notes.txt", "accepted")]
+    wanted = [(f"{tests.here}/{name}", answer) for name, answer in wanted]
+    wanted.append((f"{tests.here}/none.step", f"cannot open {tests.here}/none.step"))
+    counts = ["7 files, 6 accepted, 1 not", "     1 cannot open"]
+    tests.judge("folders and lists", (wanted, counts, 3), (found, error.splitlines()[:2], status))
+    output, _, status = tests.run(["--format", "tsv", "--files-from", "-", SCHEMA], f"{tests.here}/many/a.p21\n".encode())
+    tests.judge("a list from standard input", (2, 0), (len(output.splitlines()), status))
+
+
+def main():
+    tests = Tests("p21-table")
+    examples(tests)
+    hashes(tests)
+    names(tests)
+    refused = "examples/product.step: schema refused S2 Syntax"
+    tests.expect("exchanged arguments", ["examples/product.step", SCHEMA], 2, [], f"p21-table: {refused}")
+    tests.expect("no file", [SCHEMA], 2, [], "p21-table: no file is named")
+    tests.expect("a folder without STEP files", [SCHEMA, str(ROOT / "tools")], 2, [], "p21-table: no file is named")
+    tests.end()
+
+
+if __name__ == "__main__":
+    main()
