@@ -1,0 +1,4 @@
+pub mod DigitLanes
+pub mod Leaves
+pub mod NameTokens
+pub mod WideWrites

@@ -1,0 +1,10 @@
+//! Tokens taken straight from their bytes to their canonical spellings, with no value made of them (ISO 10303-21,
+//! clause 6: tokens). Only what is usual is taken; all else is left to those who read it byte by byte.
+#![tactic(auto)]
+
+mod digits;
+mod draft;
+mod name;
+
+pub use draft::Draft;
+pub use name::append_name;

@@ -1,0 +1,39 @@
+//! Names of instances (ISO 10303-21, clause 6: tokens, entity instance name).
+ghost use Rattle.std.specs.Prelude.{◌≡◌, IfNone, IfSome};
+ghost use Rattle.p21_exchange.specs.Token.{name};
+ghost use Rattle.p21_transcribe.specs.Leaf.{IsCanonicalAtFront, Transcribes};
+
+use crate::digits::{behind, digit_run, number_of};
+use crate::draft::Draft;
+
+/// A number of so many digits is in range.
+const LONGEST: usize = 18;
+
+/// Appends the name at the front, where it has no zero in front and at most 18 digits: how many bytes it has, and its
+/// number.
+#[inline(always)]
+pub fn append_name(bytes: &[u8], draft: &mut Draft) -> Option<(usize, u64)>
+    ensures some { IfSome result (λ front. Transcribes bytes.now front.0 (name front.1) draft.old draft.new) }
+    ensures none { IfNone result (draft.new ≡ draft.old) }
+{
+    let (count, number) = front_name(bytes)?;
+    if !draft.append_front(bytes, count) {
+        return None;
+    }
+    Some((count, number))
+}
+
+#[inline(always)]
+fn front_name(bytes: &[u8]) -> Option<(usize, u64)>
+    ensures { IfSome result (λ front. IsCanonicalAtFront bytes.now front.0 (name front.1)) }
+{
+    let digits = behind(b'#', bytes)?;
+    let count = digit_run(digits);
+    if count == 0 || count > LONGEST {
+        return None;
+    }
+    if count > 1 && digits[0] == b'0' {
+        return None;
+    }
+    Some((count + 1, number_of(&digits[..count])))
+}
