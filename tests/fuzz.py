@@ -25,7 +25,7 @@ ROOT = pathlib.Path(__file__).resolve().parent.parent
 def arguments():
     """The command line."""
     parser = argparse.ArgumentParser(description=__doc__)
-    parser.add_argument("--program", default=str(ROOT / "p21"), help="the program to try")
+    parser.add_argument("--program", default=os.environ.get("P21", str(ROOT / "p21")), help="the program to try")
     parser.add_argument("--plain", default=str(ROOT / "tests"), help="the folder that holds the plain reading")
     parser.add_argument("--seed", default=None, help="any text; by default another one each time, which is printed")
     parser.add_argument("--cases", type=int, default=10_000, help="how many cases")

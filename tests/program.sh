@@ -1,14 +1,15 @@
 #!/bin/sh
 # Runs the program p21 as a user does, and compares the exit status, standard output and standard error of each run with
 # what they must be: each status, help and usage, and streams that are closed or full. The gate runs the program once, so
-# this stands beside it. It builds the program first, where it is missing or old.
+# this stands beside it. It builds the program first, where it is missing or old; P21 in the environment names another one.
 
+program=$(readlink -f -- "${P21:-$(dirname -- "$0")/../p21}")
 cd "$(dirname -- "$(readlink -f -- "$0")")/.." || exit
 here=$(mktemp -d)
 trap 'rm -rf "$here"' EXIT
 failed=0
 
-./p21 param examples/param.txt > "$here/built" || exit
+"$program" param examples/param.txt > "$here/built" || exit
 printf '%s' '+012.500E+03' > "$here/real"
 printf '%s' '1 2' > "$here/two"
 head -c 16777217 /dev/zero | tr '\0' ' ' > "$here/long"
@@ -32,7 +33,7 @@ expect() {
 }
 
 run() {
-    ./p21 "$@" > "$here/output" 2> "$here/error" < /dev/null
+    "$program" "$@" > "$here/output" 2> "$here/error" < /dev/null
     status=$?
 }
 
@@ -234,51 +235,51 @@ if [ -s "$here/unlisted" ]; then
 fi
 
 for command in param schema check canon show same faults; do
-    ./p21 "$command" --help > "$here/help" 2> "$here/error" < /dev/null
+    "$program" "$command" --help > "$here/help" 2> "$here/error" < /dev/null
     status=$?
     : > "$here/output"
     expect "help of $command: status and error" 0 '' ''
-    grep -q "Usage: p21 $command" "$here/help" || { echo "help of $command: no usage" >&2; failed=1; }
+    grep -q "Usage: ${program##*/} $command" "$here/help" || { echo "help of $command: no usage" >&2; failed=1; }
 done
 
-./p21 --help > "$here/help" 2> "$here/error"
+"$program" --help > "$here/help" 2> "$here/error"
 status=$?
 : > "$here/output"
 expect 'help: status and error' 0 '' ''
-grep -q 'Usage: p21' "$here/help" || { echo 'help: no usage on standard output' >&2; failed=1; }
+grep -q "Usage: ${program##*/}" "$here/help" || { echo 'help: no usage on standard output' >&2; failed=1; }
 
 if [ -w /dev/full ]; then
     : > "$here/output"
-    ./p21 param "$here/real" > /dev/full 2> "$here/error"
+    "$program" param "$here/real" > /dev/full 2> "$here/error"
     status=$?
     expect 'an answer that cannot be written' 3 '' 'write fault'
 
-    ./p21 canon "$demo" "$here/point" > /dev/full 2> "$here/error"
+    "$program" canon "$demo" "$here/point" > /dev/full 2> "$here/error"
     status=$?
     expect 'a canonical file that cannot be written' 3 '' 'write fault'
 
-    ./p21 schema examples/demo.exp > /dev/full 2> "$here/error"
+    "$program" schema examples/demo.exp > /dev/full 2> "$here/error"
     status=$?
     expect 'a schema that cannot be written' 3 '' 'write fault'
 
-    ./p21 faults > /dev/full 2> "$here/error"
+    "$program" faults > /dev/full 2> "$here/error"
     status=$?
     expect 'a list that cannot be written' 3 '' 'write fault'
 
-    ./p21 --help > /dev/full 2> "$here/error"
+    "$program" --help > /dev/full 2> "$here/error"
     status=$?
     expect 'help that cannot be written' 3 '' 'write fault'
 
     : > "$here/error"
-    ./p21 param "$here/two" > "$here/output" 2> /dev/full
+    "$program" param "$here/two" > "$here/output" 2> /dev/full
     status=$?
     expect 'a refusal whose line cannot be written' 3 '' ''
 
-    ./p21 frob > "$here/output" 2> /dev/full
+    "$program" frob > "$here/output" 2> /dev/full
     status=$?
     expect 'usage that cannot be written' 3 '' ''
 
-    ./p21 param "$here/none" > "$here/output" 2> /dev/full
+    "$program" param "$here/none" > "$here/output" 2> /dev/full
     status=$?
     expect 'a missing file whose line cannot be written' 3 '' ''
 fi

@@ -1,9 +1,11 @@
 #!/usr/bin/env python3
 """Runs each command line that README and docs show in a table with its answer, and each text of docs/FAULTS.md.
 
-Give another program than ./p21 as the first argument. The status is 1 where an answer is another one.
+P21 in the environment, or the first argument, names another program than ./p21. The status is 1 where an answer is
+another one.
 """
 
+import os
 import pathlib
 import re
 import shlex
@@ -12,7 +14,7 @@ import sys
 import tempfile
 
 ROOT = pathlib.Path(__file__).resolve().parent.parent
-PROGRAM = sys.argv[1] if len(sys.argv) > 1 else str(ROOT / "p21")
+PROGRAM = os.path.abspath(sys.argv[1] if len(sys.argv) > 1 else os.environ.get("P21", ROOT / "p21"))
 SCHEMA = ROOT / "examples" / "product.exp"
 
 # A file of the schema without instances, line by line.

@@ -70,6 +70,16 @@ SECTIONS = (
     + END
 )
 
+# A file whose strings, number and binary are longer than what lies in place, and one of a longer kind of record.
+LONG = file_of(
+    "#1=POINT('a label of more than twenty-four characters',1.2345678901234567890123456789,-0.);\n"
+    "#2=(POINT(0.000000000000000000000000000001,2.)SHAPE('\\X2\\00E900E8\\X0\\')MARKED(.RED.));\n"
+)
+
+# What the calls by themselves are given, whose first instance needs two others.
+CALLED = file_of("#9=CLOUD((#3,#2),((2.,1.),()),(TALLY(1)));\n#3=POINT('a',1.,1.);\n#2=POINT($,1.,1.);\n")
+CALLED_CANONICAL = file_of("#2=POINT($,1.,1.);\n#3=POINT('a',1.,1.);\n#9=CLOUD((#2,#3),((),(1.,2.)),(TALLY(1)));\n")
+
 # Each file by its name.
 FILES = {
     "demo.exp": DEMO,
@@ -84,6 +94,7 @@ FILES = {
     "bags.other": file_of("#1=CLOUD((),((1.),(2.,3.)),(TALLY(1)));\n"),
     "sections": SECTIONS,
     "late": file_of("#9=CLOUD((#3,#2),(),(TALLY(1)));\n#3=POINT('a',1.,1.);\n#2=POINT($,1.,1.);\n"),
+    "long": LONG,
     "twice": file_of("#1=POINT($,1.,1.);\n#1=POINT($,1.,1.);\n"),
 }
 

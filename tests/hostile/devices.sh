@@ -4,8 +4,7 @@
 # another user and a small disk want root. The environment variable P21 names the program.
 
 root=$(cd "$(dirname -- "$(readlink -f -- "$0")")/../.." && pwd) || exit
-program=${P21:-$root/p21}
-case $program in /*) ;; *) program=$PWD/$program ;; esac
+program=$(readlink -f -- "${P21:-$root/p21}")
 "$program" --version > /dev/null || exit
 here=$(mktemp -d) || exit
 trap 'umount "$here/disk" 2> /dev/null; rm -rf "$here"' EXIT

@@ -2,7 +2,7 @@
 //
 //   REFUSE=N            the Nth allocation is refused;  REFUSE_ON=1: and each behind it
 //   REFUSE_SEED=S       allocations are refused by chance, one of REFUSE_ONE_IN
-//   REFUSE_BEHIND_WRITE=1  each allocation behind the first write is refused
+//   BEHIND_WRITE=1      only the allocations behind the first write are counted, and refused
 //   READ_FAILS=N        the Nth read fails;  WRITE_FAILS=N: the Nth write;  with the number ERROR, or EIO
 //   EMPTY=1             what would fail answers 0 bytes instead
 //   READ_MOST=K         a read takes K bytes at most;  WRITE_MOST=K: a write
@@ -29,7 +29,7 @@ extern void *__libc_realloc(void *, size_t);
 
 #define LARGEST_PROGRAM (64UL << 20)
 
-static long refuse_at, refuse_on, refuse_behind_write, seed, one_in;
+static long refuse_at, refuse_on, behind_write, seed, one_in;
 static long read_fails, write_fails, error_number, empty, read_most, read_cut, read_stops, write_most;
 static long allocations, refused, reads, writes;
 static const char *counts_path, *trace_path;
@@ -43,7 +43,7 @@ static long number(const char *name, long otherwise) {
 __attribute__((constructor)) static void begin(void) {
     refuse_at = number("REFUSE", 0);
     refuse_on = number("REFUSE_ON", 0);
-    refuse_behind_write = number("REFUSE_BEHIND_WRITE", 0);
+    behind_write = number("BEHIND_WRITE", 0);
     seed = number("REFUSE_SEED", 0);
     one_in = number("REFUSE_ONE_IN", 100);
     read_fails = number("READ_FAILS", 0);
@@ -81,11 +81,10 @@ static int by_chance(void) {
 }
 
 static int is_refused(void) {
-    if (!is_ready) return 0;
+    if (!is_ready || (behind_write && !writes)) return 0;
     allocations++;
     int is_next = refuse_at && (allocations == refuse_at || (refuse_on && allocations > refuse_at));
-    int is_behind = refuse_behind_write && writes;
-    if (!is_next && !is_behind && !(seed && by_chance())) return 0;
+    if (!is_next && !(seed && by_chance())) return 0;
     refused++;
     if (trace_path) write_trace();
     errno = ENOMEM;

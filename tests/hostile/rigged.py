@@ -32,10 +32,10 @@ def built_program():
 
 
 class Rigged:
-    """The program in a folder of its own, which is taken away at the end of a `with` block."""
+    """A program in a folder of its own, which is taken away at the end of a `with` block."""
 
-    def __init__(self):
-        self.program = built_program()
+    def __init__(self, program=None):
+        self.program = os.path.abspath(program) if program else built_program()
         memory = "/dev/shm" if os.path.isdir("/dev/shm") else None
         self.folder = pathlib.Path(tempfile.mkdtemp(prefix="hostile-", dir=memory))
         self.library = self.folder / "failing.so"

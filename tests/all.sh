@@ -1,0 +1,52 @@
+#!/bin/sh
+# Runs all tests that stand beside the gate, one part behind the other, and prints a line for each: whether it passed, the
+# seconds that it took, and the last line that it wrote. The whole of what a part wrote follows where it failed.
+#
+#   tests/all.sh [PART..]     PART is the path of a script below tests, as hostile/devices.sh; all parts without one
+#
+# The environment variable P21 names the program; without it, it is ./p21, which is built first where it is missing or old.
+# Two parts want `rt`: hostile/calls.py proves and builds a program over the libraries, and fail_alloc.sh tries tests.
+
+root=$(cd "$(dirname -- "$(readlink -f -- "$0")")/.." && pwd) || exit
+P21=$(readlink -f -- "${P21:-$root/p21}")
+export P21
+export PYTHONDONTWRITEBYTECODE=1
+cd "$root/tests" || exit
+"$P21" --version > /dev/null || exit
+# The scripts run the program thousands of times: the script ./p21 would look for newer sources each time.
+[ "$P21" != "$root/p21" ] || P21=$root/crates/p21/out/p21
+log=$(mktemp) || exit
+trap 'rm -f "$log"' EXIT
+failed=0
+
+# run SCRIPT ARGUMENTS: runs a part.
+run() {
+    part=$1
+    shift
+    begun=$(date +%s)
+    if "./$part" "$@" > "$log" 2>&1; then
+        passed=passed
+    else
+        passed=FAILED
+        failed=1
+    fi
+    echo "$part: $passed, $(($(date +%s) - begun)) s: $(tail -n 1 "$log")"
+    [ "$passed" = passed ] || cat "$log"
+}
+
+if [ "$#" -eq 0 ]; then
+    set -- program.sh texts.py install.sh pages.sh
+    for tools in tools_*.py; do
+        [ ! -e "$tools" ] || set -- "$@" "$tools"
+    done
+    set -- "$@" hostile/devices.sh hostile/changing.py hostile/transfers.py hostile/large.py hostile/stack.py \
+        hostile/allocations.py hostile/calls.py fail_alloc.sh fuzz.py
+fi
+for part in "$@"; do
+    case $part in
+        fuzz.py) run fuzz.py --cases 10000 --seed 1 ;;
+        pages.sh) run pages.sh "$P21" ;;
+        *) run "$part" ;;
+    esac
+done
+exit "$failed"
