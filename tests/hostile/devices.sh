@@ -167,8 +167,32 @@ wait
 within 1 check demo.exp fifo
 expect 'a FIFO without a writer' 124 '' ''
 
-# Full and closed streams, and a pipe that nobody reads. Each word list is a command line.
-answers='param real
+# Full and closed streams, and a pipe that nobody reads: status 3, with `write fault` where it can be said.
+[ -w /dev/full ] || echo 'passed over: full streams (no /dev/full)'
+mkfifo unread
+exec 8<> unread 9> unread 8<&-
+: > output
+while read -r line; do
+    # The words of a line are those of a command line.
+    # shellcheck disable=SC2086
+    set -- $line
+    if [ -w /dev/full ]; then
+        "$program" "$@" > /dev/full 2> error < /dev/null
+        status=$?
+        expect "a full output: $line" 3 '' 'write fault'
+    fi
+    "$program" "$@" >&- 2> error < /dev/null
+    status=$?
+    expect "a closed output: $line" 3 '' 'write fault'
+    "$program" "$@" >&9 2> error < /dev/null
+    status=$?
+    expect "an output that nobody reads: $line" 3 '' 'write fault'
+    "$program" "$@" <&- >&- 2>&-
+    status=$?
+    : > error
+    expect "no stream: $line" 3 '' ''
+done << LINES
+param real
 schema demo.exp
 check demo.exp point
 canon demo.exp point
@@ -177,57 +201,37 @@ same demo.exp point canonical
 same demo.exp point other
 faults
 --help
---version'
-complaints='param two
+--version
+LINES
+: > error
+while read -r line; do
+    # shellcheck disable=SC2086
+    set -- $line
+    if [ -w /dev/full ]; then
+        "$program" "$@" > output 2> /dev/full < /dev/null
+        status=$?
+        expect "a full stream of errors: $line" 3 '' ''
+    fi
+    "$program" "$@" > output 2>&- < /dev/null
+    status=$?
+    expect "a closed stream of errors: $line" 3 '' ''
+    "$program" "$@" > output 2>&9 < /dev/null
+    status=$?
+    expect "a stream of errors that nobody reads: $line" 3 '' ''
+    "$program" "$@" <&- >&- 2>&-
+    status=$?
+    expect "no stream: $line" 3 '' ''
+done << LINES
+param two
 check demo.exp real
 check demo.exp nowhere
 show demo.exp point --name 3
 schema point
 frob
 show demo.exp point --name +2
-'
-: > output
-echo "$answers" | while read -r line; do
-    if [ -w /dev/full ]; then
-        # The words of a line are the words of a command line.
-        # shellcheck disable=SC2086
-        "$program" $line > /dev/full 2> error < /dev/null
-        echo "full $? $(cat error) $line"
-    fi
-    "$program" $line >&- 2> error < /dev/null
-    echo "closed $? $(cat error) $line"
-    { "$program" $line 2> error < /dev/null; echo $? > ended; } | :
-    echo "unread $(cat ended) $(cat error) $line"
-    "$program" $line <&- >&- 2>&-
-    echo "all $? write fault $line"
-done > lines
-echo "$complaints" | while read -r line; do
-    if [ -w /dev/full ]; then
-        "$program" $line > output.line 2> /dev/full < /dev/null
-        echo "full $? write fault $line$(cat output.line)"
-    fi
-    "$program" $line > output.line 2>&- < /dev/null
-    echo "closed $? write fault $line$(cat output.line)"
-    "$program" $line <&- >&- 2>&-
-    echo "all $? write fault $line"
-done >> lines
-while read -r stream number line; do
-    status=$number
-    case $stream,$line in
-        # A pipe may take a short answer before its reader is gone.
-        unread,*) [ "$number" -eq 0 ] && continue ;;
-    esac
-    : > error
-    expect "$stream stream: ${line#write fault }" 3 '' ''
-    case $line in
-        'write fault'*) ;;
-        *)
-            echo "$stream stream: $line"
-            failed=$((failed + 1))
-            ;;
-    esac
-done < lines
-[ -w /dev/full ] || echo 'passed over: full streams (no /dev/full)'
+
+LINES
+exec 9>&-
 
 # Signals while a FIFO is read: the program ends by them, and nothing is written; SIGPIPE is ignored.
 for signal in 1 9 10 15; do
