@@ -183,6 +183,10 @@ def read_value(lexemes):
 # --- Texts for people ---
 
 
+def line_number(text, at):
+    """The number of the line in which a place stands."""
+    return text[:at].count(b"\n") + 1
+
 def shortened(text, at, width=100):
     """The text around a place, and where the place then is; `..` stands for what is left out."""
     if len(text) <= width:

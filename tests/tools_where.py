@@ -1,0 +1,246 @@
+#!/usr/bin/env python3
+"""Runs tools/p21-where over the texts of docs/FAULTS.md, the examples, and files that are made, cut, packed or changed.
+
+P21 names another program than ./p21. Whatever the file is, the first line is that of the program.
+"""
+
+import gzip
+import pathlib
+import random
+import re
+import subprocess
+
+import texts
+from tooling import SCHEMA, Tests, file_of
+
+DEMO = "examples/demo.exp"
+
+# For each text of docs/FAULTS.md where it is refused, what is marked there, and what is said of it first.
+FAULTS = {
+    "1 BadByte": ("8:4", "p", "the byte 70, p"),
+    "2 OpenString": ("8:11", "'", "it begins here and ends nowhere"),
+    "3 OpenComment": ("8:1", "/", "it begins here and ends nowhere"),
+    "4 BadDirective": ("8:15", "p", "the byte 70, p"),
+    "5 BadCodePoint": ("8:20", "\\", "the byte 5C, \\"),
+    "6 NotUtf8": ("9:19", "\\xfc", "the byte FC, which is ü in ISO 8859-1"),
+    "7 BadNumber": ("8:25", "I", "the byte 49, I"),
+    "8 NumberRange": ("8:24", "1.E10000", None),
+    "9 BadBinary": ("8:13", "3", "the byte 33, 3"),
+    "10 NameRange": ("8:21", "6", "the byte 36, 6"),
+    "11 BadName": ("8:21", " ", "the byte 20"),
+    "20 Unexpected": ("9:1", "#2", None),
+    "21 TooDeep": ("8:75", "(", None),
+    "24 EndsEarly": ("11:24", "", "the file ends here"),
+    "25 AfterEnd": ("10:1", "ISO-10303-21", None),
+    "26 LeftOut": ("8:4", "!MY_POINT", None),
+    "30 HeaderShape": ("4:1", "FILE_NAME", None),
+    "31 SchemaName": (
+        "5:14",
+        "'AUTOMOTIVE_DESIGN { 1 0 10303 214 1 1 1 1 }'",
+        "the file is of AUTOMOTIVE_DESIGN, the schema text of PRODUCT_MODEL",
+    ),
+    "32 SectionShape": ("7:1", "DATA", None),
+    "33 SectionTwice": ("9:6", "'a'", None),
+    "40 DuplicateName": ("9:1", "#01", "#1 stands in line 8 too"),
+    "41 UnknownEntity": ("8:4", "SPHERICAL_SURFACE", "the schema PRODUCT_MODEL has no entity SPHERICAL_SURFACE"),
+    "42 Abstract": ("8:4", "CURVE", "its subtypes: LINE, CIRCLE"),
+    "43 PartMissing": ("8:5", "LENGTH_UNIT", "a supertype without a part: NAMED_UNIT"),
+    "44 PartTwice": ("8:31", "NAMED_UNIT", "LENGTH_UNIT"),
+    "45 Count": ("8:24", ")", "CALENDAR_DATE has 3 attributes, and here are 2 values; without one: DAY_COMPONENT"),
+    "46 Missing": ("8:25", "$", "CALENDAR_DATE"),
+    "47 StarNotDerived": ("8:25", "*", "CALENDAR_DATE"),
+    "48 DerivedNotStar": ("8:12", "$", "the schema derives this value"),
+    "49 WrongKind": ("8:24", "80", "CARTESIAN_POINT"),
+    "50 Width": ("8:11", "'a key of more than thirty-two characters'", "PERSON"),
+    "51 Bounds": ("8:23", "()", "CARTESIAN_POINT"),
+    "52 NotDistinct": ("8:34", "#02", "the same as #2"),
+    "53 UnknownItem": ("8:14", ".MEGA.", "SI_UNIT"),
+    "54 SelectType": ("8:22", "80.", "MEASURE_WITH_UNIT"),
+    "55 TwoRedeclarations": ("8:5", "COUNTED", "AMOUNT is declared anew by COUNTED and MEASURED"),
+    "56 Dangling": ("8:20", "#2", "the file has no #2"),
+    "57 WrongTarget": ("8:20", "#2", "#2 is a DIRECTION"),
+    "58 OneOf": ("8:32", "PLANE_ANGLE_UNIT", "NAMED_UNIT says ONEOF of LENGTH_UNIT and PLANE_ANGLE_UNIT"),
+    "S1 Token": ("1:11", "(", None),
+    "S2 Syntax": ("1:21", "", "the text ends too early"),
+    "S3 Duplicate": ("3:8", "A", "in ENTITY A, line 3"),
+    "S4 UnknownName": ("2:15", "length", "in ENTITY A, line 2"),
+    "S5 Circular": ("3:8", "b", "in ENTITY B, line 3"),
+    "S6 LeftOut": ("2:1", "USE", None),
+    "S7 Bounds": ("2:23", "1", "in ENTITY A, line 2"),
+    "S8 RedeclaredPlace": ("4:8", "SELF\\a.z : REAL := 0.0;", "in ENTITY B, line 3"),
+}
+
+# Instances of the schema DEMO. The value at fault stands between « and », which aren't part of the text.
+VALUES = [
+    ('an element of a list in a list', '#1=CLOUD((),((1.),(2.,«3»,4.)),(TALLY(1)));'),
+    ('the first of two faults', '#1=CLOUD((),((1.),(«2»,3,4.)),(TALLY(1)));'),
+    ('the value of a typed parameter', '#1=CLOUD((),(),(DISTANCE(1.),TALLY(«1.»)));'),
+    ("a type that the select doesn't offer", '#1=CLOUD((),(),(DISTANCE(1.),«LENGTH(1.)»));'),
+    ('too many elements', '#1=CLOUD((),(),«(TALLY(1),TALLY(2),TALLY(3),TALLY(4))»);'),
+    ('equal elements by other spellings', '#1=CLOUD((),(),(DISTANCE(1.),«DISTANCE(10.E-1)»));'),
+    ('no value in a list', '#1=CLOUD((),((1.,«$»)),(TALLY(1)));'),
+    ('a star in a list', '#1=CLOUD((),((1.,«*»)),(TALLY(1)));'),
+    ('an item', '#1=MARKED($,«.BLUE.»);'),
+    ('a value in parts', '#1=(MARKED(.RED.)POINT(1.,«2»)SHAPE($));'),
+    ('a derived value in parts', '#1=(ORIGIN()POINT(«0.»,2.)SHAPE($));'),
+    ('too many values', '#1=POINT($,1.,2.,«3.»,4.);'),
+    ('a part with a value too few', "#1=(POINT(1.«)»SHAPE('a'));"),
+    ('the second reference', '#1=CLOUD((#2,«#3»),(),(TALLY(1)));\n#2=POINT($,1.,1.);'),
+    ('the third reference', '#2=POINT($,1.,1.);\n#1=CLOUD((#2,#4),(),(«#3»));\n#3=MARKED($,.RED.);\n#4=ORIGIN($,*,1.);'),
+    ('an instance behind a remark', "/* #1=POINT();; ' */ #1 /**/ = POINT($,1.,«''»);"),
+    ('signs in strings', "#1=POINT(';#1=(''\\S\\'',1.,«2»);"),
+    ('a name with zeros', '#0001=POINT($,1.,«.T.»);'),
+]
+
+# Schema texts that are refused, with the place between « and ».
+SCHEMAS = [
+    ("a letter that EXPRESS doesn't have", 'SCHEMA s; ENTITY «ü»; END_ENTITY; END_SCHEMA;'),
+    ('an open string', "SCHEMA s «'»v1; END_SCHEMA;"),
+    ('a remark in a remark', 'SCHEMA s;\n«(»* a (* b *)\nEND_SCHEMA;'),
+    ('a word that is no name', 'SCHEMA s;\n ENTITY «list»; END_ENTITY;\nEND_SCHEMA;'),
+    ('no colon', 'SCHEMA s; ENTITY a;\n x «REAL»; END_ENTITY; END_SCHEMA;'),
+    ('an attribute twice', 'SCHEMA s; ENTITY a;\n x : REAL;\n «X» : REAL; END_ENTITY; END_SCHEMA;'),
+    ('an item twice', 'SCHEMA s; TYPE t = ENUMERATION OF (a, b, «A»); END_TYPE; END_SCHEMA;'),
+    ('an unknown supertype', 'SCHEMA s; ENTITY a SUBTYPE OF («b»); END_ENTITY; END_SCHEMA;'),
+    ('a type as a supertype', 'SCHEMA s; TYPE b = REAL; END_TYPE; ENTITY a SUBTYPE OF («b»); END_ENTITY; END_SCHEMA;'),
+    ('an unknown type in a select', 'SCHEMA s; TYPE t = REAL; END_TYPE;\nTYPE u = SELECT (t, «v»); END_TYPE; END_SCHEMA;'),
+    ('a type that renames an entity', 'SCHEMA s; ENTITY a; END_ENTITY; TYPE t = «a»; END_TYPE; END_SCHEMA;'),
+    ('a circle of types', 'SCHEMA s; TYPE t = u; END_TYPE; TYPE «u» = t; END_TYPE; END_SCHEMA;'),
+    ('a type that renames a select', 'SCHEMA s; TYPE t = SELECT (a); END_TYPE; TYPE a = REAL; END_TYPE;\nTYPE u = «t»; END_TYPE; END_SCHEMA;'),
+    ('a computed bound', 'SCHEMA s; ENTITY a; x : LIST [1:«n»] OF REAL; END_ENTITY; END_SCHEMA;'),
+    ('a width of nothing', 'SCHEMA s; TYPE t = STRING(«0»); END_TYPE; END_SCHEMA;'),
+    ('the second redeclaration', 'SCHEMA s; ENTITY a; x : NUMBER; END_ENTITY; ENTITY b SUBTYPE OF (a);\n SELF\\a.x : REAL;\n «SELF\\a.y : REAL;» END_ENTITY; END_SCHEMA;'),
+    ('two schemas', 'SCHEMA s; END_SCHEMA;\n«SCHEMA» t; END_SCHEMA;'),
+    ('no schema', '«»'),
+]
+
+
+def parts(output):
+    """Of what the tool prints: the first line, the line and column, what is marked, and the line behind that."""
+    lines = output.splitlines() + [""] * 5
+    marks = re.search(r"\^+", lines[3])
+    marked = lines[2][marks.start() : marks.end()] if marks else None
+    return lines[0], ":".join(lines[1].split(":")[-2:]), marked, lines[4].strip() or None
+
+
+def unmarked(text):
+    """A text without its marks, with the line and column that they stand at, and what stands between them."""
+    front, marked, back = re.split("[«»]", text)
+    place = f"{front.count(chr(10)) + 1}:{len(front) - front.rfind(chr(10))}"
+    return front + marked + back, place, marked
+
+
+def program_line(tests, schema, path):
+    """The line of the program, and its status."""
+    done = subprocess.run([tests.program, "check", schema, path], capture_output=True, check=False)
+    return (done.stdout + done.stderr).decode().rstrip("\n"), done.returncode
+
+
+def faults(tests):
+    """Each text of docs/FAULTS.md."""
+    rows = {title.split(": ", 1)[1]: row for title, *row in texts.faults(tests.here)}
+    rows.pop("12 NotOneParameter")
+    tests.judge("the texts of docs/FAULTS.md", sorted(FAULTS), sorted(rows))
+    for title, (place, marked, note) in FAULTS.items():
+        given, line = rows[title]
+        output, error, status = tests.run(given[1:])
+        tests.judge(title, (line, place, marked, note, "", 1), (*parts(output), error, status))
+
+
+def values(tests):
+    """Values of instances."""
+    for name, instances in VALUES:
+        text, place, marked = unmarked(file_of(instances, [("PRODUCT_MODEL", "DEMO")]))
+        path = tests.make("values.step", text)
+        line, status = program_line(tests, DEMO, path)
+        output, error, found = tests.run([DEMO, path])
+        tests.judge(name, (line, place, marked, "", status), (*parts(output)[:3], error, found))
+
+
+def schemas(tests):
+    """Schema texts."""
+    for name, text in SCHEMAS:
+        text, place, marked = unmarked(text)
+        path = tests.make("refused.exp", text)
+        line = subprocess.run([tests.program, "schema", path], capture_output=True, check=False).stderr.decode()
+        output, error, status = tests.run([path])
+        tests.judge(name, (line.rstrip("\n"), place, marked, "", 1), (*parts(output)[:3], error, status))
+
+
+def kinds(tests):
+    """Files of other kinds, with what is said of them at the end."""
+    step = pathlib.Path("examples/product.step").read_bytes()
+    rows = [
+        ("gzip", gzip.compress(step), "this is packed by gzip: unpack it with gunzip"),
+        ("zip", b"PK\x03\x04" + step, "this is a zip archive: unpack it with unzip"),
+        ("a byte order mark", b"\xef\xbb\xbf" + step, "a byte order mark stands in front: tail -c +4 prints the file without it"),
+        ("UTF-16", step.decode().encode("utf-16"), "this is UTF-16: iconv -f UTF-16 -t UTF-8 makes UTF-8 of it"),
+        (
+            "UTF-16 without a mark",
+            step.decode().encode("utf-16-le"),
+            "this is UTF-16 without a mark: iconv -f UTF-16LE -t UTF-8 (or UTF-16BE) makes UTF-8 of it",
+        ),
+        ("XML", b"<?xml version='1.0'?>\n<a/>", "this is XML or HTML, and not clear text"),
+        ("a program", pathlib.Path("/bin/sh").read_bytes(), None),
+        ("a schema", pathlib.Path(SCHEMA).read_bytes(), "this is a schema text: are schema and file exchanged?"),
+    ]
+    for name, data, note in rows:
+        path = tests.make("kind", data)
+        line, _ = program_line(tests, SCHEMA, path)
+        output, error, status = tests.run([SCHEMA, path])
+        lines = output.splitlines()
+        said = lines[-1].strip() if note else None
+        tests.judge(name, (line, note, "", 1), (lines[0], said, error, status))
+
+
+def others(tests):
+    """Answers without a place, pipes, and exchanged arguments."""
+    step = "examples/product.step"
+    tests.expect("accepted", [SCHEMA, step], 0, ["accepted, instances 128, canonical bytes 4872"])
+    tests.expect("a schema that is read", [SCHEMA], 0, ["SCHEMA PRODUCT_MODEL"])
+    tests.expect("a file that isn't there", [SCHEMA, "{here}/none"], 3, ["cannot open {here}/none"])
+    tests.expect("a folder", [SCHEMA, "{here}"], 3, ["read fault", "  {here} is a folder"])
+    exchanged = ["schema refused S2 Syntax", f"{step}:1:1", "  ISO-10303-21;", "  ^^^"]
+    exchanged.append("  this is a STEP file: are schema and file exchanged?")
+    tests.expect("exchanged arguments", [step, SCHEMA], 1, exchanged)
+    output, _, status = tests.run([SCHEMA, "/dev/stdin"], pathlib.Path("examples/refused/Count.step").read_bytes())
+    tests.judge("a pipe", ("refused 45 Count in #3", "11:31", ")", 1), (*parts(output)[:3], status))
+
+
+def renaming(tests):
+    """The command that is printed where the schema's name is another one makes file and schema agree."""
+    for name, text in (("one line", "SCHEMA draft 'v';"), ("two lines", "-- draft\nSCHEMA\n  draft;")):
+        schema = tests.make("draft.exp", f"{text} END_SCHEMA;")
+        path = tests.make("made.step", file_of(""))
+        command = tests.run([schema, path])[0].splitlines()[-1]
+        subprocess.run(command, shell=True, check=True, cwd=tests.here)
+        found = program_line(tests, str(tests.here / "renamed.exp"), path)
+        tests.judge(f"renaming, {name}", ("accepted, instances 0, canonical bytes 161", 0), found)
+
+
+def changed(tests):
+    """Files that are cut, and files with a byte changed: the first line and the status are those of the program."""
+    data = pathlib.Path("examples/product-other.step").read_bytes()
+    chance = random.Random("places")
+    made = [(f"cut behind {size} bytes", data[:size]) for size in range(0, len(data), 397)]
+    for _ in range(30):
+        at, byte = chance.randrange(len(data)), chance.choice(b"#'(),;=$*.\\/!&@\x80\xfcAz0 \n\"")
+        made.append((f"byte {byte:02X} at {at}", data[:at] + bytes([byte]) + data[at + 1 :]))
+    for name, text in made:
+        path = tests.make("changed.step", text)
+        line, status = program_line(tests, SCHEMA, path)
+        output, error, found = tests.run([SCHEMA, path])
+        lines = output.splitlines()
+        has_place = len(lines) > 1 and re.fullmatch(re.escape(path) + r":\d+:\d+", lines[1]) is not None
+        tests.judge(name, (line, status == 1, "", status), (lines[0], has_place, error, found))
+
+
+def main():
+    tests = Tests("p21-where")
+    for group in (faults, values, schemas, kinds, others, renaming, changed):
+        group(tests)
+    tests.end()
+
+
+if __name__ == "__main__":
+    main()
