@@ -16,6 +16,8 @@ cp LICENSE "$tree/LICENSE"
 program=$tree/crates/p21/out/p21
 printf '#!/bin/sh\necho "stands: $*"\n' > "$program"
 chmod +x "$program"
+printf '#!/bin/sh\necho "other: $*"\n' > "$here/other"
+chmod +x "$here/other"
 touch -d '2001-01-01' "$tree/crates/p21/out/begun"
 touch "$tree/crates/p21/src/main.rt" "$tree/crates.txt"
 
@@ -66,8 +68,8 @@ expect 'a program alone' 0 'there is no man/p21.1' "$tree/tools/install" "$here/
 files 'the files of a program alone' './bin/p21
 ./share/doc/p21/LICENSE'
 
-mkdir "$tree/man" "$tree/completions"
-for part in man/p21.1 completions/p21.bash completions/_p21 completions/p21.fish tools/shared.py tools/p21-a tools/p21-b; do
+mkdir "$tree/man" "$tree/completions" "$tree/docs"
+for part in man/p21.1 docs/FAULTS.md docs/RECIPES.md docs/SCHEMAS.md completions/p21.bash completions/_p21 completions/p21.fish tools/shared.py tools/p21-a tools/p21-b; do
     echo "$part" > "$tree/$part"
 done
 expect 'each part' 0 "$here/prefix/bin/p21" "$tree/tools/install" "$here/prefix"
@@ -81,10 +83,23 @@ files 'the files of each part' './bin/p21
 ./lib/p21/p21-b
 ./lib/p21/shared.py
 ./share/bash-completion/completions/p21
+./share/doc/p21/FAULTS.md
 ./share/doc/p21/LICENSE
+./share/doc/p21/RECIPES.md
+./share/doc/p21/SCHEMAS.md
 ./share/fish/vendor_completions.d/p21.fish
 ./share/man/man1/p21.1
 ./share/zsh/site-functions/_p21'
+
+# The tools themselves, with the program that they find beside them.
+rm "$tree"/tools/p21-*
+cp tools/p21-* tools/*.py "$tree/tools/"
+ln -s "$(python3 -c 'import sys; print(sys.executable)')" "$here/path/python3"
+expect 'the tools that there are' 0 "$here/prefix/lib/p21/p21-where" "$tree/tools/install" "$here/prefix"
+expect 'a tool runs the program that is installed with it' 0 'stands: schema s' "$here/prefix/bin/p21-where" s
+expect 'a tool runs another program where it is told to' 0 'other: schema s' \
+    env P21="$here/other" "$here/prefix/bin/p21-where" s
+rm -rf "$here/prefix"
 
 rm "$program"
 expect 'no program to keep' 127 'rt of the toolchain is not in PATH' env P21_KEEP=1 "$tree/p21" faults
