@@ -1,5 +1,9 @@
 #!/usr/bin/env python3
-"""Runs each command line that README and docs show in a table with its answer, and each text of docs/FAULTS.md.
+"""Runs each command line that README and docs show with its answer, and each text of docs/FAULTS.md.
+
+A command line stands in a table beside its answer, or behind `$` above what it prints; `..` stands for lines that are
+left out. The commands of one page are run one behind the other in one shell, in a folder that has the examples, with the
+program and the tools in its path. Those of a program that isn't there are named and left out.
 
 P21 in the environment, or the first argument, names another program than ./p21. The status is 1 where an answer is
 another one.
@@ -9,6 +13,7 @@ import os
 import pathlib
 import re
 import shlex
+import shutil
 import subprocess
 import sys
 import tempfile
@@ -37,13 +42,105 @@ def answer(arguments):
     return (run.stdout + run.stderr).decode().rstrip("\n"), run.returncode
 
 
+def pages():
+    """The pages that show command lines."""
+    return [ROOT / "README.md", ROOT / "examples" / "README.md", *sorted((ROOT / "docs").glob("*.md"))]
+
+
 def shown():
     """The command lines in tables, each with its answer."""
-    for path in [ROOT / "README.md", ROOT / "examples" / "README.md", *sorted((ROOT / "docs").glob("*.md"))]:
+    for path in pages():
         for line in path.read_text().splitlines():
             row = re.fullmatch(r"\| `\./p21 ([^`]*)` \| `([^`]*)` \|", line)
             if row:
                 yield f"{path.name}: {row[1]}", shlex.split(row[1]), row[2]
+
+
+# Programs that some command lines of the pages need and not every system has.
+OTHERS = ("git", "gpg", "minisign", "iconv")
+MARK = "\x01"
+
+
+def blocks_of(page):
+    """The blocks of command lines of a page: each command with the lines that stand below it."""
+    block = []
+    for line in page.read_text().splitlines() + [""]:
+        if line.startswith("    $ "):
+            block.append([line[6:], []])
+        elif block and line.startswith("    >") and not block[-1][1]:
+            block[-1][0] += "\n" + line[6:]
+        elif block and line.startswith("    "):
+            block[-1][1].append(line[4:])
+        elif block:
+            yield block
+            block = []
+
+
+def prepared(folder):
+    """A folder with the examples, and the environment in which a page's commands are run there."""
+    path = folder / "bin"
+    path.mkdir(parents=True)
+    for tool in ROOT.glob("tools/p21-*"):
+        (path / tool.name).symlink_to(tool)
+    (path / "p21").write_text(f'#!/bin/sh\nexec {shlex.quote(PROGRAM)} "$@"\n')
+    (path / "p21").chmod(0o755)
+    here = folder / "here"
+    here.mkdir()
+    for name in ("examples", "docs", "tools"):
+        (here / name).symlink_to(ROOT / name)
+    (here / "p21").symlink_to(path / "p21")
+    (folder / "home").mkdir(mode=0o700)
+    names = {"GIT_AUTHOR_NAME": "p21", "GIT_AUTHOR_EMAIL": "p21@localhost"}
+    names |= {"GIT_COMMITTER_NAME": "p21", "GIT_COMMITTER_EMAIL": "p21@localhost"}
+    return here, {
+        **os.environ,
+        **names,
+        "HOME": str(folder / "home"),
+        "LC_ALL": "C.UTF-8",
+        "P21": PROGRAM,
+        "PYTHONPATH": str(ROOT / "tests" / "standins"),
+        "PATH": f"{path}:{os.environ['PATH']}",
+    }
+
+
+def outputs(commands, here, environment):
+    """What each of the commands prints, where one shell runs them one behind the other."""
+    between = f"mark() {{ local status=$?; printf '{MARK}'; return $status; }}\n"
+    script = between + "".join(f"{command}\nmark\n" for command in commands)
+    run = subprocess.run(
+        ["bash", "-c", script],
+        cwd=here,
+        env=environment,
+        stdin=subprocess.DEVNULL,
+        stdout=subprocess.PIPE,
+        stderr=subprocess.STDOUT,
+        check=False,
+    )
+    return run.stdout.decode("utf-8", "backslashreplace").split(MARK)
+
+
+def is_shown(wanted, found):
+    """Are the lines of an output those that a page shows?"""
+    pattern = "".join("(?:.*\n)*" if line == ".." else re.escape(line + "\n") for line in wanted)
+    return re.fullmatch(pattern, found if found.endswith("\n") or not found else found + "\n") is not None
+
+
+def sessions(folder):
+    """Each command of the pages: what it is, what it should print, what it prints, and whether that is the same."""
+    for page in pages():
+        blocks = []
+        for block in blocks_of(page):
+            missing = {name for command, _ in block for name in OTHERS if name in command.split() and not shutil.which(name)}
+            if missing:
+                print(f"{page.name}: not run, without {' '.join(missing)}: {block[0][0]}")
+            else:
+                blocks.append(block)
+        commands = [command for block in blocks for command in block]
+        if not commands:
+            continue
+        found = outputs([command for command, _ in commands], *prepared(folder / f"{page.parent.name}-{page.stem}"))
+        for (command, wanted), output in zip(commands, found + [""] * len(commands)):
+            yield f"{page.name}: {command}", "\n".join(wanted), output.rstrip("\n"), is_shown(wanted, output)
 
 
 def lines(block):
@@ -99,14 +196,23 @@ def faults(folder):
 
 def main():
     failed = count = 0
-    with tempfile.TemporaryDirectory() as folder:
-        for title, arguments, wanted in [*shown(), *faults(pathlib.Path(folder))]:
+
+    def judge(title, wanted, found, is_right):
+        """Counts an answer, and shows it where it is another one."""
+        nonlocal failed, count
+        count += 1
+        if not is_right:
+            failed += 1
+            print(f"{title}\n  wanted {wanted}\n  found  {found}")
+
+    with tempfile.TemporaryDirectory() as name:
+        folder = pathlib.Path(name)
+        for title, arguments, wanted in [*shown(), *faults(folder)]:
             found, status = answer(arguments)
             refused = wanted.startswith(("refused", "schema refused", "different", "no #"))
-            count += 1
-            if found != wanted or status != int(refused):
-                failed += 1
-                print(f"{title}\n  wanted {wanted}, status {int(refused)}\n  found  {found}, status {status}")
+            judge(title, f"{wanted}, status {int(refused)}", f"{found}, status {status}", found == wanted and status == refused)
+        for session in sessions(folder):
+            judge(*session)
     print(f"{count - failed} passed, {failed} failed")
     return int(failed > 0)
 

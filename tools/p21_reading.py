@@ -69,7 +69,10 @@ def line_of(error, status):
 def run(program, *arguments, text=None, output=subprocess.PIPE):
     """The answer of the program. A text is given to it as /dev/stdin."""
     given = {"stdin": subprocess.DEVNULL} if text is None else {"input": text}
-    done = subprocess.run([program, *arguments], stdout=output, stderr=subprocess.PIPE, check=False, **given)
+    try:
+        done = subprocess.run([program, *arguments], stdout=output, stderr=subprocess.PIPE, check=False, **given)
+    except OSError as error:
+        raise Trouble(f"cannot run {program}: {error.strerror}") from None
     return Answer(done.stdout or b"", line_of(done.stderr, done.returncode), done.returncode)
 
 
