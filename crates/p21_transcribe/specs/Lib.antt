@@ -1,3 +1,4 @@
 pub mod Appending
+pub mod Characters
 pub mod Leaf
 pub mod Runs

@@ -4,7 +4,11 @@
 
 mod digits;
 mod draft;
+mod item;
 mod name;
+mod text;
 
 pub use draft::Draft;
+pub use item::{append_item, append_logical};
 pub use name::append_name;
+pub use text::append_text;

@@ -1,0 +1,188 @@
+-- Strings whose characters stand in their canonical spellings.
+use Rattle.std.proofs.Common.{◌≡◌, ◌≢◌, ℕ, zero, suc, ◌+◌, ◌-◌, ◌%◌, ◌<◌, ◌≤◌, Bool, true, false, ◌&&◌, ◌||◌, eqb, List, [], ◌∷◌, ◌++◌, length, take, drop, get_or, refl, ap, ap₂, sym, subst, ◌∙◌, arith, append-nil, inl, inr, ◌⊎◌, length-append, length-drop}
+use Rattle.std.proofs.lemmas.Bool.Decides.{nat_tests}
+use Rattle.std.proofs.lemmas.Grind.{flat_map-append}
+use Rattle.std.proofs.lemmas.List.{length-take-le, drop-drop}
+use Rattle.std.proofs.Math.Seq.{take-add}
+use Rattle.std.specs.Char.{IsScalar}
+use Rattle.std.specs.List.{flat_map, AllByRecursion as Each}
+use Rattle.std.specs.Prelude.{if◌then◌else◌, nat_le, nat_lt}
+use lib.Utf8.{low_scalar}
+use Rattle.p21_basics.specs.Digits.{hex_digits}
+use Rattle.p21_exchange.proofs.Texts.{text_spells}
+use Rattle.p21_exchange.specs.Spelling.{character_spelling}
+use Rattle.p21_exchange.specs.Text.{IsApostropheOrBackslash, SpellsText, end_extended}
+use Rattle.p21_exchange.specs.Token.{IsFollowed, text}
+use Rattle.p21_tokens_automaton.specs.Run.{EachDoes}
+use Rattle.p21_tokens_automaton.specs.Step.{advance, inside_action, utf8_action}
+use Rattle.p21_tokens_automaton.specs.declared.mode.Action.TheVariants.{Put, Refuse, Skip}
+use Rattle.p21_tokens_automaton.specs.declared.mode.Mode.{Mode}
+use Rattle.p21_tokens_automaton.specs.declared.mode.Mode.TheVariants.{Text}
+use Rattle.p21_tokens_automaton.specs.declared.mode.TextMode.TheVariants.{Inside, Utf8Last, Utf8Second, Utf8Third}
+use Rattle.p21_tokens_automaton.specs.declared.mode.Wrong.TheVariants as wrong
+use Rattle.p21_transcribe.proofs.Splits.{rest_is}
+use Rattle.p21_transcribe.specs.Characters.{AreCharacters, EndsText, IsDoubled, IsExtendedCharacter, IsExtendedDirective}
+use Rattle.p21_transcribe.specs.Leaf.{IsCanonicalAtFront}
+use Rattle.p21_transcribe.specs.Runs.{NotFirst}
+
+pub no_characters : (bytes : List ℕ) → AreCharacters bytes 0 0
+no_characters bytes = record { characters = []; are_scalars = tt; size_is = refl; within = omega arith; bytes_are = refl }
+
+-- one character, whose spelling stands at the front
+pub one_character : (bytes : List ℕ) (count character : ℕ) → IsScalar character → count ≤ length bytes → take count bytes ≡ character_spelling character → AreCharacters bytes count 1
+one_character bytes count character scalar within e = record {
+  characters = character ∷ [];
+  are_scalars = (scalar, tt);
+  size_is = refl;
+  within = within;
+  bytes_are = e ∙ sym (append-nil (character_spelling character));
+}
+
+both : (xs ys : List ℕ) → Each IsScalar xs → Each IsScalar ys → Each IsScalar (xs ++ ys)
+both [] ys p q = q
+both (x ∷ xs) ys p q = (p.0, both xs ys p.1 q)
+
+-- characters, and others behind them
+pub more_characters : (bytes : List ℕ) (count size more many : ℕ) → AreCharacters bytes count size → AreCharacters (take (length bytes - count) (drop count bytes)) more many → AreCharacters bytes (count + more) (size + many)
+more_characters bytes count size more many a others = let b = subst (λ (x : List ℕ). AreCharacters x more many) (rest_is bytes count) others in record {
+  characters = a.characters ++ b.characters;
+  are_scalars = both a.characters b.characters a.are_scalars b.are_scalars;
+  size_is = ap₂ (λ (m n : ℕ). m + n) a.size_is b.size_is ∙ sym (length-append a.characters b.characters);
+  within = let w = a.within in let v = b.within in omega (arith, length-drop count bytes);
+  bytes_are = take-add count more bytes ∙ ap₂ (λ (x y : List ℕ). x ++ y) a.bytes_are b.bytes_are ∙ sym (flat_map-append character_spelling a.characters b.characters);
+}
+
+spelling-some : (c : ℕ) → 0 < length (character_spelling c)
+spelling-some c = at (eqb c 39 || eqb c 92) (nat_le 32 c && nat_lt c 127) (nat_lt c 0x1_0000)
+  where
+    at : (p q r : Bool) → 0 < length (if p then c ∷ c ∷ [] else if q then c ∷ [] else if r then 92 ∷ 88 ∷ 50 ∷ 92 ∷ (hex_digits 4 c ++ end_extended) else 92 ∷ 88 ∷ 52 ∷ 92 ∷ (hex_digits 8 c ++ end_extended))
+    at true q r = omega arith
+    at false true r = omega arith
+    at false false true = omega arith
+    at false false false = omega arith
+
+spellings-long : (cs : List ℕ) → length cs ≤ length (flat_map character_spelling cs)
+spellings-long [] = omega arith
+spellings-long (c ∷ cs) = omega (arith, spelling-some c, spellings-long cs, length-append (character_spelling c) (flat_map character_spelling cs))
+
+-- as many characters as bytes, at most
+pub size-within : (bytes : List ℕ) (count size : ℕ) → AreCharacters bytes count size → size ≤ count
+size-within bytes count size a = omega (arith, a.size_is, spellings-long a.characters, ap (λ (x : List ℕ). length x) a.bytes_are, length-take-le count bytes a.within)
+
+-- ---- characters of one byte
+
+itself : (b : ℕ) → 32 ≤ b → b < 127 → b ≢ 39 → b ≢ 92 → character_spelling b ≡ b ∷ []
+itself b low high quote backslash = grind (arith, nat_tests)
+
+none-by_utf8 : (b character : ℕ) → utf8_action b ≡ Put (Text Inside) character → ⊥
+none-by_utf8 b character =
+    at (nat_le 0xC2 b && nat_le b 0xDF) (eqb b 0xE0) (eqb b 0xED) (nat_le 0xE1 b && nat_le b 0xEF) (eqb b 0xF0) (eqb b 0xF4) (nat_le 0xF1 b && nat_le b 0xF3) (Text (Utf8Last (b % 32))) (Text (Utf8Second 0xA0 0xBF 0)) (Text (Utf8Second 0x80 0x9F 13))
+    (Text (Utf8Second 0x80 0xBF (b % 16))) (Text (Utf8Third 0x90 0xBF 0)) (Text (Utf8Third 0x80 0x8F 4)) (Text (Utf8Third 0x80 0xBF (b % 8)))
+  where
+    at : (p q r s t u v : Bool) (a b c d f g h : Mode) → (if p then Skip a else if q then Skip b else if r then Skip c else if s then Skip d else if t then Skip f else if u then Skip g else if v then Skip h else Refuse wrong.Utf8) ≡ Put (Text Inside) character → ⊥
+    at true q r s t u v a b c d f g h e = cc
+    at false true r s t u v a b c d f g h e = cc
+    at false false true s t u v a b c d f g h e = cc
+    at false false false true t u v a b c d f g h e = cc
+    at false false false false true u v a b c d f g h e = cc
+    at false false false false false true v a b c d f g h e = cc
+    at false false false false false false true a b c d f g h e = cc
+    at false false false false false false false a b c d f g h e = cc
+
+plain-byte : (b : ℕ) → advance (Text Inside) b ≡ Put (Text Inside) b → (character_spelling b ≡ b ∷ []) × IsScalar b
+plain-byte b = quote (eqb b 39) (eqb b 92) (nat_lt b 32 || eqb b 127) (nat_lt b 127) refl refl refl refl
+  where
+    quote : (p q r s : Bool) → eqb b 39 ≡ p → eqb b 92 ≡ q → (nat_lt b 32 || eqb b 127) ≡ r → nat_lt b 127 ≡ s → inside_action b ≡ Put (Text Inside) b → (character_spelling b ≡ b ∷ []) × IsScalar b
+    quote true q r s e f g h k = let none = rw e at k in cc
+    quote false true r s e f g h k = let none = rw (e, f) at k in cc
+    quote false false true s e f g h k = let none = rw (e, f, g) at k in cc
+    quote false false false true e f g h k =
+        let low : 32 ≤ b = grind (arith, nat_tests) in
+        let high : b < 127 = grind (arith, nat_tests) in
+        (itself b low high (grind (arith, nat_tests)) (grind (arith, nat_tests)), low_scalar b (omega arith))
+    quote false false false false e f g h k = absurd (none-by_utf8 b b (rw (e, f, g, h) at k))
+
+pub plain-characters : (bytes : List ℕ) (count : ℕ) → EachDoes (Text Inside) bytes count (λ byte. Put (Text Inside) byte) → AreCharacters bytes count count
+plain-characters bytes zero h = no_characters bytes
+plain-characters [] (suc count) h = absurd (let w = h.within in omega arith)
+plain-characters (b ∷ bytes) (suc count) h =
+    let rest = plain-characters bytes count (record { within = let w = h.within in omega arith; each = λ k l. h.each (suc k) (omega arith) }) in
+    let first = plain-byte b (h.each 0 (omega arith)) in
+    record {
+      characters = b ∷ rest.characters;
+      are_scalars = (first.1, rest.are_scalars);
+      size_is = ap suc rest.size_is;
+      within = let w = h.within in omega arith;
+      bytes_are = ap₂ (λ (x y : List ℕ). x ++ y) (sym first.0) rest.bytes_are;
+    }
+
+-- ---- characters of more bytes
+
+quoted-scalar : (byte : ℕ) → IsApostropheOrBackslash byte → IsScalar byte
+quoted-scalar byte (inl e) = low_scalar byte (omega (arith, e))
+quoted-scalar byte (inr e) = low_scalar byte (omega (arith, e))
+
+quoted-spelling : (byte : ℕ) → IsApostropheOrBackslash byte → character_spelling byte ≡ byte ∷ byte ∷ []
+quoted-spelling byte (inl e) = subst (λ (b : ℕ). character_spelling b ≡ b ∷ b ∷ []) (sym e) refl
+quoted-spelling byte (inr e) = subst (λ (b : ℕ). character_spelling b ≡ b ∷ b ∷ []) (sym e) refl
+
+pub doubled : (bytes : List ℕ) → IsDoubled bytes → AreCharacters bytes 2 1
+doubled bytes h =
+    one_character bytes 2 h.byte (quoted-scalar h.byte h.is) (let l = ap (λ (x : List ℕ). length x) h.bytes_are in omega arith) (ap (λ (x : List ℕ). take 2 x) h.bytes_are ∙ sym (quoted-spelling h.byte h.is))
+
+-- the first two bytes are the same
+pub doubled-front : (bytes : List ℕ) → 2 ≤ length bytes → get_or bytes 0 0 ≡ get_or bytes 1 0 → IsApostropheOrBackslash (get_or bytes 0 0) → IsDoubled bytes
+doubled-front [] room e h = absurd (omega arith)
+doubled-front (x ∷ []) room e h = absurd (omega arith)
+doubled-front (x ∷ y ∷ bytes) room e h = record { byte = x; rest = bytes; bytes_are = ap (λ (b : ℕ). x ∷ b ∷ bytes) (sym e); is = h }
+
+-- the parts of a directive
+pub directive-parts : (bytes digits : List ℕ) (code : ℕ) → 12 ≤ length bytes → take 4 bytes ≡ 92 ∷ 88 ∷ 50 ∷ 92 ∷ [] → digits ≡ take 4 (drop 4 bytes) → take 4 (drop 4 (drop 4 bytes)) ≡ end_extended → digits ≡ hex_digits 4 code → IsExtendedDirective bytes code
+directive-parts bytes digits code room start middle end value = record {
+  within = room;
+  bytes_are = take-add 4 8 bytes ∙ ap₂ (λ (x y : List ℕ). x ++ y) start (take-add 4 4 (drop 4 bytes) ∙ ap₂ (λ (x y : List ℕ). x ++ y) (sym middle ∙ value) end);
+}
+
+-- a character from 7F on or below 20 has a directive of its own
+directive_of : (character : ℕ) → (character < 32) ⊎ (127 ≤ character) → character < 0x1_0000 → character_spelling character ≡ 92 ∷ 88 ∷ 50 ∷ 92 ∷ (hex_digits 4 character ++ end_extended)
+directive_of character (inl low) small = search (nat_tests, arith)
+directive_of character (inr high) small = search (nat_tests, arith)
+
+pub extended : (bytes : List ℕ) (character : ℕ) → IsExtendedDirective bytes character → IsExtendedCharacter character → AreCharacters bytes 12 1
+extended bytes character d h = one_character bytes 12 character h.scalar d.within (d.bytes_are ∙ sym (directive_of character h.no_graphic h.small))
+
+-- ---- the whole string
+
+followed-text : (characters spelling rest : List ℕ) → NotFirst 39 rest → IsFollowed (text characters) spelling rest
+followed-text characters spelling [] h = tt
+followed-text characters spelling (byte ∷ rest) h = h
+
+module _ (bytes inside : List ℕ) (count size : ℕ) (is : bytes ≡ 39 ∷ inside) (a : AreCharacters inside count size) (ends : EndsText (take (length inside - count) (drop count inside))) where
+  end : EndsText (drop count inside)
+  end = subst EndsText (rest_is inside count) ends
+
+  closed : take (count + 1) inside ≡ flat_map character_spelling a.characters ++ 39 ∷ []
+  closed = take-add count 1 inside ∙ ap₂ (λ (x y : List ℕ). x ++ y) a.bytes_are (ap (λ (x : List ℕ). take 1 x) end.bytes_are)
+
+  behind : drop (count + 1) inside ≡ end.behind
+  behind = sym (drop-drop 1 count inside) ∙ ap (λ (x : List ℕ). drop 1 x) end.bytes_are
+
+  whole : suc (count + 1) ≡ count + 2
+  whole = omega arith
+
+  own : IsCanonicalAtFront (39 ∷ inside) (suc (count + 1)) (text a.characters)
+  own = record {
+    stands = record {
+      within = let w = a.within in let l = ap (λ (x : List ℕ). length x) end.bytes_are in omega (arith, length-drop count inside);
+      spells = subst (λ (x : List ℕ). SpellsText (39 ∷ x) a.characters) (sym closed) (text_spells a.characters a.are_scalars);
+      followed = followed-text a.characters (take (suc (count + 1)) (39 ∷ inside)) (drop (count + 1) inside) (subst (NotFirst 39) (sym behind) end.no_other);
+    };
+    own = ap (λ (x : List ℕ). 39 ∷ x) closed;
+  }
+
+  pub text-at_front : (characters : List ℕ) × (size ≡ length characters) × IsCanonicalAtFront bytes (count + 2) (text characters)
+  text-at_front = (
+    a.characters,
+    a.size_is,
+    subst (λ (x : List ℕ). IsCanonicalAtFront x (count + 2) (text a.characters)) (sym is) (subst (λ (k : ℕ). IsCanonicalAtFront (39 ∷ inside) k (text a.characters)) whole own),
+  )

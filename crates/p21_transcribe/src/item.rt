@@ -1,0 +1,84 @@
+//! Enumeration items and truth values (ISO 10303-21, clause 6: tokens, enumeration).
+ghost use Rattle.std.specs.Prelude.{◌≡◌, ℕ, ◌+◌, List, length, Contains, IfNone, IfSome, IsTrue, [], ◌∷◌, if◌then◌else◌};
+ghost use Rattle.p21_exchange.specs.Keyword.{IsUpper};
+ghost use Rattle.p21_exchange.specs.Token.{item};
+ghost use Rattle.p21_files.specs.Fits.{boolean_items, logical_items};
+ghost use Rattle.p21_transcribe.specs.Leaf.{IsCanonicalAtFront, Transcribes};
+
+use crate::digits::behind;
+use crate::draft::Draft;
+use p21_tokens_automaton::keyword_bytes;
+use p21_values::Word;
+
+/// Appends the item at the front, if its word is one of these: how many bytes it has.
+pub fn append_item(bytes: &[u8], words: &[Word], draft: &mut Draft) -> Option<usize>
+    ensures some { IfSome result (λ count. (word : List ℕ) × Contains words.now word × Transcribes bytes.now count (item word) draft.old draft.new) }
+    ensures none { IfNone result (draft.new ≡ draft.old) }
+{
+    let word = front_item(bytes)?;
+    let count = word.len() + 2;
+    if !has_word(words, word) || !draft.append_front(bytes, count) {
+        return None;
+    }
+    Some(count)
+}
+
+/// Appends the truth value at the front, `.T.` or `.F.`, or `.U.` where that is allowed: how many bytes it has.
+pub fn append_logical(bytes: &[u8], unknown: bool, draft: &mut Draft) -> Option<usize>
+    ensures some { IfSome result (λ count. (word : List ℕ) × Contains (if unknown then logical_items else boolean_items) word × Transcribes bytes.now count (item word) draft.old draft.new) }
+    ensures none { IfNone result (draft.new ≡ draft.old) }
+{
+    let [b'.', letter, b'.', ..] = bytes else {
+        return None;
+    };
+    if !is_truth_value(*letter, unknown) || !draft.append_front(bytes, 3) {
+        return None;
+    }
+    Some(3)
+}
+
+#[inline(always)]
+fn is_truth_value(letter: u8, unknown: bool) -> bool
+    ensures word { IsTrue result → Contains (if unknown then logical_items else boolean_items) (letter ∷ []) }
+    ensures upper { IsTrue result → IsUpper letter }
+{
+    match letter {
+        b'T' | b'F' => true,
+        b'U' => unknown,
+        _ => false,
+    }
+}
+
+/// The word of the item at the front.
+#[inline(always)]
+fn front_item(bytes: &[u8]) -> Option<&[u8]>
+    ensures { IfSome result (λ word. IsCanonicalAtFront bytes.now (length word.now + 2) (item word.now)) }
+{
+    let inside = behind(b'.', bytes)?;
+    let count = keyword_bytes(inside);
+    if count == 0 || !is_upper(inside[0]) {
+        return None;
+    }
+    let _closed = behind(b'.', &inside[count..])?;
+    Some(&inside[..count])
+}
+
+/// An upper-case letter or `_`.
+#[inline(always)]
+fn is_upper(byte: u8) -> bool
+    ensures { IsTrue result → IsUpper byte }
+{
+    byte.is_ascii_uppercase() || byte == b'_'
+}
+
+/// Is this one of the words?
+fn has_word(words: &[Word], wanted: &[u8]) -> bool
+    ensures { IsTrue result → Contains words.now wanted.now }
+{
+    for word in words {
+        if word.bytes() == wanted {
+            return true;
+        }
+    }
+    false
+}
