@@ -4,17 +4,15 @@
 #
 #   tests/all.sh [PART..]     PART is the path of a script below tests, as hostile/devices.sh; all parts without one
 #
-# The environment variable P21 names the program; without it, it is ./p21, which is built first where it is missing or old.
+# The environment variable P21 names the program; without it, it is the one that ./p21 builds where it is missing or old.
 # Two parts want `rt`: hostile/calls.py proves and builds a program over the libraries, and fail_alloc.sh tries tests.
 
 root=$(cd "$(dirname -- "$(readlink -f -- "$0")")/.." && pwd) || exit
-P21=$(readlink -f -- "${P21:-$root/p21}")
+"${P21:-$root/p21}" --version > /dev/null || exit
+P21=$(readlink -f -- "${P21:-$root/crates/p21/out/p21}")
 export P21
 export PYTHONDONTWRITEBYTECODE=1
 cd "$root/tests" || exit
-"$P21" --version > /dev/null || exit
-# The scripts run the program thousands of times: the script ./p21 would look for newer sources each time.
-[ "$P21" != "$root/p21" ] || P21=$root/crates/p21/out/p21
 log=$(mktemp) || exit
 trap 'rm -f "$log"' EXIT
 failed=0
@@ -40,7 +38,7 @@ if [ "$#" -eq 0 ]; then
         [ ! -e "$tools" ] || set -- "$@" "$tools"
     done
     set -- "$@" hostile/devices.sh hostile/changing.py hostile/transfers.py hostile/large.py hostile/stack.py \
-        hostile/allocations.py hostile/calls.py fail_alloc.sh fuzz.py
+        hostile/memory.py hostile/allocations.py hostile/calls.py fail_alloc.sh fuzz.py
 fi
 for part in "$@"; do
     case $part in

@@ -1,10 +1,13 @@
 #!/usr/bin/env python3
 """Runs each command with its allocations refused: each one alone, each with all behind it, and some by chance.
 
-A refused run ends with status 3, `out of memory` and no byte of output. The environment variable P21 names the program.
+A refused run ends with status 3, `out of memory` and no byte of output; where one allocation alone is refused, the answer
+may be that of a run with none refused, and those runs are counted. Arguments name the parts that are run, all without any.
+The environment variable P21 names the program.
 """
 
 import random
+import sys
 
 from cases import PARAMETERS, file_of, write_all
 from rigged import OUT_OF_MEMORY, Rigged, Tally
@@ -90,8 +93,9 @@ def refused_in_turn(rigged, tally, arguments):
     return unseen
 
 
-def in_turn(rigged, tally):
-    for part, runs in PARTS.items():
+def in_turn(rigged, tally, parts):
+    for part in parts or PARTS:
+        runs = PARTS[part]
         unseen = sum(refused_in_turn(rigged, tally, arguments) for arguments in runs)
         tally.part(f"{part}, each allocation refused", f", {unseen} as if nothing had been refused")
 
@@ -133,9 +137,10 @@ def main():
         write_all(rigged)
         rigged.write("many", MANY)
         rigged.write("many.rising", MANY_RISING)
-        in_turn(rigged, tally)
-        by_chance(rigged, tally, count=4000, seed=3)
-        behind_a_write(rigged, tally)
+        in_turn(rigged, tally, sys.argv[1:])
+        if not sys.argv[1:]:
+            by_chance(rigged, tally, count=4000, seed=3)
+            behind_a_write(rigged, tally)
     tally.end()
 
 

@@ -4,8 +4,8 @@
 # another user and a small disk want root. The environment variable P21 names the program.
 
 root=$(cd "$(dirname -- "$(readlink -f -- "$0")")/../.." && pwd) || exit
-program=$(readlink -f -- "${P21:-$root/p21}")
-"$program" --version > /dev/null || exit
+"${P21:-$root/p21}" --version > /dev/null || exit
+program=$(readlink -f -- "${P21:-$root/crates/p21/out/p21}")
 here=$(mktemp -d) || exit
 trap 'umount "$here/disk" 2> /dev/null; rm -rf "$here"' EXIT
 cd "$here" || exit
