@@ -28,7 +28,7 @@ run() {
         passed=FAILED
         failed=1
     fi
-    echo "$part: $passed, $(($(date +%s) - begun)) s: $(tail -n 1 "$log")"
+    echo "$part: $passed, $(($(date +%s) - begun)) s: $(tail -n 1 "$log" | cut -c 1-120)"
     [ "$passed" = passed ] || cat "$log"
 }
 

@@ -205,8 +205,8 @@ def run(given, program, cases, plain):
             break
     taken = time.monotonic() - start
     done = sum(counts.values())
-    print(f"{done} cases, {differ} different, {done / max(taken, 0.001):.0f} a second; seed {given.seed}")
     print(", ".join(f"{name} {count}" for name, count in sorted(counts.items(), key=lambda x: (len(x[0]), x[0]))))
+    print(f"{done} cases, {differ} different, {done / max(taken, 0.001):.0f} a second; seed {given.seed}")
     return differ
 
 

@@ -15,7 +15,7 @@ from rigged import OUT_OF_MEMORY, Rigged, Tally
 FILES_WITH_A_NAME = {"point": "2", "sizes": "1", "select": "1", "converted": "10", "sections": "2", "late": "9", "long": "2"}
 
 TEXTS = [["param", name] for name in PARAMETERS]
-SCHEMAS = [["schema", "demo.exp"], ["schema", "ladder.exp"]]
+SCHEMAS = [["schema", "demo.exp"], ["schema", "long.exp"], ["schema", "ladder.exp"]]
 ONE_FILE = [
     [command, "demo.exp", *rest]
     for file, name in FILES_WITH_A_NAME.items()

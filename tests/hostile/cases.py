@@ -80,9 +80,21 @@ LONG = file_of(
 CALLED = file_of("#9=CLOUD((#3,#2),((2.,1.),()),(TALLY(1)));\n#3=POINT('a',1.,1.);\n#2=POINT($,1.,1.);\n")
 CALLED_CANONICAL = file_of("#2=POINT($,1.,1.);\n#3=POINT('a',1.,1.);\n#9=CLOUD((#2,#3),((),(1.,2.)),(TALLY(1)));\n")
 
+# A schema whose names are longer than what lies in place, with a redeclaration, a select and a list of subtypes.
+LONG_NAMES = """SCHEMA a_schema_with_a_name_of_many_letters;
+TYPE a_measure_with_a_name_of_many_letters = REAL; END_TYPE;
+TYPE a_choice_with_a_name_of_many_letters = SELECT (a_measure_with_a_name_of_many_letters, root); END_TYPE;
+ENTITY root ABSTRACT SUPERTYPE OF (ONEOF (an_entity_with_a_name_of_many_letters, other)); kept : NUMBER; END_ENTITY;
+ENTITY an_entity_with_a_name_of_many_letters SUBTYPE OF (root); SELF\\root.kept : REAL;
+an_attribute_with_a_name_of_many_letters : LIST [0:?] OF a_choice_with_a_name_of_many_letters; END_ENTITY;
+ENTITY other SUBTYPE OF (root); END_ENTITY;
+END_SCHEMA;
+"""
+
 # Each file by its name.
 FILES = {
     "demo.exp": DEMO,
+    "long.exp": LONG_NAMES,
     "ladder.exp": ladder(),
     "point": file_of("#2 = POINT($, 1.0, 10.E-1);\n"),
     "sizes": file_of("#1=CLOUD((),((2.,1.),(),(1.0,2.)),(TALLY(1)));\n"),
