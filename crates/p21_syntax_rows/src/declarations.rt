@@ -1,126 +1,60 @@
 use p21_express_lexemes::SyntaxFault;
-use p21_express_syntax::{
-    Aggregate, AttributeName, Body, Declarations, SimpleType, read_declarations,
-};
+use p21_express_syntax::read_declarations;
 use std::alloc::Global;
-use std::process::Abort;
-use std::test::Fail;
 
 mod cuts;
 mod limits;
 mod listing;
 mod refusals;
 
-const DEMO: &str = "SCHEMA demo;
-TYPE distance = REAL; END_TYPE;
-TYPE tally = INTEGER; END_TYPE;
-TYPE colour = ENUMERATION OF (red, green); END_TYPE;
-TYPE measure = SELECT (distance, tally); END_TYPE;
-TYPE item = SELECT (measure, point); END_TYPE;
-ENTITY shape ABSTRACT SUPERTYPE; label : OPTIONAL STRING; END_ENTITY;
-ENTITY point SUBTYPE OF (shape); x, y : distance; END_ENTITY;
-ENTITY marked SUBTYPE OF (shape); mark : colour; END_ENTITY;
-ENTITY origin SUBTYPE OF (point);
-DERIVE SELF\\point.x : distance := 0.0; END_ENTITY;
-ENTITY cloud; members : SET OF point; sizes : BAG OF BAG OF REAL;
-values : LIST [1:3] OF UNIQUE item; END_ENTITY;
-END_SCHEMA;
-";
-
-#[test]
-fn reads_the_demo(rt: HostRuntime) -> Result<(), Fail> {
-    let schema = read_declarations(rt.alloc(), DEMO.as_bytes())?;
-    assert_eq!(rt; schema.name.bytes(), b"DEMO".as_slice());
-    assert_eq!(rt; schema.types.len(), 5);
-    assert_eq!(rt; schema.entities.len(), 5);
-    assert!(rt;
-        matches!(&schema.types.get(2).expect(&rt, "a declaration").body, Body::Enumeration(items) if items.len() == 2)
-    );
-    assert!(rt;
-        matches!(&schema.types.get(4).expect(&rt, "a declaration").body, Body::Select(names) if names.len() == 2)
-    );
-    let shape = schema.entities.get(0).expect(&rt, "an entity");
-    assert!(rt; shape.constraint.is_abstract);
-    assert!(rt; shape.constraint.one_of.is_none());
-    assert!(rt; shape.explicit.get(0).expect(&rt, "attributes").optional);
-    let point = schema.entities.get(1).expect(&rt, "an entity");
-    assert_eq!(rt;
-        point.supertypes.get(0).expect(&rt, "a supertype").bytes(),
-        b"SHAPE".as_slice()
-    );
-    assert_eq!(rt;
-        point.explicit.get(0).expect(&rt, "attributes").names.len(),
-        2
-    );
-    assert!(rt;
-        matches!(point.explicit.get(0).expect(&rt, "attributes").names.get(0).expect(&rt, "a name"), AttributeName::Own(name) if name.bytes() == b"X".as_slice())
-    );
-    let origin = schema.entities.get(3).expect(&rt, "an entity");
-    assert!(rt;
-        matches!(
-            origin.derived.get(0).expect(&rt, "an attribute"),
-            AttributeName::Redeclared { .. }
-        )
-    );
-    let cloud = schema.entities.get(4).expect(&rt, "an entity");
-    let values = &cloud.explicit.get(2).expect(&rt, "attributes").data_type;
-    assert!(rt;
-        matches!(values.aggregates.get(0).expect(&rt, "an aggregate"), Aggregate::List { range, unique: true } if range.low == 1 && range.high == Some(3))
-    );
-    assert!(rt;
-        matches!(&values.element, SimpleType::Named(name) if name.bytes() == b"ITEM".as_slice())
-    );
-    Ok(())
+/// What a text is refused with: none where it is read.
+fn refusal_of(alloc: Global, text: &[u8]) -> Option<SyntaxFault> {
+    read_declarations(alloc, text).err()
 }
 
-#[test]
-fn keeps_a_list_of_one_of(rt: HostRuntime) -> Result<(), Fail> {
-    let alone = read(
-        rt.alloc(),
-        "ENTITY e SUPERTYPE OF (ONEOF (a, b)); END_ENTITY;",
-    )?;
-    assert!(rt;
-        matches!(&alone.entities.get(0).expect(&rt, "an entity").constraint.one_of, Some(names) if names.len() == 2)
-    );
-    let others: [&str; 4] = [
-        "ENTITY e SUPERTYPE OF (ONEOF (a, b) ANDOR c); END_ENTITY;",
-        "ENTITY e SUPERTYPE OF (ONEOF (a, real)); END_ENTITY;",
-        "ENTITY e SUPERTYPE OF (ONEOF (a, ONEOF (b, c))); END_ENTITY;",
-        "ENTITY e SUPERTYPE OF (); END_ENTITY;",
-    ];
-    for text in others {
-        let other = read(rt.alloc(), text)?;
-        assert!(rt;
-            other
-                .entities
-                .get(0)
-                .expect(&rt, "an entity")
-                .constraint
-                .one_of
-                .is_none(),
-            "{text}"
-        );
-    }
-    Ok(())
-}
-
-/// What stands between `SCHEMA s;` and `END_SCHEMA;`.
-fn read(alloc: Global, declarations: &str) -> Result<Declarations, SyntaxFault> {
-    let text = format!(in alloc; "SCHEMA s; {declarations} END_SCHEMA;")?;
-    read_declarations(alloc, text.as_bytes())
-}
-
-fn expect_fault(
-    rt: &impl Abort,
+/// A text between two others, so many times over.
+fn repeated(
     alloc: Global,
-    text: &str,
-    fault: Option<SyntaxFault>,
-) -> Result<(), Fail> {
-    assert_eq!(rt; read(alloc, text).err(), fault, "{text}");
-    Ok(())
+    front: &str,
+    part: &str,
+    count: usize,
+    rest: &str,
+) -> Result<Vec<u8>, SyntaxFault> {
+    let mut text = Vec::from_slice(alloc, front.as_bytes())?;
+    for _time in 0..count {
+        text.extend_from_slice(part.as_bytes())?;
+    }
+    text.extend_from_slice(rest.as_bytes())?;
+    Ok(text)
 }
 
-const ANSWERS: &[(&str, Option<SyntaxFault>)] = &[
+/// A schema of these declarations.
+fn schema_of(alloc: Global, declarations: &str) -> Result<Vec<u8>, SyntaxFault> {
+    repeated(alloc, "SCHEMA s; ", declarations, 1, " END_SCHEMA;")
+}
+
+/// What a schema of these declarations is refused with: none where it is read.
+fn refusal(alloc: Global, declarations: &str) -> Option<SyntaxFault> {
+    match schema_of(alloc, declarations) {
+        Ok(text) => refusal_of(alloc, &text),
+        Err(fault) => Some(fault),
+    }
+}
+
+/// Texts, with the refusal of each: none where it is read.
+type Answers = &'static [(&'static str, Option<SyntaxFault>)];
+
+/// The first declarations that are answered otherwise.
+fn first_wrong(alloc: Global, rows: Answers) -> &'static str {
+    for (text, fault) in rows {
+        if refusal(alloc, text) != *fault {
+            return text;
+        }
+    }
+    "none"
+}
+
+const ANSWERS: Answers = &[
     ("(* a (* b *) c *)", None),
     ("(* open", Some(SyntaxFault::Token)),
     ("(*(*)*)*)", None),
@@ -287,14 +221,11 @@ const ANSWERS: &[(&str, Option<SyntaxFault>)] = &[
 ];
 
 #[test]
-fn answers_in_the_order_of_the_text(rt: HostRuntime) -> Result<(), Fail> {
-    for (text, fault) in ANSWERS {
-        expect_fault(&rt, rt.alloc(), *text, *fault)?;
-    }
-    Ok(())
+fn answers_in_the_order_of_the_text(rt: HostRuntime) {
+    assert_eq!(rt; first_wrong(rt.alloc(), ANSWERS), "none");
 }
 
-const WHOLE: &[(&str, Option<SyntaxFault>)] = &[
+const WHOLE: Answers = &[
     ("SCHEMA s 'version'; END_SCHEMA;", None),
     (
         "SCHEMA s \"00000041\"; END_SCHEMA;",
@@ -308,86 +239,17 @@ const WHOLE: &[(&str, Option<SyntaxFault>)] = &[
     ("", Some(SyntaxFault::Syntax)),
 ];
 
-#[test]
-fn reads_whole_texts(rt: HostRuntime) -> Result<(), Fail> {
-    for (text, fault) in WHOLE {
-        assert_eq!(rt;
-            read_declarations(rt.alloc(), text.as_bytes()).err(),
-            *fault,
-            "{text}"
-        );
+/// The first whole text that is answered otherwise.
+fn first_wrong_whole(alloc: Global, rows: Answers) -> &'static str {
+    for (text, fault) in rows {
+        if refusal_of(alloc, text.as_bytes()) != *fault {
+            return text;
+        }
     }
-    Ok(())
+    "none"
 }
 
 #[test]
-fn reads_nested_functions_and_remarks(rt: HostRuntime) -> Result<(), Fail> {
-    let text =
-        "(* a (* b *) c *) SCHEMA t 'v1'; FUNCTION f : REAL; FUNCTION g : REAL; END_FUNCTION; END_FUNCTION; END_SCHEMA; -- end";
-    let schema = read_declarations(rt.alloc(), text.as_bytes())?;
-    assert_eq!(rt; schema.name.bytes(), b"T".as_slice());
-    assert_eq!(rt; schema.entities.len(), 0);
-    assert_eq!(rt; schema.types.len(), 0);
-    Ok(())
-}
-
-#[test]
-fn refuses_the_demo_cut_short(rt: HostRuntime) -> Result<(), Fail> {
-    let bytes = DEMO.as_bytes();
-    for end in 0..bytes.len() - 1 {
-        let (front, _rest) = bytes.split_at(end);
-        let fault = read_declarations(rt.alloc(), front).err();
-        assert_eq!(rt; fault, Some(SyntaxFault::Syntax), "{end}");
-    }
-    Ok(())
-}
-
-#[test]
-fn nests_aggregates_as_deep_as_may_be(rt: HostRuntime) -> Result<(), Fail> {
-    let mut lists = String::new(rt.alloc());
-    for _count in 0..32 {
-        lists.push_str("LIST OF ")?;
-    }
-    let deep = format!(in rt.alloc(); "TYPE t = {lists}REAL; END_TYPE;")?;
-    assert_eq!(rt; read(rt.alloc(), deep.as_str())?.types.len(), 1);
-    let deeper = format!(in rt.alloc(); "TYPE t = {lists}BAG [x")?;
-    assert_eq!(rt;
-        read(rt.alloc(), deeper.as_str()).err(),
-        Some(SyntaxFault::TooLarge)
-    );
-    Ok(())
-}
-
-#[test]
-fn counts_entities_and_types(rt: HostRuntime) -> Result<(), Fail> {
-    let mut most = String::new(rt.alloc());
-    for _count in 0..32767 {
-        most.push_str("ENTITY e; END_ENTITY; TYPE t = REAL; END_TYPE; ")?;
-    }
-    most.push_str("ENTITY e; END_ENTITY; RULE r; END_RULE; ")?;
-    let schema = read(rt.alloc(), most.as_str())?;
-    assert_eq!(rt; schema.entities.len(), 32768);
-    assert_eq!(rt; schema.types.len(), 32767);
-    most.push_str("TYPE ;")?;
-    assert_eq!(rt;
-        read(rt.alloc(), most.as_str()).err(),
-        Some(SyntaxFault::TooLarge)
-    );
-    Ok(())
-}
-
-#[test]
-fn refuses_texts_over_the_limit(rt: HostRuntime) -> Result<(), Fail> {
-    let mut text = Vec::new(rt.alloc());
-    text.extend_from_slice(b"SCHEMA s; END_SCHEMA;")?;
-    for _count in text.len()..16777216 {
-        text.push(b' ')?;
-    }
-    assert!(rt; read_declarations(rt.alloc(), text.as_slice()).is_ok());
-    text.push(b'\'')?;
-    assert_eq!(rt;
-        read_declarations(rt.alloc(), text.as_slice()).err(),
-        Some(SyntaxFault::TooLarge)
-    );
-    Ok(())
+fn reads_whole_texts(rt: HostRuntime) {
+    assert_eq!(rt; first_wrong_whole(rt.alloc(), WHOLE), "none");
 }

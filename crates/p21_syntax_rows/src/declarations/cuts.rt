@@ -1,9 +1,11 @@
+//! Texts that are cut short.
+use super::listing::DEMO_TEXT;
+use super::refusal_of;
 use p21_express_lexemes::SyntaxFault;
-use p21_express_syntax::read_declarations;
 use std::alloc::Global;
-use std::test::Fail;
 
-/// A text, line by line, and under each of its bytes `!` where a string or a remark is open behind it.
+/// A text, line by line, and under each of its bytes `!` where a string or a remark is open behind it, `=` where the text is
+/// whole there.
 const LINES: &[(&str, &str)] = &[
     (
         "SCHEMA s 'it''s' (* of (* two *) *);\n",
@@ -15,37 +17,60 @@ const LINES: &[(&str, &str)] = &[
         "....................!!!.....!!!...",
     ),
     ("END_ENTITY; (*) *)\n", ".............!!!!.."),
-    ("END_SCHEMA;", "..........."),
+    ("END_SCHEMA;", "..........="),
 ];
 
-/// The whole text, and its marks.
-fn text_and_marks(alloc: Global) -> Result<(Vec<u8>, Vec<u8>), Fail> {
-    let mut text = Vec::new(alloc);
-    let mut marks = Vec::new(alloc);
-    for (line, marked) in LINES {
-        text.extend_from_slice(line.as_bytes())?;
-        marks.extend_from_slice(marked.as_bytes())?;
+/// What a text that ends there is refused with.
+fn fault_under(mark: u8) -> Option<SyntaxFault> {
+    match mark {
+        b'!' => Some(SyntaxFault::Token),
+        b'.' => Some(SyntaxFault::Syntax),
+        _ => None,
     }
-    Ok((text, marks))
+}
+
+/// At which byte of a line a text is answered otherwise that ends there. The line is put behind `front`.
+fn first_wrong_end(alloc: Global, front: &mut Vec<u8>, line: &[u8], marks: &[u8]) -> Option<usize> {
+    for (place, (byte, mark)) in line.iter().zip(marks.iter()).enumerate() {
+        if front.push(*byte).is_err() || refusal_of(alloc, front) != fault_under(*mark) {
+            return Some(place);
+        }
+    }
+    if line.len() == marks.len() {
+        None
+    } else {
+        Some(line.len())
+    }
+}
+
+/// The line and the byte at which a text is answered otherwise that ends there.
+fn first_wrong(alloc: Global) -> Option<(&'static str, usize)> {
+    let mut front = Vec::new(alloc);
+    for (line, marks) in LINES {
+        if let Some(place) = first_wrong_end(alloc, &mut front, line.as_bytes(), marks.as_bytes()) {
+            return Some((line, place));
+        }
+    }
+    None
 }
 
 #[test]
-fn refuses_a_text_cut_short(rt: HostRuntime) -> Result<(), Fail> {
-    let (text, marks) = text_and_marks(rt.alloc())?;
-    assert_eq!(rt; marks.len(), text.len());
-    assert!(rt; read_declarations(rt.alloc(), text.as_slice()).is_ok());
-    let mut front = Vec::new(rt.alloc());
-    for (byte, mark) in text.iter().zip(marks.iter()) {
-        front.push(*byte)?;
-        let fault = if *mark == b'!' {
-            Some(SyntaxFault::Token)
-        } else {
-            Some(SyntaxFault::Syntax)
-        };
-        if front.len() < text.len() {
-            let answer = read_declarations(rt.alloc(), front.as_slice()).err();
-            assert_eq!(rt; answer, fault, "{}", front.len());
+fn refuses_a_text_cut_short(rt: HostRuntime) {
+    assert_eq!(rt; first_wrong(rt.alloc()), None);
+}
+
+/// How many bytes of the demo are taken, or refused with something else, that aren't the whole.
+fn first_front_taken(alloc: Global) -> Option<usize> {
+    let bytes = DEMO_TEXT.trim_end().as_bytes();
+    for end in 0..bytes.len() {
+        if refusal_of(alloc, bytes.split_at(end).0) != Some(SyntaxFault::Syntax) {
+            return Some(end);
         }
     }
-    Ok(())
+    None
+}
+
+#[test]
+fn refuses_the_demo_cut_short(rt: HostRuntime) {
+    assert_eq!(rt; first_front_taken(rt.alloc()), None);
 }

@@ -1,24 +1,25 @@
 //! Refused texts, each beside its nearest neighbour that is read.
-use super::expect_fault;
+use super::{Answers, first_wrong, refusal};
 use p21_express_lexemes::SyntaxFault;
 use std::alloc::Global;
-use std::process::Abort;
-use std::test::Fail;
 
-fn check_pairs(
-    rt: &impl Abort,
-    alloc: Global,
-    pairs: &[(&str, &str)],
-    fault: SyntaxFault,
-) -> Result<(), Fail> {
+/// Refused declarations, each with others that are read.
+type Pairs = &'static [(&'static str, &'static str)];
+
+/// The first declarations that aren't refused so, or whose neighbour isn't read.
+fn first_wrong_pair(alloc: Global, pairs: Pairs, fault: SyntaxFault) -> &'static str {
     for (refused, neighbour) in pairs {
-        expect_fault(rt, alloc, *refused, Some(fault))?;
-        expect_fault(rt, alloc, *neighbour, None)?;
+        if refusal(alloc, refused) != Some(fault) {
+            return refused;
+        }
+        if refusal(alloc, neighbour).is_some() {
+            return neighbour;
+        }
     }
-    Ok(())
+    "none"
 }
 
-const REMARKS: &[(&str, &str)] = &[
+const REMARKS: Pairs = &[
     ("(* open", "(* closed *)"),
     ("(* (* one *)", "(* (* both *) *)"),
     ("(*(*)*)", "(*(*)*)*)"),
@@ -27,11 +28,14 @@ const REMARKS: &[(&str, &str)] = &[
 ];
 
 #[test]
-fn refuses_open_remarks(rt: HostRuntime) -> Result<(), Fail> {
-    check_pairs(&rt, rt.alloc(), REMARKS, SyntaxFault::Token)
+fn refuses_open_remarks(rt: HostRuntime) {
+    assert_eq!(rt;
+        first_wrong_pair(rt.alloc(), REMARKS, SyntaxFault::Token),
+        "none"
+    );
 }
 
-const STRINGS: &[(&str, &str)] = &[
+const STRINGS: Pairs = &[
     (
         "ENTITY a; WHERE w : 'x; END_ENTITY;",
         "ENTITY a; WHERE w : 'x'; END_ENTITY;",
@@ -55,11 +59,14 @@ const STRINGS: &[(&str, &str)] = &[
 ];
 
 #[test]
-fn refuses_open_strings(rt: HostRuntime) -> Result<(), Fail> {
-    check_pairs(&rt, rt.alloc(), STRINGS, SyntaxFault::Token)
+fn refuses_open_strings(rt: HostRuntime) {
+    assert_eq!(rt;
+        first_wrong_pair(rt.alloc(), STRINGS, SyntaxFault::Token),
+        "none"
+    );
 }
 
-const BYTES: &[(&str, &str)] = &[
+const BYTES: Pairs = &[
     ("ENTITY \u{e9}; END_ENTITY;", "ENTITY e; END_ENTITY;"),
     (
         "ENTITY a; WHERE w : \u{e9}; END_ENTITY;",
@@ -77,11 +84,14 @@ const BYTES: &[(&str, &str)] = &[
 ];
 
 #[test]
-fn refuses_bytes_that_begin_no_lexeme(rt: HostRuntime) -> Result<(), Fail> {
-    check_pairs(&rt, rt.alloc(), BYTES, SyntaxFault::Token)
+fn refuses_bytes_that_begin_no_lexeme(rt: HostRuntime) {
+    assert_eq!(rt;
+        first_wrong_pair(rt.alloc(), BYTES, SyntaxFault::Token),
+        "none"
+    );
 }
 
-const ENTITIES: &[(&str, &str)] = &[
+const ENTITIES: Pairs = &[
     (
         "ENTITY a SUBTYPE (b); END_ENTITY;",
         "ENTITY a SUBTYPE OF (b); END_ENTITY;",
@@ -108,11 +118,14 @@ const ENTITIES: &[(&str, &str)] = &[
 ];
 
 #[test]
-fn refuses_misshapen_entities(rt: HostRuntime) -> Result<(), Fail> {
-    check_pairs(&rt, rt.alloc(), ENTITIES, SyntaxFault::Syntax)
+fn refuses_misshapen_entities(rt: HostRuntime) {
+    assert_eq!(rt;
+        first_wrong_pair(rt.alloc(), ENTITIES, SyntaxFault::Syntax),
+        "none"
+    );
 }
 
-const ATTRIBUTES: &[(&str, &str)] = &[
+const ATTRIBUTES: Pairs = &[
     (
         "ENTITY a; x REAL; END_ENTITY;",
         "ENTITY a; x : REAL; END_ENTITY;",
@@ -144,11 +157,14 @@ const ATTRIBUTES: &[(&str, &str)] = &[
 ];
 
 #[test]
-fn refuses_misshapen_attributes(rt: HostRuntime) -> Result<(), Fail> {
-    check_pairs(&rt, rt.alloc(), ATTRIBUTES, SyntaxFault::Syntax)
+fn refuses_misshapen_attributes(rt: HostRuntime) {
+    assert_eq!(rt;
+        first_wrong_pair(rt.alloc(), ATTRIBUTES, SyntaxFault::Syntax),
+        "none"
+    );
 }
 
-const TYPES: &[(&str, &str)] = &[
+const TYPES: Pairs = &[
     ("TYPE t REAL; END_TYPE;", "TYPE t = REAL; END_TYPE;"),
     ("TYPE t = REAL END_TYPE;", "TYPE t = REAL; END_TYPE;"),
     ("TYPE t = REAL(n); END_TYPE;", "TYPE t = REAL(0); END_TYPE;"),
@@ -183,11 +199,14 @@ const TYPES: &[(&str, &str)] = &[
 ];
 
 #[test]
-fn refuses_misshapen_types(rt: HostRuntime) -> Result<(), Fail> {
-    check_pairs(&rt, rt.alloc(), TYPES, SyntaxFault::Syntax)
+fn refuses_misshapen_types(rt: HostRuntime) {
+    assert_eq!(rt;
+        first_wrong_pair(rt.alloc(), TYPES, SyntaxFault::Syntax),
+        "none"
+    );
 }
 
-const NAMES: &[(&str, &str)] = &[
+const NAMES: Pairs = &[
     ("ENTITY list; END_ENTITY;", "ENTITY lists; END_ENTITY;"),
     ("ENTITY where; END_ENTITY;", "ENTITY local; END_ENTITY;"),
     ("ENTITY 1a; END_ENTITY;", "ENTITY a1; END_ENTITY;"),
@@ -207,11 +226,14 @@ const NAMES: &[(&str, &str)] = &[
 ];
 
 #[test]
-fn refuses_words_as_names(rt: HostRuntime) -> Result<(), Fail> {
-    check_pairs(&rt, rt.alloc(), NAMES, SyntaxFault::Syntax)
+fn refuses_words_as_names(rt: HostRuntime) {
+    assert_eq!(rt;
+        first_wrong_pair(rt.alloc(), NAMES, SyntaxFault::Syntax),
+        "none"
+    );
 }
 
-const READ_OVER: &[(&str, &str)] = &[
+const READ_OVER: Pairs = &[
     ("RULE r; END_RULE", "RULE r; END_RULE;"),
     ("RULE r; END_CONSTANT;", "CONSTANT r; END_CONSTANT;"),
     ("FUNCTION f; END_PROCEDURE;", "PROCEDURE f; END_PROCEDURE;"),
@@ -231,11 +253,14 @@ const READ_OVER: &[(&str, &str)] = &[
 ];
 
 #[test]
-fn refuses_what_nothing_closes(rt: HostRuntime) -> Result<(), Fail> {
-    check_pairs(&rt, rt.alloc(), READ_OVER, SyntaxFault::Syntax)
+fn refuses_what_nothing_closes(rt: HostRuntime) {
+    assert_eq!(rt;
+        first_wrong_pair(rt.alloc(), READ_OVER, SyntaxFault::Syntax),
+        "none"
+    );
 }
 
-const LEFT_OUT: &[(&str, &str)] = &[
+const LEFT_OUT: Pairs = &[
     ("USE FROM t;", "RULE use; END_RULE;"),
     (
         "REFERENCE FROM t (a);",
@@ -276,11 +301,14 @@ const LEFT_OUT: &[(&str, &str)] = &[
 ];
 
 #[test]
-fn refuses_what_is_left_out(rt: HostRuntime) -> Result<(), Fail> {
-    check_pairs(&rt, rt.alloc(), LEFT_OUT, SyntaxFault::LeftOut)
+fn refuses_what_is_left_out(rt: HostRuntime) {
+    assert_eq!(rt;
+        first_wrong_pair(rt.alloc(), LEFT_OUT, SyntaxFault::LeftOut),
+        "none"
+    );
 }
 
-const EXPRESSIONS: &[(&str, &str)] = &[
+const EXPRESSIONS: Pairs = &[
     (
         "TYPE t = STRING(n); END_TYPE;",
         "TYPE t = STRING(1); END_TYPE;",
@@ -317,11 +345,14 @@ const EXPRESSIONS: &[(&str, &str)] = &[
 ];
 
 #[test]
-fn refuses_expressions_as_bounds(rt: HostRuntime) -> Result<(), Fail> {
-    check_pairs(&rt, rt.alloc(), EXPRESSIONS, SyntaxFault::LeftOut)
+fn refuses_expressions_as_bounds(rt: HostRuntime) {
+    assert_eq!(rt;
+        first_wrong_pair(rt.alloc(), EXPRESSIONS, SyntaxFault::LeftOut),
+        "none"
+    );
 }
 
-const BOUNDS: &[(&str, &str)] = &[
+const BOUNDS: Pairs = &[
     (
         "TYPE t = LIST [3:1] OF REAL; END_TYPE;",
         "TYPE t = LIST [1:3] OF REAL; END_TYPE;",
@@ -357,11 +388,14 @@ const BOUNDS: &[(&str, &str)] = &[
 ];
 
 #[test]
-fn refuses_bounds_out_of_range(rt: HostRuntime) -> Result<(), Fail> {
-    check_pairs(&rt, rt.alloc(), BOUNDS, SyntaxFault::Bounds)
+fn refuses_bounds_out_of_range(rt: HostRuntime) {
+    assert_eq!(rt;
+        first_wrong_pair(rt.alloc(), BOUNDS, SyntaxFault::Bounds),
+        "none"
+    );
 }
 
-const WIDTHS: &[(&str, &str)] = &[
+const WIDTHS: Pairs = &[
     (
         "TYPE t = STRING(0); END_TYPE;",
         "TYPE t = STRING(1); END_TYPE;",
@@ -385,43 +419,56 @@ const WIDTHS: &[(&str, &str)] = &[
 ];
 
 #[test]
-fn refuses_widths_out_of_range(rt: HostRuntime) -> Result<(), Fail> {
-    check_pairs(&rt, rt.alloc(), WIDTHS, SyntaxFault::Bounds)
+fn refuses_widths_out_of_range(rt: HostRuntime) {
+    assert_eq!(rt;
+        first_wrong_pair(rt.alloc(), WIDTHS, SyntaxFault::Bounds),
+        "none"
+    );
 }
 
 /// Texts with more than one thing wrong: the first counts.
-const FIRST: &[(&str, SyntaxFault)] = &[
-    ("USE 'open", SyntaxFault::LeftOut),
-    ("'open USE", SyntaxFault::Token),
-    ("ENTITY USE; END_ENTITY; (* open", SyntaxFault::LeftOut),
-    ("ENTITY a b; END_ENTITY; USE FROM t;", SyntaxFault::Syntax),
-    ("ENTITY a; WHERE w : USE (* open", SyntaxFault::Token),
-    ("FUNCTION f; USE FROM t;", SyntaxFault::Syntax),
-    ("ENTITY a; x : STRING(0) y : USE;", SyntaxFault::Bounds),
-    ("ENTITY a; x : USE; y : STRING(0);", SyntaxFault::LeftOut),
-];
-
-/// The same inside bounds and widths.
-const FIRST_IN_TYPES: &[(&str, SyntaxFault)] = &[
-    ("TYPE t = LIST [2:1; END_TYPE;", SyntaxFault::Bounds),
-    ("TYPE t = LIST [2:1 'open", SyntaxFault::Bounds),
-    ("TYPE t = LIST [2 'open :1]", SyntaxFault::Token),
-    ("TYPE t = LIST [?(* open", SyntaxFault::Bounds),
-    ("TYPE t = STRING(0 x); END_TYPE;", SyntaxFault::Bounds),
-    ("TYPE t = STRING(n 0); END_TYPE;", SyntaxFault::LeftOut),
-    ("TYPE t = LIST [2:1] OF USE; END_TYPE;", SyntaxFault::Bounds),
+const FIRST: Answers = &[
+    ("USE 'open", Some(SyntaxFault::LeftOut)),
+    ("'open USE", Some(SyntaxFault::Token)),
+    (
+        "ENTITY USE; END_ENTITY; (* open",
+        Some(SyntaxFault::LeftOut),
+    ),
+    (
+        "ENTITY a b; END_ENTITY; USE FROM t;",
+        Some(SyntaxFault::Syntax),
+    ),
+    ("ENTITY a; WHERE w : USE (* open", Some(SyntaxFault::Token)),
+    ("FUNCTION f; USE FROM t;", Some(SyntaxFault::Syntax)),
+    (
+        "ENTITY a; x : STRING(0) y : USE;",
+        Some(SyntaxFault::Bounds),
+    ),
+    (
+        "ENTITY a; x : USE; y : STRING(0);",
+        Some(SyntaxFault::LeftOut),
+    ),
+    // the same inside bounds and widths
+    ("TYPE t = LIST [2:1; END_TYPE;", Some(SyntaxFault::Bounds)),
+    ("TYPE t = LIST [2:1 'open", Some(SyntaxFault::Bounds)),
+    ("TYPE t = LIST [2 'open :1]", Some(SyntaxFault::Token)),
+    ("TYPE t = LIST [?(* open", Some(SyntaxFault::Bounds)),
+    ("TYPE t = STRING(0 x); END_TYPE;", Some(SyntaxFault::Bounds)),
+    (
+        "TYPE t = STRING(n 0); END_TYPE;",
+        Some(SyntaxFault::LeftOut),
+    ),
+    (
+        "TYPE t = LIST [2:1] OF USE; END_TYPE;",
+        Some(SyntaxFault::Bounds),
+    ),
     (
         "TYPE t = LIST [1:2] USE OF REAL; END_TYPE;",
-        SyntaxFault::LeftOut,
+        Some(SyntaxFault::LeftOut),
     ),
 ];
 
 #[test]
-fn answers_what_comes_first(rt: HostRuntime) -> Result<(), Fail> {
-    for table in [FIRST, FIRST_IN_TYPES] {
-        for (text, fault) in table {
-            expect_fault(&rt, rt.alloc(), *text, Some(*fault))?;
-        }
-    }
-    Ok(())
+fn answers_what_comes_first(rt: HostRuntime) {
+    assert_eq!(rt; first_wrong(rt.alloc(), FIRST), "none");
 }
