@@ -8,6 +8,7 @@ value is replaced by one that is refused by another number.
 import collections
 import decimal
 import difflib
+import functools
 import os
 import re
 import shlex
@@ -66,8 +67,12 @@ class Refused:
         self.statement = statement and int(statement)
         self.instance = instance and int(instance)
         self.listing = reading.listing(program, schema)
-        with open(schema, "rb") as text:
-            self.outline = Outline(text.read())
+
+    @functools.cached_property
+    def outline(self):
+        """The declarations of the schema."""
+        with open(self.schema, "rb") as text:
+            return Outline(text.read())
 
     # What the program says
 
@@ -246,13 +251,7 @@ class Refused:
 
     def names(self, part, alone):
         """The names of the attributes that a part has: all of the entity, or among other parts those of its own."""
-        names = self.listing.attributes.get(part.key, [])
-        return names if alone else names[len(names) - self.own_count(part.key) :]
-
-    def own_count(self, entity):
-        """How many attributes an entity declares itself: all, less those of its supertypes."""
-        above = self.outline.closure([entity]) - {entity}
-        return len(self.listing.attributes.get(entity, [])) - sum(self.own_count(name) for name in above)
+        return self.listing.attributes[part.key] if alone else self.outline.own_attributes(part.key)
 
     def redeclared_twice(self, _, parts):
         """Which attributes are declared anew by several entities of the instance."""

@@ -206,11 +206,19 @@ class Outline:
         known = self.entities.keys() | self.types.keys()
         return next((word for word in words if is_name(word) and word.text not in known), None)
 
+    def own_attributes(self, name):
+        """The names of the explicit attributes that an entity declares itself, redeclarations apart."""
+        listed = [names_in(words) for group, words in self.statements(self.entities[name]) if group == ""]
+        items = [item for names in listed for item in " ".join(names).split(" , ")]
+        return [item for item in items if " " not in item]
+
     def declared(self, entities, attribute):
         """The text that declares an attribute in one of these entities or their supertypes; None where none does."""
         for name in sorted(self.closure(entities)):
+            if attribute not in self.own_attributes(name):
+                continue
             for group, statement in self.statements(self.entities[name]):
-                if group == "" and attribute in names_in(statement) and "SELF" not in names_in(statement):
+                if group == "" and attribute in names_in(statement):
                     text = self.text[statement[0].start : statement[-1].end].decode("latin-1")
                     return " ".join(text.split())
         return None
