@@ -2,6 +2,9 @@ pub mod DigitLanes
 pub mod ItemTokens
 pub mod Leaves
 pub mod NameTokens
+pub mod Parts
 pub mod Splits
 pub mod TextTokens
+pub mod WholeTokens
 pub mod WideWrites
+pub mod Zeros

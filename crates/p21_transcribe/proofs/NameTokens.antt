@@ -8,7 +8,8 @@ use Rattle.p21_exchange.specs.Token.{IsFollowed, name}
 use Rattle.p21_transcribe.specs.Leaf.{IsCanonicalAtFront}
 use Rattle.p21_transcribe.specs.Runs.{IsDigitRun}
 
-plain-front : (bytes : List ℕ) (count : ℕ) → AllDigits (take count bytes) → 0 < count → count ≤ length bytes → (1 < count → get_or bytes 0 0 ≢ 48) → ArePlain (take count bytes)
+-- digits with no zero in front of another one
+pub plain-front : (bytes : List ℕ) (count : ℕ) → AllDigits (take count bytes) → 0 < count → count ≤ length bytes → (1 < count → get_or bytes 0 0 ≢ 48) → ArePlain (take count bytes)
 plain-front [] count p some within first = absurd (omega arith)
 plain-front (c ∷ bytes) zero p some within first = absurd (omega arith)
 plain-front (c ∷ bytes) (suc zero) p some within first = p.0

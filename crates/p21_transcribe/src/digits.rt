@@ -1,9 +1,12 @@
 //! Bytes at the front: a certain one, or a run of digits, and the number that digits stand for.
-ghost use Rattle.std.specs.Prelude.{◌≡◌, ◌<◌, ◌≤◌, ◌∷◌, length, map, not, IfNone, IfSome};
+ghost use Rattle.std.specs.Prelude.{◌≡◌, ◌<◌, ◌≤◌, ◌∷◌, false, length, map, not, take, IfNone, IfSome};
 ghost use Rattle.std.specs.Simd.Lanes.{mask_l};
 ghost use Rattle.p21_basics.specs.Digits.{AllDigits, number};
+ghost use Rattle.p21_exchange.proofs.Forms.{behind_sign, first_sign};
+ghost use Rattle.p21_exchange.specs.Number.{is_minus};
 ghost use Rattle.p21_tokens_automaton.specs.Bytes.{is_digit};
-ghost use Rattle.p21_transcribe.specs.Runs.{IsDigitRun, NotFirst};
+ghost use Rattle.p21_values.specs.Digits.{WithoutEndZeros};
+ghost use Rattle.p21_transcribe.specs.Runs.{AreFrontZeros, IsDigitRun, NotFirst};
 
 use std::simd::prelude::*;
 
@@ -60,6 +63,47 @@ fn long_run(bytes: &[u8]) -> usize
     bytes.len()
 }
 
+/// How many zeros stand at the front.
+#[inline(always)]
+#[tactic(auto, using(crate::proofs::Zeros::zeros_more, crate::proofs::Zeros::zeros_ended, crate::proofs::Zeros::zeros_whole))]
+pub(crate) fn front_zeros(bytes: &[u8]) -> usize
+    ensures { AreFrontZeros bytes.now result }
+{
+    for (i, byte) in bytes.iter().enumerate() {
+        if *byte != b'0' {
+            return i;
+        }
+    }
+    bytes.len()
+}
+
+/// How many of the digits stay without the zeros at the end.
+#[inline(always)]
+pub(crate) fn without_end_zeros(digits: &[u8]) -> usize
+    requires { AllDigits digits.now }
+    ensures within { result ≤ length digits.now }
+    ensures kept { WithoutEndZeros digits.now (take result digits.now) }
+{
+    let mut kept = digits.len();
+    while kept > 0 && digits[kept - 1] == b'0' {
+        kept -= 1;
+    }
+    kept
+}
+
+/// Whether a minus stands first, and what stands behind the sign: all the bytes where there is none.
+#[inline(always)]
+pub(crate) fn split_sign(bytes: &[u8]) -> (bool, &[u8])
+    ensures minus { result.0 ≡ is_minus (first_sign bytes.now) }
+    ensures rest { result.1.now ≡ behind_sign bytes.now }
+{
+    match bytes {
+        [b'+', rest @ ..] => (false, rest),
+        [b'-', rest @ ..] => (true, rest),
+        _ => (false, bytes),
+    }
+}
+
 /// What stands behind the first byte, where that is the one asked for.
 #[inline(always)]
 pub(crate) fn behind(first: u8, bytes: &[u8]) -> Option<&[u8]>
@@ -68,6 +112,14 @@ pub(crate) fn behind(first: u8, bytes: &[u8]) -> Option<&[u8]>
 {
     let (byte, rest) = bytes.split_first()?;
     if *byte == first { Some(rest) } else { None }
+}
+
+/// Whether this byte stands first.
+#[inline(always)]
+pub(crate) fn begins_with(first: u8, bytes: &[u8]) -> bool
+    ensures { result ≡ false → NotFirst first bytes.now }
+{
+    behind(first, bytes).is_some()
 }
 
 /// The number that at most 18 digits stand for.

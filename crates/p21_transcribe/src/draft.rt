@@ -1,7 +1,10 @@
 //! The text that is written of some statements.
-ghost use Rattle.std.specs.Prelude.{◌≡◌, ℕ, ◌+◌, ◌≤◌, [], ◌∷◌, ◌++◌, length, take, slice_range};
+ghost use Rattle.std.specs.Prelude.{◌≡◌, ℕ, ◌+◌, ◌≤◌, [], ◌∷◌, ◌++◌, length, drop, take, slice_range};
+ghost use Rattle.p21_basics.specs.Digits.{AllDigits};
+ghost use Rattle.p21_values.specs.Digits.{WithoutEndZeros};
 ghost use Rattle.p21_transcribe.specs.Appending.{AppendsIf};
 
+use crate::digits::without_end_zeros;
 use p21_values::NoMemory;
 use std::alloc::Global;
 use std::marker::Model;
@@ -74,6 +77,18 @@ impl Draft {
         ensures { self.new ≡ take len self.old }
     {
         self.used = len;
+    }
+
+    /// Takes away the zeros at the end, but none before a place.
+    #[inline(always)]
+    pub(crate) fn cut_zeros(&mut self, from: usize)
+        requires within { from ≤ length self.old }
+        requires digits { AllDigits (drop from self.old) }
+        ensures front { take from self.new ≡ take from self.old }
+        ensures behind { WithoutEndZeros (drop from self.old) (drop from self.new) }
+    {
+        let kept = without_end_zeros(&self.room[from..self.used]);
+        self.used = from + kept;
     }
 
     /// Appends a byte; says whether there was room.

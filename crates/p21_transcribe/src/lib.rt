@@ -6,9 +6,11 @@ mod digits;
 mod draft;
 mod item;
 mod name;
+mod number;
 mod text;
 
 pub use draft::Draft;
 pub use item::{append_item, append_logical};
 pub use name::append_name;
+pub use number::append_whole;
 pub use text::append_text;

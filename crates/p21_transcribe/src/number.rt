@@ -1,0 +1,48 @@
+//! Whole numbers (ISO 10303-21, clause 6: tokens, integer).
+ghost use Rattle.std.specs.Prelude.{◌<◌, ◌≤◌, ℤ, length, take, IfNone, IfSome};
+ghost use Rattle.p21_basics.specs.Digits.{AllDigits, number};
+ghost use Rattle.p21_exchange.specs.Number.{signed};
+ghost use Rattle.p21_exchange.specs.Spelling.{whole_spelling};
+ghost use Rattle.p21_exchange.specs.Token.{whole};
+ghost use Rattle.p21_values.specs.Canonical.{Continues};
+ghost use Rattle.p21_transcribe.specs.Appending.{AppendsPart};
+ghost use Rattle.p21_transcribe.specs.Leaf.{Transcribes};
+
+use crate::digits::{begins_with, digit_run, front_zeros, split_sign};
+use crate::draft::Draft;
+
+/// Appends the whole number at the front: how many bytes it has.
+pub fn append_whole(bytes: &[u8], draft: &mut Draft) -> Option<usize>
+    ensures some { IfSome result (λ count. (value : ℤ) × Transcribes bytes.now count (whole value) draft.old draft.new) }
+    ensures none { IfNone result (Continues draft.old draft.new) }
+{
+    let (negative, unsigned) = split_sign(bytes);
+    let count = digit_run(unsigned);
+    let rest = &unsigned[count..];
+    if count == 0 || begins_with(b'.', rest) {
+        return None;
+    }
+    if !append_digits(negative, unsigned, count, draft) {
+        return None;
+    }
+    Some(bytes.len() - rest.len())
+}
+
+/// Appends the whole number of the first so many bytes, which are digits, or a part of it; says whether there was room.
+#[inline(always)]
+fn append_digits(negative: bool, bytes: &[u8], count: usize, draft: &mut Draft) -> bool
+    requires some { 0 < count }
+    requires within { count ≤ length bytes.now }
+    requires digits { AllDigits (take count bytes.now) }
+    ensures { AppendsPart result (whole_spelling (signed negative (number (take count bytes.now)))) draft.old draft.new }
+{
+    let zeros = front_zeros(&bytes[..count - 1]);
+    let plain = &bytes[zeros..];
+    if !negative || plain[0] == b'0' {
+        return draft.append_front(plain, count - zeros);
+    }
+    if !draft.put(b'-') {
+        return false;
+    }
+    draft.append_front(plain, count - zeros)
+}
