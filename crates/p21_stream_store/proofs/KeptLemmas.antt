@@ -5,7 +5,7 @@ use Rattle.std.proofs.lemmas.List.Elements.{Contains-append_cases, Contains-appe
 use Rattle.std.proofs.lemmas.List.Sorted.{IsPermutation-middle, IsPermutation-sym, IsPermutation-to_front, sum_by-IsPermutation}
 use Rattle.std.proofs.lemmas.List.FromFn.{get_or-range_with_len, length-range_with_len}
 use Rattle.std.proofs.lemmas.List.Sums.{sum_by-append}
-use Rattle.std.proofs.lemmas.Option.{get_or_from_slice_get, slice_get_within, unwrap_or-slice_get}
+use Rattle.std.proofs.lemmas.Option.{get_or_from_slice_get, slice_get-get_or, slice_get_within, unwrap_or-slice_get}
 use Rattle.std.specs.List.{Contains, range_with_len, slice_get}
 use Rattle.std.specs.List.Sorted.{IsNonDecreasingBy, IsPermutation, IsStrictlyIncreasing}
 use Rattle.p21_stream_store.proofs.NameLemmas.{never_fall}
@@ -135,6 +135,10 @@ pub got-read : (xs : List ℕ) (i n : ℕ) → i < length xs → n ≡ get_or xs
 got-read [] i n below e = absurd (omega (arith, below))
 got-read (a ∷ xs) zero n below e = ap Some (sym e)
 got-read (a ∷ xs) (suc i) n below e = got-read xs i n (omega (arith, below)) e
+
+-- and where there is no other number in its place
+pub read_or_zero : (xs : List ℕ) (i n : ℕ) → i < length xs → n ≡ unwrap_or (slice_get xs i) 0 → slice_get xs i ≡ Some n
+read_or_zero xs i n within e = slice_get-get_or xs i 0 within ∙ ap Some (sym (e ∙ unwrap_or-slice_get xs i 0))
 
 got-behind : {X : Type 0} (xs ys : List X) (i : ℕ) (x : X) → slice_get ys i ≡ Some x → slice_get (xs ++ ys) (length xs + i) ≡ Some x
 got-behind {X} [] ys i x e = let P : ℕ → Type 0 = λ n. slice_get ys n ≡ Some x in let same : i ≡ 0 + i = omega arith in subst P same e

@@ -1,5 +1,6 @@
 mod BlockLemmas
 mod KeptLemmas
+mod LateLemmas
 mod LineLemmas
 mod NameLemmas
 mod TextLemmas

@@ -1,12 +1,10 @@
 -- Where a name stands among rising names, and in a set.
-use Rattle.std.proofs.Common.{◌≡◌, ◌+◌, ◌≤◌, ◌<◌, ℕ, zero, suc, Bool, true, false, List, [], ◌∷◌, ◌++◌, length, get_or, Option, Some, None, Result, Ok, Err, IfSome, IsNone, refl, sym, ap, ◌∙◌, arith, eqb, ltb, cond, ◌-◌, inl, inr}
+use Rattle.std.proofs.Common.{◌≡◌, ◌+◌, ◌≤◌, ◌<◌, ℕ, zero, suc, true, false, List, length, get_or, Option, Some, None, Result, Ok, Err, IsNone, sym, ap, arith, eqb, ltb, ◌-◌, inl, inr}
 use Rattle.std.proofs.lemmas.Bool.Decides.{leb_tells, nat_tests}
 use Rattle.std.proofs.lemmas.Grind.{get_or_default_zero}
-use Rattle.std.proofs.lemmas.List.Quantifiers.{position-Some}
 use Rattle.std.proofs.lemmas.List.Sorted.{searched}
-use Rattle.std.proofs.lemmas.Map.Views.{Contains-from_any}
-use Rattle.std.proofs.lemmas.Option.{get_or_from_slice_get, slice_get-get_or, slice_get_within}
-use Rattle.std.specs.List.{Contains, list_any, position, slice_get}
+use Rattle.std.proofs.lemmas.Option.{get_or_from_slice_get, slice_get_within}
+use Rattle.std.specs.List.{Contains, slice_get}
 use Rattle.std.specs.List.Sorted.{IsBinarySearchResult, IsStrictlyIncreasing}
 use Rattle.std.specs.Ordering.{nat_cmp}
 use Rattle.std.specs.Result.{result_ok}
@@ -51,14 +49,3 @@ not_found xs x (Err i) place rising s e none (k, h, at) =
     let here : get_or xs k x ≡ get_or xs k 0 = get_or_default_zero xs k x h in
     elim (leb_tells i k) [ inl behind ↦ (let above = where_.2 k behind.1 h in omega (arith, above, at, here)) | inr before ↦ (let below = where_.1 k before.1 in omega (arith, below, at, here)) ]
 
-pub found_place : (keys : List ℕ) (x : ℕ) (place : Option ℕ) → place ≡ position (λ y. eqb x y) keys → IfSome place (λ i. slice_get keys i ≡ Some x)
-found_place keys x None e = tt
-found_place keys x (Some i) e =
-    let at = position-Some (λ y. eqb x y) keys i 0 (sym e) in
-    slice_get-get_or keys i 0 at.0 ∙ ap (λ (n : ℕ). Some n) (sym (same_at x (get_or keys i 0) at.1))
-
-pub added : (keys : List ℕ) (x : ℕ) → (Contains keys x → ⊥) → cond (list_any (λ y. eqb x y) keys) keys (keys ++ x ∷ []) ≡ keys ++ x ∷ []
-added keys x absent = by (list_any (λ y. eqb x y) keys) refl where
-  by : (b : Bool) → list_any (λ y. eqb x y) keys ≡ b → cond b keys (keys ++ x ∷ []) ≡ keys ++ x ∷ []
-  by true e = absurd (absent (Contains-from_any {eq = eqb} same_at x keys e))
-  by false e = refl

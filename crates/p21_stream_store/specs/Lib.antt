@@ -3,3 +3,4 @@ pub mod Texts
 pub mod Blocks
 pub mod Instances
 pub mod Kept
+pub mod Places

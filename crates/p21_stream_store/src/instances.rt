@@ -3,20 +3,20 @@ ghost use Rattle.std.specs.Prelude.{◌≡◌, ◌<◌, ℕ, List, [], ◌∷◌
 ghost use Rattle.std.specs.List.Sorted.{IsStrictlyIncreasing};
 ghost use Rattle.p21_stream_store.specs.Kept.{Kept, kept_at, kept_names, name_at, text_bytes};
 
+use crate::late::LateNames;
 use crate::lines::Lines;
-use crate::names::{add_name, is_above, place_among, place_in};
-use indexmap::IndexSet;
+use crate::names::{is_above, place_in};
 use p21_values::NoMemory;
 use std::alloc::Global;
 use std::marker::Model;
 
 /// Instances by name, each with its canonical text and the number of its kind. Those whose names rise, as in nearly
-/// every file, are kept in their order and take no index; a name that is below one in front of it goes into an index.
+/// every file, are kept in their order and take no index; a name that is below one in front of it stands in a tree.
 #[derive(Drop)]
 pub struct Instances {
     rising: Vec<u64>,
     rising_lines: Lines,
-    late: IndexSet<u64>,
+    late: LateNames,
     late_lines: Lines,
     size: u64,
 }
@@ -42,7 +42,7 @@ impl Instances {
         Instances {
             rising: Vec::new(alloc),
             rising_lines: Lines::new(alloc),
-            late: IndexSet::new(alloc),
+            late: LateNames::new(alloc),
             late_lines: Lines::new(alloc),
             size: 0,
         }
@@ -74,7 +74,7 @@ impl Instances {
             return (self.rising[place], kind, text);
         }
         let (kind, text) = self.late_lines.get(place - first);
-        (self.late[place - first], kind, text)
+        (self.late.get(place - first).unwrap_or(0), kind, text)
     }
 
     /// The number of the kind of the instance at a place.
@@ -98,17 +98,14 @@ impl Instances {
         if place < first {
             return self.rising[place];
         }
-        match self.late.get_index(place - first) {
-            Some(name) => *name,
-            None => 0,
-        }
+        self.late.get(place - first).unwrap_or(0)
     }
 
     /// Whether the names rise from place to place, as where none came late.
     pub(crate) fn is_rising(&self) -> bool
         ensures { IsTrue result → IsStrictlyIncreasing (kept_names self.now) }
     {
-        self.late.is_empty()
+        self.late.len() == 0
     }
 
     /// The number of the kind and the canonical text of the instance of this name, if there is one. A name that rises costs
@@ -123,7 +120,7 @@ impl Instances {
         if let Some(place) = place_in(&self.rising, name) {
             return Some(self.rising_lines.get(place));
         }
-        match place_among(&self.late, name) {
+        match self.late.place_of(name) {
             Some(place) => Some(self.late_lines.get(place)),
             None => None,
         }
@@ -140,7 +137,7 @@ impl Instances {
         if let Some(place) = place_in(&self.rising, name) {
             return Some(self.rising_lines.kind(place));
         }
-        match place_among(&self.late, name) {
+        match self.late.place_of(name) {
             Some(place) => Some(self.late_lines.kind(place)),
             None => None,
         }
@@ -201,18 +198,18 @@ fn add_rising(
 
 /// Adds a name that isn't there yet, and its line. An `Err` changes nothing.
 fn add_late(
-    names: &mut IndexSet<u64>,
+    names: &mut LateNames,
     lines: &mut Lines,
     name: u64,
     kind: u32,
     text: &[u8],
 ) -> Result<(), NoMemory>
-    requires { Contains names.old.keys name → ⊥ }
-    ensures names { OnOk result (names.new.keys ≡ names.old.keys ++ name ∷ []) }
+    requires { Contains names.old name → ⊥ }
+    ensures names { OnOk result (names.new ≡ names.old ++ name ∷ []) }
     ensures lines { OnOk result (lines.new ≡ lines.old ++ (kind, text.now) ∷ []) }
-    ensures err { OnErr result ((names.new.keys ≡ names.old.keys) × (lines.new ≡ lines.old)) }
+    ensures err { OnErr result ((names.new ≡ names.old) × (lines.new ≡ lines.old)) }
 {
-    let Ok(()) = add_name(names, name) else {
+    let Ok(()) = names.push(name) else {
         return Err(NoMemory);
     };
     match lines.push(kind, text) {

@@ -3,6 +3,7 @@
 #![tactic(auto)]
 
 mod instances;
+mod late;
 mod lines;
 mod names;
 mod order;

@@ -1,9 +1,6 @@
 //! Where a name stands among names.
-ghost use Rattle.std.specs.Prelude.{◌≡◌, ◌<◌, ◌≤◌, ℕ, false, [], ◌∷◌, ◌++◌, Contains, IfSome, IsNone, IsTrue, OnErr, OnOk, slice_get, Some};
+ghost use Rattle.std.specs.Prelude.{◌≡◌, ◌<◌, ◌≤◌, ℕ, false, [], ◌∷◌, ◌++◌, Contains, IfSome, IsNone, IsTrue, slice_get, Some};
 ghost use Rattle.std.specs.List.Sorted.{IsStrictlyIncreasing};
-
-use indexmap::IndexSet;
-use p21_values::NoMemory;
 
 /// Whether a name is above the last of rising names.
 pub fn is_above(names: &[u64], name: u64) -> bool
@@ -46,31 +43,4 @@ fn guess(names: &[u64], name: u64) -> usize {
     } else {
         names.len()
     }
-}
-
-/// The place of a name in a set. Where the set has no name, it costs no search.
-pub fn place_among(names: &IndexSet<u64>, name: u64) -> Option<usize>
-    ensures some { IfSome result (λ place. slice_get names.now.keys place ≡ Some name) }
-    ensures none { IsNone result → Contains names.now.keys name → ⊥ }
-{
-    if names.is_empty() {
-        return None;
-    }
-    names.get_index_of(&name)
-}
-
-/// Adds a name that isn't there yet.
-///
-/// # Errors
-///
-/// `NoMemory`, which changes nothing.
-pub fn add_name(names: &mut IndexSet<u64>, name: u64) -> Result<(), NoMemory>
-    requires { Contains names.old.keys name → ⊥ }
-    ensures ok { OnOk result (names.new.keys ≡ names.old.keys ++ name ∷ []) }
-    ensures err { OnErr result (names.new.keys ≡ names.old.keys) }
-{
-    let Ok(_) = names.insert(name) else {
-        return Err(NoMemory);
-    };
-    Ok(())
 }

@@ -7,12 +7,12 @@ pub returns-in-Some-clause-some : goal.returns-in-Some-clause-some
 returns-in-Some-clause-some c =
     rising_found _ _ _ _ _ c.self.view_is _ _ _ (ap (λ (l : List ℕ). slice_get l c.in-Some.place) (sym c.deref-2.ensures.value) ∙ c.in-Some.ensures.some) c.get.ensures
 
-pub get-requires-in-Some-place_among : goal.get-requires-in-Some-place_among
-get-requires-in-Some-place_among c = place_within _ _ _ _ c.self.invariant.late_lines c.in-Some-place_among.ensures.some
+pub get-requires-in-Some-place_of : goal.get-requires-in-Some-place_of
+get-requires-in-Some-place_of c = place_within _ _ _ _ c.self.invariant.late_lines c.in-Some-place_of.ensures.some
 
-pub returns-in-Some-place_among-clause-some : goal.returns-in-Some-place_among-clause-some
-returns-in-Some-place_among-clause-some c =
-    late_found _ _ _ _ _ c.self.view_is _ _ _ c.in-Some-place_among.ensures.some c.get-in-Some-place_among.ensures
+pub returns-in-Some-place_of-clause-some : goal.returns-in-Some-place_of-clause-some
+returns-in-Some-place_of-clause-some c =
+    late_found _ _ _ _ _ c.self.view_is _ _ _ c.in-Some-place_of.ensures.some c.get-in-Some-place_of.ensures
 
 pub returns-in-None-clause-none : goal.returns-in-None-clause-none
 returns-in-None-clause-none c e =

@@ -16,5 +16,5 @@ kind-requires-2 c =
 pub returns : goal.returns
 returns c =
     let within = late_within _ _ _ _ _ c.self.view_is _ _ c.self.invariant.rising_lines c.self.invariant.late_lines c.len-first.ensures c.if-place-first.false c.requires in
-    let name = slice_get-get_or c.self.inside.late.keys (c.args.place - c.len-first.result) 0 within in
+    let name = slice_get-get_or c.self.inside.late (c.args.place - c.len-first.result) 0 within in
     (kept _ (c.kind-2.result, c.kind-2.ensures.0), late_got _ _ _ _ _ c.self.view_is _ _ _ _ c.self.invariant.rising_lines c.len-first.ensures c.if-place-first.false name c.kind-2.ensures.1, refl)

@@ -1,12 +1,9 @@
-use Rattle.std.proofs.Common.{arith}
+use Rattle.std.proofs.Common.{arith, ◌∙◌}
 use Rattle.p21_stream_store.proofs.KeptLemmas.{late_name, rising_name}
 use Rattle.p21_stream_store.proofs.instances.Instances.name_at.Goals as goal
 
 pub returns-then-place-first : goal.returns-then-place-first
 returns-then-place-first c = rising_name _ _ _ _ _ c.self.view_is c.self.invariant.rising_lines c.self.invariant.late_lines _ _ _ (omega (arith, c.len-first.ensures)) c.if-place-first.true c.index.ensures
 
-pub returns-in-Some : goal.returns-in-Some
-returns-in-Some c = late_name _ _ _ _ _ c.self.view_is c.self.invariant.rising_lines c.self.invariant.late_lines _ _ _ (omega (arith, c.len-first.ensures)) c.if-place-first.false c.in-Some.ensures.key
-
-pub returns-in-None : goal.returns-in-None
-returns-in-None c = late_name _ _ _ _ _ c.self.view_is c.self.invariant.rising_lines c.self.invariant.late_lines _ _ _ (omega (arith, c.len-first.ensures)) c.if-place-first.false c.in-None.ensures.key
+pub returns : goal.returns
+returns c = c.unwrap_or.ensures ∙ late_name _ _ _ _ _ c.self.view_is c.self.invariant.rising_lines c.self.invariant.late_lines _ _ _ (omega (arith, c.len-first.ensures)) c.if-place-first.false c.get.ensures

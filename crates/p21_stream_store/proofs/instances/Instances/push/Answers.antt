@@ -11,7 +11,7 @@ invariant_of-self-then-is_above c =
     record { lengths = c.self.invariant.rising_lines; names_are = c.in-Ok.ensures.names; lines_are = c.in-Ok.ensures.lines } in
     record {
       rising = subst (λ (l : List ℕ). IsStrictlyIncreasing l) (ap (λ (l : List ℕ). l ++ c.args.name ∷ []) c.deref.ensures.value ∙ sym c.in-Ok.ensures.names) (c.if-is_above.ensures.rises refl);
-      late_below = subst (λ (l : List ℕ). (name : ℕ) → Contains c.self.inside.late.keys name → (other : ℕ) × Contains l other × (name ≤ other)) (sym c.in-Ok.ensures.names) (still_below _ _ _ c.self.invariant.late_below);
+      late_below = subst (λ (l : List ℕ). (name : ℕ) → Contains c.self.inside.late name → (other : ℕ) × Contains l other × (name ≤ other)) (sym c.in-Ok.ensures.names) (still_below _ _ _ c.self.invariant.late_below);
       rising_lines = added_lengths _ _ _ _ _ _ added;
       late_lines = c.self.invariant.late_lines;
       size = added_size (kept c.args.name (c.args.kind, c.args.text.now)) _ _ _ _ (added_in_front _ _ _ _ _ _ added _ _ refl) c.self.invariant.size c.in-Some.ensures.1;
@@ -28,7 +28,7 @@ add_late-requires c = absent_late _ _ _ _ _ _ c.self.view_is c.self.invariant.ri
 
 pub invariant_of-self-2 : goal.invariant_of-self-2
 invariant_of-self-2 c =
-    let added : IsAdded c.self.inside.late.keys c.self.inside.late_lines c.args.name (c.args.kind, c.args.text.now) c.add_late.new.names.keys c.add_late.new.lines =
+    let added : IsAdded c.self.inside.late c.self.inside.late_lines c.args.name (c.args.kind, c.args.text.now) c.add_late.new.names c.add_late.new.lines =
     record { lengths = c.self.invariant.late_lines; names_are = c.in-Ok-add_late.ensures.names; lines_are = c.in-Ok-add_late.ensures.lines } in
     record {
       rising = c.self.invariant.rising;
@@ -41,7 +41,7 @@ invariant_of-self-2 c =
 
 pub returns-clause-ok : goal.returns-clause-ok
 returns-clause-ok c =
-    let added : IsAdded c.self.inside.late.keys c.self.inside.late_lines c.args.name (c.args.kind, c.args.text.now) c.add_late.new.names.keys c.add_late.new.lines =
+    let added : IsAdded c.self.inside.late c.self.inside.late_lines c.args.name (c.args.kind, c.args.text.now) c.add_late.new.names c.add_late.new.lines =
     record { lengths = c.self.invariant.late_lines; names_are = c.in-Ok-add_late.ensures.names; lines_are = c.in-Ok-add_late.ensures.lines } in
     added_behind _ _ _ _ _ _ added _ _ c.self.view_is
 
