@@ -17,8 +17,8 @@ use Rattle.p21_schemas.specs.Schema.{Schema}
 use Rattle.p21_stream_ending.specs.Ending.{HasNamesOnce, IsEndOf, StandsIn}
 use Rattle.p21_stream_ending.specs.Parts.{AreEmpty, Begins}
 use Rattle.p21_stream_ending.specs.declared.parts.Part.{Part}
-use Rattle.p21_stream_kept.specs.Inside.{heading_in, headings_of}
-use Rattle.p21_stream_kept.specs.declared.kept.Section.{Section}
+use Rattle.p21_stream_kept.specs.Sections.{heading_in, headings_of}
+use Rattle.p21_stream_kept.specs.declared.sections.Section.{Section}
 use Rattle.p21_stream_accepted.specs.Output.{Output}
 use Rattle.p21_stream_kinds.specs.Kinds.{Kind}
 use Rattle.p21_stream_store.specs.Kept as store

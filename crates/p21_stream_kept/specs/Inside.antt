@@ -1,25 +1,12 @@
 -- What the fields hold, as pure data.
-use Rattle.std.specs.Prelude.{List, map, Option, Some, None}
+use Rattle.std.specs.Prelude.{List, map}
 use Rattle.p21_claim_steps.specs.Keeping.{Kept}
 use Rattle.p21_claim_steps.specs.Waiting as waiting
-use Rattle.p21_exchange.specs.DataSection.{Heading, unnamed}
-use Rattle.p21_grammar_machine.specs.Shape.{heading_of}
-use Rattle.p21_grammar_tree.specs.View.{items_of, views}
-use Rattle.p21_grammar_tree.specs.declared.record.Part.{Part}
 use Rattle.p21_mapping_values.specs.TypedView.{need_view}
 use Rattle.p21_stream_kept.specs.declared.kept.Kept.TheInside.{Inside}
 use Rattle.p21_stream_kept.specs.declared.kept.Reference.{Reference}
-use Rattle.p21_stream_kept.specs.declared.kept.Section.{Section}
 pub use Rattle.p21_stream_ending.specs.Ending.{stored_of, stored_with}
 pub use Rattle.p21_stream_ending.specs.Filing.{AreKinds}
-
--- how a section begins
-abbrev pub heading_in : Option Part → Heading
-heading_in None = unnamed
-heading_in (Some part) = heading_of (views (items_of part.params))
-
-abbrev pub headings_of : List Section → List Heading
-headings_of sections = map (λ (x : Section). heading_in x.part) sections
 
 abbrev pub reference_of : Reference → waiting.Reference
 reference_of r = (r.holder, need_view r.need)
@@ -30,7 +17,7 @@ references_of all = map reference_of all
 abbrev pub kept_of : Inside → Kept
 kept_of a = record {
   header = a.header.items;
-  headings = headings_of a.sections.items;
+  headings = a.sections;
   stored = stored_of a.kinds a.instances;
   waiting = references_of a.waiting.items;
   references = a.references;

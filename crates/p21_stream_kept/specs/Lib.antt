@@ -1,4 +1,5 @@
 pub mod Found
+pub mod Sections
 pub mod Inside
 pub mod Served
 pub mod Steps

@@ -8,9 +8,10 @@ ghost use Rattle.p21_exchange.specs.Statement.{Statement};
 ghost use Rattle.p21_schemas.specs.Schema.{Schema};
 ghost use Rattle.p21_stream_ending.specs.Ending.{IsEndOf};
 ghost use Rattle.p21_stream_ending.specs.Parts.{AreEmpty, Begins};
-ghost use Rattle.p21_stream_kept.specs.Inside.{heading_in, headings_of};
+ghost use Rattle.p21_stream_kept.specs.Sections.{heading_in, headings_of};
 
-use crate::kept::{Kept, Section, heading_line};
+use crate::kept::{Kept, heading_line};
+use crate::sections::Section;
 use p21_stream_accepted::Accepted;
 use p21_stream_ending::{Part, accepted};
 use p21_stream_header::heading;
@@ -34,7 +35,7 @@ impl Kept {
             instances,
             ..
         } = self;
-        let parts = parts_of(alloc, &sections)?;
+        let parts = parts_of(alloc, sections.items())?;
         accepted(alloc, header, parts, &kinds, instances)
     }
 }

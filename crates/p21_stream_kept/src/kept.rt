@@ -10,6 +10,7 @@ ghost use Rattle.p21_stream_kept.specs.Steps.{StepGives, StepKeepsBound, TakesLi
 
 use crate::found::found_of;
 use crate::room::has_room;
+use crate::sections::Sections;
 use crate::served::{first_unserved, wait};
 use crate::stored::{has_instance, store};
 use p21_canon_header::write_header;
@@ -32,7 +33,7 @@ pub struct Kept {
     pub(crate) alloc: Global,
     // The canonical lines of the header records, each with its line feed.
     pub(crate) header: Vec<u8>,
-    pub(crate) sections: Vec<Section>,
+    pub(crate) sections: Sections,
     pub(crate) kinds: Kinds,
     pub(crate) instances: Instances,
     pub(crate) waiting: Vec<Reference>,
@@ -49,12 +50,6 @@ pub struct Kept {
 pub struct Reference {
     pub holder: Name,
     pub need: Need,
-}
-
-/// A data section: the record that begins it, where it has a name.
-#[derive(Drop)]
-pub(crate) struct Section {
-    pub(crate) part: Option<Part>,
 }
 
 impl Model for Kept {
@@ -76,7 +71,7 @@ impl Kept {
         Kept {
             alloc,
             header: Vec::new(alloc),
-            sections: Vec::new(alloc),
+            sections: Sections::new(alloc),
             kinds: Kinds::new(alloc),
             instances: Instances::new(alloc),
             waiting: Vec::new(alloc),
@@ -100,7 +95,7 @@ impl Kept {
         if !has_room(limits, self.bytes, self.framing, size) {
             return Err(Fault::CanonicalTooLong);
         }
-        let Ok(()) = begin_section(&mut self.sections, line) else {
+        let Ok(()) = self.sections.begin(line) else {
             return Err(Fault::NoMemory);
         };
         self.framing += size + 1;
@@ -124,7 +119,7 @@ impl Kept {
         if !names_schema(text.chars(), schema.name()) {
             return Err(Fault::SchemaName);
         }
-        if has_section(&self.sections, name) {
+        if self.sections.has_name(name) {
             return Err(Fault::SectionTwice);
         }
         let Ok(line) = heading_line(self.alloc, name, text) else {
@@ -134,8 +129,7 @@ impl Kept {
         if !has_room(limits, self.bytes, self.framing, bytes) {
             return Err(Fault::CanonicalTooLong);
         }
-        let section = Section { part: Some(part) };
-        let Ok(()) = add_section(&mut self.sections, section) else {
+        let Ok(()) = self.sections.add(self.alloc, part) else {
             return Err(Fault::NoMemory);
         };
         self.framing += bytes + 1;
@@ -194,7 +188,7 @@ impl Kept {
         if !has_room(limits, self.bytes, self.framing, size) {
             return Err(Fault::CanonicalTooLong);
         }
-        let Some(section) = last_section(&self.sections) else {
+        let Some(section) = self.sections.last() else {
             return Err(Fault::NoMemory);
         };
         let Some(references) = self.references.checked_add(found.needs.len() as u64) else {
@@ -278,52 +272,7 @@ fn append_record(part: &Part, out: &mut Vec<u8>) -> Result<u64, NoMemory>
     Ok(size)
 }
 
-ghost use Rattle.p21_claim_steps.specs.Keeping.{headings_behind};
-ghost use Rattle.p21_stream_kept.specs.Inside.{headings_of};
-
-/// Adds a data section where the line begins one.
-fn begin_section(sections: &mut Vec<Section>, line: Line) -> Result<(), NoMemory>
-    ensures ok { OnOk result (headings_of sections.new.items ≡ headings_behind (headings_of sections.old.items) (line_of line)) }
-{
-    match line {
-        Line::DataStart => {
-            sections.push(Section { part: None })?;
-            Ok(())
-        }
-        _ => Ok(()),
-    }
-}
-
-ghost use Rattle.std.specs.Prelude.{◌↔◌, [], ◌∷◌, Contains};
-ghost use Rattle.p21_exchange.specs.DataSection.{heading_names, named, section_names};
-ghost use Rattle.p21_stream_kept.specs.Inside.{heading_in};
-
-/// Whether a section has this name.
-fn has_section(sections: &[Section], name: &Text) -> bool
-    ensures { IsTrue result ↔ Contains (section_names (headings_of sections.now)) name.now }
-{
-    let mut rest = sections;
-    while let Some((first, more)) = rest.split_first() {
-        if has_name(first, name) {
-            return true;
-        }
-        rest = more;
-    }
-    false
-}
-
-/// Whether this is the name of the section.
-fn has_name(section: &Section, name: &Text) -> bool
-    ensures { IsTrue result ↔ Contains (heading_names (heading_in section.now.part)) name.now }
-{
-    let Some(part) = &section.part else {
-        return false;
-    };
-    match heading(part) {
-        Some((other, _)) => other == name,
-        None => false,
-    }
-}
+ghost use Rattle.p21_exchange.specs.DataSection.{named};
 
 /// The canonical line that begins a data section with a name, its line feed apart.
 pub(crate) fn heading_line(alloc: Global, name: &Text, text: &Text) -> Result<Vec<u8>, NoMemory>
@@ -335,22 +284,4 @@ pub(crate) fn heading_line(alloc: Global, name: &Text, text: &Text) -> Result<Ve
     text.write_canonical(&mut line)?;
     line.extend_from_slice(b"));")?;
     Ok(line)
-}
-
-/// Adds a data section behind the others. An `Err` changes nothing.
-fn add_section(sections: &mut Vec<Section>, section: Section) -> Result<(), NoMemory>
-    ensures ok { OnOk result (headings_of sections.new.items ≡ headings_of sections.old.items ++ heading_in section.part ∷ []) }
-{
-    sections.push(section)?;
-    Ok(())
-}
-
-ghost use Rattle.std.specs.Prelude.{◌+◌, IfSome};
-
-/// The number of the last data section, counted from the first.
-fn last_section(sections: &[Section]) -> Option<u32>
-    ensures { IfSome result (λ number. number + 1 ≡ length sections.now) }
-{
-    let number = sections.len().checked_sub(1)?;
-    u32::try_from(number).ok()
 }

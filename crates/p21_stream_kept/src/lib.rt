@@ -5,6 +5,7 @@ mod end;
 mod found;
 mod kept;
 mod room;
+mod sections;
 mod served;
 mod stored;
 

@@ -1,8 +1,8 @@
 use Rattle.std.proofs.Common.{subst}
 use Rattle.p21_stream_ending.specs.Parts.{Begins}
 use Rattle.p21_stream_kept.proofs.Ended.{empty-more, parts-more}
-use Rattle.p21_stream_kept.specs.Inside.{heading_in}
-use Rattle.p21_stream_kept.specs.declared.kept.Section.{Section}
+use Rattle.p21_stream_kept.specs.Sections.{heading_in}
+use Rattle.p21_stream_kept.specs.declared.sections.Section.{Section}
 use Rattle.p21_stream_kept.proofs.end.parts_of.Goals as goal
 
 pub loop-section-preserved : goal.loop-section-preserved

@@ -1,7 +1,7 @@
 use Rattle.std.proofs.Common.{take}
 use Rattle.std.specs.List.{AllZip}
 use Rattle.p21_stream_ending.specs.Parts.{AreEmpty, Begins}
-use Rattle.p21_stream_kept.specs.Inside.{headings_of}
+use Rattle.p21_stream_kept.specs.Sections.{headings_of}
 use Rattle.p21_stream_kept.proofs.end.parts_of.Given as goal
 
 abbrev pub invariant-loop-section : goal.invariant-loop-section

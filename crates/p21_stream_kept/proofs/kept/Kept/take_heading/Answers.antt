@@ -1,15 +1,14 @@
 use Rattle.std.proofs.Common.{◌≡◌, ◌+◌, ◌++◌, ◌∷◌, [], ℕ, List, true, ap, length, subst, sym, ◌∙◌, Ok, Err, arith}
-use Rattle.std.specs.Prelude.{Contains, vec_len}
+use Rattle.std.specs.Prelude.{vec_len}
 use Rattle.p21_claim_steps.specs.Keeping.{Kept}
-use Rattle.p21_exchange.specs.DataSection.{Heading, section_names}
+use Rattle.p21_exchange.specs.DataSection.{Heading}
 use Rattle.p21_exchange.specs.Statement.{data_start, section}
 use Rattle.p21_grammar_machine.specs.Shape.{heading_of}
 use Rattle.p21_grammar_tree.specs.View.{items_of, views}
 use Rattle.p21_schemas.specs.SchemaName.{NamesSchema}
 use Rattle.p21_stream_fault.specs.declared.fault.Fault.TheVariants.{CanonicalTooLong, SchemaName, SectionTwice}
 use Rattle.p21_stream_kept.proofs.Stepping.{heading-again, other-heading, refused-heading, took-heading}
-use Rattle.p21_stream_kept.specs.Inside.{headings_of, kept_of}
-use Rattle.p21_stream_kept.specs.declared.kept.Section.{Section}
+use Rattle.p21_stream_kept.specs.Inside.{kept_of}
 use Rattle.p21_stream_kept.specs.Steps.{HasRoom, StepGives}
 use Rattle.p21_stream_kept.proofs.kept.Kept.take_heading.Goals as goal
 
@@ -24,14 +23,14 @@ returns-then-not-names_schema-clause-gives c =
     let fails = c.if-not-names_schema.true in
     cc))
 
-pub returns-then-has_section-clause-gives : goal.returns-then-has_section-clause-gives
-returns-then-has_section-clause-gives c =
+pub returns-then-has_name-clause-gives : goal.returns-then-has_name-clause-gives
+returns-then-has_name-clause-gives c =
     let old : Kept = kept_of c.self.inside in
     let P : Heading → Type 0 = λ h. StepGives c.args.schema.now c.args.limits old (section (data_start h)) (Err SectionTwice) old in
     subst (λ (k : Kept). StepGives c.args.schema.now c.args.limits k (section (data_start (heading_of (views (items_of c.args.part.params))))) (Err SectionTwice) k) c.self.view_is
     (subst P (sym c.in-Some.ensures.some)
     (heading-again c.args.schema.now c.args.limits old old c.in-Some.name.now c.in-Some.text.now
-    (subst (λ (xs : List Section). Contains (section_names (headings_of xs)) c.in-Some.name.now) c.deref.ensures.value (c.has_section.ensures.0 c.if-has_section.true))))
+    (c.has_name.ensures.0 c.if-has_name.true)))
 
 pub returns-then-not-has_room-clause-gives : goal.returns-then-not-has_room-clause-gives
 returns-then-not-has_room-clause-gives c =
@@ -51,17 +50,17 @@ returns-clause-gives c =
     let old : Kept = kept_of c.self.inside in
     let same : vec_len c.in-Ok.line ≡ length c.in-Ok.line.items = omega (arith, c.in-Ok.line.ok.0) in
     let size = c.len-bytes.ensures ∙ same ∙ ap length c.in-Ok.ensures in
-    let headings = c.in-Ok-add_section.ensures.ok ∙ ap (λ (h : Heading). old.headings ++ h ∷ []) c.in-Some.ensures.some in
+    let headings = c.in-Ok-add.ensures.ok ∙ ap (λ (h : Heading). old.headings ++ h ∷ []) c.in-Some.ensures.some in
     let framing = ap (λ n. old.framing + (n + 1)) size in
-    let new : Kept = record old { headings = headings_of c.add_section.new.sections.items; framing = old.framing + (c.len-bytes.result + 1) } in
+    let new : Kept = record old { headings = c.add.new.self; framing = old.framing + (c.len-bytes.result + 1) } in
     let P : Heading → Type 0 = λ h. StepGives c.args.schema.now c.args.limits old (section (data_start h)) (Ok tt) new in
     subst (λ (k : Kept). StepGives c.args.schema.now c.args.limits k (section (data_start (heading_of (views (items_of c.args.part.params))))) (Ok tt) new) c.self.view_is
     (subst P (sym c.in-Some.ensures.some)
     (took-heading c.args.schema.now c.args.limits old new c.in-Some.name.now c.in-Some.text.now
     (subst (λ (n : List ℕ). NamesSchema n c.args.schema.now.name) c.chars.ensures (subst (λ (n : List ℕ). NamesSchema c.chars.result.now n) c.name.ensures (c.names_schema.ensures.0 c.if-not-names_schema.false)))
     (λ had.
-    let passes : c.has_section.result ≡ true = c.has_section.ensures.1 (subst (λ (xs : List Section). Contains (section_names (headings_of xs)) c.in-Some.name.now) (sym c.deref.ensures.value) had) in
-    let fails = c.if-has_section.false in
+    let passes : c.has_name.result ≡ true = c.has_name.ensures.1 had in
+    let fails = c.if-has_name.false in
     cc)
     (subst (λ n. HasRoom c.args.limits (old.bytes + old.framing) n) size (c.has_room.ensures.decides.0 c.if-not-has_room.false))
     (λ i. record old { headings = headings i; framing = framing i })))

@@ -14,10 +14,9 @@ use Rattle.p21_mapping_values.specs.declared.need.Need.{Need}
 use Rattle.p21_stream_fault.specs.declared.fault.Fault.TheVariants.{CanonicalTooLong, DuplicateName}
 use Rattle.p21_stream_kept.proofs.Finding.{took-found}
 use Rattle.p21_stream_kept.proofs.Instances.{instance-again, instance-broken, refused-instance, stored-names}
-use Rattle.p21_stream_kept.specs.Inside.{heading_in, kept_of, references_of, stored_of}
+use Rattle.p21_stream_kept.specs.Inside.{kept_of, references_of, stored_of}
 use Rattle.p21_stream_kept.specs.Served.{AddsWaiting}
 use Rattle.p21_stream_kept.specs.Steps.{HasRoom, StepGives}
-use Rattle.p21_stream_kept.specs.declared.kept.Section.{Section}
 use Rattle.p21_stream_kept.proofs.kept.Kept.take_instance.Goals as goal
 
 pub returns-in-Err-clause-gives : goal.returns-in-Err-clause-gives
@@ -62,10 +61,10 @@ returns-clause-gives c =
     let fails = c.if-has_instance.false in
     cc in
     let A : List Need → Type 0 = λ xs. AddsWaiting s old.stored c.args.name (needs_view xs) old.waiting waiting in
-    let adds : A found.needs.items = subst A c.deref-2.ensures.value c.in-Ok-wait.ensures in
+    let adds : A found.needs.items = subst A c.deref.ensures.value c.in-Ok-wait.ensures in
     let E : List EntityId → List ℕ → Type 0 = λ ids text. IsPermutation (record { name = c.args.name; section = c.in-Some.section; entities = ids_view ids; text = text } ∷ old.stored) stored in
-    let permuted : E found.entities found.line.items = subst (E found.entities) c.deref-3.ensures.value (subst (λ ids. E ids c.deref-3.result.now) c.items.ensures c.in-Ok-store.ensures.ok) in
-    let last : c.in-Some.section + 1 ≡ length old.headings = c.in-Some.ensures ∙ ap length c.deref.ensures.value ∙ sym (length-map c.self.inside.sections.items (λ (x : Section). heading_in x.part)) in
+    let permuted : E found.entities found.line.items = subst (E found.entities) c.deref-2.ensures.value (subst (λ ids. E ids c.deref-2.result.now) c.items.ensures c.in-Ok-store.ensures.ok) in
+    let last : c.in-Some.section + 1 ≡ length old.headings = c.in-Some.ensures in
     subst (λ (k : Kept). StepGives s c.args.limits k (instance c.args.name (record_view c.args.of)) (Ok tt) new) c.self.view_is
     (took-found s c.args.limits old new c.args.name (record_view c.args.of) (ids_view found.entities) (needs_view found.needs.items) found.line.items c.in-Ok.ensures.finds none waiting adds c.in-Some.section last stored permuted
     (subst (λ n. HasRoom c.args.limits (old.bytes + old.framing) n) size (c.has_room.ensures.decides.0 c.if-not-has_room.false))

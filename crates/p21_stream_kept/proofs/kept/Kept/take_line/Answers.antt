@@ -4,7 +4,7 @@ use Rattle.p21_exchange.specs.Statement.{section}
 use Rattle.p21_grammar_machine.specs.Statements.{line_of}
 use Rattle.p21_stream_fault.specs.declared.fault.Fault.TheVariants.{CanonicalTooLong}
 use Rattle.p21_stream_kept.proofs.Stepping.{refused-line, took-line}
-use Rattle.p21_stream_kept.specs.Inside.{headings_of, kept_of}
+use Rattle.p21_stream_kept.specs.Inside.{kept_of}
 use Rattle.p21_stream_kept.specs.Steps.{HasRoom, StepGives}
 use Rattle.p21_stream_kept.proofs.kept.Kept.take_line.Goals as goal
 
@@ -24,7 +24,7 @@ returns-clause-gives c = λ s.
     let old : Kept = kept_of c.self.inside in
     let headings = c.in-Ok.ensures.ok in
     let framing = ap (λ n. old.framing + (n + 1)) c.line_size-size.ensures in
-    let new : Kept = record old { headings = headings_of c.begin_section.new.sections.items; framing = old.framing + (c.line_size-size.result + 1) } in
+    let new : Kept = record old { headings = c.begin.new.self; framing = old.framing + (c.line_size-size.result + 1) } in
     subst (λ (k : Kept). StepGives s c.args.limits k (section (line_of c.args.line)) (Ok tt) new) c.self.view_is
     (took-line c.args.limits old new c.args.line
     (subst (λ n. HasRoom c.args.limits (old.bytes + old.framing) n) c.line_size-size.ensures (c.has_room.ensures.decides.0 c.if-not-has_room.false))
