@@ -10,13 +10,12 @@ use Rattle.std.specs.Cmp.Lexicographic.{slice_cmp}
 use Rattle.std.specs.List.{Contains, list_any}
 use Rattle.std.specs.Ordering.{is_eq, match_ordering, nat_cmp}
 use Rattle.std.specs.Prelude as std
-use Rattle.std.specs.Str.{bytes_eq}
 use Rattle.std.specs.declared.alloc.Global.{Global}
 use Rattle.std.specs.declared.cmp.Ordering.{Ordering}
 use Rattle.std.specs.declared.cmp.Ordering.TheVariants.{Equal, Greater, Less}
 use Rattle.p21_basics.proofs.Members.{Contains-cases, Contains-first, Contains-none}
-use Rattle.p21_exchange.specs.DataSection.{Heading, heading_names, section_names}
-use Rattle.p21_stream_kept.specs.Sections.{HasNames, has_name, heading_in, headings_of, names_in}
+use Rattle.p21_exchange.specs.DataSection.{heading_names, section_names}
+use Rattle.p21_stream_kept.specs.Sections.{HasNames, has_name, heading_in, headings_of}
 use Rattle.p21_stream_kept.specs.declared.sections.Section.{Section}
 
 abbrev Name : Type 0
@@ -97,15 +96,15 @@ has_added names added all new x key is named keys has = λ name. (to name, from 
 
   to : (name : List ℕ) → IsTrue (has_name added name) → Contains (section_names (headings_of new)) name
   to name e = subst (λ (ns : List (List ℕ)). Contains ns name) (sym same) (elim (or_cases (is_name name key) (has_name names name) (sym (now name) ∙ e)) [
-    inl here ↦ Contains-append_right (section_names (headings_of all)) (key.items ∷ []) name (subst (λ (n : List ℕ). Contains (key.items ∷ []) n) (sym (is_same name key.items here)) (Contains-first key.items []))
+    | inl here ↦ Contains-append_right (section_names (headings_of all)) (key.items ∷ []) name (subst (λ (n : List ℕ). Contains (key.items ∷ []) n) (sym (is_same name key.items here)) (Contains-first key.items []))
     | inr before ↦ Contains-append_left (section_names (headings_of all)) (key.items ∷ []) name ((has name).0 before)
   ])
 
   from : (name : List ℕ) → Contains (section_names (headings_of new)) name → IsTrue (has_name added name)
   from name among = now name ∙ elim (Contains-append_cases (section_names (headings_of all)) (key.items ∷ []) name (subst (λ (ns : List (List ℕ)). Contains ns name) same among)) [
-    inl before ↦ or_right (is_name name key) (has_name names name) ((has name).1 before)
+    | inl before ↦ or_right (is_name name key) (has_name names name) ((has name).1 before)
     | inr here ↦ elim (Contains-cases key.items [] name here) [
-      inl is ↦ or_left (is_name name key) (has_name names name) (subst (λ (n : List ℕ). is_eq (slice_cmp nat_cmp n key.items) ≡ true) is (is_itself key.items))
+      | inl is ↦ or_left (is_name name key) (has_name names name) (subst (λ (n : List ℕ). is_eq (slice_cmp nat_cmp n key.items) ≡ true) is (is_itself key.items))
       | inr none ↦ absurd (Contains-none name none)
     ]
   ]

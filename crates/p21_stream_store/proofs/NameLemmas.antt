@@ -48,4 +48,3 @@ not_found xs x (Err i) place rising s e none (k, h, at) =
     let where_ = searched xs x (Err i) s (never_fall xs rising) in
     let here : get_or xs k x ≡ get_or xs k 0 = get_or_default_zero xs k x h in
     elim (leb_tells i k) [ inl behind ↦ (let above = where_.2 k behind.1 h in omega (arith, above, at, here)) | inr before ↦ (let below = where_.1 k before.1 in omega (arith, below, at, here)) ]
-

@@ -1,9 +1,29 @@
--- A tree that finds names by their places.
-use Rattle.std.specs.Prelude.{◌≡◌, ℕ, List, slice_get, Some}
-use Rattle.std.specs.Ordering.{nat_cmp}
+-- Where the places of names are kept.
+use Rattle.std.specs.Prelude.{◌≡◌, ◌≢◌, ℕ, zero, suc, List, Option, None, Some, slice_get, slice_index_or}
 use Rattle.std.specs.BTreeMap.{BTreeMap, get}
+use Rattle.std.specs.Ordering.{nat_cmp}
 
--- the tree has each name with its place, and nothing else
-pub record ArePlacesOf (names : List ℕ) (places : BTreeMap ℕ ℕ) : Type 0 where
-  pub found : (name place : ℕ) → get nat_cmp places name ≡ Some place → slice_get names place ≡ Some name
-  pub kept : (name place : ℕ) → slice_get names place ≡ Some name → get nat_cmp places name ≡ Some place
+-- the place of a mark, which is one more than it; 0 marks none
+abbrev pub place_of_mark : ℕ → Option ℕ
+place_of_mark zero = None
+place_of_mark (suc place) = Some place
+
+-- the place that is marked for a name
+abbrev pub place_marked : List ℕ → ℕ → Option ℕ
+place_marked marks name = place_of_mark (slice_index_or marks name 0)
+
+-- the place of a name by the marks, or else by the tree
+abbrev pub place_in : List ℕ → BTreeMap ℕ ℕ → ℕ → Option ℕ
+place_in marks tree name = elim (place_marked marks name) [ None ↦ get nat_cmp tree name | Some place ↦ Some place ]
+
+-- each name is found at its place, and no other name is found
+pub record ArePlacesOf (names : List ℕ) (find : ℕ → Option ℕ) : Type 0 where
+  pub found : (name place : ℕ) → find name ≡ Some place → slice_get names place ≡ Some name
+  pub kept : (name place : ℕ) → slice_get names place ≡ Some name → find name ≡ Some place
+
+-- one name has another answer, and all others have theirs
+abbrev pub Changes : (ℕ → Option ℕ) → ℕ → Option ℕ → (ℕ → Option ℕ) → Type 0
+Changes old name answer new = (new name ≡ answer) × ((other : ℕ) → other ≢ name → new other ≡ old other)
+
+abbrev pub IsSame : (ℕ → Option ℕ) → (ℕ → Option ℕ) → Type 0
+IsSame old new = (name : ℕ) → new name ≡ old name
