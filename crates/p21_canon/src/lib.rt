@@ -4,3 +4,7 @@
 pub use p21_canon_header::write_header;
 pub use p21_canon_record::write_record;
 pub use p21_canon_same::same;
+pub use p21_express_tables::Schema;
+pub use p21_grammar_tree::Part;
+pub use p21_mapping_values::{Ids, Rows, Typed, Value, Values};
+pub use p21_values::{Name, NoMemory};

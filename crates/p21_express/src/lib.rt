@@ -6,4 +6,9 @@ mod reading;
 mod redeclaring;
 
 pub use p21_express_outline::SchemaFault;
+pub use p21_express_tables::Schema;
+pub use p21_express_types::{
+    EntityId, Member, Members, Place, PlaceType, TypeId, TypeKind, TypeUse, Width, Words,
+};
+pub use p21_values::NoMemory;
 pub use reading::read_schema;
