@@ -1,0 +1,5 @@
+#!/bin/sh
+# Measures how time and memory grow with the input, and holds them against bounds: tests/growing/measure.py says which.
+# It needs a C compiler for one of its inputs, and takes some minutes. It stands beside the gate.
+
+exec python3 "$(dirname -- "$(readlink -f -- "$0")")/growing/measure.py" "$@"
