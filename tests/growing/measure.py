@@ -32,7 +32,7 @@ FILES = [
     Row("falling", 50_000),
     Row("shuffled", 50_000),
     Row("colliding", 12_500),
-    Row("sections", 8_000),
+    Row("sections", 16_000),
     Row("sections_with_long_names", 1_000),
     Row("references_ahead", 25_000),
     Row("set_of_references", 25_000),
