@@ -11,10 +11,10 @@ _p21() {
     case ${COMP_WORDS[1]} in
         param) words='--help' ;;
         schema) words='--help' ;;
-        check) words='--help' ;;
-        canon) words='--help' ;;
+        check) words='--progress --help' ;;
+        canon) words='--progress --help' ;;
         show) words='--name --help' ;;
-        same) words='--help' ;;
+        same) words='--progress --help' ;;
         faults) words='--help' ;;
         help) words='param schema check canon show same faults' ;;
     esac

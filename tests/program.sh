@@ -218,21 +218,95 @@ run same "$demo" "$here/none" "$here/absent"
 expect 'a first file that is not there' 3 '' "cannot open $here/none"
 
 run --version
-expect 'the version' 0 'p21 0.1.0
-proved by rattle-kit-13b logic dac8208d650f15bf' ''
+expect 'the version' 0 'p21 0.1.0' ''
 
-# Each refusal of the documents is listed with its number and name.
+# The toolchain that README names is the one that is here.
+if command -v rt > /dev/null && ! grep -qF "The toolchain \`$(rt version)\`" README.md; then
+    echo "README does not name the toolchain $(rt version)" >&2
+    failed=1
+fi
+
+# Each refusal of the documents is listed with its number and name, and explained by both.
 run faults
 cp "$here/output" "$here/listed"
 : > "$here/output"
 expect 'the list of refusals: status and error' 0 '' ''
 sed -n 's/^### \(S\{0,1\}[0-9][0-9]* [A-Za-z0-9]*\)$/\1/p' docs/FAULTS.md | while read -r number name; do
     grep -q "^ *$number $name  *[^ ]" "$here/listed" || echo "the list of refusals: no $number $name"
+    ./p21 faults "$number" | head -n 1 | grep -qx "$number $name" || echo "the refusal $number: another one is explained"
+    ./p21 faults "$name" | grep -qx "$number $name" || echo "the refusal $name: $number is not explained"
 done > "$here/unlisted"
 if [ -s "$here/unlisted" ]; then
     cat "$here/unlisted" >&2
     failed=1
 fi
+
+run faults 11
+expect 'one refusal' 0 "11 BadName
+
+    #1=VERTEX_POINT('',# 2);
+
+\`refused 11 BadName at statement 8\`
+
+Behind \`#\` stands no digit. Leave out what stands between." ''
+
+for word in frob 99 S10 011 ''; do
+    run faults "$word"
+    expect "no refusal by '$word'" 2 '' "error: invalid value '$word' for '\[N\]'*"
+done
+
+run faults 11 12
+expect 'two refusals' 2 '' '*12*'
+
+tools/make-refusals --check || failed=1
+tools/make-pages --check ./p21 || failed=1
+
+# A file of some 160 MiB of blanks between its data section and its end.
+file | sed '/^DATA;$/q' > "$here/blank"
+head -c 167772160 /dev/zero | tr '\0' ' ' >> "$here/blank"
+printf '%s\n' 'ENDSEC;' 'END-ISO-10303-21;' >> "$here/blank"
+
+run check --progress "$demo" "$here/blank"
+expect 'progress without a terminal' 0 'accepted, instances 0, canonical bytes 152' ''
+
+# on_terminal WORDS..: runs the program with a terminal for standard error.
+on_terminal() {
+    python3 -c '
+import os, pty, subprocess, sys
+terminal, end = pty.openpty()
+with open(sys.argv[1], "wb") as output:
+    run = subprocess.Popen(sys.argv[3:], stdin=subprocess.DEVNULL, stdout=output, stderr=end)
+os.close(end)
+said = b""
+try:
+    while part := os.read(terminal, 4096):
+        said += part
+except OSError:
+    pass  # what Linux answers where the other end is closed
+with open(sys.argv[2], "wb") as error:
+    error.write(said.replace(b"\r", b""))
+sys.exit(run.wait())
+' "$here/output" "$here/error" ./p21 "$@"
+    status=$?
+}
+
+lines="$here/blank: 64 MiB read
+$here/blank: 128 MiB read"
+
+on_terminal check --progress "$demo" "$here/blank"
+expect 'progress of a check' 0 'accepted, instances 0, canonical bytes 152' "$lines"
+
+on_terminal canon --progress "$demo" "$here/blank"
+expect 'progress of a canonical file' 0 "$(file)" "$lines"
+
+on_terminal same --progress "$demo" "$here/empty" "$here/blank"
+expect 'progress of a comparison' 0 'same' "$lines"
+
+on_terminal check "$demo" "$here/blank"
+expect 'a terminal, and no progress asked for' 0 'accepted, instances 0, canonical bytes 152' ''
+
+run show --progress "$demo" "$here/point" --name 2
+expect 'progress of show' 2 '' '*--progress*'
 
 for command in param schema check canon show same faults; do
     "$program" "$command" --help > "$here/help" 2> "$here/error" < /dev/null

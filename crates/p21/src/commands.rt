@@ -3,15 +3,18 @@ ghost use Rattle.std.specs.Prelude.{◌≡◌, ◌⊎◌, IfOk};
 ghost use Rattle.p21.specs.Statuses.{IsOfCommand};
 ghost use Rattle.p21_commands.specs.Status.{done, failed};
 
+use crate::progress::Told;
+use crate::refusals::SECTIONS;
 use clap::ArgMatches;
-use p21_command_line::FAULTS;
+use p21_command_line::LIST;
 use p21_commands::{CommandFault, DONE, param_command, report};
 use p21_commands_files::{canon_command, check_command, same_command, show_command};
 use p21_commands_schema::schema_command;
 use p21_stream_io::Watched;
 use p21_values::Name;
 use std::fs::{self, File};
-use std::io;
+use std::io::{self, IsTerminal};
+use std::rt::Stderr;
 
 /// Why a command isn't run.
 #[derive(Drop)]
@@ -20,6 +23,8 @@ pub enum Stopped<'a> {
     Incomplete,
     /// The number of the instance has a sign.
     Signed(&'a str),
+    /// No refusal has this number or name.
+    NoRefusal(&'a str),
     /// The file of this path can't be opened.
     Unopened(&'a str, io::Error),
 }
@@ -35,7 +40,7 @@ pub fn run_command<'a>(rt: &HostRuntime, matches: &ArgMatches<'a>) -> Result<u8,
         Some(("canon", found)) => run_canon(rt, found),
         Some(("show", found)) => run_show(rt, found),
         Some(("same", found)) => run_same(rt, found),
-        Some(("faults", _)) => Ok(run_faults(rt)),
+        Some(("faults", found)) => run_faults(rt, found),
         _ => Err(Stopped::Incomplete),
     }
 }
@@ -56,12 +61,12 @@ fn run_schema<'a>(rt: &HostRuntime, found: &ArgMatches<'a>) -> Result<u8, Stoppe
     Ok(schema_command(rt.alloc(), &mut schema, &mut rt.stdout(), &mut rt.stderr()))
 }
 
-/// `check S FILE`.
+/// `check S FILE [--progress]`.
 fn run_check<'a>(rt: &HostRuntime, found: &ArgMatches<'a>) -> Result<u8, Stopped<'a>>
     ensures { IfOk result IsOfCommand }
 {
     let mut schema = open(rt, found, "S")?;
-    let mut file = Watched::new(open(rt, found, "FILE")?);
+    let mut file = Watched::new(open_told(rt, found, "FILE")?);
     Ok(check_command(
         rt.alloc(),
         &mut schema,
@@ -71,12 +76,12 @@ fn run_check<'a>(rt: &HostRuntime, found: &ArgMatches<'a>) -> Result<u8, Stopped
     ))
 }
 
-/// `canon S FILE`.
+/// `canon S FILE [--progress]`.
 fn run_canon<'a>(rt: &HostRuntime, found: &ArgMatches<'a>) -> Result<u8, Stopped<'a>>
     ensures { IfOk result IsOfCommand }
 {
     let mut schema = open(rt, found, "S")?;
-    let mut file = Watched::new(open(rt, found, "FILE")?);
+    let mut file = Watched::new(open_told(rt, found, "FILE")?);
     let mut output = Watched::new(rt.stdout());
     Ok(canon_command(
         rt.alloc(),
@@ -115,13 +120,13 @@ fn name_given<'a>(found: &ArgMatches<'a>) -> Result<Name, Stopped<'a>> {
     Ok(Name(number))
 }
 
-/// `same S A B`.
+/// `same S A B [--progress]`.
 fn run_same<'a>(rt: &HostRuntime, found: &ArgMatches<'a>) -> Result<u8, Stopped<'a>>
     ensures { IfOk result IsOfCommand }
 {
     let mut schema = open(rt, found, "S")?;
-    let mut first = Watched::new(open(rt, found, "A")?);
-    let mut second = Watched::new(open(rt, found, "B")?);
+    let mut first = Watched::new(open_told(rt, found, "A")?);
+    let mut second = Watched::new(open_told(rt, found, "B")?);
     Ok(same_command(
         rt.alloc(),
         &mut schema,
@@ -132,14 +137,51 @@ fn run_same<'a>(rt: &HostRuntime, found: &ArgMatches<'a>) -> Result<u8, Stopped<
     ))
 }
 
-/// `faults`.
-fn run_faults(rt: &HostRuntime) -> u8
-    ensures { (result ≡ done) ⊎ (result ≡ failed) }
+/// `faults [N]`.
+fn run_faults<'a>(rt: &HostRuntime, found: &ArgMatches<'a>) -> Result<u8, Stopped<'a>>
+    ensures { IfOk result IsOfCommand }
 {
-    match println!(rt; "{}", FAULTS) {
+    let Some(word) = found.get_str("N") else {
+        return Ok(written(rt, println!(rt; "{}", LIST)));
+    };
+    match print_sections(rt, SECTIONS, word) {
+        Ok(false) => Err(Stopped::NoRefusal(word)),
+        Ok(true) => Ok(DONE),
+        Err(error) => Ok(written(rt, Err(error))),
+    }
+}
+
+/// The status of an answer that was written or not.
+fn written(rt: &HostRuntime, answer: io::Result<()>) -> u8
+    ensures { IsOfCommand result }
+{
+    match answer {
         Ok(()) => DONE,
         Err(_) => report(&CommandFault::Write, &mut rt.stderr()),
     }
+}
+
+/// Prints each section of the documents whose title has the word, and answers whether there is one.
+fn print_sections(rt: &HostRuntime, sections: &str, word: &str) -> io::Result<bool> {
+    let mut found = false;
+    for section in sections.split("### ") {
+        if is_titled(section, word) {
+            println!(rt; "{section}")?;
+            found = true;
+        }
+    }
+    Ok(found)
+}
+
+/// Whether the word is the number or the name in the title of a section, which is its first line.
+fn is_titled(section: &str, word: &str) -> bool {
+    let Some((title, _)) = section.split_once('\n') else {
+        return false;
+    };
+    let Some((number, name)) = title.split_once(' ') else {
+        return false;
+    };
+    number == word || name == word
 }
 
 /// Opens the file that an argument names.
@@ -151,4 +193,17 @@ fn open<'a>(rt: &HostRuntime, found: &ArgMatches<'a>, argument: &str) -> Result<
         Ok(file) => Ok(file),
         Err(error) => Err(Stopped::Unopened(path, error)),
     }
+}
+
+/// Opens the file that an argument names, for a command that may have to say how much of it is read: with `--progress`, on a
+/// terminal.
+fn open_told<'a>(
+    rt: &HostRuntime,
+    found: &ArgMatches<'a>,
+    argument: &str,
+) -> Result<Told<'a, File, Stderr>, Stopped<'a>> {
+    let file = open(rt, found, argument)?;
+    let path = found.get_str(argument).unwrap_or_default();
+    let lines = (found.get_flag("progress") && rt.stderr().is_terminal()).then(|| rt.stderr());
+    Ok(Told::new(file, path, lines))
 }

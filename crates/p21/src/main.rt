@@ -8,6 +8,8 @@ ghost use Rattle.clap.specs.Words.{kind_of};
 ghost use Rattle.p21_commands.specs.Status.{done, refused, usage, failed};
 
 mod commands;
+mod progress;
+mod refusals;
 
 use clap::error::{Error, ErrorKind};
 use commands::{Stopped, run_command};
@@ -40,6 +42,7 @@ fn run(rt: &HostRuntime) -> u8
         Ok(status) => status,
         Err(Stopped::Incomplete) => USAGE,
         Err(Stopped::Signed(number)) => explain_sign(rt, number),
+        Err(Stopped::NoRefusal(word)) => explain_refusal(rt, word),
         Err(Stopped::Unopened(path, error)) => explain_open(rt, path, &error),
     }
 }
@@ -87,6 +90,18 @@ fn explain_sign(rt: &HostRuntime, number: &str) -> u8
 {
     match eprintln!(rt;
         "error: invalid value '{number}' for '--name <N>': invalid digit found in string\n\nFor more information, try '--help'."
+    ) {
+        Ok(()) => USAGE,
+        Err(_) => FAILED,
+    }
+}
+
+/// Says that no refusal has the number or name that was given.
+fn explain_refusal(rt: &HostRuntime, word: &str) -> u8
+    ensures { (result ≡ usage) ⊎ (result ≡ failed) }
+{
+    match eprintln!(rt;
+        "error: invalid value '{word}' for '[N]': no refusal has this number or name; p21 faults lists them\n\nFor more information, try '--help'."
     ) {
         Ok(()) => USAGE,
         Err(_) => FAILED,

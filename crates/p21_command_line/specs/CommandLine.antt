@@ -1,7 +1,7 @@
 -- What the command line may say, in the words of clap.
 use Rattle.std.specs.Prelude.{Some, true, codes}
 use Rattle.clap.specs.Words.{App, Rule, Text, new_app, new_rule, with_rule, with_subcommand}
-use Rattle.clap.specs.declared.builder.action.ArgAction.TheVariants.{Set}
+use Rattle.clap.specs.declared.builder.action.ArgAction.TheVariants.{Set, SetTrue}
 use Rattle.clap.specs.declared.builder.value_parser.ValueParser.TheVariants.{Unsigned}
 
 -- what has to be given: one word
@@ -16,6 +16,14 @@ name_rule = record (given_rule (codes "name")) {
   parser = Some (Unsigned 0 18446744073709551615);
 }
 
+-- what may be given: one word
+abbrev pub optional_rule : Text → Rule
+optional_rule id = record (new_rule id) { action = Some Set }
+
+-- `--progress`
+abbrev pub progress_rule : Rule
+progress_rule = record (new_rule (codes "progress")) { action = Some SetTrue; long = Some (codes "progress") }
+
 -- `param FILE`
 abbrev pub param_app : App
 param_app = with_rule (new_app (codes "param")) (given_rule (codes "FILE"))
@@ -28,26 +36,26 @@ schema_app = with_rule (new_app (codes "schema")) (given_rule (codes "S"))
 abbrev pub on_file : Text → App
 on_file name = with_rule (with_rule (new_app name) (given_rule (codes "S"))) (given_rule (codes "FILE"))
 
--- `check S FILE`
+-- `check S FILE [--progress]`
 abbrev pub check_app : App
-check_app = on_file (codes "check")
+check_app = with_rule (on_file (codes "check")) progress_rule
 
--- `canon S FILE`
+-- `canon S FILE [--progress]`
 abbrev pub canon_app : App
-canon_app = on_file (codes "canon")
+canon_app = with_rule (on_file (codes "canon")) progress_rule
 
 -- `show S FILE --name N`
 abbrev pub show_app : App
 show_app = with_rule (on_file (codes "show")) name_rule
 
--- `same S A B`
+-- `same S A B [--progress]`
 abbrev pub same_app : App
-same_app = with_rule (with_rule (with_rule (new_app (codes "same"))
-    (given_rule (codes "S"))) (given_rule (codes "A"))) (given_rule (codes "B"))
+same_app = with_rule (with_rule (with_rule (with_rule (new_app (codes "same"))
+    (given_rule (codes "S"))) (given_rule (codes "A"))) (given_rule (codes "B"))) progress_rule
 
--- `faults`
+-- `faults [N]`
 abbrev pub faults_app : App
-faults_app = new_app (codes "faults")
+faults_app = with_rule (new_app (codes "faults")) (optional_rule (codes "N"))
 
 -- a program with a version that wants one of its commands, before these are added
 abbrev pub bare_app : App

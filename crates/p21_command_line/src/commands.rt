@@ -2,10 +2,10 @@
 ghost use Rattle.std.specs.Prelude.{◌≡◌, IfOk, codes, false};
 ghost use Rattle.clap.specs.Words.{app_of, rule_of};
 ghost use Rattle.clap.specs.declared.builder.command.Command.TheViews.{out-Command as fields_of};
-ghost use Rattle.p21_command_line.specs.CommandLine.{bare_app, canon_app, check_app, faults_app, given_rule, name_rule, param_app};
+ghost use Rattle.p21_command_line.specs.CommandLine.{bare_app, canon_app, check_app, faults_app, given_rule, name_rule, optional_rule, param_app, progress_rule};
 ghost use Rattle.p21_command_line.specs.CommandLine.{program_app, same_app, schema_app, show_app};
 
-use crate::help;
+use crate::{help, refusals};
 use clap::{Arg, ArgAction, Command, value_parser};
 use std::alloc::{AllocError, Global};
 
@@ -20,7 +20,7 @@ pub fn command_line<'a>(alloc: Global) -> Result<Command<'a>, AllocError>
         .subcommand(canon(alloc)?)?
         .subcommand(show(alloc)?)?
         .subcommand(same(alloc)?)?
-        .subcommand(faults(alloc))
+        .subcommand(faults(alloc)?)
 }
 
 /// The program, before its commands are added.
@@ -62,7 +62,7 @@ fn schema<'a>(alloc: Global) -> Result<Command<'a>, AllocError>
         .arg(schema_path(alloc))
 }
 
-/// `check S FILE`.
+/// `check S FILE [--progress]`.
 fn check<'a>(alloc: Global) -> Result<Command<'a>, AllocError>
     ensures app { IfOk result (λ command. app_of command ≡ check_app) }
     ensures local { IfOk result (λ command. (fields_of command).has_globals ≡ false) }
@@ -71,10 +71,11 @@ fn check<'a>(alloc: Global) -> Result<Command<'a>, AllocError>
         .about("Checks a file against a schema")
         .after_help(help::CHECK)
         .arg(schema_path(alloc))?
-        .arg(file_path(alloc))
+        .arg(file_path(alloc))?
+        .arg(progress(alloc))
 }
 
-/// `canon S FILE`.
+/// `canon S FILE [--progress]`.
 fn canon<'a>(alloc: Global) -> Result<Command<'a>, AllocError>
     ensures app { IfOk result (λ command. app_of command ≡ canon_app) }
     ensures local { IfOk result (λ command. (fields_of command).has_globals ≡ false) }
@@ -83,7 +84,8 @@ fn canon<'a>(alloc: Global) -> Result<Command<'a>, AllocError>
         .about("Prints the canonical file of a file")
         .after_help(help::CANON)
         .arg(schema_path(alloc))?
-        .arg(file_path(alloc))
+        .arg(file_path(alloc))?
+        .arg(progress(alloc))
 }
 
 /// `show S FILE --name N`.
@@ -99,7 +101,7 @@ fn show<'a>(alloc: Global) -> Result<Command<'a>, AllocError>
         .arg(name(alloc))
 }
 
-/// `same S A B`.
+/// `same S A B [--progress]`.
 fn same<'a>(alloc: Global) -> Result<Command<'a>, AllocError>
     ensures app { IfOk result (λ command. app_of command ≡ same_app) }
     ensures local { IfOk result (λ command. (fields_of command).has_globals ≡ false) }
@@ -109,17 +111,19 @@ fn same<'a>(alloc: Global) -> Result<Command<'a>, AllocError>
         .after_help(help::SAME)
         .arg(schema_path(alloc))?
         .arg(given(alloc, "A", "The first file"))?
-        .arg(given(alloc, "B", "The second file"))
+        .arg(given(alloc, "B", "The second file"))?
+        .arg(progress(alloc))
 }
 
-/// `faults`.
-fn faults<'a>(alloc: Global) -> Command<'a>
-    ensures app { app_of result ≡ faults_app }
-    ensures local { (fields_of result).has_globals ≡ false }
+/// `faults [N]`.
+fn faults<'a>(alloc: Global) -> Result<Command<'a>, AllocError>
+    ensures app { IfOk result (λ command. app_of command ≡ faults_app) }
+    ensures local { IfOk result (λ command. (fields_of command).has_globals ≡ false) }
 {
     Command::new(alloc, "faults")
-        .about("Lists the refusals with their numbers and names")
-        .after_help(help::FAULTS)
+        .about("Lists the refusals with their numbers and names, or explains one")
+        .after_help(refusals::LIST)
+        .arg(refusal(alloc))
 }
 
 /// The path of a schema.
@@ -151,6 +155,27 @@ fn name<'a>(alloc: Global) -> Arg<'a>
         .long("name")
         .value_name("N")
         .value_parser(value_parser!(u64))
+}
+
+/// `--progress`.
+fn progress<'a>(alloc: Global) -> Arg<'a>
+    ensures rule { rule_of result ≡ progress_rule }
+    ensures local { result.global ≡ false }
+{
+    Arg::new(alloc, "progress")
+        .help("Says on a terminal how much of a file is read, a line for each 64 MiB")
+        .long("progress")
+        .action(ArgAction::SetTrue)
+}
+
+/// The number or the name of a refusal.
+fn refusal<'a>(alloc: Global) -> Arg<'a>
+    ensures rule { rule_of result ≡ optional_rule (codes "N") }
+    ensures local { result.global ≡ false }
+{
+    Arg::new(alloc, "N")
+        .help("Explains the refusal of this number, as 20 or S6, or of this name")
+        .action(ArgAction::Set)
 }
 
 /// What has to be given, as one word.

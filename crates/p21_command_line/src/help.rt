@@ -1,8 +1,7 @@
 //! The texts of the help.
 
-/// The version of the program, and the toolchain that proved it.
-pub const VERSION: &str = "0.1.0
-proved by rattle-kit-13b logic dac8208d650f15bf";
+/// The version of the program.
+pub const VERSION: &str = "0.1.0";
 
 /// What stands below the help of the program.
 pub const PROGRAM: &str = "Answers go to standard output, one line of a fault to standard error.
@@ -10,7 +9,8 @@ pub const PROGRAM: &str = "Answers go to standard output, one line of a fault to
 Statuses: 0 the answer; 1 refused, different or not found; 2 the command line has a
 mistake; 3 memory ran out, or a file could not be opened, read or written.
 
-p21 COMMAND --help says more on each command, p21 faults lists the refusals.";
+p21 COMMAND --help says more on each command, and which slips are common with it;
+p21 faults lists the refusals. A path /dev/stdin reads from a pipe.";
 
 /// What stands below the help of `param`.
 pub const PARAM: &str =
@@ -20,6 +20,11 @@ Answer: one line with the spelling; or, on standard error, a line as
     refused 12 NotOneParameter
 Statuses: 0 the spelling; 1 refused; 2 a wrong command line; 3 out of memory, cannot
 open, read or write.
+
+Slips:
+  - FILE is a path and not the parameter itself: p21 param 1.50 says cannot open 1.50.
+  - From a pipe: printf %s 1.50 | p21 param /dev/stdin
+  - A string has its apostrophes in the file too: ABC without them is refused as 12.
 
 Example, where param.txt holds +012.500E+03:
     $ p21 param param.txt
@@ -33,6 +38,12 @@ derived, ABSTRACT in front of an entity that needs a subtype. Or, on standard er
     schema refused S5 Circular
 Statuses: 0 the schema; 1 refused; 2 a wrong command line; 3 out of memory, cannot open,
 read or write.
+
+Slips:
+  - schema refused S2 Syntax: S is a file of the model and not its schema, or a listing
+    of several schemas.
+  - schema refused S1 Token: the text begins with a byte order mark, say.
+  - From a pipe: unzip -p listing.zip | p21 schema /dev/stdin
 
 Example, where point.exp holds
 SCHEMA s; ENTITY point; x : REAL; y : REAL; END_ENTITY; END_SCHEMA;
@@ -49,6 +60,12 @@ standard error, the first refusal and where it comes, or that of the schema:
 Statuses: 0 accepted; 1 refused; 2 a wrong command line; 3 out of memory, cannot open,
 read or write.
 
+Slips:
+  - schema refused S2 Syntax: schema and file are exchanged; the schema stands first.
+  - refused 20 Unexpected at statement 1: FILE is a schema too.
+  - refused 31 SchemaName: the file names another schema than S declares.
+  - From a pipe: gunzip -c part.step.gz | p21 check S /dev/stdin
+
 Example:
     $ p21 check product.exp product.step
     accepted, instances 128, canonical bytes 4872";
@@ -64,6 +81,13 @@ schema:
 Statuses: 0 the file; 1 refused; 2 a wrong command line; 3 out of memory, cannot open,
 read or write.
 
+Slips:
+  - schema refused S2 Syntax: schema and file are exchanged; the schema stands first.
+  - refused 20 Unexpected at statement 1: FILE is a schema too.
+  - From a pipe: gunzip -c part.step.gz | p21 canon S /dev/stdin
+  - Into a pipe: p21 canon S FILE | sha256sum prints the hash of nothing where FILE is
+    refused, with status 0; behind set -o pipefail the status is 1.
+
 Example:
     $ p21 canon product.exp product.step > canonical.step";
 
@@ -74,6 +98,12 @@ of the file, as check has it, or that the file has no instance of this number:
     no #129
 Statuses: 0 the statement; 1 refused or not found; 2 a wrong command line; 3 out of
 memory, cannot open, read or write.
+
+Slips:
+  - schema refused S2 Syntax: schema and file are exchanged; the schema stands first.
+  - refused 20 Unexpected at statement 1: FILE is a schema too.
+  - N has no #: --name 18, and not --name #18, of which a shell drops the #18.
+  - From a pipe: gunzip -c part.step.gz | p21 show S /dev/stdin --name 18
 
 Example:
     $ p21 show product.exp product.step --name 18
@@ -88,78 +118,15 @@ with first: or second: in front for the file, or that of the schema:
 Statuses: 0 same; 1 different or refused; 2 a wrong command line; 3 out of memory, cannot
 open, read or write.
 
+Slips:
+  - Status 1 is both different and refused. The word stands on standard output, so that
+    a script looks there: case $(p21 same S A B) in same) .. different) .. *) .. esac
+  - schema refused S2 Syntax: schema and file are exchanged; the schema stands first.
+  - refused 20 Unexpected at statement 1: A or B is a schema too.
+  - One of the files from a pipe: gunzip -c a.step.gz | p21 same S /dev/stdin b.step
+  - Two exports of one model are different where only the time stamps are: these stand in
+    the header, which is compared too.
+
 Example:
     $ p21 same product.exp product.step product-other.step
     same";
-
-/// Each refusal, with its number and name.
-pub const FAULTS: &str = "Bytes and tokens:
-   1 BadByte           No word, number or sign begins or goes on with this byte.
-   2 OpenString        The file ends inside a string.
-   3 OpenComment       The file ends inside a remark.
-   4 BadDirective      In a string, a backslash begins no directive that is read.
-   5 BadCodePoint      The digits of a directive name no character.
-   6 NotUtf8           A byte in a string is part of no UTF-8 character.
-   7 BadNumber         A sign or an exponent has no digits behind it.
-   8 NumberRange       The exponent of the number is outside -9999 to 9999.
-   9 BadBinary         A binary has other digits, or bits that it must not have.
-  10 NameRange         The name of an instance is over 18446744073709551615.
-  11 BadName           No digit stands behind #.
-  12 NotOneParameter   For param alone: the text is not one scalar parameter.
-  13 BadWord           From the library alone: these bytes are no keyword.
-
-Statements:
-  20 Unexpected        No statement goes on with this token.
-  21 TooDeep           Lists and typed parameters stand more than 64 deep.
-  22 RecordTooLong     A statement has too many bytes.
-  23 FileTooLong       The file, or the text of param, has too many bytes.
-  24 EndsEarly         The file ends before END-ISO-10303-21;.
-  25 AfterEnd          Something follows END-ISO-10303-21;.
-  26 LeftOut           A form that is not read; its name is in parentheses.
-  27 CanonicalTooLong  A canonical statement or file has too many bytes.
-
-Header and sections:
-  30 HeaderShape       A record of the header has another form than it must have.
-  31 SchemaName        The file is of another schema than the one given.
-  32 SectionShape      A data section has no name, or no list of one schema.
-  33 SectionTwice      Two data sections have one name.
-
-Instances:
-  40 DuplicateName     Two instances have one name.
-  41 UnknownEntity     The schema has no entity of this keyword.
-  42 Abstract          The entity is abstract, and no subtype of it is there.
-  43 PartMissing       The instance lacks the part of a supertype.
-  44 PartTwice         An entity has two parts.
-  45 Count             The record has another number of values than the entity.
-  46 Missing           $ stands for a value that is not optional.
-  47 StarNotDerived    * stands for a value that is not derived.
-  48 DerivedNotStar    Something else than * stands for a derived value.
-  49 WrongKind         The value is of another kind than its type.
-  50 Width             A string or binary has another width than its type allows.
-  51 Bounds            A list has fewer or more elements than its type allows.
-  52 NotDistinct       Two elements that have to differ mean the same.
-  53 UnknownItem       The enumeration has no such item.
-  54 SelectType        The value has no type that its SELECT offers.
-  55 TwoRedeclarations Two entities of the instance declare one attribute anew.
-  56 Dangling          A reference names an instance that is not in the file.
-  57 WrongTarget       A reference names an instance of the wrong entity.
-  58 OneOf             The instance is of two entities of which it may be one.
-
-The machine (status 3, and the line that is printed has no number):
-  90 NoMemory          out of memory: memory ran out.
-  91 ReadFault         read fault: the system answered an error to a read.
-  92 WriteFault        write fault: the answer could not be written.
-     cannot open FILE  There is no such file, or it may not be read.
-
-Schemas:
-  S1 Token             A string or remark has no end, or a byte begins no word.
-  S2 Syntax            No declaration goes on so.
-  S3 Duplicate         A name is declared twice.
-  S4 UnknownName       A name is declared nowhere.
-  S5 Circular          An entity, a type or a SELECT stands in itself.
-  S6 LeftOut           A form of EXPRESS that is not read.
-  S7 Bounds            Bounds or a width that cannot be.
-  S8 RedeclaredPlace   What is declared anew is no attribute of a supertype.
-  S9 TooLarge          The schema is over a limit.
-
-docs/FAULTS.md has each of them with an example, and what to do about it.";

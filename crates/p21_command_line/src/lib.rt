@@ -3,6 +3,7 @@
 
 mod commands;
 mod help;
+mod refusals;
 
 pub use commands::command_line;
-pub use help::FAULTS;
+pub use refusals::LIST;

@@ -32,6 +32,26 @@ const COMMANDS: Taken = &[
     (&["p21", "same", "s", "a", "b"], "same", "S", "s"),
     (&["p21", "same", "s", "a", "b"], "same", "A", "a"),
     (&["p21", "same", "s", "a", "b"], "same", "B", "b"),
+    (&["p21", "faults", "20"], "faults", "N", "20"),
+    (
+        &["p21", "check", "s", "f", "--progress"],
+        "check",
+        "progress",
+        "true",
+    ),
+    (
+        &["p21", "canon", "--progress", "s", "f"],
+        "canon",
+        "progress",
+        "true",
+    ),
+    (
+        &["p21", "same", "s", "--progress", "a", "b"],
+        "same",
+        "progress",
+        "true",
+    ),
+    (&["p21", "check", "s", "f"], "check", "progress", "false"),
 ];
 
 /// Whether the argument of a command has this value.
@@ -154,7 +174,15 @@ const MISTAKES: NotTaken = &[
         &["p21", "same", "s", "a", "b", "c"],
         ErrorKind::UnknownArgument,
     ),
-    (&["p21", "faults", "1"], ErrorKind::UnknownArgument),
+    (&["p21", "faults", "1", "2"], ErrorKind::UnknownArgument),
+    (
+        &["p21", "show", "s", "f", "--name", "1", "--progress"],
+        ErrorKind::UnknownArgument,
+    ),
+    (
+        &["p21", "check", "s", "f", "--progress", "--progress"],
+        ErrorKind::ArgumentConflict,
+    ),
 ];
 
 const HELP: NotTaken = &[

@@ -10,4 +10,4 @@ returns c =
     let canon = adds check c.in_ok-canon.ensures.app c.in_ok-canon.ensures.local c.in_ok-subcommand-4.ensures in
     let show = adds canon c.in_ok-show.ensures.app c.in_ok-show.ensures.local c.in_ok-subcommand-5.ensures in
     let same = adds show c.in_ok-same.ensures.app c.in_ok-same.ensures.local c.in_ok-subcommand-6.ensures in
-    IfOk-weaker _ _ _ (λ _. adds same c.faults.ensures.app c.faults.ensures.local) c.subcommand-7.ensures
+    IfOk-weaker _ _ _ (λ _. adds same c.in_ok-faults.ensures.app c.in_ok-faults.ensures.local) c.subcommand-7.ensures
