@@ -233,8 +233,8 @@ cp "$here/output" "$here/listed"
 expect 'the list of refusals: status and error' 0 '' ''
 sed -n 's/^### \(S\{0,1\}[0-9][0-9]* [A-Za-z0-9]*\)$/\1/p' docs/FAULTS.md | while read -r number name; do
     grep -q "^ *$number $name  *[^ ]" "$here/listed" || echo "the list of refusals: no $number $name"
-    ./p21 faults "$number" | head -n 1 | grep -qx "$number $name" || echo "the refusal $number: another one is explained"
-    ./p21 faults "$name" | grep -qx "$number $name" || echo "the refusal $name: $number is not explained"
+    "$program" faults "$number" | head -n 1 | grep -qx "$number $name" || echo "the refusal $number: another one is explained"
+    "$program" faults "$name" | grep -qx "$number $name" || echo "the refusal $name: $number is not explained"
 done > "$here/unlisted"
 if [ -s "$here/unlisted" ]; then
     cat "$here/unlisted" >&2
@@ -259,7 +259,6 @@ run faults 11 12
 expect 'two refusals' 2 '' '*12*'
 
 tools/make-refusals --check || failed=1
-tools/make-pages --check ./p21 || failed=1
 
 # A file of some 160 MiB of blanks between its data section and its end.
 file | sed '/^DATA;$/q' > "$here/blank"
@@ -286,7 +285,7 @@ except OSError:
 with open(sys.argv[2], "wb") as error:
     error.write(said.replace(b"\r", b""))
 sys.exit(run.wait())
-' "$here/output" "$here/error" ./p21 "$@"
+' "$here/output" "$here/error" "$program" "$@"
     status=$?
 }
 
