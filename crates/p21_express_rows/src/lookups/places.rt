@@ -1,115 +1,182 @@
-use super::{DEMO, entities_named, entity_named, place_of};
-use p21_express::read_schema;
+ghost use Rattle.p21_express_tables.specs.Lookups.{AreEntities};
+ghost use Rattle.p21_express_tables.specs.Orders.{numbers};
+ghost use Rattle.p21_express_tables.specs.Resolved.{IsPlace};
+ghost use Rattle.p21_express_types.specs.Meaning.{place as place_of};
+
+use super::{
+    DEMO, PlaceTexts, Rows, Texts, Wrong, entities_named, entity_named, first_wrong, is_printed,
+    place_named,
+};
 use p21_express_tables::Schema;
-use p21_express_types::Place;
+use p21_express_types::{EntityId, Place};
 use std::alloc::Global;
-use std::process::Abort;
-use std::test::Fail;
 
-/// The name of an attribute.
-fn name_of<'a>(rt: &impl Abort, schema: &'a Schema, place: Place) -> &'a [u8] {
-    assert!(rt; (place.entity.0 as usize) < schema.entities());
-    assert!(rt; place.index < schema.attribute_count(place.entity));
-    schema.place_name(place)
+/// Whether a place has this name.
+fn is_named(schema: &Schema, place: Place, name: &str) -> bool {
+    (place.entity.0 as usize) < schema.entities()
+        && place.index < schema.attribute_count(place.entity)
+        && schema.place_name(place) == name.as_bytes()
 }
 
-/// The names of the places of an entity, each with a blank behind it.
-fn places_of(rt: &impl Abort, alloc: Global, schema: &Schema, name: &str) -> Result<String, Fail> {
-    let entity = entity_named(rt, schema, name);
-    let mut names = Vec::new(alloc);
-    for place in schema.places(entity)? {
-        names.extend_from_slice(name_of(rt, schema, place))?;
-        names.push(b' ')?;
+/// Whether these are the names of places.
+fn are_named(schema: &Schema, places: &[Place], names: &str) -> bool {
+    let mut left = names.split_whitespace();
+    for place in places {
+        match left.next() {
+            Some(name) => {
+                if !is_named(schema, *place, name) {
+                    return false;
+                }
+            }
+            None => return false,
+        }
     }
-    Ok(String::from_utf8(names)?)
+    left.next().is_none()
 }
+
+fn has_places(schema: &Schema, name: &str, wanted: &str) -> bool {
+    let Some(entity) = entity_named(schema, name) else {
+        return false;
+    };
+    match schema.places(entity) {
+        Ok(places) => are_named(schema, &places, wanted),
+        Err(_) => false,
+    }
+}
+
+pub(super) fn wrong_places(schema: &Schema, rows: Texts) -> Wrong {
+    for (name, wanted) in rows {
+        if !has_places(schema, name, wanted) {
+            return Some((name, wanted));
+        }
+    }
+    None
+}
+
+const PLACES: Rows = Rows::Places(&[
+    ("SHAPE", "LABEL"),
+    ("POINT", "LABEL X Y"),
+    ("MARKED", "LABEL MARK"),
+    ("ORIGIN", "LABEL X Y"),
+    ("CLOUD", "MEMBERS SIZES VALUES"),
+]);
 
 #[test]
-fn lists_places(rt: HostRuntime) -> Result<(), Fail> {
-    const ROWS: [(&str, &str); 5] = [
-        ("SHAPE", "LABEL "),
-        ("POINT", "LABEL X Y "),
-        ("MARKED", "LABEL MARK "),
-        ("ORIGIN", "LABEL X Y "),
-        ("CLOUD", "MEMBERS SIZES VALUES "),
-    ];
-    let schema = read_schema(rt.alloc(), DEMO.as_bytes())?;
-    for (name, wanted) in ROWS {
-        let places = places_of(&rt, rt.alloc(), &schema, name)?;
-        assert_eq!(rt; places.as_str(), wanted, "{name}");
-    }
-    Ok(())
+fn lists_places(rt: HostRuntime) {
+    assert_eq!(rt; first_wrong(rt.alloc(), DEMO, PLACES), None);
 }
 
-/// What may stand at a place of an instance with these entities.
-fn type_at(
-    rt: &impl Abort,
+/// Whether this may stand at a place of an instance with these entities.
+fn has_type(
     alloc: Global,
     schema: &Schema,
-    names: &str,
+    entities: &[EntityId],
     place: Place,
-) -> Result<String, Fail> {
-    let entities = entities_named(rt, alloc, schema, names)?;
-    assert!(rt; (place.entity.0 as usize) < schema.entities());
-    assert!(rt; place.index < schema.attribute_count(place.entity));
-    Ok(format!(in alloc; "{:?}", schema.type_at(&entities, place))?)
+    wanted: &str,
+) -> bool
+    requires entities { AreEntities schema.now (numbers entities.now) }
+    requires place { IsPlace schema.now (place_of place) }
+{
+    is_printed(alloc, &schema.type_at(entities, place), wanted)
 }
 
-#[test]
-fn knows_declared_types(rt: HostRuntime) -> Result<(), Fail> {
-    let schema = read_schema(rt.alloc(), DEMO.as_bytes())?;
-    let rows = [
-        ("SHAPE", 0, "Stored(true, Text(None))"),
-        ("POINT", 1, "Stored(false, Defined(TypeId(0)))"),
-        ("MARKED", 0, "Stored(false, Defined(TypeId(2)))"),
-        (
-            "CLOUD",
-            0,
-            "Stored(false, Set { low: 0, high: None, element: Entity(EntityId(1)) })",
-        ),
-        (
-            "CLOUD",
-            1,
-            "Stored(false, Bag { low: 0, high: None, element: Bag { low: 0, high: None, element: Real } })",
-        ),
-        (
-            "CLOUD",
-            2,
-            "Stored(false, List { low: 1, high: Some(3), unique: true, element: Defined(TypeId(4)) })",
-        ),
-    ];
-    for (name, index, wanted) in rows {
-        let place = place_of(&rt, &schema, name, index);
-        let found = type_at(&rt, rt.alloc(), &schema, name, place)?;
-        assert_eq!(rt; found.as_str(), wanted, "{name} {index}");
+/// The same by their names.
+fn is_type_at(alloc: Global, schema: &Schema, names: &str, place: Place, wanted: &str) -> bool
+    requires { IsPlace schema.now (place_of place) }
+{
+    match entities_named(alloc, schema, names) {
+        Ok(entities) => has_type(alloc, schema, &entities, place, wanted),
+        Err(_) => false,
     }
-    Ok(())
 }
 
+pub(super) fn wrong_type(alloc: Global, schema: &Schema, rows: PlaceTexts) -> Wrong {
+    for (names, entity, index, wanted) in rows {
+        let Some(place) = place_named(schema, entity, *index) else {
+            return Some((names, entity));
+        };
+        if !is_type_at(alloc, schema, names, place, wanted) {
+            return Some((names, wanted));
+        }
+    }
+    None
+}
+
+const DECLARED: Rows = Rows::PlaceTypes(&[
+    ("SHAPE", "SHAPE", 0, "Stored(true, Text(None))"),
+    ("POINT", "POINT", 1, "Stored(false, Defined(TypeId(0)))"),
+    ("MARKED", "MARKED", 0, "Stored(false, Defined(TypeId(2)))"),
+    (
+        "CLOUD",
+        "CLOUD",
+        0,
+        "Stored(false, Set { low: 0, high: None, element: Entity(EntityId(1)) })",
+    ),
+    (
+        "CLOUD",
+        "CLOUD",
+        1,
+        "Stored(false, Bag { low: 0, high: None, element: Bag { low: 0, high: None, element: Real } })",
+    ),
+    (
+        "CLOUD",
+        "CLOUD",
+        2,
+        "Stored(false, List { low: 1, high: Some(3), unique: true, element: Defined(TypeId(4)) })",
+    ),
+]);
+
 #[test]
-fn knows_widths_and_bounds(rt: HostRuntime) -> Result<(), Fail> {
-    const ROWS: [&str; 7] = [
-        "Stored(false, Text(Some(Width { most: 3, fixed: false })))",
-        "Stored(false, Text(Some(Width { most: 2, fixed: true })))",
-        "Stored(false, Bits(Some(Width { most: 4, fixed: false })))",
-        "Stored(false, Array { low: 1, high: 2, optional: true, unique: false, element: Whole })",
-        "Stored(false, Boolean)",
-        "Stored(false, Array { low: 0, high: 7, optional: false, unique: true, element: Logical })",
-        "Stored(true, Number)",
-    ];
-    let text = "SCHEMA wide;
+fn knows_declared_types(rt: HostRuntime) {
+    assert_eq!(rt; first_wrong(rt.alloc(), DEMO, DECLARED), None);
+}
+
+const WIDE: &str = "SCHEMA wide;
 ENTITY e; s : STRING(3); f : STRING(2) FIXED; b : BINARY(4);
 o : ARRAY [1:2] OF OPTIONAL INTEGER; n : BOOLEAN; u : ARRAY [0:7] OF UNIQUE LOGICAL;
 m : OPTIONAL NUMBER; END_ENTITY;
 END_SCHEMA;
 ";
-    let schema = read_schema(rt.alloc(), text.as_bytes())?;
-    for (index, wanted) in ROWS.iter().enumerate() {
-        let place = place_of(&rt, &schema, "E", index as u32);
-        let found = type_at(&rt, rt.alloc(), &schema, "E", place)?;
-        assert_eq!(rt; found.as_str(), *wanted, "{index}");
-    }
-    Ok(())
+
+/// The attributes of its entity.
+const WIDTHS: Rows = Rows::PlaceTypes(&[
+    (
+        "E",
+        "E",
+        0,
+        "Stored(false, Text(Some(Width { most: 3, fixed: false })))",
+    ),
+    (
+        "E",
+        "E",
+        1,
+        "Stored(false, Text(Some(Width { most: 2, fixed: true })))",
+    ),
+    (
+        "E",
+        "E",
+        2,
+        "Stored(false, Bits(Some(Width { most: 4, fixed: false })))",
+    ),
+    (
+        "E",
+        "E",
+        3,
+        "Stored(false, Array { low: 1, high: 2, optional: true, unique: false, element: Whole })",
+    ),
+    ("E", "E", 4, "Stored(false, Boolean)"),
+    (
+        "E",
+        "E",
+        5,
+        "Stored(false, Array { low: 0, high: 7, optional: false, unique: true, element: Logical })",
+    ),
+    ("E", "E", 6, "Stored(true, Number)"),
+]);
+
+#[test]
+fn knows_widths_and_bounds(rt: HostRuntime) {
+    assert_eq!(rt; first_wrong(rt.alloc(), WIDE, WIDTHS), None);
 }
 
 const REDECLARED: &str = "SCHEMA redeclared;
@@ -124,87 +191,94 @@ ENTITY g SUBTYPE OF (a, b); END_ENTITY;
 END_SCHEMA;
 ";
 
-fn expect_at_r(rt: &impl Abort, alloc: Global, rows: &[(&str, &str)]) -> Result<(), Fail> {
-    let schema = read_schema(alloc, REDECLARED.as_bytes())?;
-    let place = place_of(rt, &schema, "R", 0);
-    for (names, wanted) in rows {
-        let found = type_at(rt, alloc, &schema, names, place)?;
-        assert_eq!(rt; found.as_str(), *wanted, "{names}");
-    }
-    Ok(())
-}
+const IN_SETS: Rows = Rows::PlaceTypes(&[
+    ("R", "R", 0, "Stored(false, Number)"),
+    ("R A", "R", 0, "Stored(false, Whole)"),
+    ("R B", "R", 0, "Stored(false, Real)"),
+    ("R A B", "R", 0, "Two"),
+    ("R A B C", "R", 0, "Stored(true, Whole)"),
+    ("R A B G", "R", 0, "Two"),
+    ("R D", "R", 0, "Stored(true, Real)"),
+    ("R D E", "R", 0, "Stored(false, Real)"),
+    ("R A B C D", "R", 0, "Two"),
+    ("R F", "R", 0, "Derived"),
+    ("R A B F", "R", 0, "Derived"),
+]);
 
 #[test]
-fn knows_redeclared_types(rt: HostRuntime) -> Result<(), Fail> {
-    const ROWS: [(&str, &str); 11] = [
-        ("R", "Stored(false, Number)"),
-        ("R A", "Stored(false, Whole)"),
-        ("R B", "Stored(false, Real)"),
-        ("R A B", "Two"),
-        ("R A B C", "Stored(true, Whole)"),
-        ("R A B G", "Two"),
-        ("R D", "Stored(true, Real)"),
-        ("R D E", "Stored(false, Real)"),
-        ("R A B C D", "Two"),
-        ("R F", "Derived"),
-        ("R A B F", "Derived"),
-    ];
-    expect_at_r(&rt, rt.alloc(), &ROWS)
+fn knows_redeclared_types(rt: HostRuntime) {
+    assert_eq!(rt; first_wrong(rt.alloc(), REDECLARED, IN_SETS), None);
 }
 
 /// Entities without their supertypes, in any order.
-#[test]
-fn knows_types_at_parts_of_sets(rt: HostRuntime) -> Result<(), Fail> {
-    const ROWS: [(&str, &str); 10] = [
-        ("", "Stored(false, Number)"),
-        ("A", "Stored(false, Whole)"),
-        ("B A", "Two"),
-        ("C B", "Stored(true, Whole)"),
-        ("B C", "Stored(true, Whole)"),
-        ("C", "Stored(true, Whole)"),
-        ("G", "Stored(false, Number)"),
-        ("E", "Stored(false, Real)"),
-        ("E C", "Two"),
-        ("F", "Derived"),
-    ];
-    expect_at_r(&rt, rt.alloc(), &ROWS)
-}
+const IN_PARTS: Rows = Rows::PlaceTypes(&[
+    ("", "R", 0, "Stored(false, Number)"),
+    ("A", "R", 0, "Stored(false, Whole)"),
+    ("B A", "R", 0, "Two"),
+    ("C B", "R", 0, "Stored(true, Whole)"),
+    ("B C", "R", 0, "Stored(true, Whole)"),
+    ("C", "R", 0, "Stored(true, Whole)"),
+    ("G", "R", 0, "Stored(false, Number)"),
+    ("E", "R", 0, "Stored(false, Real)"),
+    ("E C", "R", 0, "Two"),
+    ("F", "R", 0, "Derived"),
+]);
 
 #[test]
-fn knows_types_in_own_sets(rt: HostRuntime) -> Result<(), Fail> {
-    const ROWS: [(&str, &str); 7] = [
-        ("R", "Stored(false, Number)"),
-        ("A", "Stored(false, Whole)"),
-        ("C", "Stored(true, Whole)"),
-        ("D", "Stored(true, Real)"),
-        ("E", "Stored(false, Real)"),
-        ("F", "Derived"),
-        ("G", "Two"),
-    ];
-    let schema = read_schema(rt.alloc(), REDECLARED.as_bytes())?;
-    let place = place_of(&rt, &schema, "R", 0);
-    for (name, wanted) in ROWS {
-        let entity = entity_named(&rt, &schema, name);
-        let found = format!(in rt.alloc(); "{:?}", schema.own_type(entity, place))?;
-        assert_eq!(rt; found.as_str(), wanted, "{name}");
+fn knows_types_at_parts_of_sets(rt: HostRuntime) {
+    assert_eq!(rt; first_wrong(rt.alloc(), REDECLARED, IN_PARTS), None);
+}
+
+fn has_own_type(alloc: Global, schema: &Schema, name: &str, place: Place, wanted: &str) -> bool
+    requires { IsPlace schema.now (place_of place) }
+{
+    match entity_named(schema, name) {
+        Some(entity) => is_printed(alloc, &schema.own_type(entity, place), wanted),
+        None => false,
     }
-    Ok(())
 }
 
-/// A supertype's own attribute goes before those that it inherits.
+pub(super) fn wrong_own_type(alloc: Global, schema: &Schema, rows: PlaceTexts) -> Wrong {
+    for (name, owner, index, wanted) in rows {
+        let Some(place) = place_named(schema, owner, *index) else {
+            return Some((name, owner));
+        };
+        if !has_own_type(alloc, schema, name, place, wanted) {
+            return Some((name, wanted));
+        }
+    }
+    None
+}
+
+const IN_OWN_SETS: Rows = Rows::OwnTypes(&[
+    ("R", "R", 0, "Stored(false, Number)"),
+    ("A", "R", 0, "Stored(false, Whole)"),
+    ("C", "R", 0, "Stored(true, Whole)"),
+    ("D", "R", 0, "Stored(true, Real)"),
+    ("E", "R", 0, "Stored(false, Real)"),
+    ("F", "R", 0, "Derived"),
+    ("G", "R", 0, "Two"),
+]);
+
 #[test]
-fn knows_which_attribute_is_redeclared(rt: HostRuntime) -> Result<(), Fail> {
-    let text = "SCHEMA two;
+fn knows_types_in_own_sets(rt: HostRuntime) {
+    assert_eq!(rt; first_wrong(rt.alloc(), REDECLARED, IN_OWN_SETS), None);
+}
+
+const TWO: &str = "SCHEMA two;
 ENTITY r; k : NUMBER; END_ENTITY;
 ENTITY a SUBTYPE OF (r); k : NUMBER; END_ENTITY;
 ENTITY b SUBTYPE OF (a); SELF\\a.k : REAL; SELF\\r.k : INTEGER; END_ENTITY;
 END_SCHEMA;
 ";
-    let schema = read_schema(rt.alloc(), text.as_bytes())?;
-    for (name, wanted) in [("R", "Stored(false, Whole)"), ("A", "Stored(false, Real)")] {
-        let place = place_of(&rt, &schema, name, 0);
-        let found = type_at(&rt, rt.alloc(), &schema, "R A B", place)?;
-        assert_eq!(rt; found.as_str(), wanted, "{name}");
-    }
-    Ok(())
+
+/// A supertype's own attribute goes before those that it inherits.
+const IN_TWO: Rows = Rows::PlaceTypes(&[
+    ("R A B", "R", 0, "Stored(false, Whole)"),
+    ("R A B", "A", 0, "Stored(false, Real)"),
+]);
+
+#[test]
+fn knows_which_attribute_is_redeclared(rt: HostRuntime) {
+    assert_eq!(rt; first_wrong(rt.alloc(), TWO, IN_TWO), None);
 }

@@ -1,11 +1,10 @@
-use super::{DEMO, entity_named, type_named};
-use p21_express::read_schema;
+use super::{
+    DEMO, Facts, PairFacts, Rows, Texts, Wrong, entity_named, first_wrong, is_printed, type_named,
+};
 use p21_express_tables::{Base, Schema};
-use p21_express_types::{Member, TypeId, TypeKind, TypeUse};
+use p21_express_types::{Member, TypeKind, TypeUse};
 use p21_values::Word;
 use std::alloc::Global;
-use std::process::Abort;
-use std::test::Fail;
 
 const CHAINS: &str = "SCHEMA chains;
 TYPE a = b; END_TYPE;
@@ -23,144 +22,199 @@ ENTITY f SUBTYPE OF (e); END_ENTITY;
 END_SCHEMA;
 ";
 
-#[test]
-fn finds_types_by_their_names(rt: HostRuntime) -> Result<(), Fail> {
-    let schema = read_schema(rt.alloc(), DEMO.as_bytes())?;
-    for name in ["DISTANCE", "TALLY", "COLOUR", "MEASURE", "ITEM"] {
-        let found = type_named(&rt, &schema, name);
-        assert_eq!(rt; schema.type_name(found), name.as_bytes());
-    }
-    for name in ["distance", "DISTANC", "POINT", "RED", ""] {
-        assert_eq!(rt; schema.type_named(name.as_bytes()), None, "{name}");
-    }
-    Ok(())
-}
-
-/// Items of an enumeration, each with a blank behind it.
-fn push_items(items: &[Word], text: &mut Vec<u8>) -> Result<(), Fail> {
-    for word in items {
-        let word: &Word = word;
-        text.extend_from_slice(word.bytes())?;
-        text.push(b' ')?;
-    }
-    Ok(())
-}
-
-fn kind_of(alloc: Global, kind: &TypeKind) -> Result<String, Fail> {
-    match kind {
-        TypeKind::Alias(type_use) => Ok(format!(in alloc; "{type_use:?}")?),
-        TypeKind::Choice(members) => Ok(format!(in alloc; "{:?}", members.items())?),
-        TypeKind::Items(words) => {
-            let mut text = Vec::new(alloc);
-            push_items(words.items(), &mut text)?;
-            Ok(String::from_utf8(text)?)
-        }
+/// Whether there is a type of this name, which has it then.
+fn has_type(schema: &Schema, name: &str) -> bool {
+    match type_named(schema, name) {
+        Some(found) => schema.type_name(found) == name.as_bytes(),
+        None => false,
     }
 }
 
-#[test]
-fn knows_what_types_are(rt: HostRuntime) -> Result<(), Fail> {
-    const ROWS: [(&str, &str); 5] = [
-        ("DISTANCE", "Real"),
-        ("TALLY", "Whole"),
-        ("COLOUR", "RED GREEN "),
-        ("MEASURE", "[Defined(TypeId(0)), Defined(TypeId(1))]"),
-        ("ITEM", "[Defined(TypeId(3)), Entity(EntityId(1))]"),
-    ];
-    let schema = read_schema(rt.alloc(), DEMO.as_bytes())?;
-    for (name, wanted) in ROWS {
-        let kind = schema.type_kind(type_named(&rt, &schema, name));
-        let found = kind_of(rt.alloc(), kind)?;
-        assert_eq!(rt; found.as_str(), wanted, "{name}");
-    }
-    Ok(())
-}
-
-fn base_of(rt: &impl Abort, alloc: Global, schema: &Schema, name: &str) -> Result<String, Fail> {
-    let found = TypeUse::Defined(type_named(rt, schema, name));
-    match schema.base(&found) {
-        Base::Plain(plain) => Ok(format!(in alloc; "{plain:?}")?),
-        Base::Select(select) => Ok(format!(in alloc; "{select:?}")?),
-        Base::Items(words) => {
-            let mut text = Vec::new(alloc);
-            push_items(words.items(), &mut text)?;
-            Ok(String::from_utf8(text)?)
-        }
-    }
-}
-
-#[test]
-fn follows_renamed_types(rt: HostRuntime) -> Result<(), Fail> {
-    let schema = read_schema(rt.alloc(), CHAINS.as_bytes())?;
-    let list = "List { low: 0, high: Some(2), unique: false, element: Defined(TypeId(3)) }";
-    let rows = [
-        ("A", "RED GREEN "),
-        ("C", "RED GREEN "),
-        ("M", list),
-        ("N", list),
-        ("S", "TypeId(5)"),
-    ];
+pub(super) fn wrong_name(schema: &Schema, rows: Facts) -> Wrong {
     for (name, wanted) in rows {
-        let found = base_of(&rt, rt.alloc(), &schema, name)?;
-        assert_eq!(rt; found.as_str(), wanted, "{name}");
+        if has_type(schema, name) != *wanted {
+            return Some((name, "type"));
+        }
     }
-    Ok(())
+    None
 }
 
-fn entity_offered(rt: &impl Abort, schema: &Schema, of: TypeId, name: &str) -> bool {
-    assert!(rt; (of.0 as usize) < schema.types());
-    schema.offers(of, Member::Entity(entity_named(rt, schema, name)))
-}
-
-fn type_offered(rt: &impl Abort, schema: &Schema, of: TypeId, name: &str) -> bool {
-    assert!(rt; (of.0 as usize) < schema.types());
-    schema.offers(of, Member::Defined(type_named(rt, schema, name)))
-}
+const TYPES: Rows = Rows::Types(&[
+    ("DISTANCE", true),
+    ("TALLY", true),
+    ("COLOUR", true),
+    ("MEASURE", true),
+    ("ITEM", true),
+    ("distance", false),
+    ("DISTANC", false),
+    ("POINT", false),
+    ("RED", false),
+    ("", false),
+]);
 
 #[test]
-fn knows_entities_that_selects_offer(rt: HostRuntime) -> Result<(), Fail> {
-    const ROWS: [(&str, bool); 7] = [
-        ("S", true),
-        ("T", true),
-        ("U", true),
-        ("V", false),
-        ("W", false),
-        ("A", false),
-        ("N", false),
-    ];
-    let schema = read_schema(rt.alloc(), CHAINS.as_bytes())?;
-    for (name, wanted) in ROWS {
-        let of = type_named(&rt, &schema, name);
-        assert_eq!(rt; schema.offers_entity(of), wanted, "{name}");
-        assert_eq!(rt; entity_offered(&rt, &schema, of, "E"), wanted, "{name}");
-        assert!(rt; !entity_offered(&rt, &schema, of, "F"), "{name}");
-    }
-    Ok(())
+fn finds_types_by_their_names(rt: HostRuntime) {
+    assert_eq!(rt; first_wrong(rt.alloc(), DEMO, TYPES), None);
 }
 
-#[test]
-fn knows_types_that_selects_offer(rt: HostRuntime) -> Result<(), Fail> {
-    const ROWS: [(&str, &str, bool); 11] = [
-        ("S", "A", true),
-        ("S", "M", true),
-        ("S", "T", false),
-        ("S", "S", false),
-        ("S", "B", false),
-        ("T", "A", true),
-        ("V", "A", true),
-        ("V", "W", false),
-        ("W", "M", false),
-        ("A", "B", false),
-        ("A", "A", false),
-    ];
-    let schema = read_schema(rt.alloc(), CHAINS.as_bytes())?;
-    for (name, other, wanted) in ROWS {
-        let of = type_named(&rt, &schema, name);
-        assert_eq!(rt;
-            type_offered(&rt, &schema, of, other),
-            wanted,
-            "{name} {other}"
-        );
+/// Whether these are the items of an enumeration.
+fn are_items(items: &[Word], wanted: &str) -> bool {
+    let mut left = wanted.split_whitespace();
+    for item in items {
+        match left.next() {
+            Some(word) => {
+                if item.bytes() != word.as_bytes() {
+                    return false;
+                }
+            }
+            None => return false,
+        }
     }
-    Ok(())
+    left.next().is_none()
+}
+
+fn is_kind(alloc: Global, kind: &TypeKind, wanted: &str) -> bool {
+    match kind {
+        TypeKind::Alias(renamed) => is_printed(alloc, renamed, wanted),
+        TypeKind::Choice(members) => is_printed(alloc, &members.items(), wanted),
+        TypeKind::Items(words) => are_items(words.items(), wanted),
+    }
+}
+
+fn has_kind(alloc: Global, schema: &Schema, name: &str, wanted: &str) -> bool {
+    match type_named(schema, name) {
+        Some(of) => is_kind(alloc, schema.type_kind(of), wanted),
+        None => false,
+    }
+}
+
+pub(super) fn wrong_kind(alloc: Global, schema: &Schema, rows: Texts) -> Wrong {
+    for (name, wanted) in rows {
+        if !has_kind(alloc, schema, name, wanted) {
+            return Some((name, wanted));
+        }
+    }
+    None
+}
+
+const KINDS: Rows = Rows::Kinds(&[
+    ("DISTANCE", "Real"),
+    ("TALLY", "Whole"),
+    ("COLOUR", "RED GREEN"),
+    ("MEASURE", "[Defined(TypeId(0)), Defined(TypeId(1))]"),
+    ("ITEM", "[Defined(TypeId(3)), Entity(EntityId(1))]"),
+]);
+
+#[test]
+fn knows_what_types_are(rt: HostRuntime) {
+    assert_eq!(rt; first_wrong(rt.alloc(), DEMO, KINDS), None);
+}
+
+fn is_base(alloc: Global, base: &Base, wanted: &str) -> bool {
+    match base {
+        Base::Plain(plain) => is_printed(alloc, plain, wanted),
+        Base::Select(select) => is_printed(alloc, select, wanted),
+        Base::Items(words) => are_items(words.items(), wanted),
+    }
+}
+
+fn has_base(alloc: Global, schema: &Schema, name: &str, wanted: &str) -> bool {
+    match type_named(schema, name) {
+        Some(of) => is_base(alloc, &schema.base(&TypeUse::Defined(of)), wanted),
+        None => false,
+    }
+}
+
+pub(super) fn wrong_base(alloc: Global, schema: &Schema, rows: Texts) -> Wrong {
+    for (name, wanted) in rows {
+        if !has_base(alloc, schema, name, wanted) {
+            return Some((name, wanted));
+        }
+    }
+    None
+}
+
+const LIST: &str = "List { low: 0, high: Some(2), unique: false, element: Defined(TypeId(3)) }";
+
+const BASES: Rows = Rows::Bases(&[
+    ("A", "RED GREEN"),
+    ("C", "RED GREEN"),
+    ("M", LIST),
+    ("N", LIST),
+    ("S", "TypeId(5)"),
+]);
+
+#[test]
+fn follows_renamed_types(rt: HostRuntime) {
+    assert_eq!(rt; first_wrong(rt.alloc(), CHAINS, BASES), None);
+}
+
+/// Whether a select offers an entity at all, and whether it offers E and F.
+fn offered_of(schema: &Schema, name: &str) -> Option<[bool; 3]> {
+    let of = type_named(schema, name)?;
+    let upper = entity_named(schema, "E")?;
+    let lower = entity_named(schema, "F")?;
+    Some([
+        schema.offers_entity(of),
+        schema.offers(of, Member::Entity(upper)),
+        schema.offers(of, Member::Entity(lower)),
+    ])
+}
+
+pub(super) fn wrong_entity_offered(schema: &Schema, rows: Facts) -> Wrong {
+    for (name, wanted) in rows {
+        if offered_of(schema, name) != Some([*wanted, *wanted, false]) {
+            return Some((name, "offers E"));
+        }
+    }
+    None
+}
+
+const OFFERED_ENTITIES: Rows = Rows::OffersEntity(&[
+    ("S", true),
+    ("T", true),
+    ("U", true),
+    ("V", false),
+    ("W", false),
+    ("A", false),
+    ("N", false),
+]);
+
+#[test]
+fn knows_entities_that_selects_offer(rt: HostRuntime) {
+    assert_eq!(rt; first_wrong(rt.alloc(), CHAINS, OFFERED_ENTITIES), None);
+}
+
+fn offers_type(schema: &Schema, name: &str, other: &str) -> Option<bool> {
+    let of = type_named(schema, name)?;
+    let member = type_named(schema, other)?;
+    Some(schema.offers(of, Member::Defined(member)))
+}
+
+pub(super) fn wrong_type_offered(schema: &Schema, rows: PairFacts) -> Wrong {
+    for (name, other, wanted) in rows {
+        if offers_type(schema, name, other) != Some(*wanted) {
+            return Some((name, other));
+        }
+    }
+    None
+}
+
+const OFFERED_TYPES: Rows = Rows::OffersType(&[
+    ("S", "A", true),
+    ("S", "M", true),
+    ("S", "T", false),
+    ("S", "S", false),
+    ("S", "B", false),
+    ("T", "A", true),
+    ("V", "A", true),
+    ("V", "W", false),
+    ("W", "M", false),
+    ("A", "B", false),
+    ("A", "A", false),
+]);
+
+#[test]
+fn knows_types_that_selects_offer(rt: HostRuntime) {
+    assert_eq!(rt; first_wrong(rt.alloc(), CHAINS, OFFERED_TYPES), None);
 }

@@ -7,6 +7,6 @@ use Rattle.p21_express_rows.proofs.Adding.{entities-more}
 use Rattle.p21_express_rows.proofs.lookups.entities_named.Goals as goal
 
 pub loop-name-preserved : goal.loop-name-preserved
-loop-name-preserved g c =
+loop-name-preserved c =
     let P : List EntityId → Type 0 = λ es. AreEntities c.args.schema.now (numbers es) in
-    subst P (sym c.in_ok-push.ensures.items) (entities-more c.args.schema.now c.loop-name.entities.items c.entity_named.result c.loop-name.invariant c.entity_named.ensures)
+    subst P (sym c.in_ok-push-in-Some-entity_named.ensures.items) (entities-more c.args.schema.now c.loop-name.entities.items c.in-Some-entity_named.entity c.loop-name.invariant c.in-Some-entity_named.ensures)

@@ -4,4 +4,4 @@ use Rattle.p21_express_rows.proofs.lookups.entities_named.Given as goal
 
 -- the entities so far are of the schema
 abbrev pub invariant-loop-name : goal.invariant-loop-name
-invariant-loop-name g l = AreEntities l.schema (numbers l.entities.items)
+invariant-loop-name l = AreEntities l.schema (numbers l.entities.items)

@@ -6,6 +6,6 @@ use Rattle.p21_express_types.specs.declared.number.EntityId.{EntityId}
 use Rattle.p21_express_rows.proofs.lookups.entities.leaves_of.Goals as goal
 
 pub leaves-requires : goal.leaves-requires
-leaves-requires g c =
+leaves-requires c =
     let P : List EntityId → Type 0 = λ es. AreEntities c.args.schema.now (numbers es) in
     subst P (sym c.deref.ensures.value) c.in_ok-entities.ensures
