@@ -49,30 +49,40 @@ pub fn run_command<'a>(rt: &HostRuntime, matches: &ArgMatches<'a>) -> Result<u8,
 fn run_param<'a>(rt: &HostRuntime, found: &ArgMatches<'a>) -> Result<u8, Stopped<'a>>
     ensures { IfOk result IsOfCommand }
 {
-    let mut file = open(rt, found, "FILE")?;
-    Ok(param_command(rt.alloc(), &mut file, &mut rt.stdout(), &mut rt.stderr()))
+    let mut file = Watched::new(open(rt, found, "FILE")?);
+    Ok(param_command(
+        rt.alloc(),
+        &mut file,
+        &mut Watched::new(rt.stdout()),
+        &mut Watched::new(rt.stderr()),
+    ))
 }
 
 /// `schema S`.
 fn run_schema<'a>(rt: &HostRuntime, found: &ArgMatches<'a>) -> Result<u8, Stopped<'a>>
     ensures { IfOk result IsOfCommand }
 {
-    let mut schema = open(rt, found, "S")?;
-    Ok(schema_command(rt.alloc(), &mut schema, &mut rt.stdout(), &mut rt.stderr()))
+    let mut schema = Watched::new(open(rt, found, "S")?);
+    Ok(schema_command(
+        rt.alloc(),
+        &mut schema,
+        &mut Watched::new(rt.stdout()),
+        &mut Watched::new(rt.stderr()),
+    ))
 }
 
 /// `check S FILE [--progress]`.
 fn run_check<'a>(rt: &HostRuntime, found: &ArgMatches<'a>) -> Result<u8, Stopped<'a>>
     ensures { IfOk result IsOfCommand }
 {
-    let mut schema = open(rt, found, "S")?;
+    let mut schema = Watched::new(open(rt, found, "S")?);
     let mut file = Watched::new(open_told(rt, found, "FILE")?);
     Ok(check_command(
         rt.alloc(),
         &mut schema,
         &mut file,
-        &mut rt.stdout(),
-        &mut rt.stderr(),
+        &mut Watched::new(rt.stdout()),
+        &mut Watched::new(rt.stderr()),
     ))
 }
 
@@ -80,7 +90,7 @@ fn run_check<'a>(rt: &HostRuntime, found: &ArgMatches<'a>) -> Result<u8, Stopped
 fn run_canon<'a>(rt: &HostRuntime, found: &ArgMatches<'a>) -> Result<u8, Stopped<'a>>
     ensures { IfOk result IsOfCommand }
 {
-    let mut schema = open(rt, found, "S")?;
+    let mut schema = Watched::new(open(rt, found, "S")?);
     let mut file = Watched::new(open_told(rt, found, "FILE")?);
     let mut output = Watched::new(rt.stdout());
     Ok(canon_command(
@@ -88,7 +98,7 @@ fn run_canon<'a>(rt: &HostRuntime, found: &ArgMatches<'a>) -> Result<u8, Stopped
         &mut schema,
         &mut file,
         &mut output,
-        &mut rt.stderr(),
+        &mut Watched::new(rt.stderr()),
     ))
 }
 
@@ -97,15 +107,15 @@ fn run_show<'a>(rt: &HostRuntime, found: &ArgMatches<'a>) -> Result<u8, Stopped<
     ensures { IfOk result IsOfCommand }
 {
     let number = name_given(found)?;
-    let mut schema = open(rt, found, "S")?;
+    let mut schema = Watched::new(open(rt, found, "S")?);
     let mut file = Watched::new(open(rt, found, "FILE")?);
     Ok(show_command(
         rt.alloc(),
         &mut schema,
         &mut file,
         number,
-        &mut rt.stdout(),
-        &mut rt.stderr(),
+        &mut Watched::new(rt.stdout()),
+        &mut Watched::new(rt.stderr()),
     ))
 }
 
@@ -124,7 +134,7 @@ fn name_given<'a>(found: &ArgMatches<'a>) -> Result<Name, Stopped<'a>> {
 fn run_same<'a>(rt: &HostRuntime, found: &ArgMatches<'a>) -> Result<u8, Stopped<'a>>
     ensures { IfOk result IsOfCommand }
 {
-    let mut schema = open(rt, found, "S")?;
+    let mut schema = Watched::new(open(rt, found, "S")?);
     let mut first = Watched::new(open_told(rt, found, "A")?);
     let mut second = Watched::new(open_told(rt, found, "B")?);
     Ok(same_command(
@@ -132,8 +142,8 @@ fn run_same<'a>(rt: &HostRuntime, found: &ArgMatches<'a>) -> Result<u8, Stopped<
         &mut schema,
         &mut first,
         &mut second,
-        &mut rt.stdout(),
-        &mut rt.stderr(),
+        &mut Watched::new(rt.stdout()),
+        &mut Watched::new(rt.stderr()),
     ))
 }
 
@@ -157,7 +167,7 @@ fn written(rt: &HostRuntime, answer: io::Result<()>) -> u8
 {
     match answer {
         Ok(()) => DONE,
-        Err(_) => report(&CommandFault::Write, &mut rt.stderr()),
+        Err(_) => report(&CommandFault::Write, &mut Watched::new(rt.stderr())),
     }
 }
 

@@ -15,6 +15,7 @@ use clap::error::{Error, ErrorKind};
 use commands::{Stopped, run_command};
 use p21_command_line::command_line;
 use p21_commands::{CommandFault, DONE, FAILED, USAGE, report};
+use p21_stream_io::Watched;
 use std::process::ExitCode;
 use std::{env, io};
 
@@ -32,7 +33,7 @@ fn run(rt: &HostRuntime) -> u8
     };
     let command = match command_line(rt.alloc()) {
         Ok(command) => command,
-        Err(_) => return report(&CommandFault::NoMemory, &mut rt.stderr()),
+        Err(_) => return report(&CommandFault::NoMemory, &mut Watched::new(rt.stderr())),
     };
     let matches = match command.try_get_matches_from(&words) {
         Ok(matches) => matches,
@@ -57,7 +58,7 @@ fn explain_arguments(rt: &HostRuntime, error: &io::Error) -> u8
     ensures memory { error_kind error.now ≡ OutOfMemory → result ≡ failed }
 {
     if error.kind() == io::ErrorKind::OutOfMemory {
-        return report(&CommandFault::NoMemory, &mut rt.stderr());
+        return report(&CommandFault::NoMemory, &mut Watched::new(rt.stderr()));
     }
     match eprintln!(rt; "error: an argument is not UTF-8") {
         Ok(()) => USAGE,
@@ -75,12 +76,12 @@ fn explain(rt: &HostRuntime, error: &Error) -> u8
         × (kind_of error.now ≢ ErrorKind.DisplayVersion) }
 {
     if error.kind() == ErrorKind::OutOfMemory {
-        return report(&CommandFault::NoMemory, &mut rt.stderr());
+        return report(&CommandFault::NoMemory, &mut Watched::new(rt.stderr()));
     }
     match error.print(rt) {
         Ok(()) if error.use_stderr() => USAGE,
         Ok(()) => DONE,
-        Err(_) => report(&CommandFault::Write, &mut rt.stderr()),
+        Err(_) => report(&CommandFault::Write, &mut Watched::new(rt.stderr())),
     }
 }
 
@@ -113,7 +114,7 @@ fn explain_open(rt: &HostRuntime, path: &str, error: &io::Error) -> u8
     ensures { result ≡ failed }
 {
     if error.kind() == io::ErrorKind::OutOfMemory {
-        return report(&CommandFault::NoMemory, &mut rt.stderr());
+        return report(&CommandFault::NoMemory, &mut Watched::new(rt.stderr()));
     }
     // The status is the same where the line can't be written.
     let _ = eprintln!(rt; "cannot open {path}");

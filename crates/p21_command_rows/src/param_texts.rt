@@ -6,6 +6,7 @@ use crate::run::Row::{Leaves, LeavesIn, ParamFails};
 use crate::run::{AMPLE, AMPLE_ROOMS, Rows, first_wrong, param};
 use crate::schemas::File::Text;
 use p21_commands::{CommandFault, report};
+use p21_stream::Watched;
 use std::alloc::Global;
 use std::io::{self, Read};
 
@@ -89,9 +90,9 @@ fn reads_no_more_than_one_byte_too_many(rt: HostRuntime) {
 
 /// The status of want of memory, where its line is written.
 fn want_of_memory(alloc: Global) -> Option<u8> {
-    let mut faults = Vec::new(alloc);
+    let mut faults = Watched::new(Vec::new(alloc));
     let status = report(&CommandFault::NoMemory, &mut faults);
-    (faults.as_slice() == b"out of memory\n".as_slice()).then_some(status)
+    (faults.into_inner().as_slice() == b"out of memory\n".as_slice()).then_some(status)
 }
 
 #[test]

@@ -95,17 +95,19 @@ impl Run {
 }
 
 pub(crate) fn param<R: Read>(alloc: Global, text: &mut R, rooms: Rooms) -> Run {
-    let mut output = rooms.output(alloc);
-    let mut faults = rooms.faults(alloc);
-    let status = param_command(alloc, text, &mut output, &mut faults);
-    Run::new(status, output, faults)
+    let mut text = Watched::new(text);
+    let mut output = Watched::new(rooms.output(alloc));
+    let mut faults = Watched::new(rooms.faults(alloc));
+    let status = param_command(alloc, &mut text, &mut output, &mut faults);
+    Run::new(status, output.into_inner(), faults.into_inner())
 }
 
 pub(crate) fn schema<R: Read>(alloc: Global, text: &mut R, rooms: Rooms) -> Run {
-    let mut output = rooms.output(alloc);
-    let mut faults = rooms.faults(alloc);
-    let status = schema_command(alloc, text, &mut output, &mut faults);
-    Run::new(status, output, faults)
+    let mut text = Watched::new(text);
+    let mut output = Watched::new(rooms.output(alloc));
+    let mut faults = Watched::new(rooms.faults(alloc));
+    let status = schema_command(alloc, &mut text, &mut output, &mut faults);
+    Run::new(status, output.into_inner(), faults.into_inner())
 }
 
 pub(crate) fn check<S: Read, R: Read + Drop>(
@@ -114,11 +116,12 @@ pub(crate) fn check<S: Read, R: Read + Drop>(
     file: R,
     rooms: Rooms,
 ) -> Run {
+    let mut schema = Watched::new(schema);
     let mut file = Watched::new(file);
-    let mut output = rooms.output(alloc);
-    let mut faults = rooms.faults(alloc);
-    let status = check_command(alloc, schema, &mut file, &mut output, &mut faults);
-    let mut run = Run::new(status, output, faults);
+    let mut output = Watched::new(rooms.output(alloc));
+    let mut faults = Watched::new(rooms.faults(alloc));
+    let status = check_command(alloc, &mut schema, &mut file, &mut output, &mut faults);
+    let mut run = Run::new(status, output.into_inner(), faults.into_inner());
     run.moved.0 = file.moved();
     run.failures = file.failures();
     run
@@ -130,11 +133,12 @@ pub(crate) fn canon<S: Read, R: Read + Drop>(
     file: R,
     rooms: Rooms,
 ) -> Run {
+    let mut schema = Watched::new(schema);
     let mut file = Watched::new(file);
     let mut output = Watched::new(rooms.output(alloc));
-    let mut faults = rooms.faults(alloc);
-    let status = canon_command(alloc, schema, &mut file, &mut output, &mut faults);
-    Run::new(status, output.into_inner(), faults)
+    let mut faults = Watched::new(rooms.faults(alloc));
+    let status = canon_command(alloc, &mut schema, &mut file, &mut output, &mut faults);
+    Run::new(status, output.into_inner(), faults.into_inner())
 }
 
 pub(crate) fn show<S: Read, R: Read + Drop>(
@@ -144,18 +148,19 @@ pub(crate) fn show<S: Read, R: Read + Drop>(
     name: u64,
     rooms: Rooms,
 ) -> Run {
+    let mut schema = Watched::new(schema);
     let mut file = Watched::new(file);
-    let mut output = rooms.output(alloc);
-    let mut faults = rooms.faults(alloc);
+    let mut output = Watched::new(rooms.output(alloc));
+    let mut faults = Watched::new(rooms.faults(alloc));
     let status = show_command(
         alloc,
-        schema,
+        &mut schema,
         &mut file,
         Name(name),
         &mut output,
         &mut faults,
     );
-    Run::new(status, output, faults)
+    Run::new(status, output.into_inner(), faults.into_inner())
 }
 
 pub(crate) fn same<S: Read, A: Read + Drop, B: Read + Drop>(
@@ -165,19 +170,20 @@ pub(crate) fn same<S: Read, A: Read + Drop, B: Read + Drop>(
     second: B,
     rooms: Rooms,
 ) -> Run {
+    let mut schema = Watched::new(schema);
     let mut first = Watched::new(first);
     let mut second = Watched::new(second);
-    let mut output = rooms.output(alloc);
-    let mut faults = rooms.faults(alloc);
+    let mut output = Watched::new(rooms.output(alloc));
+    let mut faults = Watched::new(rooms.faults(alloc));
     let status = same_command(
         alloc,
-        schema,
+        &mut schema,
         &mut first,
         &mut second,
         &mut output,
         &mut faults,
     );
-    let mut run = Run::new(status, output, faults);
+    let mut run = Run::new(status, output.into_inner(), faults.into_inner());
     run.moved = (first.moved(), second.moved());
     run
 }

@@ -1,2 +1,3 @@
-mod ReportLemmas
+pub mod Failing
+pub mod Reporting
 mod TransferLemmas

@@ -1,8 +1,8 @@
--- How the known bytes of a reader and a writer go on over several calls.
-use Rattle.std.proofs.Common.{◌≡◌, ◌≤◌, ◌+◌, ◌-◌, ℕ, List, [], ◌++◌, length, take, drop, Option, Some, None, IfSome, refl, subst, sym, ap, ◌∙◌, arith}
-use Rattle.std.proofs.lemmas.List.{append_assoc, append-nil, length-append, length-drop, take_all, take-append-drop}
+-- How the known bytes of a reader go on over several calls.
+use Rattle.std.proofs.Common.{◌≡◌, ◌≤◌, ◌+◌, ℕ, List, [], ◌++◌, length, take, Option, Some, None, IfSome, refl, subst, sym, ap, ◌∙◌}
+use Rattle.std.proofs.lemmas.List.{append_assoc, append-nil, length-append, take_all}
 use Rattle.std.proofs.Math.Seq.{take-append_seam}
-use Rattle.std.specs.Io.KnownBytes.{Appends, Consumes, IsAtEnd, Keeps}
+use Rattle.std.specs.Io.KnownBytes.{Consumes, IsAtEnd, Keeps}
 
 -- A reader gave this text so far, and has room for more.
 pub record IsRead (most : ℕ) (old now : Option (List ℕ)) (text : List ℕ) : Type 0 where
@@ -24,41 +24,6 @@ consumes_kept None now new xs a b = tt
 consumes_kept (Some zs) None new xs a b = absurd a
 consumes_kept (Some zs) (Some rs) None xs a b = absurd b
 consumes_kept (Some zs) (Some rs) (Some ss) xs a b = a ∙ ap (λ (l : List ℕ). xs ++ l) (sym b)
-
-pub appends_none : (writer : Option (List ℕ)) → Appends writer writer []
-appends_none None = tt
-appends_none (Some xs) = sym (append-nil xs)
-
-pub appends_more : (old now new : Option (List ℕ)) (xs ys : List ℕ) → Appends old now xs → Appends now new ys → Appends old new (xs ++ ys)
-appends_more None now new xs ys a b = tt
-appends_more (Some zs) None new xs ys a b = absurd a
-appends_more (Some zs) (Some rs) None xs ys a b = absurd b
-appends_more (Some zs) (Some rs) (Some ss) xs ys a b = b ∙ ap (λ (l : List ℕ). l ++ ys) a ∙ append_assoc zs xs ys
-
-pub appends_kept : (old now new : Option (List ℕ)) (xs : List ℕ) → Appends old now xs → Keeps now new → Appends old new xs
-appends_kept None now new xs a b = tt
-appends_kept (Some zs) None new xs a b = absurd a
-appends_kept (Some zs) (Some rs) None xs a b = absurd b
-appends_kept (Some zs) (Some rs) (Some ss) xs a b = b ∙ a
-
--- A writer took the bytes but for the rest.
-pub record IsWritten (old now : Option (List ℕ)) (bytes rest : List ℕ) : Type 0 where
-  pub written : List ℕ
-  pub whole : bytes ≡ written ++ rest
-  pub appended : Appends old now written
-
-pub written_more : (old now new : Option (List ℕ)) (bytes rest left taken : List ℕ) → IsWritten old now bytes rest → Appends now new taken → rest ≡ taken ++ left → IsWritten old new bytes left
-written_more old now new bytes rest left taken a b e =
-    record {
-      written = a.written ++ taken;
-      whole = a.whole ∙ ap (λ (l : List ℕ). a.written ++ l) e ∙ sym (append_assoc a.written taken left);
-      appended = appends_more old now new a.written taken a.appended b;
-    }
-
-pub rest_after : (n : ℕ) (xs : List ℕ) → xs ≡ take n xs ++ take (length xs - n) (drop n xs)
-rest_after n xs =
-    let whole = take_all (length xs - n) (drop n xs) (simp length-drop (omega arith)) in
-    sym (ap (λ (l : List ℕ). take n xs ++ l) whole ∙ take-append-drop n xs)
 
 pub read_more : (most : ℕ) (old now new : Option (List ℕ)) (text piece : List ℕ) → IsRead most old now text → Consumes now new piece → length text + length piece ≤ most → IsRead most old new (text ++ piece)
 read_more most old now new text piece a b h =

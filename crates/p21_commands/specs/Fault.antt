@@ -1,6 +1,7 @@
 -- The line and the exit status of each fault of a command.
-use Rattle.std.specs.Prelude.{Option, ◌≡◌, ◌⊎◌, ℕ, List, codes, string_bytes}
+use Rattle.std.specs.Prelude.{Option, ◌≡◌, ◌⊎◌, ℕ, List, [], ◌∷◌, codes, string_bytes}
 use Rattle.std.specs.Io.KnownBytes.{Appends}
+use Rattle.p21_commands.specs.Failures.{Failures, NoneFailed, OneFailed}
 use Rattle.p21_commands.specs.Transfer.{AppendsPartOf}
 use Rattle.p21_commands.specs.Status.{failed, refused}
 use Rattle.p21_commands.specs.declared.fault.CommandFault.{CommandFault}
@@ -18,7 +19,8 @@ abbrev pub fault_status : CommandFault → ℕ
 fault_status (Refused line) = refused
 fault_status fault = failed
 
--- the fault output has the line of the fault, with its status; or only a part of it, with the status of a write fault
-abbrev pub Reports : CommandFault → ℕ → Option (List ℕ) → Option (List ℕ) → Type 0
-Reports fault status old new = ((status ≡ fault_status fault) × Appends old new (fault_line fault))
-    ⊎ ((status ≡ failed) × AppendsPartOf old new (fault_line fault))
+-- the fault output has the line of the fault, with its status; or it failed and has only a part of the line, with the
+-- status of a write fault
+abbrev pub Reports : CommandFault → ℕ → Option (List ℕ) → Option (List ℕ) → Failures → Type 0
+Reports fault status old new failures = ((status ≡ fault_status fault) × Appends old new (fault_line fault) × NoneFailed (failures ∷ []))
+    ⊎ ((status ≡ failed) × AppendsPartOf old new (fault_line fault) × OneFailed (failures ∷ []))

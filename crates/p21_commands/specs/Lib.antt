@@ -1,4 +1,6 @@
 -- What the commands write for what they read.
+pub mod Command
+pub mod Failures
 pub mod Fault
 pub mod Param
 pub mod Status

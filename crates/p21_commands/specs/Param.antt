@@ -1,13 +1,10 @@
 -- What `p21 param` writes for what it reads.
 use Rattle.std.specs.Prelude.{Option, ◌≡◌, ◌≢◌, ℕ, List, ◌++◌, codes, decimal, string_bytes}
-use Rattle.std.specs.Io.KnownBytes.{Keeps}
 use Rattle.p21_tokens.specs.Fault.{fault_number, fault_name}
 use Rattle.p21_tokens.specs.Parameter.{IsAnswer, IsRefusal}
 use Rattle.p21_tokens.specs.declared.fault.TokenFault.{TokenFault}
 use Rattle.p21_tokens.specs.declared.fault.TokenFault.TheVariants as token_fault
-use Rattle.p21_commands.specs.Fault.{Reports}
-use Rattle.p21_commands.specs.Transfer.{GivesText, WritesPart}
-use Rattle.p21_commands.specs.Status.{failed}
+use Rattle.p21_commands.specs.Transfer.{GivesText}
 use Rattle.p21_commands.specs.declared.fault.CommandFault.{CommandFault}
 use Rattle.p21_commands.specs.declared.fault.CommandFault.TheVariants.{Refused, NoMemory, Read, Write}
 
@@ -46,16 +43,3 @@ pub record IsRefused (reader : Option (List ℕ)) (line : List ℕ) : Type 0 whe
   pub text : List ℕ
   pub gives : GivesText reader text
   pub is_refusal : IsRefusalLine text line
-
--- what a fault says of the reader and the output: only a write fault leaves anything there, a part of the answer
-abbrev pub FailsBy : Option (List ℕ) → Option (List ℕ) → Option (List ℕ) → CommandFault → Type 0
-FailsBy reader old new (Refused line) = IsRefused reader (string_bytes line) × Keeps old new
-FailsBy reader old new NoMemory = Keeps old new
-FailsBy reader old new Read = Keeps old new
-FailsBy reader old new Write = WritesPart (IsAnswered reader) old new
-
--- a fault of memory, of the reader or of the output, or a refusal whose line could not be written
-pub record Fails (reader output_old output_new faults_old faults_new : Option (List ℕ)) : Type 0 where
-  pub fault : CommandFault
-  pub fails_by : FailsBy reader output_old output_new fault
-  pub reports : Reports fault failed faults_old faults_new

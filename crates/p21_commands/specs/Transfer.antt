@@ -1,6 +1,7 @@
 -- What reading and writing whole texts does to the bytes that a reader has left and a writer holds, where they are known.
-use Rattle.std.specs.Prelude.{Option, ◌≡◌, ◌<◌, ◌≤◌, ℕ, List, ◌++◌, length, take, IfSome}
+use Rattle.std.specs.Prelude.{Option, ◌≡◌, ◌≤◌, ℕ, List, length, take, IfSome}
 use Rattle.std.specs.Io.KnownBytes.{Appends, Consumes}
+pub use Rattle.p21_stream_io.specs.Transfer.{AppendsPartOf}
 
 -- so many bytes of a text are read at most: one more than a text may have
 abbrev pub most_read : ℕ
@@ -13,14 +14,6 @@ GivesText reader text = IfSome reader (λ bytes. text ≡ take most_read bytes)
 -- no more than `most_read` bytes were taken from the reader
 abbrev pub ConsumesAtMost : Option (List ℕ) → Option (List ℕ) → Type 0
 ConsumesAtMost old new = (taken : List ℕ) × Consumes old new taken × (length taken ≤ most_read)
-
--- the writer holds the beginning of the bytes, and misses their end
-pub record AppendsPartOf (old new : Option (List ℕ)) (bytes : List ℕ) : Type 0 where
-  pub written : List ℕ
-  pub missing : List ℕ
-  pub some : 0 < length missing
-  pub whole : bytes ≡ written ++ missing
-  pub appended : Appends old new written
 
 -- the writer gets a line of this kind
 pub record Writes (IsLine : List ℕ → Type 0) (old new : Option (List ℕ)) : Type 0 where

@@ -1,13 +1,16 @@
 //! The command `param`.
-ghost use Rattle.std.specs.Prelude.{◌≡◌, ◌⊎◌, IfErr, IfOk, MatchResult, OnOk, string_bytes};
+ghost use Rattle.std.specs.Prelude.{◌≡◌, ◌≢◌, ◌⊎◌, [], ◌∷◌, IfErr, IfOk, MatchResult, OnOk, string_bytes};
 ghost use Rattle.std.specs.Io.KnownBytes.{Keeps};
-ghost use Rattle.p21_commands.specs.Param.{Fails, FailsBy, IsAnswerLine, IsAnswered, IsRefused, RefusesBy, refusal_line};
+ghost use Rattle.p21_commands.specs.Command.{Fails, FailsBy};
+ghost use Rattle.p21_commands.specs.Failures.{FailedBy, NoneFailed, failures_of};
+ghost use Rattle.p21_commands.specs.Param.{IsAnswerLine, IsAnswered, IsRefused, RefusesBy, refusal_line};
 ghost use Rattle.p21_commands.specs.Status.{done, failed, refused};
 ghost use Rattle.p21_commands.specs.Transfer.{ConsumesAtMost, Writes};
 
 use crate::fault::{CommandFault, report};
 use crate::status::DONE;
 use crate::transfer::{read_text, write_whole};
+use p21_stream_io::Watched;
 use p21_tokens::{TokenFault, canonical_param};
 use std::alloc::{AllocError, Global};
 use std::io::{Read, Write};
@@ -16,23 +19,27 @@ use std::io::{Read, Write};
 /// `faults` one line that says why there is none. Answers the exit status.
 pub fn param_command<R: Read, W: Write, F: Write>(
     alloc: Global,
-    input: &mut R,
-    output: &mut W,
-    faults: &mut F,
+    input: &mut Watched<R>,
+    output: &mut Watched<W>,
+    faults: &mut Watched<F>,
 ) -> u8
     ensures status { (result ≡ done) ⊎ (result ≡ refused) ⊎ (result ≡ failed) }
-    ensures consumed { ConsumesAtMost (R.remaining input.old) (R.remaining input.new) }
+    ensures consumed { ConsumesAtMost (R.remaining input.old.inner) (R.remaining input.new.inner) }
 
     ensures answered { result ≡ done
-        → Writes (IsAnswered (R.remaining input.old)) (W.contents output.old) (W.contents output.new) }
-    ensures silent { result ≡ done → Keeps (F.contents faults.old) (F.contents faults.new) }
+        → Writes (IsAnswered (R.remaining input.old.inner)) (W.contents output.old.inner) (W.contents output.new.inner) }
+    ensures silent { result ≡ done → Keeps (F.contents faults.old.inner) (F.contents faults.new.inner) }
 
     ensures refused { result ≡ refused
-        → Writes (IsRefused (R.remaining input.old)) (F.contents faults.old) (F.contents faults.new) }
-    ensures unwritten { result ≡ refused → Keeps (W.contents output.old) (W.contents output.new) }
+        → Writes (IsRefused (R.remaining input.old.inner)) (F.contents faults.old.inner) (F.contents faults.new.inner) }
+    ensures unwritten { result ≡ refused → Keeps (W.contents output.old.inner) (W.contents output.new.inner) }
 
-    ensures failed { result ≡ failed → Fails (R.remaining input.old) (W.contents output.old)
-        (W.contents output.new) (F.contents faults.old) (F.contents faults.new) }
+    ensures failed { result ≡ failed
+        → Fails (IsAnswered (R.remaining input.old.inner)) (IsRefused (R.remaining input.old.inner))
+        (W.contents output.old.inner) (W.contents output.new.inner) (F.contents faults.old.inner) (F.contents faults.new.inner)
+        (failures_of input.old input.new ∷ []) (failures_of output.old output.new) (failures_of faults.old faults.new) }
+    ensures unfailed { result ≢ failed
+        → NoneFailed (failures_of input.old input.new ∷ failures_of output.old output.new ∷ failures_of faults.old faults.new ∷ []) }
 {
     match write_param(alloc, input, output) {
         Ok(()) => DONE,
@@ -43,14 +50,17 @@ pub fn param_command<R: Read, W: Write, F: Write>(
 /// Writes the canonical spelling of the parameter that `input` holds, and a line feed.
 fn write_param<R: Read, W: Write>(
     alloc: Global,
-    input: &mut R,
-    output: &mut W,
+    input: &mut Watched<R>,
+    output: &mut Watched<W>,
 ) -> Result<(), CommandFault>
-    ensures consumed { ConsumesAtMost (R.remaining input.old) (R.remaining input.new) }
+    ensures consumed { ConsumesAtMost (R.remaining input.old.inner) (R.remaining input.new.inner) }
     ensures ok { OnOk result
-        (Writes (IsAnswered (R.remaining input.old)) (W.contents output.old) (W.contents output.new)) }
-    ensures err { IfErr result
-        (FailsBy (R.remaining input.old) (W.contents output.old) (W.contents output.new)) }
+        (Writes (IsAnswered (R.remaining input.old.inner)) (W.contents output.old.inner) (W.contents output.new.inner)) }
+    ensures err { IfErr result (FailsBy (IsAnswered (R.remaining input.old.inner)) (IsRefused (R.remaining input.old.inner))
+        (W.contents output.old.inner) (W.contents output.new.inner)) }
+
+    ensures unfailed { OnOk result (NoneFailed (failures_of input.old input.new ∷ failures_of output.old output.new ∷ [])) }
+    ensures failed { IfErr result (FailedBy (failures_of input.old input.new ∷ []) (failures_of output.old output.new ∷ [])) }
 {
     let text = read_text(alloc, input)?;
     let line = param_line(alloc, &text)?;

@@ -1,9 +1,12 @@
 //! Reading and writing whole texts.
-ghost use Rattle.std.specs.Prelude.{◌≡◌, ◌⊎◌, ◌≤◌, length, IfOk, IfErr, OnOk, OnErr};
+ghost use Rattle.std.specs.Prelude.{◌≡◌, ◌⊎◌, [], ◌∷◌, IfOk, IfErr, OnOk, OnErr};
 ghost use Rattle.std.specs.Io.KnownBytes.{Appends};
+ghost use Rattle.p21_commands.specs.Failures.{FailedBy, failures_of};
 ghost use Rattle.p21_commands.specs.Transfer.{AppendsPartOf, ConsumesAtMost, GivesText};
+ghost use Rattle.p21_stream_io.specs.Watch.{counted};
 
 use crate::fault::CommandFault;
+use p21_stream_io::Watched;
 use std::alloc::Global;
 use std::io::{Read, Write};
 
@@ -15,10 +18,13 @@ const PIECE: usize = 65_536;
 
 /// The bytes of a reader, or the first `MOST_READ` where there are more. A read that answers an error is a read fault,
 /// whatever its kind.
-pub fn read_text<R: Read>(alloc: Global, reader: &mut R) -> Result<Vec<u8>, CommandFault>
-    ensures text { IfOk result (λ text. GivesText (R.remaining reader.old) text.items) }
+pub fn read_text<R: Read>(alloc: Global, reader: &mut Watched<R>) -> Result<Vec<u8>, CommandFault>
+    ensures text { IfOk result (λ text. GivesText (R.remaining reader.old.inner) text.items) }
     ensures fault { IfErr result (λ fault. (fault ≡ CommandFault.NoMemory) ⊎ (fault ≡ CommandFault.Read)) }
-    ensures consumed { ConsumesAtMost (R.remaining reader.old) (R.remaining reader.new) }
+    ensures consumed { ConsumesAtMost (R.remaining reader.old.inner) (R.remaining reader.new.inner) }
+
+    ensures read { OnOk result (reader.new.failures ≡ reader.old.failures) }
+    ensures failed { IfErr result (FailedBy (failures_of reader.old reader.new ∷ []) []) }
 {
     let mut text = Vec::new(alloc);
     let mut piece = [0; PIECE];
@@ -36,17 +42,16 @@ pub fn read_text<R: Read>(alloc: Global, reader: &mut R) -> Result<Vec<u8>, Comm
 }
 
 /// Writes all the bytes. A write that answers an error, whatever its kind, or takes none of some bytes is a write fault.
-pub fn write_whole<W: Write>(writer: &mut W, bytes: &[u8]) -> Result<(), CommandFault>
-    ensures ok { OnOk result (Appends (W.contents writer.old) (W.contents writer.new) bytes.now) }
-    ensures err { OnErr result (AppendsPartOf (W.contents writer.old) (W.contents writer.new) bytes.now) }
+pub fn write_whole<W: Write>(writer: &mut Watched<W>, bytes: &[u8]) -> Result<(), CommandFault>
+    ensures ok { OnOk result (Appends (W.contents writer.old.inner) (W.contents writer.new.inner) bytes.now) }
+    ensures err { OnErr result (AppendsPartOf (W.contents writer.old.inner) (W.contents writer.new.inner) bytes.now) }
     ensures fault { IfErr result (λ fault. fault ≡ CommandFault.Write) }
+
+    ensures written { OnOk result (writer.new.failures ≡ writer.old.failures) }
+    ensures failed { OnErr result (writer.new.failures ≡ counted writer.old.failures) }
 {
-    let mut rest = bytes;
-    while !rest.is_empty() {
-        match writer.write(rest) {
-            Ok(0) | Err(_) => return Err(CommandFault::Write),
-            Ok(count) => rest = &rest[count..],
-        }
+    match p21_stream_io::write_whole(writer, bytes) {
+        Ok(()) => Ok(()),
+        Err(_) => Err(CommandFault::Write),
     }
-    Ok(())
 }

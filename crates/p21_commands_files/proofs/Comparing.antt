@@ -3,6 +3,7 @@ use Rattle.std.specs.Io.KnownBytes.{Keeps}
 use Rattle.std.proofs.Common.{◌≡◌, ℕ, Bool, List, Option, inl, inr, subst, sym, string_bytes}
 use Rattle.std.proofs.KnownBytes.{Keeps-refl}
 use Rattle.p21_basics.specs.Limits.{Limits, usual}
+use Rattle.p21_commands.specs.Failures.{Failures}
 use Rattle.p21_commands.specs.Fault.{Reports}
 use Rattle.p21_commands.specs.Status.{refused}
 use Rattle.p21_commands.specs.Transfer.{AppendsPartOf}
@@ -11,7 +12,7 @@ use Rattle.p21_commands.specs.declared.fault.CommandFault.TheVariants.{Refused, 
 use Rattle.p21_commands_files.specs.Refusals.{IsFaultOf}
 use Rattle.p21_commands_files.specs.Same.{IsAnswered, IsCompared, IsRefused, read_of, same_line, word_of}
 use Rattle.p21_commands_files.proofs.Failing.{file-refused, not-written}
-use Rattle.p21_commands_schema.specs.Command.{FailsBy}
+use Rattle.p21_commands.specs.Command.{FailsBy}
 use Rattle.p21_commands_schema.specs.Load.{DeclaresRead}
 use Rattle.p21_schemas.specs.Schema.{Schema}
 use Rattle.p21_stream.specs.Answers.{Compares, FailsToCompare}
@@ -30,8 +31,8 @@ which-fails schema first_old first_new second_old second_new output s Second ref
     (inr (inr (file-refused (word_of Second) schema second_old second_new s refusal (string_bytes line) declares of_second fails.1)), Keeps-refl output)
 which-fails schema first_old first_new second_old second_new output s which refusal NoMemory word declares named is fails = Keeps-refl output
 which-fails schema first_old first_new second_old second_new output s which refusal Read word declares named is fails = Keeps-refl output
-which-fails schema first_old first_new second_old second_new output s First refusal Write word declares named is fails = absurd (not-written s first_old first_new refusal.fault is fails.0)
-which-fails schema first_old first_new second_old second_new output s Second refusal Write word declares named is fails = absurd (not-written s second_old second_new refusal.fault is fails.1)
+which-fails schema first_old first_new second_old second_new output s First refusal Write word declares named is fails = absurd (not-written s usual first_old first_new refusal.fault is fails.0)
+which-fails schema first_old first_new second_old second_new output s Second refusal Write word declares named is fails = absurd (not-written s usual second_old second_new refusal.fault is fails.1)
 
 pub comparing-fails : (schema first_old first_new second_old second_new output : Option (List ℕ)) (s : Schema) (limits : Limits) (which : Which) (refusal : Refusal) (fault : CommandFault) (word : List ℕ)
     → limits ≡ usual → DeclaresRead schema s → word ≡ word_of which → IsFaultOf word refusal fault → FailsToCompare s limits first_old first_new second_old second_new which refusal.fault
@@ -51,10 +52,10 @@ pub answer-fails : (IsAnswer IsRefusal : List ℕ → Type 0) (old new : Option 
 answer-fails IsAnswer IsRefusal old new line fault is part same = subst (FailsBy IsAnswer IsRefusal old new) (sym same) (record { line = line; is_line = is; part = part })
 
 -- a refusal that is written leaves the output as it was
-pub refusal-kept : (IsAnswer IsRefusal : List ℕ → Type 0) (output_old output_new faults_old faults_new : Option (List ℕ)) (fault : CommandFault) (status : ℕ) → FailsBy IsAnswer IsRefusal output_old output_new fault
-    → Reports fault status faults_old faults_new → status ≡ refused → Keeps output_old output_new
-refusal-kept IsAnswer IsRefusal output_old output_new faults_old faults_new (Refused line) status f r e = f.1
-refusal-kept IsAnswer IsRefusal output_old output_new faults_old faults_new NoMemory status f r e = f
-refusal-kept IsAnswer IsRefusal output_old output_new faults_old faults_new Read status f r e = f
-refusal-kept IsAnswer IsRefusal output_old output_new faults_old faults_new Write status f (inl r) e = cc (r.0, e)
-refusal-kept IsAnswer IsRefusal output_old output_new faults_old faults_new Write status f (inr r) e = cc (r.0, e)
+pub refusal-kept : (IsAnswer IsRefusal : List ℕ → Type 0) (output_old output_new faults_old faults_new : Option (List ℕ)) (faults : Failures) (fault : CommandFault) (status : ℕ) → FailsBy IsAnswer IsRefusal output_old output_new fault
+    → Reports fault status faults_old faults_new faults → status ≡ refused → Keeps output_old output_new
+refusal-kept IsAnswer IsRefusal output_old output_new faults_old faults_new faults (Refused line) status f r e = f.1
+refusal-kept IsAnswer IsRefusal output_old output_new faults_old faults_new faults NoMemory status f r e = f
+refusal-kept IsAnswer IsRefusal output_old output_new faults_old faults_new faults Read status f r e = f
+refusal-kept IsAnswer IsRefusal output_old output_new faults_old faults_new faults Write status f (inl r) e = cc (r.0, e)
+refusal-kept IsAnswer IsRefusal output_old output_new faults_old faults_new faults Write status f (inr r) e = cc (r.0, e)

@@ -4,13 +4,19 @@ use Rattle.p21_basics.specs.Limits.{Limits, usual}
 use Rattle.p21_commands.specs.declared.fault.CommandFault.{CommandFault}
 use Rattle.p21_commands.specs.declared.fault.CommandFault.TheVariants.{Refused, NoMemory, Read, Write}
 use Rattle.p21_commands_files.specs.Files.{IsFileRefused, RefusesUnder}
-use Rattle.p21_commands_files.specs.Refusals.{IsFaultOf, IsOfFile, refusal_line}
+use Rattle.p21_commands_files.specs.Refusals.{IsFaultOf, IsNoDevice, IsOfFile, refusal_line}
 use Rattle.p21_commands_schema.specs.Load.{DeclaresRead}
 use Rattle.p21_schemas.specs.Schema.{Schema}
 use Rattle.p21_stream.specs.Reading.{IsRefused, RefusesRead}
 use Rattle.p21_stream_fault.specs.declared.fault.Fault.{Fault}
 use Rattle.p21_stream_fault.specs.declared.fault.Fault.TheVariants as file
 use Rattle.p21_stream_fault.specs.declared.refusal.Refusal.{Refusal}
+
+pub of-no_device : (fault : Fault) → IsOfFile fault → IsNoDevice fault
+of-no_device file.NoMemory of = absurd of
+of-no_device file.Read of = absurd of
+of-no_device file.Write of = absurd of
+of-no_device fault of = tt
 
 -- the file is refused, where the fault is of it
 pub refused-of : (s : Schema) (old new : Option (List ℕ)) (fault : Fault) → IsOfFile fault → RefusesRead s usual old new fault → IsRefused s usual old new
@@ -34,18 +40,19 @@ file-refused word schema old new s refusal line declares names refuses = record 
   refusal = refusal;
   of_file = names.0;
   refused = refused-of s old new refusal.fault names.0 refuses;
+  refuses = refuses;
   line_is = names.1;
 }
 
 -- a writer is no file that is read
-pub not-written : (s : Schema) (old new : Option (List ℕ)) (fault : Fault) → fault ≡ file.Write → RefusesRead s usual old new fault → ⊥
-not-written s old new fault is refuses = subst (RefusesRead s usual old new) is refuses
+pub not-written : (s : Schema) (limits : Limits) (old new : Option (List ℕ)) (fault : Fault) → fault ≡ file.Write → RefusesRead s limits old new fault → ⊥
+not-written s limits old new fault is refuses = subst (RefusesRead s limits old new) is refuses
 
 read-fails : (schema old new : Option (List ℕ)) (s : Schema) (refusal : Refusal) (fault : CommandFault) → DeclaresRead schema s → IsFaultOf [] refusal fault → RefusesRead s usual old new refusal.fault → RefusesUnder schema old new fault
 read-fails schema old new s refusal (Refused line) declares is refuses = inr (file-refused [] schema old new s refusal (string_bytes line) declares is refuses)
 read-fails schema old new s refusal NoMemory declares is refuses = tt
 read-fails schema old new s refusal Read declares is refuses = tt
-read-fails schema old new s refusal Write declares is refuses = not-written s old new refusal.fault is refuses
+read-fails schema old new s refusal Write declares is refuses = not-written s usual old new refusal.fault is refuses
 
 -- what a command answers to a refusal of its file
 pub file-fails : (schema old new : Option (List ℕ)) (s : Schema) (limits : Limits) (refusal : Refusal) (fault : CommandFault) → limits ≡ usual → DeclaresRead schema s → IsFaultOf [] refusal fault → RefusesRead s limits old new refusal.fault → RefusesUnder schema old new fault

@@ -1,4 +1,5 @@
 pub mod Comparing
+pub mod Counting
 pub mod Failing
 pub mod Showing
 pub mod Writing

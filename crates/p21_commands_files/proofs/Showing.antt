@@ -5,7 +5,7 @@ use Rattle.p21_commands.specs.declared.fault.CommandFault.{CommandFault}
 use Rattle.p21_commands.specs.declared.fault.CommandFault.TheVariants.{Refused, NoMemory, Read, Write}
 use Rattle.p21_commands_files.specs.Files.{IsAcceptedUnder}
 use Rattle.p21_commands_files.specs.Show.{IsNotShown, IsShown, NamesNone}
-use Rattle.p21_commands_schema.specs.Command.{FailsBy}
+use Rattle.p21_commands.specs.Command.{FailsBy}
 use Rattle.p21_stream_accepted.specs.Output.{Output}
 
 module _ (schema old new written : Option (List ℕ)) (name : ℕ) where

@@ -7,9 +7,9 @@ use Rattle.p21_commands.specs.declared.fault.CommandFault.{CommandFault}
 use Rattle.p21_commands.specs.declared.fault.CommandFault.TheVariants as command
 use Rattle.p21_commands_files.specs.Canon.{IsCanonicalUnder}
 use Rattle.p21_commands_files.specs.Files.{IsRefusedUnder}
-use Rattle.p21_commands_files.specs.Refusals.{IsFaultOf, IsNoDevice, IsOfFile}
-use Rattle.p21_commands_files.proofs.Failing.{file-refused}
-use Rattle.p21_commands_schema.specs.Command.{FailsBy}
+use Rattle.p21_commands_files.specs.Refusals.{IsFaultOf, IsNoDevice}
+use Rattle.p21_commands_files.proofs.Failing.{file-refused, of-no_device}
+use Rattle.p21_commands.specs.Command.{FailsBy}
 use Rattle.p21_commands_schema.specs.Load.{DeclaresRead}
 use Rattle.p21_schemas.specs.Schema.{Schema}
 use Rattle.p21_stream.specs.Answers.{FailsToWrite, IsWritten}
@@ -17,20 +17,6 @@ use Rattle.p21_stream.specs.Reading.{RefusesRead}
 use Rattle.p21_stream_fault.specs.declared.fault.Fault.{Fault}
 use Rattle.p21_stream_fault.specs.declared.fault.Fault.TheVariants as file
 use Rattle.p21_stream_fault.specs.declared.refusal.Refusal.{Refusal}
-
-of-no_device : (fault : Fault) → IsOfFile fault → IsNoDevice fault
-of-no_device file.NoMemory of = absurd of
-of-no_device file.Read of = absurd of
-of-no_device file.Write of = absurd of
-of-no_device (file.Token fault) of = tt
-of-no_device (file.Grammar fault) of = tt
-of-no_device (file.Check fault) of = tt
-of-no_device file.SchemaName of = tt
-of-no_device file.SectionTwice of = tt
-of-no_device file.DuplicateName of = tt
-of-no_device file.CanonicalTooLong of = tt
-of-no_device file.Dangling of = tt
-of-no_device file.WrongTarget of = tt
 
 module _ (schema old new output_old output_new : Option (List ℕ)) (s : Schema) (declares : DeclaresRead schema s) where
   before-writing : (fault : Fault) → IsNoDevice fault → FailsToWrite s usual old new output_old output_new fault → RefusesRead s usual old new fault × Keeps output_old output_new
@@ -61,7 +47,7 @@ module _ (schema old new output_old output_new : Option (List ℕ)) (s : Schema)
       record {
         line = w.text;
         is_line = record { declared = s; declares = declares; canonical = w.canonical };
-        part = record { written = w.part.written; missing = w.part.missing; some = w.part.some; whole = w.part.whole; appended = w.part.appended };
+        part = w.part;
       }
 
   -- what the writer got where nothing fails

@@ -7,7 +7,7 @@ use Rattle.p21_commands.specs.declared.fault.CommandFault.TheVariants.{Refused, 
 use Rattle.p21_commands_files.specs.Refusals.{IsOfFile, refusal_line}
 use Rattle.p21_commands_schema.specs.Load.{DeclaresRead, IsRefused as IsSchemaRefused}
 use Rattle.p21_schemas.specs.Schema.{Schema}
-use Rattle.p21_stream.specs.Reading.{IsAcceptedRead, IsRefused}
+use Rattle.p21_stream.specs.Reading.{IsAcceptedRead, IsRefused, RefusesRead}
 use Rattle.p21_stream_accepted.specs.Output.{Output}
 use Rattle.p21_stream_fault.specs.declared.refusal.Refusal.{Refusal}
 
@@ -17,13 +17,14 @@ pub record IsAcceptedUnder (schema file_old file_new : Option (List ℕ)) (outpu
   pub declares : DeclaresRead schema declared
   pub accepted : IsAcceptedRead declared usual file_old file_new output
 
--- the line, behind a word for the file, names a fault for which it is refused under the schema
+-- the line, behind a word for the file, names a fault of the file, for which it is refused under the schema
 pub record IsFileRefused (word : List ℕ) (schema file_old file_new : Option (List ℕ)) (line : List ℕ) : Type 0 where
   pub declared : Schema
   pub declares : DeclaresRead schema declared
   pub refusal : Refusal
   pub of_file : IsOfFile refusal.fault
   pub refused : IsRefused declared usual file_old file_new
+  pub refuses : RefusesRead declared usual file_old file_new refusal.fault
   pub line_is : line ≡ refusal_line word refusal
 
 -- the line is of the schema, and the file isn't read; or it is of the file

@@ -1,13 +1,14 @@
 //! The command `check`.
-ghost use Rattle.std.specs.Prelude.{◌≡◌, ◌⊎◌, IfErr, IfOk, OnOk, string_bytes, length};
+ghost use Rattle.std.specs.Prelude.{◌≡◌, ◌⊎◌, IfErr, IfOk, OnOk, string_bytes, length, ◌≢◌, [], ◌∷◌};
 ghost use Rattle.std.specs.Io.KnownBytes.{Keeps};
 ghost use Rattle.p21_basics.specs.Limits.{usual};
+ghost use Rattle.p21_commands.specs.Command.{Fails, FailsBy};
+ghost use Rattle.p21_commands.specs.Failures.{FailedBy, NoneFailed, failures_of};
 ghost use Rattle.p21_commands.specs.Status.{done, failed, refused};
 ghost use Rattle.p21_commands.specs.Transfer as text;
 ghost use Rattle.p21_commands.specs.Transfer.{Writes};
 ghost use Rattle.p21_commands_files.specs.Check.{IsChecked, check_line};
 ghost use Rattle.p21_commands_files.specs.Files.{IsRefusedUnder};
-ghost use Rattle.p21_commands_schema.specs.Command.{Fails, FailsBy};
 ghost use Rattle.p21_stream.specs.Reading.{ConsumesAtMost};
 ghost use Rattle.p21_stream_accepted.specs.Output.{output_text};
 
@@ -21,26 +22,28 @@ use std::io::{Read, Write};
 /// file; or to `faults` one line that says why it isn't accepted. Answers the exit status.
 pub fn check_command<S: Read, R: Read, W: Write, F: Write>(
     alloc: Global,
-    schema: &mut S,
+    schema: &mut Watched<S>,
     file: &mut Watched<R>,
-    output: &mut W,
-    faults: &mut F,
+    output: &mut Watched<W>,
+    faults: &mut Watched<F>,
 ) -> u8
     ensures status { (result ≡ done) ⊎ (result ≡ refused) ⊎ (result ≡ failed) }
-    ensures consumed_schema { text.ConsumesAtMost (S.remaining schema.old) (S.remaining schema.new) }
+    ensures consumed_schema { text.ConsumesAtMost (S.remaining schema.old.inner) (S.remaining schema.new.inner) }
     ensures consumed_file { ConsumesAtMost usual (R.remaining file.old.inner) (R.remaining file.new.inner) }
 
     ensures answered { result ≡ done
-        → Writes (IsChecked (S.remaining schema.old) (R.remaining file.old.inner) (R.remaining file.new.inner)) (W.contents output.old) (W.contents output.new) }
-    ensures silent { result ≡ done → Keeps (F.contents faults.old) (F.contents faults.new) }
+        → Writes (IsChecked (S.remaining schema.old.inner) (R.remaining file.old.inner) (R.remaining file.new.inner)) (W.contents output.old.inner) (W.contents output.new.inner) }
+    ensures silent { result ≡ done → Keeps (F.contents faults.old.inner) (F.contents faults.new.inner) }
 
     ensures refused { result ≡ refused
-        → Writes (IsRefusedUnder (S.remaining schema.old) (R.remaining file.old.inner) (R.remaining file.new.inner)) (F.contents faults.old) (F.contents faults.new) }
-    ensures unwritten { result ≡ refused → Keeps (W.contents output.old) (W.contents output.new) }
+        → Writes (IsRefusedUnder (S.remaining schema.old.inner) (R.remaining file.old.inner) (R.remaining file.new.inner)) (F.contents faults.old.inner) (F.contents faults.new.inner) }
+    ensures unwritten { result ≡ refused → Keeps (W.contents output.old.inner) (W.contents output.new.inner) }
 
     ensures failed { result ≡ failed
-        → Fails (IsChecked (S.remaining schema.old) (R.remaining file.old.inner) (R.remaining file.new.inner)) (IsRefusedUnder (S.remaining schema.old) (R.remaining file.old.inner) (R.remaining file.new.inner))
-        (W.contents output.old) (W.contents output.new) (F.contents faults.old) (F.contents faults.new) }
+        → Fails (IsChecked (S.remaining schema.old.inner) (R.remaining file.old.inner) (R.remaining file.new.inner)) (IsRefusedUnder (S.remaining schema.old.inner) (R.remaining file.old.inner) (R.remaining file.new.inner))
+        (W.contents output.old.inner) (W.contents output.new.inner) (F.contents faults.old.inner) (F.contents faults.new.inner)
+        (failures_of schema.old schema.new ∷ failures_of file.old file.new ∷ []) (failures_of output.old output.new) (failures_of faults.old faults.new) }
+    ensures unfailed { result ≢ failed → NoneFailed (failures_of schema.old schema.new ∷ failures_of file.old file.new ∷ failures_of output.old output.new ∷ failures_of faults.old faults.new ∷ []) }
 {
     match write_check(alloc, schema, file, output) {
         Ok(()) => DONE,
@@ -51,15 +54,18 @@ pub fn check_command<S: Read, R: Read, W: Write, F: Write>(
 /// Writes how many instances a file has, and how many bytes its canonical file.
 fn write_check<S: Read, R: Read, W: Write>(
     alloc: Global,
-    schema: &mut S,
+    schema: &mut Watched<S>,
     file: &mut Watched<R>,
-    output: &mut W,
+    output: &mut Watched<W>,
 ) -> Result<(), CommandFault>
-    ensures ok { OnOk result (Writes (IsChecked (S.remaining schema.old) (R.remaining file.old.inner) (R.remaining file.new.inner)) (W.contents output.old) (W.contents output.new)) }
-    ensures err { IfErr result (FailsBy (IsChecked (S.remaining schema.old) (R.remaining file.old.inner) (R.remaining file.new.inner)) (IsRefusedUnder (S.remaining schema.old) (R.remaining file.old.inner) (R.remaining file.new.inner))
-        (W.contents output.old) (W.contents output.new)) }
-    ensures consumed_schema { text.ConsumesAtMost (S.remaining schema.old) (S.remaining schema.new) }
+    ensures ok { OnOk result (Writes (IsChecked (S.remaining schema.old.inner) (R.remaining file.old.inner) (R.remaining file.new.inner)) (W.contents output.old.inner) (W.contents output.new.inner)) }
+    ensures err { IfErr result (FailsBy (IsChecked (S.remaining schema.old.inner) (R.remaining file.old.inner) (R.remaining file.new.inner)) (IsRefusedUnder (S.remaining schema.old.inner) (R.remaining file.old.inner) (R.remaining file.new.inner))
+        (W.contents output.old.inner) (W.contents output.new.inner)) }
+    ensures consumed_schema { text.ConsumesAtMost (S.remaining schema.old.inner) (S.remaining schema.new.inner) }
     ensures consumed_file { ConsumesAtMost usual (R.remaining file.old.inner) (R.remaining file.new.inner) }
+
+    ensures unfailed { OnOk result (NoneFailed (failures_of schema.old schema.new ∷ failures_of file.old file.new ∷ failures_of output.old output.new ∷ [])) }
+    ensures failed { IfErr result (FailedBy (failures_of schema.old schema.new ∷ failures_of file.old file.new ∷ []) (failures_of output.old output.new ∷ [])) }
 {
     let accepted = read_under(alloc, schema, file)?;
     let line = match line_of(alloc, &accepted) {

@@ -1,12 +1,13 @@
 //! The command `show`.
-ghost use Rattle.std.specs.Prelude.{◌≡◌, ◌⊎◌, ◌++◌, ℕ, IfErr, IfOk, OnOk, codes, string_bytes};
+ghost use Rattle.std.specs.Prelude.{◌≡◌, ◌⊎◌, ◌++◌, ℕ, IfErr, IfOk, OnOk, codes, string_bytes, ◌≢◌, [], ◌∷◌};
 ghost use Rattle.std.specs.Io.KnownBytes.{Keeps};
 ghost use Rattle.p21_basics.specs.Limits.{usual};
+ghost use Rattle.p21_commands.specs.Command.{Fails, FailsBy};
+ghost use Rattle.p21_commands.specs.Failures.{FailedBy, NoneFailed, failures_of};
 ghost use Rattle.p21_commands.specs.Status.{done, failed, refused};
 ghost use Rattle.p21_commands.specs.Transfer as text;
 ghost use Rattle.p21_commands.specs.Transfer.{Writes};
 ghost use Rattle.p21_commands_files.specs.Show.{IsNotShown, IsShown, IsStatementLine, NamesNone, missing_line};
-ghost use Rattle.p21_commands_schema.specs.Command.{Fails, FailsBy};
 ghost use Rattle.p21_stream.specs.Reading.{ConsumesAtMost};
 
 use crate::reading::read_under;
@@ -20,26 +21,28 @@ use std::io::{Read, Write};
 /// one line that says why there is none. Answers the exit status.
 pub fn show_command<S: Read, R: Read, W: Write, F: Write>(
     alloc: Global,
-    schema: &mut S,
+    schema: &mut Watched<S>,
     file: &mut Watched<R>,
     name: Name,
-    output: &mut W,
-    faults: &mut F,
+    output: &mut Watched<W>,
+    faults: &mut Watched<F>,
 ) -> u8
     ensures status { (result ≡ done) ⊎ (result ≡ refused) ⊎ (result ≡ failed) }
-    ensures consumed_schema { text.ConsumesAtMost (S.remaining schema.old) (S.remaining schema.new) }
+    ensures consumed_schema { text.ConsumesAtMost (S.remaining schema.old.inner) (S.remaining schema.new.inner) }
     ensures consumed_file { ConsumesAtMost usual (R.remaining file.old.inner) (R.remaining file.new.inner) }
 
-    ensures answered { result ≡ done → Writes (IsShown (S.remaining schema.old) (R.remaining file.old.inner) (R.remaining file.new.inner) name) (W.contents output.old) (W.contents output.new) }
-    ensures silent { result ≡ done → Keeps (F.contents faults.old) (F.contents faults.new) }
+    ensures answered { result ≡ done → Writes (IsShown (S.remaining schema.old.inner) (R.remaining file.old.inner) (R.remaining file.new.inner) name) (W.contents output.old.inner) (W.contents output.new.inner) }
+    ensures silent { result ≡ done → Keeps (F.contents faults.old.inner) (F.contents faults.new.inner) }
 
     ensures refused { result ≡ refused
-        → Writes (IsNotShown (S.remaining schema.old) (R.remaining file.old.inner) (R.remaining file.new.inner) name) (F.contents faults.old) (F.contents faults.new) }
-    ensures unwritten { result ≡ refused → Keeps (W.contents output.old) (W.contents output.new) }
+        → Writes (IsNotShown (S.remaining schema.old.inner) (R.remaining file.old.inner) (R.remaining file.new.inner) name) (F.contents faults.old.inner) (F.contents faults.new.inner) }
+    ensures unwritten { result ≡ refused → Keeps (W.contents output.old.inner) (W.contents output.new.inner) }
 
     ensures failed { result ≡ failed
-        → Fails (IsShown (S.remaining schema.old) (R.remaining file.old.inner) (R.remaining file.new.inner) name) (IsNotShown (S.remaining schema.old) (R.remaining file.old.inner) (R.remaining file.new.inner) name)
-        (W.contents output.old) (W.contents output.new) (F.contents faults.old) (F.contents faults.new) }
+        → Fails (IsShown (S.remaining schema.old.inner) (R.remaining file.old.inner) (R.remaining file.new.inner) name) (IsNotShown (S.remaining schema.old.inner) (R.remaining file.old.inner) (R.remaining file.new.inner) name)
+        (W.contents output.old.inner) (W.contents output.new.inner) (F.contents faults.old.inner) (F.contents faults.new.inner)
+        (failures_of schema.old schema.new ∷ failures_of file.old file.new ∷ []) (failures_of output.old output.new) (failures_of faults.old faults.new) }
+    ensures unfailed { result ≢ failed → NoneFailed (failures_of schema.old schema.new ∷ failures_of file.old file.new ∷ failures_of output.old output.new ∷ failures_of faults.old faults.new ∷ []) }
 {
     match write_statement(alloc, schema, file, name, output) {
         Ok(()) => DONE,
@@ -50,16 +53,19 @@ pub fn show_command<S: Read, R: Read, W: Write, F: Write>(
 /// Writes the canonical statement of an instance of a file.
 fn write_statement<S: Read, R: Read, W: Write>(
     alloc: Global,
-    schema: &mut S,
+    schema: &mut Watched<S>,
     file: &mut Watched<R>,
     name: Name,
-    output: &mut W,
+    output: &mut Watched<W>,
 ) -> Result<(), CommandFault>
-    ensures ok { OnOk result (Writes (IsShown (S.remaining schema.old) (R.remaining file.old.inner) (R.remaining file.new.inner) name) (W.contents output.old) (W.contents output.new)) }
-    ensures err { IfErr result (FailsBy (IsShown (S.remaining schema.old) (R.remaining file.old.inner) (R.remaining file.new.inner) name) (IsNotShown (S.remaining schema.old) (R.remaining file.old.inner) (R.remaining file.new.inner) name)
-        (W.contents output.old) (W.contents output.new)) }
-    ensures consumed_schema { text.ConsumesAtMost (S.remaining schema.old) (S.remaining schema.new) }
+    ensures ok { OnOk result (Writes (IsShown (S.remaining schema.old.inner) (R.remaining file.old.inner) (R.remaining file.new.inner) name) (W.contents output.old.inner) (W.contents output.new.inner)) }
+    ensures err { IfErr result (FailsBy (IsShown (S.remaining schema.old.inner) (R.remaining file.old.inner) (R.remaining file.new.inner) name) (IsNotShown (S.remaining schema.old.inner) (R.remaining file.old.inner) (R.remaining file.new.inner) name)
+        (W.contents output.old.inner) (W.contents output.new.inner)) }
+    ensures consumed_schema { text.ConsumesAtMost (S.remaining schema.old.inner) (S.remaining schema.new.inner) }
     ensures consumed_file { ConsumesAtMost usual (R.remaining file.old.inner) (R.remaining file.new.inner) }
+
+    ensures unfailed { OnOk result (NoneFailed (failures_of schema.old schema.new ∷ failures_of file.old file.new ∷ failures_of output.old output.new ∷ [])) }
+    ensures failed { IfErr result (FailedBy (failures_of schema.old schema.new ∷ failures_of file.old file.new ∷ []) (failures_of output.old output.new ∷ [])) }
 {
     let accepted = read_under(alloc, schema, file)?;
     let line = match statement_line(alloc, &accepted, name) {

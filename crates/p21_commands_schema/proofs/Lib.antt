@@ -1,3 +1,2 @@
 pub mod Commas
-pub mod Reporting
 pub mod Within

@@ -1,4 +1,3 @@
 -- What the commands do with a schema.
-pub mod Command
 pub mod Load
 pub mod Print

@@ -1,5 +1,6 @@
 //! A schema over a reader.
-ghost use Rattle.std.specs.Prelude.{◌≡◌, IfErr, IfOk, MatchResult, string_bytes};
+ghost use Rattle.std.specs.Prelude.{◌≡◌, [], ◌∷◌, IfErr, IfOk, MatchResult, OnOk, string_bytes};
+ghost use Rattle.p21_commands.specs.Failures.{FailedBy, failures_of};
 ghost use Rattle.p21_commands.specs.Transfer.{ConsumesAtMost};
 ghost use Rattle.p21_commands_schema.specs.Load.{DeclaresRead, RefusesBy, RefusesRead, refusal_line};
 ghost use Rattle.p21_schemas.specs.Declared.{Declares};
@@ -7,14 +8,18 @@ ghost use Rattle.p21_schemas.specs.Declared.{Declares};
 use p21_commands::{CommandFault, read_text};
 use p21_express::{SchemaFault, read_schema};
 use p21_express_tables::Schema;
+use p21_stream_io::Watched;
 use std::alloc::{AllocError, Global};
 use std::io::Read;
 
 /// The schema that the text of a reader declares, or the fault line that says why there is none.
-pub fn load_schema<S: Read>(alloc: Global, reader: &mut S) -> Result<Schema, CommandFault>
-    ensures ok { IfOk result (λ schema. DeclaresRead (S.remaining reader.old) schema) }
-    ensures err { IfErr result (RefusesRead (S.remaining reader.old)) }
-    ensures consumed { ConsumesAtMost (S.remaining reader.old) (S.remaining reader.new) }
+pub fn load_schema<S: Read>(alloc: Global, reader: &mut Watched<S>) -> Result<Schema, CommandFault>
+    ensures ok { IfOk result (λ schema. DeclaresRead (S.remaining reader.old.inner) schema) }
+    ensures err { IfErr result (RefusesRead (S.remaining reader.old.inner)) }
+    ensures consumed { ConsumesAtMost (S.remaining reader.old.inner) (S.remaining reader.new.inner) }
+
+    ensures read { OnOk result (reader.new.failures ≡ reader.old.failures) }
+    ensures failed { IfErr result (FailedBy (failures_of reader.old reader.new ∷ []) []) }
 {
     let text = read_text(alloc, reader)?;
     declared_schema(alloc, &text)

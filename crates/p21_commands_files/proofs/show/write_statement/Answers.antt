@@ -1,7 +1,7 @@
 use Rattle.std.proofs.Common.{subst, sym}
 use Rattle.p21_commands_files.specs.Show.{IsNotShown, IsShown, IsStatementLine}
 use Rattle.p21_commands_files.proofs.Showing.{missing-fails}
-use Rattle.p21_commands_schema.proofs.Reporting.{part_written, written}
+use Rattle.p21_commands.proofs.Reporting.{part_written, written}
 use Rattle.p21_commands_files.proofs.show.write_statement.Goals as goal
 
 pub returns-in-Err-clause-err : goal.returns-in-Err-clause-err
@@ -9,10 +9,10 @@ returns-in-Err-clause-err g c = missing-fails _ _ _ _ _ c.in_ok-accepted.accepte
 
 pub returns-clause-ok : goal.returns-clause-ok
 returns-clause-ok g c =
-    written (IsShown (g.S.Read.remaining c.args.schema.now) (g.R.Read.remaining c.args.file.now.inner) (g.R.Read.remaining c.read_under.new.file.inner) c.args.name) _ _ _ _
+    written (IsShown (g.S.Read.remaining c.args.schema.now.inner) (g.R.Read.remaining c.args.file.now.inner) (g.R.Read.remaining c.read_under.new.file.inner) c.args.name) _ _ _ _
     (record { output = c.in_ok-accepted.accepted; accepted = c.in_ok-accepted.ensures.ok; is_line = subst (IsStatementLine c.in_ok-accepted.accepted c.args.name) (sym c.deref.ensures.value) c.in-Ok.ensures.ok }) c.write_whole.ensures.ok
 
 pub returns-clause-err : goal.returns-clause-err
 returns-clause-err g c =
-    part_written (IsShown (g.S.Read.remaining c.args.schema.now) (g.R.Read.remaining c.args.file.now.inner) (g.R.Read.remaining c.read_under.new.file.inner) c.args.name) (IsNotShown (g.S.Read.remaining c.args.schema.now) (g.R.Read.remaining c.args.file.now.inner) (g.R.Read.remaining c.read_under.new.file.inner) c.args.name) _ _ _ _
+    part_written (IsShown (g.S.Read.remaining c.args.schema.now.inner) (g.R.Read.remaining c.args.file.now.inner) (g.R.Read.remaining c.read_under.new.file.inner) c.args.name) (IsNotShown (g.S.Read.remaining c.args.schema.now.inner) (g.R.Read.remaining c.args.file.now.inner) (g.R.Read.remaining c.read_under.new.file.inner) c.args.name) _ _ _ _
     (record { output = c.in_ok-accepted.accepted; accepted = c.in_ok-accepted.ensures.ok; is_line = subst (IsStatementLine c.in_ok-accepted.accepted c.args.name) (sym c.deref.ensures.value) c.in-Ok.ensures.ok }) c.write_whole.ensures.err c.write_whole.ensures.fault

@@ -1,0 +1,52 @@
+-- What a report says by its status, for any answers and refusals.
+use Rattle.std.specs.Prelude.{Result, Ok, Err, OnOk, OnErr, IfErr}
+use Rattle.std.specs.Io.KnownBytes.{Appends}
+use Rattle.std.proofs.Common.{◌≡◌, ◌≢◌, ℕ, List, [], ◌∷◌, ◌++◌, Option, inl, inr, refl, sym, subst, string_bytes}
+use Rattle.p21_commands.specs.Command.{Fails, FailsBy}
+use Rattle.p21_commands.specs.Failures.{Failures, FailedBy, NoneFailed}
+use Rattle.p21_commands.specs.Fault.{Reports, fault_status}
+use Rattle.p21_commands.specs.Status.{done, failed, refused}
+use Rattle.p21_commands.specs.Transfer.{AppendsPartOf, Writes}
+use Rattle.p21_commands.specs.declared.fault.CommandFault.{CommandFault}
+use Rattle.p21_commands.specs.declared.fault.CommandFault.TheVariants.{Refused, Write}
+use Rattle.p21_commands.proofs.Failing.{none_more}
+
+module _ (faults_old faults_new : Option (List ℕ)) (faults : Failures) where
+  pub not_done : (fault : CommandFault) (status : ℕ) → Reports fault status faults_old faults_new faults → status ≡ done → ⊥
+  not_done (Refused line) status (inl r) e = cc (r.0, e)
+  not_done (Refused line) status (inr r) e = cc (r.0, e)
+  not_done fault status (inl r) e = cc (r.0, e)
+  not_done fault status (inr r) e = cc (r.0, e)
+
+  not_refused : (fault : CommandFault) (status : ℕ) → fault_status fault ≡ failed → Reports fault status faults_old faults_new faults → status ≡ refused → ⊥
+  not_refused fault status k (inl r) e = cc (k, r.0, e)
+  not_refused fault status k (inr r) e = cc (r.0, e)
+
+  -- where the status is no failure, no call failed
+  pub unfailed : (readers : List Failures) (output : Failures) (fault : CommandFault) (status : ℕ) → FailedBy readers (output ∷ []) fault
+      → Reports fault status faults_old faults_new faults → status ≢ failed → NoneFailed (readers ++ output ∷ faults ∷ [])
+  unfailed readers output (Refused line) status f (inl r) e = none_more readers (output ∷ faults ∷ []) f.0 (f.1.0, r.2)
+  unfailed readers output (Refused line) status f (inr r) e = absurd (e r.0)
+  unfailed readers output fault status f (inl r) e = absurd (e r.0)
+  unfailed readers output fault status f (inr r) e = absurd (e r.0)
+
+  module _ (IsAnswer IsRefusal : List ℕ → Type 0) (output_old output_new : Option (List ℕ)) where
+    pub refusal_written : (fault : CommandFault) (status : ℕ) → FailsBy IsAnswer IsRefusal output_old output_new fault
+        → Reports fault status faults_old faults_new faults → status ≡ refused → Writes IsRefusal faults_old faults_new
+    refusal_written (Refused line) status f (inl r) e = record { line = string_bytes line; is_line = f.0; appended = r.1 }
+    refusal_written (Refused line) status f (inr r) e = cc (r.0, e)
+    refusal_written fault status f r e = absurd (not_refused fault status refl r e)
+
+    pub failure_reported : (readers : List Failures) (output : Failures) (fault : CommandFault) (status : ℕ) → FailsBy IsAnswer IsRefusal output_old output_new fault → FailedBy readers (output ∷ []) fault
+        → Reports fault status faults_old faults_new faults → status ≡ failed → Fails IsAnswer IsRefusal output_old output_new faults_old faults_new readers output faults
+    failure_reported readers output fault status f b r e = record { fault = fault; fails_by = f; failed_by = b; reports = subst (λ (s : ℕ). Reports fault s faults_old faults_new faults) e r }
+
+-- ---- an answer that is written
+
+pub written : {E : Type 0} (IsLine : List ℕ → Type 0) (result : Result (Unit {0}) E) (old new : Option (List ℕ)) (line : List ℕ) → IsLine line → OnOk result (Appends old new line) → OnOk result (Writes IsLine old new)
+written IsLine (Ok u) old new line is appended = record { line = line; is_line = is; appended = appended }
+written IsLine (Err fault) old new line is appended = tt
+
+pub part_written : (IsAnswer IsRefusal : List ℕ → Type 0) (result : Result (Unit {0}) CommandFault) (old new : Option (List ℕ)) (line : List ℕ) → IsAnswer line → OnErr result (AppendsPartOf old new line) → IfErr result (λ fault. fault ≡ Write) → IfErr result (FailsBy IsAnswer IsRefusal old new)
+part_written IsAnswer IsRefusal (Ok u) old new line is part same = tt
+part_written IsAnswer IsRefusal (Err fault) old new line is part same = subst (FailsBy IsAnswer IsRefusal old new) (sym same) (record { line = line; is_line = is; part = part })
