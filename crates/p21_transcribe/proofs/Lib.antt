@@ -1,8 +1,11 @@
 pub mod DigitLanes
+pub mod ExponentParts
+pub mod ExponentSpellings
 pub mod ItemTokens
 pub mod Leaves
 pub mod NameTokens
 pub mod Parts
+pub mod RealTokens
 pub mod Splits
 pub mod TextTokens
 pub mod WholeTokens

@@ -15,3 +15,14 @@ part_alone r bytes text old new e h = part_behind r [] bytes text old old new e 
 pub continues_part : (r : Bool) (text old new : List ℕ) → AppendsPart r text old new → Continues old new
 continues_part true text old new h = (text, h)
 continues_part false text old new h = h
+
+-- ---- a text that goes on
+
+pub goes-on : (old middle new more : List ℕ) → Continues old middle → new ≡ middle ++ more → Continues old new
+goes-on old middle new more (tail, is) e = (tail ++ more, e ∙ (ap (λ (x : List ℕ). x ++ more) is ∙ append_assoc old tail more))
+
+pub stays : (old new : List ℕ) → new ≡ old → Continues old new
+stays old new e = ([], e ∙ sym (append-nil old))
+
+pub stays-behind : (old middle new : List ℕ) → Continues old middle → new ≡ middle → Continues old new
+stays-behind old middle new (tail, is) e = (tail, e ∙ is)

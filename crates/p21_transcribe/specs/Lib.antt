@@ -1,4 +1,5 @@
 pub mod Appending
 pub mod Characters
 pub mod Leaf
+pub mod Numbers
 pub mod Runs

@@ -4,13 +4,16 @@
 
 mod digits;
 mod draft;
+mod exponent;
 mod item;
 mod name;
 mod number;
+mod real;
 mod text;
 
 pub use draft::Draft;
 pub use item::{append_item, append_logical};
 pub use name::append_name;
 pub use number::append_whole;
+pub use real::append_real;
 pub use text::append_text;
