@@ -16,11 +16,9 @@ mod values;
 use p21_canon::write_record;
 use p21_express::read_schema;
 use p21_express_tables::Schema;
-use p21_grammar::{Canonical, Event, Lexer, Limits, Name, Parser, Record, Token};
-use p21_mapping::{CheckFault, Need, check_moved, check_record};
+use p21_grammar::{Event, Lexer, Limits, Name, Parser, Record, Token};
+use p21_mapping::{CheckFault, check_moved, check_record};
 use std::alloc::Global;
-use std::process::Abort;
-use std::test::Fail;
 
 /// The statements in front of the instances of a file.
 const HEAD: &str =
@@ -32,43 +30,74 @@ struct Reader {
     lexer: Lexer,
     parser: Parser,
     last: Option<Event>,
+    // Whether a text was refused, or memory ran out.
+    is_lost: bool,
 }
 
 impl Reader {
-    fn new(alloc: Global) -> Reader {
-        Reader {
+    /// A reader that has taken a text.
+    fn behind(alloc: Global, text: &str) -> Reader {
+        let mut reader = Reader {
             lexer: Lexer::new(alloc, Limits::usual()),
             parser: Parser::new(alloc),
             last: None,
-        }
+            is_lost: false,
+        };
+        reader.feed(text.as_bytes());
+        reader
     }
 
-    fn feed(&mut self, text: &[u8]) -> Result<(), Fail> {
+    /// Takes a text up to its end or to a refusal.
+    fn feed(&mut self, text: &[u8]) {
         let mut rest = text;
         for _ in 0..u64::MAX {
-            if rest.is_empty() {
+            if rest.is_empty() || self.is_lost {
                 break;
             }
-            let (taken, token) = self.lexer.next(rest)?;
-            rest = &rest[taken..];
-            if let Some(token) = token {
-                self.take(token)?;
+            rest = self.take_front(rest);
+        }
+    }
+
+    /// Takes the next token, and answers what is left behind it.
+    fn take_front<'a>(&mut self, text: &'a [u8]) -> &'a [u8] {
+        match self.lexer.next(text) {
+            Ok((taken, token)) => {
+                if let Some(token) = token {
+                    self.take(token);
+                }
+                &text[taken..]
+            }
+            Err(_) => {
+                self.is_lost = true;
+                text
             }
         }
-        Ok(())
     }
 
-    fn take(&mut self, token: Token) -> Result<(), Fail> {
-        self.last = self.parser.take(token)?;
-        Ok(())
+    fn take(&mut self, token: Token) {
+        match self.parser.take(token) {
+            Ok(event) => self.last = event,
+            Err(_) => self.is_lost = true,
+        }
     }
 
-    /// The instance that ended with the last token.
-    fn end(self) -> Result<Instance, Fail> {
-        let Reader { last, .. } = self;
-        match last {
-            Some(event) => instance_of(event),
-            None => Err(Fail::from("no statement")),
+    /// The statement that ended with the last token.
+    fn statement(&self) -> Option<&Event> {
+        if self.is_lost {
+            None
+        } else {
+            self.last.as_ref()
+        }
+    }
+
+    /// The instance that ended with the last token, taken out.
+    fn take_instance(&mut self) -> Option<Instance> {
+        if self.is_lost {
+            return None;
+        }
+        match self.last.take() {
+            Some(statement) => instance_of(statement),
+            None => None,
         }
     }
 }
@@ -80,100 +109,110 @@ struct Instance {
     record: Record,
 }
 
-/// The instance that texts are, one behind the other.
-fn read_pieces(alloc: Global, pieces: &[&[u8]]) -> Result<Instance, Fail> {
-    let mut reader = Reader::new(alloc);
-    reader.feed(HEAD.as_bytes())?;
-    for piece in pieces {
-        reader.feed(piece)?;
+fn instance_of(statement: Event) -> Option<Instance> {
+    match statement {
+        Event::Instance(name, record) => Some(Instance { name, record }),
+        Event::Section(_line) => None,
+        Event::Named(_part) => None,
+        Event::Header(_part) => None,
     }
-    reader.end()
 }
 
 /// The instance that a text is.
-fn read_instance(alloc: Global, text: &[u8]) -> Result<Instance, Fail> {
-    read_pieces(alloc, &[text])
+fn read_instance(alloc: Global, text: &[u8]) -> Option<Instance> {
+    let mut reader = Reader::behind(alloc, HEAD);
+    reader.feed(text);
+    reader.take_instance()
 }
 
-fn instance_of(event: Event) -> Result<Instance, Fail> {
-    match event {
-        Event::Instance(name, record) => Ok(Instance { name, record }),
-        Event::Section(_line) => Err(Fail::from("no instance")),
-        Event::Named(_part) => Err(Fail::from("no instance")),
-        Event::Header(_part) => Err(Fail::from("no instance")),
-    }
-}
-
-/// The canonical statement of an instance and what it needs, or the refusal of its record.
-fn statement(
+/// Appends the canonical statement of an instance.
+fn append_statement(
     alloc: Global,
     schema: &Schema,
     instance: &Instance,
-) -> Result<(Vec<u8>, Vec<Need>), CheckFault> {
-    let (typed, needs) = check_record(alloc, schema, &instance.record)?;
-    let mut out = Vec::new(alloc);
-    write_record(schema, instance.name, &typed, &mut out)?;
-    Ok((out, needs))
-}
-
-/// The same by the check that takes the record.
-fn moved(
-    alloc: Global,
-    schema: &Schema,
-    instance: Instance,
-) -> Result<(Vec<u8>, Vec<Need>), CheckFault> {
-    let Instance { name, record } = instance;
-    let (typed, needs) = check_moved(alloc, schema, record)?;
-    let mut out = Vec::new(alloc);
-    write_record(schema, name, &typed, &mut out)?;
-    Ok((out, needs))
-}
-
-/// A canonical statement, or the number and the name of a refusal.
-fn shown(alloc: Global, found: Result<(Vec<u8>, Vec<Need>), CheckFault>) -> Result<Vec<u8>, Fail> {
-    match found {
-        Ok((out, _)) => Ok(out),
-        Err(fault) => {
-            let text = format!(in alloc; "{} {}", fault.number(), fault.name())?;
-            Ok(text.into_bytes())
-        }
-    }
-}
-
-/// What comes of an instance: its canonical statement, or the refusal of its record.
-fn answer(alloc: Global, schema: &Schema, text: &[u8]) -> Result<Vec<u8>, Fail> {
-    let found = read_instance(alloc, text)?;
-    shown(alloc, statement(alloc, schema, &found))
-}
-
-/// The same where the record is moved.
-fn moved_answer(alloc: Global, schema: &Schema, text: &[u8]) -> Result<Vec<u8>, Fail> {
-    let found = read_instance(alloc, text)?;
-    shown(alloc, moved(alloc, schema, found))
-}
-
-/// Looks that each instance has the answer beside it, and each canonical statement itself.
-fn expect(
-    rt: &impl Abort,
-    alloc: Global,
-    schema: &Schema,
-    rows: &[(&str, &str)],
-) -> Result<(), Fail> {
-    for (text, wanted) in rows {
-        let found = answer(alloc, schema, text.as_bytes())?;
-        assert_eq!(rt; found.as_slice(), wanted.as_bytes(), "{text}");
-        let found = moved_answer(alloc, schema, text.as_bytes())?;
-        assert_eq!(rt; found.as_slice(), wanted.as_bytes(), "{text}");
-        if wanted.starts_with("#") {
-            let again = answer(alloc, schema, wanted.as_bytes())?;
-            assert_eq!(rt; again.as_slice(), wanted.as_bytes(), "{wanted}");
-        }
-    }
+    out: &mut Vec<u8>,
+) -> Result<(), CheckFault> {
+    let (typed, _needs) = check_record(alloc, schema, &instance.record)?;
+    write_record(schema, instance.name, &typed, out)?;
     Ok(())
 }
 
-/// Looks that each instance has the answer beside it under the schema of a text.
-fn under(rt: &impl Abort, alloc: Global, schema: &str, rows: &[(&str, &str)]) -> Result<(), Fail> {
-    let schema = read_schema(alloc, schema.as_bytes())?;
-    expect(rt, alloc, &schema, rows)
+/// The same by the check that takes the record.
+fn append_moved(
+    alloc: Global,
+    schema: &Schema,
+    name: Name,
+    record: Record,
+    out: &mut Vec<u8>,
+) -> Result<(), CheckFault> {
+    let (typed, _needs) = check_moved(alloc, schema, record)?;
+    write_record(schema, name, &typed, out)?;
+    Ok(())
+}
+
+/// Whether a canonical statement, or the number and the name of a refusal, is this.
+fn is_answer(alloc: Global, found: Result<(), CheckFault>, out: &[u8], wanted: &[u8]) -> bool {
+    match found {
+        Ok(()) => out == wanted,
+        Err(fault) => is_refusal(alloc, fault, wanted),
+    }
+}
+
+fn is_refusal(alloc: Global, fault: CheckFault, wanted: &[u8]) -> bool {
+    match format!(in alloc; "{} {}", fault.number(), fault.name()) {
+        Ok(line) => line.as_bytes() == wanted,
+        Err(_) => false,
+    }
+}
+
+/// Whether this comes of an instance: its canonical statement, or the refusal of its record.
+fn comes_to(alloc: Global, schema: &Schema, instance: &Instance, wanted: &[u8]) -> bool {
+    let mut out = Vec::new(alloc);
+    let found = append_statement(alloc, schema, instance, &mut out);
+    is_answer(alloc, found, &out, wanted)
+}
+
+/// The same where the record is moved.
+fn comes_moved_to(alloc: Global, schema: &Schema, instance: Instance, wanted: &[u8]) -> bool {
+    let mut out = Vec::new(alloc);
+    let found = append_moved(alloc, schema, instance.name, instance.record, &mut out);
+    is_answer(alloc, found, &out, wanted)
+}
+
+/// Whether this comes of the instance that a text is, by both checks.
+fn answers(alloc: Global, schema: &Schema, text: &[u8], wanted: &[u8]) -> bool {
+    match read_instance(alloc, text) {
+        Some(instance) => {
+            comes_to(alloc, schema, &instance, wanted)
+                && comes_moved_to(alloc, schema, instance, wanted)
+        }
+        None => false,
+    }
+}
+
+/// Whether this comes of a text, and of a canonical statement itself.
+fn holds(alloc: Global, schema: &Schema, text: &[u8], wanted: &[u8]) -> bool {
+    answers(alloc, schema, text, wanted)
+        && (!wanted.starts_with(b"#") || answers(alloc, schema, wanted, wanted))
+}
+
+/// Instances, with the canonical statement of each, or the refusal of its record.
+type Rows = &'static [(&'static str, &'static str)];
+
+/// The first instance of which something else comes.
+fn first_wrong_of(alloc: Global, schema: &Schema, rows: Rows) -> &'static str {
+    for (text, wanted) in rows {
+        if !holds(alloc, schema, text.as_bytes(), wanted.as_bytes()) {
+            return text;
+        }
+    }
+    "none"
+}
+
+/// The same under the schema of a text.
+fn first_wrong(rt: &HostRuntime, schema: &str, rows: Rows) -> &'static str {
+    match read_schema(rt.alloc(), schema.as_bytes()) {
+        Ok(schema) => first_wrong_of(rt.alloc(), &schema, rows),
+        Err(_) => "the schema",
+    }
 }

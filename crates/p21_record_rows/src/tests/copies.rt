@@ -1,86 +1,142 @@
-use super::trees::key;
+use super::trees::part_of;
 use super::*;
-use p21_grammar::{Bits, Decimal, Param, Params, Part, Parts, Text, Whole, Word};
+use p21_canon::write_header;
+use p21_grammar::{NoMemory, Param, Part};
 use p21_mapping_copies::{copied_param, copied_record};
 
-/// A parameter of each kind.
-fn each_kind(rt: &HostRuntime) -> Result<Vec<Param>, Fail> {
-    let mut text = Text::new(rt.alloc());
-    text.push_str("é' of more than sixteen characters")?;
-    let inner = Vec::from_array(rt.alloc(), [Param::Star, Param::Dollar])?;
-    let tagged = Box::new(rt.alloc(), Param::List(Params::from_vec(inner)))?;
-    Ok(Vec::from_array(
-        rt.alloc(),
-        [
-            Param::Dollar,
-            Param::Star,
-            Param::Whole(Whole::read(rt.alloc(), b"-0120")?),
-            Param::Real(Decimal::read(rt.alloc(), b"-0.00250")?),
-            Param::Text(text),
-            Param::Name(Name(7)),
-            Param::Item(Word::read(rt.alloc(), b"RED")?),
-            Param::Bits(Bits::read(rt.alloc(), b"\"23B\"")?),
-            Param::List(Params::from_vec(Vec::new(rt.alloc()))),
-            Param::Tagged(key(rt, true, b"TALLY")?, tagged),
-        ],
-    )?)
-}
+/// The statements of a header up to its schema.
+const HEADER: &str =
+    "ISO-10303-21;HEADER;FILE_DESCRIPTION($,$);FILE_NAME($,$,$,$,$,$,$);FILE_SCHEMA(('S'));";
 
-/// Are two parameters the same?
-fn same(a: &Param, b: &Param) -> bool {
-    match (a, b) {
-        (Param::Dollar, Param::Dollar) => true,
-        (Param::Star, Param::Star) => true,
-        (Param::Whole(a), Param::Whole(b)) => *a == *b,
-        (Param::Real(a), Param::Real(b)) => *a == *b,
-        (Param::Text(a), Param::Text(b)) => *a == *b,
-        (Param::Name(a), Param::Name(b)) => *a == *b,
-        (Param::Item(a), Param::Item(b)) => *a == *b,
-        (Param::Bits(a), Param::Bits(b)) => *a == *b,
-        (Param::List(a), Param::List(b)) => a.items().len() == b.items().len(),
-        (Param::Tagged(a, _), Param::Tagged(b, _)) => a.user == b.user && a.word == b.word,
-        _ => false,
+/// A record `B` with this parameter.
+fn part_with(alloc: Global, param: Param) -> Option<Part> {
+    match Vec::from_array(alloc, [param]) {
+        Ok(params) => part_of(alloc, params),
+        Err(_) => None,
     }
 }
+
+/// A record `B` with the copy of the first parameter of another one.
+fn part_with_copy(alloc: Global, part: &Part) -> Option<Part> {
+    match copied_param(alloc, part.params.items().first()?) {
+        Ok(copy) => part_with(alloc, copy),
+        Err(_) => None,
+    }
+}
+
+/// The record of a statement.
+fn part_in(statement: &Event) -> Option<&Part> {
+    match statement {
+        Event::Header(part) => Some(part),
+        Event::Instance(_, Record::Simple(part)) => Some(part),
+        _ => None,
+    }
+}
+
+/// A record `B` with the copy of the first parameter of the last statement.
+fn copy_in(alloc: Global, reader: &Reader) -> Option<Part> {
+    part_with_copy(alloc, part_in(reader.statement()?)?)
+}
+
+/// Whether the copy of a text's first parameter is written so behind `B`.
+fn is_copied(alloc: Global, front: &str, text: &str, wanted: &str) -> bool {
+    let mut reader = Reader::behind(alloc, front);
+    reader.feed(text.as_bytes());
+    match copy_in(alloc, &reader) {
+        Some(part) => is_written(alloc, &part, wanted),
+        None => false,
+    }
+}
+
+fn is_written(alloc: Global, part: &Part, wanted: &str) -> bool {
+    let mut out = Vec::new(alloc);
+    write_header(part, &mut out).is_ok() && out.as_slice() == wanted.as_bytes()
+}
+
+/// The first parameter of which the copy is written otherwise.
+fn first_uncopied(alloc: Global, front: &str, rows: Rows) -> &'static str {
+    for (text, wanted) in rows {
+        if !is_copied(alloc, front, text, wanted) {
+            return text;
+        }
+    }
+    "none"
+}
+
+const PARAMS: Rows = &[
+    ("K($);", "B($);"),
+    ("K(*);", "B(*);"),
+    ("K(-0120);", "B(-120);"),
+    ("K(-0.00250);", "B(-2.5E-3);"),
+    (
+        "K('\u{e9}'' of more than sixteen characters');",
+        "B('\\X2\\00E9\\X0\\'' of more than sixteen characters');",
+    ),
+    ("K(.RED.);", "B(.RED.);"),
+    ("K(\"23B\");", "B(\"23B\");"),
+    ("K(());", "B(());"),
+    ("K(!TALLY((*,$)));", "B(!TALLY((*,$)));"),
+];
+
+const NAMES: Rows = &[("#1=K(#7);", "B(#7);")];
 
 #[test]
-fn each_parameter(rt: HostRuntime) -> Result<(), Fail> {
-    for param in &each_kind(&rt)? {
-        assert!(rt; same(param, &copied_param(rt.alloc(), param)?));
-    }
-    Ok(())
+fn each_parameter(rt: HostRuntime) {
+    assert_eq!(rt; first_uncopied(rt.alloc(), HEADER, PARAMS), "none");
+    assert_eq!(rt; first_uncopied(rt.alloc(), HEAD, NAMES), "none");
 }
 
-/// A simple record with a parameter of each kind.
-fn part(rt: &HostRuntime) -> Result<Part, Fail> {
-    Ok(Part {
-        key: key(rt, false, b"A")?,
-        params: Params::from_vec(each_kind(rt)?),
-    })
-}
-
-/// How many parameters a simple record has, or how many simple records stand in parentheses.
-fn count(record: &Record) -> usize {
+/// Appends the simple records that a record has.
+fn append_record(record: &Record, out: &mut Vec<u8>) -> Result<(), NoMemory> {
     match record {
-        Record::Simple(part) => part.params.items().len(),
-        Record::Complex(parts) => parts.items().len(),
+        Record::Simple(part) => write_header(part, out),
+        Record::Complex(parts) => append_parts(parts.items(), out),
     }
 }
 
-#[test]
-fn simple_records(rt: HostRuntime) -> Result<(), Fail> {
-    let record = Record::Simple(part(&rt)?);
-    let copy = copied_record(rt.alloc(), &record)?;
-    assert_eq!(rt; count(&copy), 10);
+fn append_parts(parts: &[Part], out: &mut Vec<u8>) -> Result<(), NoMemory> {
+    for part in parts {
+        write_header(part, out)?;
+    }
     Ok(())
 }
 
-#[test]
-fn records_of_several_parts(rt: HostRuntime) -> Result<(), Fail> {
-    let all = Vec::from_array(rt.alloc(), [part(&rt)?, part(&rt)?])?;
-    if let Some(parts) = Parts::from_vec(all) {
-        let copy = copied_record(rt.alloc(), &Record::Complex(parts))?;
-        assert_eq!(rt; count(&copy), 2);
+/// Whether the simple records of the copy are written so.
+fn is_copied_whole(alloc: Global, record: &Record, wanted: &str) -> bool {
+    let mut out = Vec::new(alloc);
+    match copied_record(alloc, record) {
+        Ok(copy) => append_record(&copy, &mut out).is_ok() && out.as_slice() == wanted.as_bytes(),
+        Err(_) => false,
     }
-    Ok(())
+}
+
+/// The first instance of which the copy's simple records are written otherwise.
+fn first_uncopied_whole(alloc: Global, rows: Rows) -> &'static str {
+    for (text, wanted) in rows {
+        match read_instance(alloc, text.as_bytes()) {
+            Some(instance) => {
+                if !is_copied_whole(alloc, &instance.record, wanted) {
+                    return text;
+                }
+            }
+            None => return text,
+        }
+    }
+    "none"
+}
+
+const RECORDS: Rows = &[
+    (
+        "#1=A($,*,-0120,-0.00250,'\u{e9}'' of more than sixteen characters',#7,.RED.,\"23B\",(),TALLY((*,$)));",
+        "A($,*,-120,-2.5E-3,'\\X2\\00E9\\X0\\'' of more than sixteen characters',#7,.RED.,\"23B\",(),TALLY((*,$)));",
+    ),
+    (
+        "#1=(A($,*,-0120,-0.00250,'',#7)B(.RED.,\"23B\",(),TALLY((*,$))));",
+        "A($,*,-120,-2.5E-3,'',#7);B(.RED.,\"23B\",(),TALLY((*,$)));",
+    ),
+];
+
+#[test]
+fn copies_records(rt: HostRuntime) {
+    assert_eq!(rt; first_uncopied_whole(rt.alloc(), RECORDS), "none");
 }

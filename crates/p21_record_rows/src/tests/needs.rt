@@ -1,7 +1,8 @@
 use super::schemas::{DEMO, LINKS};
 use super::*;
 use p21_express_types::Member;
-use p21_mapping::serves;
+use p21_grammar::Canonical;
+use p21_mapping::{Need, serves};
 
 /// What may be wanted in the tables here.
 const WANTED: [&str; 5] = ["POINT", "ITEM", "NODE", "TARGET", "OTHER"];
@@ -22,137 +23,188 @@ fn name_of(schema: &Schema, member: Member) -> &'static str {
     "another"
 }
 
-/// Each need with what is wanted there.
-fn shown_needs(alloc: Global, schema: &Schema, needs: &[Need]) -> Result<Vec<u8>, Fail> {
-    let mut out = Vec::new(alloc);
+/// Appends each need with what is wanted there.
+fn append_needs(schema: &Schema, needs: &[Need], out: &mut Vec<u8>) -> Result<(), CheckFault> {
     for need in needs {
-        need.target.write_canonical(&mut out)?;
+        need.target.write_canonical(out)?;
         out.push(b' ')?;
         out.extend_from_slice(name_of(schema, need.wanted).as_bytes())?;
         out.push(b';')?;
     }
-    Ok(out)
+    Ok(())
 }
 
-/// What an instance needs, by the check by reference.
-fn needs_of(alloc: Global, schema: &Schema, text: &str) -> Result<Vec<Need>, Fail> {
-    let instance = read_instance(alloc, text.as_bytes())?;
-    let (_line, needs) = statement(alloc, schema, &instance)?;
-    Ok(needs)
+fn are_needs(alloc: Global, schema: &Schema, needs: &[Need], wanted: &str) -> bool {
+    let mut out = Vec::new(alloc);
+    append_needs(schema, needs, &mut out).is_ok() && out.as_slice() == wanted.as_bytes()
+}
+
+/// Whether this is what a record needs.
+fn needs(alloc: Global, schema: &Schema, record: &Record, wanted: &str) -> bool {
+    match check_record(alloc, schema, record) {
+        Ok((_typed, needs)) => are_needs(alloc, schema, &needs, wanted),
+        Err(_) => false,
+    }
 }
 
 /// The same by the check that takes the record.
-fn moved_needs_of(alloc: Global, schema: &Schema, text: &str) -> Result<Vec<Need>, Fail> {
-    let instance = read_instance(alloc, text.as_bytes())?;
-    let (_line, needs) = moved(alloc, schema, instance)?;
-    Ok(needs)
+fn needs_moved(alloc: Global, schema: &Schema, record: Record, wanted: &str) -> bool {
+    match check_moved(alloc, schema, record) {
+        Ok((_typed, needs)) => are_needs(alloc, schema, &needs, wanted),
+        Err(_) => false,
+    }
 }
 
-/// Looks that each instance has the needs beside it.
-fn expect_needs(
-    rt: &impl Abort,
-    alloc: Global,
-    schema: &str,
-    rows: &[(&str, &str)],
-) -> Result<(), Fail> {
-    let schema = read_schema(alloc, schema.as_bytes())?;
+/// Whether this is what the instance that a text is needs, by both checks.
+fn has_needs(alloc: Global, schema: &Schema, text: &str, wanted: &str) -> bool {
+    match read_instance(alloc, text.as_bytes()) {
+        Some(instance) => {
+            needs(alloc, schema, &instance.record, wanted)
+                && needs_moved(alloc, schema, instance.record, wanted)
+        }
+        None => false,
+    }
+}
+
+fn first_otherwise_of(alloc: Global, schema: &Schema, rows: Rows) -> &'static str {
     for (text, wanted) in rows {
-        let needs = needs_of(alloc, &schema, *text)?;
-        let found = shown_needs(alloc, &schema, &needs)?;
-        assert_eq!(rt; found.as_slice(), wanted.as_bytes(), "{text}");
-        let others = moved_needs_of(alloc, &schema, *text)?;
-        assert_eq!(rt; others.as_slice(), needs.as_slice(), "{text}");
+        if !has_needs(alloc, schema, text, wanted) {
+            return text;
+        }
     }
-    Ok(())
+    "none"
 }
+
+/// The first instance that needs something else.
+fn first_otherwise(rt: &HostRuntime, schema: &str, rows: Rows) -> &'static str {
+    match read_schema(rt.alloc(), schema.as_bytes()) {
+        Ok(schema) => first_otherwise_of(rt.alloc(), &schema, rows),
+        Err(_) => "the schema",
+    }
+}
+
+const IN_ORDER: Rows = &[
+    ("#1=CLOUD((#2),(),(TALLY(1)));", "#2 POINT;"),
+    (
+        "#1=CLOUD((#10,#2,#3),(),(#3,TALLY(1),#2));",
+        "#10 POINT;#2 POINT;#3 POINT;#3 ITEM;#2 ITEM;",
+    ),
+    (
+        "#1=(SHAPE($)POINT(1.,2.)CLOUD((#9,#008),(),(#7)));",
+        "#9 POINT;#8 POINT;#7 ITEM;",
+    ),
+    ("#1=POINT($,1.,2.);", ""),
+];
 
 #[test]
-fn needs_stand_in_the_order_of_the_parameters(rt: HostRuntime) -> Result<(), Fail> {
-    const ROWS: [(&str, &str); 4] = [
-        ("#1=CLOUD((#2),(),(TALLY(1)));", "#2 POINT;"),
-        (
-            "#1=CLOUD((#10,#2,#3),(),(#3,TALLY(1),#2));",
-            "#10 POINT;#2 POINT;#3 POINT;#3 ITEM;#2 ITEM;",
-        ),
-        (
-            "#1=(SHAPE($)POINT(1.,2.)CLOUD((#9,#008),(),(#7)));",
-            "#9 POINT;#8 POINT;#7 ITEM;",
-        ),
-        ("#1=POINT($,1.,2.);", ""),
-    ];
-    expect_needs(&rt, rt.alloc(), DEMO, &ROWS)
+fn needs_stand_in_the_order_of_the_parameters(rt: HostRuntime) {
+    assert_eq!(rt; first_otherwise(&rt, DEMO, IN_ORDER), "none");
 }
+
+const AT_EACH_KIND: Rows = &[
+    ("#1=NODE();", ""),
+    ("#1=EDGE(#2,$);", "#2 NODE;"),
+    ("#1=EDGE(#1,#3);", "#1 NODE;#3 TARGET;"),
+    ("#1=EDGE(#2,ENDS((#4,#4)));", "#2 NODE;#4 NODE;#4 NODE;"),
+    (
+        "#1=WEB(#2,#2,($,#9),((#5,#4,#5),(ENDS((#1)))));",
+        "#2 NODE;#2 TARGET;#9 NODE;#5 OTHER;#4 OTHER;#5 OTHER;#1 NODE;",
+    ),
+    ("#1=(WEB((#9,$),())EDGE(#2,$));", "#9 NODE;#2 NODE;"),
+];
 
 #[test]
-fn each_kind_of_place_needs(rt: HostRuntime) -> Result<(), Fail> {
-    const ROWS: [(&str, &str); 6] = [
-        ("#1=NODE();", ""),
-        ("#1=EDGE(#2,$);", "#2 NODE;"),
-        ("#1=EDGE(#1,#3);", "#1 NODE;#3 TARGET;"),
-        ("#1=EDGE(#2,ENDS((#4,#4)));", "#2 NODE;#4 NODE;#4 NODE;"),
-        (
-            "#1=WEB(#2,#2,($,#9),((#5,#4,#5),(ENDS((#1)))));",
-            "#2 NODE;#2 TARGET;#9 NODE;#5 OTHER;#4 OTHER;#5 OTHER;#1 NODE;",
-        ),
-        ("#1=(WEB((#9,$),())EDGE(#2,$));", "#9 NODE;#2 NODE;"),
-    ];
-    expect_needs(&rt, rt.alloc(), LINKS, &ROWS)
+fn each_kind_of_place_needs(rt: HostRuntime) {
+    assert_eq!(rt; first_otherwise(&rt, LINKS, AT_EACH_KIND), "none");
 }
 
-/// Does an instance serve the last that another one needs?
-fn is_served(alloc: Global, schema: &Schema, holder: &str, target: &str) -> Result<bool, Fail> {
-    let needs = needs_of(alloc, schema, holder)?;
-    let Some(need) = needs.last() else {
-        return Err(Fail::from("no need"));
-    };
-    let target = read_instance(alloc, target.as_bytes())?;
-    let (typed, _needs) = check_record(alloc, schema, &target.record)?;
-    Ok(serves(schema, need, typed.parts.items()))
+/// The last that the instance needs that a text is.
+fn last_need(alloc: Global, schema: &Schema, text: &str) -> Option<Need> {
+    let instance = read_instance(alloc, text.as_bytes())?;
+    match check_record(alloc, schema, &instance.record) {
+        Ok((_typed, needs)) => needs.last().copied(),
+        Err(_) => None,
+    }
 }
 
-/// Looks whether each instance serves the last that another one needs.
-fn expect_served(
-    rt: &impl Abort,
+/// Whether the instance that a text is serves a need: none where there is no such instance.
+fn is_served(alloc: Global, schema: &Schema, need: &Need, text: &str) -> Option<bool> {
+    let instance = read_instance(alloc, text.as_bytes())?;
+    match check_record(alloc, schema, &instance.record) {
+        Ok((typed, _needs)) => Some(serves(schema, need, typed.parts.items())),
+        Err(_) => None,
+    }
+}
+
+/// Instances, and whether each serves.
+type Servants = &'static [(&'static str, bool)];
+
+fn first_serving_otherwise(
     alloc: Global,
-    (schema, holder): (&str, &str),
-    rows: &[(&str, bool)],
-) -> Result<(), Fail> {
-    let schema = read_schema(alloc, schema.as_bytes())?;
-    for (target, wanted) in rows {
-        let found = is_served(alloc, &schema, holder, *target)?;
-        assert_eq!(rt; found, *wanted, "{target}");
+    schema: &Schema,
+    need: &Need,
+    rows: Servants,
+) -> &'static str {
+    for (text, serving) in rows {
+        if is_served(alloc, schema, need, text) != Some(*serving) {
+            return text;
+        }
     }
-    Ok(())
+    "none"
 }
 
+/// The first instance that serves the last need of another one, or not, otherwise than its row says.
+fn first_wrong_servant(
+    rt: &HostRuntime,
+    schema: &str,
+    holder: &'static str,
+    rows: Servants,
+) -> &'static str {
+    let Ok(schema) = read_schema(rt.alloc(), schema.as_bytes()) else {
+        return "the schema";
+    };
+    match last_need(rt.alloc(), &schema, holder) {
+        Some(need) => first_serving_otherwise(rt.alloc(), &schema, &need, rows),
+        None => holder,
+    }
+}
+
+const POINTS: Servants = &[
+    ("#2=POINT($,1.,1.);", true),
+    ("#2=ORIGIN($,*,2.);", true),
+    ("#2=(MARKED(.RED.)POINT(1.,2.)SHAPE($));", true),
+    ("#2=MARKED($,.RED.);", false),
+    ("#2=CLOUD((),(),(TALLY(1)));", false),
+];
+
 #[test]
-fn entities_serve(rt: HostRuntime) -> Result<(), Fail> {
-    const ROWS: [(&str, bool); 5] = [
-        ("#2=POINT($,1.,1.);", true),
-        ("#2=ORIGIN($,*,2.);", true),
-        ("#2=(MARKED(.RED.)POINT(1.,2.)SHAPE($));", true),
-        ("#2=MARKED($,.RED.);", false),
-        ("#2=CLOUD((),(),(TALLY(1)));", false),
-    ];
+fn entities_serve(rt: HostRuntime) {
     let holders = ["#1=CLOUD((#2),(),(TALLY(1)));", "#1=CLOUD((),(),(#2));"];
     for holder in holders {
-        expect_served(&rt, rt.alloc(), (DEMO, holder), &ROWS)?;
+        assert_eq!(rt;
+            first_wrong_servant(&rt, DEMO, holder, POINTS),
+            "none",
+            "{holder}"
+        );
     }
-    Ok(())
 }
 
+const TARGETS: Servants = &[
+    ("#2=NODE();", true),
+    ("#2=EDGE(#2,$);", true),
+    ("#2=WEB(#2,$,($,$),());", true),
+    ("#2=(LOOSE()NODE());", true),
+    ("#2=LOOSE();", false),
+];
+
 #[test]
-fn members_of_a_select_serve(rt: HostRuntime) -> Result<(), Fail> {
-    const ROWS: [(&str, bool); 5] = [
-        ("#2=NODE();", true),
-        ("#2=EDGE(#2,$);", true),
-        ("#2=WEB(#2,$,($,$),());", true),
-        ("#2=(LOOSE()NODE());", true),
-        ("#2=LOOSE();", false),
-    ];
+fn members_of_a_select_serve(rt: HostRuntime) {
     let holders = ["#1=EDGE(#2,#2);", "#1=WEB(#2,$,($,$),((#2)));"];
     for holder in holders {
-        expect_served(&rt, rt.alloc(), (LINKS, holder), &ROWS)?;
+        assert_eq!(rt;
+            first_wrong_servant(&rt, LINKS, holder, TARGETS),
+            "none",
+            "{holder}"
+        );
     }
-    Ok(())
 }

@@ -1,105 +1,112 @@
 use super::schemas::{CORNERS, DIAMOND, RANK, REDECL, SOLE};
 use super::*;
 
-#[test]
-fn reads_a_diamond(rt: HostRuntime) -> Result<(), Fail> {
-    const ROWS: [(&str, &str); 8] = [
-        ("#1=C(1,2,3,4);", "#1=C(1,2,3,4);"),
-        ("#1=(R(1)A(2)B(3)C(4));", "#1=C(1,2,3,4);"),
-        ("#1=(C(4)B(3)A(2)R(1));", "#1=C(1,2,3,4);"),
-        ("#1=(B(3)R(1)A(2));", "#1=(A(2)B(3)R(1));"),
-        ("#1=(A(2)R(1));", "#1=A(1,2);"),
-        ("#1=(C(4)A(2)R(1));", "43 PartMissing"),
-        ("#1=C(1,2,3);", "45 Count"),
-        ("#1=C(1,2,3,4,5);", "45 Count"),
-    ];
-    under(&rt, rt.alloc(), DIAMOND, &ROWS)
-}
+const OF_DIAMOND: Rows = &[
+    ("#1=C(1,2,3,4);", "#1=C(1,2,3,4);"),
+    ("#1=(R(1)A(2)B(3)C(4));", "#1=C(1,2,3,4);"),
+    ("#1=(C(4)B(3)A(2)R(1));", "#1=C(1,2,3,4);"),
+    ("#1=(B(3)R(1)A(2));", "#1=(A(2)B(3)R(1));"),
+    ("#1=(A(2)R(1));", "#1=A(1,2);"),
+    ("#1=(C(4)A(2)R(1));", "43 PartMissing"),
+    ("#1=C(1,2,3);", "45 Count"),
+    ("#1=C(1,2,3,4,5);", "45 Count"),
+];
 
 #[test]
-fn reads_redeclared_places(rt: HostRuntime) -> Result<(), Fail> {
-    const ROWS: [(&str, &str); 8] = [
-        ("#1=R(1);", "#1=R(1.);"),
-        ("#1=R(1.0);", "#1=R(1.);"),
-        ("#1=A(1);", "#1=A(1);"),
-        ("#1=A(1.);", "49 WrongKind"),
-        ("#1=B(1);", "49 WrongKind"),
-        ("#1=(B()R(1.));", "#1=B(1.);"),
-        ("#1=(R(1)A());", "#1=A(1);"),
-        ("#1=(A()B()R(1));", "55 TwoRedeclarations"),
-    ];
-    under(&rt, rt.alloc(), REDECL, &ROWS)
+fn reads_a_diamond(rt: HostRuntime) {
+    assert_eq!(rt; first_wrong(&rt, DIAMOND, OF_DIAMOND), "none");
 }
 
-#[test]
-fn reads_redeclared_places_of_a_diamond(rt: HostRuntime) -> Result<(), Fail> {
-    const ROWS: [(&str, &str); 9] = [
-        ("#1=R($);", "#1=R($);"),
-        ("#1=A($);", "46 Missing"),
-        ("#1=A(1);", "#1=A(1.);"),
-        ("#1=B($);", "#1=B($);"),
-        ("#1=B(1.);", "49 WrongKind"),
-        ("#1=C(1);", "#1=C(1);"),
-        ("#1=C($);", "46 Missing"),
-        ("#1=E($);", "#1=E($);"),
-        ("#1=E(1.);", "49 WrongKind"),
-    ];
-    under(&rt, rt.alloc(), CORNERS, &ROWS)
-}
+const OF_REDECL: Rows = &[
+    ("#1=R(1);", "#1=R(1.);"),
+    ("#1=R(1.0);", "#1=R(1.);"),
+    ("#1=A(1);", "#1=A(1);"),
+    ("#1=A(1.);", "49 WrongKind"),
+    ("#1=B(1);", "49 WrongKind"),
+    ("#1=(B()R(1.));", "#1=B(1.);"),
+    ("#1=(R(1)A());", "#1=A(1);"),
+    ("#1=(A()B()R(1));", "55 TwoRedeclarations"),
+];
 
 #[test]
-fn decides_between_redeclarations(rt: HostRuntime) -> Result<(), Fail> {
-    const ROWS: [(&str, &str); 7] = [
-        ("#1=(A()B()R(1));", "55 TwoRedeclarations"),
-        ("#1=(C()A()B()R(1));", "#1=C(1);"),
-        ("#1=(C()E()A()B()R(1));", "55 TwoRedeclarations"),
-        ("#1=D(*);", "#1=D(*);"),
-        ("#1=D(1);", "48 DerivedNotStar"),
-        ("#1=D($);", "48 DerivedNotStar"),
-        ("#1=(D()C()A()B()R(*));", "#1=(A()B()C()D()R(*));"),
-    ];
-    under(&rt, rt.alloc(), CORNERS, &ROWS)
+fn reads_redeclared_places(rt: HostRuntime) {
+    assert_eq!(rt; first_wrong(&rt, REDECL, OF_REDECL), "none");
 }
 
+const OF_CORNERS: Rows = &[
+    ("#1=R($);", "#1=R($);"),
+    ("#1=A($);", "46 Missing"),
+    ("#1=A(1);", "#1=A(1.);"),
+    ("#1=B($);", "#1=B($);"),
+    ("#1=B(1.);", "49 WrongKind"),
+    ("#1=C(1);", "#1=C(1);"),
+    ("#1=C($);", "46 Missing"),
+    ("#1=E($);", "#1=E($);"),
+    ("#1=E(1.);", "49 WrongKind"),
+];
+
 #[test]
-fn reads_one_of_several_subtypes(rt: HostRuntime) -> Result<(), Fail> {
-    const ROWS: [(&str, &str); 5] = [
-        ("#1=(A()B()S(1));", "58 OneOf"),
-        ("#1=(S(1)C()A());", "#1=(A()C()S(1));"),
-        ("#1=A(1);", "#1=A(1);"),
-        ("#1=S(1);", "#1=S(1);"),
-        ("#1=(B()A()C()S(1));", "58 OneOf"),
-    ];
-    under(&rt, rt.alloc(), SOLE, &ROWS)
+fn reads_redeclared_places_of_a_diamond(rt: HostRuntime) {
+    assert_eq!(rt; first_wrong(&rt, CORNERS, OF_CORNERS), "none");
+}
+
+const REDECLARED_TWICE: Rows = &[
+    ("#1=(A()B()R(1));", "55 TwoRedeclarations"),
+    ("#1=(C()A()B()R(1));", "#1=C(1);"),
+    ("#1=(C()E()A()B()R(1));", "55 TwoRedeclarations"),
+    ("#1=D(*);", "#1=D(*);"),
+    ("#1=D(1);", "48 DerivedNotStar"),
+    ("#1=D($);", "48 DerivedNotStar"),
+    ("#1=(D()C()A()B()R(*));", "#1=(A()B()C()D()R(*));"),
+];
+
+#[test]
+fn decides_between_redeclarations(rt: HostRuntime) {
+    assert_eq!(rt; first_wrong(&rt, CORNERS, REDECLARED_TWICE), "none");
+}
+
+const OF_SOLE: Rows = &[
+    ("#1=(A()B()S(1));", "58 OneOf"),
+    ("#1=(S(1)C()A());", "#1=(A()C()S(1));"),
+    ("#1=A(1);", "#1=A(1);"),
+    ("#1=S(1);", "#1=S(1);"),
+    ("#1=(B()A()C()S(1));", "58 OneOf"),
+];
+
+#[test]
+fn reads_one_of_several_subtypes(rt: HostRuntime) {
+    assert_eq!(rt; first_wrong(&rt, SOLE, OF_SOLE), "none");
 }
 
 /// Which comes of several refusals of a set of entities.
-#[test]
-fn refuses_sets_in_order(rt: HostRuntime) -> Result<(), Fail> {
-    const ROWS: [(&str, &str); 9] = [
-        ("#1=(MID(1)FOO()MID(1));", "41 UnknownEntity"),
-        ("#1=(MID(1)MID(1));", "44 PartTwice"),
-        ("#1=(MID(1));", "43 PartMissing"),
-        ("#1=(MID(1)BASE());", "42 Abstract"),
-        ("#1=MID();", "42 Abstract"),
-        ("#1=BOTH();", "42 Abstract"),
-        ("#1=PAIR();", "58 OneOf"),
-        ("#1=(BASE()MID()LEFT()RIGHT(1));", "58 OneOf"),
-        ("#1=(BASE()MID(1)LEFT()LOW()RIGHT());", "58 OneOf"),
-    ];
-    under(&rt, rt.alloc(), RANK, &ROWS)
-}
+const SETS: Rows = &[
+    ("#1=(MID(1)FOO()MID(1));", "41 UnknownEntity"),
+    ("#1=(MID(1)MID(1));", "44 PartTwice"),
+    ("#1=(MID(1));", "43 PartMissing"),
+    ("#1=(MID(1)BASE());", "42 Abstract"),
+    ("#1=MID();", "42 Abstract"),
+    ("#1=BOTH();", "42 Abstract"),
+    ("#1=PAIR();", "58 OneOf"),
+    ("#1=(BASE()MID()LEFT()RIGHT(1));", "58 OneOf"),
+    ("#1=(BASE()MID(1)LEFT()LOW()RIGHT());", "58 OneOf"),
+];
 
 #[test]
-fn refuses_places_in_order(rt: HostRuntime) -> Result<(), Fail> {
-    const ROWS: [(&str, &str); 7] = [
-        ("#1=(BASE()MID()LEFT()THIRD(1));", "55 TwoRedeclarations"),
-        ("#1=(BASE()MID()LEFT());", "45 Count"),
-        ("#1=(BASE()MID('')LEFT(1));", "45 Count"),
-        ("#1=(BASE()MID('')LEFT());", "49 WrongKind"),
-        ("#1=(BASE()MID(1)LEFT());", "#1=LEFT(1);"),
-        ("#1=(LOW()MID(1)LEFT()BASE());", "#1=LOW(1);"),
-        ("#1=BASE();", "#1=BASE();"),
-    ];
-    under(&rt, rt.alloc(), RANK, &ROWS)
+fn refuses_sets_in_order(rt: HostRuntime) {
+    assert_eq!(rt; first_wrong(&rt, RANK, SETS), "none");
+}
+
+const PLACES: Rows = &[
+    ("#1=(BASE()MID()LEFT()THIRD(1));", "55 TwoRedeclarations"),
+    ("#1=(BASE()MID()LEFT());", "45 Count"),
+    ("#1=(BASE()MID('')LEFT(1));", "45 Count"),
+    ("#1=(BASE()MID('')LEFT());", "49 WrongKind"),
+    ("#1=(BASE()MID(1)LEFT());", "#1=LEFT(1);"),
+    ("#1=(LOW()MID(1)LEFT()BASE());", "#1=LOW(1);"),
+    ("#1=BASE();", "#1=BASE();"),
+];
+
+#[test]
+fn refuses_places_in_order(rt: HostRuntime) {
+    assert_eq!(rt; first_wrong(&rt, RANK, PLACES), "none");
 }

@@ -1,150 +1,133 @@
 use super::*;
 use p21_canon::same;
-use p21_express_types::TypeId;
-use p21_grammar::{Bits, Decimal, Text, Whole, Word};
+use p21_grammar::Decimal;
 use p21_mapping::{Value, Values};
+use p21_values::ValueFault;
 
-fn text(rt: &HostRuntime, bytes: &[u8]) -> Result<Value, Fail> {
-    let mut text = Text::new(rt.alloc());
-    text.push_latin1(bytes)?;
-    Ok(Value::Text(text))
-}
-
-/// The value whose kind the first byte says.
-fn value(rt: &HostRuntime, spelled: &[u8]) -> Result<Value, Fail> {
-    let Some((kind, rest)) = spelled.split_first() else {
-        return Ok(Value::Missing);
+/// A real for each digit, and no value for a point.
+fn element(alloc: Global, letter: u8) -> Result<Value, ValueFault> {
+    let spelled: &[u8] = match letter {
+        b'1' => b"1.",
+        b'2' => b"20.E-1",
+        b'3' => b"3.0",
+        _ => return Ok(Value::Missing),
     };
-    let alloc = rt.alloc();
+    Ok(Value::Real(Decimal::read(alloc, spelled)?))
+}
+
+fn push_elements(alloc: Global, letters: &str, all: &mut Vec<Value>) -> Result<(), ValueFault> {
+    for letter in letters.as_bytes() {
+        all.push(element(alloc, *letter)?)?;
+    }
+    Ok(())
+}
+
+/// An element for each letter.
+fn elements(alloc: Global, letters: &str) -> Option<Values> {
+    let mut all = Vec::new(alloc);
+    match push_elements(alloc, letters, &mut all) {
+        Ok(()) => Some(Values::from_vec(all)),
+        Err(_) => None,
+    }
+}
+
+/// A kind of aggregate.
+#[derive(Clone, Copy)]
+enum Kind {
+    List,
+    Array,
+    Set,
+    Bag,
+}
+
+fn aggregate_of(kind: Kind, elements: Values) -> Value {
     match kind {
-        b'w' => Ok(Value::Whole(Whole::read(alloc, rest)?)),
-        b'r' => Ok(Value::Real(Decimal::read(alloc, rest)?)),
-        b'n' => Ok(Value::Number(Decimal::read(alloc, rest)?)),
-        b't' => text(rt, rest),
-        b'b' => Ok(Value::Bits(Bits::read(alloc, rest)?)),
-        b'i' => Ok(Value::Item(Word::read(alloc, rest)?)),
-        b'#' => Ok(Value::Reference(Name::read(spelled)?)),
-        _ => Ok(Value::Derived),
+        Kind::List => Value::List(elements),
+        Kind::Array => Value::Array(elements),
+        Kind::Set => Value::Set(elements),
+        Kind::Bag => Value::Bag(elements),
     }
 }
 
-#[test]
-fn compares_scalars(rt: HostRuntime) -> Result<(), Fail> {
-    let cases: [(&[u8], &[u8], bool); 19] = [
-        (b"w+012", b"w12", true),
-        (b"w12", b"w-12", false),
-        (b"r12.5", b"r1.25E1", true),
-        (b"r12.5", b"r1.25", false),
-        (b"n0.", b"n-0.0E7", true),
-        (b"n1.", b"n2.", false),
-        (b"n1.", b"r1.", false),
-        (b"r1.", b"w1", false),
-        (b"tab", b"tab", true),
-        (b"tab", b"tac", false),
-        (b"b\"23B\"", b"b\"23B\"", true),
-        (b"b\"23B\"", b"b\"03B\"", false),
-        (b"iRED", b"iRED", true),
-        (b"iRED", b"tRED", false),
-        (b"#7", b"#07", true),
-        (b"#7", b"#8", false),
-        (b"*", b"*", true),
-        (b"", b"", true),
-        (b"", b"*", false),
-    ];
-    for (a, b, expected) in cases {
-        let a = value(&rt, a)?;
-        let b = value(&rt, b)?;
-        assert_eq!(rt; same(&a, &b), expected);
-        assert_eq!(rt; same(&b, &a), expected);
+fn aggregate(alloc: Global, kind: Kind, letters: &str) -> Option<Value> {
+    match elements(alloc, letters) {
+        Some(elements) => Some(aggregate_of(kind, elements)),
+        None => None,
     }
-    Ok(())
 }
 
-fn tagged(rt: &HostRuntime, tag: u32, spelled: &[u8]) -> Result<Value, Fail> {
-    let value = value(rt, spelled)?;
-    Ok(Value::Tagged(TypeId(tag), Box::new(rt.alloc(), value)?))
-}
-
-#[test]
-fn compares_tagged_values(rt: HostRuntime) -> Result<(), Fail> {
-    let value = tagged(&rt, 1, b"r1.")?;
-    assert!(rt; same(&value, &tagged(&rt, 1, b"r1.0")?));
-    assert!(rt; !same(&value, &tagged(&rt, 2, b"r1.")?));
-    assert!(rt; !same(&value, &tagged(&rt, 1, b"r2.")?));
-    Ok(())
-}
-
-/// A real for each digit, and an empty place for each point.
-fn row(rt: &HostRuntime, spelled: &[u8]) -> Result<Values, Fail> {
-    let mut all = Vec::new(rt.alloc());
-    for byte in spelled {
-        let spelled: &[u8] = match byte {
-            b'1' => b"r1.",
-            b'2' => b"r20.E-1",
-            b'3' => b"r3.0",
-            _ => b"",
-        };
-        all.push(value(rt, spelled)?)?;
+/// Whether two aggregates are the same: none where memory runs out, or it matters which comes first.
+fn are_same(
+    alloc: Global,
+    (kind, letters): (Kind, &str),
+    (other_kind, others): (Kind, &str),
+) -> Option<bool> {
+    let one = aggregate(alloc, kind, letters)?;
+    let other = aggregate(alloc, other_kind, others)?;
+    let found = same(&one, &other);
+    if same(&other, &one) == found {
+        Some(found)
+    } else {
+        None
     }
-    Ok(Values::from_vec(all))
 }
 
-/// Whether two rows are the same as lists, arrays, sets and bags.
-fn compared(rt: &HostRuntime, a: &[u8], b: &[u8]) -> Result<[bool; 4], Fail> {
-    Ok([
-        same(&Value::List(row(rt, a)?), &Value::List(row(rt, b)?)),
-        same(&Value::Array(row(rt, a)?), &Value::Array(row(rt, b)?)),
-        same(&Value::Set(row(rt, a)?), &Value::Set(row(rt, b)?)),
-        same(&Value::Bag(row(rt, a)?), &Value::Bag(row(rt, b)?)),
-    ])
-}
+/// The elements of two aggregates, and whether they are the same as lists, arrays, sets and bags.
+const AGGREGATES: &[(&str, &str, [bool; 4])] = &[
+    ("", "", [true, true, true, true]),
+    ("", "1", [false, false, false, false]),
+    ("12", "12", [true, true, true, true]),
+    ("12", "21", [false, false, true, true]),
+    ("112", "122", [false, false, true, false]),
+    ("112", "121", [false, false, true, true]),
+    ("12", "122", [false, false, true, false]),
+    ("12", "123", [false, false, false, false]),
+    ("1.", "1.", [true, true, true, true]),
+    ("1.", ".1", [false, false, true, true]),
+];
 
-#[test]
-fn compares_aggregates(rt: HostRuntime) -> Result<(), Fail> {
-    let cases: [(&[u8], &[u8], [bool; 4]); 10] = [
-        (b"", b"", [true, true, true, true]),
-        (b"", b"1", [false, false, false, false]),
-        (b"12", b"12", [true, true, true, true]),
-        (b"12", b"21", [false, false, true, true]),
-        (b"112", b"122", [false, false, true, false]),
-        (b"112", b"121", [false, false, true, true]),
-        (b"12", b"122", [false, false, true, false]),
-        (b"12", b"123", [false, false, false, false]),
-        (b"1.", b"1.", [true, true, true, true]),
-        (b"1.", b".1", [false, false, true, true]),
-    ];
-    for (a, b, expected) in cases {
-        assert_eq!(rt; compared(&rt, a, b)?, expected);
+/// Whether two aggregates are the same just where a row says so.
+fn compare(alloc: Global, letters: &str, others: &str, expected: [bool; 4]) -> bool {
+    let kinds = [Kind::List, Kind::Array, Kind::Set, Kind::Bag];
+    for (kind, wanted) in kinds.iter().zip(expected.iter()) {
+        if are_same(alloc, (*kind, letters), (*kind, others)) != Some(*wanted) {
+            return false;
+        }
     }
-    Ok(())
+    true
+}
+
+fn first_compared_otherwise(alloc: Global) -> Option<(&'static str, &'static str)> {
+    for (letters, others, expected) in AGGREGATES {
+        if !compare(alloc, letters, others, *expected) {
+            return Some((letters, others));
+        }
+    }
+    None
 }
 
 #[test]
-fn compares_kinds_of_aggregates(rt: HostRuntime) -> Result<(), Fail> {
-    let bag = Value::Bag(row(&rt, b"12")?);
-    assert!(rt; !same(&bag, &Value::Set(row(&rt, b"12")?)));
-    assert!(rt; !same(&bag, &Value::List(row(&rt, b"12")?)));
-    assert!(rt;
-        !same(
-            &Value::List(row(&rt, b"1")?),
-            &Value::Array(row(&rt, b"1")?)
-        )
-    );
-    Ok(())
+fn compares_aggregates(rt: HostRuntime) {
+    assert_eq!(rt; first_compared_otherwise(rt.alloc()), None);
 }
 
-/// A bag of two bags of reals.
-fn bags(rt: &HostRuntime, first: &[u8], second: &[u8]) -> Result<Value, Fail> {
-    let mut all = Vec::new(rt.alloc());
-    all.push(Value::Bag(row(rt, first)?))?;
-    all.push(Value::Bag(row(rt, second)?))?;
-    Ok(Value::Bag(Values::from_vec(all)))
+/// By its name: two kinds of aggregates, and elements with which they are different.
+const KINDS: &[(&str, Kind, Kind, &str)] = &[
+    ("bag and set", Kind::Bag, Kind::Set, "12"),
+    ("bag and list", Kind::Bag, Kind::List, "12"),
+    ("list and array", Kind::List, Kind::Array, "1"),
+];
+
+fn first_taken_for_another(alloc: Global) -> &'static str {
+    for (name, kind, other, letters) in KINDS {
+        if are_same(alloc, (*kind, letters), (*other, letters)) != Some(false) {
+            return name;
+        }
+    }
+    "none"
 }
 
 #[test]
-fn compares_bags_of_bags(rt: HostRuntime) -> Result<(), Fail> {
-    let value = bags(&rt, b"21", b"3")?;
-    assert!(rt; same(&value, &bags(&rt, b"3", b"12")?));
-    assert!(rt; !same(&value, &bags(&rt, b"1", b"23")?));
-    Ok(())
+fn compares_kinds_of_aggregates(rt: HostRuntime) {
+    assert_eq!(rt; first_taken_for_another(rt.alloc()), "none");
 }

@@ -1,112 +1,173 @@
-use super::schemas::{DEMO, NESTED};
+use super::schemas::{DEMO, KINDS, NESTED};
 use super::*;
 use p21_canon::same;
-use p21_mapping::{Value, Values};
+use p21_mapping::{Typed, Value, Values};
 
-fn same_row(a: &[Value], b: &[Value]) -> bool {
-    if a.len() != b.len() {
-        return false;
-    }
-    for at in 0..a.len() {
-        if !same(&a[at], &b[at]) {
+/// Are values the same, place by place?
+fn same_values(a: &[Value], b: &[Value]) -> bool {
+    for (a, b) in a.iter().zip(b.iter()) {
+        if !same(a, b) || !same(b, a) {
             return false;
         }
     }
-    true
+    a.len() == b.len()
 }
 
 /// Are the values of two records the same, place by place?
 fn same_rows(a: &[Values], b: &[Values]) -> bool {
-    if a.len() != b.len() {
-        return false;
-    }
-    for at in 0..a.len() {
-        if !same_row(a[at].items(), b[at].items()) {
+    for (a, b) in a.iter().zip(b.iter()) {
+        if !same_values(a.items(), b.items()) {
             return false;
         }
     }
-    true
+    a.len() == b.len()
 }
 
-fn mean_the_same(alloc: Global, schema: &Schema, a: &str, b: &str) -> Result<bool, Fail> {
-    let a = read_instance(alloc, a.as_bytes())?;
-    let b = read_instance(alloc, b.as_bytes())?;
-    let (a, _needs) = check_record(alloc, schema, &a.record)?;
-    let (b, _needs) = check_record(alloc, schema, &b.record)?;
-    Ok(same_rows(a.values.items(), b.values.items()))
-}
-
-/// Looks that two instances are the same or not, and that their canonical statements are equal or not.
-fn expect_same(
-    rt: &impl Abort,
-    alloc: Global,
-    schema: &str,
-    rows: &[(&str, &str, bool)],
-) -> Result<(), Fail> {
-    let schema = read_schema(alloc, schema.as_bytes())?;
-    for (a, b, wanted) in rows {
-        let found = mean_the_same(alloc, &schema, *a, *b)?;
-        assert_eq!(rt; found, *wanted, "{a}");
-        let line = answer(alloc, &schema, a.as_bytes())?;
-        let other = answer(alloc, &schema, b.as_bytes())?;
-        assert_eq!(rt; line.as_slice() == other.as_slice(), *wanted, "{a}");
+/// The typed record of the instance that a text is.
+fn typed_of(alloc: Global, schema: &Schema, text: &str) -> Option<Typed> {
+    let instance = read_instance(alloc, text.as_bytes())?;
+    match check_record(alloc, schema, &instance.record) {
+        Ok((typed, _needs)) => Some(typed),
+        Err(_) => None,
     }
-    Ok(())
 }
 
-#[test]
-fn compares_records(rt: HostRuntime) -> Result<(), Fail> {
-    let rows = [
-        (
-            "#1=CLOUD((),((1.,2.)),(TALLY(1)));",
-            "#1=CLOUD((),((2.,1.)),(TALLY(1)));",
-            true,
-        ),
-        (
-            "#1=CLOUD((),((1.,1.,2.)),(TALLY(1)));",
-            "#1=CLOUD((),((1.,2.,2.)),(TALLY(1)));",
-            false,
-        ),
-        (
-            "#1=CLOUD((),((2.,1.),(3.)),(TALLY(1)));",
-            "#1=CLOUD((),((3.0),(1.,2.0)),(TALLY(01)));",
-            true,
-        ),
-        (
-            "#1=CLOUD((),((2.,1.),(3.)),(TALLY(1)));",
-            "#1=CLOUD((),((1.),(2.,3.)),(TALLY(1)));",
-            false,
-        ),
-        (
-            "#1=CLOUD((#2,#3),(),(TALLY(1),TALLY(2)));",
-            "#1=CLOUD((#3,#2),(),(TALLY(1),TALLY(2)));",
-            true,
-        ),
-        (
-            "#1=CLOUD((#2,#3),(),(TALLY(1),TALLY(2)));",
-            "#1=CLOUD((#2,#3),(),(TALLY(2),TALLY(1)));",
-            false,
-        ),
-        (
-            "#1=CLOUD((),(),(TALLY(1)));",
-            "#1=CLOUD((),(),(DISTANCE(1.)));",
-            false,
-        ),
-    ];
-    expect_same(&rt, rt.alloc(), DEMO, &rows)
+/// Whether the values of two instances are the same: none where one is refused.
+fn mean_the_same(alloc: Global, schema: &Schema, a: &str, b: &str) -> Option<bool> {
+    let a = typed_of(alloc, schema, a)?;
+    let b = typed_of(alloc, schema, b)?;
+    Some(same_rows(a.values.items(), b.values.items()))
 }
 
+/// The canonical statement of the instance that a text is.
+fn line_of(alloc: Global, schema: &Schema, text: &str) -> Option<Vec<u8>> {
+    let instance = read_instance(alloc, text.as_bytes())?;
+    let mut out = Vec::new(alloc);
+    match append_statement(alloc, schema, &instance, &mut out) {
+        Ok(()) => Some(out),
+        Err(_) => None,
+    }
+}
+
+/// Whether the canonical statements of two instances are equal: none where one is refused.
+fn lines_are_equal(alloc: Global, schema: &Schema, a: &str, b: &str) -> Option<bool> {
+    let a = line_of(alloc, schema, a)?;
+    let b = line_of(alloc, schema, b)?;
+    Some(a.as_slice() == b.as_slice())
+}
+
+/// Pairs of instances, and whether their values are the same and their canonical statements equal.
+type Pairs = &'static [(&'static str, &'static str, bool)];
+
+/// A pair of which that isn't so: none where it is of all.
+type Unlike = Option<(&'static str, &'static str)>;
+
+fn first_unlike_of(alloc: Global, schema: &Schema, rows: Pairs) -> Unlike {
+    for (a, b, wanted) in rows {
+        if mean_the_same(alloc, schema, a, b) != Some(*wanted)
+            || lines_are_equal(alloc, schema, a, b) != Some(*wanted)
+        {
+            return Some((a, b));
+        }
+    }
+    None
+}
+
+fn first_unlike(rt: &HostRuntime, schema: &'static str, rows: Pairs) -> Unlike {
+    match read_schema(rt.alloc(), schema.as_bytes()) {
+        Ok(schema) => first_unlike_of(rt.alloc(), &schema, rows),
+        Err(_) => Some((schema, "")),
+    }
+}
+
+const RECORDS: Pairs = &[
+    (
+        "#1=CLOUD((),((1.,2.)),(TALLY(1)));",
+        "#1=CLOUD((),((2.,1.)),(TALLY(1)));",
+        true,
+    ),
+    (
+        "#1=CLOUD((),((1.,1.,2.)),(TALLY(1)));",
+        "#1=CLOUD((),((1.,2.,2.)),(TALLY(1)));",
+        false,
+    ),
+    (
+        "#1=CLOUD((),((2.,1.),(3.)),(TALLY(1)));",
+        "#1=CLOUD((),((3.0),(1.,2.0)),(TALLY(01)));",
+        true,
+    ),
+    (
+        "#1=CLOUD((),((2.,1.),(3.)),(TALLY(1)));",
+        "#1=CLOUD((),((1.),(2.,3.)),(TALLY(1)));",
+        false,
+    ),
+    (
+        "#1=CLOUD((#2,#3),(),(TALLY(1),TALLY(2)));",
+        "#1=CLOUD((#3,#2),(),(TALLY(1),TALLY(2)));",
+        true,
+    ),
+    (
+        "#1=CLOUD((#2,#3),(),(TALLY(1),TALLY(2)));",
+        "#1=CLOUD((#2,#3),(),(TALLY(2),TALLY(1)));",
+        false,
+    ),
+    (
+        "#1=CLOUD((),(),(TALLY(1)));",
+        "#1=CLOUD((),(),(DISTANCE(1.)));",
+        false,
+    ),
+];
+
 #[test]
-fn compares_aggregates_in_aggregates(rt: HostRuntime) -> Result<(), Fail> {
-    let rows = [
-        ("#1=N(((1,1,2),(3)));", "#1=N(((3),(2,1,1)));", true),
-        ("#1=N(((1,1,2),(3)));", "#1=N(((3),(2,2,1)));", false),
-        ("#1=M(((1,2),(1,2)));", "#1=M(((2,1),(1,2)));", true),
-        ("#1=M(((1,2),(1,2)));", "#1=M(((1,2)));", false),
-        ("#1=A(((1,2),()));", "#1=A(((2,1),()));", false),
-        ("#1=A(((1,2),()));", "#1=A(((),(1,2)));", false),
-        ("#1=U((1,$,$));", "#1=U(($,1,$));", false),
-        ("#1=L(((1,2),(3)));", "#1=L(((2.,1.),(3.)));", true),
-    ];
-    expect_same(&rt, rt.alloc(), NESTED, &rows)
+fn compares_records(rt: HostRuntime) {
+    assert_eq!(rt; first_unlike(&rt, DEMO, RECORDS), None);
+}
+
+const AGGREGATES: Pairs = &[
+    ("#1=N(((1,1,2),(3)));", "#1=N(((3),(2,1,1)));", true),
+    ("#1=N(((1,1,2),(3)));", "#1=N(((3),(2,2,1)));", false),
+    ("#1=M(((1,2),(1,2)));", "#1=M(((2,1),(1,2)));", true),
+    ("#1=M(((1,2),(1,2)));", "#1=M(((1,2)));", false),
+    ("#1=A(((1,2),()));", "#1=A(((2,1),()));", false),
+    ("#1=A(((1,2),()));", "#1=A(((),(1,2)));", false),
+    ("#1=U((1,$,$));", "#1=U(($,1,$));", false),
+    ("#1=L(((1,2),(3)));", "#1=L(((2.,1.),(3.)));", true),
+    ("#1=B(((2,1),(3)));", "#1=B(((3),(1,2)));", true),
+    ("#1=B(((2,1),(3)));", "#1=B(((1),(2,3)));", false),
+];
+
+#[test]
+fn compares_aggregates_in_aggregates(rt: HostRuntime) {
+    assert_eq!(rt; first_unlike(&rt, NESTED, AGGREGATES), None);
+}
+
+const SCALARS: Pairs = &[
+    ("#1=OF_INTEGER(+012);", "#1=OF_INTEGER(12);", true),
+    ("#1=OF_INTEGER(12);", "#1=OF_INTEGER(-12);", false),
+    ("#1=OF_REAL(12.5);", "#1=OF_REAL(1.25E1);", true),
+    ("#1=OF_REAL(12.5);", "#1=OF_REAL(1.25);", false),
+    ("#1=OF_NUMBER(0.);", "#1=OF_NUMBER(-0.0E7);", true),
+    ("#1=OF_NUMBER(1.);", "#1=OF_NUMBER(2.);", false),
+    ("#1=OF_NUMBER(1.);", "#1=OF_REAL(1.);", false),
+    ("#1=OF_REAL(1.);", "#1=OF_INTEGER(1);", false),
+    ("#1=OF_STRING('ab');", "#1=OF_STRING('ab');", true),
+    ("#1=OF_STRING('ab');", "#1=OF_STRING('ac');", false),
+    ("#1=OF_BINARY(\"23B\");", "#1=OF_BINARY(\"23B\");", true),
+    ("#1=OF_BINARY(\"23B\");", "#1=OF_BINARY(\"03B\");", false),
+    ("#1=OF_COLOUR(.RED.);", "#1=OF_COLOUR(.RED.);", true),
+    ("#1=OF_COLOUR(.RED.);", "#1=OF_STRING('RED');", false),
+    ("#1=OF_NODE(#7);", "#1=OF_NODE(#07);", true),
+    ("#1=OF_NODE(#7);", "#1=OF_NODE(#8);", false),
+    ("#1=DERIVED(*);", "#1=DERIVED(*);", true),
+    ("#1=OPTIONAL_INTEGER($);", "#1=OPTIONAL_INTEGER($);", true),
+    ("#1=OPTIONAL_INTEGER($);", "#1=DERIVED(*);", false),
+    // of one type, of two types
+    ("#1=OF_SIZE(LENGTH(1.));", "#1=OF_SIZE(LENGTH(1.0));", true),
+    ("#1=OF_SIZE(LENGTH(1.));", "#1=OF_SIZE(BREADTH(1.));", false),
+    ("#1=OF_SIZE(LENGTH(1.));", "#1=OF_SIZE(LENGTH(2.));", false),
+];
+
+#[test]
+fn compares_scalars(rt: HostRuntime) {
+    assert_eq!(rt; first_unlike(&rt, KINDS, SCALARS), None);
 }

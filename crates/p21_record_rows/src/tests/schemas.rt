@@ -83,17 +83,20 @@ ENTITY m; v : BAG OF SET OF INTEGER; END_ENTITY;
 ENTITY u; v : ARRAY [1:3] OF OPTIONAL UNIQUE INTEGER; END_ENTITY;
 ENTITY a; v : ARRAY [0:1] OF LIST OF INTEGER; END_ENTITY;
 ENTITY l; v : LIST OF UNIQUE SET OF NUMBER; END_ENTITY;
+ENTITY r; v : BAG OF BAG OF REAL; END_ENTITY;
 END_SCHEMA;
 ";
 
 /// A type of each kind.
 pub(super) const KINDS: &str = "SCHEMA kinds;
 TYPE length = REAL; END_TYPE;
+TYPE breadth = REAL; END_TYPE;
 TYPE depth = length; END_TYPE;
 TYPE colour = ENUMERATION OF (red, green); END_TYPE;
 TYPE paint = colour; END_TYPE;
 TYPE row = LIST [1:2] OF INTEGER; END_TYPE;
 TYPE line = row; END_TYPE;
+TYPE size = SELECT (length, breadth); END_TYPE;
 TYPE plain = SELECT (length, colour); END_TYPE;
 TYPE choice = SELECT (plain, row, node); END_TYPE;
 ENTITY node; END_ENTITY;
@@ -112,6 +115,7 @@ ENTITY of_row; v : row; END_ENTITY;
 ENTITY of_line; v : line; END_ENTITY;
 ENTITY of_set; v : SET OF REAL; END_ENTITY;
 ENTITY of_array; v : ARRAY [1:1] OF OPTIONAL INTEGER; END_ENTITY;
+ENTITY of_size; v : size; END_ENTITY;
 ENTITY of_plain; v : plain; END_ENTITY;
 ENTITY of_choice; v : choice; END_ENTITY;
 ENTITY derived SUBTYPE OF (of_integer);

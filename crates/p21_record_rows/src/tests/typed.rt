@@ -1,103 +1,155 @@
 use super::*;
 use p21_express_types::{EntityId, Member, TypeId};
-use p21_mapping::{Ids, Rows, Typed, Value, Values};
+use p21_mapping::{Ids, Need, Rows, Typed, Value, Values};
 use p21_values::{NoMemory, ValueFault};
 use std::alloc::AllocError;
 
 /// `(#7,$)`
-fn values(rt: &HostRuntime) -> Result<Values, Fail> {
-    let mut all = Vec::new(rt.alloc());
-    all.push(Value::Reference(Name(7)))?;
-    all.push(Value::Missing)?;
-    Ok(Values::from_vec(all))
+fn values(alloc: Global) -> Option<Values> {
+    match Vec::from_array(alloc, [Value::Reference(Name(7)), Value::Missing]) {
+        Ok(all) => Some(Values::from_vec(all)),
+        Err(_) => None,
+    }
 }
 
-#[test]
-fn holds_values(rt: HostRuntime) -> Result<(), Fail> {
-    let values = values(&rt)?;
-    assert_eq!(rt; values.items().len(), 2);
-    assert!(rt; matches!(values.items().first(), Some(Value::Reference(_))));
-    let mut items = values.into_items();
-    assert!(rt; matches!(items.pop(), Some(Value::Missing)));
-    assert_eq!(rt; items.len(), 1);
-    Ok(())
+/// Whether values are a reference and none, looked at and then moved out.
+fn are_reference_and_missing(values: Values) -> bool {
+    values.items().len() == 2
+        && matches!(values.items().first(), Some(Value::Reference(_)))
+        && ends_in_missing(&values.into_items())
 }
 
-#[test]
-fn holds_a_typed_record(rt: HostRuntime) -> Result<(), Fail> {
-    let parts = Ids::from_vec(vec![in rt.alloc(); EntityId(3), EntityId(0)]?);
-    let mut rows = Vec::new(rt.alloc());
-    rows.push(values(&rt)?)?;
-    rows.push(Values::from_vec(Vec::new(rt.alloc())))?;
-    let typed = Typed {
-        parts,
-        values: Rows::from_vec(rows),
-    };
-    assert_eq!(rt; typed.parts.items(), [EntityId(3), EntityId(0)].as_slice());
-    assert_eq!(rt; typed.values.items().len(), 2);
-    let Typed { parts, values } = typed;
-    assert_eq!(rt;
-        parts.into_items().as_slice(),
-        [EntityId(3), EntityId(0)].as_slice()
-    );
-    let mut rows = values.into_items();
-    assert_eq!(rt; rows.pop().map(|row| row.items().len()), Some(0));
-    assert_eq!(rt; rows.pop().map(|row| row.items().len()), Some(2));
-    Ok(())
+fn ends_in_missing(values: &[Value]) -> bool {
+    values.len() == 2 && matches!(values.last(), Some(Value::Missing))
 }
 
-#[test]
-fn compares_needs(rt: HostRuntime) {
-    let need = Need {
-        target: Name(7),
-        wanted: Member::Entity(EntityId(3)),
-    };
-    assert_eq!(rt; need, need);
-    let other = Need {
-        target: Name(7),
-        wanted: Member::Defined(TypeId(3)),
-    };
-    assert_ne!(rt; need, other);
-}
-
-#[test]
-fn faults_have_numbers_and_names(rt: HostRuntime) {
-    let cases = [
-        (CheckFault::NumberRange, 8, "NumberRange"),
-        (CheckFault::UnknownEntity, 41, "UnknownEntity"),
-        (CheckFault::Abstract, 42, "Abstract"),
-        (CheckFault::PartMissing, 43, "PartMissing"),
-        (CheckFault::PartTwice, 44, "PartTwice"),
-        (CheckFault::Count, 45, "Count"),
-        (CheckFault::Missing, 46, "Missing"),
-        (CheckFault::StarNotDerived, 47, "StarNotDerived"),
-        (CheckFault::DerivedNotStar, 48, "DerivedNotStar"),
-        (CheckFault::WrongKind, 49, "WrongKind"),
-        (CheckFault::Width, 50, "Width"),
-        (CheckFault::Bounds, 51, "Bounds"),
-        (CheckFault::NotDistinct, 52, "NotDistinct"),
-        (CheckFault::UnknownItem, 53, "UnknownItem"),
-        (CheckFault::SelectType, 54, "SelectType"),
-        (CheckFault::TwoRedeclarations, 55, "TwoRedeclarations"),
-        (CheckFault::OneOf, 58, "OneOf"),
-        (CheckFault::NoMemory, 90, "NoMemory"),
-    ];
-    for (fault, number, name) in cases {
-        assert_eq!(rt; fault.number(), number, "{name}");
-        assert_eq!(rt; fault.name(), name);
+fn holds_reference_and_missing(alloc: Global) -> bool {
+    match values(alloc) {
+        Some(values) => are_reference_and_missing(values),
+        None => false,
     }
 }
 
 #[test]
+fn holds_values(rt: HostRuntime) {
+    assert!(rt; holds_reference_and_missing(rt.alloc()));
+}
+
+/// `(#7,$)` and `()`
+fn rows(alloc: Global) -> Option<Rows> {
+    let first = values(alloc)?;
+    match Vec::from_array(alloc, [first, Values::from_vec(Vec::new(alloc))]) {
+        Ok(all) => Some(Rows::from_vec(all)),
+        Err(_) => None,
+    }
+}
+
+fn entities(alloc: Global) -> Option<Ids> {
+    match Vec::from_array(alloc, [EntityId(3), EntityId(0)]) {
+        Ok(all) => Some(Ids::from_vec(all)),
+        Err(_) => None,
+    }
+}
+
+fn typed(alloc: Global) -> Option<Typed> {
+    let parts = entities(alloc)?;
+    let values = rows(alloc)?;
+    Some(Typed { parts, values })
+}
+
+fn are_entities(ids: &[EntityId]) -> bool {
+    ids == [EntityId(3), EntityId(0)].as_slice()
+}
+
+fn are_rows(rows: &[Values]) -> bool {
+    rows.len() == 2 && rows[0].items().len() == 2 && rows[1].items().is_empty()
+}
+
+/// Whether a typed record has those parts, looked at and then moved out.
+fn has_parts(typed: Typed) -> bool {
+    let Typed { parts, values } = typed;
+    are_entities(parts.items())
+        && are_rows(values.items())
+        && are_entities(&parts.into_items())
+        && are_rows(&values.into_items())
+}
+
+fn holds_parts(alloc: Global) -> bool {
+    match typed(alloc) {
+        Some(typed) => has_parts(typed),
+        None => false,
+    }
+}
+
+#[test]
+fn holds_a_typed_record(rt: HostRuntime) {
+    assert!(rt; holds_parts(rt.alloc()));
+}
+
+const AN_ENTITY: Need = Need {
+    target: Name(7),
+    wanted: Member::Entity(EntityId(3)),
+};
+
+const A_TYPE: Need = Need {
+    target: Name(7),
+    wanted: Member::Defined(TypeId(3)),
+};
+
+#[test]
+fn compares_needs(rt: HostRuntime) {
+    assert_eq!(rt; AN_ENTITY, AN_ENTITY);
+    assert_ne!(rt; AN_ENTITY, A_TYPE);
+}
+
+const FAULTS: &[(CheckFault, u8, &str)] = &[
+    (CheckFault::NumberRange, 8, "NumberRange"),
+    (CheckFault::UnknownEntity, 41, "UnknownEntity"),
+    (CheckFault::Abstract, 42, "Abstract"),
+    (CheckFault::PartMissing, 43, "PartMissing"),
+    (CheckFault::PartTwice, 44, "PartTwice"),
+    (CheckFault::Count, 45, "Count"),
+    (CheckFault::Missing, 46, "Missing"),
+    (CheckFault::StarNotDerived, 47, "StarNotDerived"),
+    (CheckFault::DerivedNotStar, 48, "DerivedNotStar"),
+    (CheckFault::WrongKind, 49, "WrongKind"),
+    (CheckFault::Width, 50, "Width"),
+    (CheckFault::Bounds, 51, "Bounds"),
+    (CheckFault::NotDistinct, 52, "NotDistinct"),
+    (CheckFault::UnknownItem, 53, "UnknownItem"),
+    (CheckFault::SelectType, 54, "SelectType"),
+    (CheckFault::TwoRedeclarations, 55, "TwoRedeclarations"),
+    (CheckFault::OneOf, 58, "OneOf"),
+    (CheckFault::NoMemory, 90, "NoMemory"),
+];
+
+/// The first fault with another number or name.
+fn first_misnamed() -> &'static str {
+    for (fault, number, name) in FAULTS {
+        if fault.number() != *number || fault.name() != *name {
+            return name;
+        }
+    }
+    "none"
+}
+
+#[test]
+fn faults_have_numbers_and_names(rt: HostRuntime) {
+    assert_eq!(rt; first_misnamed(), "none");
+}
+
+#[test]
 fn faults_come_from_those_below(rt: HostRuntime) {
-    assert_eq!(rt; CheckFault::from(NoMemory), CheckFault::NoMemory);
-    assert_eq!(rt; CheckFault::from(AllocError), CheckFault::NoMemory);
-    assert_eq!(rt;
-        CheckFault::from(ValueFault::NoMemory),
-        CheckFault::NoMemory
-    );
-    assert_eq!(rt;
-        CheckFault::from(ValueFault::NumberRange),
-        CheckFault::NumberRange
-    );
+    let rows = [
+        (CheckFault::from(NoMemory), CheckFault::NoMemory),
+        (CheckFault::from(AllocError), CheckFault::NoMemory),
+        (CheckFault::from(ValueFault::NoMemory), CheckFault::NoMemory),
+        (
+            CheckFault::from(ValueFault::NumberRange),
+            CheckFault::NumberRange,
+        ),
+    ];
+    for (found, wanted) in rows {
+        assert_eq!(rt; found, wanted);
+    }
 }
