@@ -9,9 +9,15 @@ import pathlib
 import random
 import re
 import subprocess
+import sys
 
 import texts
-from tooling import SCHEMA, Tests, file_of
+from tooling import ROOT, SCHEMA, Tests, file_of
+
+sys.path.insert(0, str(ROOT / "tools"))
+
+import p21_reading as reading  # noqa: E402
+from p21_schemas import Outline  # noqa: E402
 
 DEMO = "examples/demo.exp"
 
@@ -72,47 +78,63 @@ FAULTS = {
 
 # Instances of the schema DEMO. The value at fault stands between « and », which aren't part of the text.
 VALUES = [
-    ('an element of a list in a list', '#1=CLOUD((),((1.),(2.,«3»,4.)),(TALLY(1)));'),
-    ('the first of two faults', '#1=CLOUD((),((1.),(«2»,3,4.)),(TALLY(1)));'),
-    ('the value of a typed parameter', '#1=CLOUD((),(),(DISTANCE(1.),TALLY(«1.»)));'),
-    ("a type that the select doesn't offer", '#1=CLOUD((),(),(DISTANCE(1.),«LENGTH(1.)»));'),
-    ('too many elements', '#1=CLOUD((),(),«(TALLY(1),TALLY(2),TALLY(3),TALLY(4))»);'),
-    ('equal elements by other spellings', '#1=CLOUD((),(),(DISTANCE(1.),«DISTANCE(10.E-1)»));'),
-    ('no value in a list', '#1=CLOUD((),((1.,«$»)),(TALLY(1)));'),
-    ('a star in a list', '#1=CLOUD((),((1.,«*»)),(TALLY(1)));'),
-    ('an item', '#1=MARKED($,«.BLUE.»);'),
-    ('a value in parts', '#1=(MARKED(.RED.)POINT(1.,«2»)SHAPE($));'),
-    ('a derived value in parts', '#1=(ORIGIN()POINT(«0.»,2.)SHAPE($));'),
-    ('too many values', '#1=POINT($,1.,2.,«3.»,4.);'),
-    ('a part with a value too few', "#1=(POINT(1.«)»SHAPE('a'));"),
-    ('the second reference', '#1=CLOUD((#2,«#3»),(),(TALLY(1)));\n#2=POINT($,1.,1.);'),
-    ('the third reference', '#2=POINT($,1.,1.);\n#1=CLOUD((#2,#4),(),(«#3»));\n#3=MARKED($,.RED.);\n#4=ORIGIN($,*,1.);'),
-    ('an instance behind a remark', "/* #1=POINT();; ' */ #1 /**/ = POINT($,1.,«''»);"),
-    ('signs in strings', "#1=POINT(';#1=(''\\S\\'',1.,«2»);"),
-    ('a name with zeros', '#0001=POINT($,1.,«.T.»);'),
+    ("an element of a list in a list", "#1=CLOUD((),((1.),(2.,«3»,4.)),(TALLY(1)));"),
+    ("the first of two faults", "#1=CLOUD((),((1.),(«2»,3,4.)),(TALLY(1)));"),
+    ("the value of a typed parameter", "#1=CLOUD((),(),(DISTANCE(1.),TALLY(«1.»)));"),
+    ("a type that the select doesn't offer", "#1=CLOUD((),(),(DISTANCE(1.),«LENGTH(1.)»));"),
+    ("too many elements", "#1=CLOUD((),(),«(TALLY(1),TALLY(2),TALLY(3),TALLY(4))»);"),
+    ("equal elements by other spellings", "#1=CLOUD((),(),(DISTANCE(1.),«DISTANCE(10.E-1)»));"),
+    ("no value in a list", "#1=CLOUD((),((1.,«$»)),(TALLY(1)));"),
+    ("a star in a list", "#1=CLOUD((),((1.,«*»)),(TALLY(1)));"),
+    ("an item", "#1=MARKED($,«.BLUE.»);"),
+    ("a value in parts", "#1=(MARKED(.RED.)POINT(1.,«2»)SHAPE($));"),
+    ("a derived value in parts", "#1=(ORIGIN()POINT(«0.»,2.)SHAPE($));"),
+    ("too many values", "#1=POINT($,1.,2.,«3.»,4.);"),
+    ("a part with a value too few", "#1=(POINT(1.«)»SHAPE('a'));"),
+    ("the second reference", "#1=CLOUD((#2,«#3»),(),(TALLY(1)));\n#2=POINT($,1.,1.);"),
+    ("the third reference", "#2=POINT($,1.,1.);\n#1=CLOUD((#2,#4),(),(«#3»));\n#3=MARKED($,.RED.);\n#4=ORIGIN($,*,1.);"),
+    ("an instance behind a remark", "/* #1=POINT();; ' */ #1 /**/ = POINT($,1.,«''»);"),
+    ("signs in strings", "#1=POINT(';#1=(''\\S\\'',1.,«2»);"),
+    ("a name with zeros", "#0001=POINT($,1.,«.T.»);"),
 ]
 
 # Schema texts that are refused, with the place between « and ».
 SCHEMAS = [
-    ("a letter that EXPRESS doesn't have", 'SCHEMA s; ENTITY «ü»; END_ENTITY; END_SCHEMA;'),
-    ('an open string', "SCHEMA s «'»v1; END_SCHEMA;"),
-    ('a remark in a remark', 'SCHEMA s;\n«(»* a (* b *)\nEND_SCHEMA;'),
-    ('a word that is no name', 'SCHEMA s;\n ENTITY «list»; END_ENTITY;\nEND_SCHEMA;'),
-    ('no colon', 'SCHEMA s; ENTITY a;\n x «REAL»; END_ENTITY; END_SCHEMA;'),
-    ('an attribute twice', 'SCHEMA s; ENTITY a;\n x : REAL;\n «X» : REAL; END_ENTITY; END_SCHEMA;'),
-    ('an item twice', 'SCHEMA s; TYPE t = ENUMERATION OF (a, b, «A»); END_TYPE; END_SCHEMA;'),
-    ('an unknown supertype', 'SCHEMA s; ENTITY a SUBTYPE OF («b»); END_ENTITY; END_SCHEMA;'),
-    ('a type as a supertype', 'SCHEMA s; TYPE b = REAL; END_TYPE; ENTITY a SUBTYPE OF («b»); END_ENTITY; END_SCHEMA;'),
-    ('an unknown type in a select', 'SCHEMA s; TYPE t = REAL; END_TYPE;\nTYPE u = SELECT (t, «v»); END_TYPE; END_SCHEMA;'),
-    ('a type that renames an entity', 'SCHEMA s; ENTITY a; END_ENTITY; TYPE t = «a»; END_TYPE; END_SCHEMA;'),
-    ('a circle of types', 'SCHEMA s; TYPE t = u; END_TYPE; TYPE «u» = t; END_TYPE; END_SCHEMA;'),
-    ('a type that renames a select', 'SCHEMA s; TYPE t = SELECT (a); END_TYPE; TYPE a = REAL; END_TYPE;\nTYPE u = «t»; END_TYPE; END_SCHEMA;'),
-    ('a computed bound', 'SCHEMA s; ENTITY a; x : LIST [1:«n»] OF REAL; END_ENTITY; END_SCHEMA;'),
-    ('a width of nothing', 'SCHEMA s; TYPE t = STRING(«0»); END_TYPE; END_SCHEMA;'),
-    ('the second redeclaration', 'SCHEMA s; ENTITY a; x : NUMBER; END_ENTITY; ENTITY b SUBTYPE OF (a);\n SELF\\a.x : REAL;\n «SELF\\a.y : REAL;» END_ENTITY; END_SCHEMA;'),
-    ('two schemas', 'SCHEMA s; END_SCHEMA;\n«SCHEMA» t; END_SCHEMA;'),
-    ('no schema', '«»'),
+    ("a letter that EXPRESS doesn't have", "SCHEMA s; ENTITY «ü»; END_ENTITY; END_SCHEMA;"),
+    ("an open string", "SCHEMA s «'»v1; END_SCHEMA;"),
+    ("a remark in a remark", "SCHEMA s;\n«(»* a (* b *)\nEND_SCHEMA;"),
+    ("a word that is no name", "SCHEMA s;\n ENTITY «list»; END_ENTITY;\nEND_SCHEMA;"),
+    ("no colon", "SCHEMA s; ENTITY a;\n x «REAL»; END_ENTITY; END_SCHEMA;"),
+    ("an attribute twice", "SCHEMA s; ENTITY a;\n x : REAL;\n «X» : REAL; END_ENTITY; END_SCHEMA;"),
+    ("an item twice", "SCHEMA s; TYPE t = ENUMERATION OF (a, b, «A»); END_TYPE; END_SCHEMA;"),
+    ("an unknown supertype", "SCHEMA s; ENTITY a SUBTYPE OF («b»); END_ENTITY; END_SCHEMA;"),
+    ("a type as a supertype", "SCHEMA s; TYPE b = REAL; END_TYPE; ENTITY a SUBTYPE OF («b»); END_ENTITY; END_SCHEMA;"),
+    ("an unknown type in a select", "SCHEMA s; TYPE t = REAL; END_TYPE;\nTYPE u = SELECT (t, «v»); END_TYPE; END_SCHEMA;"),
+    ("a type that renames an entity", "SCHEMA s; ENTITY a; END_ENTITY; TYPE t = «a»; END_TYPE; END_SCHEMA;"),
+    ("a circle of types", "SCHEMA s; TYPE t = u; END_TYPE; TYPE «u» = t; END_TYPE; END_SCHEMA;"),
+    (
+        "a type that renames a select",
+        "SCHEMA s; TYPE t = SELECT (a); END_TYPE; TYPE a = REAL; END_TYPE;\nTYPE u = «t»; END_TYPE; END_SCHEMA;",
+    ),
+    ("a computed bound", "SCHEMA s; ENTITY a; x : LIST [1:«n»] OF REAL; END_ENTITY; END_SCHEMA;"),
+    ("a width of nothing", "SCHEMA s; TYPE t = STRING(«0»); END_TYPE; END_SCHEMA;"),
+    (
+        "the second redeclaration",
+        "SCHEMA s; ENTITY a; x : NUMBER; END_ENTITY; ENTITY b SUBTYPE OF (a);\n"
+        " SELF\\a.x : REAL;\n «SELF\\a.y : REAL;» END_ENTITY; END_SCHEMA;",
+    ),
+    ("two schemas", "SCHEMA s; END_SCHEMA;\n«SCHEMA» t; END_SCHEMA;"),
+    ("no schema", "«»"),
 ]
+
+# A schema in which an attribute is declared anew, by types that name one another.
+EXPLAINED = """SCHEMA s;
+TYPE t = LIST OF u; END_TYPE;
+TYPE u = ENUMERATION OF (red, green); END_TYPE;
+ENTITY a; a : t; END_ENTITY;
+ENTITY b SUBTYPE OF (a); SELF\\a.a : u; END_ENTITY;
+END_SCHEMA;
+"""
 
 
 def parts(output):
@@ -165,6 +187,25 @@ def schemas(tests):
         line = subprocess.run([tests.program, "schema", path], capture_output=True, check=False).stderr.decode()
         output, error, status = tests.run([path])
         tests.judge(name, (line.rstrip("\n"), place, marked, "", 1), (*parts(output)[:3], error, status))
+
+
+def attributes(tests):
+    """The attributes of each entity are those that the program lists, which has `*` for one that is derived."""
+    for path in (SCHEMA, DEMO):
+        outline = Outline(pathlib.Path(path).read_bytes())
+        for entity, names in reading.listing(tests.program, path).attributes.items():
+            found = [name for _, name in outline.places(entity)]
+            wanted = [name if listed == "*" else listed for listed, name in zip(names, found)]
+            tests.judge(f"the attributes of {entity}", (len(names), wanted), (len(found), found))
+
+
+def explained(tests):
+    """What is said of an attribute: where it is declared, where anew, and which types are named."""
+    path = tests.make("explained.exp", EXPLAINED)
+    made = tests.make("explained.step", file_of("#1=B(.BLUE.);", [("PRODUCT_MODEL", "S")]))
+    lines = ["  B", "  > A  .BLUE.", "       a : t;", "       SELF\\a.a : u; (in b)"]
+    lines += ["       t = LIST OF u;", "       u = ENUMERATION OF (red, green);"]
+    tests.judge("what stands at an attribute", lines, tests.run([path, made])[0].splitlines()[4:])
 
 
 def kinds(tests):
@@ -237,7 +278,7 @@ def changed(tests):
 
 def main():
     tests = Tests("p21-where")
-    for group in (faults, values, schemas, kinds, others, renaming, changed):
+    for group in (faults, values, schemas, attributes, explained, kinds, others, renaming, changed):
         group(tests)
     tests.end()
 

@@ -240,18 +240,20 @@ class Refused:
     def count(self, _, parts):
         """The first value too many, or the `)` before which one is missing."""
         for part in parts:
-            names = self.names(part, len(parts) == 1)
+            names = [attribute for _, attribute in self.places(part, len(parts) == 1)]
+            counts = f"{part.key} has {len(names)} attributes, and here are {len(part.values)} values"
             if len(part.values) > len(names):
                 value = part.values[len(names)]
-                return Place(value.start, value.end, [f"{part.key} has {len(names)} attributes, and here are {len(part.values)} values"])
+                return Place(value.start, value.end, [counts])
             if len(part.values) < len(names):
-                missing = ", ".join(names[len(part.values) :])
-                return Place(part.end, part.end + 1, [f"{part.key} has {len(names)} attributes, and here are {len(part.values)} values; without one: {missing}"])
+                return Place(part.end, part.end + 1, [f"{counts}; without one: {', '.join(names[len(part.values) :])}"])
         return None
 
-    def names(self, part, alone):
-        """The names of the attributes that a part has: all of the entity, or among other parts those of its own."""
-        return self.listing.attributes[part.key] if alone else self.outline.own_attributes(part.key)
+    def places(self, part, alone):
+        """What the values of a part stand for: all attributes of the entity, or among other parts those of its own."""
+        if alone:
+            return self.outline.places(part.key)
+        return [(part.key, attribute) for attribute in self.outline.own_attributes(part.key)]
 
     def redeclared_twice(self, _, parts):
         """Which attributes are declared anew by several entities of the instance."""

@@ -212,16 +212,51 @@ class Outline:
         items = [item for names in listed for item in " ".join(names).split(" , ")]
         return [item for item in items if " " not in item]
 
-    def declared(self, entities, attribute):
-        """The text that declares an attribute in one of these entities or their supertypes; None where none does."""
-        for name in sorted(self.closure(entities)):
-            if attribute not in self.own_attributes(name):
-                continue
-            for group, statement in self.statements(self.entities[name]):
-                if group == "" and attribute in names_in(statement):
-                    text = self.text[statement[0].start : statement[-1].end].decode("latin-1")
-                    return " ".join(text.split())
-        return None
+    def order(self, name):
+        """An entity behind its supertypes, each with those of its own in front of it, and each once."""
+        found = {}
+        seen = set()
+        waiting = [name]
+        while waiting:
+            top = waiting[-1]
+            if top in seen:
+                found[waiting.pop()] = True
+            else:
+                seen.add(top)
+                waiting += [above for above in reversed(self.supertypes(top)) if above not in seen]
+        return list(found)
+
+    def places(self, name):
+        """The attributes for which an instance of an entity has values, each with the entity that declares it."""
+        return [(entity, attribute) for entity in self.order(name) for attribute in self.own_attributes(entity)]
+
+    def explained(self, entities, place):
+        """The texts that say what stands at a place in an instance of these entities: where it is declared, where it is
+        declared anew or derived, and the types that are named there, one behind the other."""
+        declaring, attribute = place
+        found = []
+        for entity in [declaring, *sorted(self.closure(entities) - {declaring})]:
+            for group, statement in self.statements(self.entities[entity]):
+                items = " ".join(names_in(statement)).split(" , ")
+                anew = any(item.startswith("SELF ") and item.endswith(f" . {attribute}") for item in items)
+                if (group == "" and entity == declaring and attribute in items) or (group in ("", "DERIVE") and anew):
+                    text = self.plain(statement[0], statement[-1])
+                    found += [text if entity == declaring else f"{text} (in {entity.lower()})"]
+        for text in found:
+            named = re.split("[:=]", text, 1)[-1]
+            if len(found) < 8 and not re.match(r" (?:SELECT|ENUMERATION)\b", named, re.I):
+                types = [self.types[word] for word in re.findall(r"\w+", named.upper()) if word in self.types]
+                found += [body for body in map(self.body, types) if body not in found]
+        return found
+
+    def body(self, declaration):
+        """The text of a type without its words around."""
+        words = declaration.words
+        return self.plain(words[1], words[texts(words).index(";")])
+
+    def plain(self, first, last):
+        """The text from a word to another, on one line."""
+        return " ".join(self.text[first.start : last.end].decode("latin-1").split())
 
 
 def texts(words):
