@@ -1,8 +1,8 @@
 #!/usr/bin/env python3
 """Runs each command line that README and docs show with its answer, and each text of docs/FAULTS.md.
 
-A command line stands in a table beside its answer, or behind `$` above what it prints; `..` stands for lines that are
-left out. The commands of one page are run one behind the other in one shell, in a folder that has the examples, with the
+A command line stands in a table beside its answer, in a line above the words "prints `..`", or behind `$` above what it
+prints, where `..` stands for lines that are left out. The commands behind `$` of one page are run one behind the other in one shell, in a folder that has the examples, with the
 program and the tools in its path. Those of a program that isn't there are named and left out.
 
 P21 in the environment, or the first argument, names another program than ./p21. The status is 1 where an answer is
@@ -48,12 +48,13 @@ def pages():
 
 
 def shown():
-    """The command lines in tables, each with its answer."""
+    """The command lines in tables, and those above what they print, each with its answer."""
+    row = r"^\| `\./p21 ([^`]*)` \| `([^`]*)` \|$"
+    line = r"^    \./p21 (.*)\n\nprints `([^`]*)`"
     for path in pages():
-        for line in path.read_text().splitlines():
-            row = re.fullmatch(r"\| `\./p21 ([^`]*)` \| `([^`]*)` \|", line)
-            if row:
-                yield f"{path.name}: {row[1]}", shlex.split(row[1]), row[2]
+        for found in re.finditer(f"{row}|{line}", path.read_text(), re.M):
+            command, wanted = filter(None, found.groups())
+            yield f"{path.name}: {command}", shlex.split(command), wanted
 
 
 # Programs that some command lines of the pages need and not every system has.

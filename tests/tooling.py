@@ -49,10 +49,11 @@ class Tests:
         path.write_bytes(text.encode("utf-8") if isinstance(text, str) else text)
         return str(path)
 
-    def run(self, arguments, text=None):
-        """What the tool writes to each stream, and its status."""
+    def run(self, arguments, text=None, file=None):
+        """What the tool writes to each stream, and its status. It is given a text by a pipe, or an open file."""
         command = [f"tools/{self.tool}", *(argument.format(here=self.here) for argument in arguments)]
-        done = subprocess.run(command, capture_output=True, check=False, input=text)
+        given = {"input": text} if file is None else {"stdin": file}
+        done = subprocess.run(command, capture_output=True, check=False, **given)
         return done.stdout.decode(), done.stderr.decode(), done.returncode
 
     def judge(self, name, wanted, found):

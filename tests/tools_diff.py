@@ -1,7 +1,7 @@
 #!/usr/bin/env python3
 """Runs tools/p21-diff over the examples and over pairs of files that are made. P21 names another program than ./p21."""
 
-from tooling import FRAME, SCHEMA, Tests, file_of
+from tooling import FRAME, ROOT, SCHEMA, Tests, file_of
 
 POINT = "#1=CARTESIAN_POINT('',(0.,0.,0.));"
 PERSON = "#2=PERSON('ek',$,$,$);"
@@ -153,6 +153,11 @@ def main():
     changed = ["changed #24 CARTESIAN_POINT.COORDINATES: (8.E1,5.E1,1.25E1) -> (8.E1,5.E1,1.225E1)"]
     tests.expect("the example and its other form", [SCHEMA, product, "examples/product-other.step"], 0, [])
     tests.expect("the example and its change", [SCHEMA, product, "examples/product-changed.step"], 1, changed)
+    for name, place in (("the schema", 0), ("a file", 2)):
+        given = [SCHEMA, product, "examples/product-changed.step"]
+        text = (ROOT / given[place]).read_bytes()
+        given[place] = "/dev/stdin"
+        tests.judge(f"{name} from a pipe", (changed[0] + "\n", "", 1), tests.run(given, text))
     for name, first, second, options, lines in ROWS:
         paths = [tests.make("a.step", first), tests.make("b.step", second)]
         tests.expect(name, [*options, SCHEMA, *paths], int(lines != []), lines)

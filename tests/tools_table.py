@@ -89,11 +89,26 @@ def names(tests):
     tests.judge("a list from standard input", (2, 0), (len(output.splitlines()), status))
 
 
+def pipes(tests):
+    """The schema or a file from a pipe, and a file as standard input."""
+    step = ROOT / "examples" / "product.step"
+    line = f"{{}}\taccepted\t128\t{BLOCK}"
+    summary = "1 files, 1 accepted, 0 not\n"
+    output, error, status = tests.run(["--format", "tsv", "/dev/stdin", str(step)], (ROOT / SCHEMA).read_bytes())
+    tests.judge("a schema from a pipe", (f"{HEAD}\n{line.format(step)}\n", summary, 0), (output, error, status))
+    wanted = (f"{HEAD}\n{line.format('/dev/stdin')}\n", summary, 0)
+    given = ["--format", "tsv", SCHEMA, "/dev/stdin"]
+    tests.judge("a file from a pipe", wanted, tests.run(given, step.read_bytes()))
+    with step.open("rb") as file:
+        tests.judge("a file as standard input", wanted, tests.run(given, file=file))
+
+
 def main():
     tests = Tests("p21-table")
     examples(tests)
     hashes(tests)
     names(tests)
+    pipes(tests)
     refused = "examples/product.step: schema refused S2 Syntax"
     tests.expect("exchanged arguments", ["examples/product.step", SCHEMA], 2, [], f"p21-table: {refused}")
     tests.expect("no file", [SCHEMA], 2, [], "p21-table: no file is named")

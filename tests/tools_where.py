@@ -76,6 +76,24 @@ FAULTS = {
     "S8 RedeclaredPlace": ("4:8", "SELF\\a.z : REAL := 0.0;", "in ENTITY B, line 3"),
 }
 
+# The same for each file of examples/refused.
+REFUSED = {
+    "BadByte": ("1:1", "\\xef", "the byte EF"),
+    "BadDirective": ("5:15", "p", "the byte 70, p"),
+    "Count": ("11:31", ")", "AXIS2_PLACEMENT_3D has 4 attributes, and here are 3 values; without one: REF_DIRECTION"),
+    "Dangling": ("10:29", "#3", "the file has no #3"),
+    "EndsEarly": ("11:24", "", "the file ends here"),
+    "Missing": ("10:11", "$", "PERSON"),
+    "NotUtf8": ("9:19", "\\xfc", "the byte FC, which is ü in ISO 8859-1"),
+    "SchemaName": (
+        "6:14",
+        "'AUTOMOTIVE_DESIGN { 1 0 10303 214 1 1 1 1 }'",
+        "the file is of AUTOMOTIVE_DESIGN, the schema text of PRODUCT_MODEL",
+    ),
+    "UnknownEntity": ("11:4", "SPHERICAL_SURFACE", "the schema PRODUCT_MODEL has no entity SPHERICAL_SURFACE"),
+    "WrongKind": ("9:30", "80", "CARTESIAN_POINT"),
+}
+
 # Instances of the schema DEMO. The value at fault stands between « and », which aren't part of the text.
 VALUES = [
     ("an element of a list in a list", "#1=CLOUD((),((1.),(2.,«3»,4.)),(TALLY(1)));"),
@@ -124,6 +142,7 @@ SCHEMAS = [
         " SELF\\a.x : REAL;\n «SELF\\a.y : REAL;» END_ENTITY; END_SCHEMA;",
     ),
     ("two schemas", "SCHEMA s; END_SCHEMA;\n«SCHEMA» t; END_SCHEMA;"),
+    ("33 aggregates", f"SCHEMA s; ENTITY a;\n x : {'LIST OF ' * 32}«LIST» OF REAL; END_ENTITY; END_SCHEMA;"),
     ("no schema", "«»"),
 ]
 
@@ -169,6 +188,16 @@ def faults(tests):
         tests.judge(title, (line, place, marked, note, "", 1), (*parts(output), error, status))
 
 
+def refused(tests):
+    """Each file of examples/refused."""
+    files = {path.stem: str(path) for path in pathlib.Path("examples/refused").iterdir()}
+    tests.judge("the files of examples/refused", sorted(REFUSED), sorted(files))
+    for name, wanted in REFUSED.items():
+        line, status = program_line(tests, SCHEMA, files[name])
+        output, error, found = tests.run([SCHEMA, files[name]])
+        tests.judge(name, (line, *wanted, "", status), (*parts(output), error, found))
+
+
 def values(tests):
     """Values of instances."""
     for name, instances in VALUES:
@@ -193,7 +222,7 @@ def attributes(tests):
     """The attributes of each entity are those that the program lists, which has `*` for one that is derived."""
     for path in (SCHEMA, DEMO):
         outline = Outline(pathlib.Path(path).read_bytes())
-        for entity, names in reading.listing(tests.program, path).attributes.items():
+        for entity, names in reading.listing(tests.program, path, path).attributes.items():
             found = [name for _, name in outline.places(entity)]
             wanted = [name if listed == "*" else listed for listed, name in zip(names, found)]
             tests.judge(f"the attributes of {entity}", (len(names), wanted), (len(found), found))
@@ -213,6 +242,7 @@ def kinds(tests):
     step = pathlib.Path("examples/product.step").read_bytes()
     rows = [
         ("gzip", gzip.compress(step), "this is packed by gzip: unpack it with gunzip"),
+        ("gzip, cut", gzip.compress(step)[:300], "this is packed by gzip: unpack it with gunzip"),
         ("zip", b"PK\x03\x04" + step, "this is a zip archive: unpack it with unzip"),
         ("a byte order mark", b"\xef\xbb\xbf" + step, "a byte order mark stands in front: tail -c +4 prints the file without it"),
         ("UTF-16", step.decode().encode("utf-16"), "this is UTF-16: iconv -f UTF-16 -t UTF-8 makes UTF-8 of it"),
@@ -221,6 +251,12 @@ def kinds(tests):
             step.decode().encode("utf-16-le"),
             "this is UTF-16 without a mark: iconv -f UTF-16LE -t UTF-8 (or UTF-16BE) makes UTF-8 of it",
         ),
+        (
+            "UTF-16 without a mark, the other half of each first",
+            step.decode().encode("utf-16-be"),
+            "this is UTF-16 without a mark: iconv -f UTF-16LE -t UTF-8 (or UTF-16BE) makes UTF-8 of it",
+        ),
+        ("UTF-16, cut", step.decode().encode("utf-16")[:301], "this is UTF-16: iconv -f UTF-16 -t UTF-8 makes UTF-8 of it"),
         ("XML", b"<?xml version='1.0'?>\n<a/>", "this is XML or HTML, and not clear text"),
         ("a program", pathlib.Path("/bin/sh").read_bytes(), None),
         ("a schema", pathlib.Path(SCHEMA).read_bytes(), "this is a schema text: are schema and file exchanged?"),
@@ -244,8 +280,16 @@ def others(tests):
     exchanged = ["schema refused S2 Syntax", f"{step}:1:1", "  ISO-10303-21;", "  ^^^"]
     exchanged.append("  this is a STEP file: are schema and file exchanged?")
     tests.expect("exchanged arguments", [step, SCHEMA], 1, exchanged)
-    output, _, status = tests.run([SCHEMA, "/dev/stdin"], pathlib.Path("examples/refused/Count.step").read_bytes())
+    count = pathlib.Path("examples/refused/Count.step")
+    output, _, status = tests.run([SCHEMA, "/dev/stdin"], count.read_bytes())
     tests.judge("a pipe", ("refused 45 Count in #3", "11:31", ")", 1), (*parts(output)[:3], status))
+    with count.open("rb") as file:
+        output, _, status = tests.run([SCHEMA, "/dev/stdin"], file=file)
+    tests.judge("a file as standard input", ("refused 45 Count in #3", "11:31", ")", 1), (*parts(output)[:3], status))
+    output, _, status = tests.run(["/dev/stdin", str(count)], pathlib.Path(SCHEMA).read_bytes())
+    tests.judge("a schema from a pipe", ("refused 45 Count in #3", "11:31", ")", 1), (*parts(output)[:3], status))
+    output, _, status = tests.run(["/dev/stdin"], b"SCHEMA s;\n USE FROM t; END_SCHEMA;")
+    tests.judge("a schema text from a pipe", ("schema refused S6 LeftOut", "2:2", "USE", 1), (*parts(output)[:3], status))
 
 
 def renaming(tests):
@@ -278,7 +322,7 @@ def changed(tests):
 
 def main():
     tests = Tests("p21-where")
-    for group in (faults, values, schemas, attributes, explained, kinds, others, renaming, changed):
+    for group in (faults, refused, values, schemas, attributes, explained, kinds, others, renaming, changed):
         group(tests)
     tests.end()
 

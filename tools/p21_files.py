@@ -58,15 +58,16 @@ def name_of(data, statement):
 class Refused:
     """A file that the program refuses by a number: at a statement, or in an instance."""
 
-    def __init__(self, program, schema, data, line):
+    def __init__(self, program, schema, named, data, line):
         self.program = program
         self.schema = schema
+        self.named = named
         self.data = data
         number, _, statement, instance = re.match(r"refused (\d+) (\S+) (?:at statement (\d+)|in #(\d+))", line).groups()
         self.number = int(number)
         self.statement = statement and int(statement)
         self.instance = instance and int(instance)
-        self.listing = reading.listing(program, schema)
+        self.listing = reading.listing(program, schema, named)
 
     @functools.cached_property
     def outline(self):
@@ -170,8 +171,8 @@ class Refused:
             old = text[name.start : name.end].decode("ascii")
         new = re.sub(r"\w+$", named, old)
         line = reading.line_number(text, name.start)
-        made = "renamed.exp" if os.path.basename(self.schema) != "renamed.exp" else "renamed-again.exp"
-        return f"sed '{line}s/{old}/{new}/' {shlex.quote(self.schema)} > {made}"
+        made = "renamed.exp" if os.path.basename(self.named) != "renamed.exp" else "renamed-again.exp"
+        return f"sed '{line}s/{old}/{new}/' {shlex.quote(self.named)} > {made}"
 
     # In an instance
 

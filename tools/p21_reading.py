@@ -8,6 +8,7 @@ import pathlib
 import re
 import shutil
 import subprocess
+import tempfile
 from typing import NamedTuple
 
 HERE = pathlib.Path(__file__).resolve().parent
@@ -66,11 +67,28 @@ def line_of(error, status):
     return line if status >= 0 else f"{line} ended by signal {-status}".lstrip()
 
 
+def lasting(path):
+    """The path, or that of a copy where the program could not read it again and again: of a pipe, and of what this process
+    has open, as /dev/stdin. The program inherits the copy, which is gone when this process ends."""
+    is_open_here = path.startswith(("/dev/", "/proc/"))
+    is_plain = os.path.isfile(path) and not is_open_here
+    if is_plain or not os.path.exists(path) or os.path.isdir(path) or not os.access(path, os.R_OK):
+        return path
+    with tempfile.TemporaryFile() as copy:
+        with open(path, "rb") as file:
+            shutil.copyfileobj(file, copy)
+        copy.flush()
+        descriptor = os.dup(copy.fileno())
+    os.set_inheritable(descriptor, True)
+    return f"/dev/fd/{descriptor}"
+
+
 def run(program, *arguments, text=None, output=subprocess.PIPE):
     """The answer of the program. A text is given to it as /dev/stdin."""
     given = {"stdin": subprocess.DEVNULL} if text is None else {"input": text}
+    streams = {"stdout": output, "stderr": subprocess.PIPE, "close_fds": False}
     try:
-        done = subprocess.run([program, *arguments], stdout=output, stderr=subprocess.PIPE, check=False, **given)
+        done = subprocess.run([program, *arguments], check=False, **streams, **given)
     except OSError as error:
         raise Trouble(f"cannot run {program}: {error.strerror}") from None
     return Answer(done.stdout or b"", line_of(done.stderr, done.returncode), done.returncode)
@@ -84,11 +102,11 @@ class Listing(NamedTuple):
     abstract: set
 
 
-def listing(program, schema):
-    """The listing of a schema."""
+def listing(program, schema, named):
+    """The listing of a schema, which the command line names so."""
     answer = run(program, "schema", schema)
     if answer.status != 0:
-        raise Trouble(f"{schema}: {answer.error}")
+        raise Trouble(f"{named}: {answer.error}")
     first, *lines = answer.output.decode("ascii").splitlines()
     found = Listing(first.split()[1], {}, set())
     for line in lines:
@@ -189,6 +207,7 @@ def read_value(lexemes):
 def line_number(text, at):
     """The number of the line in which a place stands."""
     return text[:at].count(b"\n") + 1
+
 
 def shortened(text, at, width=100):
     """The text around a place, and where the place then is; `..` stands for what is left out."""
