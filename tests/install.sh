@@ -1,8 +1,9 @@
 #!/bin/sh
-# Tries, with a program that is a stand-in: that ./p21 runs the program that stands where P21_KEEP says so, and which files
-# tools/install copies. It stands beside the gate and needs no toolchain.
+# Tries, with stand-ins for the program and the toolchain: that ./p21 builds the program where it has to, and runs the one
+# that stands where P21_KEEP says so; and which files tools/install copies. It stands beside the gate.
 
 cd "$(dirname -- "$(readlink -f -- "$0")")/.." || exit
+unset P21 P21_KEEP
 here=$(mktemp -d)
 trap 'rm -rf "$here"' EXIT
 failed=0
@@ -105,6 +106,31 @@ rm "$program"
 expect 'no program to keep' 127 'rt of the toolchain is not in PATH' env P21_KEEP=1 "$tree/p21" faults
 expect 'no program to copy' 1 'the program is not built' "$tree/tools/install" "$here/prefix"
 files 'no file where there is no program' ''
+
+# A toolchain that has proved one crate before, proves two functions of the program, and builds it.
+cat > "$here/path/rt" <<'END'
+#!/bin/sh
+[ "$*" = ci ] && [ -z "$FAILS" ] || { echo 'rt: p21: error'; exit 1; }
+echo 'rt: p21_a is kept: an earlier run on this machine proved the same files over the same libraries'
+printf 'fn p21::%s: proved\n' first second
+echo 'rt: p21 proved'
+mkdir -p crates/p21/out
+printf '#!/bin/sh\necho "built of %s: $*"\n' "$(cd crates && echo *)" > crates/p21/out/p21
+chmod +x crates/p21/out/p21
+END
+chmod +x "$here/path/rt"
+for name in tail tee wc mv chmod; do
+    ln -s "$(command -v "$name")" "$here/path/$name"
+done
+mkdir -p "$tree/crates/p21_a/src" "$tree/crates/p21_b/src"
+printf '%s\n' '# crates' 'p21_a: thiserror' 'p21_b: p21_a' 'p21: p21_a' > "$tree/crates.txt"
+touch "$tree/HANDLES"
+expect 'a build that fails' 126 'the program could not be built' env FAILS=1 "$tree/p21" check s f
+expect 'a build' 0 'p21: p21_a is proved (1 of 2)
+p21: p21 is proved (2 of 2)
+built of p21 p21_a: check s f' env P21_KEEP=1 "$tree/p21" check s f
+rm "$here/path/rt"
+expect 'the program that was built' 0 'built of p21 p21_a: check s f' "$tree/p21" check s f
 
 expect 'a folder that may not be written' 1 '' "$tree/tools/install" /proc/none
 
