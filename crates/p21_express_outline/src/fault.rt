@@ -41,7 +41,7 @@ impl SchemaFault {
     ghost use Rattle.std.specs.Prelude.{◌≡◌};
     ghost use Rattle.p21_express_outline.specs.Fault.{fault_number, fault_name};
 
-    /// The number of the refusal, as the program prints it behind `S`.
+    /// The number of the refusal, as the program prints it behind `S`. It takes no memory.
     pub fn number(&self) -> u8
         ensures { result ≡ fault_number self.now }
     {
@@ -59,7 +59,7 @@ impl SchemaFault {
         }
     }
 
-    /// The name of the refusal, as the program prints it.
+    /// The name of the refusal, as the program prints it. It takes no memory.
     pub fn name(&self) -> &'static str
         ensures { result.now ≡ fault_name self.now }
     {

@@ -17,7 +17,7 @@ pub enum Base<'a> {
 }
 
 impl Schema {
-    /// What a type of this schema comes down to.
+    /// What a type of this schema comes down to. It takes no memory.
     pub fn base<'a>(&'a self, of: &'a TypeUse) -> Base<'a>
         requires { IsTypeUse self.now (type_use of.now) }
         ensures { HasBase self.now (type_use of.now) result }

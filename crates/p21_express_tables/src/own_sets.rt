@@ -44,7 +44,7 @@ pub(crate) struct OwnSet {
 }
 
 impl Schema {
-    /// What makes the set of an entity and its supertypes no set of an instance.
+    /// What makes the set of an entity and its supertypes no set of an instance. It takes no memory.
     pub fn own_faults(&self, entity: EntityId) -> OwnFaults
         requires { IsEntity self.now entity.0 }
         ensures { HasOwnFaults self.now entity.0 result }
@@ -71,7 +71,7 @@ impl Schema {
     }
 
     /// What may stand at a place of an instance whose set is an entity and its supertypes (ISO 10303-11, Attribute
-    /// redeclaration).
+    /// redeclaration). It takes no memory.
     pub fn own_type(&self, entity: EntityId, place: Place) -> PlaceType<'_>
         requires entity { IsEntity self.now entity.0 }
         requires place { IsPlace self.now (place_of place) }

@@ -26,7 +26,8 @@ pub(crate) enum Decision {
 }
 
 impl Schema {
-    /// What may stand at a place of an instance with these entities (ISO 10303-11, Attribute redeclaration).
+    /// What may stand at a place of an instance with these entities (ISO 10303-11, Attribute redeclaration). It takes
+    /// no memory.
     pub fn type_at(&self, entities: &[EntityId], place: Place) -> PlaceType<'_>
         requires entities { AreEntities self.now (numbers entities.now) }
         requires place { IsPlace self.now (place_of place) }

@@ -86,7 +86,7 @@ impl Schema {
         Ok(schema)
     }
 
-    /// The parts of the schema.
+    /// The parts of the schema. It takes no memory.
     pub fn into_parts(self) -> Parts
         ensures value { schema_of result ≡ self }
         ensures named { AreNamed result }
@@ -95,7 +95,7 @@ impl Schema {
         parts
     }
 
-    /// All names are resolved, and no chain comes back.
+    /// All names are resolved, and no chain comes back. It does nothing.
     pub fn holds_together(&self)
         ensures { HoldsTogether self.now }
     {
@@ -103,35 +103,35 @@ impl Schema {
     }
 
     /// No two entities and no two types have one name, no entity redeclares a place twice as an explicit attribute, and
-    /// no chain comes back.
+    /// no chain comes back. It does nothing.
     pub fn well_formed(&self)
         ensures { IsWellFormed self.now }
     {
         self.holds_together();
     }
 
-    /// The name of the schema.
+    /// The name of the schema. It takes no memory.
     pub fn name(&self) -> &[u8]
         ensures { result.now ≡ self.now.name }
     {
         self.parts.name.bytes()
     }
 
-    /// How many entities there are.
+    /// How many entities there are. It takes no memory.
     pub fn entities(&self) -> usize
         ensures { result ≡ length self.now.entities }
     {
         self.parts.entities.len()
     }
 
-    /// How many types there are.
+    /// How many types there are. It takes no memory.
     pub fn types(&self) -> usize
         ensures { result ≡ length self.now.types }
     {
         self.parts.types.len()
     }
 
-    /// The entity of this name, in upper case.
+    /// The entity of this name, in upper case. It takes no memory.
     pub fn entity(&self, name: &[u8]) -> Option<EntityId>
         ensures { MatchOption result ((e : ℕ) → EntityNamed self.now e name.now → ⊥) (λ entity. EntityNamed self.now entity.0 name.now) }
     {
@@ -141,7 +141,7 @@ impl Schema {
         }
     }
 
-    /// The name of an entity, in upper case.
+    /// The name of an entity, in upper case. It takes no memory.
     pub fn entity_name(&self, entity: EntityId) -> &[u8]
         requires { IsEntity self.now entity.0 }
         ensures { EntityNamed self.now entity.0 result.now }
@@ -149,7 +149,7 @@ impl Schema {
         self.entity_at(entity).name.bytes()
     }
 
-    /// Whether an entity is abstract.
+    /// Whether an entity is abstract. It takes no memory.
     pub fn is_abstract(&self, entity: EntityId) -> bool
         requires { IsEntity self.now entity.0 }
         ensures { IsTrue result ↔ IsAbstract self.now entity.0 }
@@ -157,7 +157,7 @@ impl Schema {
         self.entity_at(entity).is_abstract
     }
 
-    /// Whether an entity is another one, or that is a direct or indirect supertype of it.
+    /// Whether an entity is another one, or that is a direct or indirect supertype of it. It takes no memory.
     pub fn is_a(&self, sub: EntityId, sup: EntityId) -> bool
         requires { IsEntity self.now sub.0 }
         ensures { IsTrue result ↔ IsA self.now sub.0 sup.0 }
@@ -179,7 +179,7 @@ impl Schema {
         Ok(entities)
     }
 
-    /// The same, without memory.
+    /// The same as a slice. It takes no memory.
     pub fn order_of(&self, entity: EntityId) -> &[EntityId]
         requires { IsEntity self.now entity.0 }
         ensures { numbers result.now ≡ order self.now entity.0 }
@@ -215,7 +215,7 @@ impl Schema {
         Ok(())
     }
 
-    /// How many attributes an entity declares itself.
+    /// How many attributes an entity declares itself. It takes no memory.
     pub fn attribute_count(&self, entity: EntityId) -> u32
         requires { IsEntity self.now entity.0 }
         ensures { result ≡ length (attributes_of self.now entity.0) }
@@ -255,7 +255,7 @@ impl Schema {
         true
     }
 
-    /// The name of the attribute at a place, in upper case.
+    /// The name of the attribute at a place, in upper case. It takes no memory.
     pub fn place_name(&self, place: Place) -> &[u8]
         requires { IsPlace self.now (place_of place) }
         ensures { PlaceNamed self.now (place_of place) result.now }
@@ -263,7 +263,7 @@ impl Schema {
         self.attribute_at(place).name.bytes()
     }
 
-    /// The type of this name, in upper case.
+    /// The type of this name, in upper case. It takes no memory.
     pub fn type_named(&self, name: &[u8]) -> Option<TypeId>
         ensures { MatchOption result ((t : ℕ) → TypeNamed self.now t name.now → ⊥) (λ type_. TypeNamed self.now type_.0 name.now) }
     {
@@ -273,7 +273,7 @@ impl Schema {
         }
     }
 
-    /// The name of a type, in upper case.
+    /// The name of a type, in upper case. It takes no memory.
     pub fn type_name(&self, of: TypeId) -> &[u8]
         requires { IsType self.now of.0 }
         ensures { TypeNamed self.now of.0 result.now }
@@ -281,7 +281,7 @@ impl Schema {
         self.defined_at(of).name.bytes()
     }
 
-    /// What a type is.
+    /// What a type is. It takes no memory.
     pub fn type_kind(&self, of: TypeId) -> &TypeKind
         requires { IsType self.now of.0 }
         ensures { kind_of self.now of.0 ≡ Some (kind result.now) }
@@ -289,8 +289,8 @@ impl Schema {
         &self.defined_at(of).kind
     }
 
-    /// Whether a select offers an entity, or a type other than a select, itself or by a select in it (ISO 10303-11, Select
-    /// data type). Another type offers nothing.
+    /// Whether a select offers an entity, or a type other than a select, itself or by a select in it (ISO 10303-11,
+    /// Select data type). Another type offers nothing. It takes no memory.
     pub fn offers(&self, of: TypeId, member: Member) -> bool
         requires { IsType self.now of.0 }
         ensures { IsTrue result ↔ Offers self.now of.0 (member_of member) }
@@ -301,7 +301,7 @@ impl Schema {
         }
     }
 
-    /// Whether a select offers an entity.
+    /// Whether a select offers an entity. It takes no memory.
     pub fn offers_entity(&self, of: TypeId) -> bool
         requires { IsType self.now of.0 }
         ensures { IsTrue result ↔ ((e : ℕ) × Offers self.now of.0 (entity_member e)) }

@@ -6,7 +6,7 @@ use p21_express_types::{EntityId, TypeId};
 use p21_values::Word;
 
 impl Schema {
-    /// The name of an entity, as a word.
+    /// The name of an entity, as a word. It takes no memory.
     pub fn entity_word(&self, entity: EntityId) -> &Word
         requires { IsEntity self.now entity.0 }
         ensures { EntityNamed self.now entity.0 result.now }
@@ -14,7 +14,7 @@ impl Schema {
         &self.entity_at(entity).name
     }
 
-    /// The name of a type, as a word.
+    /// The name of a type, as a word. It takes no memory.
     pub fn type_word(&self, of: TypeId) -> &Word
         requires { IsType self.now of.0 }
         ensures { TypeNamed self.now of.0 result.now }

@@ -38,12 +38,14 @@ impl Model for Words {
 impl Words {
     ghost use Rattle.std.specs.Prelude.{◌≡◌};
 
+    /// These words, in this order. It takes no memory.
     pub fn from_vec(all: Vec<Word>) -> Words
         ensures { result ≡ all.items }
     {
         Words { all }
     }
 
+    /// The words, first to last. It takes no memory.
     pub fn items(&self) -> &[Word]
         ensures { result.now ≡ self.now }
     {
@@ -69,12 +71,14 @@ impl Model for Members {
 impl Members {
     ghost use Rattle.std.specs.Prelude.{◌≡◌};
 
+    /// These members, in this order. It takes no memory.
     pub fn from_vec(all: Vec<Member>) -> Members
         ensures { result ≡ all.items }
     {
         Members { all }
     }
 
+    /// The members, first to last. It takes no memory.
     pub fn items(&self) -> &[Member]
         ensures { result.now ≡ self.now }
     {

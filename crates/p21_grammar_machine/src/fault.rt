@@ -27,7 +27,7 @@ impl GrammarFault {
     ghost use Rattle.std.specs.Prelude.{◌≡◌};
     ghost use Rattle.p21_grammar_machine.specs.Fault.{fault_number, fault_name};
 
-    /// The number of the refusal, as the program prints it.
+    /// The number of the refusal, as the program prints it. It takes no memory.
     pub fn number(&self) -> u8
         ensures { result ≡ fault_number self.now }
     {
@@ -43,7 +43,7 @@ impl GrammarFault {
         }
     }
 
-    /// The name of the refusal, as the program prints it, with what is left out in parentheses.
+    /// The name of the refusal, as the program prints it, with what is left out in parentheses. It takes no memory.
     pub fn name(&self) -> &'static str
         ensures { result.now ≡ fault_name self.now }
     {

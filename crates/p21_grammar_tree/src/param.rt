@@ -39,21 +39,21 @@ pub struct Params {
 }
 
 impl Params {
-    /// These parameters, in this order.
+    /// These parameters, in this order. It takes no memory.
     pub fn from_vec(all: Vec<Param>) -> Params
         ensures { items_of result ≡ all.items }
     {
         Params { all }
     }
 
-    /// The parameters, first to last.
+    /// The parameters, first to last. It takes no memory.
     pub fn items(&self) -> &[Param]
         ensures { result.now ≡ items_of self.now }
     {
         &self.all
     }
 
-    /// The parameters, moved out.
+    /// The parameters, moved out. It takes no memory.
     pub fn into_items(self) -> Vec<Param>
         ensures { result.items ≡ items_of self }
     {

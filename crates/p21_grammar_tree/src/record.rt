@@ -32,7 +32,7 @@ impl Model for Parts {
 }
 
 impl Parts {
-    /// These records, in this order; `None` where there are none.
+    /// These records, in this order; `None` where there are none. It takes no memory.
     pub fn from_vec(all: Vec<Part>) -> Option<Parts>
         ensures some { IfSome result (λ parts. parts ≡ all.items) }
         ensures none { IfNone result (all.items ≡ []) }
@@ -43,7 +43,7 @@ impl Parts {
         Some(Parts { all })
     }
 
-    /// The records, first to last.
+    /// The records, first to last. It takes no memory.
     pub fn items(&self) -> &[Part]
         ensures are { result.now ≡ self.now }
         ensures some { 0 < length result.now }
@@ -51,7 +51,7 @@ impl Parts {
         &self.all
     }
 
-    /// The records, moved out.
+    /// The records, moved out. It takes no memory.
     pub fn into_items(self) -> Vec<Part>
         ensures are { result.items ≡ self }
         ensures some { 0 < length result.items }

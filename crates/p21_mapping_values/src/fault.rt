@@ -49,7 +49,7 @@ pub enum CheckFault {
 impl CheckFault {
     ghost use Rattle.p21_mapping_values.specs.Fault.{fault_number, fault_name};
 
-    /// The number of the refusal, as the program prints it.
+    /// The number of the refusal, as the program prints it. It takes no memory.
     pub fn number(&self) -> u8
         ensures { result ≡ fault_number self.now }
     {
@@ -75,7 +75,7 @@ impl CheckFault {
         }
     }
 
-    /// The name of the refusal, as the program prints it.
+    /// The name of the refusal, as the program prints it. It takes no memory.
     pub fn name(&self) -> &'static str
         ensures { result.now ≡ fault_name self.now }
     {

@@ -28,7 +28,7 @@ impl Model for Ids {
 }
 
 impl Ids {
-    /// These entities in this order.
+    /// These entities in this order. It takes no memory.
     pub fn from_vec(ids: Vec<EntityId>) -> Ids
         ensures { result ≡ ids.items }
     {
@@ -42,7 +42,7 @@ impl Ids {
         &self.entities
     }
 
-    /// The entities, first to last.
+    /// The entities, first to last. It takes no memory.
     pub fn into_items(self) -> Vec<EntityId>
         ensures { result.items ≡ self }
     {
@@ -71,7 +71,7 @@ impl Model for Rows {
 }
 
 impl Rows {
-    /// These rows in this order.
+    /// These rows in this order. It takes no memory.
     pub fn from_vec(all: Vec<Values>) -> Rows
         ensures { result ≡ all.items }
     {
@@ -85,7 +85,7 @@ impl Rows {
         &self.rows
     }
 
-    /// The rows, first to last.
+    /// The rows, first to last. It takes no memory.
     pub fn into_items(self) -> Vec<Values>
         ensures { result.items ≡ self }
     {

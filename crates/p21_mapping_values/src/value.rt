@@ -34,7 +34,7 @@ pub struct Values {
 impl Values {
     ghost use Rattle.p21_mapping_values.specs.View.{list_of};
 
-    /// These values in this order.
+    /// These values in this order. It takes no memory.
     pub fn from_vec(values: Vec<Value>) -> Values
         ensures { list_of result ≡ values.items }
     {
@@ -48,7 +48,7 @@ impl Values {
         &self.all
     }
 
-    /// The values, first to last.
+    /// The values, first to last. It takes no memory.
     pub fn into_items(self) -> Vec<Value>
         ensures { result.items ≡ list_of self }
     {

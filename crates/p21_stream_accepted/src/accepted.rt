@@ -44,8 +44,8 @@ impl Model for Accepted {
 }
 
 impl Accepted {
-    /// The canonical lines of the header records, each with its line feed; the data sections in the order in which they are
-    /// written; the instances; and the bytes of the canonical file.
+    /// The canonical lines of the header records, each with its line feed; the data sections in the order in which they
+    /// are written; the instances; and the bytes of the canonical file. It takes no memory.
     pub fn new(header: Vec<u8>, sections: Vec<Section>, instances: Instances, len: u64) -> Accepted
         requires placed { ArePlaced instances sections.items }
         requires len { len ≡ length (output_text (output_of header.items sections.items instances)) }

@@ -37,7 +37,7 @@ pub enum Fault {
 }
 
 impl Fault {
-    /// The number of the refusal, as the program prints it.
+    /// The number of the refusal, as the program prints it. It takes no memory.
     pub fn number(&self) -> u8
         ensures { result ≡ fault_number self.now }
     {
@@ -57,7 +57,7 @@ impl Fault {
         }
     }
 
-    /// The name of the refusal, as the program prints it, with what is left out in parentheses.
+    /// The name of the refusal, as the program prints it, with what is left out in parentheses. It takes no memory.
     pub fn name(&self) -> &'static str
         ensures { result.now ≡ fault_name self.now }
     {

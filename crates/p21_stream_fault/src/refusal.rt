@@ -19,14 +19,14 @@ pub struct Refusal {
 }
 
 impl Refusal {
-    /// The number of the refusal, as the program prints it.
+    /// The number of the refusal, as the program prints it. It takes no memory.
     pub fn number(&self) -> u8
         ensures { result ≡ fault_number self.now.fault }
     {
         self.fault.number()
     }
 
-    /// The name of the refusal, as the program prints it, with what is left out in parentheses.
+    /// The name of the refusal, as the program prints it, with what is left out in parentheses. It takes no memory.
     pub fn name(&self) -> &'static str
         ensures { result.now ≡ fault_name self.now.fault }
     {
@@ -35,8 +35,8 @@ impl Refusal {
 }
 
 impl At {
-    /// Where a fault of an instance is named: a name that stands twice, a record that means nothing and a reference that
-    /// isn't served name the instance, all others the statement.
+    /// Where a fault of an instance is named: a name that stands twice, a record that means nothing and a reference
+    /// that isn't served name the instance, all others the statement. It takes no memory.
     pub fn of(fault: Fault, name: Name, statement: u64) -> At
         ensures { result ≡ place_of fault name statement }
     {

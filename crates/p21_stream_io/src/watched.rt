@@ -26,7 +26,7 @@ impl<T> Model for Watched<T> {
 }
 
 impl<T> Watched<T> {
-    /// No call is counted yet.
+    /// No call is counted yet. It takes no memory.
     pub fn new(inner: T) -> Watched<T>
         ensures inner { result.inner ≡ inner }
         ensures moved { result.moved ≡ 0 }
@@ -39,7 +39,7 @@ impl<T> Watched<T> {
         }
     }
 
-    /// The reader or writer, as its calls left it.
+    /// The reader or writer, as its calls left it. It takes no memory.
     pub fn into_inner(self) -> T
         ensures { result ≡ self.inner }
     {
@@ -47,14 +47,14 @@ impl<T> Watched<T> {
         inner
     }
 
-    /// How many calls moved bytes.
+    /// How many calls moved bytes. It takes no memory.
     pub fn moved(&self) -> u64
         ensures { result ≡ self.now.moved }
     {
         self.moved
     }
 
-    /// How many calls failed.
+    /// How many calls failed. It takes no memory.
     pub fn failures(&self) -> u64
         ensures { result ≡ self.now.failures }
     {
@@ -63,7 +63,7 @@ impl<T> Watched<T> {
 }
 
 impl<T: Read> Watched<T> {
-    /// Reads as the reader does.
+    /// Reads as the reader does. It takes no memory of its own.
     ///
     /// # Errors
     ///
@@ -85,7 +85,7 @@ impl<T: Read> Watched<T> {
 }
 
 impl<T: Write> Watched<T> {
-    /// Writes as the writer does.
+    /// Writes as the writer does. It takes no memory of its own.
     ///
     /// # Errors
     ///

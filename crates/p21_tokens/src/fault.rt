@@ -46,7 +46,7 @@ impl TokenFault {
     ghost use Rattle.std.specs.Prelude.{◌≡◌};
     ghost use Rattle.p21_tokens.specs.Fault.{fault_number, fault_name};
 
-    /// The number of the refusal, as the program prints it.
+    /// The number of the refusal, as the program prints it. It takes no memory.
     pub fn number(&self) -> u8
         ensures { result ≡ fault_number self.now }
     {
@@ -71,7 +71,7 @@ impl TokenFault {
         }
     }
 
-    /// The name of the refusal, as the program prints it, with what is left out in parentheses.
+    /// The name of the refusal, as the program prints it, with what is left out in parentheses. It takes no memory.
     pub fn name(&self) -> &'static str
         ensures { result.now ≡ fault_name self.now }
     {

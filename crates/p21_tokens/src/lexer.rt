@@ -519,8 +519,8 @@ impl Lexer {
         read_end(self.alloc, self.mode, &self.kept, &mut text)
     }
 
-    /// The token bytes behind the last `;`, with those of a token that isn't whole yet; a lone `/` doesn't count. After a
-    /// refusal, those in front of the refused byte.
+    /// The token bytes behind the last `;`, with those of a token that isn't whole yet; a lone `/` doesn't count. After
+    /// a refusal, those in front of the refused byte. It takes no memory.
     pub fn pending(&self) -> u64
         ensures value { result ≡ pending_of self.now }
         ensures within { result ≤ record_limit_of self.now }

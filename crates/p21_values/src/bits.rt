@@ -53,7 +53,7 @@ impl Bits {
         })
     }
 
-    /// How many bits there are.
+    /// How many bits there are. It takes no memory.
     pub fn len(&self) -> usize
         ensures { result ≡ length self.now }
     {
@@ -133,6 +133,7 @@ impl PartialEq for Bits {
 
     ghost laws = { Prim.search (comparing, rules) };
 
+    /// Whether both mean the same. It takes no memory.
     fn eq(&self, other: &Bits) -> bool
         ensures eq { result ≡ pointwise beq self.now other.now }
         ensures same { IsTrue result ↔ (self.now ≡ other.now) }

@@ -29,7 +29,8 @@ pub trait Canonical {
     ghost spells_value: { (a : Self) → is_value a → spells (spelling a) a };
 }
 
-/// Answers whether all was written, and leaves only the first bytes where memory ran out on the way.
+/// Answers whether all was written, and leaves only the first bytes where memory ran out on the way. It takes no
+/// memory.
 pub fn or_restored(
     out: &mut Vec<u8>,
     before: usize,

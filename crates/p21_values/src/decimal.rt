@@ -82,7 +82,7 @@ impl Decimal {
         Decimal::of_digits(alloc, negative, digits, 0)
     }
 
-    /// Each decimal is reduced, and in the range of a real.
+    /// Each decimal is reduced, and in the range of a real. It does nothing.
     pub fn holds(&self)
         ensures { IsDecimal self.now }
     {
@@ -255,6 +255,7 @@ impl PartialEq for Decimal {
 
     ghost laws = { Prim.search (comparing, rules) };
 
+    /// Whether both mean the same. It takes no memory.
     fn eq(&self, other: &Decimal) -> bool
         ensures eq { result ≡ decimal_eq self.now other.now }
         ensures same { IsTrue result ↔ SameRatio (ratio_of self.now) (ratio_of other.now) }

@@ -29,7 +29,7 @@ impl ValueFault {
     ghost use Rattle.std.specs.Prelude.{◌≡◌};
     ghost use Rattle.p21_values.specs.Fault.{fault_number, fault_name};
 
-    /// The number of the refusal, as the program prints it.
+    /// The number of the refusal, as the program prints it. It takes no memory.
     pub fn number(&self) -> u8
         ensures { result ≡ fault_number self.now }
     {
@@ -44,7 +44,7 @@ impl ValueFault {
         }
     }
 
-    /// The name of the refusal, as the program prints it.
+    /// The name of the refusal, as the program prints it. It takes no memory.
     pub fn name(&self) -> &'static str
         ensures { result.now ≡ fault_name self.now }
     {

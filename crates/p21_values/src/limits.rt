@@ -38,7 +38,7 @@ impl Model for Limits {
 
 impl Limits {
     /// Limits in bytes: of the tokens of a statement, of a canonical statement, of a file, and of its canonical form.
-    /// None if a canonical form may have more than the source may have.
+    /// None if a canonical form may have more than the source may have. It takes no memory.
     pub fn new(
         record_source: u64,
         record_canonical: u64,
@@ -63,6 +63,7 @@ impl Limits {
     }
 
     /// 512 MiB for a statement and 256 MiB for its canonical form, 64 GiB for a file and 4 GiB for its canonical form.
+    /// It takes no memory.
     pub fn usual() -> Limits
         ensures { result ≡ usual }
     {
@@ -74,14 +75,14 @@ impl Limits {
         }
     }
 
-    /// The most bytes of the tokens of a statement.
+    /// The most bytes of the tokens of a statement. It takes no memory.
     pub fn record_source(&self) -> u64
         ensures { result ≡ self.now.record_source }
     {
         self.record_source
     }
 
-    /// The most bytes of a canonical statement.
+    /// The most bytes of a canonical statement. It takes no memory.
     pub fn record_canonical(&self) -> u64
         ensures value { result ≡ self.now.record_canonical }
         ensures within { self.now.record_canonical ≤ self.now.record_source }
@@ -89,14 +90,14 @@ impl Limits {
         self.record_canonical
     }
 
-    /// The most bytes of a file.
+    /// The most bytes of a file. It takes no memory.
     pub fn file_source(&self) -> u64
         ensures { result ≡ self.now.file_source }
     {
         self.file_source
     }
 
-    /// The most bytes of a canonical file.
+    /// The most bytes of a canonical file. It takes no memory.
     pub fn file_canonical(&self) -> u64
         ensures value { result ≡ self.now.file_canonical }
         ensures within { self.now.file_canonical ≤ self.now.file_source }

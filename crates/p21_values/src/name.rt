@@ -23,7 +23,7 @@ impl Model for Name {
 }
 
 impl Name {
-    /// The number is one of 64 bits.
+    /// The number is one of 64 bits. It does nothing.
     pub fn holds(&self)
         ensures { self.now < 2 ^ 64 }
     {

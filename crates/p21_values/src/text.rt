@@ -82,21 +82,21 @@ impl Text {
         Ok(())
     }
 
-    /// How many characters the text has.
+    /// How many characters the text has. It takes no memory.
     pub fn len(&self) -> usize
         ensures { result ≡ length self.now }
     {
         self.characters.len()
     }
 
-    /// Each character is a Unicode scalar value.
+    /// Each character is a Unicode scalar value. It does nothing.
     pub fn holds(&self)
         ensures { AllByRecursion IsScalar self.now }
     {
         let _characters = &self.characters;
     }
 
-    /// The characters, first to last.
+    /// The characters, first to last. It takes no memory.
     pub fn chars(&self) -> &[char]
         ensures { result.now ≡ self.now }
     {
@@ -114,6 +114,7 @@ impl PartialEq for Text {
 
     ghost laws = { Prim.search (comparing, rules) };
 
+    /// Whether both mean the same. It takes no memory.
     fn eq(&self, other: &Text) -> bool
         ensures eq { result ≡ bytes_eq self.now other.now }
         ensures same { IsTrue result ↔ (self.now ≡ other.now) }

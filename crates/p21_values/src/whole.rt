@@ -85,6 +85,7 @@ impl PartialEq for Whole {
 
     ghost laws = { Prim.search (comparing, rules) };
 
+    /// Whether both mean the same. It takes no memory.
     fn eq(&self, other: &Whole) -> bool
         ensures eq { result ≡ int_eq self.now other.now }
         ensures same { IsTrue result ↔ (self.now ≡ other.now) }

@@ -61,14 +61,14 @@ impl Word {
         })
     }
 
-    /// Each word is that of a keyword.
+    /// Each word is that of a keyword. It does nothing.
     pub fn holds(&self)
         ensures { IsKeyword self.now }
     {
         let _bytes = &self.bytes;
     }
 
-    /// The characters, in ASCII.
+    /// The characters, in ASCII. It takes no memory.
     pub fn bytes(&self) -> &[u8]
         ensures { result.now ≡ self.now }
     {
@@ -110,6 +110,7 @@ impl PartialEq for Word {
 
     ghost laws = { Prim.search (comparing, rules) };
 
+    /// Whether both mean the same. It takes no memory.
     fn eq(&self, other: &Word) -> bool
         ensures eq { result ≡ bytes_eq self.now other.now }
         ensures same { IsTrue result ↔ (self.now ≡ other.now) }
