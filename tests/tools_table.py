@@ -38,6 +38,7 @@ SUMMARY = """13 files, 3 accepted, 10 not
      1 refused 31 SchemaName
      1 refused 41 UnknownEntity
      1 refused 49 WrongKind
+passed over: 4 files in folders with other endings than .step .stp .p21 .ifc .spf
 the same: examples/product-other.step examples/product.step"""
 
 
@@ -67,7 +68,39 @@ def hashes(tests):
         written = subprocess.run([tests.program, "canon", SCHEMA, path], capture_output=True, check=True).stdout
         row = (path, "accepted", count, hashlib.sha256(written).hexdigest())
         lines = [HEAD, tsv(row)]
-        tests.expect(f"{count} instances", ["--format", "tsv", SCHEMA, path], 0, lines, "1 files, 1 accepted, 0 not")
+        tests.expect(f"{count} instances", ["--format", "tsv", SCHEMA, path], 0, lines, "1 file, 1 accepted, 0 not")
+
+
+def data(tests):
+    """With --data the hash is that of what `p21 canon` writes behind the header, so that the time stamp doesn't count."""
+    text = (ROOT / "examples" / "product.step").read_text()
+    later = tests.make("a later one.step", text.replace("2024-03-15T10:30:00", "2024-03-16T08:00:00"))
+    command = f"'{tests.program}' canon {SCHEMA} examples/product.step | sed '1,/^ENDSEC;$/d' | sha256sum"
+    written = subprocess.run(command, shell=True, capture_output=True, check=True, text=True).stdout.split()[0]
+    files = ["examples/product.step", later]
+    lines = [HEAD, *(tsv((file, "accepted", 128, written)) for file in files)]
+    summary = f"2 files, 2 accepted, 0 not\nthe same data: examples/product.step '{later}'"
+    tests.expect("the data alone", ["--data", "--format", "tsv", SCHEMA, *files], 0, lines, summary)
+    output, error, status = tests.run([SCHEMA, *files])
+    found = len(set(line.split()[-1] for line in output.splitlines())), error, status
+    tests.judge("the data and the header", (2, "2 files, 2 accepted, 0 not\n", 0), found)
+
+
+def schemas(tests):
+    """Each file is checked by the first schema that it names, and by the first one of all where it names none of them."""
+    demo = tests.make("demo.step", file_of("#1=POINT($,1.,2);", [("PRODUCT_MODEL", "DEMO")]))
+    other = tests.make("other.step", file_of("", [("PRODUCT_MODEL", "OTHER")]))
+    rows = [
+        ("examples/product.step", "accepted", 128, BLOCK),
+        (demo, "refused 49 WrongKind in #1", None, None),
+        (other, "refused 31 SchemaName at statement 5", None, None),
+    ]
+    given = ["--format", "tsv", "--schema", "examples/demo.exp", "--schema", SCHEMA, SCHEMA, *(row[0] for row in rows)]
+    summary = "3 files, 1 accepted, 2 not\n     1 refused 49 WrongKind\n     1 refused 31 SchemaName"
+    tests.expect("several schemas", given, 1, [HEAD, *map(tsv, rows)], summary)
+    given = ["--schema", "examples/product.step", SCHEMA, demo]
+    refused = "p21-table: examples/product.step: schema refused S2 Syntax"
+    tests.expect("a further schema that is refused", given, 2, [], refused)
 
 
 def names(tests):
@@ -84,7 +117,8 @@ def names(tests):
     wanted = [(f"{tests.here}/{name}", answer) for name, answer in wanted]
     wanted.append((f"{tests.here}/none.step", f"cannot open {tests.here}/none.step"))
     counts = ["7 files, 6 accepted, 1 not", "     1 cannot open"]
-    tests.judge("folders and lists", (wanted, counts, 3), (found, error.splitlines()[:2], status))
+    counts.append("passed over: 1 file in folders with other endings than .step .stp .p21 .ifc .spf")
+    tests.judge("folders and lists", (wanted, counts, 3), (found, error.splitlines()[:3], status))
     output, _, status = tests.run(["--format", "tsv", "--files-from", "-", SCHEMA], f"{tests.here}/many/a.p21\n".encode())
     tests.judge("a list from standard input", (2, 0), (len(output.splitlines()), status))
 
@@ -93,7 +127,7 @@ def pipes(tests):
     """The schema or a file from a pipe, and a file as standard input."""
     step = ROOT / "examples" / "product.step"
     line = f"{{}}\taccepted\t128\t{BLOCK}"
-    summary = "1 files, 1 accepted, 0 not\n"
+    summary = "1 file, 1 accepted, 0 not\n"
     output, error, status = tests.run(["--format", "tsv", "/dev/stdin", str(step)], (ROOT / SCHEMA).read_bytes())
     tests.judge("a schema from a pipe", (f"{HEAD}\n{line.format(step)}\n", summary, 0), (output, error, status))
     wanted = (f"{HEAD}\n{line.format('/dev/stdin')}\n", summary, 0)
@@ -107,6 +141,8 @@ def main():
     tests = Tests("p21-table")
     examples(tests)
     hashes(tests)
+    data(tests)
+    schemas(tests)
     names(tests)
     pipes(tests)
     refused = "examples/product.step: schema refused S2 Syntax"

@@ -280,6 +280,9 @@ def others(tests):
     exchanged = ["schema refused S2 Syntax", f"{step}:1:1", "  ISO-10303-21;", "  ^^^"]
     exchanged.append("  this is a STEP file: are schema and file exchanged?")
     tests.expect("exchanged arguments", [step, SCHEMA], 1, exchanged)
+    path = tests.make("long.step", file_of("", [("PRODUCT_MODEL", "A" * 80)]))
+    line = tests.run([SCHEMA, path])[0].splitlines()[2]
+    tests.judge("a long text at the place", f"  FILE_SCHEMA(('{'A' * 59} ..", line)
     count = pathlib.Path("examples/refused/Count.step")
     output, _, status = tests.run([SCHEMA, "/dev/stdin"], count.read_bytes())
     tests.judge("a pipe", ("refused 45 Count in #3", "11:31", ")", 1), (*parts(output)[:3], status))
