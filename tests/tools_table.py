@@ -38,7 +38,7 @@ SUMMARY = """13 files, 3 accepted, 10 not
      1 refused 31 SchemaName
      1 refused 41 UnknownEntity
      1 refused 49 WrongKind
-passed over: 4 files in folders with other endings than .step .stp .p21 .ifc .spf
+passed over: 4 files with other endings: 2 .exp, 1 .md, 1 .txt
 the same: examples/product-other.step examples/product.step"""
 
 
@@ -106,7 +106,7 @@ def schemas(tests):
 def names(tests):
     """Which files are checked: those of folders and lists too, in the order of the command line."""
     file = file_of("")
-    for name in ("b.STP", "a.p21", "c.ifc", "notes.txt", "deep/d.step", "a\ttab.step"):
+    for name in ("b.STP", "a.p21", "c.ifc", "notes.txt", "noname", "e.stp.GZ", "deep/d.step", "a\ttab.step"):
         (tests.here / "many" / name).parent.mkdir(parents=True, exist_ok=True)
         tests.make(f"many/{name}", file)
     made = tests.make("list", f"{tests.here}/many/notes.txt\n\n{tests.here}/none.step\n")
@@ -117,7 +117,7 @@ def names(tests):
     wanted = [(f"{tests.here}/{name}", answer) for name, answer in wanted]
     wanted.append((f"{tests.here}/none.step", f"cannot open {tests.here}/none.step"))
     counts = ["7 files, 6 accepted, 1 not", "     1 cannot open"]
-    counts.append("passed over: 1 file in folders with other endings than .step .stp .p21 .ifc .spf")
+    counts.append("passed over: 3 files with other endings: 1 without one, 1 .gz, 1 .txt")
     tests.judge("folders and lists", (wanted, counts, 3), (found, error.splitlines()[:3], status))
     output, _, status = tests.run(["--format", "tsv", "--files-from", "-", SCHEMA], f"{tests.here}/many/a.p21\n".encode())
     tests.judge("a list from standard input", (2, 0), (len(output.splitlines()), status))

@@ -280,6 +280,9 @@ def others(tests):
     exchanged = ["schema refused S2 Syntax", f"{step}:1:1", "  ISO-10303-21;", "  ^^^"]
     exchanged.append("  this is a STEP file: are schema and file exchanged?")
     tests.expect("exchanged arguments", [step, SCHEMA], 1, exchanged)
+    path = tests.make("cut.step", "ISO-10303-21;\nHEADER;\n")
+    shown = ["refused 24 EndsEarly at statement 3", f"{path}:3:1", "  HEADER;", "          ^", "  the file ends here"]
+    tests.expect("a file that ends behind a statement", [SCHEMA, path], 1, shown)
     path = tests.make("long.step", file_of("", [("PRODUCT_MODEL", "A" * 80)]))
     line = tests.run([SCHEMA, path])[0].splitlines()[2]
     tests.judge("a long text at the place", f"  FILE_SCHEMA(('{'A' * 59} ..", line)
