@@ -291,10 +291,11 @@ class Refused:
         """The first reference to an instance of another entity than is wanted. Found by references into nothing, which are
         refused by another number: all but those behind the place."""
         references = references_in(text, parts)
+        wanted = {target for target, _ in references}
         targets = {}
         for statement in statements(self.data):
             name = name_of(self.data, statement)
-            if any(name == target for target, _ in references):
+            if name in wanted:
                 targets[name] = self.text(statement)
         others = [found for name, found in targets.items() if name != self.instance]
 

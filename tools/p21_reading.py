@@ -12,6 +12,7 @@ import tempfile
 from typing import NamedTuple
 
 HERE = pathlib.Path(__file__).resolve().parent
+PIECE = 1 << 20
 
 
 class Trouble(Exception):
@@ -206,7 +207,7 @@ def read_value(lexemes):
 
 def line_number(text, at):
     """The number of the line in which a place stands."""
-    return text[:at].count(b"\n") + 1
+    return 1 + sum(text[start : min(start + PIECE, at)].count(b"\n") for start in range(0, at, PIECE))
 
 
 def shortened(text, at, width=100):
