@@ -283,6 +283,11 @@ def others(tests):
     path = tests.make("cut.step", "ISO-10303-21;\nHEADER;\n")
     shown = ["refused 24 EndsEarly at statement 3", f"{path}:3:1", "  HEADER;", "          ^", "  the file ends here"]
     tests.expect("a file that ends behind a statement", [SCHEMA, path], 1, shown)
+    path = tests.make("large.exp", "SCHEMA s;\n".ljust(16_777_217))
+    output, error, status = tests.run([path])
+    lines = output.splitlines()
+    wanted = "schema refused S9 TooLarge", f"{path}:2:16777207", "  a schema text has at most 16777216 bytes", "", 1
+    tests.judge("a schema text over the limit", wanted, (lines[0], lines[1], lines[-1], error, status))
     path = tests.make("long.step", file_of("", [("PRODUCT_MODEL", "A" * 80)]))
     line = tests.run([SCHEMA, path])[0].splitlines()[2]
     tests.judge("a long text at the place", f"  FILE_SCHEMA(('{'A' * 59} ..", line)

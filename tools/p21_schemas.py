@@ -289,7 +289,7 @@ class Refused:
     def place(self):
         """The place where the text is refused, or None where it can't be told."""
         if len(self.text) > TEXT_LIMIT:
-            return None
+            return Place(TEXT_LIMIT, TEXT_LIMIT, [f"a schema text has at most {TEXT_LIMIT} bytes"])
         if self.number == 1:
             return self.place_of_byte()
         return self.place_of_word() or self.place_in_whole()
