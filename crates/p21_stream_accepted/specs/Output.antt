@@ -1,6 +1,7 @@
 -- The bytes of a canonical file from its lines.
-use Rattle.std.specs.Prelude.{ℕ, List, [], ◌∷◌, ◌++◌, codes}
-use Rattle.std.specs.List.{flat_map}
+use Rattle.std.specs.Prelude.{◌≡◌, ℕ, List, [], ◌∷◌, ◌++◌, codes}
+use Rattle.std.specs.List.{flat_map, AllByRecursion as Each}
+use Rattle.p21_exchange.specs.Spelling.{name_spelling}
 use Rattle.p21_stream_store.specs.Kept.{Kept}
 
 -- a data section: its DATA with its `;`, and the statements of its instances
@@ -35,3 +36,22 @@ header_text header = (line_of (codes "ISO-10303-21;") ++ line_of (codes "HEADER;
 -- the whole file
 abbrev pub output_text : Output → List ℕ
 output_text o = header_text o.header ++ (sections_text o.sections ++ line_of (codes "END-ISO-10303-21;"))
+
+-- a text begins with the name of an instance and `=`
+abbrev pub IsNamed : ℕ → List ℕ → Type 0
+IsNamed name text = (record_ : List ℕ) × (text ≡ name_spelling name ++ (61 ∷ record_))
+
+-- a text stands in a file between two LF
+pub record StandsAlone (text file : List ℕ) : Type 0 where
+  pub before : List ℕ
+  pub after : List ℕ
+  pub stands : file ≡ before ++ (10 ∷ (text ++ (10 ∷ after)))
+
+-- a text is the line of the instance of this name in a file
+pub record IsLineOf (name : ℕ) (text file : List ℕ) : Type 0 where
+  pub named : IsNamed name text
+  pub alone : StandsAlone text file
+
+-- each instance has its line in the file
+abbrev pub HasLines : Output → Type 0
+HasLines o = Each (λ (x : Kept). IsLineOf x.name x.text (output_text o)) o.kept

@@ -1,6 +1,6 @@
 ghost use Rattle.std.specs.Prelude.{◌≡◌, ◌↔◌, ℕ, length, Contains, IfSome, IsNone, IsTrue, OnErr, OnOk};
 ghost use Rattle.std.specs.Io.KnownBytes.{Appends};
-ghost use Rattle.p21_stream_accepted.specs.Output.{output_text};
+ghost use Rattle.p21_stream_accepted.specs.Output.{HasLines, IsLineOf, output_text};
 ghost use Rattle.p21_stream_accepted.specs.Stored.{ArePlaced, output_of};
 ghost use Rattle.p21_stream_io.specs.Transfer.{AppendsPartOf};
 ghost use Rattle.p21_stream_io.specs.Watch.{counted};
@@ -33,14 +33,14 @@ pub struct Accepted {
 
 impl Model for Accepted {
     ghost use Rattle.std.specs.Prelude.{◌≡◌, length};
-    ghost use Rattle.p21_stream_accepted.specs.Output.{Output, output_text};
+    ghost use Rattle.p21_stream_accepted.specs.Output.{HasLines, Output, output_text};
     ghost use Rattle.p21_stream_accepted.specs.Stored.{ArePlaced, output_of};
 
     ghost Value = { Output };
 
     ghost view = { λ a. output_of a.header.items a.sections.items a.instances };
 
-    ghost invariant = { λ a. ArePlaced a.instances a.sections.items × (a.len ≡ length (output_text (output_of a.header.items a.sections.items a.instances))) };
+    ghost invariant = { λ a. ArePlaced a.instances a.sections.items × (a.len ≡ length (output_text (output_of a.header.items a.sections.items a.instances))) × HasLines (output_of a.header.items a.sections.items a.instances) };
 }
 
 impl Accepted {
@@ -49,6 +49,7 @@ impl Accepted {
     pub fn new(header: Vec<u8>, sections: Vec<Section>, instances: Instances, len: u64) -> Accepted
         requires placed { ArePlaced instances sections.items }
         requires len { len ≡ length (output_text (output_of header.items sections.items instances)) }
+        requires lines { HasLines (output_of header.items sections.items instances) }
         ensures { result ≡ output_of header.items sections.items instances }
     {
         Accepted {
@@ -73,9 +74,10 @@ impl Accepted {
         self.len
     }
 
-    /// The canonical statement of an instance, without a line feed, if there is one of this name. It takes no memory.
+    /// The line of an instance in the canonical file, without its line feed, if there is one of this name. It takes no memory.
     pub fn line(&self, name: Name) -> Option<&[u8]>
         ensures some { IfSome result (λ text. (kind : ℕ) × Contains self.now.kept (record { name = name; kind = kind; text = text.now })) }
+        ensures line { IfSome result (λ text. IsLineOf name text.now (output_text self.now)) }
         ensures none { IsNone result → Contains (kept_names self.now.kept) name → ⊥ }
     {
         match self.instances.find(name.0) {

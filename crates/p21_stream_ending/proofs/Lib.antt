@@ -8,3 +8,4 @@ pub mod Places
 pub mod Zipped
 pub mod Sizes
 pub mod Whole
+pub mod Written

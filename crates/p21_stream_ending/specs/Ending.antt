@@ -1,5 +1,5 @@
 -- The accepted file of what a session has kept.
-use Rattle.std.specs.List.{AllZip, IsDistinct}
+use Rattle.std.specs.List.{AllZip, IsDistinct, AllByRecursion as Each}
 use Rattle.std.specs.Prelude.{◌≡◌, ℕ, List, [], map, nat_eq, slice_get, Option, Some, None}
 use Rattle.std.specs.Str.{bytes_eq}
 use Rattle.p21_claim.specs.Ended.{Block, Line}
@@ -7,7 +7,7 @@ use Rattle.p21_claim_steps.specs.Keeping.{AreBlocksOf, Kept, text_with}
 use Rattle.p21_claim_steps.specs.OutputLaws.{lines_of}
 use Rattle.p21_claim_steps.specs.Stored.{Stored}
 use Rattle.p21_exchange.specs.DataSection.{section_names}
-use Rattle.p21_stream_accepted.specs.Output.{Output, output_text}
+use Rattle.p21_stream_accepted.specs.Output.{IsNamed, Output, output_text}
 use Rattle.p21_stream_ending.specs.Parts.{Begins}
 use Rattle.p21_stream_ending.specs.declared.parts.Part.{Part}
 use Rattle.p21_stream_kinds.specs.Kinds.{Kind}
@@ -31,6 +31,10 @@ pub record StandsIn (kept : Kept) (header : List ℕ) (parts : List Part) (kinds
 pub record HasNamesOnce (kept : Kept) : Type 0 where
   pub sections : IsDistinct bytes_eq (section_names kept.headings)
   pub instances : IsDistinct nat_eq (map (λ (x : Stored). x.name) kept.stored)
+
+-- the text of each instance begins with its name
+abbrev pub AreNamed : List store.Kept → Type 0
+AreNamed instances = Each (λ (x : store.Kept). IsNamed x.name x.text) instances
 
 -- an instance as its name and its text
 abbrev pub line_of : store.Kept → Line

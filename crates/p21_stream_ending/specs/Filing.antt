@@ -10,6 +10,10 @@ use Rattle.p21_stream_store.specs.Kept.{Kept, name_at}
 abbrev pub AreKinds : List Kind → List Kept → Type 0
 AreKinds kinds kept = Each (λ (x : Kept). x.kind < length kinds) kept
 
+-- each kind is of one of so many sections
+abbrev pub AreOfSections : ℕ → List Kind → Type 0
+AreOfSections many kinds = Each (λ (x : Kind). x.section < many) kinds
+
 -- the number of the section of the kind of this number
 abbrev pub section_in : List Kind → ℕ → ℕ
 section_in kinds number = elim (slice_get kinds number) [ Some kind ↦ kind.section | None ↦ 0 ]

@@ -1,7 +1,7 @@
-ghost use Rattle.std.specs.Prelude.{IfOk};
+ghost use Rattle.std.specs.Prelude.{IfOk, length};
 ghost use Rattle.p21_claim_steps.specs.Keeping.{Kept};
-ghost use Rattle.p21_stream_ending.specs.Ending.{HasNamesOnce, IsEndOf, StandsIn};
-ghost use Rattle.p21_stream_ending.specs.Filing.{AreKinds};
+ghost use Rattle.p21_stream_ending.specs.Ending.{AreNamed, HasNamesOnce, IsEndOf, StandsIn};
+ghost use Rattle.p21_stream_ending.specs.Filing.{AreKinds, AreOfSections};
 ghost use Rattle.p21_stream_ending.specs.Parts.{AreEmpty};
 
 use crate::filing::file_instances;
@@ -27,6 +27,8 @@ pub fn accepted(
     instances: Instances,
 ) -> Result<Accepted, NoMemory>
     requires kinds { AreKinds kinds.now instances }
+    requires sections { AreOfSections (length parts.items) kinds.now }
+    requires named { AreNamed instances }
     requires empty { AreEmpty parts.items }
     ensures { IfOk result (λ file. (kept : Kept) → StandsIn kept header.items parts.items kinds.now instances → HasNamesOnce kept → IsEndOf kept file) }
 {

@@ -1,5 +1,5 @@
 -- What is found of an instance, from its check and its text.
-use Rattle.std.proofs.Common.{◌≡◌, ◌+◌, ◌∷◌, ◌∙◌, List, [], ℕ, length, map, Ok, add-one, ap, refl, sym, subst}
+use Rattle.std.proofs.Common.{◌≡◌, ◌+◌, ◌∷◌, ◌++◌, ◌∙◌, List, [], ℕ, length, map, Ok, add-one, ap, refl, sym, subst}
 use Rattle.std.specs.List.Sorted.{IsPermutation}
 use Rattle.std.specs.Prelude.{◌≢◌, Contains}
 use Rattle.p21_basics.specs.Limits.{Limits}
@@ -10,8 +10,10 @@ use Rattle.p21_claim.specs.Ended.{Entry}
 use Rattle.p21_claim_steps.specs.Keeping.{Kept}
 use Rattle.p21_claim_steps.specs.Stored.{Stored}
 use Rattle.p21_claim_steps.specs.Waiting.{Reference}
-use Rattle.p21_exchange.specs.Record.{Record}
+use Rattle.p21_exchange.specs.CanonicalText.{tokens_text}
+use Rattle.p21_exchange.specs.Record.{Record, record_tokens}
 use Rattle.p21_exchange.specs.Statement.{instance}
+use Rattle.p21_exchange.specs.Token.{semicolon}
 use Rattle.p21_files.specs.BrokenRule.{Breaks}
 use Rattle.p21_files.specs.Kept.{IsInstanceText}
 use Rattle.p21_files.specs.Meaning.{Typed}
@@ -20,6 +22,7 @@ use Rattle.p21_mapping.specs.Checked.{IsChecked, IsRefused}
 use Rattle.p21_mapping_values.specs.declared.fault.CheckFault.{CheckFault}
 use Rattle.p21_mapping_values.specs.declared.fault.CheckFault.TheVariants as check_fault
 use Rattle.p21_schemas.specs.Schema.{Schema}
+use Rattle.p21_stream_accepted.specs.Output.{IsNamed}
 use Rattle.p21_stream_fault.specs.Fault.{fault_number, of_check}
 use Rattle.p21_stream_fault.specs.declared.fault.Fault.TheVariants as fault
 use Rattle.p21_stream_kept.proofs.Instances.{took-instance}
@@ -40,6 +43,10 @@ found s n r m needs checked text (own, is, statement) =
       entities_are = refl;
       printed = subst P (sym is) (statement-instance s n m own statement checked.means.kinds r checked.means.means);
     }
+
+-- its line begins with its name
+pub found-named : (s : Schema) (n : ℕ) (r : Record) (entities : List ℕ) (needs : List Need) (text : List ℕ) → HasFound s n r entities needs text → IsNamed n text
+found-named s n r entities needs text is = (tokens_text (record_tokens is.printed.canonical ++ (semicolon ∷ [])), is.printed.text_is)
 
 -- a refused record breaks a rule
 pub refused-breaks : (s : Schema) (r : Record) (f : CheckFault) → (f ≢ check_fault.NoMemory → IsRefused s r f) → of_check f ≢ fault.NoMemory → Breaks s r (fault_number (of_check f))

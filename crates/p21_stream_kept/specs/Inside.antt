@@ -1,12 +1,12 @@
 -- What the fields hold, as pure data.
-use Rattle.std.specs.Prelude.{List, map}
+use Rattle.std.specs.Prelude.{List, length, map}
 use Rattle.p21_claim_steps.specs.Keeping.{Kept}
 use Rattle.p21_claim_steps.specs.Waiting as waiting
 use Rattle.p21_mapping_values.specs.TypedView.{need_view}
 use Rattle.p21_stream_kept.specs.declared.kept.Kept.TheInside.{Inside}
 use Rattle.p21_stream_kept.specs.declared.kept.Reference.{Reference}
-pub use Rattle.p21_stream_ending.specs.Ending.{stored_of, stored_with}
-pub use Rattle.p21_stream_ending.specs.Filing.{AreKinds}
+pub use Rattle.p21_stream_ending.specs.Ending.{AreNamed, stored_of, stored_with}
+pub use Rattle.p21_stream_ending.specs.Filing.{AreKinds, AreOfSections}
 
 abbrev pub reference_of : Reference → waiting.Reference
 reference_of r = (r.holder, need_view r.need)
@@ -25,6 +25,8 @@ kept_of a = record {
   framing = a.framing;
 }
 
--- each instance has the number of a kind
-abbrev pub HasKinds : Inside → Type 0
-HasKinds a = AreKinds a.kinds a.instances
+-- each instance has the number of a kind, each kind is of a data section, and each text begins with the name of its instance
+pub record IsWhole (a : Inside) : Type 0 where
+  pub kinds : AreKinds a.kinds a.instances
+  pub sections : AreOfSections (length a.sections) a.kinds
+  pub named : AreNamed a.instances

@@ -54,13 +54,13 @@ pub struct Reference {
 
 impl Model for Kept {
     ghost use Rattle.p21_claim_steps.specs.Keeping.{Kept as Meant};
-    ghost use Rattle.p21_stream_kept.specs.Inside.{HasKinds, kept_of};
+    ghost use Rattle.p21_stream_kept.specs.Inside.{IsWhole, kept_of};
 
     ghost Value = { Meant };
 
     ghost view = { kept_of };
 
-    ghost invariant = { HasKinds };
+    ghost invariant = { IsWhole };
 }
 
 impl Kept {

@@ -1,5 +1,5 @@
 //! The data sections of a file, with their names.
-ghost use Rattle.std.specs.Prelude.{◌≡◌, ◌+◌, ◌++◌, ◌∷◌, ◌↔◌, [], length, Contains, IfOk, IfSome, IsTrue, OnOk, option_to_list};
+ghost use Rattle.std.specs.Prelude.{◌≡◌, ◌≤◌, ◌+◌, ◌++◌, ◌∷◌, ◌↔◌, [], length, Contains, IfOk, IfSome, IsTrue, OnOk, option_to_list};
 ghost use Rattle.p21_claim_steps.specs.Keeping.{headings_behind};
 ghost use Rattle.p21_exchange.specs.DataSection.{heading_names, section_names};
 ghost use Rattle.p21_grammar_machine.specs.Shape.{heading_of};
@@ -76,6 +76,7 @@ impl Sections {
     /// Adds a section without a name where the line begins one.
     pub fn begin(&mut self, line: Line) -> Result<(), NoMemory>
         ensures ok { OnOk result (self.new ≡ headings_behind self.old (line_of line)) }
+        ensures more { length self.old ≤ length self.new }
     {
         match line {
             Line::DataStart => {
@@ -91,6 +92,7 @@ impl Sections {
     /// Adds the section that the record begins.
     pub fn add(&mut self, alloc: Global, part: Part) -> Result<(), NoMemory>
         ensures ok { OnOk result (self.new ≡ self.old ++ heading_of (views (items_of part.params)) ∷ []) }
+        ensures more { length self.old ≤ length self.new }
     {
         let name = name_of(alloc, &part)?;
         let Ok(()) = self.all.push(Section { part: Some(part) }) else {

@@ -1,6 +1,7 @@
-ghost use Rattle.std.specs.Prelude.{◌↔◌, ◌∷◌, Contains, IsPermutation, IsTrue, OnOk};
+ghost use Rattle.std.specs.Prelude.{◌↔◌, ◌<◌, ◌∷◌, ℕ, Contains, IsPermutation, IsTrue, OnOk};
 ghost use Rattle.p21_mapping_values.specs.TypedView.{ids_view};
-ghost use Rattle.p21_stream_kept.specs.Inside.{AreKinds, stored_of};
+ghost use Rattle.p21_stream_accepted.specs.Output.{IsNamed};
+ghost use Rattle.p21_stream_kept.specs.Inside.{AreKinds, AreNamed, AreOfSections, stored_of};
 ghost use Rattle.p21_stream_store.specs.Kept.{kept_names};
 
 use p21_express_types::EntityId;
@@ -28,7 +29,11 @@ pub(crate) fn store(
 ) -> Result<(), NoMemory>
     requires kinds { AreKinds kinds.old instances.old }
     requires another { Contains (kept_names instances.old) name → ⊥ }
+    requires named { AreNamed instances.old }
+    requires line { IsNamed name line.now }
     ensures kinds { AreKinds kinds.new instances.new }
+    ensures sections { (many : ℕ) → section < many → AreOfSections many kinds.old → AreOfSections many kinds.new }
+    ensures named { AreNamed instances.new }
     ensures ok { OnOk result (IsPermutation (record { name = name; section = section; entities = ids_view entities.now; text = line.now } ∷ stored_of kinds.old instances.old) (stored_of kinds.new instances.new)) }
 {
     let kind = match kinds.add(alloc, section, entities) {

@@ -1,11 +1,19 @@
-use Rattle.std.proofs.Common.{List, refl, subst}
+use Rattle.std.proofs.Common.{◌≡◌, ℕ, List, length, refl, sym, subst}
+use Rattle.std.proofs.lemmas.Slice.Zip.{AllZip-long}
 use Rattle.std.specs.List.{AllZip}
 use Rattle.p21_claim_steps.specs.Keeping.{Kept}
 use Rattle.p21_exchange.specs.DataSection.{Heading}
 use Rattle.p21_stream_ending.specs.Ending.{StandsIn}
 use Rattle.p21_stream_ending.specs.Parts.{Begins}
+use Rattle.p21_stream_kept.specs.Inside.{AreOfSections}
 use Rattle.p21_stream_kept.proofs.Ended.{end-is}
 use Rattle.p21_stream_kept.proofs.kept.Kept.into_accepted.Goals as goal
+
+pub accepted-requires-clause-sections : goal.accepted-requires-clause-sections
+accepted-requires-clause-sections c =
+    let begins = subst (λ (hs : List Heading). AllZip Begins hs c.in_ok-parts.parts.items) c.items.ensures c.in_ok-parts.ensures.begin in
+    let same : length c.self.inside.sections ≡ length c.in_ok-parts.parts.items = sym (AllZip-long Begins c.self.inside.sections c.in_ok-parts.parts.items begins) in
+    subst (λ (many : ℕ). AreOfSections many c.self.inside.kinds) same c.self.invariant.sections
 
 pub returns : goal.returns
 returns c =

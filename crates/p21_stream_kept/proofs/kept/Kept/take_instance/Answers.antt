@@ -19,6 +19,16 @@ use Rattle.p21_stream_kept.specs.Served.{AddsWaiting}
 use Rattle.p21_stream_kept.specs.Steps.{HasRoom, StepGives}
 use Rattle.p21_stream_kept.proofs.kept.Kept.take_instance.Goals as goal
 
+pub invariant_of-self-in_default-store : goal.invariant_of-self-in_default-store
+invariant_of-self-in_default-store c =
+    let last : c.in-Some.section + 1 ≡ length c.self.inside.sections = c.in-Some.ensures in
+    record { kinds = c.store.ensures.kinds; sections = c.store.ensures.sections (length c.self.inside.sections) (omega (arith, last)) c.self.invariant.sections; named = c.store.ensures.named }
+
+pub invariant_of-self-2 : goal.invariant_of-self-2
+invariant_of-self-2 c =
+    let last : c.in-Some.section + 1 ≡ length c.self.inside.sections = c.in-Some.ensures in
+    record { kinds = c.store.ensures.kinds; sections = c.store.ensures.sections (length c.self.inside.sections) (omega (arith, last)) c.self.invariant.sections; named = c.store.ensures.named }
+
 pub returns-in-Err-clause-gives : goal.returns-in-Err-clause-gives
 returns-in-Err-clause-gives c = instance-broken c.args.schema.now c.args.limits c.args.self.now c.args.self.now c.args.name (record_view c.args.of) c.in-Err.fault c.in-Err.ensures.finds
 
