@@ -128,17 +128,17 @@ next_seen full end_ last text new_full new_end new_last seen e n =
     ∙ ap (λ (l : List (List ℕ)). seen ++ l) n.last_is
 
 -- from what the calls of the code say
-pub next_block : (full reserved new_full : List Full) (end_ size new_end : ℕ) (last kept taken : List (List ℕ)) (new_last empty : List (List ℕ)) (text : List ℕ)
-    → kept ≡ last → taken ≡ kept → reserved ≡ full → new_full ≡ reserved ++ record { first = end_; block = taken } ∷ [] → new_end ≡ end_ + size → size ≡ length kept → empty ≡ [] → new_last ≡ empty ++ text ∷ []
+pub next_block : (full new_full : List Full) (end_ size new_end : ℕ) (last kept taken : List (List ℕ)) (new_last empty : List (List ℕ)) (text : List ℕ)
+    → kept ≡ last → taken ≡ kept → new_full ≡ full ++ record { first = end_; block = taken } ∷ [] → new_end ≡ end_ + size → size ≡ length kept → empty ≡ [] → new_last ≡ empty ++ text ∷ []
     → IsNextBlock full end_ last text new_full new_end new_last
-next_block full reserved new_full end_ size new_end last kept taken new_last empty text e1 e2 e3 e4 e5 e6 e7 e8 =
+next_block full new_full end_ size new_end last kept taken new_last empty text e1 e2 e3 e4 e5 e6 e7 =
     record {
       block = record { first = end_; block = taken };
       first_is = refl;
       texts_are = e2 ∙ e1;
-      full_is = e4 ∙ ap (λ (l : List Full). l ++ record { first = end_; block = taken } ∷ []) e3;
-      end_is = e5 ∙ ap (λ (n : ℕ). end_ + n) (e6 ∙ ap length e1);
-      last_is = e8 ∙ ap (λ (l : List (List ℕ)). l ++ text ∷ []) e7;
+      full_is = e3;
+      end_is = e4 ∙ ap (λ (n : ℕ). end_ + n) (e5 ∙ ap length e1);
+      last_is = e7 ∙ ap (λ (l : List (List ℕ)). l ++ text ∷ []) e6;
     }
 
 pub at_false : (P Q : Type 0) (b : Bool) → MatchBool b P Q → b ≡ false → Q
@@ -148,3 +148,11 @@ at_false P Q false m e = m
 pub at_true : (P Q : Type 0) (b : Bool) → MatchBool b P Q → b ≡ true → P
 at_true P Q true m e = m
 at_true P Q false m e = cc
+
+-- the number behind all texts is no larger than they are many
+pub end_within : (full : List Full) (end_ size : ℕ) (last kept seen : List (List ℕ)) → AreFirsts 0 full end_ → block_texts full ++ last ≡ seen → kept ≡ last → size ≡ length kept → end_ + size ≡ length seen
+end_within full end_ size last kept seen a e same is =
+    let blocks = length-block_texts 0 full end_ a in
+    let whole : length (block_texts full) + length last ≡ length seen = sym (length-append (block_texts full) last) ∙ ap length e in
+    let own = is ∙ ap length same in
+    omega (arith, blocks, whole, own)

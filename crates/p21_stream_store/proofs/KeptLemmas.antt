@@ -9,7 +9,7 @@ use Rattle.std.proofs.lemmas.Option.{get_or_from_slice_get, slice_get-get_or, sl
 use Rattle.std.specs.List.{Contains, range_with_len, slice_get}
 use Rattle.std.specs.List.Sorted.{IsNonDecreasingBy, IsPermutation, IsStrictlyIncreasing}
 use Rattle.p21_stream_store.proofs.NameLemmas.{never_fall}
-use Rattle.p21_stream_store.specs.Kept.{Kept, kept_names, kept_of, name_at, text_bytes}
+use Rattle.p21_stream_store.specs.Kept.{Kept, kept_names, kept_of, name_at}
 
 -- an instance of a line
 abbrev pub kept : ℕ → ℕ × List ℕ → Kept
@@ -106,12 +106,6 @@ pub also_below : (rising late : List ℕ) (x : ℕ) → ((name : ℕ) → Contai
 also_below rising late x below within name has =
     let P : ℕ → Type 0 = λ n. (other : ℕ) × Contains rising other × (n ≤ other) in
     elim (Contains-push_cases late x name has) [ inl before ↦ below name before | inr same ↦ subst P same within ]
-
-pub added_size : (x : Kept) (old new : List Kept) (size new_size : ℕ) → IsPermutation (x ∷ old) new → size ≡ text_bytes old → new_size ≡ size + length x.text → new_size ≡ text_bytes new
-added_size x old new size new_size p e f =
-    let total = sum_by-IsPermutation (λ (y : Kept). length y.text) (x ∷ old) new p in
-    let parts = sum_by-append (λ (y : Kept). length y.text) (x ∷ []) old in
-    omega (arith, e, f, total, parts)
 
 pub absent_late : (rising late : List ℕ) (rising_lines late_lines : List (ℕ × List ℕ)) (all : List Kept) (n : ℕ) → kept_of rising rising_lines ++ kept_of late late_lines ≡ all → length rising ≡ length rising_lines → length late ≡ length late_lines
     → (Contains (kept_names all) n → ⊥) → Contains late n → ⊥

@@ -1,7 +1,7 @@
 -- What instances hold: those with rising names, and the others.
 use Rattle.std.specs.Prelude.{◌≡◌, ◌≤◌, ℕ, List, ◌++◌, length, Contains}
 use Rattle.std.specs.List.Sorted.{IsStrictlyIncreasing}
-use Rattle.p21_stream_store.specs.Kept.{Kept, kept_of, text_bytes}
+use Rattle.p21_stream_store.specs.Kept.{Kept, kept_of}
 use Rattle.p21_stream_store.specs.declared.instances.Instances.TheInside.{Inside}
 
 abbrev pub all_kept : Inside → List Kept
@@ -13,4 +13,3 @@ pub record IsSound (a : Inside) : Type 0 where
   pub late_below : (name : ℕ) → Contains a.late name → (other : ℕ) × Contains a.rising.items other × (name ≤ other)
   pub rising_lines : length a.rising.items ≡ length a.rising_lines
   pub late_lines : length a.late ≡ length a.late_lines
-  pub size : a.size ≡ text_bytes (all_kept a)

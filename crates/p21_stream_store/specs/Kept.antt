@@ -1,5 +1,5 @@
 -- Instances as they are kept.
-use Rattle.std.specs.Prelude.{ℕ, List, [], ◌∷◌, length, map, slice_get, Some, None, sum_by}
+use Rattle.std.specs.Prelude.{ℕ, List, [], ◌∷◌, length, map, slice_get, Some, None}
 
 -- the name of an instance, the number of its kind, and its canonical text
 pub record Kept : Type 0 where
@@ -24,7 +24,3 @@ kept_names kept = map (λ (x : Kept). x.name) kept
 -- the name of the instance at a place
 abbrev pub name_at : List Kept → ℕ → ℕ
 name_at kept place = elim (slice_get kept place) [ None ↦ 0 | Some x ↦ x.name ]
-
--- the bytes of their texts
-abbrev pub text_bytes : List Kept → ℕ
-text_bytes kept = sum_by (λ (x : Kept). length x.text) kept

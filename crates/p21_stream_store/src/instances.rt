@@ -1,7 +1,7 @@
 //! The instances that a session has taken.
 ghost use Rattle.std.specs.Prelude.{◌≡◌, ◌<◌, ℕ, List, [], ◌∷◌, ◌++◌, length, slice_get, Contains, IfSome, IsNone, IsPermutation, IsTrue, OnErr, OnOk, Some};
 ghost use Rattle.std.specs.List.Sorted.{IsStrictlyIncreasing};
-ghost use Rattle.p21_stream_store.specs.Kept.{Kept, kept_at, kept_names, name_at, text_bytes};
+ghost use Rattle.p21_stream_store.specs.Kept.{Kept, kept_at, kept_names, name_at};
 
 use crate::late::LateNames;
 use crate::lines::Lines;
@@ -18,7 +18,6 @@ pub struct Instances {
     rising_lines: Lines,
     late: LateNames,
     late_lines: Lines,
-    size: u64,
 }
 
 impl Model for Instances {
@@ -44,15 +43,7 @@ impl Instances {
             rising_lines: Lines::new(alloc),
             late: LateNames::new(alloc),
             late_lines: Lines::new(alloc),
-            size: 0,
         }
-    }
-
-    /// The bytes of the canonical texts.
-    pub fn size(&self) -> u64
-        ensures { result ≡ text_bytes self.now }
-    {
-        self.size
     }
 
     /// How many instances.
@@ -153,21 +144,16 @@ impl Instances {
         ensures ok { OnOk result (IsPermutation (record { name = name; kind = kind; text = text.now } ∷ self.old) self.new) }
         ensures err { OnErr result (self.new ≡ self.old) }
     {
-        let Some(size) = self.size.checked_add(text.len() as u64) else {
-            return Err(NoMemory);
-        };
         if is_above(&self.rising, name) {
             let Ok(()) = add_rising(&mut self.rising, &mut self.rising_lines, name, kind, text)
             else {
                 return Err(NoMemory);
             };
-            self.size = size;
             return Ok(());
         }
         let Ok(()) = add_late(&mut self.late, &mut self.late_lines, name, kind, text) else {
             return Err(NoMemory);
         };
-        self.size = size;
         Ok(())
     }
 }

@@ -1,5 +1,5 @@
 //! Texts by number. They lie in blocks that don't move when more come.
-ghost use Rattle.std.specs.Prelude.{◌≡◌, ◌<◌, [], ◌∷◌, ◌++◌, length, slice_get, IfOk, IfSome, OnErr, OnOk, MatchBool, Some};
+ghost use Rattle.std.specs.Prelude.{◌≡◌, ◌<◌, ◌^◌, [], ◌∷◌, ◌++◌, length, slice_get, IfOk, IfSome, OnErr, OnOk, MatchBool, Some, is_some, true};
 ghost use Rattle.p21_stream_store.specs.Blocks.{AreFirsts, block_texts};
 ghost use Rattle.p21_stream_store.specs.Texts.{AreStartsFrom, texts_of};
 
@@ -34,7 +34,8 @@ fn put(starts: &mut Vec<u32>, bytes: &mut Vec<u8>, start: u32, text: &[u8]) -> R
 /// Where the next text starts, behind so many texts and bytes; none where a text of this size doesn't fit.
 fn start_of(texts: usize, used: usize, size: usize) -> Option<u32>
     requires { texts ≡ 0 → used ≡ 0 }
-    ensures { IfSome result (λ start. start ≡ used) }
+    ensures start { IfSome result (λ start. start ≡ used) }
+    ensures first { texts ≡ 0 → is_some result ≡ true }
 {
     if texts == 0 {
         return Some(0);
@@ -107,6 +108,7 @@ impl Block {
     /// Adds a text, if it fits; says whether it did. An `Err` changes nothing.
     fn push(&mut self, text: &[u8]) -> Result<bool, NoMemory>
         ensures added { IfOk result (λ added. MatchBool added (self.new ≡ self.old ++ text.now ∷ []) (self.new ≡ self.old)) }
+        ensures first { self.old ≡ [] → IfOk result (λ added. added ≡ true) }
         ensures err { OnErr result (self.new ≡ self.old) }
     {
         let Some(start) = start_of(self.starts.len(), self.bytes.len(), text.len()) else {
@@ -196,6 +198,7 @@ impl Texts {
     ///
     /// `NoMemory`, which changes nothing.
     pub fn push(&mut self, text: &[u8]) -> Result<(), NoMemory>
+        requires { length self.old < 2 ^ 64 }
         ensures ok { OnOk result (self.new ≡ self.old ++ text.now ∷ []) }
         ensures err { OnErr result (self.new ≡ self.old) }
     {
@@ -205,22 +208,19 @@ impl Texts {
             Err(fault) => return Err(fault),
         }
         let mut block = Block::new(self.alloc);
-        let Ok(true) = block.push(text) else {
-            return Err(NoMemory);
-        };
-        let Some(end) = self.end.checked_add(self.last.len()) else {
-            return Err(NoMemory);
-        };
-        if self.full.reserve(1).is_err() {
-            return Err(NoMemory);
+        match block.push(text) {
+            Ok(true) => {}
+            Ok(false) => unreachable!(),
+            Err(fault) => return Err(fault),
         }
+        let size = self.last.len();
         let full = Full {
             first: self.end,
             block: mem::replace(&mut self.last, block),
         };
         match self.full.push(full) {
             Ok(()) => {
-                self.end = end;
+                self.end += size;
                 Ok(())
             }
             Err(failed) => {

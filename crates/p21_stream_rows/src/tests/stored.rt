@@ -56,7 +56,6 @@ fn instances_in_any_order(rt: HostRuntime) -> Result<(), Fail> {
     }
     assert!(rt; instances.find(1).is_none());
     assert!(rt; instances.find(11).is_none());
-    assert_eq!(rt; instances.size(), 42);
     Ok(())
 }
 

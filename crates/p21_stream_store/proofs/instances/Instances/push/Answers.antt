@@ -1,7 +1,7 @@
 use Rattle.std.proofs.Common.{List, ℕ, ◌≤◌, ◌++◌, ◌∷◌, [], ap, refl, subst, sym, ◌∙◌}
 use Rattle.std.specs.List.{Contains}
 use Rattle.std.specs.List.Sorted.{IsStrictlyIncreasing}
-use Rattle.p21_stream_store.proofs.KeptLemmas.{IsAdded, absent_late, added_behind, added_in_front, added_lengths, added_size, also_below, kept, still_below}
+use Rattle.p21_stream_store.proofs.KeptLemmas.{IsAdded, absent_late, added_behind, added_in_front, added_lengths, also_below, still_below}
 use Rattle.p21_stream_store.specs.Kept.{kept_of}
 use Rattle.p21_stream_store.proofs.instances.Instances.push.Goals as goal
 
@@ -14,7 +14,6 @@ invariant_of-self-then-is_above c =
       late_below = subst (λ (l : List ℕ). (name : ℕ) → Contains c.self.inside.late name → (other : ℕ) × Contains l other × (name ≤ other)) (sym c.in-Ok.ensures.names) (still_below _ _ _ c.self.invariant.late_below);
       rising_lines = added_lengths _ _ _ _ _ _ added;
       late_lines = c.self.invariant.late_lines;
-      size = added_size (kept c.args.name (c.args.kind, c.args.text.now)) _ _ _ _ (added_in_front _ _ _ _ _ _ added _ _ refl) c.self.invariant.size c.in-Some.ensures.1;
     }
 
 pub returns-then-is_above-clause-ok : goal.returns-then-is_above-clause-ok
@@ -36,7 +35,6 @@ invariant_of-self-2 c =
           (also_below _ _ _ c.self.invariant.late_below (subst (λ (l : List ℕ). (other : ℕ) × Contains l other × (c.args.name ≤ other)) c.deref.ensures.value (c.if-is_above.ensures.within refl)));
       rising_lines = c.self.invariant.rising_lines;
       late_lines = added_lengths _ _ _ _ _ _ added;
-      size = added_size (kept c.args.name (c.args.kind, c.args.text.now)) _ _ _ _ (added_behind _ _ _ _ _ _ added (kept_of c.self.inside.rising.items c.self.inside.rising_lines) _ refl) c.self.invariant.size c.in-Some.ensures.1;
     }
 
 pub returns-clause-ok : goal.returns-clause-ok
@@ -47,12 +45,11 @@ returns-clause-ok c =
 
 pub invariant_of-self : goal.invariant_of-self
 invariant_of-self c =
-    let names = c.in_default-add_rising.ensures.err.0 in
-    let lines = c.in_default-add_rising.ensures.err.1 in
+    let names = c.in_default.ensures.err.0 in
+    let lines = c.in_default.ensures.err.1 in
     record {
       rising = rw names c.self.invariant.rising;
       late_below = rw names c.self.invariant.late_below;
       rising_lines = rw (names, lines) c.self.invariant.rising_lines;
       late_lines = c.self.invariant.late_lines;
-      size = rw (names, lines) c.self.invariant.size;
     }
