@@ -1,5 +1,5 @@
 #!/usr/bin/env python3
-"""Runs each command line that README and docs show with its answer, and each text of docs/FAULTS.md.
+"""Runs each command line that README, docs and the help show with its answer, and each text of docs/FAULTS.md.
 
 A command line stands in a table beside its answer, in a line above the words "prints `..`", or behind `$` above what it
 prints, where `..` stands for lines that are left out. The commands behind `$` of one page are run one behind the other in one shell, in a folder that has the examples, with the
@@ -144,6 +144,22 @@ def sessions(folder):
             yield f"{page.name}: {command}", "\n".join(wanted), output.rstrip("\n"), is_shown(wanted, output)
 
 
+def helps(folder):
+    """The example in the help of each command, over the examples and the file that the help names: as `sessions` does."""
+    here, environment = prepared(folder / "help")
+    for example in (ROOT / "examples").iterdir():
+        (here / example.name).symlink_to(example)
+    for command in ("param", "schema", "check", "canon", "show", "same"):
+        example = answer([command, "--help"])[0].partition("\nExample")[2]
+        given = re.search(r"where (\S+) holds\s+(.*?):?\n    \$", example, re.S)
+        if given:
+            (here / given[1]).unlink(missing_ok=True)
+            (here / given[1]).write_text(given[2] + "\n")
+        line, *wanted = lines("    " + example.partition("\n    ")[2])
+        output = outputs([line.removeprefix("$ ")], here, environment)[0]
+        yield f"help of {command}: {line}", "\n".join(wanted), output.rstrip("\n"), is_shown(wanted, output)
+
+
 def lines(block):
     return [line[4:] for line in block.splitlines()]
 
@@ -212,7 +228,7 @@ def main():
             found, status = answer(arguments)
             refused = wanted.startswith(("refused", "schema refused", "different", "no #"))
             judge(title, f"{wanted}, status {int(refused)}", f"{found}, status {status}", found == wanted and status == refused)
-        for session in sessions(folder):
+        for session in [*sessions(folder), *helps(folder)]:
             judge(*session)
     print(f"{count - failed} passed, {failed} failed")
     return int(failed > 0)
