@@ -18,9 +18,9 @@ pub(crate) const AMPLE: Space = (1_000_000, 1_000_000);
 /// What the outputs of a command have room for, and what they do then.
 #[derive(Clone, Copy)]
 pub(crate) struct Rooms {
-    output: Space,
-    faults: Space,
-    then: Full,
+    pub(crate) output: Space,
+    pub(crate) faults: Space,
+    pub(crate) then: Full,
 }
 
 impl Rooms {
@@ -91,6 +91,11 @@ impl Run {
         self.status == status
             && self.output.as_slice() == output.as_bytes()
             && self.faults.as_slice() == faults.as_bytes()
+    }
+
+    /// Whether the run left this line as its answer, and nothing else.
+    pub(crate) fn is_line(&self, line: &[u8]) -> bool {
+        self.status == 0 && self.output.strip_suffix(b"\n") == Some(line) && self.faults.is_empty()
     }
 }
 

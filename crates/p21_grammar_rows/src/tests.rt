@@ -7,6 +7,7 @@ use p21_grammar::{
     Parser, Part, Record, Token, Word, one_tree,
 };
 use spelled::{put, spell_event};
+use std::alloc::Global;
 
 /// The statements up to the end of the header, as every file here begins.
 const HEAD: &str =
@@ -161,4 +162,17 @@ fn comes_to(reader: Reader, text: &str, expected: &str) -> bool {
     let ended = reader.parser.finish().err();
     put_ending(&mut reader.given, reader.refused, ended).is_ok()
         && reader.given.as_slice() == expected.as_bytes()
+}
+
+/// Whether the token that begins a file gives no statement, and the semicolon behind it gives the first.
+fn begins_with_semicolon(alloc: Global) -> bool {
+    let mut parser = Parser::new(alloc);
+    let first = matches!(parser.take(Token::Begin), Ok(None));
+    let second = parser.take(Token::Semicolon);
+    first && matches!(second, Ok(Some(Event::Section(Line::Begin))))
+}
+
+#[test]
+fn begins_alone(rt: HostRuntime) {
+    assert!(rt; begins_with_semicolon(rt.alloc()));
 }

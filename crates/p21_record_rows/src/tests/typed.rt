@@ -1,6 +1,6 @@
 use super::*;
 use p21_express_types::{EntityId, Member, TypeId};
-use p21_mapping::{Ids, Need, Rows, Typed, Value, Values};
+use p21_mapping::{Ids, Need, Rows, Typed, Value, Values, write_value};
 use p21_values::{NoMemory, ValueFault};
 use std::alloc::AllocError;
 
@@ -152,4 +152,32 @@ fn faults_come_from_those_below(rt: HostRuntime) {
     for (found, wanted) in rows {
         assert_eq!(rt; found, wanted);
     }
+}
+
+/// Whether a bag of `#2` and `#10` is written with its texts in their order.
+fn writes_bag(alloc: Global, schema: &Schema) -> bool {
+    let Ok(elements) = Vec::from_array(
+        alloc,
+        [Value::Reference(Name(2)), Value::Reference(Name(10))],
+    ) else {
+        return false;
+    };
+    let bag = Value::Bag(Values::from_vec(elements));
+    let mut out = Vec::new(alloc);
+    let Ok(()) = write_value(schema, &bag, &mut out) else {
+        return false;
+    };
+    out.as_slice() == b"(#10,#2)".as_slice()
+}
+
+fn writes_bag_under_schema(alloc: Global) -> bool {
+    match read_schema(alloc, b"SCHEMA s; END_SCHEMA;") {
+        Ok(schema) => writes_bag(alloc, &schema),
+        Err(_) => false,
+    }
+}
+
+#[test]
+fn writes_a_bag_by_itself(rt: HostRuntime) {
+    assert!(rt; writes_bag_under_schema(rt.alloc()));
 }
