@@ -1,7 +1,11 @@
+pub mod BitTokens
 pub mod DigitLanes
 pub mod ExponentParts
 pub mod ExponentSpellings
+pub mod Found
+pub mod Gaps
 pub mod ItemTokens
+pub mod KeywordTokens
 pub mod Leaves
 pub mod NameTokens
 pub mod Parts

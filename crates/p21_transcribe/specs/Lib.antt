@@ -1,5 +1,7 @@
 pub mod Appending
+pub mod Bits
 pub mod Characters
+pub mod Gaps
 pub mod Leaf
 pub mod Numbers
 pub mod Runs

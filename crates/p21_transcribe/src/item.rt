@@ -65,7 +65,7 @@ fn front_item(bytes: &[u8]) -> Option<&[u8]>
 
 /// An upper-case letter or `_`.
 #[inline(always)]
-fn is_upper(byte: u8) -> bool
+pub(crate) fn is_upper(byte: u8) -> bool
     ensures { IsTrue result → IsUpper byte }
 {
     byte.is_ascii_uppercase() || byte == b'_'

@@ -2,17 +2,23 @@
 //! clause 6: tokens). Only what is usual is taken; all else is left to those who read it byte by byte.
 #![tactic(auto)]
 
+mod bits;
 mod digits;
 mod draft;
 mod exponent;
+mod gap;
 mod item;
+mod keyword;
 mod name;
 mod number;
 mod real;
 mod text;
 
+pub use bits::append_bits;
 pub use draft::Draft;
+pub use gap::behind_separators;
 pub use item::{append_item, append_logical};
+pub use keyword::{append_keyword, front_keyword};
 pub use name::append_name;
 pub use number::append_whole;
 pub use real::append_real;

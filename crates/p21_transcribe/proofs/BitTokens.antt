@@ -1,0 +1,89 @@
+-- Binaries.
+use Rattle.std.proofs.Common.{◌≡◌, ℕ, zero, suc, ◌+◌, ◌-◌, ◌*◌, ◌/◌, ◌%◌, ◌^◌, ◌≤◌, ◌<◌, Bool, false, List, [], ◌∷◌, ◌++◌, length, map, take, drop, get_or, replicate, refl, ap, ap₂, sym, subst, ◌∙◌, arith, length-drop, length-take-le}
+use Rattle.std.proofs.lemmas.Bool.Decides.{nat_tests}
+use Rattle.std.proofs.lemmas.List.{length-map, take-append-drop, take_more}
+use Rattle.std.proofs.lemmas.List.Elements.{All-append, All-cons, All-head, All-nil, All-tail}
+use Rattle.std.proofs.Math.Seq.{take-add}
+use Rattle.std.specs.List.{AllByRecursion as Each}
+use Rattle.std.specs.Prelude.{All, IsTrue, nat_lt}
+use Rattle.p21_basics.specs.Digits.{hex_digit}
+use Rattle.p21_exchange.proofs.BitSpellings.{bits_spelled_once, length_spelled}
+use Rattle.p21_exchange.specs.Binary.{SpellsBits, four_bits, has_bit}
+use Rattle.p21_exchange.specs.Token.{IsFollowed, bits}
+use Rattle.p21_values.specs.Bits.{bits_of_digits, hex_value, is_hex_digit}
+use Rattle.p21_transcribe.specs.Bits.{AreHexDigits, IsPadded}
+use Rattle.p21_transcribe.specs.Leaf.{IsCanonicalAtFront}
+
+-- ---- hex digits
+
+-- one more
+pub hex_more : (bytes : List ℕ) (i : ℕ) → i < length bytes → All (λ byte. IsTrue (is_hex_digit byte)) (take i bytes) → IsTrue (is_hex_digit (get_or bytes i 0)) → All (λ byte. IsTrue (is_hex_digit byte)) (take (i + 1) bytes)
+hex_more bytes i below are is =
+    let P : ℕ → Type 0 = λ byte. IsTrue (is_hex_digit byte) in
+    subst (All P) (sym (take_more bytes i 0 below)) (All-append P (take i bytes) (get_or bytes i 0 ∷ []) are (All-cons P (get_or bytes i 0) [] is (All-nil P)))
+
+hex_back : (c : ℕ) → IsTrue (is_hex_digit c) → (hex_value c < 16) × (hex_digit (hex_value c) ≡ c)
+hex_back c h = (grind (arith, nat_tests), grind (arith, nat_tests))
+
+hex_values_back : (digits : List ℕ) → All (λ c. IsTrue (is_hex_digit c)) digits → Each (λ n. n < 16) (map hex_value digits) × (map hex_digit (map hex_value digits) ≡ digits)
+hex_values_back [] p = (tt, refl)
+hex_values_back (c ∷ cs) p =
+    let first = hex_back c (All-head (λ d. IsTrue (is_hex_digit d)) c cs p) in
+    let rest = hex_values_back cs (All-tail (λ d. IsTrue (is_hex_digit d)) c cs p) in
+    ((first.0, rest.0), (cc))
+
+-- ---- the bits that fill
+
+clear_bit : (worth n : ℕ) → n / worth % 2 ≡ 0 → has_bit worth n ≡ false
+clear_bit worth n e = rw e refl
+
+padded : (p n : ℕ) (rest : List Bool) → p < 4 → n < 16 / 2 ^ p → take p (four_bits n ++ rest) ≡ replicate p false
+padded zero n rest h l = refl
+padded (suc zero) n rest h l = let a = clear_bit 8 n (omega arith) in cc
+padded (suc (suc zero)) n rest h l = let a = clear_bit 8 n (omega arith) in let b = clear_bit 4 n (omega arith) in cc
+padded (suc (suc (suc zero))) n rest h l = let a = clear_bit 8 n (omega arith) in let b = clear_bit 4 n (omega arith) in let c = clear_bit 2 n (omega arith) in cc
+padded (suc (suc (suc (suc p)))) n rest h l = absurd (omega arith)
+
+pub padded_digits : (p first value : ℕ) (rest digits : List ℕ) → p < 4 → value ≡ hex_value first → digits ≡ first ∷ rest → IsTrue (nat_lt value (16 / 2 ^ p)) → IsPadded p digits
+padded_digits p first value rest digits h v e small = rw e (padded p (hex_value first) (bits_of_digits rest) h (grind (arith, nat_tests)))
+
+-- ---- the token
+
+followed-bits : (value : List Bool) (spelling rest : List ℕ) → IsFollowed (bits value) spelling rest
+followed-bits value spelling [] = tt
+followed-bits value spelling (byte ∷ rest) = tt
+
+module _ (bytes inside digits rest : List ℕ) (padding count : ℕ) (is : bytes ≡ 34 ∷ inside) (split : inside ≡ (48 + padding) ∷ digits) (few : padding < 4) (run : AreHexDigits digits count) (filled : IsPadded padding (take count digits)) (closed : drop count digits ≡ 34 ∷ rest) where
+  whole : take (count + 3) bytes ≡ 34 ∷ (48 + padding) ∷ (take count digits ++ (34 ∷ []))
+  whole =
+      let more : count + 3 ≡ suc (suc (count + 1)) = omega arith in
+      ap₂ (λ (n : ℕ) (x : List ℕ). take n x) more (is ∙ ap (λ (x : List ℕ). 34 ∷ x) split)
+      ∙ ap (λ (x : List ℕ). 34 ∷ (48 + padding) ∷ x) (take-add count 1 digits ∙ ap (λ (x : List ℕ). take count digits ++ take 1 x) closed)
+
+  abbrev spells : SpellsBits (take (count + 3) bytes) (drop padding (bits_of_digits (take count digits)))
+  spells =
+      let back = hex_values_back (take count digits) run.digits in
+      record {
+        padding = padding;
+        hex_values = map hex_value (take count digits);
+        padding_is = few;
+        are_hex_values = back.0;
+        bytes_are = whole ∙ ap (λ (x : List ℕ). 34 ∷ (48 + padding) ∷ (x ++ (34 ∷ []))) (sym back.1);
+        value_is = sym (take-append-drop padding (bits_of_digits (take count digits))) ∙ ap (λ (x : List Bool). x ++ drop padding (bits_of_digits (take count digits))) filled;
+      }
+
+  within : count + 3 ≤ length bytes
+  within = let w = run.within in omega (arith, ap length is, ap length split, ap length closed, length-drop count digits)
+
+  size : 4 * count - padding ≡ length (drop padding (bits_of_digits (take count digits)))
+  size = omega (arith, length_spelled (take (count + 3) bytes) (drop padding (bits_of_digits (take count digits))) spells, length-map (take count digits) hex_value, length-take-le count digits run.within)
+
+  pub bits-at_front : (value : List Bool) × (4 * count - padding ≡ length value) × IsCanonicalAtFront bytes (count + 3) (bits value)
+  bits-at_front = (
+    drop padding (bits_of_digits (take count digits)),
+    size,
+    record {
+      stands = record { within = within; spells = spells; followed = followed-bits (drop padding (bits_of_digits (take count digits))) (take (count + 3) bytes) (drop (count + 3) bytes) };
+      own = bits_spelled_once (take (count + 3) bytes) (drop padding (bits_of_digits (take count digits))) spells;
+    },
+  )

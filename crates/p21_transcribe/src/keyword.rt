@@ -1,0 +1,38 @@
+//! Keywords (ISO 10303-21, clause 6: tokens, keyword).
+ghost use Rattle.std.specs.Prelude.{◌≡◌, length, IfNone, IfSome};
+ghost use Rattle.p21_exchange.specs.Token.{keyword};
+ghost use Rattle.p21_transcribe.specs.Leaf.{IsCanonicalAtFront, Transcribes};
+
+use crate::digits::begins_with;
+use crate::draft::Draft;
+use crate::item::is_upper;
+use p21_tokens_automaton::keyword_bytes;
+
+/// Appends the keyword at the front: its word.
+#[inline(always)]
+pub fn append_keyword<'a>(bytes: &'a [u8], draft: &mut Draft) -> Option<&'a [u8]>
+    ensures some { IfSome result (λ word. Transcribes bytes.now (length word.now) (keyword word.now) draft.old draft.new) }
+    ensures none { IfNone result (draft.new ≡ draft.old) }
+{
+    let word = front_keyword(bytes)?;
+    if !draft.append_front(bytes, word.len()) {
+        return None;
+    }
+    Some(word)
+}
+
+/// The word of the keyword at the front.
+#[inline(always)]
+pub fn front_keyword(bytes: &[u8]) -> Option<&[u8]>
+    ensures { IfSome result (λ word. IsCanonicalAtFront bytes.now (length word.now) (keyword word.now)) }
+{
+    let (first, _rest) = bytes.split_first()?;
+    if !is_upper(*first) {
+        return None;
+    }
+    let count = keyword_bytes(bytes);
+    if begins_with(b'-', &bytes[count..]) {
+        return None;
+    }
+    Some(&bytes[..count])
+}
