@@ -1,7 +1,7 @@
 //! The commands, over the files that the command line names.
-ghost use Rattle.std.specs.Prelude.{◌≡◌, ◌⊎◌, IfOk};
-ghost use Rattle.p21.specs.Statuses.{IsOfCommand};
-ghost use Rattle.p21_commands.specs.Status.{done, failed};
+ghost use Rattle.std.specs.Prelude.{Some, IfErr, IfOk};
+ghost use Rattle.clap.specs.Words.{subcommand_name_of};
+ghost use Rattle.p21.specs.Statuses.{IsOfAnswer, IsOfCommand, IsUnopened, NamesFiles};
 
 use crate::progress::Told;
 use crate::refusals::SECTIONS;
@@ -19,8 +19,8 @@ use std::rt::Stderr;
 /// Why a command isn't run.
 #[derive(Drop)]
 pub enum Stopped<'a> {
-    /// The command line lacks what the command wants.
-    Incomplete,
+    /// The command line names no command.
+    NoCommand,
     /// The number of the instance has a sign.
     Signed(&'a str),
     /// No refusal has this number or name.
@@ -31,23 +31,36 @@ pub enum Stopped<'a> {
 
 /// Runs the command that the command line names, and answers the exit status.
 pub fn run_command<'a>(rt: &HostRuntime, matches: &ArgMatches<'a>) -> Result<u8, Stopped<'a>>
-    ensures { IfOk result IsOfCommand }
+    ensures ran { IfOk result IsOfCommand }
+    ensures unopened { NamesFiles (subcommand_name_of matches.now) → IfErr result IsUnopened }
 {
     match matches.subcommand() {
-        Some(("param", found)) => run_param(rt, found),
-        Some(("schema", found)) => run_schema(rt, found),
-        Some(("check", found)) => run_check(rt, found),
-        Some(("canon", found)) => run_canon(rt, found),
-        Some(("show", found)) => run_show(rt, found),
-        Some(("same", found)) => run_same(rt, found),
-        Some(("faults", found)) => run_faults(rt, found),
-        _ => Err(Stopped::Incomplete),
+        Some((name, found)) => run_named(rt, name, found),
+        None => Err(Stopped::NoCommand),
+    }
+}
+
+/// Runs the command of this name, and answers the exit status.
+fn run_named<'a>(rt: &HostRuntime, name: &str, found: &ArgMatches<'a>) -> Result<u8, Stopped<'a>>
+    ensures ran { IfOk result IsOfCommand }
+    ensures unopened { NamesFiles (Some name.now) → IfErr result IsUnopened }
+{
+    match name {
+        "param" => run_param(rt, found),
+        "schema" => run_schema(rt, found),
+        "check" => run_check(rt, found),
+        "canon" => run_canon(rt, found),
+        "show" => run_show(rt, found),
+        "same" => run_same(rt, found),
+        "faults" => run_faults(rt, found),
+        _ => Err(Stopped::NoCommand),
     }
 }
 
 /// `param FILE`.
 fn run_param<'a>(rt: &HostRuntime, found: &ArgMatches<'a>) -> Result<u8, Stopped<'a>>
-    ensures { IfOk result IsOfCommand }
+    ensures ran { IfOk result IsOfCommand }
+    ensures unopened { IfErr result IsUnopened }
 {
     let mut file = Watched::new(open(rt, found, "FILE")?);
     Ok(param_command(
@@ -60,7 +73,8 @@ fn run_param<'a>(rt: &HostRuntime, found: &ArgMatches<'a>) -> Result<u8, Stopped
 
 /// `schema S`.
 fn run_schema<'a>(rt: &HostRuntime, found: &ArgMatches<'a>) -> Result<u8, Stopped<'a>>
-    ensures { IfOk result IsOfCommand }
+    ensures ran { IfOk result IsOfCommand }
+    ensures unopened { IfErr result IsUnopened }
 {
     let mut schema = Watched::new(open(rt, found, "S")?);
     Ok(schema_command(
@@ -73,7 +87,8 @@ fn run_schema<'a>(rt: &HostRuntime, found: &ArgMatches<'a>) -> Result<u8, Stoppe
 
 /// `check S FILE [--progress]`.
 fn run_check<'a>(rt: &HostRuntime, found: &ArgMatches<'a>) -> Result<u8, Stopped<'a>>
-    ensures { IfOk result IsOfCommand }
+    ensures ran { IfOk result IsOfCommand }
+    ensures unopened { IfErr result IsUnopened }
 {
     let mut schema = Watched::new(open(rt, found, "S")?);
     let mut file = Watched::new(open_told(rt, found, "FILE")?);
@@ -88,7 +103,8 @@ fn run_check<'a>(rt: &HostRuntime, found: &ArgMatches<'a>) -> Result<u8, Stopped
 
 /// `canon S FILE [--progress]`.
 fn run_canon<'a>(rt: &HostRuntime, found: &ArgMatches<'a>) -> Result<u8, Stopped<'a>>
-    ensures { IfOk result IsOfCommand }
+    ensures ran { IfOk result IsOfCommand }
+    ensures unopened { IfErr result IsUnopened }
 {
     let mut schema = Watched::new(open(rt, found, "S")?);
     let mut file = Watched::new(open_told(rt, found, "FILE")?);
@@ -121,18 +137,17 @@ fn run_show<'a>(rt: &HostRuntime, found: &ArgMatches<'a>) -> Result<u8, Stopped<
 
 /// The name that `--name` gives. `clap` reads numbers with a sign too; a name has digits alone.
 fn name_given<'a>(found: &ArgMatches<'a>) -> Result<Name, Stopped<'a>> {
-    let (Some(text), Some(number)) = (found.get_str("name"), found.get_one::<u64>("name")) else {
-        return Err(Stopped::Incomplete);
-    };
-    if text.as_bytes().first() == Some(&b'+') {
-        return Err(Stopped::Signed(text));
+    let text = found.get_str("name").unwrap_or_default();
+    match found.get_one::<u64>("name") {
+        Some(number) if text.as_bytes().first() != Some(&b'+') => Ok(Name(number)),
+        _ => Err(Stopped::Signed(text)),
     }
-    Ok(Name(number))
 }
 
 /// `same S A B [--progress]`.
 fn run_same<'a>(rt: &HostRuntime, found: &ArgMatches<'a>) -> Result<u8, Stopped<'a>>
-    ensures { IfOk result IsOfCommand }
+    ensures ran { IfOk result IsOfCommand }
+    ensures unopened { IfErr result IsUnopened }
 {
     let mut schema = Watched::new(open(rt, found, "S")?);
     let mut first = Watched::new(open_told(rt, found, "A")?);
@@ -149,7 +164,7 @@ fn run_same<'a>(rt: &HostRuntime, found: &ArgMatches<'a>) -> Result<u8, Stopped<
 
 /// `faults [N]`.
 fn run_faults<'a>(rt: &HostRuntime, found: &ArgMatches<'a>) -> Result<u8, Stopped<'a>>
-    ensures { IfOk result IsOfCommand }
+    ensures { IfOk result IsOfAnswer }
 {
     let Some(word) = found.get_str("N") else {
         return Ok(written(rt, println!(rt; "{}", LIST)));
@@ -163,7 +178,7 @@ fn run_faults<'a>(rt: &HostRuntime, found: &ArgMatches<'a>) -> Result<u8, Stoppe
 
 /// The status of an answer that was written or not.
 fn written(rt: &HostRuntime, answer: io::Result<()>) -> u8
-    ensures { IsOfCommand result }
+    ensures { IsOfAnswer result }
 {
     match answer {
         Ok(()) => DONE,
@@ -195,10 +210,10 @@ fn is_titled(section: &str, word: &str) -> bool {
 }
 
 /// Opens the file that an argument names.
-fn open<'a>(rt: &HostRuntime, found: &ArgMatches<'a>, argument: &str) -> Result<File, Stopped<'a>> {
-    let Some(path) = found.get_str(argument) else {
-        return Err(Stopped::Incomplete);
-    };
+fn open<'a>(rt: &HostRuntime, found: &ArgMatches<'a>, argument: &str) -> Result<File, Stopped<'a>>
+    ensures { IfErr result IsUnopened }
+{
+    let path = found.get_str(argument).unwrap_or_default();
     match fs::open(rt, path) {
         Ok(file) => Ok(file),
         Err(error) => Err(Stopped::Unopened(path, error)),
@@ -211,7 +226,9 @@ fn open_told<'a>(
     rt: &HostRuntime,
     found: &ArgMatches<'a>,
     argument: &str,
-) -> Result<Told<'a, File, Stderr>, Stopped<'a>> {
+) -> Result<Told<'a, File, Stderr>, Stopped<'a>>
+    ensures { IfErr result IsUnopened }
+{
     let file = open(rt, found, argument)?;
     let path = found.get_str(argument).unwrap_or_default();
     let lines = (found.get_flag("progress") && rt.stderr().is_terminal()).then(|| rt.stderr());

@@ -1,11 +1,12 @@
 //! The program `p21`: its command line, the files that it names, and the exit status.
 #![tactic(auto)]
 
-ghost use Rattle.std.specs.Prelude.{◌≡◌, ◌≢◌, ◌⊎◌};
+ghost use Rattle.std.specs.Prelude.{◌≡◌, ◌≢◌, ◌⊎◌, IfErr, IfOk, OnErr, map, string_bytes};
 ghost use Rattle.std.specs.IoError.{error_kind};
 ghost use Rattle.std.specs.declared.io.ErrorKind.TheVariants.{OutOfMemory};
 ghost use Rattle.clap.specs.Words.{kind_of};
-ghost use Rattle.p21_commands.specs.Status.{done, refused, usage, failed};
+ghost use Rattle.p21.specs.Statuses.{IsOfMistake, IsOfRun, IsOfWords, IsStatus};
+ghost use Rattle.p21_commands.specs.Status.{done, usage, failed};
 
 mod commands;
 mod progress;
@@ -20,28 +21,44 @@ use std::process::ExitCode;
 use std::{env, io};
 
 fn main(rt: HostRuntime) -> ExitCode {
-    ExitCode::from(run(&rt))
+    ExitCode::from(run(&rt, arguments(&rt)))
 }
 
-/// Runs the command that the command line names, and answers the exit status.
-fn run(rt: &HostRuntime) -> u8
-    ensures { (result ≡ done) ⊎ (result ≡ refused) ⊎ (result ≡ usage) ⊎ (result ≡ failed) }
+/// Runs the command that the words of the command line name, and answers the exit status. Where there are no words, it says
+/// why.
+fn run(rt: &HostRuntime, words: io::Result<Vec<String>>) -> u8
+    ensures status { IsStatus result }
+    ensures words { IfOk words (λ list. IsOfWords (map string_bytes list.items) result) }
+    ensures unread { OnErr words (IsOfMistake result) }
+    ensures memory { IfErr words (λ error. error_kind error ≡ OutOfMemory → result ≡ failed) }
 {
-    let words = match arguments(rt) {
-        Ok(words) => words,
-        Err(error) => return explain_arguments(rt, &error),
-    };
+    match words {
+        Ok(words) => run_words(rt, &words),
+        Err(error) => explain_arguments(rt, &error),
+    }
+}
+
+/// Runs the command that the words name, and answers the exit status.
+fn run_words(rt: &HostRuntime, words: &[String]) -> u8
+    ensures { IsOfWords (map string_bytes words.now) result }
+{
     let command = match command_line(rt.alloc()) {
         Ok(command) => command,
-        Err(_) => return report(&CommandFault::NoMemory, &mut Watched::new(rt.stderr())),
+        Err(_) => return out_of_memory(rt),
     };
-    let matches = match command.try_get_matches_from(&words) {
-        Ok(matches) => matches,
-        Err(error) => return explain(rt, &error),
-    };
-    match run_command(rt, &matches) {
+    match command.try_get_matches_from(words) {
+        Ok(matches) => status_of(rt, run_command(rt, &matches)),
+        Err(error) => explain(rt, &error),
+    }
+}
+
+/// The status of a command that was run; or of one that wasn't, and says why.
+fn status_of(rt: &HostRuntime, ran: Result<u8, Stopped<'_>>) -> u8
+    ensures { IsOfRun ran.entry result }
+{
+    match ran {
         Ok(status) => status,
-        Err(Stopped::Incomplete) => USAGE,
+        Err(Stopped::NoCommand) => USAGE,
         Err(Stopped::Signed(number)) => explain_sign(rt, number),
         Err(Stopped::NoRefusal(word)) => explain_refusal(rt, word),
         Err(Stopped::Unopened(path, error)) => explain_open(rt, path, &error),
@@ -54,16 +71,13 @@ fn arguments(rt: &HostRuntime) -> io::Result<Vec<String>> {
 
 /// Says why there are no arguments: for want of memory, or because one of them isn't text.
 fn explain_arguments(rt: &HostRuntime, error: &io::Error) -> u8
-    ensures status { (result ≡ usage) ⊎ (result ≡ failed) }
+    ensures status { IsOfMistake result }
     ensures memory { error_kind error.now ≡ OutOfMemory → result ≡ failed }
 {
     if error.kind() == io::ErrorKind::OutOfMemory {
-        return report(&CommandFault::NoMemory, &mut Watched::new(rt.stderr()));
+        return out_of_memory(rt);
     }
-    match eprintln!(rt; "error: an argument is not UTF-8") {
-        Ok(()) => USAGE,
-        Err(_) => FAILED,
-    }
+    mistake(eprintln!(rt; "error: an argument is not UTF-8"))
 }
 
 /// Shows the help that was asked for, or says what is wrong with the command line.
@@ -76,7 +90,7 @@ fn explain(rt: &HostRuntime, error: &Error) -> u8
         × (kind_of error.now ≢ ErrorKind.DisplayVersion) }
 {
     if error.kind() == ErrorKind::OutOfMemory {
-        return report(&CommandFault::NoMemory, &mut Watched::new(rt.stderr()));
+        return out_of_memory(rt);
     }
     match error.print(rt) {
         Ok(()) if error.use_stderr() => USAGE,
@@ -87,26 +101,37 @@ fn explain(rt: &HostRuntime, error: &Error) -> u8
 
 /// Says that the number of an instance has a sign, as `clap` says it of other mistakes.
 fn explain_sign(rt: &HostRuntime, number: &str) -> u8
-    ensures { (result ≡ usage) ⊎ (result ≡ failed) }
+    ensures { IsOfMistake result }
 {
-    match eprintln!(rt;
+    mistake(eprintln!(rt;
         "error: invalid value '{number}' for '--name <N>': invalid digit found in string\n\nFor more information, try '--help'."
-    ) {
+    ))
+}
+
+/// Says that no refusal has the number or name that was given.
+fn explain_refusal(rt: &HostRuntime, word: &str) -> u8
+    ensures { IsOfMistake result }
+{
+    mistake(eprintln!(rt;
+        "error: invalid value '{word}' for '[N]': no refusal has this number or name; p21 faults lists them\n\nFor more information, try '--help'."
+    ))
+}
+
+/// The status of a mistake of the command line, which was said or not.
+fn mistake(said: io::Result<()>) -> u8
+    ensures { IsOfMistake result }
+{
+    match said {
         Ok(()) => USAGE,
         Err(_) => FAILED,
     }
 }
 
-/// Says that no refusal has the number or name that was given.
-fn explain_refusal(rt: &HostRuntime, word: &str) -> u8
-    ensures { (result ≡ usage) ⊎ (result ≡ failed) }
+/// Says that memory ran out.
+fn out_of_memory(rt: &HostRuntime) -> u8
+    ensures { result ≡ failed }
 {
-    match eprintln!(rt;
-        "error: invalid value '{word}' for '[N]': no refusal has this number or name; p21 faults lists them\n\nFor more information, try '--help'."
-    ) {
-        Ok(()) => USAGE,
-        Err(_) => FAILED,
-    }
+    report(&CommandFault::NoMemory, &mut Watched::new(rt.stderr()))
 }
 
 /// Says that a file can't be opened.
@@ -114,7 +139,7 @@ fn explain_open(rt: &HostRuntime, path: &str, error: &io::Error) -> u8
     ensures { result ≡ failed }
 {
     if error.kind() == io::ErrorKind::OutOfMemory {
-        return report(&CommandFault::NoMemory, &mut Watched::new(rt.stderr()));
+        return out_of_memory(rt);
     }
     // The status is the same where the line can't be written.
     let _ = eprintln!(rt; "cannot open {path}");

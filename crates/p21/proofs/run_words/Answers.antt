@@ -1,0 +1,14 @@
+use Rattle.clap.specs.Words.{app_of}
+use Rattle.p21.proofs.Causes.{of_error, of_run}
+use Rattle.p21.proofs.run_words.Goals as goal
+
+pub returns-in-Ok-try_get_matches_from : goal.returns-in-Ok-try_get_matches_from
+returns-in-Ok-try_get_matches_from c =
+    let taken = c.in-Ok-try_get_matches_from in
+    of_run (app_of c.in-Ok.command) _ taken.matches c.run_command.result c.status_of.result c.in-Ok.ensures taken.ensures.kinds taken.ensures.matches c.run_command.ensures.ran c.run_command.ensures.unopened c.status_of.ensures
+
+pub returns-in-Err-try_get_matches_from : goal.returns-in-Err-try_get_matches_from
+returns-in-Err-try_get_matches_from c =
+    let found = c.in-Err-try_get_matches_from in
+    of_error (app_of c.in-Ok.command) _ found.error c.explain.result c.in-Ok.ensures found.ensures.kinds
+    (record { known = c.explain.ensures.status; memory = c.explain.ensures.memory; shown = c.explain.ensures.shown; mistake = c.explain.ensures.mistake })
