@@ -125,6 +125,26 @@ SCHEMAS = [
     ("no colon", "SCHEMA s; ENTITY a;\n x «REAL»; END_ENTITY; END_SCHEMA;"),
     ("an attribute twice", "SCHEMA s; ENTITY a;\n x : REAL;\n «X» : REAL; END_ENTITY; END_SCHEMA;"),
     ("an item twice", "SCHEMA s; TYPE t = ENUMERATION OF (a, b, «A»); END_TYPE; END_SCHEMA;"),
+    (
+        "an entity twice, whose rules name its supertype",
+        "SCHEMA s; ENTITY a; END_ENTITY; ENTITY b; END_ENTITY;\n"
+        "ENTITY «B» SUBTYPE OF (a); WHERE w : SELF\\a.x > 0; END_ENTITY; END_SCHEMA;",
+    ),
+    ("a supertype twice", "SCHEMA s; ENTITY a; END_ENTITY;\nENTITY b SUBTYPE OF (a, «a»); END_ENTITY; END_SCHEMA;"),
+    (
+        "an entity twice in a ONEOF",
+        "SCHEMA s; ENTITY c; END_ENTITY; ENTITY a; END_ENTITY;\n"
+        "ENTITY b SUPERTYPE OF (ONEOF (a, «A»)) SUBTYPE OF (c); END_ENTITY; END_SCHEMA;",
+    ),
+    (
+        "a type twice, with a rule",
+        "SCHEMA s; ENTITY t; END_ENTITY;\nTYPE «t» = ENUMERATION OF (x, y); WHERE w : SELF <> x; END_TYPE; END_SCHEMA;",
+    ),
+    (
+        "an attribute declared anew twice",
+        "SCHEMA s; ENTITY a; x : NUMBER; END_ENTITY; FUNCTION b; END_FUNCTION; ENTITY b SUBTYPE OF (a);\n"
+        " SELF\\a.x : REAL;\n «SELF\\A.X : INTEGER;» END_ENTITY; END_SCHEMA;",
+    ),
     ("an unknown supertype", "SCHEMA s; ENTITY a SUBTYPE OF («b»); END_ENTITY; END_SCHEMA;"),
     ("a type as a supertype", "SCHEMA s; TYPE b = REAL; END_TYPE; ENTITY a SUBTYPE OF («b»); END_ENTITY; END_SCHEMA;"),
     ("an unknown type in a select", "SCHEMA s; TYPE t = REAL; END_TYPE;\nTYPE u = SELECT (t, «v»); END_TYPE; END_SCHEMA;"),

@@ -4,6 +4,7 @@ The program says whether a text is refused and by which number. The place is fou
 or changed: cut behind a word, with some declarations replaced by empty ones of the same name, or without redeclarations.
 """
 
+import itertools
 import re
 from typing import NamedTuple
 
@@ -18,6 +19,7 @@ REMARK_MARK = re.compile(rb"\(\*|\*\)")
 STRAY = b" \x80"
 TEXT_LIMIT = 16_777_216
 DECLARATIONS = ("ENTITY", "TYPE", "FUNCTION", "PROCEDURE", "RULE", "CONSTANT", "SUBTYPE_CONSTRAINT")
+ONLY_ONEOF = r"\bSUPERTYPE OF \( ONEOF \( ([\w ,]+) \) \)"
 GROUPS = ("DERIVE", "INVERSE", "UNIQUE", "WHERE", "END_ENTITY", "END_TYPE")
 NO_NAMES = set(
     "ABSTRACT ARRAY BAG BINARY BOOLEAN ENTITY ENUMERATION FIXED INTEGER LIST LOGICAL NUMBER OF ONEOF OPTIONAL REAL SELECT"
@@ -138,7 +140,7 @@ class Outline:
 
     def oneof(self, name):
         """The entities of the ONEOF that an entity states and nothing beside it."""
-        found = re.search(r"\bSUPERTYPE OF \( ONEOF \( ([\w ,]+) \) \)", self.heading(name))
+        found = re.search(ONLY_ONEOF, self.heading(name))
         return found[1].split(" , ") if found else []
 
     def statements(self, declaration):
@@ -164,12 +166,13 @@ class Outline:
 
     def repeated(self, declaration):
         """The second of two equal names among the attributes of an entity, or in a list of a declaration."""
+        heading = declaration.words[: texts(declaration.words).index(";")]
         if declaration.kind == "ENTITY":
             own = [words for group, words in self.statements(declaration) if group in ("", "DERIVE")]
             names = [word for words in own if "SELF" not in names_in(words) for word in words[: len(names_in(words))]]
-            lists = [names, [word for word in declaration.words if word.text in self.heading(declaration.name).split()]]
+            lists = [names, *listed_in(heading)]
         else:
-            lists = [declaration.words]
+            lists = [heading[3:]]
         for words in lists:
             seen = set()
             for word in filter(is_name, words):
@@ -262,6 +265,15 @@ class Outline:
 def texts(words):
     """The words as texts."""
     return [word.text for word in words]
+
+
+def listed_in(heading):
+    """The names in the heading of an entity behind SUBTYPE OF, and those of a ONEOF with nothing beside it, as words."""
+    found = texts(heading)
+    starts = [at + 3 for at in range(len(found)) if found[at : at + 3] == ["SUBTYPE", "OF", "("]]
+    if re.search(ONLY_ONEOF, " ".join(found)):
+        starts.append(found.index("ONEOF") + 2)
+    return [list(itertools.takewhile(lambda word: word.text != ")", heading[start:])) for start in starts]
 
 
 def names_in(statement):
@@ -360,12 +372,13 @@ class Refused:
         if not declarations or not is_refused(len(declarations)):
             return None
         found = declarations[first_count(len(declarations), is_refused) - 1]
-        word = {3: self.outline.repeated, 4: self.outline.unknown}.get(self.number, lambda _: None)(found) or found.words[1]
-        notes = self.notes_on(word)
-        for other in declarations:
-            if self.number == 3 and other.name == found.name and other is not found:
-                notes.append(f"{other.kind} {other.name} stands in {self.line(other.words[0])} too")
-        return Place(word.start, word.end, notes)
+        word = {3: self.outline.repeated, 4: self.outline.unknown}.get(self.number, lambda _: None)(found)
+        others = [other for other in declarations if other.name == found.name and other is not found and is_kept(other)]
+        if self.number == 3 and not word and not others:
+            return self.place_of_redeclaration()
+        word = word or found.words[1]
+        notes = [f"{other.kind} {other.name} stands in {self.line(other.words[0])} too" for other in others]
+        return Place(word.start, word.end, self.notes_on(word) + (notes if self.number == 3 else []))
 
     def place_of_renamed_select(self):
         """The first type that is just the name of a select."""
@@ -405,6 +418,11 @@ def first_count(count, is_true):
         middle = (low + high) // 2
         low, high = (low, middle) if is_true(middle) else (middle, high)
     return high
+
+
+def is_kept(declaration):
+    """Is it a declaration of an entity or a type?"""
+    return declaration.kind in ("ENTITY", "TYPE")
 
 
 def empty(declaration):
