@@ -66,7 +66,11 @@ fn status_of(rt: &HostRuntime, ran: Result<u8, Stopped<'_>>) -> u8
 }
 
 fn arguments(rt: &HostRuntime) -> io::Result<Vec<String>> {
-    Ok(env::args(rt)?.collect(rt.alloc())?)
+    let mut words = Vec::new(rt.alloc());
+    for word in env::args(rt)? {
+        words.push(word)?;
+    }
+    Ok(words)
 }
 
 /// Says why there are no arguments: for want of memory, or because one of them isn't text.

@@ -44,7 +44,10 @@ fn long_word_of(alloc: Global, name: &[u8]) -> Result<Word, SyntaxFault>
     requires { IsKeyword (map upper name.now) }
     ensures { IsWordOf (map upper name.now) result }
 {
-    let bytes: Vec<u8> = name.iter().map(|byte| upper(*byte)).collect(alloc)?;
+    let mut bytes = Vec::with_capacity(alloc, name.len())?;
+    for byte in name {
+        bytes.push(upper(*byte))?;
+    }
     front_word(alloc, bytes.as_slice(), bytes.len())
 }
 

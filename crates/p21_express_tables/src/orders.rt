@@ -54,7 +54,11 @@ fn supertype_numbers(alloc: Global, entities: &[Entity]) -> Result<Vec<Vec<u32>>
 fn numbers_of(alloc: Global, entities: &[EntityId]) -> Result<Vec<u32>, NoMemory>
     ensures { IfOk result (λ found. found.items ≡ numbers entities.now) }
 {
-    let found = entities.iter().map(|entity| entity.0).collect(alloc)?;
+    let mut found = Vec::with_capacity(alloc, entities.len())?;
+    for entity in entities {
+        let entity: &EntityId = entity;
+        found.push(entity.0)?;
+    }
     Ok(found)
 }
 

@@ -61,6 +61,7 @@ impl Text {
         ensures err { OnErr result (self.new ≡ self.old) }
     {
         let before = self.characters.len();
+        self.characters.reserve(bytes.len())?;
         let characters = bytes.iter().map(|byte| char::from(*byte));
         if self.characters.extend(characters).is_err() {
             self.characters.truncate(before);
@@ -75,6 +76,7 @@ impl Text {
         ensures err { OnErr result (self.new ≡ self.old) }
     {
         let before = self.characters.len();
+        self.characters.reserve(text.chars().count())?;
         if self.characters.extend(text.chars()).is_err() {
             self.characters.truncate(before);
             return Err(NoMemory);

@@ -11,7 +11,7 @@ use Rattle.p21_values.proofs.text.Text.push_latin1.Goals as goal
 appended : (c : goal.Else-is_err) → c.extend.new.self.items ≡ c.self.inside.characters.items ++ c.args.bytes.now
 appended c =
     let h = items_from_extend c.extend.result c.extend.ensures.ran (YieldsList-from_map _ (λ b. b) (YieldsList-at c.map-characters.ensures.source (YieldsList-from_slice c.args.bytes.now cc)) c.map-characters.ensures.closure (λ x r q k. search rules)) in
-    (on_ok c.extend.result h (sym c.is_err.ensures.value ∙ c.if-is_err.false)).0 ∙ ap (λ (x : List ℕ). c.self.inside.characters.items ++ x) (map-id c.args.bytes.now)
+    (on_ok c.extend.result h (sym c.is_err.ensures.value ∙ c.if-is_err.false)).0 ∙ (ap (λ (x : List ℕ). c.reserve.new.self.items ++ x) (map-id c.args.bytes.now) ∙ ap (λ (x : List ℕ). x ++ c.args.bytes.now) c.reserve.ensures.items)
 
 pub invariant_of-self-else-is_err : goal.invariant_of-self-else-is_err
 invariant_of-self-else-is_err c = subst (λ (x : List ℕ). AllByRecursion IsScalar x) (sym (appended c)) (latin1-scalars c.self.inside.characters.items c.args.bytes.now c.self.invariant c.type_inv.bytes)

@@ -11,8 +11,8 @@ use Rattle.p21_values.proofs.text.Text.push_str.Goals.{Else-is_err}
 
 appended : (c : Else-is_err) → c.extend.new.self.items ≡ c.self.inside.characters.items ++ chars c.args.text.now
 appended c =
-    let h = items_from_extend c.extend.result c.extend.ensures.ran (YieldsList-from_chars c.args.text.now c.utf8.text c.chars.ensures.rest) in
-    (on_ok c.extend.result h (sym c.is_err.ensures.value ∙ c.if-is_err.false)).0
+    let h = items_from_extend c.extend.result c.extend.ensures.ran (YieldsList-from_chars c.args.text.now c.utf8.text c.chars-2.ensures.rest) in
+    (on_ok c.extend.result h (sym c.is_err.ensures.value ∙ c.if-is_err.false)).0 ∙ ap (λ (x : List ℕ). x ++ chars c.args.text.now) c.reserve.ensures.items
 
 pub invariant_of-self-else-is_err : goal.invariant_of-self-else-is_err
 invariant_of-self-else-is_err c = subst (λ (x : List ℕ). AllByRecursion IsScalar x) (sym (appended c)) (scalars-added c.self.inside.characters.items (chars c.args.text.now) c.self.invariant (scalars-chars c.args.text.now c.utf8.text))
