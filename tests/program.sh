@@ -248,7 +248,7 @@ expect 'one refusal' 0 "11 BadName
 
 \`refused 11 BadName at statement 8\`
 
-Behind \`#\` stands no digit. Leave out what stands between." ''
+No digit stands behind \`#\`. Leave out what stands between." ''
 
 for word in frob 99 S10 011 ''; do
     run faults "$word"

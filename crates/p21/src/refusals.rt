@@ -7,12 +7,12 @@ pub const SECTIONS: &str = r#"### 1 BadByte
 
 `refused 1 BadByte at statement 8`
 
-No word, number or sign of a STEP file begins or goes on with this byte. Mostly one of
-these: keywords in lower case; a byte order mark in front of `ISO-10303-21;`, which
-editors don't show (`examples/refused/BadByte.step`); a real without a digit in front of
-its point (`.5`); a print control directive (`\N\`) between tokens; something that is no
-STEP file at all. At statement 1 it is mostly a file that is packed (gzip, zip) or in
-UTF-16.
+No word, number or sign of a STEP file begins or goes on with this byte. It is mostly
+one of these: keywords in lower case; a byte order mark in front of `ISO-10303-21;`,
+which editors don't show (`examples/refused/BadByte.step`); a real without a digit in
+front of its point (`.5`); a print control directive (`\N\`) between tokens; something
+that is no STEP file at all. At statement 1 it is mostly a file that is packed (gzip,
+zip) or in UTF-16.
 
 Write keywords in upper case and `0.5` for `.5`. Save the file as UTF-8 *without* byte
 order mark.
@@ -115,17 +115,17 @@ Names of instances go up to 18446744073709551615. Renumber the file.
 
 `refused 11 BadName at statement 8`
 
-Behind `#` stands no digit. Leave out what stands between.
+No digit stands behind `#`. Leave out what stands between.
 ### 12 NotOneParameter
 
 `p21 param` alone, on the text `1 2`: `refused 12 NotOneParameter`
 
 The text has to be one number, string, enumeration item, binary or name of an instance,
-`$` or `*`. This is another token, or there are two.
+or `$` or `*`. This is another token, or there are two.
 ### 13 BadWord
 
-From the library alone (`Word::read`): these bytes are no keyword. In a file the same is
-1.
+This comes from the library alone (`Word::read`): these bytes are no keyword. In a file
+they are refused as 1.
 ### 20 Unexpected
 
     #1=PERSON('ek',$,$,$)
@@ -134,10 +134,10 @@ From the library alone (`Word::read`): these bytes are no keyword. In a file the
 `refused 20 Unexpected at statement 8`
 
 No statement goes on with this token. Here the `;` is missing, which shows at `#2`.
-Others: a comma or a parenthesis too many or too few; an apostrophe inside a string,
-which ends it; a keyword as a value that should be an item, `T` for `.T.`; a name of an
-instance in the header; sections in another order. At statement 1: the schema was given
-as the file, or the file is UTF-16 without a mark.
+Other causes are a comma or a parenthesis too many or too few; an apostrophe inside a
+string, which ends it; a keyword as a value that should be an item, `T` for `.T.`; a
+name of an instance in the header; sections in another order. At statement 1 the schema
+was given as the file, or the file is UTF-16 without a mark.
 
 Look at the named statement up to its end, and at the one before it.
 ### 21 TooDeep
@@ -146,7 +146,7 @@ Look at the named statement up to its end, and at the one before it.
 
 `refused 21 TooDeep at statement 8`
 
-Lists and typed parameters stand in one another 64 deep at most; this is the 65th. No
+Lists and typed parameters may stand in one another 64 deep; this is the 65th. No
 product model comes near that. The file is broken, or somebody made it to break
 programs.
 ### 22 RecordTooLong
@@ -184,7 +184,7 @@ byte 1A of old systems.
 
 `refused 26 LeftOut(UserKeyword) at statement 8`
 
-This is STEP, and `p21` leaves it out. In parentheses stands what:
+This is STEP that `p21` leaves out. The name in parentheses says what it is:
 
 | Name | What it is | Instead |
 |---|---|---|
@@ -226,9 +226,9 @@ In place of the line of FILE_SCHEMA:
 
 `refused 31 SchemaName at statement 5`
 
-The file says that it is of another schema than the one that it is checked against.
-Compared are the letters, digits and `_` in front, upper and lower case alike; what
-follows, as an object identifier, isn't looked at.
+The file says that it is of another schema than the one that it is checked against. The
+letters, digits and `_` in front are compared, upper and lower case alike; what follows,
+such as an object identifier, isn't looked at.
 
 Check it against the schema that it names. `p21-where` prints both names. Where you know
 that both are one schema by two names, change the name in the schema text, by the
@@ -263,17 +263,17 @@ or join them.
 `refused 40 DuplicateName in #1`
 
 Two instances have one name; `#01` is `#1`, and named sections share their names. Mostly
-two files were joined without renumbering one. Nobody can say which of the two a
-reference means, so this is never read over, even where both are alike.
+two files were joined without renumbering one of them. Nobody can say which of the two
+instances a reference means, so this is refused even where both are alike.
 ### 41 UnknownEntity
 
     #1=SPHERICAL_SURFACE('',#2,10.);
 
 `refused 41 UnknownEntity in #1`
 
-The schema has no entity of this keyword. It is misspelled, a short name, the name of a
-TYPE, or of another schema or edition than the one given. Of several parts in
-parentheses one unknown part is enough.
+The schema has no entity of this keyword. It is misspelled, or a short name, or the name
+of a TYPE, or it belongs to another schema or edition than the one given. Of several
+parts in parentheses one unknown part is enough.
 ### 42 Abstract
 
     #1=CURVE('');
@@ -289,7 +289,7 @@ well. Write the subtype that is meant, here LINE or CIRCLE.
 `refused 43 PartMissing in #1`
 
 An instance in parentheses lists each of its entities with all of their supertypes. Here
-`NAMED_UNIT(*)` is missing. Also a supertype without attributes has its part, with empty
+`NAMED_UNIT(*)` is missing. A supertype without attributes has its part too, with empty
 parentheses.
 ### 44 PartTwice
 
@@ -297,7 +297,7 @@ parentheses.
 
 `refused 44 PartTwice in #1`
 
-An entity has two parts. Where it is inherited on two ways, it still has one.
+An entity has two parts. It has one part alone, also where it is inherited in two ways.
 ### 45 Count
 
     #1=CALENDAR_DATE(2024,3);
@@ -334,7 +334,7 @@ value; where there is none, `$`.
 `refused 48 DerivedNotStar in #1`
 
 The schema derives the value of this attribute, so the file has `*` there and nothing
-else, also not `$` or the right value.
+else, neither `$` nor the right value.
 ### 49 WrongKind
 
     #1=CARTESIAN_POINT('',(80,50,12.5));
@@ -367,17 +367,17 @@ has exactly the number of its indices, empty places counted.
 
 `refused 52 NotDistinct in #1`
 
-Two elements of a SET, of a LIST OF UNIQUE or of an ARRAY OF UNIQUE are the same.
-Compared is what they mean: `#2` and `#02`, `1.` and `10.E-1`, sets in another order.
-Leave one out.
+Two elements of a SET, of a LIST OF UNIQUE or of an ARRAY OF UNIQUE are the same. What
+they mean is compared: `#2` and `#02` are the same, and so are `1.` and `10.E-1`, or two
+sets in another order. Leave one out.
 ### 53 UnknownItem
 
     #1=SI_UNIT(*,.MEGA.,.METRE.);
 
 `refused 53 UnknownItem in #1`
 
-The enumeration has no such item. BOOLEAN has `.T.` and `.F.`, LOGICAL has `.U.` too;
-`.TRUE.` is neither's. Mostly the schema is of another edition.
+The enumeration has no such item. BOOLEAN has `.T.` and `.F.`, and LOGICAL has `.U.`
+too; `.TRUE.` belongs to neither. Mostly the schema is of another edition.
 ### 54 SelectType
 
     #1=MEASURE_WITH_UNIT(80.,#2);
@@ -404,9 +404,9 @@ In a file of it (`FILE_SCHEMA(('TWO'));`):
 
 `refused 55 TwoRedeclarations in #1`
 
-The instance is of two entities that declare the same attribute anew, and none of the
-two is a subtype of the other, so that nothing says which type its value has. Leave out
-one of the two, or give the schema an entity below both that decides.
+The instance is of two entities that declare the same attribute anew, and neither is a
+subtype of the other, so that nothing says which type its value has. Leave out one of
+the two, or give the schema an entity below both that decides.
 ### 56 Dangling
 
     #1=VERTEX_POINT('',#2);
@@ -435,8 +435,8 @@ The instance that holds the reference is named.
 The schema says ONEOF of two entities that this instance both is. Leave one part out.
 ### 90 NoMemory
 
-`out of memory`: memory ran out. Kept are the canonical file as it grows, and a little
-for each instance and each reference.
+`out of memory`: memory ran out. The program keeps the canonical file as it grows, and a
+little for each instance and each reference.
 ### 91 ReadFault
 
 `read fault`: the system answered an error where the file was read. It isn't tried
@@ -463,9 +463,9 @@ own.
 
 `schema refused S2 Syntax`
 
-No declaration goes on so. Here the last `;` is missing. Others: a STEP file in place of
-the schema, with the arguments exchanged; SUBTYPE OF in front of SUPERTYPE OF; a word
-such as `type` or `list` as a name; several schemas in one file.
+No declaration goes on so. Here the last `;` is missing. Other causes are a STEP file in
+place of the schema, with the arguments exchanged; SUBTYPE OF in front of SUPERTYPE OF;
+a word such as `type` or `list` as a name; several schemas in one file.
 ### S3 Duplicate
 
     SCHEMA s;
@@ -509,7 +509,7 @@ however many steps.
 
 `schema refused S6 LeftOut`
 
-This is EXPRESS, and `p21` leaves it out: USE, REFERENCE, EXTENSIBLE, BASED_ON, GENERIC,
+This is EXPRESS that `p21` leaves out: USE, REFERENCE, EXTENSIBLE, BASED_ON, GENERIC,
 GENERIC_ENTITY, AGGREGATE, RENAMED, a SELECT without a list, bounds and widths that are
 computed, a TYPE that is just the name of a SELECT.
 ### S7 Bounds
