@@ -18,7 +18,8 @@ import p21_reading as reading
 from p21_schemas import Outline, Place, first_count
 
 BLANK = re.compile(rb"(?:[\0- \x7f]|" + reading.REMARK + rb")*", re.S)
-MARK = re.compile(reading.STRING + rb"|" + reading.REMARK + rb"|(?P<end>;)|(?P<open>'|/\*)", re.S)
+# Bytes up to the end of the next string or remark, or of the statement. It matches at each place, so that a search is linear.
+STRETCH = re.compile(rb"[^'/;]*(?:" + reading.STRING + rb"|" + reading.REMARK + rb"|(?P<end>;)|(?P<open>'|/\*)|/|\Z)", re.S)
 NAME = re.compile(rb"#(\d+)")
 FIRST_WORD = re.compile(rb"[!#]?[\w-]*")
 NAMES_WORD = re.compile(rb"[A-Za-z0-9_]*")
@@ -39,13 +40,13 @@ class Statement(NamedTuple):
 def statements(data):
     """The statements of a file."""
     start = 0
-    for mark in MARK.finditer(data):
-        if mark["open"]:
-            yield Statement(BLANK.match(data, start).end(), len(data), mark.start())
+    for stretch in STRETCH.finditer(data):
+        if stretch["end"]:
+            yield Statement(BLANK.match(data, start).end(), stretch.end(), None)
+            start = stretch.end()
+        elif stretch["open"]:
+            yield Statement(BLANK.match(data, start).end(), len(data), stretch.start("open"))
             return
-        if mark["end"]:
-            yield Statement(BLANK.match(data, start).end(), mark.end(), None)
-            start = mark.end()
     yield Statement(BLANK.match(data, start).end(), len(data), None)
 
 
