@@ -300,6 +300,15 @@ def others(tests):
     exchanged = ["schema refused S2 Syntax", f"{step}:1:1", "  ISO-10303-21;", "  ^^^"]
     exchanged.append("  this is a STEP file: are schema and file exchanged?")
     tests.expect("exchanged arguments", [step, SCHEMA], 1, exchanged)
+    made = tests.make("demo.step", file_of("#1=POINT($,1.,2);", [("PRODUCT_MODEL", "DEMO")]))
+    line, place, *_ = tests.run(["--schema", DEMO, SCHEMA, made])[0].splitlines()
+    tests.judge("by the schema that the file names", ("refused 49 WrongKind in #1", f"{made}:8:15"), (line, place))
+    line, *_ = tests.run(["--schema", "examples/none.exp", SCHEMA, made])[0].splitlines()
+    tests.judge("by a further schema that isn't there", "cannot open examples/none.exp", line)
+    other = tests.make("other.step", file_of("", [("PRODUCT_MODEL", "OTHER")]))
+    *_, command = tests.run(["--schema", DEMO, SCHEMA, other])[0].splitlines()
+    wanted = f"    sed '1s/SCHEMA product_model/SCHEMA OTHER/' {SCHEMA} > renamed.exp"
+    tests.judge("by no schema that the file names", wanted, command)
     path = tests.make("cut.step", "ISO-10303-21;\nHEADER;\n")
     shown = ["refused 24 EndsEarly at statement 3", f"{path}:3:1", "  HEADER;", "          ^", "  the file ends here"]
     tests.expect("a file that ends behind a statement", [SCHEMA, path], 1, shown)

@@ -13,6 +13,7 @@ from typing import NamedTuple
 
 HERE = pathlib.Path(__file__).resolve().parent
 PIECE = 1 << 20
+FURTHER = "a further schema, for files that name another one; may be given several times"
 
 
 class Trouble(Exception):
@@ -93,6 +94,17 @@ def run(program, *arguments, text=None, output=subprocess.PIPE):
     except OSError as error:
         raise Trouble(f"cannot run {program}: {error.strerror}") from None
     return Answer(done.stdout or b"", line_of(done.stderr, done.returncode), done.returncode)
+
+
+def first_that_names(answers, line_of_answer):
+    """Of the answers about a file by one schema after the other: the first one by a schema that the file names, or else the
+    first of all."""
+    first = None
+    for answer in answers:
+        first = first or answer
+        if not line_of_answer(answer).startswith("refused 31 "):
+            return answer
+    return first
 
 
 class Listing(NamedTuple):
