@@ -257,6 +257,24 @@ def explained(tests):
     tests.judge("what stands at an attribute", lines, tests.run([path, made])[0].splitlines()[4:])
 
 
+def hints(tests):
+    """What is said to help, in the last line."""
+    rows = [
+        ("small letters", "#1=point($,1.,2.);", "keywords are written in upper case"),
+        ("a path", "#1=POINT('C:\\x',1.,2.);", "a backslash that is meant as a character is written twice"),
+        (
+            "ISO 8859-1",
+            b"#1=POINT('\xfc',1.,2.);",
+            "where the file is in ISO 8859-1, iconv -f ISO-8859-1 -t UTF-8 makes UTF-8 of it",
+        ),
+        ("a digit that is wanted", "#1=POINT('a',-.5,2.);", "the byte 2E, ."),
+    ]
+    for name, instance, wanted in rows:
+        text = instance if isinstance(instance, bytes) else instance.encode("ascii")
+        path = tests.make("hint.step", file_of("MARK", [("PRODUCT_MODEL", "DEMO")]).encode("ascii").replace(b"MARK", text))
+        tests.judge(name, wanted, tests.run([DEMO, path])[0].splitlines()[-1].strip())
+
+
 def kinds(tests):
     """Files of other kinds, with what is said of them at the end."""
     step = pathlib.Path("examples/product.step").read_bytes()
@@ -362,7 +380,7 @@ def changed(tests):
 
 def main():
     tests = Tests("p21-where")
-    for group in (faults, refused, values, schemas, attributes, explained, kinds, others, renaming, changed):
+    for group in (faults, refused, values, schemas, attributes, explained, hints, kinds, others, renaming, changed):
         group(tests)
     tests.end()
 

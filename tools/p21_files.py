@@ -146,7 +146,8 @@ class Refused:
         at = low + first_count(min(size, len(text)) - low, lambda count: is_refused(low + count)) - 1
         if self.number in OF_BYTES:
             start = lead(text, at) if self.number == 6 else at
-            return moved(Place(start, at + (start == at), [about_byte(text[start], self.number)]), statement.start)
+            notes = [about_byte(text[start], self.number), *what_helps(text[start], self.number)]
+            return moved(Place(start, at + (start == at), notes), statement.start)
         if self.answer(front + text[:at] + b" ") != self.number:
             at += 1
         word = [word for word in reading.LEXEME.finditer(text[:at]) if word[1]][-1]
@@ -410,6 +411,16 @@ def about_byte(byte, number):
     if number == 6:
         return f"the byte {byte:02X}, which is {chr(byte)} in ISO 8859-1" if byte >= 0xA0 else f"the byte {byte:02X}"
     return f"the byte {byte:02X}, {chr(byte)}" if 0x20 < byte < 0x7F else f"the byte {byte:02X}"
+
+
+def what_helps(byte, number):
+    """What to do about a byte that is refused by a number, where that is mostly the same."""
+    if number == 1 and chr(byte).islower() and byte < 0x80:
+        yield "keywords are written in upper case"
+    if number == 4:
+        yield "a backslash that is meant as a character is written twice"
+    if number == 6:
+        yield "where the file is in ISO 8859-1, iconv -f ISO-8859-1 -t UTF-8 makes UTF-8 of it"
 
 
 def lead(text, at):
