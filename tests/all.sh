@@ -5,7 +5,8 @@
 #   tests/all.sh [PART..]     PART is the path of a script below tests, as hostile/devices.sh; all parts without one
 #
 # The environment variable P21 names the program; without it, it is the one that ./p21 builds where it is missing or old.
-# Two parts want `rt`: hostile/calls.py proves and builds a program over the libraries, and fail_alloc.sh tries tests.
+# Three parts want `rt`: hostile/calls.py builds a program of the libraries without a proof, and fail_alloc.sh and
+# want_of_memory.sh try tests.
 
 root=$(cd "$(dirname -- "$(readlink -f -- "$0")")/.." && pwd) || exit
 "${P21:-$root/p21}" --version > /dev/null || exit
@@ -38,7 +39,7 @@ if [ "$#" -eq 0 ]; then
         [ ! -e "$tools" ] || set -- "$@" "$tools"
     done
     set -- "$@" hostile/devices.sh hostile/changing.py hostile/transfers.py hostile/large.py hostile/stack.py \
-        hostile/memory.py hostile/allocations.py hostile/calls.py fail_alloc.sh fuzz.py
+        hostile/memory.py hostile/allocations.py hostile/calls.py fail_alloc.sh want_of_memory.sh fuzz.py
 fi
 for part in "$@"; do
     case $part in
