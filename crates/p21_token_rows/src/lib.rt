@@ -1,5 +1,5 @@
-//! Tokens, read from bytes in pieces of any size: tables of texts with the tokens or the refusal of each, and what each byte
-//! does. It has tests alone.
+//! Tokens, read from bytes in pieces of any size: tables of texts with the tokens or the refusal of each. It has tests
+//! alone.
 #![tactic(auto)]
 
 #[cfg(test)]

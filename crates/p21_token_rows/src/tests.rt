@@ -1,9 +1,7 @@
-mod actions;
 mod behind;
 mod file;
 mod limits;
 mod param;
-mod runs;
 mod texts;
 
 use p21_tokens::{Absent, Canonical, Lexer, Limits, Token, TokenFault};

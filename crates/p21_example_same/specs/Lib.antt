@@ -1,0 +1,2 @@
+-- What is known of two readers that are compared.
+pub mod Answer

@@ -1,0 +1,2 @@
+-- What is received of a file.
+pub mod Receiving
