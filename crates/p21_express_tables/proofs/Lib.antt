@@ -5,7 +5,7 @@ pub mod Gatherings
 pub mod Lookups
 pub mod Naming
 pub mod Offering
-pub mod OneOf
+pub mod Inverting
 pub mod OrderTables
 pub mod OwnSets
 pub mod Ranks
@@ -14,3 +14,6 @@ pub mod Resolving
 pub mod Walks
 pub mod Pairs
 pub mod RisingNames
+pub mod Above
+pub mod Ends
+pub mod Owners

@@ -36,14 +36,14 @@ listed-at list (x ∷ types) (suc t) = listed-at list types t
 
 module _ (s : Schema) (list : Kind → List ℕ) where
   -- a number is listed where the kind of a type lists it
-  listed-has : (t x : ℕ) → Contains (nexts_of (listed list s.types) t) x → (k : Kind) × (kind_of s t ≡ Some k) × Contains (list k) x
+  pub listed-has : (t x : ℕ) → Contains (nexts_of (listed list s.types) t) x → (k : Kind) × (kind_of s t ≡ Some k) × Contains (list k) x
   listed-has t x among = let P : List ℕ → Type 0 = λ xs. Contains xs x in cases (kind_of s t) refl (subst P (listed-at list s.types t) among)
     where
       cases : (o : Option Kind) → kind_of s t ≡ o → Contains (kinded list o) x → (k : Kind) × (kind_of s t ≡ Some k) × Contains (list k) x
       cases None is among = absurd (Contains-none x among)
       cases (Some k) is among = (k, is, among)
 
-  listed-got : (t x : ℕ) (k : Kind) → kind_of s t ≡ Some k → Contains (list k) x → Contains (nexts_of (listed list s.types) t) x
+  pub listed-got : (t x : ℕ) (k : Kind) → kind_of s t ≡ Some k → Contains (list k) x → Contains (nexts_of (listed list s.types) t) x
   listed-got t x k is among =
       let P : List ℕ → Type 0 = λ xs. Contains xs x in
       let Q : Option Kind → Type 0 = λ o. Contains (kinded list o) x in

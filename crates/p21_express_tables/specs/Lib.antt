@@ -16,3 +16,7 @@ pub mod Settled
 pub mod Walk
 pub mod Walking
 pub mod Rising
+pub mod Above
+pub mod Inverted
+pub mod Redeclarers
+pub mod Renamed

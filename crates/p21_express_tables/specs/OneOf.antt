@@ -1,5 +1,6 @@
 -- The ONEOF lists of a schema, by their numbers.
-use Rattle.std.specs.Prelude.{◌≡◌, ◌≢◌, ◌↔◌, ◌⊎◌, ℕ, List, Some, length, slice_get, Contains}
+use Rattle.std.specs.Prelude.{◌≡◌, ◌≢◌, ◌↔◌, ℕ, List, Some, slice_get, Contains}
+use Rattle.std.specs.List.Sorted.{IsStrictlyIncreasing}
 use Rattle.p21_schemas.specs.Schema.{Schema}
 use Rattle.p21_express_tables.specs.Settled.{nexts_of}
 
@@ -15,11 +16,7 @@ StandTogether s e f = (k : ℕ) × IsListedIn s k e × IsListedIn s k f
 abbrev pub ClashesWith : Schema → List ℕ → ℕ → Type 0
 ClashesWith s entities e = (f : ℕ) × Contains entities f × (f ≢ e) × StandTogether s e f
 
--- the table has for each entity the numbers of the lists with it
+-- the table has for each entity the numbers of the lists with it, in rising order
 pub record AreListedIn (s : Schema) (lists : List (List ℕ)) : Type 0 where
   pub each : (e k : ℕ) → Contains (nexts_of lists e) k ↔ IsListedIn s k e
-
--- the number has been added for each of these
-pub record AddsNumber (number : ℕ) (listed : List ℕ) (before after : List (List ℕ)) : Type 0 where
-  pub size : length after ≡ length before
-  pub each : (e k : ℕ) → Contains (nexts_of after e) k ↔ (Contains (nexts_of before e) k ⊎ ((k ≡ number) × Contains listed e))
+  pub rising : (e : ℕ) → IsStrictlyIncreasing (nexts_of lists e)

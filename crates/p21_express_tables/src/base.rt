@@ -1,7 +1,10 @@
+ghost use Rattle.p21_schemas.specs.Schema.{defined};
 ghost use Rattle.p21_express_types.specs.Meaning.{type_use};
 ghost use Rattle.p21_express_tables.specs.Base.{HasBase};
-ghost use Rattle.p21_express_tables.specs.Resolved.{IsTypeUse};
+ghost use Rattle.p21_express_tables.specs.Renamed.{IsEnd};
+ghost use Rattle.p21_express_tables.specs.Resolved.{IsType, IsTypeUse};
 
+use crate::renamed::declared;
 use crate::schema::Schema;
 use p21_express_types::{TypeId, TypeKind, TypeUse, Words};
 
@@ -22,17 +25,30 @@ impl Schema {
         requires { IsTypeUse self.now (type_use of.now) }
         ensures { HasBase self.now (type_use of.now) result }
     {
-        self.holds_together();
-        let mut at = of;
-        loop {
-            match at {
-                TypeUse::Defined(t) => match self.type_kind(*t) {
-                    TypeKind::Alias(renamed) => at = renamed,
-                    TypeKind::Items(words) => return Base::Items(words),
-                    TypeKind::Choice(_) => return Base::Select(*t),
-                },
-                _ => return Base::Plain(at),
-            }
+        match declared(of) {
+            Some(t) => self.base_of(t),
+            None => Base::Plain(of),
         }
+    }
+
+    /// What a declared type comes down to.
+    fn base_of(&self, of: TypeId) -> Base<'_>
+        requires { IsType self.now of.0 }
+        ensures { HasBase self.now (defined of.0) result }
+    {
+        let last = self.end(of);
+        match self.type_kind(last) {
+            TypeKind::Alias(renamed) => Base::Plain(renamed),
+            TypeKind::Items(words) => Base::Items(words),
+            TypeKind::Choice(_) => Base::Select(last),
+        }
+    }
+
+    /// The last one of the types that a type renames, one behind the other.
+    fn end(&self, of: TypeId) -> TypeId
+        requires { IsType self.now of.0 }
+        ensures { IsEnd self.now of.0 result.0 }
+    {
+        TypeId(self.ends[of.0 as usize])
     }
 }

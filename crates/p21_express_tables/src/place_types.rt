@@ -69,6 +69,9 @@ impl Schema {
         requires { AreEntities self.now (numbers entities.now) }
         ensures { IsDecision self.now (numbers entities.now) (place_of place) result }
     {
+        if self.redeclarers_of(place.entity).is_empty() {
+            return Decision::Declared;
+        }
         if self.is_derived_in(entities, place) {
             return Decision::Derived;
         }

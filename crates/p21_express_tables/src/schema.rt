@@ -1,8 +1,10 @@
 ghost use Rattle.std.specs.Prelude.{◌≡◌, ◌↔◌, ℕ, IsTrue, length, map, ◌++◌, slice_get, Contains, MatchOption, IfOk, OnOk, Some};
+ghost use Rattle.std.specs.List.Sorted.{IsStrictlyIncreasing};
 ghost use Rattle.p21_schemas.specs.Schema.{EntityNamed, TypeNamed, PlaceNamed, IsAbstract, entity_member, kind_of, attribute_at, attributes_of};
 ghost use Rattle.p21_schemas.specs.Select.{Offers};
-ghost use Rattle.p21_schemas.specs.Supertype.{IsA, IsLeaf, AreLeaves};
+ghost use Rattle.p21_schemas.specs.Supertype.{IsA, AreLeaves};
 ghost use Rattle.p21_schemas.specs.WellFormed.{IsWellFormed};
+ghost use Rattle.p21_express_tables.specs.Above.{AddsAbove, AreAbove};
 ghost use Rattle.p21_express_tables.specs.Lookups.{AreEntities};
 ghost use Rattle.p21_schemas.specs.Order.{order, places, own_places};
 ghost use Rattle.p21_express_tables.specs.Orders.{numbers};
@@ -10,12 +12,14 @@ ghost use Rattle.p21_express_types.specs.Meaning.{place as place_of, kind, membe
 ghost use Rattle.p21_express_tables.specs.Resolved.{HoldsTogether, IsEntity, IsType, IsPlace};
 ghost use Rattle.p21_express_tables.specs.Parts.{schema_of, AreNamed, entity as entity_of, attribute as attribute_of, defined as defined_of};
 
-use crate::collected::is_among;
+use crate::collected::{is_among, risen};
 use crate::offered::{Offered, all_offered};
 use crate::one_of::all_listed_in;
 use crate::orders::{all_orders, closures};
 use crate::own_sets::OwnSet;
 use crate::parts::{Attribute, Defined, Entity, Parts};
+use crate::redeclarers::all_redeclarers;
+use crate::renamed::all_ends;
 use p21_express_types::{EntityId, Member, Place, TypeId, TypeKind};
 use p21_values::NoMemory;
 use std::alloc::Global;
@@ -29,8 +33,12 @@ pub struct Schema {
     orders: Vec<Vec<EntityId>>,
     closures: Vec<Vec<u32>>,
     offered: Offered,
-    // For each entity the numbers of the ONEOF lists with it.
-    pub(crate) listed_in: Vec<Vec<usize>>,
+    // For each entity the numbers of the ONEOF lists with it, rising.
+    pub(crate) listed_in: Vec<Vec<u32>>,
+    // For each type the last one of those that it renames, one behind the other.
+    pub(crate) ends: Vec<u32>,
+    // For each entity the numbers of those that redeclare a place which it declares, rising.
+    pub(crate) redeclarers: Vec<Vec<u32>>,
     // What holds of the own sets of the first entities; of all once the schema is made.
     pub(crate) own: Vec<OwnSet>,
 }
@@ -51,11 +59,13 @@ impl Model for Schema {
     ghost use Rattle.p21_express_tables.specs.Collected.{AreRisingOf};
     ghost use Rattle.p21_express_tables.specs.OwnSets.{AreOwnSets};
     ghost use Rattle.p21_express_tables.specs.OneOf.{AreListedIn};
+    ghost use Rattle.p21_express_tables.specs.Redeclarers.{AreRedeclarers};
+    ghost use Rattle.p21_express_tables.specs.Renamed.{AreEnds};
     ghost use Rattle.p21_express_tables.specs.Settled.{lists_of};
 
     ghost view = { λ schema. schema_of schema.parts };
 
-    ghost invariant = { λ schema. HoldsTogether (schema_of schema.parts) × AreNamed schema.parts × AreOrders (schema_of schema.parts) (tabled schema.orders.items) × AreOffered (schema_of schema.parts) entity_member (lists_of schema.offered.entities.items) × AreOffered (schema_of schema.parts) type_member (lists_of schema.offered.types.items) × AreRisingOf (tabled schema.orders.items) (lists_of schema.closures.items) × AreOwnSets (schema_of schema.parts) schema.own.items × AreListedIn (schema_of schema.parts) (lists_of schema.listed_in.items) };
+    ghost invariant = { λ schema. HoldsTogether (schema_of schema.parts) × AreNamed schema.parts × AreOrders (schema_of schema.parts) (tabled schema.orders.items) × AreOffered (schema_of schema.parts) entity_member (lists_of schema.offered.entities.items) × AreOffered (schema_of schema.parts) type_member (lists_of schema.offered.types.items) × AreRisingOf (tabled schema.orders.items) (lists_of schema.closures.items) × AreOwnSets (schema_of schema.parts) schema.own.items × AreListedIn (schema_of schema.parts) (lists_of schema.listed_in.items) × AreEnds (schema_of schema.parts) schema.ends.items × AreRedeclarers (schema_of schema.parts) (lists_of schema.redeclarers.items) };
 }
 
 impl Schema {
@@ -73,6 +83,8 @@ impl Schema {
         let closures = closures(alloc, &orders)?;
         let offered = all_offered(alloc, &parts)?;
         let listed_in = all_listed_in(alloc, &parts)?;
+        let ends = all_ends(alloc, &parts)?;
+        let redeclarers = all_redeclarers(alloc, &parts)?;
         let mut schema = Schema {
             alloc,
             parts,
@@ -80,6 +92,8 @@ impl Schema {
             closures,
             offered,
             listed_in,
+            ends,
+            redeclarers,
             own: Vec::new(alloc),
         };
         schema.prepare_own_sets()?;
@@ -233,26 +247,41 @@ impl Schema {
         requires { AreEntities self.now (numbers entities.now) }
         ensures { IfOk result (λ leaves. AreLeaves self.now (numbers entities.now) (numbers leaves.items)) }
     {
+        let above = self.all_above(entities)?;
         let mut leaves = Vec::new(self.alloc);
         for entity in entities {
-            if self.is_leaf(*entity, entities) {
+            if !is_among(&above, entity.0) {
                 leaves.push(*entity)?;
             }
         }
         Ok(leaves)
     }
 
-    fn is_leaf(&self, entity: EntityId, entities: &[EntityId]) -> bool
-        requires entities { AreEntities self.now (numbers entities.now) }
-        requires listed { Contains (numbers entities.now) entity.0 }
-        ensures { IsTrue result ↔ IsLeaf self.now (numbers entities.now) entity.0 }
+    /// The numbers of the proper supertypes of entities, rising.
+    fn all_above(&self, entities: &[EntityId]) -> Result<Vec<u32>, NoMemory>
+        requires { AreEntities self.now (numbers entities.now) }
+        ensures rising { IfOk result (λ above. IsStrictlyIncreasing above.items) }
+        ensures above { IfOk result (λ above. AreAbove self.now (numbers entities.now) above.items) }
     {
-        for other in entities {
-            if other.0 != entity.0 && self.is_a(*other, entity) {
-                return false;
+        let mut above = Vec::new(self.alloc);
+        for entity in entities {
+            self.push_above(*entity, &mut above)?;
+        }
+        Ok(risen(above))
+    }
+
+    /// Adds the numbers of the proper supertypes of an entity.
+    fn push_above(&self, entity: EntityId, above: &mut Vec<u32>) -> Result<(), NoMemory>
+        requires { IsEntity self.now entity.0 }
+        ensures { OnOk result (AddsAbove self.now entity.0 above.old.items above.new.items) }
+    {
+        self.holds_together();
+        for other in self.order_of(entity) {
+            if other.0 != entity.0 {
+                above.push(other.0)?;
             }
         }
-        true
+        Ok(())
     }
 
     /// The name of the attribute at a place, in upper case. It takes no memory.

@@ -1,16 +1,17 @@
 use Rattle.std.specs.Prelude.{◌≡◌, ◌↔◌, ◌≤◌, ℕ, List, [], length, Contains, true, false}
 use Rattle.std.proofs.Common.{arith, ap, sym, ◌∙◌, subst, inl, inr}
 use Rattle.std.proofs.lemmas.Bool.{cases_lt}
+use Rattle.std.specs.List.Sorted.{IsStrictlyIncreasing}
 use Rattle.p21_schemas.specs.Schema.{Schema}
 use Rattle.p21_express_tables.specs.OneOf.{AreListedIn, IsListedIn}
 use Rattle.p21_express_tables.specs.Settled.{lists_of, nexts_of}
 use Rattle.p21_express_tables.proofs.schema.Schema.lists_with.Goals as goal
 use Rattle.p21_express_tables.proofs.Gatherings.{mapped-length}
-use Rattle.p21_express_tables.proofs.OneOf.{nothing-past}
+use Rattle.p21_express_tables.proofs.Inverting.{nothing-past}
 use Rattle.p21_express_tables.proofs.Walks.{nexts_at}
 
-pub returns-in-Some : goal.returns-in-Some
-returns-in-Some c k =
+pub returns-in-Some-clause-each : goal.returns-in-Some-clause-each
+returns-in-Some-clause-each c k =
     let e : ℕ = c.args.entity.0 in
     let P : Schema → Type 0 = λ s. AreListedIn s (lists_of c.self.inside.listed_in.items) in
     let Q : List ℕ → Type 0 = λ ks. Contains ks k ↔ IsListedIn c.args.self.now k e in
@@ -19,8 +20,16 @@ returns-in-Some c k =
     ∙ nexts_at (λ v. v.items) c.deref.result.now e c.in-Some.lists.now c.deref-in-Some.result.now c.in-Some.ensures.lookup.3.0 c.in-Some.ensures.lookup.1 c.deref-in-Some.ensures.value in
     subst Q same ((subst P c.self.view_is c.self.invariant.7).each e k)
 
-pub returns-in-None : goal.returns-in-None
-returns-in-None c k =
+pub returns-in-Some-clause-rising : goal.returns-in-Some-clause-rising
+returns-in-Some-clause-rising c =
+    let e : ℕ = c.args.entity.0 in
+    let same : nexts_of (lists_of c.self.inside.listed_in.items) e ≡ c.deref-in-Some.result.now =
+    ap (λ xs. nexts_of (lists_of xs) e) (sym c.deref.ensures.value)
+    ∙ nexts_at (λ v. v.items) c.deref.result.now e c.in-Some.lists.now c.deref-in-Some.result.now c.in-Some.ensures.lookup.3.0 c.in-Some.ensures.lookup.1 c.deref-in-Some.ensures.value in
+    subst IsStrictlyIncreasing same (c.self.invariant.7.rising e)
+
+pub returns-in-None-clause-each : goal.returns-in-None-clause-each
+returns-in-None-clause-each c k =
     let e : ℕ = c.args.entity.0 in
     let P : Schema → Type 0 = λ s. AreListedIn s (lists_of c.self.inside.listed_in.items) in
     let Q : List ℕ → Type 0 = λ ks. Contains ks k ↔ IsListedIn c.args.self.now k e in

@@ -1,0 +1,98 @@
+-- The last one of the types that a type renames, one behind the other.
+use Rattle.std.specs.Prelude.{◌≡◌, ◌≢◌, ◌⊎◌, ℕ, suc, ◌+◌, ◌<◌, List, [], ◌∷◌, Some, length, map, slice_get, slice_set, take, Contains, refl}
+use Rattle.std.proofs.Common.{arith, ap, sym, ◌∙◌, subst, inl, inr, get_or}
+use Rattle.std.proofs.lemmas.Bool.{cases_eq}
+use Rattle.std.proofs.lemmas.List.{get_or-set_other, get_or-set_same, length-set}
+use Rattle.p21_basics.proofs.Members.{Contains-none, Contains-first, Contains-cases}
+use Rattle.p21_schemas.specs.Declared.{HasNoCircle, Renames}
+use Rattle.p21_schemas.specs.Schema as schema
+use Rattle.p21_schemas.specs.Schema.{Schema, TypeUse, Kind, defined, alias, kind_of}
+use Rattle.p21_express_tables.specs.Base.{ComesTo, at_itself, through, IsPlain}
+use Rattle.p21_express_tables.specs.Renamed.{AreEnds, IsEnd, RenamesNone, declared_in, renamed}
+use Rattle.p21_express_tables.specs.Resolved.{HoldsTogether, IsType}
+use Rattle.p21_express_tables.specs.Settled.{AreWithin, IsNext, IsSettled}
+use Rattle.p21_express_tables.proofs.Gatherings.{mapped-length}
+use Rattle.p21_express_tables.proofs.Offering.{listed, listed-got, listed-has}
+use Rattle.p21_express_tables.proofs.OrderTables.{take-more}
+use Rattle.p21_express_tables.proofs.Resolving.{alias-is}
+
+in-declared : (type : TypeUse) (t : ℕ) → Contains (declared_in type) t → type ≡ defined t
+in-declared (schema.defined u) t among = elim (Contains-cases u [] t among) [ inl h ↦ ap schema.defined h | inr h ↦ absurd (Contains-none t h) ]
+in-declared schema.whole t among = absurd (Contains-none t among)
+in-declared schema.real t among = absurd (Contains-none t among)
+in-declared schema.number t among = absurd (Contains-none t among)
+in-declared schema.boolean t among = absurd (Contains-none t among)
+in-declared schema.logical t among = absurd (Contains-none t among)
+in-declared (schema.text width) t among = absurd (Contains-none t among)
+in-declared (schema.bits width) t among = absurd (Contains-none t among)
+in-declared (schema.entity e) t among = absurd (Contains-none t among)
+in-declared (schema.array low high optional unique element) t among = absurd (Contains-none t among)
+in-declared (schema.list low high unique element) t among = absurd (Contains-none t among)
+in-declared (schema.set low high element) t among = absurd (Contains-none t among)
+in-declared (schema.bag low high element) t among = absurd (Contains-none t among)
+
+in-renamed : (kind : Kind) (t : ℕ) → Contains (renamed kind) t → kind ≡ alias (defined t)
+in-renamed (schema.alias type) t among = ap alias (in-declared type t among)
+in-renamed (schema.items words) t among = absurd (Contains-none t among)
+in-renamed (schema.choice members) t among = absurd (Contains-none t among)
+
+-- the types that each renames
+abbrev pub renamed_types : Schema → List (List ℕ)
+renamed_types s = listed renamed s.types
+
+module _ (s : Schema) where
+  pub next-renames : (t u : ℕ) → IsNext (renamed_types s) t u → Renames s t u
+  next-renames t u next = let (k, is, among) = listed-has s renamed t u next in is ∙ ap Some (in-renamed k u among)
+
+  pub renames-next : (t u : ℕ) → Renames s t u → IsNext (renamed_types s) t u
+  renames-next t u is = listed-got s renamed t u (alias (defined u)) is (Contains-first u [])
+
+  pub renamed-within : HoldsTogether s → AreWithin (renamed_types s)
+  renamed-within holds t u next = let below = alias-is s holds t (defined u) (next-renames t u next) in omega (arith, below, mapped-length (λ x. renamed x.kind) s.types)
+
+  pub renamed-end : HoldsTogether s → HasNoCircle (IsNext (renamed_types s))
+  renamed-end holds = (holds.renaming_ends.0, λ t u next. holds.renaming_ends.1 t u (next-renames t u next))
+
+  -- a type that renames none is the last, and another one has the last of the next
+  pub end-itself : (t : ℕ) (kind : Kind) → IsType s t → kind_of s t ≡ Some kind → RenamesNone kind → IsEnd s t t
+  end-itself t kind is_type is none = record { comes = at_itself (defined t); is_type = is_type; no_more = λ type renames. none type (let same : Some kind ≡ Some (alias type) = sym is ∙ renames in cc) }
+
+  pub end-next : (t u last : ℕ) → Renames s t u → IsEnd s u last → IsEnd s t last
+  end-next t u last is end = record { comes = through t (defined u) (defined last) is end.comes; is_type = end.is_type; no_more = end.no_more }
+
+-- the last ones of those that were listed so far are in the table
+pub record AreSoFar (s : Schema) (ends done : List ℕ) : Type 0 where
+  pub size : length ends ≡ length s.types
+  pub each : (t : ℕ) → Contains done t → IsEnd s t (get_or ends t 0)
+
+module _ (s : Schema) (listed_ : List ℕ) (settled : IsSettled (renamed_types s) listed_) (ends : List ℕ) (k t : ℕ) (at : slice_get listed_ k ≡ Some t) (so_far : AreSoFar s ends (take k listed_)) where
+  -- the next one is known
+  pub next-known : (u : ℕ) → Renames s t u → IsEnd s u (get_or ends u 0)
+  next-known u is = so_far.each u (settled.behind k t u at (renames-next s t u is))
+
+  pub ends-more : (last : ℕ) → IsType s t → IsEnd s t last → AreSoFar s (slice_set ends t last) (take (suc k) listed_)
+  ends-more last is_type end = record {
+    size = length-set ends t last ∙ so_far.size;
+    each = λ u among. elim (cases_eq u t) [
+      | inl same ↦
+          let P : ℕ → Type 0 = λ x. IsEnd s x (get_or (slice_set ends t last) x 0) in
+          let Q : ℕ → Type 0 = λ x. IsEnd s t x in
+          subst P (sym same) (subst Q (sym (get_or-set_same ends t last 0 (omega (arith, is_type, so_far.size)))) end)
+      | inr other ↦
+          let Q : ℕ → Type 0 = λ x. IsEnd s u x in
+          subst Q (sym (get_or-set_other ends t u last 0 other)) (so_far.each u (elim (take-more listed_ k u among) [ inl h ↦ h | inr h ↦ absurd (other (let same : Some u ≡ Some t = sym h ∙ at in cc)) ]))
+    ];
+  }
+
+pub all-ends : (s : Schema) (listed_ ends : List ℕ) → IsSettled (renamed_types s) listed_ → AreSoFar s ends listed_ → AreEnds s ends
+all-ends s listed_ ends settled so_far = record { size = so_far.size; each = λ t is. so_far.each t (settled.all t (omega (arith, is, mapped-length (λ x. renamed x.kind) s.types))) }
+
+none-declared : (type : TypeUse) → IsPlain type → declared_in type ≡ []
+none-declared (schema.defined t) plain = absurd plain
+none-declared other plain = refl
+
+-- a type that renames no declared one has an empty list
+pub none-renamed : (kind : Kind) → RenamesNone kind → renamed kind ≡ []
+none-renamed (schema.alias type) none = none-declared type (none type refl)
+none-renamed (schema.items words) none = refl
+none-renamed (schema.choice members) none = refl

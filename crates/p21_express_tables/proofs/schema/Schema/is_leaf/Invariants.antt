@@ -1,6 +1,0 @@
-use Rattle.std.proofs.Common.{ℕ, ◌≡◌, ◌<◌, slice_index_or}
-use Rattle.p21_schemas.specs.Supertype.{IsA}
-use Rattle.p21_express_tables.proofs.schema.Schema.is_leaf.Given as goal
-
-abbrev pub invariant-loop-other : goal.invariant-loop-other
-invariant-loop-other l = (k : ℕ) → k < l.other-index → IsA l.self (slice_index_or l.entities k record { 0 = 0 }).0 l.entity.0 → (slice_index_or l.entities k record { 0 = 0 }).0 ≡ l.entity.0
