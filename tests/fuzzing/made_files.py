@@ -3,6 +3,9 @@
 from . import rows, spellings
 from .spellings import blank
 
+# How deep lists are made that can't be empty.
+DEEPEST = 8
+
 ODD_VALUES = [
     ("$",), ("*",), ("whole", "7"), ("real", (False, "15", 0)), ("text", "t"), ("item", "T"), ("item", "RED"), ("name", 1), ("list", []),
     ("list", [("real", (False, "1", 0))]), ("typed", "LEN", ("real", (False, "1", 0))), ("bits", ""), ("typed", "TALLY", ("whole", "1")),
@@ -118,6 +121,9 @@ class Maker:
         else:
             count = low + chance.choice([0, 1, 2, 3] if depth < 4 else [0])
             count = count if high is None else min(count, high)
+        # A type whose values are lists of its own values has none, unless one may be empty.
+        if depth > DEEPEST and count > 0:
+            return chance.choice(ODD_VALUES)
         if chance.random() < self.odd:
             count += chance.choice([-1, 1])
         values, tries = [], 0

@@ -1,7 +1,7 @@
 """Spellings by chance: of scalars, and many of one meaning."""
 
 BLANKS = [""] * 14 + [" ", "\n", "\r\n", "\t", " /* c, ' ; */ ", "\x7f", "/**/", "\x00 "]
-CHARACTERS = "aB z9#(;/*,.=\u00e9\u00fc\u00a0\u00fe\u0416\u20ac\ud7ff\ue000\uffff\U00010000\U0001f600\U0010ffff'\\"
+CHARACTERS = "aB z9~#(;/*,.=\u0080\u009f\u00e9\u00fc\u00a0\u00fe\u00ff\u07ff\u0800\u0416\u20ac\ud7ff\ue000\uffff\U00010000\U0001f600\U0010ffff'\\"
 
 
 def blank(chance):
