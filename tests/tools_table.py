@@ -119,6 +119,11 @@ def names(tests):
     counts = ["7 files, 6 accepted, 1 not", "     1 cannot open"]
     counts.append("passed over: 3 files with other endings: 1 without one, 1 .gz, 1 .txt")
     tests.judge("folders and lists", (wanted, counts, 3), (found, error.splitlines()[:3], status))
+    tool, schema = ROOT / "tools" / "p21-table", ROOT / SCHEMA
+    tests.make("many/deep/-e.step", file)
+    done = subprocess.run([tool, schema, "."], capture_output=True, check=False, cwd=tests.here / "many" / "deep", text=True)
+    found = [line.split()[:2] for line in done.stdout.splitlines()]
+    tests.judge("a name that begins with a dash", ([["-e.step", "accepted"], ["d.step", "accepted"]], 0), (found, done.returncode))
     output, _, status = tests.run(["--format", "tsv", "--files-from", "-", SCHEMA], f"{tests.here}/many/a.p21\n".encode())
     tests.judge("a list from standard input", (2, 0), (len(output.splitlines()), status))
 

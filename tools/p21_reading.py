@@ -85,12 +85,17 @@ def lasting(path):
     return f"/dev/fd/{descriptor}"
 
 
-def run(program, *arguments, text=None, output=subprocess.PIPE):
-    """The answer of the program. A text is given to it as /dev/stdin."""
+def words_of(program, command, *paths):
+    """The command line of a command over these paths, of which one may begin with a dash."""
+    return [program, command, "--", *paths]
+
+
+def run(program, command, *paths, text=None, output=subprocess.PIPE):
+    """The answer of a command of the program over these paths. A text is given to it as /dev/stdin."""
     given = {"stdin": subprocess.DEVNULL} if text is None else {"input": text}
     streams = {"stdout": output, "stderr": subprocess.PIPE, "close_fds": False}
     try:
-        done = subprocess.run([program, *arguments], check=False, **streams, **given)
+        done = subprocess.run(words_of(program, command, *paths), check=False, **streams, **given)
     except OSError as error:
         raise Trouble(f"cannot run {program}: {error.strerror}") from None
     return Answer(done.stdout or b"", line_of(done.stderr, done.returncode), done.returncode)
