@@ -1,0 +1,88 @@
+-- Steps of places in turn.
+use Rattle.std.proofs.Common.{◌≡◌, ℕ, ◌<◌, List, [], ◌∷◌, ◌++◌, length, get_or, set, refl, ap, sym, subst, ◌∙◌, arith, inl, inr, length-append}
+use Rattle.std.proofs.lemmas.Bool.{cases_eq, cases_lt}
+use Rattle.std.proofs.lemmas.List.{get_or_append_left, get_or-set_other, get_or-set_same, length-set}
+use Rattle.std.proofs.lemmas.Option.{get_or_from_slice_get, slice_get-get_or, slice_get_within}
+use Rattle.std.proofs.Math.Seq.{get_or-append_seam}
+use Rattle.std.specs.Prelude.{Option, Some, None, Vec, slice_get, Contains, Bool, true, false, IsTrue, ◌↔◌}
+use Rattle.std.specs.declared.alloc.Global.{Global}
+use Rattle.p21_express_tables.proofs.OwnSets.{place-among}
+use Rattle.p21_express_tables.proofs.OrderTables.{IsA-within, are-entities, order-tells}
+use Rattle.p21_express_tables.specs.OwnSets.{HasOwnFaults, LeavesOpen}
+use Rattle.p21_express_tables.specs.declared.own_sets.OwnFaults.{OwnFaults}
+use Rattle.p21_express_tables.specs.Resolved.{HoldsTogether, IsEntity, IsPlace}
+use Rattle.p21_schemas.specs.Order.{order}
+use Rattle.p21_schemas.specs.PlaceType.{TypeAt, two_redeclarations}
+use Rattle.p21_schemas.specs.Schema.{Place, Schema}
+use Rattle.p21_transcribe_plan.specs.Steps.{AreRows, AreStepsAt, HasSteps, IsStepAt, MayStandAlone}
+use Rattle.p21_transcribe_plan.specs.declared.step.Step.{Step}
+
+-- one step more
+pub steps_more : (s : Schema) (entities : List ℕ) (before : List Place) (steps : List Step) (place : Place) (step : Step) → AreStepsAt s entities before steps → IsStepAt s entities place step → AreStepsAt s entities (before ++ place ∷ []) (steps ++ step ∷ [])
+steps_more s entities [] [] place step are is = (is, tt)
+steps_more s entities [] (other ∷ steps) place step are is = absurd are
+steps_more s entities (first ∷ before) [] place step are is = absurd are
+steps_more s entities (first ∷ before) (other ∷ steps) place step are is = (are.0, steps_more s entities before steps place step are.1 is)
+
+module _ (s : Schema) (holds : HoldsTogether s) (e : ℕ) where
+  -- an entity of the own set is one of the schema
+  pub owner_is : (owner : ℕ) → Contains (order s e) owner → IsEntity s e → IsEntity s owner
+  owner_is owner among is = IsA-within s (are-entities s holds) e owner ((order-tells s holds e owner).0 among) is
+
+  -- where redeclarations leave none open, they decide at each place
+  pub decided_at : (place : Place) → Contains (order s e) place.entity → IsPlace s place → (LeavesOpen s e → ⊥) → TypeAt s (order s e) place two_redeclarations → ⊥
+  decided_at place among is decided two = decided (place, (place-among s holds e place is ((order-tells s holds e place.entity).0 among), two))
+
+-- ---- rows
+
+abbrev Steps : Type 0
+Steps = Vec Step Global
+
+found : (rows : List (Option Steps)) (e : ℕ) (steps : Steps) → slice_get rows e ≡ Some (Some steps) → (e < length rows) × (get_or rows e None ≡ Some steps)
+found rows e steps at = (slice_get_within rows e (Some steps) at, get_or_from_slice_get rows e (Some steps) None at)
+
+found_back : (rows : List (Option Steps)) (e : ℕ) (steps : Steps) → e < length rows → get_or rows e None ≡ Some steps → slice_get rows e ≡ Some (Some steps)
+found_back rows e steps below at = slice_get-get_or rows e None below ∙ ap (λ (x : Option Steps). Some x) at
+
+-- a row with none
+pub row_more : (s : Schema) (rows : List (Option Steps)) → AreRows s rows → AreRows s (rows ++ None ∷ [])
+row_more s rows are e steps at =
+    let (below, is) = found (rows ++ None ∷ []) e steps at in
+    elim (cases_lt e (length rows)) [
+      | inl h ↦ are e steps (found_back rows e steps h (sym (get_or_append_left rows (None ∷ []) None e h) ∙ is))
+      | inr h ↦
+          let last : e ≡ length rows = omega (arith, h, below, length-append rows (None ∷ [])) in
+          let none : None ≡ Some steps = sym (ap (λ (k : ℕ). get_or (rows ++ None ∷ []) k None) last ∙ get_or-append_seam rows None [] None) ∙ is in cc
+    ]
+
+-- a row with these steps
+pub row_put : (s : Schema) (rows : List (Option Steps)) (k : ℕ) (new : Steps) → AreRows s rows → HasSteps s k new.items → AreRows s (set rows k (Some new))
+row_put s rows k new are has e steps at =
+    let (below, is) = found (set rows k (Some new)) e steps at in
+    let room : e < length rows = omega (arith, below, length-set rows k (Some new)) in
+    elim (cases_eq e k) [
+      | inl same ↦
+          let both : Some new ≡ Some steps = sym (ap (λ (i : ℕ). get_or (set rows k (Some new)) i None) same ∙ get_or-set_same rows k (Some new) None (subst (λ (i : ℕ). i < length rows) same room)) ∙ is in
+          let one : new ≡ steps = cc in
+          subst (λ (i : ℕ). HasSteps s i steps.items) (sym same) (subst (λ (x : Steps). HasSteps s k x.items) one has)
+      | inr other ↦ are e steps (found_back rows e steps room (sym (get_or-set_other rows k e (Some new) None other) ∙ is))
+    ]
+
+pub row_at : (s : Schema) (rows : List (Option Steps)) (e : ℕ) (row : Option Steps) (steps : Steps) → AreRows s rows → (e < length rows) × ((d : Option Steps) → row ≡ get_or rows e d) → row ≡ Some steps → HasSteps s e steps.items
+row_at s rows e row steps are (below, at) is = are e steps (found_back rows e steps below (sym (at None) ∙ is))
+
+-- ---- sets of their own
+
+not_true : (b : Bool) → (IsTrue b → ⊥) → b ≡ false
+not_true true not = absurd (not refl)
+not_true false not = refl
+
+pub stands_alone : (s : Schema) (e : ℕ) (faults : OwnFaults) (none : Bool) → HasOwnFaults s e faults → IsTrue none ↔ ((faults.is_abstract ≡ false) × (faults.leaves_open ≡ false) × (faults.clashes ≡ false)) → IsTrue none ↔ MayStandAlone s e
+stands_alone s e faults none has are = (
+  λ yes. let (concrete, decided, agrees) = are.0 yes in record {
+    concrete = λ h. let t = has.abstract_is.1 h in cc;
+    decided = λ h. let t = has.open_is.1 h in cc;
+    agrees = λ h. let t = has.clash_is.1 h in cc;
+  },
+  λ may. are.1 (not_true faults.is_abstract (λ t. may.concrete (has.abstract_is.0 t)), not_true faults.leaves_open (λ t. may.decided (has.open_is.0 t)), not_true faults.clashes (λ t. may.agrees (has.clash_is.0 t))),
+)

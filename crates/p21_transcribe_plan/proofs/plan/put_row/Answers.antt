@@ -1,0 +1,13 @@
+use Rattle.std.proofs.Common.{subst, sym}
+use Rattle.p21_transcribe_plan.proofs.Steps.{row_more, row_put}
+use Rattle.p21_transcribe_plan.specs.Steps.{AreRows}
+use Rattle.p21_transcribe_plan.proofs.plan.put_row.Goals as goal
+
+pub loop-rows-preserved : goal.loop-rows-preserved
+loop-rows-preserved c = λ s are. subst (AreRows s) (sym c.in_ok-push.ensures.items) (row_more s c.loop-rows.rows.items (c.loop-rows.invariant s are))
+
+pub returns-in_err-push : goal.returns-in_err-push
+returns-in_err-push c = λ s are has. subst (AreRows s) (sym c.in_err-push.ensures.items) (c.loop-rows.invariant s are)
+
+pub returns : goal.returns
+returns c = λ s are has. row_put s c.loop-rows.rows.items c.args.at c.args.steps (c.loop-rows.invariant s are) has
