@@ -9,9 +9,10 @@ use Rattle.p21_commands.specs.Status.{refused}
 use Rattle.p21_commands.specs.Transfer.{AppendsPartOf}
 use Rattle.p21_commands.specs.declared.fault.CommandFault.{CommandFault}
 use Rattle.p21_commands.specs.declared.fault.CommandFault.TheVariants.{Refused, NoMemory, Read, Write}
+use Rattle.p21_commands_files.specs.Files.{IsFileRefused}
 use Rattle.p21_commands_files.specs.Refusals.{IsFaultOf}
 use Rattle.p21_commands_files.specs.Same.{IsAnswered, IsCompared, IsRefused, read_of, same_line, word_of}
-use Rattle.p21_commands_files.proofs.Failing.{file-refused, not-written}
+use Rattle.p21_commands_files.proofs.Failing.{file-refused, not-written, refused-of}
 use Rattle.p21_commands.specs.Command.{FailsBy}
 use Rattle.p21_commands_schema.specs.Load.{DeclaresRead}
 use Rattle.p21_schemas.specs.Schema.{Schema}
@@ -28,7 +29,16 @@ which-fails schema first_old first_new second_old second_new output s First refu
     (inr (inl (file-refused (word_of First) schema first_old first_new s refusal (string_bytes line) declares of_first fails.0, fails.1)), Keeps-refl output)
 which-fails schema first_old first_new second_old second_new output s Second refusal (Refused line) word declares named is fails =
     let of_second : IsFaultOf (word_of Second) refusal (Refused line) = subst (λ w. IsFaultOf w refusal (Refused line)) named is in
-    (inr (inr (file-refused (word_of Second) schema second_old second_new s refusal (string_bytes line) declares of_second fails.1)), Keeps-refl output)
+    let second : IsFileRefused (word_of Second) schema second_old second_new (string_bytes line) = record {
+      declared = s;
+      declares = declares;
+      refusal = refusal;
+      of_file = of_second.0;
+      refused = refused-of s second_old second_new refusal.fault of_second.0 fails.1;
+      refuses = fails.1;
+      line_is = of_second.1;
+    } in
+    (inr (inr (record { second = second; first_text = fails.0.0; first = fails.0.1 })), Keeps-refl output)
 which-fails schema first_old first_new second_old second_new output s which refusal NoMemory word declares named is fails = Keeps-refl output
 which-fails schema first_old first_new second_old second_new output s which refusal Read word declares named is fails = Keeps-refl output
 which-fails schema first_old first_new second_old second_new output s First refusal Write word declares named is fails = absurd (not-written s usual first_old first_new refusal.fault is fails.0)

@@ -5,7 +5,7 @@ use Rattle.p21_basics.specs.Limits.{usual}
 use Rattle.p21_commands_files.specs.Files.{IsFileRefused}
 use Rattle.p21_commands_schema.specs.Load.{DeclaresRead, IsRefused as IsSchemaRefused}
 use Rattle.p21_schemas.specs.Schema.{Schema}
-use Rattle.p21_stream.specs.Answers.{Compares}
+use Rattle.p21_stream.specs.Answers.{Compares, IsCanonicalOfRead}
 use Rattle.p21_stream.specs.declared.comparing.Which.{Which}
 use Rattle.p21_stream.specs.declared.comparing.Which.TheVariants.{First, Second}
 
@@ -41,9 +41,15 @@ pub record IsCompared (read : Read) (same : Bool) (line : List ℕ) : Type 0 whe
 abbrev pub IsAnswered : Read → List ℕ → Type 0
 IsAnswered read line = (same : Bool) × IsCompared read same line
 
+-- the second file is refused, and the first one accepted under the same schema
+pub record IsSecondRefused (read : Read) (line : List ℕ) : Type 0 where
+  pub second : IsFileRefused (word_of Second) read.schema read.second_old read.second_new line
+  pub first_text : List ℕ
+  pub first : IsCanonicalOfRead second.declared usual read.first_old read.first_new first_text
+
 -- the line is of the schema, and no file is read; or of the first file, and the second isn't read; or of the second
 abbrev pub IsRefused : Read → List ℕ → Type 0
 IsRefused read line =
     (IsSchemaRefused read.schema line × Keeps read.first_old read.first_new × Keeps read.second_old read.second_new)
     ⊎ ((IsFileRefused (word_of First) read.schema read.first_old read.first_new line × Keeps read.second_old read.second_new)
-    ⊎ IsFileRefused (word_of Second) read.schema read.second_old read.second_new line)
+    ⊎ IsSecondRefused read line)
