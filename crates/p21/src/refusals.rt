@@ -11,8 +11,8 @@ No word, number or sign of a STEP file begins or goes on with this byte. It is m
 one of these: keywords in lower case; a byte order mark in front of `ISO-10303-21;`,
 which editors don't show (`examples/refused/BadByte.step`); a real without a digit in
 front of its point (`.5`); a print control directive (`\N\`) between tokens; something
-that is no STEP file at all. At statement 1 it is mostly a file that is packed (gzip,
-zip) or in UTF-16.
+that is no STEP file at all. At statement 1 it is mostly a file that is packed by gzip,
+or in UTF-16.
 
 Write keywords in upper case and `0.5` for `.5`. Save the file as UTF-8 *without* byte
 order mark.
@@ -137,7 +137,7 @@ No statement goes on with this token. Here the `;` is missing, which shows at `#
 Other causes are a comma or a parenthesis too many or too few; an apostrophe inside a
 string, which ends it; a keyword as a value that should be an item, `T` for `.T.`; a
 name of an instance in the header; sections in another order. At statement 1 the schema
-was given as the file, or the file is UTF-16 without a mark.
+was given as the file, or the file is a zip archive, or UTF-16 without a mark.
 
 Look at the named statement up to its end, and at the one before it.
 ### 21 TooDeep
