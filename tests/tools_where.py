@@ -276,36 +276,44 @@ def hints(tests):
 
 
 def kinds(tests):
-    """Files of other kinds, with what is said of them at the end."""
+    """Files of other kinds, each with its refusal at statement 1, and with what is said of it at the end."""
     step = pathlib.Path("examples/product.step").read_bytes()
     rows = [
-        ("gzip", gzip.compress(step), "this is packed by gzip: unpack it with gunzip"),
-        ("gzip, cut", gzip.compress(step)[:300], "this is packed by gzip: unpack it with gunzip"),
-        ("zip", b"PK\x03\x04" + step, "this is a zip archive: unpack it with unzip"),
-        ("a byte order mark", b"\xef\xbb\xbf" + step, "a byte order mark stands in front: tail -c +4 prints the file without it"),
-        ("UTF-16", step.decode().encode("utf-16"), "this is UTF-16: iconv -f UTF-16 -t UTF-8 makes UTF-8 of it"),
+        ("gzip", 1, gzip.compress(step), "this is packed by gzip: unpack it with gunzip"),
+        ("gzip, cut", 1, gzip.compress(step)[:300], "this is packed by gzip: unpack it with gunzip"),
+        ("zip", 20, b"PK\x03\x04" + step, "this is a zip archive: unpack it with unzip"),
+        (
+            "a byte order mark",
+            1,
+            b"\xef\xbb\xbf" + step,
+            "a byte order mark stands in front: tail -c +4 prints the file without it",
+        ),
+        ("UTF-16", 1, step.decode().encode("utf-16"), "this is UTF-16: iconv -f UTF-16 -t UTF-8 makes UTF-8 of it"),
         (
             "UTF-16 without a mark",
+            20,
             step.decode().encode("utf-16-le"),
             "this is UTF-16 without a mark: iconv -f UTF-16LE -t UTF-8 (or UTF-16BE) makes UTF-8 of it",
         ),
         (
             "UTF-16 without a mark, the other half of each first",
+            20,
             step.decode().encode("utf-16-be"),
             "this is UTF-16 without a mark: iconv -f UTF-16LE -t UTF-8 (or UTF-16BE) makes UTF-8 of it",
         ),
-        ("UTF-16, cut", step.decode().encode("utf-16")[:301], "this is UTF-16: iconv -f UTF-16 -t UTF-8 makes UTF-8 of it"),
-        ("XML", b"<?xml version='1.0'?>\n<a/>", "this is XML or HTML, and not clear text"),
-        ("a program", pathlib.Path("/bin/sh").read_bytes(), None),
-        ("a schema", pathlib.Path(SCHEMA).read_bytes(), "this is a schema text: are schema and file exchanged?"),
+        ("UTF-16, cut", 1, step.decode().encode("utf-16")[:301], "this is UTF-16: iconv -f UTF-16 -t UTF-8 makes UTF-8 of it"),
+        ("XML", 1, b"<?xml version='1.0'?>\n<a/>", "this is XML or HTML, and not clear text"),
+        ("a program", 20, pathlib.Path("/bin/sh").read_bytes(), None),
+        ("a schema", 20, pathlib.Path(SCHEMA).read_bytes(), "this is a schema text: are schema and file exchanged?"),
     ]
-    for name, data, note in rows:
+    for name, number, data, note in rows:
         path = tests.make("kind", data)
         line, _ = program_line(tests, SCHEMA, path)
         output, error, status = tests.run([SCHEMA, path])
         lines = output.splitlines()
         said = lines[-1].strip() if note else None
         tests.judge(name, (line, note, "", 1), (lines[0], said, error, status))
+        tests.judge(f"{name}: the refusal", [str(number), "1"], re.findall(r"\b\d+\b", line))
 
 
 def others(tests):
