@@ -1,11 +1,13 @@
 //! Readers and writers of whole files: their calls are counted, their bytes are read in pieces and written whole.
 #![tactic(auto)]
 
+mod answering;
 mod fault;
 mod transfer;
 mod waiting;
 mod watched;
 
+pub use answering::{AnswersReads, AnswersWrites};
 pub use fault::{ReadFault, WriteFault};
 pub use transfer::{read_piece, write_whole};
 pub use waiting::Waiting;

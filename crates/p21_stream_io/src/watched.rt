@@ -4,7 +4,8 @@ ghost use Rattle.std.specs.Io.{ReadsAtMost, WritesAtMost};
 ghost use Rattle.std.specs.Io.KnownBytes.{ReadConsumes, WriteAppends};
 ghost use Rattle.p21_stream_io.specs.Watch.{failures_after_read, failures_after_write, moved_after};
 
-use std::io::{self, Read, Write};
+use crate::answering::{AnswersReads, AnswersWrites};
+use std::io;
 use std::marker::Model;
 
 /// A reader or a writer with the counts of its calls: those that moved bytes, and those that failed, which are the
@@ -62,19 +63,20 @@ impl<T> Watched<T> {
     }
 }
 
-impl<T: Read> Watched<T> {
-    /// Reads as the reader does. It takes no memory of its own.
+impl<T: AnswersReads> Watched<T> {
+    /// Reads as the reader does: one read, whose answer is handed on. It takes no memory of its own.
     ///
     /// # Errors
     ///
     /// The reader's.
     pub fn read(&mut self, buf: &mut [u8]) -> io::Result<usize>
+        ensures answer { T.may_read self.old.inner buf.old result buf.new self.new.inner }
         ensures bound { ReadsAtMost result buf.new }
         ensures bytes { ReadConsumes (T.remaining self.old.inner) (T.remaining self.new.inner) result buf.new }
         ensures moved { self.new.moved ≡ moved_after self.old.moved result }
         ensures failures { self.new.failures ≡ failures_after_read self.old.failures result }
     {
-        let answer = self.inner.read(buf);
+        let answer = self.inner.read_once(buf);
         match &answer {
             Ok(0) => {}
             Ok(_) => self.moved = self.moved.saturating_add(1),
@@ -84,19 +86,20 @@ impl<T: Read> Watched<T> {
     }
 }
 
-impl<T: Write> Watched<T> {
-    /// Writes as the writer does. It takes no memory of its own.
+impl<T: AnswersWrites> Watched<T> {
+    /// Writes as the writer does: one write, whose answer is handed on. It takes no memory of its own.
     ///
     /// # Errors
     ///
     /// The writer's.
     pub fn write(&mut self, buf: &[u8]) -> io::Result<usize>
+        ensures answer { T.may_write self.old.inner buf.now result self.new.inner }
         ensures bound { WritesAtMost result buf.now }
         ensures bytes { WriteAppends (T.contents self.old.inner) (T.contents self.new.inner) result buf.now }
         ensures moved { self.new.moved ≡ moved_after self.old.moved result }
         ensures failures { self.new.failures ≡ failures_after_write self.old.failures buf.now result }
     {
-        let answer = self.inner.write(buf);
+        let answer = self.inner.write_once(buf);
         match &answer {
             Ok(0) => {
                 if !buf.is_empty() {
