@@ -1,5 +1,5 @@
-//! Tests of whole files: a schema and a file are read, and what comes of them is compared with what must. Beside them the
-//! calls below a session, each by itself.
+//! What a session is made of, each part by itself: statements in pieces, faults and their places, the names of schemas, kinds
+//! and texts that are kept, counted readers and writers. It has tests alone.
 #![tactic(auto)]
 
 #[cfg(test)]

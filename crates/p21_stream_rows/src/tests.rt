@@ -1,23 +1,6 @@
-mod answers;
 mod counted;
-mod ends;
 mod faults;
-mod frames;
 mod front;
-mod headers;
 mod kinds;
-mod limits;
-mod lists;
-mod records;
-mod references;
 mod schema_names;
-mod schemas;
-mod sections;
 mod stored;
-
-use answers::{answer, differing, differing_within, framed, schema_of};
-use frames::{DEMO, DIAMOND, ENDED, Frame, HEADER, OPEN, REDECL, SECTIONS, SOLE, WHOLE, WIDE};
-use p21_values::Limits;
-use std::alloc::Global;
-use std::process::Abort;
-use std::test::Fail;

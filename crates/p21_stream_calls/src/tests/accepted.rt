@@ -1,113 +1,278 @@
-use super::*;
+//! What accepted files answer, and what writers get of them.
+use super::devices::{AMPLE, Full, Narrow, Space};
+use super::files::{
+    CONVERTED, CONVERTED_CANONICAL, DEMO, EMPTY, Frame, HEADER, SECTIONS, SHAPES, WHOLE, framed,
+};
+use super::{Rows, Wrong, check};
+use p21_stream::{Accepted, Limits, Name, Schema, Watched, accept};
+use std::alloc::Global;
 
-#[test]
-fn counts(rt: HostRuntime) -> Result<(), Fail> {
-    let rows = [
-        (DEMO, "", (0, 152)),
-        (DEMO, "#2 = POINT($, 1.0, 10.E-1);", (1, 171)),
-        (
-            SECTIONS,
-            "DATA('b',('DEMO'));#1=POINT($,1.,1.);ENDSEC;DATA('a',('demo'));#2=POINT($,2.0,1.);ENDSEC;",
-            (2, 232),
-        ),
-    ];
-    for (frame, text, wanted) in rows {
-        let accepted = accepted_of(rt.alloc(), frame, text)?.expect(&rt, "an accepted file");
-        assert_eq!(rt; (accepted.count(), accepted.len()), wanted);
-    }
-    Ok(())
+/// An answer of an accepted file.
+#[derive(Clone, Copy)]
+pub(super) enum Fact<'a> {
+    /// How many instances it has, and how many bytes its canonical file has.
+    Counts(u64, u64),
+    /// The line of the instance of this name.
+    Line(u64, Option<&'a str>),
+    /// How this line begins, and how it ends.
+    LineBetween(u64, &'a str, &'a str),
+    /// Whether a text is its canonical file.
+    Text(&'a [u8], bool),
+    /// How many instances it has, and its canonical file.
+    Whole(u64, &'a [u8]),
 }
 
-#[test]
-fn lines(rt: HostRuntime) -> Result<(), Fail> {
-    let text =
-        "#9=POINT($,9.,1.);#2 = POINT($, 1.0, 10.E-1);#18446744073709551615=MARKED($,.RED.);#00=POINT($,0.,0.);";
-    let accepted = accepted_of(rt.alloc(), DEMO, text)?.expect(&rt, "an accepted file");
-    let rows = [
-        (0, Some(b"#0=POINT($,0.,0.);".as_slice())),
-        (1, None),
-        (2, Some(b"#2=POINT($,1.,1.);".as_slice())),
-        (3, None),
-        (9, Some(b"#9=POINT($,9.,1.);".as_slice())),
-        (
-            u64::MAX,
-            Some(b"#18446744073709551615=MARKED($,.RED.);".as_slice()),
-        ),
-    ];
-    for (name, wanted) in rows {
-        assert_eq!(rt; accepted.line(Name(name)), wanted);
-    }
-    Ok(())
+/// Texts in frames, each with what the file answers.
+pub(super) type Facts = &'static [(Frame, &'static str, Fact<'static>)];
+
+fn accepted_of(alloc: Global, schema: &Schema, file: &[u8]) -> Option<Accepted> {
+    let mut reader = Watched::new(file);
+    accept(alloc, schema, Limits::usual(), &mut reader).ok()
 }
 
-#[test]
-fn knows_its_text(rt: HostRuntime) -> Result<(), Fail> {
-    const ROWS: [(&str, bool); 4] = [
-        ("#2=POINT($,1.,1.);\n", true),
-        ("#2=POINT($,1.,1.);", false),
-        ("#2 = POINT($, 1.0, 10.E-1);\n", false),
-        ("", false),
-    ];
-    let accepted = accepted_of(rt.alloc(), DEMO, "#2 = POINT($, 1.0, 10.E-1);")?.expect(
-        &rt,
-        "an accepted file",
-    );
-    for (text, wanted) in ROWS {
-        let file = framed(rt.alloc(), DEMO, text)?;
-        assert_eq!(rt; accepted.is_text(file.as_bytes()), wanted);
+fn is_text(line: &[u8], wanted: Option<&str>) -> bool {
+    match wanted {
+        Some(wanted) => line == wanted.as_bytes(),
+        None => false,
     }
-    Ok(())
 }
 
-#[test]
-fn knows_its_text_from_others(rt: HostRuntime) -> Result<(), Fail> {
-    let accepted = accepted_of(rt.alloc(), DEMO, "")?.expect(&rt, "an accepted file");
-    let data = "DATA;\nENDSEC;\n";
-    let rows = [
-        (SECTIONS, data, true),
-        (
-            HEADER,
-            "FILE_DESCRIPTION(('x'),'2;1');\nFILE_NAME('','',(''),(''),'','','');\nFILE_SCHEMA(('DEMO'));\n",
-            false,
-        ),
-        (
-            Frame {
-                behind: "END-ISO-10303-21;",
-                ..SECTIONS
-            },
-            data,
-            false,
-        ),
-        (
-            Frame {
-                behind: "END-ISO-10303-21;\n\n",
-                ..SECTIONS
-            },
-            data,
-            false,
-        ),
-        (
-            Frame {
-                before: "",
-                behind: "",
-            },
-            "",
-            false,
-        ),
-    ];
-    for (frame, text, wanted) in rows {
-        let file = framed(rt.alloc(), frame, text)?;
-        assert_eq!(rt; accepted.is_text(file.as_bytes()), wanted);
+fn is_line(line: Option<&[u8]>, wanted: Option<&str>) -> bool {
+    match line {
+        Some(line) => is_text(line, wanted),
+        None => wanted.is_none(),
     }
-    Ok(())
 }
 
+fn is_between(line: Option<&[u8]>, front: &str, behind: &str) -> bool {
+    match line {
+        Some(line) => line.starts_with(front.as_bytes()) && line.ends_with(behind.as_bytes()),
+        None => false,
+    }
+}
+
+fn is_so(accepted: &Accepted, fact: Fact) -> bool {
+    match fact {
+        Fact::Counts(count, len) => accepted.count() == count && accepted.len() == len,
+        Fact::Line(name, wanted) => is_line(accepted.line(Name(name)), wanted),
+        Fact::LineBetween(name, front, behind) => {
+            is_between(accepted.line(Name(name)), front, behind)
+        }
+        Fact::Text(text, wanted) => accepted.is_text(text) == wanted,
+        Fact::Whole(count, text) => accepted.count() == count && accepted.is_text(text),
+    }
+}
+
+/// Whether a file is accepted, and answers so.
+pub(super) fn answers(alloc: Global, schema: &Schema, file: &[u8], fact: Fact) -> bool {
+    match accepted_of(alloc, schema, file) {
+        Some(accepted) => is_so(&accepted, fact),
+        None => false,
+    }
+}
+
+fn answers_in(alloc: Global, schema: &Schema, frame: Frame, text: &str, fact: Fact) -> bool {
+    match framed(alloc, frame, text.as_bytes()) {
+        Some(file) => answers(alloc, schema, &file, fact),
+        None => false,
+    }
+}
+
+pub(super) fn wrong_fact(alloc: Global, schema: &Schema, rows: Facts) -> Wrong {
+    for (place, (frame, text, fact)) in rows.iter().enumerate() {
+        if !answers_in(alloc, schema, *frame, text, *fact) {
+            return Some((text, place));
+        }
+    }
+    None
+}
+
+const COUNTS: Facts = &[
+    (DEMO, "", Fact::Counts(0, 152)),
+    (DEMO, "#2 = POINT($, 1.0, 10.E-1);", Fact::Counts(1, 171)),
+    (
+        SECTIONS,
+        "DATA('b',('DEMO'));#1=POINT($,1.,1.);ENDSEC;DATA('a',('demo'));#2=POINT($,2.0,1.);ENDSEC;",
+        Fact::Counts(2, 232),
+    ),
+];
+
 #[test]
-fn a_small_file_is_one_write(rt: HostRuntime) -> Result<(), Fail> {
-    let accepted = accepted_of(rt.alloc(), DEMO, "")?.expect(&rt, "an accepted file");
-    let mut writer = Watched::new(Vec::new(rt.alloc()));
-    accepted.write_to(&mut writer)?;
-    assert_eq!(rt; (writer.moved(), writer.failures()), (1, 0));
-    assert_eq!(rt; writer.into_inner().as_slice(), EMPTY.as_bytes());
-    Ok(())
+fn counts_instances_and_bytes(rt: HostRuntime) {
+    check(&rt, rt.alloc(), SHAPES, Rows::Facts(COUNTS));
+}
+
+const LINES: &str =
+    "#9=POINT($,9.,1.);#2 = POINT($, 1.0, 10.E-1);#18446744073709551615=MARKED($,.RED.);#00=POINT($,0.,0.);";
+
+const LINES_BY_NAME: Facts = &[
+    (DEMO, LINES, Fact::Line(0, Some("#0=POINT($,0.,0.);"))),
+    (DEMO, LINES, Fact::Line(1, None)),
+    (DEMO, LINES, Fact::Line(2, Some("#2=POINT($,1.,1.);"))),
+    (DEMO, LINES, Fact::Line(3, None)),
+    (DEMO, LINES, Fact::Line(9, Some("#9=POINT($,9.,1.);"))),
+    (
+        DEMO,
+        LINES,
+        Fact::Line(u64::MAX, Some("#18446744073709551615=MARKED($,.RED.);")),
+    ),
+];
+
+#[test]
+fn finds_lines(rt: HostRuntime) {
+    check(&rt, rt.alloc(), SHAPES, Rows::Facts(LINES_BY_NAME));
+}
+
+/// Instances of a file, a text in a frame, and whether this is the canonical file.
+pub(super) type Texts = &'static [(&'static str, Frame, &'static str, bool)];
+
+fn knows(
+    alloc: Global,
+    schema: &Schema,
+    lines: &str,
+    (frame, text): (Frame, &str),
+    is_known: bool,
+) -> bool {
+    match framed(alloc, frame, text.as_bytes()) {
+        Some(text) => answers_in(alloc, schema, DEMO, lines, Fact::Text(&text, is_known)),
+        None => false,
+    }
+}
+
+pub(super) fn wrong_text(alloc: Global, schema: &Schema, rows: Texts) -> Wrong {
+    for (place, (lines, frame, text, is_known)) in rows.iter().enumerate() {
+        if !knows(alloc, schema, lines, (*frame, text), *is_known) {
+            return Some((text, place));
+        }
+    }
+    None
+}
+
+const POINT: &str = "#2 = POINT($, 1.0, 10.E-1);";
+
+const DATA: &str = "DATA;\nENDSEC;\n";
+
+const TEXTS: Texts = &[
+    (POINT, DEMO, "#2=POINT($,1.,1.);\n", true),
+    (POINT, DEMO, "#2=POINT($,1.,1.);", false),
+    (POINT, DEMO, "#2 = POINT($, 1.0, 10.E-1);\n", false),
+    (POINT, DEMO, "", false),
+    ("", SECTIONS, DATA, true),
+    (
+        "",
+        HEADER,
+        "FILE_DESCRIPTION(('x'),'2;1');\nFILE_NAME('','',(''),(''),'','','');\nFILE_SCHEMA(('DEMO'));\n",
+        false,
+    ),
+    (
+        "",
+        Frame {
+            behind: "END-ISO-10303-21;",
+            ..SECTIONS
+        },
+        DATA,
+        false,
+    ),
+    (
+        "",
+        Frame {
+            behind: "END-ISO-10303-21;\n\n",
+            ..SECTIONS
+        },
+        DATA,
+        false,
+    ),
+    ("", WHOLE, "", false),
+];
+
+#[test]
+fn knows_its_text(rt: HostRuntime) {
+    check(&rt, rt.alloc(), SHAPES, Rows::Texts(TEXTS));
+}
+
+/// What a writer gets of a file: how many bytes, in how many calls, and whether a call fails.
+#[derive(Clone, Copy)]
+pub(super) struct Got {
+    written: usize,
+    moved: u64,
+    failures: u64,
+}
+
+/// A file, its canonical file, a writer, and what this gets.
+pub(super) type Writes = &'static [(&'static str, &'static str, Space, Got)];
+
+/// Whether a writer gets so much of a file.
+fn gets(accepted: &Accepted, text: &[u8], space: Space, got: Got) -> bool {
+    let mut writer = Watched::new(Narrow::new(text, space));
+    let is_written = accepted.write_to(&mut writer).is_ok();
+    let counts = (writer.moved(), writer.failures());
+    let left = writer.into_inner().left();
+    is_written == (got.failures == 0)
+        && counts == (got.moved, got.failures)
+        && left == text.len().checked_sub(got.written)
+}
+
+/// The same, and whether another writer gets the whole behind it.
+fn gets_both(accepted: &Accepted, text: &[u8], space: Space, got: Got) -> bool {
+    let whole = Got {
+        written: text.len(),
+        moved: 1,
+        failures: 0,
+    };
+    gets(accepted, text, space, got) && gets(accepted, text, AMPLE, whole)
+}
+
+fn writes_so(
+    alloc: Global,
+    schema: &Schema,
+    (file, text): (&str, &str),
+    space: Space,
+    got: Got,
+) -> bool {
+    match accepted_of(alloc, schema, file.as_bytes()) {
+        Some(accepted) => gets_both(&accepted, text.as_bytes(), space, got),
+        None => false,
+    }
+}
+
+pub(super) fn wrong_write(alloc: Global, schema: &Schema, rows: Writes) -> Wrong {
+    for (place, (file, text, space, got)) in rows.iter().enumerate() {
+        if !writes_so(alloc, schema, (file, text), *space, *got) {
+            return Some((file, place));
+        }
+    }
+    None
+}
+
+const WRITES: Writes = &[
+    (
+        EMPTY,
+        EMPTY,
+        AMPLE,
+        Got {
+            written: 152,
+            moved: 1,
+            failures: 0,
+        },
+    ),
+    (
+        CONVERTED,
+        CONVERTED_CANONICAL,
+        Space {
+            most: 3,
+            room: 100,
+            then: Full::TakesNone,
+        },
+        Got {
+            written: 100,
+            moved: 34,
+            failures: 1,
+        },
+    ),
+];
+
+/// A small file is one write, and behind a writer that failed another one gets the whole.
+#[test]
+fn writes_its_text(rt: HostRuntime) {
+    check(&rt, rt.alloc(), SHAPES, Rows::Writes(WRITES));
 }

@@ -1,6 +1,11 @@
-use super::*;
+//! Files cut off, and files cut into pieces.
+use super::answers::{Cut, Wanted, comes_in_pieces};
+use super::files::{CONVERTED, CONVERTED_CANONICAL, DEMO, Frame, SHAPES, WHOLE, framed};
+use super::{Rows, Wrong, check};
+use p21_stream::{At, Limits, Schema, canonical};
+use std::alloc::Global;
 
-/// Where a text may be cut: how many of its statements have ended, and what is open.
+/// What is open behind the first bytes of a file: the number of the statement, and what the last byte stands in.
 #[derive(Clone, Copy)]
 struct Reading {
     statement: u64,
@@ -52,88 +57,148 @@ const UNREAD: Reading = Reading {
 
 /// Whether a file that ends here is refused for its end.
 fn is_refused(alloc: Global, schema: &Schema, text: &[u8], reading: Reading) -> bool {
-    let Some(refusal) = canonical(alloc, schema, Limits::usual(), text).err() else {
-        return false;
-    };
-    refusal.number() == reading.number() && refusal.at == At::Statement(reading.statement)
+    match canonical(alloc, schema, Limits::usual(), text) {
+        Ok(_file) => false,
+        Err(refusal) => {
+            refusal.number() == reading.number() && refusal.at == At::Statement(reading.statement)
+        }
+    }
 }
 
-/// The first place at which a file may be cut off and isn't refused for its end.
-fn other_end(alloc: Global, schema: &Schema, text: &[u8]) -> Option<usize> {
+/// The first place up to `last` at which a file may be cut off and isn't refused for its end.
+fn first_end(alloc: Global, schema: &Schema, text: &[u8], last: usize) -> Option<usize> {
     let mut reading = UNREAD;
-    for place in 0..=text.len() {
-        if !is_refused(alloc, schema, &text[..place], reading) {
+    for (place, byte) in text.iter().enumerate() {
+        if place > last {
+            return None;
+        }
+        if !is_refused(alloc, schema, text.split_at(place).0, reading) {
             return Some(place);
         }
-        match text.get(place) {
-            Some(byte) => reading = reading.behind(*byte),
-            None => {}
+        reading = reading.behind(*byte);
+    }
+    Some(text.len())
+}
+
+/// Files, each with how many bytes from its last semicolon on.
+pub(super) type CutOff = &'static [(Frame, &'static str, usize)];
+
+fn wrong_end_of(
+    alloc: Global,
+    schema: &Schema,
+    frame: Frame,
+    text: &str,
+    end: usize,
+) -> Option<usize> {
+    match framed(alloc, frame, text.as_bytes()) {
+        Some(file) => first_end(alloc, schema, &file, file.len().saturating_sub(end)),
+        None => Some(0),
+    }
+}
+
+pub(super) fn wrong_end(alloc: Global, schema: &Schema, rows: CutOff) -> Wrong {
+    for (frame, text, end) in rows {
+        if let Some(place) = wrong_end_of(alloc, schema, *frame, text, *end) {
+            return Some((text, place));
         }
     }
     None
 }
 
+const CUT_OFF: CutOff = &[
+    (DEMO, "#2 = POINT($, 1.0, 10.E-1);\n", 2),
+    (WHOLE, CONVERTED, 3),
+];
+
 #[test]
-fn cut_off(rt: HostRuntime) -> Result<(), Fail> {
-    let schema = shapes(rt.alloc())?;
-    let point = framed(rt.alloc(), DEMO, "#2 = POINT($, 1.0, 10.E-1);\n")?;
-    for file in [point.as_str(), CONVERTED] {
-        let text = file.trim_end().strip_suffix(";").expect(&rt, "a last `;`");
-        assert_eq!(rt; other_end(rt.alloc(), &schema, text.as_bytes()), None);
-    }
-    Ok(())
+fn refuses_a_file_cut_anywhere(rt: HostRuntime) {
+    check(&rt, rt.alloc(), SHAPES, Rows::CutOff(CUT_OFF));
 }
 
-/// What a session answers that takes a file in two pieces.
-fn in_two(alloc: Global, schema: &Schema, front: &[u8], rest: &[u8]) -> Result<Accepted, Refusal> {
-    let mut session = Session::new(alloc, schema, Limits::usual());
-    session.feed(front)?;
-    session.feed(rest)?;
-    session.finish()
-}
+/// Texts in frames, each with what stands in the canonical file.
+pub(super) type Files = &'static [(Frame, &'static str, &'static str)];
 
-/// The first place at which a cut in two changes the answer for a file.
-fn other_in_two(alloc: Global, schema: &Schema, text: &[u8], wanted: &[u8]) -> Option<usize> {
+/// The first place at which a file may be cut in two and something else comes of it.
+fn first_cut(alloc: Global, schema: &Schema, text: &[u8], wanted: Wanted) -> Option<usize> {
     for place in 0..=text.len() {
-        match in_two(alloc, schema, &text[..place], &text[place..]) {
-            Ok(accepted) => {
-                if !accepted.is_text(wanted) {
-                    return Some(place);
-                }
-            }
-            Err(_) => return Some(place),
+        if !comes_in_pieces(alloc, schema, Limits::usual(), text, Cut::At(place), wanted) {
+            return Some(place);
         }
     }
     None
 }
 
-#[test]
-fn a_point_cut_in_two(rt: HostRuntime) -> Result<(), Fail> {
-    let schema = shapes(rt.alloc())?;
-    let text = framed(
-        rt.alloc(),
+/// The first size of pieces of which something else comes.
+fn first_size(alloc: Global, schema: &Schema, text: &[u8], wanted: Wanted) -> Option<usize> {
+    for size in [1, 2, 7, 64] {
+        if !comes_in_pieces(
+            alloc,
+            schema,
+            Limits::usual(),
+            text,
+            Cut::Each(size),
+            wanted,
+        ) {
+            return Some(size);
+        }
+    }
+    None
+}
+
+fn first_piece(alloc: Global, schema: &Schema, text: &[u8], canonical: &[u8]) -> Option<usize> {
+    let wanted = Wanted::File(canonical);
+    match first_cut(alloc, schema, text, wanted) {
+        Some(place) => Some(place),
+        None => first_size(alloc, schema, text, wanted),
+    }
+}
+
+fn first_piece_of(
+    alloc: Global,
+    schema: &Schema,
+    text: &[u8],
+    frame: Frame,
+    canonical: &str,
+) -> Option<usize> {
+    match framed(alloc, frame, canonical.as_bytes()) {
+        Some(canonical) => first_piece(alloc, schema, text, &canonical),
+        None => Some(0),
+    }
+}
+
+fn wrong_piece_of(
+    alloc: Global,
+    schema: &Schema,
+    frame: Frame,
+    text: &str,
+    canonical: &str,
+) -> Option<usize> {
+    match framed(alloc, frame, text.as_bytes()) {
+        Some(file) => first_piece_of(alloc, schema, &file, frame, canonical),
+        None => Some(0),
+    }
+}
+
+pub(super) fn wrong_piece(alloc: Global, schema: &Schema, rows: Files) -> Wrong {
+    for (frame, text, canonical) in rows {
+        if let Some(place) = wrong_piece_of(alloc, schema, *frame, text, canonical) {
+            return Some((text, place));
+        }
+    }
+    None
+}
+
+const FILES: Files = &[
+    (
         DEMO,
         "#1=POINT('it''s \\X2\\00E9\\X0\\',1.E2,2.)/**/;\n",
-    )?;
-    let wanted = framed(
-        rt.alloc(),
-        DEMO,
         "#1=POINT('it''s \\X2\\00E9\\X0\\',1.E2,2.);\n",
-    )?;
-    assert_eq!(rt;
-        other_in_two(rt.alloc(), &schema, text.as_bytes(), wanted.as_bytes()),
-        None
-    );
-    Ok(())
-}
+    ),
+    (WHOLE, CONVERTED, CONVERTED_CANONICAL),
+];
 
+/// In two, cut anywhere, and in small pieces, of one byte too.
 #[test]
-fn a_converted_file_cut_in_two(rt: HostRuntime) -> Result<(), Fail> {
-    let schema = shapes(rt.alloc())?;
-    let wanted = CONVERTED_CANONICAL.as_bytes();
-    assert_eq!(rt;
-        other_in_two(rt.alloc(), &schema, CONVERTED.as_bytes(), wanted),
-        None
-    );
-    Ok(())
+fn reads_a_file_in_pieces(rt: HostRuntime) {
+    check(&rt, rt.alloc(), SHAPES, Rows::Pieces(FILES));
 }

@@ -1,12 +1,8 @@
-use p21_express::read_schema;
-use p21_express_tables::Schema;
-use p21_stream::{Accepted, At, Refusal, Watched, accept};
-use p21_values::{Limits, Name};
-use std::alloc::Global;
-use std::test::Fail;
+//! A schema, and files of it.
+use std::alloc::{AllocError, Global};
 
 /// A schema of shapes.
-const SHAPES: &str = "SCHEMA demo;
+pub(super) const SHAPES: &str = "SCHEMA demo;
 TYPE distance = REAL; END_TYPE;
 TYPE tally = INTEGER; END_TYPE;
 TYPE colour = ENUMERATION OF (red, green); END_TYPE;
@@ -53,55 +49,45 @@ pub(super) const SECTIONS: Frame = Frame {
     behind: "END-ISO-10303-21;\n",
 };
 
+/// The lines of a file up to its instances.
+pub(super) const FRONT: &str =
+    "ISO-10303-21;\nHEADER;\nFILE_DESCRIPTION((''),'2;1');\nFILE_NAME('','',(''),(''),'','','');\nFILE_SCHEMA(('DEMO'));\nENDSEC;\nDATA;\n";
+
+/// The lines behind them.
+pub(super) const BACK: &str = "ENDSEC;\nEND-ISO-10303-21;\n";
+
 /// The instances of a section without a name.
 pub(super) const DEMO: Frame = Frame {
-    before: "ISO-10303-21;\nHEADER;\nFILE_DESCRIPTION((''),'2;1');\nFILE_NAME('','',(''),(''),'','','');\nFILE_SCHEMA(('DEMO'));\nENDSEC;\nDATA;\n",
-    behind: "ENDSEC;\nEND-ISO-10303-21;\n",
+    before: FRONT,
+    behind: BACK,
 };
 
-/// The schema of all files here.
-pub(super) fn shapes(alloc: Global) -> Result<Schema, Fail> {
-    Ok(read_schema(alloc, SHAPES.as_bytes())?)
+/// What stands where instances may, and no more.
+pub(super) const OPEN: Frame = Frame { behind: "", ..DEMO };
+
+/// What stands behind a file without instances.
+pub(super) const ENDED: Frame = Frame {
+    before: EMPTY,
+    behind: "",
+};
+
+/// No text around a whole file.
+pub(super) const WHOLE: Frame = Frame {
+    before: "",
+    behind: "",
+};
+
+/// A text in a frame: none where memory runs out.
+pub(super) fn framed(alloc: Global, frame: Frame, text: &[u8]) -> Option<Vec<u8>> {
+    let mut file = Vec::new(alloc);
+    match push_framed(&mut file, frame, text) {
+        Ok(()) => Some(file),
+        Err(_) => None,
+    }
 }
 
-/// A text in a frame.
-pub(super) fn framed(alloc: Global, frame: Frame, text: &str) -> Result<String, Fail> {
-    let mut file = String::from_str(alloc, frame.before)?;
-    file.push_str(text)?;
-    file.push_str(frame.behind)?;
-    Ok(file)
-}
-
-/// A text in a frame, if it is accepted.
-pub(super) fn accepted_of(
-    alloc: Global,
-    frame: Frame,
-    text: &str,
-) -> Result<Option<Accepted>, Fail> {
-    let schema = shapes(alloc)?;
-    let file = framed(alloc, frame, text)?;
-    let mut reader = Watched::new(file.as_bytes());
-    Ok(accept(alloc, &schema, Limits::usual(), &mut reader).ok())
-}
-
-/// The canonical file of an accepted one.
-pub(super) fn file_of(alloc: Global, accepted: &Accepted) -> Result<String, Fail> {
-    let mut writer = Watched::new(Vec::new(alloc));
-    accepted.write_to(&mut writer)?;
-    Ok(String::from_utf8_lossy(alloc, &writer.into_inner())?)
-}
-
-/// A refusal, as the program prints it.
-pub(super) fn refusal_text(alloc: Global, refusal: Refusal) -> Result<String, Fail> {
-    let number = refusal.number();
-    let name = refusal.name();
-    let text = match refusal.at {
-        At::Statement(statement) => {
-            format!(in alloc; "refused {number} {name} at statement {statement}")?
-        }
-        At::Instance(Name(instance)) => format!(in alloc;
-            "refused {number} {name} in #{instance}"
-        )?,
-    };
-    Ok(text)
+fn push_framed(file: &mut Vec<u8>, frame: Frame, text: &[u8]) -> Result<(), AllocError> {
+    file.extend_from_slice(frame.before.as_bytes())?;
+    file.extend_from_slice(text)?;
+    file.extend_from_slice(frame.behind.as_bytes())
 }

@@ -1,69 +1,167 @@
-use super::*;
+//! Files of many instances, and of one with many references.
+use super::accepted::{Fact, answers};
+use super::answers::{Wanted, comes_at_once};
+use super::files::{DEMO, SHAPES};
+use super::{Rows, Wrong, check};
+use p21_stream::{Limits, Schema};
+use std::alloc::{AllocError, Global};
 
-/// Points, each with its name as its label: all names below 10,007, a prime, in the order of the multiples of `step`.
-fn points(alloc: Global, step: u64) -> Result<String, Fail> {
-    let mut lines = String::new(alloc);
+/// A large file.
+#[derive(Clone, Copy)]
+pub(super) enum Many {
+    /// 10,000 points, by their names.
+    Points,
+    /// Points, each with its name as its label: all names below 10,007, a prime, in the order of the multiples of this.
+    Labelled(u64),
+    /// A cloud of 2,000 points, and of one more name if there is one.
+    Cloud(&'static str),
+}
+
+fn push_labelled(file: &mut String, step: u64) -> Result<(), AllocError> {
     for place in 1..10_007_u64 {
         let name = place.wrapping_mul(step) % 10_007;
-        lines.push_str(&format!(in alloc; "#{name}=POINT('{name}',1.,1.);\n")?)?;
-    }
-    Ok(lines)
-}
-
-#[test]
-fn many_points(rt: HostRuntime) -> Result<(), Fail> {
-    let mut lines = String::new(rt.alloc());
-    for name in 1..10_001 {
-        lines.push_str(&format!(in rt.alloc(); "#{name}=POINT($,1.,1.);\n")?)?;
-    }
-    let accepted = accepted_of(rt.alloc(), DEMO, &lines)?.expect(&rt, "an accepted file");
-    assert_eq!(rt; (accepted.count(), accepted.len()), (10_000, 219_046));
-    Ok(())
-}
-
-#[test]
-fn many_points_in_other_orders(rt: HostRuntime) -> Result<(), Fail> {
-    let wanted = framed(rt.alloc(), DEMO, &points(rt.alloc(), 1)?)?;
-    for step in [1, 10_006, 7_919] {
-        let lines = points(rt.alloc(), step)?;
-        let accepted = accepted_of(rt.alloc(), DEMO, &lines)?.expect(&rt, "an accepted file");
-        assert_eq!(rt; accepted.count(), 10_006);
-        assert!(rt; accepted.is_text(wanted.as_bytes()), "{step}");
+        write!(file, "#{name}=POINT('{name}',1.,1.);\n")?;
     }
     Ok(())
 }
 
-/// A cloud of 2,000 points, and one more name if there is one.
-fn cloud(alloc: Global, more: &str) -> Result<String, Fail> {
-    let mut lines = String::from_str(alloc, "#1=CLOUD((#2")?;
-    for name in 3..2_002 {
-        lines.push_str(&format!(in alloc; ",#{name}")?)?;
+/// Adds each of these numbers, between two texts.
+fn push_numbers(
+    file: &mut String,
+    (first, end): (u64, u64),
+    front: &str,
+    behind: &str,
+) -> Result<(), AllocError> {
+    for number in first..end {
+        write!(file, "{front}{number}{behind}")?;
     }
-    lines.push_str(more)?;
-    lines.push_str("),(),(TALLY(1)));")?;
-    for name in 2..2_002 {
-        lines.push_str(&format!(in alloc; "#{name}=POINT($,1.,1.);")?)?;
-    }
-    Ok(lines)
-}
-
-#[test]
-fn many_members(rt: HostRuntime) -> Result<(), Fail> {
-    let lines = cloud(rt.alloc(), "")?;
-    let accepted = accepted_of(rt.alloc(), DEMO, &lines)?.expect(&rt, "an accepted file");
-    let line = accepted.line(Name(1)).expect(&rt, "a cloud");
-    assert!(rt; line.starts_with(b"#1=CLOUD((#10,#100,#1000,#1001,"));
-    assert!(rt; line.ends_with(b",#998,#999),(),(TALLY(1)));"));
     Ok(())
 }
 
+fn push_cloud(file: &mut String, more: &str) -> Result<(), AllocError> {
+    file.push_str("#1=CLOUD((#2")?;
+    push_numbers(file, (3, 2_002), ",#", "")?;
+    file.push_str(more)?;
+    file.push_str("),(),(TALLY(1)));")?;
+    push_numbers(file, (2, 2_002), "#", "=POINT($,1.,1.);")
+}
+
+fn push_lines(file: &mut String, lines: Many) -> Result<(), AllocError> {
+    match lines {
+        Many::Points => push_numbers(file, (1, 10_001), "#", "=POINT($,1.,1.);\n"),
+        Many::Labelled(step) => push_labelled(file, step),
+        Many::Cloud(more) => push_cloud(file, more),
+    }
+}
+
+fn push_file(file: &mut String, lines: Many) -> Result<(), AllocError> {
+    file.push_str(DEMO.before)?;
+    push_lines(file, lines)?;
+    file.push_str(DEMO.behind)
+}
+
+/// The text of a file: none where memory runs out.
+fn file_of(alloc: Global, lines: Many) -> Option<String> {
+    let mut file = String::new(alloc);
+    match push_file(&mut file, lines) {
+        Ok(()) => Some(file),
+        Err(_) => None,
+    }
+}
+
+/// What is to come of a large file: an answer, or a refusal.
+#[derive(Clone, Copy)]
+pub(super) enum Outcome {
+    Accepted(Fact<'static>),
+    Refused(&'static str),
+}
+
+/// By its name: a large file, and what is to come of it.
+pub(super) type Files = &'static [(&'static str, Many, Outcome)];
+
+fn comes(alloc: Global, schema: &Schema, file: &[u8], wanted: Outcome) -> bool {
+    match wanted {
+        Outcome::Accepted(fact) => answers(alloc, schema, file, fact),
+        Outcome::Refused(line) => comes_at_once(
+            alloc,
+            schema,
+            Limits::usual(),
+            file,
+            Wanted::Refusal(line),
+        ),
+    }
+}
+
+fn comes_of(alloc: Global, schema: &Schema, lines: Many, wanted: Outcome) -> bool {
+    match file_of(alloc, lines) {
+        Some(file) => comes(alloc, schema, file.as_bytes(), wanted),
+        None => false,
+    }
+}
+
+pub(super) fn wrong_file(alloc: Global, schema: &Schema, rows: Files) -> Wrong {
+    for (place, (name, lines, wanted)) in rows.iter().enumerate() {
+        if !comes_of(alloc, schema, *lines, *wanted) {
+            return Some((name, place));
+        }
+    }
+    None
+}
+
+const FILES: Files = &[
+    (
+        "many points",
+        Many::Points,
+        Outcome::Accepted(Fact::Counts(10_000, 219_046)),
+    ),
+    (
+        "many members",
+        Many::Cloud(""),
+        Outcome::Accepted(Fact::LineBetween(
+            1,
+            "#1=CLOUD((#10,#100,#1000,#1001,",
+            ",#998,#999),(),(TALLY(1)));",
+        )),
+    ),
+    (
+        "many members and one twice",
+        Many::Cloud(",#02"),
+        Outcome::Refused("refused 52 NotDistinct in #1"),
+    ),
+];
+
 #[test]
-fn many_members_and_one_twice(rt: HostRuntime) -> Result<(), Fail> {
-    let schema = shapes(rt.alloc())?;
-    let lines = cloud(rt.alloc(), ",#02")?;
-    let file = framed(rt.alloc(), DEMO, &lines)?;
-    let refusal = canonical(rt.alloc(), &schema, Limits::usual(), file.as_bytes()).err();
-    let refusal = refusal.expect(&rt, "a refusal");
-    assert_eq!(rt; (refusal.number(), refusal.at), (52, At::Instance(Name(1))));
-    Ok(())
+fn takes_many_instances_and_members(rt: HostRuntime) {
+    check(&rt, rt.alloc(), SHAPES, Rows::Large(FILES));
+}
+
+/// Whether a file has as many instances as labelled points are, and their text by their names as its canonical file.
+fn is_in_order(alloc: Global, schema: &Schema, file: &[u8]) -> bool {
+    match file_of(alloc, Many::Labelled(1)) {
+        Some(text) => answers(alloc, schema, file, Fact::Whole(10_006, text.as_bytes())),
+        None => false,
+    }
+}
+
+fn comes_in_order(alloc: Global, schema: &Schema, step: u64) -> bool {
+    match file_of(alloc, Many::Labelled(step)) {
+        Some(file) => is_in_order(alloc, schema, file.as_bytes()),
+        None => false,
+    }
+}
+
+pub(super) fn wrong_order(alloc: Global, schema: &Schema, steps: &[u64]) -> Wrong {
+    for (place, step) in steps.iter().enumerate() {
+        if !comes_in_order(alloc, schema, *step) {
+            return Some(("labelled points", place));
+        }
+    }
+    None
+}
+
+const STEPS: &[u64] = &[1, 10_006, 7_919];
+
+#[test]
+fn puts_many_points_in_order(rt: HostRuntime) {
+    check(&rt, rt.alloc(), SHAPES, Rows::Orders(STEPS));
 }

@@ -1,166 +1,247 @@
-use super::*;
+//! Files rewritten, over readers and writers that give and take little at a time, and fail.
+use super::answers::is_line;
+use super::devices::{AMPLE, Full, Narrow, Slow, Source, Space};
+use super::files::{CONVERTED, CONVERTED_CANONICAL, EMPTY, SHAPES};
+use super::{Rows, Wrong, check};
+use p21_stream::{Limits, Refusal, Schema, Watched, rewrite};
+use std::alloc::Global;
 
-/// What comes of a file that is rewritten: the length or the refusal, and what was written.
-#[derive(Drop)]
-struct Outcome {
-    answer: String,
-    written: Vec<u8>,
-    reads_failed: u64,
-    writes_failed: u64,
+/// What is to be answered where a file is rewritten.
+#[derive(Clone, Copy)]
+pub(super) enum Answer {
+    Size(u64),
+    Line(&'static str),
+    /// A refusal of this number.
+    Number(u8),
 }
 
-fn rewritten(
-    alloc: Global,
-    schema: &Schema,
-    reader: Slow<'_>,
-    writer: Narrow,
-) -> Result<Outcome, Fail> {
-    let mut reader = Watched::new(reader);
-    let mut writer = Watched::new(writer);
-    let answer = match rewrite(alloc, schema, Limits::usual(), &mut reader, &mut writer) {
-        Ok(size) => format!(in alloc; "{size} bytes")?,
-        Err(refusal) => refusal_text(alloc, refusal)?,
-    };
-    Ok(Outcome {
-        answer,
-        reads_failed: reader.failures(),
-        writes_failed: writer.failures(),
-        written: writer.into_inner().bytes,
-    })
+/// A file that is rewritten, and what comes of it.
+#[derive(Clone, Copy)]
+pub(super) struct Case {
+    name: &'static str,
+    file: &'static str,
+    canonical: &'static str,
+    // How many bytes the reader gives a call, and how many calls don't fail.
+    reads: (usize, usize),
+    space: Space,
+    answer: Answer,
+    // How many bytes the writer gets, and how many reads and writes fail.
+    written: usize,
+    failures: (u64, u64),
 }
 
-/// A writer that takes some bytes at a time up to so many, and then fails or takes none.
-fn writer_of(alloc: Global, most: usize, room: usize, full: Full) -> Narrow {
-    let bytes = Vec::new(alloc);
-    Narrow {
-        bytes,
-        most,
-        room,
-        full,
+pub(super) type Cases = &'static [Case];
+
+fn is_refusal(alloc: Global, refusal: Refusal, wanted: Answer) -> bool {
+    match wanted {
+        Answer::Size(_) => false,
+        Answer::Line(line) => is_line(alloc, refusal, line),
+        Answer::Number(number) => refusal.number() == number,
     }
 }
 
-#[test]
-fn whole(rt: HostRuntime) -> Result<(), Fail> {
-    let schema = shapes(rt.alloc())?;
-    let bytes = EMPTY.as_bytes();
-    let reader = Slow {
-        bytes,
-        most: 7,
-        calls: 1000,
-    };
-    let writer = writer_of(rt.alloc(), 1, 1000, Full::Fails);
-    let run = rewritten(rt.alloc(), &schema, reader, writer)?;
-    assert_eq!(rt; run.answer.as_str(), "152 bytes");
-    assert_eq!(rt; run.written.as_slice(), bytes);
-    assert_eq!(rt; (run.reads_failed, run.writes_failed), (0, 0));
-    Ok(())
-}
-
-#[test]
-fn over_readers_that_fail(rt: HostRuntime) -> Result<(), Fail> {
-    let schema = shapes(rt.alloc())?;
-    let bytes = EMPTY.as_bytes();
-    let rows = [
-        (20, "refused 91 ReadFault at statement 2"),
-        (152, "refused 91 ReadFault at statement 10"),
-    ];
-    for (most, wanted) in rows {
-        let reader = Slow {
-            bytes,
-            most,
-            calls: 1,
-        };
-        let writer = writer_of(rt.alloc(), 1000, 1000, Full::Fails);
-        let run = rewritten(rt.alloc(), &schema, reader, writer)?;
-        assert_eq!(rt; run.answer.as_str(), wanted);
-        assert!(rt; run.written.is_empty());
-        assert_eq!(rt; (run.reads_failed, run.writes_failed), (1, 0));
+fn is_size(size: u64, wanted: Answer) -> bool {
+    match wanted {
+        Answer::Size(wanted) => size == wanted,
+        Answer::Line(_) => false,
+        Answer::Number(_) => false,
     }
-    Ok(())
 }
 
-#[test]
-fn over_writers_that_fail(rt: HostRuntime) -> Result<(), Fail> {
-    let schema = shapes(rt.alloc())?;
-    let bytes = EMPTY.as_bytes();
-    for full in [Full::Fails, Full::TakesNone] {
-        let reader = Slow {
-            bytes,
-            most: 1000,
-            calls: 1000,
-        };
-        let writer = writer_of(rt.alloc(), 1000, 10, full);
-        let run = rewritten(rt.alloc(), &schema, reader, writer)?;
-        assert_eq!(rt;
-            run.answer.as_str(),
-            "refused 92 WriteFault at statement 10"
-        );
-        assert_eq!(rt; run.written.as_slice(), b"ISO-10303-".as_slice());
-        assert_eq!(rt; (run.reads_failed, run.writes_failed), (0, 1));
+fn is_answer(alloc: Global, found: Result<u64, Refusal>, wanted: Answer) -> bool {
+    match found {
+        Ok(size) => is_size(size, wanted),
+        Err(refusal) => is_refusal(alloc, refusal, wanted),
     }
-    Ok(())
 }
 
-/// A reader of seven bytes a call, that fails at each of its calls in turn.
-#[test]
-fn over_a_reader_that_fails_at_each_call(rt: HostRuntime) -> Result<(), Fail> {
-    let schema = shapes(rt.alloc())?;
-    let bytes = CONVERTED.as_bytes();
-    for calls in 0..=bytes.len().div_ceil(7) {
-        let reader = Slow {
-            bytes,
-            most: 7,
-            calls,
-        };
-        let writer = writer_of(rt.alloc(), 1000, 1000, Full::Fails);
-        let run = rewritten(rt.alloc(), &schema, reader, writer)?;
-        assert!(rt;
-            run.answer.starts_with("refused 91 ReadFault at statement "),
-            "{calls}"
-        );
-        assert!(rt; run.written.is_empty(), "{calls}");
+impl Case {
+    fn holds(self, alloc: Global, schema: &Schema) -> bool {
+        let (most, calls) = self.reads;
+        let bytes = self.file.as_bytes();
+        let canonical = self.canonical.as_bytes();
+        let mut reader = Watched::new(Source::Bytes(Slow { bytes, most, calls }));
+        let mut writer = Watched::new(Narrow::new(canonical, self.space));
+        let found = rewrite(alloc, schema, Limits::usual(), &mut reader, &mut writer);
+        let failures = (reader.failures(), writer.failures());
+        let left = writer.into_inner().left();
+        is_answer(alloc, found, self.answer)
+            && left == canonical.len().checked_sub(self.written)
+            && failures == self.failures
     }
-    Ok(())
+
+    /// The first call of the reader at which it may fail and something else comes.
+    fn first_read(self, alloc: Global, schema: &Schema) -> Option<usize> {
+        let most = self.reads.0.max(1);
+        for calls in 0..=self.file.len().div_ceil(most) {
+            let reads = (most, calls);
+            if !(Case { reads, ..self }).holds(alloc, schema) {
+                return Some(calls);
+            }
+        }
+        None
+    }
+
+    /// The first number of bytes behind which the writer may be full and something else comes.
+    fn first_write(self, alloc: Global, schema: &Schema) -> Option<usize> {
+        for room in 0..self.canonical.len() {
+            let space = Space { room, ..self.space };
+            let written = room;
+            if !(Case {
+                space,
+                written,
+                ..self
+            })
+            .holds(alloc, schema)
+            {
+                return Some(room);
+            }
+        }
+        None
+    }
 }
 
-/// A writer that is full behind each number of bytes in turn.
-#[test]
-fn over_a_writer_that_fails_at_each_byte(rt: HostRuntime) -> Result<(), Fail> {
-    let schema = shapes(rt.alloc())?;
-    let whole = CONVERTED_CANONICAL.as_bytes();
-    for room in 0..whole.len() {
-        for full in [Full::Fails, Full::TakesNone] {
-            let reader = Slow {
-                bytes: CONVERTED.as_bytes(),
-                most: 1000,
-                calls: 1000,
-            };
-            let writer = writer_of(rt.alloc(), 1000, room, full);
-            let run = rewritten(rt.alloc(), &schema, reader, writer)?;
-            assert!(rt;
-                run.answer
-                    .starts_with("refused 92 WriteFault at statement "),
-                "{room}"
-            );
-            assert_eq!(rt; run.written.as_slice(), &whole[..room]);
+pub(super) fn wrong_case(alloc: Global, schema: &Schema, rows: Cases) -> Wrong {
+    for (place, case) in rows.iter().enumerate() {
+        if !case.holds(alloc, schema) {
+            return Some((case.name, place));
         }
     }
-    Ok(())
+    None
 }
 
-/// Behind a writer that failed, another one gets the whole file.
+pub(super) fn wrong_read(alloc: Global, schema: &Schema, rows: Cases) -> Wrong {
+    for case in rows {
+        if let Some(calls) = case.first_read(alloc, schema) {
+            return Some((case.name, calls));
+        }
+    }
+    None
+}
+
+pub(super) fn wrong_write(alloc: Global, schema: &Schema, rows: Cases) -> Wrong {
+    for case in rows {
+        if let Some(room) = case.first_write(alloc, schema) {
+            return Some((case.name, room));
+        }
+    }
+    None
+}
+
+/// The file without instances over a reader of seven bytes a call and a writer of one.
+const WITHOUT_INSTANCES: Case = Case {
+    name: "a file without instances",
+    file: EMPTY,
+    canonical: EMPTY,
+    reads: (7, 1000),
+    space: Space { most: 1, ..AMPLE },
+    answer: Answer::Size(152),
+    written: 152,
+    failures: (0, 0),
+};
+
+/// The file of a converter over the same.
+const OF_A_CONVERTER: Case = Case {
+    name: "a file of a converter",
+    file: CONVERTED,
+    canonical: CONVERTED_CANONICAL,
+    answer: Answer::Size(283),
+    written: 283,
+    ..WITHOUT_INSTANCES
+};
+
+const READ_FAULT: Case = Case {
+    space: AMPLE,
+    written: 0,
+    failures: (1, 0),
+    ..WITHOUT_INSTANCES
+};
+
+const WRITE_FAULT: Case = Case {
+    reads: (1000, 1000),
+    answer: Answer::Line("refused 92 WriteFault at statement 10"),
+    written: 10,
+    failures: (0, 1),
+    ..WITHOUT_INSTANCES
+};
+
+const CASES: Cases = &[
+    WITHOUT_INSTANCES,
+    OF_A_CONVERTER,
+    Case {
+        name: "a reader that fails behind 20 bytes",
+        reads: (20, 1),
+        answer: Answer::Line("refused 91 ReadFault at statement 2"),
+        ..READ_FAULT
+    },
+    Case {
+        name: "a reader that fails behind the whole",
+        reads: (152, 1),
+        answer: Answer::Line("refused 91 ReadFault at statement 10"),
+        ..READ_FAULT
+    },
+    Case {
+        name: "a writer that fails behind 10 bytes",
+        space: Space {
+            most: 1000,
+            room: 10,
+            then: Full::Fails,
+        },
+        ..WRITE_FAULT
+    },
+    Case {
+        name: "a writer that takes none behind 10 bytes",
+        space: Space {
+            most: 1000,
+            room: 10,
+            then: Full::TakesNone,
+        },
+        ..WRITE_FAULT
+    },
+];
+
 #[test]
-fn again_behind_a_fault(rt: HostRuntime) -> Result<(), Fail> {
-    let schema = shapes(rt.alloc())?;
-    let mut reader = Watched::new(CONVERTED.as_bytes());
-    let accepted = accept(rt.alloc(), &schema, Limits::usual(), &mut reader)
-        .ok()
-        .expect(&rt, "an accepted file");
-    let mut broken = Watched::new(writer_of(rt.alloc(), 3, 100, Full::TakesNone));
-    assert!(rt; accepted.write_to(&mut broken).is_err());
-    assert_eq!(rt; (broken.moved(), broken.failures()), (34, 1));
-    let file = file_of(rt.alloc(), &accepted)?;
-    assert_eq!(rt; file.as_str(), CONVERTED_CANONICAL);
-    Ok(())
+fn rewrites_and_fails(rt: HostRuntime) {
+    check(&rt, rt.alloc(), SHAPES, Rows::Rewritten(CASES));
+}
+
+const FAILING_READS: Cases = &[Case {
+    name: "a reader of seven bytes a call",
+    reads: (7, 0),
+    space: AMPLE,
+    answer: Answer::Number(91),
+    written: 0,
+    failures: (1, 0),
+    ..OF_A_CONVERTER
+}];
+
+#[test]
+fn fails_where_a_read_fails(rt: HostRuntime) {
+    check(&rt, rt.alloc(), SHAPES, Rows::FailingReads(FAILING_READS));
+}
+
+const FAILING_WRITE: Case = Case {
+    name: "a writer that fails once it is full",
+    reads: (1000, 1000),
+    space: AMPLE,
+    answer: Answer::Number(92),
+    failures: (0, 1),
+    ..OF_A_CONVERTER
+};
+
+const FAILING_WRITES: Cases = &[
+    FAILING_WRITE,
+    Case {
+        name: "a writer that takes none once it is full",
+        space: Space {
+            then: Full::TakesNone,
+            ..AMPLE
+        },
+        ..FAILING_WRITE
+    },
+];
+
+#[test]
+fn fails_where_a_write_fails(rt: HostRuntime) {
+    check(&rt, rt.alloc(), SHAPES, Rows::FailingWrites(FAILING_WRITES));
 }

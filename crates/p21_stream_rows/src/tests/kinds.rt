@@ -1,26 +1,54 @@
-use super::*;
+//! Kinds, each of which is kept once.
 use p21_express_types::EntityId;
 use p21_stream_kinds::Kinds;
+use std::alloc::Global;
+
+const ONE: &[EntityId] = &[EntityId(7)];
+
+const TWO: &[EntityId] = &[EntityId(7), EntityId(3)];
+
+/// Kinds one after another, each by its section and its entities, with the number that it has.
+const ADDED: &[(u32, &[EntityId], u32)] = &[
+    (0, ONE, 0),
+    (0, ONE, 0),
+    (0, TWO, 1),
+    (0, ONE, 0),
+    (1, ONE, 2),
+    (0, TWO, 1),
+    (0, &[], 3),
+    (1, ONE, 2),
+    (0, TWO, 1),
+];
+
+/// Whether a kind has this number, and stands there.
+fn adds(
+    alloc: Global,
+    kinds: &mut Kinds,
+    (section, entities): (u32, &[EntityId]),
+    wanted: u32,
+) -> bool {
+    match kinds.add(alloc, section, entities) {
+        Ok(number) => number == wanted && kinds.get(number) == (section, entities),
+        Err(_) => false,
+    }
+}
+
+/// The number of the first row that doesn't hold.
+fn first_added_otherwise(alloc: Global, kinds: &mut Kinds) -> Option<usize> {
+    for (place, (section, entities, number)) in ADDED.iter().enumerate() {
+        if !adds(alloc, kinds, (*section, entities), *number) {
+            return Some(place);
+        }
+    }
+    None
+}
+
+fn first_wrong(alloc: Global) -> Option<usize> {
+    let mut kinds = Kinds::new(alloc);
+    first_added_otherwise(alloc, &mut kinds)
+}
 
 #[test]
-fn kinds_each_once(rt: HostRuntime) -> Result<(), Fail> {
-    let mut kinds = Kinds::new(rt.alloc());
-    let one = [EntityId(7)];
-    let two = [EntityId(7), EntityId(3)];
-    let rows: [(u32, &[EntityId], u32); 8] = [
-        (0, &one, 0),
-        (0, &one, 0),
-        (0, &two, 1),
-        (0, &one, 0),
-        (1, &one, 2),
-        (0, &two, 1),
-        (0, &[], 3),
-        (1, &one, 2),
-    ];
-    for (section, entities, number) in rows {
-        assert_eq!(rt; kinds.add(rt.alloc(), section, entities)?, number);
-    }
-    let number = kinds.add(rt.alloc(), 0, &two)?;
-    assert_eq!(rt; kinds.get(number), (0, two.as_slice()));
-    Ok(())
+fn keeps_each_kind_once(rt: HostRuntime) {
+    assert_eq!(rt; first_wrong(rt.alloc()), None);
 }

@@ -1,86 +1,177 @@
-use super::*;
+//! Instances that are kept.
 use p21_stream_store::Instances;
+use std::alloc::{AllocError, Global};
+
+/// A name, a kind, and the text: a letter so many times.
+type Kept = (u64, u32, (u8, usize));
 
 /// Adds an instance, if none has its name.
-fn add(instances: &mut Instances, name: u64, kind: u32, text: &[u8]) -> Result<(), Fail> {
-    if instances.find(name).is_none() {
-        instances.push(name, kind, text)?;
-    }
-    Ok(())
+fn add(instances: &mut Instances, name: u64, kind: u32, text: &[u8]) -> bool {
+    instances.find(name).is_none() && instances.push(name, kind, text).is_ok()
 }
 
-#[test]
-fn texts_with_their_kinds(rt: HostRuntime) -> Result<(), Fail> {
-    let mut instances = Instances::new(rt.alloc());
-    let rows: [(u64, u32, &[u8]); 3] = [(1, 7, b"#1=A();"), (2, 3, b""), (3, 7, b"#3=B();")];
-    for (name, kind, text) in rows {
-        add(&mut instances, name, kind, text)?;
-    }
-    assert_eq!(rt; instances.len(), 3);
-    for (name, kind, text) in rows {
-        assert_eq!(rt; instances.find(name), Some((kind, text)));
-    }
-    Ok(())
+fn is_found(instances: &Instances, name: u64, kind: u32, text: &[u8]) -> bool {
+    instances.find(name) == Some((kind, text))
 }
 
-#[test]
-fn a_long_text_has_a_block_of_its_own(rt: HostRuntime) -> Result<(), Fail> {
-    let mut instances = Instances::new(rt.alloc());
-    let long = vec![in rt.alloc(); b'x'; 300_000]?;
-    let shorter = vec![in rt.alloc(); b'x'; 262_143]?;
-    let rows: [(u64, &[u8]); 5] = [
-        (1, b"a"),
-        (2, long.as_slice()),
-        (3, b"b"),
-        (4, shorter.as_slice()),
-        (5, b"c"),
-    ];
-    for (name, text) in rows {
-        add(&mut instances, name, 0, text)?;
-    }
-    for (name, text) in rows {
-        assert_eq!(rt; instances.find(name), Some((0, text)));
-    }
-    Ok(())
+fn text_of(alloc: Global, (letter, count): (u8, usize)) -> Result<Vec<u8>, AllocError> {
+    vec![in alloc; letter; count]
 }
 
-#[test]
-fn instances_in_any_order(rt: HostRuntime) -> Result<(), Fail> {
-    let mut instances = Instances::new(rt.alloc());
-    let names = [5, 10, u64::MAX, 0, 7, 6, 15];
-    for name in names {
-        add(&mut instances, name, 1, b"#=A();")?;
+fn adds(alloc: Global, instances: &mut Instances, (name, kind, text): Kept) -> bool {
+    match text_of(alloc, text) {
+        Ok(text) => add(instances, name, kind, &text),
+        Err(_) => false,
     }
-    for name in names {
-        assert_eq!(rt; instances.find(name), Some((1, b"#=A();".as_slice())));
-    }
-    assert!(rt; instances.find(1).is_none());
-    assert!(rt; instances.find(11).is_none());
-    Ok(())
 }
 
-#[test]
-fn written_by_name(rt: HostRuntime) -> Result<(), Fail> {
-    let mut instances = Instances::new(rt.alloc());
-    for name in [5, 10, u64::MAX, 0, 7, 6, 15] {
-        add(&mut instances, name, 1, b"#=A();")?;
+fn finds(alloc: Global, instances: &Instances, (name, kind, text): Kept) -> bool {
+    match text_of(alloc, text) {
+        Ok(text) => is_found(instances, name, kind, &text),
+        Err(_) => false,
     }
-    assert_eq!(rt; instances.len(), 7);
-    let order = instances.order(rt.alloc())?;
-    let mut names = Vec::new(rt.alloc());
-    for place in &order {
-        if (*place as usize) < instances.len() {
-            names.push(instances.get(*place as usize).0)?;
+}
+
+/// The name of the first instance that isn't added.
+fn first_left(alloc: Global, instances: &mut Instances, rows: &[Kept]) -> Option<u64> {
+    for row in rows {
+        if !adds(alloc, instances, *row) {
+            return Some(row.0);
         }
     }
-    assert_eq!(rt; names.as_slice(), [0, 5, 6, 7, 10, 15, u64::MAX].as_slice());
-    Ok(())
+    None
 }
 
+/// The name of the first instance that isn't found again.
+fn first_lost(alloc: Global, instances: &Instances, rows: &[Kept]) -> Option<u64> {
+    for row in rows {
+        if !finds(alloc, instances, *row) {
+            return Some(row.0);
+        }
+    }
+    None
+}
+
+/// The name of the first that is found, of names that no instance has.
+fn first_found(instances: &Instances, names: &[u64]) -> Option<u64> {
+    for name in names {
+        if instances.find(*name).is_some() {
+            return Some(*name);
+        }
+    }
+    None
+}
+
+fn is_at(instances: &Instances, place: usize, name: u64) -> bool {
+    place < instances.len() && instances.get(place).0 == name
+}
+
+/// The first name at which another instance is written.
+fn first_misplaced(instances: &Instances, order: &[u32], names: &[u64]) -> Option<u64> {
+    for (place, name) in order.iter().zip(names.iter()) {
+        if !is_at(instances, *place as usize, *name) {
+            return Some(*name);
+        }
+    }
+    None
+}
+
+/// Instances in the order in which they come, names that none has, and the order in which they are written.
+#[derive(Clone, Copy)]
+struct Store {
+    rows: &'static [Kept],
+    others: &'static [u64],
+    order: &'static [u64],
+}
+
+fn is_in_order(alloc: Global, instances: &Instances, names: &[u64]) -> bool {
+    match instances.order(alloc) {
+        Ok(order) => {
+            order.len() == names.len() && first_misplaced(instances, &order, names).is_none()
+        }
+        Err(_) => false,
+    }
+}
+
+/// What is wrong of instances that are kept.
+fn wrong_of(alloc: Global, instances: &mut Instances, store: Store) -> Option<(&'static str, u64)> {
+    if let Some(name) = first_left(alloc, instances, store.rows) {
+        return Some(("left", name));
+    }
+    if let Some(name) = first_lost(alloc, instances, store.rows) {
+        return Some(("lost", name));
+    }
+    if let Some(name) = first_found(instances, store.others) {
+        return Some(("found", name));
+    }
+    if !is_in_order(alloc, instances, store.order) {
+        return Some(("the order", 0));
+    }
+    if instances.len() != store.rows.len() {
+        return Some(("the number", 0));
+    }
+    None
+}
+
+fn wrong(alloc: Global, store: Store) -> Option<(&'static str, u64)> {
+    let mut instances = Instances::new(alloc);
+    wrong_of(alloc, &mut instances, store)
+}
+
+const NOTHING: Store = Store {
+    rows: &[],
+    others: &[0],
+    order: &[],
+};
+
 #[test]
-fn nothing_has_an_empty_order(rt: HostRuntime) -> Result<(), Fail> {
-    let instances = Instances::new(rt.alloc());
-    assert_eq!(rt; instances.len(), 0);
-    assert_eq!(rt; instances.order(rt.alloc())?.len(), 0);
-    Ok(())
+fn keeps_nothing_at_first(rt: HostRuntime) {
+    assert_eq!(rt; wrong(rt.alloc(), NOTHING), None);
+}
+
+const WITH_KINDS: Store = Store {
+    rows: &[(1, 7, (b'a', 7)), (2, 3, (b'b', 0)), (3, 7, (b'c', 7))],
+    others: &[0, 4],
+    order: &[1, 2, 3],
+};
+
+#[test]
+fn keeps_texts_with_their_kinds(rt: HostRuntime) {
+    assert_eq!(rt; wrong(rt.alloc(), WITH_KINDS), None);
+}
+
+const LONG: Store = Store {
+    rows: &[
+        (1, 0, (b'a', 1)),
+        (2, 0, (b'x', 300_000)),
+        (3, 0, (b'b', 1)),
+        (4, 0, (b'y', 262_143)),
+        (5, 0, (b'c', 1)),
+    ],
+    others: &[],
+    order: &[1, 2, 3, 4, 5],
+};
+
+#[test]
+fn keeps_long_texts(rt: HostRuntime) {
+    assert_eq!(rt; wrong(rt.alloc(), LONG), None);
+}
+
+const IN_ANY_ORDER: Store = Store {
+    rows: &[
+        (5, 1, (b'a', 6)),
+        (10, 1, (b'b', 6)),
+        (u64::MAX, 1, (b'c', 6)),
+        (0, 1, (b'd', 6)),
+        (7, 1, (b'e', 6)),
+        (6, 1, (b'f', 6)),
+        (15, 1, (b'g', 6)),
+    ],
+    others: &[1, 11],
+    order: &[0, 5, 6, 7, 10, 15, u64::MAX],
+};
+
+#[test]
+fn keeps_instances_that_come_in_any_order(rt: HostRuntime) {
+    assert_eq!(rt; wrong(rt.alloc(), IN_ANY_ORDER), None);
 }
