@@ -1,6 +1,10 @@
 //! A caller of p21_mapping that names no other library.
 #![tactic(auto)]
 
+ghost use Rattle.std.specs.Prelude.{◌↔◌, ◌∷◌, [], IsTrue};
+ghost use Rattle.p21_mapping.specs.p21_files.Reference.{Serves};
+ghost use Rattle.p21_mapping.specs.p21_schemas.Schema.{entity_member};
+
 use p21_mapping::{
     CheckFault, EntityId, Member, Name, Need, NoMemory, Record, Schema, check_record, serves,
 };
@@ -21,7 +25,9 @@ pub fn count_references(
 }
 
 /// Whether an instance of one entity may stand where a reference wants another. It takes no memory.
-pub fn may_stand_for(schema: &Schema, target: Name, wanted: EntityId, entity: EntityId) -> bool {
+pub fn may_stand_for(schema: &Schema, target: Name, wanted: EntityId, entity: EntityId) -> bool
+    ensures { IsTrue result ↔ Serves schema.now (entity_member wanted.0) (entity.0 ∷ []) }
+{
     let need = Need {
         target,
         wanted: Member::Entity(wanted),
