@@ -181,10 +181,14 @@ class File:
         lines.append("ENDSEC;")
         order = list(range(len(self.sections)))
         chance.shuffle(order)
+        # Now and then one stands once more, in its section or in another one.
+        again = [chance.choice(list(self.sets))] if self.sets and chance.random() < 0.02 else []
         for number in order:
             name = self.sections[number]
             lines.append("DATA;" if name is None else part(chance, "DATA", name) + ";")
             names = [x for x in self.sets if self.section_of[x] == number]
+            if number == order[-1]:
+                names += again
             if chance.random() < 0.5:
                 chance.shuffle(names)
             lines += [self.instance(chance, x) for x in names]
