@@ -17,3 +17,5 @@ pub mod RisingNames
 pub mod Above
 pub mod Ends
 pub mod Owners
+pub mod Deciding
+pub mod Noted

@@ -21,7 +21,7 @@ abbrev pub owner_lists : Schema → List (List ℕ)
 owner_lists s = map owners_of s.entities
 
 -- those of one entity
-owners-at : (s : Schema) (e : ℕ) (x : Entity) → slice_get s.entities e ≡ Some x → nexts_of (owner_lists s) e ≡ owners_of x
+pub owners-at : (s : Schema) (e : ℕ) (x : Entity) → slice_get s.entities e ≡ Some x → nexts_of (owner_lists s) e ≡ owners_of x
 owners-at s e x at = ap (λ o. elim o [ Some nexts ↦ nexts | None ↦ [] ]) (slice_get-map owners_of s.entities e ∙ ap (option_map owners_of) at)
 
 -- an entity with a list is one of the schema
@@ -57,7 +57,7 @@ owners-within s holds e f among = by (slice_get s.entities e) refl
         ]
 
 -- an entity that redeclares a place has the declaring one in its list
-owners-has : (s : Schema) (e : ℕ) (place : Place) → RedeclaresPlace s e place → Contains (nexts_of (owner_lists s) e) place.entity
+pub owners-has : (s : Schema) (e : ℕ) (place : Place) → RedeclaresPlace s e place → Contains (nexts_of (owner_lists s) e) place.entity
 owners-has s e place (inl (r, ((x, at, among), is))) =
     let P : List ℕ → Type 0 = λ fs. Contains fs place.entity in
     let Q : Place → Type 0 = λ p. Contains (owners_of x) p.entity in

@@ -20,3 +20,4 @@ pub mod Above
 pub mod Inverted
 pub mod Redeclarers
 pub mod Renamed
+pub mod Holders

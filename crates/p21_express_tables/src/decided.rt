@@ -1,17 +1,16 @@
-ghost use Rattle.std.specs.Prelude.{◌≡◌, ℕ, [], ◌∷◌, List, map, IfOk, OnOk};
-ghost use Rattle.std.specs.List.{AllByRecursion as Each};
+ghost use Rattle.std.specs.Prelude.{◌≡◌, ℕ, List, Contains, IfOk, OnOk};
 ghost use Rattle.p21_schemas.specs.Schema.{Schema as Meant};
 ghost use Rattle.p21_schemas.specs.Order.{order};
 ghost use Rattle.p21_express_types.specs.Meaning.{place as place_of};
 ghost use Rattle.p21_express_tables.specs.Decisions.{IsDecision};
-ghost use Rattle.p21_express_tables.specs.Decided.{AddsPlaces, AreDecided, HasRedeclared, IsDecided, places_of};
-ghost use Rattle.p21_express_tables.specs.Lookups.{AreEntities};
+ghost use Rattle.p21_express_tables.specs.Decided.{AddsDecided, AddsDecision, AreDecided, AreRedeclaring, HaveOwners};
 ghost use Rattle.p21_express_tables.specs.Orders.{numbers};
-ghost use Rattle.p21_express_tables.specs.Parts.{redeclared as redeclared_of};
 ghost use Rattle.p21_express_tables.specs.Resolved.{IsEntity};
 
-use crate::parts::Redeclared;
-use crate::place_types::{Decision, has_place, is_same};
+use crate::collected::risen;
+use crate::orders::numbers_of;
+use crate::place_types::{Decision, is_same};
+use crate::redeclarers::push_owners;
 use crate::schema::Schema;
 use p21_express_types::{EntityId, Place};
 use p21_values::NoMemory;
@@ -29,70 +28,76 @@ impl Schema {
         requires { IsEntity self.now entity.0 }
         ensures { IfOk result (λ decided. AreDecided self.now (order self.now entity.0) decided.items) }
     {
-        self.holds_together();
-        let entities = self.order_of(entity);
-        let places = self.redeclared_places(entities)?;
-        let decided = self.decided_at(entities, &places)?;
+        let owners = self.redeclared_owners(entity)?;
+        let mut decided = Vec::new(self.alloc);
+        for owner in &owners {
+            self.decide_places(entity, EntityId(*owner), &mut decided)?;
+        }
         Ok(decided)
     }
 
-    /// What decides at each of the places.
-    fn decided_at(&self, entities: &[EntityId], places: &[Place]) -> Result<Vec<Decided>, NoMemory>
-        requires { AreEntities self.now (numbers entities.now) }
-        ensures each { IfOk result (λ decided. Each (IsDecided self.now (numbers entities.now)) decided.items) }
-        ensures places { IfOk result (λ decided. places_of decided.items ≡ map place_of places.now) }
+    /// The numbers of the entities that declare what an entity or a supertype of it redeclares.
+    fn redeclared_owners(&self, entity: EntityId) -> Result<Vec<u32>, NoMemory>
+        requires { IsEntity self.now entity.0 }
+        ensures { IfOk result (λ owners. HaveOwners self.now (order self.now entity.0) owners.items) }
     {
-        let mut all = Vec::with_capacity(self.alloc, places.len())?;
-        for place in places {
-            let place = *place;
-            let decision = self.decision(entities, place);
-            all.push(Decided { place, decision })?;
+        self.holds_together();
+        let mut owners = Vec::new(self.alloc);
+        for other in self.order_of(entity) {
+            push_owners(self.entity_at(*other), &mut owners)?;
         }
-        Ok(all)
+        let numbers = numbers_of(self.alloc, &owners)?;
+        Ok(risen(numbers))
     }
 
-    /// The places that entities redeclare, each once.
-    fn redeclared_places(&self, entities: &[EntityId]) -> Result<Vec<Place>, NoMemory>
-        requires { AreEntities self.now (numbers entities.now) }
-        ensures { IfOk result (λ places. HasRedeclared self.now (numbers entities.now) (map place_of places.items)) }
+    /// Adds what decides at each place of an entity that another one or a supertype of that redeclares.
+    fn decide_places(
+        &self,
+        entity: EntityId,
+        owner: EntityId,
+        decided: &mut Vec<Decided>,
+    ) -> Result<(), NoMemory>
+        requires entity { IsEntity self.now entity.0 }
+        requires owner { IsEntity self.now owner.0 }
+        ensures { OnOk result (AddsDecided self.now (order self.now entity.0) owner.0 decided.old.items decided.new.items) }
     {
-        let mut places = Vec::new(self.alloc);
-        for entity in entities {
-            let entity = self.entity_at(*entity);
-            add_redeclared(&entity.redeclared, &mut places)?;
-            add_places(&entity.derived, &mut places)?;
+        self.holds_together();
+        let among = self.redeclaring(entity, owner)?;
+        for index in 0..self.attribute_count(owner) {
+            let place = Place {
+                entity: owner,
+                index,
+            };
+            let decision = self.decision(&among, place);
+            add_decided(place, decision, decided)?;
         }
-        Ok(places)
+        Ok(())
+    }
+
+    /// Those of an entity and its supertypes that redeclare a place of another entity.
+    fn redeclaring(&self, entity: EntityId, owner: EntityId) -> Result<Vec<EntityId>, NoMemory>
+        requires { IsEntity self.now entity.0 }
+        ensures { IfOk result (λ among. AreRedeclaring self.now (order self.now entity.0) owner.0 (numbers among.items)) }
+    {
+        self.holds_together();
+        let mut among = Vec::new(self.alloc);
+        for number in self.redeclarers_of(owner) {
+            let other = EntityId(*number);
+            if self.is_a(entity, other) {
+                among.push(other)?;
+            }
+        }
+        Ok(among)
     }
 }
 
-/// Adds the places of redeclarations that aren't there.
-fn add_redeclared(redeclared: &[Redeclared], places: &mut Vec<Place>) -> Result<(), NoMemory>
-    ensures { OnOk result (AddsPlaces (map (λ r. r.place) (map redeclared_of redeclared.now)) (map place_of places.old.items) (map place_of places.new.items)) }
+/// Adds what decides at a place, unless that is its declaration.
+fn add_decided(place: Place, decision: Decision, decided: &mut Vec<Decided>) -> Result<(), NoMemory>
+    ensures { OnOk result (AddsDecision place decision decided.old.items decided.new.items) }
 {
-    for other in redeclared {
-        let other: &Redeclared = other;
-        add_place(other.place, places)?;
-    }
-    Ok(())
-}
-
-/// Adds the places that aren't there.
-fn add_places(others: &[Place], places: &mut Vec<Place>) -> Result<(), NoMemory>
-    ensures { OnOk result (AddsPlaces (map place_of others.now) (map place_of places.old.items) (map place_of places.new.items)) }
-{
-    for other in others {
-        add_place(*other, places)?;
-    }
-    Ok(())
-}
-
-/// Adds a place, unless it is there.
-fn add_place(place: Place, places: &mut Vec<Place>) -> Result<(), NoMemory>
-    ensures { OnOk result (AddsPlaces (place_of place ∷ []) (map place_of places.old.items) (map place_of places.new.items)) }
-{
-    if !has_place(places, place) {
-        places.push(place)?;
+    match decision {
+        Decision::Declared => {}
+        _ => decided.push(Decided { place, decision })?,
     }
     Ok(())
 }

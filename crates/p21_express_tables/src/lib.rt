@@ -5,6 +5,7 @@ mod base;
 mod collected;
 mod decided;
 mod gathered;
+mod holders;
 mod inverted;
 mod names;
 mod offered;

@@ -51,7 +51,7 @@ fn supertype_numbers(alloc: Global, entities: &[Entity]) -> Result<Vec<Vec<u32>>
     Ok(lists)
 }
 
-fn numbers_of(alloc: Global, entities: &[EntityId]) -> Result<Vec<u32>, NoMemory>
+pub(crate) fn numbers_of(alloc: Global, entities: &[EntityId]) -> Result<Vec<u32>, NoMemory>
     ensures { IfOk result (λ found. found.items ≡ numbers entities.now) }
 {
     let mut found = Vec::with_capacity(alloc, entities.len())?;

@@ -1,5 +1,6 @@
 ghost use Rattle.std.specs.Prelude.{◌≡◌, ◌↔◌, IsTrue, map, Contains, IfOk, OnOk};
 ghost use Rattle.p21_schemas.specs.Schema.{Redeclared as MeantRedeclared};
+ghost use Rattle.p21_schemas.specs.OneOf.{Clashes};
 ghost use Rattle.p21_schemas.specs.Order.{order};
 ghost use Rattle.p21_schemas.specs.PlaceType.{TypeAt};
 ghost use Rattle.p21_schemas.specs.Supertype.{IsA};
@@ -114,8 +115,9 @@ impl Schema {
         let entity = EntityId(number as u32);
         let decided = self.find_decided(entity)?;
         let rising = self.find_rising(entity)?;
+        let clashes = self.find_clash(self.order_of(entity))?;
         let own = OwnSet {
-            faults: self.own_faults_with(entity, self.has_open(entity, &decided)),
+            faults: self.own_faults_with(entity, self.has_open(entity, &decided), clashes),
             decided,
             rising,
         };
@@ -127,18 +129,20 @@ impl Schema {
         requires { IsEntity self.now entity.0 }
         ensures { HasOwnFaults self.now entity.0 result }
     {
-        self.own_faults_with(entity, self.leaves_open(entity))
+        let clashes = self.clashes(self.order_of(entity));
+        self.own_faults_with(entity, self.leaves_open(entity), clashes)
     }
 
-    fn own_faults_with(&self, entity: EntityId, leaves_open: bool) -> OwnFaults
+    fn own_faults_with(&self, entity: EntityId, leaves_open: bool, clashes: bool) -> OwnFaults
         requires entity { IsEntity self.now entity.0 }
         requires open { IsTrue leaves_open ↔ LeavesOpen self.now entity.0 }
+        requires clash { IsTrue clashes ↔ Clashes self.now (order self.now entity.0) }
         ensures { HasOwnFaults self.now entity.0 result }
     {
         OwnFaults {
             is_abstract: self.is_abstract(entity),
             leaves_open,
-            clashes: self.clashes(self.order_of(entity)),
+            clashes,
         }
     }
 

@@ -1,23 +1,37 @@
-use Rattle.std.specs.Prelude.{ℕ, List, map}
-use Rattle.std.proofs.Common.{ap, sym, ◌∙◌, subst}
-use Rattle.p21_schemas.specs.Schema.{Place}
-use Rattle.p21_express_types.specs.Meaning.{place}
-use Rattle.p21_express_tables.specs.Decided.{AreDecided, HasRedeclared}
-use Rattle.p21_express_tables.specs.Orders.{numbers}
+use Rattle.std.specs.Prelude.{◌≡◌, ◌+◌, ◌++◌, ◌∷◌, [], ℕ, List, Contains, take}
+use Rattle.std.proofs.Common.{ap, sym, ◌∙◌, subst, get_or}
+use Rattle.std.proofs.lemmas.List.{take_all, take_more}
+use Rattle.std.proofs.lemmas.List.Elements.{Contains-get_or}
+use Rattle.p21_schemas.specs.Order.{order}
+use Rattle.p21_express_tables.specs.declared.decided.Decided.{Decided}
 use Rattle.p21_express_tables.proofs.schema.Schema.find_decided.Goals as goal
-use Rattle.p21_express_tables.proofs.OwnSets.{own-entities}
+use Rattle.p21_express_tables.proofs.Deciding.{AreDecidedOf, decided-more, decided-none}
 
-pub redeclared_places-requires : goal.redeclared_places-requires
-redeclared_places-requires c = own-entities c.args.self.now c.holds_together.ensures c.args.entity.0 c.requires (numbers c.order_of-entities.result.now) c.order_of-entities.ensures
+pub loop-owner-init : goal.loop-owner-init
+loop-owner-init c = let P : List Decided → Type 0 = λ ds. AreDecidedOf c.args.self.now (order c.args.self.now c.args.entity.0) [] ds in subst P (sym c.new-decided.ensures.items) (decided-none c.args.self.now (order c.args.self.now c.args.entity.0))
 
-pub decided_at-requires : goal.decided_at-requires
-decided_at-requires c = own-entities c.args.self.now c.holds_together.ensures c.args.entity.0 c.requires (numbers c.order_of-entities.result.now) c.order_of-entities.ensures
+pub decide_places-requires-clause-owner : goal.decide_places-requires-clause-owner
+decide_places-requires-clause-owner c =
+    let owners = c.deref-owner-items.result.now in
+    let x : ℕ = get_or owners c.loop-owner.owner-index 0 in
+    let P : List ℕ → Type 0 = λ os. Contains os x in
+    c.in_ok-owners.ensures.within x (subst P c.deref-owner-items.ensures.value (Contains-get_or owners c.loop-owner.owner-index 0 c.loop-owner-test.true))
+
+pub loop-owner-preserved : goal.loop-owner-preserved
+loop-owner-preserved c =
+    let s = c.args.self.now in
+    let owners = c.deref-owner-items.result.now in
+    let k : ℕ = c.loop-owner.owner-index in
+    let es = order s c.args.entity.0 in
+    let P : List ℕ → Type 0 = λ os. AreDecidedOf s es os c.decide_places.new.decided.items in
+    subst P (sym (take_more owners k 0 c.loop-owner-test.true)) (decided-more s es (take k owners) (get_or owners k 0) c.loop-owner.decided.items c.decide_places.new.decided.items c.loop-owner.invariant c.in_ok-decide_places.ensures)
 
 pub returns : goal.returns
 returns c =
-    let P : List ℕ → Type 0 = λ es. AreDecided c.args.self.now es c.in_ok-decided.decided.items in
-    let Q : List Place → Type 0 = λ ps. HasRedeclared c.args.self.now (numbers c.order_of-entities.result.now) ps in
-    subst P c.order_of-entities.ensures (record {
-      each = c.in_ok-decided.ensures.each;
-      all = subst Q (sym (c.in_ok-decided.ensures.places ∙ ap (map place) c.deref.ensures.value)) c.in_ok-places.ensures;
-    })
+    let s = c.args.self.now in
+    let owners = c.deref-owner-items.result.now in
+    let es = order s c.args.entity.0 in
+    let P : List ℕ → Type 0 = λ os. AreDecidedOf s es os c.loop-owner.decided.items in
+    let Q : List ℕ → Type 0 = λ os. AreDecidedOf s es os c.loop-owner.decided.items in
+    let are : AreDecidedOf s es c.in_ok-owners.owners.items c.loop-owner.decided.items = subst Q c.deref-owner-items.ensures.value (subst P (take_all c.loop-owner.owner-index owners c.loop-owner-test.false) c.loop-owner.invariant) in
+    record { each = are.each; all = λ p redeclared. are.all p (c.in_ok-owners.ensures.all p redeclared) redeclared }

@@ -1,5 +1,6 @@
-use Rattle.std.specs.Prelude.{◌≡◌, ℕ, List, length}
+use Rattle.std.specs.Prelude.{◌≡◌, ◌↔◌, ℕ, IsTrue, List, length}
 use Rattle.std.proofs.Common.{sym, subst, ◌∙◌}
+use Rattle.p21_schemas.specs.OneOf.{Clashes}
 use Rattle.p21_schemas.specs.Order.{order}
 use Rattle.p21_schemas.specs.Schema.{Schema}
 use Rattle.p21_express_tables.specs.Decided.{AreDecided}
@@ -14,6 +15,9 @@ pub has_open-requires-clause-decided : goal.has_open-requires-clause-decided
 has_open-requires-clause-decided c =
     let P : List Decided → Type 0 = λ ds. AreDecided c.args.self.now (order c.args.self.now c.len-number.result) ds in
     subst P (sym c.deref.ensures.value) c.in_ok-decided.ensures
+
+pub own_faults_with-requires-clause-clash : goal.own_faults_with-requires-clause-clash
+own_faults_with-requires-clause-clash c = let P : List ℕ → Type 0 = λ es. IsTrue c.in_ok-clashes.clashes ↔ Clashes c.args.self.now es in subst P c.order_of.ensures c.in_ok-clashes.ensures
 
 pub invariant_of-self : goal.invariant_of-self
 invariant_of-self c =

@@ -1,0 +1,10 @@
+use Rattle.std.proofs.Common.{take}
+use Rattle.std.specs.BTreeMap.{get}
+use Rattle.std.specs.Ordering.{nat_cmp}
+use Rattle.p21_express_tables.specs.Holders.{AreHeld}
+use Rattle.p21_express_tables.specs.Orders.{numbers}
+use Rattle.p21_express_tables.proofs.schema.Schema.find_clash.Given as goal
+
+-- the entities so far are noted
+abbrev pub invariant-loop-entity : goal.invariant-loop-entity
+invariant-loop-entity l = AreHeld l.self (numbers (take l.entity-index l.entities)) (get nat_cmp l.holders)
