@@ -1,5 +1,5 @@
 -- What the words of a command line say of the status that is answered.
-use Rattle.std.proofs.Common.{◌≡◌, ◌≢◌, ◌∙◌, ◌⊎◌, ℕ, List, [], Option, None, Some, Result, Ok, Err, IfErr, IfOk, true, inl, inr, ap, refl, sym, subst, option_map}
+use Rattle.std.proofs.Common.{◌≡◌, ◌≢◌, ◌∙◌, ◌⊎◌, ℕ, List, [], None, Some, Result, Ok, Err, IfErr, IfOk, true, inl, inr, ap, refl, sym, subst, option_map}
 use Rattle.clap.specs.Faults.{fault_of, is_simple_and_free}
 use Rattle.clap.specs.Kinds.{HasKind, IsAmong}
 use Rattle.clap.specs.Matches.{subcommand_name_of}
