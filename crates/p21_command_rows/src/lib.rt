@@ -29,4 +29,6 @@ mod schemas;
 #[cfg(test)]
 mod sections;
 #[cfg(test)]
+mod watched;
+#[cfg(test)]
 mod write_faults;
