@@ -1,0 +1,261 @@
+#!/usr/bin/env python3
+"""Shows that each script beside the gate finds what it is for: that it fails over a copy of the repository with one edit.
+
+    tests/hostile/wrong_programs.py [PART..]     PART is the path of a script below tests, as hostile/devices.sh
+
+Two programs of edited sources are built without a proof, since no prover would pass them: some minutes of a processor for
+each. The edits of one turn different things. An edit of what stands beside the program has a copy of the repository for
+itself. A script has to end with a status other than 0 and to name a run that its own edit turns. That it passes without the
+edit is shown by tests/all.sh. hostile/memory.py, hostile/calls.py, fail_alloc.sh and want_of_memory.sh have no edit here
+yet. The environment variable P21 names the program of the sources as they are.
+"""
+
+import dataclasses
+import os
+import pathlib
+import shutil
+import subprocess
+import sys
+import tempfile
+import time
+
+from rigged import ROOT, built_program
+
+
+@dataclasses.dataclass
+class Edit:
+    """A script with its arguments; what is edited, where, and how; and what the script says of it."""
+
+    part: str
+    arguments: list
+    title: str
+    file: str
+    old: str
+    new: str
+    says: str
+    # Which of two programs of edited sources the script runs. Others read the sources themselves, or run what stands beside.
+    program: int = 0
+
+
+EDITS = [
+    Edit(
+        "program.sh",
+        [],
+        "a mistake of the command line ends with status 0",
+        "crates/p21/src/main.rt",
+        "Ok(()) if error.use_stderr() => USAGE,",
+        "Ok(()) if error.use_stderr() => DONE,",
+        "an unknown command: status 0, not 2",
+        program=1,
+    ),
+    Edit(
+        "texts.py",
+        [],
+        "README shows another number",
+        "README.md",
+        "accepted, instances 1, canonical bytes 303",
+        "accepted, instances 1, canonical bytes 304",
+        "README.md",
+    ),
+    Edit(
+        "definitions.py",
+        [],
+        "a test has another name than in the row of its rule",
+        "crates/p21_token_rows/src/tests/runs.rt",
+        "fn finds_blanks(",
+        "fn sees_blanks(",
+        "p21_token_rows::runs::finds_blanks",
+    ),
+    Edit(
+        "library.py",
+        [],
+        "an example has another line than the page that shows it",
+        "crates/p21_example_canonical/src/lib.rt",
+        "//! Is a file accepted under a schema, and what is its canonical file?",
+        "//! Is a file accepted, and what is its canonical file?",
+        "shown otherwise: crates/p21_example_canonical/src/lib.rt",
+    ),
+    Edit(
+        "install.sh",
+        [],
+        "the program is copied without the right to run it",
+        "tools/install",
+        'copy 755 "$program"',
+        'copy 644 "$program"',
+        "the program that was copied: status",
+    ),
+    Edit(
+        "pages.sh",
+        ["PROGRAM"],
+        "the manual page says another sentence than the help",
+        "man/p21.1",
+        "Prints the canonical spelling of one parameter.",
+        "Prints the canonical spelling of a parameter.",
+        "man/p21.1",
+    ),
+    Edit(
+        "tools_diff.py",
+        [],
+        "names of instances are compared as texts",
+        "tools/p21-diff",
+        "(one and one.name < other.name)",
+        "(one and str(one.name) < str(other.name))",
+        "instances of one file alone, told by numbers",
+    ),
+    Edit(
+        "tools_table.py",
+        [],
+        "the files of a folder fall by their names",
+        "tools/p21-table",
+        "return sorted(map(str, found))",
+        "return sorted(map(str, found), reverse=True)",
+        "p21-table, tabs",
+    ),
+    Edit(
+        "tools_where.py",
+        [],
+        "the status is 0 for a file that is refused",
+        "tools/p21-where",
+        "    return answer.status\n",
+        "    return 0\n",
+        "p21-where, ",
+    ),
+    Edit(
+        "hostile/devices.sh",
+        [],
+        "a read that fails ends the text",
+        "crates/p21_stream_io/src/transfer.rt",
+        "return Err(ReadFault);",
+        "return Ok(0);",
+        "a directory as a file: status 1, not 3",
+        program=2,
+    ),
+    Edit(
+        "hostile/changing.py",
+        [],
+        "a read of few bytes ends the file",
+        "crates/p21_stream/src/read.rt",
+        "Ok(()) => Ok(count as u64),",
+        "Ok(()) => Ok(if count < piece.len() { 0 } else { count as u64 }),",
+        "in front of read 2: found",
+        program=2,
+    ),
+    Edit(
+        "hostile/transfers.py",
+        [],
+        "a writer that takes none of some bytes has taken all",
+        "crates/p21_stream_io/src/transfer.rt",
+        "if count == 0 {\n            return Err(WriteFault);",
+        "if count == 0 {\n            return Ok(());",
+        "0 bytes are taken, then {'EMPTY': 1}",
+        program=2,
+    ),
+    Edit(
+        "hostile/large.py",
+        [],
+        "one byte less of a parameter is read",
+        "crates/p21_commands/src/transfer.rt",
+        "pub const MOST_READ: usize = 16_777_217;",
+        "pub const MOST_READ: usize = 16_777_216;",
+        "a parameter of 16777217 bytes",
+        program=1,
+    ),
+    Edit(
+        "hostile/stack.py",
+        [],
+        "what waits to be written takes a megabyte of the stack",
+        "crates/p21_stream_io/src/waiting.rt",
+        "const ROOM: usize = 65_536;",
+        "const ROOM: usize = 1_048_576;",
+        "KB: found False",
+        program=1,
+    ),
+    Edit(
+        "hostile/allocations.py",
+        ["schema"],
+        "a word is left out where memory runs out",
+        "crates/p21_commands_schema/src/print.rt",
+        'out.extend_from_slice(b"ABSTRACT ")?;',
+        'let _ = out.extend_from_slice(b"ABSTRACT ");',
+        "'schema demo.exp', allocation",
+        program=1,
+    ),
+    Edit(
+        "fuzz.py",
+        ["--cases", "10000", "--seed", "1"],
+        "one printable character of a string is written as a directive",
+        "crates/p21_values/src/text.rt",
+        "' '..='~' => out.push(code as u8)?,",
+        "' '..='}' => out.push(code as u8)?,",
+        "difference in case",
+        program=1,
+    ),
+]
+
+
+def copy_of_repository(folder):
+    """The repository in a folder of its own, without what was built."""
+    shutil.copytree(ROOT, folder, ignore=shutil.ignore_patterns(".git", "out"), symlinks=True)
+
+
+def apply(edit, root):
+    path = root / edit.file
+    text = path.read_text()
+    if text.count(edit.old) != 1:
+        raise SystemExit(f"{edit.file} has the text of an edit {text.count(edit.old)} times: {edit.old!r}")
+    path.write_text(text.replace(edit.old, edit.new))
+
+
+def edited(edits, folder):
+    """A copy of the repository with these edits, and the program of its sources where it is built."""
+    root = pathlib.Path(folder) / "repository"
+    copy_of_repository(root)
+    for edit in edits:
+        apply(edit, root)
+    if not edits[0].program:
+        return root, None
+    program = pathlib.Path(folder) / "p21"
+    subprocess.run([root / "benchmarks/unproved.py", "p21", program, "--quick"], stdin=subprocess.DEVNULL, check=True)
+    return root, str(program)
+
+
+def finds(edit, root, program):
+    """Whether the script finds its edit in a copy of the repository."""
+    words = [root / "tests" / edit.part, *(program if word == "PROGRAM" else word for word in edit.arguments)]
+    environment = dict(os.environ, P21=program, PYTHONDONTWRITEBYTECODE="1")
+    run = subprocess.run(
+        words, cwd=root, env=environment, stdin=subprocess.DEVNULL, capture_output=True, text=True, errors="replace", check=False
+    )
+    said = run.stdout + run.stderr
+    if run.returncode != 0 and edit.says in said:
+        return True
+    print(said[-3000:])
+    return False
+
+
+def missed_in(edits, good):
+    """How many edits of one copy their scripts don't find."""
+    missed = 0
+    with tempfile.TemporaryDirectory(prefix="wrong-") as folder:
+        root, program = edited(edits, folder)
+        for edit in edits:
+            begun = time.monotonic()
+            is_found = finds(edit, root, program or good)
+            missed += not is_found
+            word = "found" if is_found else "NOT FOUND"
+            print(f"{edit.part}: {edit.title}: {word}, {time.monotonic() - begun:.0f} s", flush=True)
+    return missed
+
+
+def main():
+    good = built_program()
+    chosen = [edit for edit in EDITS if edit.part in (sys.argv[1:] or [edit.part])]
+    copies = [[edit] for edit in chosen if not edit.program]
+    copies += [edits for edits in ([it for it in chosen if it.program == number] for number in (1, 2)) if edits]
+    missed = sum(missed_in(edits, good) for edits in copies)
+    print(f"{len(chosen) - missed} edits found, {missed} not")
+    sys.exit(missed > 0)
+
+
+if __name__ == "__main__":
+    main()
