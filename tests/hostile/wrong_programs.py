@@ -61,10 +61,10 @@ EDITS = [
         "definitions.py",
         [],
         "a test has another name than in the row of its rule",
-        "crates/p21_token_rows/src/tests/runs.rt",
+        "crates/p21_automaton_rows/src/tests/runs.rt",
         "fn finds_blanks(",
         "fn sees_blanks(",
-        "p21_token_rows::runs::finds_blanks",
+        "p21_automaton_rows::runs::finds_blanks",
     ),
     Edit(
         "library.py",
