@@ -1,6 +1,6 @@
-//! Files that are cut off, and files that come in pieces.
+//! Files and schemas that are cut off, and files that come in pieces.
 use crate::devices::{Behind, SmallReader};
-use crate::run::Command::Check;
+use crate::run::Command::{Check, Schema};
 use crate::run::Left::{Answer, Refusal};
 use crate::run::{AMPLE_ROOMS, canon, leaves_of};
 use crate::schemas::DEMO;
@@ -103,6 +103,22 @@ fn first_file_taken(alloc: Global) -> Option<(usize, usize)> {
 #[test]
 fn refuses_a_file_cut_anywhere(rt: HostRuntime) {
     assert_eq!(rt; first_file_taken(rt.alloc()), None);
+}
+
+/// Where a schema that ends with its last semicolon may be cut off and isn't refused for its end.
+fn first_schema_taken(alloc: Global, text: &str) -> Option<usize> {
+    let left = Refusal("schema refused S2 Syntax\n");
+    for (end, _next) in text.char_indices() {
+        if !leaves_of(alloc, Schema, "", text.split_at(end).0, AMPLE_ROOMS, left) {
+            return Some(end);
+        }
+    }
+    None
+}
+
+#[test]
+fn refuses_a_schema_cut_anywhere(rt: HostRuntime) {
+    assert_eq!(rt; first_schema_taken(rt.alloc(), DEMO.trim_end()), None);
 }
 
 const WRITTEN: File = Lines("#1=POINT('it''s \\X2\\00E9\\X0\\',1.E2,2.)/**/;\n");
