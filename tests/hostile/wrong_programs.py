@@ -107,8 +107,8 @@ EDITS = [
         [],
         "the files of a folder fall by their names",
         "tools/p21-table",
-        "return sorted(map(str, found))",
-        "return sorted(map(str, found), reverse=True)",
+        "steps = sorted(str(file) for file in found if file.suffix.lower() in ENDINGS)",
+        "steps = sorted((str(file) for file in found if file.suffix.lower() in ENDINGS), reverse=True)",
         "p21-table, tabs",
     ),
     Edit(
