@@ -4,7 +4,7 @@ mod spelled;
 
 use p21_grammar::{
     Absent, Canonical, Event, GrammarFault, Key, Lexer, Limits, Line, NoMemory, Param, Params,
-    Parser, Part, Record, Token, Word, one_tree,
+    Parser, Part, Record, Token, Word,
 };
 use spelled::{put, spell_event};
 use std::alloc::Global;

@@ -402,8 +402,3 @@ fn first_misnamed() -> &'static str {
 fn has_numbers_and_names(rt: HostRuntime) {
     assert_eq!(rt; first_misnamed(), "none");
 }
-
-#[test]
-fn has_one_tree() {
-    one_tree();
-}
