@@ -4,11 +4,13 @@
 mod held;
 mod progress;
 mod session;
+mod shared;
 
 ghost use Rattle.p21_stream_session.specs.Laws.{DeadByStatement, DeadByStep, HeldWhileLive, LiveAtStart, LiveByPiece, LiveByStatement, LiveByToken};
 
 pub use held::Held;
 pub use session::Session;
+pub use shared::SharedSession;
 
 /// What is known of the bytes taken stays known with each token and each statement; where one is refused, nothing that is
 /// accepted begins with the bytes taken; and what is held is what the definition says.

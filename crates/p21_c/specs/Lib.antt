@@ -1,0 +1,4 @@
+-- What the calls of C answer, and what their handles hold and own.
+pub mod Answers
+pub mod Contents
+pub mod Owned

@@ -1,0 +1,43 @@
+//! A file in memory, read under a schema.
+ghost use Rattle.std.specs.Prelude.{IfErr, IfOk};
+ghost use Rattle.p21_basics.specs.Limits.{usual};
+ghost use Rattle.p21_c.specs.Answers.{IsAcceptedText, RefusesText};
+ghost use Rattle.p21_stream.specs.Claim.{Claim};
+
+use p21_express_tables::Schema;
+use p21_stream::headline;
+use p21_stream_accepted::Accepted;
+use p21_stream_fault::Refusal;
+use p21_stream_session::Session;
+use p21_values::Limits;
+use std::alloc::Global;
+
+/// Reads a file that lies in memory, without a copy of it.
+///
+/// # Errors
+///
+/// Those of a session.
+pub(crate) fn accept_text(alloc: Global, schema: &Schema, text: &[u8]) -> Result<Accepted, Refusal>
+    ensures ok { IfOk result (λ output. IsAcceptedText schema.now text.now output) }
+    ensures err { IfErr result (λ refusal. RefusesText schema.now text.now refusal) }
+{
+    let limits = Limits::usual();
+    headline(schema, limits);
+    let mut session = Session::new(alloc, schema, limits);
+    match session.feed(text) {
+        Ok(()) => {}
+        Err(refusal) => return Err(refusal),
+    }
+    match session.finish() {
+        Ok(accepted) => Ok(accepted),
+        Err(refusal) => Err(refusal),
+    }
+}
+
+/// The claim under a schema and the usual limits. It does nothing.
+pub(crate) fn claim_under(schema: &Schema)
+    ensures { Claim schema.now usual }
+{
+    let limits = Limits::usual();
+    headline(schema, limits);
+}

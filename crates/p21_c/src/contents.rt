@@ -1,0 +1,113 @@
+//! What a handle of C holds.
+ghost use Rattle.std.specs.Prelude.{◌≡◌, IfSome, MatchOption, None, Some};
+ghost use Rattle.p21_c.specs.Contents.{TakesSession, output_in, schema_in, text_in, unboxed};
+ghost use Rattle.p21_c.specs.declared.contents.Content.TheVariants as content;
+
+use p21_express_tables::Schema;
+use p21_stream_accepted::Accepted;
+use p21_stream_session::SharedSession;
+use std::alloc::Global;
+use std::sync::Arc;
+
+/// What a handle holds. `Nothing` stands in its place while it is used.
+#[derive(Drop)]
+pub enum Content {
+    Schema(Arc<Schema, Global>),
+    Session(SharedSession),
+    Accepted(Accepted),
+    Text(Vec<u8>),
+    Nothing,
+}
+
+/// What a handle held, if it held anything.
+pub(crate) type Holding = Option<Box<Content, Global>>;
+
+/// A content in memory of its own; none where there is no memory.
+pub(crate) fn boxed(alloc: Global, content: Content) -> Holding
+    ensures { IfSome result (λ b. b.value ≡ content) }
+{
+    match Box::new(alloc, content) {
+        Ok(content) => Some(content),
+        Err(_) => None,
+    }
+}
+
+/// A content in the place of another one.
+fn replaced(mut held: Box<Content, Global>, content: Content) -> Box<Content, Global>
+    ensures { result.value ≡ content }
+{
+    let _ = Box::replace(&mut held, content);
+    held
+}
+
+/// The schema that is held.
+pub(crate) fn schema_of(held: &Holding) -> Option<&Arc<Schema, Global>>
+    ensures { MatchOption result (schema_in (unboxed held.now) ≡ None) (λ shared. schema_in (unboxed held.now) ≡ Some shared.now.value) }
+{
+    let Some(content) = held else {
+        return None;
+    };
+    match content.as_ref() {
+        Content::Schema(schema) => Some(schema),
+        _ => None,
+    }
+}
+
+/// The accepted file that is held.
+pub(crate) fn accepted_of(held: &Holding) -> Option<&Accepted>
+    ensures { MatchOption result (output_in (unboxed held.now) ≡ None) (λ accepted. output_in (unboxed held.now) ≡ Some accepted.now) }
+{
+    let Some(content) = held else {
+        return None;
+    };
+    match content.as_ref() {
+        Content::Accepted(accepted) => Some(accepted),
+        _ => None,
+    }
+}
+
+/// The text that is held.
+pub(crate) fn text_of(held: &Holding) -> Option<&Vec<u8>>
+    ensures { MatchOption result (text_in (unboxed held.now) ≡ None) (λ text. text_in (unboxed held.now) ≡ Some text.now) }
+{
+    let Some(content) = held else {
+        return None;
+    };
+    match content.as_ref() {
+        Content::Text(text) => Some(text),
+        _ => None,
+    }
+}
+
+/// A session, and the place that it leaves; or what was held where it is none.
+pub(crate) enum Taken {
+    Session(SharedSession, Box<Content, Global>),
+    Other(Holding),
+}
+
+/// Takes a session out of its place.
+pub(crate) fn take_session(held: Holding) -> Taken
+    ensures { TakesSession (unboxed held) result }
+{
+    let Some(mut place) = held else {
+        return Taken::Other(None);
+    };
+    match Box::replace(&mut place, Content::Nothing) {
+        Content::Session(session) => Taken::Session(session, place),
+        content => Taken::Other(Some(replaced(place, content))),
+    }
+}
+
+/// Puts a session into a place.
+pub(crate) fn put_session(place: Box<Content, Global>, session: SharedSession) -> Holding
+    ensures { unboxed result ≡ Some (content.Session session) }
+{
+    Some(replaced(place, Content::Session(session)))
+}
+
+/// Puts an accepted file into a place.
+pub(crate) fn put_accepted(place: Box<Content, Global>, accepted: Accepted) -> Holding
+    ensures { unboxed result ≡ Some (content.Accepted accepted) }
+{
+    Some(replaced(place, Content::Accepted(accepted)))
+}

@@ -1,0 +1,60 @@
+//! Schemas.
+ghost use Rattle.std.specs.Prelude.{◌≡◌, None, Some};
+ghost use Rattle.p21_c.specs.Answers.{Hands, KeepsSchemaIn, MakesSchema};
+ghost use Rattle.p21_c.specs.Contents.{unboxed};
+
+use crate::answers::{Answer, Report, done, no_memory, schema_refused};
+use crate::contents::{Content, Holding, boxed};
+use crate::handles::Handle;
+use p21_express::read_schema;
+use p21_express_tables::Schema;
+use std::alloc::Global;
+use std::sync::Arc;
+
+/// Hands out the schema that a text declares.
+#[unsafe(no_mangle)]
+pub extern "C" fn p21_schema_new(
+    alloc: Global,
+    text: &[u8],
+    schema: &mut Handle,
+    report: &mut Report,
+) -> u8
+    ensures { Hands (MakesSchema text.now (record { status = result; report = report.new })) schema.old.value schema.new.value }
+{
+    let (content, answer) = read(alloc, text);
+    schema.hand(alloc, content);
+    *report = answer.report;
+    answer.status
+}
+
+/// Lets go of a schema. A session over it keeps it as long as it needs it.
+#[unsafe(no_mangle)]
+pub extern "C" fn p21_schema_free(alloc: Global, schema: &mut Handle)
+    ensures { schema.new.value ≡ None }
+{
+    schema.put(alloc, None);
+}
+
+/// The schema that a text declares.
+fn read(alloc: Global, text: &[u8]) -> (Holding, Answer)
+    ensures { MakesSchema text.now result.1 (unboxed result.0) }
+{
+    match read_schema(alloc, text) {
+        Ok(schema) => keep(alloc, schema),
+        Err(fault) => (None, schema_refused(fault)),
+    }
+}
+
+/// A schema that sessions may share.
+fn keep(alloc: Global, schema: Schema) -> (Holding, Answer)
+    ensures { KeepsSchemaIn schema result.1 (unboxed result.0) }
+{
+    let schema = match Arc::new(alloc, schema) {
+        Ok(schema) => schema,
+        Err(_) => return (None, no_memory()),
+    };
+    match boxed(alloc, Content::Schema(schema)) {
+        Some(content) => (Some(content), done()),
+        None => (None, no_memory()),
+    }
+}

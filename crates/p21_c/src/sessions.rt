@@ -1,0 +1,182 @@
+//! Sessions, and the accepted files that they end in.
+ghost use Rattle.std.specs.Prelude.{◌≡◌, None};
+ghost use Rattle.p21_c.specs.Answers.{Feeds, Finishes, Hands, MakesFile, MakesLine, MakesSession, feed_answer};
+ghost use Rattle.p21_c.specs.Contents.{output_in, schema_in, session_in, unboxed};
+
+use crate::answers::{
+    Answer, DONE, FAILED, FILE, MISUSED, REFUSED, Report, accepted, done, misused, refused,
+};
+use crate::contents::{
+    Content, Holding, Taken, accepted_of, boxed, put_accepted, put_session, schema_of, take_session,
+};
+use crate::handles::Handle;
+use crate::texts::{copy_of, file_of};
+use p21_stream_fault::Refusal;
+use p21_stream_session::SharedSession;
+use p21_values::{Limits, Name};
+use std::alloc::Global;
+use std::sync::Arc;
+
+/// Hands out a session over a schema.
+#[unsafe(no_mangle)]
+pub extern "C" fn p21_session_new(alloc: Global, schema: &mut Handle, session: &mut Handle) -> u8
+    ensures session { Hands (MakesSession (schema_in schema.old.value) result) session.old.value session.new.value }
+    ensures schema { schema.new.value ≡ schema.old.value }
+{
+    let content = schema.take(alloc);
+    let (made, status) = begin(alloc, &content);
+    schema.put(alloc, content);
+    session.hand(alloc, made);
+    status
+}
+
+/// Feeds a session a piece of a file. The piece isn't kept.
+#[unsafe(no_mangle)]
+pub extern "C" fn p21_session_feed(
+    alloc: Global,
+    session: &mut Handle,
+    piece: &[u8],
+    report: &mut Report,
+) -> u8
+    ensures { Feeds (session_in session.old.value) piece.now (record { status = result; report = report.new }) session.old.value session.new.value }
+{
+    let (content, answer) = feed(session.take(alloc), piece);
+    session.put(alloc, content);
+    *report = answer.report;
+    answer.status
+}
+
+/// Ends a session: where the file is accepted, the handle holds it from now on, else nothing.
+#[unsafe(no_mangle)]
+pub extern "C" fn p21_session_finish(alloc: Global, session: &mut Handle, report: &mut Report) -> u8
+    ensures { Finishes (session_in session.old.value) (record { status = result; report = report.new }) session.old.value session.new.value }
+{
+    let (content, answer) = finish(session.take(alloc));
+    session.put(alloc, content);
+    *report = answer.report;
+    answer.status
+}
+
+/// Lets go of a session, or of the accepted file that it ended in.
+#[unsafe(no_mangle)]
+pub extern "C" fn p21_session_free(alloc: Global, session: &mut Handle)
+    ensures { session.new.value ≡ None }
+{
+    session.put(alloc, None);
+}
+
+/// Hands out the canonical statement of the instance of this name, without a line feed.
+#[unsafe(no_mangle)]
+pub extern "C" fn p21_accepted_line(
+    alloc: Global,
+    session: &mut Handle,
+    name: u64,
+    text: &mut Handle,
+) -> u8
+    ensures line { Hands (MakesLine (output_in session.old.value) name result) text.old.value text.new.value }
+    ensures session { session.new.value ≡ session.old.value }
+{
+    let content = session.take(alloc);
+    let (made, status) = line(alloc, &content, name);
+    session.put(alloc, content);
+    text.hand(alloc, made);
+    status
+}
+
+/// Hands out the canonical file.
+#[unsafe(no_mangle)]
+pub extern "C" fn p21_accepted_write(alloc: Global, session: &mut Handle, text: &mut Handle) -> u8
+    ensures file { Hands (MakesFile (output_in session.old.value) result) text.old.value text.new.value }
+    ensures session { session.new.value ≡ session.old.value }
+{
+    let content = session.take(alloc);
+    let (made, status) = file(alloc, &content);
+    session.put(alloc, content);
+    text.hand(alloc, made);
+    status
+}
+
+/// A session over the schema that is held.
+fn begin(alloc: Global, held: &Holding) -> (Holding, u8)
+    ensures { MakesSession (schema_in (unboxed held.now)) result.1 (unboxed result.0) }
+{
+    let Some(schema) = schema_of(held) else {
+        return (None, MISUSED);
+    };
+    let Ok(schema) = Arc::try_clone(schema) else {
+        return (None, FAILED);
+    };
+    let session = SharedSession::new(alloc, schema, Limits::usual());
+    match boxed(alloc, Content::Session(session)) {
+        Some(content) => (Some(content), DONE),
+        None => (None, FAILED),
+    }
+}
+
+/// Feeds the session that is held.
+fn feed(held: Holding, piece: &[u8]) -> (Holding, Answer)
+    ensures { Feeds (session_in (unboxed held)) piece.now result.1 (unboxed held) (unboxed result.0) }
+{
+    let (mut session, place) = match take_session(held) {
+        Taken::Session(session, place) => (session, place),
+        Taken::Other(held) => return (held, misused()),
+    };
+    let answer = fed(session.feed(piece));
+    (put_session(place, session), answer)
+}
+
+/// What is answered to a piece.
+fn fed(taken: Result<(), Refusal>) -> Answer
+    ensures { result ≡ feed_answer taken }
+{
+    match taken {
+        Ok(()) => done(),
+        Err(refusal) => refused(FILE, refusal),
+    }
+}
+
+/// Ends the session that is held.
+fn finish(held: Holding) -> (Holding, Answer)
+    ensures { Finishes (session_in (unboxed held)) result.1 (unboxed held) (unboxed result.0) }
+{
+    let (session, place) = match take_session(held) {
+        Taken::Session(session, place) => (session, place),
+        Taken::Other(held) => return (held, misused()),
+    };
+    match session.finish() {
+        Ok(output) => {
+            let answer = accepted(&output);
+            (put_accepted(place, output), answer)
+        }
+        Err(refusal) => (None, refused(FILE, refusal)),
+    }
+}
+
+/// The statement of an instance of the accepted file that is held.
+fn line(alloc: Global, held: &Holding, name: u64) -> (Holding, u8)
+    ensures { MakesLine (output_in (unboxed held.now)) name result.1 (unboxed result.0) }
+{
+    let Some(output) = accepted_of(held) else {
+        return (None, MISUSED);
+    };
+    let Some(line) = output.line(Name(name)) else {
+        return (None, REFUSED);
+    };
+    match copy_of(alloc, line) {
+        Some(content) => (Some(content), DONE),
+        None => (None, FAILED),
+    }
+}
+
+/// The accepted file that is held.
+fn file(alloc: Global, held: &Holding) -> (Holding, u8)
+    ensures { MakesFile (output_in (unboxed held.now)) result.1 (unboxed result.0) }
+{
+    let Some(output) = accepted_of(held) else {
+        return (None, MISUSED);
+    };
+    match file_of(alloc, output) {
+        Some(content) => (Some(content), DONE),
+        None => (None, FAILED),
+    }
+}

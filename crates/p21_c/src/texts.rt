@@ -1,0 +1,81 @@
+//! Texts that are handed out.
+ghost use Rattle.std.specs.Prelude.{◌≡◌, IfSome, None, Some};
+ghost use Rattle.p21_c.specs.Answers.{Shows};
+ghost use Rattle.p21_c.specs.Contents.{HoldsText, text_in, unboxed};
+ghost use Rattle.p21_stream_accepted.specs.Output.{output_text};
+
+use crate::answers::{DONE, MISUSED};
+use crate::contents::{Content, Holding, boxed, text_of as held_text};
+use crate::handles::Handle;
+use p21_stream_accepted::Accepted;
+use p21_stream_io::Watched;
+use std::alloc::Global;
+
+/// Where the bytes of a text lie, and how many they are. They stay there until the text is let go.
+#[unsafe(no_mangle)]
+pub extern "C" fn p21_text_bytes(
+    alloc: Global,
+    text: &mut Handle,
+    at: &mut *const u8,
+    length: &mut usize,
+) -> u8
+    ensures shows { Shows (text_in text.old.value) result at.old at.new length.old length.new }
+    ensures text { text.new.value ≡ text.old.value }
+{
+    let content = text.take(alloc);
+    let status = show(&content, at, length);
+    text.put(alloc, content);
+    status
+}
+
+/// Lets go of a text.
+#[unsafe(no_mangle)]
+pub extern "C" fn p21_text_free(alloc: Global, text: &mut Handle)
+    ensures { text.new.value ≡ None }
+{
+    text.put(alloc, None);
+}
+
+/// Where the bytes of the text that is held lie, and how many they are.
+fn show(held: &Holding, at: &mut *const u8, length: &mut usize) -> u8
+    ensures { Shows (text_in (unboxed held.now)) result at.old at.new length.old length.new }
+{
+    let Some(text) = held_text(held) else {
+        return MISUSED;
+    };
+    *at = text.as_ptr();
+    *length = text.len();
+    DONE
+}
+
+/// The canonical file of an accepted one.
+pub(crate) fn text_of(alloc: Global, accepted: &Accepted) -> Option<Vec<u8>>
+    ensures { IfSome result (λ text. text.items ≡ output_text accepted.now) }
+{
+    let mut writer = Watched::new(Vec::new(alloc));
+    match accepted.write_to(&mut writer) {
+        Ok(()) => Some(writer.into_inner()),
+        Err(_) => None,
+    }
+}
+
+/// The canonical file of an accepted one, to be held.
+pub(crate) fn file_of(alloc: Global, accepted: &Accepted) -> Holding
+    ensures { IfSome result (λ b. HoldsText (Some b.value) (output_text accepted.now)) }
+{
+    let Some(text) = text_of(alloc, accepted) else {
+        return None;
+    };
+    boxed(alloc, Content::Text(text))
+}
+
+/// Bytes, to be held.
+pub(crate) fn copy_of(alloc: Global, bytes: &[u8]) -> Holding
+    ensures { IfSome result (λ b. HoldsText (Some b.value) bytes.now) }
+{
+    let mut text = Vec::new(alloc);
+    match text.extend_from_slice(bytes) {
+        Ok(()) => boxed(alloc, Content::Text(text)),
+        Err(_) => None,
+    }
+}

@@ -1,0 +1,229 @@
+/*
+ * p21: whether two STEP files (ISO 10303-21) hold the same model.
+ *
+ * A schema is read from its EXPRESS text. Under it a file is checked, its canonical file is given, and two files are
+ * compared; a session reads a file that comes in pieces. What these words mean is said in docs/DEFINITIONS.md, and
+ * docs/LIBRARY.md has a whole program.
+ *
+ * Handles. A schema, a session and a text are each kept in a struct of one pointer. It begins as P21_EMPTY, and from then on
+ * the calls alone change it: it isn't copied, written or compared. A call that hands something out lets go of what the handle
+ * held before. The call that frees it leaves it empty, and an empty handle may be freed.
+ *
+ * What a caller owes, since no call can test it: no pointer is null, also where the length is 0; a text of a length has as
+ * many bytes, which don't change during the call; two handles of one call are different ones; and the handles of a schema and
+ * of its sessions stay in the thread that made them.
+ *
+ * What a call answers is a status. P21_REFUSED and P21_FAILED come with a report, and then nothing is handed out: what stood
+ * in the handle or in the place of the answer is as it was.
+ *
+ * To link: libp21.so; or libp21_c.a and liblibc_c.a, in this order.
+ */
+#ifndef P21_H
+#define P21_H
+
+#include <stddef.h>
+#include <stdint.h>
+
+#ifdef __cplusplus
+extern "C" {
+#endif
+
+/* A schema. */
+typedef struct p21_schema {
+    void *inside;
+} p21_schema;
+
+/* A session, and the accepted file that it ends in. */
+typedef struct p21_session {
+    void *inside;
+} p21_session;
+
+/* Bytes that the library hands out. */
+typedef struct p21_text {
+    void *inside;
+} p21_text;
+
+/* A handle that holds nothing. */
+#define P21_EMPTY { NULL }
+
+/* Statuses. */
+enum {
+    P21_DONE = 0,    /* it is done */
+    P21_REFUSED = 1, /* the schema or the file is refused, or there is no such instance */
+    P21_MISUSED = 2, /* a handle holds nothing, or something else than the call wants */
+    P21_FAILED = 3   /* there was no memory */
+};
+
+/* What is refused: `subject` of a report. */
+enum {
+    P21_SCHEMA = 1, /* the schema: the number is one of S1 to S9 */
+    P21_FILE = 2,   /* the file, or the first of two */
+    P21_SECOND = 3  /* the second of two files */
+};
+
+/* Where it is refused: `place` of a report. */
+enum {
+    P21_STATEMENT = 1, /* at a statement: `at` is its number, counted from 1 */
+    P21_INSTANCE = 2   /* in an instance: `at` is its name */
+};
+
+/*
+ * Why something is refused, and where; or the counts of an accepted file. Each call that takes a report writes all of it.
+ * What doesn't apply is 0.
+ */
+typedef struct p21_report {
+    uint8_t subject;    /* what is refused */
+    uint8_t number;     /* the number of the refusal (docs/FAULTS.md) */
+    uint8_t absent;     /* where the number is P21_LEFT_OUT: what is left out */
+    uint8_t place;      /* what `at` is */
+    uint64_t at;        /* the number of the statement, or the name of the instance */
+    uint64_t instances; /* how many instances an accepted file has */
+    uint64_t bytes;     /* how many bytes its canonical file has */
+} p21_report;
+
+/* The refusals of files, as docs/FAULTS.md explains them. */
+enum {
+    P21_BAD_BYTE = 1,
+    P21_OPEN_STRING = 2,
+    P21_OPEN_COMMENT = 3,
+    P21_BAD_DIRECTIVE = 4,
+    P21_BAD_CODE_POINT = 5,
+    P21_NOT_UTF8 = 6,
+    P21_BAD_NUMBER = 7,
+    P21_NUMBER_RANGE = 8,
+    P21_BAD_BINARY = 9,
+    P21_NAME_RANGE = 10,
+    P21_BAD_NAME = 11,
+    P21_UNEXPECTED = 20,
+    P21_TOO_DEEP = 21,
+    P21_RECORD_TOO_LONG = 22,
+    P21_FILE_TOO_LONG = 23,
+    P21_ENDS_EARLY = 24,
+    P21_AFTER_END = 25,
+    P21_LEFT_OUT = 26,
+    P21_CANONICAL_TOO_LONG = 27,
+    P21_HEADER_SHAPE = 30,
+    P21_SCHEMA_NAME = 31,
+    P21_SECTION_SHAPE = 32,
+    P21_SECTION_TWICE = 33,
+    P21_DUPLICATE_NAME = 40,
+    P21_UNKNOWN_ENTITY = 41,
+    P21_ABSTRACT = 42,
+    P21_PART_MISSING = 43,
+    P21_PART_TWICE = 44,
+    P21_COUNT = 45,
+    P21_MISSING = 46,
+    P21_STAR_NOT_DERIVED = 47,
+    P21_DERIVED_NOT_STAR = 48,
+    P21_WRONG_KIND = 49,
+    P21_WIDTH = 50,
+    P21_BOUNDS = 51,
+    P21_NOT_DISTINCT = 52,
+    P21_UNKNOWN_ITEM = 53,
+    P21_SELECT_TYPE = 54,
+    P21_TWO_REDECLARATIONS = 55,
+    P21_DANGLING = 56,
+    P21_WRONG_TARGET = 57,
+    P21_ONE_OF = 58,
+    P21_NO_MEMORY = 90
+};
+
+/* The refusals of schemas, S1 to S9. */
+enum {
+    P21_SCHEMA_TOKEN = 1,
+    P21_SCHEMA_SYNTAX = 2,
+    P21_SCHEMA_DUPLICATE = 3,
+    P21_SCHEMA_UNKNOWN_NAME = 4,
+    P21_SCHEMA_CIRCULAR = 5,
+    P21_SCHEMA_LEFT_OUT = 6,
+    P21_SCHEMA_BOUNDS = 7,
+    P21_SCHEMA_REDECLARED_PLACE = 8,
+    P21_SCHEMA_TOO_LARGE = 9
+};
+
+/* What is left out: `absent` of a report. */
+enum {
+    P21_ABSENT_USER_KEYWORD = 1,
+    P21_ABSENT_SCOPE = 2,
+    P21_ABSENT_CONSTANT_NAME = 3,
+    P21_ABSENT_VALUE_NAME = 4,
+    P21_ABSENT_ANCHOR = 5,
+    P21_ABSENT_REFERENCE = 6,
+    P21_ABSENT_SIGNATURE = 7,
+    P21_ABSENT_SECOND_SECTION = 8,
+    P21_ABSENT_NO_DATA_SECTION = 9
+};
+
+/* The parts of a version. */
+typedef struct p21_parts {
+    uint32_t major;
+    uint32_t minor;
+    uint32_t patch;
+} p21_parts;
+
+/* Writes the version of the library, which is that of the program. */
+void p21_version(p21_parts *version);
+
+/* Hands out the schema that a text declares. P21_REFUSED: the text declares none, and the report says why. */
+uint8_t p21_schema_new(const uint8_t *text, size_t length, p21_schema *schema, p21_report *report);
+
+/* Lets go of a schema. A session over it keeps what it needs. */
+void p21_schema_free(p21_schema *schema);
+
+/*
+ * Whether a file is accepted under a schema. P21_DONE: it is, and the report has its counts. P21_REFUSED: it isn't. The file
+ * isn't copied.
+ */
+uint8_t p21_check(p21_schema *schema, const uint8_t *file, size_t length, p21_report *report);
+
+/*
+ * Hands out the canonical file of a file. P21_DONE: the report has the counts. P21_REFUSED: the file isn't accepted. The file
+ * isn't copied.
+ */
+uint8_t p21_canonical(p21_schema *schema, const uint8_t *file, size_t length, p21_text *text, p21_report *report);
+
+/*
+ * Whether two files mean the same: `same` is 1 or 0. P21_REFUSED: one of them isn't accepted, and `subject` says which; the
+ * second is read where the first is accepted. They aren't copied.
+ */
+uint8_t p21_same(p21_schema *schema, const uint8_t *first, size_t first_length, const uint8_t *second, size_t second_length,
+                 uint8_t *same, p21_report *report);
+
+/* Hands out a session over a schema. It has no report: P21_FAILED where there was no memory. */
+uint8_t p21_session_new(p21_schema *schema, p21_session *session);
+
+/*
+ * Feeds a session the next piece of a file, of any length. P21_REFUSED: nothing that is accepted begins so; the session then
+ * answers the same again. The piece isn't kept.
+ */
+uint8_t p21_session_feed(p21_session *session, const uint8_t *piece, size_t length, p21_report *report);
+
+/*
+ * Ends a session. P21_DONE: the handle holds the accepted file, and the report has its counts. P21_REFUSED or P21_FAILED: the
+ * handle is empty.
+ */
+uint8_t p21_session_finish(p21_session *session, p21_report *report);
+
+/* Lets go of a session, or of the accepted file that it ended in. */
+void p21_session_free(p21_session *session);
+
+/*
+ * Hands out the canonical statement of an instance of an accepted file, without a line feed. P21_REFUSED: there is no
+ * instance of this name. It has no report.
+ */
+uint8_t p21_accepted_line(p21_session *session, uint64_t name, p21_text *text);
+
+/* Hands out the canonical file of an accepted one. It has no report. */
+uint8_t p21_accepted_write(p21_session *session, p21_text *text);
+
+/* Writes where the bytes of a text lie, and how many they are. They stay there until the text is let go; they are read only. */
+uint8_t p21_text_bytes(p21_text *text, const uint8_t **bytes, size_t *length);
+
+/* Lets go of a text. */
+void p21_text_free(p21_text *text);
+
+#ifdef __cplusplus
+}
+#endif
+
+#endif

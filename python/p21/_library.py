@@ -1,0 +1,134 @@
+"""The shared library, its calls and what they answer."""
+
+import ctypes
+import os
+import pathlib
+from typing import Any, Tuple, Union
+
+from p21._faults import ABSENT, FILES, SCHEMAS, Refused, SchemaRefused
+
+DONE, REFUSED, MISUSED, FAILED = 0, 1, 2, 3
+SCHEMA, FILE, SECOND = 1, 2, 3
+STATEMENT, INSTANCE = 1, 2
+LEFT_OUT = 26
+
+Buffer = Union[bytes, bytearray, memoryview]
+
+
+class Handle(ctypes.Structure):
+    """A handle, which holds nothing where it is null."""
+
+    _fields_ = [("inside", ctypes.c_void_p)]
+
+
+class ReportStruct(ctypes.Structure):
+    """A report, as the library writes it."""
+
+    _fields_ = [
+        ("subject", ctypes.c_uint8),
+        ("number", ctypes.c_uint8),
+        ("absent", ctypes.c_uint8),
+        ("place", ctypes.c_uint8),
+        ("at", ctypes.c_uint64),
+        ("instances", ctypes.c_uint64),
+        ("bytes", ctypes.c_uint64),
+    ]
+
+
+class VersionStruct(ctypes.Structure):
+    """The parts of a version."""
+
+    _fields_ = [("major", ctypes.c_uint32), ("minor", ctypes.c_uint32), ("patch", ctypes.c_uint32)]
+
+
+def _path() -> str:
+    named = os.environ.get("P21_LIBRARY")
+    return named if named else str(pathlib.Path(__file__).resolve().parent / "libp21.so")
+
+
+def _declared() -> Any:
+    path = _path()
+    try:
+        library = ctypes.CDLL(path)
+    except OSError as error:
+        raise ImportError(
+            f"p21: the shared library {path} can't be loaded: {error}; tools/build-library builds it, and P21_LIBRARY names another one"
+        ) from error
+    handle = ctypes.POINTER(Handle)
+    report = ctypes.POINTER(ReportStruct)
+    text = [ctypes.c_void_p, ctypes.c_size_t]
+    calls = {
+        "p21_schema_new": (text + [handle, report], ctypes.c_uint8),
+        "p21_schema_free": ([handle], None),
+        "p21_check": ([handle] + text + [report], ctypes.c_uint8),
+        "p21_canonical": ([handle] + text + [handle, report], ctypes.c_uint8),
+        "p21_same": ([handle] + text + text + [ctypes.POINTER(ctypes.c_uint8), report], ctypes.c_uint8),
+        "p21_session_new": ([handle, handle], ctypes.c_uint8),
+        "p21_session_feed": ([handle] + text + [report], ctypes.c_uint8),
+        "p21_session_finish": ([handle, report], ctypes.c_uint8),
+        "p21_session_free": ([handle], None),
+        "p21_accepted_line": ([handle, ctypes.c_uint64, handle], ctypes.c_uint8),
+        "p21_accepted_write": ([handle, handle], ctypes.c_uint8),
+        "p21_text_bytes": ([handle, ctypes.POINTER(ctypes.c_void_p), ctypes.POINTER(ctypes.c_size_t)], ctypes.c_uint8),
+        "p21_text_free": ([handle], None),
+        "p21_version": ([ctypes.POINTER(VersionStruct)], None),
+    }
+    for name, (arguments, result) in calls.items():
+        call = getattr(library, name)
+        call.argtypes = arguments
+        call.restype = result
+    return library
+
+
+LIBRARY = _declared()
+
+
+def version() -> str:
+    """The version of the library, as ``0.1.0``."""
+    parts = VersionStruct()
+    LIBRARY.p21_version(parts)
+    return f"{parts.major}.{parts.minor}.{parts.patch}"
+
+
+def passed(text: Buffer) -> Tuple[Any, int, Any]:
+    """Where a text lies and how long it is, and what has to live as long as the call. Bytes aren't copied."""
+    if isinstance(text, bytes):
+        return ctypes.cast(ctypes.c_char_p(text), ctypes.c_void_p), len(text), text
+    view = memoryview(text).cast("B")
+    if view.readonly or not view.nbytes:
+        return passed(bytes(view))
+    array = (ctypes.c_uint8 * view.nbytes).from_buffer(view)
+    return ctypes.cast(array, ctypes.c_void_p), view.nbytes, array
+
+
+def judge(status: int, report: ReportStruct, of_two: bool = False) -> None:
+    """Raises what a status and its report say."""
+    if status == DONE:
+        return
+    if status == FAILED:
+        raise MemoryError("p21: out of memory")
+    if status == MISUSED:
+        raise ValueError("p21: a handle doesn't hold what the call wants")
+    if report.subject == SCHEMA:
+        raise SchemaRefused(report.number, SCHEMAS[report.number])
+    name = FILES[report.number]
+    if report.number == LEFT_OUT:
+        name = f"{name}({ABSENT[report.absent]})"
+    raise Refused(
+        report.number,
+        name,
+        statement=report.at if report.place == STATEMENT else None,
+        instance=report.at if report.place == INSTANCE else None,
+        which=("second" if report.subject == SECOND else "first") if of_two else None,
+    )
+
+
+def taken(text: Handle) -> bytes:
+    """The bytes of a text that was handed out, which is let go."""
+    at = ctypes.c_void_p()
+    length = ctypes.c_size_t()
+    try:
+        LIBRARY.p21_text_bytes(text, at, length)
+        return ctypes.string_at(at, length.value)
+    finally:
+        LIBRARY.p21_text_free(text)

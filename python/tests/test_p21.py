@@ -1,0 +1,324 @@
+"""Files, schemas and sessions through the package, with the answers that they must have.
+
+The files of `examples` are refused as docs/FAULTS.md and the pages say. Each other row is a file of which the lines between
+`DATA;` and `ENDSEC;` are given, under a small schema.
+"""
+
+import gc
+import pathlib
+import re
+
+import p21
+import p21._faults as faults
+import pytest
+
+ROOT = pathlib.Path(__file__).resolve().parents[2]
+EXAMPLES = ROOT / "examples"
+DEMO = (EXAMPLES / "demo.exp").read_text()
+DIAMOND = """SCHEMA diamond;
+ENTITY r; k : INTEGER; END_ENTITY;
+ENTITY a SUBTYPE OF (r); p : INTEGER; END_ENTITY;
+ENTITY b SUBTYPE OF (r); q : INTEGER; END_ENTITY;
+ENTITY c SUBTYPE OF (a, b); z : INTEGER; END_ENTITY;
+END_SCHEMA;
+"""
+REDECL = """SCHEMA redecl;
+ENTITY r; k : NUMBER; END_ENTITY;
+ENTITY a SUBTYPE OF (r); SELF\\r.k : INTEGER; END_ENTITY;
+ENTITY b SUBTYPE OF (r); SELF\\r.k : REAL; END_ENTITY;
+ENTITY c SUBTYPE OF (a, b); SELF\\a.k : OPTIONAL INTEGER; END_ENTITY;
+ENTITY d SUBTYPE OF (r); DERIVE SELF\\r.k : NUMBER := 1; END_ENTITY;
+END_SCHEMA;
+"""
+WIDE = """SCHEMA wide;
+ENTITY e; s : STRING(3); f : STRING(2) FIXED; b : BINARY(4);
+o : ARRAY [1:2] OF OPTIONAL INTEGER; n : BOOLEAN; END_ENTITY;
+END_SCHEMA;
+"""
+SCHEMAS = {"DEMO": DEMO, "DIAMOND": DIAMOND, "REDECL": REDECL, "WIDE": WIDE}
+
+
+def file_of(data, schema="DEMO"):
+    """A file with these lines in its data section."""
+    lines = [
+        "ISO-10303-21;",
+        "HEADER;",
+        "FILE_DESCRIPTION((''),'2;1');",
+        "FILE_NAME('','',(''),(''),'','','');",
+        f"FILE_SCHEMA(('{schema}'));",
+        "ENDSEC;",
+        "DATA;",
+        *([data] if data else []),
+        "ENDSEC;",
+        "END-ISO-10303-21;",
+    ]
+    return "".join(line + "\n" for line in lines).encode()
+
+
+@pytest.fixture(scope="module")
+def product():
+    return p21.Schema((EXAMPLES / "product.exp").read_bytes())
+
+
+@pytest.fixture(scope="module")
+def schemas():
+    return {name: p21.Schema(text) for name, text in SCHEMAS.items()}
+
+
+# What a data section is written as.
+GIVES = [
+    ("DEMO", "", ""),
+    ("DEMO", "#2 = POINT($, 1.0, 10.E-1);", "#2=POINT($,1.,1.);"),
+    ("DEMO", "#007=POINT('a',-0.0,0.00250);", "#7=POINT('a',0.,2.5E-3);"),
+    ("DEMO", "#1=CLOUD((),((2.,1.),(),(1.0,2.)),(TALLY(1)));", "#1=CLOUD((),((),(1.,2.),(1.,2.)),(TALLY(1)));"),
+    ("DEMO", "#1=(POINT(1.,2.)SHAPE('a'));", "#1=POINT('a',1.,2.);"),
+    ("DEMO", "#1=(SHAPE($)POINT(1.,2.)MARKED(.RED.));", "#1=(MARKED(.RED.)POINT(1.,2.)SHAPE($));"),
+    ("DEMO", "#1=ORIGIN($,*,2.);", "#1=ORIGIN($,*,2.);"),
+    ("DEMO", "#00=POINT($,1.,1.);", "#0=POINT($,1.,1.);"),
+    ("DEMO", "#18446744073709551615=POINT($,1.,1.);", "#18446744073709551615=POINT($,1.,1.);"),
+    ("REDECL", "#1=R(1);", "#1=R(1.);"),
+    ("REDECL", "#1=A(1);", "#1=A(1);"),
+    ("REDECL", "#1=(B()R(1.));", "#1=B(1.);"),
+    ("WIDE", "#1=E('abc','xy',\"0A\",($,1),.T.);", "#1=E('abc','xy',\"0A\",($,1),.T.);"),
+]
+
+# How a data section is refused.
+REFUSED = [
+    ("DEMO", "#1=POINT($,1.,1.);\n#01=POINT($,1.,1.);", "refused 40 DuplicateName in #1"),
+    ("DEMO", "#1=CLOUD((#2,#02),(),(TALLY(1)));", "refused 52 NotDistinct in #1"),
+    ("DEMO", "#1=(POINT(1.,2.)MARKED(.RED.));", "refused 43 PartMissing in #1"),
+    ("DEMO", "#1=(SHAPE($)SHAPE($)POINT(1.,2.)MARKED(.RED.));", "refused 44 PartTwice in #1"),
+    ("DEMO", "#1=ORIGIN($,0.,2.);", "refused 48 DerivedNotStar in #1"),
+    ("DEMO", "#1=POINT($,*,2.);", "refused 47 StarNotDerived in #1"),
+    ("DEMO", "#1=SHAPE($);", "refused 42 Abstract in #1"),
+    ("DEMO", "#1=FOO();", "refused 41 UnknownEntity in #1"),
+    ("DEMO", "#1=POINT($,1.);", "refused 45 Count in #1"),
+    ("DEMO", "#1=POINT($,1,2.);", "refused 49 WrongKind in #1"),
+    ("DEMO", "#1=CLOUD((#2),(),(TALLY(1)));\n#2=CLOUD((),(),(TALLY(1)));", "refused 57 WrongTarget in #1"),
+    ("DEMO", "#1=CLOUD((#2),(),(TALLY(1)));", "refused 56 Dangling in #1"),
+    ("DEMO", "#1=CLOUD((),(),(1.0));", "refused 54 SelectType in #1"),
+    ("DEMO", "#1=CLOUD((),(),());", "refused 51 Bounds in #1"),
+    ("DEMO", "#18446744073709551616=POINT($,1.,1.);", "refused 10 NameRange at statement 8"),
+    ("DEMO", "#1=POINT($," + "(" * 65 + ")" * 65 + ",1.);", "refused 21 TooDeep at statement 8"),
+    ("DEMO", "#1=&SCOPE", "refused 26 LeftOut(Scope) at statement 8"),
+    ("DEMO", "#1=!A();", "refused 26 LeftOut(UserKeyword) at statement 8"),
+    ("DEMO", "\\N\\#1=POINT($,1.,1.);", "refused 1 BadByte at statement 8"),
+    ("DEMO", "#1=point();", "refused 1 BadByte at statement 8"),
+    ("DEMO", "#1=POINT(;", "refused 20 Unexpected at statement 8"),
+    ("REDECL", "#1=A(1.);", "refused 49 WrongKind in #1"),
+    ("REDECL", "#1=(A()B()R(1));", "refused 55 TwoRedeclarations in #1"),
+    ("WIDE", "#1=E('abcd','xy',\"0A\",($,1),.T.);", "refused 50 Width in #1"),
+    ("WIDE", "#1=E('abc','xy',\"0A\",($,1),.U.);", "refused 53 UnknownItem in #1"),
+    ("WIDE", "#1=E('abc','xy',\"0A\",($,1),$);", "refused 46 Missing in #1"),
+]
+
+# Whole files, and how they are refused.
+WHOLE = [
+    (b"", "refused 24 EndsEarly at statement 1"),
+    (file_of("").replace(b"DATA;", b"ANCHOR;"), "refused 26 LeftOut(Anchor) at statement 7"),
+    (file_of("") + b"X", "refused 25 AfterEnd at statement 10"),
+    (file_of("") + b"/*", "refused 3 OpenComment at statement 10"),
+    (file_of("", "OTHER"), "refused 31 SchemaName at statement 5"),
+    (file_of("").replace(b"FILE_SCHEMA(('DEMO'))", b"FILE_SCHEMA($)"), "refused 30 HeaderShape at statement 5"),
+    (file_of("#1=POINT('a,1.,1.);"), "refused 2 OpenString at statement 8"),
+]
+
+SCHEMAS_REFUSED = [
+    ("(* not closed", "schema refused S1 Token"),
+    ("SCHEMA s; END_SCHEMA", "schema refused S2 Syntax"),
+    ("", "schema refused S2 Syntax"),
+    ("SCHEMA s; ENTITY a; END_ENTITY; ENTITY A; END_ENTITY; END_SCHEMA;", "schema refused S3 Duplicate"),
+    ("SCHEMA s; ENTITY a; x : foo; END_ENTITY; END_SCHEMA;", "schema refused S4 UnknownName"),
+    ("SCHEMA s; ENTITY a SUBTYPE OF (b); END_ENTITY; ENTITY b SUBTYPE OF (a); END_ENTITY; END_SCHEMA;", "schema refused S5 Circular"),
+    ("SCHEMA s; USE FROM t; END_SCHEMA;", "schema refused S6 LeftOut"),
+    ("SCHEMA s; ENTITY a; x : LIST [3:1] OF REAL; END_ENTITY; END_SCHEMA;", "schema refused S7 Bounds"),
+    (
+        "SCHEMA s; ENTITY a; y : REAL; END_ENTITY; ENTITY b SUBTYPE OF (a); DERIVE SELF\\a.z : REAL := 0.0; END_ENTITY; END_SCHEMA;",
+        "schema refused S8 RedeclaredPlace",
+    ),
+    (" " * 16_777_217, "schema refused S9 TooLarge"),
+]
+
+
+@pytest.mark.parametrize("schema, data, canonical", GIVES)
+def test_files_that_are_accepted(schemas, schema, data, canonical):
+    text = file_of(canonical, schema)
+    assert p21.canonical(schemas[schema], file_of(data, schema)) == text
+    assert p21.check(schemas[schema], file_of(data, schema)) == (canonical.count("#"), len(text))
+    assert p21.same(schemas[schema], file_of(data, schema), text)
+
+
+@pytest.mark.parametrize("schema, data, refusal", REFUSED)
+def test_files_that_are_refused(schemas, schema, data, refusal):
+    for call in (p21.check, p21.canonical):
+        with pytest.raises(p21.Refused) as found:
+            call(schemas[schema], file_of(data, schema))
+        assert str(found.value) == refusal
+
+
+@pytest.mark.parametrize("text, refusal", WHOLE)
+def test_whole_files_that_are_refused(schemas, text, refusal):
+    with pytest.raises(p21.Refused) as found:
+        p21.check(schemas["DEMO"], text)
+    assert str(found.value) == refusal
+
+
+@pytest.mark.parametrize("text, refusal", SCHEMAS_REFUSED)
+def test_schemas_that_are_refused(text, refusal):
+    with pytest.raises(p21.SchemaRefused) as found:
+        p21.Schema(text)
+    assert str(found.value) == refusal
+    assert found.value.statement is None and found.value.instance is None
+
+
+def test_sizes(schemas):
+    assert p21.check(schemas["DEMO"], file_of("")) == (0, 152)
+    assert p21.check(schemas["DEMO"], file_of("#2 = POINT($, 1.0, 10.E-1);")) == (1, 171)
+
+
+def test_long_numbers(schemas):
+    digits = file_of("#1=R(1" + "0" * 9_999 + ");", "REDECL")
+    assert p21.canonical(schemas["REDECL"], digits) == file_of("#1=R(1.E9999);", "REDECL")
+    with pytest.raises(p21.Refused) as found:
+        p21.check(schemas["REDECL"], file_of("#1=R(1" + "0" * 10_000 + ");", "REDECL"))
+    assert (found.value.number, found.value.name, found.value.instance) == (8, "NumberRange", 1)
+
+
+def test_cut_files(schemas):
+    text = file_of("#2 = POINT($, 1.0, 10.E-1);")
+    for at in range(len(text) - 2):
+        with pytest.raises(p21.Refused) as found:
+            p21.check(schemas["DEMO"], text[:at])
+        inside = text[:at].count(b"'") % 2 == 1
+        assert found.value.number == (2 if inside else 24), at
+    assert p21.canonical(schemas["DEMO"], text[:-1]) == file_of("#2=POINT($,1.,1.);")
+
+
+def test_examples(product):
+    assert p21.check(product, EXAMPLES / "product.step") == p21.Report(instances=128, canonical_bytes=4872)
+    assert p21.check(product, str(EXAMPLES / "product.step")).instances == 128
+    assert p21.same(product, EXAMPLES / "product.step", EXAMPLES / "product-other.step")
+    assert not p21.same(product, EXAMPLES / "product.step", EXAMPLES / "product-changed.step")
+    canonical = p21.canonical(product, EXAMPLES / "product.step")
+    assert len(canonical) == 4872
+    assert p21.canonical(product, canonical) == canonical
+    assert p21.canonical(product, bytearray(canonical)) == canonical
+    assert p21.canonical(product, memoryview(canonical)) == canonical
+    with pytest.raises(FileNotFoundError):
+        p21.check(product, EXAMPLES / "none.step")
+
+
+@pytest.mark.parametrize(
+    "name, number, place",
+    [
+        ("BadByte", 1, (1, None)),
+        ("BadDirective", 4, (4, None)),
+        ("Count", 45, (None, 3)),
+        ("Dangling", 56, (None, 2)),
+        ("EndsEarly", 24, (10, None)),
+        ("Missing", 46, (None, 2)),
+        ("NotUtf8", 6, (8, None)),
+        ("SchemaName", 31, (5, None)),
+        ("UnknownEntity", 41, (None, 3)),
+        ("WrongKind", 49, (None, 1)),
+    ],
+)
+def test_refused_examples(product, name, number, place):
+    path = EXAMPLES / "refused" / f"{name}.step"
+    with pytest.raises(p21.Refused) as found:
+        p21.check(product, path)
+    assert (found.value.number, found.value.name) == (number, name)
+    assert (found.value.statement, found.value.instance, found.value.which) == (*place, None)
+    for first, second, which in ((path, EXAMPLES / "product.step", "first"), (EXAMPLES / "product.step", path, "second")):
+        with pytest.raises(p21.Refused) as found:
+            p21.same(product, first, second)
+        assert (found.value.number, found.value.which) == (number, which)
+        assert str(found.value).startswith(f"{which}: refused {number} {name}")
+
+
+def test_sessions(schemas):
+    text = file_of(r"#1=POINT('it''s \X2\00E9\X0\',1.E2,2.)/**/;")
+    canonical = file_of(r"#1=POINT('it''s \X2\00E9\X0\',1.E2,2.);")
+    for at in range(len(text) + 1):
+        with p21.Session(schemas["DEMO"]) as session:
+            session.feed(text[:at])
+            session.feed(text[at:])
+            with session.finish() as accepted:
+                assert session.closed
+                assert accepted.canonical() == canonical
+                assert accepted.report == (1, len(canonical))
+                assert accepted.line(1) == rb"#1=POINT('it''s \X2\00E9\X0\',1.E2,2.);"
+                assert accepted.line(2) is None and accepted.line(-1) is None and accepted.line(2**64) is None
+
+
+def test_refused_sessions(schemas):
+    session = p21.Session(schemas["DEMO"])
+    for piece in (file_of("#1=FOO();"), b""):
+        with pytest.raises(p21.Refused) as found:
+            session.feed(piece)
+        assert str(found.value) == "refused 41 UnknownEntity in #1"
+    with pytest.raises(p21.Refused) as found:
+        session.finish()
+    assert str(found.value) == "refused 41 UnknownEntity in #1"
+    assert session.closed
+    with pytest.raises(ValueError):
+        session.feed(b"")
+    session.close()
+    session = p21.Session(schemas["DEMO"])
+    with pytest.raises(p21.Refused) as found:
+        session.finish()
+    assert str(found.value) == "refused 24 EndsEarly at statement 1"
+
+
+def test_what_is_closed():
+    schema = p21.Schema(DEMO)
+    session = p21.Session(schema)
+    schema.close()
+    schema.close()
+    assert schema.closed
+    for call in (
+        lambda: p21.check(schema, b""),
+        lambda: p21.canonical(schema, b""),
+        lambda: p21.same(schema, b"", b""),
+        lambda: p21.Session(schema),
+    ):
+        with pytest.raises(ValueError):
+            call()
+    session.feed(file_of(""))
+    accepted = session.finish()
+    for call in (lambda: session.feed(b""), session.finish):
+        with pytest.raises(ValueError):
+            call()
+    assert accepted.canonical() == file_of("")
+    accepted.close()
+    for call in (accepted.canonical, lambda: accepted.line(1)):
+        with pytest.raises(ValueError):
+            call()
+    with p21.Schema(DEMO) as schema:
+        assert not schema.closed
+    assert schema.closed
+
+
+def test_what_is_forgotten():
+    for _ in range(50):
+        schema = p21.Schema(DEMO)
+        session = p21.Session(schema)
+        session.feed(file_of("")[:40])
+        del schema
+        session.feed(file_of("")[40:])
+        del session
+    gc.collect()
+
+
+def test_names():
+    page = (ROOT / "docs" / "FAULTS.md").read_text()
+    files = {int(number): name for number, name in re.findall(r"^### (\d+) (\w+)$", page, re.M)}
+    assert {number: files[number] for number in faults.FILES} == faults.FILES
+    assert set(files) - set(faults.FILES) == {12, 13, 91, 92}
+    assert {int(number): name for number, name in re.findall(r"^### S(\d) (\w+)$", page, re.M)} == faults.SCHEMAS
+    named = re.findall(r"`(\w+)`", " ".join(re.findall(r"^\| (`\w+`(?:, `\w+`)*) \|", page.split("### 26 LeftOut")[1].split("###")[0], re.M)))
+    assert named == list(faults.ABSENT.values())
+
+
+def test_version():
+    assert p21.version() == re.search(r'VERSION: &str = "(.*)"', (ROOT / "crates/p21_command_line/src/help.rt").read_text())[1]

@@ -1,0 +1,285 @@
+/*
+ * Calls each function of the library over files of `examples`, and prints what is wrong; the status is 1 where something is.
+ *
+ *   calls FOLDER      FOLDER is `examples`
+ */
+#include <inttypes.h>
+#include <stdbool.h>
+#include <stdio.h>
+#include <stdlib.h>
+#include <string.h>
+
+#include "p21.h"
+
+static int wrong;
+
+/* The bytes of a file, in memory of their own that has no byte more. */
+typedef struct bytes {
+    uint8_t *at;
+    size_t length;
+} bytes;
+
+static void judge(bool holds, const char *what) {
+    if (!holds) {
+        printf("wrong: %s\n", what);
+        wrong = 1;
+    }
+}
+
+static bytes read_file(const char *folder, const char *name) {
+    char path[4096];
+    snprintf(path, sizeof path, "%s/%s", folder, name);
+    FILE *file = fopen(path, "rb");
+    if (file == NULL) {
+        perror(path);
+        exit(2);
+    }
+    fseek(file, 0, SEEK_END);
+    bytes found = {NULL, (size_t)ftell(file)};
+    rewind(file);
+    found.at = malloc(found.length > 0 ? found.length : 1);
+    if (found.at == NULL || fread(found.at, 1, found.length, file) != found.length) {
+        perror(path);
+        exit(2);
+    }
+    fclose(file);
+    return found;
+}
+
+static bool is_quiet(const p21_report *report) {
+    static const p21_report quiet;
+    return report->subject == quiet.subject && report->number == 0 && report->absent == 0 && report->place == 0 && report->at == 0 &&
+           report->instances == 0 && report->bytes == 0;
+}
+
+static bool has_counts(const p21_report *report, uint64_t instances, uint64_t bytes) {
+    return report->subject == 0 && report->number == 0 && report->place == 0 && report->at == 0 && report->instances == instances &&
+           report->bytes == bytes;
+}
+
+/* Is a text these bytes? */
+static bool is_text(p21_text *text, const uint8_t *bytes, size_t length) {
+    const uint8_t *at = bytes;
+    size_t found = 0;
+    return p21_text_bytes(text, &at, &found) == P21_DONE && found == length && memcmp(at, bytes, length) == 0;
+}
+
+static void test_version(void) {
+    p21_parts version = {9, 9, 9};
+    p21_version(&version);
+    printf("version %" PRIu32 ".%" PRIu32 ".%" PRIu32 "\n", version.major, version.minor, version.patch);
+}
+
+static void test_schemas(void) {
+    static const struct {
+        const char *text;
+        uint8_t number;
+    } rows[] = {
+        {"(* not closed", P21_SCHEMA_TOKEN},
+        {"SCHEMA s; END_SCHEMA", P21_SCHEMA_SYNTAX},
+        {"SCHEMA s; ENTITY a; END_ENTITY; ENTITY A; END_ENTITY; END_SCHEMA;", P21_SCHEMA_DUPLICATE},
+        {"SCHEMA s; ENTITY a; x : foo; END_ENTITY; END_SCHEMA;", P21_SCHEMA_UNKNOWN_NAME},
+        {"SCHEMA s; ENTITY a SUBTYPE OF (b); END_ENTITY; ENTITY b SUBTYPE OF (a); END_ENTITY; END_SCHEMA;", P21_SCHEMA_CIRCULAR},
+        {"SCHEMA s; USE FROM t; END_SCHEMA;", P21_SCHEMA_LEFT_OUT},
+        {"SCHEMA s; ENTITY a; x : LIST [3:1] OF REAL; END_ENTITY; END_SCHEMA;", P21_SCHEMA_BOUNDS},
+        {"SCHEMA s; ENTITY a; y : REAL; END_ENTITY; ENTITY b SUBTYPE OF (a); DERIVE SELF\\a.z : REAL := 0.0; END_ENTITY; END_SCHEMA;",
+         P21_SCHEMA_REDECLARED_PLACE},
+    };
+    for (size_t i = 0; i < sizeof rows / sizeof rows[0]; i++) {
+        p21_schema schema = P21_EMPTY;
+        p21_report report;
+        uint8_t status = p21_schema_new((const uint8_t *)rows[i].text, strlen(rows[i].text), &schema, &report);
+        judge(status == P21_REFUSED && report.subject == P21_SCHEMA && report.number == rows[i].number && report.place == 0, rows[i].text);
+        judge(schema.inside == NULL, "a refused schema hands nothing out");
+    }
+    size_t length = ((size_t)1 << 24) + 1;
+    uint8_t *long_text = malloc(length);
+    if (long_text == NULL) {
+        exit(2);
+    }
+    memset(long_text, ' ', length);
+    p21_schema schema = P21_EMPTY;
+    p21_report report;
+    judge(p21_schema_new(long_text, length, &schema, &report) == P21_REFUSED && report.number == P21_SCHEMA_TOO_LARGE, "a schema too large");
+    judge(p21_schema_new(long_text, 0, &schema, &report) == P21_REFUSED && report.number == P21_SCHEMA_SYNTAX, "an empty schema");
+    free(long_text);
+    p21_schema_free(&schema);
+}
+
+static void test_refusals(const char *folder, p21_schema *schema) {
+    static const struct {
+        const char *name;
+        uint8_t number;
+        uint8_t place;
+        uint64_t at;
+    } rows[] = {
+        {"refused/BadByte.step", P21_BAD_BYTE, P21_STATEMENT, 1},       {"refused/BadDirective.step", P21_BAD_DIRECTIVE, P21_STATEMENT, 4},
+        {"refused/Count.step", P21_COUNT, P21_INSTANCE, 3},             {"refused/Dangling.step", P21_DANGLING, P21_INSTANCE, 2},
+        {"refused/EndsEarly.step", P21_ENDS_EARLY, P21_STATEMENT, 10},  {"refused/Missing.step", P21_MISSING, P21_INSTANCE, 2},
+        {"refused/NotUtf8.step", P21_NOT_UTF8, P21_STATEMENT, 8},       {"refused/SchemaName.step", P21_SCHEMA_NAME, P21_STATEMENT, 5},
+        {"refused/UnknownEntity.step", P21_UNKNOWN_ENTITY, P21_INSTANCE, 3}, {"refused/WrongKind.step", P21_WRONG_KIND, P21_INSTANCE, 1},
+    };
+    for (size_t i = 0; i < sizeof rows / sizeof rows[0]; i++) {
+        bytes file = read_file(folder, rows[i].name);
+        p21_text text = P21_EMPTY;
+        p21_report report;
+        uint8_t status = p21_check(schema, file.at, file.length, &report);
+        judge(status == P21_REFUSED && report.subject == P21_FILE && report.number == rows[i].number && report.place == rows[i].place &&
+                  report.at == rows[i].at && report.instances == 0 && report.bytes == 0,
+              rows[i].name);
+        status = p21_canonical(schema, file.at, file.length, &text, &report);
+        judge(status == P21_REFUSED && report.number == rows[i].number && text.inside == NULL, rows[i].name);
+        free(file.at);
+    }
+    static const char scope[] = "ISO-10303-21;HEADER;FILE_DESCRIPTION((''),'2;1');FILE_NAME('','',(''),(''),'','','');"
+                                "FILE_SCHEMA(('PRODUCT_MODEL'));ENDSEC;DATA;#1=&SCOPE";
+    p21_report report;
+    judge(p21_check(schema, (const uint8_t *)scope, sizeof scope - 1, &report) == P21_REFUSED && report.number == P21_LEFT_OUT &&
+              report.absent == P21_ABSENT_SCOPE && report.place == P21_STATEMENT && report.at == 8,
+          "a scope is left out");
+    judge(p21_check(schema, (const uint8_t *)scope, 0, &report) == P21_REFUSED && report.number == P21_ENDS_EARLY && report.at == 1,
+          "an empty file");
+}
+
+static void test_files(p21_schema *schema, bytes product, bytes other, bytes changed, bytes refused) {
+    p21_report report;
+    p21_text text = P21_EMPTY;
+    p21_text again = P21_EMPTY;
+    judge(p21_check(schema, product.at, product.length, &report) == P21_DONE && has_counts(&report, 128, 4872), "a file is accepted");
+    judge(p21_canonical(schema, product.at, product.length, &text, &report) == P21_DONE && has_counts(&report, 128, 4872),
+          "its canonical file is handed out");
+    const uint8_t *at = NULL;
+    size_t length = 0;
+    judge(p21_text_bytes(&text, &at, &length) == P21_DONE && length == 4872, "the bytes of its canonical file");
+    judge(p21_canonical(schema, at, length, &again, &report) == P21_DONE && is_text(&again, at, length), "a canonical file is its own");
+    judge(p21_canonical(schema, other.at, other.length, &again, &report) == P21_DONE && is_text(&again, at, length),
+          "that of another file of the same meaning, in the handle of the one before");
+    judge(p21_canonical(schema, refused.at, refused.length, &again, &report) == P21_REFUSED && is_text(&again, at, length),
+          "a refusal leaves the text as it was");
+    uint8_t same = 7;
+    judge(p21_same(schema, product.at, product.length, other.at, other.length, &same, &report) == P21_DONE && same == 1 && is_quiet(&report),
+          "two files mean the same");
+    judge(p21_same(schema, product.at, product.length, changed.at, changed.length, &same, &report) == P21_DONE && same == 0 && is_quiet(&report),
+          "two files differ");
+    same = 7;
+    judge(p21_same(schema, refused.at, refused.length, product.at, product.length, &same, &report) == P21_REFUSED && same == 7 &&
+              report.subject == P21_FILE && report.number == P21_COUNT,
+          "the first is refused");
+    judge(p21_same(schema, product.at, product.length, refused.at, refused.length, &same, &report) == P21_REFUSED && same == 7 &&
+              report.subject == P21_SECOND && report.number == P21_COUNT && report.place == P21_INSTANCE && report.at == 3,
+          "the second is refused");
+    p21_text_free(&again);
+    p21_text_free(&text);
+}
+
+/* A file in pieces of a size, and what becomes of the session. */
+static void test_session(p21_schema *schema, bytes file, size_t size) {
+    p21_session session = P21_EMPTY;
+    p21_text text = P21_EMPTY;
+    p21_text whole = P21_EMPTY;
+    p21_report report;
+    judge(p21_session_new(schema, &session) == P21_DONE, "a session begins");
+    for (size_t i = 0; i < file.length; i += size) {
+        size_t length = file.length - i < size ? file.length - i : size;
+        judge(p21_session_feed(&session, file.at + i, length, &report) == P21_DONE && is_quiet(&report), "a piece is taken");
+    }
+    judge(p21_accepted_write(&session, &text) == P21_MISUSED && text.inside == NULL, "a session is no accepted file yet");
+    judge(p21_session_finish(&session, &report) == P21_DONE && has_counts(&report, 128, 4872), "a session ends");
+    judge(p21_session_feed(&session, file.at, 1, &report) == P21_MISUSED && is_quiet(&report), "an accepted file takes no piece");
+    judge(p21_session_finish(&session, &report) == P21_MISUSED, "an accepted file is at its end");
+    judge(p21_accepted_line(&session, 1, &text) == P21_DONE &&
+              is_text(&text, (const uint8_t *)"#1=DIMENSIONAL_EXPONENTS(1.,0.,0.);", 35),
+          "the statement of an instance");
+    judge(p21_accepted_line(&session, 1000, &text) == P21_REFUSED &&
+              is_text(&text, (const uint8_t *)"#1=DIMENSIONAL_EXPONENTS(1.,0.,0.);", 35),
+          "no instance of this name");
+    judge(p21_accepted_write(&session, &text) == P21_DONE, "the file of a session");
+    judge(p21_canonical(schema, file.at, file.length, &whole, &report) == P21_DONE, "the canonical file at once");
+    const uint8_t *at = NULL;
+    size_t length = 0;
+    judge(p21_text_bytes(&whole, &at, &length) == P21_DONE && is_text(&text, at, length), "a session and one call give the same file");
+    p21_text_free(&whole);
+    p21_session_free(&session);
+    judge(session.inside == NULL && is_text(&text, at, 0) == false && p21_accepted_write(&session, &whole) == P21_MISUSED,
+          "a session that is let go holds nothing");
+    p21_text_free(&text);
+}
+
+static void test_refused_session(p21_schema *schema, bytes refused) {
+    p21_session session = P21_EMPTY;
+    p21_report report;
+    judge(p21_session_new(schema, &session) == P21_DONE, "a session begins");
+    judge(p21_session_feed(&session, refused.at, refused.length, &report) == P21_REFUSED && report.subject == P21_FILE &&
+              report.number == P21_COUNT && report.place == P21_INSTANCE && report.at == 3,
+          "a piece is refused");
+    judge(p21_session_feed(&session, refused.at, 1, &report) == P21_REFUSED && report.number == P21_COUNT, "and again");
+    judge(p21_session_finish(&session, &report) == P21_REFUSED && report.number == P21_COUNT && session.inside == NULL, "and at the end");
+    p21_session_free(&session);
+}
+
+/* Handles that hold nothing, or something else. */
+static void test_misuse(p21_schema *schema, bytes file) {
+    p21_schema none = P21_EMPTY;
+    p21_session session = P21_EMPTY;
+    p21_text text = P21_EMPTY;
+    p21_report report;
+    uint8_t same = 7;
+    const uint8_t *at = file.at;
+    size_t length = 7;
+    judge(p21_check(&none, file.at, file.length, &report) == P21_MISUSED && is_quiet(&report), "no schema to check by");
+    judge(p21_canonical(&none, file.at, file.length, &text, &report) == P21_MISUSED && text.inside == NULL, "no schema to write by");
+    judge(p21_same(&none, file.at, file.length, file.at, file.length, &same, &report) == P21_MISUSED && same == 7, "no schema to compare by");
+    judge(p21_session_new(&none, &session) == P21_MISUSED && session.inside == NULL, "no schema to begin by");
+    judge(p21_session_feed(&session, file.at, file.length, &report) == P21_MISUSED, "no session to feed");
+    judge(p21_session_finish(&session, &report) == P21_MISUSED, "no session to end");
+    judge(p21_accepted_line(&session, 1, &text) == P21_MISUSED, "no file to look into");
+    judge(p21_text_bytes(&text, &at, &length) == P21_MISUSED && at == file.at && length == 7, "no text");
+    judge(p21_check((p21_schema *)&session, file.at, file.length, &report) == P21_MISUSED, "an empty session is no schema");
+    judge(p21_session_new(schema, &session) == P21_DONE, "a session begins");
+    judge(p21_check((p21_schema *)&session, file.at, file.length, &report) == P21_MISUSED, "a session is no schema");
+    judge(p21_session_feed((p21_session *)schema, file.at, file.length, &report) == P21_MISUSED, "a schema is no session");
+    judge(p21_check(schema, file.at, file.length, &report) == P21_DONE, "and stays what it is");
+    p21_session_free(&session);
+    p21_session_free(&session);
+    p21_schema_free(&none);
+    p21_text_free(&text);
+}
+
+int main(int count, char **words) {
+    if (count != 2) {
+        fprintf(stderr, "usage: calls FOLDER\n");
+        return 2;
+    }
+    bytes express = read_file(words[1], "product.exp");
+    bytes product = read_file(words[1], "product.step");
+    bytes other = read_file(words[1], "product-other.step");
+    bytes changed = read_file(words[1], "product-changed.step");
+    bytes refused = read_file(words[1], "refused/Count.step");
+    p21_schema schema = P21_EMPTY;
+    p21_report report;
+    test_version();
+    test_schemas();
+    judge(p21_schema_new(express.at, express.length, &schema, &report) == P21_DONE && is_quiet(&report), "a schema is read");
+    free(express.at);
+    test_refusals(words[1], &schema);
+    test_files(&schema, product, other, changed, refused);
+    test_session(&schema, product, 1);
+    test_session(&schema, other, 4096);
+    test_refused_session(&schema, refused);
+    test_misuse(&schema, product);
+
+    /* A session keeps its schema. */
+    p21_session session = P21_EMPTY;
+    judge(p21_session_new(&schema, &session) == P21_DONE, "a session begins");
+    p21_schema_free(&schema);
+    judge(schema.inside == NULL, "a schema that is let go");
+    judge(p21_session_feed(&session, product.at, product.length, &report) == P21_DONE, "a session whose schema is let go");
+    judge(p21_session_finish(&session, &report) == P21_DONE && has_counts(&report, 128, 4872), "and its end");
+    p21_session_free(&session);
+    free(product.at);
+    free(other.at);
+    free(changed.at);
+    free(refused.at);
+    puts(wrong ? "something is wrong" : "all as it must be");
+    return wrong;
+}
