@@ -1,7 +1,7 @@
 #!/usr/bin/env python3
 """Whether each name in the tables of rules of docs/DEFINITIONS.md is there: definitions, examples and laws, functions and
-types of the code, tests, and wrong bodies. The status is 1 where one isn't, or where a row has no code but has a test or a
-wrong body.
+types of the code, tests, and wrong bodies; and each call, clause and file in the tables of promises of docs/CONTRACTS.md.
+The status is 1 where one isn't, or where a rule has no code but has a test or a wrong body.
 """
 
 import functools
@@ -22,13 +22,13 @@ def names_in(path):
     return set(re.findall(r"[\w-]+", path.read_text()))
 
 
-def rows():
-    """The cells of each row in the tables of rules, and the number of its line."""
+def rows(page, section, first):
+    """The cells of each row in the tables of a section, and the number of its line. The first column has this title."""
     inside = False
-    for number, line in enumerate((ROOT / "docs" / "DEFINITIONS.md").read_text().splitlines(), 1):
+    for number, line in enumerate((ROOT / "docs" / page).read_text().splitlines(), 1):
         if line.startswith("## "):
-            inside = line == "## Rules"
-        if inside and line.startswith("| ") and not line.startswith("| Rule |"):
+            inside = line == f"## {section}"
+        if inside and line.startswith("| ") and not line.startswith(f"| {first} |"):
             yield number, [cell.strip() for cell in line.strip("|").split(" | ")]
 
 
@@ -84,8 +84,8 @@ def missing_edits(cell):
             yield text
 
 
-def missing_in(cells):
-    """What is wrong in a row."""
+def missing_in_rule(cells):
+    """What is wrong in the row of a rule."""
     if len(cells) != len(COLUMNS):
         yield f"{len(cells)} cells"
         return
@@ -99,15 +99,65 @@ def missing_in(cells):
         yield "a test or a wrong body without code"
 
 
-def main():
+def places_in(cell):
+    """The files and folders of a cell. One without a folder stands beside the one in front of it, or in each crate of the
+    cell."""
+    folder = None
+    for text in quoted(cell):
+        if text.startswith("p21"):
+            path = CRATES / text
+            folder = path.parent if path.suffix else path
+            yield path
+        elif folder:
+            yield folder / text
+
+
+@functools.cache
+def sources_in(folder):
+    """What the files of a folder have, one behind the other."""
+    return "".join(path.read_text() for suffix in ("rt", "antt") for path in sorted(folder.rglob(f"*.{suffix}")))
+
+
+@functools.cache
+def has_item(folder, name):
+    """Whether the files of a folder have a function, a clause, a type or a definition of this name, or a field or a case."""
+    item = rf"\b(?:fn|struct|enum|trait|ghost|ensures|record|data|abbrev|pub) {name}\b|^\s+{name}\b(?: :|,|\()"
+    return re.search(item, sources_in(folder), re.M) is not None
+
+
+def missing_in_promise(cells):
+    """What is wrong in the row of a promise: a file that isn't there, or a call or a clause that neither the crates of the
+    row nor any definition have."""
+    if len(cells) != 3:
+        yield f"{len(cells)} cells"
+        return
+    _, calls, files = cells
+    crates = re.findall(r"`(p21\w*)", files)
+    yield from (str(path) for path in places_in(files) if not path.exists())
+    folders = [CRATES / crate / "src" for crate in crates] + list(CRATES.glob("*/specs"))
+    for text in quoted(calls):
+        for name in re.findall(r"\w+", text):
+            if files and not any(has_item(folder, name) for folder in folders):
+                yield name
+
+
+def check(page, found, missing):
+    """How many rows a page has, and how many names in them aren't there."""
     count = failed = 0
-    for number, cells in rows():
+    for number, cells in found:
         count += 1
-        for what in missing_in(cells):
+        for what in missing(cells):
             failed += 1
-            print(f"docs/DEFINITIONS.md:{number}: {what}")
-    print(f"{count} rules, {failed} failed")
-    return int(failed > 0 or count == 0)
+            print(f"docs/{page}:{number}: {what}")
+    return count, failed
+
+
+def main():
+    rules, missing_rules = check("DEFINITIONS.md", rows("DEFINITIONS.md", "Rules", "Rule"), missing_in_rule)
+    promises, missing = check("CONTRACTS.md", rows("CONTRACTS.md", "By promise", "Promise"), missing_in_promise)
+    failed = missing_rules + missing
+    print(f"{rules} rules, {promises} promises, {failed} failed")
+    return int(failed > 0 or rules == 0 or promises == 0)
 
 
 if __name__ == "__main__":
