@@ -5,8 +5,8 @@
 #   tests/all.sh [PART..]     PART is the path of a script below tests, as hostile/devices.sh; all parts without one
 #
 # The environment variable P21 names the program; without it, it is the one that ./p21 builds where it is missing or old.
-# Three parts want `rt`: hostile/calls.py builds a program of the libraries without a proof, and fail_alloc.sh and
-# want_of_memory.sh try tests.
+# Four parts want `rt`: bindings.sh builds the library for C and Python where it is missing or old, hostile/calls.py builds a
+# program of the libraries without a proof, and fail_alloc.sh and want_of_memory.sh try tests.
 
 root=$(cd "$(dirname -- "$(readlink -f -- "$0")")/.." && pwd) || exit
 "${P21:-$root/p21}" --version > /dev/null || exit
@@ -34,7 +34,7 @@ run() {
 }
 
 if [ "$#" -eq 0 ]; then
-    set -- program.sh texts.py definitions.py library.py install.sh pages.sh
+    set -- program.sh texts.py definitions.py library.py install.sh pages.sh bindings.sh
     for tools in tools_*.py; do
         [ ! -e "$tools" ] || set -- "$@" "$tools"
     done

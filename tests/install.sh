@@ -1,6 +1,7 @@
 #!/bin/sh
 # Tries, with stand-ins for the program and the toolchain: that ./p21 builds the program where it has to, and runs the one
-# that stands where P21_KEEP says so; and which files tools/install copies. It stands beside the gate.
+# that stands where P21_KEEP says so; which files tools/install copies; and that tools/build-library builds the library where
+# it has to, and what it copies. It stands beside the gate.
 
 cd "$(dirname -- "$(readlink -f -- "$0")")/.." || exit
 unset P21 P21_KEEP
@@ -12,7 +13,7 @@ failed=0
 tree=$here/tree
 mkdir -p "$tree/crates/p21/out" "$tree/crates/p21/src" "$tree/tools"
 cp p21 "$tree/p21"
-cp tools/install "$tree/tools/install"
+cp tools/install tools/building.sh tools/build-library "$tree/tools"
 cp LICENSE "$tree/LICENSE"
 program=$tree/crates/p21/out/p21
 printf '#!/bin/sh\necho "stands: $*"\n' > "$program"
@@ -131,6 +132,30 @@ p21: p21 is proved (2 of 2)
 built of p21 p21_a: check s f' env P21_KEEP=1 "$tree/p21" check s f
 rm "$here/path/rt"
 expect 'the program that was built' 0 'built of p21 p21_a: check s f' "$tree/p21" check s f
+
+# A toolchain that proves the library's two crates; and compilers that write what they are told.
+mkdir -p "$here/bin" "$here/c" "$tree/crates/p21_c/src" "$tree/include" "$tree/python/p21"
+touch "$tree/crates/p21_c/src/lib.rt" "$here/c/liblibc_c.a" "$tree/include/p21.h"
+echo 'p21_c staticlib: p21_a' >> "$tree/crates.txt"
+ln -s "$(command -v sed)" "$here/path/sed"
+expect 'no toolchain for the library' 127 'rt of the toolchain is not in PATH' "$tree/tools/build-library" "$here/prefix"
+printf '#!/bin/sh\nprintf "rt: %%s proved\\n" p21_a p21_c\n' > "$here/path/rt"
+printf '#!/bin/sh\n[ -z "$FAILS" ] && echo "$*" > out/libp21_c.a\n' > "$here/bin/rattle"
+printf '#!/bin/sh\necho "$*" > "$3"\n' > "$here/path/cc"
+chmod +x "$here/path/rt" "$here/bin/rattle" "$here/path/cc"
+expect 'a library that fails' 126 'the library could not be built' env FAILS=1 "$tree/tools/build-library" "$here/prefix"
+expect 'a library' 0 "p21: p21_c is proved (2 of 2)
+$here/prefix/libp21.so" "$tree/tools/build-library" "$here/prefix"
+expect 'what it is compiled over' 0 '--extern p21_a=../p21_a/out/rlib/p21_a.rlib' cat "$here/prefix/libp21_c.a"
+expect 'what it is linked of' 0 "$tree/crates/p21_c/out/libp21_c.a" cat "$here/prefix/libp21.so"
+files 'the files of the library' './liblibc_c.a
+./libp21.so
+./libp21_c.a
+./p21.h'
+expect 'the library that was built' 0 "$tree/python/p21/libp21.so" env FAILS=1 "$tree/tools/build-library"
+touch "$tree/crates/p21_c/src/lib.rt"
+expect 'newer sources of the library' 126 'the library could not be built' env FAILS=1 "$tree/tools/build-library"
+expect 'newer sources, and the library is kept' 0 "$tree/python/p21/libp21.so" env FAILS=1 P21_KEEP=1 "$tree/tools/build-library"
 
 expect 'a folder that may not be written' 1 '' "$tree/tools/install" /proc/none
 

@@ -7,6 +7,9 @@ The files of `examples` are refused as docs/FAULTS.md and the pages say. Each ot
 import gc
 import pathlib
 import re
+import subprocess
+import sys
+import textwrap
 
 import p21
 import p21._faults as faults
@@ -35,7 +38,14 @@ ENTITY e; s : STRING(3); f : STRING(2) FIXED; b : BINARY(4);
 o : ARRAY [1:2] OF OPTIONAL INTEGER; n : BOOLEAN; END_ENTITY;
 END_SCHEMA;
 """
-SCHEMAS = {"DEMO": DEMO, "DIAMOND": DIAMOND, "REDECL": REDECL, "WIDE": WIDE}
+SOLE = """SCHEMA sole;
+ENTITY s SUPERTYPE OF (ONEOF (a, b)); k : INTEGER; END_ENTITY;
+ENTITY a SUBTYPE OF (s); END_ENTITY;
+ENTITY b SUBTYPE OF (s); END_ENTITY;
+ENTITY c SUBTYPE OF (s); END_ENTITY;
+END_SCHEMA;
+"""
+SCHEMAS = {"DEMO": DEMO, "DIAMOND": DIAMOND, "REDECL": REDECL, "WIDE": WIDE, "SOLE": SOLE}
 
 
 def file_of(data, schema="DEMO"):
@@ -74,12 +84,25 @@ GIVES = [
     ("DEMO", "#1=(POINT(1.,2.)SHAPE('a'));", "#1=POINT('a',1.,2.);"),
     ("DEMO", "#1=(SHAPE($)POINT(1.,2.)MARKED(.RED.));", "#1=(MARKED(.RED.)POINT(1.,2.)SHAPE($));"),
     ("DEMO", "#1=ORIGIN($,*,2.);", "#1=ORIGIN($,*,2.);"),
+    ("DEMO", "#1=CLOUD((#2),(),(TALLY(1)));\n#2=ORIGIN($,*,2.);", "#1=CLOUD((#2),(),(TALLY(1)));\n#2=ORIGIN($,*,2.);"),
+    (
+        "DEMO",
+        "#10=POINT($,1.,1.);\n#2=POINT($,1.,1.);\n#1=CLOUD((#2,#10),(),(TALLY(1)));",
+        "#1=CLOUD((#10,#2),(),(TALLY(1)));\n#2=POINT($,1.,1.);\n#10=POINT($,1.,1.);",
+    ),
+    (
+        "DEMO",
+        "#1=CLOUD((),(),(DISTANCE(1.0),TALLY(1),#2));\n#2=POINT($,1.,1.);",
+        "#1=CLOUD((),(),(DISTANCE(1.),TALLY(1),#2));\n#2=POINT($,1.,1.);",
+    ),
     ("DEMO", "#00=POINT($,1.,1.);", "#0=POINT($,1.,1.);"),
     ("DEMO", "#18446744073709551615=POINT($,1.,1.);", "#18446744073709551615=POINT($,1.,1.);"),
     ("REDECL", "#1=R(1);", "#1=R(1.);"),
     ("REDECL", "#1=A(1);", "#1=A(1);"),
     ("REDECL", "#1=(B()R(1.));", "#1=B(1.);"),
     ("WIDE", "#1=E('abc','xy',\"0A\",($,1),.T.);", "#1=E('abc','xy',\"0A\",($,1),.T.);"),
+    ("SOLE", "#1=(S(1)C()A());", "#1=(A()C()S(1));"),
+    ("SOLE", "#1=A(1);", "#1=A(1);"),
 ]
 
 # How a data section is refused.
@@ -97,8 +120,11 @@ REFUSED = [
     ("DEMO", "#1=CLOUD((#2),(),(TALLY(1)));\n#2=CLOUD((),(),(TALLY(1)));", "refused 57 WrongTarget in #1"),
     ("DEMO", "#1=CLOUD((#2),(),(TALLY(1)));", "refused 56 Dangling in #1"),
     ("DEMO", "#1=CLOUD((),(),(1.0));", "refused 54 SelectType in #1"),
+    ("DEMO", "#1=CLOUD((),(),(MEASURE(TALLY(1))));", "refused 54 SelectType in #1"),
+    ("DEMO", "#1=CLOUD((),(),(TALLY(1),TALLY(01)));", "refused 52 NotDistinct in #1"),
     ("DEMO", "#1=CLOUD((),(),());", "refused 51 Bounds in #1"),
     ("DEMO", "#18446744073709551616=POINT($,1.,1.);", "refused 10 NameRange at statement 8"),
+    ("DEMO", "#1=POINT($," + "(" * 64 + ")" * 64 + ",1.);", "refused 49 WrongKind in #1"),
     ("DEMO", "#1=POINT($," + "(" * 65 + ")" * 65 + ",1.);", "refused 21 TooDeep at statement 8"),
     ("DEMO", "#1=&SCOPE", "refused 26 LeftOut(Scope) at statement 8"),
     ("DEMO", "#1=!A();", "refused 26 LeftOut(UserKeyword) at statement 8"),
@@ -108,8 +134,13 @@ REFUSED = [
     ("REDECL", "#1=A(1.);", "refused 49 WrongKind in #1"),
     ("REDECL", "#1=(A()B()R(1));", "refused 55 TwoRedeclarations in #1"),
     ("WIDE", "#1=E('abcd','xy',\"0A\",($,1),.T.);", "refused 50 Width in #1"),
+    ("WIDE", "#1=E('abc','x',\"0A\",($,1),.T.);", "refused 50 Width in #1"),
+    ("WIDE", "#1=E('abc','xy',\"23B\",($,1),.T.);", "refused 50 Width in #1"),
+    ("WIDE", "#1=E('abc','xy',\"0A\",(1),.T.);", "refused 51 Bounds in #1"),
+    ("WIDE", "#1=E(5,'xy',\"0A\",($,1),.T.);", "refused 49 WrongKind in #1"),
     ("WIDE", "#1=E('abc','xy',\"0A\",($,1),.U.);", "refused 53 UnknownItem in #1"),
     ("WIDE", "#1=E('abc','xy',\"0A\",($,1),$);", "refused 46 Missing in #1"),
+    ("SOLE", "#1=(A()B()S(1));", "refused 58 OneOf in #1"),
 ]
 
 # Whole files, and how they are refused.
@@ -120,7 +151,32 @@ WHOLE = [
     (file_of("") + b"/*", "refused 3 OpenComment at statement 10"),
     (file_of("", "OTHER"), "refused 31 SchemaName at statement 5"),
     (file_of("").replace(b"FILE_SCHEMA(('DEMO'))", b"FILE_SCHEMA($)"), "refused 30 HeaderShape at statement 5"),
+    (file_of("").replace(b"'','','');", b"'','');"), "refused 30 HeaderShape at statement 4"),
     (file_of("#1=POINT('a,1.,1.);"), "refused 2 OpenString at statement 8"),
+]
+
+# Whole files that are accepted, each with its canonical file.
+ACCEPTED = [
+    (file_of("") + b"/* end */", file_of("")),
+    (file_of("") + b"\x1a", file_of("")),
+    (file_of("", "demo"), file_of("", "demo")),
+    (
+        file_of("").replace(b"FILE_DESCRIPTION((''),'2;1');", b"FILE_DESCRIPTION($,$);"),
+        file_of("").replace(b"FILE_DESCRIPTION((''),'2;1');", b"FILE_DESCRIPTION($,$);"),
+    ),
+    (
+        b"ISO-10303-21;\r\nHEADER;\r\n/* by a converter */\r\n"
+        b"FILE_DESCRIPTION (( 'ViewDefinition [CoordinationView]' ), '2;1' );\r\n"
+        b"FILE_NAME('','',(''),(''),'','','');\r\nFILE_SCHEMA(('DEMO { 1 0 10303 214 1 1 1 1 }'));\r\nENDSEC;\r\nDATA;\r\n"
+        b"#10 = ( SHAPE('') POINT(1.E-07,-2.5)\r\n MARKED(.GREEN.) );\r\n#2= POINT('p',0.,10.);\r\nENDSEC;\r\nEND-ISO-10303-21;\r\n",
+        file_of("#2=POINT('p',0.,1.E1);\n#10=(MARKED(.GREEN.)POINT(1.E-7,-2.5)SHAPE(''));", "DEMO { 1 0 10303 214 1 1 1 1 }").replace(
+            b"(''),'2;1'", b"('ViewDefinition [CoordinationView]'),'2;1'", 1
+        ),
+    ),
+    (
+        file_of("").replace(b"DATA;\n", b"DATA('b',('DEMO'));\n#1=POINT($,1.,1.);\nENDSEC;\nDATA('a',('demo'));\n#2=POINT($,2.0,1.);\n"),
+        file_of("").replace(b"DATA;\n", b"DATA('a',('demo'));\n#2=POINT($,2.,1.);\nENDSEC;\nDATA('b',('DEMO'));\n#1=POINT($,1.,1.);\n"),
+    ),
 ]
 
 SCHEMAS_REFUSED = [
@@ -144,7 +200,7 @@ SCHEMAS_REFUSED = [
 def test_files_that_are_accepted(schemas, schema, data, canonical):
     text = file_of(canonical, schema)
     assert p21.canonical(schemas[schema], file_of(data, schema)) == text
-    assert p21.check(schemas[schema], file_of(data, schema)) == (canonical.count("#"), len(text))
+    assert p21.check(schemas[schema], file_of(data, schema)) == (len(canonical.splitlines()), len(text))
     assert p21.same(schemas[schema], file_of(data, schema), text)
 
 
@@ -163,12 +219,25 @@ def test_whole_files_that_are_refused(schemas, text, refusal):
     assert str(found.value) == refusal
 
 
+@pytest.mark.parametrize("text, canonical", ACCEPTED)
+def test_whole_files_that_are_accepted(schemas, text, canonical):
+    assert p21.canonical(schemas["DEMO"], text) == canonical
+    assert p21.check(schemas["DEMO"], text).canonical_bytes == len(canonical)
+    assert p21.same(schemas["DEMO"], text, canonical)
+
+
 @pytest.mark.parametrize("text, refusal", SCHEMAS_REFUSED)
 def test_schemas_that_are_refused(text, refusal):
     with pytest.raises(p21.SchemaRefused) as found:
         p21.Schema(text)
     assert str(found.value) == refusal
     assert found.value.statement is None and found.value.instance is None
+
+
+def test_files_that_differ(schemas):
+    assert not p21.same(schemas["DEMO"], file_of("#2 = POINT($, 1.0, 10.E-1);"), file_of(""))
+    unnamed = file_of("")
+    assert not p21.same(schemas["DEMO"], unnamed, unnamed.replace(b"DATA;", b"DATA('',('DEMO'));"))
 
 
 def test_sizes(schemas):
@@ -322,3 +391,21 @@ def test_names():
 
 def test_version():
     assert p21.version() == re.search(r'VERSION: &str = "(.*)"', (ROOT / "crates/p21_command_line/src/help.rt").read_text())[1]
+
+
+def output_of(program, folder):
+    """What a program in Python prints, run in a folder."""
+    return subprocess.run([sys.executable, "-c", program], cwd=folder, capture_output=True, text=True, check=True).stdout.splitlines()
+
+
+def test_library_page():
+    page = (ROOT / "docs" / "LIBRARY.md").read_text()
+    program, printed = re.search(r"^```python\n(.*?)^```\n\nprints (.*?)\. ", page, re.M | re.S).groups()
+    assert output_of(program, ROOT) == re.findall(r"`([^`]+)`", printed)
+
+
+def test_readme(tmp_path):
+    lines = re.search(r"^In Python,.*\n\n((?:    .*\n)+)", (ROOT / "README.md").read_text(), re.M)[1]
+    (tmp_path / "examples").symlink_to(EXAMPLES)
+    assert output_of(textwrap.dedent(lines), tmp_path) == ["128", "True"]
+    assert (tmp_path / "canonical.step").read_bytes() == p21.canonical(p21.Schema((EXAMPLES / "product.exp").read_text()), EXAMPLES / "product.step")

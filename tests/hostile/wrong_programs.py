@@ -5,9 +5,10 @@
 
 Two programs of edited sources are built without a proof, since no prover would pass them: some minutes of a processor for
 each. The edits of one turn different things. An edit of what stands beside the program has a copy of the repository for
-itself. A script has to end with a status other than 0 and to name a run that its own edit turns. That it passes without the
-edit is shown by tests/all.sh. hostile/memory.py, hostile/calls.py, fail_alloc.sh and want_of_memory.sh have no edit here
-yet. The environment variable P21 names the program of the sources as they are.
+itself, and the library for C and Python of the sources as they are. A script has to end with a status other than 0 and to
+name a run that its own edit turns. That it passes without the edit is shown by tests/all.sh. hostile/memory.py,
+hostile/calls.py, fail_alloc.sh and want_of_memory.sh have no edit here yet. The environment variable P21 names the program
+of the sources as they are.
 """
 
 import dataclasses
@@ -83,6 +84,15 @@ EDITS = [
         'copy 755 "$program"',
         'copy 644 "$program"',
         "the program that was copied: status",
+    ),
+    Edit(
+        "bindings.sh",
+        ["LIBRARY"],
+        "the header gives a refusal another number",
+        "include/p21.h",
+        "P21_COUNT = 45,",
+        "P21_COUNT = 59,",
+        "the refusals of files: wrong",
     ),
     Edit(
         "pages.sh",
@@ -219,9 +229,18 @@ def edited(edits, folder):
     return root, str(program)
 
 
+def built_library(folder):
+    """The library for C and Python of the sources as they are, in a folder."""
+    subprocess.run([ROOT / "tools/build-library", folder], check=True, stdout=subprocess.DEVNULL)
+    return str(folder)
+
+
 def finds(edit, root, program):
     """Whether the script finds its edit in a copy of the repository."""
-    words = [root / "tests" / edit.part, *(program if word == "PROGRAM" else word for word in edit.arguments)]
+    named = {"PROGRAM": program}
+    if "LIBRARY" in edit.arguments:
+        named["LIBRARY"] = built_library(root.parent / "library")
+    words = [root / "tests" / edit.part, *(named.get(word, word) for word in edit.arguments)]
     environment = dict(os.environ, P21=program, PYTHONDONTWRITEBYTECODE="1")
     run = subprocess.run(
         words, cwd=root, env=environment, stdin=subprocess.DEVNULL, capture_output=True, text=True, errors="replace", check=False
