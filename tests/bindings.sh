@@ -110,7 +110,7 @@ receive() {
 page 1 > "$here/program.c"
 page 2 > "$here/receive.c"
 part 'the first program of docs/LIBRARY.md is compiled' statically "$here/program" "$here/program.c"
-part 'the first program of docs/LIBRARY.md' says '#1=POINT(0.5,1.);' "$here/program"
+part 'the first program of docs/LIBRARY.md' says '#1=POINT(5.E-1,1.);' "$here/program"
 part 'the second program of docs/LIBRARY.md is compiled' statically "$here/receive" "$here/receive.c"
 part 'the second program of docs/LIBRARY.md' says '#1=DIMENSIONAL_EXPONENTS(1.,0.,0.);' receive
 
