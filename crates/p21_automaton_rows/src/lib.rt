@@ -1,5 +1,5 @@
 //! The states of a reader of tokens between two bytes: tables of what each byte does there, and of how many of a kind stand
-//! at the front. It has tests alone.
+//! at the front. Beside them tokens taken straight from their bytes. It has tests alone.
 #![tactic(auto)]
 
 #[cfg(test)]
