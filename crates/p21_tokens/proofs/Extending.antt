@@ -32,10 +32,10 @@ use Rattle.p21_tokens_automaton.specs.Reading.{State, start, Answer, open_at, af
 use Rattle.p21_tokens.proofs.Stepping.{ended-waits, waits-count}
 use Rattle.p21_tokens.proofs.Naming.{names-byte}
 use Rattle.p21_tokens.proofs.Following.{handed-laid, live-open, whole-read, tokens-append, mean-append, in-parts, open-append, within-append, after-append, after-nothing, live-laid, live-pending, live-within, live-few, live-first, live-at_once}
-use Rattle.p21_tokens.specs.Held.{Held, pending_of, state_of}
+use Rattle.p21_tokens.specs.Held.{Held, IsWithin, pending_of, state_of}
 use Rattle.p21_tokens.specs.Histories.{TokenHistory, call_of, refused_call, Stands, IsLive, IsHandedOver, GoesOn, AreDead, IsStatementFull, IsNoToken, EndsOutOfRange, NamesByte, IsOpen, IsPendingBehind, EndsAtOnce, TakesNoMore, Answers, Refuses, NextGives}
 use Rattle.p21_tokens.specs.Fault.{IsOfForm, IsOfLimit}
-use Rattle.p21_tokens.specs.Steps.{rest_of, is_slash, is_token_byte, IsDeadAt, SameLimits, TakesRun, Gives, Hands, RefusesByte, EndsNone, IsFaultAt, IsInLimits, Scanned, ScansToken, gave, handed, Scans, RefusesAt}
+use Rattle.p21_tokens.specs.Steps.{rest_of, is_slash, is_token_byte, IsDeadAt, SameCounts, SameLimits, TakesRun, Gives, Hands, RefusesByte, EndsNone, IsFaultAt, IsInLimits, Scanned, ScansToken, gave, handed, Scans, RefusesAt}
 use Rattle.p21_tokens.specs.Token.{meant, waits}
 use Rattle.p21_tokens.specs.declared.fault.TokenFault.{TokenFault}
 use Rattle.p21_tokens.specs.declared.fault.TokenFault.TheVariants as fault
@@ -595,6 +595,19 @@ module _ (v w : Held) (h : TokenHistory) (piece : List ℕ) (live : IsLive v h) 
   file-first : (x : TokenFault) → RefusesByte middle byte x → IsOfForm x → ¬ EndsOutOfRange tail byte → length (h.taken ++ take count piece) < v.file_limit
   file-first x r i o = let f = (passes-none x r i o).0 in let a = front-live.file_is in let b = same.file_limit in omega arith
 
+  -- what a refusal leaves says that no limit is passed in front of the byte
+  file-within : (u : Held) → SameLimits v u → SameCounts middle u → IsWithin u → length (h.taken ++ take count piece) ≤ v.file_limit
+  file-within u limits stays within = let a = front-live.file_is in let b = stays.file in let c = limits.file_limit in let d = within.file in omega arith
+
+  statement-within : (u : Held) → SameLimits v u → SameCounts middle u → IsWithin u → open_bytes 0 lexemes + tail_size tail ≤ v.statement_limit
+  statement-within u limits stays within =
+      let a = front-live.statement_is in
+      let k = size-is (state_of middle) before-it.0 before-it.2 in
+      let b = stays.pending in
+      let c = limits.statement_limit in
+      let d = within.statement in
+      omega arith
+
   statement-first : (x : TokenFault) → RefusesByte middle byte x → IsOfForm x → ¬ EndsOutOfRange tail byte → IsTokenByte tail byte → open_bytes 0 lexemes + tail_size tail < v.statement_limit
   statement-first x r i o c =
       let s = (passes-none x r i o).1 (counts before-it.0 before-it.2 c) in
@@ -619,9 +632,9 @@ module _ (v w : Held) (h : TokenHistory) (piece : List ℕ) (live : IsLive v h) 
   refuses-byte fault.BadName r = dead r.0
   refuses-byte (fault.LeftOut absent) r = dead r.0
 
-pub next-refuses : (v u w : Held) (piece : List ℕ) (x : TokenFault) → v.refused ≡ None → w.refused ≡ Some x → pending_of w ≡ pending_of u → RefusesAt v piece x u → NextGives v piece (Err x) w
+pub next-refuses : (v u w : Held) (piece : List ℕ) (x : TokenFault) → v.refused ≡ None → w.refused ≡ Some x → pending_of w ≡ pending_of u → IsWithin u → RefusesAt v piece x u → NextGives v piece (Err x) w
 unfolding Stands
-next-refuses v u w piece x r e k s h stands o alive =
+next-refuses v u w piece x r e k i s h stands o alive =
     let now = stands-live v h stands r in
     record {
       count = s.1;
@@ -629,11 +642,13 @@ next-refuses v u w piece x r e k s h stands o alive =
       byte = s.2;
       byte_is = s.3;
       is_open = open-before v w h piece now.1 alive o s.0 s.1 s.2 s.3 s.4 s.5;
+      file_within = file-within v w h piece now.1 alive o s.0 s.1 s.2 s.3 s.4 s.5 u s.6 s.8 i;
       refuses = refuses-byte v w h piece now.1 alive o s.0 s.1 s.2 s.3 s.4 s.5 x s.7;
       lexemes = lexemes v w h piece now.1 alive o s.0 s.1 s.2 s.3 s.4 s.5;
       tail = tail v w h piece now.1 alive o s.0 s.1 s.2 s.3 s.4 s.5;
       laid = laid v w h piece now.1 alive o s.0 s.1 s.2 s.3 s.4 s.5;
       given_are = given-are v w h piece now.1 alive o s.0 s.1 s.2 s.3 s.4 s.5;
+      statement_within = statement-within v w h piece now.1 alive o s.0 s.1 s.2 s.3 s.4 s.5 u s.6 s.8 i;
       token_first = token-first v w h piece now.1 alive o s.0 s.1 s.2 s.3 s.4 s.5 x s.7;
       range_first = range-first v w h piece now.1 alive o s.0 s.1 s.2 s.3 s.4 s.5 x s.7;
       file_first = file-first v w h piece now.1 alive o s.0 s.1 s.2 s.3 s.4 s.5 x s.7;
@@ -642,7 +657,7 @@ next-refuses v u w piece x r e k s h stands o alive =
       stands = (
         e ∙ sym (ap (λ (y : Option TokenFault). first_refusal y (Some x)) alive),
         λ q. absurd (not-none x (sym (ap (λ (y : Option TokenFault). first_refusal y (Some x)) alive) ∙ q)),
-        subst (λ (n : ℕ). IsPendingBehind (extended h (refused_call piece s.1 x)) n) (sym (k ∙ s.8)) (pending-before v w h piece now.1 alive o s.0 s.1 s.2 s.3 s.4 s.5 x),
+        subst (λ (n : ℕ). IsPendingBehind (extended h (refused_call piece s.1 x)) n) (sym (k ∙ s.8.pending)) (pending-before v w h piece now.1 alive o s.0 s.1 s.2 s.3 s.4 s.5 x),
       );
     }
   where

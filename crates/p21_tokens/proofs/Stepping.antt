@@ -28,7 +28,7 @@ use Rattle.p21_tokens_automaton.specs.declared.mode.Wrong.{Wrong}
 use Rattle.p21_tokens_automaton.specs.declared.mode.Wrong.TheVariants as wrong
 use Rattle.p21_tokens.specs.Fault.{fault_of}
 use Rattle.p21_tokens.specs.Held.{Held, pending_of, state_of}
-use Rattle.p21_tokens.specs.Steps.{is_gap, rest_of, IsDeadAt, EndsNone, IsInLimits, IsFaultAt, IsFaultOf, ReadsFound, SameLimits, RefusesByte, Steps, behind_token, Closes, Ends}
+use Rattle.p21_tokens.specs.Steps.{is_gap, rest_of, IsDeadAt, EndsNone, IsInLimits, IsFaultAt, IsFaultOf, ReadsFound, SameCounts, SameLimits, RefusesByte, Steps, behind_token, Closes, Ends}
 use Rattle.p21_tokens.specs.Token.{meant, waits}
 use Rattle.p21_tokens.specs.declared.fault.TokenFault.{TokenFault}
 use Rattle.p21_tokens.specs.declared.fault.TokenFault.TheVariants as fault
@@ -40,6 +40,9 @@ same-limits v w e f g = record { statement_limit = e; file_limit = f; refused = 
 
 pub same-limits_itself : (v : Held) → SameLimits v v
 same-limits_itself v = same-limits v v refl refl refl
+
+pub same-counts_itself : (v : Held) → SameCounts v v
+same-counts_itself v = record { pending = refl; file = refl }
 
 -- ---- separators between tokens need nothing
 

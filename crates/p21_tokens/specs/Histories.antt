@@ -176,9 +176,10 @@ pub record IsOpen (bytes : List ℕ) : Type 0 where
   pub state : State
   pub reads : lex start bytes ≡ record { given = founds; ending = open_at state }
 
--- A call refuses a byte, for that reason, and none in front of it. The tokens given are laid in the bytes in front of it, up to a tail. Where
--- several reasons meet, the first is the answer: a token that the byte may follow, which is given; a real out of range
--- that it ends; the limit of the file; the limit of a statement; a fault of form
+-- A call refuses a byte, for that reason, and none in front of it: up to it the states are open, and neither limit is
+-- passed. The tokens given are laid in the bytes in front of it, up to a tail. Where several reasons meet, the first is
+-- the answer: a token that the byte may follow, which is given; a real out of range that it ends; the limit of the file;
+-- the limit of a statement; a fault of form
 pub record RefusesAtByte (old : Held) (history : TokenHistory) (piece : List ℕ) (fault : TokenFault) (new : Held) : Type 0 where
   pub count : ℕ
   pub within : count < length piece
@@ -186,10 +187,12 @@ pub record RefusesAtByte (old : Held) (history : TokenHistory) (piece : List ℕ
   pub byte_is : slice_get piece count ≡ Some byte
   pub refuses : Refuses old history piece count fault
   pub is_open : IsOpen (history.taken ++ take count piece)
+  pub file_within : length (history.taken ++ take count piece) ≤ file_limit_of old
   pub lexemes : List Lexeme
   pub tail : Tail
   pub laid : LaidUpTo (history.taken ++ take count piece) lexemes tail
   pub given_are : tokens_in lexemes ≡ history.given
+  pub statement_within : open_bytes 0 lexemes + tail_size tail ≤ record_limit_of old
   pub token_first : fault ≢ NoMemory → IsNoToken tail byte
   pub range_first : IsOfLimit fault → ¬ EndsOutOfRange tail byte
   pub file_first : IsOfForm fault → ¬ EndsOutOfRange tail byte → length (history.taken ++ take count piece) < file_limit_of old

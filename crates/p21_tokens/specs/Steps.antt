@@ -96,13 +96,14 @@ pub record SameLimits (old new : Held) : Type 0 where
   pub file_limit : new.file_limit ≡ old.file_limit
   pub refused : new.refused ≡ old.refused
 
--- as many token bytes are pending, which is what a refusal leaves
-abbrev pub SamePending : Held → Held → Type 0
-SamePending old new = pending_of new ≡ pending_of old
+-- as many token bytes are pending, and as many bytes of the file are taken, which is what a refusal leaves
+pub record SameCounts (old new : Held) : Type 0 where
+  pub pending : pending_of new ≡ pending_of old
+  pub file : new.file ≡ old.file
 
 -- memory ran out
 abbrev pub LacksMemory : {Answer : Type 0} → Held → Result Answer TokenFault → Held → Type 0
-LacksMemory {Answer = Answer} old result new = OnErr result ((result ≡ Err NoMemory) × SameLimits old new × SamePending old new)
+LacksMemory {Answer = Answer} old result new = OnErr result ((result ≡ Err NoMemory) × SameLimits old new × SameCounts old new)
 
 -- what is held behind so many bytes of a token, with these kept
 abbrev pub with_kept : Held → Mode → List ℕ → ℕ → Held
@@ -120,12 +121,12 @@ behind_token old statement file = record old { mode = Between; kept = []; charac
 -- a byte that is kept and ends the token
 abbrev pub Closes : Held → ℕ → Result Token TokenFault → Held → Type 0
 Closes old byte (Ok token) new = ReadsFound (closed old.mode (old.kept ++ byte ∷ [])) (Ok token) × (new ≡ behind_token old (old.statement + (old.size + 1)) (old.file + 1))
-Closes old byte (Err fault) new = ReadsFound (closed old.mode (old.kept ++ byte ∷ [])) (Err fault) × SameLimits old new × SamePending old new
+Closes old byte (Err fault) new = ReadsFound (closed old.mode (old.kept ++ byte ∷ [])) (Err fault) × SameLimits old new × SameCounts old new
 
 -- the token that a byte behind it ends
 abbrev pub Ends : Held → Result Token TokenFault → Held → Type 0
 Ends old (Ok token) new = ReadsFound (ended (state_of old)) (Ok token) × (new ≡ behind_token old (old.statement + old.size) old.file) × (pending_of old ≤ old.statement_limit)
-Ends old (Err fault) new = ReadsFound (ended (state_of old)) (Err fault) × SameLimits old new × SamePending old new
+Ends old (Err fault) new = ReadsFound (ended (state_of old)) (Err fault) × SameLimits old new × SameCounts old new
 
 -- the byte ends no token that means something
 abbrev pub EndsNone : Held → ℕ → Type 0
@@ -187,7 +188,7 @@ abbrev pub Steps : Held → ℕ → Result Outcome TokenFault → Held → Type 
 Steps old byte (Ok Took) new = SameLimits old new × Takes old byte new
 Steps old byte (Ok (Gave token)) new = SameLimits old new × Gives old byte (meant token) new
 Steps old byte (Ok (Handed token)) new = SameLimits old new × Hands old byte (meant token) new
-Steps old byte (Err fault) new = SameLimits old new × RefusesByte old byte fault × SamePending old new
+Steps old byte (Err fault) new = SameLimits old new × RefusesByte old byte fault × SameCounts old new
 
 -- separator bytes, as a test
 abbrev pub AreBlank : List ℕ → Type 0
@@ -204,7 +205,7 @@ pub record TakesRun (old : Held) (bytes : List ℕ) (new : Held) : Type 0 where
 -- how many bytes at the front were taken as a run, which needs memory only inside a token
 abbrev pub Runs : Held → List ℕ → Result ℕ TokenFault → Held → Type 0
 Runs old piece (Ok count) new = (count ≤ length piece) × SameLimits old new × TakesRun old (take count piece) new
-Runs old piece (Err fault) new = (fault ≡ NoMemory) × SameLimits old new × (is_gap old.mode ≡ true → ⊥) × SamePending old new
+Runs old piece (Err fault) new = (fault ≡ NoMemory) × SameLimits old new × (is_gap old.mode ≡ true → ⊥) × SameCounts old new
 
 -- bytes behind which a token was given with the last of them, or by the byte behind them
 pub data ScansToken (old : Held) (bytes : List ℕ) (behind : Option ℕ) (token : meaning.Token) (new : Held) : Type 0 where
@@ -219,7 +220,7 @@ Scanned old piece count (Some token) new = (count ≤ length piece) × ScansToke
 -- why a byte of the piece is refused, behind so many that were taken
 abbrev pub RefusesAt : Held → List ℕ → TokenFault → Held → Type 0
 RefusesAt old piece fault new =
-    (middle : Held) × (count byte : ℕ) × (slice_get piece count ≡ Some byte) × SameLimits old middle × TakesRun old (take count piece) middle × SameLimits old new × RefusesByte middle byte fault × SamePending middle new
+    (middle : Held) × (count byte : ℕ) × (slice_get piece count ≡ Some byte) × SameLimits old middle × TakesRun old (take count piece) middle × SameLimits old new × RefusesByte middle byte fault × SameCounts middle new
 
 -- what a run of bytes or one byte leaves: some bytes taken, or those up to a token
 abbrev pub Walks : Held → List ℕ → Result (ℕ × Option Token) TokenFault → Held → Type 0

@@ -1,7 +1,7 @@
-use Rattle.std.proofs.Common.{ap, refl, sym, ◌∙◌}
+use Rattle.std.proofs.Common.{ap, sym, ◌∙◌}
 use Rattle.p21_tokens_automaton.specs.Reading.{marker_of}
 use Rattle.p21_tokens.specs.Held.{Held}
-use Rattle.p21_tokens.proofs.Stepping.{refused-dash, took-dash, same-limits_itself}
+use Rattle.p21_tokens.proofs.Stepping.{refused-dash, took-dash, same-counts_itself, same-limits_itself}
 use Rattle.p21_tokens.proofs.lexer.Lexer.dash.Goals as goal
 
 pub returns-in_default : goal.returns-in_default
@@ -9,7 +9,7 @@ returns-in_default c = (
   same-limits_itself c.args.self.now,
   refused-dash c.args.self.now c.args.byte c.requires.action (ap (λ (h : Held). marker_of h.kept) (sym c.self.view_is) ∙ (ap marker_of (sym c.deref.ensures.value) ∙ (sym c.marker_of.ensures ∙ c.in_default.is)))
       (λ _. (c.requires.file, λ _. c.requires.statement)),
-  refl,
+  same-counts_itself c.args.self.now,
 )
 
 pub returns-in-Ok : goal.returns-in-Ok

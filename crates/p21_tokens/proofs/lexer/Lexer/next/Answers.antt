@@ -1,5 +1,5 @@
 use Rattle.std.proofs.Common.{ap, subst, sym, ◌∙◌, ◌≤◌, ℕ, refl, Ok, Option, None, Some}
-use Rattle.p21_tokens.specs.Held.{Held, pending_of}
+use Rattle.p21_tokens.specs.Held.{Held, IsWithin, pending_of}
 use Rattle.p21_tokens.specs.Histories.{TakesNoMore}
 use Rattle.p21_tokens.specs.Steps.{Scans}
 use Rattle.p21_tokens.specs.declared.token.Token.{Token}
@@ -22,7 +22,11 @@ returns-in-Ok-clause-history c =
 
 pub returns-in-Err-clause-history : goal.returns-in-Err-clause-history
 returns-in-Err-clause-history c =
-    next-refuses c.args.self.now c.scan.new.self _ c.args.piece.now c.in-Err.fault (ap (λ (h : Held). h.refused) (sym c.self.view_is) ∙ c.in_default.is) refl (ap pending_of c.self-2.view_is) (c.in-Err.ensures {u = tt})
+    let within : IsWithin c.scan.new.self = record {
+      statement = subst (λ (h : Held). pending_of h ≤ h.statement_limit) c.self-2.view_is c.self-2.invariant.0;
+      file = subst (λ (h : Held). h.file ≤ h.file_limit) c.self-2.view_is c.self-2.invariant.1;
+    } in
+    next-refuses c.args.self.now c.scan.new.self _ c.args.piece.now c.in-Err.fault (ap (λ (h : Held). h.refused) (sym c.self.view_is) ∙ c.in_default.is) refl (ap pending_of c.self-2.view_is) within (c.in-Err.ensures {u = tt})
 
 pub returns-in-Err-clause-no_memory : goal.returns-in-Err-clause-no_memory
 returns-in-Err-clause-no_memory c history stands alive nothing separators e =

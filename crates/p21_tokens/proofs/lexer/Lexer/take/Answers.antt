@@ -1,7 +1,7 @@
-use Rattle.std.proofs.Common.{ap, refl, subst, sym, ◌∙◌}
+use Rattle.std.proofs.Common.{ap, subst, sym, ◌∙◌}
 use Rattle.p21_tokens.specs.Steps.{is_token_byte, RefusesByte}
 use Rattle.p21_tokens.specs.declared.fault.TokenFault.{TokenFault}
-use Rattle.p21_tokens.proofs.Stepping.{took-pass, took-skip, took-keep, took-put, gave-one, gave-closed, refused-closed, refused-byte, same-limits_itself}
+use Rattle.p21_tokens.proofs.Stepping.{took-pass, took-skip, took-keep, took-put, gave-one, gave-closed, refused-closed, refused-byte, same-counts_itself, same-limits_itself}
 use Rattle.p21_tokens.proofs.lexer.Lexer.take.Goals as goal
 
 pub returns-in-Pass : goal.returns-in-Pass
@@ -33,5 +33,5 @@ returns-in-Refuse c = (
   same-limits_itself c.args.self.now,
   subst (λ (x : TokenFault). RefusesByte c.args.self.now c.args.byte x) (sym c.fault_of.ensures) (refused-byte c.args.self.now c.args.byte c.in-Refuse.wrong (sym c.requires.action ∙ c.in-Refuse.is)
       (λ _. (c.requires.file, λ q. c.requires.statement (ap (is_token_byte c.args.self.now.mode) c.requires.action ∙ q)))),
-  refl,
+  same-counts_itself c.args.self.now,
 )
