@@ -2,6 +2,7 @@
 use Rattle.std.specs.Prelude.{◌≡◌, ℕ, List, [], ◌∷◌, ◌++◌, codes}
 use Rattle.std.specs.List.{flat_map, AllByRecursion as Each}
 use Rattle.p21_exchange.specs.Spelling.{name_spelling}
+use Rattle.p21_exchange.specs.Text.{IsGraphic}
 use Rattle.p21_stream_store.specs.Kept.{Kept}
 
 -- a data section: its DATA with its `;`, and the statements of its instances
@@ -37,9 +38,9 @@ header_text header = (line_of (codes "ISO-10303-21;") ++ line_of (codes "HEADER;
 abbrev pub output_text : Output → List ℕ
 output_text o = header_text o.header ++ (sections_text o.sections ++ line_of (codes "END-ISO-10303-21;"))
 
--- a text begins with the name of an instance and `=`
+-- a text of bytes 20 to 7E alone begins with the name of an instance and `=`
 abbrev pub IsNamed : ℕ → List ℕ → Type 0
-IsNamed name text = (record_ : List ℕ) × (text ≡ name_spelling name ++ (61 ∷ record_))
+IsNamed name text = ((record_ : List ℕ) × (text ≡ name_spelling name ++ (61 ∷ record_))) × Each IsGraphic text
 
 -- a text stands in a file between two LF
 pub record StandsAlone (text file : List ℕ) : Type 0 where
@@ -47,7 +48,7 @@ pub record StandsAlone (text file : List ℕ) : Type 0 where
   pub after : List ℕ
   pub stands : file ≡ before ++ (10 ∷ (text ++ (10 ∷ after)))
 
--- a text is the line of the instance of this name in a file
+-- a text is the line of the instance of this name in a file: it holds no LF
 pub record IsLineOf (name : ℕ) (text file : List ℕ) : Type 0 where
   pub named : IsNamed name text
   pub alone : StandsAlone text file

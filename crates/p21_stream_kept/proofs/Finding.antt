@@ -1,5 +1,6 @@
 -- What is found of an instance, from its check and its text.
 use Rattle.std.proofs.Common.{◌≡◌, ◌+◌, ◌∷◌, ◌++◌, ◌∙◌, List, [], ℕ, length, map, Ok, add-one, ap, refl, sym, subst}
+use Rattle.std.specs.List.{AllByRecursion as Each}
 use Rattle.std.specs.List.Sorted.{IsPermutation}
 use Rattle.std.specs.Prelude.{◌≢◌, Contains}
 use Rattle.p21_basics.specs.Limits.{Limits}
@@ -10,9 +11,13 @@ use Rattle.p21_claim.specs.Ended.{Entry}
 use Rattle.p21_claim_steps.specs.Keeping.{Kept}
 use Rattle.p21_claim_steps.specs.Stored.{Stored}
 use Rattle.p21_claim_steps.specs.Waiting.{Reference}
+use Rattle.p21_claim_values.proofs.CanonicalLaid.{laid-each_spelled}
+use Rattle.p21_claim_values.proofs.GraphicTexts.{lines-graphic}
+use Rattle.p21_claim_values.specs.Written.{IsSpelled}
 use Rattle.p21_exchange.specs.CanonicalText.{tokens_text}
 use Rattle.p21_exchange.specs.Record.{Record, record_tokens}
-use Rattle.p21_exchange.specs.Statement.{instance}
+use Rattle.p21_exchange.specs.Statement.{Statement, instance, statement_tokens}
+use Rattle.p21_exchange.specs.Text.{IsGraphic}
 use Rattle.p21_exchange.specs.Token.{semicolon}
 use Rattle.p21_files.specs.BrokenRule.{Breaks}
 use Rattle.p21_files.specs.Kept.{IsInstanceText}
@@ -44,9 +49,12 @@ found s n r m needs checked text (own, is, statement) =
       printed = subst P (sym is) (statement-instance s n m own statement checked.means.kinds r checked.means.means);
     }
 
--- its line begins with its name
+-- its line begins with its name, and holds graphic bytes alone
 pub found-named : (s : Schema) (n : ℕ) (r : Record) (entities : List ℕ) (needs : List Need) (text : List ℕ) → HasFound s n r entities needs text → IsNamed n text
-found-named s n r entities needs text is = (tokens_text (record_tokens is.printed.canonical ++ (semicolon ∷ [])), is.printed.text_is)
+found-named s n r entities needs text is =
+    let statement : Statement = instance n is.printed.canonical in
+    let spelled : Each IsSpelled (statement_tokens statement) = laid-each_spelled text (statement_tokens statement) is.printed.laid in
+    ((tokens_text (record_tokens is.printed.canonical ++ (semicolon ∷ [])), is.printed.text_is), subst (Each IsGraphic) (sym is.printed.text_is) (lines-graphic statement spelled))
 
 -- a refused record breaks a rule
 pub refused-breaks : (s : Schema) (r : Record) (f : CheckFault) → (f ≢ check_fault.NoMemory → IsRefused s r f) → of_check f ≢ fault.NoMemory → Breaks s r (fault_number (of_check f))

@@ -12,7 +12,8 @@ use Rattle.p21_mapping.specs.Checked.{needs_view}
 use Rattle.p21_mapping_values.specs.TypedView.{ids_view, need_view}
 use Rattle.p21_mapping_values.specs.declared.need.Need.{Need}
 use Rattle.p21_stream_fault.specs.declared.fault.Fault.TheVariants.{CanonicalTooLong, DuplicateName}
-use Rattle.p21_stream_kept.proofs.Finding.{took-found}
+use Rattle.p21_stream_accepted.specs.Output.{IsNamed}
+use Rattle.p21_stream_kept.proofs.Finding.{found-named, took-found}
 use Rattle.p21_stream_kept.proofs.Instances.{instance-again, instance-broken, refused-instance, stored-names}
 use Rattle.p21_stream_kept.specs.Inside.{kept_of, references_of, stored_of}
 use Rattle.p21_stream_kept.specs.Served.{AddsWaiting}
@@ -28,6 +29,12 @@ pub invariant_of-self-2 : goal.invariant_of-self-2
 invariant_of-self-2 c =
     let last : c.in-Some.section + 1 ≡ length c.self.inside.sections = c.in-Some.ensures in
     record { kinds = c.store.ensures.kinds; sections = c.store.ensures.sections (length c.self.inside.sections) (omega (arith, last)) c.self.invariant.sections; named = c.store.ensures.named }
+
+pub store-requires-clause-line : goal.store-requires-clause-line
+store-requires-clause-line c =
+    let found = c.in-Ok.found in
+    subst (λ (text : List ℕ). IsNamed c.args.name text) (sym c.deref-2.ensures.value)
+    (found-named c.args.schema.now c.args.name (record_view c.args.of) (ids_view found.entities) (needs_view found.needs.items) found.line.items c.in-Ok.ensures.finds)
 
 pub returns-in-Err-clause-gives : goal.returns-in-Err-clause-gives
 returns-in-Err-clause-gives c = instance-broken c.args.schema.now c.args.limits c.args.self.now c.args.self.now c.args.name (record_view c.args.of) c.in-Err.fault c.in-Err.ensures.finds
