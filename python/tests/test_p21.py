@@ -5,6 +5,7 @@ The files of `examples` are refused as docs/FAULTS.md and the pages say. Each ot
 """
 
 import gc
+import os
 import pathlib
 import re
 import subprocess
@@ -395,7 +396,9 @@ def test_version():
 
 def output_of(program, folder):
     """What a program in Python prints, run in a folder."""
-    return subprocess.run([sys.executable, "-c", program], cwd=folder, capture_output=True, text=True, check=True).stdout.splitlines()
+    environment = dict(os.environ, PYTHONPATH=str(ROOT / "python"), PYTHONDONTWRITEBYTECODE="1")
+    run = subprocess.run([sys.executable, "-c", program], cwd=folder, env=environment, capture_output=True, text=True, check=True)
+    return run.stdout.splitlines()
 
 
 def test_library_page():
