@@ -1,5 +1,5 @@
 -- A step of a lexer with a parser behind it, by the readings that they stand for.
-use Rattle.std.proofs.Common.{◌≡◌, ◌≢◌, ◌+◌, ◌≤◌, ◌<◌, ◌⊎◌, ℕ, Bool, true, false, List, [], ◌∷◌, ◌++◌, length, take, Option, Some, None, Ok, Err, inl, inr, refl, sym, ap, subst, ◌∙◌, append_assoc, if◌then◌else◌, arith}
+use Rattle.std.proofs.Common.{◌≡◌, ◌≢◌, ◌+◌, ◌≤◌, ◌<◌, ◌⊎◌, ℕ, Bool, true, false, List, [], ◌∷◌, ◌++◌, length, take, Option, Some, None, Ok, Err, inl, inr, refl, sym, ap, subst, ◌∙◌, append_assoc, length-append, if◌then◌else◌, arith}
 use Rattle.std.proofs.lemmas.List.{append-nil, take_all}
 use Rattle.std.specs.List.{flat_map, slice_get}
 use Rattle.p21_basics.specs.History.{empty, extended, first_refusal, looked_at, seen_behind}
@@ -238,7 +238,7 @@ of-file (Some event) parsing depth before file gives ended same =
     subst (λ (g : List Statement). BeginsFile (flat_map statement_tokens g) g) same own
 
 pub went-on : (old : Held) (piece : List ℕ) (count : ℕ) (token : TokenRead) (lexer : tokens_held.Held) (event : Option Event) (parser : grammar_held.Held) → tokens.NextGives old.lexer piece (Ok (count, Some token)) lexer
-    → grammar.TakeGives old.parser (meant token) (Ok event) parser → (reading : Reading) → IsLive old reading → IsSeenAt reading.seen piece 0 → GoesOn reading piece count (statements_of event) (record { lexer = lexer; parser = parser })
+    → grammar.TakeGives old.parser (meant token) (Ok event) parser → (reading : Reading) (live : IsLive old reading) → IsSeenAt reading.seen piece 0 → GoesOn reading (length live.history.given) piece count (statements_of event) (record { lexer = lexer; parser = parser })
 unfolding read
 went-on old piece count token lexer event parser gives takes reading live at =
     let r = read old piece count token lexer gives reading live at in
@@ -267,4 +267,5 @@ went-on old piece count token lexer event parser gives takes reading live at =
       taken_are = refl;
       given_are = refl;
       seen_at = r.seen_at;
+      one_more = length-append live.history.given (meant token ∷ []);
     }

@@ -1,6 +1,6 @@
 -- What a lexer and a parser behind it have taken and answered (ISO 10303-21, tokens; formal definition of the exchange
 -- structure).
-use Rattle.std.specs.Prelude.{◌≡◌, ◌≢◌, ◌≤◌, ◌⊎◌, ℕ, List, [], ◌∷◌, ◌++◌, length, take, slice_get, Option, Some, None, Result, Ok, Err}
+use Rattle.std.specs.Prelude.{◌≡◌, ◌≢◌, ◌≤◌, ◌+◌, ◌⊎◌, ℕ, List, [], ◌∷◌, ◌++◌, length, take, slice_get, Option, Some, None, Result, Ok, Err}
 use Rattle.std.specs.List.{flat_map}
 use Rattle.p21_basics.specs.History.{empty}
 use Rattle.p21_basics.specs.Limits.{Limits}
@@ -73,13 +73,15 @@ abbrev pub IsSeenAt : Option ℕ → List ℕ → ℕ → Type 0
 IsSeenAt None piece place = Unit {0}
 IsSeenAt (Some byte) piece place = slice_get piece place ≡ Some byte
 
--- a step goes on from a reading: it took so many bytes of the piece, and gave these statements
-pub record GoesOn (old : Reading) (piece : List ℕ) (count : ℕ) (given : List Statement) (held : Held) : Type 0 where
+-- a step goes on from a reading of so many tokens: it took so many bytes of the piece and one token more, and gave these
+-- statements
+pub record GoesOn (old : Reading) (tokens : ℕ) (piece : List ℕ) (count : ℕ) (given : List Statement) (held : Held) : Type 0 where
   pub reading : Reading
   pub live : IsLive held reading
   pub taken_are : reading.taken ≡ old.taken ++ take count piece
   pub given_are : reading.given ≡ old.given ++ given
   pub seen_at : IsSeenAt reading.seen piece count
+  pub one_more : length live.history.given ≡ tokens + 1
 
 -- a step refuses a byte, or the token that it follows: nothing that begins with the bytes up to it is accepted
 pub record RefusesWithin (limits : ℕ × ℕ) (old : Reading) (piece : List ℕ) : Type 0 where
@@ -90,7 +92,7 @@ pub record RefusesWithin (limits : ℕ × ℕ) (old : Reading) (piece : List ℕ
 -- what a step gives, for each reading that was stood for, where the byte that was seen is offered first
 abbrev pub StepGives : Held → List ℕ → Result (Option (ℕ × Option Event)) Fault → Held → Type 0
 StepGives old piece (Ok None) new = (reading : Reading) → IsLive old reading → IsSeenAt reading.seen piece 0 → IsLive new (record { taken = reading.taken ++ piece; seen = None; given = reading.given })
-StepGives old piece (Ok (Some (count, event))) new = (reading : Reading) → IsLive old reading → IsSeenAt reading.seen piece 0 → GoesOn reading piece count (statements_of event) new
+StepGives old piece (Ok (Some (count, event))) new = (reading : Reading) (live : IsLive old reading) → IsSeenAt reading.seen piece 0 → GoesOn reading (length live.history.given) piece count (statements_of event) new
 StepGives old piece (Err fault) new = fault ≢ NoMemory → (reading : Reading) → IsLive old reading → IsSeenAt reading.seen piece 0 → RefusesWithin (limits_of old) reading piece
 
 -- so many bytes of the piece at most

@@ -1,5 +1,5 @@
 -- A piece, by the histories that a session stands for.
-use Rattle.std.proofs.Common.{◌≡◌, ◌≢◌, ◌⊎◌, ℕ, List, [], ◌++◌, Option, Some, None, Ok, Err, inl, inr, refl, sym, ap, subst, ◌∙◌, arith}
+use Rattle.std.proofs.Common.{◌≡◌, ◌≢◌, ◌<◌, ◌^◌, ◌⊎◌, ℕ, List, [], ◌++◌, Option, Some, None, Ok, Err, inl, inr, refl, sym, ap, subst, ◌∙◌, arith}
 use Rattle.p21_basics.specs.Limits.{Limits}
 use Rattle.p21_claim_steps.specs.Keeping.{Kept, nothing_kept}
 use Rattle.p21_files.specs.Held.{IsHeld}
@@ -17,7 +17,7 @@ use Rattle.p21_stream_session.proofs.Within.{references-within}
 use Rattle.p21_stream_session.specs.Bounds.{IsBounded}
 use Rattle.p21_stream_session.specs.Held.{SessionHeld}
 use Rattle.p21_stream_session.specs.Histories.{FeedChecks, FeedGives, FeedNeedsNoMemory, HoldsFor, Stands, nothing_taken}
-use Rattle.p21_stream_session.specs.Pieces.{NeedsNoMemory, ReadGives}
+use Rattle.p21_stream_session.specs.Pieces.{IsUnderWay, NeedsNoMemory, ReadGives}
 use Rattle.p21_stream_session.specs.Session.{IsLive}
 
 -- want of memory, or not
@@ -40,7 +40,7 @@ none-some refusal o none some = let clash : None ≡ Some refusal = none ∙ som
 
 -- ---- nothing taken
 
-module _ (s : Schema) (limits : Limits) (held : front.Held) (kept : Kept) (refused : Option Refusal) (live : front.IsLive held new_reading) (are : front.limits_of held ≡ (limits.record_source, limits.file_source)) (nothing : kept ≡ nothing_kept) (none : refused ≡ None) where
+module _ (s : Schema) (limits : Limits) (held : front.Held) (kept : Kept) (refused : Option Refusal) (live : front.IsLive held new_reading) (counted : limits.file_source < 2 ^ 64) (are : front.limits_of held ≡ (limits.record_source, limits.file_source)) (nothing : kept ≡ nothing_kept) (none : refused ≡ None) where
   live-new : IsLive s limits held kept new_reading
   live-new = subst (λ (k : Kept). IsLive s limits held k new_reading) (sym nothing) (live-at_start s limits held live are)
 
@@ -52,9 +52,15 @@ module _ (s : Schema) (limits : Limits) (held : front.Held) (kept : Kept) (refus
   bounded-new =
       let bytes : kept.bytes ≡ 0 = ap (λ (k : Kept). k.bytes) nothing in
       let references : kept.references ≡ 0 = ap (λ (k : Kept). k.references) nothing in
-      record { limits_are = are; kept_within = omega (arith, bytes); needs_within = omega (arith, references); reads = λ same. (new_reading, refl, live-new); of_bytes = λ r is. absurd (none-some r refused (sym none) is) }
+      record { counted = counted; limits_are = are; kept_within = omega (arith, bytes); needs_within = omega (arith, references); reads = λ same. (new_reading, refl, live-new); of_bytes = λ r is. absurd (none-some r refused (sym none) is) }
 
 -- ---- a piece that is read
+
+-- no byte was seen, so any may come first
+pub under-way : (s : Schema) (limits : Limits) (held : front.Held) (kept : Kept) (was : Option Refusal) (piece : List ℕ) → IsBounded (record { schema = s; limits = limits; front = held; kept = kept; refused = was }) → was ≡ None → IsUnderWay s limits held kept piece
+under-way s limits held kept was piece bounded open_ =
+    let (reading, none, live) = bounded.reads open_ in
+    record { reading = reading; live = live; seen_at = subst (λ (o : Option ℕ). front.IsSeenAt o piece 0) (sym none) tt; counted = bounded.counted }
 
 module _ (s : Schema) (limits : Limits) (held next : front.Held) (kept after : Kept) (piece : List ℕ) (was now : Option Refusal) (open_ : was ≡ None) (same : now ≡ was) (gives : ReadGives s limits held kept piece (Ok tt) next after) where
   pub fed-whole : FeedGives (record { schema = s; limits = limits; front = held; kept = kept; refused = was }) piece (Ok tt) (record { schema = s; limits = limits; front = next; kept = after; refused = now })
@@ -73,11 +79,11 @@ module _ (s : Schema) (limits : Limits) (held next : front.Held) (kept after : K
 
   pub bounded-whole : StepKeepsBound limits kept after → front.limits_of next ≡ front.limits_of held → IsBounded (record { schema = s; limits = limits; front = held; kept = kept; refused = was }) → IsBounded (record { schema = s; limits = limits; front = next; kept = after; refused = now })
   bounded-whole bound limits_same bounded =
-      let (reading, none, live) = bounded.reads open_ in
-      let at : front.IsSeenAt reading.seen piece 0 = subst (λ (o : Option ℕ). front.IsSeenAt o piece 0) (sym none) tt in
-      let whole = gives reading live at in
-      let end : front.Reading = record { taken = reading.taken ++ piece; seen = None; given = whole.0 } in
+      let way = under-way s limits held kept was piece bounded open_ in
+      let whole = gives way.reading way.live way.seen_at in
+      let end : front.Reading = record { taken = way.reading.taken ++ piece; seen = None; given = whole.0 } in
       record {
+        counted = bounded.counted;
         limits_are = limits_same ∙ bounded.limits_are;
         kept_within = bound bounded.kept_within;
         needs_within = references-within s limits next after end whole.1;
@@ -118,6 +124,7 @@ bounded-refused s limits held next kept end was refusal nothing same of bounded 
     let bytes : end.bytes ≡ 0 = ap (λ (k : Kept). k.bytes) nothing in
     let references : end.references ≡ 0 = ap (λ (k : Kept). k.references) nothing in
     record {
+      counted = bounded.counted;
       limits_are = same ∙ bounded.limits_are;
       kept_within = omega (arith, bytes);
       needs_within = omega (arith, references);

@@ -17,7 +17,7 @@ pub live-at_start : LiveAtStart
 live-at_start s limits held reads are = record { reads = reads; limits_are = are; keeps = keeps-at_start s limits }
 
 pub live-by_token : LiveByToken
-live-by_token s limits held next kept reading piece count live goes same = record {
+live-by_token s limits held next kept reading tokens piece count live goes same = record {
   reading = goes.reading;
   live = record {
     reads = goes.live;
@@ -26,13 +26,14 @@ live-by_token s limits held next kept reading piece count live goes same = recor
   };
   taken_are = goes.taken_are;
   seen_at = goes.seen_at;
+  one_more = goes.one_more;
 }
 
 pub live-by_piece : LiveByPiece
 live-by_piece s limits held next kept reading piece live reads same = record { reads = reads; limits_are = same ∙ live.limits_are; keeps = live.keeps }
 
 pub live-by_statement : LiveByStatement
-live-by_statement s limits held next kept after reading piece count statement live goes same takes = record {
+live-by_statement s limits held next kept after reading tokens piece count statement live goes same takes = record {
   reading = goes.reading;
   live = record {
     reads = goes.live;
@@ -41,10 +42,11 @@ live-by_statement s limits held next kept after reading piece count statement li
   };
   taken_are = goes.taken_are;
   seen_at = goes.seen_at;
+  one_more = goes.one_more;
 }
 
 pub dead-by_statement : DeadByStatement
-dead-by_statement s formed limits held next kept after reading piece count statement fault live goes within refuses other =
+dead-by_statement s formed limits held next kept after reading tokens piece count statement fault live goes within refuses other =
     let offends = refuses other reading.given live.keeps in
     let are : AreTaken (looked goes.reading) (reading.given ++ statement ∷ []) = subst (λ (given : List Statement). AreTaken (looked goes.reading) given) goes.given_are (taken-looked next goes.reading goes.live) in
     let dead : IsDead s limits (looked goes.reading) =

@@ -1,5 +1,5 @@
 -- A piece, token by token.
-use Rattle.std.proofs.Common.{◌≡◌, ◌+◌, ◌-◌, ◌≤◌, ◌<◌, ◌⊎◌, ℕ, zero, suc, List, [], ◌∷◌, ◌++◌, length, take, drop, Option, Some, None, Result, Ok, Err, inl, inr, refl, sym, ap, subst, ◌∙◌, append_assoc, arith}
+use Rattle.std.proofs.Common.{◌≡◌, ◌+◌, ◌-◌, ◌^◌, ◌≤◌, ◌<◌, ℕ, zero, suc, List, [], ◌∷◌, ◌++◌, length, take, drop, Option, Some, None, Result, Ok, Err, refl, sym, ap, subst, ◌∙◌, append_assoc, arith}
 use Rattle.std.proofs.lemmas.List.{length-drop, take-append-drop}
 use Rattle.std.specs.List.{slice_get}
 use Rattle.p21_basics.specs.Limits.{Limits}
@@ -16,7 +16,8 @@ use Rattle.p21_stream_front.specs.Front.{IsSeenAt, Reading, limits_of}
 use Rattle.p21_stream_kept.specs.Steps as kept_steps
 use Rattle.p21_stream_kept.specs.Steps.{StepKeepsBound}
 use Rattle.p21_stream_session.proofs.Going.{dead-by_statement, dead-by_step, live-by_piece, live-by_statement, live-by_token}
-use Rattle.p21_stream_session.specs.Pieces.{EndsNoToken, NeedsNoMemory, ReadGives, StepGives}
+use Rattle.p21_stream_session.proofs.Within.{given-few, source-within}
+use Rattle.p21_stream_session.specs.Pieces.{EndsNoToken, IsUnderWay, NeedsNoMemory, ReadGives, StepGives}
 use Rattle.p21_stream_session.specs.Session.{IsLive}
 use Rattle.p21_stream_session.specs.declared.progress.Progress.{Progress}
 
@@ -65,12 +66,12 @@ pub step-piece : (s : Schema) (limits : Limits) (held next : front.Held) (kept :
 step-piece s limits held next kept piece gives same reading live at = (reading.given, live-by_piece s limits held next kept reading piece live (gives reading live.reads at) same)
 
 pub step-token : (s : Schema) (limits : Limits) (held next : front.Held) (kept : Kept) (piece : List ℕ) (count : ℕ) → front.StepGives held piece (Ok (Some (count, None))) next → limits_of next ≡ limits_of held → StepGives s limits held kept piece (Ok (Some count)) next kept
-step-token s limits held next kept piece count gives same reading live at = live-by_token s limits held next kept reading piece count live (gives reading live.reads at) same
+step-token s limits held next kept piece count gives same reading live at = live-by_token s limits held next kept reading (length live.reads.history.given) piece count live (gives reading live.reads at) same
 
 pub step-statement : (s : Schema) (limits : Limits) (held next : front.Held) (kept after : Kept) (piece : List ℕ) (count : ℕ) (event : Event) → front.StepGives held piece (Ok (Some (count, Some event))) next → limits_of next ≡ limits_of held
     → kept_steps.StepGives s limits kept (statement_of event) (Ok tt) after → StepGives s limits held kept piece (Ok (Some count)) next after
 step-statement s limits held next kept after piece count event gives same takes reading live at =
-    live-by_statement s limits held next kept after reading piece count (statement_of event) live (gives reading live.reads at) same takes
+    live-by_statement s limits held next kept after reading (length live.reads.history.given) piece count (statement_of event) live (gives reading live.reads at) same takes
 
 pub step-refused : (s : Schema) (limits : Limits) (held next : front.Held) (kept after : Kept) (piece : List ℕ) (refusal : Refusal) (fault : Fault) → refusal.fault ≡ fault → front.StepGives held piece (Err fault) next → StepGives s limits held kept piece (Err refusal) next after
 step-refused s limits held next kept after piece refusal fault is gives other reading live at = dead-by_step s limits held next kept reading piece fault live at gives (λ none. other (is ∙ none))
@@ -78,7 +79,7 @@ step-refused s limits held next kept after piece refusal fault is gives other re
 pub step-offends : (s : Schema) → IsWellFormed s → (limits : Limits) (held next : front.Held) (kept after : Kept) (piece : List ℕ) (count : ℕ) (event : Event) (refusal : Refusal) (fault : Fault) → refusal.fault ≡ fault → front.StepGives held piece (Ok (Some (count, Some event))) next
     → count ≤ length piece → kept_steps.StepGives s limits kept (statement_of event) (Err fault) after → StepGives s limits held kept piece (Err refusal) next after
 step-offends s formed limits held next kept after piece count event refusal fault is gives within takes other reading live at =
-    dead-by_statement s formed limits held next kept after reading piece count (statement_of event) fault live (gives reading live.reads at) within takes (λ none. other (is ∙ none))
+    dead-by_statement s formed limits held next kept after reading (length live.reads.history.given) piece count (statement_of event) fault live (gives reading live.reads at) within takes (λ none. other (is ∙ none))
 
 -- ---- separators
 
@@ -94,30 +95,46 @@ token-none s limits held kept piece answer needs count reading live at none are 
 
 -- ---- all tokens of a piece
 
--- what the rest gives, the piece gives
+-- what the rest gives, the piece gives; and each round gave a token
 pub record IsRest (s : Schema) (limits : Limits) (old : Progress) (piece : List ℕ) (now : Progress) (rest : List ℕ) (rounds : ℕ) : Type 0 where
   pub gives : (result : Result (Unit {0}) Refusal) (last : front.Held) (end : Kept) → ReadGives s limits now.front now.kept rest result last end → ReadGives s limits old.front old.kept piece result last end
   pub bound : StepKeepsBound limits old.kept now.kept
   pub limits_are : limits_of now.front ≡ limits_of old.front
   pub refused_is : now.refused ≡ old.refused
   pub quiet : (result : Result (Unit {0}) Refusal) → NeedsNoMemory s limits now.front now.kept rest result → NeedsNoMemory s limits old.front old.kept piece result
-  -- behind a token, the piece isn't separators alone
-  pub behind : (rounds ≡ 0) ⊎ ((result : Result (Unit {0}) Refusal) → NeedsNoMemory s limits old.front old.kept piece result)
+  pub under_way : IsUnderWay s limits now.front now.kept rest
+  pub rounds_few : rounds ≤ length under_way.live.reads.history.given
 
-pub rest-first : (s : Schema) (limits : Limits) (old : Progress) (piece : List ℕ) → IsRest s limits old piece old piece 0
-rest-first s limits old piece = record { gives = λ result last end reads. reads; bound = λ within. within; limits_are = refl; refused_is = refl; quiet = λ result needs. needs; behind = inl refl }
+pub rest-first : (s : Schema) (limits : Limits) (old : Progress) (piece : List ℕ) → IsUnderWay s limits old.front old.kept piece → IsRest s limits old piece old piece 0
+rest-first s limits old piece way =
+    record { gives = λ result last end reads. reads; bound = λ within. within; limits_are = refl; refused_is = refl; quiet = λ result needs. needs; under_way = way; rounds_few = omega arith }
 
 pub rest-on : (s : Schema) (limits : Limits) (old now next : Progress) (piece rest : List ℕ) (count rounds : ℕ) → IsRest s limits old piece now rest rounds → StepGives s limits now.front now.kept rest (Ok (Some count)) next.front next.kept → count ≤ length rest
     → StepKeepsBound limits now.kept next.kept → limits_of next.front ≡ limits_of now.front → next.refused ≡ now.refused → EndsNoToken s limits now.front now.kept rest (Ok (Some count)) → IsRest s limits old piece next (drop count rest) (rounds + 1)
-rest-on s limits old now next piece rest count rounds so_far gives within bound same refused none = record {
-  gives = λ result last end reads. so_far.gives result last end (read-on s limits now.front next.front last now.kept next.kept end rest count gives within result reads);
-  bound = λ first. bound (so_far.bound first);
-  limits_are = same ∙ so_far.limits_are;
-  refused_is = refused ∙ so_far.refused_is;
-  quiet = λ result needs. so_far.quiet result (λ reading live at pending are. absurd (none reading live at pending are));
-  behind = inr (λ result. so_far.quiet result (λ reading live at pending are. absurd (none reading live at pending are)));
-}
+rest-on s limits old now next piece rest count rounds so_far gives within bound same refused none =
+    let way = so_far.under_way in
+    let on = gives way.reading way.live way.seen_at in
+    let few = so_far.rounds_few in
+    let more = on.one_more in
+    record {
+      gives = λ result last end reads. so_far.gives result last end (read-on s limits now.front next.front last now.kept next.kept end rest count gives within result reads);
+      bound = λ first. bound (so_far.bound first);
+      limits_are = same ∙ so_far.limits_are;
+      refused_is = refused ∙ so_far.refused_is;
+      quiet = λ result needs. so_far.quiet result (λ reading live at pending are. absurd (none reading live at pending are));
+      under_way = record { reading = on.reading; live = on.live; seen_at = seen-first on.reading.seen count rest on.seen_at; counted = way.counted };
+      rounds_few = omega (arith, few, more);
+    }
 
--- the loop's end is never reached
-pub rest-end : (s : Schema) (limits : Limits) (old now : Progress) (piece rest : List ℕ) (rounds : ℕ) → IsRest s limits old piece now rest rounds → 0 < rounds → (result : Result (Unit {0}) Refusal) → NeedsNoMemory s limits old.front old.kept piece result
-rest-end s limits old now piece rest rounds so_far some result = elim so_far.behind [ inl none ↦ absurd (omega (arith, some, none)) | inr needs ↦ needs result ]
+-- a file has no more tokens than bytes, so 64 bits count the rounds
+pub rounds-few : (s : Schema) (limits : Limits) (old now next : Progress) (piece rest : List ℕ) (count rounds : ℕ) → IsRest s limits old piece now rest rounds → StepGives s limits now.front now.kept rest (Ok (Some count)) next.front next.kept → rounds + 1 < 2 ^ 64
+rounds-few s limits old now next piece rest count rounds so_far gives =
+    let way = so_far.under_way in
+    let on = gives way.reading way.live way.seen_at in
+    let rounds_few = so_far.rounds_few in
+    let more = on.one_more in
+    let few = given-few next.front on.reading on.live.reads in
+    let within = source-within next.front on.reading on.live.reads in
+    let limit : (limits_of next.front).1 ≡ limits.file_source = ap (λ p. p.1) on.live.limits_are in
+    let counted = way.counted in
+    omega (arith, rounds_few, more, few, within, limit, counted)

@@ -29,7 +29,7 @@ source-within held reading live = elim live.answered [
   | inr answers ↦ (let within = answers.file_within in let same : length live.history.taken ≡ length reading.taken = ap length live.taken_are in omega (arith, within, same))
 ]
 
-given-few : (held : Held) (reading : Reading) (live : front.IsLive held reading) → length live.history.given ≤ length reading.taken
+pub given-few : (held : Held) (reading : Reading) (live : front.IsLive held reading) → length live.history.given ≤ length reading.taken
 given-few held reading live = elim live.answered [
   | inl none ↦ (let size : length live.history.given ≡ 0 = ap (λ (h : TokenHistory). length h.given) none in omega (arith, size))
   | inr answers ↦ (let few = answers.given_few in let same : length live.history.taken ≡ length reading.taken = ap length live.taken_are in omega (arith, few, same))

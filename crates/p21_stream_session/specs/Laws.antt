@@ -19,8 +19,8 @@ LiveAtStart = (s : Schema) (limits : Limits) (held : front.Held) → front.IsLiv
 
 -- a token that ends no statement
 abbrev pub LiveByToken : Type 0
-LiveByToken = (s : Schema) (limits : Limits) (held next : front.Held) (kept : Kept) (reading : Reading) (piece : List ℕ) (count : ℕ) → IsLive s limits held kept reading → front.GoesOn reading piece count [] next → limits_of next ≡ limits_of held
-    → GoesOn s limits reading piece count next kept
+LiveByToken = (s : Schema) (limits : Limits) (held next : front.Held) (kept : Kept) (reading : Reading) (tokens : ℕ) (piece : List ℕ) (count : ℕ) → IsLive s limits held kept reading → front.GoesOn reading tokens piece count [] next → limits_of next ≡ limits_of held
+    → GoesOn s limits reading tokens piece count next kept
 
 -- the rest of a piece, in which no token is whole
 abbrev pub LiveByPiece : Type 0
@@ -29,13 +29,13 @@ LiveByPiece = (s : Schema) (limits : Limits) (held next : front.Held) (kept : Ke
 
 -- a statement that is taken
 abbrev pub LiveByStatement : Type 0
-LiveByStatement = (s : Schema) (limits : Limits) (held next : front.Held) (kept after : Kept) (reading : Reading) (piece : List ℕ) (count : ℕ) (statement : Statement) → IsLive s limits held kept reading → front.GoesOn reading piece count (statement ∷ []) next
-    → limits_of next ≡ limits_of held → kept_steps.StepGives s limits kept statement (Ok tt) after → GoesOn s limits reading piece count next after
+LiveByStatement = (s : Schema) (limits : Limits) (held next : front.Held) (kept after : Kept) (reading : Reading) (tokens : ℕ) (piece : List ℕ) (count : ℕ) (statement : Statement) → IsLive s limits held kept reading → front.GoesOn reading tokens piece count (statement ∷ []) next
+    → limits_of next ≡ limits_of held → kept_steps.StepGives s limits kept statement (Ok tt) after → GoesOn s limits reading tokens piece count next after
 
 -- a statement that is refused
 abbrev pub DeadByStatement : Type 0
-DeadByStatement = (s : Schema) → IsWellFormed s → (limits : Limits) (held next : front.Held) (kept after : Kept) (reading : Reading) (piece : List ℕ) (count : ℕ) (statement : Statement) (fault : Fault) → IsLive s limits held kept reading
-    → front.GoesOn reading piece count (statement ∷ []) next → count ≤ length piece → kept_steps.StepGives s limits kept statement (Err fault) after → fault ≢ NoMemory → IsDeadWithin s limits reading piece
+DeadByStatement = (s : Schema) → IsWellFormed s → (limits : Limits) (held next : front.Held) (kept after : Kept) (reading : Reading) (tokens : ℕ) (piece : List ℕ) (count : ℕ) (statement : Statement) (fault : Fault) → IsLive s limits held kept reading
+    → front.GoesOn reading tokens piece count (statement ∷ []) next → count ≤ length piece → kept_steps.StepGives s limits kept statement (Err fault) after → fault ≢ NoMemory → IsDeadWithin s limits reading piece
 
 -- a byte or a token that is refused
 abbrev pub DeadByStep : Type 0

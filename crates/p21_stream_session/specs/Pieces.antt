@@ -1,5 +1,5 @@
 -- What a session's progress owes for a token, and for a whole piece.
-use Rattle.std.specs.Prelude.{◌≢◌, ◌≤◌, ℕ, List, ◌++◌, length, Option, Some, None, Result, Ok, Err}
+use Rattle.std.specs.Prelude.{◌≢◌, ◌≤◌, ◌<◌, ◌^◌, ℕ, List, ◌++◌, length, Option, Some, None, Result, Ok, Err}
 use Rattle.p21_basics.specs.Limits.{Limits}
 use Rattle.p21_claim_steps.specs.Keeping.{Kept}
 use Rattle.p21_exchange.specs.Pending.{IsPending}
@@ -15,6 +15,13 @@ use Rattle.p21_stream_session.specs.Canonical.{IsCanonicalOutput}
 use Rattle.p21_stream_session.specs.Session.{GoesOn, IsDeadWithin, IsLive}
 use Rattle.p21_tokens.specs.Histories.{AreSeparators}
 
+-- a reading is live, and the byte that was seen is offered first; 64 bits count the bytes of a file
+pub record IsUnderWay (s : Schema) (limits : Limits) (held : front.Held) (kept : Kept) (piece : List ℕ) : Type 0 where
+  pub reading : Reading
+  pub live : IsLive s limits held kept reading
+  pub seen_at : IsSeenAt reading.seen piece 0
+  pub counted : limits.file_source < 2 ^ 64
+
 -- so many bytes of the piece at most
 abbrev pub TakesOf : List ℕ → Result (Option ℕ) Refusal → Type 0
 TakesOf piece (Ok (Some count)) = count ≤ length piece
@@ -27,7 +34,7 @@ IsReadWhole s limits reading piece held kept = (given : List Statement) × IsLiv
 -- what a token, or the rest of a piece, gives: for each reading that is live, where the byte that was seen is offered first
 abbrev pub StepGives : Schema → Limits → front.Held → Kept → List ℕ → Result (Option ℕ) Refusal → front.Held → Kept → Type 0
 StepGives s limits held kept piece (Ok None) next after = (reading : Reading) → IsLive s limits held kept reading → IsSeenAt reading.seen piece 0 → IsReadWhole s limits reading piece next after
-StepGives s limits held kept piece (Ok (Some count)) next after = (reading : Reading) → IsLive s limits held kept reading → IsSeenAt reading.seen piece 0 → GoesOn s limits reading piece count next after
+StepGives s limits held kept piece (Ok (Some count)) next after = (reading : Reading) (live : IsLive s limits held kept reading) → IsSeenAt reading.seen piece 0 → GoesOn s limits reading (length live.reads.history.given) piece count next after
 StepGives s limits held kept piece (Err refusal) next after = refusal.fault ≢ NoMemory → (reading : Reading) → IsLive s limits held kept reading → IsSeenAt reading.seen piece 0 → IsDeadWithin s limits reading piece
 
 -- what a whole piece gives

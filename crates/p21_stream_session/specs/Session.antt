@@ -1,5 +1,5 @@
 -- What a session knows of the bytes that it has taken, where it has refused none.
-use Rattle.std.specs.Prelude.{◌≡◌, ◌≤◌, ℕ, List, ◌++◌, length, take}
+use Rattle.std.specs.Prelude.{◌≡◌, ◌≤◌, ◌+◌, ℕ, List, ◌++◌, length, take}
 use Rattle.p21_basics.specs.Limits.{Limits}
 use Rattle.p21_claim_steps.specs.Keeping.{Keeps, Kept}
 use Rattle.p21_files.specs.Accepted.{IsDead}
@@ -13,12 +13,13 @@ pub record IsLive (s : Schema) (limits : Limits) (held : front.Held) (kept : Kep
   pub limits_are : limits_of held ≡ (limits.record_source, limits.file_source)
   pub keeps : Keeps s limits reading.given kept
 
--- it goes on behind so many bytes of a piece
-pub record GoesOn (s : Schema) (limits : Limits) (old : Reading) (piece : List ℕ) (count : ℕ) (held : front.Held) (kept : Kept) : Type 0 where
+-- a reading of so many tokens goes on behind so many bytes of a piece, with one token more
+pub record GoesOn (s : Schema) (limits : Limits) (old : Reading) (tokens : ℕ) (piece : List ℕ) (count : ℕ) (held : front.Held) (kept : Kept) : Type 0 where
   pub reading : Reading
   pub live : IsLive s limits held kept reading
   pub taken_are : reading.taken ≡ old.taken ++ take count piece
   pub seen_at : IsSeenAt reading.seen piece count
+  pub one_more : length live.reads.history.given ≡ tokens + 1
 
 -- nothing that is accepted begins with the bytes taken and some of the piece
 pub record IsDeadWithin (s : Schema) (limits : Limits) (old : Reading) (piece : List ℕ) : Type 0 where

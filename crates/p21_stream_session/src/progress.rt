@@ -1,4 +1,4 @@
-ghost use Rattle.std.specs.Prelude.{◌≡◌, IfErr, None, Some, Err};
+ghost use Rattle.std.specs.Prelude.{◌≡◌, ◌<◌, ◌^◌, IfErr, None, Some, Err};
 ghost use Rattle.p21_basics.specs.Limits.{Limits as MeantLimits};
 ghost use Rattle.p21_claim_steps.specs.Keeping.{nothing_kept};
 ghost use Rattle.p21_grammar_machine.specs.Statements.{statement_of};
@@ -10,7 +10,7 @@ ghost use Rattle.p21_stream_kept.specs.Steps.{StepKeepsBound};
 ghost use Rattle.p21_stream_session.specs.Bounds.{IsBounded};
 ghost use Rattle.p21_stream_session.specs.Histories.{FeedChecks, FeedGives, FeedNeedsNoMemory, FinishGives, RefusesAgain, RefusesAtEnd};
 ghost use Rattle.p21_stream_session.specs.Inside.{held_in};
-ghost use Rattle.p21_stream_session.specs.Pieces.{EndGives, EndsNoToken, NeedsNoMemory, ReadGives, StepGives, TakesOf};
+ghost use Rattle.p21_stream_session.specs.Pieces.{EndGives, EndsNoToken, IsUnderWay, NeedsNoMemory, ReadGives, StepGives, TakesOf};
 
 use p21_express_tables::Schema;
 use p21_grammar::Event;
@@ -41,7 +41,10 @@ impl Progress {
         ensures limits { limits_of result.front ≡ (limits.record_source, limits.file_source) }
         ensures kept { result.kept ≡ nothing_kept }
         ensures refused { result.refused ≡ None }
+        ensures counted { limits.file_source < 2 ^ 64 }
     {
+        // Looked at, so that the proof knows that it is a number of 64 bits.
+        let _most = limits.file_source();
         Progress {
             alloc,
             front: Front::new(alloc, limits),
@@ -62,12 +65,13 @@ impl Progress {
         limits: Limits,
         piece: &[u8],
     ) -> Result<(), Refusal>
+        requires { IsBounded (held_in schema.now limits self.old) }
         ensures gives { FeedGives (held_in schema.now limits self.old) piece.now result (held_in schema.now limits self.new) }
         ensures checks { FeedChecks (held_in schema.now limits self.old) piece.now result }
         ensures no_memory { FeedNeedsNoMemory (held_in schema.now limits self.old) piece.now result }
         ensures again { RefusesAgain (held_in schema.now limits self.old) result (held_in schema.now limits self.new) }
-        ensures kind { IsBounded (held_in schema.now limits self.old) → IfErr result (λ refusal. IsOfBytes refusal.fault) }
-        ensures bounded { IsBounded (held_in schema.now limits self.old) → IsBounded (held_in schema.now limits self.new) }
+        ensures kind { IfErr result (λ refusal. IsOfBytes refusal.fault) }
+        ensures bounded { IsBounded (held_in schema.now limits self.new) }
     {
         if let Some(refusal) = self.refused {
             return Err(refusal);
@@ -121,6 +125,7 @@ impl Progress {
     ///
     /// The refusal of its first byte, token or statement that is refused.
     fn read(&mut self, schema: &Schema, limits: Limits, piece: &[u8]) -> Result<(), Refusal>
+        requires { IsUnderWay schema.now limits self.old.front self.old.kept piece.now }
         ensures gives { ReadGives schema.now limits self.old.front self.old.kept piece.now result self.new.front self.new.kept }
         ensures no_memory { NeedsNoMemory schema.now limits self.old.front self.old.kept piece.now result }
         ensures kind { IfErr result (λ refusal. IsOfBytes refusal.fault) }
@@ -129,7 +134,9 @@ impl Progress {
         ensures refused { self.new.refused ≡ self.old.refused }
     {
         let mut rest = piece;
-        for _ in 0..u64::MAX {
+        // Each round takes a token, and a file has no more tokens than bytes.
+        let mut rounds: u64 = 0;
+        loop {
             let taken = match self.step(schema, limits, rest) {
                 Ok(taken) => taken,
                 Err(refusal) => return Err(refusal),
@@ -138,8 +145,8 @@ impl Progress {
                 return Ok(());
             };
             rest = &rest[count..];
+            rounds += 1;
         }
-        Err(refused(Fault::NoMemory, None, self.statement))
     }
 
     /// Reads the bytes of one token, or the rest of a piece in which none is whole; says how many bytes where it was a

@@ -1,7 +1,7 @@
 use Rattle.std.proofs.Common.{IfErr, Result, Some, refl, sym, subst}
 use Rattle.p21_stream_fault.specs.Source.{IsOfBytes}
 use Rattle.p21_stream_fault.specs.declared.refusal.Refusal.{Refusal}
-use Rattle.p21_stream_session.proofs.Feeding.{again-quiet, bounded-refused, bounded-whole, fed-again, fed-checks, fed-quiet, fed-refused, fed-whole}
+use Rattle.p21_stream_session.proofs.Feeding.{again-quiet, bounded-refused, bounded-whole, fed-again, fed-checks, fed-quiet, fed-refused, fed-whole, under-way}
 use Rattle.p21_stream_session.specs.Histories.{FeedChecks, FeedGives, FeedNeedsNoMemory}
 use Rattle.p21_stream_session.specs.Inside.{held_in}
 use Rattle.p21_stream_session.proofs.progress.Progress.feed.Goals as goal
@@ -20,7 +20,7 @@ returns-in-Ok-clause-checks c =
 pub returns-in-Ok-clause-bounded : goal.returns-in-Ok-clause-bounded
 returns-in-Ok-clause-bounded c =
     bounded-whole c.args.schema.now c.args.limits c.args.self.now.front c.read.new.self.front c.args.self.now.kept c.read.new.self.kept c.args.piece.now c.args.self.now.refused c.read.new.self.refused c.in_default.is c.in-Ok.ensures.refused c.in-Ok.ensures.gives
-    c.in-Ok.ensures.bound c.in-Ok.ensures.limits
+    c.in-Ok.ensures.bound c.in-Ok.ensures.limits c.requires
 
 pub returns-in-Err-clause-gives : goal.returns-in-Err-clause-gives
 returns-in-Err-clause-gives c =
@@ -39,11 +39,14 @@ returns-in-Err-clause-no_memory c =
     (fed-quiet c.args.schema.now c.args.limits c.args.self.now.front c.args.self.now.kept c.args.piece.now c.args.self.now.refused c.in-Err.refusal c.in-Err.ensures.no_memory)
 
 pub returns-in-Some-clause-kind : goal.returns-in-Some-clause-kind
-returns-in-Some-clause-kind c = λ bounded. bounded.of_bytes c.in-Some.refusal c.in-Some.is
+returns-in-Some-clause-kind c = c.requires.of_bytes c.in-Some.refusal c.in-Some.is
 
 pub returns-in-Err-clause-kind : goal.returns-in-Err-clause-kind
-returns-in-Err-clause-kind c = λ bounded. subst (λ (r : Result (Unit {0}) Refusal). IfErr r (λ refusal. IsOfBytes refusal.fault)) (sym (c.answered.ensures c.in-Err.refusal refl)) c.in-Err.ensures.kind
+returns-in-Err-clause-kind c = subst (λ (r : Result (Unit {0}) Refusal). IfErr r (λ refusal. IsOfBytes refusal.fault)) (sym (c.answered.ensures c.in-Err.refusal refl)) c.in-Err.ensures.kind
 
 pub returns-in-Err-clause-bounded : goal.returns-in-Err-clause-bounded
 returns-in-Err-clause-bounded c =
-    bounded-refused c.args.schema.now c.args.limits c.args.self.now.front c.read.new.self.front c.args.self.now.kept c.new.result c.args.self.now.refused c.in-Err.refusal c.new.ensures c.in-Err.ensures.limits c.in-Err.ensures.kind
+    bounded-refused c.args.schema.now c.args.limits c.args.self.now.front c.read.new.self.front c.args.self.now.kept c.new.result c.args.self.now.refused c.in-Err.refusal c.new.ensures c.in-Err.ensures.limits c.in-Err.ensures.kind c.requires
+
+pub read-requires : goal.read-requires
+read-requires c = under-way c.args.schema.now c.args.limits c.args.self.now.front c.args.self.now.kept c.args.self.now.refused c.args.piece.now c.requires c.in_default.is
