@@ -3,3 +3,11 @@ pub mod Sound
 pub mod Held
 pub mod Histories
 pub mod Inside
+-- What the clauses of its calls cite, for callers who name this crate alone
+pub use Rattle.p21_basics.specs as p21_basics
+pub use Rattle.p21_exchange.specs as p21_exchange
+pub use Rattle.p21_values.specs as p21_values
+pub use Rattle.p21_tokens_automaton.specs as p21_tokens_automaton
+pub use Rattle.p21_tokens.specs as p21_tokens
+pub use Rattle.p21_grammar_tree.specs as p21_grammar_tree
+pub use Rattle.p21_grammar_machine.specs as p21_grammar_machine
