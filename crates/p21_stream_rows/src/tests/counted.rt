@@ -64,6 +64,15 @@ impl Write for Narrow<'_> {
     }
 }
 
+/// The name of a wrong call, or else what is wrong behind all calls: "none" where nothing is.
+fn named(wrong: Option<&'static str>, is_left: bool) -> &'static str {
+    match wrong {
+        Some(name) => name,
+        None if is_left => "the bytes that are left",
+        None => "none",
+    }
+}
+
 /// A call of a reader.
 #[derive(Clone, Copy)]
 enum Reading {
@@ -72,9 +81,9 @@ enum Reading {
     Piece(u64),
 }
 
-/// Calls one after another: how many bytes each gives, if it doesn't fail, and how many calls have moved bytes and how many
-/// have failed then.
-type Readings = &'static [(Reading, Option<usize>, (u64, u64))];
+/// Calls one after another, by their names: how many bytes each gives, if it doesn't fail, and how many calls have moved
+/// bytes and how many have failed then.
+type Readings = &'static [(&'static str, Reading, Option<usize>, (u64, u64))];
 
 fn read_by(reader: &mut Watched<Slow<'_>>, call: Reading) -> Option<usize> {
     let mut piece = [0; 8];
@@ -84,54 +93,50 @@ fn read_by(reader: &mut Watched<Slow<'_>>, call: Reading) -> Option<usize> {
     }
 }
 
-/// The number of the first call that gives something else.
-fn first_wrong_reading(reader: &mut Watched<Slow<'_>>, calls: Readings) -> Option<usize> {
-    for (place, (call, count, counts)) in calls.iter().enumerate() {
+/// The name of the first call that gives something else.
+fn first_wrong_reading(reader: &mut Watched<Slow<'_>>, readings: Readings) -> Option<&'static str> {
+    for (name, call, count, counts) in readings {
         if read_by(reader, *call) != *count || (reader.moved(), reader.failures()) != *counts {
-            return Some(place);
+            return Some(*name);
         }
     }
     None
 }
 
 /// The same of a reader of five bytes, which are all given in the end.
-fn wrong_reading(most: usize, calls: u32, readings: Readings) -> Option<usize> {
+fn wrong_reading(most: usize, calls: u32, readings: Readings) -> &'static str {
     let mut reader = Watched::new(Slow {
         bytes: b"abcde",
         most,
         calls,
     });
     let wrong = first_wrong_reading(&mut reader, readings);
-    if reader.into_inner().bytes.is_empty() {
-        wrong
-    } else {
-        Some(readings.len())
-    }
+    named(wrong, !reader.into_inner().bytes.is_empty())
 }
 
 const COUNTED: Readings = &[
-    (Reading::Bytes, Some(3), (1, 0)),
-    (Reading::Piece(100), Some(2), (2, 0)),
-    (Reading::Piece(100), Some(0), (2, 0)),
-    (Reading::Bytes, Some(0), (2, 0)),
-    (Reading::Piece(100), None, (2, 1)),
-    (Reading::Bytes, None, (2, 2)),
+    ("bytes", Reading::Bytes, Some(3), (1, 0)),
+    ("a piece", Reading::Piece(100), Some(2), (2, 0)),
+    ("a piece at the end", Reading::Piece(100), Some(0), (2, 0)),
+    ("bytes at the end", Reading::Bytes, Some(0), (2, 0)),
+    ("a piece that fails", Reading::Piece(100), None, (2, 1)),
+    ("bytes that fail", Reading::Bytes, None, (2, 2)),
 ];
 
 #[test]
 fn counts_reads(rt: HostRuntime) {
-    assert_eq!(rt; wrong_reading(3, 4, COUNTED), None);
+    assert_eq!(rt; wrong_reading(3, 4, COUNTED), "none");
 }
 
 const WANTED: Readings = &[
-    (Reading::Piece(2), Some(3), (1, 0)),
-    (Reading::Piece(0), Some(1), (2, 0)),
-    (Reading::Piece(u64::MAX), Some(1), (3, 0)),
+    ("two bytes", Reading::Piece(2), Some(3), (1, 0)),
+    ("no byte", Reading::Piece(0), Some(1), (2, 0)),
+    ("all bytes", Reading::Piece(u64::MAX), Some(1), (3, 0)),
 ];
 
 #[test]
 fn reads_one_byte_past_what_is_wanted(rt: HostRuntime) {
-    assert_eq!(rt; wrong_reading(9, 9, WANTED), None);
+    assert_eq!(rt; wrong_reading(9, 9, WANTED), "none");
 }
 
 /// A call of a writer.
@@ -141,9 +146,9 @@ enum Writing {
     Whole(&'static [u8]),
 }
 
-/// Calls one after another: how many bytes each takes, if it doesn't fail, and how many calls have moved bytes and how many
-/// have failed then.
-type Writings = &'static [(Writing, Option<usize>, (u64, u64))];
+/// Calls one after another, by their names: how many bytes each takes, if it doesn't fail, and how many calls have moved
+/// bytes and how many have failed then.
+type Writings = &'static [(&'static str, Writing, Option<usize>, (u64, u64))];
 
 fn write_by(writer: &mut Watched<Narrow<'_>>, call: Writing) -> Option<usize> {
     match call {
@@ -155,40 +160,39 @@ fn write_by(writer: &mut Watched<Narrow<'_>>, call: Writing) -> Option<usize> {
     }
 }
 
-/// The number of the first call that takes something else.
-fn first_wrong_writing(writer: &mut Watched<Narrow<'_>>, calls: Writings) -> Option<usize> {
-    for (place, (call, count, counts)) in calls.iter().enumerate() {
+/// The name of the first call that takes something else.
+fn first_wrong_writing(
+    writer: &mut Watched<Narrow<'_>>,
+    writings: Writings,
+) -> Option<&'static str> {
+    for (name, call, count, counts) in writings {
         if write_by(writer, *call) != *count || (writer.moved(), writer.failures()) != *counts {
-            return Some(place);
+            return Some(*name);
         }
     }
     None
 }
 
 /// The same of a writer of two bytes a call, that gets these five in the end and no more.
-fn wrong_writing(writings: Writings) -> Option<usize> {
+fn wrong_writing(writings: Writings) -> &'static str {
     let mut writer = Watched::new(Narrow {
         rest: Some(b"abcde"),
         most: 2,
         room: 5,
     });
     let wrong = first_wrong_writing(&mut writer, writings);
-    if writer.into_inner().left() == Some(0) {
-        wrong
-    } else {
-        Some(writings.len())
-    }
+    named(wrong, writer.into_inner().left() != Some(0))
 }
 
 const WRITTEN: Writings = &[
-    (Writing::Bytes(b""), Some(0), (0, 0)),
-    (Writing::Whole(b"abc"), Some(3), (2, 0)),
-    (Writing::Whole(b"def"), None, (3, 1)),
+    ("no bytes", Writing::Bytes(b""), Some(0), (0, 0)),
+    ("a whole text", Writing::Whole(b"abc"), Some(3), (2, 0)),
+    ("a text that fails", Writing::Whole(b"def"), None, (3, 1)),
 ];
 
 #[test]
 fn counts_writes(rt: HostRuntime) {
-    assert_eq!(rt; wrong_writing(WRITTEN), None);
+    assert_eq!(rt; wrong_writing(WRITTEN), "none");
 }
 
 /// A call of bytes that wait.
@@ -199,9 +203,9 @@ enum Waits {
     Flush,
 }
 
-/// Calls one after another: whether each is done, and how many calls of the writer have moved bytes and how many have failed
-/// then.
-type Waitings = &'static [(Waits, bool, (u64, u64))];
+/// Calls one after another, by their names: whether each is done, and how many calls of the writer have moved bytes and how
+/// many have failed then.
+type Waitings = &'static [(&'static str, Waits, bool, (u64, u64))];
 
 fn part_of(text: &[u8], from: usize, to: usize) -> &[u8] {
     let (front, _) = text.split_at(to.min(text.len()));
@@ -221,18 +225,18 @@ fn wait_by(
     }
 }
 
-/// The number of the first call that does something else.
+/// The name of the first call that does something else.
 fn first_wrong_wait(
     writer: &mut Watched<Narrow<'_>>,
     text: &[u8],
-    calls: Waitings,
-) -> Option<usize> {
+    waitings: Waitings,
+) -> Option<&'static str> {
     let mut waiting = Waiting::new();
-    for (place, (call, is_done, counts)) in calls.iter().enumerate() {
+    for (name, call, is_done, counts) in waitings {
         if wait_by(&mut waiting, writer, text, *call) != *is_done
             || (writer.moved(), writer.failures()) != *counts
         {
-            return Some(place);
+            return Some(*name);
         }
     }
     None
@@ -242,46 +246,52 @@ fn first_wrong_wait(
 fn wrong_wait(
     text: &[u8],
     (most, room): (usize, usize),
-    calls: Waitings,
+    waitings: Waitings,
     left: usize,
-) -> Option<usize> {
+) -> &'static str {
     let rest = Some(text);
     let mut writer = Watched::new(Narrow { rest, most, room });
-    let wrong = first_wrong_wait(&mut writer, text, calls);
-    if writer.into_inner().left() == Some(left) {
-        wrong
-    } else {
-        Some(calls.len())
-    }
+    let wrong = first_wrong_wait(&mut writer, text, waitings);
+    named(wrong, writer.into_inner().left() != Some(left))
 }
 
 const LONG: Waitings = &[
-    (Waits::Put(0, 1), true, (0, 0)),
-    (Waits::Put(1, 70_001), true, (2, 0)),
-    (Waits::Put(70_001, 130_001), true, (2, 0)),
-    (Waits::Put(130_001, 136_001), true, (3, 0)),
-    (Waits::Flush, true, (4, 0)),
+    ("one byte", Waits::Put(0, 1), true, (0, 0)),
+    (
+        "more than there is room",
+        Waits::Put(1, 70_001),
+        true,
+        (2, 0),
+    ),
+    (
+        "nearly all the room",
+        Waits::Put(70_001, 130_001),
+        true,
+        (2, 0),
+    ),
+    ("past the room", Waits::Put(130_001, 136_001), true, (3, 0)),
+    ("the rest", Waits::Flush, true, (4, 0)),
 ];
 
-fn wrong_of_long(alloc: Global) -> Option<usize> {
+fn wrong_of_long(alloc: Global) -> &'static str {
     match vec![in alloc; b'x'; 136_001] {
         Ok(text) => wrong_wait(&text, (100_000, 200_000), LONG, 0),
-        Err(_) => Some(0),
+        Err(_) => "the text itself",
     }
 }
 
 #[test]
 fn has_bytes_wait(rt: HostRuntime) {
-    assert_eq!(rt; wrong_of_long(rt.alloc()), None);
+    assert_eq!(rt; wrong_of_long(rt.alloc()), "none");
 }
 
 const FAILED: Waitings = &[
-    (Waits::Put(0, 13), true, (0, 0)),
-    (Waits::Flush, false, (2, 1)),
-    (Waits::Flush, true, (2, 1)),
+    ("bytes that wait", Waits::Put(0, 13), true, (0, 0)),
+    ("a writer that is full", Waits::Flush, false, (2, 1)),
+    ("nothing that waits", Waits::Flush, true, (2, 1)),
 ];
 
 #[test]
 fn has_no_bytes_wait_behind_a_fault(rt: HostRuntime) {
-    assert_eq!(rt; wrong_wait(b"ISO-10303-21;", (3, 4), FAILED, 9), None);
+    assert_eq!(rt; wrong_wait(b"ISO-10303-21;", (3, 4), FAILED, 9), "none");
 }

@@ -5,9 +5,12 @@ use std::alloc::{AllocError, Global};
 /// A name, a kind, and the text: a letter so many times.
 type Kept = (u64, u32, (u8, usize));
 
-/// Adds an instance, if none has its name.
+/// Adds an instance, if none has its name, and says whether it is one more.
 fn add(instances: &mut Instances, name: u64, kind: u32, text: &[u8]) -> bool {
-    instances.find(name).is_none() && instances.push(name, kind, text).is_ok()
+    let before = instances.len();
+    instances.find(name).is_none()
+        && instances.push(name, kind, text).is_ok()
+        && instances.len() == before.saturating_add(1)
 }
 
 fn is_found(instances: &Instances, name: u64, kind: u32, text: &[u8]) -> bool {
@@ -66,11 +69,12 @@ fn is_at(instances: &Instances, place: usize, name: u64) -> bool {
     place < instances.len() && instances.get(place).0 == name
 }
 
-/// The first name at which another instance is written.
+/// The first name at which another instance is written, or none.
 fn first_misplaced(instances: &Instances, order: &[u32], names: &[u64]) -> Option<u64> {
-    for (place, name) in order.iter().zip(names.iter()) {
-        if !is_at(instances, *place as usize, *name) {
-            return Some(*name);
+    for (number, name) in names.iter().enumerate() {
+        match order.get(number) {
+            Some(place) if is_at(instances, *place as usize, *name) => {}
+            _ => return Some(*name),
         }
     }
     None
@@ -84,16 +88,21 @@ struct Store {
     order: &'static [u64],
 }
 
-fn is_in_order(alloc: Global, instances: &Instances, names: &[u64]) -> bool {
-    match instances.order(alloc) {
-        Ok(order) => {
-            order.len() == names.len() && first_misplaced(instances, &order, names).is_none()
-        }
-        Err(_) => false,
+/// What is wrong of the order: a name that isn't in its place, or how many are written.
+fn wrong_order(alloc: Global, instances: &Instances, names: &[u64]) -> Option<(&'static str, u64)> {
+    let Ok(order) = instances.order(alloc) else {
+        return Some(("ordered", 0));
+    };
+    if let Some(name) = first_misplaced(instances, &order, names) {
+        return Some(("misplaced", name));
     }
+    if order.len() != names.len() {
+        return Some(("ordered", order.len() as u64));
+    }
+    None
 }
 
-/// What is wrong of instances that are kept.
+/// What is wrong of instances that are kept: what happened otherwise, and to which name; or how many are kept or ordered.
 fn wrong_of(alloc: Global, instances: &mut Instances, store: Store) -> Option<(&'static str, u64)> {
     if let Some(name) = first_left(alloc, instances, store.rows) {
         return Some(("left", name));
@@ -104,13 +113,10 @@ fn wrong_of(alloc: Global, instances: &mut Instances, store: Store) -> Option<(&
     if let Some(name) = first_found(instances, store.others) {
         return Some(("found", name));
     }
-    if !is_in_order(alloc, instances, store.order) {
-        return Some(("the order", 0));
-    }
     if instances.len() != store.rows.len() {
-        return Some(("the number", 0));
+        return Some(("kept", instances.len() as u64));
     }
-    None
+    wrong_order(alloc, instances, store.order)
 }
 
 fn wrong(alloc: Global, store: Store) -> Option<(&'static str, u64)> {
