@@ -1,18 +1,20 @@
 #!/bin/sh
-# Runs the calls on whole files with each allocation refused in turn: a session that is fed a file in pieces, `canonical`,
-# `rewrite` and `same_meaning`. Each has to answer what it does with memory enough, or refusal 90 at a statement, which a
-# session answers again. So has a session that is fed the lines of a header; behind `DATA;` it takes a million blanks, a
-# remark of a million letters and a million blanks again without an allocation. A run has as many tests of each as `each`
-# says, which allocate nothing, one text, two texts and so on before they begin; so with one number it refuses as many
-# allocations. It stops where the tests of the last fifty allocations of a run pass; an argument says how many allocations
-# to pass over at first. The tests stand in a copy of the crates, so that the gate has no part in them.
+# Runs the calls on whole files with each allocation refused in turn, in tests that `rt try` compiles with its checks of each
+# access: a session that is fed a file in pieces, `canonical`, `rewrite` and `same_meaning`. Each has to answer what it does
+# with memory enough, or refusal 90 at a statement, which a session answers again.
+#
+# `rt try` refuses one number alone, and compiles the tests each time. So a run has as many tests of each call as `each` says,
+# which allocate nothing, one text, two texts and so on before they begin, and with one number refuses as many allocations.
+# The script stops where the tests of the last twenty allocations of a run pass, which they do in the first one; it takes some
+# three minutes. An argument says how many allocations to pass over at first. The tests stand in a copy of the crates, so that the
+# gate has no part in them.
 
 root=$(cd "$(dirname -- "$(readlink -f -- "$0")")/.." && pwd) || exit
 here=$(mktemp -d) || exit
 trap 'rm -rf "$here"' EXIT
 before=${1:-0}
 wanting=0
-each=250
+each=200
 
 cp "$root/HANDLES" "$root/crates.txt" "$here" || exit
 echo 'p21_memory: p21_express p21_express_outline p21_stream p21_stream_accepted p21_stream_fault p21_stream_io p21_stream_session p21_express_tables p21_values' >> "$here/crates.txt"
@@ -36,9 +38,6 @@ mod tests {
 
     // Its own canonical file, of eleven statements.
     const FILE: &[u8] = b"ISO-10303-21;\nHEADER;\nFILE_DESCRIPTION((''),'2;1');\nFILE_NAME('','',(''),(''),'','','');\nFILE_SCHEMA(('DEMO'));\nENDSEC;\nDATA;\n#1=A(#2);\n#2=A($);\nENDSEC;\nEND-ISO-10303-21;\n";
-
-    // Its lines up to `DATA;`.
-    const HEAD: usize = 126;
 
     /// The schema, behind so many allocations.
     fn schema_behind(alloc: Global, texts: usize) -> Result<Schema, Fail> {
@@ -117,22 +116,8 @@ mod tests {
         }
         Ok(())
     }
-
-    fn blanks_and_a_remark(alloc: Global, texts: usize) -> Result<(), Fail> {
-        let blanks = vec![in alloc; b' '; 1_000_000]?;
-        let letters = vec![in alloc; b'a'; 1_000_000]?;
-        let schema = schema_behind(alloc, texts)?;
-        let mut session = Session::new(alloc, &schema, Limits::usual());
-        session.feed(&FILE[..HEAD]).map_err(wanting)?;
-        holds(session.feed(&blanks) == Ok(()))?;
-        holds(session.feed(b"/*") == Ok(()))?;
-        holds(session.feed(&letters) == Ok(()))?;
-        holds(session.feed(b"*/") == Ok(()))?;
-        holds(session.feed(&blanks) == Ok(()))?;
-        Ok(())
-    }
 TEST
-for call in a_session a_text a_file_rewritten two_files_compared blanks_and_a_remark; do
+for call in a_session a_text a_file_rewritten two_files_compared; do
     texts=0
     while [ "$texts" -lt "$each" ]; do
         printf '\n    #[test]\n    fn %s_%s(rt: HostRuntime) -> Result<(), Fail> {\n        %s(rt.alloc(), %s)\n    }\n' \
@@ -142,21 +127,37 @@ for call in a_session a_text a_file_rewritten two_files_compared blanks_and_a_re
 done >> src/lib.rt
 echo '}' >> src/lib.rt
 
+# answers LAST: of each test in the log its call, the number of the allocation that was refused, and what came of it.
+answers() {
+    awk -v last="$1" '
+        function tell() { if (call) print call ", allocation " last - texts ": " answer }
+        /^test tests::/ {
+            tell()
+            call = texts = substr($2, 8)
+            sub(/_[0-9]+$/, "", call)
+            sub(/.*_/, "", texts)
+            answer = $NF == "ok" ? "passes" : "a wrong answer"
+        }
+        /^    error: (NoMemory|AllocError)$/ { answer = $2 }
+        END { tell() }' "$here/log"
+}
+
 while true; do
-    rt try --test --fail-alloc $((before + each)) > "$here/log" 2>&1
-    passed=$(grep -c '^test tests::.* ok$' "$here/log")
-    refused=$(grep -c '^    error: NoMemory$' "$here/log")
-    early=$(grep -c '^    error: AllocError$' "$here/log")
-    if [ $((passed + refused + early)) -ne $((5 * each)) ]; then
+    last=$((before + each))
+    rt try --test --fail-alloc "$last" > "$here/log" 2>&1
+    answers "$last" > "$here/answers"
+    if [ "$(wc -l < "$here/answers")" -ne $((4 * each)) ]; then
         cat "$here/log"
-        echo "allocations $((before + 1)) to $((before + each)): a wrong answer" >&2
         exit 1
     fi
-    echo "allocations $((before + 1)) to $((before + each)): $refused calls answer refusal 90, $early end before the file, $passed pass"
+    grep ': a wrong answer$' "$here/answers" && exit 1
+    refused=$(grep -c ': NoMemory$' "$here/answers")
+    early=$(grep -c ': AllocError$' "$here/answers")
+    passed=$(grep -c ': passes$' "$here/answers")
+    echo "allocations $((before + 1)) to $last: $refused calls answer refusal 90, $early end before the file, $passed pass"
     wanting=$((wanting + refused))
-    # The tests of the last fifty allocations.
-    behind=$(grep -c '^test tests::.*_[1-4]\{0,1\}[0-9] .*ok$' "$here/log")
-    [ "$behind" -eq 250 ] && break
-    before=$((before + each))
+    behind=$(awk -v last="$last" '$3 + 0 > last - 20 && $NF == "passes"' "$here/answers" | wc -l)
+    [ "$behind" -eq $((4 * 20)) ] && break
+    before=$last
 done
 echo "refusal 90 was answered $wanting times"
