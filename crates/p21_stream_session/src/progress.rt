@@ -70,6 +70,7 @@ impl Progress {
         ensures checks { FeedChecks (held_in schema.now limits self.old) piece.now result }
         ensures no_memory { FeedNeedsNoMemory (held_in schema.now limits self.old) piece.now result }
         ensures again { RefusesAgain (held_in schema.now limits self.old) result (held_in schema.now limits self.new) }
+        ensures refused { IfErr result (λ refusal. self.new.refused ≡ Some refusal) }
         ensures kind { IfErr result (λ refusal. IsOfBytes refusal.fault) }
         ensures bounded { IsBounded (held_in schema.now limits self.new) }
     {

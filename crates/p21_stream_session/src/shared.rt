@@ -1,6 +1,6 @@
-ghost use Rattle.std.specs.Prelude.{◌≡◌, IfErr};
+ghost use Rattle.std.specs.Prelude.{◌≡◌, IfErr, Some};
 ghost use Rattle.p21_stream_fault.specs.Source.{IsOfBytes};
-ghost use Rattle.p21_stream_session.specs.Held.{limits_of, schema_of};
+ghost use Rattle.p21_stream_session.specs.Held.{limits_of, refusal_of, schema_of};
 ghost use Rattle.p21_stream_session.specs.Histories.{FeedChecks, FeedGives, FeedNeedsNoMemory, FinishGives, KeepsSchema, RefusesAgain, RefusesAtEnd, Stands, nothing_taken};
 ghost use Rattle.std.specs.Arc.{arc_value};
 
@@ -62,6 +62,7 @@ impl SharedSession {
         ensures checks { FeedChecks self.old piece.now result }
         ensures no_memory { FeedNeedsNoMemory self.old piece.now result }
         ensures again { RefusesAgain self.old result self.new }
+        ensures refused { IfErr result (λ refusal. refusal_of self.new ≡ Some refusal) }
         ensures kind { IfErr result (λ refusal. IsOfBytes refusal.fault) }
         ensures schema { KeepsSchema self.old self.new }
     {

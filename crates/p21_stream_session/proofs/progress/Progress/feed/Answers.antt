@@ -1,4 +1,4 @@
-use Rattle.std.proofs.Common.{IfErr, Result, Some, refl, sym, subst}
+use Rattle.std.proofs.Common.{◌≡◌, IfErr, Result, Some, refl, sym, subst}
 use Rattle.p21_stream_fault.specs.Source.{IsOfBytes}
 use Rattle.p21_stream_fault.specs.declared.refusal.Refusal.{Refusal}
 use Rattle.p21_stream_session.proofs.Feeding.{again-quiet, bounded-refused, bounded-whole, fed-again, fed-checks, fed-quiet, fed-refused, fed-whole, under-way}
@@ -50,3 +50,6 @@ returns-in-Err-clause-bounded c =
 
 pub read-requires : goal.read-requires
 read-requires c = under-way c.args.schema.now c.args.limits c.args.self.now.front c.args.self.now.kept c.args.self.now.refused c.args.piece.now c.requires c.in_default.is
+
+pub returns-in-Err-clause-refused : goal.returns-in-Err-clause-refused
+returns-in-Err-clause-refused c = subst (λ (r : Result (Unit {0}) Refusal). IfErr r (λ refusal. Some c.in-Err.refusal ≡ Some refusal)) (sym (c.answered.ensures c.in-Err.refusal refl)) refl
