@@ -51,7 +51,7 @@ def program(folder):
     (source / "main.rt").write_text(SOURCE.read_text())
     (source / "texts.rt").write_text("".join(f"pub const {name}: &str = {literal(text)};\n" for name, text in TEXTS.items()))
     output = folder / "called"
-    subprocess.run([builder, "p21_called", output], check=True)
+    subprocess.run([builder, "p21_called", output, "--quick"], check=True)
     return output
 
 

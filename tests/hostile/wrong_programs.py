@@ -6,9 +6,9 @@
 Two programs of edited sources are built without a proof, since no prover would pass them: some minutes of a processor for
 each. The edits of one turn different things. An edit of what stands beside the program has a copy of the repository for
 itself, and the library for C and Python of the sources as they are. A script has to end with a status other than 0 and to
-name a run that its own edit turns. That it passes without the edit is shown by tests/all.sh. hostile/memory.py,
-hostile/calls.py, fail_alloc.sh and want_of_memory.sh have no edit here yet. The environment variable P21 names the program
-of the sources as they are.
+name a run that its own edit turns. That it passes without the edit is shown by tests/all.sh. hostile/calls.py,
+fail_alloc.sh and want_of_memory.sh have no edit here yet. The environment variable P21 names the program of the sources as
+they are.
 """
 
 import dataclasses
@@ -188,6 +188,18 @@ EDITS = [
         'out.extend_from_slice(b"ABSTRACT ")?;',
         'let _ = out.extend_from_slice(b"ABSTRACT ");',
         "'schema demo.exp', allocation",
+        program=1,
+    ),
+    Edit(
+        "hostile/memory.py",
+        [],
+        "an instance is left out where memory runs out",
+        "crates/p21_stream_store/src/instances.rt",
+        "            let Ok(()) = add_rising(&mut self.rising, &mut self.rising_lines, name, kind, text)\n"
+        "            else {\n                return Err(NoMemory);",
+        "            let Ok(()) = add_rising(&mut self.rising, &mut self.rising_lines, name, kind, text)\n"
+        "            else {\n                return Ok(());",
+        "['check', 'demo.exp', 'rising'] within",
         program=1,
     ),
     Edit(
