@@ -1,0 +1,170 @@
+-- Values that are taken, by what may stand there.
+use Rattle.std.proofs.Common.{◌≡◌, ◌∙◌, ℕ, ◌≤◌, Bool, true, List, [], ◌∷◌, ◌++◌, drop, refl, sym, subst, arith, Option, Some, None, Contains, IfNone}
+use Rattle.std.proofs.lemmas.List.{append-nil}
+use denote.Ref.{Bor}
+use Rattle.p21_claim_values.specs.Needs.{FitsAtWith, FitsWith, with_chosen_instance, with_dollar, with_fit, with_instance, with_item, with_star, with_underlying}
+use Rattle.p21_exchange.specs.Parameter as parameter
+use Rattle.p21_exchange.specs.Nesting.{depth}
+use Rattle.p21_exchange.specs.Parameter.{Param, param_tokens}
+use Rattle.p21_exchange.specs.Token as token
+use Rattle.p21_express_tables.proofs.Resolving.{type-is}
+use Rattle.p21_express_tables.specs.Base.{ComesTo, HasBase, IsBase, at_itself, through}
+use Rattle.p21_express_tables.specs.declared.base.Base.{Base}
+use Rattle.p21_express_tables.specs.declared.base.Base.TheVariants.{Items, Plain, Select}
+use Rattle.p21_express_tables.specs.Resolved.{IsType}
+use Rattle.p21_express_types.specs.declared.kind.Member.{Member}
+use Rattle.p21_express_types.specs.declared.number.TypeId.{TypeId}
+use Rattle.p21_express_types.specs.declared.type_use.TypeUse as code
+use Rattle.p21_express_types.specs.declared.number.EntityId.{EntityId}
+use Rattle.p21_express_types.specs.Meaning.{member, type_use}
+use Rattle.p21_files.specs.Reference as reference
+use Rattle.p21_files.specs.Value as meant
+use Rattle.p21_files.specs.Value.{Value}
+use Rattle.p21_files.specs.ValueText.{value_text}
+use Rattle.p21_mapping_values.specs.declared.need.Need.{Need}
+use Rattle.p21_schemas.specs.PlaceType.{PlaceType, derived_place, stored_place}
+use Rattle.p21_schemas.specs.Schema as schema
+use Rattle.p21_schemas.specs.Schema.{Schema, TypeUse}
+use Rattle.p21_schemas.specs.Select.{IsSelect, Offers}
+use Rattle.p21_transcribe.specs.Leaf.{IsAtFront, Transcribes}
+use Rattle.p21_transcribe_plan.specs.Steps.{IsStepIn, Says}
+use Rattle.p21_transcribe_plan.specs.declared.step.Step.{Step}
+use Rattle.p21_transcribe_plan.specs.declared.step.Step.TheVariants.{Derived, Stored}
+use Rattle.p21_transcribe_values.proofs.Laid.{laid-mark, laid-one}
+use Rattle.p21_transcribe_values.specs.Taken.{IsBaseIn, KeepsNeeds, LaidBefore, TakesNames, TakesScalar, TakesValue, TakesWithNeeds}
+
+-- a parameter of one token
+token-value : (s : Schema) (F : Param → Value → Type 0) (one : token.Token) (p : Param) (v : Value) (bytes rest : List ℕ) (count : ℕ) (old new : List ℕ) → IsAtFront bytes count one → rest ≡ drop count bytes → param_tokens p ≡ one ∷ [] → depth p ≡ 0 → F p v → new ≡ old ++ value_text s v
+    → TakesValue s F 0 bytes rest old new
+token-value s F one p v bytes rest count old new stands e tokens flat fits text = record {
+  parameter = p;
+  value = v;
+  fits = fits;
+  shallow = omega arith;
+  laid = subst (λ (ts : List token.Token). LaidBefore bytes ts rest) (sym tokens) (subst (LaidBefore bytes (one ∷ [])) (sym e) (laid-one bytes count one stands));
+  text_is = text;
+}
+
+pub scalar-value : (s : Schema) (type : TypeUse) (bytes rest : List ℕ) (count : ℕ) (old new : List ℕ) → rest ≡ drop count bytes → TakesScalar type bytes count old new → TakesValue s (λ p v. FitsWith s type p v []) 0 bytes rest old new
+scalar-value s type bytes rest count old new e h = token-value s (λ p v. FitsWith s type p v []) h.token h.parameter h.value bytes rest count old new h.stands e h.tokens_are h.flat (h.fits s) (h.text_is s)
+
+pub item-value : (s : Schema) (t : ℕ) (words : List (List ℕ)) (word : List ℕ) (bytes rest : List ℕ) (count : ℕ) (old new : List ℕ) → schema.kind_of s t ≡ Some (schema.items words) → rest ≡ drop count bytes → Contains words word → Transcribes bytes count (token.item word) old new
+    → TakesValue s (λ p v. FitsWith s (schema.defined t) p v []) 0 bytes rest old new
+item-value s t words word bytes rest count old new is e among h =
+    token-value s (λ p v. FitsWith s (schema.defined t) p v []) (token.item word) (parameter.item word) (meant.item word) bytes rest count old new h.stands e refl refl (with_item t words word is among) h.appended
+
+-- a value that needs nothing
+pub needs-nothing : (s : Schema) (F : Param → Value → List reference.Need → Type 0) (most : ℕ) (bytes rest old new : List ℕ) (needs : List Need) → TakesValue s (λ p v. F p v []) most bytes rest old new → TakesWithNeeds s F most bytes rest old new needs needs
+needs-nothing s F most bytes rest old new needs h = record { added = []; needs_are = sym (append-nil needs); takes = h }
+
+-- what fits one way fits another way
+pub fits-as : (s : Schema) (F G : Param → Value → List reference.Need → Type 0) (most more : ℕ) (bytes rest old new : List ℕ) (before after : List Need) → most ≤ more → ((p : Param) (v : Value) (needs : List reference.Need) → F p v needs → G p v needs)
+    → TakesWithNeeds s F most bytes rest old new before after → TakesWithNeeds s G more bytes rest old new before after
+fits-as s F G most more bytes rest old new before after wider follows h = record {
+  added = h.added;
+  needs_are = h.needs_are;
+  takes = record {
+    parameter = h.takes.parameter;
+    value = h.takes.value;
+    fits = follows h.takes.parameter h.takes.value _ h.takes.fits;
+    shallow = let shallow = h.takes.shallow in omega arith;
+    laid = h.takes.laid;
+    text_is = h.takes.text_is;
+  };
+}
+
+-- ---- references
+
+pub name-taken : (s : Schema) (type : TypeUse) (wanted : Member) (bytes rest : List ℕ) (count n : ℕ) (old new : List ℕ) (before after : List Need) → rest ≡ drop count bytes → Transcribes bytes count (token.name n) old new
+    → after ≡ before ++ record { target = n; wanted = wanted } ∷ [] → TakesNames s type (member wanted) → TakesWithNeeds s (FitsWith s type) 0 bytes rest old new before after
+name-taken s type wanted bytes rest count n old new before after e h pushed takes = record {
+  added = record { target = n; wanted = wanted } ∷ [];
+  needs_are = pushed;
+  takes = token-value s (λ p v. FitsWith s type p v (record { target = n; wanted = member wanted } ∷ [])) (token.name n) (parameter.name n) (meant.reference n) bytes rest count old new h.stands e refl refl (takes n) h.appended;
+}
+
+pub entity-at : (u : code.TypeUse) (e : EntityId) (bytes rest old new : List ℕ) (before after : List Need) → u ≡ code.Entity e → ((s : Schema) (type : TypeUse) → TakesNames s type (schema.entity_member e.0) → TakesWithNeeds s (FitsWith s type) 0 bytes rest old new before after) → (s : Schema)
+    → TakesWithNeeds s (FitsWith s (type_use u)) 0 bytes rest old new before after
+entity-at u e bytes rest old new before after is h s = h s (type_use u) (subst (λ (x : code.TypeUse). TakesNames s (type_use x) (schema.entity_member e.0)) (sym is) (λ n. with_instance e.0 n))
+
+pub chosen-at : (s : Schema) (t : ℕ) (bytes rest old new : List ℕ) (before after : List Need) → (e : ℕ) × Offers s t (schema.entity_member e) → ((other : Schema) (type : TypeUse) → TakesNames other type (schema.type_member t) → TakesWithNeeds other (FitsWith other type) 0 bytes rest old new before after)
+    → TakesWithNeeds s (FitsWith s (schema.defined t)) 0 bytes rest old new before after
+chosen-at s t bytes rest old new before after (e, offers) h = h s (schema.defined t) (λ n. with_chosen_instance t n e offers)
+
+pub select-known : (s : Schema) (t : ℕ) → IsSelect s t → IsType s t
+select-known s t (members, is) = type-is s t (schema.choice members) is
+
+-- ---- what a type comes down to
+
+comes-fits : (s : Schema) (type last : TypeUse) (p : Param) (v : Value) (needs : List reference.Need) → ComesTo s type last → FitsWith s last p v needs → FitsWith s type p v needs
+comes-fits s type last p v needs (at_itself _) fits = fits
+comes-fits s type last p v needs (through t next _ is more) fits = with_underlying t next p v needs is (comes-fits s next last p v needs more fits)
+
+-- a value of the type that it comes to
+pub stored-taken : (s : Schema) (optional : Bool) (base : Base) (bytes rest same old new : List ℕ) (before after : List Need) → same ≡ old → ((last : TypeUse) → IsBase s last base → TakesWithNeeds s (FitsWith s last) 64 bytes rest same new before after) → (type : TypeUse) → HasBase s type base
+    → TakesWithNeeds s (FitsAtWith s (stored_place optional type)) 64 bytes rest old new before after
+stored-taken s optional base bytes rest same old new before after e takes type (last, comes, is) =
+    fits-as s (FitsWith s last) (FitsAtWith s (stored_place optional type)) 64 64 bytes rest old new before after (omega arith) (λ p v needs fits. with_fit optional type p v needs (comes-fits s type last p v needs comes fits))
+    (subst (λ (x : List ℕ). TakesWithNeeds s (FitsWith s last) 64 bytes rest x new before after) e (takes last is))
+
+-- no value, where there may be none
+pub left-out : (s : Schema) (optional : Bool) (type : TypeUse) (bytes rest old new : List ℕ) (needs : List Need) → optional ≡ true → bytes ≡ 36 ∷ rest → new ≡ old ++ 36 ∷ [] → TakesWithNeeds s (FitsAtWith s (stored_place optional type)) 64 bytes rest old new needs needs
+left-out s optional type bytes rest old new needs may e is =
+    subst (λ (x : Bool). TakesWithNeeds s (FitsAtWith s (stored_place x type)) 64 bytes rest old new needs needs) (sym may)
+    (needs-nothing s (FitsAtWith s (stored_place true type)) 64 bytes rest old new needs
+    (record { parameter = parameter.dollar; value = meant.missing; fits = with_dollar type; shallow = omega arith; laid = laid-mark 36 token.dollar bytes rest refl (λ byte. tt) e; text_is = is }))
+
+pub star-taken : (s : Schema) (step : Step) (bytes rest old new : List ℕ) (needs : List Need) → step ≡ Derived → (bytes ≡ 42 ∷ rest) × (new ≡ old ++ 42 ∷ []) → (at : PlaceType) → Says s at step → TakesWithNeeds s (FitsAtWith s at) 64 bytes rest old new needs needs
+star-taken s step bytes rest old new needs derived (e, is) at says =
+    subst (λ (x : PlaceType). TakesWithNeeds s (FitsAtWith s x) 64 bytes rest old new needs needs) (sym (subst (Says s at) derived says))
+    (needs-nothing s (FitsAtWith s derived_place) 64 bytes rest old new needs
+    (record { parameter = parameter.star; value = meant.derived; fits = with_star; shallow = omega arith; laid = laid-mark 42 token.star bytes rest refl (λ byte. tt) e; text_is = is }))
+
+pub dollar-put : (optional : Bool) (bytes rest old new : List ℕ) → optional ≡ true → (bytes ≡ 36 ∷ rest) × (new ≡ old ++ 36 ∷ []) → (optional ≡ true) × (bytes ≡ 36 ∷ rest) × (new ≡ old ++ 36 ∷ [])
+dollar-put optional bytes rest old new may h = (may, h.0, h.1)
+
+-- ---- steps
+
+pub step-base : (s : Schema) (step : Step) (optional : Bool) (base : Base) → step ≡ Stored optional base → IsStepIn s step → IsBaseIn s base
+step-base s step optional base is (at, says) = let says_ = subst (Says s at) is says in (says_.0, says_.3)
+
+pub step-taken : (s : Schema) (step : Step) (optional : Bool) (base : Base) (bytes rest old new : List ℕ) (before after : List Need) → step ≡ Stored optional base
+    → ((type : TypeUse) → HasBase s type base → TakesWithNeeds s (FitsAtWith s (stored_place optional type)) 64 bytes rest old new before after) → (at : PlaceType) → Says s at step → TakesWithNeeds s (FitsAtWith s at) 64 bytes rest old new before after
+step-taken s step optional base bytes rest old new before after is takes at says =
+    let says_ = subst (Says s at) is says in
+    subst (λ (x : PlaceType). TakesWithNeeds s (FitsAtWith s x) 64 bytes rest old new before after) (sym says_.1) (takes says_.0 says_.3)
+
+pub base-select : (s : Schema) (base : Base) (t : TypeId) → base ≡ Select t → IsBaseIn s base → IsSelect s t.0
+base-select s base t is (type, (last, comes, found)) = (subst (IsBase s last) is found).1
+
+pub needs-kept : {A : Type 0} (found : Option A) (needs : List Need) → IfNone found (KeepsNeeds needs needs)
+needs-kept None needs = ([], sym (append-nil needs))
+needs-kept (Some x) needs = tt
+
+pub needs-same : (old new : List Need) → new ≡ old → KeepsNeeds old new
+needs-same old new e = ([], e ∙ sym (append-nil old))
+
+-- ---- bases
+
+pub plain-at : (base : Base) (of : Bor code.TypeUse) (bytes rest old new : List ℕ) (before after : List Need) → base ≡ Plain of → ((s : Schema) → TakesWithNeeds s (FitsWith s (type_use of.now)) 0 bytes rest old new before after) → (s : Schema) (type : TypeUse) → IsBase s type base
+    → TakesWithNeeds s (FitsWith s type) 0 bytes rest old new before after
+plain-at base of bytes rest old new before after same h s type is = subst (λ (t : TypeUse). TakesWithNeeds s (FitsWith s t) 0 bytes rest old new before after) (sym (subst (IsBase s type) same is).0) (h s)
+
+pub scalar-at : (u : code.TypeUse) (bytes rest old new : List ℕ) (needs : List Need) → ((s : Schema) → TakesValue s (λ p v. FitsWith s (type_use u) p v []) 0 bytes rest old new) → (s : Schema) → TakesWithNeeds s (FitsWith s (type_use u)) 0 bytes rest old new needs needs
+scalar-at u bytes rest old new needs h s = needs-nothing s (FitsWith s (type_use u)) 0 bytes rest old new needs (h s)
+
+pub item-at : (base : Base) (words : Bor (List (List ℕ))) (bytes rest old new : List ℕ) (needs : List Need) → base ≡ Items words → ((s : Schema) (t : ℕ) → schema.kind_of s t ≡ Some (schema.items words.now) → TakesValue s (λ p v. FitsWith s (schema.defined t) p v []) 0 bytes rest old new)
+    → (s : Schema) (type : TypeUse) → IsBase s type base → TakesWithNeeds s (FitsWith s type) 0 bytes rest old new needs needs
+item-at base words bytes rest old new needs same h s type is =
+    let (t, e, kind) = subst (IsBase s type) same is in
+    subst (λ (x : TypeUse). TakesWithNeeds s (FitsWith s x) 0 bytes rest old new needs needs) (sym e) (needs-nothing s (FitsWith s (schema.defined t)) 0 bytes rest old new needs (h s t kind))
+
+pub select-at : (s : Schema) (base : Base) (t : TypeId) (most : ℕ) (bytes rest old new : List ℕ) (before after : List Need) → base ≡ Select t → most ≤ 64 → TakesWithNeeds s (FitsWith s (schema.defined t.0)) most bytes rest old new before after → (type : TypeUse) → IsBase s type base
+    → TakesWithNeeds s (FitsWith s type) 64 bytes rest old new before after
+select-at s base t most bytes rest old new before after same few h type is =
+    subst (λ (x : TypeUse). TakesWithNeeds s (FitsWith s x) 64 bytes rest old new before after) (sym (subst (IsBase s type) same is).0)
+    (fits-as s (FitsWith s (schema.defined t.0)) (FitsWith s (schema.defined t.0)) most 64 bytes rest old new before after few (λ p v needs fits. fits) h)
+
+pub bare-at : (s : Schema) (base : Base) (bytes rest old new : List ℕ) (before after : List Need) → ((other : Schema) (type : TypeUse) → IsBase other type base → TakesWithNeeds other (FitsWith other type) 0 bytes rest old new before after) → (type : TypeUse) → IsBase s type base
+    → TakesWithNeeds s (FitsWith s type) 64 bytes rest old new before after
+bare-at s base bytes rest old new before after h type is = fits-as s (FitsWith s type) (FitsWith s type) 0 64 bytes rest old new before after (omega arith) (λ p v needs fits. fits) (h s type is)

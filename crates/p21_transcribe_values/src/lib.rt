@@ -1,0 +1,14 @@
+//! Values of attributes taken straight from their bytes to their canonical text and their references, with no token, no
+//! parameter and no value made of them (ISO 10303-21, mapping of EXPRESS data types). Only what is usual is taken; all else
+//! is left to those who read it token by token.
+#![tactic(auto)]
+
+mod bare;
+mod choice;
+mod mark;
+mod reference;
+mod scalar;
+mod value;
+mod width;
+
+pub use value::append_value;
