@@ -5,3 +5,4 @@ pub mod ByKind
 pub mod Ended
 pub mod Unserved
 pub mod Finding
+pub mod Following

@@ -3,3 +3,4 @@ pub mod Sections
 pub mod Inside
 pub mod Served
 pub mod Steps
+pub mod Taking

@@ -7,6 +7,7 @@ ghost use Rattle.p21_grammar_tree.specs.View.{items_of, part_view, record_view, 
 ghost use Rattle.p21_stream_fault.specs.Source.{IsOfBytes};
 ghost use Rattle.p21_stream_kept.specs.Served.{AnswersUnserved};
 ghost use Rattle.p21_stream_kept.specs.Steps.{StepGives, StepKeepsBound, TakesLine};
+ghost use Rattle.p21_stream_kept.specs.Taking.{Follows};
 
 use crate::found::found_of;
 use crate::room::has_room;
@@ -160,8 +161,8 @@ impl Kept {
         Ok(())
     }
 
-    /// Takes an instance: its record is checked, its canonical line is kept, and so are its references to instances that
-    /// haven't come or don't serve.
+    /// Takes an instance that stands in a tree behind the statements that are kept: its record is checked, its canonical line
+    /// is kept, and so are its references to instances that haven't come or don't serve.
     ///
     /// # Errors
     ///
@@ -173,6 +174,7 @@ impl Kept {
         name: Name,
         of: Record,
     ) -> Result<(), Fault>
+        requires { Follows schema.now limits self.old (instance name (record_view of)) }
         ensures gives { StepGives schema.now limits self.old (instance name (record_view of)) result self.new }
         ensures bound { StepKeepsBound limits self.old self.new }
         ensures kind { IfErr result (λ fault. IsOfBytes fault) }
@@ -189,9 +191,6 @@ impl Kept {
             return Err(Fault::CanonicalTooLong);
         }
         let Some(section) = self.sections.last() else {
-            return Err(Fault::NoMemory);
-        };
-        let Some(references) = self.references.checked_add(found.needs.len() as u64) else {
             return Err(Fault::NoMemory);
         };
         let Ok(()) = wait(
@@ -215,7 +214,7 @@ impl Kept {
         ) else {
             return Err(Fault::NoMemory);
         };
-        self.references = references;
+        self.references += found.needs.len() as u64;
         self.bytes += size;
         self.framing += 1;
         Ok(())

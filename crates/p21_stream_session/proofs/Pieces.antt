@@ -1,9 +1,11 @@
 -- A piece, token by token.
 use Rattle.std.proofs.Common.{◌≡◌, ◌+◌, ◌-◌, ◌^◌, ◌≤◌, ◌<◌, ℕ, zero, suc, List, [], ◌∷◌, ◌++◌, length, take, drop, Option, Some, None, Result, Ok, Err, refl, sym, ap, subst, ◌∙◌, append_assoc, arith}
 use Rattle.std.proofs.lemmas.List.{length-drop, take-append-drop}
-use Rattle.std.specs.List.{slice_get}
+use Rattle.std.specs.List.{flat_map, slice_get}
 use Rattle.p21_basics.specs.Limits.{Limits}
 use Rattle.p21_claim_steps.specs.Keeping.{Kept}
+use Rattle.p21_exchange.specs.Statement.{Statement, statement_tokens}
+use Rattle.p21_exchange.specs.Structure.{AreFirst}
 use Rattle.p21_files.specs.Accepted.{IsDead}
 use Rattle.p21_grammar_machine.specs.Statements.{statement_of}
 use Rattle.p21_grammar_machine.specs.declared.event.Event.{Event}
@@ -15,8 +17,9 @@ use Rattle.p21_stream_front.specs.Front as front
 use Rattle.p21_stream_front.specs.Front.{IsSeenAt, Reading, limits_of}
 use Rattle.p21_stream_kept.specs.Steps as kept_steps
 use Rattle.p21_stream_kept.specs.Steps.{StepKeepsBound}
+use Rattle.p21_stream_kept.specs.Taking.{Follows}
 use Rattle.p21_stream_session.proofs.Going.{dead-by_statement, dead-by_step, live-by_piece, live-by_statement, live-by_token}
-use Rattle.p21_stream_session.proofs.Within.{given-few, source-within}
+use Rattle.p21_stream_session.proofs.Within.{given-few, source-within, statements-few}
 use Rattle.p21_stream_session.specs.Pieces.{EndsNoToken, IsUnderWay, NeedsNoMemory, ReadGives, StepGives}
 use Rattle.p21_stream_session.specs.Session.{IsLive}
 use Rattle.p21_stream_session.specs.declared.progress.Progress.{Progress}
@@ -92,6 +95,26 @@ token-quiet s limits held kept piece answer needs result reading live at none ar
 
 pub token-none : (s : Schema) (limits : Limits) (held : front.Held) (kept : Kept) (piece : List ℕ) (answer : ℕ × Option Event) → front.NeedsNoMemory held piece (Ok (Some answer)) → (count : ℕ) → EndsNoToken s limits held kept piece (Ok (Some count))
 token-none s limits held kept piece answer needs count reading live at none are = needs reading live.reads at none are
+
+-- ---- what follows
+
+-- the statement that a token ends
+pub statement-follows : (s : Schema) (limits : Limits) (held next : front.Held) (kept : Kept) (piece : List ℕ) (count : ℕ) (event : Event) → IsUnderWay s limits held kept piece → front.StepGives held piece (Ok (Some (count, Some event))) next
+    → limits_of next ≡ limits_of held → Follows s limits kept (statement_of event)
+statement-follows s limits held next kept piece count event way gives same =
+    let on = gives way.reading way.live.reads way.seen_at in
+    let few = statements-few next on.reading on.live in
+    let within = source-within next on.reading on.live in
+    let limit : (limits_of next).1 ≡ limits.file_source = ap (λ p. p.1) (same ∙ way.live.limits_are) in
+    let counted = way.counted in
+    let given : on.reading.given ≡ way.reading.given ++ statement_of event ∷ [] = on.given_are in
+    record {
+      given = way.reading.given;
+      keeps = way.live.keeps;
+      structure = on.live.of_file.structure;
+      are_first = subst (λ (sts : List Statement). AreFirst sts on.live.of_file.structure) given on.live.of_file.are_first;
+      few = subst (λ (sts : List Statement). length (flat_map statement_tokens sts) < 2 ^ 64) given (omega (arith, few, within, limit, counted));
+    }
 
 -- ---- all tokens of a piece
 

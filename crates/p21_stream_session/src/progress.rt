@@ -7,6 +7,7 @@ ghost use Rattle.p21_stream_fault.specs.Source.{IsOfBytes};
 ghost use Rattle.p21_stream_fault.specs.declared.refusal.Refusal.{Refusal};
 ghost use Rattle.p21_stream_kept.specs.Steps as kept_steps;
 ghost use Rattle.p21_stream_kept.specs.Steps.{StepKeepsBound};
+ghost use Rattle.p21_stream_kept.specs.Taking.{Follows};
 ghost use Rattle.p21_stream_session.specs.Bounds.{IsBounded};
 ghost use Rattle.p21_stream_session.specs.Histories.{FeedChecks, FeedGives, FeedNeedsNoMemory, FinishGives, RefusesAgain, RefusesAtEnd};
 ghost use Rattle.p21_stream_session.specs.Inside.{held_in};
@@ -162,6 +163,7 @@ impl Progress {
         limits: Limits,
         piece: &[u8],
     ) -> Result<Option<usize>, Refusal>
+        requires { IsUnderWay schema.now limits self.old.front self.old.kept piece.now }
         ensures takes { TakesOf piece.now result }
         ensures gives { StepGives schema.now limits self.old.front self.old.kept piece.now result self.new.front self.new.kept }
         ensures no_memory { NeedsNoMemory schema.now limits self.old.front self.old.kept piece.now result }
@@ -195,6 +197,7 @@ impl Progress {
 
 /// Takes a statement.
 fn take(kept: &mut Kept, schema: &Schema, limits: Limits, event: Event) -> Result<(), Fault>
+    requires { Follows schema.now limits kept.old (statement_of event) }
     ensures gives { kept_steps.StepGives schema.now limits kept.old (statement_of event) result kept.new }
     ensures kind { IfErr result (λ fault. IsOfBytes fault) }
     ensures bound { StepKeepsBound limits kept.old kept.new }

@@ -14,6 +14,7 @@ use Rattle.p21_mapping_values.specs.declared.need.Need.{Need}
 use Rattle.p21_stream_fault.specs.declared.fault.Fault.TheVariants.{CanonicalTooLong, DuplicateName}
 use Rattle.p21_stream_accepted.specs.Output.{IsNamed}
 use Rattle.p21_stream_kept.proofs.Finding.{found-named, took-found}
+use Rattle.p21_stream_kept.proofs.Following.{follows-few}
 use Rattle.p21_stream_kept.proofs.Instances.{instance-again, instance-broken, refused-instance, stored-names}
 use Rattle.p21_stream_kept.specs.Inside.{kept_of, references_of, stored_of}
 use Rattle.p21_stream_kept.specs.Served.{AddsWaiting}
@@ -35,6 +36,16 @@ store-requires-clause-line c =
     let found = c.in-Ok.found in
     subst (λ (text : List ℕ). IsNamed c.args.name text) (sym c.deref-2.ensures.value)
     (found-named c.args.schema.now c.args.name (record_view c.args.of) (ids_view found.entities) (needs_view found.needs.items) found.line.items c.in-Ok.ensures.finds)
+
+pub overflow_add-self : goal.overflow_add-self
+overflow_add-self c =
+    let found = c.in-Ok.found in
+    let long : vec_len found.needs ≡ length found.needs.items = omega (arith, found.needs.ok.0) in
+    let needs : c.len.result ≡ length (needs_view found.needs.items) = c.len.ensures ∙ long ∙ sym (length-map found.needs.items need_view) in
+    let is = c.in-Ok.ensures.finds in
+    let few = follows-few c.args.schema.now c.args.limits c.args.self.now c.args.name (record_view c.args.of) c.requires is.meaning (needs_view found.needs.items) is.meant in
+    let same = ap (λ (k : Kept). k.references) c.self.view_is in
+    omega (arith, needs, few, same)
 
 pub returns-in-Err-clause-gives : goal.returns-in-Err-clause-gives
 returns-in-Err-clause-gives c = instance-broken c.args.schema.now c.args.limits c.args.self.now c.args.self.now c.args.name (record_view c.args.of) c.in-Err.fault c.in-Err.ensures.finds
@@ -68,10 +79,9 @@ returns-clause-gives c =
     let size : c.len-size.result ≡ length found.line.items = c.len-size.ensures ∙ same in
     let long : vec_len found.needs ≡ length found.needs.items = omega (arith, found.needs.ok.0) in
     let needs : c.len.result ≡ length (needs_view found.needs.items) = c.len.ensures ∙ long ∙ sym (length-map found.needs.items need_view) in
-    let sum : c.in-Some-checked_add.references ≡ old.references + c.len.result = omega (arith, c.in-Some-checked_add.ensures) in
-    let references : c.in-Some-checked_add.references ≡ old.references + length (needs_view found.needs.items) = sum ∙ ap (λ n. old.references + n) needs in
+    let references = ap (λ n. old.references + n) needs in
     let bytes = ap (λ n. old.bytes + n) size in
-    let new : Kept = record old { stored = stored; waiting = waiting; references = c.in-Some-checked_add.references; bytes = old.bytes + c.len-size.result; framing = old.framing + 1 } in
+    let new : Kept = record old { stored = stored; waiting = waiting; references = old.references + c.len.result; bytes = old.bytes + c.len-size.result; framing = old.framing + 1 } in
     let P : List ℕ → Type 0 = λ names. Contains names c.args.name in
     let none : P (map (λ (x : Stored). x.name) old.stored) → ⊥ = λ among.
     let passes : c.has_instance.result ≡ true = c.has_instance.ensures.1 (subst P (stored-names c.self.inside.kinds c.self.inside.instances) among) in

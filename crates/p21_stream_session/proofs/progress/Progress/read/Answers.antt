@@ -33,3 +33,6 @@ overflow_add-rounds c =
     rounds-few c.args.schema.now c.args.limits c.args.self.now c.loop-taken.self c.step.new.self c.args.piece.now c.loop-taken.rest.now c.in-Some.count c.loop-taken.rounds c.loop-taken.invariant
     (subst (λ (o : Option ℕ). StepGives c.args.schema.now c.args.limits c.loop-taken.self.front c.loop-taken.self.kept c.loop-taken.rest.now (Ok o) c.step.new.self.front c.step.new.self.kept) c.in-Some.is c.in-Ok.ensures.gives) in
     omega (arith, few)
+
+pub step-requires : goal.step-requires
+step-requires c = c.loop-taken.invariant.under_way

@@ -1,7 +1,7 @@
 use Rattle.std.proofs.Common.{ℕ, Ok, Err, Option, Some, subst}
 use Rattle.p21_grammar_machine.specs.declared.event.Event.{Event}
 use Rattle.p21_stream_front.specs.Front as front
-use Rattle.p21_stream_session.proofs.Pieces.{step-offends, step-quiet, step-refused, step-statement, step-token, token-none, token-quiet}
+use Rattle.p21_stream_session.proofs.Pieces.{statement-follows, step-offends, step-piece, step-quiet, step-refused, step-statement, step-token, token-none, token-quiet}
 use Rattle.p21_stream_session.proofs.progress.Progress.step.Goals as goal
 
 pub returns-in-Err-clause-gives : goal.returns-in-Err-clause-gives
@@ -46,3 +46,16 @@ pub returns-in-Err-take-clause-no_memory : goal.returns-in-Err-take-clause-no_me
 returns-in-Err-take-clause-no_memory c =
     token-quiet c.args.schema.now c.args.limits c.args.self.now.front c.args.self.now.kept c.args.piece.now (c.in-Some.count, c.in-Some.event)
     (subst (λ (a : Option (ℕ × Option Event)). front.NeedsNoMemory c.args.self.now.front c.args.piece.now (Ok a)) c.in-Some.is c.in-Ok.ensures.no_memory) (Err c.refused-in-Err-take.result)
+
+pub returns-in_default-clause-gives : goal.returns-in_default-clause-gives
+returns-in_default-clause-gives c =
+    step-piece c.args.schema.now c.args.limits c.args.self.now.front c.step.new.self c.args.self.now.kept c.args.piece.now
+    (subst (λ (a : Option (ℕ × Option Event)). front.StepGives c.args.self.now.front c.args.piece.now (Ok a) c.step.new.self) c.in_default.is c.in-Ok.ensures.gives)
+    c.in-Ok.ensures.limits
+
+pub take-requires : goal.take-requires
+take-requires c =
+    statement-follows c.args.schema.now c.args.limits c.args.self.now.front c.step.new.self c.args.self.now.kept c.args.piece.now c.in-Some.count c.in-Some-event.event c.requires
+    (subst (λ (e : Option Event). front.StepGives c.args.self.now.front c.args.piece.now (Ok (Some (c.in-Some.count, e))) c.step.new.self) c.in-Some-event.is
+    (subst (λ (a : Option (ℕ × Option Event)). front.StepGives c.args.self.now.front c.args.piece.now (Ok a) c.step.new.self) c.in-Some.is c.in-Ok.ensures.gives))
+    c.in-Ok.ensures.limits

@@ -1,0 +1,16 @@
+-- What is known of the statements before one that is taken.
+use Rattle.std.specs.Prelude.{◌<◌, ◌^◌, List, [], ◌∷◌, ◌++◌, length}
+use Rattle.std.specs.List.{flat_map}
+use Rattle.p21_basics.specs.Limits.{Limits}
+use Rattle.p21_claim_steps.specs.Keeping.{Keeps, Kept}
+use Rattle.p21_exchange.specs.Statement.{Statement, statement_tokens}
+use Rattle.p21_exchange.specs.Structure.{AreFirst, Structure}
+use Rattle.p21_schemas.specs.Schema.{Schema}
+
+-- The statement stands in a tree behind those of which this is kept, and 64 bits count the tokens of all of them
+pub record Follows (s : Schema) (limits : Limits) (kept : Kept) (statement : Statement) : Type 0 where
+  pub given : List Statement
+  pub keeps : Keeps s limits given kept
+  pub structure : Structure
+  pub are_first : AreFirst (given ++ statement ∷ []) structure
+  pub few : length (flat_map statement_tokens (given ++ statement ∷ [])) < 2 ^ 64
