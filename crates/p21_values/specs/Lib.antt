@@ -9,3 +9,6 @@ pub mod Kept
 pub mod Stored
 pub mod Word
 pub mod Front
+-- What the clauses of its calls cite, for callers who name this crate alone
+pub use Rattle.p21_basics.specs as p21_basics
+pub use Rattle.p21_exchange.specs as p21_exchange
