@@ -1,5 +1,8 @@
-use super::is_spelled;
-use p21_values::{Name, ValueFault};
+ghost use Rattle.std.specs.Prelude.{◌≡◌, IsTrue};
+ghost use Rattle.p21_values.specs.p21_exchange.Spelling.{name_spelling};
+
+use p21_values::{Canonical, Name, ValueFault};
+use std::alloc::Global;
 
 type Names = &'static [(&'static [u8], u64, &'static [u8])];
 
@@ -15,9 +18,17 @@ const NAMES: Names = &[
     ),
 ];
 
-fn first_wrong(rt: &HostRuntime, names: Names) -> &'static [u8] {
+/// Whether this is the canonical spelling of the name with this number.
+fn is_spelling(alloc: Global, number: u64, text: &[u8]) -> bool
+    ensures { IsTrue result → text.now ≡ name_spelling number }
+{
+    let mut out = Vec::new(alloc);
+    Name(number).write_canonical(&mut out).is_ok() && out.as_slice() == text
+}
+
+fn first_wrong(alloc: Global, names: Names) -> &'static [u8] {
     for (text, number, spelling) in names {
-        if Name::read(text) != Ok(Name(*number)) || !is_spelled(rt, Name::read(text), spelling) {
+        if Name::read(text) != Ok(Name(*number)) || !is_spelling(alloc, *number, spelling) {
             return text;
         }
     }
@@ -26,7 +37,7 @@ fn first_wrong(rt: &HostRuntime, names: Names) -> &'static [u8] {
 
 #[test]
 fn reads_and_spells_names(rt: HostRuntime) {
-    assert_eq!(rt; first_wrong(&rt, NAMES), b"none".as_slice());
+    assert_eq!(rt; first_wrong(rt.alloc(), NAMES), b"none".as_slice());
 }
 
 type Refused = &'static [(&'static [u8], ValueFault)];
