@@ -5,10 +5,10 @@
 
 Two programs of edited sources are built without a proof, since no prover would pass them: some minutes of a processor for
 each. The edits of one turn different things. An edit of what stands beside the program has a copy of the repository for
-itself, and the library for C and Python of the sources as they are. A script has to end with a status other than 0 and to
-name a run that its own edit turns. That it passes without the edit is shown by tests/all.sh. hostile/calls.py,
-fail_alloc.sh and want_of_memory.sh have no edit here yet. The environment variable P21 names the program of the sources as
-they are.
+itself, and the library for C and Python of the sources as they are; so has an edit of the sources that a script builds its
+own tests of. A script has to end with a status other than 0 and to name a run that its own edit turns. That it passes
+without the edit is shown by tests/all.sh. fail_alloc.sh and want_of_memory.sh have no edit here yet. The environment
+variable P21 names the program of the sources as they are.
 """
 
 import dataclasses
@@ -201,6 +201,15 @@ EDITS = [
         "            else {\n                return Ok(());",
         "['check', 'demo.exp', 'rising'] within",
         program=1,
+    ),
+    Edit(
+        "hostile/calls.py",
+        ["write_record"],
+        "what was written of a record stays where memory runs out",
+        "crates/p21_canon_record/src/statement.rt",
+        "if written.is_err() {",
+        "if out.len() < before {",
+        "write_record, allocation",
     ),
     Edit(
         "fuzz.py",
