@@ -7,8 +7,8 @@ Two programs of edited sources are built without a proof, since no prover would 
 each. The edits of one turn different things. An edit of what stands beside the program has a copy of the repository for
 itself, and the library for C and Python of the sources as they are; so has an edit of the sources that a script builds its
 own tests of. A script has to end with a status other than 0 and to name a run that its own edit turns. That it passes
-without the edit is shown by tests/all.sh. fail_alloc.sh and want_of_memory.sh have no edit here yet. The environment
-variable P21 names the program of the sources as they are.
+without the edit is shown by tests/all.sh. want_of_memory.sh has no edit here yet. The environment variable P21 names the
+program of the sources as they are.
 """
 
 import dataclasses
@@ -210,6 +210,15 @@ EDITS = [
         "if written.is_err() {",
         "if out.len() < before {",
         "write_record, allocation",
+    ),
+    Edit(
+        "fail_alloc.sh",
+        [],
+        "what was written of a scalar value stays where memory runs out",
+        "crates/p21_values/src/canonical.rt",
+        "if written.is_err() {",
+        "if out.len() < before {",
+        "test tests::want_of_memory::decimals ... FAILED",
     ),
     Edit(
         "fuzz.py",
