@@ -7,8 +7,7 @@ Two programs of edited sources are built without a proof, since no prover would 
 each. The edits of one turn different things. An edit of what stands beside the program has a copy of the repository for
 itself, and the library for C and Python of the sources as they are; so has an edit of the sources that a script builds its
 own tests of. A script has to end with a status other than 0 and to name a run that its own edit turns. That it passes
-without the edit is shown by tests/all.sh. want_of_memory.sh has no edit here yet. The environment variable P21 names the
-program of the sources as they are.
+without the edit is shown by tests/all.sh. The environment variable P21 names the program of the sources as they are.
 """
 
 import dataclasses
@@ -219,6 +218,15 @@ EDITS = [
         "if written.is_err() {",
         "if out.len() < before {",
         "test tests::want_of_memory::decimals ... FAILED",
+    ),
+    Edit(
+        "want_of_memory.sh",
+        [],
+        "a session forgets that it was refused",
+        "crates/p21_stream_session/src/progress.rt",
+        "self.refused = Some(refusal);\n                self.answered()",
+        "self.refused = None;\n                Err(refusal)",
+        "a_session, allocation",
     ),
     Edit(
         "fuzz.py",
