@@ -233,11 +233,12 @@ show demo.exp point --name +2
 LINES
 exec 9>&-
 
-# Signals while a FIFO is read: the program ends by them, and nothing is written; SIGPIPE is ignored.
+# Signals while a FIFO is read: the program ends by them, and nothing is written; SIGPIPE is ignored. `nohup`, say, hands on
+# a signal that is ignored, so each is set to what the system does by itself.
 for signal in 1 9 10 15; do
     sleep 5 > fifo &
     writer=$!
-    "$program" check demo.exp fifo > output 2> error < /dev/null &
+    env --default-signal "$program" check demo.exp fifo > output 2> error < /dev/null &
     process=$!
     sleep 0.3
     kill -"$signal" "$process"
