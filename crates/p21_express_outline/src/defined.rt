@@ -58,7 +58,8 @@ fn resolve_kind(alloc: Global, known: &Known, body: &Body) -> Result<TypeKind, S
     match body {
         Body::Enumeration(items) => {
             check_distinct(alloc, items)?;
-            Ok(TypeKind::Items(Words::from_vec(copied_all(alloc, items)?)))
+            let words = Words::from_vec(alloc, copied_all(alloc, items)?)?;
+            Ok(TypeKind::Items(words))
         }
         Body::Select(names) => {
             check_distinct(alloc, names)?;

@@ -44,13 +44,6 @@ pub(crate) fn is_array_count(low: u32, high: u32, count: usize) -> bool
     low <= behind && count == behind - low
 }
 
-/// Is the word one of the items?
-pub(crate) fn has_item(items: &[Word], word: &Word) -> bool
-    ensures { IsTrue result ↔ Contains items.now word.now }
-{
-    items.iter().any(|item| *item == *word)
-}
-
 /// Is the word an item of BOOLEAN?
 pub(crate) fn is_boolean(word: &Word) -> bool
     ensures { IsTrue result ↔ Contains boolean_items word.now }

@@ -2,7 +2,7 @@ ghost use Rattle.std.specs.Prelude.{IfErr, IfOk};
 ghost use Rattle.p21_exchange.specs.Parameter as parameter;
 ghost use Rattle.p21_mapping_fit.specs.Outcome.{DecidesItem, FitsAlone, IsKindFault, RefusesItem};
 
-use crate::bounds::{has_item, is_boolean, is_logical, is_within};
+use crate::bounds::{is_boolean, is_logical, is_within};
 use p21_express_tables::Base;
 use p21_express_types::TypeUse;
 use p21_mapping_values::{CheckFault, Value};
@@ -106,7 +106,7 @@ fn is_item(base: Base<'_>, word: &Word) -> Result<bool, CheckFault>
     ensures err { IfErr result (λ fault. RefusesItem base.entry word.now fault) }
 {
     match base {
-        Base::Items(items) => Ok(has_item(items.items(), word)),
+        Base::Items(items) => Ok(items.has(word)),
         Base::Select(_) => Err(CheckFault::SelectType),
         Base::Plain(of) => match of {
             TypeUse::Boolean => Ok(is_boolean(word)),

@@ -6,7 +6,7 @@ use Rattle.p21_mapping_fit.proofs.Taking.{item-nowhere}
 use Rattle.p21_mapping_fit.proofs.scalar.is_item.Goals as goal
 
 pub returns-in-Items-clause-ok : goal.returns-in-Items-clause-ok
-returns-in-Items-clause-ok c = decides-items c.args.base _ _ _ c.in-Items.is (rw c.items.ensures at c.has_item.ensures)
+returns-in-Items-clause-ok c = decides-items c.args.base _ _ _ c.in-Items.is c.has.ensures
 
 pub returns-in-Select-clause-err : goal.returns-in-Select-clause-err
 returns-in-Select-clause-err c = refuses-select c.args.base _ _ c.in-Select.is
