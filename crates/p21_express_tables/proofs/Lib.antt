@@ -19,3 +19,4 @@ pub mod Ends
 pub mod Owners
 pub mod Deciding
 pub mod Noted
+pub mod ByRank

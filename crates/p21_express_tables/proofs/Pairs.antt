@@ -1,8 +1,9 @@
 -- Pairs of lists that grow by one.
-use Rattle.std.specs.Prelude.{◌≡◌, ◌+◌, ◌<◌, ℕ, List, [], ◌∷◌, ◌++◌, length, map, take}
+use Rattle.std.specs.Prelude.{◌≡◌, ◌+◌, ◌<◌, ℕ, zero, suc, List, [], ◌∷◌, ◌++◌, length, map, take, Contains}
 use Rattle.std.specs.List.{AllZip}
-use Rattle.std.proofs.Common.{ap, sym, ◌∙◌, subst, get_or}
+use Rattle.std.proofs.Common.{arith, ap, sym, ◌∙◌, subst, get_or}
 use Rattle.std.proofs.lemmas.List.{map-append, take_more}
+use Rattle.p21_basics.proofs.Members.{Contains-first, Contains-later}
 
 -- one pair more
 pub AllZip-push : {X Y : Type 0} (R : X → Y → Type 0) (xs : List X) (ys : List Y) (x : X) (y : Y) → AllZip R xs ys → R x y → AllZip R (xs ++ x ∷ []) (ys ++ y ∷ [])
@@ -16,6 +17,18 @@ AllZip-turned R [] [] all = tt
 AllZip-turned R [] (y ∷ ys) all = absurd all
 AllZip-turned R (x ∷ xs) [] all = absurd all
 AllZip-turned R (x ∷ xs) (y ∷ ys) all = (all.0, AllZip-turned R xs ys all.1)
+
+-- the pair at a place
+pub AllZip-at : {X Y : Type 0} (R : X → Y → Type 0) (xs : List X) (ys : List Y) (k : ℕ) (d : X) (e : Y) → AllZip R xs ys → k < length xs → R (get_or xs k d) (get_or ys k e)
+AllZip-at R [] ys k d e all below = let none : ⊥ = omega (arith, below) in absurd none
+AllZip-at R (x ∷ xs) [] k d e all below = absurd all
+AllZip-at R (x ∷ xs) (y ∷ ys) zero d e all below = all.0
+AllZip-at R (x ∷ xs) (y ∷ ys) (suc k) d e all below = AllZip-at R xs ys k d e all.1 (omega (arith, below))
+
+-- two images of one list
+pub AllZip-mapped : {X Y Z : Type 0} (R : Y → Z → Type 0) (f : X → Y) (g : X → Z) (xs : List X) → ((x : X) → Contains xs x → R (f x) (g x)) → AllZip R (map f xs) (map g xs)
+AllZip-mapped R f g [] each = tt
+AllZip-mapped R f g (x ∷ xs) each = (each x (Contains-first x xs), AllZip-mapped R f g xs (λ y among. each y (Contains-later x xs y among)))
 
 -- one element more of a list, beside what was pushed
 pub AllZip-more : {X Y Z W : Type 0} (R : Z → W → Type 0) (f : X → Z) (g : Y → W) (xs : List X) (k : ℕ) (d : X) (ys after : List Y) (y : Y) → k < length xs → after ≡ ys ++ y ∷ []

@@ -21,3 +21,4 @@ pub mod Inverted
 pub mod Redeclarers
 pub mod Renamed
 pub mod Holders
+pub mod Ranking

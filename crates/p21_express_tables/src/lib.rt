@@ -14,6 +14,7 @@ mod orders;
 mod own_sets;
 mod parts;
 mod place_types;
+mod ranking;
 mod redeclarers;
 mod renamed;
 mod rising;

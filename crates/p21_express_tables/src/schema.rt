@@ -18,6 +18,7 @@ use crate::one_of::all_listed_in;
 use crate::orders::{all_orders, closures};
 use crate::own_sets::OwnSet;
 use crate::parts::{Attribute, Defined, Entity, Parts};
+use crate::ranking::{Ranking, rank_entities};
 use crate::redeclarers::all_redeclarers;
 use crate::renamed::all_ends;
 use p21_express_types::{EntityId, Member, Place, TypeId, TypeKind};
@@ -39,8 +40,9 @@ pub struct Schema {
     pub(crate) ends: Vec<u32>,
     // For each entity the numbers of those that redeclare a place which it declares, rising.
     pub(crate) redeclarers: Vec<Vec<u32>>,
-    // What holds of the own sets of the first entities; of all once the schema is made.
+    // What holds of the own sets of the first entities, or of all.
     pub(crate) own: Vec<OwnSet>,
+    pub(crate) ranking: Ranking,
 }
 
 impl Model for Schema {
@@ -53,19 +55,20 @@ impl Model for Schema {
 
     ghost use Rattle.p21_express_tables.specs.Parts.{schema_of, AreNamed};
     ghost use Rattle.p21_express_tables.specs.Resolved.{HoldsTogether};
-    ghost use Rattle.p21_express_tables.specs.Orders.{AreOrders, tabled};
+    ghost use Rattle.p21_express_tables.specs.Orders.{AreOrders, numbers, tabled};
     ghost use Rattle.p21_schemas.specs.Schema.{entity_member, type_member};
     ghost use Rattle.p21_express_tables.specs.Offered.{AreOffered};
     ghost use Rattle.p21_express_tables.specs.Collected.{AreRisingOf};
     ghost use Rattle.p21_express_tables.specs.OwnSets.{AreOwnSets};
     ghost use Rattle.p21_express_tables.specs.OneOf.{AreListedIn};
+    ghost use Rattle.p21_express_tables.specs.Ranking.{IsRanking};
     ghost use Rattle.p21_express_tables.specs.Redeclarers.{AreRedeclarers};
     ghost use Rattle.p21_express_tables.specs.Renamed.{AreEnds};
     ghost use Rattle.p21_express_tables.specs.Settled.{lists_of};
 
     ghost view = { λ schema. schema_of schema.parts };
 
-    ghost invariant = { λ schema. HoldsTogether (schema_of schema.parts) × AreNamed schema.parts × AreOrders (schema_of schema.parts) (tabled schema.orders.items) × AreOffered (schema_of schema.parts) entity_member (lists_of schema.offered.entities.items) × AreOffered (schema_of schema.parts) type_member (lists_of schema.offered.types.items) × AreRisingOf (tabled schema.orders.items) (lists_of schema.closures.items) × AreOwnSets (schema_of schema.parts) schema.own.items × AreListedIn (schema_of schema.parts) (lists_of schema.listed_in.items) × AreEnds (schema_of schema.parts) schema.ends.items × AreRedeclarers (schema_of schema.parts) (lists_of schema.redeclarers.items) };
+    ghost invariant = { λ schema. HoldsTogether (schema_of schema.parts) × AreNamed schema.parts × AreOrders (schema_of schema.parts) (tabled schema.orders.items) × AreOffered (schema_of schema.parts) entity_member (lists_of schema.offered.entities.items) × AreOffered (schema_of schema.parts) type_member (lists_of schema.offered.types.items) × AreRisingOf (tabled schema.orders.items) (lists_of schema.closures.items) × AreOwnSets (schema_of schema.parts) schema.own.items × AreListedIn (schema_of schema.parts) (lists_of schema.listed_in.items) × AreEnds (schema_of schema.parts) schema.ends.items × AreRedeclarers (schema_of schema.parts) (lists_of schema.redeclarers.items) × IsRanking (schema_of schema.parts) (numbers schema.ranking.rising.items) schema.ranking.ranks.items };
 }
 
 impl Schema {
@@ -79,13 +82,30 @@ impl Schema {
         requires holds_together { HoldsTogether (schema_of parts) }
         ensures { IfOk result (λ schema. schema ≡ schema_of parts) }
     {
+        let mut schema = Schema::without_own_sets(alloc, parts)?;
+        schema.prepare_own_sets()?;
+        Ok(schema)
+    }
+
+    /// Prepares the parts of a schema, but not what is known of the own sets of entities: that is found where it is asked
+    /// for.
+    ///
+    /// # Errors
+    ///
+    /// `NoMemory`.
+    pub fn without_own_sets(alloc: Global, parts: Parts) -> Result<Schema, NoMemory>
+        requires named { AreNamed parts }
+        requires holds_together { HoldsTogether (schema_of parts) }
+        ensures { IfOk result (λ schema. schema ≡ schema_of parts) }
+    {
         let orders = all_orders(alloc, &parts)?;
         let closures = closures(alloc, &orders)?;
         let offered = all_offered(alloc, &parts)?;
         let listed_in = all_listed_in(alloc, &parts)?;
         let ends = all_ends(alloc, &parts)?;
         let redeclarers = all_redeclarers(alloc, &parts)?;
-        let mut schema = Schema {
+        let ranking = rank_entities(alloc, &parts)?;
+        Ok(Schema {
             alloc,
             parts,
             orders,
@@ -95,9 +115,8 @@ impl Schema {
             ends,
             redeclarers,
             own: Vec::new(alloc),
-        };
-        schema.prepare_own_sets()?;
-        Ok(schema)
+            ranking,
+        })
     }
 
     /// The parts of the schema. It takes no memory.

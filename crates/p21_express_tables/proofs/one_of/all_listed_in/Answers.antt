@@ -1,4 +1,4 @@
-use Rattle.std.specs.Prelude.{◌≡◌, List, ℕ, length}
+use Rattle.std.specs.Prelude.{List, ℕ}
 use Rattle.std.proofs.Common.{arith, ap, subst}
 use Rattle.p21_express_tables.specs.Inverted.{AreInverted}
 use Rattle.p21_express_tables.specs.Orders.{tabled}

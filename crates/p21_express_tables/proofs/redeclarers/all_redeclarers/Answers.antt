@@ -1,5 +1,5 @@
-use Rattle.std.specs.Prelude.{◌≡◌, List, ℕ, Contains, map, length}
-use Rattle.std.proofs.Common.{arith, ap, sym, ◌∙◌, subst}
+use Rattle.std.specs.Prelude.{◌≡◌, List, ℕ, Contains, map}
+use Rattle.std.proofs.Common.{arith, ap, ◌∙◌, subst}
 use Rattle.p21_express_tables.specs.Inverted.{AreInverted}
 use Rattle.p21_express_tables.specs.Orders.{tabled}
 use Rattle.p21_express_tables.specs.Parts.{entity, schema_of}

@@ -1,5 +1,5 @@
-use Rattle.std.specs.Prelude.{◌≡◌, ◌+◌, ◌<◌, ℕ, List, Some, suc, length, slice_get, slice_set, take}
-use Rattle.std.proofs.Common.{arith, ap, sym, ◌∙◌, subst, get_or}
+use Rattle.std.specs.Prelude.{◌≡◌, ◌+◌, ℕ, List, Some, suc, slice_get, slice_set, take}
+use Rattle.std.proofs.Common.{arith, sym, subst, get_or}
 use Rattle.std.proofs.lemmas.List.{take_all}
 use Rattle.std.proofs.lemmas.Option.{slice_get-get_or}
 use Rattle.p21_basics.proofs.Members.{Contains-found, Contains-none}

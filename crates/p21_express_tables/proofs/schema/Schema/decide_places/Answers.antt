@@ -1,12 +1,11 @@
-use Rattle.std.specs.Prelude.{◌≡◌, ℕ, List, length, refl}
-use Rattle.std.proofs.Common.{arith, ap, sym, ◌∙◌, subst}
+use Rattle.std.specs.Prelude.{◌≡◌, List, length, refl}
+use Rattle.std.proofs.Common.{arith, subst}
 use Rattle.p21_schemas.specs.Order.{order}
 use Rattle.p21_schemas.specs.Schema.{attributes_of}
 use Rattle.p21_express_types.specs.Meaning.{place}
 use Rattle.p21_express_types.specs.declared.number.EntityId.{EntityId}
 use Rattle.p21_express_types.specs.declared.number.Place.{Place}
 use Rattle.p21_express_tables.specs.Decisions.{IsDecision}
-use Rattle.p21_express_tables.specs.Lookups.{AreEntities}
 use Rattle.p21_express_tables.specs.Orders.{numbers}
 use Rattle.p21_express_tables.proofs.schema.Schema.decide_places.Goals as goal
 use Rattle.p21_express_tables.proofs.Deciding.{adds-all, adds-more, adds-none, decision-among}

@@ -1,8 +1,8 @@
-use Rattle.std.specs.Prelude.{◌≡◌, ◌+◌, ◌++◌, ◌∷◌, [], ℕ, List, Contains, take, true, false, refl}
+use Rattle.std.specs.Prelude.{◌≡◌, ℕ, List, take, true, false, refl}
 use Rattle.std.specs.BTreeMap.{get, is_at}
 use Rattle.std.specs.Map.{lookup}
 use Rattle.std.specs.Ordering.{nat_cmp}
-use Rattle.std.proofs.Common.{ap, sym, ◌∙◌, subst, get_or}
+use Rattle.std.proofs.Common.{ap, sym, subst, get_or}
 use Rattle.std.proofs.lemmas.Bool.{MatchBool-at_true, MatchBool-at_false}
 use Rattle.std.proofs.lemmas.List.{take_all}
 use Rattle.p21_express_tables.specs.Holders.{AreHeld}

@@ -1,5 +1,5 @@
-use Rattle.std.specs.Prelude.{◌≡◌, ◌+◌, ◌++◌, ◌∷◌, [], ℕ, List, Contains, take}
-use Rattle.std.proofs.Common.{ap, sym, ◌∙◌, subst, get_or}
+use Rattle.std.specs.Prelude.{[], ℕ, List, Contains, take}
+use Rattle.std.proofs.Common.{sym, subst, get_or}
 use Rattle.std.proofs.lemmas.List.{take_all, take_more}
 use Rattle.std.proofs.lemmas.List.Elements.{Contains-get_or}
 use Rattle.p21_schemas.specs.Order.{order}

@@ -1,6 +1,6 @@
-use Rattle.std.specs.Prelude.{◌≡◌, ℕ, List, Contains}
+use Rattle.std.specs.Prelude.{◌≡◌, ℕ}
 use Rattle.std.specs.List.{flat_map}
-use Rattle.std.proofs.Common.{ap, sym, ◌∙◌, subst, get_or}
+use Rattle.std.proofs.Common.{ap, sym, ◌∙◌, get_or}
 use Rattle.std.proofs.lemmas.List.{take_all}
 use Rattle.p21_schemas.specs.Order.{order}
 use Rattle.p21_express_tables.specs.Orders.{numbers}

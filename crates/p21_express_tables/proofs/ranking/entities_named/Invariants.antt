@@ -1,9 +1,10 @@
 use Rattle.std.proofs.Common.{take}
 use Rattle.std.specs.List.{AllZip}
 use Rattle.p21_express_tables.specs.Orders.{numbers}
+use Rattle.p21_express_tables.specs.Parts.{schema_of}
 use Rattle.p21_express_tables.specs.Rising.{texts_of}
 use Rattle.p21_schemas.specs.Schema.{EntityNamed}
-use Rattle.p21_express_tables.proofs.rising.entities_named.Given as goal
+use Rattle.p21_express_tables.proofs.ranking.entities_named.Given as goal
 
 abbrev pub invariant-loop-name : goal.invariant-loop-name
-invariant-loop-name l = AllZip (EntityNamed l.schema) (numbers l.entities.items) (texts_of (take l.name-index l.names))
+invariant-loop-name l = AllZip (EntityNamed (schema_of l.parts)) (numbers l.entities.items) (texts_of (take l.name-index l.names))
