@@ -8,7 +8,7 @@ ghost use Rattle.p21_commands.specs.Status.{done, failed, refused};
 ghost use Rattle.p21_commands.specs.Transfer as text;
 ghost use Rattle.p21_commands.specs.Transfer.{Writes};
 ghost use Rattle.p21_commands_files.specs.Check.{IsChecked, check_line};
-ghost use Rattle.p21_commands_files.specs.Files.{IsRefusedUnder};
+ghost use Rattle.p21_commands_files.specs.Files.{IsRefusedUnder, RefusesUnder};
 ghost use Rattle.p21_stream.specs.Reading.{ConsumesAtMost};
 ghost use Rattle.p21_stream_accepted.specs.Output.{output_text};
 
@@ -67,12 +67,29 @@ fn write_check<S: Read, R: Read, W: Write>(
     ensures unfailed { OnOk result (NoneFailed (failures_of schema.old schema.new ∷ failures_of file.old file.new ∷ failures_of output.old output.new ∷ [])) }
     ensures failed { IfErr result (FailedBy (failures_of schema.old schema.new ∷ failures_of file.old file.new ∷ []) (failures_of output.old output.new ∷ [])) }
 {
-    let accepted = read_under(alloc, schema, file)?;
-    let line = match line_of(alloc, &accepted) {
-        Ok(line) => line,
-        Err(AllocError) => return Err(CommandFault::NoMemory),
-    };
+    let line = checked_line(alloc, schema, file)?;
     write_whole(output, line.as_bytes())
+}
+
+/// Reads a schema and a file under it, and gives the line of the file where it is accepted.
+fn checked_line<S: Read, R: Read>(
+    alloc: Global,
+    schema: &mut Watched<S>,
+    file: &mut Watched<R>,
+) -> Result<String, CommandFault>
+    ensures ok { IfOk result (λ line. IsChecked (S.remaining schema.old.inner) (R.remaining file.old.inner) (R.remaining file.new.inner) (string_bytes line)) }
+    ensures err { IfErr result (RefusesUnder (S.remaining schema.old.inner) (R.remaining file.old.inner) (R.remaining file.new.inner)) }
+    ensures consumed_schema { text.ConsumesAtMost (S.remaining schema.old.inner) (S.remaining schema.new.inner) }
+    ensures consumed_file { ConsumesAtMost usual (R.remaining file.old.inner) (R.remaining file.new.inner) }
+
+    ensures read { OnOk result (NoneFailed (failures_of schema.old schema.new ∷ failures_of file.old file.new ∷ [])) }
+    ensures failed { IfErr result (FailedBy (failures_of schema.old schema.new ∷ failures_of file.old file.new ∷ []) []) }
+{
+    let accepted = read_under(alloc, schema, file)?;
+    match line_of(alloc, &accepted) {
+        Ok(line) => Ok(line),
+        Err(AllocError) => Err(CommandFault::NoMemory),
+    }
 }
 
 /// The line of a file that is accepted.

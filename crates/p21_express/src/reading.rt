@@ -24,7 +24,7 @@ fn bare_schema(alloc: Global, declarations: &Declarations) -> Result<Schema, Sch
     ensures { BareRead (schema_view declarations.now) result }
 {
     let parts = checked_outline(alloc, declarations)?;
-    Ok(Schema::new(alloc, parts)?)
+    Ok(Schema::without_own_sets(alloc, parts)?)
 }
 
 /// What the entities of declarations redeclare.

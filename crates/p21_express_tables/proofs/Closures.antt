@@ -1,29 +1,24 @@
--- The closures of entities, as numbers that rise.
-use Rattle.std.specs.Prelude.{◌≡◌, ◌↔◌, ℕ, zero, suc, ◌+◌, ◌<◌, ◌⊎◌, List, [], ◌∷◌, ◌++◌, Some, None, length, map, take, Contains, refl}
-use Rattle.std.specs.List.Sorted.{IsStrictlyIncreasing}
+-- Entities and their supertypes, in tables.
+use Rattle.std.specs.Prelude.{◌≡◌, ◌↔◌, ℕ, suc, ◌+◌, ◌<◌, List, [], ◌∷◌, ◌++◌, Some, None, length, map, slice_get, take, Contains, refl}
 use Rattle.std.proofs.Common.{arith, ap, sym, ◌∙◌, subst, inl, inr, get_or, length-append}
 use Rattle.std.proofs.lemmas.List.{map-append}
+use Rattle.std.proofs.lemmas.Option.{slice_get_read}
 use Rattle.p21_schemas.specs.Order.{order}
 use Rattle.p21_schemas.specs.Schema.{Schema}
 use Rattle.p21_schemas.specs.Supertype.{IsA}
 use Rattle.p21_express_tables.specs.Collected.{IsRisingOf, AreRisingOf}
-use Rattle.p21_express_tables.specs.Orders.{AreOrders}
+use Rattle.p21_express_tables.specs.Fronts.{AreFronts, list_of, lists_in}
+use Rattle.p21_express_tables.specs.Indexes.{AreIndexes, IsIndex}
+use Rattle.p21_express_tables.specs.Orders.{AreOrders, tabled}
 use Rattle.p21_express_tables.specs.Resolved.{HoldsTogether, IsEntity}
 use Rattle.p21_express_tables.specs.Settled.{nexts_of}
+use Rattle.p21_express_tables.specs.declared.fronts.Front.{Front}
+use Rattle.p21_express_tables.specs.declared.fronts.Fronts.{Fronts}
+use Rattle.p21_express_tables.specs.declared.indexes.Index.{Index}
+use Rattle.p21_express_tables.proofs.SharedRuns.{front-list, snoc-at}
 use Rattle.p21_express_tables.proofs.Gatherings.{mapped-length}
 use Rattle.p21_express_tables.proofs.Lookups.{take-snoc}
 use Rattle.p21_express_tables.proofs.OrderTables.{order-tells}
-use Rattle.p21_express_tables.proofs.Walks.{nexts_at}
-
--- the lists with one more behind them
-snoc-at : (lists : List (List ℕ)) (list : List ℕ) (x : ℕ) → ((x ≡ length lists) × (nexts_of (lists ++ list ∷ []) x ≡ list)) ⊎ ((x ≡ length lists → ⊥) × (nexts_of (lists ++ list ∷ []) x ≡ nexts_of lists x))
-snoc-at [] list zero = inl (refl, refl)
-snoc-at [] list (suc x) = inr (λ same. omega (arith, same), refl)
-snoc-at (l ∷ lists) list zero = inr (λ same. omega (arith, same), refl)
-snoc-at (l ∷ lists) list (suc x) = elim (snoc-at lists list x) [
-  | inl h ↦ inl (ap suc h.0, h.1)
-  | inr h ↦ inr (λ same. h.0 (omega (arith, same)), h.1)
-]
 
 rising-more : (tables lists : List (List ℕ)) (numbers list : List ℕ) → AreRisingOf tables lists → IsRisingOf numbers list → AreRisingOf (tables ++ numbers ∷ []) (lists ++ list ∷ [])
 rising-more tables lists numbers list are is = record {
@@ -51,23 +46,29 @@ stored-rising {X} {Y} table list xs k x ys after y below x_is after_is are is =
     let Q : List (List ℕ) → Type 0 = λ ls. AreRisingOf (map table (take k xs) ++ table x ∷ []) ls in
     subst P tables (subst Q lists (rising-more (map table (take k xs)) (map list ys) (table x) (list y) are is))
 
-module _ {X : Type 0} (numbers : X → List ℕ) (inside s : Schema) (orders : List (List ℕ)) (table : List X) (e : ℕ) (x : X) (found : List ℕ) (same : inside ≡ s) (are : AreOrders inside orders) (rising : AreRisingOf orders (map numbers table)) (is_entity : IsEntity s e) (x_is : x ≡ get_or table e x) (found_is : found ≡ numbers x) where
-  are_in : AreOrders s orders
-  are_in = let P : Schema → Type 0 = λ z. AreOrders z orders in subst P same are
+-- the order that a table has for an entity
+pub order-listed : (inside s : Schema) (lists : List (List ℕ)) (e : ℕ) → inside ≡ s → AreOrders inside lists → IsEntity s e → nexts_of lists e ≡ order s e
+order-listed inside s lists e same are is_entity =
+    let P : Schema → Type 0 = λ z. AreOrders z lists in
+    ap (λ o. elim o [ Some nexts ↦ nexts | None ↦ [] ]) ((subst P same are).each e is_entity)
 
-  order_is : nexts_of orders e ≡ order s e
-  order_is = ap (λ o. elim o [ Some nexts ↦ nexts | None ↦ [] ]) (are_in.each e is_entity)
+module _ (inside s : Schema) (all : Fronts) (indexes : List Index) (e : ℕ) (same : inside ≡ s) (fronts : AreFronts all) (are : AreOrders inside (lists_in all)) (indexed : AreIndexes (tabled all.runs.items) indexes) (is_entity : IsEntity s e) where
+  are_in : AreOrders s (lists_in all)
+  are_in = let P : Schema → Type 0 = λ z. AreOrders z (lists_in all) in subst P same are
 
-  list_is : nexts_of (map numbers table) e ≡ found
-  list_is = nexts_at numbers table e x found (omega (arith, is_entity, are_in.size, rising.size, mapped-length numbers table)) x_is found_is
+  pub entity-has_front : e < length all.fronts.items
+  entity-has_front = omega (arith, is_entity, are_in.size, mapped-length (list_of (tabled all.runs.items)) all.fronts.items)
 
-  pub closure-rises : IsStrictlyIncreasing found
-  closure-rises = subst IsStrictlyIncreasing list_is (rising.each e).rising
+  module _ (front : Front) (front_at : slice_get all.fronts.items e ≡ Some front) where
+    pub index-within : front.run < length indexes
+    index-within = let (below, _) = fronts e front front_at in omega (arith, below, indexed.size)
 
-  -- the closure has just the entity and its supertypes
-  pub closure-tells : HoldsTogether s → (f : ℕ) → Contains found f ↔ IsA s e f
-  closure-tells holds f =
-      let (has, got) = (rising.each e).same f in
-      let (tells, told) = order-tells s holds e f in
-      let P : List ℕ → Type 0 = λ fs. Contains fs f in
-      (λ among. tells (subst P order_is (has (subst P (sym list_is) among))), λ is. subst P list_is (got (subst P (sym order_is) (told is))))
+    front_order : take front.size (nexts_of (tabled all.runs.items) front.run) ≡ order s e
+    front_order = sym (front-list (tabled all.runs.items) all.fronts.items e front front_at) ∙ order-listed s s (lists_in all) e refl are_in is_entity
+
+    -- the front has just the entity and its supertypes
+    pub front-tells : HoldsTogether s → (f : ℕ) → Contains (take front.size (nexts_of (tabled all.runs.items) front.run)) f ↔ IsA s e f
+    front-tells holds f = let P : List ℕ → Type 0 = λ fs. Contains fs f ↔ IsA s e f in subst P (sym front_order) (order-tells s holds e f)
+
+    pub index-known : (index : Index) → index ≡ get_or indexes front.run index → IsIndex (nexts_of (tabled all.runs.items) front.run) index.numbers.items index.places.items
+    index-known index index_is = indexed.each front.run index (slice_get_read indexes (length indexes) front.run index refl index-within index_is)

@@ -1,14 +1,17 @@
 -- The table of what numbers that lead to numbers come to.
-use Rattle.std.specs.Prelude.{◌≡◌, ◌↔◌, ℕ, zero, suc, ◌+◌, ◌<◌, ◌≤◌, List, [], ◌∷◌, ◌++◌, Some, length, slice_get, slice_set, take, Contains, refl, Result, Ok, Err}
+use Rattle.std.specs.Prelude.{◌≡◌, ◌↔◌, ℕ, zero, suc, ◌+◌, ◌<◌, ◌≤◌, List, [], ◌∷◌, ◌++◌, Some, length, slice_get, slice_set, take, nat_eq, Contains, refl, Result, Ok, Err}
 use Rattle.std.specs.List.{flat_map}
-use Rattle.std.specs.List.Sorted.{IsStrictlyIncreasing, IsBinarySearchResult}
+use Rattle.std.specs.List.Retain.{IsFiltered, DiffersFromLast}
+use Rattle.std.specs.List.Sorted.{IsStrictlyIncreasing, IsBinarySearchResult, IsPermutation, IsSorted}
 use Rattle.std.specs.Ordering.{nat_cmp}
 use Rattle.std.proofs.Common.{arith, ap, sym, ◌∙◌, subst, inl, inr, get_or, append_assoc}
 use Rattle.std.proofs.lemmas.Bool.{cases_eq, cases_lt}
 use Rattle.std.proofs.lemmas.Grind.{get_or_default_zero}
 use Rattle.std.proofs.lemmas.List.Elements.{Contains-append_left, Contains-append_right, Contains-append_cases}
-use Rattle.std.proofs.lemmas.List.Kept.{AllPairs-from_increasing}
-use Rattle.std.proofs.lemmas.List.Sorted.{searched}
+use Rattle.std.proofs.lemmas.List.Filters.{dedup_is}
+use Rattle.std.proofs.lemmas.List.Kept.{AllPairs-from_increasing, Contains-dedup_nat, Contains-from_dedup}
+use Rattle.std.proofs.lemmas.List.Sorted.{searched, Contains-permutation, IsPermutation-sym}
+use Rattle.std.proofs.lemmas.Map.Keys.{IsStrictlyIncreasing-dedup}
 use Rattle.p21_basics.proofs.Members.{Contains-none, Contains-found, Contains-flat_map, Contains-one_of}
 use Rattle.p21_express_tables.specs.Collected.{Collects, of_own, of_next, IsRisingOf, AreCollected}
 use Rattle.p21_express_tables.specs.Settled.{nexts_of, IsNext, IsSettled}
@@ -19,6 +22,19 @@ never-fall xs rising i j le below = elim (cases_lt i j) [
   | inl h ↦ let lt = AllPairs-from_increasing xs rising i j 0 h below in omega (arith, lt)
   | inr h ↦ let same : i ≡ j = omega (arith, h, le) in let at = ap (λ k. get_or xs k 0) same in omega (arith, at)
 ]
+
+-- numbers that were sorted, and of which each was left but once
+pub rising-deduped : {xs sorted ys : List ℕ} → IsPermutation xs sorted → IsSorted nat_cmp sorted → IsFiltered (DiffersFromLast nat_eq) [] sorted ys → IsRisingOf xs ys
+rising-deduped {xs} {sorted} {ys} moved rises filtered =
+    let is = dedup_is nat_eq sorted ys filtered in
+    let P : List ℕ → Type 0 = λ zs. IsStrictlyIncreasing zs in
+    record {
+      same = λ y. (
+        λ among. let Q : List ℕ → Type 0 = λ zs. Contains zs y in Contains-permutation sorted xs y (IsPermutation-sym xs sorted moved) (Contains-from_dedup nat_eq sorted y (subst Q is among)),
+        λ among. let Q : List ℕ → Type 0 = λ zs. Contains zs y in subst Q (sym is) (Contains-dedup_nat sorted y (Contains-permutation xs sorted y moved among)),
+      );
+      rising = subst P (sym is) (IsStrictlyIncreasing-dedup sorted rises);
+    }
 
 -- a search among rising numbers finds just what is there
 pub finds : (xs : List ℕ) (x : ℕ) (r : Result ℕ ℕ) → IsStrictlyIncreasing xs → IsBinarySearchResult (λ y. nat_cmp y x) xs r → Contains xs x → (i : ℕ) × (r ≡ Ok i)

@@ -20,3 +20,5 @@ pub mod Owners
 pub mod Deciding
 pub mod Noted
 pub mod ByRank
+pub mod SharedRuns
+pub mod FirstPlaces

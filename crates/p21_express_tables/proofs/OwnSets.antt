@@ -1,5 +1,5 @@
 -- The set that an entity and its supertypes make.
-use Rattle.std.specs.Prelude.{◌≡◌, ℕ, zero, suc, ◌+◌, ◌<◌, ◌≤◌, ◌⊎◌, List, [], ◌∷◌, ◌++◌, Some, length, slice_get, Contains, refl}
+use Rattle.std.specs.Prelude.{◌≡◌, ℕ, zero, suc, ◌+◌, ◌<◌, ◌≤◌, List, [], ◌∷◌, ◌++◌, Some, length, slice_get, Contains, refl}
 use Rattle.std.proofs.Common.{arith, ap, sym, subst, inl, inr}
 use Rattle.std.proofs.lemmas.Bool.{cases_lt}
 use Rattle.p21_basics.proofs.Members.{Contains-none, Contains-first, Contains-later, Contains-cases, Contains-flat_map, Contains-one_of, Each-member, Each-at}
@@ -13,10 +13,16 @@ use Rattle.p21_express_types.specs.declared.place_type.PlaceType.{PlaceType}
 use Rattle.p21_express_types.specs.declared.place_type.PlaceType.TheVariants.{Derived, Stored, Two}
 use Rattle.p21_express_tables.specs.Lookups.{AreEntities, places_from}
 use Rattle.p21_express_tables.specs.OwnSets.{AreOwnSets, IsOwnSet}
+use Rattle.p21_express_tables.specs.Prepared.{IsPrepared}
+use Rattle.p21_express_tables.specs.declared.fronts.Fronts.{Fronts}
+use Rattle.p21_express_tables.specs.declared.indexes.Index.{Index}
+use Rattle.p21_express_tables.specs.declared.offered.Offered.{Offered}
 use Rattle.p21_express_tables.specs.declared.own_sets.OwnSet.{OwnSet}
+use Rattle.p21_express_tables.specs.declared.ranking.Ranking.{Ranking}
 use Rattle.p21_express_tables.specs.Resolved.{HoldsTogether, IsEntity, IsPlace, IsResolved, IsRedeclared as IsRedeclaredOf}
 use Rattle.p21_express_tables.proofs.Lookups.{own-places-are}
 use Rattle.p21_express_tables.proofs.OrderTables.{are-entities, IsA-within, order-tells}
+use Rattle.p21_express_tables.proofs.Pairs.{snoc-get}
 
 -- the places of an entity by their numbers
 places_from-has : (e k n i : ℕ) → k ≤ i → i < k + n → Contains (places_from e k n) (record { entity = e; index = i })
@@ -70,6 +76,22 @@ two-only s holds entities place found is open_ = by found (TypeAt-one s holds.su
     by (Stored optional type) same = cc
     by Two same = refl
 
+-- the tables with other sets
+pub with-own : {s : Schema} {orders : Fronts} {indexes : List Index} {listed_in redeclarers : List (List ℕ)} {ends : List ℕ} {offered : Offered} {ranking : Ranking} {own sets : List OwnSet}
+    → IsPrepared s orders indexes listed_in redeclarers ends offered ranking own → AreOwnSets s sets → IsPrepared s orders indexes listed_in redeclarers ends offered ranking sets
+with-own is are = record {
+  fronts_are = is.fronts_are;
+  orders_are = is.orders_are;
+  indexes_are = is.indexes_are;
+  listed_are = is.listed_are;
+  redeclarers_are = is.redeclarers_are;
+  ends_are = is.ends_are;
+  entities_offered = is.entities_offered;
+  types_offered = is.types_offered;
+  ranking_is = is.ranking_is;
+  own_are = are;
+}
+
 -- one set more
 pub own-more : (s : Schema) (sets : List OwnSet) (own : OwnSet) → AreOwnSets s sets → IsOwnSet s (length sets) own → AreOwnSets s (sets ++ own ∷ [])
 own-more s sets own are is e other at = elim (snoc-get sets own e other at) [
@@ -79,9 +101,3 @@ own-more s sets own are is e other at = elim (snoc-get sets own e other at) [
       let Q : OwnSet → Type 0 = λ o. IsOwnSet s (length sets) o in
       subst P (sym h.0) (subst Q (sym h.1) is)
 ]
-  where
-    snoc-get : (xs : List OwnSet) (z : OwnSet) (k : ℕ) (x : OwnSet) → slice_get (xs ++ z ∷ []) k ≡ Some x → (slice_get xs k ≡ Some x) ⊎ ((k ≡ length xs) × (x ≡ z))
-    snoc-get [] z zero x at = let same : z ≡ x = cc in inr (refl, sym same)
-    snoc-get [] z (suc k) x at = cc
-    snoc-get (y ∷ xs) z zero x at = inl at
-    snoc-get (y ∷ xs) z (suc k) x at = elim (snoc-get xs z k x at) [ inl h ↦ inl h | inr h ↦ inr (ap suc h.0, h.1) ]

@@ -1,9 +1,16 @@
 -- Pairs of lists that grow by one.
-use Rattle.std.specs.Prelude.{◌≡◌, ◌+◌, ◌<◌, ℕ, zero, suc, List, [], ◌∷◌, ◌++◌, length, map, take, Contains}
+use Rattle.std.specs.Prelude.{◌≡◌, ◌⊎◌, ◌+◌, ◌<◌, ℕ, zero, suc, List, [], ◌∷◌, ◌++◌, Some, length, map, take, slice_get, Contains, refl}
 use Rattle.std.specs.List.{AllZip}
-use Rattle.std.proofs.Common.{arith, ap, sym, ◌∙◌, subst, get_or}
+use Rattle.std.proofs.Common.{arith, ap, sym, ◌∙◌, subst, inl, inr, get_or}
 use Rattle.std.proofs.lemmas.List.{map-append, take_more}
 use Rattle.p21_basics.proofs.Members.{Contains-first, Contains-later}
+
+-- what stands in a list with one more behind it
+pub snoc-get : {X : Type 0} (xs : List X) (z : X) (k : ℕ) (x : X) → slice_get (xs ++ z ∷ []) k ≡ Some x → (slice_get xs k ≡ Some x) ⊎ ((k ≡ length xs) × (x ≡ z))
+snoc-get [] z zero x at = let same : z ≡ x = cc in inr (refl, sym same)
+snoc-get [] z (suc k) x at = cc
+snoc-get (y ∷ xs) z zero x at = inl at
+snoc-get (y ∷ xs) z (suc k) x at = elim (snoc-get xs z k x at) [ inl h ↦ inl h | inr h ↦ inr (ap suc h.0, h.1) ]
 
 -- one pair more
 pub AllZip-push : {X Y : Type 0} (R : X → Y → Type 0) (xs : List X) (ys : List Y) (x : X) (y : Y) → AllZip R xs ys → R x y → AllZip R (xs ++ x ∷ []) (ys ++ y ∷ [])

@@ -22,3 +22,6 @@ pub mod Redeclarers
 pub mod Renamed
 pub mod Holders
 pub mod Ranking
+pub mod Prepared
+pub mod Fronts
+pub mod Indexes

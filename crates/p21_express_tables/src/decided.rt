@@ -82,7 +82,7 @@ impl Schema {
         self.holds_together();
         let mut among = Vec::new(self.alloc);
         for number in self.redeclarers_of(owner) {
-            let other = EntityId(*number);
+            let other = EntityId(*number as u32);
             if self.is_a(entity, other) {
                 among.push(other)?;
             }

@@ -31,7 +31,7 @@ impl Schema {
     fn stands_beside(
         &self,
         entity: EntityId,
-        holders: &mut BTreeMap<u32, u32>,
+        holders: &mut BTreeMap<usize, u32>,
     ) -> Result<bool, NoMemory>
         ensures { IfOk result (λ beside. (seen : List ℕ) → AreHeld self.now seen (get nat_cmp holders.old) → MatchBool beside (ClashesWith self.now seen entity.0) (AreHeld self.now (seen ++ entity.0 ∷ []) (get nat_cmp holders.new))) }
     {
@@ -48,7 +48,7 @@ impl Schema {
 }
 
 /// Whether another number is noted at a list.
-fn has_other(holders: &BTreeMap<u32, u32>, list: u32, number: u32) -> bool
+fn has_other(holders: &BTreeMap<usize, u32>, list: usize, number: u32) -> bool
     ensures { MatchBool result ((other : ℕ) × (get nat_cmp holders.now list ≡ Some other) × (other ≢ number)) ((other : ℕ) → get nat_cmp holders.now list ≡ Some other → other ≡ number) }
 {
     match holders.get(&list) {

@@ -4,8 +4,10 @@
 mod base;
 mod collected;
 mod decided;
+mod fronts;
 mod gathered;
 mod holders;
+mod indexes;
 mod inverted;
 mod names;
 mod offered;

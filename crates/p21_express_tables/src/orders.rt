@@ -1,14 +1,14 @@
-ghost use Rattle.std.specs.Prelude.{◌≡◌, ◌<◌, ℕ, [], ◌∷◌, ◌++◌, length, map, slice_set, Contains, IfOk, OnOk};
+ghost use Rattle.std.specs.Prelude.{◌≡◌, ◌<◌, ℕ, [], ◌∷◌, ◌++◌, length, map, Contains, IfOk, OnOk};
 ghost use Rattle.std.specs.List.{flat_map};
 ghost use Rattle.p21_schemas.specs.Supertype.{supertypes_of as supertypes};
-ghost use Rattle.p21_express_tables.specs.Collected.{AreRisingOf};
+ghost use Rattle.p21_express_tables.specs.Fronts.{AreBelow, AreFronts, lists_in};
 ghost use Rattle.p21_express_tables.specs.Gathering.{add_firsts};
 ghost use Rattle.p21_express_tables.specs.Orders.{AreOrders, numbers, supertype_lists, tabled};
 ghost use Rattle.p21_express_tables.specs.Parts.{schema_of};
 ghost use Rattle.p21_express_tables.specs.Resolved.{HoldsTogether};
 ghost use Rattle.p21_express_tables.specs.Settled.{IsSettled, lists_of, nexts_of};
 
-use crate::collected::{empty_lists, risen};
+use crate::fronts::Fronts;
 use crate::gathered::Gathered;
 use crate::parts::{Entity, Parts};
 use crate::settle::settled;
@@ -17,27 +17,17 @@ use p21_values::NoMemory;
 use std::alloc::Global;
 
 /// The order of each entity.
-pub(crate) fn all_orders(alloc: Global, parts: &Parts) -> Result<Vec<Vec<EntityId>>, NoMemory>
+pub(crate) fn all_orders(alloc: Global, parts: &Parts) -> Result<Fronts, NoMemory>
     requires { HoldsTogether (schema_of parts.now) }
-    ensures { IfOk result (λ orders. AreOrders (schema_of parts.now) (tabled orders.items)) }
+    ensures fronts { IfOk result AreFronts }
+    ensures orders { IfOk result (λ orders. AreOrders (schema_of parts.now) (lists_in orders)) }
+    ensures below { IfOk result (λ orders. AreBelow (length (schema_of parts.now).entities) (tabled orders.runs.items)) }
 {
     let lists = supertype_numbers(alloc, &parts.entities)?;
     match settled(alloc, &lists)? {
         Some(listed) => orders(alloc, parts, &listed),
         None => unreachable!(),
     }
-}
-
-/// The entities of each order as numbers that rise.
-pub(crate) fn closures(alloc: Global, orders: &[Vec<EntityId>]) -> Result<Vec<Vec<u32>>, NoMemory>
-    ensures { IfOk result (λ lists. AreRisingOf (tabled orders.now) (lists_of lists.items)) }
-{
-    let mut lists = Vec::with_capacity(alloc, orders.len())?;
-    for order in orders {
-        let order: &Vec<EntityId> = order;
-        lists.push(risen(numbers_of(alloc, order)?))?;
-    }
-    Ok(lists)
 }
 
 fn supertype_numbers(alloc: Global, entities: &[Entity]) -> Result<Vec<Vec<u32>>, NoMemory>
@@ -63,18 +53,20 @@ pub(crate) fn numbers_of(alloc: Global, entities: &[EntityId]) -> Result<Vec<u32
 }
 
 /// The order of each entity, where each is listed behind its supertypes.
-fn orders(alloc: Global, parts: &Parts, listed: &[u32]) -> Result<Vec<Vec<EntityId>>, NoMemory>
+fn orders(alloc: Global, parts: &Parts, listed: &[u32]) -> Result<Fronts, NoMemory>
     requires holds { HoldsTogether (schema_of parts.now) }
     requires settled { IsSettled (supertype_lists (schema_of parts.now)) listed.now }
-    ensures { IfOk result (λ orders. AreOrders (schema_of parts.now) (tabled orders.items)) }
+    ensures fronts { IfOk result AreFronts }
+    ensures orders { IfOk result (λ orders. AreOrders (schema_of parts.now) (lists_in orders)) }
+    ensures below { IfOk result (λ orders. AreBelow (length (schema_of parts.now).entities) (tabled orders.runs.items)) }
 {
     let count = parts.entities.len();
     let mut gathered = Gathered::new(alloc, count)?;
-    let mut orders = empty_lists(alloc, count)?;
+    let mut orders = Fronts::new(alloc, count)?;
     for number in listed {
         let supertypes = supertypes_of(parts, *number);
         gather(supertypes, EntityId(*number), &orders, &mut gathered)?;
-        put_order(&mut orders, *number, gathered.take());
+        orders.put(*number, gathered.take(), supertypes)?;
     }
     Ok(orders)
 }
@@ -86,27 +78,21 @@ fn supertypes_of(parts: &Parts, entity: u32) -> &[EntityId]
     &parts.entities[entity as usize].supertypes
 }
 
-fn put_order(orders: &mut Vec<Vec<EntityId>>, entity: u32, order: Vec<EntityId>)
-    requires { entity < length (tabled orders.old.items) }
-    ensures { tabled orders.new.items ≡ slice_set (tabled orders.old.items) entity (numbers order.items) }
-{
-    orders[entity as usize] = order;
-}
-
 /// Gathers the orders of the supertypes, then the entity itself.
 fn gather(
     supertypes: &[EntityId],
     entity: EntityId,
-    orders: &[Vec<EntityId>],
+    orders: &Fronts,
     gathered: &mut Gathered,
 ) -> Result<(), NoMemory>
-    requires there { (e : ℕ) → Contains (numbers supertypes.now) e → e < length orders.now }
-    requires within { (x y : ℕ) → Contains (nexts_of (tabled orders.now) x) y → y < gathered.old.count }
+    requires fronts { AreFronts orders.now }
+    requires there { (e : ℕ) → Contains (numbers supertypes.now) e → e < length orders.now.fronts.items }
+    requires within { (x y : ℕ) → Contains (nexts_of (lists_in orders.now) x) y → y < gathered.old.count }
     requires entity { entity.0 < gathered.old.count }
-    ensures { OnOk result (gathered.new ≡ record { count = gathered.old.count; numbers = add_firsts gathered.old.numbers (flat_map (nexts_of (tabled orders.now)) (numbers supertypes.now) ++ entity.0 ∷ []) }) }
+    ensures { OnOk result (gathered.new ≡ record { count = gathered.old.count; numbers = add_firsts gathered.old.numbers (flat_map (nexts_of (lists_in orders.now)) (numbers supertypes.now) ++ entity.0 ∷ []) }) }
 {
     for supertype in supertypes {
-        gathered.add_all(&orders[supertype.0 as usize])?;
+        gathered.add_all(orders.list(supertype.0))?;
     }
     gathered.add(entity)?;
     Ok(())

@@ -1,4 +1,4 @@
-ghost use Rattle.std.specs.Prelude.{◌≡◌, ◌↔◌, IsTrue, map, Contains, IfOk, OnOk};
+ghost use Rattle.std.specs.Prelude.{◌≡◌, ◌↔◌, IsTrue, map, Contains, IfOk, IfSome, OnOk};
 ghost use Rattle.p21_schemas.specs.Schema.{Redeclared as MeantRedeclared};
 ghost use Rattle.p21_schemas.specs.OneOf.{Clashes};
 ghost use Rattle.p21_schemas.specs.Order.{order};
@@ -8,7 +8,7 @@ ghost use Rattle.p21_express_types.specs.Meaning.{place as place_of, place_type}
 ghost use Rattle.p21_express_tables.specs.Decided.{AreDecided};
 ghost use Rattle.p21_express_tables.specs.Decisions.{IsDecision};
 ghost use Rattle.p21_express_tables.specs.declared.place_types.Decision.TheVariants.{Two};
-ghost use Rattle.p21_express_tables.specs.OwnSets.{HasOwnFaults, IsOpenAt, LeavesOpen};
+ghost use Rattle.p21_express_tables.specs.OwnSets.{HasOwnFaults, IsOpenAt, IsOwnSet, LeavesOpen};
 ghost use Rattle.p21_express_tables.specs.Orders.{numbers};
 ghost use Rattle.p21_express_tables.specs.Parts.{redeclared as redeclared_of};
 ghost use Rattle.p21_express_tables.specs.Resolved.{IsEntity, IsPlace};
@@ -40,9 +40,12 @@ pub(crate) struct OwnSet {
     pub(crate) faults: OwnFaults,
     // What decides at each place that an entity of it redeclares.
     pub(crate) decided: Vec<Decided>,
-    // Its entities, rising by name.
-    pub(crate) rising: Vec<EntityId>,
+    // Its entities, rising by name, where they are few.
+    pub(crate) rising: Option<Vec<EntityId>>,
 }
+
+/// So many entities of a set are few.
+const FEW: usize = 64;
 
 impl Schema {
     /// What makes the set of an entity and its supertypes no set of an instance. It takes no memory.
@@ -66,7 +69,19 @@ impl Schema {
         ensures { IfOk result (λ entities. IsOwnRising self.now entity.0 (numbers entities.items)) }
     {
         match self.own.get(entity.0 as usize) {
-            Some(own) => copied(self.alloc, &own.rising),
+            Some(own) => self.rising_in(entity, own),
+            None => self.find_rising(entity),
+        }
+    }
+
+    /// The same, where this is known of its set.
+    fn rising_in(&self, entity: EntityId, own: &OwnSet) -> Result<Vec<EntityId>, NoMemory>
+        requires entity { IsEntity self.now entity.0 }
+        requires own { IsOwnSet self.now entity.0 own.now }
+        ensures { IfOk result (λ entities. IsOwnRising self.now entity.0 (numbers entities.items)) }
+    {
+        match &own.rising {
+            Some(rising) => copied(self.alloc, rising),
             None => self.find_rising(entity),
         }
     }
@@ -114,7 +129,7 @@ impl Schema {
         }
         let entity = EntityId(number as u32);
         let decided = self.find_decided(entity)?;
-        let rising = self.find_rising(entity)?;
+        let rising = self.few_rising(entity)?;
         let clashes = self.find_clash(self.order_of(entity))?;
         let own = OwnSet {
             faults: self.own_faults_with(entity, self.has_open(entity, &decided), clashes),
@@ -170,6 +185,18 @@ impl Schema {
             Decision::Two => self.is_a(entity, decided.place.entity),
             _ => false,
         }
+    }
+
+    /// An entity and its supertypes, rising by name, where they are few.
+    fn few_rising(&self, entity: EntityId) -> Result<Option<Vec<EntityId>>, NoMemory>
+        requires { IsEntity self.now entity.0 }
+        ensures { IfOk result (λ rising. IfSome rising (λ entities. IsOwnRising self.now entity.0 (numbers entities.items))) }
+    {
+        if self.order_of(entity).len() > FEW {
+            return Ok(None);
+        }
+        let rising = self.find_rising(entity)?;
+        Ok(Some(rising))
     }
 
     fn find_rising(&self, entity: EntityId) -> Result<Vec<EntityId>, NoMemory>

@@ -1,4 +1,4 @@
-ghost use Rattle.std.specs.Prelude.{◌≡◌, ◌<◌, ℕ, List, Some, length, map, slice_get, slice_index_or, Contains, IfOk};
+ghost use Rattle.std.specs.Prelude.{◌≡◌, ◌<◌, ◌^◌, ℕ, List, Some, length, map, slice_get, slice_index_or, Contains, IfOk};
 ghost use Rattle.std.specs.List.{AllZip};
 ghost use Rattle.p21_schemas.specs.Schema.{EntityNamed};
 ghost use Rattle.p21_express_tables.specs.Orders.{numbers};
@@ -71,13 +71,11 @@ fn entity_named(parts: &Parts, name: &[u8]) -> EntityId
 
 /// The ranks of so many entities, where these are the entities in their order.
 fn ranks_of(alloc: Global, count: usize, rising: &[EntityId]) -> Result<Vec<u32>, NoMemory>
-    requires { (e : ℕ) → Contains (numbers rising.now) e → e < count }
+    requires within { (e : ℕ) → Contains (numbers rising.now) e → e < count }
+    requires few { length rising.now < 2 ^ 32 }
     ensures size { IfOk result (λ ranks. length ranks.items ≡ count) }
     ensures each { IfOk result (λ ranks. (e : ℕ) → Contains (numbers rising.now) e → slice_get (numbers rising.now) (slice_index_or ranks.items e 0) ≡ Some e) }
 {
-    if rising.len() > u32::MAX as usize {
-        return Err(NoMemory);
-    }
     let mut ranks = vec![in alloc; 0; count]?;
     for rank in 0..rising.len() {
         let entity = rising[rank];

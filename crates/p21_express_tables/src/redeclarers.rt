@@ -16,7 +16,7 @@ use std::alloc::Global;
 
 impl Schema {
     /// The numbers of the entities that redeclare a place which an entity declares.
-    pub(crate) fn redeclarers_of(&self, entity: EntityId) -> &[u32]
+    pub(crate) fn redeclarers_of(&self, entity: EntityId) -> &[usize]
         ensures all { (e : ℕ) (place : MeantPlace) → place.entity ≡ entity.0 → RedeclaresPlace self.now e place → Contains result.now e }
         ensures within { (e : ℕ) → Contains result.now e → IsEntity self.now e }
     {
@@ -28,7 +28,7 @@ impl Schema {
 }
 
 /// For each entity the numbers of those that redeclare a place which it declares.
-pub(crate) fn all_redeclarers(alloc: Global, parts: &Parts) -> Result<Vec<Vec<u32>>, NoMemory>
+pub(crate) fn all_redeclarers(alloc: Global, parts: &Parts) -> Result<Vec<Vec<usize>>, NoMemory>
     requires { HoldsTogether (schema_of parts.now) }
     ensures { IfOk result (λ lists. AreRedeclarers (schema_of parts.now) (lists_of lists.items)) }
 {

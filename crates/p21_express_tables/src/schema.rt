@@ -13,9 +13,11 @@ ghost use Rattle.p21_express_tables.specs.Resolved.{HoldsTogether, IsEntity, IsT
 ghost use Rattle.p21_express_tables.specs.Parts.{schema_of, AreNamed, entity as entity_of, attribute as attribute_of, defined as defined_of};
 
 use crate::collected::{is_among, risen};
+use crate::fronts::Fronts;
+use crate::indexes::{Index, indexes_of};
 use crate::offered::{Offered, all_offered};
 use crate::one_of::all_listed_in;
-use crate::orders::{all_orders, closures};
+use crate::orders::all_orders;
 use crate::own_sets::OwnSet;
 use crate::parts::{Attribute, Defined, Entity, Parts};
 use crate::ranking::{Ranking, rank_entities};
@@ -31,15 +33,16 @@ use std::marker::Model;
 pub struct Schema {
     pub(crate) alloc: Global,
     parts: Parts,
-    orders: Vec<Vec<EntityId>>,
-    closures: Vec<Vec<u32>>,
+    orders: Fronts,
+    // Of each run of the orders.
+    indexes: Vec<Index>,
     offered: Offered,
     // For each entity the numbers of the ONEOF lists with it, rising.
-    pub(crate) listed_in: Vec<Vec<u32>>,
+    pub(crate) listed_in: Vec<Vec<usize>>,
     // For each type the last one of those that it renames, one behind the other.
     pub(crate) ends: Vec<u32>,
     // For each entity the numbers of those that redeclare a place which it declares, rising.
-    pub(crate) redeclarers: Vec<Vec<u32>>,
+    pub(crate) redeclarers: Vec<Vec<usize>>,
     // What holds of the own sets of the first entities, or of all.
     pub(crate) own: Vec<OwnSet>,
     pub(crate) ranking: Ranking,
@@ -55,20 +58,12 @@ impl Model for Schema {
 
     ghost use Rattle.p21_express_tables.specs.Parts.{schema_of, AreNamed};
     ghost use Rattle.p21_express_tables.specs.Resolved.{HoldsTogether};
-    ghost use Rattle.p21_express_tables.specs.Orders.{AreOrders, numbers, tabled};
-    ghost use Rattle.p21_schemas.specs.Schema.{entity_member, type_member};
-    ghost use Rattle.p21_express_tables.specs.Offered.{AreOffered};
-    ghost use Rattle.p21_express_tables.specs.Collected.{AreRisingOf};
-    ghost use Rattle.p21_express_tables.specs.OwnSets.{AreOwnSets};
-    ghost use Rattle.p21_express_tables.specs.OneOf.{AreListedIn};
-    ghost use Rattle.p21_express_tables.specs.Ranking.{IsRanking};
-    ghost use Rattle.p21_express_tables.specs.Redeclarers.{AreRedeclarers};
-    ghost use Rattle.p21_express_tables.specs.Renamed.{AreEnds};
+    ghost use Rattle.p21_express_tables.specs.Prepared.{IsPrepared};
     ghost use Rattle.p21_express_tables.specs.Settled.{lists_of};
 
     ghost view = { λ schema. schema_of schema.parts };
 
-    ghost invariant = { λ schema. HoldsTogether (schema_of schema.parts) × AreNamed schema.parts × AreOrders (schema_of schema.parts) (tabled schema.orders.items) × AreOffered (schema_of schema.parts) entity_member (lists_of schema.offered.entities.items) × AreOffered (schema_of schema.parts) type_member (lists_of schema.offered.types.items) × AreRisingOf (tabled schema.orders.items) (lists_of schema.closures.items) × AreOwnSets (schema_of schema.parts) schema.own.items × AreListedIn (schema_of schema.parts) (lists_of schema.listed_in.items) × AreEnds (schema_of schema.parts) schema.ends.items × AreRedeclarers (schema_of schema.parts) (lists_of schema.redeclarers.items) × IsRanking (schema_of schema.parts) (numbers schema.ranking.rising.items) schema.ranking.ranks.items };
+    ghost invariant = { λ schema. HoldsTogether (schema_of schema.parts) × AreNamed schema.parts × IsPrepared (schema_of schema.parts) schema.orders schema.indexes.items (lists_of schema.listed_in.items) (lists_of schema.redeclarers.items) schema.ends.items schema.offered schema.ranking schema.own.items };
 }
 
 impl Schema {
@@ -99,7 +94,7 @@ impl Schema {
         ensures { IfOk result (λ schema. schema ≡ schema_of parts) }
     {
         let orders = all_orders(alloc, &parts)?;
-        let closures = closures(alloc, &orders)?;
+        let indexes = indexes_of(alloc, parts.entities.len(), &orders.runs)?;
         let offered = all_offered(alloc, &parts)?;
         let listed_in = all_listed_in(alloc, &parts)?;
         let ends = all_ends(alloc, &parts)?;
@@ -109,7 +104,7 @@ impl Schema {
             alloc,
             parts,
             orders,
-            closures,
+            indexes,
             offered,
             listed_in,
             ends,
@@ -196,7 +191,8 @@ impl Schema {
         ensures { IsTrue result ↔ IsA self.now sub.0 sup.0 }
     {
         self.holds_together();
-        is_among(&self.closures[sub.0 as usize], sup.0)
+        let front = self.orders.front_of(sub.0);
+        self.indexes[front.run].has(sup.0, front.size)
     }
 
     /// The order of an entity in an instance (ISO 10303-21, Mapping of EXPRESS entity data types: internal mapping).
@@ -217,7 +213,7 @@ impl Schema {
         requires { IsEntity self.now entity.0 }
         ensures { numbers result.now ≡ order self.now entity.0 }
     {
-        &self.orders[entity.0 as usize]
+        self.orders.list(entity.0)
     }
 
     /// The places of an entity in an instance, in the order of internal mapping.

@@ -9,7 +9,7 @@ use Rattle.p21_exchange.specs.Statement.{Statement, statement_tokens}
 use Rattle.p21_exchange.specs.Token.{Token}
 use Rattle.p21_grammar.proofs.Depths.{pending-depth, depth-within}
 use Rattle.p21_grammar.proofs.Led.{IsGood, Kept, step-kept, step-blamed, led}
-use Rattle.p21_grammar.proofs.RunsStatements.{run-statements}
+use Rattle.p21_grammar.proofs.RunsStatements.{ok-same, run-statements}
 use Rattle.p21_grammar.proofs.Shapes.{heading-is}
 use Rattle.p21_grammar.proofs.Theorems.{chain, run-append, no_file, given_first, at_end, begin_file, whole_file}
 use Rattle.p21_grammar.specs.Held.{Held}
@@ -76,7 +76,7 @@ unfolding Stands
 refusal-known held history stands = sym stands.0
 
 -- the history leads there
-history-ran : (p : Place) (sp : Spot) → Reaches p sp → (taken : List Token) (given : List Statement) → taken ≡ flat_map statement_tokens given ++ pending sp → walk given Start ≡ Ok p → Each IsSound given
+pub history-ran : (p : Place) (sp : Spot) → Reaches p sp → (taken : List Token) (given : List Statement) → taken ≡ flat_map statement_tokens given ++ pending sp → walk given Start ≡ Ok p → Each IsSound given
     → run taken Start idle ≡ Some (out given p sp)
 history-ran p sp ran taken given same leads sound =
     ap (λ z. run z Start idle) same ∙ run-statements given Start p (pending sp) leads sound ∙ ap (with_first given) ran ∙ ap (λ z. Some (out z p sp)) (append-nil given)
@@ -90,12 +90,10 @@ history-depth p sp ran taken given same =
       depth_is = sym (pending-depth sp is.fine);
     }
 
-walk-append : (es : List Statement) (s : Statement) (p q r : Place) → walk es p ≡ Ok q → after q s ≡ Ok r → walk (es ++ s ∷ []) p ≡ Ok r
-walk-append [] s p q r w a = by (cc) where
-  by : p ≡ q → walk (s ∷ []) p ≡ Ok r
-  by e = ap (λ z. walk (s ∷ []) z) e ∙ ap (then_walk (walk [])) a
-walk-append (e ∷ es) s p q r w a = by (λ next v. walk-append es s next q r v a) (after p e) w where
-  by : ((next : Place) → walk es next ≡ Ok q → walk (es ++ s ∷ []) next ≡ Ok r) → (found : Result Place GrammarFault) → then_walk (walk es) found ≡ Ok q → then_walk (walk (es ++ s ∷ [])) found ≡ Ok r
+pub walk-append : (es ss : List Statement) (p q r : Place) → walk es p ≡ Ok q → walk ss q ≡ Ok r → walk (es ++ ss) p ≡ Ok r
+walk-append [] ss p q r w a = ap (λ z. walk ss z) (ok-same p q w) ∙ a
+walk-append (e ∷ es) ss p q r w a = by (λ next v. walk-append es ss next q r v a) (after p e) w where
+  by : ((next : Place) → walk es next ≡ Ok q → walk (es ++ ss) next ≡ Ok r) → (found : Result Place GrammarFault) → then_walk (walk es) found ≡ Ok q → then_walk (walk (es ++ ss)) found ≡ Ok r
   by again (Ok next) v = again next v
   by again (Err why) v = absurd cc
 
@@ -124,7 +122,7 @@ led-on p sp t (Some event) q sq steps taken given is = record {
       ∙ ap (λ z. flat_map statement_tokens given ++ z) steps.1 ∙ sym (flat_map-one given (statement_of event))
       ∙ sym (append-nil (flat_map statement_tokens (given ++ statement_of event ∷ [])))
       ∙ ap (λ z. flat_map statement_tokens (given ++ statement_of event ∷ []) ++ pending z) (sym steps.0);
-  leads = walk-append given (statement_of event) Start p q is.leads steps.2;
+  leads = walk-append given (statement_of event ∷ []) Start p q is.leads (ap (then_walk (walk [])) steps.2);
   sound = Each-append IsSound given (statement_of event ∷ []) is.sound (steps.3, tt);
 }
 

@@ -7,3 +7,4 @@ pub mod Walks
 pub mod Depths
 pub mod Theorems
 pub mod Holding
+pub mod Between

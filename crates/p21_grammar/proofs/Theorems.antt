@@ -81,7 +81,7 @@ module _ (h : List Token) (es : List Statement) (p : Place) (sp : Spot) (ran : r
       let e : Some (out es p sp) ≡ Some (out (statements structure) Ended idle) = sym ran ∙ ap (λ z. run z Start idle) (sym same) ∙ file-run structure text is in
       (ap place_by e, ap spot_by e)
 
-flat_map-append : {A B : Type 0} (f : A → List B) (xs ys : List A) → flat_map f (xs ++ ys) ≡ flat_map f xs ++ flat_map f ys
+pub flat_map-append : {A B : Type 0} (f : A → List B) (xs ys : List A) → flat_map f (xs ++ ys) ≡ flat_map f xs ++ flat_map f ys
 flat_map-append f [] ys = refl
 flat_map-append f (x ∷ xs) ys = ap (λ z. f x ++ z) (flat_map-append f xs ys) ∙ sym (append_assoc (f x) (flat_map f xs) (flat_map f ys))
 

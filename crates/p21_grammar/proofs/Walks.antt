@@ -22,7 +22,7 @@ use Rattle.p21_grammar.proofs.RunsStatements.{ok-same}
 use Rattle.p21_grammar.proofs.Shapes.{record-is, is-record, record-no_names, schema-is, is-schema, schema-no_names, further-is, is-further, only_schema}
 use Rattle.p21_grammar.specs.Sound.{IsSound}
 
-abbrev IsInstance : ℕ × Record → Type 0
+abbrev pub IsInstance : ℕ × Record → Type 0
 IsInstance i = IsDataRecord i.1
 
 -- ---- a file leads to its end
@@ -31,11 +31,11 @@ further-walk : (parts : List Part) (ss : List Statement) → Each IsFurther part
 further-walk [] ss all = refl
 further-walk (part ∷ parts) ss all = ap (λ z. then_walk (walk (map header parts ++ ss)) (shaped z Further)) (is-further part all.0) ∙ further-walk parts ss all.1
 
-unnamed-walk : (is : List (ℕ × Record)) (ss : List Statement) → walk (map instance_of is ++ ss) Unnamed ≡ walk ss Unnamed
+pub unnamed-walk : (is : List (ℕ × Record)) (ss : List Statement) → walk (map instance_of is ++ ss) Unnamed ≡ walk ss Unnamed
 unnamed-walk [] ss = refl
 unnamed-walk (i ∷ is) ss = unnamed-walk is ss
 
-named-walk : (is : List (ℕ × Record)) (ss : List Statement) → walk (map instance_of is ++ ss) Named ≡ walk ss Named
+pub named-walk : (is : List (ℕ × Record)) (ss : List Statement) → walk (map instance_of is ++ ss) Named ≡ walk ss Named
 named-walk [] ss = refl
 named-walk (i ∷ is) ss = named-walk is ss
 
@@ -84,7 +84,7 @@ further-sound : (parts : List Part) (ss : List Statement) → Each IsFurther par
 further-sound [] ss all shallow rest = rest
 further-sound (part ∷ parts) ss all shallow rest = ((shallow.0, all.0.no_names), further-sound parts ss all.1 shallow.1 rest)
 
-instances-sound : (is : List (ℕ × Record)) (ss : List Statement) → Each IsInstance is → Each IsSound ss → Each IsSound (map instance_of is ++ ss)
+pub instances-sound : (is : List (ℕ × Record)) (ss : List Statement) → Each IsInstance is → Each IsSound ss → Each IsSound (map instance_of is ++ ss)
 instances-sound [] ss all rest = rest
 instances-sound (i ∷ is) ss all rest = (all.0, instances-sound is ss all.1 rest)
 

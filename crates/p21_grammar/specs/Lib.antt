@@ -3,6 +3,7 @@ pub mod Sound
 pub mod Held
 pub mod Histories
 pub mod Inside
+pub mod Between
 -- What the clauses of its calls cite, for callers who name this crate alone
 pub use Rattle.p21_basics.specs as p21_basics
 pub use Rattle.p21_exchange.specs as p21_exchange

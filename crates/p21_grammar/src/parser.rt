@@ -1,6 +1,7 @@
-ghost use Rattle.std.specs.Prelude.{◌≡◌, ◌≤◌, Some, None, Err, IfErr, IfOk};
+ghost use Rattle.std.specs.Prelude.{◌≡◌, ◌≤◌, ◌↔◌, IsTrue, true, Some, None, Err, IfErr, IfOk};
 ghost use Rattle.p21_basics.specs.History.{StandsNew};
 ghost use Rattle.p21_exchange.specs.OpenNesting.{IsDepth};
+ghost use Rattle.p21_grammar.specs.Between.{IsBetweenInstances, StandsForMore};
 ghost use Rattle.p21_grammar.specs.Histories.{GrammarHistory, Stands, TakeGives, FinishGives, IsShapedEvent, RefusalIsKnown, RefusesAgain};
 ghost use Rattle.p21_grammar_machine.specs.declared.fault.GrammarFault.{GrammarFault};
 ghost use Rattle.p21_tokens.specs.Token.{meant};
@@ -101,5 +102,17 @@ impl Parser {
         ensures depth { (history : GrammarHistory) → Stands self.now history → IsDepth history.taken result }
     {
         self.depth
+    }
+
+    /// Does it stand in a data section, with no statement open? Then instances may be passed over, which takes no call:
+    /// behind one it holds what it held before it. It takes no memory.
+    pub fn is_between_instances(&self) -> bool
+        ensures value { IsTrue result ↔ IsBetweenInstances self.now }
+        ensures stands { result ≡ true → StandsForMore self.now }
+    {
+        if self.refused.is_some() {
+            return false;
+        }
+        self.machine.is_between_instances()
     }
 }

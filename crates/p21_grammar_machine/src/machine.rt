@@ -1,7 +1,7 @@
-ghost use Rattle.std.specs.Prelude.{◌≡◌, ◌↔◌, [], IfOk, IfErr, IsTrue};
+ghost use Rattle.std.specs.Prelude.{◌≡◌, ◌↔◌, [], IfOk, IfErr, IsTrue, true};
 ghost use Rattle.p21_exchange.specs.Parameter.{key_of, no_params};
 ghost use Rattle.p21_exchange.specs.Statement.{section, header, instance};
-ghost use Rattle.p21_grammar_machine.specs.Place.{after};
+ghost use Rattle.p21_grammar_machine.specs.Place.{after, is_in_data};
 ghost use Rattle.p21_grammar_machine.specs.Machine.{open_of, opening_of, stack_of, closed_part, put_back, close_typed, spot_of, head_of, step, enter, close, close_empty, comma, put, at_next, at_behind, at_word, at_line, at_named, at_equal, at_inside, at_keyed, at_record_end, at_instance_end, end_keyword, end_record, at_idle, at_start, at_begun, at_header, at_headed, at_data, at_behind_unnamed, at_behind_named, at_end, misplaced, misplaced_param, other_section, idle, next, go, refuse, part_row, open_at, depth_of, ended, end_heading, close_records, at_data_keyword, Goes, Moves, Refuses};
 ghost use Rattle.p21_grammar_machine.specs.Shaped.{IsShaped};
 ghost use Rattle.p21_grammar_machine.specs.Statements.{line_of};
@@ -23,6 +23,9 @@ use std::mem;
 
 /// How deep lists and typed parameters may stand one in another.
 const NESTING: usize = 64;
+
+/// Where fewer parameters stand in the rows around a list, it keeps its room for more.
+const FEW: usize = 8;
 
 /// What stands before the keyword of a simple record.
 #[derive(Drop)]
@@ -143,6 +146,33 @@ fn misplaced_param(place: Place, token: &Token) -> GrammarFault
     }
 }
 
+/// The same parameters, with room for one more at most.
+fn trimmed(params: Vec<Param>) -> Vec<Param>
+    ensures { result.items ≡ params.items }
+{
+    let mut params = params;
+    if params.capacity() - params.len() > 1 {
+        params.shrink_to_fit();
+    }
+    params
+}
+
+/// The same parameters, trimmed where many stand in the rows around them: then lists can be many, too.
+fn trimmed_among(params: Vec<Param>, around: &[Row]) -> Vec<Param>
+    ensures { result.items ≡ params.items }
+{
+    let mut few = FEW;
+    for row in around {
+        let row: &Row = row;
+        let count = row.params.len();
+        if count >= few {
+            return trimmed(params);
+        }
+        few -= count;
+    }
+    params
+}
+
 #[tactic(auto, using(crate::proofs::Stacks::stacks))]
 impl Machine {
     pub fn new(alloc: Global) -> Machine
@@ -248,7 +278,10 @@ impl Machine {
                 let params = Params::from_vec(params);
                 self.close_part(head, Part { key, params })
             }
-            Opening::List => self.put_back(Param::List(Params::from_vec(params))),
+            Opening::List => {
+                let params = trimmed_among(params, &self.frames);
+                self.put_back(Param::List(Params::from_vec(params)))
+            }
             Opening::Tagged(key) => self.close_typed(key, params),
         }
     }
@@ -771,6 +804,16 @@ impl Machine {
     {
         match (&self.at, self.place) {
             (At::Idle, Place::Ended) => true,
+            _ => false,
+        }
+    }
+
+    /// Is no statement open, in a data section?
+    pub fn is_between_instances(&self) -> bool
+        ensures { IsTrue result ↔ ((is_in_data self.now.place ≡ true) × (spot_of self.now ≡ idle)) }
+    {
+        match &self.at {
+            At::Idle => self.place.is_in_data(),
             _ => false,
         }
     }

@@ -1,9 +1,9 @@
 -- Rows that are put in the order of a set.
-use Rattle.std.specs.Prelude.{◌≡◌, ◌≢◌, ℕ, zero, suc, ◌+◌, ◌<◌, ◌≤◌, List, [], ◌∷◌, ◌++◌, length, map, take, slice_get, slice_set, Some, Contains, refl, nat_eq}
-use Rattle.std.specs.List.{AllZip, IsDistinct, zip}
+use Rattle.std.specs.Prelude.{◌≡◌, ◌≢◌, ℕ, zero, suc, ◌+◌, ◌<◌, ◌≤◌, List, [], ◌∷◌, ◌++◌, length, take, slice_get, slice_set, Some, Contains, refl, nat_eq}
+use Rattle.std.specs.List.{IsDistinct, zip}
 use Rattle.std.specs.Option.{option_map}
 use Rattle.std.proofs.Common.{arith, ap, sym, ◌∙◌, subst, inl, inr, get_or}
-use Rattle.std.proofs.lemmas.List.{map-append, take_all}
+use Rattle.std.proofs.lemmas.List.{take_all}
 use Rattle.std.proofs.lemmas.List.Elements.{Contains-append_left, Contains-append_right}
 use Rattle.std.proofs.lemmas.Option.{slice_get-map}
 use Rattle.p21_basics.proofs.Members.{Contains-cases, Contains-first, Contains-later, Contains-found}
@@ -14,7 +14,7 @@ use Rattle.p21_express_types.specs.declared.number.EntityId.{EntityId}
 use Rattle.p21_files.specs.Value.{Values}
 use Rattle.p21_mapping.specs.Arranged.{AreArranged, ArrangedSoFar}
 use Rattle.p21_express_tables.proofs.Pairs.{AllZip-more}
-use Rattle.p21_mapping_sets.proofs.Rows.{Contains-pushed, mapped-at}
+use Rattle.p21_mapping_sets.proofs.Rows.{mapped-at}
 use Rattle.p21_mapping_values.specs.declared.value.Values.{Values as Stored}
 use Rattle.p21_mapping_values.specs.TypedView.{rows_view}
 use Rattle.p21_mapping_values.specs.View.{list_of, views}

@@ -1,6 +1,6 @@
 -- What the entities and the parameters of a record come to.
-use Rattle.std.specs.Prelude.{◌≡◌, ◌≢◌, ◌↔◌, ℕ, ◌<◌, List, [], ◌∷◌, ◌++◌, length, map, Contains, refl, MatchResult, Result, Ok, Err}
-use Rattle.std.specs.List.{AllByRecursion as Each, AllZip, flat_map, zip}
+use Rattle.std.specs.Prelude.{◌≡◌, ℕ, ◌<◌, List, [], length, map, Contains, MatchResult, Result, Ok, Err}
+use Rattle.std.specs.List.{AllByRecursion as Each, flat_map, zip}
 use Rattle.std.proofs.Common.{ap, sym, ◌∙◌, subst, Vec, Global}
 use Rattle.std.proofs.lemmas.List.{append-nil}
 use Rattle.std.proofs.lemmas.Option.{slice_get_within}
@@ -12,15 +12,14 @@ use Rattle.p21_files.specs.BrokenRule.{Breaks, at_place}
 use Rattle.p21_files.specs.Meaning.{AreKeywordsRising, HasPlaceTypes}
 use Rattle.p21_files.specs.RecordPlaces.{StandsAt}
 use Rattle.p21_files.specs.Reference.{Need}
-use Rattle.p21_files.specs.Value.{Values}
-use Rattle.p21_mapping.specs.Arranged.{AreCut, HasRows}
+use Rattle.p21_mapping.specs.Arranged.{HasRows}
 use Rattle.p21_mapping.specs.Rows.{BreaksAmong, TakesRows, TakesParts, RefusesAmong, RefusesPart}
-use Rattle.p21_mapping_sets.specs.Shape.{IsListed, HasShape, HasCounts, Refuses}
+use Rattle.p21_mapping_sets.specs.Shape.{HasShape, Refuses}
 use Rattle.p21_mapping_values.specs.declared.fault.CheckFault.{CheckFault}
 use Rattle.p21_mapping_values.specs.Fault.{fault_number}
 use Rattle.p21_mapping_values.specs.declared.value.Values.{Values as Stored}
 use Rattle.p21_mapping_values.specs.TypedView.{rows_view}
-use Rattle.p21_schemas.specs.Order.{order, places, own_places}
+use Rattle.p21_schemas.specs.Order.{own_places}
 use Rattle.p21_schemas.specs.Schema.{Schema, Place, EntityNamed}
 
 pub rising-within : (s : Schema) (es : List ℕ) → AreKeywordsRising s es → AreEntities s es

@@ -1,17 +1,17 @@
 -- Parameters that fit the places of entities fit them in what the record means.
-use Rattle.std.specs.Prelude.{◌≡◌, ◌≢◌, ◌↔◌, ◌⊎◌, ℕ, zero, suc, ◌+◌, ◌-◌, ◌<◌, List, [], ◌∷◌, ◌++◌, length, map, slice_get, Some, Contains, refl}
-use Rattle.std.specs.List.{AllByRecursion as Each, AllZip, flat_map, zip}
-use Rattle.std.proofs.Common.{arith, ap, sym, ◌∙◌, subst, inl, inr, append_assoc}
+use Rattle.std.specs.Prelude.{◌≡◌, ℕ, zero, suc, ◌+◌, ◌-◌, ◌<◌, List, [], ◌∷◌, ◌++◌, length, map, slice_get, Some, Contains, refl}
+use Rattle.std.specs.List.{AllByRecursion as Each, flat_map, zip}
+use Rattle.std.proofs.Common.{arith, ap, sym, ◌∙◌, subst, append_assoc}
 use Rattle.std.proofs.lemmas.List.{append-nil, map-append, length-append}
-use Rattle.p21_basics.proofs.Members.{Contains-none, Contains-first, Contains-later, Contains-cases, Each-append}
-use Rattle.p21_claim_values.specs.Needs.{FitsAtWith, FitPlacesWith, PartsNeed}
+use Rattle.p21_basics.proofs.Members.{Contains-first, Contains-later, Each-append}
+use Rattle.p21_claim_values.specs.Needs.{FitPlacesWith, PartsNeed}
 use Rattle.p21_exchange.specs.Parameter.{Param, Params, no_params, param, listed}
 use Rattle.p21_exchange.specs.Record.{Part}
 use Rattle.p21_express_tables.specs.Lookups.{places_from}
 use Rattle.p21_express_tables.proofs.Lookups.{own-places-are, places-more}
-use Rattle.p21_files.specs.Meaning.{Typed, HasValues, HasValueAt, NamesEntity}
+use Rattle.p21_files.specs.Meaning.{Typed, HasValues}
 use Rattle.p21_files.specs.Reference.{Need}
-use Rattle.p21_files.specs.Value.{Value, Values, no_values, value, count, value_at}
+use Rattle.p21_files.specs.Value.{Value, Values, count, value_at}
 use Rattle.p21_grammar_tree.specs.View.{params_of}
 use Rattle.p21_mapping.specs.Rows.{Fitted, IsFitted, FitsHere, FitsRow, Row, IsRow, FitsRows, RowSoFar, TakesRow}
 use Rattle.p21_mapping_sets.proofs.Rows.{flat_map-append}
@@ -20,7 +20,7 @@ use Rattle.p21_mapping_sets.specs.Shape.{AreNamed}
 use Rattle.p21_mapping_text.specs.KnownTypes.{HaveKnownTypes}
 use Rattle.p21_mapping_values.specs.View.{in_row}
 use Rattle.p21_schemas.specs.Order.{own_places}
-use Rattle.p21_schemas.specs.PlaceType.{PlaceType, TypeAt}
+use Rattle.p21_schemas.specs.PlaceType.{TypeAt}
 use Rattle.p21_schemas.specs.Schema.{Schema, Place, attributes_of}
 
 -- ---- rows that grow

@@ -1,10 +1,10 @@
 -- Rows that are read one behind the other.
-use Rattle.std.specs.Prelude.{◌≡◌, ◌≢◌, ◌↔◌, ◌⊎◌, ℕ, zero, suc, ◌+◌, ◌-◌, ◌<◌, ◌≤◌, List, [], ◌∷◌, ◌++◌, length, map, take, drop, slice_get, Some, Contains, refl}
-use Rattle.std.specs.List.{AllByRecursion as Each, AllZip, flat_map, zip}
+use Rattle.std.specs.Prelude.{◌≡◌, ℕ, zero, suc, ◌+◌, ◌-◌, ◌<◌, ◌≤◌, List, [], ◌∷◌, ◌++◌, length, map, take, drop, slice_get, Some, Contains, refl}
+use Rattle.std.specs.List.{AllByRecursion as Each, flat_map, zip}
 use Rattle.std.proofs.Common.{arith, ap, sym, ◌∙◌, subst, inl, inr, append_assoc, get_or}
 use Rattle.std.proofs.lemmas.List.{append-nil, map-append, length-append, take-append-drop, take_all}
-use Rattle.p21_basics.proofs.Members.{Contains-none, Contains-first, Contains-later, Contains-cases, Contains-found, AllZip-second_member}
-use Rattle.p21_exchange.specs.Parameter.{Param, Params, listed}
+use Rattle.p21_basics.proofs.Members.{Contains-none, Contains-later, Contains-cases, Contains-found}
+use Rattle.p21_exchange.specs.Parameter.{Param, listed}
 use Rattle.p21_exchange.specs.Record.{Part, complex}
 use Rattle.p21_express_tables.proofs.Lookups.{numbers-more}
 use Rattle.p21_express_tables.specs.Orders.{numbers}
@@ -13,11 +13,11 @@ use Rattle.p21_files.specs.Meaning.{NamesEntity}
 use Rattle.p21_files.specs.RecordPlaces.{HasPart}
 use Rattle.p21_files.specs.Reference.{Need}
 use Rattle.p21_files.specs.Value.{Value, Values}
-use Rattle.p21_mapping.specs.Rows.{Fitted, FitsRow, Row, IsRow, FitsRows, TakesRow, TakesRows, TakesParts, BreaksAmong}
+use Rattle.p21_mapping.specs.Rows.{Row, IsRow, FitsRows, TakesRow, TakesRows, TakesParts, BreaksAmong}
 use Rattle.p21_mapping.proofs.RowLists.{rows-none, rows-push, row-long}
 use Rattle.p21_mapping_sets.proofs.Rows.{flat_map-more, flat_map-front, AllZip-at_both, AllZip-length, mapped-at, flat_map-append}
 use Rattle.p21_mapping_sets.proofs.Shapes.{own-count}
-use Rattle.p21_mapping_sets.specs.Shape.{AreNamed, HasCounts}
+use Rattle.p21_mapping_sets.specs.Shape.{AreNamed}
 use Rattle.p21_mapping_values.specs.declared.value.Values.{Values as Stored}
 use Rattle.p21_mapping_values.specs.TypedView.{rows_view}
 use Rattle.p21_mapping_values.specs.View.{in_row, list_of, view}

@@ -1,18 +1,18 @@
 -- A record of which nothing is wrong means what was found.
-use Rattle.std.specs.Prelude.{◌≡◌, ◌≢◌, ◌↔◌, ◌⊎◌, ℕ, zero, suc, ◌<◌, List, [], ◌∷◌, ◌++◌, length, map, Contains, refl, nat_eq}
-use Rattle.std.specs.List.{AllByRecursion as Each, AllZip, IsDistinct, flat_map, zip}
-use Rattle.std.proofs.Common.{arith, ap, sym, ◌∙◌, subst, inl, inr}
-use Rattle.p21_basics.proofs.Members.{Contains-none, Contains-first, Contains-later, Contains-cases, Contains-mapped, Each-member, Each-of_members, Each-front, Each-back, AllZip-member, AllZip-second_member}
+use Rattle.std.specs.Prelude.{◌≡◌, ◌≢◌, ℕ, suc, List, [], ◌∷◌, ◌++◌, length, map, Contains, refl}
+use Rattle.std.specs.List.{AllByRecursion as Each, AllZip, flat_map, zip}
+use Rattle.std.proofs.Common.{ap, sym, ◌∙◌, subst, inl, inr}
+use Rattle.p21_basics.proofs.Members.{Contains-none, Contains-first, Contains-later, Contains-cases, Contains-mapped, Each-member, Each-of_members, Each-front, Each-back}
 use Rattle.p21_basics.proofs.Shuffles.{NoneTwice, distinct-none_twice, zip-one}
 use Rattle.p21_claim_values.proofs.Needs.{means-served, needs-can_be_served, needs-references, served-means, served-places}
 use Rattle.p21_claim_values.specs.Needs.{FitPlacesWith, PartsNeed, RecordNeeds, MeansWith}
-use Rattle.p21_exchange.specs.Parameter.{Param, Params, listed}
+use Rattle.p21_exchange.specs.Parameter.{Param, Params}
 use Rattle.p21_exchange.specs.Record.{Part, Record, simple, complex}
 use Rattle.p21_express_tables.specs.Resolved.{HoldsTogether}
 use Rattle.p21_express_tables.proofs.OrderTables.{order-tells}
 use Rattle.p21_files.proofs.BrokenRules.{broken-means_nothing}
 use Rattle.p21_files.proofs.OneMeaning.{NamesEntity-one, RecordMeans-one}
-use Rattle.p21_files.specs.Meaning.{Typed, HasValues, HasOwnCount, FitPlaces, NamesEntity, PartMeans, MeansByMapping, RecordMeans}
+use Rattle.p21_files.specs.Meaning.{Typed, HasValues, HasOwnCount, FitPlaces, PartMeans, MeansByMapping}
 use Rattle.p21_files.specs.Reference.{Kinds, Need, IsServed}
 use Rattle.p21_files.specs.Value.{Values, count}
 use Rattle.p21_grammar_tree.specs.View.{params_of}
@@ -31,7 +31,6 @@ use Rattle.p21_mapping_values.specs.View.{in_row}
 use Rattle.p21_schemas.proofs.OrderedOnce.{order-distinct}
 use Rattle.p21_schemas.specs.Order.{order, places, own_places}
 use Rattle.p21_schemas.specs.Schema.{Schema, attributes_of}
-use Rattle.p21_schemas.specs.Supertype.{IsA}
 use Rattle.p21_schemas.specs.WellFormed.{IsWellFormed, HasDistinctEntities}
 
 pub listed-none_twice : (s : Schema) (r : Record) (es : List ℕ) → IsListed s r es → NoneTwice es

@@ -4,6 +4,7 @@ ghost use Rattle.p21_mapping.specs.Arranged.{AreArranged, DiffersFrom};
 ghost use Rattle.p21_mapping_values.specs.TypedView.{rows_view};
 
 use p21_express_types::EntityId;
+use p21_mapping_sets::Positions;
 use p21_mapping_values::Values;
 use p21_values::NoMemory;
 use std::alloc::Global;
@@ -21,10 +22,11 @@ pub(crate) fn arranged(
     requires each { length rows.items ≡ length listed.now }
     ensures { IfOk result (λ all. AreArranged (numbers listed.now) (rows_view rows.items) (numbers entities.now) (rows_view all.items)) }
 {
+    let positions = Positions::of(alloc, listed)?;
     let mut left = rows;
     let mut all = Vec::with_capacity(alloc, entities.len())?;
     for entity in entities {
-        let at = position(listed, *entity);
+        let at = position(&positions, *entity);
         let row = mem::replace(&mut left[at], Values::from_vec(Vec::new(alloc)));
         all.push(row)?;
     }
@@ -32,14 +34,12 @@ pub(crate) fn arranged(
 }
 
 /// Where an entity stands.
-fn position(listed: &[EntityId], entity: EntityId) -> usize
-    requires { Contains (numbers listed.now) entity.0 }
-    ensures { slice_get (numbers listed.now) result ≡ Some entity.0 }
+fn position(positions: &Positions<'_>, entity: EntityId) -> usize
+    requires { Contains positions.now entity.0 }
+    ensures { slice_get positions.now result ≡ Some entity.0 }
 {
-    for at in 0..listed.len() {
-        if listed[at].0 == entity.0 {
-            return at;
-        }
+    match positions.find(entity) {
+        Some(at) => at,
+        None => unreachable!(),
     }
-    unreachable!()
 }

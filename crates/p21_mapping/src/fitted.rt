@@ -82,8 +82,9 @@ pub(crate) fn fit_row(
     requires enough { length (attributes_of schema.now owner.0) ≤ length (into_iter_items params.old) }
     ensures { MatchResult result (λ values. TakesRow schema.now (numbers entities.now) owner.0 (param_views (into_iter_items params.old)) (param_views (into_iter_items params.new)) (map view (list_of values)) (needs_view needs.old.items) (needs_view needs.new.items)) (RefusesAmong schema.now (numbers entities.now) (zip (own_places schema.now owner.0) (param_views (into_iter_items params.old)))) }
 {
-    let mut values = Vec::new(alloc);
-    for index in 0..schema.attribute_count(owner) {
+    let count = schema.attribute_count(owner);
+    let mut values = Vec::with_capacity(alloc, count as usize)?;
+    for index in 0..count {
         let Some(param) = params.next() else {
             unreachable!()
         };

@@ -5,11 +5,10 @@ use Rattle.std.proofs.Common.{arith, ap, sym, ◌∙◌, subst, inl, inr, get_or
 use Rattle.std.proofs.lemmas.List.{append-nil, length-append, take_more}
 use Rattle.std.proofs.lemmas.Option.{slice_get-get_or, slice_get-map}
 use Rattle.std.specs.Option.{option_map}
-use Rattle.p21_basics.proofs.Members.{Contains-at, Contains-found, Contains-none, Contains-first, Contains-later, Contains-cases}
+use Rattle.p21_basics.proofs.Members.{Contains-found, Contains-none, Contains-first, Contains-later, Contains-cases}
 use Rattle.p21_basics.proofs.Shuffles.{NoneTwice}
 use Rattle.p21_express_tables.proofs.Lookups.{numbers-more}
 use Rattle.p21_express_tables.proofs.Pairs.{AllZip-more}
-use Rattle.p21_mapping_sets.specs.Shape.{HasTwice}
 
 pub AllZip-length : {X Y : Type 0} (R : X → Y → Type 0) (xs : List X) (ys : List Y) → AllZip R xs ys → length xs ≡ length ys
 AllZip-length R [] [] all = refl
@@ -76,17 +75,9 @@ NoneTwice-push {X} (y ∷ ys) x none new = (
   NoneTwice-push ys x none.1 (λ among. new (Contains-later y ys x among)),
 )
 
-module _ {X : Type 0} (number : X → ℕ) (xs : List X) (n : ℕ) (d : X) (low : n < length xs) where
-  -- a number that stands further in front stands twice
-  pub earlier : Contains (map number (take n xs)) (number (get_or xs n d)) → HasTwice (map number xs)
-  earlier among =
-      let (k, at) = Contains-at (map number (take n xs)) (number (get_or xs n d)) among in
-      let (below, at_) = take-at (map number xs) n k (number (get_or xs n d)) (ap (λ ys. slice_get ys k) (sym (map-take number n xs)) ∙ at) in
-      (k, n, number (get_or xs n d), (λ same. absurd (omega (arith, below, same))), at_, slice_get-map number xs n ∙ ap (option_map number) (slice_get-get_or xs n d low))
-
-  -- a number that does not is a new one
-  pub NoneTwice-more : NoneTwice (map number (take n xs)) → ¬ Contains (map number (take n xs)) (number (get_or xs n d)) → NoneTwice (map number (take (n + 1) xs))
-  NoneTwice-more none new = let P : List ℕ → Type 0 = λ ys. NoneTwice ys in subst P (sym (numbers-more number xs n d low)) (NoneTwice-push (map number (take n xs)) (number (get_or xs n d)) none new)
+-- a number that doesn't stand further in front is a new one
+pub NoneTwice-more : {X : Type 0} (number : X → ℕ) (xs : List X) (n : ℕ) (d : X) → n < length xs → NoneTwice (map number (take n xs)) → ¬ Contains (map number (take n xs)) (number (get_or xs n d)) → NoneTwice (map number (take (n + 1) xs))
+NoneTwice-more number xs n d low none new = let P : List ℕ → Type 0 = λ ys. NoneTwice ys in subst P (sym (numbers-more number xs n d low)) (NoneTwice-push (map number (take n xs)) (number (get_or xs n d)) none new)
 
 -- what stands at its place
 pub mapped-at : {X Y : Type 0} (f : X → Y) (xs : List X) (k : ℕ) (d : X) → k < length xs → slice_get (map f xs) k ≡ Some (f (get_or xs k d))

@@ -21,9 +21,9 @@ use Rattle.p21_grammar_tree.specs.declared.param.Param.{Param as Parameter}
 use Rattle.p21_grammar_tree.specs.declared.record.Part as tree
 use Rattle.p21_grammar_tree.specs.View.{items_of, part_view, part_views, views}
 use Rattle.p21_mapping_values.specs.declared.fault.CheckFault.{CheckFault}
-use Rattle.p21_mapping_values.specs.declared.fault.CheckFault.TheVariants.{OneOf, TwoRedeclarations}
+use Rattle.p21_mapping_values.specs.declared.fault.CheckFault.TheVariants.{PartTwice, PartMissing, OneOf, TwoRedeclarations, NoMemory}
 use Rattle.p21_express_tables.specs.Rising.{HaveSame}
-use Rattle.p21_mapping_sets.specs.Shape.{Refuses, AreNamed, HasTwice, IsClosed, LacksSupertype, HasLeaf, HasNoLeaf, PassesSet, RefusesSet, HasCount, HasOtherCount, HasCounts, HasShape}
+use Rattle.p21_mapping_sets.specs.Shape.{Refuses, AreNamed, HasTwice, IsClosed, LacksSupertype, HasLeaf, HasNoLeaf, PassesSet, RefusesMembers, RefusesSet, HasCount, HasOtherCount, HasCounts, HasShape}
 use Rattle.p21_mapping_sets.proofs.Rows.{AllZip-at_second, AllZip-at_both}
 use Rattle.p21_schemas.proofs.PlaceTypes.{IsA-antisymmetric}
 use Rattle.p21_schemas.specs.Order.{order, places, own_places}
@@ -39,17 +39,23 @@ use Rattle.p21_schemas.specs.WellFormed.{HasDistinctEntities}
 pub named-entity : (s : Schema) (key : Key) (e : ℕ) → NamesEntity s key e → (x : _) × (slice_get s.entities e ≡ Some x)
 named-entity s key e (name, (x, at, is), same) = (x, at)
 
-pub twice-breaks : (s : Schema) (parts : List Part) (es : List ℕ) → AreNamed s parts es → HasTwice es → Breaks s (complex parts) 44
+twice-breaks : (s : Schema) (parts : List Part) (es : List ℕ) → AreNamed s parts es → HasTwice es → Breaks s (complex parts) 44
 twice-breaks s parts es named (i, j, e, differ, at, at_) =
     let (part, part_at, (name, is_named, key_is)) = AllZip-at_second (λ (part : Part) x. NamesEntity s part.key x) parts es i e named at in
     let (other, other_at, (name_, is_named_, key_is_)) = AllZip-at_second (λ (part : Part) x. NamesEntity s part.key x) parts es j e named at_ in
     part_twice (i, j, part, other, differ, part_at, other_at, key_is ∙ ap key_of (EntityNamed-one s e name name_ is_named is_named_) ∙ sym key_is_)
 
-pub missing-breaks : (s : Schema) → HasDistinctEntities s → (parts : List Part) (es : List ℕ) → AreNamed s parts es → LacksSupertype s es → Breaks s (complex parts) 43
+missing-breaks : (s : Schema) → HasDistinctEntities s → (parts : List Part) (es : List ℕ) → AreNamed s parts es → LacksSupertype s es → Breaks s (complex parts) 43
 missing-breaks s distinct parts es named (f, (e, among, up), none) =
     let R : Part → ℕ → Type 0 = λ part x. NamesEntity s part.key x in
     let (part, among_, is) = AllZip-second_member R parts es e named among in
     part_missing (f, (part, e, (among_, is), up), λ other has. let (x, x_among, x_is) = AllZip-member R parts es other named has.0 in none (let P : ℕ → Type 0 = λ y. Contains es y in subst P (NamesEntity-one s distinct other.key x f x_is has.1) x_among))
+
+pub members-refuse : (s : Schema) → HasDistinctEntities s → (parts : List Part) (es : List ℕ) → AreNamed s parts es → (fault : CheckFault) → RefusesMembers s es fault → Refuses s (complex parts) fault
+members-refuse s distinct parts es named PartTwice twice _ = twice-breaks s parts es named twice
+members-refuse s distinct parts es named PartMissing lacks _ = missing-breaks s distinct parts es named lacks
+members-refuse s distinct parts es named NoMemory _ other = absurd (other refl)
+members-refuse s distinct parts es named other none _ = absurd none
 
 -- ---- the set
 

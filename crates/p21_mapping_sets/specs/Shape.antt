@@ -12,7 +12,7 @@ use Rattle.p21_files.specs.Meaning.{AreKeywordsRising, HasPlaceTypes, NamesEntit
 use Rattle.p21_files.specs.RecordPlaces.{HasPart, IsSetOf, part_places}
 use Rattle.p21_mapping_values.specs.Fault.{fault_number}
 use Rattle.p21_mapping_values.specs.declared.fault.CheckFault.{CheckFault}
-use Rattle.p21_mapping_values.specs.declared.fault.CheckFault.TheVariants.{Abstract, OneOf, TwoRedeclarations, NoMemory}
+use Rattle.p21_mapping_values.specs.declared.fault.CheckFault.TheVariants.{PartTwice, PartMissing, Abstract, OneOf, TwoRedeclarations, NoMemory}
 use Rattle.p21_schemas.specs.OneOf.{Clashes}
 use Rattle.p21_schemas.specs.Order.{order, own_places}
 use Rattle.p21_schemas.specs.PlaceType.{TypeAt, two_redeclarations}
@@ -38,6 +38,17 @@ IsClosed s es = (f : ℕ) → InClosure s es f → Contains es f
 -- a supertype is not there
 abbrev pub LacksSupertype : Schema → List ℕ → Type 0
 LacksSupertype s es = (f : ℕ) × InClosure s es f × ¬ Contains es f
+
+-- each entity stands once, and all supertypes are there
+abbrev pub AreMembers : Schema → List ℕ → Type 0
+AreMembers s es = IsDistinct nat_eq es × IsClosed s es
+
+-- or not
+abbrev pub RefusesMembers : Schema → List ℕ → CheckFault → Type 0
+RefusesMembers s es PartTwice = HasTwice es
+RefusesMembers s es PartMissing = LacksSupertype s es
+RefusesMembers s es NoMemory = Unit {0}
+RefusesMembers s es other = ⊥
 
 -- a leaf is abstract
 abbrev pub HasLeaf : Schema → List ℕ → Type 0

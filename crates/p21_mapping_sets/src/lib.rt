@@ -6,9 +6,11 @@ mod key;
 mod members;
 mod needed;
 mod places;
+mod positions;
 mod shape;
 
 pub use key::named;
 pub use members::has;
 pub use needed::serves;
+pub use positions::Positions;
 pub use shape::{Shape, shape_of};

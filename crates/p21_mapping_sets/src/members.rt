@@ -4,6 +4,7 @@ ghost use Rattle.p21_express_tables.specs.Lookups.{AreEntities};
 ghost use Rattle.p21_express_tables.specs.Orders.{numbers};
 ghost use Rattle.p21_mapping_sets.specs.Shape.{HasTwice, IsClosed, LacksSupertype};
 
+use crate::positions::Positions;
 use p21_express_tables::Schema;
 use p21_express_types::EntityId;
 
@@ -19,12 +20,16 @@ pub fn has(entities: &[EntityId], entity: EntityId) -> bool
     false
 }
 
-/// Whether an entity stands twice in a row.
-pub(crate) fn has_twice(entities: &[EntityId]) -> bool
-    ensures { MatchBool result (HasTwice (numbers entities.now)) (IsDistinct nat_eq (numbers entities.now)) }
+/// Whether an entity stands twice: one of them stands elsewhere before.
+pub(crate) fn has_twice(positions: &Positions<'_>) -> bool
+    ensures { MatchBool result (HasTwice positions.now) (IsDistinct nat_eq positions.now) }
 {
+    let entities = positions.entities();
     for at in 0..entities.len() {
-        if has(&entities[..at], entities[at]) {
+        let Some(first) = positions.find(entities[at]) else {
+            unreachable!()
+        };
+        if first != at {
             return true;
         }
     }
@@ -32,13 +37,14 @@ pub(crate) fn has_twice(entities: &[EntityId]) -> bool
 }
 
 /// Whether all supertypes of entities are among them.
-pub(crate) fn is_closed(schema: &Schema, entities: &[EntityId]) -> bool
-    requires { AreEntities schema.now (numbers entities.now) }
-    ensures { MatchBool result (IsClosed schema.now (numbers entities.now)) (LacksSupertype schema.now (numbers entities.now)) }
+pub(crate) fn is_closed(schema: &Schema, positions: &Positions<'_>) -> bool
+    requires { AreEntities schema.now positions.now }
+    ensures { MatchBool result (IsClosed schema.now positions.now) (LacksSupertype schema.now positions.now) }
 {
     schema.holds_together();
+    let entities = positions.entities();
     for entity in entities {
-        if !has_all(entities, schema.order_of(*entity)) {
+        if !has_all(positions, schema.order_of(*entity)) {
             return false;
         }
     }
@@ -46,11 +52,11 @@ pub(crate) fn is_closed(schema: &Schema, entities: &[EntityId]) -> bool
 }
 
 /// Whether entities have all others.
-fn has_all(entities: &[EntityId], others: &[EntityId]) -> bool
-    ensures { MatchBool result ((f : ℕ) → Contains (numbers others.now) f → Contains (numbers entities.now) f) ((f : ℕ) × Contains (numbers others.now) f × (Contains (numbers entities.now) f → ⊥)) }
+fn has_all(positions: &Positions<'_>, others: &[EntityId]) -> bool
+    ensures { MatchBool result ((f : ℕ) → Contains (numbers others.now) f → Contains positions.now f) ((f : ℕ) × Contains (numbers others.now) f × (Contains positions.now f → ⊥)) }
 {
     for other in others {
-        if !has(entities, *other) {
+        if !positions.has(*other) {
             return false;
         }
     }

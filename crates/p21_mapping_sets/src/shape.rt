@@ -6,11 +6,12 @@ ghost use Rattle.p21_express_tables.specs.Resolved.{IsEntity};
 ghost use Rattle.p21_grammar_tree.specs.View.{part_view, part_views, record_view};
 ghost use Rattle.p21_schemas.specs.Schema.{IsAbstract};
 ghost use Rattle.p21_schemas.specs.WellFormed.{IsWellFormed};
-ghost use Rattle.p21_mapping_sets.specs.Shape.{HasLeaf, HasNoLeaf, HasShape, IsOwn, PassesOwnSet, PassesSet, Refuses, RefusesOwnSet, RefusesSet};
+ghost use Rattle.p21_mapping_sets.specs.Shape.{AreMembers, HasLeaf, HasNoLeaf, HasShape, IsOwn, PassesOwnSet, PassesSet, Refuses, RefusesMembers, RefusesOwnSet, RefusesSet};
 
 use crate::key::{named, named_entities};
 use crate::members::{has_twice, is_closed};
 use crate::places::{has_count, has_open_place, have_counts};
+use crate::positions::Positions;
 use p21_express_tables::Schema;
 use p21_express_types::EntityId;
 use p21_grammar_tree::{Part, Record};
@@ -90,12 +91,7 @@ fn complex_shape(alloc: Global, schema: &Schema, parts: &[Part]) -> Result<Shape
     ensures { MatchResult result (λ shape. HasShape schema.now (complex (part_views parts.now)) (numbers shape.listed.items) (numbers shape.entities.items) × IsOwn schema.now shape.own (numbers shape.entities.items)) (Refuses schema.now (complex (part_views parts.now))) }
 {
     let listed = named_entities(alloc, schema, parts)?;
-    if has_twice(&listed) {
-        return Err(CheckFault::PartTwice);
-    }
-    if !is_closed(schema, &listed) {
-        return Err(CheckFault::PartMissing);
-    }
+    check_members(alloc, schema, &listed)?;
     let entities = schema.rising(&listed)?;
     let found = has_abstract_leaf(schema, &entities)?;
     if found {
@@ -113,6 +109,21 @@ fn complex_shape(alloc: Global, schema: &Schema, parts: &[Part]) -> Result<Shape
         listed,
         entities,
     })
+}
+
+/// No entity stands twice, and all supertypes are there.
+fn check_members(alloc: Global, schema: &Schema, listed: &[EntityId]) -> Result<(), CheckFault>
+    requires { AreEntities schema.now (numbers listed.now) }
+    ensures { MatchResult result (λ _. AreMembers schema.now (numbers listed.now)) (RefusesMembers schema.now (numbers listed.now)) }
+{
+    let positions = Positions::of(alloc, listed)?;
+    if has_twice(&positions) {
+        return Err(CheckFault::PartTwice);
+    }
+    if !is_closed(schema, &positions) {
+        return Err(CheckFault::PartMissing);
+    }
+    Ok(())
 }
 
 /// No two entities of the set are of one ONEOF list, and no place of it is open.

@@ -2,6 +2,7 @@
 use Rattle.std.proofs.Common.{◌≡◌, ◌+◌, ◌<◌, ◌≤◌, ℕ, zero, suc, List, [], ◌∷◌, ◌++◌, length, map, take, drop, get_or, Option, Some, None, sym, ap, subst, ◌∙◌, arith}
 use Rattle.std.proofs.lemmas.Grind.{flat_map-append}
 use Rattle.std.proofs.lemmas.List.{append_assoc, append-nil, length-append, map-append, take_all, take_more, take-append-drop}
+use Rattle.std.proofs.lemmas.Option.{get_or_from_slice_get}
 use Rattle.std.specs.Io.KnownBytes.{Appends}
 use Rattle.std.specs.List.{flat_map, AllByRecursion as Each}
 use Rattle.std.specs.Prelude.{slice_get}
@@ -95,6 +96,10 @@ part_unput old new w t none a = let P : List ℕ → Type 0 = λ l. AppendsPartO
 
 pub text-got : (kept : List Kept) (place : ℕ) (x : Kept) → slice_get kept place ≡ Some x → x.text ≡ text_at kept place
 text-got kept place x got = sym (ap (λ (o : Option Kept). elim o [ Some y ↦ y.text | None ↦ [] ]) got)
+
+-- the place stands in a list of places
+pub text-placed : (kept : List Kept) (places : List ℕ) (k place : ℕ) (x : Kept) → slice_get places k ≡ Some place → slice_get kept place ≡ Some x → x.text ≡ text_at kept (get_or places k 0)
+text-placed kept places k place x at got = text-got kept place x got ∙ ap (text_at kept) (sym (get_or_from_slice_get places k place 0 at))
 
 pub each-read : {X : Type 0} (P : X → Type 0) (xs : List X) (k : ℕ) (d : X) → Each P xs → k < length xs → P (get_or xs k d)
 each-read P [] k d each low = absurd (omega (arith, low))

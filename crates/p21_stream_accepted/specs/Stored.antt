@@ -17,10 +17,10 @@ abbrev pub ArePlaces : List Kept → List ℕ → Type 0
 ArePlaces kept places = Each (λ (place : ℕ). place < length kept) places
 
 abbrev pub ArePlaced : List Kept → List Section → Type 0
-ArePlaced kept sections = Each (λ (x : Section). ArePlaces kept x.places.items) sections
+ArePlaced kept sections = Each (λ (x : Section). ArePlaces kept x.places) sections
 
 abbrev pub written_of : List Kept → Section → Written
-written_of kept x = record { line = x.line.items; texts = texts_at kept x.places.items }
+written_of kept x = record { line = x.line.items; texts = texts_at kept x.places }
 
 abbrev pub output_of : List ℕ → List Section → List Kept → Output
 output_of header sections kept = record { header = header; sections = map (written_of kept) sections; kept = kept }

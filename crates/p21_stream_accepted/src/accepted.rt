@@ -9,7 +9,7 @@ ghost use Rattle.p21_stream_store.specs.Kept.{Kept, kept_names};
 use crate::compare::is_file;
 use crate::output::write_file;
 use p21_stream_io::{Watched, WriteFault};
-use p21_stream_store::Instances;
+use p21_stream_store::{Instances, Numbers};
 use p21_values::Name;
 use std::io::Write;
 use std::marker::Model;
@@ -19,7 +19,7 @@ use std::marker::Model;
 #[derive(Drop)]
 pub struct Section {
     pub line: Vec<u8>,
-    pub places: Vec<u32>,
+    pub places: Numbers,
 }
 
 /// An accepted file in its canonical form.

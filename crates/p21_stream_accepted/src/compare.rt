@@ -5,7 +5,7 @@ ghost use Rattle.p21_stream_accepted.specs.Output.{header_text, line_of, lines_o
 ghost use Rattle.p21_stream_accepted.specs.Stored.{ArePlaced, ArePlaces, output_of, texts_at, written_of};
 
 use crate::accepted::Section;
-use p21_stream_store::Instances;
+use p21_stream_store::{Instances, Numbers};
 
 /// Whether a text is that of a file.
 pub(crate) fn is_file(
@@ -78,7 +78,7 @@ fn behind_sections<'a>(
 
 /// The rest behind a data section.
 fn behind_section<'a>(text: &'a [u8], instances: &Instances, section: &Section) -> Option<&'a [u8]>
-    requires { ArePlaces instances.now section.now.places.items }
+    requires { ArePlaces instances.now section.now.places }
     ensures { MatchOption result (BeginsNot text.now (section_text (written_of instances.now section.now)))
         (λ rest. text.now ≡ section_text (written_of instances.now section.now) ++ rest.now) }
 {
@@ -92,14 +92,15 @@ fn behind_section<'a>(text: &'a [u8], instances: &Instances, section: &Section) 
 }
 
 /// The rest behind the lines of instances.
-fn behind_lines<'a>(text: &'a [u8], instances: &Instances, places: &[u32]) -> Option<&'a [u8]>
+fn behind_lines<'a>(text: &'a [u8], instances: &Instances, places: &Numbers) -> Option<&'a [u8]>
     requires { ArePlaces instances.now places.now }
     ensures { MatchOption result (BeginsNot text.now (lines_of (texts_at instances.now places.now)))
         (λ rest. text.now ≡ lines_of (texts_at instances.now places.now) ++ rest.now) }
 {
     let mut left = text;
-    for place in places {
-        let (_, _, line) = instances.get(*place as usize);
+    for index in 0..places.len() {
+        let place = places.get(index);
+        let (_, _, line) = instances.get(place);
         let Some(rest) = behind_line(left, line) else {
             return None;
         };

@@ -8,7 +8,7 @@ ghost use Rattle.p21_stream_io.specs.Watch.{counted};
 
 use crate::accepted::Section;
 use p21_stream_io::{Waiting, Watched, WriteFault};
-use p21_stream_store::Instances;
+use p21_stream_store::{Instances, Numbers};
 use std::io::Write;
 
 /// Puts a text and a line feed behind the bytes that wait.
@@ -37,7 +37,7 @@ fn put_lines<W: Write>(
     waiting: &mut Waiting,
     writer: &mut Watched<W>,
     instances: &Instances,
-    places: &[u32],
+    places: &Numbers,
 ) -> Result<(), WriteFault>
     requires { ArePlaces instances.now places.now }
     ensures ok { OnOk result (AppendsAllBut (W.contents writer.old.inner) (W.contents writer.new.inner) (waiting.old ++ lines_of (texts_at instances.now places.now)) waiting.new) }
@@ -46,8 +46,9 @@ fn put_lines<W: Write>(
     ensures written { OnOk result (writer.new.failures ≡ writer.old.failures) }
     ensures failed { OnErr result (writer.new.failures ≡ counted writer.old.failures) }
 {
-    for place in places {
-        let (_, _, text) = instances.get(*place as usize);
+    for index in 0..places.len() {
+        let place = places.get(index);
+        let (_, _, text) = instances.get(place);
         let Ok(()) = put_line(waiting, writer, text) else {
             return Err(WriteFault);
         };
@@ -62,7 +63,7 @@ fn put_section<W: Write>(
     instances: &Instances,
     section: &Section,
 ) -> Result<(), WriteFault>
-    requires { ArePlaces instances.now section.now.places.items }
+    requires { ArePlaces instances.now section.now.places }
     ensures ok { OnOk result (AppendsAllBut (W.contents writer.old.inner) (W.contents writer.new.inner) (waiting.old ++ section_text (written_of instances.now section.now)) waiting.new) }
     ensures err { OnErr result (AppendsPartOf (W.contents writer.old.inner) (W.contents writer.new.inner) (waiting.old ++ section_text (written_of instances.now section.now))) }
 

@@ -6,6 +6,5 @@ pub mod Headings
 pub mod Blocks
 pub mod Places
 pub mod Zipped
-pub mod Sizes
 pub mod Whole
 pub mod Written

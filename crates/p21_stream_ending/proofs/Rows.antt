@@ -3,6 +3,7 @@ use Rattle.std.proofs.Common.{◌≡◌, ◌+◌, ◌<◌, ◌≤◌, ℕ, zero,
 use Rattle.std.proofs.lemmas.Bool.Decides.{eqb_tells}
 use Rattle.std.specs.Prelude.{filter}
 use Rattle.std.proofs.lemmas.List.{append_assoc, append-nil, take_more}
+use Rattle.std.proofs.lemmas.Option.{get_or_from_slice_get, slice_get_within}
 use Rattle.std.specs.Prelude.{slice_get, Some}
 use Rattle.p21_stream_ending.specs.Filing.{filed, heads_of, rows_of, with_place}
 use Rattle.p21_stream_ending.specs.Parts.{AreEmpty}
@@ -13,21 +14,23 @@ filed-more f [] place rows = refl
 filed-more f (x ∷ order) place rows = filed-more f order place (with_place (f x) x rows)
 
 -- one more is filed
-pub more-filed : (f : ℕ → ℕ) (order : List ℕ) (k d section : ℕ) (old now new : List (List ℕ)) → k < length order → now ≡ filed f (take k order) old → section ≡ f (get_or order k d) → new ≡ with_place section (get_or order k d) now → new ≡ filed f (take (k + 1) order) old
-more-filed f order k d section old now new low so_far is more =
-    more ∙ ap (λ (n : ℕ). with_place n (get_or order k d) now) is ∙ ap (with_place (f (get_or order k d)) (get_or order k d)) so_far ∙ sym (filed-more f (take k order) (get_or order k d) old) ∙ ap (λ (o : List ℕ). filed f o old) (sym (take_more order k d low))
+pub more-filed : (f : ℕ → ℕ) (order : List ℕ) (k place section : ℕ) (old now new : List (List ℕ)) → slice_get order k ≡ Some place → now ≡ filed f (take k order) old → section ≡ f place → new ≡ with_place section place now → new ≡ filed f (take (k + 1) order) old
+more-filed f order k place section old now new at so_far is more =
+    more ∙ ap (λ (n : ℕ). with_place n place now) is ∙ ap (with_place (f place) place) so_far ∙ sym (filed-more f (take k order) place old)
+    ∙ ap (λ (p : ℕ). filed f (take k order ++ p ∷ []) old) (sym (get_or_from_slice_get order k place place at))
+    ∙ ap (λ (o : List ℕ). filed f o old) (sym (take_more order k place (slice_get_within order k place at)))
 
 -- ---- one row is longer, and the names and lines are as before
 
-pub row-put : (parts : List Part) (section place : ℕ) (old new : Part) → section < length parts → ((d : Part) → old ≡ get_or parts section d) → new.places.items ≡ old.places.items ++ place ∷ [] → rows_of (slice_set parts section new) ≡ with_place section place (rows_of parts)
+pub row-put : (parts : List Part) (section place : ℕ) (old new : Part) → section < length parts → ((d : Part) → old ≡ get_or parts section d) → new.places ≡ old.places ++ place ∷ [] → rows_of (slice_set parts section new) ≡ with_place section place (rows_of parts)
 row-put [] section place old new low at longer = absurd (omega (arith, low))
-row-put (part ∷ parts) zero place old new low at longer = ap (λ (ns : List ℕ). ns ∷ rows_of parts) (longer ∙ ap (λ (x : Part). x.places.items ++ place ∷ []) (at part))
-row-put (part ∷ parts) (suc section) place old new low at longer = ap (λ (more : List (List ℕ)). part.places.items ∷ more) (row-put parts section place old new (omega (arith, low)) (λ d. at d) longer)
+row-put (part ∷ parts) zero place old new low at longer = ap (λ (ns : List ℕ). ns ∷ rows_of parts) (longer ∙ ap (λ (x : Part). x.places ++ place ∷ []) (at part))
+row-put (part ∷ parts) (suc section) place old new low at longer = ap (λ (more : List (List ℕ)). part.places ∷ more) (row-put parts section place old new (omega (arith, low)) (λ d. at d) longer)
 
 pub row-none : (parts : List Part) (section place : ℕ) → length parts ≤ section → rows_of parts ≡ with_place section place (rows_of parts)
 row-none [] section place above = refl
 row-none (part ∷ parts) zero place above = absurd (omega (arith, above))
-row-none (part ∷ parts) (suc section) place above = ap (λ (more : List (List ℕ)). part.places.items ∷ more) (row-none parts section place (omega (arith, above)))
+row-none (part ∷ parts) (suc section) place above = ap (λ (more : List (List ℕ)). part.places ∷ more) (row-none parts section place (omega (arith, above)))
 
 pub heads-put : (parts : List Part) (section : ℕ) (old new : Part) → ((d : Part) → old ≡ get_or parts section d) → new.name.items ≡ old.name.items → new.line.items ≡ old.line.items → heads_of (slice_set parts section new) ≡ heads_of parts
 heads-put [] section old new at name line = refl
@@ -77,9 +80,9 @@ row-filed f (place ∷ order) rows i low =
           ∙ ap (λ (b : Bool). get_or rows i [] ++ cond b (place ∷ filter (λ (p : ℕ). nat_eq (f p) i) order) (filter (λ (p : ℕ). nat_eq (f p) i) order)) (sym other)
     ]
 
-row-at : (parts : List Part) (i : ℕ) (part : Part) → slice_get parts i ≡ Some part → (part.places.items ≡ get_or (rows_of parts) i []) × (i < length (rows_of parts))
+row-at : (parts : List Part) (i : ℕ) (part : Part) → slice_get parts i ≡ Some part → (part.places ≡ get_or (rows_of parts) i []) × (i < length (rows_of parts))
 row-at [] i part at = cc
-row-at (x ∷ parts) zero part at = let same : x ≡ part = cc in (ap (λ (y : Part). y.places.items) (sym same), omega arith)
+row-at (x ∷ parts) zero part at = let same : x ≡ part = cc in (ap (λ (y : Part). y.places) (sym same), omega arith)
 row-at (x ∷ parts) (suc i) part at = let rest = row-at parts i part at in (rest.0, let below = rest.1 in omega (arith, below))
 
 row-empty : (parts : List Part) (i : ℕ) → AreEmpty parts → get_or (rows_of parts) i [] ≡ []
@@ -88,7 +91,7 @@ row-empty (x ∷ parts) zero none = none.0
 row-empty (x ∷ parts) (suc i) none = row-empty parts i none.1
 
 -- where they held none
-pub part-filed : (f : ℕ → ℕ) (order : List ℕ) (old new : List Part) → AreEmpty old → rows_of new ≡ filed f order (rows_of old) → (i : ℕ) (part : Part) → slice_get new i ≡ Some part → part.places.items ≡ filter (λ (place : ℕ). nat_eq (f place) i) order
+pub part-filed : (f : ℕ → ℕ) (order : List ℕ) (old new : List Part) → AreEmpty old → rows_of new ≡ filed f order (rows_of old) → (i : ℕ) (part : Part) → slice_get new i ≡ Some part → part.places ≡ filter (λ (place : ℕ). nat_eq (f place) i) order
 part-filed f order old new none are i part at =
     let (row, low) = row-at new i part at in
     let many = ap length are ∙ filed-size f order (rows_of old) in

@@ -43,18 +43,18 @@ below-range n p (k, within, is) =
     let same = get_or-range_with_len 0 n k p low in
     omega (arith, low, is, same)
 
-sections-placed : (instances : List store.Kept) (sections : List Section) (parts : List Part) → sections_bodies sections ≡ bodies_of parts → Each (λ (x : Part). ArePlaces instances x.places.items) parts → ArePlaced instances sections
+sections-placed : (instances : List store.Kept) (sections : List Section) (parts : List Part) → sections_bodies sections ≡ bodies_of parts → Each (λ (x : Part). ArePlaces instances x.places) parts → ArePlaced instances sections
 sections-placed instances [] parts same all = tt
 sections-placed instances (x ∷ sections) [] same all = cc
 sections-placed instances (x ∷ sections) (part ∷ parts) same all =
-    let pair : (x.line.items, x.places.items) ≡ (part.line.items, part.places.items) = cc in
+    let pair : (x.line.items, x.places) ≡ (part.line.items, part.places) = cc in
     let rest : sections_bodies sections ≡ bodies_of parts = cc in
     (subst (ArePlaces instances) (sym (ap (λ (p : List ℕ × List ℕ). p.1) pair)) all.0, sections-placed instances sections parts rest all.1)
 
 pub placed : (kinds : List Kind) (instances : List store.Kept) (old filed sorted : List Part) (sections : List Section) → AreEmpty old → IsFiling kinds instances (rows_of old) (rows_of filed) → IsPermutation filed sorted → sections_bodies sections ≡ bodies_of sorted → ArePlaced instances sections
-placed kinds instances old filed sorted sections none filing are same = sections-placed instances sections sorted same (Each-of_members (λ (x : Part). ArePlaces instances x.places.items) sorted each)
+placed kinds instances old filed sorted sections none filing are same = sections-placed instances sections sorted same (Each-of_members (λ (x : Part). ArePlaces instances x.places) sorted each)
   where
-    each : (x : Part) → Contains sorted x → ArePlaces instances x.places.items
+    each : (x : Part) → Contains sorted x → ArePlaces instances x.places
     each x among =
         let (i, at) = Contains-at filed x (Contains-permutation sorted filed x (IsPermutation-sym filed sorted are) among) in
         subst (ArePlaces instances) (sym (part-filed (section_at kinds instances) filing.order old filed none filing.filed_ i x at))
@@ -68,7 +68,7 @@ record IsPartOf (instances : List store.Kept) (part : Part) (b : Block) : Type 0
   name_is : part.name.items ≡ spelled_name b.heading
   line_is : part.line.items ≡ statement_text (section (data_start b.heading))
   characters : Each (Each IsScalar) (heading_names b.heading)
-  texts_are : texts_at instances part.places.items ≡ map (λ (l : Line). l.1) b.lines
+  texts_are : texts_at instances part.places ≡ map (λ (l : Line). l.1) b.lines
 
 abbrev lines_at : (ℕ → Stored) → List ℕ → ℕ → List Line
 lines_at at order number = lines_of (map at (filter (λ (p : ℕ). nat_eq (at p).section number) order))
@@ -78,7 +78,7 @@ blocks_from at order number [] = []
 blocks_from at order number (heading ∷ headings) = record { heading = heading; lines = lines_at at order number } ∷ blocks_from at order (number + 1) headings
 
 blocks-of_parts : (kinds : List Kind) (instances : List store.Kept) (order : List ℕ) (number : ℕ) (headings : List Heading) (old new : List Part) → AllZip Begins headings old → heads_of new ≡ heads_of old
-    → ((i : ℕ) (part : Part) → slice_get new i ≡ Some part → part.places.items ≡ filter (λ (p : ℕ). nat_eq (section_at kinds instances p) (number + i)) order) → AllZip (IsPartOf instances) new (blocks_from (stored_at_place kinds instances) order number headings)
+    → ((i : ℕ) (part : Part) → slice_get new i ≡ Some part → part.places ≡ filter (λ (p : ℕ). nat_eq (section_at kinds instances p) (number + i)) order) → AllZip (IsPartOf instances) new (blocks_from (stored_at_place kinds instances) order number headings)
 blocks-of_parts kinds instances order number [] [] [] all same rows = tt
 blocks-of_parts kinds instances order number [] [] (new ∷ news) all same rows = cc
 blocks-of_parts kinds instances order number [] (old ∷ olds) news all same rows = absurd all
@@ -88,7 +88,7 @@ blocks-of_parts kinds instances order number (heading ∷ headings) (old ∷ old
     let pair : (new.name.items, new.line.items) ≡ (old.name.items, old.line.items) = cc in
     let rest : heads_of news ≡ heads_of olds = cc in
     let first : number + 0 ≡ number = omega arith in
-    let places : new.places.items ≡ filter (λ (p : ℕ). nat_eq (section_at kinds instances p) number) order = rows 0 new refl ∙ ap (λ (n : ℕ). filter (λ (p : ℕ). nat_eq (section_at kinds instances p) n) order) first in (
+    let places : new.places ≡ filter (λ (p : ℕ). nat_eq (section_at kinds instances p) number) order = rows 0 new refl ∙ ap (λ (n : ℕ). filter (λ (p : ℕ). nat_eq (section_at kinds instances p) n) order) first in (
       record {
         name_is = ap (λ (p : List ℕ × List ℕ). p.0) pair ∙ all.0.name_is;
         line_is = ap (λ (p : List ℕ × List ℕ). p.1) pair ∙ all.0.line_is;
@@ -131,7 +131,7 @@ parts-written instances [] (part ∷ parts) blocks same all = cc
 parts-written instances (x ∷ sections) [] blocks same all = cc
 parts-written instances (x ∷ sections) (part ∷ parts) [] same all = absurd all
 parts-written instances (x ∷ sections) (part ∷ parts) (b ∷ blocks) same all =
-    let pair : (x.line.items, x.places.items) ≡ (part.line.items, part.places.items) = cc in
+    let pair : (x.line.items, x.places) ≡ (part.line.items, part.places) = cc in
     let rest : sections_bodies sections ≡ bodies_of parts = cc in
     (record { line_is = ap (λ (p : List ℕ × List ℕ). p.0) pair ∙ all.0.line_is; texts_are = ap (λ (p : List ℕ × List ℕ). texts_at instances p.1) pair ∙ all.0.texts_are }, parts-written instances sections parts blocks rest all.1)
 

@@ -29,20 +29,20 @@ same-section kinds instances place x kind at of =
     ap (λ (y : Option Kept). elim y [ Some z ↦ section_in kinds z.kind | None ↦ 0 ]) at ∙ ap (λ (k : Option Kind). elim k [ Some l ↦ l.section | None ↦ 0 ]) of
 
 -- where the place of an instance stands in a section, its text stands in that of the file
-in-sections : (instances : List Kept) (sections : List Section) (parts : List Part) (part : Part) (place : ℕ) (x : Kept) → sections_bodies sections ≡ bodies_of parts → Contains parts part → Contains part.places.items place → slice_get instances place ≡ Some x
-    → (section : Section) × Contains sections section × Contains (texts_at instances section.places.items) x.text
+in-sections : (instances : List Kept) (sections : List Section) (parts : List Part) (part : Part) (place : ℕ) (x : Kept) → sections_bodies sections ≡ bodies_of parts → Contains parts part → Contains part.places place → slice_get instances place ≡ Some x
+    → (section : Section) × Contains sections section × Contains (texts_at instances section.places) x.text
 in-sections instances sections parts part place x same at among is =
-    let P : List (List ℕ × List ℕ) → Type 0 = λ bodies. Contains bodies (part.line.items, part.places.items) in
-    let body = subst P (sym same) (Contains-mapped (λ (y : Part). (y.line.items, y.places.items)) parts part at) in
-    let (section, found, are) = Contains-unmapped (λ (y : Section). (y.line.items, y.places.items)) sections (part.line.items, part.places.items) body in
+    let P : List (List ℕ × List ℕ) → Type 0 = λ bodies. Contains bodies (part.line.items, part.places) in
+    let body = subst P (sym same) (Contains-mapped (λ (y : Part). (y.line.items, y.places)) parts part at) in
+    let (section, found, are) = Contains-unmapped (λ (y : Section). (y.line.items, y.places)) sections (part.line.items, part.places) body in
     let Q : List ℕ → Type 0 = λ places. Contains places place in
-    let T : List ℕ → Type 0 = λ text. Contains (texts_at instances section.places.items) text in
+    let T : List ℕ → Type 0 = λ text. Contains (texts_at instances section.places) text in
     let places = subst Q (sym (ap (λ (p : List ℕ × List ℕ). p.1) are)) among in
-    (section, found, subst T (same-text instances place x is) (Contains-mapped (text_at instances) section.places.items place places))
+    (section, found, subst T (same-text instances place x is) (Contains-mapped (text_at instances) section.places place places))
 
 -- the part of a section of this number holds the place
 in-part : (kinds : List Kind) (instances : List Kept) (old filed : List Part) → AreEmpty old → heads_of filed ≡ heads_of old → IsFiling kinds instances (rows_of old) (rows_of filed) → (place number : ℕ) → place < length instances → section_at kinds instances place ≡ number → number < length old
-    → (part : Part) × Contains filed part × Contains part.places.items place
+    → (part : Part) × Contains filed part × Contains part.places place
 in-part kinds instances old filed none heads filing place number below is low =
     let many : length filed ≡ length old = sym (length-map filed (λ (x : Part). (x.name.items, x.line.items))) ∙ ap length heads ∙ length-map old (λ (x : Part). (x.name.items, x.line.items)) in
     elim (slice_get_cases filed number).1 [

@@ -1,6 +1,6 @@
 -- The accepted file of what a session has kept.
 use Rattle.std.specs.List.{AllZip, IsDistinct, AllByRecursion as Each}
-use Rattle.std.specs.Prelude.{◌≡◌, ℕ, List, [], map, nat_eq, slice_get, Option, Some, None}
+use Rattle.std.specs.Prelude.{◌≡◌, ℕ, List, [], length, map, nat_eq, slice_get, Option, Some, None}
 use Rattle.std.specs.Str.{bytes_eq}
 use Rattle.p21_claim.specs.Ended.{Block, Line}
 use Rattle.p21_claim_steps.specs.Keeping.{AreBlocksOf, Kept, text_with}
@@ -31,6 +31,13 @@ pub record StandsIn (kept : Kept) (header : List ℕ) (parts : List Part) (kinds
 pub record HasNamesOnce (kept : Kept) : Type 0 where
   pub sections : IsDistinct bytes_eq (section_names kept.headings)
   pub instances : IsDistinct nat_eq (map (λ (x : Stored). x.name) kept.stored)
+
+-- what stands in these and is kept has a file of so many bytes
+pub record HasSize (header : List ℕ) (parts : List Part) (kinds : List Kind) (instances : List store.Kept) (size : ℕ) : Type 0 where
+  pub kept : Kept
+  pub stands : StandsIn kept header parts kinds instances
+  pub once : HasNamesOnce kept
+  pub size_is : (blocks : List Block) → AreBlocksOf kept blocks → length (text_with kept.header blocks) ≡ size
 
 -- the text of each instance begins with its name
 abbrev pub AreNamed : List store.Kept → Type 0

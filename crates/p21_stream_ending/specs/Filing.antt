@@ -24,7 +24,7 @@ section_at kinds kept place = elim (slice_get kept place) [ Some x ↦ section_i
 
 -- the places of each section
 abbrev pub rows_of : List Part → List (List ℕ)
-rows_of parts = map (λ (x : Part). x.places.items) parts
+rows_of parts = map (λ (x : Part). x.places) parts
 
 -- the name and the line of each
 abbrev pub heads_of : List Part → List (List ℕ × List ℕ)

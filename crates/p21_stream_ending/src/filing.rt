@@ -4,7 +4,7 @@ ghost use Rattle.p21_stream_ending.specs.Filing.{AreKinds, IsFiling, filed, head
 
 use crate::parts::Part;
 use p21_stream_kinds::Kinds;
-use p21_stream_store::Instances;
+use p21_stream_store::{Instances, Numbers};
 use p21_values::NoMemory;
 use std::alloc::Global;
 
@@ -32,36 +32,36 @@ fn file(
     parts: &mut Vec<Part>,
     kinds: &Kinds,
     instances: &Instances,
-    order: &[u32],
+    order: &Numbers,
 ) -> Result<(), NoMemory>
     requires { AreKinds kinds.now instances.now }
     ensures heads { heads_of parts.new.items ≡ heads_of parts.old.items }
     ensures rows { OnOk result (rows_of parts.new.items ≡ filed (section_at kinds.now instances.now) order.now (rows_of parts.old.items)) }
 {
-    for place in order {
-        let section = section_of(kinds, instances, *place);
-        put(parts, section, *place)?;
+    for index in 0..order.len() {
+        let place = order.get(index);
+        let section = section_of(kinds, instances, place);
+        put(parts, section, place)?;
     }
     Ok(())
 }
 
 /// Adds a place to a section, if there is one of this number.
-fn put(parts: &mut Vec<Part>, section: u32, place: u32) -> Result<(), NoMemory>
+fn put(parts: &mut Vec<Part>, section: usize, place: usize) -> Result<(), NoMemory>
     ensures heads { heads_of parts.new.items ≡ heads_of parts.old.items }
     ensures rows { OnOk result (rows_of parts.new.items ≡ with_place section place (rows_of parts.old.items)) }
 {
-    if let Some(part) = parts.get_mut(section as usize) {
+    if let Some(part) = parts.get_mut(section) {
         part.places.push(place)?;
     }
     Ok(())
 }
 
 /// The number of the section of the instance at a place.
-fn section_of(kinds: &Kinds, instances: &Instances, place: u32) -> u32
+fn section_of(kinds: &Kinds, instances: &Instances, place: usize) -> usize
     requires { AreKinds kinds.now instances.now }
     ensures { result ≡ section_at kinds.now instances.now place }
 {
-    let place = place as usize;
     if place >= instances.len() {
         return 0;
     }

@@ -4,7 +4,6 @@
 mod ending;
 mod filing;
 mod parts;
-mod size;
 
 pub use ending::accepted;
 pub use parts::Part;

@@ -3,3 +3,4 @@ pub mod Stepping
 pub mod Finishing
 pub mod Opening
 pub mod Quiet
+pub mod Passing

@@ -227,15 +227,19 @@ front-file ended opened given f = record {
   are_first = f.are_first;
 }
 
-of-file : (event : Option Event) (parsing : GrammarHistory) (depth : ℕ) (before : List Statement) → BeginsFile (flat_map statement_tokens before) before → GivesOfFile event parsing → IsEndedBy parsing.taken depth parsing.given
-    → parsing.given ≡ before ++ statements_of event → BeginsFile (flat_map statement_tokens (before ++ statements_of event)) (before ++ statements_of event)
-of-file None parsing depth before file gives ended same = subst (λ (g : List Statement). BeginsFile (flat_map statement_tokens g) g) (sym (append-nil before)) file
-of-file (Some event) parsing depth before file gives ended same =
+-- where a file begins with the tokens taken, it begins with those of the statements given
+pub of-given : (parsing : GrammarHistory) (depth : ℕ) (given : List Statement) → BeginsFile parsing.taken parsing.given → IsEndedBy parsing.taken depth parsing.given → parsing.given ≡ given → BeginsFile (flat_map statement_tokens given) given
+of-given parsing depth given begins ended same =
     let opened = ended.depth_is.opened in
     let tokens_are : parsing.taken ≡ flat_map statement_tokens parsing.given ++ opened = ended.depth_is.open_statement.given_are ∙ ap (λ (ts : List Token). ts ++ opened) ended.ended_are in
     let own : BeginsFile (flat_map statement_tokens parsing.given) parsing.given =
-    front-file (flat_map statement_tokens parsing.given) opened parsing.given (subst (λ (ts : List Token). BeginsFile ts parsing.given) tokens_are gives) in
+    front-file (flat_map statement_tokens parsing.given) opened parsing.given (subst (λ (ts : List Token). BeginsFile ts parsing.given) tokens_are begins) in
     subst (λ (g : List Statement). BeginsFile (flat_map statement_tokens g) g) same own
+
+of-file : (event : Option Event) (parsing : GrammarHistory) (depth : ℕ) (before : List Statement) → BeginsFile (flat_map statement_tokens before) before → GivesOfFile event parsing → IsEndedBy parsing.taken depth parsing.given
+    → parsing.given ≡ before ++ statements_of event → BeginsFile (flat_map statement_tokens (before ++ statements_of event)) (before ++ statements_of event)
+of-file None parsing depth before file gives ended same = subst (λ (g : List Statement). BeginsFile (flat_map statement_tokens g) g) (sym (append-nil before)) file
+of-file (Some event) parsing depth before file gives ended same = of-given parsing depth (before ++ statements_of (Some event)) gives ended same
 
 pub went-on : (old : Held) (piece : List ℕ) (count : ℕ) (token : TokenRead) (lexer : tokens_held.Held) (event : Option Event) (parser : grammar_held.Held) → tokens.NextGives old.lexer piece (Ok (count, Some token)) lexer
     → grammar.TakeGives old.parser (meant token) (Ok event) parser → (reading : Reading) (live : IsLive old reading) → IsSeenAt reading.seen piece 0 → GoesOn reading (length live.history.given) piece count (statements_of event) (record { lexer = lexer; parser = parser })

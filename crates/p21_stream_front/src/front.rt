@@ -1,7 +1,9 @@
-ghost use Rattle.std.specs.Prelude.{◌≡◌, ◌≤◌, ◌+◌, [], length, IfErr, None};
+ghost use Rattle.std.specs.Prelude.{◌≡◌, ◌≤◌, ◌↔◌, ◌+◌, [], length, IfErr, IsTrue, None, true, false};
 ghost use Rattle.p21_exchange.specs.OpenNesting.{IsDepth};
+ghost use Rattle.p21_grammar.specs.Between.{StandsForMore};
 ghost use Rattle.p21_stream_fault.specs.Source.{IsOfBytes};
 ghost use Rattle.p21_stream_front.specs.Front.{FinishGives, HasOpen, IsLive, NeedsNoMemory, Reading, StepGives, TakesOf, limits_of, new_reading};
+ghost use Rattle.p21_stream_front.specs.Passing.{GivesPassed, IsAtRest, IsBetweenInstances, passed, room_of};
 
 use p21_grammar::{Event, GrammarFault, Line, Parser};
 use p21_stream_fault::Fault;
@@ -110,6 +112,43 @@ impl Front {
         ensures depth { result ≡ self.now.parser.depth }
     {
         self.parser.depth() as u64
+    }
+
+    /// Does it stand in a data section, between two tokens, with no statement open? Then instances that are read elsewhere
+    /// may be passed over. It takes no memory.
+    pub fn is_between_instances(&self) -> bool
+        ensures value { IsTrue result ↔ IsBetweenInstances self.now }
+        ensures rests { result ≡ true → (reading : Reading) → IsLive self.now reading → IsAtRest reading }
+        ensures stands { result ≡ true → StandsForMore self.now.parser }
+    {
+        if !self.lexer.is_resting() {
+            return false;
+        }
+        self.parser.is_between_instances()
+    }
+
+    /// How many bytes of whole instances the limits allow, also where one instance has them all. It takes no memory.
+    pub fn room_for_statements(&self) -> u64
+        ensures value { result ≡ room_of self.now }
+    {
+        self.lexer.room_for_statements()
+    }
+
+    /// Passes over bytes of whole instances, with separators around their tokens, as if it had taken them; says whether it
+    /// did. It does where it stands between instances and has room for as many. The caller has read them. It takes no
+    /// memory.
+    pub fn pass_over(&mut self, count: usize) -> bool
+        ensures passes { IsTrue result ↔ (IsBetweenInstances self.old × (count ≤ room_of self.old)) }
+        ensures held { result ≡ true → self.new ≡ passed self.old count }
+        ensures left { result ≡ false → self.new ≡ self.old }
+        ensures gives { result ≡ true → GivesPassed self.old count self.new }
+        ensures limits { limits_of self.new ≡ limits_of self.old }
+        ensures depth { self.new.parser.depth ≡ self.old.parser.depth }
+    {
+        if !self.is_between_instances() {
+            return false;
+        }
+        self.lexer.pass_over(count)
     }
 }
 

@@ -8,16 +8,17 @@ use Rattle.std.specs.Prelude.{IfOk, Result}
 use Rattle.std.specs.Str.{bytes_eq}
 use Rattle.p21_basics.proofs.Members.{Each-append}
 use Rattle.p21_basics.specs.Limits.{Limits}
-use Rattle.p21_claim_steps.proofs.Keeps.{keeps-section_names}
+use Rattle.p21_claim_steps.proofs.Keeps.{keeps-section_names, keeps-text_size}
 use Rattle.p21_claim_steps.proofs.Output.{keeps-names_differ}
 use Rattle.p21_claim_steps.specs.Keeping.{Keeps, Kept}
 use Rattle.p21_exchange.specs.DataSection.{Heading}
 use Rattle.p21_exchange.specs.Statement.{Statement}
 use Rattle.p21_schemas.specs.Schema.{Schema}
-use Rattle.p21_stream_ending.specs.Ending.{HasNamesOnce, IsEndOf, StandsIn}
+use Rattle.p21_stream_ending.specs.Ending.{HasNamesOnce, HasSize, IsEndOf, StandsIn}
 use Rattle.p21_stream_ending.specs.Parts.{AreEmpty, Begins}
 use Rattle.p21_stream_ending.specs.declared.parts.Part.{Part}
 use Rattle.p21_stream_kept.specs.Sections.{heading_in, headings_of}
+use Rattle.p21_stream_kept.specs.Taking.{IsOfFile}
 use Rattle.p21_stream_kept.specs.declared.sections.Section.{Section}
 use Rattle.p21_stream_accepted.specs.Output.{Output}
 use Rattle.p21_stream_kinds.specs.Kinds.{Kind}
@@ -38,8 +39,17 @@ parts-more sections k d old new part low is so_far begins =
     subst P (sym (ap headings_of (take_more sections k d low) ∙ map-append (λ (x : Section). heading_in x.part) (take k sections) (get_or sections k d ∷ [])))
     (subst Q (sym is) (all_zipped_more Begins (headings_of (take k sections)) old (heading_in (get_or sections k d).part) part so_far begins))
 
-pub empty-more : (old new : List Part) (part : Part) → new ≡ old ++ part ∷ [] → AreEmpty old → part.places.items ≡ [] → AreEmpty new
-empty-more old new part is so_far none = subst AreEmpty (sym is) (Each-append (λ (x : Part). x.places.items ≡ []) old (part ∷ []) so_far (none, tt))
+pub empty-more : (old new : List Part) (part : Part) → new ≡ old ++ part ∷ [] → AreEmpty old → part.places ≡ [] → AreEmpty new
+empty-more old new part is so_far none = subst AreEmpty (sym is) (Each-append (λ (x : Part). x.places ≡ []) old (part ∷ []) so_far (none, tt))
+
+-- the file of what is kept of a whole file has as many bytes as are kept
+pub end-sized : (kept : Kept) (header : List ℕ) (parts : List Part) (kinds : List Kind) (instances : List store.Kept) → IsOfFile kept → StandsIn kept header parts kinds instances → HasSize header parts kinds instances (kept.bytes + kept.framing)
+end-sized kept header parts kinds instances is stands = record {
+  kept = kept;
+  stands = stands;
+  once = keeps-names_once is.schema is.limits is.given kept is.keeps;
+  size_is = keeps-text_size is.schema is.limits is.given kept is.keeps is.structure is.text is.is_file is.statements_are;
+}
 
 -- what stands in these has this end
 pub end-is : {E : Type 0} (kept : Kept) (header : List ℕ) (parts : List Part) (kinds : List Kind) (instances : List store.Kept) (result : Result Output E) → StandsIn kept header parts kinds instances

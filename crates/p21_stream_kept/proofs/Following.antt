@@ -1,10 +1,11 @@
--- An instance that is taken, and the references before it.
+-- An instance that is taken: its section, and the references before it.
 use Rattle.std.proofs.Common.{◌≡◌, ◌<◌, ◌+◌, ◌^◌, ℕ, List, [], ◌∷◌, ◌++◌, length, ap, arith, length-append}
 use Rattle.std.proofs.lemmas.Grind.{flat_map-append}
 use Rattle.std.proofs.lemmas.List.{length-map}
 use Rattle.std.specs.List.{flat_map}
 use Rattle.p21_basics.specs.Limits.{Limits}
 use Rattle.p21_claim_steps.proofs.Holding.{references-counted, references-few}
+use Rattle.p21_claim_steps.proofs.Keeps.{keeps-section}
 use Rattle.p21_claim_steps.specs.Keeping.{Kept}
 use Rattle.p21_claim_values.proofs.RecordTheorems.{needs-are_references}
 use Rattle.p21_claim_values.specs.Needs.{MeansWith}
@@ -15,6 +16,10 @@ use Rattle.p21_files.specs.Meaning.{Typed}
 use Rattle.p21_files.specs.Reference.{Need, record_references}
 use Rattle.p21_schemas.specs.Schema.{Schema}
 use Rattle.p21_stream_kept.specs.Taking.{Follows}
+
+-- it stands in a section
+pub follows-section : (s : Schema) (limits : Limits) (kept : Kept) (n : ℕ) (r : Record) → Follows s limits kept (instance n r) → 0 < length kept.headings
+follows-section s limits kept n r f = keeps-section s limits f.given kept f.keeps n r f.structure f.are_first
 
 -- 64 bits count the references with its own
 pub follows-few : (s : Schema) (limits : Limits) (kept : Kept) (n : ℕ) (r : Record) → Follows s limits kept (instance n r) → (meaning : Typed) (needs : List Need) → MeansWith s r meaning needs → kept.references + length needs < 2 ^ 64

@@ -1,5 +1,5 @@
 -- What the fields hold, as pure data.
-use Rattle.std.specs.Prelude.{List, length, map}
+use Rattle.std.specs.Prelude.{◌<◌, ◌+◌, ◌^◌, List, length, map}
 use Rattle.p21_claim_steps.specs.Keeping.{Kept}
 use Rattle.p21_claim_steps.specs.Waiting as waiting
 use Rattle.p21_mapping_values.specs.TypedView.{need_view}
@@ -25,8 +25,10 @@ kept_of a = record {
   framing = a.framing;
 }
 
--- each instance has the number of a kind, each kind is of a data section, and each text begins with the name of its instance
+-- each instance has the number of a kind, each kind is of a data section, each text begins with the name of its instance, and
+-- 64 bits count the bytes of all lines
 pub record IsWhole (a : Inside) : Type 0 where
   pub kinds : AreKinds a.kinds a.instances
   pub sections : AreOfSections (length a.sections) a.kinds
   pub named : AreNamed a.instances
+  pub counted : a.bytes + a.framing < 2 ^ 64

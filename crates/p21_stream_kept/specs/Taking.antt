@@ -1,10 +1,11 @@
--- What is known of the statements before one that is taken.
-use Rattle.std.specs.Prelude.{◌<◌, ◌^◌, List, [], ◌∷◌, ◌++◌, length}
+-- What is known of the statements before one that is taken, and of those of a whole file.
+use Rattle.std.specs.Prelude.{◌≡◌, ◌<◌, ◌^◌, ℕ, List, [], ◌∷◌, ◌++◌, length}
 use Rattle.std.specs.List.{flat_map}
 use Rattle.p21_basics.specs.Limits.{Limits}
 use Rattle.p21_claim_steps.specs.Keeping.{Keeps, Kept}
+use Rattle.p21_exchange.specs.Grammar.{IsFile}
 use Rattle.p21_exchange.specs.Statement.{Statement, statement_tokens}
-use Rattle.p21_exchange.specs.Structure.{AreFirst, Structure}
+use Rattle.p21_exchange.specs.Structure.{AreFirst, Structure, statements}
 use Rattle.p21_schemas.specs.Schema.{Schema}
 
 -- The statement stands in a tree behind those of which this is kept, and 64 bits count the tokens of all of them
@@ -14,3 +15,14 @@ pub record Follows (s : Schema) (limits : Limits) (kept : Kept) (statement : Sta
   pub structure : Structure
   pub are_first : AreFirst (given ++ statement ∷ []) structure
   pub few : length (flat_map statement_tokens (given ++ statement ∷ [])) < 2 ^ 64
+
+-- this is kept of the statements of a whole file
+pub record IsOfFile (kept : Kept) : Type 0 where
+  pub schema : Schema
+  pub limits : Limits
+  pub given : List Statement
+  pub keeps : Keeps schema limits given kept
+  pub structure : Structure
+  pub text : List ℕ
+  pub is_file : IsFile structure text
+  pub statements_are : statements structure ≡ given

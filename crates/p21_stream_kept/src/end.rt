@@ -9,22 +9,25 @@ ghost use Rattle.p21_schemas.specs.Schema.{Schema};
 ghost use Rattle.p21_stream_ending.specs.Ending.{IsEndOf};
 ghost use Rattle.p21_stream_ending.specs.Parts.{AreEmpty, Begins};
 ghost use Rattle.p21_stream_kept.specs.Sections.{heading_in, headings_of};
+ghost use Rattle.p21_stream_kept.specs.Taking.{IsOfFile};
 
 use crate::kept::{Kept, heading_line};
 use crate::sections::Section;
 use p21_stream_accepted::Accepted;
 use p21_stream_ending::{Part, accepted};
 use p21_stream_header::heading;
+use p21_stream_store::Numbers;
 use p21_values::{Canonical, NoMemory, Text};
 use std::alloc::Global;
 
 impl Kept {
-    /// The accepted file of what is kept, where the statements are those of a whole file and all references are served.
+    /// The accepted file of what is kept, where all references are served. The statements are those of a whole file.
     ///
     /// # Errors
     ///
     /// `NoMemory`.
     pub fn into_accepted(self) -> Result<Accepted, NoMemory>
+        requires { IsOfFile self }
         ensures { IfOk result (λ file. (s : Schema) (limits : Limits) (given : List Statement) → Keeps s limits given self → IsEndOf self file) }
     {
         let Kept {
@@ -33,10 +36,12 @@ impl Kept {
             sections,
             kinds,
             instances,
+            bytes,
+            framing,
             ..
         } = self;
         let parts = parts_of(alloc, sections.items())?;
-        accepted(alloc, header, parts, &kinds, instances)
+        accepted(alloc, header, parts, &kinds, instances, bytes + framing)
     }
 }
 
@@ -56,7 +61,7 @@ fn parts_of(alloc: Global, sections: &[Section]) -> Result<Vec<Part>, NoMemory>
 /// A data section as it begins.
 fn part_of(alloc: Global, section: &Section) -> Result<Part, NoMemory>
     ensures begins { IfOk result (λ part. Begins (heading_in section.now.part) part) }
-    ensures empty { IfOk result (λ part. part.places.items ≡ []) }
+    ensures empty { IfOk result (λ part. part.places ≡ []) }
 {
     let Some(record) = &section.part else {
         return unnamed_part(alloc);
@@ -70,7 +75,7 @@ fn part_of(alloc: Global, section: &Section) -> Result<Part, NoMemory>
 /// A data section with a name as it begins.
 fn named_part(alloc: Global, name: &Text, text: &Text) -> Result<Part, NoMemory>
     ensures begins { IfOk result (λ part. Begins (named name.now text.now) part) }
-    ensures empty { IfOk result (λ part. part.places.items ≡ []) }
+    ensures empty { IfOk result (λ part. part.places ≡ []) }
 {
     name.holds();
     let line = heading_line(alloc, name, text)?;
@@ -79,18 +84,18 @@ fn named_part(alloc: Global, name: &Text, text: &Text) -> Result<Part, NoMemory>
     Ok(Part {
         name: spelled,
         line,
-        places: Vec::new(alloc),
+        places: Numbers::new(alloc),
     })
 }
 
 /// A data section without a name as it begins.
 fn unnamed_part(alloc: Global) -> Result<Part, NoMemory>
     ensures begins { IfOk result (λ part. Begins unnamed part) }
-    ensures empty { IfOk result (λ part. part.places.items ≡ []) }
+    ensures empty { IfOk result (λ part. part.places ≡ []) }
 {
     Ok(Part {
         name: Vec::new(alloc),
         line: Vec::from_slice(alloc, b"DATA;")?,
-        places: Vec::new(alloc),
+        places: Numbers::new(alloc),
     })
 }

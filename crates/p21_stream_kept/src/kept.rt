@@ -190,9 +190,7 @@ impl Kept {
         if !has_room(limits, self.bytes, self.framing, size) {
             return Err(Fault::CanonicalTooLong);
         }
-        let Some(section) = self.sections.last() else {
-            return Err(Fault::NoMemory);
-        };
+        let section = self.sections.last();
         let Ok(()) = wait(
             schema,
             &self.kinds,

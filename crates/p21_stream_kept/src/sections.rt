@@ -1,5 +1,5 @@
 //! The data sections of a file, with their names.
-ghost use Rattle.std.specs.Prelude.{◌≡◌, ◌≤◌, ◌+◌, ◌++◌, ◌∷◌, ◌↔◌, [], length, Contains, IfOk, IfSome, IsTrue, OnOk, option_to_list};
+ghost use Rattle.std.specs.Prelude.{◌≡◌, ◌<◌, ◌≤◌, ◌+◌, ◌++◌, ◌∷◌, ◌↔◌, [], length, Contains, IfOk, IsTrue, OnOk, option_to_list};
 ghost use Rattle.p21_claim_steps.specs.Keeping.{headings_behind};
 ghost use Rattle.p21_exchange.specs.DataSection.{heading_names, section_names};
 ghost use Rattle.p21_grammar_machine.specs.Shape.{heading_of};
@@ -66,11 +66,11 @@ impl Sections {
     }
 
     /// The number of the last section, counted from the first.
-    pub fn last(&self) -> Option<u32>
-        ensures { IfSome result (λ number. number + 1 ≡ length self.now) }
+    pub fn last(&self) -> usize
+        requires { 0 < length self.now }
+        ensures { result + 1 ≡ length self.now }
     {
-        let number = self.all.len().checked_sub(1)?;
-        u32::try_from(number).ok()
+        self.all.len() - 1
     }
 
     /// Adds a section without a name where the line begins one.

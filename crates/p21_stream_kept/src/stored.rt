@@ -23,7 +23,7 @@ pub(crate) fn store(
     kinds: &mut Kinds,
     instances: &mut Instances,
     name: Name,
-    section: u32,
+    section: usize,
     entities: &[EntityId],
     line: &[u8],
 ) -> Result<(), NoMemory>

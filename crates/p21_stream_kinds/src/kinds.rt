@@ -13,15 +13,15 @@ use std::marker::Model;
 pub struct Kinds {
     rows: Vec<Row>,
     // Of each row its section and its entities as numbers.
-    keys: IndexSet<Vec<u32>>,
+    keys: IndexSet<Vec<usize>>,
     // The kind that was asked for last, which is often the next one too.
-    last: u32,
+    last: usize,
 }
 
 /// A kind: the number of a section, and a set of entities.
 #[derive(Drop)]
 struct Row {
-    section: u32,
+    section: usize,
     entities: Vec<EntityId>,
 }
 
@@ -49,11 +49,11 @@ impl Kinds {
     }
 
     /// The section and the set of entities of a kind. It takes no memory.
-    pub fn get(&self, number: u32) -> (u32, &[EntityId])
+    pub fn get(&self, number: usize) -> (usize, &[EntityId])
         requires { number < length self.now }
         ensures { slice_get self.now number ≡ Some (kind_of result.0 result.1.now) }
     {
-        let row = &self.rows[number as usize];
+        let row = &self.rows[number];
         (row.section, &row.entities)
     }
 
@@ -65,9 +65,9 @@ impl Kinds {
     pub fn add(
         &mut self,
         alloc: Global,
-        section: u32,
+        section: usize,
         entities: &[EntityId],
-    ) -> Result<u32, NoMemory>
+    ) -> Result<usize, NoMemory>
         ensures ok { IfOk result (λ number. Interns self.old (kind_of section entities.now) number self.new) }
         ensures err { OnErr result (self.new ≡ self.old) }
     {
@@ -82,17 +82,17 @@ impl Kinds {
 }
 
 /// Whether this kind has this number.
-fn is_at(rows: &[Row], number: u32, section: u32, entities: &[EntityId]) -> bool
+fn is_at(rows: &[Row], number: usize, section: usize, entities: &[EntityId]) -> bool
     ensures { IsTrue result → slice_get (kinds_of rows.now) number ≡ Some (kind_of section entities.now) }
 {
-    match rows.get(number as usize) {
+    match rows.get(number) {
         Some(row) => is_kind(row, section, entities),
         None => false,
     }
 }
 
 /// Whether a row holds this kind.
-fn is_kind(row: &Row, section: u32, entities: &[EntityId]) -> bool
+fn is_kind(row: &Row, section: usize, entities: &[EntityId]) -> bool
     ensures { IsTrue result → kind_of row.now.section row.now.entities.items ≡ kind_of section entities.now }
 {
     if row.section != section {
@@ -104,11 +104,11 @@ fn is_kind(row: &Row, section: u32, entities: &[EntityId]) -> bool
 /// The number of a kind, which is added where it isn't there yet. An `Err` changes nothing.
 fn intern(
     rows: &mut Vec<Row>,
-    keys: &mut IndexSet<Vec<u32>>,
+    keys: &mut IndexSet<Vec<usize>>,
     alloc: Global,
-    section: u32,
+    section: usize,
     entities: &[EntityId],
-) -> Result<u32, NoMemory>
+) -> Result<usize, NoMemory>
     requires { AreKeyed rows.old.items keys.old.keys }
     ensures keyed { AreKeyed rows.new.items keys.new.keys }
     ensures ok { IfOk result (λ number. Interns (kinds_of rows.old.items) (kind_of section entities.now) number (kinds_of rows.new.items)) }
@@ -116,10 +116,9 @@ fn intern(
 {
     let wanted = key_of(alloc, section, entities)?;
     if let Some(place) = keys.get_index_of(&wanted) {
-        let number = number_of(place)?;
-        return Ok(number);
+        return Ok(place);
     }
-    let number = number_of(rows.len())?;
+    let number = rows.len();
     let row = Row {
         section,
         entities: Vec::from_slice(alloc, entities)?,
@@ -134,30 +133,20 @@ fn intern(
     Ok(number)
 }
 
-/// A place as a number of 32 bits. There is no memory for more kinds.
-fn number_of(place: usize) -> Result<u32, NoMemory>
-    ensures { IfOk result (λ number. number ≡ place) }
-{
-    match u32::try_from(place) {
-        Ok(number) => Ok(number),
-        Err(_) => Err(NoMemory),
-    }
-}
-
 /// The section and the entities as numbers.
-fn key_of(alloc: Global, section: u32, entities: &[EntityId]) -> Result<Vec<u32>, NoMemory>
+fn key_of(alloc: Global, section: usize, entities: &[EntityId]) -> Result<Vec<usize>, NoMemory>
     ensures { IfOk result (λ found. found.items ≡ key (kind_of section entities.now)) }
 {
     let mut found = Vec::new(alloc);
     found.push(section)?;
     for entity in entities {
-        found.push(entity.0)?;
+        found.push(entity.0 as usize)?;
     }
     Ok(found)
 }
 
 /// Adds a key that isn't there yet.
-fn add_key(keys: &mut IndexSet<Vec<u32>>, wanted: Vec<u32>) -> Result<(), NoMemory>
+fn add_key(keys: &mut IndexSet<Vec<usize>>, wanted: Vec<usize>) -> Result<(), NoMemory>
     requires { Contains (numbers_of keys.old.keys) wanted.items → ⊥ }
     ensures ok { OnOk result (keys.new.keys ≡ keys.old.keys ++ wanted ∷ []) }
     ensures err { OnErr result (keys.new.keys ≡ keys.old.keys) }

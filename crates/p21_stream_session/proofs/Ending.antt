@@ -26,11 +26,12 @@ use Rattle.p21_stream_front.specs.Front as front
 use Rattle.p21_stream_front.specs.Front.{IsWhole, Reading, limits_of}
 use Rattle.p21_stream_kept.proofs.Unserved.{unserved-not_accepted}
 use Rattle.p21_stream_kept.specs.Served.{IsFirstUnserved, RefusesNeed}
+use Rattle.p21_stream_kept.specs.Taking.{IsOfFile}
 use Rattle.p21_stream_session.proofs.Instances.{are-instances}
 use Rattle.p21_stream_session.proofs.Within.{source-within, statements-within}
 use Rattle.p21_stream_session.specs.Held.{SessionHeld}
 use Rattle.p21_stream_session.specs.Histories.{FinishGives, Stands}
-use Rattle.p21_stream_session.specs.Pieces.{EndGives}
+use Rattle.p21_stream_session.specs.Pieces.{EndGives, IsBetweenPieces}
 use Rattle.p21_stream_session.specs.Session.{IsLive}
 
 -- a whole file whose references are served is accepted, and its lines are its canonical file
@@ -55,6 +56,12 @@ end-accepted s formed held kept output ends served end limits taken given live =
       is_canonical = subst (λ (text : List ℕ). IsCanonicalFile s limits taken text) (sym file.text_is) (whole-accepted s formed limits held kept reading live refl w served file.blocks file.are_blocks);
       instances_are = are-instances s limits taken given kept live.keeps w.whole.structure w.whole.text (record { laid = tokens-laid taken given w; is_file = w.whole.is_file }) w.whole.statements_are output.kept file.lines_are;
     }
+
+-- what is kept where the reader takes the end is that of a whole file
+pub whole-kept : (s : Schema) (held : front.Held) (kept : Kept) → front.FinishGives held (Ok tt) → IsBetweenPieces s held kept → IsOfFile kept
+whole-kept s held kept ends is =
+    let w = ends is.reading is.live.reads is.none_seen in
+    record { schema = s; limits = is.limits; given = is.reading.given; keeps = is.live.keeps; structure = w.whole.structure; text = w.whole.text; is_file = w.whole.is_file; statements_are = w.whole.statements_are }
 
 -- ---- refusals
 

@@ -1,5 +1,5 @@
 -- What a session's progress owes for a token, and for a whole piece.
-use Rattle.std.specs.Prelude.{◌≢◌, ◌≤◌, ◌<◌, ◌^◌, ℕ, List, ◌++◌, length, Option, Some, None, Result, Ok, Err}
+use Rattle.std.specs.Prelude.{◌≡◌, ◌≢◌, ◌≤◌, ◌<◌, ◌^◌, ℕ, List, ◌++◌, length, Option, Some, None, Result, Ok, Err}
 use Rattle.p21_basics.specs.Limits.{Limits}
 use Rattle.p21_claim_steps.specs.Keeping.{Kept}
 use Rattle.p21_exchange.specs.Pending.{IsPending}
@@ -55,6 +55,13 @@ NeedsNoMemory s limits held kept piece result = (reading : Reading) → IsLive s
 abbrev pub EndsNoToken : Schema → Limits → front.Held → Kept → List ℕ → Result (Option ℕ) Refusal → Type 0
 EndsNoToken s limits held kept piece (Ok (Some count)) = (reading : Reading) → IsLive s limits held kept reading → IsSeenAt reading.seen piece 0 → IsPending reading.taken 0 → AreSeparators piece → ⊥
 EndsNoToken s limits held kept piece other = Unit {0}
+
+-- between two pieces: a reading is live, and no byte behind it was seen
+pub record IsBetweenPieces (s : Schema) (held : front.Held) (kept : Kept) : Type 0 where
+  pub limits : Limits
+  pub reading : Reading
+  pub live : IsLive s limits held kept reading
+  pub none_seen : reading.seen ≡ None
 
 -- what the end of the bytes gives, whatever the canonical limits
 abbrev pub EndGives : Schema → front.Held → Kept → Result Output Refusal → Type 0

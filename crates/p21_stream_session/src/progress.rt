@@ -11,7 +11,7 @@ ghost use Rattle.p21_stream_kept.specs.Taking.{Follows};
 ghost use Rattle.p21_stream_session.specs.Bounds.{IsBounded};
 ghost use Rattle.p21_stream_session.specs.Histories.{FeedChecks, FeedGives, FeedNeedsNoMemory, FinishGives, RefusesAgain, RefusesAtEnd};
 ghost use Rattle.p21_stream_session.specs.Inside.{held_in};
-ghost use Rattle.p21_stream_session.specs.Pieces.{EndGives, EndsNoToken, IsUnderWay, NeedsNoMemory, ReadGives, StepGives, TakesOf};
+ghost use Rattle.p21_stream_session.specs.Pieces.{EndGives, EndsNoToken, IsBetweenPieces, IsUnderWay, NeedsNoMemory, ReadGives, StepGives, TakesOf};
 
 use p21_express_tables::Schema;
 use p21_grammar::Event;
@@ -94,6 +94,7 @@ impl Progress {
     ///
     /// The refusal of an earlier call; else those of `end`.
     pub(crate) fn finish(self, schema: &Schema) -> Result<Accepted, Refusal>
+        requires { (limits : MeantLimits) × IsBounded (held_in schema.now limits self) }
         ensures gives { (limits : MeantLimits) → FinishGives (held_in schema.now limits self) result }
         ensures again { (limits : MeantLimits) → RefusesAtEnd (held_in schema.now limits self) result }
         ensures kind { (limits : MeantLimits) → IsBounded (held_in schema.now limits self) → IfErr result (λ refusal. IsOfBytes refusal.fault) }
@@ -216,6 +217,7 @@ fn take(kept: &mut Kept, schema: &Schema, limits: Limits, event: Event) -> Resul
 ///
 /// That of the reader; then the first reference in the file that no instance serves; `NoMemory`.
 fn end(front: Front, kept: Kept, statement: u64, schema: &Schema) -> Result<Accepted, Refusal>
+    requires { IsBetweenPieces schema.now front kept }
     ensures gives { EndGives schema.now front kept result }
     ensures kind { IfErr result (λ refusal. IsOfBytes refusal.fault) }
 {

@@ -1,5 +1,5 @@
 -- Lists side by side.
-use Rattle.std.proofs.Common.{◌≡◌, ◌<◌, ℕ, zero, suc, List, [], ◌∷◌, ◌++◌, length, get_or, Option, Some, refl, sym, ap, ◌∙◌, arith}
+use Rattle.std.proofs.Common.{◌≡◌, ℕ, zero, suc, List, [], ◌∷◌, ◌++◌, length, Option, Some, refl, ap, ◌∙◌, arith}
 use Rattle.std.specs.List.{slice_get, zip}
 use Rattle.std.specs.Option.{option_map}
 
@@ -14,8 +14,8 @@ side-more [] (b ∷ ys) x y e = absurd (omega (arith, e))
 side-more (a ∷ xs) [] x y e = absurd (omega (arith, e))
 side-more {A} {B} (a ∷ xs) (b ∷ ys) x y e = ap (λ (l : List (A × B)). (a, b) ∷ l) (side-more xs ys x y (omega (arith, e)))
 
-pub side-get : {A B : Type 0} (xs : List A) (ys : List B) (i : ℕ) (d x : A) (y : B) → i < length xs → x ≡ get_or xs i d → slice_get ys i ≡ Some y → slice_get (zip xs ys) i ≡ Some (x, y)
-side-get [] ys i d x y h f e = absurd (omega (arith, h))
-side-get (a ∷ xs) [] i d x y h f e = cc
-side-get {A} {B} (a ∷ xs) (b ∷ ys) zero d x y h f e = ap (λ (z : Option B). option_map (λ (v : B). (a, v)) z) e ∙ ap (λ (v : A). Some (v, y)) (sym f)
-side-get (a ∷ xs) (b ∷ ys) (suc i) d x y h f e = side-get xs ys i d x y (omega (arith, h)) f e
+pub side-get : {A B : Type 0} (xs : List A) (ys : List B) (i : ℕ) (x : A) (y : B) → slice_get xs i ≡ Some x → slice_get ys i ≡ Some y → slice_get (zip xs ys) i ≡ Some (x, y)
+side-get [] ys i x y f e = cc
+side-get (a ∷ xs) [] i x y f e = cc
+side-get {A} {B} (a ∷ xs) (b ∷ ys) zero x y f e = ap (λ (z : Option B). option_map (λ (v : B). (a, v)) z) e ∙ ap (λ (z : Option A). option_map (λ (v : A). (v, y)) z) f
+side-get (a ∷ xs) (b ∷ ys) (suc i) x y f e = side-get xs ys i x y f e

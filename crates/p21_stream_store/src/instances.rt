@@ -55,7 +55,7 @@ impl Instances {
 
     /// The name, the number of the kind and the canonical text of the instance at a place. The places are counted in the
     /// order of coming where all names rose; else those with names that came late stand behind the others.
-    pub fn get(&self, place: usize) -> (u64, u32, &[u8])
+    pub fn get(&self, place: usize) -> (u64, usize, &[u8])
         requires { place < length self.now }
         ensures { slice_get self.now place ≡ Some (kept_at result.0 (result.1, result.2.now)) }
     {
@@ -69,7 +69,7 @@ impl Instances {
     }
 
     /// The number of the kind of the instance at a place.
-    pub fn kind_at(&self, place: usize) -> u32
+    pub fn kind_at(&self, place: usize) -> usize
         requires { place < length self.now }
         ensures { (found : Kept) × (slice_get self.now place ≡ Some found) × (found.kind ≡ result) }
     {
@@ -81,10 +81,9 @@ impl Instances {
     }
 
     /// The name of the instance at a place, 0 where there is none.
-    pub(crate) fn name_at(&self, place: u32) -> u64
+    pub(crate) fn name_at(&self, place: usize) -> u64
         ensures { result ≡ name_at self.now place }
     {
-        let place = place as usize;
         let first = self.rising.len();
         if place < first {
             return self.rising[place];
@@ -101,7 +100,7 @@ impl Instances {
 
     /// The number of the kind and the canonical text of the instance of this name, if there is one. A name that rises costs
     /// no search.
-    pub fn find(&self, name: u64) -> Option<(u32, &[u8])>
+    pub fn find(&self, name: u64) -> Option<(usize, &[u8])>
         ensures some { IfSome result (λ found. Contains self.now (record { name = name; kind = found.0; text = found.1.now })) }
         ensures none { IsNone result → Contains (kept_names self.now) name → ⊥ }
     {
@@ -118,7 +117,7 @@ impl Instances {
     }
 
     /// The number of the kind of the instance of this name, if there is one. A name that rises costs no search.
-    pub fn kind_of(&self, name: u64) -> Option<u32>
+    pub fn kind_of(&self, name: u64) -> Option<usize>
         ensures some { IfSome result (λ kind. (text : List ℕ) × Contains self.now (record { name = name; kind = kind; text = text })) }
         ensures none { IsNone result → Contains (kept_names self.now) name → ⊥ }
     {
@@ -139,7 +138,7 @@ impl Instances {
     /// # Errors
     ///
     /// `NoMemory`, which changes nothing.
-    pub fn push(&mut self, name: u64, kind: u32, text: &[u8]) -> Result<(), NoMemory>
+    pub fn push(&mut self, name: u64, kind: usize, text: &[u8]) -> Result<(), NoMemory>
         requires { Contains (kept_names self.old) name → ⊥ }
         ensures ok { OnOk result (IsPermutation (record { name = name; kind = kind; text = text.now } ∷ self.old) self.new) }
         ensures err { OnErr result (self.new ≡ self.old) }
@@ -163,7 +162,7 @@ fn add_rising(
     names: &mut Vec<u64>,
     lines: &mut Lines,
     name: u64,
-    kind: u32,
+    kind: usize,
     text: &[u8],
 ) -> Result<(), NoMemory>
     ensures names { OnOk result (names.new.items ≡ names.old.items ++ name ∷ []) }
@@ -187,7 +186,7 @@ fn add_late(
     names: &mut LateNames,
     lines: &mut Lines,
     name: u64,
-    kind: u32,
+    kind: usize,
     text: &[u8],
 ) -> Result<(), NoMemory>
     requires { Contains names.old name → ⊥ }

@@ -6,7 +6,9 @@ mod instances;
 mod late;
 mod lines;
 mod names;
+mod numbers;
 mod order;
 mod texts;
 
 pub use instances::Instances;
+pub use numbers::Numbers;

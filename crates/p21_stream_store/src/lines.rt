@@ -1,6 +1,7 @@
 //! Lines by number: a text, and a number for what it is a line of.
 ghost use Rattle.std.specs.Prelude.{◌≡◌, ◌<◌, ℕ, List, [], ◌∷◌, ◌++◌, length, slice_get, OnErr, OnOk, Some};
 
+use crate::numbers::Numbers;
 use crate::texts::Texts;
 use p21_values::NoMemory;
 use std::alloc::Global;
@@ -9,7 +10,7 @@ use std::marker::Model;
 /// Lines in the order in which they came, each with its kind. Their texts don't move when more come.
 #[derive(Drop)]
 pub struct Lines {
-    kinds: Vec<u32>,
+    kinds: Numbers,
     texts: Texts,
 }
 
@@ -19,9 +20,9 @@ impl Model for Lines {
 
     ghost Value = { List (ℕ × List ℕ) };
 
-    ghost view = { λ a. zip a.kinds.items a.texts };
+    ghost view = { λ a. zip a.kinds a.texts };
 
-    ghost invariant = { λ a. length a.kinds.items ≡ length a.texts };
+    ghost invariant = { λ a. length a.kinds ≡ length a.texts };
 }
 
 impl Lines {
@@ -30,7 +31,7 @@ impl Lines {
         ensures { result ≡ [] }
     {
         Lines {
-            kinds: Vec::new(alloc),
+            kinds: Numbers::new(alloc),
             texts: Texts::new(alloc),
         }
     }
@@ -43,19 +44,19 @@ impl Lines {
     }
 
     /// The kind and the text of a line.
-    pub fn get(&self, index: usize) -> (u32, &[u8])
+    pub fn get(&self, index: usize) -> (usize, &[u8])
         requires { index < length self.now }
         ensures { slice_get self.now index ≡ Some (result.0, result.1.now) }
     {
-        (self.kinds[index], self.texts.get(index))
+        (self.kinds.get(index), self.texts.get(index))
     }
 
     /// The kind of a line.
-    pub fn kind(&self, index: usize) -> u32
+    pub fn kind(&self, index: usize) -> usize
         requires { index < length self.now }
         ensures { (text : List ℕ) × (slice_get self.now index ≡ Some (result, text)) }
     {
-        self.kinds[index]
+        self.kinds.get(index)
     }
 
     /// Adds a line.
@@ -63,10 +64,12 @@ impl Lines {
     /// # Errors
     ///
     /// `NoMemory`, which changes nothing.
-    pub fn push(&mut self, kind: u32, text: &[u8]) -> Result<(), NoMemory>
+    pub fn push(&mut self, kind: usize, text: &[u8]) -> Result<(), NoMemory>
         ensures ok { OnOk result (self.new ≡ self.old ++ (kind, text.now) ∷ []) }
         ensures err { OnErr result (self.new ≡ self.old) }
     {
+        // Looked at, so that the proof knows that 64 bits count the lines.
+        let _count = self.kinds.len();
         let Ok(()) = self.kinds.push(kind) else {
             return Err(NoMemory);
         };

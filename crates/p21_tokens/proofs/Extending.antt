@@ -155,12 +155,12 @@ live-gave v middle w h bytes front byte token live goes s t r g e =
           let q = ap length e in
           let k = length-append front (byte ∷ []) in
           omega (arith, g.file_is, r.file_is, live.file_is);
-      statement_is = g.statement_is ∙ (ap (λ (n : ℕ). count_behind n lexeme) before_it ∙ sym (open-append 0 live.lexemes lexeme));
-      statements_within = subst (λ (n : ℕ). AreStatementsWithin n 0 (live.lexemes ++ lexeme ∷ [])) (sym limit) (within-append v.statement_limit 0 live.lexemes lexeme live.statements_within room);
+      statement_is = g.statement_is ∙ (ap (λ (n : ℕ). count_behind n lexeme) before_it ∙ sym (open-append 0 live.lexemes (lexeme ∷ [])));
+      statements_within = subst (λ (n : ℕ). AreStatementsWithin n 0 (live.lexemes ++ lexeme ∷ [])) (sym limit) (within-append v.statement_limit 0 live.lexemes (lexeme ∷ []) live.statements_within (room, tt));
       reads = λ rest _.
           ap (λ (x : List ℕ). lex start x) (append_assoc h.taken bytes rest) ∙ (live.reads (bytes ++ rest) (goes rest)
           ∙ (ap (λ (x : List ℕ). after live.founds (rest_of v x)) (ap (λ (x : List ℕ). x ++ rest) e ∙ append_assoc front (byte ∷ []) rest)
-          ∙ (ap (λ (a : Answer). after live.founds a) (r.rest_is (byte ∷ rest) ∙ g.rest_is rest) ∙ sym (after-append live.founds g.found (rest_of w rest)))));
+          ∙ (ap (λ (a : Answer). after live.founds a) (r.rest_is (byte ∷ rest) ∙ g.rest_is rest) ∙ sym (after-append live.founds (g.found ∷ []) (rest_of w rest)))));
       seen_is = inl refl;
     }
 
@@ -178,8 +178,8 @@ live-handed v middle w h bytes byte token live goes all-on s t r g =
       mean = mean-append live.founds (found ∷ []) live.lexemes (lexeme ∷ []) live.mean (g.means, refl, tt);
       given_are = tokens-append live.lexemes (lexeme ∷ []) ∙ ap (λ (x : List Token). x ++ token ∷ []) live.given_are;
       file_is = let p = length-append h.taken bytes in omega (arith, g.file_is, r.file_is, live.file_is);
-      statement_is = g.statement_is ∙ (ap (λ (n : ℕ). n + middle.size) before_it ∙ (sym (waits-count token middle.size (open_bytes 0 live.lexemes) g.waited) ∙ sym (open-append 0 live.lexemes lexeme)));
-      statements_within = subst (λ (n : ℕ). AreStatementsWithin n 0 (live.lexemes ++ lexeme ∷ [])) (sym limit) (within-append v.statement_limit 0 live.lexemes lexeme live.statements_within room);
+      statement_is = g.statement_is ∙ (ap (λ (n : ℕ). n + middle.size) before_it ∙ (sym (waits-count token middle.size (open_bytes 0 live.lexemes) g.waited) ∙ sym (open-append 0 live.lexemes (lexeme ∷ []))));
+      statements_within = subst (λ (n : ℕ). AreStatementsWithin n 0 (live.lexemes ++ lexeme ∷ [])) (sym limit) (within-append v.statement_limit 0 live.lexemes (lexeme ∷ []) live.statements_within (room, tt));
       reads = λ rest on. reads-on rest on;
       seen_is = inr (record {
         start_is = g.start_is;
@@ -198,7 +198,7 @@ live-handed v middle w h bytes byte token live goes all-on s t r g =
         let same : b ≡ byte = on in
         subst (λ (c : ℕ). lex start ((h.taken ++ bytes) ++ (c ∷ rest)) ≡ after (live.founds ++ record { found = g.found; size = middle.size } ∷ []) (rest_of w (c ∷ rest))) (sym same)
         (ap (λ (x : List ℕ). lex start x) (append_assoc h.taken bytes (byte ∷ rest)) ∙ (live.reads (bytes ++ byte ∷ rest) (goes rest)
-        ∙ (ap (λ (a : Answer). after live.founds a) (r.rest_is (byte ∷ rest) ∙ g.rest_is rest) ∙ sym (after-append live.founds (record { found = g.found; size = middle.size }) (rest_of w (byte ∷ rest))))))
+        ∙ (ap (λ (a : Answer). after live.founds a) (r.rest_is (byte ∷ rest) ∙ g.rest_is rest) ∙ sym (after-append live.founds (record { found = g.found; size = middle.size } ∷ []) (rest_of w (byte ∷ rest))))))
 
     -- a reading of all the bytes taken
     by_reads : GoesOn h.seen bytes → lex start (h.taken ++ bytes) ≡ record { given = live.founds; ending = open_at (state_of middle) }
@@ -350,7 +350,7 @@ next-takes_no_more v w piece count token r s h stands alive o waits_not = by_sca
     by_scan (handed middle byte same run g e) = let clash : true ≡ false = sym g.waited ∙ waits_not in absurd cc
 
 -- a live lexer's answers
-answers-live : (v : Held) (h : TokenHistory) → Stands v h → h.refusal ≡ None → IsLive v h → pending_of v ≤ v.statement_limit → v.file ≤ v.file_limit → Answers v h
+pub answers-live : (v : Held) (h : TokenHistory) → Stands v h → h.refusal ≡ None → IsLive v h → pending_of v ≤ v.statement_limit → v.file ≤ v.file_limit → Answers v h
 answers-live v h s alive live p f = record {
   stands = s;
   given_first = live-first v h live;

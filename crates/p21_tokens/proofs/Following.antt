@@ -3,14 +3,14 @@ use Rattle.std.proofs.Common.{◌≡◌, ℕ, suc, ◌+◌, ◌≤◌, List, [],
 use Rattle.p21_basics.specs.History.{looked_at}
 use Rattle.p21_exchange.specs.Laying.{Lexeme, LaidAs, tokens_in, open_bytes, count_behind, AreStatementsWithin}
 use Rattle.p21_exchange.specs.Pending.{nothing, tail_bytes, IsPending}
-use Rattle.p21_exchange.specs.Token.{Token, IsWholeAtOnce}
+use Rattle.p21_exchange.specs.Token.{Token, semicolon, IsWholeAtOnce}
 use Rattle.p21_tokens_automaton.proofs.Complete.{all_of-after}
 use Rattle.p21_tokens_automaton.proofs.Sound.{LaidTo, UpTo, read}
 use Rattle.p21_tokens_automaton.proofs.Steps.{lex-nil}
 use Rattle.p21_tokens_automaton.proofs.Theorems.{laid_read, read_laid, tail-is, laid-up-to, size-is, tokens-first}
 use Rattle.p21_tokens_automaton.proofs.Fronts.{ended-laid, laid-few, front-run}
 use Rattle.p21_tokens_automaton.specs.Meaning.{MeanAll}
-use Rattle.p21_tokens_automaton.specs.Reading.{State, start, Answer, nothing_but, open_at, before, after, Sized, all_of, lex}
+use Rattle.p21_tokens_automaton.specs.Reading.{State, start, Answer, nothing_but, open_at, after, Sized, all_of, lex}
 use Rattle.p21_tokens.specs.Held.{Held, pending_of, state_of}
 use Rattle.p21_tokens.specs.Histories.{TokenHistory, IsLive, IsHandedOver, GoesOn, AreGivenFirst, AreGivenAtOnce, IsLaidWithin, IsOpen, IsPendingBehind}
 use Rattle.p21_tokens.specs.Steps.{rest_of}
@@ -48,16 +48,20 @@ in-parts (f ∷ fs) gs (l ∷ ls) m =
       mean_behind = rest.mean_behind;
     }
 
-pub open-append : (n : ℕ) (ls : List Lexeme) (l : Lexeme) → open_bytes n (ls ++ l ∷ []) ≡ count_behind (open_bytes n ls) l
-open-append n [] l = refl
-open-append n (x ∷ ls) l = open-append (count_behind n x) ls l
+pub open-append : (n : ℕ) (ls ms : List Lexeme) → open_bytes n (ls ++ ms) ≡ open_bytes (open_bytes n ls) ms
+open-append n [] ms = refl
+open-append n (x ∷ ls) ms = open-append (count_behind n x) ls ms
 
-pub within-append : (limit n : ℕ) (ls : List Lexeme) (l : Lexeme) → AreStatementsWithin limit n ls → open_bytes n ls + l.size ≤ limit → AreStatementsWithin limit n (ls ++ l ∷ [])
-within-append limit n [] l p q = (q, tt)
-within-append limit n (x ∷ ls) l p q = (p.0, within-append limit (count_behind n x) ls l p.1 q)
+pub within-append : (limit n : ℕ) (ls ms : List Lexeme) → AreStatementsWithin limit n ls → AreStatementsWithin limit (open_bytes n ls) ms → AreStatementsWithin limit n (ls ++ ms)
+within-append limit n [] ms p q = q
+within-append limit n (x ∷ ls) ms p q = (p.0, within-append limit (count_behind n x) ls ms p.1 q)
 
-pub after-append : (fs : List Sized) (f : Sized) (a : Answer) → after (fs ++ f ∷ []) a ≡ after fs (before f a)
-after-append fs f a = let P : List Sized → Answer = λ xs. record { given = xs; ending = a.ending } in ap P (append_assoc fs (f ∷ []) a.given)
+pub count-le : (token : Token) (size n : ℕ) → count_behind n (record { token = token; size = size }) ≤ n + size
+count-le semicolon size n = omega arith
+count-le _ size n = omega arith
+
+pub after-append : (fs gs : List Sized) (a : Answer) → after (fs ++ gs) a ≡ after fs (after gs a)
+after-append fs gs a = let P : List Sized → Answer = λ xs. record { given = xs; ending = a.ending } in ap P (append_assoc fs gs a.given)
 
 pub after-nothing : (fs : List Sized) (e : State) → after fs (nothing_but (open_at e)) ≡ read fs e
 after-nothing fs e = ap (λ (xs : List Sized). read xs e) (append-nil fs)
@@ -78,7 +82,7 @@ split-last (l ∷ k ∷ ls) [] last e = absurd cc
 split-last (l ∷ ls) (t ∷ tokens) last e =
     let rest = split-last ls tokens last (cc) in (l ∷ rest.0, rest.1, ap (λ (x : List Lexeme). l ∷ x) rest.2, rest.3)
 
-laid-to-end : (bytes : List ℕ) (ls : List Lexeme) → LaidAs bytes ls → LaidTo bytes ls []
+pub laid-to-end : (bytes : List ℕ) (ls : List Lexeme) → LaidAs bytes ls → LaidTo bytes ls []
 laid-to-end bytes [] l = (bytes, sym (append-nil bytes), l)
 laid-to-end bytes (x ∷ ls) l = (l.0, l.1, l.2, l.3, l.4, l.5, l.6, l.7, laid-to-end l.2 ls l.8)
 

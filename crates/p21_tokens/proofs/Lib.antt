@@ -7,3 +7,4 @@ pub mod Naming
 pub mod Extending
 pub mod Finishing
 pub mod OneScalar
+pub mod Passing

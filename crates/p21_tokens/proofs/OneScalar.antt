@@ -6,7 +6,7 @@ use Rattle.p21_basics.specs.History.{extended, seen_behind, first_refusal, looke
 use Rattle.p21_exchange.specs.Laying.{Lexeme, Laid, LaidAs, HoldsScalar, open_bytes, count_behind, tokens_in}
 use Rattle.p21_basics.specs.Limits.{text_limit}
 use Rattle.p21_exchange.specs.Pending.{Tail, nothing, unfinished, slash, open_comment, tail_bytes, tail_size, LaidUpTo}
-use Rattle.p21_exchange.specs.Token.{Token, semicolon, IsScalarToken, Spells}
+use Rattle.p21_exchange.specs.Token.{Token, IsScalarToken, Spells}
 use Rattle.p21_tokens_automaton.proofs.Theorems.{one-laying}
 use Rattle.p21_tokens.specs.Finding.{FindsScalar, FindsOnly}
 use Rattle.p21_exchange.specs.Spelling.{spelling}
@@ -14,6 +14,7 @@ use Rattle.p21_tokens_automaton.proofs.Spellings.{same-spelling, spells-itself}
 use Rattle.p21_tokens_automaton.specs.SameToken.{IsSpelled}
 use Rattle.p21_tokens.specs.Parameter.{AreNoScalar, HoldsOthers, stand_first, are_all, EndsUnfinished, IsRefusedFor, at_byte, at_end, IsAnswer, IsRefusal}
 use Rattle.p21_tokens.proofs.Extending.{stands-laid, take-one}
+use Rattle.p21_tokens.proofs.Following.{count-le}
 use Rattle.p21_tokens.specs.Held.{Held}
 use Rattle.p21_tokens.specs.Histories.{TokenHistory, call_of, Stands, GoesOn, AreDead, Answers, EndsWrong, NamesByte, RefusesAtByte, NextGives, FinishGives, FinishNames}
 use Rattle.p21_tokens.specs.Token.{meant, meant_all, waits}
@@ -164,10 +165,6 @@ module _ (v w : Held) (bytes rest : List ℕ) (found : Option TokenRead) (n : �
   no-scalar e not = (others (subst (λ (x : Option TokenRead). AreNoScalar (meant_all x ++ meant token ∷ [])) (sym e) not), λ _. none-first e not)
 
 -- ---- a call that refused
-
-count-le : (token : Token) (size n : ℕ) → count_behind n (record { token = token; size = size }) ≤ n + size
-count-le semicolon size n = omega arith
-count-le _ size n = omega arith
 
 pending-few : (lexemes : List Lexeme) (bytes : List ℕ) (tail : Tail) (n : ℕ) → LaidUpTo bytes lexemes tail → open_bytes n lexemes + tail_size tail ≤ n + length bytes
 pending-few [] bytes tail n l = let sum = ap length l.1 in let p = length-append l.0 (tail_bytes tail) in let q = tail-le tail in omega arith

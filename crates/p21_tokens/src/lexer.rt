@@ -14,6 +14,8 @@ ghost use Rattle.p21_tokens.specs.Histories.{FinishGives, FinishNames, IsPending
 ghost use Rattle.p21_tokens.specs.Steps.{Closes, Ends, LacksMemory, Runs, Scans, Steps, Walks, behind_token, is_token_byte, with_characters, with_kept};
 ghost use Rattle.p21_tokens.specs.Token.{meant};
 
+mod passing;
+
 use crate::fault::{TokenFault, fault_of};
 use crate::front::front_token;
 use crate::reading::{marker_of, read_closed, read_end, read_ended, single_token};

@@ -10,7 +10,7 @@ use Rattle.p21_exchange.specs.Token as token
 use Rattle.p21_express_tables.proofs.Resolving.{type-is}
 use Rattle.p21_express_tables.specs.Base.{ComesTo, HasBase, IsBase, at_itself, through}
 use Rattle.p21_express_tables.specs.declared.base.Base.{Base}
-use Rattle.p21_express_tables.specs.declared.base.Base.TheVariants.{Items, Plain, Select}
+use Rattle.p21_express_tables.specs.declared.base.Base.TheVariants.{Items, Select}
 use Rattle.p21_express_tables.specs.Resolved.{IsType}
 use Rattle.p21_express_types.specs.declared.kind.Member.{Member}
 use Rattle.p21_express_types.specs.declared.number.TypeId.{TypeId}
@@ -96,22 +96,22 @@ select-known s t (members, is) = type-is s t (schema.choice members) is
 
 -- ---- what a type comes down to
 
-comes-fits : (s : Schema) (type last : TypeUse) (p : Param) (v : Value) (needs : List reference.Need) → ComesTo s type last → FitsWith s last p v needs → FitsWith s type p v needs
+pub comes-fits : (s : Schema) (type last : TypeUse) (p : Param) (v : Value) (needs : List reference.Need) → ComesTo s type last → FitsWith s last p v needs → FitsWith s type p v needs
 comes-fits s type last p v needs (at_itself _) fits = fits
 comes-fits s type last p v needs (through t next _ is more) fits = with_underlying t next p v needs is (comes-fits s next last p v needs more fits)
 
 -- a value of the type that it comes to
-pub stored-taken : (s : Schema) (optional : Bool) (base : Base) (bytes rest same old new : List ℕ) (before after : List Need) → same ≡ old → ((last : TypeUse) → IsBase s last base → TakesWithNeeds s (FitsWith s last) 64 bytes rest same new before after) → (type : TypeUse) → HasBase s type base
-    → TakesWithNeeds s (FitsAtWith s (stored_place optional type)) 64 bytes rest old new before after
-stored-taken s optional base bytes rest same old new before after e takes type (last, comes, is) =
-    fits-as s (FitsWith s last) (FitsAtWith s (stored_place optional type)) 64 64 bytes rest old new before after (omega arith) (λ p v needs fits. with_fit optional type p v needs (comes-fits s type last p v needs comes fits))
-    (subst (λ (x : List ℕ). TakesWithNeeds s (FitsWith s last) 64 bytes rest x new before after) e (takes last is))
+pub stored-taken : (s : Schema) (optional : Bool) (base : Base) (most : ℕ) (bytes rest same old new : List ℕ) (before after : List Need) → same ≡ old → ((last : TypeUse) → IsBase s last base → TakesWithNeeds s (FitsWith s last) most bytes rest same new before after) → (type : TypeUse) → HasBase s type base
+    → TakesWithNeeds s (FitsAtWith s (stored_place optional type)) most bytes rest old new before after
+stored-taken s optional base most bytes rest same old new before after e takes type (last, comes, is) =
+    fits-as s (FitsWith s last) (FitsAtWith s (stored_place optional type)) most most bytes rest old new before after (omega arith) (λ p v needs fits. with_fit optional type p v needs (comes-fits s type last p v needs comes fits))
+    (subst (λ (x : List ℕ). TakesWithNeeds s (FitsWith s last) most bytes rest x new before after) e (takes last is))
 
 -- no value, where there may be none
-pub left-out : (s : Schema) (optional : Bool) (type : TypeUse) (bytes rest old new : List ℕ) (needs : List Need) → optional ≡ true → bytes ≡ 36 ∷ rest → new ≡ old ++ 36 ∷ [] → TakesWithNeeds s (FitsAtWith s (stored_place optional type)) 64 bytes rest old new needs needs
-left-out s optional type bytes rest old new needs may e is =
-    subst (λ (x : Bool). TakesWithNeeds s (FitsAtWith s (stored_place x type)) 64 bytes rest old new needs needs) (sym may)
-    (needs-nothing s (FitsAtWith s (stored_place true type)) 64 bytes rest old new needs
+pub left-out : (s : Schema) (optional : Bool) (type : TypeUse) (most : ℕ) (bytes rest old new : List ℕ) (needs : List Need) → optional ≡ true → bytes ≡ 36 ∷ rest → new ≡ old ++ 36 ∷ [] → TakesWithNeeds s (FitsAtWith s (stored_place optional type)) most bytes rest old new needs needs
+left-out s optional type most bytes rest old new needs may e is =
+    subst (λ (x : Bool). TakesWithNeeds s (FitsAtWith s (stored_place x type)) most bytes rest old new needs needs) (sym may)
+    (needs-nothing s (FitsAtWith s (stored_place true type)) most bytes rest old new needs
     (record { parameter = parameter.dollar; value = meant.missing; fits = with_dollar type; shallow = omega arith; laid = laid-mark 36 token.dollar bytes rest refl (λ byte. tt) e; text_is = is }))
 
 pub star-taken : (s : Schema) (step : Step) (bytes rest old new : List ℕ) (needs : List Need) → step ≡ Derived → (bytes ≡ 42 ∷ rest) × (new ≡ old ++ 42 ∷ []) → (at : PlaceType) → Says s at step → TakesWithNeeds s (FitsAtWith s at) 64 bytes rest old new needs needs
@@ -126,7 +126,7 @@ dollar-put optional bytes rest old new may h = (may, h.0, h.1)
 -- ---- steps
 
 pub step-base : (s : Schema) (step : Step) (optional : Bool) (base : Base) → step ≡ Stored optional base → IsStepIn s step → IsBaseIn s base
-step-base s step optional base is (at, says) = let says_ = subst (Says s at) is says in (says_.0, says_.3)
+step-base s step optional base is (at, says) = let says_ = subst (Says s at) is says in (says_.0, says_.2, says_.3)
 
 pub step-taken : (s : Schema) (step : Step) (optional : Bool) (base : Base) (bytes rest old new : List ℕ) (before after : List Need) → step ≡ Stored optional base
     → ((type : TypeUse) → HasBase s type base → TakesWithNeeds s (FitsAtWith s (stored_place optional type)) 64 bytes rest old new before after) → (at : PlaceType) → Says s at step → TakesWithNeeds s (FitsAtWith s at) 64 bytes rest old new before after
@@ -135,7 +135,7 @@ step-taken s step optional base bytes rest old new before after is takes at says
     subst (λ (x : PlaceType). TakesWithNeeds s (FitsAtWith s x) 64 bytes rest old new before after) (sym says_.1) (takes says_.0 says_.3)
 
 pub base-select : (s : Schema) (base : Base) (t : TypeId) → base ≡ Select t → IsBaseIn s base → IsSelect s t.0
-base-select s base t is (type, (last, comes, found)) = (subst (IsBase s last) is found).1
+base-select s base t is (type, known, (last, comes, found)) = (subst (IsBase s last) is found).1
 
 pub needs-kept : {A : Type 0} (found : Option A) (needs : List Need) → IfNone found (KeepsNeeds needs needs)
 needs-kept None needs = ([], sym (append-nil needs))
@@ -146,25 +146,26 @@ needs-same old new e = ([], e ∙ sym (append-nil old))
 
 -- ---- bases
 
-pub plain-at : (base : Base) (of : Bor code.TypeUse) (bytes rest old new : List ℕ) (before after : List Need) → base ≡ Plain of → ((s : Schema) → TakesWithNeeds s (FitsWith s (type_use of.now)) 0 bytes rest old new before after) → (s : Schema) (type : TypeUse) → IsBase s type base
-    → TakesWithNeeds s (FitsWith s type) 0 bytes rest old new before after
-plain-at base of bytes rest old new before after same h s type is = subst (λ (t : TypeUse). TakesWithNeeds s (FitsWith s t) 0 bytes rest old new before after) (sym (subst (IsBase s type) same is).0) (h s)
-
 pub scalar-at : (u : code.TypeUse) (bytes rest old new : List ℕ) (needs : List Need) → ((s : Schema) → TakesValue s (λ p v. FitsWith s (type_use u) p v []) 0 bytes rest old new) → (s : Schema) → TakesWithNeeds s (FitsWith s (type_use u)) 0 bytes rest old new needs needs
 scalar-at u bytes rest old new needs h s = needs-nothing s (FitsWith s (type_use u)) 0 bytes rest old new needs (h s)
 
-pub item-at : (base : Base) (words : Bor (List (List ℕ))) (bytes rest old new : List ℕ) (needs : List Need) → base ≡ Items words → ((s : Schema) (t : ℕ) → schema.kind_of s t ≡ Some (schema.items words.now) → TakesValue s (λ p v. FitsWith s (schema.defined t) p v []) 0 bytes rest old new)
+item-at : (base : Base) (words : Bor (List (List ℕ))) (bytes rest old new : List ℕ) (needs : List Need) → base ≡ Items words → ((s : Schema) (t : ℕ) → schema.kind_of s t ≡ Some (schema.items words.now) → TakesValue s (λ p v. FitsWith s (schema.defined t) p v []) 0 bytes rest old new)
     → (s : Schema) (type : TypeUse) → IsBase s type base → TakesWithNeeds s (FitsWith s type) 0 bytes rest old new needs needs
 item-at base words bytes rest old new needs same h s type is =
     let (t, e, kind) = subst (IsBase s type) same is in
     subst (λ (x : TypeUse). TakesWithNeeds s (FitsWith s x) 0 bytes rest old new needs needs) (sym e) (needs-nothing s (FitsWith s (schema.defined t)) 0 bytes rest old new needs (h s t kind))
 
-pub select-at : (s : Schema) (base : Base) (t : TypeId) (most : ℕ) (bytes rest old new : List ℕ) (before after : List Need) → base ≡ Select t → most ≤ 64 → TakesWithNeeds s (FitsWith s (schema.defined t.0)) most bytes rest old new before after → (type : TypeUse) → IsBase s type base
-    → TakesWithNeeds s (FitsWith s type) 64 bytes rest old new before after
-select-at s base t most bytes rest old new before after same few h type is =
-    subst (λ (x : TypeUse). TakesWithNeeds s (FitsWith s x) 64 bytes rest old new before after) (sym (subst (IsBase s type) same is).0)
-    (fits-as s (FitsWith s (schema.defined t.0)) (FitsWith s (schema.defined t.0)) most 64 bytes rest old new before after few (λ p v needs fits. fits) h)
+pub select-at : (s : Schema) (base : Base) (t : TypeId) (most : ℕ) (bytes rest old new : List ℕ) (before after : List Need) → base ≡ Select t → TakesWithNeeds s (FitsWith s (schema.defined t.0)) most bytes rest old new before after → (type : TypeUse) → IsBase s type base
+    → TakesWithNeeds s (FitsWith s type) most bytes rest old new before after
+select-at s base t most bytes rest old new before after same h type is = subst (λ (x : TypeUse). TakesWithNeeds s (FitsWith s x) most bytes rest old new before after) (sym (subst (IsBase s type) same is).0) h
 
-pub bare-at : (s : Schema) (base : Base) (bytes rest old new : List ℕ) (before after : List Need) → ((other : Schema) (type : TypeUse) → IsBase other type base → TakesWithNeeds other (FitsWith other type) 0 bytes rest old new before after) → (type : TypeUse) → IsBase s type base
-    → TakesWithNeeds s (FitsWith s type) 64 bytes rest old new before after
-bare-at s base bytes rest old new before after h type is = fits-as s (FitsWith s type) (FitsWith s type) 0 64 bytes rest old new before after (omega arith) (λ p v needs fits. fits) (h s type is)
+-- as deep as it may be
+pub no-deeper : (s : Schema) (F : Param → Value → List reference.Need → Type 0) (most : ℕ) (bytes rest old new : List ℕ) (before after : List Need) → TakesWithNeeds s F 0 bytes rest old new before after → TakesWithNeeds s F most bytes rest old new before after
+no-deeper s F most bytes rest old new before after h = fits-as s F F 0 most bytes rest old new before after (omega arith) (λ p v needs fits. fits) h
+
+pub plain-deep : (s : Schema) (u : code.TypeUse) (most : ℕ) (bytes rest old new : List ℕ) (before after : List Need) → ((other : Schema) → TakesWithNeeds other (FitsWith other (type_use u)) 0 bytes rest old new before after) → TakesWithNeeds s (FitsWith s (type_use u)) most bytes rest old new before after
+plain-deep s u most bytes rest old new before after h = no-deeper s (FitsWith s (type_use u)) most bytes rest old new before after (h s)
+
+pub item-deep : (s : Schema) (base : Base) (words : Bor (List (List ℕ))) (most : ℕ) (bytes rest old new : List ℕ) (needs : List Need) → base ≡ Items words → ((other : Schema) (t : ℕ) → schema.kind_of other t ≡ Some (schema.items words.now) → TakesValue other (λ p v. FitsWith other (schema.defined t) p v []) 0 bytes rest old new)
+    → (type : TypeUse) → IsBase s type base → TakesWithNeeds s (FitsWith s type) most bytes rest old new needs needs
+item-deep s base words most bytes rest old new needs same h type is = no-deeper s (FitsWith s type) most bytes rest old new needs needs (item-at base words bytes rest old new needs same h s type is)

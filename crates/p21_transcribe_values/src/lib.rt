@@ -3,9 +3,12 @@
 //! is left to those who read it token by token.
 #![tactic(auto)]
 
+mod aggregate;
 mod bare;
 mod choice;
+mod length;
 mod mark;
+mod order;
 mod reference;
 mod scalar;
 mod value;

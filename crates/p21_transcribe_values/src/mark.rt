@@ -1,7 +1,8 @@
 //! A byte that is a token (ISO 10303-21, clause 6: tokens).
 ghost use Rattle.std.specs.Prelude.{◌≡◌, [], ◌∷◌, ◌++◌, IfNone, IfSome};
+ghost use Rattle.p21_transcribe_values.specs.Taken.{PassesMark};
 
-use p21_transcribe::Draft;
+use p21_transcribe::{Draft, behind_separators};
 
 /// Appends the byte, if it stands first: what stands behind it.
 #[inline(always)]
@@ -14,4 +15,13 @@ pub(crate) fn append_mark<'a>(mark: u8, bytes: &'a [u8], draft: &mut Draft) -> O
         return None;
     }
     Some(rest)
+}
+
+/// Appends the byte, if it stands first behind the separators: what stands behind it.
+#[inline(always)]
+pub(crate) fn append_next_mark<'a>(mark: u8, bytes: &'a [u8], draft: &mut Draft) -> Option<&'a [u8]>
+    ensures some { IfSome result (λ rest. PassesMark mark bytes.now rest.now × (draft.new ≡ draft.old ++ mark ∷ [])) }
+    ensures none { IfNone result (draft.new ≡ draft.old) }
+{
+    append_mark(mark, behind_separators(bytes), draft)
 }

@@ -1,4 +1,4 @@
-use super::schemas::{CORNERS, DIAMOND, RANK, REDECL, SOLE};
+use super::schemas::{CORNERS, CROWD, DIAMOND, RANK, REDECL, SOLE};
 use super::*;
 
 const OF_DIAMOND: Rows = &[
@@ -15,6 +15,26 @@ const OF_DIAMOND: Rows = &[
 #[test]
 fn reads_a_diamond(rt: HostRuntime) {
     assert_eq!(rt; first_wrong(&rt, DIAMOND, OF_DIAMOND), "none");
+}
+
+const OF_CROWD: Rows = &[
+    (
+        "#1=(R()Q()P()O()N()M()L()K()J()I()H()G()F()E()D()C()B()A(1));",
+        "#1=(A(1)B()C()D()E()F()G()H()I()J()K()L()M()N()O()P()Q()R());",
+    ),
+    (
+        "#1=(A(1)B()C()D()E()F()G()H()I()J()K()L()M()N()O()P()Q()R()B());",
+        "44 PartTwice",
+    ),
+    (
+        "#1=(B()C()D()E()F()G()H()I()J()K()L()M()N()O()P()Q()R());",
+        "43 PartMissing",
+    ),
+];
+
+#[test]
+fn reads_many_parts(rt: HostRuntime) {
+    assert_eq!(rt; first_wrong(&rt, CROWD, OF_CROWD), "none");
 }
 
 const OF_REDECL: Rows = &[

@@ -8,7 +8,7 @@ const ONE: &[EntityId] = &[EntityId(7)];
 const TWO: &[EntityId] = &[EntityId(7), EntityId(3)];
 
 /// Kinds one after another, each by its section and its entities, with the number that it has.
-const ADDED: &[(u32, &[EntityId], u32)] = &[
+const ADDED: &[(usize, &[EntityId], usize)] = &[
     (0, ONE, 0),
     (0, ONE, 0),
     (0, TWO, 1),
@@ -24,8 +24,8 @@ const ADDED: &[(u32, &[EntityId], u32)] = &[
 fn adds(
     alloc: Global,
     kinds: &mut Kinds,
-    (section, entities): (u32, &[EntityId]),
-    wanted: u32,
+    (section, entities): (usize, &[EntityId]),
+    wanted: usize,
 ) -> bool {
     match kinds.add(alloc, section, entities) {
         Ok(number) => number == wanted && kinds.get(number) == (section, entities),

@@ -1,19 +1,19 @@
 //! Instances that are kept.
-use p21_stream_store::Instances;
+use p21_stream_store::{Instances, Numbers};
 use std::alloc::{AllocError, Global};
 
 /// A name, a kind, and the text: a letter so many times.
-type Kept = (u64, u32, (u8, usize));
+type Kept = (u64, usize, (u8, usize));
 
 /// Adds an instance, if none has its name, and says whether it is one more.
-fn add(instances: &mut Instances, name: u64, kind: u32, text: &[u8]) -> bool {
+fn add(instances: &mut Instances, name: u64, kind: usize, text: &[u8]) -> bool {
     let before = instances.len();
     instances.find(name).is_none()
         && instances.push(name, kind, text).is_ok()
         && instances.len() == before.saturating_add(1)
 }
 
-fn is_found(instances: &Instances, name: u64, kind: u32, text: &[u8]) -> bool {
+fn is_found(instances: &Instances, name: u64, kind: usize, text: &[u8]) -> bool {
     instances.find(name) == Some((kind, text))
 }
 
@@ -70,11 +70,10 @@ fn is_at(instances: &Instances, place: usize, name: u64) -> bool {
 }
 
 /// The first name at which another instance is written, or none.
-fn first_misplaced(instances: &Instances, order: &[u32], names: &[u64]) -> Option<u64> {
+fn first_misplaced(instances: &Instances, order: &Numbers, names: &[u64]) -> Option<u64> {
     for (number, name) in names.iter().enumerate() {
-        match order.get(number) {
-            Some(place) if is_at(instances, *place as usize, *name) => {}
-            _ => return Some(*name),
+        if number >= order.len() || !is_at(instances, order.get(number), *name) {
+            return Some(*name);
         }
     }
     None

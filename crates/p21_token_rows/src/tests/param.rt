@@ -1,5 +1,20 @@
+ghost use Rattle.std.specs.Prelude.{◌≡◌, IsTrue};
+ghost use Rattle.p21_tokens.specs.p21_exchange.Laying.{HoldsScalar};
+ghost use Rattle.p21_tokens.specs.p21_exchange.Spelling as canonical;
+ghost use Rattle.p21_tokens.specs.p21_exchange.Token as meaning;
+
 use p21_tokens::canonical_param;
 use std::alloc::Global;
+
+/// Whether this is the canonical spelling of the one scalar of a text.
+fn is_spelling(alloc: Global, text: &[u8], spelling: &[u8]) -> bool
+    ensures { IsTrue result → (token : meaning.Token) × HoldsScalar text.now token × (spelling.now ≡ canonical.spelling token) }
+{
+    match canonical_param(alloc, text) {
+        Ok(answer) => answer.as_slice() == spelling,
+        Err(_fault) => false,
+    }
+}
 
 /// Whether this is the spelling of a text, or the name of its refusal.
 fn is_answered(alloc: Global, text: &[u8], answer: &[u8]) -> bool {
@@ -33,8 +48,8 @@ const SPELLINGS: &[(&str, &str)] = &[
 /// The first text with another spelling, or whose spelling isn't its own.
 fn first_wrong(alloc: Global) -> &'static str {
     for (text, spelling) in SPELLINGS {
-        let is_right = is_answered(alloc, text.as_bytes(), spelling.as_bytes())
-            && is_answered(alloc, spelling.as_bytes(), spelling.as_bytes());
+        let is_right = is_spelling(alloc, text.as_bytes(), spelling.as_bytes())
+            && is_spelling(alloc, spelling.as_bytes(), spelling.as_bytes());
         if !is_right {
             return text;
         }

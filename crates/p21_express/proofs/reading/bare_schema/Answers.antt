@@ -4,8 +4,8 @@ use Rattle.p21_express.proofs.Holding.{bare-holds}
 use Rattle.p21_express.proofs.Whole.{memory-bare}
 use Rattle.p21_express.proofs.reading.bare_schema.Goals as goal
 
-pub new-requires-clause-holds_together : goal.new-requires-clause-holds_together
-new-requires-clause-holds_together c = bare-holds (schema_view c.args.declarations.now) (schema_of c.in_ok-parts.parts) c.requires c.in_ok-parts.ensures.0
+pub without_own_sets-requires-clause-holds_together : goal.without_own_sets-requires-clause-holds_together
+without_own_sets-requires-clause-holds_together c = bare-holds (schema_view c.args.declarations.now) (schema_of c.in_ok-parts.parts) c.requires c.in_ok-parts.ensures.0
 
-pub returns-in_err-new : goal.returns-in_err-new
-returns-in_err-new c = memory-bare (schema_view c.args.declarations.now) c.from_residual-in_err-new.result c.from_residual-in_err-new.ensures.0 c.from_residual-in_err-new.ensures.1
+pub returns-in_err-without_own_sets : goal.returns-in_err-without_own_sets
+returns-in_err-without_own_sets c = memory-bare (schema_view c.args.declarations.now) c.from_residual-in_err-without_own_sets.result c.from_residual-in_err-without_own_sets.ensures.0 c.from_residual-in_err-without_own_sets.ensures.1

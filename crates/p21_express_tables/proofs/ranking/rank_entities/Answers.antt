@@ -1,4 +1,4 @@
-use Rattle.std.specs.Prelude.{◌≡◌, ℕ, List, Some, Contains, map, slice_get, slice_index_or}
+use Rattle.std.specs.Prelude.{◌≡◌, ℕ, List, Some, Contains, length, map, slice_get, slice_index_or}
 use Rattle.std.specs.List.{AllZip}
 use Rattle.std.proofs.Common.{arith, ap, sym, ◌∙◌, subst, Bor}
 use Rattle.p21_express_types.specs.declared.number.EntityId.{EntityId}
@@ -8,7 +8,7 @@ use Rattle.p21_express_tables.specs.Parts.{entity, schema_of}
 use Rattle.p21_express_tables.specs.Rising.{texts_of}
 use Rattle.p21_express_tables.proofs.Gatherings.{mapped-length}
 use Rattle.p21_express_tables.proofs.Owners.{map-map}
-use Rattle.p21_express_tables.proofs.RisingNames.{sorted-among, found-entity, found-each, found-rising}
+use Rattle.p21_express_tables.proofs.RisingNames.{sorted-among, found-entity, found-each, found-rising, found-size}
 use Rattle.p21_express_tables.proofs.ranking.rank_entities.Goals as goal
 
 pub entities_named-requires-clause-among : goal.entities_named-requires-clause-among
@@ -18,8 +18,8 @@ entities_named-requires-clause-among c name among =
     let P : List (Bor (List ℕ)) → Type 0 = λ texts. Contains (texts_of texts) name in
     sorted-among s c.in_ok-names.names.items c.sort_unstable.new.self.items all c.sort_unstable.ensures.permutation name (subst P c.deref-2.ensures.value among)
 
-pub ranks_of-requires : goal.ranks_of-requires
-ranks_of-requires c e among =
+pub ranks_of-requires-clause-within : goal.ranks_of-requires-clause-within
+ranks_of-requires-clause-within c e among =
     let s = schema_of c.args.parts.now in
     let all : texts_of c.in_ok-names.names.items ≡ map (λ x. x.name) s.entities = c.in_ok-names.ensures ∙ ap (map (λ x. x.name)) c.deref.ensures.value ∙ map-map (λ x. x.name) entity c.args.parts.now.entities.items in
     let rising : List ℕ = numbers c.in_ok-rising.rising.items in
@@ -27,6 +27,16 @@ ranks_of-requires c e among =
     let Q : List EntityId → Type 0 = λ es. Contains (numbers es) e in
     let below = found-entity s c.in_ok-names.names.items c.sort_unstable.new.self.items all c.sort_unstable.ensures.permutation c.requires.holds.entities_distinct rising (subst P c.deref-2.ensures.value c.in_ok-rising.ensures) e (subst Q c.deref-3.ensures.value among) in
     omega (arith, below, c.len.ensures, mapped-length entity c.args.parts.now.entities.items, c.args.parts.now.entities.ok.0)
+
+pub ranks_of-requires-clause-few : goal.ranks_of-requires-clause-few
+ranks_of-requires-clause-few c =
+    let s = schema_of c.args.parts.now in
+    let all : texts_of c.in_ok-names.names.items ≡ map (λ x. x.name) s.entities = c.in_ok-names.ensures ∙ ap (map (λ x. x.name)) c.deref.ensures.value ∙ map-map (λ x. x.name) entity c.args.parts.now.entities.items in
+    let rising : List ℕ = numbers c.in_ok-rising.rising.items in
+    let P : List (Bor (List ℕ)) → Type 0 = λ texts. AllZip (EntityNamed s) rising (texts_of texts) in
+    let size = found-size s c.in_ok-names.names.items c.sort_unstable.new.self.items all c.sort_unstable.ensures.permutation c.requires.holds.entities_distinct rising (subst P c.deref-2.ensures.value c.in_ok-rising.ensures) in
+    let few = c.requires.holds.few in
+    omega (arith, few, size, mapped-length (λ e. e.0) c.in_ok-rising.rising.items, ap length c.deref-3.ensures.value)
 
 pub returns : goal.returns
 returns c =

@@ -12,7 +12,7 @@ loop-rank-init c = none-ranked (numbers c.args.rising.now) c.in_ok-ranks.ranks.i
 
 pub index_mut-requires : goal.index_mut-requires
 index_mut-requires c =
-    let below = c.requires _ (numbered-at (λ e. e.0) c.args.rising.now c.loop-rank.rank record { 0 = 0 } c.loop-rank-test.true) in
+    let below = c.requires.within _ (numbered-at (λ e. e.0) c.args.rising.now c.loop-rank.rank record { 0 = 0 } c.loop-rank-test.true) in
     omega (arith, below, c.loop-rank.invariant.size, c.loop-rank.ranks.ok.0)
 
 pub loop-rank-preserved : goal.loop-rank-preserved
@@ -21,7 +21,7 @@ loop-rank-preserved c =
     let rising : List ℕ = numbers c.args.rising.now in
     let x : ℕ = (get_or c.args.rising.now k record { 0 = 0 }).0 in
     let at : slice_get rising k ≡ Some x = slice_get-get_or rising k 0 (omega (arith, c.loop-rank-test.true, mapped-length (λ e. e.0) c.args.rising.now)) ∙ ap Some (get_or-map (λ e. e.0) c.args.rising.now k record { 0 = 0 } 0 c.loop-rank-test.true) in
-    ranked-more rising c.loop-rank.ranks.items c.args.count k x at (c.requires x (numbered-at (λ e. e.0) c.args.rising.now k record { 0 = 0 } c.loop-rank-test.true)) c.loop-rank.invariant
+    ranked-more rising c.loop-rank.ranks.items c.args.count k x at (c.requires.within x (numbered-at (λ e. e.0) c.args.rising.now k record { 0 = 0 } c.loop-rank-test.true)) c.loop-rank.invariant
 
 pub returns-clause-size : goal.returns-clause-size
 returns-clause-size c = c.loop-rank.invariant.size

@@ -1,4 +1,4 @@
-use Rattle.std.specs.Prelude.{◌≡◌, List, [], length, nat_eq}
+use Rattle.std.specs.Prelude.{List, length, nat_eq}
 use Rattle.std.specs.List.{IsDistinct}
 use Rattle.std.proofs.Common.{ap, sym, ◌∙◌, subst}
 use Rattle.p21_basics.proofs.Shuffles.{none_twice-distinct}

@@ -1,6 +1,6 @@
-use Rattle.std.specs.Prelude.{◌≡◌, ◌<◌, List, [], length, MatchResult}
+use Rattle.std.specs.Prelude.{◌<◌, List, [], length, MatchResult}
 use Rattle.std.proofs.Common.{arith, ap, sym, ◌∙◌, subst}
-use Rattle.p21_exchange.specs.Record.{simple, complex}
+use Rattle.p21_exchange.specs.Record.{complex}
 use Rattle.p21_express_tables.specs.Orders.{numbers}
 use Rattle.p21_grammar_tree.specs.declared.record.Part.{Part}
 use Rattle.p21_grammar_tree.specs.declared.record.Record.{Record}

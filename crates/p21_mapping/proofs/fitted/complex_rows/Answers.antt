@@ -1,7 +1,7 @@
-use Rattle.std.specs.Prelude.{◌≡◌, List, ℕ, [], ◌∷◌, ◌++◌, map, length}
+use Rattle.std.specs.Prelude.{◌≡◌, List, map, length}
 use Rattle.std.proofs.Common.{arith, ap, sym, ◌∙◌, subst, get_or}
 use Rattle.std.specs.Vec.Iter.{into_iter_items}
-use Rattle.std.specs.List.{flat_map, zip}
+use Rattle.std.specs.List.{zip}
 use Rattle.p21_basics.proofs.Members.{Each-member}
 use Rattle.p21_exchange.specs.Parameter.{Param, listed}
 use Rattle.p21_exchange.specs.Record.{complex}
@@ -9,7 +9,7 @@ use Rattle.p21_express_tables.proofs.Gatherings.{numbered-at}
 use Rattle.p21_express_tables.specs.Orders.{numbers}
 use Rattle.p21_files.specs.Meaning.{HasPlaceTypes}
 use Rattle.p21_files.specs.RecordPlaces.{HasPart}
-use Rattle.p21_grammar_tree.specs.View.{items_of, part_view, part_views}
+use Rattle.p21_grammar_tree.specs.View.{part_view, part_views}
 use Rattle.p21_mapping.proofs.Here.{param_views-length, part-params}
 use Rattle.p21_mapping.proofs.Taking.{parts-begin, parts-more, parts-room, parts-next, parts-end, row-whole}
 use Rattle.p21_mapping_fit.specs.Outcome.{needs_view}

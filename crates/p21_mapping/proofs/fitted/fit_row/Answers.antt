@@ -1,5 +1,5 @@
-use Rattle.std.specs.Prelude.{◌≡◌, List, ℕ, [], ◌∷◌, ◌++◌, map}
-use Rattle.std.proofs.Common.{arith, ap, sym, ◌∙◌, subst}
+use Rattle.std.specs.Prelude.{[], ◌∷◌, map}
+use Rattle.std.proofs.Common.{arith, ap, sym, ◌∙◌}
 use Rattle.std.proofs.lemmas.List.{map-append}
 use Rattle.std.specs.Vec.Iter.{into_iter_items}
 use Rattle.p21_basics.proofs.Members.{Each-member}
@@ -16,24 +16,24 @@ use Rattle.p21_schemas.specs.PlaceType.{TypeAt, two_redeclarations}
 use Rattle.p21_mapping.proofs.fitted.fit_row.Goals as goal
 
 pub loop-index-init : goal.loop-index-init
-loop-index-init c = rw c.new-values.ensures.items (row-begins c.args.schema.now (numbers c.args.entities.now) c.args.owner.0 (param_views (into_iter_items c.args.params.now)) (needs_view c.args.needs.now.items))
+loop-index-init c = rw c.in_ok-values.ensures.items (row-begins c.args.schema.now (numbers c.args.entities.now) c.args.owner.0 (param_views (into_iter_items c.args.params.now)) (needs_view c.args.needs.now.items))
 
 pub unreachable-requires : goal.unreachable-requires
 unreachable-requires c =
     row-room c.args.schema.now (numbers c.args.entities.now) c.args.owner.0 c.loop-index.index (into_iter_items c.args.params.now) (into_iter_items c.loop-index.params) (map view c.loop-index.values.items) (needs_view c.args.needs.now.items) (needs_view c.loop-index.needs.items) c.loop-index.invariant
-    (omega (arith, c.loop-index-test.true, c.attribute_count-index-end.ensures)) c.requires.enough (sym c.loop-index.params.rest.ok.0 ∙ c.in_default.ensures.cases.0)
+    (omega (arith, c.loop-index-test.true, c.attribute_count-count.ensures)) c.requires.enough (sym c.loop-index.params.rest.ok.0 ∙ c.in_default.ensures.cases.0)
 
 pub fit_here-requires-clause-decided : goal.fit_here-requires-clause-decided
 fit_here-requires-clause-decided c =
     Each-member (λ place. ¬ TypeAt c.args.schema.now (numbers c.args.entities.now) place two_redeclarations) (own_places c.args.schema.now c.args.owner.0) (record { entity = c.args.owner.0; index = c.loop-index.index }) c.requires.decided
-    (own-place c.args.schema.now c.args.owner.0 c.loop-index.index (omega (arith, c.loop-index-test.true, c.attribute_count-index-end.ensures)))
+    (own-place c.args.schema.now c.args.owner.0 c.loop-index.index (omega (arith, c.loop-index-test.true, c.attribute_count-count.ensures)))
 
 pub returns-in-Err : goal.returns-in-Err
 returns-in-Err c = λ other. (
   record { entity = c.args.owner.0; index = c.loop-index.index },
   tree c.in-Some.param,
   row-next c.args.schema.now (numbers c.args.entities.now) c.args.owner.0 c.loop-index.index (param_views (into_iter_items c.args.params.now)) (param_views (into_iter_items c.loop-index.params)) (param_views (into_iter_items c.next.new.self)) (map view c.loop-index.values.items)
-      (needs_view c.args.needs.now.items) (needs_view c.loop-index.needs.items) (tree c.in-Some.param) (omega (arith, c.loop-index-test.true, c.attribute_count-index-end.ensures)) c.loop-index.invariant (ap param_views c.in-Some.ensures.items),
+      (needs_view c.args.needs.now.items) (needs_view c.loop-index.needs.items) (tree c.in-Some.param) (omega (arith, c.loop-index-test.true, c.attribute_count-count.ensures)) c.loop-index.invariant (ap param_views c.in-Some.ensures.items),
   c.in-Err.ensures other,
 )
 
@@ -47,4 +47,4 @@ pub returns : goal.returns
 returns c =
     rw c.from_vec.ensures
     (row-ends c.args.schema.now (numbers c.args.entities.now) c.args.owner.0 c.loop-index.index (param_views (into_iter_items c.args.params.now)) (param_views (into_iter_items c.loop-index.params)) (map view c.loop-index.values.items) (needs_view c.args.needs.now.items) (needs_view c.loop-index.needs.items)
-    (omega (arith, c.loop-index-test.false, c.loop-index.auto.index-end, c.attribute_count-index-end.ensures)) c.loop-index.invariant)
+    (omega (arith, c.loop-index-test.false, c.loop-index.auto.index-end, c.attribute_count-count.ensures)) c.loop-index.invariant)

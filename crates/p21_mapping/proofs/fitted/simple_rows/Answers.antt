@@ -1,7 +1,5 @@
-use Rattle.std.specs.Prelude.{◌≡◌, List, ℕ, [], ◌∷◌, ◌++◌, map, length}
-use Rattle.std.proofs.Common.{arith, ap, sym, ◌∙◌, subst, get_or}
+use Rattle.std.proofs.Common.{arith, ◌∙◌}
 use Rattle.std.specs.Vec.Iter.{into_iter_items}
-use Rattle.std.specs.List.{flat_map}
 use Rattle.p21_basics.proofs.Members.{Each-member}
 use Rattle.p21_express_tables.proofs.Gatherings.{numbered-at}
 use Rattle.p21_express_tables.specs.Orders.{numbers}
@@ -12,7 +10,6 @@ use Rattle.p21_mapping_fit.specs.Outcome.{needs_view}
 use Rattle.p21_mapping.specs.Rows.{param_views}
 use Rattle.p21_mapping_values.specs.Fault.{fault_number}
 use Rattle.p21_mapping_values.specs.TypedView.{rows_view}
-use Rattle.p21_schemas.specs.Order.{own_places}
 use Rattle.p21_mapping.proofs.fitted.simple_rows.Goals as goal
 
 pub loop-owner-init : goal.loop-owner-init

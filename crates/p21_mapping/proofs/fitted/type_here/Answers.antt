@@ -1,4 +1,4 @@
-use Rattle.std.specs.Prelude.{Option, Some}
+use Rattle.std.specs.Prelude.{Option}
 use Rattle.std.proofs.Common.{subst}
 use Rattle.p21_express_tables.specs.Orders.{numbers}
 use Rattle.p21_express_types.specs.declared.number.EntityId.{EntityId}

@@ -1,5 +1,5 @@
 use Rattle.std.specs.Prelude.{◌≡◌, ℕ, true, false, refl}
-use Rattle.std.proofs.Common.{arith, sym, ◌∙◌, subst, get_or}
+use Rattle.std.proofs.Common.{arith, sym, ◌∙◌, get_or}
 use Rattle.p21_express_tables.proofs.Gatherings.{numbered-at}
 use Rattle.p21_express_tables.proofs.Lookups.{each-number, up-to}
 use Rattle.p21_schemas.specs.Schema.{entity_member}

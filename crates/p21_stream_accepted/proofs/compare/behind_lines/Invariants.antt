@@ -4,5 +4,5 @@ use Rattle.p21_stream_accepted.specs.Output.{line_of}
 use Rattle.p21_stream_accepted.specs.Stored.{text_at}
 use Rattle.p21_stream_accepted.proofs.compare.behind_lines.Given as goal
 
-abbrev pub invariant-loop-place : goal.invariant-loop-place
-invariant-loop-place l = l.text ≡ flat_map line_of (map (text_at l.instances) (take l.place-index l.places)) ++ l.left
+abbrev pub invariant-loop-index : goal.invariant-loop-index
+invariant-loop-index l = l.text ≡ flat_map line_of (map (text_at l.instances) (take l.index l.places)) ++ l.left

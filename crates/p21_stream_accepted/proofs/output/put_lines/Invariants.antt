@@ -5,8 +5,8 @@ use Rattle.p21_stream_accepted.specs.Stored.{text_at}
 use Rattle.p21_stream_io.specs.Transfer.{AppendsAllBut}
 use Rattle.p21_stream_accepted.proofs.output.put_lines.Given as goal
 
-abbrev pub invariant-loop-place : goal.invariant-loop-place
-invariant-loop-place g l = record {
-  puts : AppendsAllBut (g.W.Write.contents l.fn.writer.inner) (g.W.Write.contents l.writer.inner) (l.fn.waiting ++ flat_map line_of (map (text_at l.instances) (take l.place-index l.places))) l.waiting;
+abbrev pub invariant-loop-index : goal.invariant-loop-index
+invariant-loop-index g l = record {
+  puts : AppendsAllBut (g.W.Write.contents l.fn.writer.inner) (g.W.Write.contents l.writer.inner) (l.fn.waiting ++ flat_map line_of (map (text_at l.instances) (take l.index l.places))) l.waiting;
   failures : l.writer.failures ≡ l.fn.writer.failures;
 }

@@ -7,7 +7,7 @@ use Rattle.p21_stream_accepted.proofs.output.put_sections.Goals as goal
 
 pub put_section-requires : goal.put_section-requires
 put_section-requires g c =
-    let P = λ (x : Section). ArePlaces c.args.instances.now x.places.items in
+    let P = λ (x : Section). ArePlaces c.args.instances.now x.places in
     subst P (sym c.section-item.is) (each-read P c.args.sections.now c.loop-section.section-index c.section-item.result c.requires c.loop-section-test.true)
 
 pub returns-in_default-clause-err : goal.returns-in_default-clause-err

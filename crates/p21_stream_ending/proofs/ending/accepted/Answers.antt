@@ -1,14 +1,19 @@
+use Rattle.std.proofs.Common.{ap, length, sym, ◌∙◌}
 use Rattle.p21_stream_ending.proofs.Whole.{ended, placed}
 use Rattle.p21_stream_ending.proofs.Written.{has-lines}
 use Rattle.p21_stream_ending.proofs.ending.accepted.Goals as goal
 
-pub file_size-requires : goal.file_size-requires
-file_size-requires c =
-    rw c.deref-2.ensures.value (placed c.args.kinds.now c.args.instances c.args.parts.items c.file_instances.new.parts.items c.sort_parts.new.parts.items c.in_ok-sections.sections.items c.requires.empty c.in_ok-file_instances.ensures.rows c.sort_parts.ensures.same c.in_ok-sections.ensures)
-
 pub new-requires-clause-placed : goal.new-requires-clause-placed
 new-requires-clause-placed c =
     placed c.args.kinds.now c.args.instances c.args.parts.items c.file_instances.new.parts.items c.sort_parts.new.parts.items c.in_ok-sections.sections.items c.requires.empty c.in_ok-file_instances.ensures.rows c.sort_parts.ensures.same c.in_ok-sections.ensures
+
+pub new-requires-clause-len : goal.new-requires-clause-len
+new-requires-clause-len c =
+    let has = c.requires.size in
+    let file =
+    ended has.kept c.args.header.items c.args.parts.items c.file_instances.new.parts.items c.sort_parts.new.parts.items c.args.kinds.now c.args.instances c.in_ok-sections.sections.items c.requires.empty c.in_ok-file_instances.ensures.heads c.in_ok-file_instances.ensures.rows c.sort_parts.ensures.same c.sort_parts.ensures.sorted
+    c.in_ok-sections.ensures has.stands has.once in
+    sym (ap length file.text_is ∙ has.size_is file.blocks file.are_blocks)
 
 pub new-requires-clause-lines : goal.new-requires-clause-lines
 new-requires-clause-lines c =

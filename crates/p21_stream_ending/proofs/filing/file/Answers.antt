@@ -1,10 +1,16 @@
-use Rattle.std.proofs.Common.{◌∙◌}
+use Rattle.std.proofs.Common.{ℕ, List, ap, arith, ◌∙◌}
+use Rattle.std.proofs.lemmas.List.{take_all}
 use Rattle.p21_stream_ending.proofs.Rows.{more-filed}
-use Rattle.p21_stream_ending.specs.Filing.{rows_of, section_at}
+use Rattle.p21_stream_ending.specs.Filing.{filed, rows_of, section_at}
 use Rattle.p21_stream_ending.proofs.filing.file.Goals as goal
 
-pub loop-place-preserved : goal.loop-place-preserved
-loop-place-preserved c = record {
-  heads = c.put.ensures.heads ∙ c.loop-place.invariant.heads;
-  rows = more-filed (section_at c.args.kinds.now c.args.instances.now) c.args.order.now c.loop-place.place-index 0 _ (rows_of c.args.parts.now.items) (rows_of c.loop-place.parts.items) (rows_of c.put.new.parts.items) c.loop-place-test.true c.loop-place.invariant.rows c.section_of-section.ensures c.in_ok-put.ensures.rows;
+pub loop-index-preserved : goal.loop-index-preserved
+loop-index-preserved c = record {
+  heads = c.put.ensures.heads ∙ c.loop-index.invariant.heads;
+  rows = more-filed (section_at c.args.kinds.now c.args.instances.now) c.args.order.now c.loop-index.index c.get-place.result _ (rows_of c.args.parts.now.items) (rows_of c.loop-index.parts.items) (rows_of c.put.new.parts.items) c.get-place.ensures c.loop-index.invariant.rows c.section_of-section.ensures c.in_ok-put.ensures.rows;
 }
+
+pub returns-clause-rows : goal.returns-clause-rows
+returns-clause-rows c =
+    c.loop-index.invariant.rows
+    ∙ ap (λ (order : List ℕ). filed (section_at c.args.kinds.now c.args.instances.now) order (rows_of c.args.parts.now.items)) (take_all c.loop-index.index c.args.order.now (omega (arith, c.loop-index-test.false, c.len-index-end.ensures)))

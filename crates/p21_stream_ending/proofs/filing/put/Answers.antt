@@ -13,7 +13,7 @@ pub returns-in_ok-push-clause-rows : goal.returns-in_ok-push-clause-rows
 returns-in_ok-push-clause-rows c =
     let (test, at, some, none, within) = c.in-Some.ensures.item in
     let low : c.args.section < length c.args.parts.now.items = (Decides-ltb c.args.section (length c.args.parts.now.items)).0 (sym test) in
-    row-put c.args.parts.now.items c.args.section c.args.place c.in-Some.part.now _ low (λ d. within (omega arith) d) c.in_ok-push.ensures.items
+    row-put c.args.parts.now.items c.args.section c.args.place c.in-Some.part.now _ low (λ d. within (omega arith) d) c.in_ok-push.ensures.ok
 
 pub returns-in_default-clause-rows : goal.returns-in_default-clause-rows
 returns-in_default-clause-rows c =

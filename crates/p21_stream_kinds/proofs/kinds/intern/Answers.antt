@@ -1,10 +1,10 @@
-use Rattle.std.proofs.Common.{◌∙◌, ◌++◌, ◌∷◌, [], ap, arith}
+use Rattle.std.proofs.Common.{◌∙◌, ◌++◌, ◌∷◌, [], ap, arith, refl}
 use Rattle.p21_stream_kinds.proofs.Interning.{count-rows, found-again, kind-added, not-found, row-added}
 use Rattle.p21_stream_kinds.specs.Kinds.{kinds_of, kind_of}
 use Rattle.p21_stream_kinds.proofs.kinds.intern.Goals as goal
 
 pub returns-in-Some-clause-ok : goal.returns-in-Some-clause-ok
-returns-in-Some-clause-ok c = found-again _ _ _ _ c.in-Some.place _ c.requires c.in_ok-wanted.ensures c.in-Some.ensures.index c.in_ok-number.ensures
+returns-in-Some-clause-ok c = found-again _ _ _ _ c.in-Some.place _ c.requires c.in_ok-wanted.ensures c.in-Some.ensures.index refl
 
 pub add_key-requires : goal.add_key-requires
 add_key-requires c = not-found _ _ _ c.in_default.is c.get_index_of.ensures.found

@@ -2,7 +2,7 @@ use Rattle.std.proofs.Common.{ℕ, Option, subst, sym}
 use Rattle.p21_stream_fault.specs.Source.{IsOfBytes}
 use Rattle.p21_stream_fault.specs.declared.fault.Fault.{Fault}
 use Rattle.p21_stream_kept.specs.Served.{AnswersUnserved}
-use Rattle.p21_stream_session.proofs.Ending.{end-accepted, front-refused, reference-of_bytes, reference-refused}
+use Rattle.p21_stream_session.proofs.Ending.{end-accepted, front-refused, reference-of_bytes, reference-refused, whole-kept}
 use Rattle.p21_stream_session.proofs.progress.end.Goals as goal
 
 pub returns-in-Err-clause-gives : goal.returns-in-Err-clause-gives
@@ -21,6 +21,9 @@ returns-in-Some-clause-kind c =
     subst IsOfBytes (sym c.unserved.ensures)
     (reference-of_bytes c.args.schema.now c.args.kept.stored c.args.kept.waiting c.in-Some.found.0 c.in-Some.found.1
     (subst (λ (o : Option (ℕ × Fault)). AnswersUnserved c.args.schema.now c.args.kept.stored c.args.kept.waiting o) c.in-Some.is c.first_unserved.ensures))
+
+pub into_accepted-requires : goal.into_accepted-requires
+into_accepted-requires c = whole-kept c.args.schema.now c.args.front c.args.kept c.in-Ok.ensures.gives c.requires
 
 pub returns-clause-gives : goal.returns-clause-gives
 returns-clause-gives c = end-accepted c.args.schema.now c.well_formed-2.ensures c.args.front c.args.kept c.in-Ok-into_accepted.accepted c.in-Ok.ensures.gives (c.in_default.ensures {u = tt}) (c.in-Ok-into_accepted.ensures {u = tt})

@@ -18,7 +18,7 @@ returns-in-Some-clause-each c k =
     let same : nexts_of (lists_of c.self.inside.listed_in.items) e ≡ c.deref-in-Some.result.now =
     ap (λ xs. nexts_of (lists_of xs) e) (sym c.deref.ensures.value)
     ∙ nexts_at (λ v. v.items) c.deref.result.now e c.in-Some.lists.now c.deref-in-Some.result.now c.in-Some.ensures.lookup.3.0 c.in-Some.ensures.lookup.1 c.deref-in-Some.ensures.value in
-    subst Q same ((subst P c.self.view_is c.self.invariant.7).each e k)
+    subst Q same ((subst P c.self.view_is c.self.invariant.2.listed_are).each e k)
 
 pub returns-in-Some-clause-rising : goal.returns-in-Some-clause-rising
 returns-in-Some-clause-rising c =
@@ -26,7 +26,7 @@ returns-in-Some-clause-rising c =
     let same : nexts_of (lists_of c.self.inside.listed_in.items) e ≡ c.deref-in-Some.result.now =
     ap (λ xs. nexts_of (lists_of xs) e) (sym c.deref.ensures.value)
     ∙ nexts_at (λ v. v.items) c.deref.result.now e c.in-Some.lists.now c.deref-in-Some.result.now c.in-Some.ensures.lookup.3.0 c.in-Some.ensures.lookup.1 c.deref-in-Some.ensures.value in
-    subst IsStrictlyIncreasing same (c.self.invariant.7.rising e)
+    subst IsStrictlyIncreasing same (c.self.invariant.2.listed_are.rising e)
 
 pub returns-in-None-clause-each : goal.returns-in-None-clause-each
 returns-in-None-clause-each c k =
@@ -36,4 +36,4 @@ returns-in-None-clause-each c k =
     let past : length c.deref.result.now ≤ e = elim (cases_lt e (length c.deref.result.now)) [ inl h ↦ (let t : false ≡ true = c.in-None.ensures.lookup.2 h in cc) | inr h ↦ h ] in
     let same : nexts_of (lists_of c.self.inside.listed_in.items) e ≡ [] =
     ap (λ xs. nexts_of (lists_of xs) e) (sym c.deref.ensures.value) ∙ nothing-past (lists_of c.deref.result.now) e (let n = mapped-length (λ v. v.items) c.deref.result.now in omega (arith, n, past)) in
-    subst Q same ((subst P c.self.view_is c.self.invariant.7).each e k)
+    subst Q same ((subst P c.self.view_is c.self.invariant.2.listed_are).each e k)

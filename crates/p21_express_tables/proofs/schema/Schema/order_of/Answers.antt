@@ -1,15 +1,11 @@
-use Rattle.std.proofs.Common.{ap, sym, ◌∙◌, subst}
-use Rattle.p21_schemas.specs.Schema.{Schema}
-use Rattle.p21_schemas.specs.Order.{order}
-use Rattle.p21_express_tables.specs.Orders.{numbers}
+use Rattle.std.proofs.Common.{◌∙◌}
+use Rattle.p21_express_tables.specs.Fronts.{lists_in}
 use Rattle.p21_express_tables.specs.Parts.{schema_of}
-use Rattle.p21_express_tables.specs.Resolved.{IsEntity}
 use Rattle.p21_express_tables.proofs.schema.Schema.order_of.Goals as goal
-use Rattle.p21_express_tables.proofs.OrderTables.{order-at}
+use Rattle.p21_express_tables.proofs.Closures.{entity-has_front, order-listed}
+
+pub list-requires-clause-there : goal.list-requires-clause-there
+list-requires-clause-there c = entity-has_front (schema_of c.self.inside.parts) c.args.self.now c.self.inside.orders c.self.inside.indexes.items c.args.entity.0 c.self.view_is c.self.invariant.2.fronts_are c.self.invariant.2.orders_are c.self.invariant.2.indexes_are c.requires
 
 pub returns : goal.returns
-returns c =
-    let P : Schema → Type 0 = λ s. IsEntity s c.args.entity.0 in
-    ap numbers c.deref.ensures.value
-    ∙ order-at (λ x. numbers x.items) (schema_of c.self.inside.parts) c.self.inside.orders.items c.args.entity.0 c.index.result.now c.self.invariant.2 (subst P (sym c.self.view_is) c.requires) c.index.ensures
-    ∙ ap (λ s. order s c.args.entity.0) c.self.view_is
+returns c = c.list.ensures ∙ order-listed (schema_of c.self.inside.parts) c.args.self.now (lists_in c.self.inside.orders) c.args.entity.0 c.self.view_is c.self.invariant.2.orders_are c.requires

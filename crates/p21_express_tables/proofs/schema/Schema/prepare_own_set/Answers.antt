@@ -9,7 +9,7 @@ use Rattle.p21_express_tables.specs.Parts.{schema_of}
 use Rattle.p21_express_tables.specs.declared.decided.Decided.{Decided}
 use Rattle.p21_express_tables.specs.declared.own_sets.OwnSet.{OwnSet}
 use Rattle.p21_express_tables.proofs.schema.Schema.prepare_own_set.Goals as goal
-use Rattle.p21_express_tables.proofs.OwnSets.{own-more}
+use Rattle.p21_express_tables.proofs.OwnSets.{own-more, with-own}
 
 pub has_open-requires-clause-decided : goal.has_open-requires-clause-decided
 has_open-requires-clause-decided c =
@@ -22,7 +22,7 @@ own_faults_with-requires-clause-clash c = let P : List ℕ → Type 0 = λ es. I
 pub invariant_of-self : goal.invariant_of-self
 invariant_of-self c =
     let inside = c.self.invariant in
-    (inside.0, inside.1, inside.2, inside.3, inside.4, inside.5, subst (AreOwnSets (schema_of c.self.inside.parts)) (sym c.in_err-push.ensures.items) inside.6, inside.7, inside.8, inside.9, inside.10)
+    (inside.0, inside.1, with-own inside.2 (subst (AreOwnSets (schema_of c.self.inside.parts)) (sym c.in_err-push.ensures.items) inside.2.own_are))
 
 pub invariant_of-self-2 : goal.invariant_of-self-2
 invariant_of-self-2 c =
@@ -33,4 +33,4 @@ invariant_of-self-2 c =
     let P : ℕ → Type 0 = λ n. IsOwnSet s n own in
     let Q : Schema → Type 0 = λ z. IsOwnSet z c.len-number.result own in
     let is : IsOwnSet c.args.self.now c.len-number.result own = record { faults_are = c.own_faults_with.ensures; decided_are = c.in_ok-decided.ensures; rising_is = c.in_ok-rising.ensures } in
-    (inside.0, inside.1, inside.2, inside.3, inside.4, inside.5, subst (AreOwnSets s) (sym c.in_ok-push.ensures.items) (own-more s c.self.inside.own.items own inside.6 (subst P number (subst Q (sym c.self.view_is) is))), inside.7, inside.8, inside.9, inside.10)
+    (inside.0, inside.1, with-own inside.2 (subst (AreOwnSets s) (sym c.in_ok-push.ensures.items) (own-more s c.self.inside.own.items own inside.2.own_are (subst P number (subst Q (sym c.self.view_is) is)))))

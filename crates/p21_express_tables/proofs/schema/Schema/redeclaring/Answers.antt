@@ -1,6 +1,7 @@
 use Rattle.std.specs.Prelude.{◌≡◌, ◌++◌, ◌∷◌, [], ℕ, List, take, true, false}
-use Rattle.std.proofs.Common.{ap, sym, ◌∙◌, subst, get_or}
+use Rattle.std.proofs.Common.{arith, ap, sym, ◌∙◌, subst, get_or}
 use Rattle.std.proofs.lemmas.List.{map-append, take_all, take_more}
+use Rattle.std.proofs.lemmas.List.Elements.{Contains-get_or}
 use Rattle.p21_express_types.specs.declared.number.EntityId.{EntityId}
 use Rattle.p21_express_tables.specs.Orders.{numbers}
 use Rattle.p21_express_tables.proofs.schema.Schema.redeclaring.Goals as goal
@@ -9,6 +10,13 @@ use Rattle.p21_express_tables.proofs.Deciding.{AreSupertypes, are-redeclaring, s
 
 pub loop-number-init : goal.loop-number-init
 loop-number-init c = let P : List EntityId → Type 0 = λ es. AreSupertypes c.args.self.now c.args.entity.0 [] (numbers es) in subst P (sym c.new-among.ensures.items) (supertypes-none c.args.self.now c.args.entity.0)
+
+pub overflow_cast-other : goal.overflow_cast-other
+overflow_cast-other c =
+    let among = Contains-get_or c.redeclarers_of-number-items.result.now c.loop-number.number-index 0 c.loop-number-test.true in
+    let below = c.redeclarers_of-number-items.ensures.within _ among in
+    let few = c.holds_together.ensures.few in
+    omega (arith, below, few)
 
 pub loop-number-preserved : goal.loop-number-preserved
 loop-number-preserved c =

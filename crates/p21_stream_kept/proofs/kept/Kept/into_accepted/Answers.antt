@@ -5,8 +5,9 @@ use Rattle.p21_claim_steps.specs.Keeping.{Kept}
 use Rattle.p21_exchange.specs.DataSection.{Heading}
 use Rattle.p21_stream_ending.specs.Ending.{StandsIn}
 use Rattle.p21_stream_ending.specs.Parts.{Begins}
-use Rattle.p21_stream_kept.specs.Inside.{AreOfSections}
-use Rattle.p21_stream_kept.proofs.Ended.{end-is}
+use Rattle.p21_stream_kept.specs.Inside.{AreOfSections, kept_of}
+use Rattle.p21_stream_kept.specs.Taking.{IsOfFile}
+use Rattle.p21_stream_kept.proofs.Ended.{end-is, end-sized}
 use Rattle.p21_stream_kept.proofs.kept.Kept.into_accepted.Goals as goal
 
 pub accepted-requires-clause-sections : goal.accepted-requires-clause-sections
@@ -14,6 +15,11 @@ accepted-requires-clause-sections c =
     let begins = subst (λ (hs : List Heading). AllZip Begins hs c.in_ok-parts.parts.items) c.items.ensures c.in_ok-parts.ensures.begin in
     let same : length c.self.inside.sections ≡ length c.in_ok-parts.parts.items = sym (AllZip-long Begins c.self.inside.sections c.in_ok-parts.parts.items begins) in
     subst (λ (many : ℕ). AreOfSections many c.self.inside.kinds) same c.self.invariant.sections
+
+pub accepted-requires-clause-size : goal.accepted-requires-clause-size
+accepted-requires-clause-size c =
+    let begins = subst (λ (hs : List Heading). AllZip Begins hs c.in_ok-parts.parts.items) c.items.ensures c.in_ok-parts.ensures.begin in
+    end-sized (kept_of c.self.inside) c.self.inside.header.items c.in_ok-parts.parts.items c.self.inside.kinds c.self.inside.instances (subst IsOfFile (sym c.self.view_is) c.requires) (record { header_is = refl; begins = begins; stored_is = refl })
 
 pub returns : goal.returns
 returns c =

@@ -1,4 +1,4 @@
-use Rattle.std.proofs.Common.{◌≡◌, ◌+◌, ◌∷◌, ℕ, List, true, ap, length, map, subst, sym, ◌∙◌, Ok, Err, arith}
+use Rattle.std.proofs.Common.{◌≡◌, ◌+◌, ◌<◌, ◌∷◌, ℕ, List, true, ap, length, map, subst, sym, ◌∙◌, Ok, Err, arith}
 use Rattle.std.proofs.lemmas.List.{length-map}
 use Rattle.std.specs.List.Sorted.{IsPermutation}
 use Rattle.std.specs.Prelude.{Contains, vec_len}
@@ -14,7 +14,7 @@ use Rattle.p21_mapping_values.specs.declared.need.Need.{Need}
 use Rattle.p21_stream_fault.specs.declared.fault.Fault.TheVariants.{CanonicalTooLong, DuplicateName}
 use Rattle.p21_stream_accepted.specs.Output.{IsNamed}
 use Rattle.p21_stream_kept.proofs.Finding.{found-named, took-found}
-use Rattle.p21_stream_kept.proofs.Following.{follows-few}
+use Rattle.p21_stream_kept.proofs.Following.{follows-few, follows-section}
 use Rattle.p21_stream_kept.proofs.Instances.{instance-again, instance-broken, refused-instance, stored-names}
 use Rattle.p21_stream_kept.specs.Inside.{kept_of, references_of, stored_of}
 use Rattle.p21_stream_kept.specs.Served.{AddsWaiting}
@@ -23,13 +23,16 @@ use Rattle.p21_stream_kept.proofs.kept.Kept.take_instance.Goals as goal
 
 pub invariant_of-self-in_default-store : goal.invariant_of-self-in_default-store
 invariant_of-self-in_default-store c =
-    let last : c.in-Some.section + 1 ≡ length c.self.inside.sections = c.in-Some.ensures in
-    record { kinds = c.store.ensures.kinds; sections = c.store.ensures.sections (length c.self.inside.sections) (omega (arith, last)) c.self.invariant.sections; named = c.store.ensures.named }
+    let last : c.last-section.result + 1 ≡ length c.self.inside.sections = c.last-section.ensures in
+    record { kinds = c.store.ensures.kinds; sections = c.store.ensures.sections (length c.self.inside.sections) (omega (arith, last)) c.self.invariant.sections; named = c.store.ensures.named; counted = c.self.invariant.counted }
 
 pub invariant_of-self-2 : goal.invariant_of-self-2
 invariant_of-self-2 c =
-    let last : c.in-Some.section + 1 ≡ length c.self.inside.sections = c.in-Some.ensures in
-    record { kinds = c.store.ensures.kinds; sections = c.store.ensures.sections (length c.self.inside.sections) (omega (arith, last)) c.self.invariant.sections; named = c.store.ensures.named }
+    let last : c.last-section.result + 1 ≡ length c.self.inside.sections = c.last-section.ensures in
+    record { kinds = c.store.ensures.kinds; sections = c.store.ensures.sections (length c.self.inside.sections) (omega (arith, last)) c.self.invariant.sections; named = c.store.ensures.named; counted = let fits = c.has_room.ensures.fits c.if-not-has_room.false in omega (arith, fits) }
+
+pub last-section-requires : goal.last-section-requires
+last-section-requires c = subst (λ (k : Kept). 0 < length k.headings) (sym c.self.view_is) (follows-section c.args.schema.now c.args.limits c.args.self.now c.args.name (record_view c.args.of) c.requires)
 
 pub store-requires-clause-line : goal.store-requires-clause-line
 store-requires-clause-line c =
@@ -89,10 +92,10 @@ returns-clause-gives c =
     cc in
     let A : List Need → Type 0 = λ xs. AddsWaiting s old.stored c.args.name (needs_view xs) old.waiting waiting in
     let adds : A found.needs.items = subst A c.deref.ensures.value c.in-Ok-wait.ensures in
-    let E : List EntityId → List ℕ → Type 0 = λ ids text. IsPermutation (record { name = c.args.name; section = c.in-Some.section; entities = ids_view ids; text = text } ∷ old.stored) stored in
+    let E : List EntityId → List ℕ → Type 0 = λ ids text. IsPermutation (record { name = c.args.name; section = c.last-section.result; entities = ids_view ids; text = text } ∷ old.stored) stored in
     let permuted : E found.entities found.line.items = subst (E found.entities) c.deref-2.ensures.value (subst (λ ids. E ids c.deref-2.result.now) c.items.ensures c.in-Ok-store.ensures.ok) in
-    let last : c.in-Some.section + 1 ≡ length old.headings = c.in-Some.ensures in
+    let last : c.last-section.result + 1 ≡ length old.headings = c.last-section.ensures in
     subst (λ (k : Kept). StepGives s c.args.limits k (instance c.args.name (record_view c.args.of)) (Ok tt) new) c.self.view_is
-    (took-found s c.args.limits old new c.args.name (record_view c.args.of) (ids_view found.entities) (needs_view found.needs.items) found.line.items c.in-Ok.ensures.finds none waiting adds c.in-Some.section last stored permuted
+    (took-found s c.args.limits old new c.args.name (record_view c.args.of) (ids_view found.entities) (needs_view found.needs.items) found.line.items c.in-Ok.ensures.finds none waiting adds c.last-section.result last stored permuted
     (subst (λ n. HasRoom c.args.limits (old.bytes + old.framing) n) size (c.has_room.ensures.decides.0 c.if-not-has_room.false))
     (λ i. record old { stored = stored; waiting = waiting; references = references i; bytes = bytes i; framing = old.framing + 1 }))

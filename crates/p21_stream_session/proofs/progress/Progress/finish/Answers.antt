@@ -13,3 +13,8 @@ returns-in-Some-clause-kind c = λ limits bounded. bounded.of_bytes c.in-Some.re
 
 pub returns-clause-kind : goal.returns-clause-kind
 returns-clause-kind c = λ limits bounded. c.end.ensures.kind
+
+pub end-requires : goal.end-requires
+end-requires c =
+    let (reading, none, live) = c.requires.1.reads c.in_default.is in
+    record { limits = c.requires.0; reading = reading; live = live; none_seen = none }

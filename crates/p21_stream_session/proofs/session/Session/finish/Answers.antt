@@ -11,3 +11,6 @@ returns-clause-again c = subst (λ (h : SessionHeld). RefusesAtEnd h c.finish.re
 
 pub returns-clause-kind : goal.returns-clause-kind
 returns-clause-kind c = c.finish.ensures.kind c.self.inside.limits c.self.invariant
+
+pub finish-requires : goal.finish-requires
+finish-requires c = (c.self.inside.limits, c.self.invariant)

@@ -16,3 +16,6 @@ returns-clause-again c = subst (λ (h : SessionHeld). RefusesAtEnd h c.finish.re
 
 pub returns-clause-kind : goal.returns-clause-kind
 returns-clause-kind c = c.finish.ensures.kind c.self.inside.limits (subst (λ (s : Schema). IsBounded (held_in s c.self.inside.limits c.self.inside.progress)) (sym c.deref.ensures) c.self.invariant)
+
+pub finish-requires : goal.finish-requires
+finish-requires c = (c.self.inside.limits, subst (λ (s : Schema). IsBounded (held_in s c.self.inside.limits c.self.inside.progress)) (sym c.deref.ensures) c.self.invariant)

@@ -4,15 +4,15 @@ use Rattle.std.specs.List.{slice_get}
 use Rattle.p21_stream_store.proofs.LineLemmas.{length-side, side-get}
 use Rattle.p21_stream_store.proofs.lines.Lines.kind.Goals as goal
 
-pub index-requires : goal.index-requires
-index-requires c =
+pub get-requires : goal.get-requires
+get-requires c =
     let seen = ap length c.self.view_is in
-    let size = length-side c.self.inside.kinds.items c.self.inside.texts c.self.invariant in
+    let size = length-side c.self.inside.kinds c.self.inside.texts c.self.invariant in
     omega (arith, seen, size)
 
 pub returns : goal.returns
 returns c =
     let seen = ap length c.self.view_is in
-    let size = length-side c.self.inside.kinds.items c.self.inside.texts c.self.invariant in
+    let size = length-side c.self.inside.kinds c.self.inside.texts c.self.invariant in
     let got = slice_get-get_or c.self.inside.texts c.args.index [] (omega (arith, seen, size, c.self.invariant)) in
-    (get_or c.self.inside.texts c.args.index [], ap (λ (l : List (ℕ × List ℕ)). slice_get l c.args.index) (sym c.self.view_is) ∙ side-get c.self.inside.kinds.items c.self.inside.texts c.args.index _ _ _ (omega (arith, seen, size)) c.index.ensures got)
+    (get_or c.self.inside.texts c.args.index [], ap (λ (l : List (ℕ × List ℕ)). slice_get l c.args.index) (sym c.self.view_is) ∙ side-get c.self.inside.kinds c.self.inside.texts c.args.index _ _ c.get.ensures got)

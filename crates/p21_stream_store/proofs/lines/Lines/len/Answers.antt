@@ -5,5 +5,5 @@ use Rattle.p21_stream_store.proofs.lines.Lines.len.Goals as goal
 pub returns : goal.returns
 returns c =
     let seen = ap length c.self.view_is in
-    let size = length-side c.self.inside.kinds.items c.self.inside.texts c.self.invariant in
+    let size = length-side c.self.inside.kinds c.self.inside.texts c.self.invariant in
     omega (arith, seen, size)

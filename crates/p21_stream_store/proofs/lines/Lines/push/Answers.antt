@@ -5,7 +5,7 @@ use Rattle.p21_stream_store.proofs.lines.Lines.push.Goals as goal
 
 pub returns-in-Ok-push-clause-ok : goal.returns-in-Ok-push-clause-ok
 returns-in-Ok-push-clause-ok c =
-    ap (λ (l : List ℕ). zip l c.push-2.new.self) c.in-Ok.ensures.items
-    ∙ ap (λ (l : List (List ℕ)). zip (c.self.inside.kinds.items ++ c.args.kind ∷ []) l) c.in-Ok-push.ensures.ok
+    ap (λ (l : List ℕ). zip l c.push-2.new.self) c.in-Ok.ensures.ok
+    ∙ ap (λ (l : List (List ℕ)). zip (c.self.inside.kinds ++ c.args.kind ∷ []) l) c.in-Ok-push.ensures.ok
     ∙ side-more _ _ c.args.kind c.args.text.now c.self.invariant
     ∙ ap (λ (l : List (ℕ × List ℕ)). l ++ (c.args.kind, c.args.text.now) ∷ []) c.self.view_is

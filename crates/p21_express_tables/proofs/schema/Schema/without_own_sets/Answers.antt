@@ -1,0 +1,39 @@
+use Rattle.std.specs.Prelude.{◌≡◌, ℕ, List, [], Some, Vec, slice_get, Contains}
+use Rattle.std.proofs.Common.{arith, subst}
+use Rattle.std.specs.declared.alloc.Global.{Global}
+use Rattle.p21_express_types.specs.declared.number.EntityId.{EntityId}
+use Rattle.std.proofs.lemmas.Option.{slice_get_within}
+use Rattle.p21_express_tables.specs.Indexes.{AreIndexes}
+use Rattle.p21_express_tables.specs.Orders.{tabled}
+use Rattle.p21_express_tables.specs.Parts.{entity}
+use Rattle.p21_express_tables.specs.Settled.{nexts_of}
+use Rattle.p21_express_tables.specs.declared.own_sets.OwnSet.{OwnSet}
+use Rattle.p21_express_tables.proofs.Gatherings.{mapped-length}
+use Rattle.p21_express_tables.proofs.schema.Schema.without_own_sets.Goals as goal
+
+pub indexes_of-requires : goal.indexes_of-requires
+indexes_of-requires c r e among =
+    let P : List (Vec EntityId Global) → Type 0 = λ runs. Contains (nexts_of (tabled runs) r) e in
+    let below = c.in_ok-orders.ensures.below r e (subst P c.deref.ensures.value among) in
+    omega (arith, below, c.len.ensures, mapped-length entity c.args.parts.entities.items, c.args.parts.entities.ok.0)
+
+pub invariant_of-result : goal.invariant_of-result
+invariant_of-result c = (
+  c.requires.holds_together,
+  c.requires.named,
+  record {
+    fronts_are = c.in_ok-orders.ensures.fronts;
+    orders_are = c.in_ok-orders.ensures.orders;
+    indexes_are = let P : List (Vec EntityId Global) → Type 0 = λ runs. AreIndexes (tabled runs) c.in_ok-indexes.indexes.items in subst P c.deref.ensures.value c.in_ok-indexes.ensures;
+    listed_are = c.in_ok-listed_in.ensures;
+    redeclarers_are = c.in_ok-redeclarers.ensures;
+    ends_are = c.in_ok-ends.ensures;
+    entities_offered = c.in_ok-offered.ensures.entities;
+    types_offered = c.in_ok-offered.ensures.types;
+    ranking_is = c.in_ok-ranking.ensures;
+    own_are = λ e own at. let P : List OwnSet → Type 0 = λ sets. slice_get sets e ≡ Some own in let none : slice_get [] e ≡ Some own = subst P c.new.ensures.items at in absurd (nothing-at e none);
+  },
+)
+  where
+    nothing-at : (e : ℕ) {own : OwnSet} → slice_get [] e ≡ Some own → ⊥
+    nothing-at e at = let below = slice_get_within [] e _ at in omega (arith, below)

@@ -1,0 +1,89 @@
+ghost use Rattle.std.specs.Prelude.{◌≡◌, ◌↔◌, ◌<◌, ℕ, List, length, map, slice_index_or, take, Contains, IfOk, IsTrue};
+ghost use Rattle.p21_express_tables.specs.Fronts.{AreBelow};
+ghost use Rattle.p21_express_tables.specs.Indexes.{AreFirst, AreIndexes, IsIndex};
+ghost use Rattle.p21_express_tables.specs.Orders.{numbers, tabled};
+
+use crate::collected::risen;
+use crate::orders::numbers_of;
+use p21_express_types::EntityId;
+use p21_values::NoMemory;
+use std::alloc::Global;
+
+/// The numbers of the entities of a run, rising, and for each the first place where it stands there.
+#[derive(Drop)]
+pub(crate) struct Index {
+    pub(crate) numbers: Vec<u32>,
+    pub(crate) places: Vec<usize>,
+}
+
+/// The indexes of runs whose entities are so many.
+pub(crate) fn indexes_of(
+    alloc: Global,
+    count: usize,
+    runs: &[Vec<EntityId>],
+) -> Result<Vec<Index>, NoMemory>
+    requires { AreBelow count (tabled runs.now) }
+    ensures { IfOk result (λ indexes. AreIndexes (tabled runs.now) indexes.items) }
+{
+    let mut places = vec![in alloc; 0; count]?;
+    let mut indexes = Vec::with_capacity(alloc, runs.len())?;
+    for at in 0..runs.len() {
+        let index = index_of(alloc, &runs[at], &mut places)?;
+        indexes.push(index)?;
+    }
+    Ok(indexes)
+}
+
+/// The index of a run; its places are noted on the way.
+fn index_of(alloc: Global, run: &[EntityId], places: &mut Vec<usize>) -> Result<Index, NoMemory>
+    requires { (e : ℕ) → Contains (numbers run.now) e → e < length places.old.items }
+    ensures size { length places.new.items ≡ length places.old.items }
+    ensures index { IfOk result (λ index. IsIndex (numbers run.now) index.numbers.items index.places.items) }
+{
+    let rising = risen(numbers_of(alloc, run)?);
+    note_places(run, places);
+    let found = places_at(alloc, places, &rising)?;
+    Ok(Index {
+        numbers: rising,
+        places: found,
+    })
+}
+
+/// Notes for each entity of a run the first place where it stands there.
+fn note_places(run: &[EntityId], places: &mut Vec<usize>)
+    requires { (e : ℕ) → Contains (numbers run.now) e → e < length places.old.items }
+    ensures size { length places.new.items ≡ length places.old.items }
+    ensures first { AreFirst (numbers run.now) places.new.items 0 }
+{
+    let count = run.len();
+    for past in 0..count {
+        let place = count - 1 - past;
+        let entity = run[place];
+        places[entity.0 as usize] = place;
+    }
+}
+
+/// The places that are noted for numbers.
+fn places_at(alloc: Global, places: &[usize], numbers: &[u32]) -> Result<Vec<usize>, NoMemory>
+    requires { (e : ℕ) → Contains numbers.now e → e < length places.now }
+    ensures { IfOk result (λ found. found.items ≡ map (λ e. slice_index_or places.now e 0) numbers.now) }
+{
+    let mut found = Vec::with_capacity(alloc, numbers.len())?;
+    for number in numbers {
+        found.push(places[*number as usize])?;
+    }
+    Ok(found)
+}
+
+impl Index {
+    /// Whether a number is among so many entities of the run.
+    pub(crate) fn has(&self, number: u32, size: usize) -> bool
+        requires { length self.now.places.items ≡ length self.now.numbers.items }
+        ensures { (run : List ℕ) → IsIndex run self.now.numbers.items self.now.places.items → IsTrue result ↔ Contains (take size run) number }
+    {
+        match self.numbers.binary_search(&number) {
+            Ok(at) => self.places[at] < size,
+            Err(_) => false,
+        }
+    }
+}

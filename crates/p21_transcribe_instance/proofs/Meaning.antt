@@ -1,0 +1,185 @@
+-- An instance whose parameters stand at the places of an entity means something, and has a canonical text.
+use Rattle.std.proofs.Common.{◌≡◌, ℕ, List, [], ◌∷◌, ◌++◌, Contains, refl, ap, sym, subst, arith, append_assoc}
+use Rattle.std.proofs.lemmas.Option.{slice_get_within}
+use Rattle.std.specs.List.{AllByRecursion as Each}
+use Rattle.std.specs.Prelude.{◌↔◌, codes}
+use Rattle.p21_basics.proofs.Members.{Each-append, Each-front, Each-weaker}
+use Rattle.p21_basics.proofs.Shuffles.{distinct-none_twice}
+use Rattle.p21_claim_values.proofs.CanonicalLaid.{statement_laid}
+use Rattle.p21_claim_values.proofs.Leaves.{closure-leaf}
+use Rattle.p21_claim_values.proofs.Needs.{AreServed, needs-can_be_served, served-places}
+use Rattle.p21_claim_values.proofs.OfType.{AreWritten}
+use Rattle.p21_claim_values.proofs.Printing.{canonical-same_typed, canonical_typed, means-with, part-plain, part-said}
+use Rattle.p21_claim_values.proofs.RecordOnce.{part-written}
+use Rattle.p21_claim_values.specs.Needs.{FitPlacesWith, MeansWith, RecordNeeds}
+use Rattle.p21_claim_values.specs.Written.{IsSpelled, IsWrittenStatement}
+use Rattle.p21_exchange.specs.CanonicalText.{statement_text}
+use Rattle.p21_exchange.specs.Grammar.{IsDataRecord}
+use Rattle.p21_exchange.specs.Laying.{Laid}
+use Rattle.p21_exchange.specs.Nesting.{IsShallow}
+use Rattle.p21_exchange.specs.Parameter.{key_of, params_tokens}
+use Rattle.p21_exchange.specs.Record.{Part, record_tokens, simple}
+use Rattle.p21_exchange.specs.Spelling.{name_spelling}
+use Rattle.p21_exchange.specs.Statement.{instance, statement_tokens}
+use Rattle.p21_exchange.specs.Token as token
+use Rattle.p21_exchange.specs.Token.{Token}
+use Rattle.p21_express_tables.proofs.OrderTables.{order-tells, IsA-within, are-entities}
+use Rattle.p21_express_tables.specs.Resolved.{HoldsTogether, IsEntity}
+use Rattle.p21_express_tables.specs.Rising.{AreNamesRising, HaveSame, IsOwnRising}
+use Rattle.p21_files.proofs.SameFiles.{SameTyped-symmetric}
+use Rattle.p21_files.specs.CanonicalRecord.{AreCanonicalAt}
+use Rattle.p21_files.specs.Kept.{IsInstanceText}
+use Rattle.p21_files.specs.Meaning.{FitPlaces, NamesEntity, RecordMeans, Typed}
+use Rattle.p21_files.specs.Reference.{Kinds, Need}
+use Rattle.p21_mapping_sets.proofs.OwnSets.{own-passes, type-same}
+use Rattle.p21_mapping_sets.proofs.Shapes.{simple-no_leaf}
+use Rattle.p21_mapping_values.specs.declared.need.Need as code
+use Rattle.p21_schemas.proofs.OrderedOnce.{order-distinct}
+use Rattle.p21_schemas.specs.Order.{order, places}
+use Rattle.p21_schemas.specs.Schema.{EntityNamed, Place, Schema}
+use Rattle.p21_schemas.specs.Supertype.{IsA}
+use Rattle.p21_schemas.specs.WellFormed.{IsWellFormed}
+use Rattle.p21_transcribe_instance.proofs.Laid.{laid-spelled, takes-join}
+use Rattle.p21_transcribe_instance.proofs.Plain.{placed-plain}
+use Rattle.p21_transcribe_instance.proofs.Rising.{rising-exists}
+use Rattle.p21_transcribe_instance.proofs.Rows.{HasMeaning, has-meaning}
+use Rattle.p21_transcribe_instance.proofs.Texts.{AreMeant, canonical-fit, canonical-spelled, canonical-stand, canonical_at, line-is}
+use Rattle.p21_transcribe_instance.specs.Instance.{TakesInstance}
+use Rattle.p21_transcribe_instance.specs.Taking.{IsPlaced, Placed, Takes, TakesEntity, TakesSteps, body_text, body_tokens, needs_at, params_at, places_at, texts_at}
+use Rattle.p21_transcribe_plan.specs.Steps.{HasSteps, MayStandAlone}
+use Rattle.p21_transcribe_plan.specs.declared.step.Step.{Step}
+use Rattle.p21_transcribe_values.specs.Taken.{LaidBefore}
+
+fit-with : (s : Schema) (m : Typed) (ps : List Placed) → Each (IsPlaced s m.entities) ps → AreMeant m ps → FitPlacesWith s m (places_at ps) (params_at ps) (needs_at ps)
+fit-with s m [] each has = refl
+fit-with s m (p ∷ ps) each has = (p.needs, needs_at ps, refl, (each.0.at, p.value, each.0.type_at, each.0.fits, has.0), fit-with s m ps each.1 has.1)
+
+all-shallow : (s : Schema) (entities : List ℕ) (ps : List Placed) → Each (IsPlaced s entities) ps → IsShallow (params_at ps)
+all-shallow s entities [] each = omega arith
+all-shallow s entities (p ∷ ps) each = let first = each.0.shallow in let more = all-shallow s entities ps each.1 in omega (arith, first, more)
+
+module _ (s : Schema) (formed : IsWellFormed s) (holds : HoldsTogether s) (e : ℕ) (is : IsEntity s e) (may : MayStandAlone s e) (word : List ℕ) (named : EntityNamed s e word) (ps : List Placed) (placed : Each (IsPlaced s (order s e)) ps) (at_places : places_at ps ≡ places s e) where
+  rising : (fs : List ℕ) × HaveSame (order s e) fs × AreNamesRising s fs
+  rising = rising-exists s formed.entities_distinct (order s e) (λ f among. IsA-within s (are-entities s holds) e f ((order-tells s holds e f).0 among) is) (distinct-none_twice (order s e) (order-distinct s e))
+
+  abbrev set : List ℕ
+  set = rising.0
+
+  set-is : IsOwnRising s e set
+  set-is = (rising.1, rising.2)
+
+  same : HaveSame (order s e) set
+  same = rising.1
+
+  values : HasMeaning s set ps
+  values = has-meaning s (order s e) set ps (distinct-none_twice (order s e) (order-distinct s e)) (λ f. (same f).0) (λ f. (same f).1) at_places
+
+  abbrev meant : Typed
+  meant = record { entities = set; values = values.values }
+
+  in_set : Each (IsPlaced s set) ps
+  in_set = Each-weaker (IsPlaced s (order s e)) (IsPlaced s set) (λ p here. record { at = here.at; type_at = type-same s (order s e) set same p.place here.at here.type_at; fits = here.fits; shallow = here.shallow }) ps placed
+
+  abbrev own : Part
+  own = record { key = key_of word; params = params_at ps }
+
+  names : NamesEntity s (key_of word) e
+  names = (word, named, refl)
+
+  closure : (f : ℕ) → Contains set f ↔ IsA s e f
+  closure f = (λ among. (order-tells s holds e f).0 ((same f).1 among), λ up. (same f).0 ((order-tells s holds e f).1 up))
+
+  fit : FitPlacesWith s meant (places s e) (params_at ps) (needs_at ps)
+  fit = subst (λ (xs : List Place). FitPlacesWith s meant xs (params_at ps) (needs_at ps)) at_places (fit-with s meant ps in_set values.each)
+
+  needs-are : RecordNeeds s (simple own) meant (needs_at ps)
+  needs-are = (e, names, fit)
+
+  served : (kinds : Kinds) × AreServed s kinds (needs_at ps)
+  served = needs-can_be_served s (simple own) meant (needs_at ps) needs-are
+
+  record-means : RecordMeans s served.0 (simple own) meant
+  record-means =
+      let passes = own-passes s e set same (may.concrete, may.agrees, may.decided) in
+      record {
+        rising = rising.2;
+        own_counts = values.counts;
+        no_abstract_leaf = simple-no_leaf s holds e set same may.concrete;
+        no_clash = passes.0;
+        place_types = passes.1;
+        means = record { entity = e; named = names; closure = closure; fit = served-places s served.0 meant (places s e) (params_at ps) (needs_at ps) fit served.1 };
+      }
+
+  means-so : MeansWith s (simple own) meant (needs_at ps)
+  means-so = record { kinds = served.0; means = record-means; needs_are = needs-are }
+
+  data-record : IsDataRecord (simple own)
+  data-record = record { some_parts = omega arith; shallow = (all-shallow s set ps in_set, tt); no_user_keywords = part-plain own tt (placed-plain s set ps in_set) }
+
+  -- ---- its canonical text
+
+  abbrev canonical : Part
+  canonical = record { key = key_of word; params = canonical_at s ps }
+
+  module _ (n : ℕ) (spelled : IsWrittenStatement (instance n (simple own))) where
+    written : IsWrittenStatement (instance n (simple canonical))
+    written =
+        let params : AreWritten (params_at ps) = part-written own (Each-front IsSpelled (record_tokens (simple own)) (token.semicolon ∷ []) spelled.1.1) in
+        let all = part-said canonical spelled.1.1.0 (canonical-spelled s served.0 set ps in_set served.1 params) in
+        (spelled.0, (spelled.1.0, Each-append IsSpelled (record_tokens (simple canonical)) (token.semicolon ∷ []) all ((codes ";", refl), tt)))
+
+    text-is : (text : List ℕ) → text ≡ statement_text (instance n (simple canonical)) → IsInstanceText s n (simple own) text
+    text-is text is_text = record {
+      kinds = served.0;
+      meaning = meant;
+      means = record-means;
+      canonical = simple canonical;
+      canonical_meaning = canonical_typed s meant;
+      canonical_means = means-with s served.0 (simple own) (simple canonical) meant record-means (record {
+        entity = e;
+        named = names;
+        closure = closure;
+        fit = subst (λ (xs : List Place). FitPlaces s served.0 (canonical_typed s meant) xs (canonical_at s ps)) at_places (canonical-fit s served.0 meant ps in_set values.each served.1);
+      });
+      same = SameTyped-symmetric meant (canonical_typed s meant) (canonical-same_typed s meant);
+      is_canonical = record {
+        form = closure-leaf s formed set e closure;
+        params = (e, names, subst (λ (xs : List Place). AreCanonicalAt (canonical_typed s meant) xs (canonical_at s ps)) at_places (canonical-stand s meant ps values.each));
+      };
+      text_is = is_text;
+      laid = subst (λ (x : List ℕ). Laid x (statement_tokens (instance n (simple canonical)))) (sym is_text) (statement_laid (instance n (simple canonical)) written);
+    }
+
+-- ---- what is taken
+
+pub entity-is : (s : Schema) (e : ℕ) (word : List ℕ) → EntityNamed s e word → IsEntity s e
+entity-is s e word (x, at, is) = slice_get_within s.entities e x at
+
+-- the parts of an instance one behind the other
+pub instance-taken : (s : Schema) → IsWellFormed s → HoldsTogether s → (n e : ℕ) → (steps : List Step) → HasSteps s e steps → (bytes keyed behind rest old headed worded new : List ℕ) (before after : List code.Need)
+    → Takes (token.name n ∷ token.equals ∷ []) (name_spelling n ++ 61 ∷ []) bytes keyed old headed → TakesEntity s e keyed behind headed worded → TakesSteps s body_tokens body_text steps behind rest worded new before after → TakesInstance s n e bytes rest old new before after
+instance-taken s formed holds n e steps has bytes keyed behind rest old headed worded new before after head (word, named, key) takes =
+    let h = takes (order s e) (places s e) has.steps_are in
+    let ps : List Placed = h.placed in
+    let part : Part = record { key = key_of word; params = params_at ps } in
+    let body : Takes (body_tokens (params_at ps)) (body_text (texts_at s ps)) behind rest worded new = record { laid = h.laid; appended = h.text_is } in
+    let keyword_body = takes-join (token.keyword word ∷ []) (body_tokens (params_at ps)) word (body_text (texts_at s ps)) keyed behind rest headed worded new key body in
+    let all = takes-join (token.name n ∷ token.equals ∷ []) (token.keyword word ∷ body_tokens (params_at ps)) (name_spelling n ++ 61 ∷ []) (word ++ body_text (texts_at s ps)) bytes keyed rest old headed new head keyword_body in
+    let tokens : token.name n ∷ token.equals ∷ token.keyword word ∷ body_tokens (params_at ps) ≡ statement_tokens (instance n (simple part)) =
+    ap (λ (ts : List Token). token.name n ∷ token.equals ∷ token.keyword word ∷ token.left ∷ ts) (sym (append_assoc (params_tokens (params_at ps)) (token.right ∷ []) (token.semicolon ∷ []))) in
+    let laid : LaidBefore bytes (statement_tokens (instance n (simple part))) rest = subst (λ (ts : List Token). LaidBefore bytes ts rest) tokens all.laid in
+    let is : IsEntity s e = entity-is s e word named in
+    let text : List ℕ = (name_spelling n ++ 61 ∷ []) ++ (word ++ body_text (texts_at s ps)) in
+    record {
+      record_ = simple part;
+      laid = laid;
+      data_record = data-record s formed holds e is has.may word named ps h.each h.places_are;
+      meaning = meant s formed holds e is has.may word named ps h.each h.places_are;
+      set_is = set-is s formed holds e is has.may word named ps h.each h.places_are;
+      added = h.added;
+      needs_are = h.needs_are;
+      means = subst (λ (ns : List Need). MeansWith s (simple part) (meant s formed holds e is has.may word named ps h.each h.places_are) ns) h.added_are (means-so s formed holds e is has.may word named ps h.each h.places_are);
+      text = text;
+      text_is = text-is s formed holds e is has.may word named ps h.each h.places_are n (laid-spelled bytes rest (statement_tokens (instance n (simple part))) laid) text (line-is s n word ps);
+      appended = all.appended;
+    }

@@ -1,0 +1,15 @@
+use Rattle.std.proofs.Common.{take}
+use Rattle.p21_exchange.specs.Parameter.{more_tokens}
+use Rattle.p21_files.specs.ValueText.{with_commas}
+use Rattle.p21_transcribe_instance.specs.Taking.{TakesSteps}
+use Rattle.p21_transcribe_values.specs.Taken.{KeepsNeeds}
+use Rattle.p21_values.specs.Canonical.{Continues}
+use Rattle.p21_transcribe_instance.proofs.places.append_others.Given as goal
+
+-- the values of the steps so far are taken
+abbrev pub invariant-loop-step : goal.invariant-loop-step
+invariant-loop-step l = record {
+  takes : TakesSteps l.schema more_tokens with_commas (take l.step-index l.steps) l.bytes l.rest l.fn.draft l.draft l.fn.needs.items l.needs.items;
+  draft : Continues l.fn.draft l.draft;
+  needs : KeepsNeeds l.fn.needs.items l.needs.items;
+}

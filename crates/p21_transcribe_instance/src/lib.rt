@@ -1,0 +1,12 @@
+//! Instances of internal mapping taken straight from their bytes to their canonical lines and their references, with no
+//! token, no tree and no value made of them (ISO 10303-21, mapping of EXPRESS entity data types). Only what is usual is taken;
+//! all else is left to those who read it token by token.
+#![tactic(auto)]
+
+mod body;
+mod head;
+mod instance;
+mod mark;
+mod places;
+
+pub use instance::{Instance, append_instance};
