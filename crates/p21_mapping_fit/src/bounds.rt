@@ -6,13 +6,13 @@ use p21_express_types::Width;
 use p21_values::Word;
 
 /// Does a width allow so many characters or bits (ISO 10303-11, String data type, Binary data type)?
-pub(crate) fn is_within(width: Option<Width>, count: usize) -> bool
+pub(crate) fn is_within(width: Option<Width>, count: u128) -> bool
     ensures { IsTrue result ↔ IsWithin (width_option width) count }
 {
     match width {
         None => true,
         Some(width) => {
-            let most = width.most as usize;
+            let most = u128::from(width.most);
             if width.fixed {
                 count == most
             } else {

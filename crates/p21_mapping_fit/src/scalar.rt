@@ -64,7 +64,7 @@ pub(crate) fn fit_text(base: Base<'_>, text: Text) -> Result<Value, CheckFault>
     let TypeUse::Text(width) = of else {
         return Err(CheckFault::WrongKind);
     };
-    if is_within(*width, text.len()) {
+    if is_within(*width, text.len() as u128) {
         Ok(Value::Text(text))
     } else {
         Err(CheckFault::Width)

@@ -15,7 +15,7 @@ pub struct Bits {
 }
 
 impl Model for Bits {
-    ghost use Rattle.std.specs.Prelude.{ℕ, ◌*◌, ◌^◌, ◌<◌, Bool, List, length};
+    ghost use Rattle.std.specs.Prelude.{Bool, List};
     ghost use Rattle.p21_exchange.specs.Binary.{SpellsBits};
     ghost use Rattle.p21_values.specs.Bits.{bits_of};
 
@@ -23,7 +23,7 @@ impl Model for Bits {
 
     ghost view = { λ a. bits_of a.token };
 
-    ghost invariant = { λ a. SpellsBits a.token (bits_of a.token) × (4 * length a.token < 2 ^ 64) };
+    ghost invariant = { λ a. SpellsBits a.token (bits_of a.token) };
 }
 
 impl Bits {
@@ -44,21 +44,17 @@ impl Bits {
         if !is_binary(bytes) {
             return Err(ValueFault::BadBinary);
         }
-        // No memory holds more bits than a `usize` counts.
-        if bytes.len() > usize::MAX / 4 {
-            return Err(ValueFault::NoMemory);
-        }
         Ok(Bits {
             token: Bytes::of(alloc, bytes)?,
         })
     }
 
     /// How many bits there are. It takes no memory.
-    pub fn len(&self) -> usize
+    pub fn len(&self) -> u128
         ensures { result ≡ length self.now }
     {
         let padding = self.token[1] - b'0';
-        4 * (self.token.len() - 3) - usize::from(padding)
+        4 * (self.token.len() as u128 - 3) - u128::from(padding)
     }
 }
 

@@ -2,7 +2,7 @@ use super::{are_equal, is_spelled};
 use p21_values::{Bits, ValueFault};
 
 /// Tokens, and how many bits they have.
-type Tokens = &'static [(&'static [u8], usize)];
+type Tokens = &'static [(&'static [u8], u128)];
 
 const TOKENS: Tokens = &[
     (b"\"23B\"", 6),
@@ -18,7 +18,7 @@ const TOKENS: Tokens = &[
     (b"\"00123456789ABCDEF0123456789ABCDEF0\"", 132),
 ];
 
-fn count(rt: &HostRuntime, token: &[u8]) -> Option<usize> {
+fn count(rt: &HostRuntime, token: &[u8]) -> Option<u128> {
     match Bits::read(rt.alloc(), token) {
         Ok(bits) => Some(bits.len()),
         Err(_) => None,

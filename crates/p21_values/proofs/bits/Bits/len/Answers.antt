@@ -5,7 +5,7 @@ use Rattle.p21_values.proofs.bits.Bits.len.Goals as goal
 
 pub returns : goal.returns
 returns c =
-    let s = c.self.invariant.0 in
+    let s = c.self.invariant in
     let token = length_token _ _ 0 s in
     let padding = ap (λ (bytes : List ℕ). get_or bytes 1 0) c.deref.ensures in
     omega (arith, token, length_spelled _ _ s, ap length c.self.view_is, padding)

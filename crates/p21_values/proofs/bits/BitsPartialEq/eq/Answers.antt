@@ -7,7 +7,7 @@ use Rattle.p21_values.proofs.bits.BitsPartialEq.eq.Goals as goal
 
 pub returns-clause-eq : goal.returns-clause-eq
 returns-clause-eq c =
-    same_from_decides _ _ (equal_tokens _ _ _ _ c.self.invariant.0 c.other.invariant.0 c.self.view_is c.other.view_is _ c.eq.ensures) (slice_eq-Decides booleans_Decides _ _ _ refl)
+    same_from_decides _ _ (equal_tokens _ _ _ _ c.self.invariant c.other.invariant c.self.view_is c.other.view_is _ c.eq.ensures) (slice_eq-Decides booleans_Decides _ _ _ refl)
 
 pub returns-clause-same : goal.returns-clause-same
-returns-clause-same c = equal_tokens _ _ _ _ c.self.invariant.0 c.other.invariant.0 c.self.view_is c.other.view_is _ c.eq.ensures
+returns-clause-same c = equal_tokens _ _ _ _ c.self.invariant c.other.invariant c.self.view_is c.other.view_is _ c.eq.ensures
