@@ -1,7 +1,3 @@
-ghost use Rattle.std.specs.Prelude.{◌≡◌, Some, IsTrue};
-ghost use Rattle.p21_grammar.specs.Histories.{GrammarHistory, Stands};
-ghost use Rattle.p21_grammar.specs.p21_exchange.OpenNesting.{IsDepth};
-
 mod files;
 mod places;
 mod spelled;
@@ -114,7 +110,7 @@ impl Reader {
 
 /// Whether each of these tokens behind a refusal is answered by that refusal, and the depth is kept.
 fn repeats(parser: &mut Parser, fault: GrammarFault) -> bool {
-    let depth = depth_of(parser);
+    let depth = parser.depth();
     let tokens = [
         Token::Semicolon,
         Token::Left,
@@ -123,25 +119,11 @@ fn repeats(parser: &mut Parser, fault: GrammarFault) -> bool {
         Token::Finish,
     ];
     for token in tokens {
-        if !refuses(parser, token, fault) {
+        if parser.take(token).err() != Some(fault) {
             return false;
         }
     }
-    depth_of(parser) == depth
-}
-
-/// Whether the next token is answered by this refusal, as it is behind it.
-fn refuses(parser: &mut Parser, token: Token, fault: GrammarFault) -> bool
-    ensures { parser.old.refused ≡ Some fault → IsTrue result × (parser.new ≡ parser.old) }
-{
-    parser.take(token).err() == Some(fault)
-}
-
-/// How many lists and typed parameters are open.
-fn depth_of(parser: &Parser) -> usize
-    ensures { (history : GrammarHistory) → Stands parser.now history → IsDepth history.taken result }
-{
-    parser.depth()
+    parser.depth() == depth
 }
 
 /// Appends the refusal, `end` and that of `finish`, or nothing.

@@ -266,7 +266,7 @@ const DEPTHS: &[(&str, usize)] = &[
 fn first_of_another_depth(rt: &HostRuntime) -> &'static str {
     for (text, depth) in DEPTHS {
         let mut reader = Reader::behind(rt, HEAD, text);
-        if !reader.is_steady() || depth_of(&reader.parser) != *depth {
+        if !reader.is_steady() || reader.parser.depth() != *depth {
             return text;
         }
     }
