@@ -23,9 +23,12 @@ use Rattle.p21_files.specs.BrokenRule.{Breaks}
 use Rattle.p21_files.specs.Kept.{IsInstanceText}
 use Rattle.p21_files.specs.Meaning.{Typed}
 use Rattle.p21_files.specs.Reference.{Need}
-use Rattle.p21_mapping.specs.Checked.{IsChecked, IsRefused}
+use Rattle.p21_express_types.specs.declared.number.EntityId.{EntityId}
+use Rattle.p21_mapping.specs.Checked.{IsChecked, IsRefused, needs_view}
+use Rattle.p21_mapping_values.specs.TypedView.{ids_view}
 use Rattle.p21_mapping_values.specs.declared.fault.CheckFault.{CheckFault}
 use Rattle.p21_mapping_values.specs.declared.fault.CheckFault.TheVariants as check_fault
+use Rattle.p21_mapping_values.specs.declared.need.Need as mapping
 use Rattle.p21_schemas.specs.Schema.{Schema}
 use Rattle.p21_stream_accepted.specs.Output.{IsNamed}
 use Rattle.p21_stream_fault.specs.Fault.{fault_number, of_check}
@@ -55,6 +58,14 @@ found-named s n r entities needs text is =
     let statement : Statement = instance n is.printed.canonical in
     let spelled : Each IsSpelled (statement_tokens statement) = laid-each_spelled text (statement_tokens statement) is.printed.laid in
     ((tokens_text (record_tokens is.printed.canonical ++ (semicolon ∷ [])), is.printed.text_is), subst (Each IsGraphic) (sym is.printed.text_is) (lines-graphic statement spelled))
+
+-- the same of the same lists
+pub found-same : (s : Schema) (n : ℕ) (r : Record) (es fs : List EntityId) (ns ms : List mapping.Need) (xs ys : List ℕ) → fs ≡ es → ms ≡ ns → ys ≡ xs → HasFound s n r (ids_view es) (needs_view ns) xs → HasFound s n r (ids_view fs) (needs_view ms) ys
+found-same s n r es fs ns ms xs ys same_entities same_needs same_text is =
+    let E : List EntityId → Type 0 = λ a. HasFound s n r (ids_view a) (needs_view ns) xs in
+    let N : List mapping.Need → Type 0 = λ a. HasFound s n r (ids_view fs) (needs_view a) xs in
+    let T : List ℕ → Type 0 = λ a. HasFound s n r (ids_view fs) (needs_view ms) a in
+    subst T (sym same_text) (subst N (sym same_needs) (subst E (sym same_entities) is))
 
 -- a refused record breaks a rule
 pub refused-breaks : (s : Schema) (r : Record) (f : CheckFault) → (f ≢ check_fault.NoMemory → IsRefused s r f) → of_check f ≢ fault.NoMemory → Breaks s r (fault_number (of_check f))

@@ -3,11 +3,14 @@ use Rattle.std.specs.Prelude.{◌≢◌, ◌≤◌, ◌+◌, ℕ, List, [], ◌�
 use Rattle.p21_basics.specs.Limits.{Limits}
 use Rattle.p21_claim_steps.specs.Keeping.{Keeps, Kept}
 use Rattle.p21_claim_steps.specs.Offending.{Offends}
-use Rattle.p21_exchange.specs.Statement.{SectionLine, Statement, section}
+use Rattle.p21_exchange.specs.Record.{Record}
+use Rattle.p21_exchange.specs.Statement.{SectionLine, Statement, instance, section}
+use Rattle.p21_files.specs.Reference.{Need}
 use Rattle.p21_schemas.specs.Schema.{Schema}
 use Rattle.p21_stream_fault.specs.Fault.{fault_number}
 use Rattle.p21_stream_fault.specs.declared.fault.Fault.{Fault}
 use Rattle.p21_stream_fault.specs.declared.fault.Fault.TheVariants.{NoMemory}
+use Rattle.p21_stream_kept.specs.Found.{HasFound}
 
 -- a line of this size is within its limit, and with it the file within its own
 abbrev pub HasRoom : Limits → ℕ → ℕ → Type 0
@@ -21,6 +24,10 @@ StepGives s limits old statement (Err fault) new = fault ≢ NoMemory → (given
 -- the same of a section line without a name, whatever the schema
 abbrev pub TakesLine : Limits → Kept → SectionLine → Result (Unit {0}) Fault → Kept → Type 0
 TakesLine limits old line result new = (s : Schema) → StepGives s limits old (section line) result new
+
+-- the same of an instance, by what is found of it
+abbrev pub FoundGives : Schema → Limits → Kept → ℕ → List ℕ → List Need → List ℕ → Result (Unit {0}) Fault → Kept → Type 0
+FoundGives s limits old n entities needs text result new = (record_ : Record) → HasFound s n record_ entities needs text → StepGives s limits old (instance n record_) result new
 
 -- the bytes that are kept stay within the limit of a file
 abbrev pub StepKeepsBound : Limits → Kept → Kept → Type 0

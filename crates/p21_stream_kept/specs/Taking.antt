@@ -4,9 +4,12 @@ use Rattle.std.specs.List.{flat_map}
 use Rattle.p21_basics.specs.Limits.{Limits}
 use Rattle.p21_claim_steps.specs.Keeping.{Keeps, Kept}
 use Rattle.p21_exchange.specs.Grammar.{IsFile}
-use Rattle.p21_exchange.specs.Statement.{Statement, statement_tokens}
+use Rattle.p21_exchange.specs.Record.{Record}
+use Rattle.p21_exchange.specs.Statement.{Statement, instance, statement_tokens}
 use Rattle.p21_exchange.specs.Structure.{AreFirst, Structure, statements}
+use Rattle.p21_files.specs.Reference.{Need}
 use Rattle.p21_schemas.specs.Schema.{Schema}
+use Rattle.p21_stream_kept.specs.Found.{HasFound}
 
 -- The statement stands in a tree behind those of which this is kept, and 64 bits count the tokens of all of them
 pub record Follows (s : Schema) (limits : Limits) (kept : Kept) (statement : Statement) : Type 0 where
@@ -15,6 +18,12 @@ pub record Follows (s : Schema) (limits : Limits) (kept : Kept) (statement : Sta
   pub structure : Structure
   pub are_first : AreFirst (given ++ statement ∷ []) structure
   pub few : length (flat_map statement_tokens (given ++ statement ∷ [])) < 2 ^ 64
+
+-- An instance of this name stands there, and this is found of it
+pub record FollowsFound (s : Schema) (limits : Limits) (kept : Kept) (n : ℕ) (entities : List ℕ) (needs : List Need) (text : List ℕ) : Type 0 where
+  pub record_ : Record
+  pub found : HasFound s n record_ entities needs text
+  pub follows : Follows s limits kept (instance n record_)
 
 -- this is kept of the statements of a whole file
 pub record IsOfFile (kept : Kept) : Type 0 where

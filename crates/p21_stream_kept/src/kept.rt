@@ -1,13 +1,16 @@
-ghost use Rattle.std.specs.Prelude.{◌≡◌, ◌≤◌, IfErr, OnErr, OnOk};
+ghost use Rattle.std.specs.Prelude.{◌≡◌, ◌≤◌, ◌↔◌, Contains, IfErr, IsTrue, OnErr, OnOk, map};
 ghost use Rattle.p21_claim_steps.specs.Keeping.{nothing_kept};
+ghost use Rattle.p21_claim_steps.specs.Stored.{Stored};
 ghost use Rattle.p21_exchange.specs.Statement.{data_start, header, instance, section};
 ghost use Rattle.p21_grammar_machine.specs.Shape.{heading_of};
 ghost use Rattle.p21_grammar_machine.specs.Statements.{line_of};
 ghost use Rattle.p21_grammar_tree.specs.View.{items_of, part_view, record_view, views};
+ghost use Rattle.p21_mapping.specs.Checked.{needs_view};
+ghost use Rattle.p21_mapping_values.specs.TypedView.{ids_view};
 ghost use Rattle.p21_stream_fault.specs.Source.{IsOfBytes};
 ghost use Rattle.p21_stream_kept.specs.Served.{AnswersUnserved};
-ghost use Rattle.p21_stream_kept.specs.Steps.{StepGives, StepKeepsBound, TakesLine};
-ghost use Rattle.p21_stream_kept.specs.Taking.{Follows};
+ghost use Rattle.p21_stream_kept.specs.Steps.{FoundGives, StepGives, StepKeepsBound, TakesLine};
+ghost use Rattle.p21_stream_kept.specs.Taking.{Follows, FollowsFound};
 
 use crate::found::found_of;
 use crate::room::has_room;
@@ -16,6 +19,7 @@ use crate::served::{first_unserved, wait};
 use crate::stored::{has_instance, store};
 use p21_canon_header::write_header;
 use p21_express_tables::Schema;
+use p21_express_types::EntityId;
 use p21_grammar_machine::Line;
 use p21_grammar_tree::{Part, Record};
 use p21_mapping_values::Need;
@@ -179,14 +183,77 @@ impl Kept {
         ensures bound { StepKeepsBound limits self.old self.new }
         ensures kind { IfErr result (λ fault. IsOfBytes fault) }
     {
-        if has_instance(&self.instances, name) {
+        if self.has_name(name) {
             return Err(Fault::DuplicateName);
         }
         let found = match found_of(self.alloc, schema, name, of) {
             Ok(found) => found,
             Err(fault) => return Err(fault),
         };
-        let size = found.line.len() as u64;
+        self.keep_found(
+            schema,
+            limits,
+            name,
+            found.entities.items(),
+            &found.line,
+            &found.needs,
+        )
+    }
+
+    /// Takes an instance that stands in a tree behind the statements that are kept, by what is found of it: its set of
+    /// entities, its canonical line without a line feed, and what it needs of other instances.
+    ///
+    /// # Errors
+    ///
+    /// In this order: `DuplicateName`, `CanonicalTooLong`. `NoMemory`.
+    pub fn take_found(
+        &mut self,
+        schema: &Schema,
+        limits: Limits,
+        name: Name,
+        entities: &[EntityId],
+        line: &[u8],
+        needs: &[Need],
+    ) -> Result<(), Fault>
+        requires { FollowsFound schema.now limits self.old name (ids_view entities.now) (needs_view needs.now) line.now }
+        ensures gives { FoundGives schema.now limits self.old name (ids_view entities.now) (needs_view needs.now) line.now result self.new }
+        ensures bound { StepKeepsBound limits self.old self.new }
+        ensures kind { IfErr result (λ fault. IsOfBytes fault) }
+    {
+        if self.has_name(name) {
+            return Err(Fault::DuplicateName);
+        }
+        self.keep_found(schema, limits, name, entities, line, needs)
+    }
+
+    /// Whether an instance that is kept has this name.
+    fn has_name(&self, name: Name) -> bool
+        ensures { IsTrue result ↔ Contains (map (λ (x : Stored). x.name) self.now.stored) name }
+    {
+        has_instance(&self.instances, name)
+    }
+
+    /// Keeps an instance whose name none has before it, by what is found of it.
+    ///
+    /// # Errors
+    ///
+    /// `CanonicalTooLong`, `NoMemory`.
+    fn keep_found(
+        &mut self,
+        schema: &Schema,
+        limits: Limits,
+        name: Name,
+        entities: &[EntityId],
+        line: &[u8],
+        needs: &[Need],
+    ) -> Result<(), Fault>
+        requires another { Contains (map (λ (x : Stored). x.name) self.old.stored) name → ⊥ }
+        requires found { FollowsFound schema.now limits self.old name (ids_view entities.now) (needs_view needs.now) line.now }
+        ensures gives { FoundGives schema.now limits self.old name (ids_view entities.now) (needs_view needs.now) line.now result self.new }
+        ensures bound { StepKeepsBound limits self.old self.new }
+        ensures kind { IfErr result (λ fault. IsOfBytes fault) }
+    {
+        let size = line.len() as u64;
         if !has_room(limits, self.bytes, self.framing, size) {
             return Err(Fault::CanonicalTooLong);
         }
@@ -196,7 +263,7 @@ impl Kept {
             &self.kinds,
             &self.instances,
             name,
-            &found.needs,
+            needs,
             &mut self.waiting,
         ) else {
             return Err(Fault::NoMemory);
@@ -207,12 +274,12 @@ impl Kept {
             &mut self.instances,
             name,
             section,
-            found.entities.items(),
-            &found.line,
+            entities,
+            line,
         ) else {
             return Err(Fault::NoMemory);
         };
-        self.references += found.needs.len() as u64;
+        self.references += needs.len() as u64;
         self.bytes += size;
         self.framing += 1;
         Ok(())
@@ -241,7 +308,7 @@ impl Kept {
     }
 }
 
-ghost use Rattle.std.specs.Prelude.{◌++◌, ℕ, List, IfOk, IsTrue, false, length};
+ghost use Rattle.std.specs.Prelude.{◌++◌, ℕ, List, IfOk, false, length};
 ghost use Rattle.p21_exchange.specs.CanonicalText.{line, statement_text};
 ghost use Rattle.p21_exchange.specs.Header.{IsFileSchema};
 ghost use Rattle.p21_schemas.specs.SchemaName.{NamesSchema};
