@@ -1,11 +1,9 @@
 -- The elements of a list, and the aggregate of their values.
-use Rattle.std.proofs.Common.{◌≡◌, ◌≢◌, ◌∙◌, ◌↔◌, sym, ap, refl, subst, inl, inr, ℕ, suc, ◌+◌, ◌⊎◌, Bool, true, false, List, [], ◌∷◌, ◌++◌, ◌<◌, ◌≤◌, get_or, length, map, Result, Ok, Err, Option, Some, None, IsTrue, Contains, Vec, Box, Global, append_assoc, rules, arith}
-use Rattle.std.proofs.lemmas.List.{append-nil, map-append}
+use Rattle.std.proofs.Common.{◌≡◌, ◌≢◌, ◌∙◌, ◌↔◌, sym, ap, refl, subst, inl, inr, ℕ, suc, ◌+◌, ◌⊎◌, Bool, true, false, List, [], ◌∷◌, ◌++◌, ◌<◌, ◌≤◌, get_or, length, map, reverse, Result, Ok, Err, Option, Some, None, IsTrue, Contains, Vec, Box, Global, append_assoc, rules, arith}
+use Rattle.std.proofs.lemmas.List.{append-nil, map-append, reverse-append, reverse-reverse}
 use Rattle.std.specs.List.{AllByRecursion as Each}
 use denote.Param.Weighed.{at_most, most}
 use denote.Ref.{Bor}
-use Rattle.std.specs.Vec.Iter.{into_iter_items, into_iter_len}
-use Rattle.std.specs.declared.vec.IntoIter.{IntoIter}
 use Rattle.p21_basics.proofs.Members.{Contains-none, Contains-first, Contains-later, Contains-cases}
 use Rattle.p21_claim_values.proofs.Needs.{assignment, each-servable, served-each}
 use Rattle.p21_claim_values.proofs.OfType.{OfType, EachOf, of_none, of_next, of_empty, of_array, of_list, of_set, of_bag, of_chosen_type, offers-select}
@@ -90,7 +88,7 @@ params-behind : (ps : List tree.Param) (p : tree.Param) → tree_view.views (ps 
 params-behind [] p = refl
 params-behind (q ∷ ps) p = ap (param (tree_view.view q)) (params-behind ps p)
 
-pub no_elements : (s : Schema) (optional : Bool) (type : TypeUse) (found : Vec Value Global) (needs : List Need) → found.items ≡ [] → Found (AreElementsOf s optional type no_params) needs needs found
+no_elements : (s : Schema) (optional : Bool) (type : TypeUse) (found : Vec Value Global) (needs : List Need) → found.items ≡ [] → Found (AreElementsOf s optional type no_params) needs needs found
 no_elements s optional type found needs is = record {
   added = [];
   needs_are = sym (append-nil needs);
@@ -102,7 +100,7 @@ no_elements s optional type found needs is = record {
 }
 
 -- one more element has its value
-pub element_more : (s : Schema) (optional : Bool) (type : TypeUse) (ps : List tree.Param) (p : tree.Param) (found more : Vec Value Global) (v : Value) (old between new : List Need) → Found (AreElementsOf s optional type (tree_view.views ps)) old between found
+element_more : (s : Schema) (optional : Bool) (type : TypeUse) (ps : List tree.Param) (p : tree.Param) (found more : Vec Value Global) (v : Value) (old between new : List Need) → Found (AreElementsOf s optional type (tree_view.views ps)) old between found
     → Found (IsElementOf s optional type (tree_view.view p)) between new v → more.items ≡ found.items ++ v ∷ [] → Found (AreElementsOf s optional type (tree_view.views (ps ++ p ∷ []))) old new more
 element_more s optional type ps p found more v old between new before now is =
     let all : views more.items ≡ put_behind (views found.items) (view v) = ap views is ∙ views-behind found.items v in
@@ -129,7 +127,7 @@ among-on (q ∷ ps) rest p among = elim (Contains-cases (tree_view.view q) (list
   | inr h ↦ Contains-later (tree_view.view q) (listed (tree_view.views (ps ++ rest))) p (among-on ps rest p h)
 ]
 
-pub breaks-among : (s : Schema) (optional : Bool) (type : TypeUse) (ps rest all : List tree.Param) (p : tree.Param) (f : CheckFault) → (ps ++ p ∷ []) ++ rest ≡ all → (f ≢ fault.NoMemory → BreaksAtPlace s (stored_place optional type) (tree_view.view p) (fault_number f))
+breaks-among : (s : Schema) (optional : Bool) (type : TypeUse) (ps rest all : List tree.Param) (p : tree.Param) (f : CheckFault) → (ps ++ p ∷ []) ++ rest ≡ all → (f ≢ fault.NoMemory → BreaksAtPlace s (stored_place optional type) (tree_view.view p) (fault_number f))
     → f ≢ fault.NoMemory → BreaksAmong s optional type (tree_view.views all) (fault_number f)
 breaks-among s optional type ps rest all p f is breaks other =
     let here : Contains (listed (tree_view.views (ps ++ p ∷ []))) (tree_view.view p) = subst (λ (xs : Params). Contains (listed xs) (tree_view.view p)) (sym (params-behind ps p)) (behind-among (tree_view.views ps) (tree_view.view p)) in
@@ -265,30 +263,52 @@ chosen_at s base key chosen p old new v boxed decides known h same type is =
           (of_chosen_type chooses.select chosen.0 chooses.name (view v) (offers-select s chooses.select (type_member chosen.0) chooses.offers) chooses.named (chooses.name, (refl, chooses.keyword)) h.fits.of_type);
     }))
 
--- ---- the parameters that are still to come
+-- ---- parameters taken from the end of a row that was turned round
 
-pub seamed : (ys : List tree.Param) (p : tree.Param) (rest more : List tree.Param) → rest ≡ p ∷ more → (ys ++ p ∷ []) ++ more ≡ ys ++ rest
-seamed ys p rest more is = append_assoc ys (p ∷ []) more ∙ ap (λ (xs : List tree.Param). ys ++ xs) (sym is)
+-- those taken have their values, and those left stand from the last to the first
+pub record Halfway (s : Schema) (optional : Bool) (type : TypeUse) (left all : List tree.Param) (old new : List Need) (found : Vec Value Global) : Type 0 where
+  pub taken : List tree.Param
+  pub whole : taken ++ reverse left ≡ all
+  pub fits : Found (AreElementsOf s optional type (tree_view.views taken)) old new found
+
+pub none_taken : (s : Schema) (optional : Bool) (type : TypeUse) (left all : List tree.Param) (needs : List Need) (found : Vec Value Global) → left ≡ reverse all → found.items ≡ [] → Halfway s optional type left all needs needs found
+none_taken s optional type left all needs found turned none = record {
+  taken = [];
+  whole = ap (λ (xs : List tree.Param). reverse xs) turned ∙ reverse-reverse all;
+  fits = no_elements s optional type found needs none;
+}
+
+-- the last of those left is the next one
+next-one : (left rest : List tree.Param) (p : tree.Param) → left ≡ rest ++ p ∷ [] → reverse left ≡ p ∷ reverse rest
+next-one left rest p is = ap (λ (xs : List tree.Param). reverse xs) is ∙ reverse-append rest (p ∷ [])
+
+seamed : (ys left rest all : List tree.Param) (p : tree.Param) → left ≡ rest ++ p ∷ [] → ys ++ reverse left ≡ all → (ys ++ p ∷ []) ++ reverse rest ≡ all
+seamed ys left rest all p is whole = append_assoc ys (p ∷ []) (reverse rest) ∙ ap (λ (xs : List tree.Param). ys ++ xs) (sym (next-one left rest p is)) ∙ whole
+
+pub one_taken : (s : Schema) (optional : Bool) (type : TypeUse) (left rest all : List tree.Param) (p : tree.Param) (v : Value) (old between new : List Need) (found more : Vec Value Global) → Halfway s optional type left all old between found → left ≡ rest ++ p ∷ []
+    → Found (IsElementOf s optional type (tree_view.view p)) between new v → more.items ≡ found.items ++ v ∷ [] → Halfway s optional type rest all old new more
+one_taken s optional type left rest all p v old between new found more h is fits appended = record {
+  taken = h.taken ++ p ∷ [];
+  whole = seamed h.taken left rest all p is h.whole;
+  fits = element_more s optional type h.taken p found more v old between new h.fits fits appended;
+}
+
+pub all_taken : (s : Schema) (optional : Bool) (type : TypeUse) (left all : List tree.Param) (old new : List Need) (found : Vec Value Global) → Halfway s optional type left all old new found → left ≡ [] → Found (AreElementsOf s optional type (tree_view.views all)) old new found
+all_taken s optional type left all old new found h none =
+    let whole : h.taken ≡ all = sym (append-nil h.taken) ∙ ap (λ (xs : List tree.Param). h.taken ++ reverse xs) (sym none) ∙ h.whole in
+    subst (λ (xs : List tree.Param). Found (AreElementsOf s optional type (tree_view.views xs)) old new found) whole h.fits
+
+pub broken_next : (s : Schema) (optional : Bool) (type : TypeUse) (left rest all : List tree.Param) (p : tree.Param) (f : CheckFault) (old new : List Need) (found : Vec Value Global) → Halfway s optional type left all old new found → left ≡ rest ++ p ∷ []
+    → (f ≢ fault.NoMemory → BreaksAtPlace s (stored_place optional type) (tree_view.view p) (fault_number f)) → f ≢ fault.NoMemory → BreaksAmong s optional type (tree_view.views all) (fault_number f)
+broken_next s optional type left rest all p f old new found h is = breaks-among s optional type h.taken (reverse rest) all p f (seamed h.taken left rest all p is h.whole)
 
 at-seam : (ys : List tree.Param) (p : tree.Param) (more : List tree.Param) → (get_or (ys ++ p ∷ more) (length ys) p ≡ p) × (length ys < length (ys ++ p ∷ more))
 at-seam [] p more = (refl, omega arith)
 at-seam (y ∷ ys) p more = let (same, low) = at-seam ys p more in (same, omega (arith, low))
 
-pub size_below : (size : tree.Param → ℕ) (ys : List tree.Param) (p : tree.Param) (rest more all : List tree.Param) → rest ≡ p ∷ more → ys ++ rest ≡ all → size p ≤ most size all
-size_below size ys p rest more all is same =
-    let (at, low) = at-seam ys p more in
-    let whole : ys ++ p ∷ more ≡ all = ap (λ (xs : List tree.Param). ys ++ xs) (sym is) ∙ same in
-    let deep : size (get_or (ys ++ p ∷ more) (length ys) p) ≤ most size (ys ++ p ∷ more) = at_most size (ys ++ p ∷ more) (length ys) p low in
-    subst (λ (xs : List tree.Param). size p ≤ most size xs) whole (subst (λ (q : tree.Param). size q ≤ most size (ys ++ p ∷ more)) at deep)
-
-pub nothing_left : (it : IntoIter tree.Param Global) → into_iter_len it ≡ 0 → into_iter_items it ≡ []
-nothing_left it none = empty (into_iter_items it) (omega (arith, it.rest.ok.0, none))
-  where
-    empty : (xs : List tree.Param) → length xs ≡ 0 → xs ≡ []
-    empty [] is = refl
-    empty (x ∷ xs) is = absurd (omega (arith, is))
-
-pub elements_all : (s : Schema) (optional : Bool) (type : TypeUse) (ys rest all : List tree.Param) (old new : List Need) (found : Vec Value Global) → rest ≡ [] → ys ++ rest ≡ all → Found (AreElementsOf s optional type (tree_view.views ys)) old new found → Found (AreElementsOf s optional type (tree_view.views all)) old new found
-elements_all s optional type ys rest all old new found none same h =
-    let whole : ys ≡ all = sym (append-nil ys) ∙ ap (λ (xs : List tree.Param). ys ++ xs) (sym none) ∙ same in
-    subst (λ (xs : List tree.Param). Found (AreElementsOf s optional type (tree_view.views xs)) old new found) whole h
+pub size_below : (size : tree.Param → ℕ) (s : Schema) (optional : Bool) (type : TypeUse) (left rest all : List tree.Param) (p : tree.Param) (old new : List Need) (found : Vec Value Global) → Halfway s optional type left all old new found → left ≡ rest ++ p ∷ [] → size p ≤ most size all
+size_below size s optional type left rest all p old new found h is =
+    let (at, low) = at-seam h.taken p (reverse rest) in
+    let whole : h.taken ++ p ∷ reverse rest ≡ all = ap (λ (xs : List tree.Param). h.taken ++ xs) (sym (next-one left rest p is)) ∙ h.whole in
+    let deep : size (get_or (h.taken ++ p ∷ reverse rest) (length h.taken) p) ≤ most size (h.taken ++ p ∷ reverse rest) = at_most size (h.taken ++ p ∷ reverse rest) (length h.taken) p low in
+    subst (λ (xs : List tree.Param). size p ≤ most size xs) whole (subst (λ (q : tree.Param). size q ≤ most size (h.taken ++ p ∷ reverse rest)) at deep)

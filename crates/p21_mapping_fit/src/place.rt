@@ -1,4 +1,4 @@
-ghost use Rattle.std.specs.Prelude.{◌≡◌, ◌↔◌, IsTrue};
+ghost use Rattle.std.specs.Prelude.{◌≡◌, ◌↔◌, ◌++◌, ◌∷◌, [], IsTrue, MatchOption};
 ghost use Rattle.p21_files.specs.BrokenValue.{IsLeftOut};
 ghost use Rattle.p21_express_tables.specs.Base.{HasBase};
 ghost use Rattle.p21_express_tables.specs.Resolved.{IsTypeUse};
@@ -17,6 +17,9 @@ use p21_express_types::{PlaceType, TypeUse};
 use p21_grammar_tree::{Key, Param, Params};
 use p21_mapping_values::{CheckFault, Need, Value, Values};
 use std::alloc::Global;
+
+/// After how many parameters their room is given back.
+const AT_ONCE: usize = 1024;
 
 /// Checks a parameter at a place where it is decided what may stand there, and adds what it needs of other instances to the
 /// needs, in the order in which they are named (ISO 10303-21, mapping of EXPRESS data types).
@@ -171,11 +174,24 @@ fn fit_each(
     ensures { ElementsOrBreak schema.now optional (type_use of.now) (views params.items) needs.old.items result needs.new.items }
 {
     let mut values = Vec::with_capacity(alloc, params.len())?;
-    for param in params {
+    let mut left = params;
+    left.reverse();
+    while let Some(param) = last_taken(&mut left) {
         let value = fit_stored(alloc, schema, param, optional, of, needs)?;
         values.push(value)?;
     }
     Ok(values)
+}
+
+/// The last parameter of a row, taken out of it. After each so many the row gives back the room of those that were taken, so
+/// that a long row and its values don't stand whole at once.
+fn last_taken(left: &mut Vec<Param>) -> Option<Param>
+    ensures { MatchOption result (left.old.items ≡ []) (λ param. left.old.items ≡ left.new.items ++ param ∷ []) }
+{
+    if left.len().is_multiple_of(AT_ONCE) {
+        left.shrink_to_fit();
+    }
+    left.pop()
 }
 
 /// A typed parameter, at a select that offers the type of its keyword.

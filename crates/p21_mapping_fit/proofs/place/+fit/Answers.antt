@@ -9,7 +9,7 @@ use Rattle.p21_grammar_tree.proofs.Views.{view-Dollar, view-Star, view-Whole, vi
 use Rattle.p21_grammar_tree.specs.View.{items_of, key_view, view, views}
 use Rattle.p21_express_types.specs.Meaning.{type_use}
 use Rattle.p21_mapping_fit.proofs.Chains.{base_in, broken_at, from_base, left_out, not_left_out, refused_from}
-use Rattle.p21_mapping_fit.proofs.Lists.{aggregate_at, bounds_broken, breaks-among, chosen_at, chosen_broken, element_broken, element_more, elements_all, nothing_left, seamed, size_below, element-known, key_refused, no_elements, plain-known, same_broken, takes-elements}
+use Rattle.p21_mapping_fit.proofs.Lists.{aggregate_at, bounds_broken, all_taken, broken_next, chosen_at, chosen_broken, element_broken, element-known, key_refused, none_taken, one_taken, plain-known, same_broken, size_below, takes-elements}
 use Rattle.p21_mapping_fit.proofs.Outcomes.{at_declared, at_other}
 use Rattle.p21_mapping_fit.proofs.place.+fit.Goals as goal
 
@@ -92,24 +92,21 @@ pub fit_list-fit_each-requires : goal.fit_list-fit_each-requires
 fit_list-fit_each-requires t c = let same = ap (λ xs. most the_size xs) c.into_items.ensures in (search (rules, param.the_lemmas), element-known c.args.schema.now _ _ _ c.in-Some.ensures (plain-known c.args.schema.now c.args.base _ c.in-Plain.is c.requires))
 
 pub fit_each-returns : goal.fit_each-returns
-fit_each-returns t c = elements_all c.args.schema.now c.args.optional (type_use c.args.of.now) c.loop-param.yielded _ c.args.params.items _ _ _ (nothing_left c.loop-param.param-iterator c.in-None.ensures.steps.0) c.loop-param.invariant.0 c.loop-param.invariant.1
+fit_each-returns t c = all_taken c.args.schema.now c.args.optional (type_use c.args.of.now) _ c.args.params.items _ _ _ c.loop-param.invariant c.in_default.ensures
 
 pub fit_each-returns-in_err-value : goal.fit_each-returns-in_err-value
 fit_each-returns-in_err-value t c =
     let p = err_from_is_err_and c.from_residual-in_err-value.result c.from_residual-in_err-value.ensures.1 in
-    rw (p.1, p.2) (breaks-among c.args.schema.now c.args.optional (type_use c.args.of.now) c.loop-param.yielded _ c.args.params.items c.in-Some.param _ (seamed c.loop-param.yielded c.in-Some.param _ _ c.in-Some.ensures.steps.0 ∙ c.loop-param.invariant.0) c.in_err-value.ensures)
+    rw (p.1, p.2) (broken_next c.args.schema.now c.args.optional (type_use c.args.of.now) _ _ c.args.params.items c.in-Some.param _ _ _ _ c.loop-param.invariant c.in-Some.ensures c.in_err-value.ensures)
 
 pub fit_each-loop-param-preserved : goal.fit_each-loop-param-preserved
-fit_each-loop-param-preserved t c = (
-  seamed c.loop-param.yielded c.in-Some.param _ _ c.in-Some.ensures.steps.0 ∙ c.loop-param.invariant.0,
-  element_more c.args.schema.now c.args.optional (type_use c.args.of.now) c.loop-param.yielded c.in-Some.param c.loop-param.values c.push.new.self c.in_ok-value.value _ _ _ c.loop-param.invariant.1 c.in_ok-value.ensures c.in_ok-push.ensures.items,
-)
+fit_each-loop-param-preserved t c = one_taken c.args.schema.now c.args.optional (type_use c.args.of.now) _ _ c.args.params.items c.in-Some.param c.in_ok-value.value _ _ _ c.loop-param.values c.push.new.self c.loop-param.invariant c.in-Some.ensures c.in_ok-value.ensures c.in_ok-push.ensures.items
 
 pub fit_each-fit_stored-requires : goal.fit_each-fit_stored-requires
 fit_each-fit_stored-requires t c =
-    let deep = size_below the_size c.loop-param.yielded c.in-Some.param _ _ _ c.in-Some.ensures.steps.0 c.loop-param.invariant.0 in
+    let deep = size_below the_size c.args.schema.now c.args.optional (type_use c.args.of.now) _ _ c.args.params.items c.in-Some.param _ _ _ c.loop-param.invariant c.in-Some.ensures in
     let known = c.requires in
     search rules
 
 pub fit_each-loop-param-init : goal.fit_each-loop-param-init
-fit_each-loop-param-init t c = (search rules, no_elements c.args.schema.now c.args.optional (type_use c.args.of.now) c.in_ok-values.values c.args.needs.now.items c.in_ok-values.ensures.items)
+fit_each-loop-param-init t c = none_taken c.args.schema.now c.args.optional (type_use c.args.of.now) _ c.args.params.items c.args.needs.now.items c.in_ok-values.values c.reverse.ensures.items c.in_ok-values.ensures.items
