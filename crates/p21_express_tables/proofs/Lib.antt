@@ -15,6 +15,7 @@ pub mod Walks
 pub mod Pairs
 pub mod RisingNames
 pub mod Above
+pub mod Ascents
 pub mod Ends
 pub mod Owners
 pub mod Deciding

@@ -26,26 +26,26 @@ done_apart [] x is open_is = cc
 done_apart (b ∷ done) zero is open_is = cc
 done_apart (b ∷ done) (suc x) is open_is = done_apart done x is open_is
 
-set_keeps : (done : List Bool) (top x : ℕ) → IsDone done x → IsDone (slice_set done top true) x
+pub set_keeps : (done : List Bool) (top x : ℕ) → IsDone done x → IsDone (slice_set done top true) x
 set_keeps [] top x is = is
 set_keeps (b ∷ done) zero zero is = refl
 set_keeps (b ∷ done) zero (suc x) is = is
 set_keeps (b ∷ done) (suc top) zero is = is
 set_keeps (b ∷ done) (suc top) (suc x) is = set_keeps done top x is
 
-set_only : (done : List Bool) (top x : ℕ) → IsDone (slice_set done top true) x → IsDone done x ⊎ (x ≡ top)
+pub set_only : (done : List Bool) (top x : ℕ) → IsDone (slice_set done top true) x → IsDone done x ⊎ (x ≡ top)
 set_only [] top x is = inl is
 set_only (b ∷ done) zero zero is = inr refl
 set_only (b ∷ done) zero (suc x) is = inl is
 set_only (b ∷ done) (suc top) zero is = inl is
 set_only (b ∷ done) (suc top) (suc x) is = elim (set_only done top x is) [ inl h ↦ inl h | inr h ↦ inr (ap suc h) ]
 
-set_length : (done : List Bool) (top : ℕ) → length (slice_set done top true) ≡ length done
+pub set_length : (done : List Bool) (top : ℕ) → length (slice_set done top true) ≡ length done
 set_length [] top = refl
 set_length (b ∷ done) zero = refl
 set_length (b ∷ done) (suc top) = ap suc (set_length done top)
 
-set_count : (done : List Bool) (top : ℕ) → IsOpen done top → suc (open_count (slice_set done top true)) ≡ open_count done
+pub set_count : (done : List Bool) (top : ℕ) → IsOpen done top → suc (open_count (slice_set done top true)) ≡ open_count done
 set_count [] top is = cc
 set_count (true ∷ done) zero is = cc
 set_count (false ∷ done) zero is = refl

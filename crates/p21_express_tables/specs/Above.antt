@@ -1,5 +1,5 @@
 -- Proper supertypes of entities.
-use Rattle.std.specs.Prelude.{◌≢◌, ◌↔◌, ◌⊎◌, ℕ, List, Contains}
+use Rattle.std.specs.Prelude.{◌≢◌, ◌↔◌, ℕ, List, Contains}
 use Rattle.p21_schemas.specs.Schema.{Schema}
 use Rattle.p21_schemas.specs.Supertype.{IsA}
 
@@ -10,7 +10,3 @@ IsAbove s e f = IsA s e f × (f ≢ e)
 -- these are the proper supertypes of the entities
 abbrev pub AreAbove : Schema → List ℕ → List ℕ → Type 0
 AreAbove s entities above = (f : ℕ) → Contains above f ↔ ((e : ℕ) × Contains entities e × IsAbove s e f)
-
--- those of the entity have been added
-abbrev pub AddsAbove : Schema → ℕ → List ℕ → List ℕ → Type 0
-AddsAbove s e before after = (f : ℕ) → Contains after f ↔ (Contains before f ⊎ IsAbove s e f)

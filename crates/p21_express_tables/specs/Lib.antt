@@ -1,3 +1,4 @@
+pub mod Ascent
 pub mod Base
 pub mod Coding
 pub mod Collected

@@ -11,10 +11,27 @@ use p21_express_types::EntityId;
 use p21_values::NoMemory;
 use std::collections::BTreeMap;
 
+/// So many entities are looked at in pairs.
+const FEW: usize = 16;
+
 impl Schema {
     /// Whether a list has two different entities of one ONEOF list (ISO 10303-11, Subtype/supertype constraints), at the
     /// cost of the lists in which they stand.
-    pub(crate) fn find_clash(&self, entities: &[EntityId]) -> Result<bool, NoMemory>
+    ///
+    /// # Errors
+    ///
+    /// `NoMemory`.
+    pub fn find_clash(&self, entities: &[EntityId]) -> Result<bool, NoMemory>
+        ensures { IfOk result (λ clash. IsTrue clash ↔ Clashes self.now (numbers entities.now)) }
+    {
+        if entities.len() <= FEW {
+            return Ok(self.clashes(entities));
+        }
+        self.find_held(entities)
+    }
+
+    /// The same, with a note at each list of the entity that stands in it.
+    fn find_held(&self, entities: &[EntityId]) -> Result<bool, NoMemory>
         ensures { IfOk result (λ clash. IsTrue clash ↔ Clashes self.now (numbers entities.now)) }
     {
         let mut holders = BTreeMap::new(self.alloc);

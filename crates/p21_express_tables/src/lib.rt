@@ -1,6 +1,7 @@
 //! A schema with all names resolved (ISO 10303-11), prepared so that each look-up costs little.
 #![tactic(auto)]
 
+mod ascent;
 mod base;
 mod collected;
 mod decided;

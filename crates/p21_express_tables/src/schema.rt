@@ -1,10 +1,8 @@
 ghost use Rattle.std.specs.Prelude.{◌≡◌, ◌↔◌, ℕ, IsTrue, length, map, ◌++◌, slice_get, Contains, MatchOption, IfOk, OnOk, Some};
-ghost use Rattle.std.specs.List.Sorted.{IsStrictlyIncreasing};
 ghost use Rattle.p21_schemas.specs.Schema.{EntityNamed, TypeNamed, PlaceNamed, IsAbstract, entity_member, kind_of, attribute_at, attributes_of};
 ghost use Rattle.p21_schemas.specs.Select.{Offers};
 ghost use Rattle.p21_schemas.specs.Supertype.{IsA, AreLeaves};
 ghost use Rattle.p21_schemas.specs.WellFormed.{IsWellFormed};
-ghost use Rattle.p21_express_tables.specs.Above.{AddsAbove, AreAbove};
 ghost use Rattle.p21_express_tables.specs.Lookups.{AreEntities};
 ghost use Rattle.p21_schemas.specs.Order.{order, places, own_places};
 ghost use Rattle.p21_express_tables.specs.Orders.{numbers};
@@ -12,7 +10,7 @@ ghost use Rattle.p21_express_types.specs.Meaning.{place as place_of, kind, membe
 ghost use Rattle.p21_express_tables.specs.Resolved.{HoldsTogether, IsEntity, IsType, IsPlace};
 ghost use Rattle.p21_express_tables.specs.Parts.{schema_of, AreNamed, entity as entity_of, attribute as attribute_of, defined as defined_of};
 
-use crate::collected::{is_among, risen};
+use crate::collected::is_among;
 use crate::fronts::Fronts;
 use crate::indexes::{Index, indexes_of};
 use crate::offered::{Offered, all_offered};
@@ -270,33 +268,6 @@ impl Schema {
             }
         }
         Ok(leaves)
-    }
-
-    /// The numbers of the proper supertypes of entities, rising.
-    fn all_above(&self, entities: &[EntityId]) -> Result<Vec<u32>, NoMemory>
-        requires { AreEntities self.now (numbers entities.now) }
-        ensures rising { IfOk result (λ above. IsStrictlyIncreasing above.items) }
-        ensures above { IfOk result (λ above. AreAbove self.now (numbers entities.now) above.items) }
-    {
-        let mut above = Vec::new(self.alloc);
-        for entity in entities {
-            self.push_above(*entity, &mut above)?;
-        }
-        Ok(risen(above))
-    }
-
-    /// Adds the numbers of the proper supertypes of an entity.
-    fn push_above(&self, entity: EntityId, above: &mut Vec<u32>) -> Result<(), NoMemory>
-        requires { IsEntity self.now entity.0 }
-        ensures { OnOk result (AddsAbove self.now entity.0 above.old.items above.new.items) }
-    {
-        self.holds_together();
-        for other in self.order_of(entity) {
-            if other.0 != entity.0 {
-                above.push(other.0)?;
-            }
-        }
-        Ok(())
     }
 
     /// The name of the attribute at a place, in upper case. It takes no memory.

@@ -85,6 +85,7 @@ leaf-breaks s r entities set_is (e, leaf, is_abstract) = abstract_leaf (entities
 pub set-refuses : (s : Schema) (r : Record) (entities : List ℕ) → IsSetOf s r entities → (fault : CheckFault) → RefusesSet s entities fault → Refuses s r fault
 set-refuses s r entities set_is OneOf clash _ = one_of (entities, set_is, clash)
 set-refuses s r entities set_is TwoRedeclarations (e, among, (place, of_e, two)) _ = open_place (entities, e, place, set_is, among, of_e, two)
+set-refuses s r entities set_is NoMemory _ other = absurd (other refl)
 set-refuses s r entities set_is other none _ = absurd none
 
 -- ---- counts

@@ -74,6 +74,7 @@ PassesSet s es = ¬ Clashes s es × Each (HasPlaceTypes s es) es
 abbrev pub RefusesSet : Schema → List ℕ → CheckFault → Type 0
 RefusesSet s es OneOf = Clashes s es
 RefusesSet s es TwoRedeclarations = HasOpenPlace s es
+RefusesSet s es NoMemory = Unit {0}
 RefusesSet s es other = ⊥
 
 -- the entity can be that of an instance of internal form: it is no abstract one, its closure has no two of a ONEOF list, and

@@ -41,10 +41,9 @@ pub(crate) fn is_closed(schema: &Schema, positions: &Positions<'_>) -> bool
     requires { AreEntities schema.now positions.now }
     ensures { MatchBool result (IsClosed schema.now positions.now) (LacksSupertype schema.now positions.now) }
 {
-    schema.holds_together();
     let entities = positions.entities();
     for entity in entities {
-        if !has_all(positions, schema.order_of(*entity)) {
+        if !has_all(positions, schema.supertypes(*entity)) {
             return false;
         }
     }

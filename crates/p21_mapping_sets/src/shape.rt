@@ -131,7 +131,8 @@ fn check_set(schema: &Schema, entities: &[EntityId]) -> Result<(), CheckFault>
     requires { AreEntities schema.now (numbers entities.now) }
     ensures { MatchResult result (λ _. PassesSet schema.now (numbers entities.now)) (RefusesSet schema.now (numbers entities.now)) }
 {
-    if schema.clashes(entities) {
+    let clashes = schema.find_clash(entities)?;
+    if clashes {
         return Err(CheckFault::OneOf);
     }
     if has_open_place(schema, entities) {

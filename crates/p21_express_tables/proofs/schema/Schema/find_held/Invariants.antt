@@ -3,7 +3,7 @@ use Rattle.std.specs.BTreeMap.{get}
 use Rattle.std.specs.Ordering.{nat_cmp}
 use Rattle.p21_express_tables.specs.Holders.{AreHeld}
 use Rattle.p21_express_tables.specs.Orders.{numbers}
-use Rattle.p21_express_tables.proofs.schema.Schema.find_clash.Given as goal
+use Rattle.p21_express_tables.proofs.schema.Schema.find_held.Given as goal
 
 -- the entities so far are noted
 abbrev pub invariant-loop-entity : goal.invariant-loop-entity

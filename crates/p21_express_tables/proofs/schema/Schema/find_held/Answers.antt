@@ -7,7 +7,7 @@ use Rattle.std.proofs.lemmas.Bool.{MatchBool-at_true, MatchBool-at_false}
 use Rattle.std.proofs.lemmas.List.{take_all}
 use Rattle.p21_express_tables.specs.Holders.{AreHeld}
 use Rattle.p21_express_tables.specs.Orders.{numbers}
-use Rattle.p21_express_tables.proofs.schema.Schema.find_clash.Goals as goal
+use Rattle.p21_express_tables.proofs.schema.Schema.find_held.Goals as goal
 use Rattle.p21_express_tables.proofs.Gatherings.{numbered-at}
 use Rattle.p21_express_tables.proofs.Lookups.{numbers-more}
 use Rattle.p21_express_tables.proofs.Noted.{clash-of, front-in, held-none, no-clash}
