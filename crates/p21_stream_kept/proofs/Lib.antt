@@ -6,3 +6,4 @@ pub mod Ended
 pub mod Unserved
 pub mod Finding
 pub mod Following
+pub mod Dropping

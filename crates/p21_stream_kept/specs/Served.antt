@@ -1,7 +1,7 @@
 -- The needs of instances, by what is stored: those that are served, those that wait, and the first that none serves.
 use Rattle.std.specs.Prelude.{◌≡◌, ◌⊎◌, ℕ, List, ◌∷◌, ◌++◌, map, Option, Some, None, Contains}
 use Rattle.std.specs.List.{AllByRecursion as Each}
-use Rattle.p21_claim_steps.specs.Keeping.{IsServedBy}
+use Rattle.p21_claim_steps.specs.Keeping.{IsServedBy, Kept}
 use Rattle.p21_claim_steps.specs.Stored.{Stored}
 use Rattle.p21_claim_steps.specs.Waiting.{Reference}
 use Rattle.p21_files.specs.Reference.{Need, Serves}
@@ -26,6 +26,17 @@ pub record AddsWaiting (s : Schema) (stored : List Stored) (holder : ℕ) (needs
   pub are_needs : Each (Contains needs) added
   pub others_served : Each (λ (need : Need). Contains added need ⊎ IsServedBy s stored need) needs
   pub new_is : new ≡ old ++ map (λ (need : Need). (holder, need)) added
+
+-- the references without some that are served
+pub record DropsServed (s : Schema) (stored : List Stored) (old new : List Reference) : Type 0 where
+  pub are_old : Each (Contains old) new
+  pub others_served : Each (λ (r : Reference). Contains new r ⊎ IsServedBy s stored r.1) old
+
+-- what is kept, without some references that are served
+pub record LeavesServed (s : Schema) (old new : Kept) : Type 0 where
+  pub waiting : List Reference
+  pub drops : DropsServed s old.stored old.waiting waiting
+  pub new_is : new ≡ record old { waiting = waiting }
 
 -- a need of this instance is refused, and those in front of it are served
 pub record IsFirstUnserved (s : Schema) (stored : List Stored) (waiting : List Reference) (holder : ℕ) (fault : Fault) : Type 0 where

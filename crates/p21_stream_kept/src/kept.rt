@@ -8,14 +8,14 @@ ghost use Rattle.p21_grammar_tree.specs.View.{items_of, part_view, record_view, 
 ghost use Rattle.p21_mapping.specs.Checked.{needs_view};
 ghost use Rattle.p21_mapping_values.specs.TypedView.{ids_view};
 ghost use Rattle.p21_stream_fault.specs.Source.{IsOfBytes};
-ghost use Rattle.p21_stream_kept.specs.Served.{AnswersUnserved};
+ghost use Rattle.p21_stream_kept.specs.Served.{AnswersUnserved, LeavesServed};
 ghost use Rattle.p21_stream_kept.specs.Steps.{FoundGives, StepGives, StepKeepsBound, TakesLine};
 ghost use Rattle.p21_stream_kept.specs.Taking.{Follows, FollowsFound};
 
 use crate::found::found_of;
 use crate::room::has_room;
 use crate::sections::Sections;
-use crate::served::{first_unserved, wait};
+use crate::served::{drop_served, first_unserved, wait};
 use crate::stored::{has_instance, store};
 use p21_canon_header::write_header;
 use p21_express_tables::Schema;
@@ -42,6 +42,8 @@ pub struct Kept {
     pub(crate) kinds: Kinds,
     pub(crate) instances: Instances,
     pub(crate) waiting: Vec<Reference>,
+    // So many references may wait before those that are served by then are dropped.
+    pub(crate) patience: usize,
     // All references, those that don't wait among them.
     pub(crate) references: u64,
     // The bytes of the canonical lines of header records and instances, without line feeds.
@@ -56,6 +58,9 @@ pub struct Reference {
     pub holder: Name,
     pub need: Need,
 }
+
+/// So many references may wait in any file.
+const PATIENCE: usize = 4096;
 
 impl Model for Kept {
     ghost use Rattle.p21_claim_steps.specs.Keeping.{Kept as Meant};
@@ -80,6 +85,7 @@ impl Kept {
             kinds: Kinds::new(alloc),
             instances: Instances::new(alloc),
             waiting: Vec::new(alloc),
+            patience: PATIENCE,
             references: 0,
             bytes: 0,
             framing: 0,
@@ -282,7 +288,20 @@ impl Kept {
         self.references += needs.len() as u64;
         self.bytes += size;
         self.framing += 1;
+        self.drop_served(schema);
         Ok(())
+    }
+
+    /// Drops the references that are served by now, where many wait. Behind that twice as many as are left may wait, so that a
+    /// reference is looked at twice on average, and memory is for those alone that aren't served.
+    fn drop_served(&mut self, schema: &Schema)
+        ensures { LeavesServed schema.now self.old self.new }
+    {
+        if self.waiting.len() < self.patience {
+            return;
+        }
+        drop_served(schema, &self.kinds, &self.instances, &mut self.waiting);
+        self.patience = PATIENCE.max(self.waiting.len().saturating_mul(2));
     }
 
     /// The bytes of the canonical lines of header records and instances, without line feeds.

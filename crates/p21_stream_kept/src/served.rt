@@ -1,9 +1,10 @@
 //! The needs of instances, and the instances that serve them.
-ghost use Rattle.std.specs.Prelude.{[], ◌∷◌, OnOk};
+ghost use Rattle.std.specs.Prelude.{◌≡◌, [], ◌∷◌, OnOk, false};
+ghost use Rattle.p21_claim_steps.specs.Keeping.{IsServedBy};
 ghost use Rattle.p21_mapping.specs.Checked.{needs_view};
 ghost use Rattle.p21_mapping_values.specs.TypedView.{need_view};
 ghost use Rattle.p21_stream_kept.specs.Inside.{AreKinds, references_of, stored_of};
-ghost use Rattle.p21_stream_kept.specs.Served.{AddsWaiting, AnswersNeed, AnswersUnserved};
+ghost use Rattle.p21_stream_kept.specs.Served.{AddsWaiting, AnswersNeed, AnswersUnserved, DropsServed};
 
 use crate::kept::Reference;
 use p21_express_tables::Schema;
@@ -69,6 +70,27 @@ fn wait_for(
     };
     waiting.push(reference)?;
     Ok(())
+}
+
+/// Drops the references that an instance serves by now.
+pub(crate) fn drop_served(
+    schema: &Schema,
+    kinds: &Kinds,
+    instances: &Instances,
+    waiting: &mut Vec<Reference>,
+)
+    requires { AreKinds kinds.now instances.now }
+    ensures { DropsServed schema.now (stored_of kinds.now instances.now) (references_of waiting.old.items) (references_of waiting.new.items) }
+{
+    waiting.retain(|reference| waits(schema, kinds, instances, reference));
+}
+
+/// Whether no instance serves a reference yet.
+fn waits(schema: &Schema, kinds: &Kinds, instances: &Instances, reference: &Reference) -> bool
+    requires { AreKinds kinds.now instances.now }
+    ensures { result ≡ false → IsServedBy schema.now (stored_of kinds.now instances.now) (need_view reference.now.need) }
+{
+    refusal_of(schema, kinds, instances, &reference.need).is_some()
 }
 
 /// The first reference that no instance serves, by the name of the instance that has it, and why. It takes no memory.

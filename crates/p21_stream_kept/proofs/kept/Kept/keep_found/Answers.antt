@@ -9,11 +9,12 @@ use Rattle.p21_exchange.specs.Statement.{instance}
 use Rattle.p21_mapping.specs.Checked.{needs_view}
 use Rattle.p21_mapping_values.specs.TypedView.{ids_view, need_view}
 use Rattle.p21_stream_fault.specs.declared.fault.Fault.TheVariants.{CanonicalTooLong}
+use Rattle.p21_stream_kept.proofs.Dropping.{took-dropped}
 use Rattle.p21_stream_kept.proofs.Finding.{found-named, took-found}
 use Rattle.p21_stream_kept.proofs.Following.{follows-few, follows-section}
 use Rattle.p21_stream_kept.proofs.Instances.{refused-instance, stored-names}
 use Rattle.p21_stream_kept.specs.Inside.{kept_of, references_of, stored_of}
-use Rattle.p21_stream_kept.specs.Steps.{FoundGives, HasRoom}
+use Rattle.p21_stream_kept.specs.Steps.{FoundGives}
 use Rattle.p21_stream_kept.proofs.kept.Kept.keep_found.Goals as goal
 
 pub invariant_of-self-in_default-store : goal.invariant_of-self-in_default-store
@@ -64,12 +65,14 @@ returns-clause-gives c =
     let stored : List Stored = stored_of c.store.new.kinds c.store.new.instances in
     let waiting : List Reference = references_of c.wait.new.waiting.items in
     let counted = ap (λ n. old.references + n) (sym (length-map c.args.needs.now need_view)) in
-    let new : Kept = record old { stored = stored; waiting = waiting; references = old.references + length c.args.needs.now; bytes = old.bytes + length line; framing = old.framing + 1 } in
+    let kept : Kept = record old { stored = stored; waiting = waiting; references = old.references + length c.args.needs.now; bytes = old.bytes + length line; framing = old.framing + 1 } in
     let N : Kept → Type 0 = λ k. Contains (map (λ (x : Stored). x.name) k.stored) c.args.name → ⊥ in
     let none : N old = subst N (sym c.self.view_is) c.requires.another in
     let permuted : IsPermutation (record { name = c.args.name; section = c.last-section.result; entities = entities; text = line } ∷ old.stored) stored = c.in-Ok-store.ensures.ok in
     let last : c.last-section.result + 1 ≡ length old.headings = c.last-section.ensures in
+    let new = c.drop_served.new.self in
     let F : Kept → Type 0 = λ k. FoundGives s c.args.limits k c.args.name entities needs line (Ok tt) new in
     subst F c.self.view_is (λ record_ is.
-    took-found s c.args.limits old new c.args.name record_ entities needs line is none waiting c.in-Ok.ensures c.last-section.result last stored permuted (c.has_room.ensures.decides.0 c.if-not-has_room.false)
-    (λ i. record old { stored = stored; waiting = waiting; references = counted i; bytes = old.bytes + length line; framing = old.framing + 1 }))
+    took-dropped s c.args.limits old kept new (instance c.args.name record_) c.drop_served.ensures
+    (took-found s c.args.limits old kept c.args.name record_ entities needs line is none waiting c.in-Ok.ensures c.last-section.result last stored permuted (c.has_room.ensures.decides.0 c.if-not-has_room.false)
+    (λ i. record old { stored = stored; waiting = waiting; references = counted i; bytes = old.bytes + length line; framing = old.framing + 1 })))
