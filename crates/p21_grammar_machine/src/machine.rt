@@ -27,6 +27,9 @@ const NESTING: usize = 64;
 /// Where fewer parameters stand in the rows around a list, it keeps its room for more.
 const FEW: usize = 8;
 
+/// Deeper than this it keeps none.
+const SHALLOW: usize = 4;
+
 /// What stands before the keyword of a simple record.
 #[derive(Drop)]
 pub enum Head {
@@ -146,31 +149,90 @@ fn misplaced_param(place: Place, token: &Token) -> GrammarFault
     }
 }
 
-/// The same parameters, with room for one more at most.
-fn trimmed(params: Vec<Param>) -> Vec<Param>
+/// The same parameters, with room for so many more at most.
+fn trimmed(alloc: Global, params: Vec<Param>, more: u8) -> Vec<Param>
     ensures { result.items ≡ params.items }
 {
     let mut params = params;
-    if params.capacity() - params.len() > 1 {
-        params.shrink_to_fit();
+    let count = params.len();
+    if params.capacity() - count <= usize::from(more) {
+        return params;
     }
+    if count <= FEW {
+        return moved(alloc, params, count + usize::from(more));
+    }
+    params.shrink_to_fit();
     params
 }
 
-/// The same parameters, trimmed where many stand in the rows around them: then lists can be many, too.
-fn trimmed_among(params: Vec<Param>, around: &[Row]) -> Vec<Param>
+/// The same parameters in a block with this room, where there is memory for it. They leave a block that the next row can take
+/// whole; cut down where it lies, it would leave a rest that is too small for a row.
+fn moved(alloc: Global, params: Vec<Param>, room: usize) -> Vec<Param>
     ensures { result.items ≡ params.items }
 {
+    let mut params = params;
+    let Ok(mut fitting) = Vec::with_capacity(alloc, room) else {
+        return params;
+    };
+    match fitting.append(&mut params) {
+        Ok(()) => fitting,
+        Err(_) => params,
+    }
+}
+
+/// The parameters of a list, trimmed where lists can be many. Two have room for a third: a block of two would be of a size
+/// that is kept for blocks of the same size, and the values of two take a smaller one.
+fn trimmed_among(alloc: Global, params: Vec<Param>, around: &[Row]) -> Vec<Param>
+    ensures { result.items ≡ params.items }
+{
+    if !are_many(around) {
+        return params;
+    }
+    let more = if params.len() > 1 { 1 } else { 0 };
+    trimmed(alloc, params, more)
+}
+
+/// The parameters of a simple record, trimmed where it is one of several.
+fn trimmed_behind(alloc: Global, params: Vec<Param>, head: &Head) -> Vec<Param>
+    ensures { result.items ≡ params.items }
+{
+    match head {
+        Head::Among(_, _) => trimmed(alloc, params, 0),
+        _ => params,
+    }
+}
+
+/// Can lists be many in these rows? So it is where they stand deep, behind many parameters, or in one of several records.
+fn are_many(around: &[Row]) -> bool {
+    if around.len() > SHALLOW {
+        return true;
+    }
     let mut few = FEW;
     for row in around {
         let row: &Row = row;
         let count = row.params.len();
-        if count >= few {
-            return trimmed(params);
+        if count >= few || is_of_several(&row.opening) {
+            return true;
         }
         few -= count;
     }
-    params
+    false
+}
+
+/// Do these parameters belong to one of several records?
+fn is_of_several(opening: &Opening) -> bool {
+    matches!(opening, Opening::Part(Head::Among(_, _), _))
+}
+
+/// Room for a first parameter that is a list or a typed one: it is often the only one.
+fn make_room(params: &mut Vec<Param>) -> Result<(), GrammarFault>
+    ensures items { params.new.items ≡ params.old.items }
+    ensures err { IfErr result (λ why. why ≡ NoMemory) }
+{
+    if params.capacity() == 0 && params.reserve_exact(1).is_err() {
+        return Err(GrammarFault::NoMemory);
+    }
+    Ok(())
 }
 
 #[tactic(auto, using(crate::proofs::Stacks::stacks))]
@@ -244,6 +306,7 @@ impl Machine {
             return Err(GrammarFault::Unexpected);
         };
         self.row = around;
+        make_room(&mut self.row.params)?;
         self.put(param)
     }
 
@@ -275,11 +338,11 @@ impl Machine {
         let Row { opening, params } = mem::replace(&mut self.row, closed);
         match opening {
             Opening::Part(head, key) => {
-                let params = Params::from_vec(params);
+                let params = Params::from_vec(trimmed_behind(self.alloc, params, &head));
                 self.close_part(head, Part { key, params })
             }
             Opening::List => {
-                let params = trimmed_among(params, &self.frames);
+                let params = trimmed_among(self.alloc, params, &self.frames);
                 self.put_back(Param::List(Params::from_vec(params)))
             }
             Opening::Tagged(key) => self.close_typed(key, params),
