@@ -97,6 +97,19 @@ def lists_of_one(n, folder):
 
 # Files whose schema lets each value cost more.
 
+def list_of_digits(n, folder):
+    return check(folder, ["ENTITY a; x : LIST OF INTEGER; END_ENTITY;\n"], ["#1=A((" + ",".join(["1"] * n) + "));\n"])
+
+
+def lists_of_two(n, folder):
+    return check(folder, ["ENTITY a; x : LIST OF LIST OF INTEGER; END_ENTITY;\n"], ["#1=A((" + ",".join(["(1,1)"] * n) + "));\n"])
+
+
+def records_of_one_keyword(n, folder):
+    """They are read whole before the second is refused."""
+    return check(folder, ["ENTITY a; x : INTEGER; END_ENTITY;\n"], ["#1=(" + "A(1)" * n + ");\n"])
+
+
 def lists_in_lists(n, folder):
     declarations = ["TYPE t = " + "LIST OF " * 30 + "REAL; END_TYPE;\n", "ENTITY a; x : " + "LIST OF " * 32 + "t; END_ENTITY;\n"]
     return check(folder, declarations, ["#1=A((" + ",".join(["(" * 61 + "1." + ")" * 61] * n) + "));\n"])
