@@ -10,13 +10,11 @@ use Rattle.std.proofs.lemmas.List.FromFn.{length-enumerate_from, get_or-enumerat
 use Rattle.std.proofs.lemmas.Slice.Zip.{AllZip-long}
 use Rattle.p21_schemas.specs.Schema.{Schema, Entity}
 use Rattle.p21_express.specs.ReadSchema.{IsBareSchema, DeclaresNone, BareRead, SchemaDeclared}
-use Rattle.p21_express.specs.Redeclaring.{redeclaring, redeclaring_as, redeclaring_each, redeclaring_schema}
 use Rattle.p21_express.proofs.Outlines.{supertypes-same, renaming-same, no_select-same, selects-same}
 use Rattle.p21_express_outline.proofs.Finding.{each-refused, take-all, zip-more}
 use Rattle.p21_express_outline.specs.Finding.{Refused, FindsEach}
 use Rattle.p21_express_outline.specs.declared.fault.SchemaFault.{SchemaFault}
 use Rattle.p21_express_outline.specs.declared.fault.SchemaFault.TheVariants as fault
-use Rattle.p21_express_redeclared.specs.declared.redeclarations.Redeclarations.{Redeclarations}
 use Rattle.p21_express_resolve.specs.Bare.{bare, bare_entity}
 use Rattle.p21_express_resolve.specs.DeclaredBy.{DeclaredBy}
 use Rattle.p21_express_resolve.specs.Outline.{Named, kept_named, EntityOutline, IsOutline}
@@ -28,17 +26,13 @@ use Rattle.p21_express_syntax.specs.Kept.{KeptEntity, KeptSchema}
 use Rattle.p21_express_syntax.specs.Views.{entity_view, schema_view}
 use Rattle.p21_express_syntax.specs.declared.schema.Declarations.{Declarations}
 use Rattle.p21_express_syntax.specs.declared.entity.Entity as syntax
-use Rattle.p21_express_tables.specs.Parts.{entity, redeclared, schema_of, AreNamed}
-use Rattle.p21_express_tables.specs.declared.parts.Entity as parts
-use Rattle.p21_express_tables.specs.declared.parts.Parts.{Parts}
+use Rattle.p21_express_tables.specs.Parts.{redeclared}
+use Rattle.p21_express_tables.specs.Redeclaring.{redeclaring, redeclaring_as, redeclaring_each, redeclaring_schema}
+use Rattle.p21_express_tables.specs.declared.parts.Redeclarations.{Redeclarations}
+use Rattle.p21_express_tables.proofs.KeptTables.{each-same}
 use Rattle.p21_express_types.specs.Meaning.{place}
 
 -- ---- entities, each with what another one redeclares
-
-each-bare : (xs ys : List Entity) → length xs ≡ length ys → map bare_entity (redeclaring_each xs ys) ≡ map bare_entity xs
-each-bare [] ys long = refl
-each-bare (x ∷ xs) [] long = absurd (omega (arith, long))
-each-bare (x ∷ xs) (y ∷ ys) long = ap (λ zs. bare_entity x ∷ zs) (each-bare xs ys (omega (arith, long)))
 
 -- what holds without regard to redeclarations
 each-first : {X : Type 0} (R : X → Entity → Type 0) → ((w : X) (x y : Entity) → R w x → R w (redeclaring_as x y)) → (ws : List X) (xs ys : List Entity) → length xs ≡ length ys → AllZip R ws xs → AllZip R ws (redeclaring_each xs ys)
@@ -80,7 +74,7 @@ found-length k s ys is are =
 whole-bare : (k : KeptSchema) (s : Schema) (ys : List Entity) → IsBareSchema k s → AreIn s k ys → bare (redeclaring_schema s ys) ≡ s
 whole-bare k s ys is are =
     let f : List Entity → Schema = λ es. record { name = s.name; entities = es; types = s.types; one_of_lists = s.one_of_lists } in
-    ap f (each-bare s.entities ys (found-length k s ys is are)) ∙ is.is_bare
+    ap f (each-same bare_entity (λ x y. refl) s.entities ys (found-length k s ys is are)) ∙ is.is_bare
 
 whole-outline : (k : KeptSchema) (s : Schema) (ys : List Entity) → IsBareSchema k s → AreIn s k ys → IsOutline k (redeclaring_schema s ys)
 whole-outline k s ys is are = record {
@@ -137,9 +131,6 @@ numbered-at {X} {Y} f xs k x below is =
 abbrev Declared : Type 0
 Declared = syntax.Entity
 
-abbrev CodeEntity : Type 0
-CodeEntity = parts.Entity
-
 -- what the entities redeclare whose declarations these are
 abbrev AreOf : Schema → Named → List Declared → ℕ × KeptEntity → Entity → Type 0
 AreOf s n declared own found = RedeclarationsAre s n (map entity_view declared) own.0 own.1 found
@@ -166,20 +157,6 @@ all-found s n declared k found le all =
     let P : List (ℕ × KeptEntity) → Type 0 = λ xs. AllZip (AreOf s n declared) xs (map redeclaring found) in
     let over : length (enumerate_from 0 (map entity_view declared)) ≤ k = omega (arith, le, length-enumerate_from 0 (map entity_view declared), length-map declared entity_view) in
     subst P (take-all (enumerate_from 0 (map entity_view declared)) k over) all
-
--- ---- names
-
-each-named : (xs ys : List Entity) → length xs ≡ length ys → map (λ x. x.name) (redeclaring_each xs ys) ≡ map (λ x. x.name) xs
-each-named [] ys long = refl
-each-named (x ∷ xs) [] long = absurd (omega (arith, long))
-each-named (x ∷ xs) (y ∷ ys) long = ap (λ zs. x.name ∷ zs) (each-named xs ys (omega (arith, long)))
-
-pub named-whole : (parts : Parts) (s : Schema) (new : List CodeEntity) (found : List Redeclarations) → AreNamed parts → schema_of parts ≡ s → length s.entities ≡ length found → map entity new ≡ redeclaring_each (map entity parts.entities.items) (map redeclaring found) → parts.entity_names ≡ map (λ x. x.name) (map entity new)
-named-whole parts s new found named same long new_is =
-    let there : length (map entity parts.entities.items) ≡ length s.entities = ap (λ t. length t.entities) same in
-    let both : length (map entity parts.entities.items) ≡ length (map redeclaring found) = omega (arith, there, long, length-map found redeclaring) in
-    let name_of : List Entity → List (List ℕ) = map (λ x. x.name) in
-    named.entities_are ∙ sym (ap name_of new_is ∙ each-named (map entity parts.entities.items) (map redeclaring found) both)
 
 -- ---- refusals
 

@@ -1,5 +1,4 @@
 pub mod ReadSchema
-pub mod Redeclaring
 -- What the clauses of its calls cite, for callers who name this crate alone
 pub use Rattle.p21_basics.specs as p21_basics
 pub use Rattle.p21_schemas.specs as p21_schemas

@@ -1,21 +1,17 @@
-ghost use Rattle.std.specs.Prelude.{◌≡◌, IfOk, length, map};
 ghost use Rattle.std.specs.List.{enumerate_from};
 ghost use Rattle.p21_express.specs.ReadSchema.{AreOfText, BareRead, IsBareSchema, SchemaDeclared, SchemaRead};
-ghost use Rattle.p21_express.specs.Redeclaring.{redeclaring, redeclaring_each, redeclaring_schema};
 ghost use Rattle.p21_express_outline.specs.Finding.{FindsEach};
 ghost use Rattle.p21_express_resolve.specs.Outline.{kept_named};
 ghost use Rattle.p21_express_resolve.specs.Redeclarations.{RedeclarationsAre};
 ghost use Rattle.p21_express_syntax.specs.Views.{schema_view};
-ghost use Rattle.p21_express_tables.specs.Resolved.{HoldsTogether};
+ghost use Rattle.p21_express_tables.specs.Redeclaring.{redeclaring};
 
 use crate::checked::checked_outline;
-use crate::redeclaring::{all_redeclarations, all_with_redeclarations};
+use crate::redeclaring::all_redeclarations;
 use p21_express_outline::{SchemaFault, known_names};
-use p21_express_redeclared::Redeclarations;
 use p21_express_refusals::first_refusal;
 use p21_express_syntax::{Declarations, read_declarations};
-use p21_express_tables::Schema;
-use p21_values::NoMemory;
+use p21_express_tables::{Redeclarations, Schema};
 use std::alloc::Global;
 
 /// What declarations declare, but that nothing is redeclared.
@@ -41,21 +37,6 @@ fn redeclarations(
     all_redeclarations(alloc, bare, &known, &declarations.entities)
 }
 
-/// A schema with what its entities redeclare.
-fn with_redeclarations(
-    alloc: Global,
-    bare: Schema,
-    found: Vec<Redeclarations>,
-) -> Result<Schema, NoMemory>
-    requires each { length bare.entities ≡ length found.items }
-    requires whole { HoldsTogether (redeclaring_schema bare (map redeclaring found.items)) }
-    ensures { IfOk result (λ schema. schema ≡ redeclaring_schema bare (map redeclaring found.items)) }
-{
-    let mut parts = bare.into_parts();
-    parts.entities = all_with_redeclarations(alloc, parts.entities, found)?;
-    Schema::new(alloc, parts)
-}
-
 /// The schema that declarations declare.
 fn declared_schema(alloc: Global, declarations: &Declarations) -> Result<Schema, SchemaFault>
     requires { AreOfText (schema_view declarations.now) }
@@ -63,7 +44,7 @@ fn declared_schema(alloc: Global, declarations: &Declarations) -> Result<Schema,
 {
     let bare = bare_schema(alloc, declarations)?;
     let found = redeclarations(alloc, declarations, &bare)?;
-    Ok(with_redeclarations(alloc, bare, found)?)
+    Ok(bare.with_redeclarations(found)?)
 }
 
 /// The schema that a text declares (ISO 10303-11, Schema declaration): a text declares one at most.

@@ -12,7 +12,7 @@ use Rattle.p21_schemas.specs.WellFormed.{HasDistinctEntities}
 use Rattle.p21_express_outline.specs.Finding.{Refused}
 use Rattle.p21_express_outline.specs.declared.fault.SchemaFault.{SchemaFault}
 use Rattle.p21_express_redeclared.specs.Found.{HasDistinctAttributes, RedeclarationsFound}
-use Rattle.p21_express_redeclared.specs.declared.redeclarations.Redeclarations.{Redeclarations}
+use Rattle.p21_express_tables.specs.declared.parts.Redeclarations.{Redeclarations}
 use Rattle.p21_express_resolve.specs.Outline.{Named, kept_redeclared, kept_redeclared_names}
 use Rattle.p21_express_resolve.specs.Redeclarations.{KeptRedeclaredIs, KeptDerivedAre, RedeclarationsAre}
 use Rattle.p21_express_resolve.proofs.OneSchema.{TellsPlaces, redeclares-one, derived-one}

@@ -4,7 +4,7 @@ use Rattle.p21_schemas.specs.Redeclaration.{IsOwnPlace}
 use Rattle.p21_schemas.specs.Schema.{Schema, Place, Entity}
 use Rattle.p21_express_outline.specs.Finding.{Refused}
 use Rattle.p21_express_outline.specs.declared.fault.SchemaFault.{SchemaFault}
-use Rattle.p21_express_redeclared.specs.declared.redeclarations.Redeclarations.{Redeclarations}
+use Rattle.p21_express_tables.specs.declared.parts.Redeclarations.{Redeclarations}
 use Rattle.p21_express_resolve.specs.Outline.{Named}
 use Rattle.p21_express_resolve.specs.Redeclarations.{RedeclarationsAre}
 use Rattle.p21_express_syntax.specs.Kept.{KeptEntity}

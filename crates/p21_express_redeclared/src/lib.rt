@@ -7,4 +7,4 @@ mod lookups;
 mod redeclarations;
 mod redeclared;
 
-pub use redeclarations::{Redeclarations, redeclarations_of};
+pub use redeclarations::redeclarations_of;

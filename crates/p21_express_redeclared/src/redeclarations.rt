@@ -9,16 +9,9 @@ use crate::distinct::check_places;
 use crate::redeclared::redeclared_of;
 use p21_express_outline::{Known, SchemaFault};
 use p21_express_syntax::Entity;
-use p21_express_tables::{Redeclared, Schema};
-use p21_express_types::{EntityId, Place};
+use p21_express_tables::{Redeclarations, Schema};
+use p21_express_types::EntityId;
 use std::alloc::Global;
-
-/// What an entity redeclares, as explicit and as derived attributes.
-#[derive(Drop)]
-pub struct Redeclarations {
-    pub redeclared: Vec<Redeclared>,
-    pub derived: Vec<Place>,
-}
 
 /// What an entity redeclares (ISO 10303-11, Attribute redeclaration). `own` is its declaration, one of those of all
 /// entities.

@@ -18,6 +18,7 @@ pub mod Above
 pub mod Ascents
 pub mod Ends
 pub mod Owners
+pub mod KeptTables
 pub mod Deciding
 pub mod Noted
 pub mod ByRank

@@ -2,6 +2,7 @@
 use Rattle.std.specs.Prelude.{◌≡◌, ℕ, zero, suc, ◌+◌, ◌<◌, ◌≤◌, List, [], ◌∷◌, ◌++◌, Some, length, slice_get, Contains, refl}
 use Rattle.std.proofs.Common.{arith, ap, sym, subst, inl, inr}
 use Rattle.std.proofs.lemmas.Bool.{cases_lt}
+use Rattle.std.proofs.lemmas.Option.{slice_get_within}
 use Rattle.p21_basics.proofs.Members.{Contains-none, Contains-first, Contains-later, Contains-cases, Contains-flat_map, Contains-one_of, Each-member, Each-at}
 use Rattle.p21_schemas.specs.Order.{order, places, own_places}
 use Rattle.p21_schemas.specs.PlaceType.{TypeAt, two_redeclarations}
@@ -91,6 +92,10 @@ with-own is are = record {
   ranking_is = is.ranking_is;
   own_are = are;
 }
+
+-- as yet there is none
+pub none-own : (s : Schema) (sets : List OwnSet) → sets ≡ [] → AreOwnSets s sets
+none-own s sets none e own at = let below = slice_get_within sets e own at in absurd (omega (arith, below, ap length none))
 
 -- one set more
 pub own-more : (s : Schema) (sets : List OwnSet) (own : OwnSet) → AreOwnSets s sets → IsOwnSet s (length sets) own → AreOwnSets s (sets ++ own ∷ [])

@@ -24,5 +24,6 @@ pub mod Renamed
 pub mod Holders
 pub mod Ranking
 pub mod Prepared
+pub mod Redeclaring
 pub mod Fronts
 pub mod Indexes

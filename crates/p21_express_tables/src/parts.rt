@@ -30,6 +30,13 @@ pub struct Entity {
     pub derived: Vec<Place>,
 }
 
+/// What an entity redeclares, as explicit and as derived attributes.
+#[derive(Drop)]
+pub struct Redeclarations {
+    pub redeclared: Vec<Redeclared>,
+    pub derived: Vec<Place>,
+}
+
 /// A declared type (ISO 10303-11, Type declaration).
 #[derive(Debug, Drop)]
 pub struct Defined {

@@ -9,6 +9,7 @@ ghost use Rattle.p21_express_tables.specs.Orders.{numbers};
 ghost use Rattle.p21_express_types.specs.Meaning.{place as place_of, kind, member as member_of};
 ghost use Rattle.p21_express_tables.specs.Resolved.{HoldsTogether, IsEntity, IsType, IsPlace};
 ghost use Rattle.p21_express_tables.specs.Parts.{schema_of, AreNamed, entity as entity_of, attribute as attribute_of, defined as defined_of};
+ghost use Rattle.p21_express_tables.specs.Redeclaring.{redeclaring, redeclaring_schema};
 
 use crate::collected::is_among;
 use crate::fronts::Fronts;
@@ -17,9 +18,10 @@ use crate::offered::{Offered, all_offered};
 use crate::one_of::all_listed_in;
 use crate::orders::all_orders;
 use crate::own_sets::OwnSet;
-use crate::parts::{Attribute, Defined, Entity, Parts};
+use crate::parts::{Attribute, Defined, Entity, Parts, Redeclarations};
 use crate::ranking::{Ranking, rank_entities};
 use crate::redeclarers::all_redeclarers;
+use crate::redeclaring::parts_with;
 use crate::renamed::all_ends;
 use p21_express_types::{EntityId, Member, Place, TypeId, TypeKind};
 use p21_values::NoMemory;
@@ -101,6 +103,55 @@ impl Schema {
         Ok(Schema {
             alloc,
             parts,
+            orders,
+            indexes,
+            offered,
+            listed_in,
+            ends,
+            redeclarers,
+            own: Vec::new(alloc),
+            ranking,
+        })
+    }
+
+    /// The same schema, in which each entity redeclares what is given for its number. What is prepared without regard to
+    /// redeclarations is kept.
+    ///
+    /// # Errors
+    ///
+    /// `NoMemory`.
+    pub fn with_redeclarations(self, found: Vec<Redeclarations>) -> Result<Schema, NoMemory>
+        requires each { length self.entities ≡ length found.items }
+        requires whole { HoldsTogether (redeclaring_schema self (map redeclaring found.items)) }
+        ensures { IfOk result (λ schema. schema ≡ redeclaring_schema self (map redeclaring found.items)) }
+    {
+        let mut schema = self.with_redeclarers(found)?;
+        schema.prepare_own_sets()?;
+        Ok(schema)
+    }
+
+    /// The same, but what is known of the own sets of entities isn't prepared.
+    fn with_redeclarers(self, found: Vec<Redeclarations>) -> Result<Schema, NoMemory>
+        requires each { length self.entities ≡ length found.items }
+        requires whole { HoldsTogether (redeclaring_schema self (map redeclaring found.items)) }
+        ensures { IfOk result (λ schema. schema ≡ redeclaring_schema self (map redeclaring found.items)) }
+    {
+        let Schema {
+            alloc,
+            parts,
+            orders,
+            indexes,
+            offered,
+            listed_in,
+            ends,
+            ranking,
+            ..
+        } = self;
+        let whole = parts_with(alloc, parts, found)?;
+        let redeclarers = all_redeclarers(alloc, &whole)?;
+        Ok(Schema {
+            alloc,
+            parts: whole,
             orders,
             indexes,
             offered,

@@ -3,7 +3,7 @@ use Rattle.std.proofs.Common.{sym, ◌∙◌, subst}
 use Rattle.std.proofs.lemmas.List.{length-map}
 use Rattle.p21_express_resolve.specs.DeclaredBy.{DeclaredBy}
 use Rattle.p21_express_syntax.specs.Views.{schema_view}
-use Rattle.p21_express.specs.Redeclaring.{redeclaring, redeclaring_schema}
+use Rattle.p21_express_tables.specs.Redeclaring.{redeclaring, redeclaring_schema}
 use Rattle.p21_express.proofs.Holding.{whole-holds}
 use Rattle.p21_express.proofs.Whole.{found-length, found-refused, whole-declared}
 use Rattle.p21_express.proofs.reading.declared_schema.Goals as goal

@@ -8,7 +8,7 @@ use Rattle.p21_express_resolve.specs.Redeclarations.{RedeclarationsAre}
 use Rattle.p21_express_resolve.proofs.OneSchema.{outline-tells}
 use Rattle.p21_express_syntax.specs.Views.{entity_view, schema_view}
 use Rattle.p21_express_syntax.specs.declared.entity.Entity as syntax
-use Rattle.p21_express.specs.Redeclaring.{redeclaring}
+use Rattle.p21_express_tables.specs.Redeclaring.{redeclaring}
 use Rattle.p21_express.proofs.Whole.{declared-length}
 use Rattle.p21_express.proofs.reading.redeclarations.Goals as goal
 

@@ -1,14 +1,13 @@
-use Rattle.std.specs.Prelude.{◌≡◌, ℕ, List, [], Some, Vec, slice_get, Contains}
+use Rattle.std.specs.Prelude.{List, Vec, Contains}
 use Rattle.std.proofs.Common.{arith, subst}
 use Rattle.std.specs.declared.alloc.Global.{Global}
 use Rattle.p21_express_types.specs.declared.number.EntityId.{EntityId}
-use Rattle.std.proofs.lemmas.Option.{slice_get_within}
 use Rattle.p21_express_tables.specs.Indexes.{AreIndexes}
 use Rattle.p21_express_tables.specs.Orders.{tabled}
-use Rattle.p21_express_tables.specs.Parts.{entity}
+use Rattle.p21_express_tables.specs.Parts.{entity, schema_of}
 use Rattle.p21_express_tables.specs.Settled.{nexts_of}
-use Rattle.p21_express_tables.specs.declared.own_sets.OwnSet.{OwnSet}
 use Rattle.p21_express_tables.proofs.Gatherings.{mapped-length}
+use Rattle.p21_express_tables.proofs.OwnSets.{none-own}
 use Rattle.p21_express_tables.proofs.schema.Schema.without_own_sets.Goals as goal
 
 pub indexes_of-requires : goal.indexes_of-requires
@@ -31,9 +30,6 @@ invariant_of-result c = (
     entities_offered = c.in_ok-offered.ensures.entities;
     types_offered = c.in_ok-offered.ensures.types;
     ranking_is = c.in_ok-ranking.ensures;
-    own_are = λ e own at. let P : List OwnSet → Type 0 = λ sets. slice_get sets e ≡ Some own in let none : slice_get [] e ≡ Some own = subst P c.new.ensures.items at in absurd (nothing-at e none);
+    own_are = none-own (schema_of c.args.parts) _ c.new.ensures.items;
   },
 )
-  where
-    nothing-at : (e : ℕ) {own : OwnSet} → slice_get [] e ≡ Some own → ⊥
-    nothing-at e at = let below = slice_get_within [] e _ at in omega (arith, below)

@@ -2,7 +2,7 @@
 use Rattle.std.specs.Prelude.{false, List, [], map}
 use Rattle.std.specs.List.{zip}
 use Rattle.p21_schemas.specs.Schema as pure
-use Rattle.p21_express_redeclared.specs.declared.redeclarations.Redeclarations.{Redeclarations}
+use Rattle.p21_express_tables.specs.declared.parts.Redeclarations.{Redeclarations}
 use Rattle.p21_express_tables.specs.Parts.{redeclared}
 use Rattle.p21_express_types.specs.Meaning.{place}
 

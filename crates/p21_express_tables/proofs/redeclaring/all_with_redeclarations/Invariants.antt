@@ -1,8 +1,8 @@
 use Rattle.std.proofs.Common.{◌≡◌, length, map, ◌++◌}
 use Rattle.std.specs.Vec.Iter.{into_iter_items}
-use Rattle.p21_express.specs.Redeclaring.{redeclaring, redeclaring_each}
+use Rattle.p21_express_tables.specs.Redeclaring.{redeclaring, redeclaring_each}
 use Rattle.p21_express_tables.specs.Parts.{entity}
-use Rattle.p21_express.proofs.redeclaring.all_with_redeclarations.Given as goal
+use Rattle.p21_express_tables.proofs.redeclaring.all_with_redeclarations.Given as goal
 
 -- those that are left are as many as what they redeclare, and with them there are all
 abbrev pub invariant-loop-entity : goal.invariant-loop-entity

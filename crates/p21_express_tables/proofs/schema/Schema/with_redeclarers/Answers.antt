@@ -1,0 +1,31 @@
+use Rattle.std.specs.Prelude.{◌≡◌, List, length, map}
+use Rattle.std.proofs.Common.{arith, ap, sym, ◌∙◌, subst}
+use Rattle.p21_schemas.specs.Schema.{Schema}
+use Rattle.p21_express_tables.specs.Parts.{entity, schema_of}
+use Rattle.p21_express_tables.specs.Redeclaring.{redeclaring, redeclaring_schema}
+use Rattle.p21_express_tables.specs.Resolved.{HoldsTogether}
+use Rattle.p21_express_tables.proofs.Gatherings.{mapped-length}
+use Rattle.p21_express_tables.proofs.KeptTables.{redeclaring-prepared}
+use Rattle.p21_express_tables.proofs.OwnSets.{none-own}
+use Rattle.p21_express_tables.proofs.schema.Schema.with_redeclarers.Goals as goal
+
+pub parts_with-requires-clause-each : goal.parts_with-requires-clause-each
+parts_with-requires-clause-each c = sym (mapped-length entity c.self.inside.parts.entities.items) ∙ ap (λ s. length s.entities) c.self.view_is ∙ c.requires.each
+
+pub all_redeclarers-requires : goal.all_redeclarers-requires
+all_redeclarers-requires c = subst HoldsTogether (sym (c.in_ok-whole.ensures.value ∙ ap (λ s. redeclaring_schema s (map redeclaring c.args.found.items)) c.self.view_is)) c.requires.whole
+
+pub invariant_of-result : goal.invariant_of-result
+invariant_of-result c =
+    let s : Schema = schema_of c.self.inside.parts in
+    let t : Schema = schema_of c.in_ok-whole.whole in
+    let ys = map redeclaring c.args.found.items in
+    let long : length s.entities ≡ length ys = ap (λ z. length z.entities) c.self.view_is ∙ c.requires.each ∙ sym (mapped-length redeclaring c.args.found.items) in
+    let whole : HoldsTogether t = subst HoldsTogether (sym (c.in_ok-whole.ensures.value ∙ ap (λ z. redeclaring_schema z ys) c.self.view_is)) c.requires.whole in (
+      whole,
+      c.in_ok-whole.ensures.named,
+      redeclaring-prepared s t ys long c.in_ok-whole.ensures.value c.self.invariant.2 c.in_ok-redeclarers.ensures (none-own t _ c.new.ensures.items),
+    )
+
+pub returns : goal.returns
+returns c = c.in_ok-whole.ensures.value ∙ ap (λ s. redeclaring_schema s (map redeclaring c.args.found.items)) c.self.view_is
