@@ -1,17 +1,25 @@
 -- The laws of a session while bytes come.
-use Rattle.std.proofs.Common.{◌+◌, ℕ, List, [], ◌∷◌, ◌++◌, Some, None, sym, ap, subst, ◌∙◌}
+use Rattle.std.proofs.Common.{◌≡◌, ◌≢◌, ◌≤◌, ◌+◌, ℕ, List, [], ◌∷◌, ◌++◌, length, take, Some, None, Err, sym, ap, subst, ◌∙◌}
 use Rattle.std.proofs.lemmas.List.{append-nil}
+use Rattle.p21_basics.specs.Limits.{Limits}
 use Rattle.p21_claim.specs.Taken.{AreTaken}
 use Rattle.p21_claim_steps.proofs.Keeps.{keeps-at_start, keeps-held, keeps-size}
 use Rattle.p21_claim_steps.proofs.Offenders.{offender-dead}
-use Rattle.p21_claim_steps.specs.Keeping.{Keeps}
+use Rattle.p21_claim_steps.specs.Keeping.{Keeps, Kept}
 use Rattle.p21_exchange.specs.Statement.{Statement}
 use Rattle.p21_files.specs.Accepted.{IsDead}
+use Rattle.p21_schemas.specs.Schema.{Schema}
+use Rattle.p21_schemas.specs.WellFormed.{IsWellFormed}
 use Rattle.p21_stream_fault.specs.Fault.{fault_number}
+use Rattle.p21_stream_fault.specs.declared.fault.Fault.{Fault}
+use Rattle.p21_stream_fault.specs.declared.fault.Fault.TheVariants.{NoMemory}
 use Rattle.p21_stream_front.proofs.Seen.{looked-up_to}
 use Rattle.p21_stream_front.proofs.Stepping.{taken-looked}
-use Rattle.p21_stream_front.specs.Front.{looked}
+use Rattle.p21_stream_front.specs.Front as front
+use Rattle.p21_stream_front.specs.Front.{IsSeenAt, Reading, looked}
+use Rattle.p21_stream_kept.specs.Steps as kept_steps
 use Rattle.p21_stream_session.specs.Laws.{DeadByStatement, DeadByStep, HeldWhileLive, LiveAtStart, LiveByPiece, LiveByStatement, LiveByToken}
+use Rattle.p21_stream_session.specs.Session.{IsDeadWithin}
 
 pub live-at_start : LiveAtStart
 live-at_start s limits held reads are = record { reads = reads; limits_are = are; keeps = keeps-at_start s limits }
@@ -45,15 +53,21 @@ live-by_statement s limits held next kept after reading tokens piece count state
   one_more = goes.one_more;
 }
 
+-- a statement that is refused where the reader stands behind it
+pub dead-behind : (s : Schema) → IsWellFormed s → (limits : Limits) (next : front.Held) (kept after : Kept) (reading on : Reading) (piece : List ℕ) (count : ℕ) (statement : Statement) (fault : Fault) → Keeps s limits reading.given kept → front.IsLive next on
+    → on.taken ≡ reading.taken ++ take count piece → on.given ≡ reading.given ++ statement ∷ [] → IsSeenAt on.seen piece count → count ≤ length piece → kept_steps.StepGives s limits kept statement (Err fault) after → fault ≢ NoMemory → IsDeadWithin s limits reading piece
+dead-behind s formed limits next kept after reading on piece count statement fault keeps live taken_are given_are seen_at within refuses other =
+    let offends = refuses other reading.given keeps in
+    let are : AreTaken (looked on) (reading.given ++ statement ∷ []) = subst (λ (given : List Statement). AreTaken (looked on) given) given_are (taken-looked next on live) in
+    let dead : IsDead s limits (looked on) =
+    offender-dead s formed limits (looked on) reading.given (kept.bytes + kept.framing) (keeps-size s limits reading.given kept keeps).0 statement (fault_number fault) are offends in
+    let up = looked-up_to reading.taken piece count on.seen within seen_at in
+    let Bytes : List ℕ → Type 0 = λ taken. IsDead s limits (taken ++ elim on.seen [ None ↦ [] | Some byte ↦ byte ∷ [] ]) in
+    record { upto = up.upto; within = up.within; dead = subst (λ (l : List ℕ). IsDead s limits l) up.looked_are (subst Bytes taken_are dead) }
+
 pub dead-by_statement : DeadByStatement
 dead-by_statement s formed limits held next kept after reading tokens piece count statement fault live goes within refuses other =
-    let offends = refuses other reading.given live.keeps in
-    let are : AreTaken (looked goes.reading) (reading.given ++ statement ∷ []) = subst (λ (given : List Statement). AreTaken (looked goes.reading) given) goes.given_are (taken-looked next goes.reading goes.live) in
-    let dead : IsDead s limits (looked goes.reading) =
-    offender-dead s formed limits (looked goes.reading) reading.given (kept.bytes + kept.framing) (keeps-size s limits reading.given kept live.keeps).0 statement (fault_number fault) are offends in
-    let up = looked-up_to reading.taken piece count goes.reading.seen within goes.seen_at in
-    let Bytes : List ℕ → Type 0 = λ taken. IsDead s limits (taken ++ elim goes.reading.seen [ None ↦ [] | Some byte ↦ byte ∷ [] ]) in
-    record { upto = up.upto; within = up.within; dead = subst (λ (l : List ℕ). IsDead s limits l) up.looked_are (subst Bytes goes.taken_are dead) }
+    dead-behind s formed limits next kept after reading goes.reading piece count statement fault live.keeps goes.live goes.taken_are goes.given_are goes.seen_at within refuses other
 
 pub dead-by_step : DeadByStep
 dead-by_step s limits held next kept reading piece fault live at refuses other =

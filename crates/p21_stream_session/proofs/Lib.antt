@@ -5,3 +5,4 @@ pub mod Feeding
 pub mod Ending
 pub mod Checking
 pub mod Instances
+pub mod Passed

@@ -3,7 +3,7 @@ use Rattle.std.proofs.Common.{◌≡◌, ◌+◌, ◌-◌, ◌^◌, ◌≤◌, �
 use Rattle.std.proofs.lemmas.List.{length-drop, take-append-drop}
 use Rattle.std.specs.List.{flat_map, slice_get}
 use Rattle.p21_basics.specs.Limits.{Limits}
-use Rattle.p21_claim_steps.specs.Keeping.{Kept}
+use Rattle.p21_claim_steps.specs.Keeping.{Keeps, Kept}
 use Rattle.p21_exchange.specs.Statement.{Statement, statement_tokens}
 use Rattle.p21_exchange.specs.Structure.{AreFirst}
 use Rattle.p21_files.specs.Accepted.{IsDead}
@@ -20,8 +20,8 @@ use Rattle.p21_stream_kept.specs.Steps.{StepKeepsBound}
 use Rattle.p21_stream_kept.specs.Taking.{Follows}
 use Rattle.p21_stream_session.proofs.Going.{dead-by_statement, dead-by_step, live-by_piece, live-by_statement, live-by_token}
 use Rattle.p21_stream_session.proofs.Within.{given-few, source-within, statements-few}
-use Rattle.p21_stream_session.specs.Pieces.{EndsNoToken, IsUnderWay, NeedsNoMemory, ReadGives, StepGives}
-use Rattle.p21_stream_session.specs.Session.{IsLive}
+use Rattle.p21_stream_session.specs.Pieces.{EndsNoToken, GoesFurther, IsUnderWay, NeedsNoMemory, ReadGives, StepGives}
+use Rattle.p21_stream_session.specs.Session.{GoesOn, IsLive}
 use Rattle.p21_stream_session.specs.declared.progress.Progress.{Progress}
 
 -- ---- pieces of pieces
@@ -65,16 +65,21 @@ read-last s limits held next kept after piece gives = gives
 
 -- ---- a step
 
+-- one token more is more
+further : (s : Schema) (limits : Limits) (old : Reading) (tokens : ℕ) (piece : List ℕ) (count : ℕ) (held : front.Held) (kept : Kept) → GoesOn s limits old tokens piece count held kept → GoesFurther s limits old tokens piece count held kept
+further s limits old tokens piece count held kept on = let more = on.one_more in record { reading = on.reading; live = on.live; taken_are = on.taken_are; seen_at = on.seen_at; more = omega (arith, more) }
+
 pub step-piece : (s : Schema) (limits : Limits) (held next : front.Held) (kept : Kept) (piece : List ℕ) → front.StepGives held piece (Ok None) next → limits_of next ≡ limits_of held → StepGives s limits held kept piece (Ok None) next kept
 step-piece s limits held next kept piece gives same reading live at = (reading.given, live-by_piece s limits held next kept reading piece live (gives reading live.reads at) same)
 
 pub step-token : (s : Schema) (limits : Limits) (held next : front.Held) (kept : Kept) (piece : List ℕ) (count : ℕ) → front.StepGives held piece (Ok (Some (count, None))) next → limits_of next ≡ limits_of held → StepGives s limits held kept piece (Ok (Some count)) next kept
-step-token s limits held next kept piece count gives same reading live at = live-by_token s limits held next kept reading (length live.reads.history.given) piece count live (gives reading live.reads at) same
+step-token s limits held next kept piece count gives same reading live at = further s limits reading (length live.reads.history.given) piece count next kept (live-by_token s limits held next kept reading (length live.reads.history.given) piece count live (gives reading live.reads at) same)
 
 pub step-statement : (s : Schema) (limits : Limits) (held next : front.Held) (kept after : Kept) (piece : List ℕ) (count : ℕ) (event : Event) → front.StepGives held piece (Ok (Some (count, Some event))) next → limits_of next ≡ limits_of held
     → kept_steps.StepGives s limits kept (statement_of event) (Ok tt) after → StepGives s limits held kept piece (Ok (Some count)) next after
 step-statement s limits held next kept after piece count event gives same takes reading live at =
-    live-by_statement s limits held next kept after reading (length live.reads.history.given) piece count (statement_of event) live (gives reading live.reads at) same takes
+    further s limits reading (length live.reads.history.given) piece count next after
+    (live-by_statement s limits held next kept after reading (length live.reads.history.given) piece count (statement_of event) live (gives reading live.reads at) same takes)
 
 pub step-refused : (s : Schema) (limits : Limits) (held next : front.Held) (kept after : Kept) (piece : List ℕ) (refusal : Refusal) (fault : Fault) → refusal.fault ≡ fault → front.StepGives held piece (Err fault) next → StepGives s limits held kept piece (Err refusal) next after
 step-refused s limits held next kept after piece refusal fault is gives other reading live at = dead-by_step s limits held next kept reading piece fault live at gives (λ none. other (is ∙ none))
@@ -98,23 +103,26 @@ token-none s limits held kept piece answer needs count reading live at none are 
 
 -- ---- what follows
 
+-- a statement behind which the reader stands
+pub follows-behind : (s : Schema) (limits : Limits) (next : front.Held) (kept : Kept) (reading on : Reading) (statement : Statement) → Keeps s limits reading.given kept → front.IsLive next on → on.given ≡ reading.given ++ statement ∷ [] → (limits_of next).1 ≡ limits.file_source
+    → limits.file_source < 2 ^ 64 → Follows s limits kept statement
+follows-behind s limits next kept reading on statement keeps live given limit counted =
+    let few = statements-few next on live in
+    let within = source-within next on live in
+    record {
+      given = reading.given;
+      keeps = keeps;
+      structure = live.of_file.structure;
+      are_first = subst (λ (sts : List Statement). AreFirst sts live.of_file.structure) given live.of_file.are_first;
+      few = subst (λ (sts : List Statement). length (flat_map statement_tokens sts) < 2 ^ 64) given (omega (arith, few, within, limit, counted));
+    }
+
 -- the statement that a token ends
 pub statement-follows : (s : Schema) (limits : Limits) (held next : front.Held) (kept : Kept) (piece : List ℕ) (count : ℕ) (event : Event) → IsUnderWay s limits held kept piece → front.StepGives held piece (Ok (Some (count, Some event))) next
     → limits_of next ≡ limits_of held → Follows s limits kept (statement_of event)
 statement-follows s limits held next kept piece count event way gives same =
     let on = gives way.reading way.live.reads way.seen_at in
-    let few = statements-few next on.reading on.live in
-    let within = source-within next on.reading on.live in
-    let limit : (limits_of next).1 ≡ limits.file_source = ap (λ p. p.1) (same ∙ way.live.limits_are) in
-    let counted = way.counted in
-    let given : on.reading.given ≡ way.reading.given ++ statement_of event ∷ [] = on.given_are in
-    record {
-      given = way.reading.given;
-      keeps = way.live.keeps;
-      structure = on.live.of_file.structure;
-      are_first = subst (λ (sts : List Statement). AreFirst sts on.live.of_file.structure) given on.live.of_file.are_first;
-      few = subst (λ (sts : List Statement). length (flat_map statement_tokens sts) < 2 ^ 64) given (omega (arith, few, within, limit, counted));
-    }
+    follows-behind s limits next kept way.reading on.reading (statement_of event) way.live.keeps on.live on.given_are (ap (λ p. p.1) (same ∙ way.live.limits_are)) way.counted
 
 -- ---- all tokens of a piece
 
@@ -138,7 +146,7 @@ rest-on s limits old now next piece rest count rounds so_far gives within bound 
     let way = so_far.under_way in
     let on = gives way.reading way.live way.seen_at in
     let few = so_far.rounds_few in
-    let more = on.one_more in
+    let more = on.more in
     record {
       gives = λ result last end reads. so_far.gives result last end (read-on s limits now.front next.front last now.kept next.kept end rest count gives within result reads);
       bound = λ first. bound (so_far.bound first);
@@ -155,7 +163,7 @@ rounds-few s limits old now next piece rest count rounds so_far gives =
     let way = so_far.under_way in
     let on = gives way.reading way.live way.seen_at in
     let rounds_few = so_far.rounds_few in
-    let more = on.one_more in
+    let more = on.more in
     let few = given-few next.front on.reading on.live.reads in
     let within = source-within next.front on.reading on.live.reads in
     let limit : (limits_of next.front).1 ≡ limits.file_source = ap (λ p. p.1) on.live.limits_are in

@@ -7,3 +7,4 @@ pub mod Bounds
 pub mod Checked
 pub mod Canonical
 pub mod Inside
+pub mod Passing

@@ -1,5 +1,5 @@
 -- What a session's progress owes for a token, and for a whole piece.
-use Rattle.std.specs.Prelude.{◌≡◌, ◌≢◌, ◌≤◌, ◌<◌, ◌^◌, ℕ, List, ◌++◌, length, Option, Some, None, Result, Ok, Err}
+use Rattle.std.specs.Prelude.{◌≡◌, ◌≢◌, ◌≤◌, ◌<◌, ◌^◌, ℕ, List, ◌++◌, length, take, Option, Some, None, Result, Ok, Err}
 use Rattle.p21_basics.specs.Limits.{Limits}
 use Rattle.p21_claim_steps.specs.Keeping.{Kept}
 use Rattle.p21_exchange.specs.Pending.{IsPending}
@@ -12,7 +12,7 @@ use Rattle.p21_stream_fault.specs.declared.refusal.Refusal.{Refusal}
 use Rattle.p21_stream_front.specs.Front as front
 use Rattle.p21_stream_front.specs.Front.{IsSeenAt, Reading}
 use Rattle.p21_stream_session.specs.Canonical.{IsCanonicalOutput}
-use Rattle.p21_stream_session.specs.Session.{GoesOn, IsDeadWithin, IsLive}
+use Rattle.p21_stream_session.specs.Session.{IsDeadWithin, IsLive}
 use Rattle.p21_tokens.specs.Histories.{AreSeparators}
 
 -- a reading is live, and the byte that was seen is offered first; 64 bits count the bytes of a file
@@ -31,10 +31,18 @@ TakesOf piece other = Unit {0}
 abbrev pub IsReadWhole : Schema → Limits → Reading → List ℕ → front.Held → Kept → Type 0
 IsReadWhole s limits reading piece held kept = (given : List Statement) × IsLive s limits held kept (record { taken = reading.taken ++ piece; seen = None; given = given })
 
--- what a token, or the rest of a piece, gives: for each reading that is live, where the byte that was seen is offered first
+-- a reading of so many tokens goes on behind so many bytes of a piece, with tokens more
+pub record GoesFurther (s : Schema) (limits : Limits) (old : Reading) (tokens : ℕ) (piece : List ℕ) (count : ℕ) (held : front.Held) (kept : Kept) : Type 0 where
+  pub reading : Reading
+  pub live : IsLive s limits held kept reading
+  pub taken_are : reading.taken ≡ old.taken ++ take count piece
+  pub seen_at : IsSeenAt reading.seen piece count
+  pub more : tokens < length live.reads.history.given
+
+-- what a token, an instance, or the rest of a piece, gives: for each reading that is live, where the byte that was seen is offered first
 abbrev pub StepGives : Schema → Limits → front.Held → Kept → List ℕ → Result (Option ℕ) Refusal → front.Held → Kept → Type 0
 StepGives s limits held kept piece (Ok None) next after = (reading : Reading) → IsLive s limits held kept reading → IsSeenAt reading.seen piece 0 → IsReadWhole s limits reading piece next after
-StepGives s limits held kept piece (Ok (Some count)) next after = (reading : Reading) (live : IsLive s limits held kept reading) → IsSeenAt reading.seen piece 0 → GoesOn s limits reading (length live.reads.history.given) piece count next after
+StepGives s limits held kept piece (Ok (Some count)) next after = (reading : Reading) (live : IsLive s limits held kept reading) → IsSeenAt reading.seen piece 0 → GoesFurther s limits reading (length live.reads.history.given) piece count next after
 StepGives s limits held kept piece (Err refusal) next after = refusal.fault ≢ NoMemory → (reading : Reading) → IsLive s limits held kept reading → IsSeenAt reading.seen piece 0 → IsDeadWithin s limits reading piece
 
 -- what a whole piece gives

@@ -2,6 +2,7 @@
 #![tactic(auto)]
 
 mod held;
+mod passing;
 mod progress;
 mod session;
 mod shared;

@@ -15,10 +15,13 @@ ghost use Rattle.p21_stream_session.specs.Pieces.{EndGives, EndsNoToken, IsBetwe
 
 use p21_express_tables::Schema;
 use p21_grammar::Event;
+use p21_mapping_values::Need;
 use p21_stream_accepted::Accepted;
 use p21_stream_fault::{At, Fault, Refusal};
 use p21_stream_front::Front;
 use p21_stream_kept::Kept;
+use p21_transcribe::Draft;
+use p21_transcribe_plan::Plan;
 use p21_values::{Limits, Name};
 use std::alloc::Global;
 
@@ -29,6 +32,9 @@ pub(crate) struct Progress {
     // The reader of its statements, and what is kept of those that it gave.
     pub front: Front,
     pub kept: Kept,
+    // The line and the references of an instance that is taken straight from its bytes.
+    pub draft: Draft,
+    pub needs: Vec<Need>,
     // The number of the open one, counted from 1.
     pub statement: u64,
     // The refusal that was answered, and is answered again.
@@ -50,6 +56,8 @@ impl Progress {
             alloc,
             front: Front::new(alloc, limits),
             kept: Kept::new(alloc),
+            draft: Draft::new(alloc),
+            needs: Vec::new(alloc),
             statement: 1,
             refused: None,
         }
@@ -100,11 +108,11 @@ impl Progress {
         ensures kind { (limits : MeantLimits) → IsBounded (held_in schema.now limits self) → IfErr result (λ refusal. IsOfBytes refusal.fault) }
     {
         let Progress {
-            alloc: _,
             front,
             kept,
             statement,
             refused,
+            ..
         } = self;
         if let Some(refusal) = refused {
             return Err(refusal);
@@ -136,11 +144,12 @@ impl Progress {
         ensures limits { limits_of self.new.front ≡ limits_of self.old.front }
         ensures refused { self.new.refused ≡ self.old.refused }
     {
+        let mut plan = Plan::new(self.alloc, schema);
         let mut rest = piece;
-        // Each round takes a token, and a file has no more tokens than bytes.
+        // Each round takes a token or more, and a file has no more tokens than bytes.
         let mut rounds: u64 = 0;
         loop {
-            let taken = match self.step(schema, limits, rest) {
+            let taken = match self.advance(schema, limits, &mut plan, rest) {
                 Ok(taken) => taken,
                 Err(refusal) => return Err(refusal),
             };
@@ -150,6 +159,41 @@ impl Progress {
             rest = &rest[count..];
             rounds += 1;
         }
+    }
+
+    /// Reads the bytes of a whole instance or of one token, or the rest of a piece in which none is whole; says how many bytes
+    /// where it was an instance or a token.
+    ///
+    /// # Errors
+    ///
+    /// The refusal of a byte, of the token, or of the statement that ends.
+    fn advance(
+        &mut self,
+        schema: &Schema,
+        limits: Limits,
+        plan: &mut Plan<'_>,
+        piece: &[u8],
+    ) -> Result<Option<usize>, Refusal>
+        requires way { IsUnderWay schema.now limits self.old.front self.old.kept piece.now }
+        requires plan { plan.old ≡ schema.now }
+        ensures takes { TakesOf piece.now result }
+        ensures gives { StepGives schema.now limits self.old.front self.old.kept piece.now result self.new.front self.new.kept }
+        ensures no_memory { NeedsNoMemory schema.now limits self.old.front self.old.kept piece.now result }
+        ensures kind { IfErr result (λ refusal. IsOfBytes refusal.fault) }
+        ensures no_token { EndsNoToken schema.now limits self.old.front self.old.kept piece.now result }
+        ensures bound { StepKeepsBound limits self.old.kept self.new.kept }
+        ensures limits { limits_of self.new.front ≡ limits_of self.old.front }
+        ensures refused { self.new.refused ≡ self.old.refused }
+        ensures plan { plan.new ≡ plan.old }
+    {
+        let passed = match self.pass(schema, limits, plan, piece) {
+            Ok(passed) => passed,
+            Err(refusal) => return Err(refusal),
+        };
+        if let Some(count) = passed {
+            return Ok(Some(count));
+        }
+        self.step(schema, limits, piece)
     }
 
     /// Reads the bytes of one token, or the rest of a piece in which none is whole; says how many bytes where it was a

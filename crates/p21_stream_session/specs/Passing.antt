@@ -1,0 +1,28 @@
+-- Instances that are taken straight from their bytes.
+use Rattle.std.specs.Prelude.{◌≡◌, ℕ, List, [], ◌∷◌, Option, Some, None, Result, Ok, Err}
+use Rattle.p21_basics.specs.Limits.{Limits}
+use Rattle.p21_claim_steps.specs.Keeping.{Kept}
+use Rattle.p21_exchange.specs.Record.{Record}
+use Rattle.p21_express_tables.specs.Rising.{IsOwnRising}
+use Rattle.p21_files.specs.Reference.{Need}
+use Rattle.p21_schemas.specs.Schema.{Schema}
+use Rattle.p21_stream_fault.specs.declared.refusal.Refusal.{Refusal}
+use Rattle.p21_stream_front.specs.Front as front
+use Rattle.p21_stream_front.specs.Passing.{AreInstances}
+use Rattle.p21_stream_kept.specs.Found.{HasFound}
+use Rattle.p21_stream_session.specs.Pieces.{StepGives}
+
+-- The bytes are an instance of this name, whose set is the entity and its supertypes; this is its canonical text, and these
+-- are its needs
+pub record IsFoundIn (s : Schema) (n e : ℕ) (bytes text : List ℕ) (needs : List Need) : Type 0 where
+  pub record_ : Record
+  pub are : AreInstances bytes ((n, record_) ∷ [])
+  pub entities : List ℕ
+  pub set_is : IsOwnRising s e entities
+  pub found : HasFound s n record_ entities needs text
+
+-- what an instance gives that is taken so: as much as its tokens do; where it isn't, all is as before
+abbrev pub PassGives : Schema → Limits → front.Held → Kept → List ℕ → Result (Option ℕ) Refusal → front.Held → Kept → Type 0
+PassGives s limits held kept piece (Ok None) next after = (next ≡ held) × (after ≡ kept)
+PassGives s limits held kept piece (Ok (Some count)) next after = StepGives s limits held kept piece (Ok (Some count)) next after
+PassGives s limits held kept piece (Err refusal) next after = StepGives s limits held kept piece (Err refusal) next after
