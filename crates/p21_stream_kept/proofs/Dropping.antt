@@ -57,7 +57,7 @@ dropped R s stored f h xs ys filtered =
     record {
       are_old = Each-mapped (Contains old) reference_of ys (Each-weaker (Contains xs) (λ (x : held.Reference). Contains old (reference_of x)) (λ x at. Contains-mapped reference_of xs x at) ys are.0);
       others_served = Each-mapped (λ (r : Reference). Contains new r ⊎ IsServedBy s stored r.1) reference_of xs
-      (Each-weaker (λ (x : held.Reference). Contains ys x ⊎ S x) (λ (x : held.Reference). Contains new (reference_of x) ⊎ S x) (λ x it. elim it [ inl at ↦ inl (Contains-mapped reference_of ys x at) | inr served ↦ inr served ]) xs are.1);
+          (Each-weaker (λ (x : held.Reference). Contains ys x ⊎ S x) (λ (x : held.Reference). Contains new (reference_of x) ⊎ S x) (λ x it. elim it [ inl at ↦ inl (Contains-mapped reference_of ys x at) | inr served ↦ inr served ]) xs are.1);
     }
 
 -- ---- what is kept stays kept
