@@ -12,6 +12,9 @@ use p21_transcribe::{
     Draft, append_bits, append_item, append_logical, append_real, append_text, append_whole,
 };
 
+/// More items are looked up elsewhere, in a set: here they are compared one by one.
+const MOST_ITEMS: usize = 128;
+
 /// Appends the scalar at the front, at a type that is no declared one: what stands behind it.
 pub(crate) fn append_scalar<'a>(
     of: &TypeUse,
@@ -34,7 +37,11 @@ pub(crate) fn append_listed<'a>(
     ensures some { IfSome result (λ rest. (s : schema.Schema) (t : ℕ) → schema.kind_of s t ≡ Some (schema.items words.now) → TakesValue s (λ p v. FitsWith s (schema.defined t) p v []) 0 bytes.now rest.now draft.old draft.new) }
     ensures none { IfNone result (draft.new ≡ draft.old) }
 {
-    let count = append_item(bytes, words.items(), draft)?;
+    let known = words.items();
+    if known.len() > MOST_ITEMS {
+        return None;
+    }
+    let count = append_item(bytes, known, draft)?;
     Some(&bytes[count..])
 }
 
