@@ -149,8 +149,8 @@ class Maker:
 class File:
     """A file as values: `write` spells it, each time in another way."""
 
-    def __init__(self, chance, schema, odd):
-        maker = Maker(chance, schema, odd)
+    def __init__(self, chance, schema, odd, maker=Maker):
+        maker = maker(chance, schema, odd)
         maker.choose_sets()
         self.schema = schema
         self.sets = maker.sets
@@ -159,14 +159,22 @@ class File:
         self.sections = sections(chance, schema, odd)
         self.section_of = {name: chance.randrange(len(self.sections)) for name in self.sets}
 
+    def one_part(self, name, leaf):
+        """The record of an instance with this leaf alone, in internal mapping."""
+        return leaf, [self.values[name][place] for place in self.schema.places(leaf)]
+
+    def parts(self, name):
+        """The records of an instance in external mapping."""
+        schema, values = self.schema, self.values[name]
+        return [(e, [values[e, attribute] for attribute in schema.entities[e].own]) for e in sorted(self.sets[name])]
+
     def instance(self, chance, name):
         """An instance, in internal mapping where it may be, or in external mapping with its parts in any order."""
-        schema, entities, values = self.schema, self.sets[name], self.values[name]
-        leaves = schema.leaves(entities)
+        leaves = self.schema.leaves(self.sets[name])
         if len(leaves) == 1 and chance.random() < 0.8:
-            record = part(chance, leaves[0], [values[place] for place in schema.places(leaves[0])])
+            record = part(chance, *self.one_part(name, leaves[0]))
         else:
-            parts = [(e, [values[e, attribute] for attribute in schema.entities[e].own]) for e in sorted(entities)]
+            parts = self.parts(name)
             chance.shuffle(parts)
             record = "(" + blank(chance) + blank(chance).join(part(chance, *x) for x in parts) + blank(chance) + ")"
         spelled = spellings.parameter(chance, ("name", name))
