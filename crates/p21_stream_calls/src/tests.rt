@@ -4,6 +4,7 @@ mod cuts;
 mod devices;
 mod ends;
 mod files;
+mod growing;
 mod headers;
 mod held;
 mod large;

@@ -1,4 +1,4 @@
-//! Files of many instances, and of one with many references.
+//! Files of many instances, of one with many references, and of many references to instances behind them.
 use super::accepted::{Fact, answers};
 use super::answers::{Wanted, comes_at_once};
 use super::files::{DEMO, SHAPES};
@@ -15,6 +15,9 @@ pub(super) enum Many {
     Labelled(u64),
     /// A cloud of 2,000 points, and of one more name if there is one.
     Cloud(&'static str),
+    /// 8,501 references to instances behind them: the first to `#9998`, 4,500 to `#9999`, which stands behind these, and
+    /// the others to `#9997`; and more behind all.
+    Ahead(&'static str),
 }
 
 fn push_labelled(file: &mut String, step: u64) -> Result<(), AllocError> {
@@ -46,11 +49,25 @@ fn push_cloud(file: &mut String, more: &str) -> Result<(), AllocError> {
     push_numbers(file, (2, 2_002), "#", "=POINT($,1.,1.);")
 }
 
+fn push_ahead(file: &mut String, more: &str) -> Result<(), AllocError> {
+    file.push_str("#5000=CLOUD((#9998),(),(TALLY(1)));")?;
+    push_numbers(file, (1, 4_501), "#", "=CLOUD((#9999),(),(TALLY(1)));")?;
+    file.push_str("#9999=POINT($,1.,1.);")?;
+    push_numbers(
+        file,
+        (10_000, 14_000),
+        "#",
+        "=CLOUD((#9997),(),(TALLY(1)));",
+    )?;
+    file.push_str(more)
+}
+
 fn push_lines(file: &mut String, lines: Many) -> Result<(), AllocError> {
     match lines {
         Many::Points => push_numbers(file, (1, 10_001), "#", "=POINT($,1.,1.);\n"),
         Many::Labelled(step) => push_labelled(file, step),
         Many::Cloud(more) => push_cloud(file, more),
+        Many::Ahead(more) => push_ahead(file, more),
     }
 }
 
@@ -129,6 +146,45 @@ const FILES: Files = &[
         Outcome::Refused("refused 52 NotDistinct in #1"),
     ),
 ];
+
+const AHEAD: Files = &[
+    (
+        "references ahead",
+        Many::Ahead("#9998=ORIGIN($,*,1.);#9997=POINT($,1.,1.);"),
+        Outcome::Accepted(Fact::Counts(8_504, 309_147)),
+    ),
+    (
+        "the first of those left names no instance",
+        Many::Ahead("#9997=MARKED($,.RED.);"),
+        Outcome::Refused("refused 56 Dangling in #5000"),
+    ),
+    (
+        "the first of those left names one of the wrong kind",
+        Many::Ahead("#9998=MARKED($,.RED.);"),
+        Outcome::Refused("refused 57 WrongTarget in #5000"),
+    ),
+    (
+        "the second of those left names no instance",
+        Many::Ahead("#9998=POINT($,1.,1.);"),
+        Outcome::Refused("refused 56 Dangling in #10000"),
+    ),
+    (
+        "the second of those left names one of the wrong kind",
+        Many::Ahead("#9998=POINT($,1.,1.);#9997=MARKED($,.RED.);"),
+        Outcome::Refused("refused 57 WrongTarget in #10000"),
+    ),
+    (
+        "an instance that nobody names has a name twice",
+        Many::Ahead("#9998=POINT($,1.,1.);#9997=POINT($,1.,1.);#4500=POINT($,1.,1.);"),
+        Outcome::Refused("refused 40 DuplicateName in #4500"),
+    ),
+];
+
+/// So many references wait that those which are served by then are looked at and dropped on the way.
+#[test]
+fn serves_many_references_ahead(rt: HostRuntime) {
+    check(&rt, rt.alloc(), SHAPES, Rows::Large(AHEAD));
+}
 
 #[test]
 fn takes_many_instances_and_members(rt: HostRuntime) {
