@@ -151,6 +151,15 @@ def differing(found):
     return None
 
 
+def shown(sizes, answers):
+    """Each answer by the bytes of a read, from its output what stands around the first byte at which the outputs differ."""
+    outputs = [answer.output for answer in answers]
+    differ = (place for place, found in enumerate(zip(*outputs)) if len(set(found)) > 1)
+    place = next(differ, min(map(len, outputs)))
+    for size, answer in zip(sizes, answers):
+        print(f"  read {size}: status {answer.status}, {answer.output[max(place - 80, 0) : place + 80]!r}, {answer.error!r}")
+
+
 def kept(keep, schema, text):
     """Keeps the texts of a case, and says where."""
     folder = pathlib.Path(keep or tempfile.mkdtemp(prefix="two-ways-"))
@@ -178,8 +187,7 @@ def main():
             if command:
                 counts["differences"] += 1
                 print(f"difference in case {number} of seed {given.seed}: {command} {kept(given.keep, schema, text)}")
-                for size, answer in zip(("whole", 1, some), found[command]):
-                    print(f"  read {size}: {tuple(answer)!r}"[:500])
+                shown(("whole", 1, some), found[command])
                 break
     refused = counts["cases"] - counts["accepted"]
     print(f"{counts['accepted']} files accepted, with {counts['instances']} instances; {refused} refused")
