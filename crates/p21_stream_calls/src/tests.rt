@@ -7,6 +7,7 @@ mod files;
 mod growing;
 mod headers;
 mod held;
+mod kinds;
 mod large;
 mod limits;
 mod lists;
@@ -16,6 +17,7 @@ mod rewriting;
 mod same;
 mod schemas;
 mod sections;
+mod ways;
 
 use files::Frame;
 use p21_stream::{Limits, Schema, read_schema};
@@ -31,6 +33,9 @@ enum Rows {
     // The same within limits of these numbers, and of the file without instances within many.
     Within([u64; 4], Frame, answers::Answers),
     Limited(limits::Limited, limits::Ranges),
+    // Instances that are taken whole and byte by byte within limits, and long ones.
+    Borders(Frame, ways::Ranges),
+    Long(Frame, ways::Cases),
     // What accepted files answer, which texts they know as theirs, and what writers get of them.
     Facts(accepted::Facts),
     Texts(accepted::Texts),
@@ -66,6 +71,8 @@ fn first_wrong_of(alloc: Global, schema: &Schema, rows: Rows) -> Wrong {
             answers::wrong_within(alloc, schema, limits, frame, rows)
         }
         Rows::Limited(limited, rows) => limits::wrong_limit(alloc, schema, limited, rows),
+        Rows::Borders(frame, rows) => ways::wrong_border(alloc, schema, frame, rows),
+        Rows::Long(frame, rows) => ways::wrong_long(alloc, schema, frame, rows),
         Rows::Facts(rows) => accepted::wrong_fact(alloc, schema, rows),
         Rows::Texts(rows) => accepted::wrong_text(alloc, schema, rows),
         Rows::Writes(rows) => accepted::wrong_write(alloc, schema, rows),

@@ -181,6 +181,34 @@ fn comes_again(
     }
 }
 
+/// Whether the refusal of a text comes of it byte by byte too.
+fn refuses_alike(
+    alloc: Global,
+    schema: &Schema,
+    limits: Limits,
+    text: &[u8],
+    refusal: Refusal,
+) -> bool {
+    match line_of(alloc, refusal) {
+        Some(line) => {
+            let wanted = Wanted::Refusal(line.as_str());
+            comes_in_pieces(alloc, schema, limits, text, Cut::Each(1), wanted)
+        }
+        None => false,
+    }
+}
+
+/// Whether the same comes of a text that a session takes byte by byte as of the whole text.
+pub(super) fn comes_alike(alloc: Global, schema: &Schema, limits: Limits, text: &[u8]) -> bool {
+    match canonical(alloc, schema, limits, text) {
+        Ok(file) => {
+            let wanted = Wanted::File(file.as_slice());
+            comes_in_pieces(alloc, schema, limits, text, Cut::Each(1), wanted)
+        }
+        Err(refusal) => refuses_alike(alloc, schema, limits, text, refusal),
+    }
+}
+
 /// Whether this comes of a text that a session takes whole, in two pieces and byte by byte, and that `canonical` takes.
 pub(super) fn comes(
     alloc: Global,

@@ -112,20 +112,31 @@ fn refuses_limits(rt: HostRuntime) {
     assert_eq!(rt; first_taken(), None);
 }
 
-/// What may have no more bytes than a number: a statement and its canonical form, or a file and its canonical form.
+/// What may have no more bytes than a number: a statement and its canonical form, or the canonical form alone; a file and its
+/// canonical form, or the canonical form alone.
 #[derive(Clone, Copy)]
 pub(super) enum Limited {
     Records,
+    CanonicalRecords,
     Files,
+    CanonicalFiles,
 }
 
 impl Limited {
-    fn limits(self, most: usize) -> Option<Limits> {
+    /// The numbers of the limits: of a record and its canonical form, and of a file and its canonical form.
+    fn numbers(self, most: usize) -> [u64; 4] {
         let most = most as u64;
         match self {
-            Limited::Records => Limits::new(most, most, 1000, 1000),
-            Limited::Files => Limits::new(100, 100, most, most),
+            Limited::Records => [most, most, 1000, 1000],
+            Limited::CanonicalRecords => [1000, most, 1000, 1000],
+            Limited::Files => [100, 100, most, most],
+            Limited::CanonicalFiles => [100, 100, 1000, most],
         }
+    }
+
+    pub(super) fn limits(self, most: usize) -> Option<Limits> {
+        let [record, canonical_record, file, canonical_file] = self.numbers(most);
+        Limits::new(record, canonical_record, file, canonical_file)
     }
 }
 
