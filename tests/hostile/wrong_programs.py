@@ -229,6 +229,16 @@ EDITS = [
         "a_session, allocation",
     ),
     Edit(
+        "two_ways.py",
+        [],
+        "a minus is lost where an instance is taken straight from its bytes",
+        "crates/p21_transcribe/src/number.rt",
+        "if !draft.put(b'-') {",
+        'if !draft.append(b"") {',
+        "difference in case",
+        program=2,
+    ),
+    Edit(
         "fuzz.py",
         ["--cases", "10000", "--seed", "1"],
         "one printable character of a string is written as a directive",
