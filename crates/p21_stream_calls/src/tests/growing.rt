@@ -282,16 +282,16 @@ ENTITY l1 SUPERTYPE OF (ONEOF (a, q)); END_ENTITY; ENTITY l2 SUPERTYPE OF (ONEOF
 ENTITY l3 SUPERTYPE OF (ONEOF (a, c)); END_ENTITY; ENTITY l4 SUPERTYPE OF (ONEOF (b)); END_ENTITY;
 ENTITY l5 SUPERTYPE OF (ONEOF (q, a)); END_ENTITY; ENTITY l6 SUPERTYPE OF (ONEOF (b, q)); END_ENTITY;
 ENTITY l7 SUPERTYPE OF (ONEOF (d, b)); END_ENTITY; ENTITY l8 SUPERTYPE OF (ONEOF (c, q)); END_ENTITY;
-ENTITY u0; x : INTEGER; END_ENTITY; ENTITY w0; x : STRING; END_ENTITY;
-ENTITY u1 SUBTYPE OF (u0, w0); x : INTEGER; END_ENTITY; ENTITY w1 SUBTYPE OF (w0, u0); x : STRING; END_ENTITY;
-ENTITY u2 SUBTYPE OF (u1, w1); x : INTEGER; END_ENTITY; ENTITY w2 SUBTYPE OF (w1, u1); x : STRING; END_ENTITY;
-ENTITY u3 SUBTYPE OF (u2, w2); x : INTEGER; END_ENTITY; ENTITY w3 SUBTYPE OF (w2, u2); x : STRING; END_ENTITY;
-ENTITY r0; x : NUMBER; y : OPTIONAL NUMBER; END_ENTITY;
-ENTITY r1 SUBTYPE OF (r0); x1 : NUMBER; SELF\\r0.x : INTEGER; SELF\\r0.y : NUMBER; END_ENTITY;
-ENTITY r2 SUBTYPE OF (r1); x2 : NUMBER; SELF\\r1.x1 : INTEGER; SELF\\r0.y : INTEGER; END_ENTITY;
-ENTITY r3 SUBTYPE OF (r2); SELF\\r2.x2 : REAL; DERIVE SELF\\r0.y : INTEGER := 1; END_ENTITY;
-ENTITY t3 SUBTYPE OF (r2); SELF\\r2.x2 : INTEGER; END_ENTITY;
-ENTITY r4 SUBTYPE OF (r3, t3); SELF\\r2.x2 : INTEGER; END_ENTITY;
+ENTITY left0; x : INTEGER; END_ENTITY; ENTITY right0; x : STRING; END_ENTITY;
+ENTITY left1 SUBTYPE OF (left0, right0); x : INTEGER; END_ENTITY; ENTITY right1 SUBTYPE OF (right0, left0); x : STRING; END_ENTITY;
+ENTITY left2 SUBTYPE OF (left1, right1); x : INTEGER; END_ENTITY; ENTITY right2 SUBTYPE OF (right1, left1); x : STRING; END_ENTITY;
+ENTITY left3 SUBTYPE OF (left2, right2); x : INTEGER; END_ENTITY; ENTITY right3 SUBTYPE OF (right2, left2); x : STRING; END_ENTITY;
+ENTITY narrowed0; x : NUMBER; y : OPTIONAL NUMBER; END_ENTITY;
+ENTITY narrowed1 SUBTYPE OF (narrowed0); x1 : NUMBER; SELF\\narrowed0.x : INTEGER; SELF\\narrowed0.y : NUMBER; END_ENTITY;
+ENTITY narrowed2 SUBTYPE OF (narrowed1); x2 : NUMBER; SELF\\narrowed1.x1 : INTEGER; SELF\\narrowed0.y : INTEGER; END_ENTITY;
+ENTITY narrowed3 SUBTYPE OF (narrowed2); SELF\\narrowed2.x2 : REAL; DERIVE SELF\\narrowed0.y : INTEGER := 1; END_ENTITY;
+ENTITY other3 SUBTYPE OF (narrowed2); SELF\\narrowed2.x2 : INTEGER; END_ENTITY;
+ENTITY narrowed4 SUBTYPE OF (narrowed3, other3); SELF\\narrowed2.x2 : INTEGER; END_ENTITY;
 END_SCHEMA;
 ";
 
@@ -323,26 +323,32 @@ fn finds_entities_of_one_list(rt: HostRuntime) {
 
 const DIAMONDS: Answers = &[
     (
-        "#1=U3(0,'0',1,'1',2,'2',3);#2=W3('0',0,'1',1,'2',2,'3');#3=W2('0',0,'1',1,'2');",
-        "#1=U3(0,'0',1,'1',2,'2',3);\n#2=W3('0',0,'1',1,'2',2,'3');\n#3=W2('0',0,'1',1,'2');\n",
+        "#1=LEFT3(0,'0',1,'1',2,'2',3);#2=RIGHT3('0',0,'1',1,'2',2,'3');#3=RIGHT2('0',0,'1',1,'2');",
+        "#1=LEFT3(0,'0',1,'1',2,'2',3);\n#2=RIGHT3('0',0,'1',1,'2',2,'3');\n#3=RIGHT2('0',0,'1',1,'2');\n",
     ),
     (
-        "#1=(U3(3)W2('2')U2(2)W1('1')U1(1)W0('0')U0(0));",
-        "#1=U3(0,'0',1,'1',2,'2',3);\n",
+        "#1=(LEFT3(3)RIGHT2('2')LEFT2(2)RIGHT1('1')LEFT1(1)RIGHT0('0')LEFT0(0));",
+        "#1=LEFT3(0,'0',1,'1',2,'2',3);\n",
     ),
     (
-        "#1=(W3('3')U3(3)W2('2')U2(2)W1('1')U1(1)W0('0')U0(0));",
-        "#1=(U0(0)U1(1)U2(2)U3(3)W0('0')W1('1')W2('2')W3('3'));\n",
+        "#1=(RIGHT3('3')LEFT3(3)RIGHT2('2')LEFT2(2)RIGHT1('1')LEFT1(1)RIGHT0('0')LEFT0(0));",
+        "#1=(LEFT0(0)LEFT1(1)LEFT2(2)LEFT3(3)RIGHT0('0')RIGHT1('1')RIGHT2('2')RIGHT3('3'));\n",
     ),
-    ("#1=U3(0,'0',1,'1',2,'2');", "refused 45 Count in #1"),
-    ("#1=U3(0,'0',1,'1',2,'2',3,'3');", "refused 45 Count in #1"),
-    ("#1=U3('0',0,'1',1,'2',2,3);", "refused 49 WrongKind in #1"),
+    ("#1=LEFT3(0,'0',1,'1',2,'2');", "refused 45 Count in #1"),
     (
-        "#1=(U3(3)W2('2')U2(2)W1('1')U1(1)U0(0));",
+        "#1=LEFT3(0,'0',1,'1',2,'2',3,'3');",
+        "refused 45 Count in #1",
+    ),
+    (
+        "#1=LEFT3('0',0,'1',1,'2',2,3);",
+        "refused 49 WrongKind in #1",
+    ),
+    (
+        "#1=(LEFT3(3)RIGHT2('2')LEFT2(2)RIGHT1('1')LEFT1(1)LEFT0(0));",
         "refused 43 PartMissing in #1",
     ),
     (
-        "#1=(U3(3)U2(2)W1('1')U1(1)W0('0')U0(0));",
+        "#1=(LEFT3(3)LEFT2(2)RIGHT1('1')LEFT1(1)RIGHT0('0')LEFT0(0));",
         "refused 43 PartMissing in #1",
     ),
 ];
@@ -359,23 +365,26 @@ fn orders_diamonds(rt: HostRuntime) {
 
 const REDECLARED: Answers = &[
     (
-        "#1=R0(1,$);#2=R1(1,2,3);#3=R2(1,2,3,4);#4=R3(1,*,3,4.);#5=T3(1,2,3,4);#6=R4(1,*,3,4);",
-        "#1=R0(1.,$);\n#2=R1(1,2.,3.);\n#3=R2(1,2,3,4.);\n#4=R3(1,*,3,4.);\n#5=T3(1,2,3,4);\n#6=R4(1,*,3,4);\n",
+        "#1=NARROWED0(1,$);#2=NARROWED1(1,2,3);#3=NARROWED2(1,2,3,4);#4=NARROWED3(1,*,3,4.);#5=OTHER3(1,2,3,4);#6=NARROWED4(1,*,3,4);",
+        "#1=NARROWED0(1.,$);\n#2=NARROWED1(1,2.,3.);\n#3=NARROWED2(1,2,3,4.);\n#4=NARROWED3(1,*,3,4.);\n#5=OTHER3(1,2,3,4);\n#6=NARROWED4(1,*,3,4);\n",
     ),
-    ("#1=R1(1.,2,3);", "refused 49 WrongKind in #1"),
-    ("#1=R1(1,$,3);", "refused 46 Missing in #1"),
-    ("#1=R2(1,2.,3,4);", "refused 49 WrongKind in #1"),
-    ("#1=R2(1,2,3.,4);", "refused 49 WrongKind in #1"),
-    ("#1=R3(1,*,3,4);", "refused 49 WrongKind in #1"),
-    ("#1=R3(1,2,3,4.);", "refused 48 DerivedNotStar in #1"),
-    ("#1=T3(1,*,3,4);", "refused 47 StarNotDerived in #1"),
-    ("#1=T3(1,2,3,4.);", "refused 49 WrongKind in #1"),
-    ("#1=R4(1,*,3,4.);", "refused 49 WrongKind in #1"),
+    ("#1=NARROWED1(1.,2,3);", "refused 49 WrongKind in #1"),
+    ("#1=NARROWED1(1,$,3);", "refused 46 Missing in #1"),
+    ("#1=NARROWED2(1,2.,3,4);", "refused 49 WrongKind in #1"),
+    ("#1=NARROWED2(1,2,3.,4);", "refused 49 WrongKind in #1"),
+    ("#1=NARROWED3(1,*,3,4);", "refused 49 WrongKind in #1"),
+    ("#1=NARROWED3(1,2,3,4.);", "refused 48 DerivedNotStar in #1"),
+    ("#1=OTHER3(1,*,3,4);", "refused 47 StarNotDerived in #1"),
+    ("#1=OTHER3(1,2,3,4.);", "refused 49 WrongKind in #1"),
+    ("#1=NARROWED4(1,*,3,4.);", "refused 49 WrongKind in #1"),
     (
-        "#1=(T3()R3()R2(4)R1(3)R0(1,*));",
+        "#1=(OTHER3()NARROWED3()NARROWED2(4)NARROWED1(3)NARROWED0(1,*));",
         "refused 55 TwoRedeclarations in #1",
     ),
-    ("#1=(R4()T3()R3()R2(4)R1(3)R0(1,*));", "#1=R4(1,*,3,4);\n"),
+    (
+        "#1=(NARROWED4()OTHER3()NARROWED3()NARROWED2(4)NARROWED1(3)NARROWED0(1,*));",
+        "#1=NARROWED4(1,*,3,4);\n",
+    ),
 ];
 
 #[test]
