@@ -33,8 +33,8 @@ stands() {
 # Proves and builds a crate: build CRATE WHAT FILE [MAKE]
 #
 # The gate runs over a copy of the crates that it needs, without wrong bodies, as many side by side as the machine has
-# processors and memory for. What it proves is kept by the toolchain, so that the next build and the whole gate prove only
-# what has changed. FILE is what the gate then leaves in the crate's folder `out`, or what MAKE, a command that is run in the
+# processors and memory for. Where the toolchain keeps what it proved, the next build and the whole gate prove only what has
+# changed. FILE is what the gate then leaves in the crate's folder `out`, or what MAKE, a command that is run in the
 # crate's folder, makes there of what is proved.
 build() {
     crate=$1 what=$2 file=$3 make=${4:-true}
@@ -54,7 +54,7 @@ build() {
         done
     done
     count=$(wc -l < "$copy/crates.txt")
-    echo "p21: proving and building $what: $count crates, some 40 minutes on four processors the first time, later only what has changed; the log is $log" >&2
+    echo "p21: proving and building $what: $count crates, some 40 minutes on four processors, or only what has changed where the toolchain keeps what it proved; the log is $log" >&2
     proved=0
     (cd "$copy" && rt ci) 2>&1 | tee "$log" | while read -r who name result; do
         case $who$result in
