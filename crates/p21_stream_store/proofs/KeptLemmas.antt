@@ -1,10 +1,9 @@
 -- Instances among those that are kept.
 use Rattle.std.proofs.Common.{◌≡◌, ◌+◌, ◌-◌, ◌<◌, ◌≤◌, ℕ, zero, suc, List, [], ◌∷◌, ◌++◌, length, get_or, Option, Some, inl, inr, refl, sym, ap, subst, ◌∙◌, arith, unwrap_or}
-use Rattle.std.proofs.lemmas.List.{append-nil, append_assoc, get_or-append_right, get_or_append_left, get_or_read, length-append, length-map, map-append, nil_from_length}
+use Rattle.std.proofs.lemmas.List.{append-nil, append_assoc, get_or-append_right, get_or_append_left, length-append, length-map, map-append, nil_from_length}
 use Rattle.std.proofs.lemmas.List.Elements.{Contains-append_cases, Contains-append_left, Contains-append_right, Contains-push_cases}
-use Rattle.std.proofs.lemmas.List.Sorted.{IsPermutation-middle, IsPermutation-sym, IsPermutation-to_front, sum_by-IsPermutation}
+use Rattle.std.proofs.lemmas.List.Sorted.{IsPermutation-middle, IsPermutation-sym, IsPermutation-to_front}
 use Rattle.std.proofs.lemmas.List.FromFn.{get_or-range_with_len, length-range_with_len}
-use Rattle.std.proofs.lemmas.List.Sums.{sum_by-append}
 use Rattle.std.proofs.lemmas.Option.{get_or_from_slice_get, slice_get-get_or, slice_get_within, unwrap_or-slice_get}
 use Rattle.std.specs.List.{Contains, range_with_len, slice_get}
 use Rattle.std.specs.List.Sorted.{IsNonDecreasingBy, IsPermutation, IsStrictlyIncreasing}
@@ -124,13 +123,7 @@ got-front [] ys i x e = cc
 got-front (a ∷ xs) ys zero x e = e
 got-front (a ∷ xs) ys (suc i) x e = got-front xs ys i x e
 
--- what is read at a place within
-pub got-read : (xs : List ℕ) (i n : ℕ) → i < length xs → n ≡ get_or xs i n → slice_get xs i ≡ Some n
-got-read [] i n below e = absurd (omega (arith, below))
-got-read (a ∷ xs) zero n below e = ap Some (sym e)
-got-read (a ∷ xs) (suc i) n below e = got-read xs i n (omega (arith, below)) e
-
--- and where there is no other number in its place
+-- what is read at a place within, 0 standing for no number
 pub read_or_zero : (xs : List ℕ) (i n : ℕ) → i < length xs → n ≡ unwrap_or (slice_get xs i) 0 → slice_get xs i ≡ Some n
 read_or_zero xs i n within e = slice_get-get_or xs i 0 within ∙ ap Some (sym (e ∙ unwrap_or-slice_get xs i 0))
 
@@ -184,8 +177,8 @@ module _ (rising late : List ℕ) (rising_lines late_lines : List (ℕ × List �
   among : (i : ℕ) → name_at all i ≡ get_or (rising ++ late) i 0
   among i = name-at all i ∙ ap (λ (names : List ℕ). get_or names i 0) (names_are rising late rising_lines late_lines all all_are same same_)
 
-  pub rising_name : (first i n : ℕ) → first ≡ length rising → i < first → n ≡ get_or rising i n → n ≡ name_at all i
-  rising_name first i n is below e = let within : i < length rising = omega (arith, is, below) in get_or_read rising i n within e 0 ∙ sym (get_or_append_left rising late 0 i within) ∙ sym (among i)
+  pub rising_name : (first i n : ℕ) → first ≡ length rising → i < first → slice_get rising i ≡ Some n → n ≡ name_at all i
+  rising_name first i n is below e = let within : i < length rising = omega (arith, is, below) in sym (get_or_from_slice_get rising i n 0 e) ∙ sym (get_or_append_left rising late 0 i within) ∙ sym (among i)
 
   pub late_name : (first i : ℕ) (n : Option ℕ) → first ≡ length rising → first ≤ i → n ≡ slice_get late (i - first) → unwrap_or n 0 ≡ name_at all i
   late_name first i n is above e =

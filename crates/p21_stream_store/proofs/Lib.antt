@@ -3,5 +3,6 @@ mod KeptLemmas
 mod LateLemmas
 mod LineLemmas
 mod NameLemmas
+mod NumberLemmas
 mod TextLemmas
 pub mod OrderLemmas

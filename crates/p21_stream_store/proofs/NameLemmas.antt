@@ -1,13 +1,10 @@
 -- Where a name stands among rising names, and in a set.
-use Rattle.std.proofs.Common.{◌≡◌, ◌+◌, ◌≤◌, ◌<◌, ℕ, zero, suc, true, false, List, length, get_or, Option, Some, None, Result, Ok, Err, IsNone, sym, ap, arith, eqb, ltb, ◌-◌, inl, inr}
+use Rattle.std.proofs.Common.{◌≡◌, ◌+◌, ◌≤◌, ◌<◌, ℕ, zero, suc, true, false, List, length, get_or, Some, sym, ap, arith, eqb, ltb, ◌-◌, inl, inr, ◌∙◌}
 use Rattle.std.proofs.lemmas.Bool.Decides.{leb_tells, nat_tests}
 use Rattle.std.proofs.lemmas.Grind.{get_or_default_zero}
-use Rattle.std.proofs.lemmas.List.Sorted.{searched}
-use Rattle.std.proofs.lemmas.Option.{get_or_from_slice_get, slice_get_within}
+use Rattle.std.proofs.lemmas.Option.{get_or_from_slice_get, slice_get-get_or, slice_get_within}
 use Rattle.std.specs.List.{Contains, slice_get}
-use Rattle.std.specs.List.Sorted.{IsBinarySearchResult, IsStrictlyIncreasing}
-use Rattle.std.specs.Ordering.{nat_cmp}
-use Rattle.std.specs.Result.{result_ok}
+use Rattle.std.specs.List.Sorted.{IsStrictlyIncreasing}
 
 same_at : (a b : ℕ) → eqb a b ≡ true → a ≡ b
 same_at a b e = grind (arith, nat_tests)
@@ -41,10 +38,26 @@ within_last xs last x is tested =
     let below : x ≤ last = grind (arith, nat_tests) in
     (last, (length xs - 1, slice_get_within xs (length xs - 1) last (sym is), get_or_from_slice_get xs (length xs - 1) last last (sym is)), below)
 
-pub not_found : (xs : List ℕ) (x : ℕ) (r : Result ℕ ℕ) (place : Option ℕ) → IsStrictlyIncreasing xs → IsBinarySearchResult (λ y. nat_cmp y x) xs r → place ≡ result_ok r → IsNone place → Contains xs x → ⊥
-not_found xs x (Ok i) None rising s e none has = cc
-not_found xs x (Ok i) (Some j) rising s e none has = cc
-not_found xs x (Err i) place rising s e none (k, h, at) =
-    let where_ = searched xs x (Err i) s (never_fall xs rising) in
-    let here : get_or xs k x ≡ get_or xs k 0 = get_or_default_zero xs k x h in
-    elim (leb_tells i k) [ inl behind ↦ (let above = where_.2 k behind.1 h in omega (arith, above, at, here)) | inr before ↦ (let below = where_.1 k before.1 in omega (arith, below, at, here)) ]
+-- ---- what a search finds
+
+-- with one name those in front of it are below
+pub below_to : (xs : List ℕ) → IsStrictlyIncreasing xs → (x place : ℕ) → place < length xs → get_or xs place 0 < x → (i : ℕ) → i < place + 1 → get_or xs i 0 < x
+below_to xs rising x place within below i before = let most = never_fall xs rising i place (omega (arith, before)) within in omega (arith, most, below)
+
+-- and those behind it are not
+pub behind_from : (xs : List ℕ) → IsStrictlyIncreasing xs → (x place : ℕ) → x ≤ get_or xs place 0 → (i : ℕ) → place ≤ i → i < length xs → x ≤ get_or xs i 0
+behind_from xs rising x place above i behind within = let least = never_fall xs rising place i behind within in omega (arith, least, above)
+
+-- only the first that isn't below a name can be it
+pub not_found : (xs : List ℕ) (x place : ℕ) → IsStrictlyIncreasing xs → ((i : ℕ) → i < place → get_or xs i 0 < x) → ((i : ℕ) → place ≤ i → i < length xs → x ≤ get_or xs i 0) → (slice_get xs place ≡ Some x → ⊥) → Contains xs x → ⊥
+not_found xs x place rising before behind other (k, within, at) =
+    let here : get_or xs k x ≡ get_or xs k 0 = get_or_default_zero xs k x within in
+    elim (leb_tells place k) [
+      | inl from ↦
+          let inside : place < length xs = omega (arith, from.1, within) in
+          let least = never_fall xs rising place k from.1 within in
+          let above = behind place (omega arith) inside in
+          let same : get_or xs place 0 ≡ x = omega (arith, least, above, here, at) in
+          other (slice_get-get_or xs place 0 inside ∙ ap Some same)
+      | inr in_front ↦ let below = before k in_front.1 in omega (arith, below, here, at)
+    ]

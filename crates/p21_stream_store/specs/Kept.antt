@@ -1,5 +1,5 @@
 -- Instances as they are kept.
-use Rattle.std.specs.Prelude.{ℕ, List, [], ◌∷◌, length, map, slice_get, Some, None}
+use Rattle.std.specs.Prelude.{ℕ, List, [], ◌∷◌, map, slice_get, Some, None}
 
 -- the name of an instance, the number of its kind, and its canonical text
 pub record Kept : Type 0 where

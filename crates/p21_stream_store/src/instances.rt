@@ -6,6 +6,7 @@ ghost use Rattle.p21_stream_store.specs.Kept.{Kept, kept_at, kept_names, name_at
 use crate::late::LateNames;
 use crate::lines::Lines;
 use crate::names::{is_above, place_in};
+use crate::numbers::Numbers;
 use p21_values::NoMemory;
 use std::alloc::Global;
 use std::marker::Model;
@@ -14,9 +15,9 @@ use std::marker::Model;
 /// every file, are kept in their order and take no index; a name that is below one in front of it stands in a tree.
 #[derive(Drop)]
 pub struct Instances {
-    rising: Vec<u64>,
+    pub(crate) rising: Numbers,
     rising_lines: Lines,
-    late: LateNames,
+    pub(crate) late: LateNames,
     late_lines: Lines,
 }
 
@@ -39,7 +40,7 @@ impl Instances {
         ensures { result ≡ [] }
     {
         Instances {
-            rising: Vec::new(alloc),
+            rising: Numbers::new(alloc),
             rising_lines: Lines::new(alloc),
             late: LateNames::new(alloc),
             late_lines: Lines::new(alloc),
@@ -50,7 +51,7 @@ impl Instances {
     pub fn len(&self) -> usize
         ensures { result ≡ length self.now }
     {
-        self.rising.len() + self.late.len()
+        self.rising.count() + self.late.len()
     }
 
     /// The name, the number of the kind and the canonical text of the instance at a place. The places are counted in the
@@ -62,7 +63,7 @@ impl Instances {
         let first = self.rising_lines.len();
         if place < first {
             let (kind, text) = self.rising_lines.get(place);
-            return (self.rising[place], kind, text);
+            return (self.rising.get(place) as u64, kind, text);
         }
         let (kind, text) = self.late_lines.get(place - first);
         (self.late.get(place - first).unwrap_or(0), kind, text)
@@ -86,7 +87,7 @@ impl Instances {
     {
         let first = self.rising.len();
         if place < first {
-            return self.rising[place];
+            return self.rising.get(place) as u64;
         }
         self.late.get(place - first).unwrap_or(0)
     }
@@ -107,11 +108,11 @@ impl Instances {
         if is_above(&self.rising, name) {
             return None;
         }
-        if let Some(place) = place_in(&self.rising, name) {
-            return Some(self.rising_lines.get(place));
+        if let Some(place) = self.late.place_of(name) {
+            return Some(self.late_lines.get(place));
         }
-        match self.late.place_of(name) {
-            Some(place) => Some(self.late_lines.get(place)),
+        match place_in(&self.rising, name) {
+            Some(place) => Some(self.rising_lines.get(place)),
             None => None,
         }
     }
@@ -124,11 +125,11 @@ impl Instances {
         if is_above(&self.rising, name) {
             return None;
         }
-        if let Some(place) = place_in(&self.rising, name) {
-            return Some(self.rising_lines.kind(place));
+        if let Some(place) = self.late.place_of(name) {
+            return Some(self.late_lines.kind(place));
         }
-        match self.late.place_of(name) {
-            Some(place) => Some(self.late_lines.kind(place)),
+        match place_in(&self.rising, name) {
+            Some(place) => Some(self.rising_lines.kind(place)),
             None => None,
         }
     }
@@ -159,17 +160,17 @@ impl Instances {
 
 /// Adds a name and its line. An `Err` changes nothing.
 fn add_rising(
-    names: &mut Vec<u64>,
+    names: &mut Numbers,
     lines: &mut Lines,
     name: u64,
     kind: usize,
     text: &[u8],
 ) -> Result<(), NoMemory>
-    ensures names { OnOk result (names.new.items ≡ names.old.items ++ name ∷ []) }
+    ensures names { OnOk result (names.new ≡ names.old ++ name ∷ []) }
     ensures lines { OnOk result (lines.new ≡ lines.old ++ (kind, text.now) ∷ []) }
-    ensures err { OnErr result ((names.new.items ≡ names.old.items) × (lines.new ≡ lines.old)) }
+    ensures err { OnErr result ((names.new ≡ names.old) × (lines.new ≡ lines.old)) }
 {
-    let Ok(()) = names.push(name) else {
+    let Ok(()) = names.push(name as usize) else {
         return Err(NoMemory);
     };
     match lines.push(kind, text) {

@@ -8,7 +8,10 @@ mod lines;
 mod names;
 mod numbers;
 mod order;
+mod rows;
+mod runs;
 mod texts;
+mod widths;
 
 pub use instances::Instances;
 pub use numbers::Numbers;

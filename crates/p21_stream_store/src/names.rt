@@ -1,46 +1,82 @@
 //! Where a name stands among names.
-ghost use Rattle.std.specs.Prelude.{◌≡◌, ◌<◌, ◌≤◌, ℕ, false, [], ◌∷◌, ◌++◌, Contains, IfSome, IsNone, IsTrue, slice_get, Some};
+ghost use Rattle.std.specs.Prelude.{◌≡◌, ◌<◌, ◌≤◌, ℕ, false, [], ◌∷◌, ◌++◌, length, get_or, slice_get, Contains, IfSome, IsNone, IsTrue, Some};
 ghost use Rattle.std.specs.List.Sorted.{IsStrictlyIncreasing};
 
+use crate::numbers::Numbers;
+
 /// Whether a name is above the last of rising names.
-pub fn is_above(names: &[u64], name: u64) -> bool
+pub fn is_above(names: &Numbers, name: u64) -> bool
     requires { IsStrictlyIncreasing names.now }
     ensures rises { IsTrue result → IsStrictlyIncreasing (names.now ++ name ∷ []) }
     ensures above { IsTrue result → (other : ℕ) → Contains names.now other → other < name }
     ensures within { result ≡ false → (other : ℕ) × Contains names.now other × (name ≤ other) }
 {
-    match names.last() {
-        Some(last) => *last < name,
-        None => true,
+    let count = names.len();
+    if count == 0 {
+        return true;
     }
+    (names.get(count - 1) as u64) < name
 }
 
-/// The place of a name among rising names. Names that rise by like steps are found at once.
-pub fn place_in(names: &[u64], name: u64) -> Option<usize>
+/// The place of a name among rising names. One that came shortly before the last is found in a few steps, and at once where
+/// the names between rise by like steps.
+pub fn place_in(names: &Numbers, name: u64) -> Option<usize>
     requires rising { IsStrictlyIncreasing names.now }
     ensures some { IfSome result (λ place. slice_get names.now place ≡ Some name) }
     ensures none { IsNone result → Contains names.now name → ⊥ }
 {
-    let place = guess(names, name);
-    if place < names.len() && names[place] == name {
+    let guessed = guess(names, name);
+    if is_at(names, name, guessed) {
+        return Some(guessed);
+    }
+    let place = first_not_below(names, name);
+    if is_at(names, name, place) {
         return Some(place);
     }
-    names.binary_search(&name).ok()
+    None
 }
 
-/// Where a name would stand if the names rose by like steps from the first to the last.
-fn guess(names: &[u64], name: u64) -> usize {
-    let (Some(first), Some(last)) = (names.first(), names.last()) else {
-        return 0;
-    };
-    if name <= *first || *last <= *first {
+/// Whether a name stands at a place.
+fn is_at(names: &Numbers, name: u64, place: usize) -> bool
+    ensures here { IsTrue result → slice_get names.now place ≡ Some name }
+    ensures other { result ≡ false → slice_get names.now place ≡ Some name → ⊥ }
+{
+    place < names.len() && names.get(place) as u64 == name
+}
+
+/// Where a name would stand if the names rose to the last by the last step.
+fn guess(names: &Numbers, name: u64) -> usize {
+    let count = names.len();
+    if count < 2 {
         return 0;
     }
-    let steps = (names.len() - 1) as u128;
-    let place = u128::from(name - *first) * steps / u128::from(*last - *first);
-    if place < names.len() as u128 {
-        place as usize
-    } else {
-        names.len()
+    let last = names.get(count - 1) as u64;
+    let before = names.get(count - 2) as u64;
+    if name > last || before >= last {
+        return count;
     }
+    let steps = (last - name) / (last - before);
+    (count - 1).saturating_sub(steps as usize)
+}
+
+/// The place of the first of rising names that isn't below a name; behind all places where each is below it. It is looked
+/// for from the end, in steps that grow twofold, and then by halves.
+fn first_not_below(names: &Numbers, name: u64) -> usize
+    requires { IsStrictlyIncreasing names.now }
+    ensures before { (i : ℕ) → i < result → get_or names.now i 0 < name }
+    ensures behind { (i : ℕ) → result ≤ i → i < length names.now → name ≤ get_or names.now i 0 }
+{
+    let mut low = 0;
+    let mut high = names.len();
+    let mut step: usize = 1;
+    while low < high {
+        let middle = high - step.min((high - low).div_ceil(2));
+        if (names.get(middle) as u64) < name {
+            low = middle + 1;
+        } else {
+            high = middle;
+            step = step.saturating_mul(2);
+        }
+    }
+    low
 }

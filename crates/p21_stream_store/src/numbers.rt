@@ -1,16 +1,22 @@
-//! Numbers of any size, in 32 bits as long as these hold them.
-ghost use Rattle.std.specs.Prelude.{◌≡◌, ◌<◌, ◌-◌, [], ◌∷◌, ◌++◌, length, slice_get, take, IfSome, OnErr, OnOk, Some};
+//! Numbers of any size, in as few bytes as hold them.
+ghost use Rattle.std.specs.Prelude.{◌≡◌, ◌<◌, ◌≤◌, ◌-◌, ◌^◌, [], ◌∷◌, ◌++◌, length, slice_get, take, OnErr, OnOk, Some};
 
+use crate::rows::{Layer, Row};
+use crate::runs::Run;
+use crate::widths::Three;
 use p21_values::NoMemory;
 use std::alloc::Global;
 use std::marker::Model;
 
-/// Numbers in their order. Each takes four bytes up to the first that 32 bits don't hold; that one and those behind it take
-/// eight.
+/// Numbers behind the run.
+type Behind = Layer<u8, Layer<u16, Layer<Three, Layer<u32, Vec<usize>>>>>;
+
+/// Numbers in their order. Those that rise by one from the first take no memory. Each behind them takes one byte up to the
+/// first that a byte doesn't hold; that one and those behind it take two, and so on over three and four to eight.
 #[derive(Drop)]
 pub struct Numbers {
-    narrow: Vec<u32>,
-    wide: Vec<usize>,
+    run: Run,
+    behind: Behind,
 }
 
 impl Model for Numbers {
@@ -18,7 +24,7 @@ impl Model for Numbers {
 
     ghost Value = { List ℕ };
 
-    ghost view = { λ a. a.narrow.items ++ a.wide.items };
+    ghost view = { λ a. a.run ++ ⟦<Behind as Row>⟧.numbers a.behind };
 }
 
 impl Numbers {
@@ -27,28 +33,8 @@ impl Numbers {
         ensures { result ≡ [] }
     {
         Numbers {
-            narrow: Vec::new(alloc),
-            wide: Vec::new(alloc),
-        }
-    }
-
-    /// Numbers of 32 bits. It takes no memory.
-    pub(crate) fn of_narrow(alloc: Global, narrow: Vec<u32>) -> Numbers
-        ensures { result ≡ narrow.items }
-    {
-        Numbers {
-            narrow,
-            wide: Vec::new(alloc),
-        }
-    }
-
-    /// Numbers of any size. It takes no memory.
-    pub(crate) fn of_wide(alloc: Global, wide: Vec<usize>) -> Numbers
-        ensures { result ≡ wide.items }
-    {
-        Numbers {
-            narrow: Vec::new(alloc),
-            wide,
+            run: Run::new(),
+            behind: Behind::new(alloc),
         }
     }
 
@@ -56,7 +42,15 @@ impl Numbers {
     pub fn len(&self) -> usize
         ensures { result ≡ length self.now }
     {
-        self.narrow.len() + self.wide.len()
+        self.count()
+    }
+
+    /// How many numbers, and that it is small.
+    pub(crate) fn count(&self) -> usize
+        ensures len { result ≡ length self.now }
+        ensures small { result < 2 ^ 63 }
+    {
+        self.run.len() + self.behind.len()
     }
 
     /// The number at a place.
@@ -64,11 +58,11 @@ impl Numbers {
         requires { place < length self.now }
         ensures { slice_get self.now place ≡ Some result }
     {
-        let first = self.narrow.len();
+        let first = self.run.len();
         if place < first {
-            return self.narrow[place] as usize;
+            return self.run.get(place);
         }
-        self.wide[place - first]
+        self.behind.get(place - first)
     }
 
     /// Adds a number.
@@ -80,34 +74,20 @@ impl Numbers {
         ensures ok { OnOk result (self.new ≡ self.old ++ number ∷ []) }
         ensures err { OnErr result (self.new ≡ self.old) }
     {
-        if let Some(narrow) = narrow_of(number, self.wide.len()) {
-            let Ok(()) = self.narrow.push(narrow) else {
-                return Err(NoMemory);
-            };
+        if self.behind.is_empty() && self.run.push(number) {
             return Ok(());
         }
-        let Ok(()) = self.wide.push(number) else {
-            return Err(NoMemory);
-        };
-        Ok(())
+        self.behind.push(number)
     }
 
     /// Takes the last number away.
     pub fn pop(&mut self)
         ensures { self.new ≡ take (length self.old - 1) self.old }
     {
-        if self.wide.pop().is_none() {
-            self.narrow.pop();
+        if self.behind.is_empty() {
+            self.run.pop();
+            return;
         }
+        self.behind.pop();
     }
-}
-
-/// The number in 32 bits, where these hold it and so many wide numbers before it are none.
-fn narrow_of(number: usize, wide: usize) -> Option<u32>
-    ensures { IfSome result (λ narrow. (narrow ≡ number) × (wide ≡ 0)) }
-{
-    if wide > 0 {
-        return None;
-    }
-    u32::try_from(number).ok()
 }

@@ -8,11 +8,11 @@ use std::alloc::Global;
 use std::marker::Model;
 use std::mem;
 
-/// The bytes of a block, apart from those of a text that is longer and has a block of its own.
-const BLOCK: usize = 262_144;
+/// The bytes of a block, apart from those of a text that is longer and has a block of its own. So 16 bits hold each start.
+const BLOCK: usize = 65_536;
 
 /// Adds a text that starts behind the bytes. The first one makes room for a whole block. An `Err` changes nothing.
-fn put(starts: &mut Vec<u32>, bytes: &mut Vec<u8>, start: u32, text: &[u8]) -> Result<(), NoMemory>
+fn put(starts: &mut Vec<u16>, bytes: &mut Vec<u8>, start: u16, text: &[u8]) -> Result<(), NoMemory>
     ensures starts { OnOk result (starts.new.items ≡ starts.old.items ++ start ∷ []) }
     ensures bytes { OnOk result (bytes.new.items ≡ bytes.old.items ++ text.now) }
     ensures err { OnErr result ((starts.new.items ≡ starts.old.items) × (bytes.new.items ≡ bytes.old.items)) }
@@ -32,7 +32,7 @@ fn put(starts: &mut Vec<u32>, bytes: &mut Vec<u8>, start: u32, text: &[u8]) -> R
 }
 
 /// Where the next text starts, behind so many texts and bytes; none where a text of this size doesn't fit.
-fn start_of(texts: usize, used: usize, size: usize) -> Option<u32>
+fn start_of(texts: usize, used: usize, size: usize) -> Option<u16>
     requires { texts ≡ 0 → used ≡ 0 }
     ensures start { IfSome result (λ start. start ≡ used) }
     ensures first { texts ≡ 0 → is_some result ≡ true }
@@ -40,14 +40,14 @@ fn start_of(texts: usize, used: usize, size: usize) -> Option<u32>
     if texts == 0 {
         return Some(0);
     }
-    if used > BLOCK || size > BLOCK - used {
+    if used >= BLOCK || size > BLOCK - used {
         return None;
     }
-    Some(used as u32)
+    Some(used as u16)
 }
 
 /// The text of a number among those that start at these places of the bytes.
-fn text_at<'a>(starts: &[u32], bytes: &'a [u8], index: usize) -> &'a [u8]
+fn text_at<'a>(starts: &[u16], bytes: &'a [u8], index: usize) -> &'a [u8]
     requires index { index < length starts.now }
     requires starts { AreStartsFrom starts.now (length bytes.now) }
     ensures { slice_get (texts_of starts.now bytes.now) index ≡ Some result.now }
@@ -64,7 +64,7 @@ fn text_at<'a>(starts: &[u32], bytes: &'a [u8], index: usize) -> &'a [u8]
 /// Texts one behind the other: the bytes, and where each text starts.
 #[derive(Drop)]
 struct Block {
-    starts: Vec<u32>,
+    starts: Vec<u16>,
     bytes: Vec<u8>,
 }
 
@@ -103,6 +103,13 @@ impl Block {
         ensures { slice_get self.now index ≡ Some result.now }
     {
         text_at(&self.starts, &self.bytes, index)
+    }
+
+    /// Gives back the room for further starts.
+    fn close(&mut self)
+        ensures { self.new ≡ self.old }
+    {
+        self.starts.shrink_to_fit();
     }
 
     /// Adds a text, if it fits; says whether it did. An `Err` changes nothing.
@@ -214,6 +221,7 @@ impl Texts {
             Err(fault) => return Err(fault),
         }
         let size = self.last.len();
+        self.last.close();
         let full = Full {
             first: self.end,
             block: mem::replace(&mut self.last, block),

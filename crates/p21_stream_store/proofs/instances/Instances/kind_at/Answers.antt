@@ -5,7 +5,7 @@ use Rattle.p21_stream_store.proofs.instances.Instances.kind_at.Goals as goal
 
 pub returns-then-place-first : goal.returns-then-place-first
 returns-then-place-first c =
-    let name = slice_get-get_or c.self.inside.rising.items c.args.place 0 (omega (arith, c.if-place-first.true, c.len-first.ensures, c.self.invariant.rising_lines)) in
+    let name = slice_get-get_or c.self.inside.rising c.args.place 0 (omega (arith, c.if-place-first.true, c.len-first.ensures, c.self.invariant.rising_lines)) in
     (kept _ (c.kind.result, c.kind.ensures.0), rising_got _ _ _ _ _ c.self.view_is _ _ _ name c.kind.ensures.1, refl)
 
 pub kind-requires-2 : goal.kind-requires-2

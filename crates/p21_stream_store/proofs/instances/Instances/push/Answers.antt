@@ -1,16 +1,15 @@
-use Rattle.std.proofs.Common.{List, ℕ, ◌≤◌, ◌++◌, ◌∷◌, [], ap, refl, subst, sym, ◌∙◌}
+use Rattle.std.proofs.Common.{List, ℕ, ◌≤◌, refl, subst, sym}
 use Rattle.std.specs.List.{Contains}
 use Rattle.std.specs.List.Sorted.{IsStrictlyIncreasing}
 use Rattle.p21_stream_store.proofs.KeptLemmas.{IsAdded, absent_late, added_behind, added_in_front, added_lengths, also_below, still_below}
-use Rattle.p21_stream_store.specs.Kept.{kept_of}
 use Rattle.p21_stream_store.proofs.instances.Instances.push.Goals as goal
 
 pub invariant_of-self-then-is_above : goal.invariant_of-self-then-is_above
 invariant_of-self-then-is_above c =
-    let added : IsAdded c.self.inside.rising.items c.self.inside.rising_lines c.args.name (c.args.kind, c.args.text.now) c.add_rising.new.names.items c.add_rising.new.lines =
+    let added : IsAdded c.self.inside.rising c.self.inside.rising_lines c.args.name (c.args.kind, c.args.text.now) c.add_rising.new.names c.add_rising.new.lines =
     record { lengths = c.self.invariant.rising_lines; names_are = c.in-Ok.ensures.names; lines_are = c.in-Ok.ensures.lines } in
     record {
-      rising = subst (λ (l : List ℕ). IsStrictlyIncreasing l) (ap (λ (l : List ℕ). l ++ c.args.name ∷ []) c.deref.ensures.value ∙ sym c.in-Ok.ensures.names) (c.if-is_above.ensures.rises refl);
+      rising = subst (λ (l : List ℕ). IsStrictlyIncreasing l) (sym c.in-Ok.ensures.names) (c.if-is_above.ensures.rises refl);
       late_below = subst (λ (l : List ℕ). (name : ℕ) → Contains c.self.inside.late name → (other : ℕ) × Contains l other × (name ≤ other)) (sym c.in-Ok.ensures.names) (still_below _ _ _ c.self.invariant.late_below);
       rising_lines = added_lengths _ _ _ _ _ _ added;
       late_lines = c.self.invariant.late_lines;
@@ -18,7 +17,7 @@ invariant_of-self-then-is_above c =
 
 pub returns-then-is_above-clause-ok : goal.returns-then-is_above-clause-ok
 returns-then-is_above-clause-ok c =
-    let added : IsAdded c.self.inside.rising.items c.self.inside.rising_lines c.args.name (c.args.kind, c.args.text.now) c.add_rising.new.names.items c.add_rising.new.lines =
+    let added : IsAdded c.self.inside.rising c.self.inside.rising_lines c.args.name (c.args.kind, c.args.text.now) c.add_rising.new.names c.add_rising.new.lines =
     record { lengths = c.self.invariant.rising_lines; names_are = c.in-Ok.ensures.names; lines_are = c.in-Ok.ensures.lines } in
     added_in_front _ _ _ _ _ _ added _ _ c.self.view_is
 
@@ -31,8 +30,8 @@ invariant_of-self-2 c =
     record { lengths = c.self.invariant.late_lines; names_are = c.in-Ok-add_late.ensures.names; lines_are = c.in-Ok-add_late.ensures.lines } in
     record {
       rising = c.self.invariant.rising;
-      late_below = subst (λ (l : List ℕ). (name : ℕ) → Contains l name → (other : ℕ) × Contains c.self.inside.rising.items other × (name ≤ other)) (sym c.in-Ok-add_late.ensures.names)
-          (also_below _ _ _ c.self.invariant.late_below (subst (λ (l : List ℕ). (other : ℕ) × Contains l other × (c.args.name ≤ other)) c.deref.ensures.value (c.if-is_above.ensures.within refl)));
+      late_below = subst (λ (l : List ℕ). (name : ℕ) → Contains l name → (other : ℕ) × Contains c.self.inside.rising other × (name ≤ other)) (sym c.in-Ok-add_late.ensures.names)
+          (also_below _ _ _ c.self.invariant.late_below (c.if-is_above.ensures.within refl));
       rising_lines = c.self.invariant.rising_lines;
       late_lines = added_lengths _ _ _ _ _ _ added;
     }

@@ -10,9 +10,9 @@ overflow_add-self c =
 pub invariant_of-self-in-Ok : goal.invariant_of-self-in-Ok
 invariant_of-self-in-Ok c =
     next_firsts _ _ _ c.args.text.now _ _ _ c.self.invariant
-    (next_block _ _ _ _ _ _ _ _ _ _ _ (at_false _ _ _ c.in-Ok-false.ensures.added c.in-Ok-false.field-0-test) c.replace.ensures.value c.in-Ok.ensures.items refl c.len-size.ensures c.new-block.ensures (c.replace.ensures.after ∙ at_true _ _ _ c.in-Ok-true-push.ensures.added c.in-Ok-true-push.field-0-test))
+    (next_block _ _ _ _ _ _ _ _ _ _ _ (at_false _ _ _ c.in-Ok-false.ensures.added c.in-Ok-false.field-0-test) (c.replace.ensures.value ∙ c.close.ensures) c.in-Ok.ensures.items refl c.len-size.ensures c.new-block.ensures (c.replace.ensures.after ∙ at_true _ _ _ c.in-Ok-true-push.ensures.added c.in-Ok-true-push.field-0-test))
 
 pub returns-in-Ok-clause-ok : goal.returns-in-Ok-clause-ok
 returns-in-Ok-clause-ok c =
     next_seen _ _ _ c.args.text.now _ _ _ _ c.self.view_is
-    (next_block _ _ _ _ _ _ _ _ _ _ _ (at_false _ _ _ c.in-Ok-false.ensures.added c.in-Ok-false.field-0-test) c.replace.ensures.value c.in-Ok.ensures.items refl c.len-size.ensures c.new-block.ensures (c.replace.ensures.after ∙ at_true _ _ _ c.in-Ok-true-push.ensures.added c.in-Ok-true-push.field-0-test))
+    (next_block _ _ _ _ _ _ _ _ _ _ _ (at_false _ _ _ c.in-Ok-false.ensures.added c.in-Ok-false.field-0-test) (c.replace.ensures.value ∙ c.close.ensures) c.in-Ok.ensures.items refl c.len-size.ensures c.new-block.ensures (c.replace.ensures.after ∙ at_true _ _ _ c.in-Ok-true-push.ensures.added c.in-Ok-true-push.field-0-test))

@@ -1,0 +1,140 @@
+//! Numbers one behind the other, each in a width that holds it.
+ghost use Rattle.std.specs.Prelude.{◌≡◌, ◌<◌, ◌≤◌, ◌-◌, ◌^◌, ◌+◌, ℕ, List, [], ◌∷◌, ◌++◌, length, map, slice_get, take, OnErr, OnOk, Some, false, true};
+
+use crate::widths::Width;
+use p21_values::NoMemory;
+use std::alloc::Global;
+
+/// Numbers in their order.
+pub trait Row: Drop {
+    ghost numbers: { Self → List ℕ };
+
+    // So many numbers it holds at most.
+    ghost most: { ℕ };
+
+    /// No number. It takes no memory.
+    fn new(alloc: Global) -> Self
+        ensures { numbers result ≡ [] };
+
+    /// How many numbers.
+    fn len(&self) -> usize
+        requires { most < 2 ^ 64 }
+        ensures len { result ≡ length (numbers self.now) }
+        ensures most { result ≤ most };
+
+    /// Whether there is no number.
+    fn is_empty(&self) -> bool
+        ensures none { result ≡ true → numbers self.now ≡ [] }
+        ensures some { result ≡ false → 0 < length (numbers self.now) };
+
+    /// The number at a place.
+    fn get(&self, place: usize) -> usize
+        requires { place < length (numbers self.now) }
+        ensures { slice_get (numbers self.now) place ≡ Some result };
+
+    /// Adds a number.
+    ///
+    /// # Errors
+    ///
+    /// `NoMemory`, which changes nothing.
+    fn push(&mut self, number: usize) -> Result<(), NoMemory>
+        ensures ok { OnOk result (numbers self.new ≡ numbers self.old ++ number ∷ []) }
+        ensures err { OnErr result (numbers self.new ≡ numbers self.old) };
+
+    /// Takes the last number away.
+    fn pop(&mut self)
+        ensures { numbers self.new ≡ take (length (numbers self.old) - 1) (numbers self.old) };
+}
+
+impl Row for Vec<usize> {
+    ghost numbers = { λ row. row.items };
+
+    ghost most = { 2 ^ 60 };
+
+    fn new(alloc: Global) -> Vec<usize> {
+        Vec::new(alloc)
+    }
+
+    fn len(&self) -> usize {
+        self.as_slice().len()
+    }
+
+    fn is_empty(&self) -> bool {
+        self.as_slice().is_empty()
+    }
+
+    fn get(&self, place: usize) -> usize {
+        self[place]
+    }
+
+    fn push(&mut self, number: usize) -> Result<(), NoMemory> {
+        let Ok(()) = Vec::push(self, number) else {
+            return Err(NoMemory);
+        };
+        Ok(())
+    }
+
+    fn pop(&mut self) {
+        Vec::pop(self);
+    }
+}
+
+/// So many numbers stand in one width at most.
+const MOST: usize = 1 << 60;
+
+/// Numbers of one width, and behind them wider ones: the first that the width doesn't hold, and those behind it.
+#[derive(Drop)]
+pub struct Layer<T, R> {
+    narrow: Vec<T>,
+    wide: R,
+    ghost narrow_most: { length narrow.items ≤ 2 ^ 60 },
+}
+
+impl<T: Width + Drop, R: Row> Row for Layer<T, R> {
+    ghost numbers = { λ layer. map T.value layer.narrow.items ++ R.numbers layer.wide };
+
+    ghost most = { 2 ^ 60 + R.most };
+
+    fn new(alloc: Global) -> Layer<T, R> {
+        Layer {
+            narrow: Vec::new(alloc),
+            wide: R::new(alloc),
+        }
+    }
+
+    fn len(&self) -> usize {
+        self.narrow.len() + self.wide.len()
+    }
+
+    fn is_empty(&self) -> bool {
+        self.narrow.is_empty() && self.wide.is_empty()
+    }
+
+    fn get(&self, place: usize) -> usize {
+        let first = self.narrow.len();
+        if place < first {
+            return self.narrow[place].number();
+        }
+        self.wide.get(place - first)
+    }
+
+    fn push(&mut self, number: usize) -> Result<(), NoMemory> {
+        if self.wide.is_empty() && self.narrow.len() < MOST {
+            if let Some(narrow) = T::of(number) {
+                let Ok(()) = self.narrow.push(narrow) else {
+                    return Err(NoMemory);
+                };
+                return Ok(());
+            }
+        }
+        self.wide.push(number)
+    }
+
+    fn pop(&mut self) {
+        if self.wide.is_empty() {
+            self.narrow.pop();
+            return;
+        }
+        self.wide.pop();
+    }
+}

@@ -1,0 +1,78 @@
+//! The widths in which numbers are kept.
+ghost use Rattle.std.specs.Prelude.{◌≡◌, ◌+◌, ◌*◌, ℕ, IfSome};
+
+/// A width in which numbers are kept.
+pub trait Width: Copy {
+    ghost value: { Self → ℕ };
+
+    /// The number in this width, if it holds it.
+    fn of(number: usize) -> Option<Self>
+        ensures { IfSome result (λ kept. value kept ≡ number) };
+
+    /// The number.
+    fn number(self) -> usize
+        ensures { result ≡ value self };
+}
+
+impl Width for u8 {
+    ghost value = { λ kept. kept };
+
+    fn of(number: usize) -> Option<u8> {
+        u8::try_from(number).ok()
+    }
+
+    fn number(self) -> usize {
+        self as usize
+    }
+}
+
+impl Width for u16 {
+    ghost value = { λ kept. kept };
+
+    fn of(number: usize) -> Option<u16> {
+        u16::try_from(number).ok()
+    }
+
+    fn number(self) -> usize {
+        self as usize
+    }
+}
+
+impl Width for u32 {
+    ghost value = { λ kept. kept };
+
+    fn of(number: usize) -> Option<u32> {
+        u32::try_from(number).ok()
+    }
+
+    fn number(self) -> usize {
+        self as usize
+    }
+}
+
+/// A number of 24 bits: its lowest byte first.
+#[derive(Clone, Copy)]
+pub struct Three {
+    low: u8,
+    middle: u8,
+    high: u8,
+}
+
+impl Width for Three {
+    ghost value = { λ kept. kept.low + 256 * kept.middle + 65536 * kept.high };
+
+    fn of(number: usize) -> Option<Three> {
+        if number >= 1 << 24 {
+            return None;
+        }
+        Some(Three {
+            low: (number % 256) as u8,
+            middle: (number / 256 % 256) as u8,
+            high: (number / 65536) as u8,
+        })
+    }
+
+    fn number(self) -> usize {
+        self.low as usize + 256 * self.middle as usize + 65536 * self.high as usize
+    }
+}
