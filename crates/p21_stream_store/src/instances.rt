@@ -12,7 +12,8 @@ use std::alloc::Global;
 use std::marker::Model;
 
 /// Instances by name, each with its canonical text and the number of its kind. Those whose names rise, as in nearly
-/// every file, are kept in their order and take no index; a name that is below one in front of it stands in a tree.
+/// every file, are kept in their order and take no index; a name that is below one in front of it stands in a table or a
+/// tree.
 #[derive(Drop)]
 pub struct Instances {
     pub(crate) rising: Numbers,

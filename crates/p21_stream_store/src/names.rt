@@ -29,7 +29,7 @@ pub fn place_in(names: &Numbers, name: u64) -> Option<usize>
     if is_at(names, name, guessed) {
         return Some(guessed);
     }
-    let place = first_not_below(names, name);
+    let place = first_not_below(names, name, guessed);
     if is_at(names, name, place) {
         return Some(place);
     }
@@ -59,15 +59,14 @@ fn guess(names: &Numbers, name: u64) -> usize {
     (count - 1).saturating_sub(steps as usize)
 }
 
-/// The place of the first of rising names that isn't below a name; behind all places where each is below it. It is looked
-/// for from the end, in steps that grow twofold, and then by halves.
-fn first_not_below(names: &Numbers, name: u64) -> usize
+/// The place of the first of rising names that isn't below a name; behind all places where each is below it. From a guess it
+/// is looked for from the end, in steps that grow twofold, and then by halves.
+fn first_not_below(names: &Numbers, name: u64, guessed: usize) -> usize
     requires { IsStrictlyIncreasing names.now }
     ensures before { (i : ℕ) → i < result → get_or names.now i 0 < name }
     ensures behind { (i : ℕ) → result ≤ i → i < length names.now → name ≤ get_or names.now i 0 }
 {
-    let mut low = 0;
-    let mut high = names.len();
+    let (mut low, mut high) = around(names, name, guessed);
     let mut step: usize = 1;
     while low < high {
         let middle = high - step.min((high - low).div_ceil(2));
@@ -79,4 +78,23 @@ fn first_not_below(names: &Numbers, name: u64) -> usize
         }
     }
     low
+}
+
+/// Two places: rising names in front of the first are below a name, and those from the second on aren't. A guess is one of
+/// them, or next to it.
+fn around(names: &Numbers, name: u64, guessed: usize) -> (usize, usize)
+    requires { IsStrictlyIncreasing names.now }
+    ensures order { result.0 ≤ result.1 }
+    ensures within { result.1 ≤ length names.now }
+    ensures before { (i : ℕ) → i < result.0 → get_or names.now i 0 < name }
+    ensures behind { (i : ℕ) → result.1 ≤ i → i < length names.now → name ≤ get_or names.now i 0 }
+{
+    let count = names.len();
+    if guessed >= count {
+        return (0, count);
+    }
+    if (names.get(guessed) as u64) < name {
+        return (guessed + 1, count);
+    }
+    (0, guessed)
 }

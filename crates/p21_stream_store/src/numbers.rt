@@ -45,7 +45,7 @@ impl Numbers {
         self.count()
     }
 
-    /// How many numbers, and that it is small.
+    /// How many numbers, as `len` says, and that sums of such counts stay in 64 bits.
     pub(crate) fn count(&self) -> usize
         ensures len { result ≡ length self.now }
         ensures small { result < 2 ^ 63 }

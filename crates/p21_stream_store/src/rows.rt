@@ -79,7 +79,7 @@ impl Row for Vec<usize> {
     }
 }
 
-/// So many numbers stand in one width at most.
+/// So many numbers stand in one width at most, which is more than memory holds. So the sum of lengths stays in 64 bits.
 const MOST: usize = 1 << 60;
 
 /// Numbers of one width, and behind them wider ones: the first that the width doesn't hold, and those behind it.
