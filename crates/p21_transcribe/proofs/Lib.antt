@@ -10,6 +10,7 @@ pub mod Leaves
 pub mod NameTokens
 pub mod Parts
 pub mod RealTokens
+pub mod Respelling
 pub mod Splits
 pub mod TextTokens
 pub mod WholeTokens

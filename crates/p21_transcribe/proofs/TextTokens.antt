@@ -153,7 +153,7 @@ extended bytes character d h = one_character bytes 12 character h.scalar d.withi
 
 -- ---- the whole string
 
-followed-text : (characters spelling rest : List ℕ) → NotFirst 39 rest → IsFollowed (text characters) spelling rest
+pub followed-text : (characters spelling rest : List ℕ) → NotFirst 39 rest → IsFollowed (text characters) spelling rest
 followed-text characters spelling [] h = tt
 followed-text characters spelling (byte ∷ rest) h = h
 

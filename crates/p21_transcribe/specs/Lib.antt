@@ -4,4 +4,5 @@ pub mod Characters
 pub mod Gaps
 pub mod Leaf
 pub mod Numbers
+pub mod Respelling
 pub mod Runs

@@ -3,6 +3,7 @@
 #![tactic(auto)]
 
 mod bits;
+mod character;
 mod digits;
 mod draft;
 mod exponent;
@@ -12,6 +13,7 @@ mod keyword;
 mod name;
 mod number;
 mod real;
+mod respelled;
 mod text;
 
 pub use bits::append_bits;

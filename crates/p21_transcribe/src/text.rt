@@ -1,4 +1,4 @@
-//! Strings whose characters stand in their canonical spellings (ISO 10303-21, clause 6: tokens, string).
+//! Strings, of which most have each character in its canonical spelling (ISO 10303-21, clause 6: tokens, string).
 ghost use Rattle.std.specs.Prelude.{◌≡◌, ℕ, ◌<◌, List, length, IfNone, IfSome, IsTrue};
 ghost use Rattle.p21_basics.specs.Digits.{hex_digit, hex_digits};
 ghost use Rattle.p21_exchange.specs.Text.{IsApostropheOrBackslash};
@@ -8,20 +8,25 @@ ghost use Rattle.p21_transcribe.specs.Leaf.{IsCanonicalAtFront, Transcribes};
 
 use crate::digits::behind;
 use crate::draft::Draft;
+use crate::respelled::append_respelled;
 use p21_tokens_automaton::plain_characters;
 
-/// Appends the string at the front, where each character stands in its canonical spelling: how many bytes it has, and how
-/// many characters.
+/// Appends the string at the front: how many bytes it has, and how many characters. Where each character stands in its
+/// canonical spelling, its bytes are copied.
 #[inline(always)]
 pub fn append_text(bytes: &[u8], draft: &mut Draft) -> Option<(usize, usize)>
     ensures some { IfSome result (λ front. (characters : List ℕ) × (front.1 ≡ length characters) × Transcribes bytes.now front.0 (text characters) draft.old draft.new) }
     ensures none { IfNone result (draft.new ≡ draft.old) }
 {
-    let (count, characters) = front_text(bytes)?;
-    if !draft.append_front(bytes, count) {
-        return None;
+    match front_text(bytes) {
+        Some((count, characters)) => {
+            if !draft.append_front(bytes, count) {
+                return None;
+            }
+            Some((count, characters))
+        }
+        None => append_respelled(bytes, draft),
     }
-    Some((count, characters))
 }
 
 #[inline(always)]
@@ -67,7 +72,7 @@ fn long_text(inside: &[u8]) -> (usize, usize)
 
 /// An apostrophe that ends a string.
 #[inline(always)]
-fn is_end(rest: &[u8]) -> bool
+pub(crate) fn is_end(rest: &[u8]) -> bool
     ensures { IsTrue result → EndsText rest.now }
 {
     match behind(b'\'', rest) {
@@ -79,7 +84,7 @@ fn is_end(rest: &[u8]) -> bool
 /// Some of the characters at the front: a run of plain ones, or one that has a spelling of more bytes. None where the first
 /// doesn't stand in its canonical spelling.
 #[inline(always)]
-fn some_characters(rest: &[u8]) -> (usize, usize)
+pub(crate) fn some_characters(rest: &[u8]) -> (usize, usize)
     ensures { AreCharacters rest.now result.0 result.1 }
 {
     match rest.first() {

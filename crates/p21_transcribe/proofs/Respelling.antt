@@ -1,0 +1,236 @@
+-- Characters that are read in any spelling, and appended in their canonical ones.
+use Rattle.std.proofs.Common.{◌≡◌, ℕ, suc, ◌+◌, ◌-◌, ◌≤◌, List, [], ◌∷◌, ◌++◌, length, take, drop, refl, ap, ap₂, sym, subst, ◌∙◌, arith, append-nil, append_assoc, length-append, length-drop}
+use Rattle.std.proofs.lemmas.Grind.{flat_map-append}
+use Rattle.std.proofs.lemmas.List.{append_cancel_right, drop-drop}
+use Rattle.std.proofs.Math.Seq.{take-add}
+use Rattle.std.specs.Char.{IsScalar}
+use Rattle.std.specs.List.{flat_map, AllByRecursion as Each}
+use Rattle.p21_exchange.proofs.Texts.{text_spells}
+use Rattle.p21_exchange.specs.Spelling.{character_spelling}
+use Rattle.p21_exchange.specs.Text.{IsStringUnit, unit_bytes, unit_characters, Encodes}
+use Rattle.p21_exchange.specs.Token.{text}
+use Rattle.p21_tokens_automaton.proofs.Fits.{ModeFits, NameFits, StepFits}
+use Rattle.p21_tokens_automaton.proofs.TextFits.{TextFits}
+use Rattle.p21_tokens_automaton.proofs.TextSound.{text-fits, text-fits-first}
+use Rattle.p21_tokens_automaton.specs.Step.{advance}
+use Rattle.p21_tokens_automaton.specs.declared.mode.Action.{Action}
+use Rattle.p21_tokens_automaton.specs.declared.mode.Action.TheVariants.{Put, Skip}
+use Rattle.p21_tokens_automaton.specs.declared.mode.Mode.{Mode}
+use Rattle.p21_tokens_automaton.specs.declared.mode.Mode.TheVariants.{Between, Slash, Comment, Star, Number, Word, Name, Binary, Text}
+use Rattle.p21_tokens_automaton.specs.declared.mode.NameMode.{NameMode}
+use Rattle.p21_tokens_automaton.specs.declared.mode.NameMode.TheVariants.{Hash, Digits}
+use Rattle.p21_tokens_automaton.specs.declared.mode.TextMode.{TextMode}
+use Rattle.p21_tokens_automaton.specs.declared.mode.TextMode.TheVariants.{Inside}
+use Rattle.p21_transcribe.proofs.Splits.{rest_is}
+use Rattle.p21_transcribe.proofs.TextTokens.{followed-text, size-within}
+use Rattle.p21_transcribe.specs.Characters.{AreCharacters}
+use Rattle.p21_transcribe.specs.Leaf.{Transcribes}
+use Rattle.p21_transcribe.specs.Respelling.{Respells, RespellsAll}
+use Rattle.p21_transcribe.specs.Runs.{NotFirst}
+use Rattle.p21_values.specs.Canonical.{Continues}
+
+both : {A : Type 0} (P : A → Type 0) (xs ys : List A) → Each P xs → Each P ys → Each P (xs ++ ys)
+both P [] ys p q = q
+both P (x ∷ xs) ys p q = (p.0, both P xs ys p.1 q)
+
+encodes-both : (a b cs ds : List ℕ) → Encodes a cs → Encodes b ds → Encodes (a ++ b) (cs ++ ds)
+encodes-both a b cs ds e f = record {
+  units = e.units ++ f.units;
+  are_units = both IsStringUnit e.units f.units e.are_units f.are_units;
+  bytes_are = ap₂ (λ (x y : List ℕ). x ++ y) e.bytes_are f.bytes_are ∙ sym (flat_map-append unit_bytes e.units f.units);
+  characters_are = ap₂ (λ (x y : List ℕ). x ++ y) e.characters_are f.characters_are ∙ sym (flat_map-append unit_characters e.units f.units);
+}
+
+pub nothing-respelled : (bytes old : List ℕ) → Respells bytes 0 0 old old
+nothing-respelled bytes old = record {
+  characters = [];
+  size_is = refl;
+  fewer = omega arith;
+  within = omega arith;
+  encodes = record { units = []; are_units = tt; bytes_are = refl; characters_are = refl };
+  appended = sym (append-nil old);
+}
+
+-- some, and more behind them
+pub more-respelled : (bytes : List ℕ) (count size more many : ℕ) (old middle new : List ℕ) → Respells bytes count size old middle → Respells (take (length bytes - count) (drop count bytes)) more many middle new
+    → Respells bytes (count + more) (size + many) old new
+more-respelled bytes count size more many old middle new a others = let b = subst (λ (x : List ℕ). Respells x more many middle new) (rest_is bytes count) others in record {
+  characters = a.characters ++ b.characters;
+  size_is = ap₂ (λ (m n : ℕ). m + n) a.size_is b.size_is ∙ sym (length-append a.characters b.characters);
+  fewer = omega (arith, a.fewer, b.fewer);
+  within = let w = a.within in let v = b.within in omega (arith, length-drop count bytes);
+  encodes =
+      subst (λ (x : List ℕ). Encodes x (a.characters ++ b.characters)) (sym (take-add count more bytes))
+      (encodes-both (take count bytes) (take more (drop count bytes)) a.characters b.characters a.encodes b.encodes);
+  appended =
+      b.appended
+      ∙ (ap (λ (x : List ℕ). x ++ flat_map character_spelling b.characters) a.appended
+      ∙ (append_assoc old (flat_map character_spelling a.characters) (flat_map character_spelling b.characters)
+      ∙ ap (λ (x : List ℕ). old ++ x) (sym (flat_map-append character_spelling a.characters b.characters))));
+}
+
+pub respelled-continues : (bytes : List ℕ) (count size : ℕ) (old new : List ℕ) → Respells bytes count size old new → Continues old new
+respelled-continues bytes count size old new r = (flat_map character_spelling r.characters, r.appended)
+
+pub continues-both : (old middle new : List ℕ) → Continues old middle → Continues middle new → Continues old new
+continues-both old middle new (front, e) (tail, f) = (front ++ tail, f ∙ (ap (λ (x : List ℕ). x ++ tail) e ∙ append_assoc old front tail))
+
+-- ---- characters in their canonical spellings
+
+canonical-encodes : (cs : List ℕ) → Each IsScalar cs → Encodes (flat_map character_spelling cs) cs
+canonical-encodes cs p =
+    let s = text_spells cs p in
+    subst (λ (x : List ℕ). Encodes x cs) (sym (append_cancel_right (flat_map character_spelling cs) s.inside (39 ∷ []) (ap (λ (x : List ℕ). drop 1 x) s.bytes_are))) s.encodes
+
+pub canonical-respelled : (bytes : List ℕ) (count size : ℕ) (old new : List ℕ) → AreCharacters bytes count size → new ≡ old ++ take count bytes → Respells bytes count size old new
+canonical-respelled bytes count size old new a e = record {
+  characters = a.characters;
+  size_is = a.size_is;
+  fewer = size-within bytes count size a;
+  within = a.within;
+  encodes = subst (λ (x : List ℕ). Encodes x a.characters) (sym a.bytes_are) (canonical-encodes a.characters a.are_scalars);
+  appended = e ∙ ap (λ (x : List ℕ). old ++ x) a.bytes_are;
+}
+
+-- ---- one unit, byte by byte
+
+-- so many bytes lead the lexer from between two units to this mode, with so many characters, whose spellings are appended
+pub record Leads (bytes : List ℕ) (count size : ℕ) (mode : Mode) (old new : List ℕ) : Type 0 where
+  pub inner : TextMode
+  pub mode_is : mode ≡ Text inner
+  pub characters : List ℕ
+  pub size_is : size ≡ length characters
+  pub fewer : size ≤ count
+  pub fits : TextFits inner characters (39 ∷ take count bytes)
+  pub appended : new ≡ old ++ flat_map character_spelling characters
+
+pub leads-first : (bytes old : List ℕ) → Leads bytes 0 0 (Text Inside) old old
+leads-first bytes old = record {
+  inner = Inside;
+  mode_is = refl;
+  characters = [];
+  size_is = refl;
+  fewer = omega arith;
+  fits = text-fits-first;
+  appended = sym (append-nil old);
+}
+
+not-nothing : (front : List ℕ) → [] ≡ 39 ∷ front → ⊥
+not-nothing front e = cc
+
+no-name : (front digits : List ℕ) → 39 ∷ front ≡ 35 ∷ digits → ⊥
+no-name front digits e = cc
+
+not-named : (m : NameMode) (front : List ℕ) → NameFits m (39 ∷ front) → ⊥
+not-named Hash front h = no-name front [] h
+not-named (Digits value) front h = no-name front h.0 h.1
+
+-- no other mode is one of a string
+in-string : (next : Mode) (characters front : List ℕ) → ModeFits next [] characters (39 ∷ front) → (inner : TextMode) × (next ≡ Text inner) × TextFits inner characters (39 ∷ front)
+in-string (Text m) cs front h = (m, refl, h)
+in-string (Number m) cs front h = absurd (not-nothing front h.0)
+in-string (Word m) cs front h = absurd (not-nothing front h.0)
+in-string (Name m) cs front h = absurd (not-named m front h)
+in-string (Binary m) cs front h = absurd (not-nothing front h)
+in-string Between cs front h = absurd h
+in-string Slash cs front h = absurd h
+in-string Comment cs front h = absurd h
+in-string Star cs front h = absurd h
+
+step-fits : (bytes : List ℕ) (count size byte : ℕ) (mode : Mode) (action : Action) (old new : List ℕ) (h : Leads bytes count size mode old new) → advance mode byte ≡ action → StepFits (Text h.inner) [] h.characters (39 ∷ take count bytes) byte action
+step-fits bytes count size byte mode action old new h e =
+    subst (λ (a : Action). StepFits (Text h.inner) [] h.characters (39 ∷ take count bytes) byte a) (ap (λ (m : Mode). advance m byte) (sym h.mode_is) ∙ e)
+    (text-fits h.inner byte [] h.characters (39 ∷ take count bytes) h.fits)
+
+pub leads-skip : (bytes : List ℕ) (count size byte : ℕ) (mode next : Mode) (old new : List ℕ) → take (count + 1) bytes ≡ take count bytes ++ byte ∷ [] → Leads bytes count size mode old new → advance mode byte ≡ Skip next
+    → Leads bytes (count + 1) size next old new
+leads-skip bytes count size byte mode next old new longer h e =
+    let step = in-string next h.characters (take count bytes ++ byte ∷ []) (step-fits bytes count size byte mode (Skip next) old new h e) in
+    record {
+      inner = step.0;
+      mode_is = step.1;
+      characters = h.characters;
+      size_is = h.size_is;
+      fewer = omega (arith, h.fewer);
+      fits = subst (λ (x : List ℕ). TextFits step.0 h.characters (39 ∷ x)) (sym longer) step.2;
+      appended = h.appended;
+    }
+
+pub leads-put : (bytes : List ℕ) (count size byte character : ℕ) (mode next : Mode) (old middle new : List ℕ) → take (count + 1) bytes ≡ take count bytes ++ byte ∷ [] → Leads bytes count size mode old middle → advance mode byte ≡ Put next character
+    → new ≡ middle ++ character_spelling character → Leads bytes (count + 1) (size + 1) next old new
+leads-put bytes count size byte character mode next old middle new longer h e appended =
+    let characters = h.characters ++ character ∷ [] in
+    let step = in-string next characters (take count bytes ++ byte ∷ []) (step-fits bytes count size byte mode (Put next character) old middle h e) in
+    record {
+      inner = step.0;
+      mode_is = step.1;
+      characters = characters;
+      size_is = ap (λ (n : ℕ). n + 1) h.size_is ∙ sym (length-append h.characters (character ∷ []));
+      fewer = omega (arith, h.fewer);
+      fits = subst (λ (x : List ℕ). TextFits step.0 characters (39 ∷ x)) (sym longer) step.2;
+      appended =
+          appended
+          ∙ (ap (λ (x : List ℕ). x ++ character_spelling character) h.appended
+          ∙ (append_assoc old (flat_map character_spelling h.characters) (character_spelling character)
+          ∙ ap (λ (x : List ℕ). old ++ x)
+          (ap (λ (x : List ℕ). flat_map character_spelling h.characters ++ x) (sym (append-nil (character_spelling character)))
+          ∙ sym (flat_map-append character_spelling h.characters (character ∷ [])))));
+    }
+
+leads-inside : (bytes : List ℕ) (count size : ℕ) (inner : TextMode) (characters : List ℕ) → Text inner ≡ Text Inside → TextFits inner characters (39 ∷ take count bytes) → TextFits Inside characters (39 ∷ take count bytes)
+leads-inside bytes count size inner characters e h = let same : inner ≡ Inside = cc in subst (λ (m : TextMode). TextFits m characters (39 ∷ take count bytes)) same h
+
+-- behind a whole unit
+pub unit-respelled : (bytes : List ℕ) (count size : ℕ) (mode : Mode) (old new : List ℕ) → count ≤ length bytes → Leads bytes count size mode old new → mode ≡ Text Inside → Respells bytes count size old new
+unit-respelled bytes count size mode old new within h e =
+    let s = leads-inside bytes count size h.inner h.characters (sym h.mode_is ∙ e) h.fits in
+    let inside : take count bytes ≡ s.0 = ap (λ (x : List ℕ). drop 1 x) s.1 ∙ append-nil s.0 in
+    record {
+      characters = h.characters;
+      size_is = h.size_is;
+      fewer = h.fewer;
+      within = within;
+      encodes = subst (λ (x : List ℕ). Encodes x h.characters) (sym inside) s.2;
+      appended = h.appended;
+    }
+
+-- ---- the whole string
+
+module _ (bytes inside : List ℕ) (count size : ℕ) (old middle after new : List ℕ) (is : bytes ≡ 39 ∷ inside) (all : RespellsAll inside count size middle after) (begins : middle ≡ old ++ 39 ∷ []) (ended : new ≡ after ++ 39 ∷ []) where
+  abbrev r : Respells inside count size middle after
+  r = all.respells
+
+  abbrev written : List ℕ
+  written = flat_map character_spelling r.characters
+
+  closed : take (count + 1) inside ≡ take count inside ++ 39 ∷ []
+  closed = take-add count 1 inside ∙ ap (λ (x : List ℕ). take count inside ++ take 1 x) all.ends.bytes_are
+
+  behind : drop (count + 1) inside ≡ all.ends.behind
+  behind = sym (drop-drop 1 count inside) ∙ ap (λ (x : List ℕ). drop 1 x) all.ends.bytes_are
+
+  whole : suc (count + 1) ≡ count + 2
+  whole = omega arith
+
+  appends : new ≡ old ++ (39 ∷ (written ++ 39 ∷ []))
+  appends =
+      ended
+      ∙ (ap (λ (x : List ℕ). x ++ 39 ∷ []) (r.appended ∙ (ap (λ (x : List ℕ). x ++ written) begins ∙ append_assoc old (39 ∷ []) written))
+      ∙ append_assoc old (39 ∷ written) (39 ∷ []))
+
+  own : Transcribes (39 ∷ inside) (suc (count + 1)) (text r.characters) old new
+  own = record {
+    stands = record {
+      within = let w = r.within in let l = ap (λ (x : List ℕ). length x) all.ends.bytes_are in omega (arith, length-drop count inside);
+      spells = record { inside = take count inside; bytes_are = ap (λ (x : List ℕ). 39 ∷ x) closed; encodes = r.encodes };
+      followed = followed-text r.characters (take (suc (count + 1)) (39 ∷ inside)) (drop (count + 1) inside) (subst (NotFirst 39) (sym behind) all.ends.no_other);
+    };
+    appended = appends;
+  }
+
+  pub text-respelled : (characters : List ℕ) × (size ≡ length characters) × Transcribes bytes (count + 2) (text characters) old new
+  text-respelled = (
+    r.characters,
+    r.size_is,
+    subst (λ (x : List ℕ). Transcribes x (count + 2) (text r.characters) old new) (sym is) (subst (λ (k : ℕ). Transcribes (39 ∷ inside) k (text r.characters) old new) whole own),
+  )
