@@ -1,5 +1,5 @@
 -- Characters that are read in any spelling, and appended in their canonical ones.
-use Rattle.std.proofs.Common.{◌≡◌, ℕ, suc, ◌+◌, ◌-◌, ◌≤◌, List, [], ◌∷◌, ◌++◌, length, take, drop, refl, ap, ap₂, sym, subst, ◌∙◌, arith, append-nil, append_assoc, length-append, length-drop}
+use Rattle.std.proofs.Common.{◌≡◌, ℕ, suc, ◌+◌, ◌-◌, ◌<◌, ◌≤◌, List, [], ◌∷◌, ◌++◌, length, take, drop, refl, ap, ap₂, sym, subst, ◌∙◌, arith, append-nil, append_assoc, length-append, length-drop}
 use Rattle.std.proofs.lemmas.Grind.{flat_map-append}
 use Rattle.std.proofs.lemmas.List.{append_cancel_right, drop-drop}
 use Rattle.std.proofs.Math.Seq.{take-add}
@@ -7,11 +7,11 @@ use Rattle.std.specs.Char.{IsScalar}
 use Rattle.std.specs.List.{flat_map, AllByRecursion as Each}
 use Rattle.p21_exchange.proofs.Texts.{text_spells}
 use Rattle.p21_exchange.specs.Spelling.{character_spelling}
-use Rattle.p21_exchange.specs.Text.{IsStringUnit, unit_bytes, unit_characters, Encodes}
+use Rattle.p21_exchange.specs.Text.{extended2, IsStringUnit, unit_bytes, unit_characters, utf16_groups, end_extended, Encodes}
 use Rattle.p21_exchange.specs.Token.{text}
 use Rattle.p21_tokens_automaton.proofs.Fits.{ModeFits, NameFits, StepFits}
 use Rattle.p21_tokens_automaton.proofs.TextFits.{TextFits}
-use Rattle.p21_tokens_automaton.proofs.TextSound.{text-fits, text-fits-first}
+use Rattle.p21_tokens_automaton.proofs.TextSound.{text-fits}
 use Rattle.p21_tokens_automaton.specs.Step.{advance}
 use Rattle.p21_tokens_automaton.specs.declared.mode.Action.{Action}
 use Rattle.p21_tokens_automaton.specs.declared.mode.Action.TheVariants.{Put, Skip}
@@ -25,9 +25,8 @@ use Rattle.p21_transcribe.proofs.Splits.{rest_is}
 use Rattle.p21_transcribe.proofs.TextTokens.{followed-text, size-within}
 use Rattle.p21_transcribe.specs.Characters.{AreCharacters}
 use Rattle.p21_transcribe.specs.Leaf.{Transcribes}
-use Rattle.p21_transcribe.specs.Respelling.{Respells, RespellsAll}
+use Rattle.p21_transcribe.specs.Respelling.{AreGroups, IsGroup, Respells, RespellsAll}
 use Rattle.p21_transcribe.specs.Runs.{NotFirst}
-use Rattle.p21_values.specs.Canonical.{Continues}
 
 both : {A : Type 0} (P : A → Type 0) (xs ys : List A) → Each P xs → Each P ys → Each P (xs ++ ys)
 both P [] ys p q = q
@@ -41,39 +40,62 @@ encodes-both a b cs ds e f = record {
   characters_are = ap₂ (λ (x y : List ℕ). x ++ y) e.characters_are f.characters_are ∙ sym (flat_map-append unit_characters e.units f.units);
 }
 
-pub nothing-respelled : (bytes old : List ℕ) → Respells bytes 0 0 old old
-nothing-respelled bytes old = record {
-  characters = [];
-  size_is = refl;
-  fewer = omega arith;
-  within = omega arith;
-  encodes = record { units = []; are_units = tt; bytes_are = refl; characters_are = refl };
-  appended = sym (append-nil old);
-}
+groups-both : (a b cs ds : List ℕ) → AreGroups a cs → AreGroups b ds → AreGroups (a ++ b) (cs ++ ds)
+groups-both a b cs ds g h = (both IsScalar cs ds g.0 h.0, ap₂ (λ (x y : List ℕ). x ++ y) g.1 h.1 ∙ sym (flat_map-append utf16_groups cs ds))
 
--- some, and more behind them
-pub more-respelled : (bytes : List ℕ) (count size more many : ℕ) (old middle new : List ℕ) → Respells bytes count size old middle → Respells (take (length bytes - count) (drop count bytes)) more many middle new
-    → Respells bytes (count + more) (size + many) old new
-more-respelled bytes count size more many old middle new a others = let b = subst (λ (x : List ℕ). Respells x more many middle new) (rest_is bytes count) others in record {
-  characters = a.characters ++ b.characters;
-  size_is = ap₂ (λ (m n : ℕ). m + n) a.size_is b.size_is ∙ sym (length-append a.characters b.characters);
-  fewer = omega (arith, a.fewer, b.fewer);
-  within = let w = a.within in let v = b.within in omega (arith, length-drop count bytes);
-  encodes =
-      subst (λ (x : List ℕ). Encodes x (a.characters ++ b.characters)) (sym (take-add count more bytes))
-      (encodes-both (take count bytes) (take more (drop count bytes)) a.characters b.characters a.encodes b.encodes);
-  appended =
-      b.appended
-      ∙ (ap (λ (x : List ℕ). x ++ flat_map character_spelling b.characters) a.appended
-      ∙ (append_assoc old (flat_map character_spelling a.characters) (flat_map character_spelling b.characters)
-      ∙ ap (λ (x : List ℕ). old ++ x) (sym (flat_map-append character_spelling a.characters b.characters))));
-}
+module _ (StandFor : List ℕ → List ℕ → Type 0) where
+  -- some, and more behind them
+  further : ((a b cs ds : List ℕ) → StandFor a cs → StandFor b ds → StandFor (a ++ b) (cs ++ ds))
+      → (bytes : List ℕ) (count size next many : ℕ) (old middle new : List ℕ) → Respells StandFor bytes count size old middle → Respells StandFor (drop count bytes) next many middle new → Respells StandFor bytes (count + next) (size + many) old new
+  further join bytes count size next many old middle new a b = record {
+    characters = a.characters ++ b.characters;
+    size_is = ap₂ (λ (m n : ℕ). m + n) a.size_is b.size_is ∙ sym (length-append a.characters b.characters);
+    fewer = omega (arith, a.fewer, b.fewer);
+    within = let w = a.within in let v = b.within in omega (arith, length-drop count bytes);
+    stand_for = subst (λ (x : List ℕ). StandFor x (a.characters ++ b.characters)) (sym (take-add count next bytes)) (join (take count bytes) (take next (drop count bytes)) a.characters b.characters a.stand_for b.stand_for);
+    appended =
+        b.appended
+        ∙ (ap (λ (x : List ℕ). x ++ flat_map character_spelling b.characters) a.appended
+        ∙ (append_assoc old (flat_map character_spelling a.characters) (flat_map character_spelling b.characters)
+        ∙ ap (λ (x : List ℕ). old ++ x) (sym (flat_map-append character_spelling a.characters b.characters))));
+  }
 
-pub respelled-continues : (bytes : List ℕ) (count size : ℕ) (old new : List ℕ) → Respells bytes count size old new → Continues old new
-respelled-continues bytes count size old new r = (flat_map character_spelling r.characters, r.appended)
+pub more-respelled : (bytes : List ℕ) (count size more many : ℕ) (old middle new : List ℕ) → Respells Encodes bytes count size old middle → Respells Encodes (take (length bytes - count) (drop count bytes)) more many middle new
+    → Respells Encodes bytes (count + more) (size + many) old new
+more-respelled bytes count size more many old middle new a b =
+    further Encodes encodes-both bytes count size more many old middle new a (subst (λ (x : List ℕ). Respells Encodes x more many middle new) (rest_is bytes count) b)
 
-pub continues-both : (old middle new : List ℕ) → Continues old middle → Continues middle new → Continues old new
-continues-both old middle new (front, e) (tail, f) = (front ++ tail, f ∙ (ap (λ (x : List ℕ). x ++ tail) e ∙ append_assoc old front tail))
+-- one group more
+pub more-groups : (bytes : List ℕ) (count size character : ℕ) (old middle new : List ℕ) → Respells AreGroups bytes count size old middle → IsGroup (take (length bytes - count) (drop count bytes)) character → new ≡ middle ++ character_spelling character
+    → Respells AreGroups bytes (count + 4) (size + 1) old new
+more-groups bytes count size character old middle new a group e =
+    let g = subst (λ (x : List ℕ). IsGroup x character) (rest_is bytes count) group in
+    further AreGroups groups-both bytes count size 4 1 old middle new a (record {
+      characters = character ∷ [];
+      size_is = refl;
+      fewer = omega arith;
+      within = g.within;
+      stand_for = ((g.scalar, tt), g.bytes_are ∙ sym (append-nil (utf16_groups character)));
+      appended = e ∙ ap (λ (x : List ℕ). middle ++ x) (sym (append-nil (character_spelling character)));
+    })
+
+-- groups between the bytes that begin a directive, and those that end it
+pub extended-respelled : (bytes : List ℕ) (count size : ℕ) (old new : List ℕ) → take 4 bytes ≡ 92 ∷ 88 ∷ 50 ∷ 92 ∷ [] → Respells AreGroups (drop 4 bytes) count size old new → take 4 (drop count (drop 4 bytes)) ≡ end_extended → count + 8 ≤ length bytes → 0 < size
+    → Respells Encodes bytes (count + 8) size old new
+extended-respelled bytes count size old new start r end within some =
+    let size_is = r.size_is in
+    let whole : take (4 + (count + 4)) bytes ≡ 92 ∷ 88 ∷ 50 ∷ 92 ∷ (flat_map utf16_groups r.characters ++ end_extended) =
+    take-add 4 (count + 4) bytes ∙ ap₂ (λ (x y : List ℕ). x ++ y) start (take-add count 4 (drop 4 bytes) ∙ ap₂ (λ (x y : List ℕ). x ++ y) r.stand_for.1 end) in
+    let bytes_are : take (count + 8) bytes ≡ unit_bytes (extended2 r.characters) ++ [] =
+    ap (λ (n : ℕ). take n bytes) (omega arith) ∙ (whole ∙ sym (append-nil (unit_bytes (extended2 r.characters)))) in
+    record {
+      characters = r.characters;
+      size_is = r.size_is;
+      fewer = omega (arith, r.fewer);
+      within = within;
+      stand_for = record { units = extended2 r.characters ∷ []; are_units = ((omega (arith, size_is), r.stand_for.0), tt); bytes_are = bytes_are; characters_are = sym (append-nil r.characters) };
+      appended = r.appended;
+    }
 
 -- ---- characters in their canonical spellings
 
@@ -82,13 +104,13 @@ canonical-encodes cs p =
     let s = text_spells cs p in
     subst (λ (x : List ℕ). Encodes x cs) (sym (append_cancel_right (flat_map character_spelling cs) s.inside (39 ∷ []) (ap (λ (x : List ℕ). drop 1 x) s.bytes_are))) s.encodes
 
-pub canonical-respelled : (bytes : List ℕ) (count size : ℕ) (old new : List ℕ) → AreCharacters bytes count size → new ≡ old ++ take count bytes → Respells bytes count size old new
+pub canonical-respelled : (bytes : List ℕ) (count size : ℕ) (old new : List ℕ) → AreCharacters bytes count size → new ≡ old ++ take count bytes → Respells Encodes bytes count size old new
 canonical-respelled bytes count size old new a e = record {
   characters = a.characters;
   size_is = a.size_is;
   fewer = size-within bytes count size a;
   within = a.within;
-  encodes = subst (λ (x : List ℕ). Encodes x a.characters) (sym a.bytes_are) (canonical-encodes a.characters a.are_scalars);
+  stand_for = subst (λ (x : List ℕ). Encodes x a.characters) (sym a.bytes_are) (canonical-encodes a.characters a.are_scalars);
   appended = e ∙ ap (λ (x : List ℕ). old ++ x) a.bytes_are;
 }
 
@@ -103,17 +125,6 @@ pub record Leads (bytes : List ℕ) (count size : ℕ) (mode : Mode) (old new : 
   pub fewer : size ≤ count
   pub fits : TextFits inner characters (39 ∷ take count bytes)
   pub appended : new ≡ old ++ flat_map character_spelling characters
-
-pub leads-first : (bytes old : List ℕ) → Leads bytes 0 0 (Text Inside) old old
-leads-first bytes old = record {
-  inner = Inside;
-  mode_is = refl;
-  characters = [];
-  size_is = refl;
-  fewer = omega arith;
-  fits = text-fits-first;
-  appended = sym (append-nil old);
-}
 
 not-nothing : (front : List ℕ) → [] ≡ 39 ∷ front → ⊥
 not-nothing front e = cc
@@ -181,7 +192,7 @@ leads-inside : (bytes : List ℕ) (count size : ℕ) (inner : TextMode) (charact
 leads-inside bytes count size inner characters e h = let same : inner ≡ Inside = cc in subst (λ (m : TextMode). TextFits m characters (39 ∷ take count bytes)) same h
 
 -- behind a whole unit
-pub unit-respelled : (bytes : List ℕ) (count size : ℕ) (mode : Mode) (old new : List ℕ) → count ≤ length bytes → Leads bytes count size mode old new → mode ≡ Text Inside → Respells bytes count size old new
+pub unit-respelled : (bytes : List ℕ) (count size : ℕ) (mode : Mode) (old new : List ℕ) → count ≤ length bytes → Leads bytes count size mode old new → mode ≡ Text Inside → Respells Encodes bytes count size old new
 unit-respelled bytes count size mode old new within h e =
     let s = leads-inside bytes count size h.inner h.characters (sym h.mode_is ∙ e) h.fits in
     let inside : take count bytes ≡ s.0 = ap (λ (x : List ℕ). drop 1 x) s.1 ∙ append-nil s.0 in
@@ -190,14 +201,14 @@ unit-respelled bytes count size mode old new within h e =
       size_is = h.size_is;
       fewer = h.fewer;
       within = within;
-      encodes = subst (λ (x : List ℕ). Encodes x h.characters) (sym inside) s.2;
+      stand_for = subst (λ (x : List ℕ). Encodes x h.characters) (sym inside) s.2;
       appended = h.appended;
     }
 
 -- ---- the whole string
 
 module _ (bytes inside : List ℕ) (count size : ℕ) (old middle after new : List ℕ) (is : bytes ≡ 39 ∷ inside) (all : RespellsAll inside count size middle after) (begins : middle ≡ old ++ 39 ∷ []) (ended : new ≡ after ++ 39 ∷ []) where
-  abbrev r : Respells inside count size middle after
+  abbrev r : Respells Encodes inside count size middle after
   r = all.respells
 
   abbrev written : List ℕ
@@ -222,7 +233,7 @@ module _ (bytes inside : List ℕ) (count size : ℕ) (old middle after new : Li
   own = record {
     stands = record {
       within = let w = r.within in let l = ap (λ (x : List ℕ). length x) all.ends.bytes_are in omega (arith, length-drop count inside);
-      spells = record { inside = take count inside; bytes_are = ap (λ (x : List ℕ). 39 ∷ x) closed; encodes = r.encodes };
+      spells = record { inside = take count inside; bytes_are = ap (λ (x : List ℕ). 39 ∷ x) closed; encodes = r.stand_for };
       followed = followed-text r.characters (take (suc (count + 1)) (39 ∷ inside)) (drop (count + 1) inside) (subst (NotFirst 39) (sym behind) all.ends.no_other);
     };
     appended = appends;

@@ -8,6 +8,7 @@ mod digits;
 mod draft;
 mod exponent;
 mod gap;
+mod groups;
 mod item;
 mod keyword;
 mod name;

@@ -1,6 +1,7 @@
 //! Strings with characters that don't stand in their canonical spellings, as several ones in a directive, or one in UTF-8
 //! (ISO 10303-21, clause 6: tokens, string).
 ghost use Rattle.std.specs.Prelude.{◌≡◌, ℕ, List, length, IfNone, IfSome, IsTrue};
+ghost use Rattle.p21_exchange.specs.Text.{Encodes};
 ghost use Rattle.p21_exchange.specs.Token.{text};
 ghost use Rattle.p21_tokens_automaton.specs.declared.mode.Mode.TheVariants.{Text};
 ghost use Rattle.p21_tokens_automaton.specs.declared.mode.TextMode.TheVariants.{Inside};
@@ -11,6 +12,7 @@ ghost use Rattle.p21_values.specs.Canonical.{Continues};
 use crate::character::append_character;
 use crate::digits::behind;
 use crate::draft::Draft;
+use crate::groups::append_extended;
 use crate::text::{is_end, some_characters};
 use p21_tokens_automaton::{Action, Mode, TextMode, advance};
 
@@ -66,7 +68,7 @@ fn append_inside(inside: &[u8], draft: &mut Draft) -> Option<(usize, usize)>
 
 /// Appends some of the characters at the front: those that stand in their canonical spellings, or what one unit stands for.
 fn append_some(rest: &[u8], draft: &mut Draft) -> Option<(usize, usize)>
-    ensures some { IfSome result (λ front. Respells rest.now front.0 front.1 draft.old draft.new) }
+    ensures some { IfSome result (λ front. Respells Encodes rest.now front.0 front.1 draft.old draft.new) }
     ensures none { IfNone result (Continues draft.old draft.new) }
 {
     let (count, characters) = some_characters(rest);
@@ -79,10 +81,23 @@ fn append_some(rest: &[u8], draft: &mut Draft) -> Option<(usize, usize)>
     Some((count, characters))
 }
 
-/// Appends what the unit at the front stands for, by the steps of the lexer: the characters of a directive, one character,
-/// or none.
+/// Appends what the unit at the front stands for: the characters of a directive, one character, or none.
 fn append_unit(rest: &[u8], draft: &mut Draft) -> Option<(usize, usize)>
-    ensures some { IfSome result (λ front. Respells rest.now front.0 front.1 draft.old draft.new) }
+    ensures some { IfSome result (λ front. Respells Encodes rest.now front.0 front.1 draft.old draft.new) }
+    ensures none { IfNone result (Continues draft.old draft.new) }
+{
+    let before = draft.len();
+    let found = append_extended(rest, draft);
+    if found.is_some() {
+        return found;
+    }
+    draft.cut(before);
+    append_by_steps(rest, draft)
+}
+
+/// Appends what the unit at the front stands for, by the steps of the lexer.
+fn append_by_steps(rest: &[u8], draft: &mut Draft) -> Option<(usize, usize)>
+    ensures some { IfSome result (λ front. Respells Encodes rest.now front.0 front.1 draft.old draft.new) }
     ensures none { IfNone result (Continues draft.old draft.new) }
 {
     let mut mode = Mode::Text(TextMode::Inside);

@@ -142,8 +142,8 @@ fn extended_code(rest: &[u8]) -> Option<u32>
 }
 
 /// The number that hex digits stand for.
-fn four_digits(digits: &[u8; 4]) -> Option<u32>
-    ensures { IfSome result (λ code. digits.now ≡ hex_digits 4 code) }
+pub(crate) fn four_digits(digits: &[u8; 4]) -> Option<u32>
+    ensures { IfSome result (λ code. (code < 0x1_0000) × (digits.now ≡ hex_digits 4 code)) }
 {
     let mut code = 0;
     for digit in digits {

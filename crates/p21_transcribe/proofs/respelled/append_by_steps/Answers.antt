@@ -1,8 +1,8 @@
 use Rattle.std.proofs.Common.{◌+◌, sym, ◌∙◌, arith, refl}
 use Rattle.std.proofs.lemmas.List.{take_more}
 use Rattle.p21_transcribe.proofs.Respelling.{Leads, leads-put, leads-skip, unit-respelled}
-use Rattle.p21_transcribe.proofs.respelled.append_unit.Goals.{in-Skip, in-Put+else-not-append_character}
-use Rattle.p21_transcribe.proofs.respelled.append_unit.Goals as goal
+use Rattle.p21_transcribe.proofs.respelled.append_by_steps.Goals.{in-Skip, in-Put+else-not-append_character}
+use Rattle.p21_transcribe.proofs.respelled.append_by_steps.Goals as goal
 
 pub returns-then-is_inside-clause-some : goal.returns-then-is_inside-clause-some
 returns-then-is_inside-clause-some c =

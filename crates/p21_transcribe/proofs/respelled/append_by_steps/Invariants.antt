@@ -1,5 +1,5 @@
 use Rattle.p21_transcribe.proofs.Respelling.{Leads}
-use Rattle.p21_transcribe.proofs.respelled.append_unit.Given as goal
+use Rattle.p21_transcribe.proofs.respelled.append_by_steps.Given as goal
 
 -- the bytes so far lead to the mode
 abbrev pub invariant-loop-index : goal.invariant-loop-index
