@@ -1,11 +1,10 @@
 -- Characters that are read in any spelling, and appended in their canonical ones.
-use Rattle.std.proofs.Common.{◌≡◌, ℕ, suc, ◌+◌, ◌-◌, ◌<◌, ◌≤◌, List, [], ◌∷◌, ◌++◌, length, take, drop, refl, ap, ap₂, sym, subst, ◌∙◌, arith, append-nil, append_assoc, length-append, length-drop}
+use Rattle.std.proofs.Common.{◌≡◌, ℕ, ◌+◌, ◌-◌, ◌<◌, ◌≤◌, List, [], ◌∷◌, ◌++◌, length, take, drop, refl, ap, ap₂, sym, subst, ◌∙◌, arith, append-nil, append_assoc, length-append, length-drop}
 use Rattle.std.proofs.lemmas.Grind.{flat_map-append}
-use Rattle.std.proofs.lemmas.List.{append_cancel_right, drop-drop}
+use Rattle.std.proofs.lemmas.List.{flat_map_more}
 use Rattle.std.proofs.Math.Seq.{take-add}
 use Rattle.std.specs.Char.{IsScalar}
 use Rattle.std.specs.List.{flat_map, AllByRecursion as Each}
-use Rattle.p21_exchange.proofs.Texts.{text_spells}
 use Rattle.p21_exchange.specs.Spelling.{character_spelling}
 use Rattle.p21_exchange.specs.Text.{extended2, IsStringUnit, unit_bytes, unit_characters, utf16_groups, end_extended, Encodes}
 use Rattle.p21_exchange.specs.Token.{text}
@@ -22,11 +21,10 @@ use Rattle.p21_tokens_automaton.specs.declared.mode.NameMode.TheVariants.{Hash, 
 use Rattle.p21_tokens_automaton.specs.declared.mode.TextMode.{TextMode}
 use Rattle.p21_tokens_automaton.specs.declared.mode.TextMode.TheVariants.{Inside}
 use Rattle.p21_transcribe.proofs.Splits.{rest_is}
-use Rattle.p21_transcribe.proofs.TextTokens.{followed-text, size-within}
+use Rattle.p21_transcribe.proofs.TextTokens.{characters-encoded, size-within, text-stands}
 use Rattle.p21_transcribe.specs.Characters.{AreCharacters}
 use Rattle.p21_transcribe.specs.Leaf.{Transcribes}
 use Rattle.p21_transcribe.specs.Respelling.{AreGroups, IsGroup, Respells, RespellsAll}
-use Rattle.p21_transcribe.specs.Runs.{NotFirst}
 
 both : {A : Type 0} (P : A → Type 0) (xs ys : List A) → Each P xs → Each P ys → Each P (xs ++ ys)
 both P [] ys p q = q
@@ -99,18 +97,13 @@ extended-respelled bytes count size old new start r end within some =
 
 -- ---- characters in their canonical spellings
 
-canonical-encodes : (cs : List ℕ) → Each IsScalar cs → Encodes (flat_map character_spelling cs) cs
-canonical-encodes cs p =
-    let s = text_spells cs p in
-    subst (λ (x : List ℕ). Encodes x cs) (sym (append_cancel_right (flat_map character_spelling cs) s.inside (39 ∷ []) (ap (λ (x : List ℕ). drop 1 x) s.bytes_are))) s.encodes
-
 pub canonical-respelled : (bytes : List ℕ) (count size : ℕ) (old new : List ℕ) → AreCharacters bytes count size → new ≡ old ++ take count bytes → Respells Encodes bytes count size old new
 canonical-respelled bytes count size old new a e = record {
   characters = a.characters;
   size_is = a.size_is;
   fewer = size-within bytes count size a;
   within = a.within;
-  stand_for = subst (λ (x : List ℕ). Encodes x a.characters) (sym a.bytes_are) (canonical-encodes a.characters a.are_scalars);
+  stand_for = characters-encoded bytes count size a;
   appended = e ∙ ap (λ (x : List ℕ). old ++ x) a.bytes_are;
 }
 
@@ -183,9 +176,7 @@ leads-put bytes count size byte character mode next old middle new longer h e ap
           appended
           ∙ (ap (λ (x : List ℕ). x ++ character_spelling character) h.appended
           ∙ (append_assoc old (flat_map character_spelling h.characters) (character_spelling character)
-          ∙ ap (λ (x : List ℕ). old ++ x)
-          (ap (λ (x : List ℕ). flat_map character_spelling h.characters ++ x) (sym (append-nil (character_spelling character)))
-          ∙ sym (flat_map-append character_spelling h.characters (character ∷ [])))));
+          ∙ ap (λ (x : List ℕ). old ++ x) (flat_map_more character_spelling [] h.characters character)));
     }
 
 leads-inside : (bytes : List ℕ) (count size : ℕ) (inner : TextMode) (characters : List ℕ) → Text inner ≡ Text Inside → TextFits inner characters (39 ∷ take count bytes) → TextFits Inside characters (39 ∷ take count bytes)
@@ -214,34 +205,14 @@ module _ (bytes inside : List ℕ) (count size : ℕ) (old middle after new : Li
   abbrev written : List ℕ
   written = flat_map character_spelling r.characters
 
-  closed : take (count + 1) inside ≡ take count inside ++ 39 ∷ []
-  closed = take-add count 1 inside ∙ ap (λ (x : List ℕ). take count inside ++ take 1 x) all.ends.bytes_are
-
-  behind : drop (count + 1) inside ≡ all.ends.behind
-  behind = sym (drop-drop 1 count inside) ∙ ap (λ (x : List ℕ). drop 1 x) all.ends.bytes_are
-
-  whole : suc (count + 1) ≡ count + 2
-  whole = omega arith
-
   appends : new ≡ old ++ (39 ∷ (written ++ 39 ∷ []))
   appends =
       ended
       ∙ (ap (λ (x : List ℕ). x ++ 39 ∷ []) (r.appended ∙ (ap (λ (x : List ℕ). x ++ written) begins ∙ append_assoc old (39 ∷ []) written))
       ∙ append_assoc old (39 ∷ written) (39 ∷ []))
 
-  own : Transcribes (39 ∷ inside) (suc (count + 1)) (text r.characters) old new
-  own = record {
-    stands = record {
-      within = let w = r.within in let l = ap (λ (x : List ℕ). length x) all.ends.bytes_are in omega (arith, length-drop count inside);
-      spells = record { inside = take count inside; bytes_are = ap (λ (x : List ℕ). 39 ∷ x) closed; encodes = r.stand_for };
-      followed = followed-text r.characters (take (suc (count + 1)) (39 ∷ inside)) (drop (count + 1) inside) (subst (NotFirst 39) (sym behind) all.ends.no_other);
-    };
-    appended = appends;
-  }
+  own : Transcribes (39 ∷ inside) (count + 2) (text r.characters) old new
+  own = record { stands = text-stands inside r.characters count all.ends r.stand_for; appended = appends }
 
   pub text-respelled : (characters : List ℕ) × (size ≡ length characters) × Transcribes bytes (count + 2) (text characters) old new
-  text-respelled = (
-    r.characters,
-    r.size_is,
-    subst (λ (x : List ℕ). Transcribes x (count + 2) (text r.characters) old new) (sym is) (subst (λ (k : ℕ). Transcribes (39 ∷ inside) k (text r.characters) old new) whole own),
-  )
+  text-respelled = (r.characters, r.size_is, subst (λ (x : List ℕ). Transcribes x (count + 2) (text r.characters) old new) (sym is) own)

@@ -2,7 +2,7 @@
 use Rattle.std.proofs.Common.{◌≡◌, ◌≢◌, ℕ, zero, suc, ◌+◌, ◌-◌, ◌%◌, ◌<◌, ◌≤◌, Bool, true, false, ◌&&◌, ◌||◌, eqb, List, [], ◌∷◌, ◌++◌, length, take, drop, get_or, refl, ap, ap₂, sym, subst, ◌∙◌, arith, append-nil, inl, inr, ◌⊎◌, length-append, length-drop}
 use Rattle.std.proofs.lemmas.Bool.Decides.{nat_tests}
 use Rattle.std.proofs.lemmas.Grind.{flat_map-append}
-use Rattle.std.proofs.lemmas.List.{length-take-le, drop-drop}
+use Rattle.std.proofs.lemmas.List.{append_cancel_right, length-take-le, drop-drop}
 use Rattle.std.proofs.Math.Seq.{take-add}
 use Rattle.std.specs.Char.{IsScalar}
 use Rattle.std.specs.List.{flat_map, AllByRecursion as Each}
@@ -11,7 +11,7 @@ use lib.Utf8.{low_scalar}
 use Rattle.p21_basics.specs.Digits.{hex_digits}
 use Rattle.p21_exchange.proofs.Texts.{text_spells}
 use Rattle.p21_exchange.specs.Spelling.{character_spelling}
-use Rattle.p21_exchange.specs.Text.{IsApostropheOrBackslash, SpellsText, end_extended}
+use Rattle.p21_exchange.specs.Text.{IsApostropheOrBackslash, end_extended, Encodes}
 use Rattle.p21_exchange.specs.Token.{IsFollowed, text}
 use Rattle.p21_tokens_automaton.specs.Run.{EachDoes}
 use Rattle.p21_tokens_automaton.specs.Step.{advance, inside_action, utf8_action}
@@ -22,7 +22,7 @@ use Rattle.p21_tokens_automaton.specs.declared.mode.TextMode.TheVariants.{Inside
 use Rattle.p21_tokens_automaton.specs.declared.mode.Wrong.TheVariants as wrong
 use Rattle.p21_transcribe.proofs.Splits.{rest_is}
 use Rattle.p21_transcribe.specs.Characters.{AreCharacters, EndsText, IsDoubled, IsExtendedCharacter, IsExtendedDirective}
-use Rattle.p21_transcribe.specs.Leaf.{IsCanonicalAtFront}
+use Rattle.p21_transcribe.specs.Leaf.{IsAtFront, IsCanonicalAtFront}
 use Rattle.p21_transcribe.specs.Runs.{NotFirst}
 
 pub no_characters : (bytes : List ℕ) → AreCharacters bytes 0 0
@@ -153,36 +153,45 @@ extended bytes character d h = one_character bytes 12 character h.scalar d.withi
 
 -- ---- the whole string
 
-pub followed-text : (characters spelling rest : List ℕ) → NotFirst 39 rest → IsFollowed (text characters) spelling rest
+followed-text : (characters spelling rest : List ℕ) → NotFirst 39 rest → IsFollowed (text characters) spelling rest
 followed-text characters spelling [] h = tt
 followed-text characters spelling (byte ∷ rest) h = h
+
+-- characters behind an apostrophe, up to the one that ends the string
+module _ (inside characters : List ℕ) (count : ℕ) (ends : EndsText (drop count inside)) where
+  whole : count + 2 ≡ suc (count + 1)
+  whole = omega arith
+
+  pub closed : take (count + 2) (39 ∷ inside) ≡ 39 ∷ (take count inside ++ 39 ∷ [])
+  closed = ap (λ (n : ℕ). take n (39 ∷ inside)) whole ∙ ap (λ (x : List ℕ). 39 ∷ x) (take-add count 1 inside ∙ ap (λ (x : List ℕ). take count inside ++ take 1 x) ends.bytes_are)
+
+  behind : drop (count + 2) (39 ∷ inside) ≡ ends.behind
+  behind = ap (λ (n : ℕ). drop n (39 ∷ inside)) whole ∙ (sym (drop-drop 1 count inside) ∙ ap (λ (x : List ℕ). drop 1 x) ends.bytes_are)
+
+  pub text-stands : Encodes (take count inside) characters → IsAtFront (39 ∷ inside) (count + 2) (text characters)
+  text-stands encodes = record {
+    within = let l = ap (λ (x : List ℕ). length x) ends.bytes_are in omega (arith, length-drop count inside);
+    spells = record { inside = take count inside; bytes_are = closed; encodes = encodes };
+    followed = followed-text characters (take (count + 2) (39 ∷ inside)) (drop (count + 2) (39 ∷ inside)) (subst (NotFirst 39) (sym behind) ends.no_other);
+  }
+
+canonical-encodes : (cs : List ℕ) → Each IsScalar cs → Encodes (flat_map character_spelling cs) cs
+canonical-encodes cs p =
+    let s = text_spells cs p in
+    subst (λ (x : List ℕ). Encodes x cs) (sym (append_cancel_right (flat_map character_spelling cs) s.inside (39 ∷ []) (ap (λ (x : List ℕ). drop 1 x) s.bytes_are))) s.encodes
+
+pub characters-encoded : (bytes : List ℕ) (count size : ℕ) (a : AreCharacters bytes count size) → Encodes (take count bytes) a.characters
+characters-encoded bytes count size a = subst (λ (x : List ℕ). Encodes x a.characters) (sym a.bytes_are) (canonical-encodes a.characters a.are_scalars)
 
 module _ (bytes inside : List ℕ) (count size : ℕ) (is : bytes ≡ 39 ∷ inside) (a : AreCharacters inside count size) (ends : EndsText (take (length inside - count) (drop count inside))) where
   end : EndsText (drop count inside)
   end = subst EndsText (rest_is inside count) ends
 
-  closed : take (count + 1) inside ≡ flat_map character_spelling a.characters ++ 39 ∷ []
-  closed = take-add count 1 inside ∙ ap₂ (λ (x y : List ℕ). x ++ y) a.bytes_are (ap (λ (x : List ℕ). take 1 x) end.bytes_are)
-
-  behind : drop (count + 1) inside ≡ end.behind
-  behind = sym (drop-drop 1 count inside) ∙ ap (λ (x : List ℕ). drop 1 x) end.bytes_are
-
-  whole : suc (count + 1) ≡ count + 2
-  whole = omega arith
-
-  own : IsCanonicalAtFront (39 ∷ inside) (suc (count + 1)) (text a.characters)
+  own : IsCanonicalAtFront (39 ∷ inside) (count + 2) (text a.characters)
   own = record {
-    stands = record {
-      within = let w = a.within in let l = ap (λ (x : List ℕ). length x) end.bytes_are in omega (arith, length-drop count inside);
-      spells = subst (λ (x : List ℕ). SpellsText (39 ∷ x) a.characters) (sym closed) (text_spells a.characters a.are_scalars);
-      followed = followed-text a.characters (take (suc (count + 1)) (39 ∷ inside)) (drop (count + 1) inside) (subst (NotFirst 39) (sym behind) end.no_other);
-    };
-    own = ap (λ (x : List ℕ). 39 ∷ x) closed;
+    stands = text-stands inside a.characters count end (characters-encoded inside count size a);
+    own = closed inside a.characters count end ∙ ap (λ (x : List ℕ). 39 ∷ (x ++ 39 ∷ [])) a.bytes_are;
   }
 
   pub text-at_front : (characters : List ℕ) × (size ≡ length characters) × IsCanonicalAtFront bytes (count + 2) (text characters)
-  text-at_front = (
-    a.characters,
-    a.size_is,
-    subst (λ (x : List ℕ). IsCanonicalAtFront x (count + 2) (text a.characters)) (sym is) (subst (λ (k : ℕ). IsCanonicalAtFront (39 ∷ inside) k (text a.characters)) whole own),
-  )
+  text-at_front = (a.characters, a.size_is, subst (λ (x : List ℕ). IsCanonicalAtFront x (count + 2) (text a.characters)) (sym is) own)

@@ -1,4 +1,4 @@
-//! Extended directives with groups of four digits, each of which is a character by itself (ISO 10303-21, clause 6: tokens,
+//! Directives with groups of four digits, each of which is a character by itself (ISO 10303-21, clause 6: tokens,
 //! string).
 ghost use Rattle.std.specs.Prelude.{IfNone, IfSome};
 ghost use Rattle.p21_exchange.specs.Text.{Encodes};
@@ -45,7 +45,7 @@ fn append_groups(groups: &[u8], draft: &mut Draft) -> Option<(usize, usize)>
     Some((count, characters))
 }
 
-/// The character of the group at the front, where it is no half of one.
+/// The character of the group at the front, unless it is a surrogate.
 fn group_character(rest: &[u8]) -> Option<char>
     ensures { IfSome result (λ character. IsGroup rest.now character) }
 {
