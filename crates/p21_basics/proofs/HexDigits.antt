@@ -4,6 +4,7 @@ use Rattle.std.proofs.lemmas.Bool.Decides.{nat_tests}
 use Rattle.std.specs.Prelude.{nat_lt, if◌then◌else◌}
 use Rattle.std.specs.List.{AllByRecursion as Each}
 use Rattle.p21_basics.specs.Digits.{hex_digit, hex_digits}
+use Rattle.p21_basics.proofs.Members.{Each-append}
 
 -- the number of the digits, behind digits whose number is n
 abbrev pub hex_number_behind : ℕ → List ℕ → ℕ
@@ -34,13 +35,9 @@ length-hex_digits (suc count) n = length-append (hex_digits count (n / 16)) _ �
 abbrev pub IsHexDigit : ℕ → Type 0
 IsHexDigit byte = (48 ≤ byte) × (byte ≤ 70)
 
-both : (xs ys : List ℕ) → Each IsHexDigit xs → Each IsHexDigit ys → Each IsHexDigit (xs ++ ys)
-both [] ys p q = q
-both (x ∷ xs) ys p q = (p.0, both xs ys p.1 q)
-
 is_hex_digit : (n : ℕ) → n < 16 → IsHexDigit (hex_digit n)
 is_hex_digit n h = (grind (arith, nat_tests), grind (arith, nat_tests))
 
 pub are_hex_digits : (count n : ℕ) → Each IsHexDigit (hex_digits count n)
 are_hex_digits zero n = tt
-are_hex_digits (suc count) n = both (hex_digits count (n / 16)) _ (are_hex_digits count (n / 16)) (is_hex_digit (n % 16) (omega arith), tt)
+are_hex_digits (suc count) n = Each-append IsHexDigit (hex_digits count (n / 16)) _ (are_hex_digits count (n / 16)) (is_hex_digit (n % 16) (omega arith), tt)

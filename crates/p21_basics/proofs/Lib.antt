@@ -1,3 +1,4 @@
+pub mod Comparing
 pub mod HexDigits
 pub mod LastDigit
 pub mod Members

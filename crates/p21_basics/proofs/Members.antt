@@ -1,5 +1,5 @@
 -- The members of lists.
-use Rattle.std.specs.Prelude.{◌≡◌, ℕ, zero, suc, ◌+◌, List, [], ◌∷◌, ◌++◌, map, filter, slice_get, Some, Contains, refl, ◌⊎◌, Bool, true, false, cond}
+use Rattle.std.specs.Prelude.{◌≡◌, ℕ, zero, suc, ◌+◌, List, [], ◌∷◌, ◌++◌, map, filter, length, slice_get, Option, Some, Contains, refl, ◌⊎◌, Bool, true, false, cond}
 use Rattle.std.specs.Str.{bytes_eq}
 use Rattle.std.proofs.lemmas.Bool.{or_parts}
 use Rattle.std.specs.List.{list_any, flat_map, zip, AllZip, enumerate_from, AllByRecursion as Each}
@@ -33,6 +33,11 @@ Contains-one_of g (x ∷ xs) y among = elim (Contains-append_cases (g x) (flat_m
   | inr h ↦ let (other, at, found) = Contains-one_of g xs y h in (other, Contains-later x xs other at, found)
 ]
 
+-- functions that give the same lists at the members
+pub flat_map-same : {X Y : Type 0} (g h : X → List Y) (xs : List X) → ((x : X) → Contains xs x → g x ≡ h x) → flat_map g xs ≡ flat_map h xs
+flat_map-same g h [] same = refl
+flat_map-same g h (x ∷ xs) same = ap (λ ys. ys ++ flat_map g xs) (same x (Contains-first x xs)) ∙ ap (λ ys. h x ++ ys) (flat_map-same g h xs (λ y among. same y (Contains-later x xs y among)))
+
 pub Contains-filter : {X : Type 0} (test : X → Bool) (xs : List X) (y : X) → test y ≡ true → Contains xs y → Contains (filter test xs) y
 Contains-filter test [] y passes among = absurd (Contains-none y among)
 Contains-filter test (x ∷ xs) y passes among = elim (Contains-cases x xs y among) [
@@ -65,6 +70,19 @@ pub Contains-found : {X : Type 0} (xs : List X) (k : ℕ) (x : X) → slice_get 
 Contains-found [] k x at = cc
 Contains-found (y ∷ ys) zero x at = (0, omega arith, let same : y ≡ x = cc in same)
 Contains-found (y ∷ ys) (suc k) x at = Contains-later y ys x (Contains-found ys k x at)
+
+-- a member keeps its number where more stands behind it
+pub at-front : {X : Type 0} (xs ys : List X) (k : ℕ) (x : X) → slice_get xs k ≡ Some x → slice_get (xs ++ ys) k ≡ Some x
+at-front [] ys k x at = cc
+at-front (z ∷ zs) ys zero x at = at
+at-front (z ∷ zs) ys (suc k) x at = at-front zs ys k x at
+
+-- and where others stand in front of it, its number grows by how many they are
+pub at-behind : {X : Type 0} (xs ys : List X) (k : ℕ) (x : X) → slice_get ys k ≡ Some x → slice_get (xs ++ ys) (length xs + k) ≡ Some x
+at-behind {X} [] ys k x at = let same : k ≡ 0 + k = omega arith in let P : ℕ → Type 0 = λ n. slice_get ys n ≡ Some x in subst P same at
+at-behind {X} (z ∷ zs) ys k x at =
+    let next : suc (length zs + k) ≡ length (z ∷ zs) + k = omega arith in
+    let P : ℕ → Type 0 = λ n. slice_get (z ∷ zs ++ ys) n ≡ Some x in subst P next (at-behind zs ys k x at)
 
 pub Contains-mapped : {X Y : Type 0} (f : X → Y) (xs : List X) (x : X) → Contains xs x → Contains (map f xs) (f x)
 Contains-mapped f [] x among = absurd (Contains-none x among)
@@ -163,6 +181,13 @@ AllZip-both P Q [] (y ∷ ys) all all_ = absurd all
 AllZip-both P Q (x ∷ xs) [] all all_ = absurd all
 AllZip-both P Q (x ∷ xs) (y ∷ ys) all all_ = ((all.0, all_.0), AllZip-both P Q xs ys all.1 all_.1)
 
+-- the lists the other way round
+pub AllZip-turned : {X Y : Type 0} (R : X → Y → Type 0) (xs : List X) (ys : List Y) → AllZip R xs ys → AllZip (λ y x. R x y) ys xs
+AllZip-turned R [] [] all = tt
+AllZip-turned R [] (y ∷ ys) all = absurd all
+AllZip-turned R (x ∷ xs) [] all = absurd all
+AllZip-turned R (x ∷ xs) (y ∷ ys) all = (all.0, AllZip-turned R xs ys all.1)
+
 -- the first of two that stand beside each other is a member of the first list
 pub Contains-zip : {X Y : Type 0} (xs : List X) (ys : List Y) (x : X) (y : Y) → Contains (zip xs ys) (x, y) → Contains xs x
 Contains-zip [] ys x y among = absurd (Contains-none (x, y) among)
@@ -221,3 +246,9 @@ head_is x y xs ys e = cc
 
 pub tail_is : (x y : ℕ) (xs ys : List ℕ) → x ∷ xs ≡ y ∷ ys → xs ≡ ys
 tail_is x y xs ys e = cc
+
+pub some_is : {X : Type 0} (x y : X) → Some x ≡ Some y → x ≡ y
+some_is x y e = cc
+
+pub some_pair_is : {X Y : Type 0} (x z : X) (y w : Y) → ◌≡◌ {A = Option (X × Y)} (Some (x, y)) (Some (z, w)) → (x ≡ z) × (y ≡ w)
+some_pair_is {X} {Y} x z y w e = let same : ◌≡◌ {A = X × Y} (x, y) (z, w) = cc in (ap (λ (p : X × Y). p.0) same, ap (λ (p : X × Y). p.1) same)

@@ -5,7 +5,7 @@ use Rattle.std.specs.Prelude.{nat_eq, not, cond}
 use Rattle.std.proofs.lemmas.Bool.{eq-eqb}
 use Rattle.p21_basics.proofs.Members.{Contains-none, Contains-first, Contains-later, Contains-cases, Contains-unfiltered}
 use Rattle.p21_basics.proofs.Shuffles.{AreMembers, NoneTwice, Taken, taken_first, taken_later, Contains-taken, Taken-other, distinct-none_twice}
-use Rattle.p21_claim_values.proofs.Leaves.{closure-leaf, leaf-closure}
+use Rattle.p21_claim_values.proofs.Leaves.{leaf-closure}
 use Rattle.p21_files.specs.CanonicalRecord.{HasOneLeaf}
 use Rattle.p21_schemas.proofs.Orders.{order-has, order-is, order_within-only}
 use Rattle.p21_schemas.specs.Order.{firsts, order}
@@ -96,6 +96,3 @@ closure-long s formed entities set e among closure =
 -- a set of which none has an order as long has no leaf or several
 pub no_order-no_leaf : (s : Schema) → IsWellFormed s → (entities : List ℕ) → IsClosedSet s entities → ((e : ℕ) → Contains entities e → length (order s e) ≢ length entities) → ¬ HasOneLeaf s entities
 no_order-no_leaf s formed entities set none leaf = none leaf.0 leaf.1.0 (closure-long s formed entities set leaf.0 leaf.1.0 (leaf-closure s formed entities set.closed leaf))
-
-pub order-one_leaf : (s : Schema) → IsWellFormed s → (entities : List ℕ) (e : ℕ) → IsClosureOf s entities e → HasOneLeaf s entities
-order-one_leaf s formed entities e closure = closure-leaf s formed entities e closure

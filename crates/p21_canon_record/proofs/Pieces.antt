@@ -3,13 +3,13 @@ use Rattle.std.proofs.Common.{◌≡◌, ℕ, List, [], ◌∷◌, ◌++◌, cod
 use Rattle.std.proofs.lemmas.List.{map-append}
 use Rattle.std.specs.List.{flat_map, AllByRecursion as Each}
 use Rattle.p21_basics.proofs.Members.{Each-append}
-use Rattle.p21_claim_values.proofs.CanonicalParam.{canonical_params, params_of, texts-of, value_texts-are}
+use Rattle.p21_claim_values.proofs.CanonicalParam.{canonical_params, texts-of, value_texts-are}
 use Rattle.p21_claim_values.proofs.OfType.{AreWritten}
 use Rattle.p21_claim_values.proofs.ParamTexts.{list-is, tokens_text-append}
 use Rattle.p21_claim_values.proofs.Printing.{part-said}
 use Rattle.p21_claim_values.specs.Written.{IsSpelled, IsWrittenStatement}
 use Rattle.p21_exchange.specs.CanonicalText.{param_text, param_texts, statement_text, tokens_text}
-use Rattle.p21_exchange.specs.Parameter.{Param, Params, key_of}
+use Rattle.p21_exchange.specs.Parameter.{Param, Params, key_of, params_of}
 use Rattle.p21_exchange.specs.Record.{Record, part_tokens, record_tokens}
 use Rattle.p21_exchange.specs.Spelling.{name_spelling}
 use Rattle.p21_exchange.specs.Statement.{instance}

@@ -5,11 +5,11 @@ use Rattle.std.specs.Prelude.{if◌then◌else◌}
 use Rattle.std.proofs.lemmas.Bool.{eq-eqb, ne_eqb, cases_eq}
 use Rattle.p21_basics.proofs.Members.{AllZip-beside, AllZip-second_member, Contains-cases, Contains-first, Contains-flat_map, Contains-later, Contains-none}
 use Rattle.p21_basics.proofs.Shuffles.{NoneTwice}
-use Rattle.p21_claim_values.proofs.CanonicalParam.{canonical_params, params_of}
+use Rattle.p21_claim_values.proofs.CanonicalParam.{canonical_params}
 use Rattle.p21_claim_values.proofs.Existence.{canonical_value, canonical-is}
 use Rattle.p21_claim_values.proofs.Printing.{at-fits, canonical_typed, has-canonical_value}
 use Rattle.p21_claim_values.proofs.RecordOnce.{value-once}
-use Rattle.p21_exchange.specs.Parameter.{Param, Params, no_params, param}
+use Rattle.p21_exchange.specs.Parameter.{Param, Params, no_params, param, params_of}
 use Rattle.p21_exchange.specs.Record.{Record, simple, complex}
 use Rattle.p21_express_tables.proofs.Lookups.{own-places-are}
 use Rattle.p21_express_tables.specs.Lookups.{places_from}

@@ -7,12 +7,12 @@ use Rattle.std.specs.Ordering.{is_lt, nat_cmp}
 use Rattle.std.specs.Prelude.{slice_index_or}
 use Rattle.p21_basics.proofs.Members.{AllZip-member, Contains-cases, Contains-first, Contains-later, Contains-none}
 use Rattle.p21_basics.proofs.Shuffles.{none_twice-distinct}
-use Rattle.p21_claim_values.proofs.CanonicalParam.{canonical_params, params_of}
-use Rattle.p21_claim_values.proofs.Leaves.{closure-leaf, is_a-transitive}
+use Rattle.p21_claim_values.proofs.CanonicalParam.{canonical_params}
+use Rattle.p21_claim_values.proofs.Leaves.{closure-leaf}
 use Rattle.p21_claim_values.proofs.Printing.{canonical_typed, means-with}
 use Rattle.p21_claim_values.proofs.RecordOnce.{words}
 use Rattle.p21_claim_values.proofs.Sorting.{below-not_back}
-use Rattle.p21_exchange.specs.Parameter.{key_of}
+use Rattle.p21_exchange.specs.Parameter.{key_of, params_of}
 use Rattle.p21_exchange.specs.Record.{Part, Record, simple, complex}
 use Rattle.p21_files.proofs.OneMeaning.{rising-none_twice}
 use Rattle.p21_files.specs.CanonicalRecord.{AreRising, HasOneLeaf, IsCanonicalPart, IsCanonicalRecord}
@@ -27,6 +27,7 @@ use Rattle.p21_schemas.specs.Supertype.{InClosure, itself}
 use Rattle.p21_schemas.specs.WellFormed.{IsWellFormed}
 use Rattle.p21_canon_record.proofs.Places.{row-stands, rows_params, rows-stand}
 use Rattle.p21_canon_record.specs.Pieces.{IsClosedSet, IsClosureOf, entity_name}
+use Rattle.p21_schemas.proofs.PlaceTypes.{IsA-transitive}
 
 -- ---- names
 
@@ -44,7 +45,7 @@ member-named s kinds r m means e among =
 -- ---- the set
 
 subset-closed : (s : Schema) (kinds : Kinds) (r : Record) (m : Typed) → RecordMeans s kinds r m → (f : ℕ) → InClosure s m.entities f → Contains m.entities f
-subset-closed s kinds (simple part) m means f (e, among, is) = (means.means.closure f).1 (is_a-transitive s means.means.entity e f ((means.means.closure e).0 among) is)
+subset-closed s kinds (simple part) m means f (e, among, is) = (means.means.closure f).1 (IsA-transitive s means.means.entity e f ((means.means.closure e).0 among) is)
 subset-closed s kinds (complex parts) m means f (e, among, is) = (means.means.same_entities f).0 (means.means.closed f (e, (means.means.same_entities e).1 among, is))
 
 pub closed-set : (s : Schema) (kinds : Kinds) (r : Record) (m : Typed) → RecordMeans s kinds r m → IsClosedSet s m.entities

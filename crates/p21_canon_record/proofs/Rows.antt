@@ -1,14 +1,15 @@
 -- Rows found, and texts of values one behind the other.
-use Rattle.std.proofs.Common.{◌≡◌, ◌≢◌, ℕ, zero, suc, ◌+◌, ◌<◌, ◌≤◌, Bool, true, false, List, [], ◌∷◌, ◌++◌, length, take, get_or, Some, Contains, arith, refl, ap, sym, subst, ◌∙◌, append_assoc, append-nil, Result, Ok, Err}
+use Rattle.std.proofs.Common.{◌≡◌, ◌≢◌, ℕ, zero, suc, ◌+◌, ◌<◌, Bool, true, false, List, [], ◌∷◌, ◌++◌, length, take, get_or, Some, Contains, arith, refl, ap, sym, subst, ◌∙◌, append_assoc, append-nil, Result, Ok, Err}
 use Rattle.std.proofs.lemmas.Bool.{eq-eqb, ne_eqb}
 use Rattle.std.proofs.lemmas.Grind.{flat_map-append}
-use Rattle.std.proofs.lemmas.List.{length-map, map-append, take_all, take_more}
+use Rattle.std.proofs.lemmas.List.{length-map, map-append, take_more}
 use Rattle.std.proofs.lemmas.Option.{slice_get-map, slice_get_read}
-use Rattle.std.specs.List.{AllZip, AllByRecursion as Each}
+use Rattle.std.specs.List.{AllByRecursion as Each}
 use Rattle.std.specs.Option.{option_map}
 use Rattle.std.specs.Result.{OnErr}
 use Rattle.p21_values.specs.Canonical.{Continues}
 use Rattle.std.specs.Prelude.{if◌then◌else◌, nat_eq, slice_get}
+use Rattle.std.proofs.lemmas.Slice.Zip.{AllZip-long}
 use Rattle.p21_basics.proofs.Members.{AllZip-member, Each-append, Each-at}
 use Rattle.p21_canon_record.proofs.Records.{closed-set}
 use Rattle.p21_canon_record.specs.Meant.{IsMeant}
@@ -21,7 +22,6 @@ use Rattle.p21_files.specs.Meaning.{HasOwnCount, Typed}
 use Rattle.p21_files.specs.Value as meant
 use Rattle.p21_files.specs.ValueText.{value_text, value_texts, with_commas, with_commas_between}
 use Rattle.p21_mapping_text.proofs.Elements.{texts, texts-more}
-use Rattle.p21_mapping_text.proofs.Rising.{with_commas-push}
 use Rattle.p21_mapping_text.specs.KnownTypes.{HaveKnownTypes}
 use Rattle.p21_mapping_text.specs.Spelled.{AreSpelled}
 use Rattle.p21_mapping_values.specs.declared.value.Value.{Value}
@@ -30,6 +30,7 @@ use Rattle.p21_mapping_values.specs.TypedView.{rows_view}
 use Rattle.p21_mapping_values.specs.View.{list_of, view, views}
 use Rattle.p21_schemas.specs.Order.{order}
 use Rattle.p21_schemas.specs.Schema.{EntityNamed, Schema}
+use Rattle.p21_files.proofs.Commas.{with_commas-push}
 
 -- ---- what a refusal leaves
 
@@ -57,18 +58,12 @@ found-low [] k x found = cc
 found-low (y ∷ ys) zero x found = omega arith
 found-low (y ∷ ys) (suc k) x found = let low = found-low ys k x found in omega (arith, low)
 
-same-length : {X Y : Type 0} (R : X → Y → Type 0) (xs : List X) (ys : List Y) → AllZip R xs ys → length xs ≡ length ys
-same-length R [] [] all = refl
-same-length R [] (y ∷ ys) all = absurd all
-same-length R (x ∷ xs) [] all = absurd all
-same-length R (x ∷ xs) (y ∷ ys) all = ap suc (same-length R xs ys all.1)
-
 pub meant-rows : (s : Schema) (m : Typed) → IsMeant s m → HasRows s m
 meant-rows s m is =
     let means = is.means.means in
     record {
       entities_are = λ e among. (let (name, at, named) = AllZip-member (EntityNamed s) m.entities means.rising.0 e means.rising.1 among in found-low s.entities e named.0 named.1);
-      long = same-length (HasOwnCount s) m.entities m.values means.own_counts;
+      long = sym (AllZip-long (HasOwnCount s) m.entities m.values means.own_counts);
       known = is.types_known;
     }
 
@@ -166,9 +161,6 @@ value-next s first now xs i x old out separated more is low e still f g =
 
 pub still-next : (s : Schema) (first : Bool) (xs : List Value) (i : ℕ) (x : Value) → x ≡ get_or xs i x → i < length xs → false ≡ still_first first (texts s (take (i + 1) xs))
 still-next s first xs i x is low = sym (ap (still_first first) (texts-more s xs i x is low) ∙ still-push first (texts s (take i xs)) (value_text s (view x)))
-
-pub texts-whole : (s : Schema) (xs : List Value) (i : ℕ) → length xs ≤ i → texts s (take i xs) ≡ value_texts s (views xs)
-texts-whole s xs i above = ap (λ (ys : List Value). value_texts s (views ys)) (take_all i xs above)
 
 -- ---- a row more
 

@@ -6,10 +6,8 @@ use Rattle.p21_canon_tokens.proofs.SpelledScalars.{name-spelled}
 use Rattle.p21_exchange.specs.Spelling.{name_spelling}
 use Rattle.p21_basics.proofs.Members.{Each-front}
 use Rattle.p21_claim_values.proofs.CanonicalLaid.{laid-each_spelled, statement_laid}
-use Rattle.p21_claim_values.proofs.Needs.{served-means}
 use Rattle.p21_claim_values.proofs.Printing.{canonical-same_typed, canonical_typed}
 use Rattle.p21_claim_values.proofs.RecordOnce.{record-once}
-use Rattle.p21_claim_values.specs.Needs.{MeansWith}
 use Rattle.p21_claim_values.specs.Written.{IsSpelled, IsWrittenStatement}
 use Rattle.p21_exchange.specs.CanonicalText.{statement_text}
 use Rattle.p21_exchange.specs.Laying.{Laid}
@@ -20,7 +18,7 @@ use Rattle.p21_files.proofs.SameFiles.{SameTyped-symmetric, SameTyped-transitive
 use Rattle.p21_files.specs.CanonicalRecord.{HasOneLeaf}
 use Rattle.p21_files.specs.Kept.{IsInstanceText}
 use Rattle.p21_files.specs.Meaning.{RecordMeans, Typed}
-use Rattle.p21_files.specs.Reference.{IsServed, Kinds, Need}
+use Rattle.p21_files.specs.Reference.{Kinds}
 use Rattle.p21_files.specs.SameFile.{SameTyped}
 use Rattle.p21_mapping_text.specs.Spelled.{AreSpelled}
 use Rattle.p21_schemas.specs.Order.{order}
@@ -122,7 +120,3 @@ statement-instance s n m text is kinds r means = record {
   text_is = is.text_is;
   laid = is.laid;
 }
-
--- among all instances that serve what a record of this meaning needs, the statement means the same
-pub served-statement : (s : Schema) → IsWellFormed s → (n : ℕ) (m : Typed) (text : List ℕ) → (is : IsCanonicalStatement s n m text) → (r : Record) (needs : List Need) → MeansWith s r m needs → (kinds : Kinds) → Each (IsServed s kinds) needs → RecordMeans s kinds is.canonical is.canonical_meaning
-served-statement s formed n m text is r needs means kinds served = is.means kinds r (served-means s formed r m needs means kinds served)

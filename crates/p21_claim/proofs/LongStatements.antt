@@ -4,10 +4,10 @@ use Rattle.p21_basics.proofs.Members.{tail_is}
 use Rattle.p21_claim.proofs.Fronts.{long-statement}
 use Rattle.p21_claim.specs.SizeLaws.{FullStatementIsDead}
 use Rattle.p21_exchange.proofs.FirstBytes.{spelling_begins}
-use Rattle.p21_exchange.proofs.OneGap.{HasNoSeparator, gap-one}
+use Rattle.p21_exchange.proofs.OneGap.{gap-one, nothing-first}
 use Rattle.p21_exchange.specs.Laying.{AreStatementsWithin, LaidAs, Lexeme, count_behind, open_bytes}
 use Rattle.p21_exchange.specs.Pending.{BeginsNoSeparator, IsTokenByte, LaidUpTo, Tail, nothing, open_comment, slash, tail_size, unfinished}
-use Rattle.p21_exchange.specs.Separator.{IsSeparatorText, blank, comment}
+use Rattle.p21_exchange.specs.Separator.{IsSeparatorText}
 use Rattle.p21_exchange.specs.Token.{IsFollowed, MayFollow, Spells, Token, semicolon}
 use Rattle.p21_tokens_automaton.proofs.OnePending.{append-rest, begins-no_separator, begins-on, count-more, front-one}
 
@@ -23,10 +23,6 @@ fronts (b ∷ x) y (c ∷ q) w same = elim (fronts x y q w (tail_is b c _ _ same
   | inr shorter ↦ inr (omega (arith, shorter))
 ]
 
-none-begin : HasNoSeparator []
-none-begin (blank b) rest is same = cc
-none-begin (comment inside) rest is same = cc
-
 no-front : (gap : List ℕ) (b : ℕ) (bytes : List ℕ) → [] ≡ gap ++ (b ∷ bytes) → ⊥
 no-front [] b bytes same = cc
 no-front (c ∷ gap) b bytes same = cc
@@ -34,7 +30,7 @@ no-front (c ∷ gap) b bytes same = cc
 -- separator text is no token's front
 no-token : (gap x bytes : List ℕ) → IsSeparatorText gap → BeginsNoSeparator x → bytes ≡ gap ++ x → IsSeparatorText bytes → ⊥
 no-token gap x bytes separates begins is separates_ =
-    let none : [] ≡ x = gap-one bytes gap [] x separates_ separates none-begin (begins-no_separator x begins) (append-nil bytes ∙ is) in
+    let none : [] ≡ x = gap-one bytes gap [] x separates_ separates nothing-first (begins-no_separator x begins) (append-nil bytes ∙ is) in
     subst BeginsNoSeparator (sym none) begins
 
 some-bytes : (token : Token) (q : List ℕ) → Spells token q → 1 ≤ length q

@@ -1,12 +1,12 @@
 -- A canonical file within limits is accepted, and is its own canonical file.
-use Rattle.std.proofs.Common.{◌≡◌, ℕ, ◌≤◌, List, [], ◌∷◌, length, refl, sym, subst, arith}
+use Rattle.std.proofs.Common.{◌≡◌, ℕ, ◌≤◌, List, [], ◌∷◌, length, sym, subst, arith}
 use Rattle.std.specs.List.{flat_map, AllByRecursion as Each}
 use Rattle.p21_schemas.specs.WellFormed.{IsWellFormed}
 use Rattle.p21_files.proofs.SameFiles.{SameFileMeaning-reflexive}
 use Rattle.p21_files.specs.Accepted.{IsAccepted, IsCanonicalFile, IsCanonicalOf, IsLineWithin, Means}
 use Rattle.p21_files.specs.Canonical.{Canonical}
 use Rattle.p21_exchange.specs.CanonicalText.{statement_text}
-use Rattle.p21_files.specs.File.{FileMeaning, Reads}
+use Rattle.p21_files.specs.File.{FileMeaning}
 use Rattle.p21_exchange.specs.Laying.{Lexeme, LaidAs, AreStatementsWithin}
 use Rattle.p21_basics.specs.Limits.{AreLimits, Limits}
 use Rattle.p21_files.specs.SameFile.{SameFileMeaning}
@@ -16,7 +16,7 @@ use Rattle.p21_exchange.specs.Structure.{statements, tokens_of}
 use Rattle.p21_exchange.specs.Token.{Token}
 use Rattle.p21_claim_values.proofs.CanonicalLaid.{laid-spelled, statement_lexemes, lines_laid, statements_within}
 use Rattle.p21_claim.proofs.OneAccepted.{Means-one}
-use Rattle.p21_claim.proofs.OneReading.{one_lexemes, Reads-one}
+use Rattle.p21_claim.proofs.OneReading.{one_lexemes}
 use Rattle.p21_claim_values.specs.Written.{IsSpelled}
 
 -- the lexemes of canonical bytes are those of their lines, whatever laying is taken
@@ -55,18 +55,6 @@ own-means s limits are bytes c short within = record {
   canonical = bytes;
   is_canonical = own-canonical s limits bytes c short within;
 }
-
--- with themselves as canonical file
-pub own-means_canonical : (s : Schema) (limits : Limits) (are : AreLimits limits) (bytes : List ℕ) (c : Canonical s bytes) (short : length bytes ≤ limits.file_canonical) (within : Each (IsLineWithin limits) (statements c.reads.structure))
-    → (own-means s limits are bytes c short within).canonical ≡ bytes
-unfolding own-means
-own-means_canonical s limits are bytes c short within = refl
-
--- and they mean it by each reading
-pub own-means_as : (s : Schema) → IsWellFormed s → (limits : Limits) → AreLimits limits → (bytes : List ℕ) (c : Canonical s bytes) → length bytes ≤ limits.file_canonical → Each (IsLineWithin limits) (statements c.reads.structure)
-    → (m : FileMeaning) → Reads s bytes m → Means s limits bytes m
-own-means_as s formed limits are bytes c short within m reads =
-    subst (λ (x : FileMeaning). Means s limits bytes x) (Reads-one s formed bytes c.meaning m c.reads reads) (own-means s limits are bytes c short within)
 
 -- a canonical file of some meaning means the same as it, within the limits, and is its own canonical file
 pub canonical-means : (s : Schema) (limits : Limits) → AreLimits limits → (m : FileMeaning) (bytes : List ℕ) (is : IsCanonicalOf s limits m bytes) → Means s limits bytes is.canonical.meaning

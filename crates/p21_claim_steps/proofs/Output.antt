@@ -1,16 +1,17 @@
 -- The lines of a section by rising names, and blocks of them.
 use Rattle.std.specs.Prelude.{◌≡◌, ◌≤◌, ◌<◌, ◌+◌, ℕ, suc, List, [], ◌∷◌, map, length, filter, nat_eq, refl, slice_get, Some, Contains, Bool, true, false, cond}
-use Rattle.std.specs.List.{AllZip, IsDistinct, range_with_len}
+use Rattle.std.specs.List.{IsDistinct, range_with_len}
 use Rattle.std.specs.List.Sorted.{IsNonDecreasingBy, IsPermutation, IsStrictlySortedBy}
 use Rattle.std.specs.Ordering.{nat_cmp}
 use Rattle.std.proofs.Common.{arith, ap, sym, subst, ◌∙◌, inl, inr, Less}
-use Rattle.std.proofs.lemmas.Bool.{eq-eqb, eqb-true, ne_eqb}
+use Rattle.std.proofs.lemmas.Bool.{eq-eqb, eqb-true}
 use Rattle.std.proofs.lemmas.Bool.Decides.{eqb_tells}
 use Rattle.std.specs.Cmp.{nat_cmp_is}
 use Rattle.std.proofs.lemmas.List.FromFn.{get_or-range_with_len, length-range_with_len}
 use Rattle.std.proofs.lemmas.List.Sorted.{Contains-permutation, IsPermutation-map, IsPermutation-sym, length_permutation}
 use Rattle.std.proofs.lemmas.Map.Keys.{IsDistinct-IsPermutation}
 use Rattle.std.proofs.lemmas.Option.{slice_get_within}
+use Rattle.std.proofs.lemmas.Slice.Zip.{AllZip-long}
 use Rattle.p21_basics.proofs.Members.{AllZip-member, AllZip-second_member, Contains-cases, Contains-filter, Contains-mapped, Contains-none, Contains-unfiltered, Contains-unmapped, Each-of_members}
 use Rattle.p21_basics.proofs.RisingLists.{Rises, mapped-rises}
 use Rattle.p21_basics.proofs.Shuffles.{NoneTwice, distinct-none_twice, none_twice-distinct}
@@ -22,20 +23,15 @@ use Rattle.p21_claim_steps.specs.Keeping.{IsBlockAt}
 use Rattle.p21_claim_steps.specs.OutputLaws.{BlocksBySections, KeepsNamesDiffer, LinesBySection, lines_of, stored_at}
 use Rattle.p21_claim_steps.specs.Stored.{Stored, stored_in, stored_of}
 use Rattle.p21_exchange.specs.DataSection.{Heading}
+use Rattle.p21_basics.proofs.Comparing.{nat_eq-turned}
 
 -- ---- names that differ
-
-flips : (x y : ℕ) → nat_eq x y ≡ nat_eq y x
-flips x y = elim (eqb_tells x y) [
-  | inl (equal, same) ↦ equal ∙ sym (eq-eqb y x (sym same))
-  | inr (other, differ) ↦ other ∙ sym (ne_eqb y x (λ e. differ (sym e)))
-]
 
 abbrev names_of : List Stored → List ℕ
 names_of stored = map (λ (x : Stored). x.name) stored
 
 names-shuffled : (xs ys : List Stored) → IsPermutation xs ys → IsDistinct nat_eq (names_of xs) → IsDistinct nat_eq (names_of ys)
-names-shuffled xs ys are differ = IsDistinct-IsPermutation nat_eq flips (names_of xs) (names_of ys) (IsPermutation-map (λ (x : Stored). x.name) xs ys are) differ
+names-shuffled xs ys are differ = IsDistinct-IsPermutation nat_eq nat_eq-turned (names_of xs) (names_of ys) (IsPermutation-map (λ (x : Stored). x.name) xs ys are) differ
 
 stored-names : (ps : List (ℕ × Entry)) → names_of (map stored_of ps) ≡ map (λ (e : Entry). e.name) (map (λ (p : ℕ × Entry). p.1) ps)
 stored-names [] = refl
@@ -114,15 +110,9 @@ lines-by_section stored differ number own are sorted = ((onto, back), subst (IsS
 
 -- ---- blocks
 
-zip-size : {X Y : Type 0} (R : X → Y → Type 0) (xs : List X) (ys : List Y) → AllZip R xs ys → length ys ≡ length xs
-zip-size R [] [] all = refl
-zip-size R [] (y ∷ ys) all = absurd all
-zip-size R (x ∷ xs) [] all = absurd all
-zip-size R (x ∷ xs) (y ∷ ys) all = let rest = zip-size R xs ys all.1 in omega (arith, rest)
-
 pub blocks-by_sections : BlocksBySections
 blocks-by_sections kept numbers blocks are all rise lines = record {
-  as_many = zip-size (IsBlockAt kept) numbers blocks all ∙ length_permutation (range_with_len 0 (length kept.headings)) numbers are ∙ length-range_with_len 0 (length kept.headings);
+  as_many = AllZip-long (IsBlockAt kept) numbers blocks all ∙ length_permutation (range_with_len 0 (length kept.headings)) numbers are ∙ length-range_with_len 0 (length kept.headings);
   each_block = Each-of_members (λ (b : Block). (number : ℕ) × IsBlockAt kept number b) blocks (λ b among. let (number, at, is) = AllZip-second_member (IsBlockAt kept) numbers blocks b all among in (number, is));
   each_section = each;
   sections_rise = rise;

@@ -7,11 +7,10 @@ use Rattle.p21_exchange.proofs.WholeSpellings.{whole_spells}
 use Rattle.p21_schemas.specs.Schema as schema
 use Rattle.p21_exchange.specs.CanonicalText.{param_text, param_texts}
 use Rattle.p21_exchange.specs.Parameter as parameter
-use Rattle.p21_exchange.specs.Parameter.{Param, Params, no_params, param, key_of, listed, param_tokens, params_tokens, more_tokens}
+use Rattle.p21_exchange.specs.Parameter.{Param, key_of, listed, param_tokens, params_tokens, more_tokens, params_of}
 use Rattle.p21_schemas.specs.Schema.{Schema, TypeUse}
 use Rattle.p21_exchange.specs.Spelling.{spelling}
 use Rattle.p21_exchange.specs.Token as token
-use Rattle.p21_exchange.specs.Token.{Token}
 use Rattle.p21_files.specs.Value.{Value, whole, real, number, text, bits, item, reference, derived, missing, list, array, set, bag, typed, Values, no_values, value}
 use Rattle.p21_claim_values.proofs.CanonicalValue.{named-is}
 use Rattle.p21_claim_values.proofs.LaidTexts.{one-text}
@@ -22,6 +21,7 @@ use Rattle.p21_files.specs.Sorting.{is_below, insert_text, sort_texts}
 use Rattle.p21_files.specs.ValueText.{type_name, list_text, value_text, value_texts}
 use Rattle.p21_basics.proofs.Members.{Each-append}
 use Rattle.p21_claim_values.specs.Written.{IsSpelled, IsWritten}
+use Rattle.p21_exchange.proofs.Parameters.{listed-params}
 
 abbrev pub insert_param : Param → List Param → List Param
 insert_param p [] = p ∷ []
@@ -31,10 +31,6 @@ insert_param p (q ∷ qs) = if is_below (param_text q) (param_text p) then q ∷
 abbrev pub sort_params : List Param → List Param
 sort_params [] = []
 sort_params (p ∷ ps) = insert_param p (sort_params ps)
-
-abbrev pub params_of : List Param → Params
-params_of [] = no_params
-params_of (p ∷ ps) = param p (params_of ps)
 
 abbrev mutual
   pub canonical_param : Schema → Value → Param
@@ -59,12 +55,8 @@ abbrev mutual
 
 -- ---- lists
 
-pub listed-of : (ps : List Param) → listed (params_of ps) ≡ ps
-listed-of [] = refl
-listed-of (p ∷ ps) = ap (λ (qs : List Param). p ∷ qs) (listed-of ps)
-
 pub params_of-once : (ps qs : List Param) → params_of ps ≡ params_of qs → ps ≡ qs
-params_of-once ps qs same = sym (listed-of ps) ∙ ap listed same ∙ listed-of qs
+params_of-once ps qs same = sym (listed-params ps) ∙ ap listed same ∙ listed-params qs
 
 pub texts-of : (ps : List Param) → param_texts (params_of ps) ≡ map param_text ps
 texts-of [] = refl

@@ -4,12 +4,12 @@ use Rattle.std.proofs.Common.{arith, ap, ◌∙◌}
 use Rattle.p21_exchange.specs.CanonicalText.{param_text}
 use Rattle.p21_files.specs.Fits.{Fits, a_whole, a_real, a_number, a_whole_number, a_boolean, a_logical, a_text, a_binary, an_instance, as_underlying, an_item, a_chosen_instance, a_chosen_type, an_array, a_list, a_set, a_bag, FitEach, none_left, fits_next, empty_next}
 use Rattle.p21_exchange.specs.Nesting.{depth, params_depth}
-use Rattle.p21_exchange.specs.Parameter.{Param, Params}
+use Rattle.p21_exchange.specs.Parameter.{Param, Params, params_of}
 use Rattle.p21_files.specs.Reference.{Kinds}
 use Rattle.p21_schemas.specs.Schema as schema
 use Rattle.p21_schemas.specs.Schema.{Schema, TypeUse}
 use Rattle.p21_files.specs.Value.{Value, Values}
-use Rattle.p21_claim_values.proofs.CanonicalParam.{canonical_param, canonical_params, insert_param, params_of, sort_params}
+use Rattle.p21_claim_values.proofs.CanonicalParam.{canonical_param, canonical_params, insert_param, sort_params}
 use Rattle.p21_files.specs.Sorting.{is_below}
 
 insert-depth : (p : Param) (ps : List Param) → params_depth (params_of (insert_param p ps)) ≡ max (depth p) (params_depth (params_of ps))

@@ -7,13 +7,13 @@ use Rattle.p21_files.specs.CanonicalRecord.{IsCanonicalParam, AreCanonicalParams
 use Rattle.p21_exchange.specs.CanonicalText.{param_text, param_texts}
 use Rattle.p21_files.specs.Fits.{Fits, a_whole, a_real, a_number, a_whole_number, a_boolean, a_logical, a_text, a_binary, an_instance, as_underlying, an_item, a_chosen_instance, a_chosen_type, an_array, a_list, a_set, a_bag, FitEach, none_left, fits_next, empty_next, IsBounded}
 use Rattle.p21_exchange.specs.Parameter as parameter
-use Rattle.p21_exchange.specs.Parameter.{Param, Params, key_of}
+use Rattle.p21_exchange.specs.Parameter.{Param, Params, key_of, params_of}
 use Rattle.p21_files.specs.Reference.{Kinds}
 use Rattle.p21_files.specs.SameValue.{Same, same_lists, same_arrays, same_sets, same_bags, same_typed, SameInOrder, both_end, both_next, SamePaired, both_empty, paired, Without, without_first, without_later}
 use Rattle.p21_schemas.specs.Schema as schema
 use Rattle.p21_schemas.specs.Schema.{Schema, TypeUse}
 use Rattle.p21_files.specs.Value.{Value, whole, real, number, text, bits, item, reference, derived, missing, list, array, set, bag, typed, Values, no_values, value, count}
-use Rattle.p21_claim_values.proofs.CanonicalParam.{canonical_param, canonical_params, params_of, sort_params, insert_param, sort-params_texts, value_text-is, canonical-written, texts-of}
+use Rattle.p21_claim_values.proofs.CanonicalParam.{canonical_param, canonical_params, sort_params, insert_param, sort-params_texts, value_text-is, canonical-written, texts-of}
 use Rattle.p21_claim_values.proofs.CanonicalValue.{named-is}
 use Rattle.p21_claim_values.proofs.Distinct.{paired-each, distinct-paired, in_order-paired}
 use Rattle.p21_claim_values.proofs.OfType.{fits-of}

@@ -9,6 +9,7 @@ use Rattle.p21_files.specs.CanonicalRecord.{HasOneLeaf}
 use Rattle.p21_schemas.specs.Order.{order}
 use Rattle.p21_schemas.specs.Schema.{Schema}
 use Rattle.p21_schemas.specs.Supertype.{IsA, itself, above, InClosure, IsLeaf}
+use Rattle.p21_schemas.proofs.PlaceTypes.{IsA-transitive}
 
 decide-member : (xs : List ℕ) (e : ℕ) → Contains xs e ⊎ ¬ Contains xs e
 decide-member [] e = inr (Contains-none e)
@@ -22,10 +23,6 @@ decide-is_a s formed f e = elim (decide-member (order s f) e) [
   | inl h ↦ inl (order_within-only s (length s.entities) f e h)
   | inr h ↦ inr (λ is. h (order-has s formed.supertypes_are formed.supertypes_end f e is))
 ]
-
-pub is_a-transitive : (s : Schema) (e f g : ℕ) → IsA s e f → IsA s f g → IsA s e g
-is_a-transitive s e f g (itself _) more = more
-is_a-transitive s e f g (above _ next _ up first) more = above e next g up (is_a-transitive s next f g first more)
 
 rank-falls : (s : Schema) → (formed : IsWellFormed s) → (f e : ℕ) → IsA s f e → formed.supertypes_end.0 e ≤ formed.supertypes_end.0 f
 rank-falls s formed f e (itself _) = omega arith
@@ -80,7 +77,7 @@ climb s formed entities (suc n) e among high = elim (find-subtype s formed e ent
   | inr none ↦ (e, (among, none), itself e)
   | inl (f, found, is, other) ↦
       let more = climb s formed entities n f found (let a = rank-below s formed f e is other in omega (arith, a, high)) in
-      (more.0, more.1, is_a-transitive s more.0 f e more.2 is)
+      (more.0, more.1, IsA-transitive s more.0 f e more.2 is)
 ]
 
 -- a closed set with one leaf is its closure

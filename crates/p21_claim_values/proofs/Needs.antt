@@ -15,12 +15,13 @@ use Rattle.p21_exchange.specs.Parameter as parameter
 use Rattle.p21_exchange.specs.Parameter.{Param, Params, no_params, param}
 use Rattle.p21_schemas.specs.PlaceType.{PlaceType}
 use Rattle.p21_exchange.specs.Record.{Part, Record, simple, complex}
-use Rattle.p21_files.specs.Reference.{Kinds, Need, IsServed, Serves, param_references, references, record_references}
+use Rattle.p21_files.specs.Reference.{Kinds, Need, IsServed, param_references, references, record_references}
 use Rattle.p21_schemas.specs.Schema as schema
-use Rattle.p21_schemas.specs.Schema.{Schema, Place, TypeUse, Member, alias, items, choice, kind_of}
+use Rattle.p21_schemas.specs.Schema.{Schema, Place, TypeUse, alias, items}
 use Rattle.p21_files.specs.Value.{Value, Values}
 use Rattle.p21_files.proofs.OneMeaning.{NamesEntity-one}
 use Rattle.p21_claim_values.specs.Needs.{FitsWith, with_whole, with_real, with_number, with_whole_number, with_boolean, with_logical, with_text, with_binary, with_instance, with_underlying, with_item, with_chosen_instance, with_chosen_type, with_array, with_list, with_set, with_bag, FitEachWith, with_none, with_next, with_empty, FitsAtWith, with_star, with_dollar, with_fit, FitPlacesWith, PartsNeed, RecordNeeds, MeansWith}
+use Rattle.p21_files.proofs.Served.{MayBeServed}
 
 abbrev pub AreServed : Schema → Kinds → List Need → Type 0
 AreServed s kinds needs = Each (IsServed s kinds) needs
@@ -248,11 +249,8 @@ has-needs s kinds (complex parts) m means = let (needs, found) = parts-needs s k
 
 -- ---- some sets serve the needs
 
-abbrev pub CanServe : Schema → Need → Type 0
-CanServe s need = (entities : List ℕ) × Serves s need.wanted entities
-
 abbrev pub CanServeEach : Schema → List Need → Type 0
-CanServeEach s needs = Each (CanServe s) needs
+CanServeEach s needs = Each (MayBeServed s) needs
 
 mutual
   pub fits-servable : (s : Schema) (type : TypeUse) (p : Param) (v : Value) (needs : List Need) → FitsWith s type p v needs → CanServeEach s needs
@@ -268,7 +266,7 @@ mutual
 
   pub each-servable : (s : Schema) (optional : Bool) (type : TypeUse) (ps : Params) (vs : Values) (needs : List Need) → FitEachWith s optional type ps vs needs → CanServeEach s needs
   each-servable s optional type ps vs needs (with_none _ _) = tt
-  each-servable s optional type ps vs needs (with_next _ _ p v ps_ vs_ first more fit each) = Each-append (CanServe s) first more (fits-servable s type p v first fit) (each-servable s optional type ps_ vs_ more each)
+  each-servable s optional type ps vs needs (with_next _ _ p v ps_ vs_ first more fit each) = Each-append (MayBeServed s) first more (fits-servable s type p v first fit) (each-servable s optional type ps_ vs_ more each)
   each-servable s optional type ps vs needs (with_empty _ ps_ vs_ _ each) = each-servable s true type ps_ vs_ needs each
 
 at-servable : (s : Schema) (at : PlaceType) (p : Param) (v : Value) (needs : List Need) → FitsAtWith s at p v needs → CanServeEach s needs
@@ -282,7 +280,7 @@ places-servable s m [] (param x xs) needs fit = absurd fit
 places-servable s m (p ∷ ps) no_params needs fit = absurd fit
 places-servable s m (p ∷ ps) (param x xs) needs (first, more, is, (at, v, type_at, fit, has), rest) =
     let P : List Need → Type 0 = λ ns. CanServeEach s ns in
-    subst P (sym is) (Each-append (CanServe s) first more (at-servable s at x v first fit) (places-servable s m ps xs more rest))
+    subst P (sym is) (Each-append (MayBeServed s) first more (at-servable s at x v first fit) (places-servable s m ps xs more rest))
 
 served-later : (s : Schema) (kinds : Kinds) (entry : ℕ × List ℕ) (needs : List Need) → AreServed s kinds needs → AreServed s (entry ∷ kinds) needs
 served-later s kinds entry [] served = tt
@@ -301,7 +299,7 @@ parts-servable : (s : Schema) (m : Typed) (parts : List Part) (needs : List Need
 parts-servable s m [] needs need = let P : List Need → Type 0 = λ ns. CanServeEach s ns in subst P (sym need) tt
 parts-servable s m (part ∷ parts) needs (first, more, is, (e, named, fit), rest) =
     let P : List Need → Type 0 = λ ns. CanServeEach s ns in
-    subst P (sym is) (Each-append (CanServe s) first more (places-servable s m (own_places s e) part.params first fit) (parts-servable s m parts more rest))
+    subst P (sym is) (Each-append (MayBeServed s) first more (places-servable s m (own_places s e) part.params first fit) (parts-servable s m parts more rest))
 
 record-servable : (s : Schema) (r : Record) (m : Typed) (needs : List Need) → RecordNeeds s r m needs → CanServeEach s needs
 record-servable s (simple part) m needs (e, named, fit) = places-servable s m (places s e) part.params needs fit

@@ -12,7 +12,7 @@ use Rattle.p21_files.specs.Meaning.{Typed, HasOwnCount, HasValueAt, FitPlaces, N
 use Rattle.p21_exchange.specs.Nesting.{IsShallow, depth}
 use Rattle.p21_schemas.specs.Order.{places, own_places}
 use Rattle.p21_exchange.specs.Parameter as parameter
-use Rattle.p21_exchange.specs.Parameter.{Key, key_of, key_token, Param, Params, no_params, param, param_tokens, params_tokens, more_tokens}
+use Rattle.p21_exchange.specs.Parameter.{Key, key_token, Param, Params, no_params, param, param_tokens, params_tokens, more_tokens, params_of}
 use Rattle.p21_schemas.specs.PlaceType.{PlaceType}
 use Rattle.p21_exchange.specs.Record.{Part, Record, simple, part_tokens, record_tokens}
 use Rattle.p21_files.specs.Reference.{Kinds}
@@ -21,9 +21,8 @@ use Rattle.p21_files.specs.SameValue.{SameInOrder}
 use Rattle.p21_schemas.specs.Schema.{Schema, Place}
 use Rattle.p21_schemas.specs.Supertype.{IsA}
 use Rattle.p21_exchange.specs.Token as token
-use Rattle.p21_exchange.specs.Token.{Token}
 use Rattle.p21_files.specs.Value.{Value, whole, real, number, text, bits, item, reference, derived, missing, list, array, set, bag, typed, Values, no_values, value, value_at}
-use Rattle.p21_claim_values.proofs.CanonicalParam.{canonical_param, canonical_params, canonical-written, insert_param, params_of, sort_params}
+use Rattle.p21_claim_values.proofs.CanonicalParam.{canonical_param, canonical_params, canonical-written, insert_param, sort_params}
 use Rattle.p21_claim_values.proofs.Depths.{canonical-depth}
 use Rattle.p21_claim_values.proofs.Existence.{canonical_value, canonical_pairs, values_in, pairs-count, canonical-in_order, canonical-is, canonical-fits}
 use Rattle.p21_claim_values.proofs.Leaves.{closure-leaf}
@@ -49,7 +48,7 @@ params-plain : (ps : Params) → ArePlain ps → Each IsNoUserKeyword (params_to
 params-plain no_params plain = tt
 params-plain (param p ps) plain = Each-append IsNoUserKeyword (param_tokens p) (more_tokens ps) plain.0 (more-plain ps plain.1)
 
-list-plain : (ps : Params) → ArePlain ps → IsPlain (parameter.list ps)
+pub list-plain : (ps : Params) → ArePlain ps → IsPlain (parameter.list ps)
 list-plain ps plain = (tt, Each-append IsNoUserKeyword (params_tokens ps) (token.right ∷ []) (params-plain ps plain) (tt, tt))
 
 insert-plain : (p : Param) (ps : List Param) → IsPlain p → ArePlain (params_of ps) → ArePlain (params_of (insert_param p ps))
@@ -134,7 +133,7 @@ at-fits s kinds at p v star = star
 at-fits s kinds at p v (dollar type) = dollar type
 at-fits s kinds at p v (fits optional type _ _ fit) = fits optional type (canonical_param s v) (canonical_value s v) (canonical-fits s kinds type p v fit)
 
-at-written : (s : Schema) (kinds : Kinds) (at : PlaceType) (p : Param) (v : Value) → FitsAt s kinds at p v → IsWritten p → IsWritten (canonical_param s v)
+pub at-written : (s : Schema) (kinds : Kinds) (at : PlaceType) (p : Param) (v : Value) → FitsAt s kinds at p v → IsWritten p → IsWritten (canonical_param s v)
 at-written s kinds at p v star written = written
 at-written s kinds at p v (dollar type) written = written
 at-written s kinds at p v (fits optional type _ _ fit) written = canonical-written s type v (fits-of s kinds type p v fit written)

@@ -6,12 +6,12 @@ use Rattle.p21_schemas.specs.WellFormed.{HasDistinctTypes}
 use Rattle.p21_files.proofs.Sameness.{Same-symmetric}
 use Rattle.p21_exchange.specs.Number.{Decimal}
 use Rattle.p21_exchange.specs.Parameter as parameter
-use Rattle.p21_exchange.specs.Parameter.{Param, Params, Key, key_of}
+use Rattle.p21_exchange.specs.Parameter.{Param, Params, Key, key_of, params_of}
 use Rattle.p21_files.specs.SameValue.{Same, same_wholes, same_reals, same_numbers, same_texts, same_bits, same_items, same_references, both_missing, same_lists, same_arrays, same_sets, same_bags, same_typed, SameInOrder, both_end, both_next, Among, here, there, EachAmong, none_left, each_next, SamePaired, both_empty, paired, Without, without_first, without_later}
 use Rattle.p21_schemas.specs.Schema as schema
-use Rattle.p21_schemas.specs.Schema.{Schema, TypeUse, Kind, alias, items, choice, kind_of}
+use Rattle.p21_schemas.specs.Schema.{Schema, TypeUse, alias, items, choice}
 use Rattle.p21_files.specs.Value.{Value, whole, real, number, text, bits, item, reference, missing, typed, Values, no_values, value}
-use Rattle.p21_claim_values.proofs.CanonicalParam.{canonical_param, canonical_params, params_of, sort_params, params_of-once, same-sorting, one-canonical_param, canonical-written, value_text-is}
+use Rattle.p21_claim_values.proofs.CanonicalParam.{canonical_param, canonical_params, sort_params, params_of-once, same-sorting, one-canonical_param, canonical-written, value_text-is}
 use Rattle.p21_claim_values.proofs.LaidTexts.{one-text}
 use Rattle.p21_claim_values.proofs.CanonicalValue.{named-is}
 use Rattle.p21_claim_values.proofs.OfType.{OfType, of_whole, of_real, of_number, of_boolean, of_logical, of_text, of_binary, of_entity, of_alias, of_items, of_chosen_instance, of_chosen_type, of_array, of_list, of_set, of_bag, EachOf, of_none, of_next, of_empty}

@@ -1,13 +1,8 @@
 -- Tokens, parameters and statements that a file may have: those with a spelling. So their reals are reduced.
-use Rattle.std.specs.Prelude.{ℕ, List}
 use Rattle.std.specs.List.{AllByRecursion as Each}
 use Rattle.p21_exchange.specs.Parameter.{Param, param_tokens}
 use Rattle.p21_exchange.specs.Statement.{Statement, statement_tokens}
-use Rattle.p21_exchange.specs.Token.{Token, Spells}
-
--- some bytes spell the token
-abbrev pub IsSpelled : Token → Type 0
-IsSpelled token = (bytes : List ℕ) × Spells token bytes
+pub use Rattle.p21_exchange.specs.Token.{IsSpelled}
 
 -- each token of the parameter has a spelling
 abbrev pub IsWritten : Param → Type 0

@@ -6,6 +6,7 @@ use Rattle.p21_exchange.specs.Keyword.{IsKeyword}
 use Rattle.p21_exchange.specs.Number.{Sign, none, plus, minus, sign_bytes}
 use Rattle.p21_exchange.specs.Pending.{BeginsNoSeparator}
 use Rattle.p21_exchange.specs.Token.{Token, begin, finish, keyword, user_keyword, name, whole, real, text, item, bits, left, right, comma, semicolon, equals, dollar, star, Spells}
+use Rattle.p21_basics.proofs.Members.{head_is}
 
 -- the first byte of a spelling, and an apostrophe where it has none
 abbrev first : List ℕ → ℕ
@@ -78,3 +79,13 @@ spelling_begins (bits value) spelling spells = subst BeginsNoSeparator (sym spel
 spelling_begins (keyword word) spelling spells = subst BeginsNoSeparator (sym spells.0) (keyword_begins word spells.1)
 spelling_begins (whole z) spelling spells = subst BeginsNoSeparator (sym (spells.bytes_are ∙ ap (λ (xs : List ℕ). sign_bytes spells.sign ++ xs) (sym (append-nil spells.digits)))) (number_begins spells.sign spells.digits [] spells.some_digits spells.are_digits)
 spelling_begins (real d) spelling spells = subst BeginsNoSeparator (sym spells.form.bytes_are) (number_begins spells.form.sign spells.form.whole _ spells.form.some_digits spells.form.are_digits)
+
+-- no spelling stands at the front of no bytes
+pub no-spelling : (token : Token) (spelling rest : List ℕ) → Spells token spelling → spelling ++ rest ≡ [] → ⊥
+no-spelling token [] rest spells same = spelling_begins token [] spells
+no-spelling token (byte ∷ bytes) rest spells same = cc
+
+-- nor in front of a `/`
+pub slash-first : (token : Token) (spelling rest more : List ℕ) → Spells token spelling → spelling ++ rest ≡ 47 ∷ more → ⊥
+slash-first token [] rest more spells same = spelling_begins token [] spells
+slash-first token (byte ∷ bytes) rest more spells same = (spelling_begins token (byte ∷ bytes) spells).2 (head_is byte 47 (bytes ++ rest) more same)

@@ -3,12 +3,8 @@ use Rattle.std.proofs.Common.{◌≡◌, ℕ, true, false, pos, List, [], ◌∷
 use Rattle.std.specs.Prelude.{codes}
 use Rattle.std.specs.List.{AllByRecursion as Each}
 use Rattle.p21_exchange.specs.Header.{IsFileDescription, IsFileName, IsFileSchema, IsFurther, IsHeader, IsTextOrUnset}
-use Rattle.p21_exchange.specs.Parameter.{Key, Param, dollar, star, whole, text, name, list, Params, no_params, param, key_of}
+use Rattle.p21_exchange.specs.Parameter.{Key, Param, dollar, star, whole, text, name, list, no_params, key_of, params_of}
 use Rattle.p21_exchange.specs.Record.{Part}
-
-abbrev params_of : List Param → Params
-params_of [] = no_params
-params_of (p ∷ ps) = param p (params_of ps)
 
 abbrev part_of : List ℕ → List Param → Part
 part_of word ps = record { key = key_of word; params = params_of ps }

@@ -17,6 +17,7 @@ use Rattle.p21_exchange.proofs.FirstBytes.{apostrophe_first}
 use Rattle.p21_basics.proofs.Members.{head_is, tail_is}
 use Rattle.p21_exchange.proofs.Laying.{keyword_by, left_ends_words}
 use Rattle.p21_exchange.proofs.TokenExamples.{spells_nothing}
+use Rattle.p21_exchange.proofs.Names.{name_spells}
 
 -- behind `#1=CLOUD((#2),((` two lists are open; behind `#1=(SHAPE($)POINT((` one is
 two_open : open_depth (name 1 ∷ equals ∷ keyword (codes "CLOUD") ∷ left ∷ left ∷ name 2 ∷ right ∷ comma ∷ left ∷ left ∷ []) ≡ 2
@@ -71,7 +72,7 @@ one-spelled =
     }
 
 two-spelled : SpellsName (codes "#2") 2
-two-spelled = record { form = record { digits = codes "2"; bytes_are = refl; some_digits = lit< tt; are_digits = ((lit≤ tt, lit≤ tt), tt) }; value_is = refl; in_range = lit< tt }
+two-spelled = name_spells 2 (lit< tt)
 
 space_ends_digits : IsDigit 32 → ⊥
 space_ends_digits digit = omega (arith, digit)

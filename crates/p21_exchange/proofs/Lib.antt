@@ -16,6 +16,7 @@ pub mod Names
 pub mod OneDepth
 pub mod OneGap
 pub mod OneTree
+pub mod Parameters
 pub mod Parentheses
 pub mod Ratios
 pub mod RealSpellings

@@ -1,8 +1,9 @@
 -- Numbers, spelled and not.
-use Rattle.std.proofs.Common.{◌≡◌, ℕ, ◌^◌, ◌&&◌, pos, negsuc, Bool, true, false, List, [], ◌∷◌, refl, ap, sym, ◌∙◌, ◌<◌, subst, arith, lit<, lit≤}
+use Rattle.std.proofs.Common.{◌≡◌, ℕ, ◌^◌, ◌&&◌, pos, negsuc, Bool, true, List, [], ◌∷◌, refl, ap, sym, ◌∙◌, ◌<◌, subst, arith, lit<, lit≤}
 use Rattle.std.proofs.lemmas.Bool.Decides.{nat_tests}
 use lib.Signed.{le_z_yes}
 use Rattle.std.specs.Prelude.{codes, nat_le}
+use Rattle.std.proofs.lemmas.Bool.{and_parts}
 use Rattle.p21_basics.specs.Digits.{AllDigits, number}
 use Rattle.p21_exchange.specs.Number.{plus, minus, none, exponent, no_exponent, IsShort, SpellsWhole, Decimal, RealForm, SpellsReal, real_ratio, HasNormalisedExponent}
 use Rattle.p21_exchange.specs.Spelling.{real_spelling, whole_spelling, spelling}
@@ -19,15 +20,11 @@ abbrev are_digits : List ℕ → Bool
 are_digits [] = true
 are_digits (c ∷ cs) = nat_le 48 c && (nat_le c 57 && are_digits cs)
 
-both : (a b : Bool) → (a && b) ≡ true → (a ≡ true) × (b ≡ true)
-both true b e = (refl, e)
-both false b e = cc
-
 tested : (bytes : List ℕ) → are_digits bytes ≡ true → AllDigits bytes
 tested [] e = tt
 tested (c ∷ cs) e =
-    let low = both (nat_le 48 c) (nat_le c 57 && are_digits cs) e in
-    let high = both (nat_le c 57) (are_digits cs) low.1 in
+    let low = and_parts (nat_le 48 c) (nat_le c 57 && are_digits cs) e in
+    let high = and_parts (nat_le c 57) (are_digits cs) low.1 in
     let a = low.0 in
     let b = high.0 in
     ((grind (arith, nat_tests), grind (arith, nat_tests)), tested cs high.1)

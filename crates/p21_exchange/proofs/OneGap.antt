@@ -8,6 +8,11 @@ use Rattle.p21_exchange.specs.Separator.{Separator, blank, comment, EndsOnce, Is
 abbrev pub HasNoSeparator : List ℕ → Type 0
 HasNoSeparator bytes = (separator : Separator) (rest : List ℕ) → IsSeparator separator → bytes ≡ separator_bytes separator ++ rest → ⊥
 
+-- nor in front of no bytes
+pub nothing-first : HasNoSeparator []
+nothing-first (blank b) rest is same = cc
+nothing-first (comment inside) rest is same = cc
+
 EndsOnce-tail : (byte : ℕ) (inside : List ℕ) → EndsOnce (byte ∷ inside) → EndsOnce inside
 EndsOnce-tail byte inside once before after same = once (byte ∷ before) after (ap (λ bytes. byte ∷ bytes) same)
 

@@ -3,7 +3,7 @@ use Rattle.std.proofs.Common.{◌≡◌, ℕ, zero, suc, ◌+◌, ◌≤◌, Boo
 use Rattle.std.proofs.lemmas.List.{append-nil}
 use Rattle.std.specs.Prelude.{◌==◌, if◌then◌else◌}
 use Rattle.std.specs.List.{flat_map}
-use Rattle.p21_exchange.specs.DataSection.{Heading, unnamed, named, data_part, DataSection}
+use Rattle.p21_exchange.specs.DataSection.{unnamed, named, data_part, DataSection, heading_of}
 use Rattle.p21_exchange.specs.Parameter.{Key, key_of, Param, dollar, star, whole, real, text, name, item, bits, list, typed, Params, no_params, param, key_token, param_tokens, params_tokens, more_tokens}
 use Rattle.p21_exchange.specs.Record.{Part, Record, simple, complex, part_tokens, record_tokens}
 use Rattle.p21_exchange.specs.Statement.{SectionLine, begin, header_start, section_end, data_start, finish, Statement, section, header, instance, statement_tokens}
@@ -262,11 +262,6 @@ read-statements (s ∷ ss) zero h = absurd (omega (arith, h))
 read-statements (s ∷ ss) (suc n) h =
     ap (then_statements (suc n)) (read-statement s n (flat_map statement_tokens ss) (omega (arith, h)))
     ∙ ap (λ z. as_read s ∷ z) (read-statements ss n (omega (arith, h)))
-
--- a header record of the form of a DATA with a name, read as such
-abbrev heading_of : Params → Heading
-heading_of (param (text chars) (param (list (param (text schema) no_params)) no_params)) = named chars schema
-heading_of other = unnamed
 
 -- each statement as its place says
 abbrev restored : Part_of_file → List Statement → List Statement

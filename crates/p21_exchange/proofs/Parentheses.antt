@@ -3,7 +3,7 @@ use Rattle.std.proofs.Common.{◌≡◌, ℕ, ◌+◌, Bool, true, false, List, 
 use Rattle.std.specs.List.{flat_map}
 use Rattle.p21_exchange.specs.OpenNesting.{lefts, rights}
 use Rattle.p21_exchange.specs.Parameter.{Param, list, typed, Params, no_params, param, key_token, param_tokens, params_tokens, more_tokens}
-use Rattle.p21_exchange.specs.Record.{Part, Record, simple, complex, part_tokens, record_tokens}
+use Rattle.p21_exchange.specs.Record.{Part, part_tokens}
 use Rattle.p21_exchange.specs.Token.{Token, left, right}
 
 pub lefts-append : (xs ys : List Token) → lefts (xs ++ ys) ≡ lefts xs + lefts ys
@@ -50,7 +50,3 @@ part-balanced part = after_key part.key.user part.key.word (left ∷ (params_tok
 pub parts-balanced : (parts : List Part) → IsBalanced (flat_map part_tokens parts)
 parts-balanced [] = record { same = refl }
 parts-balanced (part ∷ parts) = appended (part_tokens part) (flat_map part_tokens parts) (part-balanced part) (parts-balanced parts)
-
-pub record-balanced : (r : Record) → IsBalanced (record_tokens r)
-record-balanced (simple part) = part-balanced part
-record-balanced (complex parts) = enclosed (flat_map part_tokens parts) (parts-balanced parts)

@@ -1,13 +1,10 @@
 -- The characters that bytes stand for are Unicode scalar values.
-use Rattle.std.proofs.Common.{ℕ, ◌+◌, ◌<◌, List, [], ◌∷◌, ◌++◌, arith, inl, inr, subst, sym}
+use Rattle.std.proofs.Common.{ℕ, ◌+◌, ◌<◌, List, [], ◌∷◌, arith, inl, inr, subst, sym}
 use Rattle.std.specs.Char.{IsScalar}
 use Rattle.std.specs.List.{flat_map, AllByRecursion as Each}
 use lib.Utf8.{low_scalar}
 use Rattle.p21_exchange.specs.Text.{StringUnit, ignored, plain, doubled, high_codepoint, page, alphabet_a, arbitrary, extended2, extended4, IsStringUnit, unit_characters, Encodes}
-
-both : (xs ys : List ℕ) → Each IsScalar xs → Each IsScalar ys → Each IsScalar (xs ++ ys)
-both [] ys p q = q
-both (x ∷ xs) ys p q = (p.0, both xs ys p.1 q)
+use Rattle.p21_basics.proofs.Members.{Each-append}
 
 low_quote : (byte : ℕ) → IsStringUnit (doubled byte) → byte < 55296
 low_quote byte (inl e) = omega (arith, e)
@@ -26,7 +23,7 @@ unit_scalars (extended4 cs) p = p.1
 
 units_scalars : (units : List StringUnit) → Each IsStringUnit units → Each IsScalar (flat_map unit_characters units)
 units_scalars [] p = tt
-units_scalars (unit ∷ units) p = both (unit_characters unit) (flat_map unit_characters units) (unit_scalars unit p.0) (units_scalars units p.1)
+units_scalars (unit ∷ units) p = Each-append IsScalar (unit_characters unit) (flat_map unit_characters units) (unit_scalars unit p.0) (units_scalars units p.1)
 
 pub characters_are_scalars : (bytes chars : List ℕ) → Encodes bytes chars → Each IsScalar chars
 characters_are_scalars bytes chars c = subst (Each IsScalar) (sym c.characters_are) (units_scalars c.units c.are_units)

@@ -1,5 +1,5 @@
 -- Numbers with a sign: the sign and the number are known from what they stand for.
-use Rattle.std.proofs.Common.{◌≡◌, ℕ, zero, suc, ◌*◌, ◌<◌, ℤ, pos, negsuc, ◌*ℤ◌, nat_abs, Bool, true, false, refl, ap, sym, ◌∙◌, arith}
+use Rattle.std.proofs.Common.{◌≡◌, ℕ, zero, suc, ◌*◌, ◌<◌, ℤ, pos, negsuc, ◌*ℤ◌, nat_abs, Bool, true, false, refl, ap, ◌∙◌, arith}
 use Rattle.p21_exchange.specs.Number.{Sign, none, minus, is_minus, signed}
 
 pub signed-zero : (b : Bool) → signed b 0 ≡ pos 0
@@ -39,9 +39,6 @@ sign_of (negsuc n) = minus
 pub signed_abs : (m : ℤ) → signed (is_minus (sign_of m)) (nat_abs m) ≡ m
 signed_abs (pos n) = refl
 signed_abs (negsuc n) = refl
-
-pub same_sign_abs : (m n : ℤ) → sign_of m ≡ sign_of n → nat_abs m ≡ nat_abs n → m ≡ n
-same_sign_abs m n e f = sym (signed_abs m) ∙ rw (e, f) (signed_abs n)
 
 pub minus_positive : (m : ℤ) → is_minus (sign_of m) ≡ true → 0 < nat_abs m
 minus_positive (pos n) e = cc

@@ -1,7 +1,7 @@
 -- Data sections and how they begin (ISO 10303-21, data sections).
 use Rattle.std.specs.Prelude.{ℕ, List, [], ◌∷◌, codes, map}
 use Rattle.std.specs.List.{flat_map, AllByRecursion as Each}
-use Rattle.p21_exchange.specs.Parameter.{text, list, no_params, param, key_of}
+use Rattle.p21_exchange.specs.Parameter.{text, list, Params, no_params, param, key_of}
 use Rattle.p21_exchange.specs.Record.{Part, Record}
 
 -- how a data section begins: without a name, or with its name and the text of its schema
@@ -12,6 +12,11 @@ pub data Heading : Type 0 where
 -- what is written where a section has a name: DATA, with the name, and a list of the one schema text
 abbrev pub data_part : List ℕ → List ℕ → Part
 data_part name schema = record { key = key_of (codes "DATA"); params = param (text name) (param (list (param (text schema) no_params)) no_params) }
+
+-- the heading that such parameters give; others give none
+abbrev pub heading_of : Params → Heading
+heading_of (param (text chars) (param (list (param (text schema) no_params)) no_params)) = named chars schema
+heading_of other = unnamed
 
 -- a data section: its heading, and its instances with their names, in their order
 pub record DataSection : Type 0 where

@@ -38,6 +38,11 @@ abbrev pub listed : Params → List Param
 listed no_params = []
 listed (param p ps) = p ∷ listed ps
 
+-- and a list of them as parameters
+abbrev pub params_of : List Param → Params
+params_of [] = no_params
+params_of (p ∷ ps) = param p (params_of ps)
+
 -- the token of a key
 abbrev pub key_token : Key → Token
 key_token key = elim key.user [ true ↦ token.user_keyword key.word | false ↦ token.keyword key.word ]

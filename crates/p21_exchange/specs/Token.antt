@@ -46,6 +46,10 @@ Spells equals bytes = bytes ≡ codes "="
 Spells dollar bytes = bytes ≡ codes "$"
 Spells star bytes = bytes ≡ codes "*"
 
+-- some bytes spell the token
+abbrev pub IsSpelled : Token → Type 0
+IsSpelled token = (bytes : List ℕ) × Spells token bytes
+
 -- the spelling is a real with no exponent
 abbrev pub HasNoExponent : List ℕ → Type 0
 HasNoExponent spelling = (form : RealForm spelling) × (form.power ≡ no_exponent)

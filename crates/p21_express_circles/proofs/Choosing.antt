@@ -1,6 +1,7 @@
 -- Selects in selects end where the types among their members do.
 use Rattle.std.specs.Prelude.{◌≡◌, ℕ, List, Result, Ok, Err}
 use Rattle.std.proofs.Common.{arith, sym, subst}
+use Rattle.std.proofs.lemmas.List.{length-map}
 use Rattle.p21_schemas.specs.Schema.{Schema}
 use Rattle.p21_schemas.specs.Declared.{HasNoCircle, HasSelect}
 use Rattle.p21_express_circles.specs.Chains.{AreMembers}
@@ -8,14 +9,13 @@ use Rattle.p21_express_outline.specs.Finding.{Checked}
 use Rattle.p21_express_outline.specs.declared.fault.SchemaFault.{SchemaFault}
 use Rattle.p21_express_tables.specs.Offered.{members_of, type_numbers}
 use Rattle.p21_express_tables.specs.Settled.{IsNext, AreWithin}
-use Rattle.p21_express_tables.proofs.Gatherings.{mapped-length}
 use Rattle.p21_express_tables.proofs.Offering.{select_types, next-had, next-got, selects-rank}
 
 pub members-within : (s : Schema) → AreMembers s → AreWithin (select_types s)
 members-within s are t u next =
     let (members, is, among) = next-had s t u next in
     let below = are t u members is among in
-    omega (arith, below, mapped-length (λ x. type_numbers (members_of x.kind)) s.types)
+    omega (arith, below, length-map s.types (λ x. type_numbers (members_of x.kind)))
 
 pub selects-checked : (s : Schema) (lists : List (List ℕ)) (result : Result (Unit {0}) SchemaFault) → lists ≡ select_types s → Checked (HasNoCircle (IsNext lists)) result → Checked (HasNoCircle (HasSelect s)) result
 selects-checked s lists (Ok u) same ends =

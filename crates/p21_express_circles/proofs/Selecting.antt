@@ -3,13 +3,12 @@ use Rattle.std.specs.Prelude.{◌≡◌, ◌↔◌, ℕ, suc, ◌<◌, ◌≤◌
 use Rattle.std.specs.Option.{option_map}
 use Rattle.std.proofs.Common.{arith, ap, sym, ◌∙◌, subst, get_or}
 use Rattle.std.proofs.lemmas.Option.{slice_get-get_or, slice_get-map, slice_get_within, get_or_from_slice_get}
-use Rattle.p21_basics.proofs.Members.{Contains-found, Contains-at}
+use Rattle.p21_basics.proofs.Members.{Contains-at}
 use Rattle.p21_schemas.specs.Schema as schema
 use Rattle.p21_schemas.specs.Schema.{Kind, Defined, kind_of}
 use Rattle.p21_schemas.specs.Declared.{Renames}
 use Rattle.p21_schemas.specs.Select.{IsSelect}
-use Rattle.p21_express_circles.specs.Chains.{renamed}
-use Rattle.p21_express_circles.proofs.Settling.{in-renamed, kind-renamed}
+use Rattle.p21_express_circles.proofs.Settling.{kind-renamed}
 use Rattle.p21_express_resolve.proofs.Zips.{at-mapped, mapped-at}
 use Rattle.p21_express_tables.specs.Parts.{schema_of, defined}
 use Rattle.p21_express_tables.specs.declared.parts.Defined.{Defined as Declared}
@@ -17,6 +16,8 @@ use Rattle.p21_express_tables.specs.declared.parts.Parts.{Parts}
 use Rattle.p21_express_types.specs.Meaning.{kind, member}
 use Rattle.p21_express_types.specs.declared.kind.Member.{Member}
 use Rattle.p21_express_types.specs.declared.kind.TypeKind.TheVariants.{Choice}
+use Rattle.p21_express_tables.specs.Renamed.{renamed}
+use Rattle.p21_express_tables.proofs.Ends.{in-renamed}
 
 kind_in : Option Defined → Option Kind
 kind_in o = elim o [ Some x ↦ Some x.kind | None ↦ None ]
@@ -51,9 +52,6 @@ absent-said parts t at = (λ h. cc, λ is. absurd (let same : kind_of (schema_of
     none-is h = cc
 
 -- ---- numbers
-
-pub number-at : (numbers : List ℕ) (k : ℕ) → k < length numbers → Contains numbers (get_or numbers k 0)
-number-at numbers k below = Contains-found numbers k (get_or numbers k 0) (slice_get-get_or numbers k 0 below)
 
 pub none-of : (P : ℕ → Type 0) (numbers : List ℕ) (n : ℕ) → length numbers ≤ n → ((k : ℕ) → k < n → P (get_or numbers k 0) → ⊥) → ((u : ℕ) × Contains numbers u × P u) → ⊥
 none-of P numbers n le none (u, among, holds) =

@@ -7,10 +7,10 @@ use Rattle.std.proofs.lemmas.List.{length-map}
 use Rattle.std.proofs.lemmas.Option.{slice_get-map, slice_get_within}
 use Rattle.p21_basics.proofs.Members.{Contains-none, Contains-first, Contains-cases}
 use Rattle.p21_schemas.specs.Schema as schema
-use Rattle.p21_schemas.specs.Schema.{Schema, Kind, TypeUse, Defined, kind_of}
+use Rattle.p21_schemas.specs.Schema.{Schema, Kind, Defined}
 use Rattle.p21_schemas.specs.Declared.{HasNoCircle, HasSupertype, Renames}
 use Rattle.p21_schemas.specs.WellFormed.{AreEntities}
-use Rattle.p21_express_circles.specs.Chains.{AreTypes, renamed, renamed_by}
+use Rattle.p21_express_circles.specs.Chains.{AreTypes}
 use Rattle.p21_express_outline.specs.Finding.{Checked}
 use Rattle.p21_express_outline.specs.declared.fault.SchemaFault.{SchemaFault}
 use Rattle.p21_express_resolve.proofs.Zips.{map-twice}
@@ -20,6 +20,8 @@ use Rattle.p21_express_types.specs.Meaning.{kind}
 use Rattle.p21_express_tables.specs.Orders.{supertype_lists}
 use Rattle.p21_express_tables.specs.Settled.{IsNext, IsSettled, AreWithin}
 use Rattle.p21_express_tables.proofs.OrderTables.{supertypes-listed, no-circle}
+use Rattle.p21_express_tables.specs.Renamed.{renamed}
+use Rattle.p21_express_tables.proofs.Ends.{in-renamed}
 
 -- where a number stands first
 abbrev rank : List ℕ → ℕ → ℕ
@@ -89,26 +91,6 @@ supertypes-checked s lists (Err fault) same refused = λ other ends.
 
 abbrev pub renamed_lists : Schema → List (List ℕ)
 renamed_lists s = map (λ x. renamed x.kind) s.types
-
-in-renamed_by : (type : TypeUse) (u : ℕ) → Contains (renamed_by type) u → type ≡ schema.defined u
-in-renamed_by schema.whole u among = absurd (Contains-none u among)
-in-renamed_by schema.real u among = absurd (Contains-none u among)
-in-renamed_by schema.number u among = absurd (Contains-none u among)
-in-renamed_by schema.boolean u among = absurd (Contains-none u among)
-in-renamed_by schema.logical u among = absurd (Contains-none u among)
-in-renamed_by (schema.text width) u among = absurd (Contains-none u among)
-in-renamed_by (schema.bits width) u among = absurd (Contains-none u among)
-in-renamed_by (schema.entity e) u among = absurd (Contains-none u among)
-in-renamed_by (schema.defined t) u among = elim (Contains-cases t [] u among) [ inl h ↦ ap schema.defined h | inr h ↦ absurd (Contains-none u h) ]
-in-renamed_by (schema.array low high optional unique element) u among = absurd (Contains-none u among)
-in-renamed_by (schema.list low high unique element) u among = absurd (Contains-none u among)
-in-renamed_by (schema.set low high element) u among = absurd (Contains-none u among)
-in-renamed_by (schema.bag low high element) u among = absurd (Contains-none u among)
-
-pub in-renamed : (kind : Kind) (u : ℕ) → Contains (renamed kind) u → kind ≡ schema.alias (schema.defined u)
-in-renamed (schema.alias type) u among = ap schema.alias (in-renamed_by type u among)
-in-renamed (schema.items words) u among = absurd (Contains-none u among)
-in-renamed (schema.choice members) u among = absurd (Contains-none u among)
 
 pub renamed-next : (s : Schema) (t u : ℕ) → IsNext (renamed_lists s) t u → Renames s t u
 renamed-next s t u step = by (slice_get s.types t) refl (let P : Option (List ℕ) → Type 0 = λ o. Contains (elim o [ Some nexts ↦ nexts | None ↦ [] ]) u in subst P (slice_get-map (λ x. renamed x.kind) s.types t) step)

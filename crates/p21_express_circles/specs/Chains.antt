@@ -1,17 +1,8 @@
 -- The numbers to which types lead.
-use Rattle.std.specs.Prelude.{◌≡◌, ℕ, ◌<◌, List, [], ◌∷◌, Some, length, Contains}
+use Rattle.std.specs.Prelude.{◌≡◌, ℕ, ◌<◌, List, Some, length, Contains}
 use Rattle.p21_schemas.specs.Schema as schema
-use Rattle.p21_schemas.specs.Schema.{Schema, TypeUse, Kind, Member, kind_of}
+use Rattle.p21_schemas.specs.Schema.{Schema, Member, kind_of}
 use Rattle.p21_schemas.specs.Declared.{Renames}
-
--- the type whose name alone a type is
-abbrev pub renamed_by : TypeUse → List ℕ
-renamed_by (schema.defined t) = t ∷ []
-renamed_by other = []
-
-abbrev pub renamed : Kind → List ℕ
-renamed (schema.alias type) = renamed_by type
-renamed other = []
 
 -- each of them is a type of the schema
 abbrev pub AreTypes : Schema → Type 0

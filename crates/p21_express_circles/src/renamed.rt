@@ -1,6 +1,7 @@
 ghost use Rattle.std.specs.Prelude.{◌≡◌, ◌≤◌, IfOk, length, map};
 ghost use Rattle.p21_schemas.specs.Declared.{HasNoCircle, Renames, most_declarations};
-ghost use Rattle.p21_express_circles.specs.Chains.{AreTypes, renamed, renamed_by};
+ghost use Rattle.p21_express_circles.specs.Chains.{AreTypes};
+ghost use Rattle.p21_express_tables.specs.Renamed.{renamed, renamed_by};
 ghost use Rattle.p21_express_outline.specs.Finding.{Checked};
 ghost use Rattle.p21_express_tables.specs.Parts.{schema_of};
 ghost use Rattle.p21_express_tables.specs.Settled.{lists_of};

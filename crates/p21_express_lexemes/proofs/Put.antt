@@ -1,16 +1,10 @@
 -- Lexemes in front of what is left.
-use Rattle.std.proofs.Common.{◌≡◌, ℕ, List, [], ◌∷◌, ◌++◌, Option, Some, refl, ap, sym, ◌∙◌}
+use Rattle.std.proofs.Common.{◌≡◌, ℕ, List, [], ◌∷◌, ◌++◌, Some, refl, ap, sym, ◌∙◌}
 use Rattle.p21_schemas.specs.Express.{Lexeme}
 use Rattle.p21_schemas.specs.ExpressLaying.{LaidLexemes}
 use Rattle.p21_express_lexemes.specs.Lexemes.{lexemes_of, right}
 use Rattle.p21_express_lexemes.specs.Taking.{Items, put}
 use Rattle.p21_express_lexemes.proofs.Once.{laid_all, all_laid}
-
-some_is : {A : Type 0} (x y : A) → Some x ≡ Some y → x ≡ y
-some_is x y e = cc
-
-pub pair_is : {A : Type 0} (x y : A) (xs ys : Items) → ◌≡◌ {A = Option (A × Items)} (Some (x, xs)) (Some (y, ys)) → (x ≡ y) × (xs ≡ ys)
-pair_is {A} x y xs ys e = let p : ◌≡◌ {A = A × Items} (x, xs) (y, ys) = some_is {A = A × Items} (x, xs) (y, ys) e in (ap (λ (q : A × Items). q.0) p, ap (λ (q : A × Items). q.1) p)
 
 pub put-append : (a b : List Lexeme) (more : Items) → put (a ++ b) more ≡ put a (put b more)
 put-append [] b more = refl

@@ -1,14 +1,13 @@
 -- The lexemes up to the one that closes a run.
-use Rattle.std.proofs.Common.{codes, ◌≡◌, ℕ, zero, suc, ◌+◌, ◌≤◌, Bool, true, false, List, [], ◌∷◌, ◌++◌, cond, inl, inr, take, Option, Some, None, refl, ap, sym, ◌∙◌, arith}
+use Rattle.std.proofs.Common.{◌≡◌, ℕ, zero, suc, ◌+◌, ◌≤◌, Bool, true, false, List, [], ◌∷◌, ◌++◌, cond, inl, inr, take, Option, Some, None, refl, ap, sym, ◌∙◌, arith}
 use Rattle.std.specs.List.{count_by}
 use Rattle.std.proofs.lemmas.Bool.{cases_Bool, eqb-true}
 use Rattle.std.proofs.lemmas.List.Sums.{sum_by-cons}
-use Rattle.p21_schemas.specs.Run.{is_word, is_symbol, none}
-use Rattle.std.proofs.lemmas.Slice.Eq.{bytes_eq-Decides}
+use Rattle.p21_schemas.specs.Run.{is_symbol, none}
 use Rattle.p21_schemas.specs.Express.{Lexeme, identifier, digits, simple_string, encoded_string, symbol}
 use Rattle.p21_express_lexemes.specs.Taking.{Items, put}
 use Rattle.p21_express_lexemes.specs.Runs.{AreApart, with_first, run_of, HasRun, RunRead}
-use Rattle.p21_express_lexemes.proofs.Put.{pair_is}
+use Rattle.p21_basics.proofs.Members.{some_pair_is}
 
 -- a run within so many open ones
 pub record IsRunIn (opens closes : Lexeme → Bool) (depth : ℕ) (run : List Lexeme) : Type 0 where
@@ -74,7 +73,7 @@ with_inv x None taken rest e = absurd (none_is (taken, rest) e)
   where
     none_is : (y : List Lexeme × Items) → None ≡ Some y → ⊥
     none_is y q = cc
-with_inv x (Some (more, left)) taken rest e = let p = pair_is {A = List Lexeme} (x ∷ more) taken left rest e in (more, ap (λ (y : Items). Some (more, y)) p.1, p.0)
+with_inv x (Some (more, left)) taken rest e = let p = some_pair_is {X = List Lexeme} (x ∷ more) taken left rest e in (more, ap (λ (y : Items). Some (more, y)) p.1, p.0)
 
 -- one lexeme in front of a run
 grown : (opens closes : Lexeme → Bool) (inner outer : ℕ) (x : Lexeme) (run : List Lexeme) → IsRunIn opens closes inner run → inner + count_by closes (x ∷ []) ≡ outer + count_by opens (x ∷ []) → count_by closes (x ∷ []) ≤ outer + count_by opens (x ∷ []) → IsRunIn opens closes outer (x ∷ run)
@@ -111,7 +110,7 @@ closed_is : (opens closes : Lexeme → Bool) → AreApart opens closes → (dept
     → ((d : ℕ) (taken : List Lexeme) (rest : Items) → run_of opens closes (suc d) items ≡ Some (taken, rest) → Ran opens closes d items taken rest) → Ran opens closes depth (Some x ∷ items) taken rest
 unfolding run_of
 closed_is opens closes apart zero x items more taken rest c e is ih =
-    let p = pair_is {A = List Lexeme} [] more items rest e in
+    let p = some_pair_is {X = List Lexeme} [] more items rest e in
     record {
       run = [];
       last = x;
@@ -170,7 +169,7 @@ runs opens closes apart items other h =
 
 pub has_one_run : (opens closes : Lexeme → Bool) → AreApart opens closes → (old new : Items) → RunRead true (run_of opens closes 1 old) new → HasRun opens closes old new × ((other : Items) → HasRun opens closes old other → other ≡ new)
 has_one_run opens closes apart old new (taken, e) =
-    (has_run opens closes old taken new (run_is opens closes apart old 0 taken new e), λ other h. (pair_is {A = List Lexeme} (h.run ++ h.last ∷ []) taken other new (sym (runs opens closes apart old other h) ∙ e)).1)
+    (has_run opens closes old taken new (run_is opens closes apart old 0 taken new e), λ other h. (some_pair_is {X = List Lexeme} (h.run ++ h.last ∷ []) taken other new (sym (runs opens closes apart old other h) ∙ e)).1)
 
 pub has_no_run : (opens closes : Lexeme → Bool) → AreApart opens closes → (old new : Items) → RunRead false (run_of opens closes 1 old) new → (other : Items) → HasRun opens closes old other → ⊥
 has_no_run opens closes apart old new e other h = none_is (h.run ++ h.last ∷ [], other) (sym e ∙ runs opens closes apart old other h)
@@ -189,10 +188,3 @@ parentheses_apart (identifier name) h = refl
 parentheses_apart (digits ds) h = refl
 parentheses_apart (simple_string inside) h = refl
 parentheses_apart (encoded_string inside) h = refl
-
-pub functions_apart : AreApart (is_word (codes "FUNCTION")) (is_word (codes "END_FUNCTION"))
-functions_apart (identifier name) h = let e : name ≡ codes "END_FUNCTION" = (bytes_eq-Decides name (codes "END_FUNCTION")).0 h in rw e refl
-functions_apart (symbol other) h = refl
-functions_apart (digits ds) h = refl
-functions_apart (simple_string inside) h = refl
-functions_apart (encoded_string inside) h = refl

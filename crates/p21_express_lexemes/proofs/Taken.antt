@@ -39,14 +39,11 @@ none_left old bytes front view h e = let k : IsFront (front_of bytes) Ended = rw
 pub wrong_left : (old : Items) (bytes : List ℕ) (front : Front) → lexemes_of bytes ≡ old → IsFront (front_of bytes) front → front ≡ Wrong → old ≡ [] → ⊥
 wrong_left old bytes front view h e none = let k : IsFront (front_of bytes) Wrong = rw e at h in let q : None ∷ [] ≡ [] = sym (lexemes-wrong bytes k) ∙ (view ∙ none) in cc
 
-pub ended_items : (old : Items) (bytes : List ℕ) (front : Front) → lexemes_of bytes ≡ old → IsFront (front_of bytes) front → front ≡ Ended → old ≡ []
-ended_items old bytes front view h e = none_left old bytes front view h e
-
 pub wrong_items : (old : Items) (bytes : List ℕ) (front : Front) → lexemes_of bytes ≡ old → IsFront (front_of bytes) front → front ≡ Wrong → old ≡ None ∷ []
 wrong_items old bytes front view h e = let k : IsFront (front_of bytes) Wrong = rw e at h in sym view ∙ lexemes-wrong bytes k
 
 pub no_first_ended : (old : Items) (bytes : List ℕ) (front : Front) → lexemes_of bytes ≡ old → IsFront (front_of bytes) front → front ≡ Ended → (lexeme : ExpressLexeme) (more : Items) → old ≡ Some lexeme ∷ more → ⊥
-no_first_ended old bytes front view h e lexeme more is = let q : [] ≡ Some lexeme ∷ more = sym (ended_items old bytes front view h e) ∙ is in cc
+no_first_ended old bytes front view h e lexeme more is = let q : [] ≡ Some lexeme ∷ more = sym (none_left old bytes front view h e) ∙ is in cc
 
 pub no_first_wrong : (old : Items) (bytes : List ℕ) (front : Front) → lexemes_of bytes ≡ old → IsFront (front_of bytes) front → front ≡ Wrong → (lexeme : ExpressLexeme) (more : Items) → old ≡ Some lexeme ∷ more → ⊥
 no_first_wrong old bytes front view h e lexeme more is = let q : None ∷ [] ≡ Some lexeme ∷ more = sym (wrong_items old bytes front view h e) ∙ is in cc

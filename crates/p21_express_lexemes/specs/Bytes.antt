@@ -2,15 +2,13 @@
 use Rattle.std.specs.Prelude.{ℕ, Bool, false, not, nat_le, ◌==◌, ◌&&◌, ◌||◌, List, [], ◌∷◌, if◌then◌else◌}
 use Rattle.p21_express_lexemes.specs.declared.bytes.Class.{Class}
 use Rattle.p21_express_lexemes.specs.declared.bytes.Class.TheVariants.{Blank, Letter, Digit, IdentifierByte, Encoded, LineByte, SymbolByte}
+use Rattle.p21_basics.specs.Digits.{is_digit}
 
 abbrev pub is_blank : ℕ → Bool
 is_blank byte = nat_le byte 32 || byte == 127
 
 abbrev pub is_letter : ℕ → Bool
 is_letter byte = nat_le 65 byte && nat_le byte 90 || nat_le 97 byte && nat_le byte 122
-
-abbrev pub is_digit : ℕ → Bool
-is_digit byte = nat_le 48 byte && nat_le byte 57
 
 abbrev pub is_identifier_byte : ℕ → Bool
 is_identifier_byte byte = is_letter byte || is_digit byte || byte == 95

@@ -107,6 +107,3 @@ Expected (Err fault) taken new = Refused fault (taken ≡ None)
 -- in upper case
 abbrev pub upper_of : Bor (List ℕ) → List ℕ
 upper_of name = map upper name.now
-
-abbrev pub now_of : Bor (List ℕ) → List ℕ
-now_of bytes = bytes.now

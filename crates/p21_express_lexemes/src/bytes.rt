@@ -30,7 +30,8 @@ pub(crate) fn is_of(class: Class, byte: u8) -> bool
     }
 }
 
-ghost use Rattle.p21_express_lexemes.specs.Bytes.{is_letter, is_digit, is_symbol};
+ghost use Rattle.p21_basics.specs.Digits.{is_digit};
+ghost use Rattle.p21_express_lexemes.specs.Bytes.{is_letter, is_symbol};
 
 fn is_letter(byte: u8) -> bool
     ensures { result ≡ is_letter byte }

@@ -4,10 +4,10 @@ use Rattle.std.specs.List.{IsDistinct, flat_map}
 use Rattle.std.specs.Result.{IsErr, IsErrAnd}
 use Rattle.std.specs.Str.{bytes_eq}
 use Rattle.std.proofs.Common.{arith, ap, sym, ◌∙◌, subst, get_or, append_assoc}
-use Rattle.std.proofs.lemmas.List.{append-nil, map-append}
+use Rattle.std.proofs.lemmas.List.{map-append}
 use Rattle.std.proofs.lemmas.Option.{slice_get_within, slice_get-get_or}
 use Rattle.std.proofs.lemmas.Slice.Eq.{bytes_eq-Decides}
-use Rattle.p21_basics.proofs.Members.{Contains-first, Contains-later, Contains-at, Contains-found, Contains-mapped, Each-front, Each-append, Each-member, Each-of_members, Each-weaker}
+use Rattle.p21_basics.proofs.Members.{Contains-first, Contains-later, Contains-at, Contains-found, Contains-mapped, Each-front, Each-append, Each-member, Each-of_members, Each-weaker, at-front, at-behind}
 use Rattle.p21_express_outline.specs.Finding.{AddsNames, Checked, Refused}
 use Rattle.p21_express_outline.specs.declared.fault.SchemaFault.{SchemaFault}
 use Rattle.p21_express_outline.specs.Known.{AreOthers, KnowsNames, names_of}
@@ -21,10 +21,8 @@ use Rattle.p21_express_syntax.specs.declared.defined_type.DefinedType.{DefinedTy
 use Rattle.p21_express_tables.proofs.Lookups.{take-snoc}
 use Rattle.p21_express_syntax.specs.declared.attributes.AttributeName.{AttributeName}
 use Rattle.p21_express_syntax.specs.declared.attributes.AttributeName.TheVariants.{Own, Redeclared}
-use Rattle.p21_express_resolve.proofs.Names.{distinct-at, at-front, at-back}
-
-no_bool : true ≡ false → ⊥
-no_bool h = cc
+use Rattle.p21_express_resolve.proofs.Names.{distinct-at}
+use Rattle.p21_express_resolve.proofs.OneOutline.{own_names-append}
 
 apart : (b : Bool) → (b ≡ true → ⊥) → b ≡ false
 apart true none = absurd (none refl)
@@ -43,7 +41,7 @@ pub distinct-twice : (names : List (List ℕ)) (name : List ℕ) → Contains na
 distinct-twice names name among distinct =
     let (k, at) = Contains-at names name among in
     let below = within names k name at in
-    let same = distinct-at (names ++ name ∷ []) distinct k (length names + 0) name (at-front names (name ∷ []) k name at) (at-back names (name ∷ []) 0 name refl) in
+    let same = distinct-at (names ++ name ∷ []) distinct k (length names + 0) name (at-front names (name ∷ []) k name at) (at-behind names (name ∷ []) 0 name refl) in
     omega (arith, below, same)
   where
     within : (names : List (List ℕ)) (k : ℕ) (name : List ℕ) → slice_get names k ≡ Some name → k < length names
@@ -67,9 +65,6 @@ pub record Adding (old now left all : List (List ℕ)) : Type 0 where
   pub joined : now ++ left ≡ old ++ all
   pub distinct : IsDistinct bytes_eq old → IsDistinct bytes_eq now
 
-pub adding-first : (old all : List (List ℕ)) → Adding old old all all
-adding-first old all = record { joined = refl; distinct = λ h. h }
-
 pub adding-more : (old now left all some new rest : List (List ℕ)) → Adding old now left all → left ≡ some ++ rest → (new ≡ now ++ some) × (IsDistinct bytes_eq now → IsDistinct bytes_eq new) → Adding old new rest all
 adding-more old now left all some new rest adding left_is (new_is, distinct) = record {
   joined = ap (λ ns. ns ++ rest) new_is ∙ append_assoc now some rest ∙ ap (λ ns. now ++ ns) (sym left_is) ∙ adding.joined;
@@ -79,9 +74,6 @@ adding-more old now left all some new rest adding left_is (new_is, distinct) = r
 pub adding-twice : (old now left all some rest : List (List ℕ)) → Adding old now left all → left ≡ some ++ rest → (IsDistinct bytes_eq (now ++ some) → ⊥) → IsDistinct bytes_eq (old ++ all) → ⊥
 adding-twice old now left all some rest adding left_is none distinct =
     none (distinct-front (now ++ some) rest (subst (IsDistinct bytes_eq) (sym adding.joined ∙ ap (λ ns. now ++ ns) left_is ∙ sym (append_assoc now some rest)) distinct))
-
-pub adding-last : (old now left all : List (List ℕ)) → Adding old now left all → left ≡ [] → (now ≡ old ++ all) × (IsDistinct bytes_eq old → IsDistinct bytes_eq now)
-adding-last old now left all adding none = (sym (append-nil now) ∙ ap (λ ns. now ++ ns) (sym none) ∙ adding.joined, adding.distinct)
 
 pub checked : (words : List (List ℕ)) (result : Result (Unit {0}) SchemaFault) (new : List (List ℕ)) → AddsNames [] words result new → Checked (IsDistinct bytes_eq words) result
 unfolding IsDistinct
@@ -102,11 +94,6 @@ pub drop-at : {X : Type 0} (xs : List X) (k : ℕ) (x : X) → k < length xs →
 drop-at xs k x below is = drop-next xs k x below ∙ ap (λ y. y ∷ drop (k + 1) xs) (sym is)
 
 -- ---- several lists of names
-
-pub own_names-append : (xs ys : List AttributeName) → kept_own_names (xs ++ ys) ≡ kept_own_names xs ++ kept_own_names ys
-own_names-append [] ys = refl
-own_names-append (Own name ∷ xs) ys = ap (λ ns. name ∷ ns) (own_names-append xs ys)
-own_names-append (Redeclared entity name ∷ xs) ys = own_names-append xs ys
 
 abbrev pub explicit_names : List ExplicitAttributes → List (List ℕ)
 explicit_names explicit = kept_own_names (flat_map (λ d. d.names) (map attributes_view explicit))
@@ -155,7 +142,7 @@ distinct-others xs ys distinct = Each-of_members (λ n. Contains xs n → ⊥) y
     let (i, at) = Contains-at xs y among_ in
     let (j, at_) = Contains-at ys y among in
     let below = slice_get_within xs i y at in
-    let same = distinct-at (xs ++ ys) distinct i (length xs + j) y (at-front xs ys i y at) (at-back xs ys j y at_) in
+    let same = distinct-at (xs ++ ys) distinct i (length xs + j) y (at-front xs ys i y at) (at-behind xs ys j y at_) in
     omega (arith, below, same))
 
 pub knows-refused : (n : Named) (less : Type 0) (fault : SchemaFault) (result : Result Known SchemaFault) → IsErr result → IsErrAnd result (λ found. found ≡ fault) → (IsDistinct bytes_eq (n.entities ++ n.types) → less) → Refused fault (less → ⊥) → KnowsNames n result

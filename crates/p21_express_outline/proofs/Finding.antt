@@ -7,10 +7,8 @@ use Rattle.std.proofs.lemmas.List.{append-nil, map-append, take-append-drop}
 use Rattle.p21_express_outline.specs.Finding.{Refused, Finds, FindsEach, AddsEach}
 use Rattle.p21_express_outline.specs.declared.fault.SchemaFault.{SchemaFault}
 use Rattle.p21_express_resolve.proofs.Zips.{AllZip-mapped, AllZip-unmapped}
-use Rattle.p21_express_outline.proofs.Adding.{drop-at, own_names-append}
-use Rattle.p21_express_resolve.specs.Outline.{aggregate_of, aggregates_of, kept_one_of, kept_own, kept_own_names, one_of_list}
-use Rattle.p21_express_syntax.specs.declared.types.Aggregate.{Aggregate}
-use Rattle.p21_schemas.specs.Schema.{TypeUse}
+use Rattle.p21_express_outline.proofs.Adding.{drop-at}
+use Rattle.p21_express_resolve.specs.Outline.{kept_one_of, kept_own, kept_own_names, one_of_list}
 use Rattle.p21_express_tables.proofs.Lookups.{take-snoc}
 use Rattle.p21_express_outline.specs.Attributes.{own_of}
 use Rattle.p21_express_syntax.specs.Kept.{KeptType, KeptAttributes}
@@ -18,6 +16,7 @@ use Rattle.p21_express_syntax.specs.Views.{attributes_view, entity_view, some_li
 use Rattle.p21_express_syntax.specs.declared.entity.Entity.{Entity}
 use Rattle.p21_express_syntax.specs.declared.attributes.AttributeName.{AttributeName}
 use Rattle.p21_express_syntax.specs.declared.attributes.ExplicitAttributes.{ExplicitAttributes}
+use Rattle.p21_express_resolve.proofs.OneOutline.{own_names-append}
 
 pub AllZip-append : {X Y : Type 0} (R : X → Y → Type 0) (xs zs : List X) (ys ws : List Y) → AllZip R xs ys → AllZip R zs ws → AllZip R (xs ++ zs) (ys ++ ws)
 AllZip-append R [] zs [] ws all all_ = all_
@@ -94,10 +93,6 @@ split-at xs k x below is =
 
 -- ---- aggregates
 
-pub around-more : (aggregates : List Aggregate) (left : ℕ) (aggregate : Aggregate) (element found new : TypeUse) → left < length aggregates → aggregate ≡ get_or aggregates left aggregate → found ≡ aggregates_of (drop (left + 1) aggregates) element → new ≡ aggregate_of aggregate found
-    → new ≡ aggregates_of (drop left aggregates) element
-around-more aggregates left aggregate element found new below is found_is new_is = new_is ∙ ap (aggregate_of aggregate) found_is ∙ ap (λ left_over. aggregates_of left_over element) (sym (drop-at aggregates left aggregate below is))
-
 pub more-behind : {A B X : Type 0} (view : A → B) (R : X → B → Type 0) (done some total : List X) (now new : List A) → AllZip R done (map view now) → ((ys : List B) × (map view new ≡ map view now ++ ys) × AllZip R some ys) → total ≡ done ++ some → AllZip R total (map view new)
 more-behind {A} {B} {X} view R done some total now new all (ys, new_is, all_) total_is =
     let P : List X → Type 0 = λ xs. AllZip R xs (map view new) in
@@ -148,12 +143,6 @@ each-refused_mapped view R f xs k x fault (Err found) is_err is below at refused
 
 pub each-mapped : {A B W X : Type 0} (view : A → B) (R : X → B → Type 0) (f : W → X) (xs : List W) (found : List A) → AllZip (λ w y. R (f w) y) xs (map view found) → AllZip R (map f xs) (map view found)
 each-mapped view R f xs found all = AllZip-mapped R f xs (map view found) all
-
-pub AllZip-flip : {X Y : Type 0} (R : X → Y → Type 0) (xs : List X) (ys : List Y) → AllZip R xs ys → AllZip (λ y x. R x y) ys xs
-AllZip-flip R [] [] all = tt
-AllZip-flip R [] (y ∷ ys) all = absurd all
-AllZip-flip R (x ∷ xs) [] all = absurd all
-AllZip-flip R (x ∷ xs) (y ∷ ys) all = (all.0, AllZip-flip R xs ys all.1)
 
 pub take-all : {X : Type 0} (xs : List X) (k : ℕ) → length xs ≤ k → take k xs ≡ xs
 take-all [] zero le = refl

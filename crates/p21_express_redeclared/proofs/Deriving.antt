@@ -19,11 +19,11 @@ use Rattle.p21_express_resolve.specs.Redeclarations.{KeptDerivesName, KeptDerive
 use Rattle.p21_express_resolve.proofs.Zips.{mapped-at}
 use Rattle.p21_express_outline.specs.Finding.{Refused}
 use Rattle.p21_express_outline.specs.declared.fault.SchemaFault.{SchemaFault}
-use Rattle.p21_express_outline.proofs.Adding.{own_names-append}
 use Rattle.p21_express_outline.proofs.Finding.{split-at}
 use Rattle.p21_express_redeclared.proofs.Explicit.{names-append}
 use Rattle.p21_express_redeclared.specs.Derived.{DeriveNothing, DerivesItself, FindsDerived}
 use Rattle.p21_express_redeclared.specs.Sought.{IsMissing}
+use Rattle.p21_express_resolve.proofs.OneOutline.{own_names-append}
 
 -- ---- new attributes
 

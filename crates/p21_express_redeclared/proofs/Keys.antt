@@ -2,7 +2,7 @@
 use Rattle.std.specs.Prelude.{◌≡◌, ℕ, suc, ◌+◌, ◌<◌, ◌≤◌, Bool, true, false, ◌&&◌, ◌||◌, not, if◌then◌else◌, nat_eq, List, [], ◌∷◌, ◌++◌, map, length, take, drop, refl}
 use Rattle.std.specs.List.{IsDistinct, list_any}
 use Rattle.std.proofs.Common.{arith, ap, sym, ◌∙◌, subst, get_or}
-use Rattle.std.proofs.lemmas.Bool.{eq-eqb, eqb-true}
+use Rattle.std.proofs.lemmas.Bool.{eq-eqb, eqb-true, and_parts, not-false}
 use Rattle.std.proofs.lemmas.List.{map-append, take-append-drop}
 use Rattle.p21_basics.proofs.Members.{Each-back, Each-mapped, Each-unmapped}
 use Rattle.p21_schemas.specs.DeclaredEntity.{same_place}
@@ -19,14 +19,10 @@ key p = (p.entity.0, p.index)
 abbrev pub same_key : ℕ × ℕ → ℕ × ℕ → Bool
 same_key a b = nat_eq a.0 b.0 && nat_eq a.1 b.1
 
-both : (a b : Bool) → (a && b) ≡ true → (a ≡ true) × (b ≡ true)
-both true b h = (refl, h)
-both false b h = cc
-
 -- keys that are the same are those of one place, in either order
 key-same : (p q : Place) → same_key (key p) (key q) ≡ true → same_place (place_of q) (place_of p) ≡ true
 key-same p q is =
-    let (entity, index) = both (nat_eq p.entity.0 q.entity.0) (nat_eq p.index q.index) is in
+    let (entity, index) = and_parts (nat_eq p.entity.0 q.entity.0) (nat_eq p.index q.index) is in
     ap (λ b. b && nat_eq q.index p.index) (eq-eqb q.entity.0 p.entity.0 (sym (eqb-true p.entity.0 q.entity.0 entity))) ∙ eq-eqb q.index p.index (sym (eqb-true p.index q.index index))
 
 -- keys that differ are those of places that differ
@@ -63,11 +59,6 @@ keys-more places k keys after below keys_are after_is =
     let next : k + 1 ≡ suc k = omega arith in
     after_is ∙ ap (λ ks. ks ++ key (get_or places k no_place) ∷ []) keys_are ∙ sym (map-append key (take k places) (get_or places k no_place ∷ [])) ∙ ap (map key) (sym (ap (λ n. take n places) next ∙ take-snoc places k no_place below))
 
--- the test of a key that is there
-pub there : (b : Bool) → not b ≡ false → b ≡ true
-there true is = refl
-there false is = cc
-
 -- a key that isn't there stands last
 pub added : (b : Bool) (keys after : List (ℕ × ℕ)) (k : ℕ × ℕ) → not b ≡ true → after ≡ (if b then keys else keys ++ k ∷ []) → after ≡ keys ++ k ∷ []
 added true keys after k is after_is = cc
@@ -91,7 +82,7 @@ seen-more places k keys after new below seen new_is is after_is unique = record 
 pub seen-twice : (places : List Place) (k : ℕ) (keys : List (ℕ × ℕ)) (new : Bool) → k < length places → AreSeen (take k places) keys → new ≡ not (list_any (same_key (key (get_or places k no_place))) keys) → new ≡ false → IsDistinct same_place (map place_of places) → ⊥
 seen-twice places k keys new below seen new_is is =
     let P : List (ℕ × ℕ) → Type 0 = λ ks. list_any (same_key (key (get_or places k no_place))) ks ≡ true in
-    twice-at places k below (subst P seen.keys_are (there (list_any (same_key (key (get_or places k no_place))) keys) (sym new_is ∙ is)))
+    twice-at places k below (subst P seen.keys_are (not-false (list_any (same_key (key (get_or places k no_place))) keys) (sym new_is ∙ is)))
 
 pub seen-all : (places : List Place) (k : ℕ) (keys : List (ℕ × ℕ)) → length places ≤ k → AreSeen (take k places) keys → IsDistinct same_place (map place_of places)
 seen-all places k keys all seen = distinct-keys places (subst (IsDistinct same_key) (seen.keys_are ∙ ap (map key) (take-all places k all)) seen.unique)

@@ -1,9 +1,9 @@
 -- Places and proper supertypes by their names.
-use Rattle.std.specs.Prelude.{◌≡◌, ◌≢◌, ℕ, ◌<◌, ◌≤◌, List, Some, length, zero, suc, ◌+◌, Contains}
+use Rattle.std.specs.Prelude.{◌≡◌, ◌≢◌, ℕ, ◌<◌, ◌≤◌, List, Some, length, Contains}
 use Rattle.std.proofs.Common.{arith, ap, sym, ◌∙◌, subst, inl, inr, get_or}
 use Rattle.std.proofs.lemmas.Bool.{cases_eq}
 use Rattle.std.proofs.lemmas.Option.{slice_get_within}
-use Rattle.p21_basics.proofs.Members.{Contains-none, Contains-first, Contains-later, Contains-cases, Contains-one_of, Contains-flat_map}
+use Rattle.p21_basics.proofs.Members.{Contains-one_of, Contains-flat_map}
 use Rattle.p21_schemas.specs.Order.{order, own_places}
 use Rattle.p21_schemas.specs.Redeclaration.{IsOwnPlace, IsPlaceOf, IsProperSupertype, RedeclaresPlace, HasNoPlace}
 use Rattle.p21_schemas.specs.Schema.{Schema, Place, EntityNamed, PlaceNamed, attributes_of}
@@ -13,13 +13,13 @@ use Rattle.p21_schemas.proofs.Orders.{order_within-self, order_within-only}
 use Rattle.p21_express_redeclared.specs.Sought.{IsPlaceIn, FoundIn, IsMissing, StandsFor}
 use Rattle.p21_express_redeclared.specs.declared.lookups.Sought.{Sought}
 use Rattle.p21_express_redeclared.specs.declared.lookups.Sought.TheVariants as sought
-use Rattle.p21_express_tables.specs.Lookups.{places_from}
 use Rattle.p21_express_tables.specs.Orders.{numbers}
 use Rattle.p21_express_tables.specs.Resolved.{HoldsTogether}
 use Rattle.p21_express_tables.proofs.Gatherings.{numbered-at}
-use Rattle.p21_express_tables.proofs.Lookups.{each-number, own-places-are}
+use Rattle.p21_express_tables.proofs.Lookups.{each-number}
 use Rattle.p21_express_tables.proofs.OrderTables.{IsA-within, are-entities}
 use Rattle.p21_express_types.specs.declared.number.EntityId.{EntityId}
+use Rattle.p21_schemas.proofs.OwnPlaces.{own_places-within, own_places-has}
 
 -- an attribute by its entity and its number
 abbrev pub at_index : ℕ → ℕ → Place
@@ -51,30 +51,11 @@ not-proper s distinct e f name named none sup (sup_named, is_a, other) =
     let same : sup ≡ f = distinct sup f name sup_named named in
     none (subst (IsA s e) same is_a) (λ is. other (same ∙ is))
 
-places_from-within : (e k n : ℕ) (place : Place) → Contains (places_from e k n) place → (e ≡ place.entity) × (place.index < k + n)
-places_from-within e k zero place among = absurd (Contains-none place among)
-places_from-within e k (suc n) place among = elim (Contains-cases (record { entity = e; index = k }) (places_from e (k + 1) n) place among) [
-  | inl h ↦ (ap (λ p. p.entity) h, (let same : k ≡ place.index = ap (λ p. p.index) h in omega (arith, same)))
-  | inr h ↦ (let (same, below) = places_from-within e (k + 1) n place h in (same, omega (arith, below)))
-]
-
-places_from-has : (e k n i : ℕ) → i < n → Contains (places_from e k n) (record { entity = e; index = k + i })
-places_from-has e k zero i below = absurd (omega (arith, below))
-places_from-has e k (suc n) zero below =
-    let same : k ≡ k + 0 = omega arith in
-    let P : ℕ → Type 0 = λ j. Contains (places_from e k (suc n)) (record { entity = e; index = j }) in
-    subst P same (Contains-first (record { entity = e; index = k }) (places_from e (k + 1) n))
-places_from-has e k (suc n) (suc i) below =
-    let same : k + 1 + i ≡ k + suc i = omega arith in
-    let P : ℕ → Type 0 = λ j. Contains (places_from e k (suc n)) (record { entity = e; index = j }) in
-    subst P same (Contains-later (record { entity = e; index = k }) (places_from e (k + 1) n) (record { entity = e; index = k + 1 + i }) (places_from-has e (k + 1) n i (omega (arith, below))))
-
 -- a place of an entity is one that an entity of its order declares itself
 pub place-owner : (s : Schema) (e : ℕ) (name : List ℕ) (place : Place) → IsPlaceOf s e name place → (f : ℕ) × Contains (order s e) f × IsOwnPlace s f name place
 place-owner s e name place (among, named) =
     let (f, in_order, own) = Contains-one_of (own_places s) (order s e) place among in
-    let P : List Place → Type 0 = λ ps. Contains ps place in
-    (f, in_order, (sym (places_from-within f 0 (length (attributes_of s f)) place (subst P (sym (own-places-are s f)) own)).0, named))
+    (f, in_order, (sym (own_places-within s f place own).0, named))
 
 -- and the other way round
 pub owner-place : (s : Schema) (e f : ℕ) (name : List ℕ) (place : Place) → Contains (order s e) f → IsOwnPlace s f name place → IsPlaceOf s e name place
@@ -82,11 +63,8 @@ owner-place s e f name place in_order (same, named) =
     let P : ℕ → Type 0 = λ g. place.index < length (attributes_of s g) in
     let below : place.index < length (attributes_of s f) = subst P same (named-within s place name named) in
     let at : ℕ → ℕ → Place = λ g i. record { entity = g; index = i } in
-    let Q : List Place → Type 0 = λ ps. Contains ps (at f (0 + place.index)) in
-    let own : Contains (own_places s f) (at f (0 + place.index)) = subst Q (own-places-are s f) (places_from-has f 0 (length (attributes_of s f)) place.index below) in
-    let zero_ : 0 + place.index ≡ place.index = omega arith in
-    let is : at f (0 + place.index) ≡ place = ap (at f) zero_ ∙ ap (λ g. at g place.index) (sym same) in
-    (Contains-flat_map (own_places s) (order s e) f place in_order (subst (Contains (own_places s f)) is own), named)
+    let is : at f place.index ≡ place = ap (λ g. at g place.index) (sym same) in
+    (Contains-flat_map (own_places s) (order s e) f place in_order (subst (Contains (own_places s f)) is (own_places-has s f place.index below)), named)
 
 -- the place that a name stands for is a place of the entity
 pub place-of : (s : Schema) (e : ℕ) (name : List ℕ) (place : Place) → IsPlaceIn s e name place → IsPlaceOf s e name place

@@ -1,20 +1,19 @@
 -- An entity declaration, and what is kept of it.
-use Rattle.std.specs.Prelude.{◌≡◌, ℕ, ◌≤◌, Bool, List, [], ◌∷◌, ◌++◌, map, Option, Some, None, slice_get, Contains, refl}
-use Rattle.std.specs.List.{AllZip, flat_map, IsDistinct, enumerate_from, AllByRecursion as Each}
+use Rattle.std.specs.Prelude.{◌≡◌, ℕ, ◌≤◌, Bool, List, [], ◌∷◌, ◌++◌, map, Option, Some, None, Contains, refl}
+use Rattle.std.specs.List.{AllZip, flat_map, IsDistinct, AllByRecursion as Each}
 use Rattle.std.specs.Str.{bytes_eq}
 use Rattle.std.proofs.Common.{ap, sym, ◌∙◌, subst}
-use Rattle.std.proofs.lemmas.List.{map-append}
 use Rattle.p21_basics.proofs.Members.{Each-member, Contains-one_of, Contains-unmapped}
 use Rattle.p21_schemas.specs.EntityDeclaration as written
 use Rattle.p21_schemas.specs.EntityDeclaration.{own, redeclared, DerivedAttribute, EntityDeclaration, ExplicitAttributes}
-use Rattle.p21_schemas.specs.Schema.{Schema, Entity, Attribute, Redeclared, Place}
-use Rattle.p21_schemas.specs.SupertypeConstraint.{SupertypeExpression, one_of, other_run, SupertypeConstraint, no_constraint, abstract_entity, abstract_supertype, abstract_supertype_of, supertype_of}
+use Rattle.p21_schemas.specs.Schema.{Schema, Entity, Place}
+use Rattle.p21_schemas.specs.SupertypeConstraint.{one_of, other_run, SupertypeConstraint, no_constraint, abstract_entity, abstract_supertype, abstract_supertype_of, supertype_of}
 use Rattle.p21_schemas.specs.WrittenType.{WrittenType, nesting}
-use Rattle.p21_schemas.specs.DeclaredEntity.{EntityIs, AttributeIs, RedeclaredIs, DerivesName, DerivedAre, no_more, a_place, no_place, names_of, derived_names, own_names, redeclared_names, own_explicit, redeclared_explicit, is_abstract_by, same_place}
+use Rattle.p21_schemas.specs.DeclaredEntity.{EntityIs, AttributeIs, RedeclaredIs, DerivesName, DerivedAre, no_more, a_place, no_place, names_of, derived_names, own_names, redeclared_names, own_explicit, redeclared_explicit, is_abstract_by}
 use Rattle.p21_schemas.specs.DeclaredType.{deepest_nesting}
 use Rattle.p21_schemas.specs.DeclaredOneOf.{one_of_names, all_one_of_names}
-use Rattle.p21_express_syntax.specs.Kept.{KeptType, KeptAttributes, KeptEntity}
-use Rattle.p21_express_syntax.specs.Keeping.{kept_type, kept_name, kept_attributes, kept_constraint, kept_derived, derived_if, names_if, kept_entity}
+use Rattle.p21_express_syntax.specs.Kept.{KeptType, KeptEntity}
+use Rattle.p21_express_syntax.specs.Keeping.{kept_type, kept_name, kept_attributes, kept_constraint, derived_if, kept_entity}
 use Rattle.p21_express_syntax.specs.Within.{HasNumbers}
 use Rattle.p21_express_resolve.specs.Outline.{Named, IsNamed, kept_own_names, kept_redeclared_names, kept_own, kept_redeclared, KeptAttributeIs, EntityOutline, attribute_names, one_of_list, kept_one_of}
 use Rattle.p21_express_resolve.specs.Redeclarations as kept
@@ -38,10 +37,6 @@ redeclared-kept (redeclared entity name ∷ names) = ap (λ (ns : List (List ℕ
 pub derived-kept : (derive : Option (List DerivedAttribute)) → derived_if derive ≡ map kept_name (derived_names derive)
 derived-kept None = refl
 derived-kept (Some derived) = sym (map-twice (λ x. x.name) kept_name derived)
-
-names-kept : (x : Option (List (List ℕ))) → names_if x ≡ names_of x
-names-kept None = refl
-names-kept (Some names) = refl
 
 all_names-kept : (explicit : List ExplicitAttributes) → flat_map (λ d. d.names) (map kept_attributes explicit) ≡ map kept_name (flat_map (λ d. d.names) explicit)
 all_names-kept explicit = flat_map-mapped kept_attributes (λ d. d.names) (λ d. d.names) kept_name explicit (λ x. refl)
@@ -83,13 +78,12 @@ entity-kept s n has ds e x found is = record {
   name_is = is.name_is;
   abstract_is = is.abstract_is ∙ sym (abstract-kept x.constraint);
   supertypes_are =
-      let P : List (List ℕ) → Type 0 = λ names. AllZip (IsNamed n.entities) found.supertypes names in
-      subst P (sym (names-kept x.subtype_of)) (AllZip-weaker _ (IsNamed n.entities) found.supertypes (names_of x.subtype_of) (λ f name among among_ named. entity-at s n has f name named) is.supertypes_are);
+      AllZip-weaker _ (IsNamed n.entities) found.supertypes (names_of x.subtype_of) (λ f name among among_ named. entity-at s n has f name named) is.supertypes_are;
   attributes_are =
       let P : List (List ℕ × Bool × KeptType) → Type 0 = λ xs. AllZip (KeptAttributeIs n) xs found.attributes in
       subst P (sym (own_explicit-kept x.explicit)) (AllZip-mapped (KeptAttributeIs n) keep_own (own_explicit x.explicit) found.attributes
       (AllZip-weaker (AttributeIs s) (λ w a. KeptAttributeIs n (keep_own w) a) (own_explicit x.explicit) found.attributes (λ w a among among_ h. (h.0, h.1, type-kept s n has w.2 a.type h.2)) is.attributes_are));
-  supertypes_distinct = subst (IsDistinct bytes_eq) (sym (names-kept x.subtype_of)) is.supertypes_distinct;
+  supertypes_distinct = is.supertypes_distinct;
   names_distinct = subst (IsDistinct bytes_eq) (sym (attribute_names-kept x)) is.names_distinct;
 }
 
@@ -172,8 +166,7 @@ entity-written s n has ds e x found small numbers is are = record {
   name_is = is.name_is;
   abstract_is = is.abstract_is ∙ abstract-kept x.constraint;
   supertypes_are =
-      let P : List (List ℕ) → Type 0 = λ names. AllZip (IsNamed n.entities) found.supertypes names in
-      AllZip-weaker (IsNamed n.entities) _ found.supertypes (names_of x.subtype_of) (λ f name among among_ named. entity-of s n has f name named) (subst P (names-kept x.subtype_of) is.supertypes_are);
+      AllZip-weaker (IsNamed n.entities) _ found.supertypes (names_of x.subtype_of) (λ f name among among_ named. entity-of s n has f name named) is.supertypes_are;
   attributes_are =
       let P : List (List ℕ × Bool × KeptType) → Type 0 = λ xs. AllZip (KeptAttributeIs n) xs found.attributes in
       AllZip-weaker (λ w a. KeptAttributeIs n (keep_own w) a) (AttributeIs s) (own_explicit x.explicit) found.attributes (λ w a among among_ h. (h.0, h.1, type-written s n has w.2 a.type (own-numbered x.explicit numbers w among) h.2))
@@ -186,7 +179,7 @@ entity-written s n has ds e x found small numbers is are = record {
       let P : List (List ℕ × List ℕ) → Type 0 = λ names. KeptDerivedAre s (map kept_entity ds) e names found.derived in
       places-written s ds e (redeclared_names (derived_names x.derive)) found.derived (subst P (derived_names-kept x.derive) are.derived_are);
   nesting_small = small;
-  supertypes_distinct = subst (IsDistinct bytes_eq) (names-kept x.subtype_of) is.supertypes_distinct;
+  supertypes_distinct = is.supertypes_distinct;
   names_distinct = subst (IsDistinct bytes_eq) (attribute_names-kept x) is.names_distinct;
   places_distinct = are.places_distinct;
 }

@@ -70,7 +70,7 @@ outline-one k s t is is_ =
 
 -- ---- the names of the attributes of an entity
 
-own_names-append : (xs ys : List AttributeName) → kept_own_names (xs ++ ys) ≡ kept_own_names xs ++ kept_own_names ys
+pub own_names-append : (xs ys : List AttributeName) → kept_own_names (xs ++ ys) ≡ kept_own_names xs ++ kept_own_names ys
 own_names-append [] ys = refl
 own_names-append (Own name ∷ xs) ys = ap (λ ns. name ∷ ns) (own_names-append xs ys)
 own_names-append (Redeclared entity name ∷ xs) ys = own_names-append xs ys

@@ -3,7 +3,7 @@ use Rattle.std.specs.Prelude.{◌≡◌, ◌⊎◌, ℕ, zero, suc, ◌+◌, len
 use Rattle.std.specs.List.{AllZip, flat_map, enumerate_from, IsDistinct}
 use Rattle.std.specs.Str.{bytes_eq}
 use Rattle.std.proofs.Common.{arith, ap, sym, ◌∙◌, subst, inl, inr}
-use Rattle.p21_basics.proofs.Members.{Contains-flat_map, Contains-first, Contains-later, Contains-found, AllZip-second_member}
+use Rattle.p21_basics.proofs.Members.{Contains-flat_map, Contains-first, Contains-later, Contains-found, AllZip-second_member, at-front}
 use Rattle.p21_schemas.specs.Schema as schema
 use Rattle.p21_schemas.specs.Schema.{Schema, Place, Entity, Attribute, Redeclared, Defined, EntityNamed, attributes_of, attribute_at}
 use Rattle.p21_schemas.specs.Declared.{Declares}
@@ -22,7 +22,7 @@ use Rattle.p21_express_resolve.specs.Redeclarations.{KeptRedeclaredIs, KeptDeriv
 use Rattle.p21_express_resolve.proofs.Agreeing.{Agree, agrees-bare, redeclarations-agree}
 use Rattle.p21_express_resolve.proofs.KeptSchemas.{declared-text}
 use Rattle.p21_express_resolve.proofs.KeptTypes.{type-one}
-use Rattle.p21_express_resolve.proofs.Names.{HasNames, entity-at, AreApart, one-entity, at-front, distinct-at}
+use Rattle.p21_express_resolve.proofs.Names.{HasNames, entity-at, AreApart, one-entity, distinct-at}
 use Rattle.p21_express_resolve.proofs.OneOutline.{entity-one, outline-one, own-names}
 use Rattle.p21_express_resolve.proofs.Zips.{AllZip-one, AllZip-same, numbered-weaker, numbered-one, numbered-both, numbered, mapped-at, AllZip-second_mapped}
 

@@ -16,7 +16,7 @@ use Rattle.p21_express_lexemes.proofs.Put.{put-append}
 use Rattle.p21_express_lexemes.proofs.Running.{nothing_apart, parentheses_apart}
 use Rattle.p21_express_syntax.specs.Declaring.{names_of, one_of_of, expression_by, expression_of, abstract_at, constraint_of, supertypes_of, derive_of, take_rules, entity_end, entity_at, body_of, type_end, defined_at, explicit_of, derived_of}
 use Rattle.p21_express_syntax.specs.Kept.{KeptConstraint, KeptAttributes, KeptEntity, KeptBody, underlying, KeptDefinedType}
-use Rattle.p21_express_syntax.specs.Keeping.{kept_attributes, kept_expression, kept_constraint, names_if, kept_derived, derived_if, kept_entity, kept_body, kept_defined}
+use Rattle.p21_express_syntax.specs.Keeping.{kept_attributes, kept_expression, kept_constraint, kept_derived, derived_if, kept_entity, kept_body, kept_defined}
 use Rattle.p21_express_syntax.specs.Many.{many_of}
 use Rattle.p21_express_syntax.specs.Reading.{bind, type_of}
 use Rattle.p21_express_syntax.specs.Within.{AreAttributesWithin, IsEntityWithin, IsBodyWithin, IsDefinedWithin}
@@ -26,11 +26,9 @@ use Rattle.p21_express_syntax.proofs.ListsRead.{names_read}
 use Rattle.p21_express_syntax.proofs.Repeated.{many_is}
 use Rattle.p21_express_syntax.proofs.Sounding.{OfSome, of_some, of_bind, of_choose, some_of, symbol_taken, word_taken, name_taken, Written}
 use Rattle.p21_express_syntax.proofs.TypesSound.{over, type_is}
+use Rattle.p21_schemas.specs.DeclaredEntity.{names_of as names_written}
 
 -- ---- supertype constraints
-
-put_one_of : (names : List (List ℕ)) (more : Items) → put (one_of_lexemes names) more ≡ over (identifier (codes "ONEOF")) (put (names_lexemes names) more)
-put_one_of names more = refl
 
 pub one_of_read : (names : List (List ℕ)) (more : Items) → AreNames names → ◌≡◌ {A = Option (List (List ℕ) × Items)} (one_of_of (put (one_of_lexemes names) (over (symbol 41) more))) (Some (names, more))
 unfolding one_of_of take_word take_symbol
@@ -119,7 +117,7 @@ pub record SupertypesWritten (value : List (List ℕ)) (items rest : Items) : Ty
   pub tree : Option (List (List ℕ))
   pub stands : items ≡ put (subtype_lexemes tree) rest
   pub is_one : IfSome tree AreNames
-  pub same : names_if tree ≡ value
+  pub same : names_written tree ≡ value
 
 supertypes_are : (items : Items) → OfSome (supertypes_of items) (λ f. SupertypesWritten f.0 items f.1)
 unfolding supertypes_of
@@ -186,7 +184,7 @@ entity_stands : (x : EntityDeclaration) (items a b c d e f g h i rest : Items) �
 entity_stands x items a b c d e f g h i rest p q r s t u v w y = rw (p, q, r, s, t, u, v, w, y) (sym (put_entity x rest))
 
 entity_same : (name : List ℕ) (constraint : SupertypeConstraint) (subtype_of : Option (List (List ℕ))) (explicit : List ExplicitAttributes) (derive : Option (List DerivedAttribute)) (rules : Option Rules) (c : KeptConstraint) (s : List (List ℕ)) (e : List KeptAttributes) (d : List AttributeName)
-    → kept_constraint constraint ≡ c → names_if subtype_of ≡ s → map kept_attributes explicit ≡ e → derived_if derive ≡ d
+    → kept_constraint constraint ≡ c → names_written subtype_of ≡ s → map kept_attributes explicit ≡ e → derived_if derive ≡ d
     → ◌≡◌ {A = KeptEntity} (kept_entity (record { name = name; constraint = constraint; subtype_of = subtype_of; explicit = explicit; derive = derive; rules = rules })) (record { name = name; constraint = c; supertypes = s; explicit = e; derived = d })
 entity_same name tree subtype_of explicit derive rules c s e d p q r t = rw (← p, ← q, ← r, ← t) refl
 
@@ -212,9 +210,6 @@ entity_is items = of_bind (take_name items) _ _ (λ n en. of_bind (constraint_of
 
 abbrev pub IsBodyOf : type_declaration.Body → Type 0
 IsBodyOf x = IsBody x × IsBodyWithin x
-
-body_same : (tree : type_declaration.Body) (value : KeptBody) → kept_body tree ≡ value → kept_body tree ≡ value
-body_same tree value e = e
 
 body_is : (items : Items) → OfSome (body_of items) (λ f. Written body_lexemes IsBodyOf kept_body f.0 items f.1)
 unfolding body_of

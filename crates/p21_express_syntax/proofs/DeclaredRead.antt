@@ -13,11 +13,10 @@ use Rattle.p21_schemas.proofs.OneOfReadings.{expression-is_run}
 use Rattle.p21_express_lexemes.specs.Words.{is_reserved}
 use Rattle.p21_express_lexemes.specs.Runs.{behind_run}
 use Rattle.p21_express_lexemes.specs.Taking.{Items, put, take_symbol, take_word, take_name}
-use Rattle.p21_express_lexemes.proofs.Put.{pair_is}
 use Rattle.p21_express_lexemes.proofs.Running.{runs, nothing_apart, parentheses_apart}
 use Rattle.p21_express_syntax.specs.Declaring.{one_of_of, expression_of, abstract_at, constraint_of, supertypes_of, derive_of, take_rules, entity_end, entity_at, body_of, type_end, defined_at, attribute_of, explicit_of, derived_of}
 use Rattle.p21_express_syntax.specs.Kept.{KeptConstraint, KeptAttributes, KeptEntity, KeptBody, KeptDefinedType}
-use Rattle.p21_express_syntax.specs.Keeping.{kept_attributes, kept_expression, kept_constraint, names_if, kept_derived, derived_if, kept_entity, kept_body, kept_defined}
+use Rattle.p21_express_syntax.specs.Keeping.{kept_attributes, kept_expression, kept_constraint, kept_derived, derived_if, kept_entity, kept_body, kept_defined}
 use Rattle.p21_express_syntax.specs.Within.{AreAttributesWithin, IsBodyWithin}
 use Rattle.p21_express_syntax.specs.declared.attributes.AttributeName.{AttributeName}
 use Rattle.p21_express_syntax.proofs.Declared.{IsEntity, IsDefined, one_of_is, one_of_read, put_supertype_of, put_entity, put_defined}
@@ -27,6 +26,8 @@ use Rattle.p21_express_syntax.proofs.Repeated.{many_read}
 use Rattle.p21_express_syntax.proofs.Sounding.{of_some, name_read, name_apart}
 use Rattle.p21_express_syntax.proofs.TypesRead.{type_read}
 use Rattle.p21_express_syntax.proofs.TypesSound.{over}
+use Rattle.p21_schemas.specs.DeclaredEntity.{names_of}
+use Rattle.p21_basics.proofs.Members.{some_pair_is}
 
 -- ---- supertype constraints
 
@@ -43,7 +44,7 @@ same_run : (run other : List Lexeme) (more rest : Items) → IsRun (is_symbol 40
 same_run run other more rest is is_other e =
     let a = runs (is_symbol 40) (is_symbol 41) parentheses_apart (put run (over (symbol 41) more)) more (record { run = run; last = symbol 41; is_run = is; closed = refl; lexemes = refl }) in
     let b = runs (is_symbol 40) (is_symbol 41) parentheses_apart (put run (over (symbol 41) more)) rest (record { run = other; last = symbol 41; is_run = is_other; closed = refl; lexemes = e }) in
-    snoc_same run other (symbol 41) (pair_is {A = List Lexeme} (run ++ symbol 41 ∷ []) (other ++ symbol 41 ∷ []) more rest (sym a ∙ b)).0
+    snoc_same run other (symbol 41) (some_pair_is {X = List Lexeme} (run ++ symbol 41 ∷ []) (other ++ symbol 41 ∷ []) more rest (sym a ∙ b)).0
 
 -- a run that is no ONEOF list of names isn't read as one
 pub no_one_of : (run : List Lexeme) (more : Items) → IsExpression (other_run run) → ◌≡◌ {A = Option (List (List ℕ) × Items)} (one_of_of (put run (over (symbol 41) more))) None
@@ -74,7 +75,7 @@ constraint_read abstract_supertype more is n = rw n.no_of refl
 constraint_read (abstract_supertype_of x) more is n = ap (λ (y : Items). constraint_of (over (identifier (codes "ABSTRACT")) y)) (put_supertype_of x more) ∙ rw (expression_read x more is) refl
 constraint_read (supertype_of x) more is n = ap constraint_of (put_supertype_of x more) ∙ rw (expression_read x more is) refl
 
-supertypes_read : (names : Option (List (List ℕ))) (more : Items) → IfSome names AreNames → take_word (codes "SUBTYPE") more ≡ None → ◌≡◌ {A = Option (List (List ℕ) × Items)} (supertypes_of (put (subtype_lexemes names) more)) (Some (names_if names, more))
+supertypes_read : (names : Option (List (List ℕ))) (more : Items) → IfSome names AreNames → take_word (codes "SUBTYPE") more ≡ None → ◌≡◌ {A = Option (List (List ℕ) × Items)} (supertypes_of (put (subtype_lexemes names) more)) (Some (names_of names, more))
 unfolding supertypes_of take_word
 supertypes_read None more is n = rw n refl
 supertypes_read (Some names) more is n = names_read names more is

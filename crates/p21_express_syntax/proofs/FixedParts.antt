@@ -9,7 +9,7 @@ use Rattle.p21_schemas.specs.SupertypeConstraint.{SupertypeExpression, one_of, o
 use Rattle.p21_schemas.specs.EntityDeclaration.{AttributeName, own, redeclared, ExplicitAttributes, DerivedAttribute, attribute_lexemes, explicit_lexemes, derived_lexemes, subtype_lexemes, IsAttributeName, AreExplicit, IsDerived}
 use Rattle.p21_express_lexemes.specs.Runs.{AreApart, run_of}
 use Rattle.p21_express_lexemes.specs.Taking.{Items, put, take_symbol, take_word, take_name}
-use Rattle.p21_express_lexemes.proofs.Put.{put-append, pair_is}
+use Rattle.p21_express_lexemes.proofs.Put.{put-append}
 use Rattle.p21_express_lexemes.proofs.Running.{runs, nothing_apart, parentheses_apart}
 use Rattle.p21_express_syntax.specs.Declaring.{names_of, one_of_of}
 use Rattle.p21_express_syntax.specs.Reading.{bind, choose, flag_of}
@@ -21,9 +21,7 @@ use Rattle.p21_express_syntax.proofs.Sounding.{name_read, name_apart}
 use Rattle.p21_express_syntax.proofs.TypesRead.{type_first}
 use Rattle.p21_express_syntax.proofs.TypesSound.{over}
 use Rattle.p21_express_syntax.proofs.TypeTrees.{one_type}
-use Rattle.std.specs.Str.{bytes_eq}
-use Rattle.std.proofs.lemmas.Bool.{both_ways}
-use Rattle.std.proofs.lemmas.Slice.Eq.{bytes_eq-Decides}
+use Rattle.p21_basics.proofs.Members.{some_pair_is}
 
 -- ---- what stands first
 
@@ -42,10 +40,6 @@ behind x y more rest e = (first_same x y more rest e).1
 
 pub words_same : (a b : List ℕ) (more rest : Items) → over (identifier a) more ≡ over (identifier b) rest → (a ≡ b) × (more ≡ rest)
 words_same a b more rest e = let f = first_same (identifier a) (identifier b) more rest e in (let g : identifier a ≡ identifier b = f.0 in cc, f.1)
-
--- words that aren't spelled alike
-pub no_words : (a b : List ℕ) → bytes_eq a b ≡ false → a ≡ b → ⊥
-no_words a b n e = both_ways (bytes_eq a b) n ((bytes_eq-Decides a b).1 e)
 
 -- a name is no word of the grammar
 not_word : (name w : List ℕ) → Contains reserved_words w → IsName name → name ≡ w → ⊥
@@ -83,7 +77,7 @@ pub run_fixed : (opens closes : Lexeme → Bool) → AreApart opens closes → (
 run_fixed opens closes apart last closed run other more rest is is_other e =
     let a = runs opens closes apart (put run (over last more)) more (record { run = run; last = last; is_run = is; closed = closed; lexemes = refl }) in
     let b = runs opens closes apart (put run (over last more)) rest (record { run = other; last = last; is_run = is_other; closed = closed; lexemes = e }) in
-    let p = pair_is {A = List Lexeme} (run ++ last ∷ []) (other ++ last ∷ []) more rest (sym a ∙ b) in
+    let p = some_pair_is {X = List Lexeme} (run ++ last ∷ []) (other ++ last ∷ []) more rest (sym a ∙ b) in
     (snoc_same run other last p.0, p.1)
 
 -- ---- supertype constraints
@@ -127,7 +121,7 @@ constraint_back (abstract_supertype_of x) more is n = ap (λ (y : Items). constr
 constraint_back (supertype_of x) more is n = ap constraint_at (put_supertype_of x more) ∙ rw (expression_back x more is) refl
 
 pub constraint_fixed : (x y : SupertypeConstraint) (more rest : Items) → IsConstraint x → IsConstraint y → NoConstraint more → NoConstraint rest → put (constraint_lexemes x) more ≡ put (constraint_lexemes y) rest → (x ≡ y) × (more ≡ rest)
-constraint_fixed x y more rest is_x is_y n m e = pair_is {A = SupertypeConstraint} x y more rest (sym (constraint_back x more is_x n) ∙ (ap constraint_at e ∙ constraint_back y rest is_y m))
+constraint_fixed x y more rest is_x is_y n m e = some_pair_is {X = SupertypeConstraint} x y more rest (sym (constraint_back x more is_x n) ∙ (ap constraint_at e ∙ constraint_back y rest is_y m))
 
 abbrev supertypes_at : Items → Option (Option (List (List ℕ)) × Items)
 supertypes_at items = choose (take_word (codes "SUBTYPE") items) (λ a. bind (take_word (codes "OF") a) (λ b. bind (names_of b) (λ n. Some (Some n.0, n.1)))) (Some (None, items))
@@ -138,7 +132,7 @@ supertypes_back None more is n = rw n refl
 supertypes_back (Some names) more is n = rw (names_read names more is) refl
 
 pub supertypes_fixed : (x y : Option (List (List ℕ))) (more rest : Items) → IfSome x AreNames → IfSome y AreNames → take_word (codes "SUBTYPE") more ≡ None → take_word (codes "SUBTYPE") rest ≡ None → put (subtype_lexemes x) more ≡ put (subtype_lexemes y) rest → (x ≡ y) × (more ≡ rest)
-supertypes_fixed x y more rest is_x is_y n m e = pair_is {A = Option (List (List ℕ))} x y more rest (sym (supertypes_back x more is_x n) ∙ (ap supertypes_at e ∙ supertypes_back y rest is_y m))
+supertypes_fixed x y more rest is_x is_y n m e = some_pair_is {X = Option (List (List ℕ))} x y more rest (sym (supertypes_back x more is_x n) ∙ (ap supertypes_at e ∙ supertypes_back y rest is_y m))
 
 -- ---- attributes
 
@@ -182,7 +176,7 @@ optional_back true more n = refl
 optional_back false more n = rw n refl
 
 optional_fixed : (x y : Bool) (more rest : Items) → take_word (codes "OPTIONAL") more ≡ None → take_word (codes "OPTIONAL") rest ≡ None → put (optional_word x (codes "OPTIONAL")) more ≡ put (optional_word y (codes "OPTIONAL")) rest → (x ≡ y) × (more ≡ rest)
-optional_fixed x y more rest n m e = pair_is {A = Bool} x y more rest (sym (optional_back x more n) ∙ (ap optional_at e ∙ optional_back y rest m))
+optional_fixed x y more rest n m e = some_pair_is {X = Bool} x y more rest (sym (optional_back x more n) ∙ (ap optional_at e ∙ optional_back y rest m))
 
 explicit_same : (a b : AttributeName) (others these : List AttributeName) (o p : Bool) (t u : WrittenType) → a ≡ b → others ≡ these → o ≡ p → t ≡ u → ◌≡◌ {A = ExplicitAttributes} (record { names = a ∷ others; optional = o; type = t }) (record { names = b ∷ these; optional = p; type = u })
 explicit_same a b others these o p t u e f g h = rw (e, f, g, h) refl

@@ -14,7 +14,6 @@ use Rattle.p21_express_lexemes.specs.Runs.{AreApart}
 use Rattle.p21_express_lexemes.specs.Taking.{Items, put, take_word, take_name}
 use Rattle.p21_express_lexemes.specs.Words.{is_reserved}
 use Rattle.p21_express_lexemes.proofs.Once.{one_laying}
-use Rattle.p21_express_lexemes.proofs.Put.{pair_is}
 use Rattle.p21_express_lexemes.proofs.Running.{nothing_apart}
 use Rattle.p21_express_syntax.specs.Declaring.{names_of}
 use Rattle.p21_express_syntax.specs.Reading.{bind, choose}
@@ -26,7 +25,9 @@ use Rattle.p21_express_syntax.proofs.Schemas.{put_over, put_schema}
 use Rattle.p21_express_syntax.proofs.TypesSound.{over}
 use Rattle.p21_express_syntax.proofs.TypeTrees.{type_at, type_back}
 use Rattle.std.specs.Str.{bytes_eq}
-use Rattle.p21_express_syntax.proofs.FixedParts.{none_is, first_same, behind, words_same, no_words, IsFixed, AllBegin, many_fixed, run_fixed, constraint_fixed, supertypes_fixed, explicit_fixed, explicit_begins, derived_fixed, derived_begins, begins_attribute}
+use Rattle.p21_express_syntax.proofs.FixedParts.{none_is, first_same, behind, words_same, IsFixed, AllBegin, many_fixed, run_fixed, constraint_fixed, supertypes_fixed, explicit_fixed, explicit_begins, derived_fixed, derived_begins, begins_attribute}
+use Rattle.p21_basics.proofs.Comparing.{bytes_eq-apart}
+use Rattle.p21_basics.proofs.Members.{some_pair_is}
 
 -- ---- the end of an entity
 
@@ -70,9 +71,9 @@ derive_fixed (Some xs) (Some ys) more rest is_x is_y b c e =
 
 -- the word at which rules begin is not that behind them
 no_end : (first : List ℕ) → Contains (codes "INVERSE" ∷ codes "UNIQUE" ∷ codes "WHERE" ∷ []) first → codes "END_ENTITY" ≡ first → ⊥
-no_end first (zero, lt, e) f = no_words (codes "END_ENTITY") (codes "INVERSE") refl (f ∙ sym e)
-no_end first (suc zero, lt, e) f = no_words (codes "END_ENTITY") (codes "UNIQUE") refl (f ∙ sym e)
-no_end first (suc (suc zero), lt, e) f = no_words (codes "END_ENTITY") (codes "WHERE") refl (f ∙ sym e)
+no_end first (zero, lt, e) f = bytes_eq-apart (codes "END_ENTITY") (codes "INVERSE") refl (f ∙ sym e)
+no_end first (suc zero, lt, e) f = bytes_eq-apart (codes "END_ENTITY") (codes "UNIQUE") refl (f ∙ sym e)
+no_end first (suc (suc zero), lt, e) f = bytes_eq-apart (codes "END_ENTITY") (codes "WHERE") refl (f ∙ sym e)
 no_end first (suc (suc (suc k)), lt, e) f = absurd (omega arith)
 
 rules_same : (v w : List ℕ) (run other : List Lexeme) → v ≡ w → run ≡ other → ◌≡◌ {A = Option Rules} (Some (record { first = v; run = run })) (Some (record { first = w; run = other }))
@@ -127,13 +128,13 @@ body_back (underlying type) n more deep is =
 body_fixed : (x y : Body) (more rest : Items) → IsBody x → IsBody y → put (body_lexemes x) (over (symbol 59) more) ≡ put (body_lexemes y) (over (symbol 59) rest) → (x ≡ y) × (more ≡ rest)
 body_fixed x y more rest is_x is_y e =
     let n = depth x + depth y in
-    let p = pair_is {A = Body} x y (over (symbol 59) more) (over (symbol 59) rest) (sym (body_back x n more (omega arith) is_x) ∙ (ap (body_at n) e ∙ body_back y n rest (omega arith) is_y)) in
+    let p = some_pair_is {X = Body} x y (over (symbol 59) more) (over (symbol 59) rest) (sym (body_back x n more (omega arith) is_x) ∙ (ap (body_at n) e ∙ body_back y n rest (omega arith) is_y)) in
     (p.0, behind _ _ _ _ p.1)
 
 where_fixed : (x y : Option (List Lexeme)) (more rest : Items) → IfSome x (IsRun none (is_word (codes "END_TYPE"))) → IfSome y (IsRun none (is_word (codes "END_TYPE"))) → put (where_lexemes x) (over (identifier (codes "END_TYPE")) more) ≡ put (where_lexemes y) (over (identifier (codes "END_TYPE")) rest) → (x ≡ y) × (more ≡ rest)
 where_fixed None None more rest is_x is_y e = (refl, behind _ _ _ _ e)
-where_fixed None (Some y) more rest is_x is_y e = absurd (no_words (codes "END_TYPE") (codes "WHERE") refl (words_same (codes "END_TYPE") (codes "WHERE") _ _ e).0)
-where_fixed (Some x) None more rest is_x is_y e = absurd (no_words (codes "WHERE") (codes "END_TYPE") refl (words_same (codes "WHERE") (codes "END_TYPE") _ _ e).0)
+where_fixed None (Some y) more rest is_x is_y e = absurd (bytes_eq-apart (codes "END_TYPE") (codes "WHERE") refl (words_same (codes "END_TYPE") (codes "WHERE") _ _ e).0)
+where_fixed (Some x) None more rest is_x is_y e = absurd (bytes_eq-apart (codes "WHERE") (codes "END_TYPE") refl (words_same (codes "WHERE") (codes "END_TYPE") _ _ e).0)
 where_fixed (Some x) (Some y) more rest is_x is_y e =
     let run = run_fixed none (is_word (codes "END_TYPE")) (nothing_apart (is_word (codes "END_TYPE"))) (identifier (codes "END_TYPE")) refl x y more rest is_x is_y (behind _ _ _ _ e) in
     (ap Some run.0, run.1)
@@ -217,12 +218,12 @@ declaration_fixed : IsFixed declaration_lexemes IsDeclaration
 declaration_fixed (entity x) (entity y) more rest is_x is_y e = let f = entity_fixed x y more rest is_x is_y e in (ap entity f.0, f.1)
 declaration_fixed (defined x) (defined y) more rest is_x is_y e = let f = defined_fixed x y more rest is_x is_y e in (ap defined f.0, f.1)
 declaration_fixed (read_over x) (read_over y) more rest is_x is_y e = let f = over_fixed x y more rest is_x is_y e in (ap read_over f.0, f.1)
-declaration_fixed (entity x) (defined y) more rest is_x is_y e = absurd (no_words (codes "ENTITY") (codes "TYPE") refl (same_first (entity x) (defined y) more rest e))
-declaration_fixed (defined x) (entity y) more rest is_x is_y e = absurd (no_words (codes "TYPE") (codes "ENTITY") refl (same_first (defined x) (entity y) more rest e))
-declaration_fixed (read_over x) (entity y) more rest is_x is_y e = absurd (no_words x.first (codes "ENTITY") (are_words (x.first, x.last, x.nests) is_x.0).no_entity (same_first (read_over x) (entity y) more rest e))
-declaration_fixed (read_over x) (defined y) more rest is_x is_y e = absurd (no_words x.first (codes "TYPE") (are_words (x.first, x.last, x.nests) is_x.0).no_type (same_first (read_over x) (defined y) more rest e))
-declaration_fixed (entity x) (read_over y) more rest is_x is_y e = absurd (no_words y.first (codes "ENTITY") (are_words (y.first, y.last, y.nests) is_y.0).no_entity (sym (same_first (entity x) (read_over y) more rest e)))
-declaration_fixed (defined x) (read_over y) more rest is_x is_y e = absurd (no_words y.first (codes "TYPE") (are_words (y.first, y.last, y.nests) is_y.0).no_type (sym (same_first (defined x) (read_over y) more rest e)))
+declaration_fixed (entity x) (defined y) more rest is_x is_y e = absurd (bytes_eq-apart (codes "ENTITY") (codes "TYPE") refl (same_first (entity x) (defined y) more rest e))
+declaration_fixed (defined x) (entity y) more rest is_x is_y e = absurd (bytes_eq-apart (codes "TYPE") (codes "ENTITY") refl (same_first (defined x) (entity y) more rest e))
+declaration_fixed (read_over x) (entity y) more rest is_x is_y e = absurd (bytes_eq-apart x.first (codes "ENTITY") (are_words (x.first, x.last, x.nests) is_x.0).no_entity (same_first (read_over x) (entity y) more rest e))
+declaration_fixed (read_over x) (defined y) more rest is_x is_y e = absurd (bytes_eq-apart x.first (codes "TYPE") (are_words (x.first, x.last, x.nests) is_x.0).no_type (same_first (read_over x) (defined y) more rest e))
+declaration_fixed (entity x) (read_over y) more rest is_x is_y e = absurd (bytes_eq-apart y.first (codes "ENTITY") (are_words (y.first, y.last, y.nests) is_y.0).no_entity (sym (same_first (entity x) (read_over y) more rest e)))
+declaration_fixed (defined x) (read_over y) more rest is_x is_y e = absurd (bytes_eq-apart y.first (codes "TYPE") (are_words (y.first, y.last, y.nests) is_y.0).no_type (sym (same_first (defined x) (read_over y) more rest e)))
 
 -- anything but END_SCHEMA
 abbrev begins_declaration : Items → Bool

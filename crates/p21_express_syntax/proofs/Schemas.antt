@@ -1,10 +1,11 @@
 -- Declarations that are read over, and whole schemas: what was read is written so.
-use Rattle.std.proofs.Common.{◌≡◌, ℕ, suc, ◌+◌, ◌<◌, ◌≤◌, Bool, true, false, ◌&&◌, List, [], ◌∷◌, map, length, codes, Option, Some, None, refl, ap, sym, ◌∙◌, lit<, arith}
+use Rattle.std.proofs.Common.{◌≡◌, ℕ, ◌+◌, ◌<◌, ◌≤◌, Bool, true, false, ◌&&◌, List, [], ◌∷◌, map, length, codes, Option, Some, None, refl, ap, sym, ◌∙◌, lit<, arith}
 use Rattle.std.specs.List.{Contains, flat_map, AllByRecursion as Each}
+use Rattle.std.proofs.lemmas.List.{length-map}
 use Rattle.p21_schemas.specs.Express.{Lexeme, identifier, symbol}
 use Rattle.p21_schemas.specs.Run.{IsRun, is_word, none}
 use Rattle.p21_schemas.specs.SchemaDeclaration as written
-use Rattle.p21_schemas.specs.SchemaDeclaration.{ReadOver, Declaration, SchemaDeclaration, read_over, read_over_lexemes, declaration_lexemes, version_lexemes, schema_lexemes, read_over_words, IsReadOver, IsDeclaration, IsSchemaDeclaration, entities_of, types_of}
+use Rattle.p21_schemas.specs.SchemaDeclaration.{Declaration, SchemaDeclaration, read_over, read_over_lexemes, declaration_lexemes, version_lexemes, schema_lexemes, read_over_words, IsDeclaration, IsSchemaDeclaration, entities_of, types_of}
 use Rattle.p21_express_lexemes.specs.Runs.{AreApart, behind_run}
 use Rattle.p21_express_lexemes.specs.Taking.{Items, put, take_symbol, take_word, take_simple_string, take_name}
 use Rattle.p21_express_lexemes.proofs.Put.{put-append}
@@ -13,7 +14,7 @@ use Rattle.p21_express_syntax.specs.Declaring.{KeptDeclaration, entity, defined,
 use Rattle.p21_express_syntax.specs.Kept.{KeptEntity, KeptDefinedType, KeptSchema}
 use Rattle.p21_express_syntax.specs.Keeping.{kept_entity, kept_defined, kept_schema}
 use Rattle.p21_express_syntax.specs.Many.{many_of}
-use Rattle.p21_express_syntax.specs.Within.{IsEntityWithin, IsDefinedWithin, IsSchemaWithin, most_declarations}
+use Rattle.p21_express_syntax.specs.Within.{IsEntityWithin, IsDefinedWithin, IsSchemaWithin}
 use Rattle.p21_express_syntax.specs.declared.schema.PassedWord.{PassedWord}
 use Rattle.p21_express_syntax.specs.declared.schema.PassedWord.TheVariants as pass
 use Rattle.p21_express_syntax.proofs.Apart.{functions_apart, procedures_apart}
@@ -22,6 +23,7 @@ use Rattle.p21_express_syntax.proofs.Lists.{run_written, word_only}
 use Rattle.p21_express_syntax.proofs.Repeated.{Shortens, StepWritten, step_written, many_is, written_shortens}
 use Rattle.p21_express_syntax.proofs.Sounding.{OfSome, of_some, of_bind, of_choose, some_of, symbol_taken, word_taken, string_taken, name_taken, le_of, Written}
 use Rattle.p21_express_syntax.proofs.TypesSound.{over}
+use Rattle.p21_schemas.specs.Declared.{most_declarations}
 
 -- ---- declarations
 
@@ -123,14 +125,10 @@ types_are (written.entity x ∷ ds) = types_are ds
 types_are (written.defined x ∷ ds) = ap (λ (y : List KeptDefinedType). kept_defined x ∷ y) (types_are ds)
 types_are (read_over x ∷ ds) = types_are ds
 
-map_length : {A K : Type 0} (f : A → K) (xs : List A) → length (map f xs) ≡ length xs
-map_length f [] = refl
-map_length f (x ∷ xs) = ap suc (map_length f xs)
-
 pub count_is : (ds : List Declaration) → count (map kept_declaration ds) ≡ length (entities_of ds) + length (types_of ds)
 count_is ds =
-    let e = ap length (entities_are ds) ∙ map_length kept_entity (entities_of ds) in
-    let t = ap length (types_are ds) ∙ map_length kept_defined (types_of ds) in
+    let e = ap length (entities_are ds) ∙ length-map (entities_of ds) kept_entity in
+    let t = ap length (types_are ds) ∙ length-map (types_of ds) kept_defined in
     omega arith
 
 are_declarations : (ds : List Declaration) → Each IsOne ds → Each IsDeclaration ds

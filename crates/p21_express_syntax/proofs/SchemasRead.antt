@@ -4,7 +4,7 @@ use Rattle.std.specs.List.{Contains, flat_map, AllByRecursion as Each}
 use Rattle.p21_schemas.specs.Express.{Lexeme, identifier, symbol}
 use Rattle.p21_schemas.specs.Run.{IsRun, is_word, none}
 use Rattle.p21_schemas.specs.SchemaDeclaration as written
-use Rattle.p21_schemas.specs.SchemaDeclaration.{ReadOver, Declaration, SchemaDeclaration, read_over, read_over_lexemes, declaration_lexemes, version_lexemes, schema_lexemes, read_over_words, IsReadOver, IsDeclaration, IsSchemaDeclaration, entities_of, types_of}
+use Rattle.p21_schemas.specs.SchemaDeclaration.{Declaration, SchemaDeclaration, read_over, declaration_lexemes, version_lexemes, schema_lexemes, read_over_words, IsDeclaration, entities_of, types_of}
 use Rattle.p21_express_lexemes.specs.Lexemes.{lexemes_of}
 use Rattle.p21_express_lexemes.specs.Runs.{AreApart}
 use Rattle.p21_express_lexemes.specs.Taking.{Items, put, take_symbol, take_word, take_simple_string}
@@ -17,7 +17,7 @@ use Rattle.p21_express_syntax.specs.Keeping.{kept_entity, kept_defined, kept_sch
 use Rattle.p21_express_syntax.specs.ReadDeclarations.{IsTextOf, ReadsDeclarations}
 use Rattle.p21_express_syntax.specs.ReadSchema.{SchemaRead}
 use Rattle.p21_express_syntax.specs.Views.{schema_view}
-use Rattle.p21_express_syntax.specs.Within.{longest_text, IsEntityWithin, IsDefinedWithin, most_declarations}
+use Rattle.p21_express_syntax.specs.Within.{IsEntityWithin, IsDefinedWithin}
 use Rattle.p21_express_syntax.specs.declared.schema.Declarations.{Declarations}
 use Rattle.p21_express_syntax.specs.declared.schema.PassedWord.{PassedWord}
 use Rattle.p21_express_syntax.specs.declared.schema.PassedWord.TheVariants as pass
@@ -28,6 +28,9 @@ use Rattle.p21_express_syntax.proofs.Repeated.{many_read}
 use Rattle.p21_express_syntax.proofs.Schemas.{kept_declaration, IsOne, IsSchema, put_over, put_schema, declaration_shortens, entities_are, types_are, count_is, schema_is}
 use Rattle.p21_express_syntax.proofs.Sounding.{of_some, name_read, of_le}
 use Rattle.p21_express_syntax.proofs.TypesSound.{over}
+use Rattle.p21_schemas.specs.Declared.{most_declarations}
+use Rattle.p21_basics.proofs.Members.{some_is}
+use Rattle.p21_basics.specs.Limits.{text_limit}
 
 -- ---- declarations that are read over
 
@@ -147,18 +150,15 @@ text_read text x h = ap schema_of (laid_put (schema_lexemes x) text h.laid) ∙ 
 none_is : (x : KeptSchema) → None ≡ Some x → ⊥
 none_is x q = cc
 
-pub reads_text : (text : List ℕ) (result : Result Declarations SyntaxFault) → length text ≤ longest_text → SchemaRead result (schema_of (lexemes_of text)) → ReadsDeclarations text result
+pub reads_text : (text : List ℕ) (result : Result Declarations SyntaxFault) → length text ≤ text_limit → SchemaRead result (schema_of (lexemes_of text)) → ReadsDeclarations text result
 reads_text text (Ok declarations) short e =
     let w = of_some (schema_of (lexemes_of text)) _ (schema_is (lexemes_of text)) (schema_view declarations) e in
     (w.tree, record { laid = put_laid (schema_lexemes w.tree) text w.stands; is_schema = w.is_one.0; is_within = w.is_one.1; is_short = short }, sym w.same)
 reads_text text (Err fault) short e = λ other x h. none_is (kept_schema x) (sym (e other) ∙ text_read text x h)
 
-pub too_long : (text : List ℕ) (fault : SyntaxFault) → longest_text < length text → ReadsDeclarations text (Err fault)
+pub too_long : (text : List ℕ) (fault : SyntaxFault) → text_limit < length text → ReadsDeclarations text (Err fault)
 too_long text fault long = λ other x h. (let s = h.is_short in omega arith)
 
 -- what is kept of the declarations whose text this is, is one
 pub one_kept : (text : List ℕ) (x y : SchemaDeclaration) → IsTextOf x text → IsTextOf y text → kept_schema x ≡ kept_schema y
 one_kept text x y h k = some_is (kept_schema x) (kept_schema y) (sym (text_read text x h) ∙ text_read text y k)
-  where
-    some_is : (a b : KeptSchema) → Some a ≡ Some b → a ≡ b
-    some_is a b e = cc

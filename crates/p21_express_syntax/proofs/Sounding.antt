@@ -1,5 +1,5 @@
 -- What holds of what was read, if anything was: one thing behind another.
-use Rattle.std.proofs.Common.{◌≡◌, ℕ, ◌≤◌, Bool, true, false, nat_le, ◌&&◌, inl, inr, List, [], ◌∷◌, ◌==◌, Option, Some, None, refl, ap, sym, subst, ◌∙◌, arith}
+use Rattle.std.proofs.Common.{◌≡◌, ℕ, ◌≤◌, Bool, true, false, nat_le, inl, inr, List, [], ◌∷◌, ◌==◌, Option, Some, None, refl, ap, sym, subst, ◌∙◌, arith}
 use Rattle.std.specs.Str.{bytes_eq}
 use Rattle.std.proofs.lemmas.Bool.{cases_Bool, eqb-true, both_ways, or_left, or_right, or_cases, false_from_ne_true}
 use Rattle.std.proofs.lemmas.Bool.Decides.{nat_tests}
@@ -9,10 +9,10 @@ use Rattle.std.specs.List.{Contains}
 use Rattle.p21_schemas.specs.Express.{Lexeme, identifier, digits, simple_string, encoded_string, symbol}
 use Rattle.p21_schemas.specs.ReservedWord.{reserved_words, IsName}
 use Rattle.p21_schemas.specs.WrittenType.{optional_word}
-use Rattle.p21_express_lexemes.proofs.Put.{pair_is}
 use Rattle.p21_express_lexemes.specs.Taking.{Items, put, take_symbol, take_word, take_simple_string, take_digits, take_name}
 use Rattle.p21_express_lexemes.specs.Words.{is_among, is_reserved}
 use Rattle.p21_express_syntax.specs.Reading.{bind, choose, guard, flag_of}
+use Rattle.p21_basics.proofs.Members.{some_is, some_pair_is}
 
 -- if something was read, this holds of it
 abbrev pub OfSome : {A : Type 0} → Option A → (A → Type 0) → Type 0
@@ -39,9 +39,6 @@ some_of None claim h = tt
 some_of (Some x) claim h = h x refl
 
 -- ---- what was taken
-
-some_is : {A : Type 0} (x y : A) → Some x ≡ Some y → x ≡ y
-some_is x y e = cc
 
 pub symbol_taken : (byte : ℕ) (items rest : Items) → take_symbol byte items ≡ Some rest → items ≡ Some (symbol byte) ∷ rest
 unfolding take_symbol
@@ -83,7 +80,7 @@ pub digits_taken : (items : Items) (ds : List ℕ) (rest : Items) → take_digit
 unfolding take_digits
 digits_taken [] ds rest e = cc
 digits_taken (None ∷ items) ds rest e = cc
-digits_taken (Some (digits other) ∷ items) ds rest e = let p = pair_is other ds items rest e in let a : other ≡ ds = p.0 in let b : items ≡ rest = p.1 in cc
+digits_taken (Some (digits other) ∷ items) ds rest e = let p = some_pair_is other ds items rest e in let a : other ≡ ds = p.0 in let b : items ≡ rest = p.1 in cc
 digits_taken (Some (symbol other) ∷ items) ds rest e = cc
 digits_taken (Some (identifier name) ∷ items) ds rest e = cc
 digits_taken (Some (simple_string inside) ∷ items) ds rest e = cc
@@ -109,7 +106,7 @@ name_taken (Some (identifier other) ∷ items) name rest e = elim (cases_Bool (i
   | inl h ↦ absurd (none_is (name, rest) (rw h at e))
   | inr n ↦
       let f : ◌≡◌ {A = Option (List ℕ × Items)} (Some (other, items)) (Some (name, rest)) = rw n at e in
-      let p = pair_is {A = List ℕ} other name items rest f in
+      let p = some_pair_is {X = List ℕ} other name items rest f in
       (ap (λ (x : List ℕ). Some (identifier x) ∷ items) p.0 ∙ ap (λ (x : Items). Some (identifier name) ∷ x) p.1, subst (λ (x : List ℕ). IsName x) p.0 (is_name other n))
 ]
 name_taken (Some (symbol other) ∷ items) name rest e = cc
@@ -149,11 +146,6 @@ le_of a b h = grind (arith, nat_tests)
 
 pub of_le : (a b : ℕ) → a ≤ b → nat_le a b ≡ true
 of_le a b h = grind (arith, nat_tests)
-
-pub both_true : (a b : Bool) → (a && b) ≡ true → (a ≡ true) × (b ≡ true)
-both_true true true h = (refl, refl)
-both_true true false h = cc
-both_true false b h = cc
 
 -- ---- what was read, as it is written
 

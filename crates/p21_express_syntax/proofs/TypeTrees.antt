@@ -4,13 +4,14 @@ use Rattle.p21_schemas.specs.Express.{identifier, digits, symbol}
 use Rattle.p21_schemas.specs.ReservedWord.{IsName}
 use Rattle.p21_schemas.specs.WrittenType.{Width, UpperBound, bounded, unbounded, Bounds, WrittenType, integer_type, real_type, number_type, boolean_type, logical_type, string_type, binary_type, named_type, array_type, list_type, set_type, bag_type, word, optional_word, precision_lexemes, width_lexemes, upper_bound_lexemes, bounds_lexemes, type_lexemes, IsWrittenType, nesting}
 use Rattle.p21_express_lexemes.specs.Taking.{Items, put, take_symbol, take_word, take_digits, take_name}
-use Rattle.p21_express_lexemes.proofs.Put.{put-append, pair_is}
+use Rattle.p21_express_lexemes.proofs.Put.{put-append}
 use Rattle.p21_express_syntax.specs.Reading.{bind, choose, flag_of, kind_of}
 use Rattle.p21_express_syntax.specs.declared.types.Kind.{Kind}
 use Rattle.p21_express_syntax.specs.declared.types.Kind.TheVariants as kind
 use Rattle.p21_express_syntax.proofs.Sounding.{name_read, name_apart}
-use Rattle.p21_express_syntax.proofs.TypesSound.{over, kind_word, three, four, five}
-use Rattle.p21_express_syntax.proofs.TypesRead.{Ends, type_first}
+use Rattle.p21_express_syntax.proofs.TypesSound.{over, kind_word, three, four, five, put_bounds, put_width}
+use Rattle.p21_express_syntax.proofs.TypesRead.{Ends, type_first, no_bracket}
+use Rattle.p21_basics.proofs.Members.{some_pair_is}
 
 -- ---- bounds and widths
 
@@ -27,10 +28,6 @@ unfolding take_symbol take_digits
 bounds_by low unbounded more = refl
 bounds_by low (bounded high) more = refl
 
-put_bounds : (low : List ℕ) (high : UpperBound) (more : Items) → put (bounds_lexemes (Some (record { low = low; high = high }))) more ≡ over (symbol 91) (over (digits low) (over (symbol 58) (put (upper_bound_lexemes high) (over (symbol 93) more))))
-put_bounds low unbounded more = refl
-put_bounds low (bounded high) more = refl
-
 bounds_back : (bounds : Option Bounds) (more : Items) → take_symbol 91 more ≡ None → ◌≡◌ {A = Option (Option Bounds × Items)} (bounds_at (put (bounds_lexemes bounds) more)) (Some (bounds, more))
 bounds_back None more n = rw n refl
 bounds_back (Some b) more n = ap bounds_at (put_bounds b.low b.high more) ∙ bounds_by b.low b.high more
@@ -46,10 +43,6 @@ width_by : (most : List ℕ) (fixed : Bool) (more : Items) → take_word (codes 
 unfolding take_symbol take_digits take_word
 width_by most true more n = refl
 width_by most false more n = rw n refl
-
-put_width : (most : List ℕ) (fixed : Bool) (more : Items) → put (width_lexemes (Some (record { most = most; fixed = fixed }))) more ≡ over (symbol 40) (over (digits most) (over (symbol 41) (put (optional_word fixed (codes "FIXED")) more)))
-put_width most true more = refl
-put_width most false more = refl
 
 width_back : (width : Option Width) (more : Items) → Ends more → ◌≡◌ {A = Option (Option Width × Items)} (width_at (put (width_lexemes width) more)) (Some (width, more))
 width_back None more ends = rw ends.no_width refl
@@ -97,10 +90,6 @@ by_kind (Some found) element items = layer_at found.0 element found.1
 unfoldable pub type_at : ℕ → Items → Option (WrittenType × Items)
 type_at zero items = None
 type_at (suc n) items = by_kind (kind_of items) (type_at n) items
-
-no_bracket : (more : Items) → take_symbol 91 (over (identifier (codes "OF")) more) ≡ None
-unfolding take_symbol
-no_bracket more = refl
 
 -- what stands behind an aggregate is read back
 abbrev ReadBack : (Items → Option (WrittenType × Items)) → WrittenType → Items → Type 0
@@ -217,4 +206,4 @@ type_back (bag_type bounds t) (suc n) more deep is ends = at_bag n bounds t more
 pub one_type : (x y : WrittenType) (more rest : Items) → IsWrittenType x → IsWrittenType y → Ends more → Ends rest → put (type_lexemes x) more ≡ put (type_lexemes y) rest → (x ≡ y) × (more ≡ rest)
 one_type x y more rest is_x is_y ends stops e =
     let n = suc (nesting x + nesting y) in
-    pair_is {A = WrittenType} x y more rest (sym (type_back x n more (omega arith) is_x ends) ∙ (ap (type_at n) e ∙ type_back y n rest (omega arith) is_y stops))
+    some_pair_is {X = WrittenType} x y more rest (sym (type_back x n more (omega arith) is_x ends) ∙ (ap (type_at n) e ∙ type_back y n rest (omega arith) is_y stops))

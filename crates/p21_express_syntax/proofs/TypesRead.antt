@@ -8,8 +8,8 @@ use Rattle.p21_schemas.specs.WrittenType.{Width as WrittenWidth, UpperBound, bou
 use Rattle.p21_express_lexemes.specs.Taking.{Items, put, take_symbol, take_word, take_digits}
 use Rattle.p21_express_lexemes.proofs.Put.{put-append}
 use Rattle.p21_express_syntax.specs.Kept.{KeptType}
-use Rattle.p21_express_syntax.specs.Keeping.{kept_width, kept_high, kept_range, array_high, kept_type, of, around}
-use Rattle.p21_express_syntax.specs.Reading.{low_of, top_of, high_of, range_of, array_of, most_of, width_of, precision_of, kind_of, aggregate_at, simple_of, under, type_of}
+use Rattle.p21_express_syntax.specs.Keeping.{kept_width, kept_high, kept_range, array_high, kept_type, of}
+use Rattle.p21_express_syntax.specs.Reading.{low_of, top_of, high_of, range_of, array_of, most_of, width_of, precision_of, kind_of, aggregate_at, simple_of, under, type_of, around}
 use Rattle.p21_express_syntax.specs.Within.{HasWidth, HasBounds, HasNumbers}
 use Rattle.p21_express_syntax.specs.declared.types.Aggregate.{Aggregate}
 use Rattle.p21_express_syntax.specs.declared.types.Aggregate.TheVariants as aggregate
@@ -20,7 +20,7 @@ use Rattle.p21_express_syntax.specs.declared.types.SimpleType.{SimpleType}
 use Rattle.p21_express_syntax.specs.declared.types.SimpleType.TheVariants as simple
 use Rattle.p21_express_syntax.specs.declared.types.Width.{Width}
 use Rattle.p21_express_syntax.proofs.Sounding.{name_read, name_apart, of_le}
-use Rattle.p21_express_syntax.proofs.TypesSound.{over, Layer, array_layer, list_layer, set_layer, bag_layer, layer_lexemes, IsLayer, kept_layer, kind_word, three, four, five}
+use Rattle.p21_express_syntax.proofs.TypesSound.{over, Layer, array_layer, list_layer, set_layer, bag_layer, layer_lexemes, IsLayer, kept_layer, kind_word, three, four, five, put_bounds, put_width}
 
 -- ---- bounds and widths
 
@@ -36,10 +36,6 @@ high_read : (low : ℕ) (high : UpperBound) (value : Option ℕ) (more : Items) 
 unfolding high_of take_symbol
 high_read low unbounded value more h = refl
 high_read low (bounded ds) value more h = rw (top_read low ds more h.2 h.1) refl
-
-put_bounds : (low : List ℕ) (high : UpperBound) (more : Items) → put (bounds_lexemes (Some (record { low = low; high = high }))) more ≡ over (symbol 91) (over (digits low) (over (symbol 58) (put (upper_bound_lexemes high) (over (symbol 93) more))))
-put_bounds low unbounded more = refl
-put_bounds low (bounded high) more = refl
 
 low_within : (b : Bounds) (low : ℕ) (high : Option ℕ) → BoundsAre (Some b) low high → (number b.low ≤ 4294967295) × UpperBoundIs (number b.low) b.high high
 low_within b low high h = (subst (λ (x : ℕ). x ≤ 4294967295) h.0 h.1, subst (λ (x : ℕ). UpperBoundIs x b.high high) h.0 h.2)
@@ -63,10 +59,6 @@ width_by : (most : List ℕ) (fixed : Bool) (more : Items) → number most ≤ 4
 unfolding width_of take_symbol take_word
 width_by most true more h k n = rw (most_read most (over (symbol 41) (put (optional_word true (codes "FIXED")) more)) h k) refl
 width_by most false more h k n = rw (most_read most (over (symbol 41) (put (optional_word false (codes "FIXED")) more)) h k) (rw n refl)
-
-put_width : (most : List ℕ) (fixed : Bool) (more : Items) → put (width_lexemes (Some (record { most = most; fixed = fixed }))) more ≡ over (symbol 40) (over (digits most) (over (symbol 41) (put (optional_word fixed (codes "FIXED")) more)))
-put_width most true more = refl
-put_width most false more = refl
 
 pub width_read : (width : Option WrittenWidth) (more : Items) → HasWidth width → take_symbol 40 more ≡ None → take_word (codes "FIXED") more ≡ None → ◌≡◌ {A = Option (Option Width × Items)} (width_of (put (width_lexemes width) more)) (Some (kept_width width, more))
 unfolding width_of
@@ -96,7 +88,7 @@ type_first (list_type bounds unique element) more is = (refl, refl)
 type_first (set_type bounds element) more is = (refl, refl)
 type_first (bag_type bounds element) more is = (refl, refl)
 
-no_bracket : (more : Items) → take_symbol 91 (over (identifier (codes "OF")) more) ≡ None
+pub no_bracket : (more : Items) → take_symbol 91 (over (identifier (codes "OF")) more) ≡ None
 unfolding take_symbol
 no_bracket more = refl
 

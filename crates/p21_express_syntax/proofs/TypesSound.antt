@@ -1,5 +1,6 @@
 -- A type that was read is written so.
 use Rattle.std.proofs.Common.{◌≡◌, ℕ, zero, suc, ◌<◌, ◌≤◌, Bool, true, false, nat_le, ◌&&◌, List, ◌∷◌, ◌++◌, codes, Option, Some, None, refl, ap, sym, ◌∙◌, arith}
+use Rattle.std.proofs.lemmas.Bool.{and_parts}
 use Rattle.p21_basics.specs.Digits.{number}
 use Rattle.p21_schemas.specs.Express.{Lexeme, identifier, digits, symbol}
 use Rattle.p21_schemas.specs.DeclaredType.{UpperBoundIs}
@@ -16,7 +17,7 @@ use Rattle.p21_express_syntax.specs.declared.types.Kind.{Kind}
 use Rattle.p21_express_syntax.specs.declared.types.Kind.TheVariants as kind
 use Rattle.p21_express_syntax.specs.declared.types.Range.{Range}
 use Rattle.p21_express_syntax.specs.declared.types.Width.{Width}
-use Rattle.p21_express_syntax.proofs.Sounding.{OfSome, of_some, of_bind, of_choose, of_guard, some_of, symbol_taken, word_taken, digits_taken, name_taken, flag_is, le_of, both_true, Written}
+use Rattle.p21_express_syntax.proofs.Sounding.{OfSome, of_some, of_bind, of_choose, of_guard, some_of, symbol_taken, word_taken, digits_taken, name_taken, flag_is, le_of, Written}
 
 abbrev pub over : Lexeme → Items → Items
 over lexeme items = Some lexeme ∷ items
@@ -39,7 +40,7 @@ low_is items = of_bind (take_digits items) _ _ (λ d e. of_guard (nat_le (number
 top_is : (low : ℕ) (items : Items) → OfSome (top_of low items) (λ f. (ds : List ℕ) × (items ≡ over (digits ds) f.1) × (f.0 ≡ number ds) × (number ds ≤ 4294967295) × (low ≤ number ds))
 unfolding top_of
 top_is low items = of_bind (take_digits items) _ _ (λ d e. of_guard (nat_le (number d.0) 4294967295 && nat_le low (number d.0)) _ _ (λ t.
-    let both = both_true (nat_le (number d.0) 4294967295) (nat_le low (number d.0)) t in
+    let both = and_parts (nat_le (number d.0) 4294967295) (nat_le low (number d.0)) t in
     (d.0, digits_taken items d.0 d.1 e, refl, le_of _ _ both.0, le_of _ _ both.1)))
 
 high_is : (low : ℕ) (items : Items) → OfSome (high_of low items) (λ f. (high : UpperBound) × (items ≡ put (upper_bound_lexemes high) f.1) × (f.0 ≡ kept_high high) × UpperBoundIs low high f.0)
@@ -50,7 +51,7 @@ high_is low items = of_choose (take_symbol 63 items) _ _ _
     let h = of_some (top_of low items) _ (top_is low items) t e in
     (bounded h.0, h.1, ap Some h.2, (ap Some h.2, h.4, h.3))))
 
-put_bounds : (low : List ℕ) (high : UpperBound) (more : Items) → put (bounds_lexemes (Some (record { low = low; high = high }))) more ≡ over (symbol 91) (over (digits low) (over (symbol 58) (put (upper_bound_lexemes high) (over (symbol 93) more))))
+pub put_bounds : (low : List ℕ) (high : UpperBound) (more : Items) → put (bounds_lexemes (Some (record { low = low; high = high }))) more ≡ over (symbol 91) (over (digits low) (over (symbol 58) (put (upper_bound_lexemes high) (over (symbol 93) more))))
 put_bounds low unbounded more = refl
 put_bounds low (bounded high) more = refl
 
@@ -75,11 +76,11 @@ range_is items = of_choose (take_symbol 91 items) _ _ _
 most_is : (items : Items) → OfSome (most_of items) (λ f. (ds : List ℕ) × (items ≡ over (digits ds) f.1) × (f.0 ≡ number ds) × (number ds ≤ 4294967295) × (0 < number ds))
 unfolding most_of
 most_is items = of_bind (take_digits items) _ _ (λ d e. of_guard (nat_le (number d.0) 4294967295 && nat_le 1 (number d.0)) _ _ (λ t.
-    let both = both_true (nat_le (number d.0) 4294967295) (nat_le 1 (number d.0)) t in
+    let both = and_parts (nat_le (number d.0) 4294967295) (nat_le 1 (number d.0)) t in
     let some = le_of 1 (number d.0) both.1 in
     (d.0, digits_taken items d.0 d.1 e, refl, le_of _ _ both.0, omega arith)))
 
-put_width : (most : List ℕ) (fixed : Bool) (more : Items) → put (width_lexemes (Some (record { most = most; fixed = fixed }))) more ≡ over (symbol 40) (over (digits most) (over (symbol 41) (put (optional_word fixed (codes "FIXED")) more)))
+pub put_width : (most : List ℕ) (fixed : Bool) (more : Items) → put (width_lexemes (Some (record { most = most; fixed = fixed }))) more ≡ over (symbol 40) (over (digits most) (over (symbol 41) (put (optional_word fixed (codes "FIXED")) more)))
 put_width most true more = refl
 put_width most false more = refl
 

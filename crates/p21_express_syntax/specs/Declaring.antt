@@ -9,11 +9,11 @@ use Rattle.p21_express_lexemes.specs.declared.fault.SyntaxFault.{SyntaxFault}
 use Rattle.p21_express_syntax.specs.Kept.{KeptAttributes, KeptConstraint, KeptEntity, KeptBody, enumeration, select, underlying, KeptDefinedType, KeptSchema}
 use Rattle.p21_express_syntax.specs.Many.{with_items, many_of}
 use Rattle.p21_express_syntax.specs.Reading.{bind, choose, flag_of, type_of}
-use Rattle.p21_express_syntax.specs.Within.{most_declarations}
 use Rattle.p21_express_syntax.specs.declared.attributes.AttributeName.{AttributeName}
 use Rattle.p21_express_syntax.specs.declared.schema.PassedWord.{PassedWord}
 use Rattle.p21_express_syntax.specs.declared.schema.PassedWord.TheVariants as word
 use Rattle.p21_express_syntax.specs.declared.attributes.AttributeName.TheVariants.{Own, Redeclared}
+use Rattle.p21_schemas.specs.Declared.{most_declarations}
 
 -- what goes on with one, if one stands there
 abbrev pub step_bind : {A B : Type 0} → Option (Option (A × Items)) → (A → Items → Option (B × Items)) → Option (Option (B × Items))

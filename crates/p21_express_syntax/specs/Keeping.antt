@@ -1,5 +1,5 @@
 -- What is kept of a schema declaration.
-use Rattle.std.specs.Prelude.{ℕ, true, false, List, [], ◌∷◌, map, Option, Some, None}
+use Rattle.std.specs.Prelude.{ℕ, true, false, List, [], map, Option, Some, None}
 use Rattle.p21_basics.specs.Digits.{number}
 use Rattle.p21_schemas.specs.WrittenType.{Width as WrittenWidth, UpperBound, bounded, unbounded, Bounds, WrittenType, integer_type, real_type, number_type, boolean_type, logical_type, string_type, binary_type, named_type, array_type, list_type, set_type, bag_type}
 use Rattle.p21_schemas.specs.SupertypeConstraint.{SupertypeExpression, one_of, other_run, SupertypeConstraint, no_constraint, abstract_entity, abstract_supertype, abstract_supertype_of, supertype_of}
@@ -11,12 +11,13 @@ use Rattle.p21_schemas.specs.SchemaDeclaration.{SchemaDeclaration, entities_of, 
 use Rattle.p21_express_syntax.specs.Kept.{KeptType, KeptAttributes, KeptConstraint, KeptEntity, KeptBody, enumeration, select, underlying, KeptDefinedType, KeptSchema}
 use Rattle.p21_express_syntax.specs.declared.attributes.AttributeName.{AttributeName}
 use Rattle.p21_express_syntax.specs.declared.attributes.AttributeName.TheVariants.{Own, Redeclared}
-use Rattle.p21_express_syntax.specs.declared.types.Aggregate.{Aggregate}
 use Rattle.p21_express_syntax.specs.declared.types.Aggregate.TheVariants as aggregate
 use Rattle.p21_express_syntax.specs.declared.types.Range.{Range}
 use Rattle.p21_express_syntax.specs.declared.types.SimpleType.{SimpleType}
 use Rattle.p21_express_syntax.specs.declared.types.SimpleType.TheVariants as simple
 use Rattle.p21_express_syntax.specs.declared.types.Width.{Width}
+use Rattle.p21_schemas.specs.DeclaredEntity.{names_of}
+use Rattle.p21_express_syntax.specs.Reading.{around}
 
 abbrev pub kept_width : Option WrittenWidth → Option Width
 kept_width None = None
@@ -38,9 +39,6 @@ array_high (bounded high) = number high
 
 abbrev pub of : SimpleType → KeptType
 of element = record { aggregates = []; element = element }
-
-abbrev pub around : Aggregate → KeptType → KeptType
-around first type = record { aggregates = first ∷ type.aggregates; element = type.element }
 
 abbrev pub kept_type : WrittenType → KeptType
 kept_type integer_type = of simple.Integer
@@ -75,10 +73,6 @@ kept_constraint abstract_supertype = record { is_abstract = true; one_of = None 
 kept_constraint (abstract_supertype_of expression) = record { is_abstract = true; one_of = kept_expression expression }
 kept_constraint (supertype_of expression) = record { is_abstract = false; one_of = kept_expression expression }
 
-abbrev pub names_if : Option (List (List ℕ)) → List (List ℕ)
-names_if None = []
-names_if (Some names) = names
-
 abbrev pub kept_derived : DerivedAttribute → AttributeName
 kept_derived x = kept_name x.name
 
@@ -87,7 +81,7 @@ derived_if None = []
 derived_if (Some derived) = map kept_derived derived
 
 abbrev pub kept_entity : EntityDeclaration → KeptEntity
-kept_entity x = record { name = x.name; constraint = kept_constraint x.constraint; supertypes = names_if x.subtype_of; explicit = map kept_attributes x.explicit; derived = derived_if x.derive }
+kept_entity x = record { name = x.name; constraint = kept_constraint x.constraint; supertypes = names_of x.subtype_of; explicit = map kept_attributes x.explicit; derived = derived_if x.derive }
 
 abbrev pub kept_body : written_type.Body → KeptBody
 kept_body (written_type.enumeration names) = enumeration names

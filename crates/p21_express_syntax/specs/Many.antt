@@ -30,8 +30,3 @@ abbrev pub StepRead : {A B : Type 0} → (A → B) → Result (Option A) SyntaxF
 StepRead view (Ok None) read old new = (read ≡ None) × (new ≡ old)
 StepRead view (Ok (Some x)) read old new = read ≡ Some (Some (view x, new))
 StepRead view (Err fault) read old new = Refused fault (read ≡ Some None)
-
--- those that were read stand behind those that were there
-abbrev pub ManyRead : {B : Type 0} → Result (Unit {0}) SyntaxFault → Option (List B × Items) → Items → List B → List B → Type 0
-ManyRead {B} (Ok u) read new before after = (xs : List B) × (read ≡ Some (xs, new)) × (after ≡ before ++ xs)
-ManyRead (Err fault) read new before after = Refused fault (read ≡ None)

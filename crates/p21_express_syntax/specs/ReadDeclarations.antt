@@ -6,15 +6,16 @@ use Rattle.p21_express_lexemes.specs.Taking.{Refused}
 use Rattle.p21_express_lexemes.specs.declared.fault.SyntaxFault.{SyntaxFault}
 use Rattle.p21_express_syntax.specs.Keeping.{kept_schema}
 use Rattle.p21_express_syntax.specs.Views.{schema_view}
-use Rattle.p21_express_syntax.specs.Within.{longest_text, IsSchemaWithin}
+use Rattle.p21_express_syntax.specs.Within.{IsSchemaWithin}
 use Rattle.p21_express_syntax.specs.declared.schema.Declarations.{Declarations}
+use Rattle.p21_basics.specs.Limits.{text_limit}
 
 -- the text is a schema declaration within the limits
 pub record IsTextOf (x : SchemaDeclaration) (text : List ℕ) : Type 0 where
   pub laid : LaidLexemes (schema_lexemes x) text
   pub is_schema : IsSchemaDeclaration x
   pub is_within : IsSchemaWithin x
-  pub is_short : length text ≤ longest_text
+  pub is_short : length text ≤ text_limit
 
 -- what was answered is kept of the declaration whose text it is; a refusal, where it is the text of none
 abbrev pub ReadsDeclarations : List ℕ → Result Declarations SyntaxFault → Type 0

@@ -3,10 +3,10 @@ use Rattle.std.specs.Prelude.{◌≡◌, ◌≢◌, ◌⊎◌, ◌+◌, ℕ, Boo
 use Rattle.p21_express_lexemes.specs.Taking.{Items, Refused}
 use Rattle.p21_express_lexemes.specs.declared.fault.SyntaxFault.{SyntaxFault}
 use Rattle.p21_express_syntax.specs.Declaring.{KeptDeclaration, kept_of, begins_kept}
-use Rattle.p21_express_syntax.specs.Within.{most_declarations}
 use Rattle.p21_express_syntax.specs.Kept.{KeptSchema}
 use Rattle.p21_express_syntax.specs.Views.{schema_view}
 use Rattle.p21_express_syntax.specs.declared.schema.Declarations.{Declarations}
+use Rattle.p21_schemas.specs.Declared.{most_declarations}
 
 abbrev pub DeclarationsRead : List ℕ → Result Declarations SyntaxFault → Option (List KeptDeclaration × Items) → Items → Type 0
 DeclarationsRead name (Ok declarations) read new = (ds : List KeptDeclaration) × (read ≡ Some (ds, new)) × (schema_view declarations ≡ kept_of name ds)

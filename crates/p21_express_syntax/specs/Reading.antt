@@ -13,6 +13,7 @@ use Rattle.p21_express_syntax.specs.declared.types.Range.{Range}
 use Rattle.p21_express_syntax.specs.declared.types.SimpleType.{SimpleType}
 use Rattle.p21_express_syntax.specs.declared.types.SimpleType.TheVariants as simple
 use Rattle.p21_express_syntax.specs.declared.types.Width.{Width}
+use Rattle.p21_schemas.specs.DeclaredType.{largest_bound}
 
 abbrev pub itself : {A : Type 0} → A → A
 itself x = x
@@ -54,14 +55,11 @@ KindRead (Some k) read old new = read ≡ Some (k, new)
 
 -- ---- bounds and widths, which are within limits
 
-abbrev pub largest : ℕ
-largest = 4294967295
-
 unfoldable pub low_of : Items → Option (ℕ × Items)
-low_of items = bind (take_digits items) (λ d. guard (nat_le (number d.0) largest) (number d.0, d.1))
+low_of items = bind (take_digits items) (λ d. guard (nat_le (number d.0) largest_bound) (number d.0, d.1))
 
 unfoldable pub top_of : ℕ → Items → Option (ℕ × Items)
-top_of low items = bind (take_digits items) (λ d. guard (nat_le (number d.0) largest && nat_le low (number d.0)) (number d.0, d.1))
+top_of low items = bind (take_digits items) (λ d. guard (nat_le (number d.0) largest_bound && nat_le low (number d.0)) (number d.0, d.1))
 
 unfoldable pub high_of : ℕ → Items → Option (Option ℕ × Items)
 high_of low items = choose (take_symbol 63 items) (λ rest. Some (None, rest)) (bind (top_of low items) (λ high. Some (Some high.0, high.1)))
@@ -85,7 +83,7 @@ array_of items =
     bind (take_symbol 91 items) (λ a. bind (low_of a) (λ low. bind (take_symbol 58 low.1) (λ b. bind (top_of low.0 b) (λ high. bind (take_symbol 93 high.1) (λ c. bind (take_word (codes "OF") c) (λ rest. flags_of low.0 high.0 rest))))))
 
 unfoldable pub most_of : Items → Option (ℕ × Items)
-most_of items = bind (take_digits items) (λ d. guard (nat_le (number d.0) largest && nat_le 1 (number d.0)) (number d.0, d.1))
+most_of items = bind (take_digits items) (λ d. guard (nat_le (number d.0) largest_bound && nat_le 1 (number d.0)) (number d.0, d.1))
 
 -- behind `)` of a width
 abbrev pub fixed_of : ℕ → Bool × Items → Option (Option Width × Items)

@@ -8,14 +8,7 @@ use Rattle.p21_schemas.specs.DeclaredType.{WidthIs, BoundsAre, deepest_nesting}
 use Rattle.p21_schemas.specs.EntityDeclaration.{ExplicitAttributes, EntityDeclaration}
 use Rattle.p21_schemas.specs.TypeDeclaration.{Body, enumeration, select, underlying, TypeDeclaration}
 use Rattle.p21_schemas.specs.SchemaDeclaration.{SchemaDeclaration, entities_of, types_of}
-
--- the most bytes of a schema text
-abbrev pub longest_text : ℕ
-longest_text = 16777216
-
--- the most entities and types of a schema together
-abbrev pub most_declarations : ℕ
-most_declarations = 65535
+use Rattle.p21_schemas.specs.Declared.{most_declarations}
 
 abbrev pub HasWidth : Option Width → Type 0
 HasWidth written = (width : Option schema.Width) × WidthIs written width

@@ -12,6 +12,7 @@ use Rattle.std.proofs.lemmas.List.Filters.{dedup_is}
 use Rattle.std.proofs.lemmas.List.Kept.{AllPairs-from_increasing, Contains-dedup_nat, Contains-from_dedup}
 use Rattle.std.proofs.lemmas.List.Sorted.{searched, Contains-permutation, IsPermutation-sym}
 use Rattle.std.proofs.lemmas.Map.Keys.{IsStrictlyIncreasing-dedup}
+use Rattle.std.proofs.lemmas.List.{length-set}
 use Rattle.p21_basics.proofs.Members.{Contains-none, Contains-found, Contains-flat_map, Contains-one_of}
 use Rattle.p21_express_tables.specs.Collected.{Collects, of_own, of_next, IsRisingOf, AreCollected}
 use Rattle.p21_express_tables.specs.Settled.{nexts_of, IsNext, IsSettled}
@@ -71,11 +72,6 @@ pub record AreSoFar (own nexts lists : List (List ℕ)) (done : List ℕ) : Type
   pub each : (x : ℕ) → Contains done x → (y : ℕ) → Contains (nexts_of lists x) y ↔ Collects own nexts x y
   pub rising : (x : ℕ) → IsStrictlyIncreasing (nexts_of lists x)
 
-set-length : (xs : List (List ℕ)) (i : ℕ) (list : List ℕ) → length (slice_set xs i list) ≡ length xs
-set-length [] i list = refl
-set-length (x ∷ xs) zero list = refl
-set-length (x ∷ xs) (suc i) list = ap suc (set-length xs i list)
-
 pub none-so-far : (own nexts lists : List (List ℕ)) → length lists ≡ length nexts → ((x : ℕ) → nexts_of lists x ≡ []) → AreSoFar own nexts lists []
 none-so-far own nexts lists size none = record {
   size = size;
@@ -90,7 +86,7 @@ module _ (own nexts : List (List ℕ)) (listed : List ℕ) (settled : IsSettled 
   -- one list more
   pub so-far-more : (list : List ℕ) → IsRisingOf (nexts_of own x ++ flat_map (nexts_of lists) (nexts_of nexts x)) list → AreSoFar own nexts (slice_set lists x list) (take (suc k) listed)
   so-far-more list is = record {
-    size = set-length lists x list ∙ so_far.size;
+    size = length-set lists x list ∙ so_far.size;
     each = λ z among y. elim (cases_eq z x) [
       | inl same ↦
           let P : ℕ → Type 0 = λ w. Contains (nexts_of (slice_set lists x list) w) y ↔ Collects own nexts w y in

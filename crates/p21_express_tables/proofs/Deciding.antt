@@ -1,10 +1,11 @@
 -- What decides at the places that a set redeclares, by those of it that redeclare a place of an entity.
-use Rattle.std.specs.Prelude.{◌≡◌, ◌↔◌, ◌⊎◌, ℕ, ◌+◌, ◌<◌, List, [], ◌∷◌, ◌++◌, Option, None, Some, length, map, take, slice_get, Contains, refl}
+use Rattle.std.specs.Prelude.{◌≡◌, ◌↔◌, ℕ, ◌+◌, ◌<◌, List, [], ◌∷◌, ◌++◌, length, map, take, Contains}
 use Rattle.std.specs.List.{AllByRecursion as Each, flat_map}
-use Rattle.std.proofs.Common.{arith, ap, sym, ◌∙◌, subst, inl, inr, get_or, append_assoc}
+use Rattle.std.proofs.Common.{arith, ap, sym, ◌∙◌, subst, inl, inr, get_or}
 use Rattle.std.proofs.lemmas.Bool.{cases_lt}
 use Rattle.std.proofs.lemmas.List.{append-nil, map-append}
 use Rattle.std.proofs.lemmas.List.Elements.{Contains-append_left, Contains-push, Contains-push_cases}
+use Rattle.std.proofs.lemmas.Grind.{flat_map-append}
 use Rattle.p21_basics.proofs.Members.{Contains-none, Contains-flat_map, Contains-one_of, Each-at, Each-append, Each-member}
 use Rattle.p21_schemas.specs.PlaceType.{IsDerivedIn, IsRedeclared, Decides}
 use Rattle.p21_schemas.specs.Order.{order}
@@ -125,11 +126,6 @@ decided-more s entities owners owner now after are adds = record {
     | inr new ↦ adds.all p (sym new) redeclared
   ];
 }
-
--- what is declared by one entity of a set more
-flat_map-append : {X Y : Type 0} (f : X → List Y) (xs ys : List X) → flat_map f (xs ++ ys) ≡ flat_map f xs ++ flat_map f ys
-flat_map-append f [] ys = refl
-flat_map-append f (x ∷ xs) ys = ap (λ zs. f x ++ zs) (flat_map-append f xs ys) ∙ sym (append_assoc (f x) (flat_map f xs) (flat_map f ys))
 
 pub owners-more : {X : Type 0} (nexts : ℕ → List ℕ) (number : X → ℕ) (xs : List X) (k : ℕ) (d : X) (before after found : List ℕ) → k < length xs → before ≡ flat_map nexts (map number (take k xs)) → after ≡ before ++ found → found ≡ nexts (number (get_or xs k d)) → after ≡ flat_map nexts (map number (take (k + 1) xs))
 owners-more nexts number xs k d before after found below before_is after_is found_is =

@@ -2,37 +2,36 @@
 use Rattle.std.specs.Prelude.{◌≡◌, ◌≢◌, ◌⊎◌, ℕ, suc, ◌+◌, ◌<◌, List, [], ◌∷◌, Some, length, map, slice_get, slice_set, take, Contains, refl}
 use Rattle.std.proofs.Common.{arith, ap, sym, ◌∙◌, subst, inl, inr, get_or}
 use Rattle.std.proofs.lemmas.Bool.{cases_eq}
-use Rattle.std.proofs.lemmas.List.{get_or-set_other, get_or-set_same, length-set}
+use Rattle.std.proofs.lemmas.List.{get_or-set_other, get_or-set_same, length-set, length-map}
 use Rattle.p21_basics.proofs.Members.{Contains-none, Contains-first, Contains-cases}
 use Rattle.p21_schemas.specs.Declared.{HasNoCircle, Renames}
 use Rattle.p21_schemas.specs.Schema as schema
 use Rattle.p21_schemas.specs.Schema.{Schema, TypeUse, Kind, defined, alias, kind_of}
 use Rattle.p21_express_tables.specs.Base.{ComesTo, at_itself, through, IsPlain}
-use Rattle.p21_express_tables.specs.Renamed.{AreEnds, IsEnd, RenamesNone, declared_in, renamed}
+use Rattle.p21_express_tables.specs.Renamed.{AreEnds, IsEnd, RenamesNone, renamed_by, renamed}
 use Rattle.p21_express_tables.specs.Resolved.{HoldsTogether, IsType}
 use Rattle.p21_express_tables.specs.Settled.{AreWithin, IsNext, IsSettled}
-use Rattle.p21_express_tables.proofs.Gatherings.{mapped-length}
 use Rattle.p21_express_tables.proofs.Offering.{listed, listed-got, listed-has}
 use Rattle.p21_express_tables.proofs.OrderTables.{take-more}
 use Rattle.p21_express_tables.proofs.Resolving.{alias-is}
 
-in-declared : (type : TypeUse) (t : ℕ) → Contains (declared_in type) t → type ≡ defined t
-in-declared (schema.defined u) t among = elim (Contains-cases u [] t among) [ inl h ↦ ap schema.defined h | inr h ↦ absurd (Contains-none t h) ]
-in-declared schema.whole t among = absurd (Contains-none t among)
-in-declared schema.real t among = absurd (Contains-none t among)
-in-declared schema.number t among = absurd (Contains-none t among)
-in-declared schema.boolean t among = absurd (Contains-none t among)
-in-declared schema.logical t among = absurd (Contains-none t among)
-in-declared (schema.text width) t among = absurd (Contains-none t among)
-in-declared (schema.bits width) t among = absurd (Contains-none t among)
-in-declared (schema.entity e) t among = absurd (Contains-none t among)
-in-declared (schema.array low high optional unique element) t among = absurd (Contains-none t among)
-in-declared (schema.list low high unique element) t among = absurd (Contains-none t among)
-in-declared (schema.set low high element) t among = absurd (Contains-none t among)
-in-declared (schema.bag low high element) t among = absurd (Contains-none t among)
+in-renamed_by : (type : TypeUse) (t : ℕ) → Contains (renamed_by type) t → type ≡ defined t
+in-renamed_by (schema.defined u) t among = elim (Contains-cases u [] t among) [ inl h ↦ ap schema.defined h | inr h ↦ absurd (Contains-none t h) ]
+in-renamed_by schema.whole t among = absurd (Contains-none t among)
+in-renamed_by schema.real t among = absurd (Contains-none t among)
+in-renamed_by schema.number t among = absurd (Contains-none t among)
+in-renamed_by schema.boolean t among = absurd (Contains-none t among)
+in-renamed_by schema.logical t among = absurd (Contains-none t among)
+in-renamed_by (schema.text width) t among = absurd (Contains-none t among)
+in-renamed_by (schema.bits width) t among = absurd (Contains-none t among)
+in-renamed_by (schema.entity e) t among = absurd (Contains-none t among)
+in-renamed_by (schema.array low high optional unique element) t among = absurd (Contains-none t among)
+in-renamed_by (schema.list low high unique element) t among = absurd (Contains-none t among)
+in-renamed_by (schema.set low high element) t among = absurd (Contains-none t among)
+in-renamed_by (schema.bag low high element) t among = absurd (Contains-none t among)
 
-in-renamed : (kind : Kind) (t : ℕ) → Contains (renamed kind) t → kind ≡ alias (defined t)
-in-renamed (schema.alias type) t among = ap alias (in-declared type t among)
+pub in-renamed : (kind : Kind) (t : ℕ) → Contains (renamed kind) t → kind ≡ alias (defined t)
+in-renamed (schema.alias type) t among = ap alias (in-renamed_by type t among)
 in-renamed (schema.items words) t among = absurd (Contains-none t among)
 in-renamed (schema.choice members) t among = absurd (Contains-none t among)
 
@@ -48,7 +47,7 @@ module _ (s : Schema) where
   renames-next t u is = listed-got s renamed t u (alias (defined u)) is (Contains-first u [])
 
   pub renamed-within : HoldsTogether s → AreWithin (renamed_types s)
-  renamed-within holds t u next = let below = alias-is s holds t (defined u) (next-renames t u next) in omega (arith, below, mapped-length (λ x. renamed x.kind) s.types)
+  renamed-within holds t u next = let below = alias-is s holds t (defined u) (next-renames t u next) in omega (arith, below, length-map s.types (λ x. renamed x.kind))
 
   pub renamed-end : HoldsTogether s → HasNoCircle (IsNext (renamed_types s))
   renamed-end holds = (holds.renaming_ends.0, λ t u next. holds.renaming_ends.1 t u (next-renames t u next))
@@ -85,9 +84,9 @@ module _ (s : Schema) (listed_ : List ℕ) (settled : IsSettled (renamed_types s
   }
 
 pub all-ends : (s : Schema) (listed_ ends : List ℕ) → IsSettled (renamed_types s) listed_ → AreSoFar s ends listed_ → AreEnds s ends
-all-ends s listed_ ends settled so_far = record { size = so_far.size; each = λ t is. so_far.each t (settled.all t (omega (arith, is, mapped-length (λ x. renamed x.kind) s.types))) }
+all-ends s listed_ ends settled so_far = record { size = so_far.size; each = λ t is. so_far.each t (settled.all t (omega (arith, is, length-map s.types (λ x. renamed x.kind)))) }
 
-none-declared : (type : TypeUse) → IsPlain type → declared_in type ≡ []
+none-declared : (type : TypeUse) → IsPlain type → renamed_by type ≡ []
 none-declared (schema.defined t) plain = absurd plain
 none-declared other plain = refl
 

@@ -1,17 +1,16 @@
 -- Entities that are noted at the ONEOF lists in which they stand.
-use Rattle.std.specs.Prelude.{◌≡◌, ◌≢◌, ◌↔◌, ◌⊎◌, ℕ, zero, suc, ◌+◌, ◌<◌, Bool, true, false, List, [], ◌∷◌, ◌++◌, Option, None, Some, map, take, Contains, refl}
-use Rattle.std.specs.BTreeMap.{BTreeMap, Updates, get, is_at}
-use Rattle.std.specs.Ordering.{is_eq, nat_cmp}
-use Rattle.std.proofs.Common.{arith, ap, sym, ◌∙◌, subst, inl, inr, get_or}
+use Rattle.std.specs.Prelude.{◌≡◌, ◌≢◌, ◌↔◌, ◌⊎◌, ℕ, zero, suc, ◌+◌, List, [], ◌∷◌, ◌++◌, Option, None, Some, map, take, Contains, refl}
+use Rattle.std.specs.BTreeMap.{BTreeMap, Updates, get}
+use Rattle.std.specs.Ordering.{nat_cmp}
+use Rattle.std.proofs.Common.{arith, ap, sym, ◌∙◌, subst, inl, inr}
 use Rattle.std.proofs.lemmas.Bool.{cases_eq}
-use Rattle.std.proofs.lemmas.Bool.Decides.{nat_tests}
-use Rattle.std.proofs.lemmas.List.{take_more}
-use Rattle.std.proofs.lemmas.List.Elements.{Contains-append_left, Contains-get_or, Contains-push, Contains-push_cases}
+use Rattle.std.proofs.lemmas.List.Elements.{Contains-append_left, Contains-push, Contains-push_cases}
 use Rattle.p21_basics.proofs.Members.{Contains-none, Contains-at, Contains-cases, Contains-found, Contains-later}
 use Rattle.p21_schemas.specs.OneOf.{Clashes}
 use Rattle.p21_schemas.specs.Schema.{Schema}
 use Rattle.p21_express_tables.specs.Holders.{AreHeld}
 use Rattle.p21_express_tables.specs.OneOf.{ClashesWith, IsListedIn}
+use Rattle.p21_basics.proofs.Comparing.{is_at-other}
 
 pub held-none : (s : Schema) (find : ℕ → Option ℕ) → ((k : ℕ) → find k ≡ None) → AreHeld s [] find
 held-none s find none = record {
@@ -95,15 +94,9 @@ no-clash s entities find held (listed, listed_among, (e, f, has, has_, differ, a
     let inner : e ≡ f = cc in
     differ inner
 
-other_query : (a b : ℕ) → b ≢ a → is_at (nat_cmp a) b ≡ false
-other_query a b other = by (is_eq (nat_cmp a b)) refl where
-  by : (r : Bool) → is_eq (nat_cmp a b) ≡ r → is_eq (nat_cmp a b) ≡ false
-  by false e = e
-  by true e = let same : a ≡ b = grind (arith, nat_tests) in absurd (other (sym same))
-
 -- one list more at which the entity was noted
 pub noted-next : (e : ℕ) (lists : List ℕ) (k : ℕ) (old : ℕ → Option ℕ) (now after : BTreeMap ℕ ℕ) → IsNoted e lists old (get nat_cmp now) → Updates nat_cmp now after k (Some e) → IsNoted e (lists ++ k ∷ []) old (get nat_cmp after)
-noted-next e lists k old now after so_far updates = noted-more e lists k old (get nat_cmp now) (get nat_cmp after) so_far updates.1 (λ j differ. updates.2 j (other_query k j differ))
+noted-next e lists k old now after so_far updates = noted-more e lists k old (get nat_cmp now) (get nat_cmp after) so_far updates.1 (λ j differ. updates.2 j (is_at-other k j differ))
 
 -- where none was noted but the entity, none is at one list more
 pub none-more : (e : ℕ) (lists : List ℕ) (k : ℕ) (old now : ℕ → Option ℕ) → IsNoted e lists old now → ((other : ℕ) → now k ≡ Some other → other ≡ e) → ((j : ℕ) → Contains lists j → (other : ℕ) → old j ≡ Some other → other ≡ e) → (j : ℕ) → Contains (lists ++ k ∷ []) j → (other : ℕ) → old j ≡ Some other → other ≡ e

@@ -4,8 +4,9 @@ use Rattle.std.specs.List.{AllByRecursion as Each, flat_map}
 use Rattle.std.proofs.Common.{arith, ap, sym, ◌∙◌, subst, inl, inr, append_assoc, get_or, drop-cons}
 use Rattle.std.specs.Option.{option_map}
 use Rattle.std.proofs.lemmas.Bool.{cases_eq}
-use Rattle.std.proofs.lemmas.Option.{slice_get-map, slice_get_read}
-use Rattle.p21_basics.proofs.Members.{Contains-none, Contains-first, Contains-later, Contains-cases, Contains-found, Each-member, Each-at}
+use Rattle.std.proofs.lemmas.Option.{slice_get-map}
+use Rattle.std.proofs.lemmas.List.{length-map, length-set}
+use Rattle.p21_basics.proofs.Members.{Contains-none, Contains-later, Contains-cases, Contains-found, Each-member, Each-at, flat_map-same}
 use Rattle.p21_schemas.specs.Schema.{Schema, Entity}
 use Rattle.p21_schemas.specs.Supertype.{IsA, itself, above, supertypes_of}
 use Rattle.p21_schemas.specs.Order.{order, firsts}
@@ -18,7 +19,7 @@ use Rattle.p21_express_tables.specs.Resolved.{HoldsTogether, IsEntity}
 use Rattle.p21_express_tables.specs.Orders.{AreOrders, supertype_lists, numbers}
 use Rattle.p21_express_tables.specs.Parts.{entity}
 use Rattle.p21_express_tables.specs.declared.parts.Entity.{Entity as Declared}
-use Rattle.p21_express_tables.proofs.Gatherings.{gathers, mapped-length}
+use Rattle.p21_express_tables.proofs.Gatherings.{gathers}
 
 -- the list of a number, after a list was set
 pub set-same : (lists : List (List ℕ)) (x : ℕ) (list : List ℕ) → x < length lists → nexts_of (slice_set lists x list) x ≡ list
@@ -68,10 +69,6 @@ pub IsA-within : (s : Schema) → AreEntities s → (e f : ℕ) → IsA s e f �
 IsA-within s are e f (itself _) below = below
 IsA-within s are e f (above _ next _ up more) below = IsA-within s are next f more (are e next up)
 
-flat_map-same : (g h : ℕ → List ℕ) (xs : List ℕ) → ((x : ℕ) → Contains xs x → g x ≡ h x) → flat_map g xs ≡ flat_map h xs
-flat_map-same g h [] same = refl
-flat_map-same g h (x ∷ xs) same = ap (λ ys. ys ++ flat_map g xs) (same x (Contains-first x xs)) ∙ ap (λ ys. h x ++ ys) (flat_map-same g h xs (λ y among. same y (Contains-later x xs y among)))
-
 -- the lists of what was listed so far are orders, and all lists have entities
 pub record AreSoFar (s : Schema) (lists : List (List ℕ)) (done : List ℕ) : Type 0 where
   pub size : length lists ≡ length s.entities
@@ -88,7 +85,7 @@ none-so-far s lists size none = record {
 
 module _ (s : Schema) (holds : HoldsTogether s) (listed : List ℕ) (settled : IsSettled (supertype_lists s) listed) (lists : List (List ℕ)) (k e : ℕ) (at : slice_get listed k ≡ Some e) (so_far : AreSoFar s lists (take k listed)) where
   pub is-entity : e < length s.entities
-  is-entity = omega (arith, mapped-length (λ x. x.supertypes) s.entities, settled.within e (Contains-found listed k e at))
+  is-entity = omega (arith, length-map s.entities (λ x. x.supertypes), settled.within e (Contains-found listed k e at))
 
   -- what is gathered of the next entity is its order
   pub next-order : add_firsts [] (flat_map (nexts_of lists) (supertypes_of s e) ++ e ∷ []) ≡ order s e
@@ -98,7 +95,7 @@ module _ (s : Schema) (holds : HoldsTogether s) (listed : List ℕ) (settled : I
 
   pub so-far-more : AreSoFar s (slice_set lists e (order s e)) (take (suc k) listed)
   so-far-more = record {
-    size = set-length lists e ∙ so_far.size;
+    size = length-set lists e (order s e) ∙ so_far.size;
     orders = λ f among. elim (cases_eq f e) [
       | inl same ↦ (let P : ℕ → Type 0 = λ g. nexts_of (slice_set lists e (order s e)) g ≡ order s g in subst P (sym same) (set-same lists e (order s e) (omega (arith, is-entity, so_far.size))))
       | inr other ↦ set-other lists e f (order s e) other ∙ so_far.orders f (elim (take-more listed k f among) [ inl h ↦ h | inr h ↦ absurd (other (let same : Some f ≡ Some e = sym h ∙ at in let inner : f ≡ e = cc in inner)) ])
@@ -110,15 +107,10 @@ module _ (s : Schema) (holds : HoldsTogether s) (listed : List ℕ) (settled : I
       | inr other ↦ so_far.within f g (let Q : List ℕ → Type 0 = λ xs. Contains xs g in subst Q (set-other lists e f (order s e) other) among)
     ];
   }
-    where
-      set-length : (xs : List (List ℕ)) (i : ℕ) → length (slice_set xs i (order s e)) ≡ length xs
-      set-length [] i = refl
-      set-length (x ∷ xs) zero = refl
-      set-length (x ∷ xs) (suc i) = ap suc (set-length xs i)
 
 -- at the end the table has all orders
 pub all-orders : (s : Schema) (listed : List ℕ) → IsSettled (supertype_lists s) listed → (lists : List (List ℕ)) → AreSoFar s lists listed → AreOrders s lists
-all-orders s listed settled lists so_far = record { size = so_far.size; each = λ e below. found lists e (order s e) (so_far.orders e (settled.all e (omega (arith, below, mapped-length (λ x. x.supertypes) s.entities)))) (omega (arith, below, so_far.size)) }
+all-orders s listed settled lists so_far = record { size = so_far.size; each = λ e below. found lists e (order s e) (so_far.orders e (settled.all e (omega (arith, below, length-map s.entities (λ x. x.supertypes))))) (omega (arith, below, so_far.size)) }
   where
     found : (ls : List (List ℕ)) (x : ℕ) (list : List ℕ) → nexts_of ls x ≡ list → x < length ls → slice_get ls x ≡ Some list
     found [] x list is below = let none : ⊥ = omega (arith, below) in absurd none
@@ -158,13 +150,7 @@ pub no-circle : (s : Schema) → HasNoCircle (HasSupertype s) → HasNoCircle (I
 no-circle s ends = (ends.0, λ x y next. ends.1 x y (let P : List ℕ → Type 0 = λ xs. Contains xs y in subst P (supertypes-listed s x) next))
 
 pub lists-within : (s : Schema) → HoldsTogether s → AreWithin (supertype_lists s)
-lists-within s holds x y next = let below = are-entities s holds x y (let P : List ℕ → Type 0 = λ xs. Contains xs y in subst P (supertypes-listed s x) next) in omega (arith, below, mapped-length (λ z. z.supertypes) s.entities)
-
--- the order that a table has
-pub order-at : {X : Type 0} (items : X → List ℕ) (s : Schema) (table : List X) (e : ℕ) (x : X) → AreOrders s (map items table) → e < length s.entities → x ≡ get_or table e x → items x ≡ order s e
-order-at items s table e x are below is =
-    let at : slice_get (map items table) e ≡ Some (items x) = slice_get-map items table e ∙ ap (option_map items) (slice_get_read table (length table) e x refl (omega (arith, below, are.size, mapped-length items table)) is) in
-    let same : Some (items x) ≡ Some (order s e) = sym at ∙ are.each e below in cc
+lists-within s holds x y next = let below = are-entities s holds x y (let P : List ℕ → Type 0 = λ xs. Contains xs y in subst P (supertypes-listed s x) next) in omega (arith, below, length-map s.entities (λ z. z.supertypes))
 
 -- an entity is a supertype just where it is in the order
 pub order-tells : (s : Schema) → HoldsTogether s → (e f : ℕ) → Contains (order s e) f ↔ IsA s e f

@@ -3,7 +3,7 @@ use Rattle.std.specs.Prelude.{◌≡◌, ◌⊎◌, ◌+◌, ◌<◌, ℕ, zero,
 use Rattle.std.specs.List.{AllZip}
 use Rattle.std.proofs.Common.{arith, ap, sym, ◌∙◌, subst, inl, inr, get_or}
 use Rattle.std.proofs.lemmas.List.{map-append, take_more}
-use Rattle.p21_basics.proofs.Members.{Contains-first, Contains-later}
+use Rattle.p21_basics.proofs.Members.{Contains-first, Contains-later, AllZip-turned}
 
 -- what stands in a list with one more behind it
 pub snoc-get : {X : Type 0} (xs : List X) (z : X) (k : ℕ) (x : X) → slice_get (xs ++ z ∷ []) k ≡ Some x → (slice_get xs k ≡ Some x) ⊎ ((k ≡ length xs) × (x ≡ z))
@@ -18,12 +18,6 @@ AllZip-push R [] [] x y all one = (one, tt)
 AllZip-push R [] (z ∷ ys) x y all one = absurd all
 AllZip-push R (z ∷ xs) [] x y all one = absurd all
 AllZip-push R (z ∷ xs) (w ∷ ys) x y all one = (all.0, AllZip-push R xs ys x y all.1 one)
-
-pub AllZip-turned : {X Y : Type 0} (R : X → Y → Type 0) (xs : List X) (ys : List Y) → AllZip R xs ys → AllZip (λ y x. R x y) ys xs
-AllZip-turned R [] [] all = tt
-AllZip-turned R [] (y ∷ ys) all = absurd all
-AllZip-turned R (x ∷ xs) [] all = absurd all
-AllZip-turned R (x ∷ xs) (y ∷ ys) all = (all.0, AllZip-turned R xs ys all.1)
 
 -- the pair at a place
 pub AllZip-at : {X Y : Type 0} (R : X → Y → Type 0) (xs : List X) (ys : List Y) (k : ℕ) (d : X) (e : Y) → AllZip R xs ys → k < length xs → R (get_or xs k d) (get_or ys k e)

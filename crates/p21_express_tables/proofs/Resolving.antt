@@ -5,7 +5,6 @@ use Rattle.std.proofs.lemmas.Option.{slice_get_within}
 use Rattle.p21_basics.proofs.Members.{Each-member, Each-at}
 use Rattle.p21_schemas.specs.Schema.{Schema, TypeUse, Kind, alias, choice, Member, Place, Attribute, Entity, Defined, kind_of}
 use Rattle.p21_schemas.specs.PlaceType.{stored_place, TypeAt}
-use Rattle.p21_schemas.specs.Select.{Offers, offered, offered_within}
 use Rattle.p21_schemas.specs.WellFormed.{AreListedEntities, IsWellFormed}
 use Rattle.p21_express_tables.specs.Resolved.{HoldsTogether, IsEntity, IsType, IsTypeUse, IsMember, IsKind, IsResolved, IsAttribute, IsRedeclared}
 use Rattle.p21_express_tables.proofs.OrderTables.{are-entities}
@@ -48,11 +47,6 @@ alias-is s holds t type is = kind-is s holds t (alias type) is
 -- each member of a select is
 pub member-is : (s : Schema) → HoldsTogether s → (t : ℕ) (members : List Member) (m : Member) → kind_of s t ≡ Some (choice members) → Contains members m → IsMember s m
 member-is s holds t members m is among = Each-member (IsMember s) members m (kind-is s holds t (choice members) is) among
-
--- and each that it offers
-pub offered-is : (s : Schema) → HoldsTogether s → (t : ℕ) (m : Member) → Offers s t m → IsMember s m
-offered-is s holds t m (offered _ members _ is among no_select) = member-is s holds t members m is among
-offered-is s holds t m (offered_within _ u members _ is among offers) = offered-is s holds u m offers
 
 -- the type at a place is
 pub stored-is : (s : Schema) → HoldsTogether s → (entities : List ℕ) (place : Place) (optional : Bool) (type : TypeUse) → TypeAt s entities place (stored_place optional type) → IsTypeUse s type

@@ -16,11 +16,6 @@ use Rattle.p21_express_tables.proofs.Ranks.{way_short}
 pub reverse-snoc : (xs : List ℕ) (x : ℕ) → reverse (xs ++ x ∷ []) ≡ x ∷ reverse xs
 reverse-snoc xs x = reverse-append xs (x ∷ [])
 
-pub open_within : (done : List Bool) (x : ℕ) → IsOpen done x → x < length done
-open_within [] x is = cc
-open_within (b ∷ done) zero is = omega arith
-open_within (b ∷ done) (suc x) is = omega (arith, open_within done x is)
-
 done_apart : (done : List Bool) (x : ℕ) → IsDone done x → IsOpen done x → ⊥
 done_apart [] x is open_is = cc
 done_apart (b ∷ done) zero is open_is = cc
@@ -133,9 +128,6 @@ finish-falls n done way passed top is = omega (arith, times-le (open_count (slic
 
 pub go-falls : (n : ℕ) (done : List Bool) (way : List ℕ) (passed next : ℕ) → length way < n → work n done (next ∷ way) passed < work n done way passed
 go-falls n done way passed next few = omega (arith, few)
-
-pub pass-falls : (n : ℕ) (done : List Bool) (passed : ℕ) → passed < n → work n done [] (passed + 1) < work n done [] passed
-pass-falls n done passed below = omega (arith, below)
 
 -- the list of a number, where the lists are stored in some form
 pub nexts_at : {X : Type 0} (items : X → List ℕ) (xs : List X) (k : ℕ) (x : X) (found : List ℕ) → k < length xs → x ≡ get_or xs k x → found ≡ items x → nexts_of (map items xs) k ≡ found

@@ -6,12 +6,12 @@ use Rattle.p21_express_tables.specs.Base.{ComesTo, IsPlain}
 use Rattle.p21_express_tables.specs.Resolved.{IsType}
 
 -- the declared type that a type is just the name of
-abbrev pub declared_in : TypeUse → List ℕ
-declared_in (schema.defined t) = t ∷ []
-declared_in other = []
+abbrev pub renamed_by : TypeUse → List ℕ
+renamed_by (schema.defined t) = t ∷ []
+renamed_by other = []
 
 abbrev pub renamed : Kind → List ℕ
-renamed (schema.alias type) = declared_in type
+renamed (schema.alias type) = renamed_by type
 renamed other = []
 
 -- a type that is this renames no declared type

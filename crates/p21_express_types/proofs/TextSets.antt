@@ -1,5 +1,5 @@
 -- A set of texts that grows.
-use Rattle.std.proofs.Common.{◌≡◌, ◌⊎◌, ◌||◌, ℕ, Bool, true, false, List, [], ◌∷◌, ◌++◌, IsTrue, inl, inr, refl, sym, ap, subst, ◌∙◌}
+use Rattle.std.proofs.Common.{◌≡◌, ◌||◌, ℕ, Bool, true, false, List, [], ◌∷◌, ◌++◌, IsTrue, inl, inr, refl, sym, ap, subst, ◌∙◌}
 use Rattle.std.proofs.lemmas.List.Elements.{Contains-append_cases, Contains-append_left, Contains-append_right}
 use Rattle.std.proofs.lemmas.Map.Text.{is_eq-slice_cmp}
 use Rattle.std.proofs.lemmas.Slice.Eq.{bytes_eq-Decides}
@@ -11,13 +11,14 @@ use Rattle.std.specs.Prelude as std
 use Rattle.std.specs.declared.alloc.Global.{Global}
 use Rattle.std.specs.declared.cmp.Ordering.{Ordering}
 use Rattle.std.specs.declared.cmp.Ordering.TheVariants.{Equal, Greater, Less}
+use Rattle.std.proofs.lemmas.Bool.{or_cases, or_left, or_right}
 use Rattle.p21_basics.proofs.Members.{Contains-cases, Contains-first, Contains-none}
 use Rattle.p21_express_types.specs.TextSet.{HasTexts, has_text}
 
 abbrev pub Text : Type 0
 Text = std.Vec ℕ Global
 
-abbrev by_text : Text → Text → Ordering
+abbrev pub by_text : Text → Text → Ordering
 by_text a b = slice_cmp nat_cmp a.items b.items
 
 abbrev is_text : List ℕ → Text → Bool
@@ -37,18 +38,6 @@ or_past : (a b c : Bool) → a || (b || c) ≡ b || (a || c)
 or_past true true c = refl
 or_past true false c = refl
 or_past false b c = refl
-
-or_cases : (a b : Bool) → a || b ≡ true → (a ≡ true) ⊎ (b ≡ true)
-or_cases true b e = inl refl
-or_cases false b e = inr e
-
-or_left : (a b : Bool) → a ≡ true → a || b ≡ true
-or_left true b e = refl
-or_left false b e = cc
-
-or_right : (a b : Bool) → b ≡ true → a || b ≡ true
-or_right true b e = refl
-or_right false b e = e
 
 has_inserted : (text : List ℕ) (keys : List Text) (key : Text) → list_any (is_text text) (insert_key by_text keys key) ≡ is_text text key || list_any (is_text text) keys
 has_inserted text [] key = refl

@@ -1,9 +1,8 @@
 -- Records whose keywords, sets and places break rules, and records that break none.
-use Rattle.std.specs.Prelude.{◌≡◌, ℕ, pos, true, false, List, [], ◌∷◌, codes, Contains, refl}
+use Rattle.std.specs.Prelude.{◌≡◌, ℕ, pos, List, [], ◌∷◌, codes, Contains, refl}
 use Rattle.std.specs.List.{IsDistinct}
 use Rattle.std.specs.Str.{bytes_eq}
 use Rattle.std.proofs.Common.{arith, rules, inl, inr, ap, sym, subst, ◌∙◌}
-use Rattle.std.proofs.lemmas.Slice.Eq.{bytes_eq-Decides}
 use Rattle.p21_files.specs.BrokenRule.{Breaks, unknown_entity, abstract_leaf, part_missing, part_twice, wrong_count, open_place, one_of, at_place}
 use Rattle.p21_files.specs.BrokenValue.{BreaksAtPlace, derived_not_star}
 use Rattle.p21_files.specs.Meaning.{NamesEntity}
@@ -23,12 +22,10 @@ use Rattle.p21_schemas.proofs.PlaceTypeExamples.{redecl-is_a, redecl-two}
 use Rattle.p21_files.proofs.RecordSets.{internal-set, closed-set}
 use Rattle.p21_schemas.proofs.SoleSchema.{a_b_list, sole, sole_with, sole_tree, a_or_b, andor_c, sole-declares, andor-declares}
 use Rattle.p21_schemas.proofs.TestSchemas.{demo, shape, point, origin, x_place, redecl, k_place}
+use Rattle.p21_basics.proofs.Comparing.{bytes_eq-apart}
 
 abbrev part_of : List ℕ → Params → Part
 part_of name params = record { key = key_of name; params = params }
-
-apart : (a b : List ℕ) → bytes_eq a b ≡ false → a ≡ b → ⊥
-apart a b differ same = let h : true ≡ false = sym ((bytes_eq-Decides a b).1 same) ∙ differ in cc
 
 -- `FOO()` under DEMO
 pub foo-breaks : Breaks demo (simple (part_of (codes "FOO") no_params)) 41
@@ -37,7 +34,7 @@ foo-breaks = unknown_entity (part_of (codes "FOO") no_params, (0, omega arith, r
     unknown : (e : ℕ) → NamesEntity demo (key_of (codes "FOO")) e → ⊥
     unknown e (name, (x, at, is), key_is) =
         let foo : x.name ≡ codes "FOO" = is ∙ sym (ap (λ k. k.word) key_is) in
-        Each-at (λ y. y.name ≡ codes "FOO" → ⊥) demo.entities e x (apart _ _ refl, (apart _ _ refl, (apart _ _ refl, (apart _ _ refl, (apart _ _ refl, tt))))) at foo
+        Each-at (λ y. y.name ≡ codes "FOO" → ⊥) demo.entities e x (bytes_eq-apart _ _ refl, (bytes_eq-apart _ _ refl, (bytes_eq-apart _ _ refl, (bytes_eq-apart _ _ refl, (bytes_eq-apart _ _ refl, tt))))) at foo
 
 -- `DISTANCE(1.)`, whose keyword is the name of a type
 pub distance-breaks : Breaks demo (simple (part_of (codes "DISTANCE") (param (real one) no_params))) 41

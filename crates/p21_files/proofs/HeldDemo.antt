@@ -1,5 +1,5 @@
 -- What is held of a file of the schema DEMO behind `DATA;` and `#1=CLOUD((#2),((`.
-use Rattle.std.proofs.Common.{◌≡◌, ℕ, List, [], ◌∷◌, refl, arith, lit<, lit≤}
+use Rattle.std.proofs.Common.{◌≡◌, ℕ, List, [], ◌∷◌, refl, arith, lit<}
 use Rattle.std.specs.Prelude.{codes}
 use Rattle.std.specs.List.{flat_map, AllByRecursion as Each}
 use Rattle.p21_exchange.specs.DataSection.{unnamed}
@@ -15,15 +15,16 @@ use Rattle.p21_exchange.specs.Token.{name, equals, keyword}
 use Rattle.p21_exchange.proofs.CanonicalLaying.{Laying, put, put_on_line, put_left, put_right, put_comma, put_section, no_dash_left}
 use Rattle.p21_files.proofs.DemoExample.{demo, demo-is_file, description, file_name, file_schema, header_lines}
 use Rattle.p21_exchange.proofs.Laying.{keyword_by, left_ends_words, up_to}
+use Rattle.p21_exchange.proofs.Names.{name_spells}
 
 abbrev demo_open : List ℕ
 demo_open = codes "ISO-10303-21;\nHEADER;\nFILE_DESCRIPTION((''),'2;1');\nFILE_NAME('','',(''),(''),'','','');\nFILE_SCHEMA(('DEMO'));\nENDSEC;\nDATA;\n#1=CLOUD((#2),(("
 
 one-spelled : SpellsName (codes "#1") 1
-one-spelled = record { form = record { digits = codes "1"; bytes_are = refl; some_digits = lit< tt; are_digits = ((lit≤ tt, lit≤ tt), tt) }; value_is = refl; in_range = lit< tt }
+one-spelled = name_spells 1 (lit< tt)
 
 two-spelled : SpellsName (codes "#2") 2
-two-spelled = record { form = record { digits = codes "2"; bytes_are = refl; some_digits = lit< tt; are_digits = ((lit≤ tt, lit≤ tt), tt) }; value_is = refl; in_range = lit< tt }
+two-spelled = name_spells 2 (lit< tt)
 
 equals_ends_digits : IsDigit 61 → ⊥
 equals_ends_digits digit = omega (arith, digit)

@@ -25,6 +25,7 @@ use Rattle.p21_basics.proofs.Members.{Each-member}
 use Rattle.p21_schemas.proofs.OrderExamples.{demo-is_a}
 use Rattle.p21_files.proofs.SameFiles.{SameTyped-reflexive}
 use Rattle.p21_schemas.proofs.TestSchemas.{demo, point}
+use Rattle.p21_exchange.proofs.Names.{name_spells}
 
 abbrev pub one : Decimal
 one = record { significand = pos 1; exponent = pos 0 }
@@ -54,7 +55,7 @@ one-spelled =
     }
 
 pub two-spelled : SpellsName (codes "#2") 2
-two-spelled = record { form = record { digits = codes "2"; bytes_are = refl; some_digits = lit< tt; are_digits = ((lit≤ tt, lit≤ tt), tt) }; value_is = refl; in_range = lit< tt }
+two-spelled = name_spells 2 (lit< tt)
 
 pub equals_ends_digits : IsDigit 61 → ⊥
 equals_ends_digits digit = omega (arith, digit)

@@ -19,6 +19,7 @@ mod ValueExamples
 mod ValueTextExamples
 pub mod BrokenRules
 pub mod BrokenValues
+pub mod Commas
 pub mod Dead
 pub mod DemoExample
 pub mod FitsWider

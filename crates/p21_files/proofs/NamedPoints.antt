@@ -23,6 +23,7 @@ use Rattle.p21_files.proofs.KeptExamples.{one, one-spelled, equals_ends_digits, 
 use Rattle.p21_exchange.proofs.Laying.{keyword_by, left_ends_words}
 use Rattle.p21_files.proofs.MeaningExamples.{point_set, point-is, point-only, point-means, point-stored}
 use Rattle.p21_schemas.proofs.TestSchemas.{demo, point, label, attribute, label_place, x_place, y_place}
+use Rattle.p21_exchange.proofs.Names.{name_spells}
 
 abbrev pub two : Decimal
 two = record { significand = pos 2; exponent = pos 0 }
@@ -143,10 +144,10 @@ point_start n spelling spelled rest =
 
 -- `#1=POINT($,1.,1.);`, `#2=POINT($,2.,1.);` and `#2=POINT($,2.0,1.);` on lines of their own
 pub one_name : SpellsName (codes "#1") 1
-one_name = record { form = record { digits = codes "1"; bytes_are = refl; some_digits = lit< tt; are_digits = ((lit≤ tt, lit≤ tt), tt) }; value_is = refl; in_range = lit< tt }
+one_name = name_spells 1 (lit< tt)
 
 pub two_name : SpellsName (codes "#2") 2
-two_name = record { form = record { digits = codes "2"; bytes_are = refl; some_digits = lit< tt; are_digits = ((lit≤ tt, lit≤ tt), tt) }; value_is = refl; in_range = lit< tt }
+two_name = name_spells 2 (lit< tt)
 
 abbrev pub one_line : Laying → Laying
 one_line rest = point_start 1 (codes "#1") one_name (put (token.real one) (codes "1.") one-spelled (put_comma (last_one rest)) comma_ends_one)

@@ -1,13 +1,13 @@
 -- A record has one meaning at most, under one schema and whatever the sets of the instances.
-use Rattle.std.specs.Prelude.{◌≡◌, ℕ, zero, suc, ◌+◌, ◌<◌, List, [], ◌∷◌, length, map, Some, Contains, refl}
-use Rattle.std.specs.List.{AllZip, zip, enumerate_from, AllByRecursion as Each}
+use Rattle.std.specs.Prelude.{◌≡◌, ℕ, suc, ◌<◌, List, [], ◌∷◌, length, Some, Contains, refl}
+use Rattle.std.specs.List.{AllZip, zip, AllByRecursion as Each}
 use Rattle.std.specs.List.Sorted.{IsStrictlySortedBy}
 use Rattle.std.specs.Ordering.{nat_cmp}
 use Rattle.std.specs.Cmp.Lexicographic.{slice_cmp}
 use Rattle.std.proofs.lemmas.Cmp.{nat_list_cmp_total}
 use Rattle.std.specs.Ordering.{ordering_reverse}
 use Rattle.std.proofs.Common.{Less, Greater, arith, subst, ap, sym, ◌∙◌, inl, inr}
-use Rattle.p21_schemas.specs.Schema.{Schema, Place, Attribute, EntityNamed, attributes_of}
+use Rattle.p21_schemas.specs.Schema.{Schema, Place, EntityNamed, attributes_of}
 use Rattle.p21_schemas.specs.Supertype.{IsA}
 use Rattle.p21_schemas.specs.Order.{order, places, own_places}
 use Rattle.p21_schemas.specs.PlaceType.{PlaceType, TypeAt}
@@ -23,6 +23,7 @@ use Rattle.p21_schemas.proofs.Orders.{order-has}
 use Rattle.p21_schemas.proofs.PlaceTypes.{TypeAt-one}
 use Rattle.p21_files.proofs.OneValue.{FitsAt-one_value}
 use Rattle.p21_schemas.specs.WellFormed.{IsWellFormed, HasDistinctEntities}
+use Rattle.p21_schemas.proofs.OwnPlaces.{own_places-has}
 
 -- values are the same list where they are as many and each is the same
 Values-same : (vs ws : Values) → count vs ≡ count ws → ((i : ℕ) → i < count vs → (v : Value) × (value_at vs i ≡ Some v) × (value_at ws i ≡ Some v)) → vs ≡ ws
@@ -44,20 +45,6 @@ zip-same R (e ∷ es) (y ∷ ys) [] all all_ same = absurd all_
 zip-same R (e ∷ es) (y ∷ ys) (z ∷ zs) all all_ same =
     ap (λ x. x ∷ ys) (same e y z (Contains-first (e, y) (zip es ys)) (Contains-first (e, z) (zip es zs)))
     ∙ ap (λ xs. z ∷ xs) (zip-same R es ys zs all.1 all_.1 (λ f v w among among_. same f v w (Contains-later (e, y) (zip es ys) (f, v) among) (Contains-later (e, z) (zip es zs) (f, w) among_)))
-
-Contains-numbered : (e : ℕ) (attributes : List Attribute) (n i : ℕ) → i < length attributes → Contains {X = Place} (map (λ p. record { entity = e; index = p.0 }) (enumerate_from n attributes)) (record { entity = e; index = n + i })
-Contains-numbered e [] n i below = absurd (omega (arith, below))
-Contains-numbered e (a ∷ rest) n zero below = let same : n ≡ n + 0 = omega arith in (0, omega arith, ap (λ k. record { entity = e; index = k }) same)
-Contains-numbered e (a ∷ rest) n (suc i) below =
-    let same : n + 1 + i ≡ n + suc i = omega arith in
-    let P : ℕ → Type 0 = λ k. Contains {X = Place} (map (λ p. record { entity = e; index = p.0 }) (enumerate_from (n + 1) rest)) (record { entity = e; index = k }) in
-    Contains-later _ _ _ (subst P same (Contains-numbered e rest (n + 1) i (omega (arith, below))))
-
-Contains-own_place : (s : Schema) (e i : ℕ) → i < length (attributes_of s e) → Contains (own_places s e) (record { entity = e; index = i })
-Contains-own_place s e i below =
-    let same : 0 + i ≡ i = omega arith in
-    let P : ℕ → Type 0 = λ k. Contains (own_places s e) (record { entity = e; index = k }) in
-    subst P same (Contains-numbered e (attributes_of s e) 0 i below)
 
 pub EntityNamed-one : (s : Schema) (e : ℕ) (n m : List ℕ) → EntityNamed s e n → EntityNamed s e m → n ≡ m
 EntityNamed-one s e n m (x, at, is) (y, at_, is_) = let h : x ≡ y = (let k : Some x ≡ Some y = sym at ∙ at_ in cc) in sym is ∙ ap (λ z. z.name) h ∙ is_
@@ -180,9 +167,9 @@ values-agree s formed kinds others (simple part) a b same means means_ e i among
     let P : ℕ → Type 0 = λ x. FitPlaces s others b (places s x) part.params in
     let in_order : Contains (order s means.entity) e = order-has s formed.supertypes_are formed.supertypes_end means.entity e ((means.closure e).0 among) in
     FitPlaces-agree s formed kinds others a b same (places s means.entity) part.params (record { entity = e; index = i }) means.fit (subst P one_entity means_.fit)
-    (Contains-flat_map (own_places s) (order s means.entity) e (record { entity = e; index = i }) in_order (Contains-own_place s e i below))
+    (Contains-flat_map (own_places s) (order s means.entity) e (record { entity = e; index = i }) in_order (own_places-has s e i below))
 values-agree s formed kinds others (complex parts) a b same means means_ e i among below =
-    parts-agree s formed kinds others a b same parts means.entities means_.entities e (record { entity = e; index = i }) means.parts_mean means_.parts_mean ((means.same_entities e).1 among) (Contains-own_place s e i below)
+    parts-agree s formed kinds others a b same parts means.entities means_.entities e (record { entity = e; index = i }) means.parts_mean means_.parts_mean ((means.same_entities e).1 among) (own_places-has s e i below)
 
 -- under a declared schema a record has one meaning at most, whatever the sets of the instances
 pub RecordMeans-one : (s : Schema) → IsWellFormed s → (kinds others : Kinds) (r : Record) (a b : Typed) → RecordMeans s kinds r a → RecordMeans s others r b → a ≡ b

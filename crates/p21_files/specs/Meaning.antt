@@ -2,10 +2,7 @@
 -- mapping; ISO 10303-11, Subtypes and supertypes: abstract entities).
 use Rattle.std.specs.Prelude.{◌≡◌, ℕ, ◌<◌, ◌↔◌, List, [], ◌∷◌, length, Some, Contains, nat_eq}
 use Rattle.std.specs.List.{AllZip, IsDistinct, zip, AllByRecursion as Each}
-use Rattle.std.specs.List.Sorted.{IsStrictlySortedBy}
-use Rattle.std.specs.Ordering.{nat_cmp}
-use Rattle.std.specs.Cmp.Lexicographic.{slice_cmp}
-use Rattle.p21_schemas.specs.Schema.{Schema, Place, EntityNamed, IsAbstract, attributes_of}
+use Rattle.p21_schemas.specs.Schema.{Schema, Place, EntityNamed, IsAbstract, attributes_of, AreRisingByName}
 use Rattle.p21_schemas.specs.Supertype.{IsA, InClosure, IsLeaf}
 use Rattle.p21_schemas.specs.OneOf.{Clashes}
 use Rattle.p21_schemas.specs.Order.{places, own_places}
@@ -69,10 +66,6 @@ abbrev pub MeansByMapping : Schema → Kinds → Record → Typed → Type 0
 MeansByMapping s kinds (simple part) meaning = MeansInternal s kinds part meaning
 MeansByMapping s kinds (complex parts) meaning = MeansExternal s kinds parts meaning
 
--- byte by byte, each keyword is above the one before it
-abbrev pub AreKeywordsRising : Schema → List ℕ → Type 0
-AreKeywordsRising s entities = (names : List (List ℕ)) × AllZip (EntityNamed s) entities names × IsStrictlySortedBy (slice_cmp nat_cmp) names
-
 -- as many values as the entity has places of its own
 abbrev pub HasOwnCount : Schema → ℕ → Values → Type 0
 HasOwnCount s e vs = count vs ≡ length (attributes_of s e)
@@ -83,7 +76,7 @@ HasPlaceTypes s entities e = Each (λ place. ¬ TypeAt s entities place two_rede
 
 -- what the record of an instance means, where the sets of all instances are known
 pub record RecordMeans (s : Schema) (kinds : Kinds) (record_ : Record) (meaning : Typed) : Type 0 where
-  pub rising : AreKeywordsRising s meaning.entities
+  pub rising : AreRisingByName s meaning.entities
   pub own_counts : AllZip (HasOwnCount s) meaning.entities meaning.values
   pub no_abstract_leaf : (e : ℕ) → IsLeaf s meaning.entities e → ¬ IsAbstract s e
   pub no_clash : ¬ Clashes s meaning.entities

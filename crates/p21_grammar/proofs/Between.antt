@@ -4,6 +4,7 @@ use Rattle.std.proofs.lemmas.List.{append-nil}
 use Rattle.std.specs.Option.{is_some}
 use Rattle.std.specs.Prelude.{◌↔◌, IsTrue}
 use Rattle.std.specs.List.{flat_map, AllByRecursion as Each}
+use Rattle.std.proofs.lemmas.Grind.{flat_map-append}
 use Rattle.p21_basics.specs.History.{first_refusal}
 use Rattle.p21_exchange.proofs.Semicolons.{Each-append, statements-end}
 use Rattle.p21_exchange.specs.DataSection.{unnamed, named}
@@ -13,7 +14,7 @@ use Rattle.p21_exchange.specs.Record.{Record}
 use Rattle.p21_exchange.specs.Statement.{Statement, begin, header_start, section_end, data_start, finish, statement_tokens}
 use Rattle.p21_exchange.specs.Token.{Token, left}
 use Rattle.p21_grammar.proofs.Holding.{held_at, history-ran, walk-append}
-use Rattle.p21_grammar.proofs.Theorems.{given_first, begin_file, flat_map-append}
+use Rattle.p21_grammar.proofs.Theorems.{given_first, begin_file}
 use Rattle.p21_grammar.proofs.Walks.{unnamed-walk, named-walk, instances-sound}
 use Rattle.p21_grammar.specs.Between.{IsBetweenInstances, instances_of, StandsForMore}
 use Rattle.p21_grammar.specs.Held.{Held}

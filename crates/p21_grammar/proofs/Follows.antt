@@ -6,7 +6,7 @@ use Rattle.std.proofs.lemmas.Slice.Eq.{bytes_eq-Decides}
 use Rattle.std.specs.Prelude.{if◌then◌else◌, nat_lt, codes}
 use Rattle.std.specs.List.{flat_map, AllByRecursion as Each}
 use Rattle.std.specs.Str.{bytes_eq}
-use Rattle.p21_exchange.specs.DataSection.{unnamed}
+use Rattle.p21_exchange.specs.DataSection.{unnamed, heading_of}
 use Rattle.p21_exchange.specs.Grammar.{IsShallowPart}
 use Rattle.p21_exchange.specs.Nesting.{depth, params_depth}
 use Rattle.p21_exchange.specs.Parameter.{Key, key_of, Param, dollar, star, whole, real, text, name, item, bits, list, typed, Params, no_params, param, key_token, param_tokens, params_tokens, more_tokens}
@@ -16,7 +16,7 @@ use Rattle.p21_exchange.specs.Token as token
 use Rattle.p21_exchange.specs.Token.{Token}
 use Rattle.p21_grammar_machine.specs.Machine.{Head, bare, simply, among, Opening, part_row, list_row, typed_row, Open, open_at, Spot, idle, line, named as name_taken, equal, inside, keyed, next, word, behind, record_end, instance_end, Move, go, emit, refuse, ended, step, push, pushed, put, enter, close, close_typed, close_empty, closed_part, comma, at_next, at_keyed, end_keyword, end_heading, end_record, at_idle}
 use Rattle.p21_grammar_machine.specs.Place.{is_in_header, after, after_heading}
-use Rattle.p21_grammar_machine.specs.Shape.{is_key, is_heading, heading_of}
+use Rattle.p21_grammar_machine.specs.Shape.{is_key, is_heading}
 use Rattle.p21_grammar_machine.specs.declared.fault.GrammarFault.{GrammarFault}
 use Rattle.p21_grammar_machine.specs.declared.fault.GrammarFault.TheVariants.{Unexpected, TooDeep, LeftOut, SectionShape}
 use Rattle.p21_tokens_automaton.specs.declared.mode.Absent.TheVariants.{UserKeyword}
@@ -24,6 +24,7 @@ use Rattle.p21_grammar_machine.specs.declared.place.Place.{Place}
 use Rattle.p21_grammar_machine.specs.declared.place.Place.TheVariants.{Start, Begun, Description, FileName, FileSchema, Further, Headed, Unnamed, Named, BehindUnnamed, BehindNamed, Ended}
 use Rattle.p21_grammar.proofs.Shapes.{key-is, heading-tokens}
 use Rattle.p21_grammar.specs.Runs.{ready_tokens, head_tokens, opening_tokens, row_tokens, stack_tokens, filled_tokens, pending}
+use Rattle.p21_basics.proofs.Members.{Each-append}
 
 -- where a parameter may begin: a typed parameter has none yet
 abbrev pub IsReady : Open → Type 0
@@ -104,10 +105,6 @@ flat_map-push : {A B : Type 0} (f : A → List B) (xs : List A) (x : A) → flat
 flat_map-push f [] x = append-nil (f x)
 flat_map-push f (y ∷ xs) x = ap (λ z. f y ++ z) (flat_map-push f xs x) ∙ sym (append_assoc (f y) (flat_map f xs) (f x))
 
-Each-push : {A : Type 0} (P : A → Type 0) (xs : List A) (x : A) → Each P xs → P x → Each P (xs ++ x ∷ [])
-Each-push P [] x all p = (p, tt)
-Each-push P (y ∷ xs) x all p = (all.0, Each-push P xs x all.1 p)
-
 -- ---- parameters
 
 pushed-filled : (row : Open) (q : Param) → IsReady row → IsFilled (pushed row q)
@@ -160,7 +157,7 @@ part-follows : (p : Place) (h : Head) (part : Part) (tokens : List Token) → Is
 part-follows p bare part tokens head shallow e = (shallow, e)
 part-follows p (simply n) part tokens head shallow e = ((omega arith, (shallow, tt)), e)
 part-follows p (among n parts) part tokens head shallow e =
-    (Each-push IsShallowPart parts part head shallow, e ∙ ap (λ z. token.name n ∷ token.equals ∷ token.left ∷ z) (sym (flat_map-push part_tokens parts part)))
+    (Each-append IsShallowPart parts (part ∷ []) head (shallow, tt), e ∙ ap (λ z. token.name n ∷ token.equals ∷ token.left ∷ z) (sym (flat_map-push part_tokens parts part)))
 
 close_typed-follows : (p : Place) (k : Key) (ps : Params) (row : Open) (st : List Open) (h : List Token) → params_depth ps + suc (length st) ≤ 64 → IsReady row → IsNested row st
     → h ≡ ((stack_tokens st ++ row_tokens row) ++ key_token k ∷ token.left ∷ params_tokens ps) ++ token.right ∷ [] → Follows (close_typed p (row ∷ st) k ps) h

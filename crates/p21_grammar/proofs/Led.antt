@@ -6,7 +6,7 @@ use Rattle.std.specs.Prelude.{if◌then◌else◌, nat_lt, codes}
 use Rattle.std.specs.List.{flat_map, AllByRecursion as Each}
 use Rattle.std.specs.Str.{bytes_eq}
 use Rattle.p21_exchange.proofs.Semicolons.{Each-append}
-use Rattle.p21_exchange.specs.DataSection.{unnamed, named}
+use Rattle.p21_exchange.specs.DataSection.{unnamed, named, heading_of}
 use Rattle.p21_exchange.specs.Grammar.{IsNoUserKeyword}
 use Rattle.p21_exchange.specs.Header.{IsNoName}
 use Rattle.p21_exchange.specs.OpenNesting.{IsNoSemicolon}
@@ -17,7 +17,7 @@ use Rattle.p21_exchange.specs.Token as token
 use Rattle.p21_exchange.specs.Token.{Token}
 use Rattle.p21_grammar_machine.specs.Machine.{depth_of, left_out_in, other_section, behind_end, Head, bare, simply, among, Opening, part_row, list_row, typed_row, Open, open_at, Spot, idle, line, named as name_taken, equal, inside, keyed, next, word, behind, record_end, instance_end, Move, go, emit, refuse, ended, step, put, put_back, enter, close, close_typed, close_empty, comma, at_next, close_records, at_keyed, end_keyword, end_heading, end_record, at_idle}
 use Rattle.p21_grammar_machine.specs.Place.{is_in_header, is_in_data, shaped, after, after_heading, then_walk, walk}
-use Rattle.p21_grammar_machine.specs.Shape.{is_key, is_heading, heading_of, is_file_description, is_file_name, is_file_schema, is_further}
+use Rattle.p21_grammar_machine.specs.Shape.{is_key, is_heading, is_file_description, is_file_name, is_file_schema, is_further}
 use Rattle.p21_grammar_machine.specs.declared.fault.GrammarFault.{GrammarFault}
 use Rattle.p21_grammar_machine.specs.declared.fault.GrammarFault.TheVariants.{Unexpected, TooDeep, EndsEarly, AfterEnd, LeftOut, SectionShape}
 use Rattle.p21_tokens_automaton.specs.declared.mode.Absent.TheVariants.{UserKeyword, Anchor, Reference, Signature, SecondSection}

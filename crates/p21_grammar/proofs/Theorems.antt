@@ -2,6 +2,7 @@
 use Rattle.std.proofs.Common.{◌≡◌, ℕ, List, [], ◌∷◌, ◌++◌, Option, Some, None, Ok, refl, ap, sym, ◌∙◌, append_assoc}
 use Rattle.std.proofs.lemmas.List.{append-nil}
 use Rattle.std.specs.List.{flat_map, AllByRecursion as Each}
+use Rattle.std.proofs.lemmas.Grind.{flat_map-append}
 use Rattle.p21_exchange.specs.Grammar.{IsFile}
 use Rattle.p21_exchange.specs.Statement.{Statement, statement_tokens}
 use Rattle.p21_exchange.specs.Structure.{Structure, statements, tokens_of}
@@ -80,10 +81,6 @@ module _ (h : List Token) (es : List Statement) (p : Place) (sp : Spot) (ran : r
   at_end structure text is same =
       let e : Some (out es p sp) ≡ Some (out (statements structure) Ended idle) = sym ran ∙ ap (λ z. run z Start idle) (sym same) ∙ file-run structure text is in
       (ap place_by e, ap spot_by e)
-
-pub flat_map-append : {A B : Type 0} (f : A → List B) (xs ys : List A) → flat_map f (xs ++ ys) ≡ flat_map f xs ++ flat_map f ys
-flat_map-append f [] ys = refl
-flat_map-append f (x ∷ xs) ys = ap (λ z. f x ++ z) (flat_map-append f xs ys) ∙ sym (append_assoc (f x) (flat_map f xs) (flat_map f ys))
 
 -- the tokens of statements that lead somewhere begin those of a file
 pub begin_file : (h : List Token) (es : List Statement) (p : Place) → h ≡ flat_map statement_tokens es → walk es Start ≡ Ok p → Each IsSound es → BeginsFile h es

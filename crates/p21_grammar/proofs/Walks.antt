@@ -224,9 +224,6 @@ part-back Further part q ss e sound t =
     header-back part ss (λ parts next. (further-is part is.test sound.1, next)) sound.0 (subst (λ z. IsTail z ss) (sym is.leads) t)
 part-back other part q ss e sound t = absurd cc
 
-one_section : Heading → List (ℕ × Record) → DataSection
-one_section heading is = record { heading = heading; instances = is }
-
 unnamed-back : (ss : List Statement) → IsUnnamedTail ss → IsHeadedTail (section (data_start unnamed) ∷ ss)
 unnamed-back ss t = record {
   sections = record { heading = unnamed; instances = t.instances } ∷ [];

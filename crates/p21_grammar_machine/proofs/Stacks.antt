@@ -1,6 +1,6 @@
 -- Open rows of parameters, as they lie in memory.
 use Rattle.std.proofs.Common.{◌≡◌, ◌+◌, ◌<◌, List, [], ◌∷◌, ◌++◌, length, refl, ap, arith}
-use Rattle.p21_exchange.specs.Parameter.{no_params, param}
+use Rattle.p21_exchange.specs.Parameter.{param}
 use Rattle.p21_grammar_tree.specs.declared.param.Param.{Param}
 use Rattle.p21_grammar_tree.specs.declared.record.Part.{Part}
 use Rattle.p21_grammar_tree.specs.View.{view, views, part_view, part_views}
@@ -38,10 +38,6 @@ views-push (q ∷ ps) p = ap (param (view q)) (views-push ps p)
 pub parts-push : (ps : List Part) (p : Part) → part_views (ps ++ p ∷ []) ≡ part_views ps ++ part_view p ∷ []
 parts-push [] p = refl
 parts-push (q ∷ ps) p = ap (λ z. part_view q ∷ z) (parts-push ps p)
-
-pub views-empty : (ps : List Param) → length ps ≡ 0 → views ps ≡ no_params
-views-empty [] h = refl
-views-empty (p ∷ ps) h = absurd (omega (arith, h))
 
 -- a typed parameter with more than one parameter; a parenthesis behind a comma
 pub typed-more : (at_place : Place) (st : List Open) (k : Key) (all rest : List Param) (p : Param) → all ≡ rest ++ p ∷ [] → 0 < length rest → close_typed at_place st k (views all) ≡ refuse Unexpected

@@ -1,7 +1,7 @@
 -- What a parser does with a token, over trees of the definitions: for private clauses.
 use Rattle.std.specs.Prelude.{◌≡◌, ◌≢◌, ℕ, Bool, true, false, if◌then◌else◌, nat_lt, List, [], ◌∷◌, ◌++◌, length, Option, Some, None, Result, Ok, Err, codes}
 use Rattle.std.specs.Str.{bytes_eq}
-use Rattle.p21_exchange.specs.DataSection.{unnamed}
+use Rattle.p21_exchange.specs.DataSection.{unnamed, heading_of}
 use Rattle.p21_exchange.specs.Parameter.{Key, key_of, Param, dollar, star, whole, real, text, name, item, bits, list, typed, Params, no_params, param}
 use Rattle.p21_exchange.specs.Record.{Part, Record, simple, complex}
 use Rattle.p21_exchange.specs.Statement.{SectionLine, Statement, section, header, instance, begin, header_start, section_end, data_start, finish}
@@ -10,7 +10,7 @@ use Rattle.p21_exchange.specs.Token.{Token}
 use Rattle.p21_grammar_tree.specs.View.{key_view, part_view, part_views, record_view, views}
 use Rattle.p21_tokens_automaton.specs.declared.mode.Absent.TheVariants as absent
 use Rattle.p21_grammar_machine.specs.Place.{after, after_heading, is_in_header, is_in_data}
-use Rattle.p21_grammar_machine.specs.Shape.{is_heading, is_key, heading_of}
+use Rattle.p21_grammar_machine.specs.Shape.{is_heading, is_key}
 use Rattle.p21_grammar_machine.specs.Statements.{line_of, statement_of}
 use Rattle.p21_grammar_machine.specs.declared.event.Event.{Event}
 use Rattle.p21_grammar_machine.specs.declared.fault.GrammarFault.{GrammarFault}

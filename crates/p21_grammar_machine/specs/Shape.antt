@@ -1,7 +1,6 @@
 -- Tests of the records of the header section, and of the beginning of a data section with a name.
 use Rattle.std.specs.Prelude.{ℕ, Bool, true, false, ◌&&◌, not, if◌then◌else◌, List, [], ◌∷◌, codes}
 use Rattle.std.specs.Str.{bytes_eq}
-use Rattle.p21_exchange.specs.DataSection.{Heading, unnamed, named}
 use Rattle.p21_exchange.specs.Header.{HeaderType, string, strings}
 use Rattle.p21_exchange.specs.Parameter.{Key, Param, dollar, text, list, Params, no_params, param}
 use Rattle.p21_exchange.specs.Record.{Part}
@@ -70,8 +69,3 @@ is_further part = not (is_key (codes "FILE_DESCRIPTION") part.key) && (not (is_k
 
 abbrev pub is_heading : Part → Bool
 is_heading part = is_key (codes "DATA") part.key && is_name_and_schema part.params
-
--- the name and the schema, where it has that shape
-abbrev pub heading_of : Params → Heading
-heading_of (param (text chars) (param (list (param (text schema) no_params)) no_params)) = named chars schema
-heading_of other = unnamed

@@ -1,5 +1,5 @@
 -- The trees of the definitions that the trees of the code stand for.
-use Rattle.std.specs.Prelude.{List, [], ◌∷◌, map}
+use Rattle.std.specs.Prelude.{List, map}
 use Rattle.p21_exchange.specs.Parameter as meaning
 use Rattle.p21_exchange.specs.Record as meaning_record
 use Rattle.p21_grammar_tree.specs.declared.param.Key.{Key}
@@ -9,6 +9,7 @@ use Rattle.p21_grammar_tree.specs.declared.param.Params.{Params, Params-F}
 use Rattle.p21_grammar_tree.specs.declared.record.Part.{Part}
 use Rattle.p21_grammar_tree.specs.declared.record.Record.{Record}
 use Rattle.p21_grammar_tree.specs.declared.record.Record.TheVariants.{Simple, Complex}
+use Rattle.p21_exchange.specs.Parameter.{params_of}
 
 abbrev pub key_view : Key → meaning.Key
 key_view key = record { user = key.user; word = key.word }
@@ -16,11 +17,6 @@ key_view key = record { user = key.user; word = key.word }
 -- the parameters, one by one
 abbrev pub items_of : Params → List Param
 items_of ps = ps.all.items
-
--- parameters in a row
-abbrev pub params_of : List meaning.Param → meaning.Params
-params_of [] = meaning.no_params
-params_of (p ∷ ps) = meaning.param p (params_of ps)
 
 -- one level, in which the parameters inside are trees of the definitions already
 abbrev pub view_step : Param-F meaning.Param meaning.Params → meaning.Param

@@ -8,7 +8,7 @@ use Rattle.p21_grammar_tree.specs.View.{items_of, part_view}
 use Rattle.p21_files.specs.Reference as reference
 use Rattle.p21_files.specs.Value as meant
 use Rattle.p21_grammar_tree.specs.declared.param.Param.{Param as Parameter}
-use Rattle.p21_mapping.proofs.RowLists.{listed-params, row-left}
+use Rattle.p21_mapping.proofs.RowLists.{row-left}
 use Rattle.p21_mapping.specs.Rows.{FitsHere, RefusesHere, RowSoFar, param_views}
 use Rattle.p21_mapping_fit.specs.Outcome.{FitsPlaceOrBreaks, needs_view}
 use Rattle.p21_mapping_values.specs.declared.fault.CheckFault.{CheckFault}
@@ -18,6 +18,7 @@ use Rattle.p21_mapping_values.specs.TypedView.{need_view}
 use Rattle.p21_mapping_values.specs.View.{view}
 use Rattle.p21_schemas.specs.PlaceType.{PlaceType, TypeAt}
 use Rattle.p21_schemas.specs.Schema.{Schema, Place, attributes_of}
+use Rattle.p21_exchange.proofs.Parameters.{listed-params}
 
 pub here : (s : Schema) (entities : List ℕ) (place : Place) (at : PlaceType) (p : Param) (old new : List Need) (result : Result Value CheckFault) → TypeAt s entities place at → FitsPlaceOrBreaks s at p old result new
     → MatchResult result (λ found. FitsHere s entities place p (view found) (needs_view old) (needs_view new)) (RefusesHere s entities place p)

@@ -9,7 +9,7 @@ use Rattle.p21_exchange.specs.Parameter.{Param, listed}
 use Rattle.p21_exchange.specs.Record.{Part, Record, simple, complex}
 use Rattle.p21_express_tables.specs.Lookups.{AreEntities}
 use Rattle.p21_files.specs.BrokenRule.{Breaks, at_place}
-use Rattle.p21_files.specs.Meaning.{AreKeywordsRising, HasPlaceTypes}
+use Rattle.p21_files.specs.Meaning.{HasPlaceTypes}
 use Rattle.p21_files.specs.RecordPlaces.{StandsAt}
 use Rattle.p21_files.specs.Reference.{Need}
 use Rattle.p21_mapping.specs.Arranged.{HasRows}
@@ -20,9 +20,9 @@ use Rattle.p21_mapping_values.specs.Fault.{fault_number}
 use Rattle.p21_mapping_values.specs.declared.value.Values.{Values as Stored}
 use Rattle.p21_mapping_values.specs.TypedView.{rows_view}
 use Rattle.p21_schemas.specs.Order.{own_places}
-use Rattle.p21_schemas.specs.Schema.{Schema, Place, EntityNamed}
+use Rattle.p21_schemas.specs.Schema.{Schema, Place, EntityNamed, AreRisingByName}
 
-pub rising-within : (s : Schema) (es : List ℕ) → AreKeywordsRising s es → AreEntities s es
+pub rising-within : (s : Schema) (es : List ℕ) → AreRisingByName s es → AreEntities s es
 rising-within s es (names, named, rises) e among = let (name, there, (x, at, is)) = AllZip-member (EntityNamed s) es names e named among in slice_get_within s.entities e x at
 
 pub listed-within : (s : Schema) (r : Record) (es entities : List ℕ) → HasShape s r es entities → AreEntities s es

@@ -3,18 +3,17 @@ use Rattle.std.specs.Prelude.{◌≡◌, ℕ, zero, suc, ◌+◌, ◌-◌, ◌<�
 use Rattle.std.specs.List.{AllByRecursion as Each, flat_map, zip}
 use Rattle.std.proofs.Common.{arith, ap, sym, ◌∙◌, subst, append_assoc}
 use Rattle.std.proofs.lemmas.List.{append-nil, map-append, length-append}
+use Rattle.std.proofs.lemmas.Grind.{flat_map-append}
 use Rattle.p21_basics.proofs.Members.{Contains-first, Contains-later, Each-append}
 use Rattle.p21_claim_values.specs.Needs.{FitPlacesWith, PartsNeed}
-use Rattle.p21_exchange.specs.Parameter.{Param, Params, no_params, param, listed}
+use Rattle.p21_exchange.specs.Parameter.{Param, Params, param, listed, params_of}
 use Rattle.p21_exchange.specs.Record.{Part}
 use Rattle.p21_express_tables.specs.Lookups.{places_from}
 use Rattle.p21_express_tables.proofs.Lookups.{own-places-are, places-more}
 use Rattle.p21_files.specs.Meaning.{Typed, HasValues}
 use Rattle.p21_files.specs.Reference.{Need}
 use Rattle.p21_files.specs.Value.{Value, Values, count, value_at}
-use Rattle.p21_grammar_tree.specs.View.{params_of}
 use Rattle.p21_mapping.specs.Rows.{Fitted, IsFitted, FitsHere, FitsRow, Row, IsRow, FitsRows, RowSoFar, TakesRow}
-use Rattle.p21_mapping_sets.proofs.Rows.{flat_map-append}
 use Rattle.p21_mapping_sets.proofs.Shapes.{own-count}
 use Rattle.p21_mapping_sets.specs.Shape.{AreNamed}
 use Rattle.p21_mapping_text.specs.KnownTypes.{HaveKnownTypes}
@@ -22,6 +21,7 @@ use Rattle.p21_mapping_values.specs.View.{in_row}
 use Rattle.p21_schemas.specs.Order.{own_places}
 use Rattle.p21_schemas.specs.PlaceType.{TypeAt}
 use Rattle.p21_schemas.specs.Schema.{Schema, Place, attributes_of}
+use Rattle.p21_exchange.proofs.Parameters.{params-listed}
 
 -- ---- rows that grow
 
@@ -128,14 +128,6 @@ pub rows-joined : (s : Schema) (m : Typed) (rows : List Row) → Each (IsRow s m
     → FitPlacesWith s m (flat_map (own_places s) (map (λ (row : Row). row.owner) rows)) (params_of (flat_map (λ (ps : List Param). ps) (map (λ (row : Row). row.params) rows))) (flat_map (λ (row : Row). row.needs) rows)
 rows-joined s m [] each has = refl
 rows-joined s m (row ∷ rows) each has = fit-joined s m (own_places s row.owner) _ row.params _ row.needs _ (row-fits s m row each.0 has.0) (rows-joined s m rows each.1 has.1)
-
-pub params-listed : (ps : Params) → params_of (listed ps) ≡ ps
-params-listed no_params = refl
-params-listed (param p ps) = ap (param p) (params-listed ps)
-
-pub listed-params : (ps : List Param) → listed (params_of ps) ≡ ps
-listed-params [] = refl
-listed-params (p ∷ ps) = ap (λ qs. p ∷ qs) (listed-params ps)
 
 -- in external mapping each simple record has a row
 pub rows-parts : (s : Schema) (m : Typed) (parts : List Part) (rows : List Row) → Each (IsRow s m.entities) rows → HaveValues m rows → AreNamed s parts (map (λ (row : Row). row.owner) rows) → map (λ (row : Row). row.params) rows ≡ map (λ (part : Part). listed part.params) parts

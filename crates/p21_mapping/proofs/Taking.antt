@@ -3,6 +3,8 @@ use Rattle.std.specs.Prelude.{◌≡◌, ℕ, zero, suc, ◌+◌, ◌-◌, ◌<�
 use Rattle.std.specs.List.{AllByRecursion as Each, flat_map, zip}
 use Rattle.std.proofs.Common.{arith, ap, sym, ◌∙◌, subst, inl, inr, append_assoc, get_or}
 use Rattle.std.proofs.lemmas.List.{append-nil, map-append, length-append, take-append-drop, take_all}
+use Rattle.std.proofs.lemmas.Grind.{flat_map-append}
+use Rattle.std.proofs.lemmas.Slice.Zip.{AllZip-long}
 use Rattle.p21_basics.proofs.Members.{Contains-none, Contains-later, Contains-cases, Contains-found}
 use Rattle.p21_exchange.specs.Parameter.{Param, listed}
 use Rattle.p21_exchange.specs.Record.{Part, complex}
@@ -15,7 +17,7 @@ use Rattle.p21_files.specs.Reference.{Need}
 use Rattle.p21_files.specs.Value.{Value, Values}
 use Rattle.p21_mapping.specs.Rows.{Row, IsRow, FitsRows, TakesRow, TakesRows, TakesParts, BreaksAmong}
 use Rattle.p21_mapping.proofs.RowLists.{rows-none, rows-push, row-long}
-use Rattle.p21_mapping_sets.proofs.Rows.{flat_map-more, flat_map-front, AllZip-at_both, AllZip-length, mapped-at, flat_map-append}
+use Rattle.p21_mapping_sets.proofs.Rows.{flat_map-more, flat_map-front, AllZip-at_both, mapped-at}
 use Rattle.p21_mapping_sets.proofs.Shapes.{own-count}
 use Rattle.p21_mapping_sets.specs.Shape.{AreNamed}
 use Rattle.p21_mapping_values.specs.declared.value.Values.{Values as Stored}
@@ -177,7 +179,7 @@ module _ (s : Schema) (entities : List ℕ) (owners : List EntityId) where
 
   module _ (before : List Part) (named : AreNamed s before (numbers owners)) where
     long : length before ≡ length owners
-    long = AllZip-length (λ (part : Part) e. NamesEntity s part.key e) before (numbers owners) named ∙ numbers-long
+    long = sym (AllZip-long (λ (part : Part) e. NamesEntity s part.key e) before (numbers owners) named) ∙ numbers-long
 
     -- a simple record is left for each entity that is left
     pub parts-room : (k : ℕ) (now : List Part) (rows : List Values) (old new : List Need) → k < length owners → TakesParts s entities (numbers (take k owners)) before now rows old new → length now ≡ 0 → ⊥

@@ -6,7 +6,7 @@ use Rattle.p21_basics.proofs.Members.{Contains-none, Contains-first, Contains-la
 use Rattle.p21_basics.proofs.Shuffles.{NoneTwice, distinct-none_twice, zip-one}
 use Rattle.p21_claim_values.proofs.Needs.{means-served, needs-can_be_served, needs-references, served-means, served-places}
 use Rattle.p21_claim_values.specs.Needs.{FitPlacesWith, PartsNeed, RecordNeeds, MeansWith}
-use Rattle.p21_exchange.specs.Parameter.{Param, Params}
+use Rattle.p21_exchange.specs.Parameter.{Param, Params, params_of}
 use Rattle.p21_exchange.specs.Record.{Part, Record, simple, complex}
 use Rattle.p21_express_tables.specs.Resolved.{HoldsTogether}
 use Rattle.p21_express_tables.proofs.OrderTables.{order-tells}
@@ -15,11 +15,10 @@ use Rattle.p21_files.proofs.OneMeaning.{NamesEntity-one, RecordMeans-one}
 use Rattle.p21_files.specs.Meaning.{Typed, HasValues, HasOwnCount, FitPlaces, PartMeans, MeansByMapping}
 use Rattle.p21_files.specs.Reference.{Kinds, Need, IsServed}
 use Rattle.p21_files.specs.Value.{Values, count}
-use Rattle.p21_grammar_tree.specs.View.{params_of}
 use Rattle.p21_mapping.specs.Arranged.{AreArranged, AreCut, HasRows}
 use Rattle.p21_mapping.specs.Checked.{IsChecked, IsRefused}
 use Rattle.p21_mapping.specs.Rows.{Row, IsRow, FitsRows}
-use Rattle.p21_mapping.proofs.RowLists.{HaveValues, row-count, row-known, rows-joined, rows-parts, params-listed}
+use Rattle.p21_mapping.proofs.RowLists.{HaveValues, row-count, row-known, rows-joined, rows-parts}
 use Rattle.p21_mapping_sets.specs.Shape.{AreNamed, IsListed, HasShape, Refuses}
 use Rattle.p21_mapping_text.specs.KnownTypes.{HaveKnownTypes}
 use Rattle.p21_mapping_values.specs.declared.fault.CheckFault.{CheckFault}
@@ -32,6 +31,7 @@ use Rattle.p21_schemas.proofs.OrderedOnce.{order-distinct}
 use Rattle.p21_schemas.specs.Order.{order, places, own_places}
 use Rattle.p21_schemas.specs.Schema.{Schema, attributes_of}
 use Rattle.p21_schemas.specs.WellFormed.{IsWellFormed, HasDistinctEntities}
+use Rattle.p21_exchange.proofs.Parameters.{params-listed}
 
 pub listed-none_twice : (s : Schema) (r : Record) (es : List ℕ) → IsListed s r es → NoneTwice es
 listed-none_twice s (simple part) es (e, named, is) = let P : List ℕ → Type 0 = λ xs. NoneTwice xs in subst P (sym is) (distinct-none_twice (order s e) (order-distinct s e))

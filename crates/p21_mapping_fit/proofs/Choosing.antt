@@ -1,36 +1,34 @@
 -- What a base has for a name and for a keyword.
-use Rattle.std.proofs.Common.{◌≡◌, ◌≢◌, ◌∙◌, ◌↔◌, sym, ap, refl, subst, ℕ, ◌<◌, ◌^◌, Bool, true, false, List, [], ◌∷◌, ◌++◌, Result, Ok, Err, IsTrue, Option, Some, None}
+use Rattle.std.proofs.Common.{◌≡◌, ◌∙◌, sym, ap, subst, ℕ, ◌<◌, ◌^◌, List, [], ◌∷◌, ◌++◌, Ok, Err, Some, None}
 use Rattle.std.proofs.lemmas.Option.{slice_get_within}
 use denote.Ref.{Bor}
 use Rattle.p21_canon_tokens.proofs.SpelledScalars.{name-spelled}
-use Rattle.p21_claim_values.proofs.OfType.{OfType, of_entity, of_chosen_instance, of_chosen_type, offers-select}
-use Rattle.p21_claim_values.specs.Needs.{FitsWith, with_instance, with_chosen_instance, with_chosen_type}
-use Rattle.p21_exchange.specs.Keyword.{IsKeyword}
+use Rattle.p21_claim_values.proofs.OfType.{of_entity, of_chosen_instance, offers-select}
+use Rattle.p21_claim_values.specs.Needs.{with_instance, with_chosen_instance}
 use Rattle.p21_exchange.specs.Parameter as parameter
-use Rattle.p21_exchange.specs.Parameter.{Param, Key, key_of}
+use Rattle.p21_exchange.specs.Parameter.{Param, Key}
 use Rattle.p21_express_tables.specs.Base.{IsBase}
 use Rattle.p21_express_tables.specs.declared.base.Base.{Base}
-use Rattle.p21_express_tables.specs.declared.base.Base.TheVariants.{Plain, Items, Select}
-use Rattle.p21_express_tables.specs.Resolved.{IsType, IsTypeUse}
+use Rattle.p21_express_tables.specs.declared.base.Base.TheVariants.{Plain, Select}
+use Rattle.p21_express_tables.specs.Resolved.{IsType}
 use Rattle.p21_express_types.specs.declared.kind.Member.{Member}
 use Rattle.p21_express_types.specs.declared.kind.Member.TheVariants as wanted
 use Rattle.p21_express_types.specs.declared.number.EntityId.{EntityId}
 use Rattle.p21_express_types.specs.declared.number.TypeId.{TypeId}
 use Rattle.p21_express_types.specs.declared.type_use.TypeUse as code
 use Rattle.p21_express_types.specs.Meaning.{type_use}
-use Rattle.p21_files.specs.ParameterKind.{TakesKind}
 use Rattle.p21_files.specs.Value as meant
 use Rattle.p21_mapping_fit.proofs.Outcomes.{broken, value-means}
-use Rattle.p21_mapping_fit.proofs.Taking.{TakesAt, TakesPlainly, base-takes}
-use Rattle.p21_mapping_fit.specs.Choosing.{Chooses, DecidesKey, DecidesName, IsBaseIn, Wants}
-use Rattle.p21_mapping_fit.specs.Outcome.{FitsFrom, FitsOrBreaks, IsKindFault}
+use Rattle.p21_mapping_fit.proofs.Taking.{TakesAt, base-takes}
+use Rattle.p21_mapping_fit.specs.Choosing.{DecidesKey, DecidesName, Wants}
+use Rattle.p21_mapping_fit.specs.Outcome.{FitsFrom, IsKindFault}
 use Rattle.p21_mapping_values.proofs.Views.{view-Reference}
 use Rattle.p21_mapping_values.specs.declared.fault.CheckFault.{CheckFault}
 use Rattle.p21_mapping_values.specs.declared.need.Need.{Need}
 use Rattle.p21_mapping_values.specs.declared.value.Value as value
 use Rattle.p21_schemas.specs.Schema as schema
 use Rattle.p21_schemas.specs.Schema.{Schema, TypeUse, Defined, entity_member, type_member, TypeNamed}
-use Rattle.p21_schemas.specs.Select.{IsSelect, Offers}
+use Rattle.p21_schemas.specs.Select.{Offers}
 use Rattle.p21_schemas.specs.WellFormed.{HasDistinctTypes}
 
 -- ---- names
@@ -54,10 +52,6 @@ name-at_select s base t same offers type is = subst (λ x. Wants s x (wanted.Def
 pub no_name : (s : Schema) (base : Base) (other : Base) → base ≡ other → ((n : ℕ) → TakesAt s other (parameter.name n) → ⊥) → DecidesName s base None
 no_name s base other same nowhere type n is takes = nowhere n (base-takes s type other (parameter.name n) (subst (IsBase s type) same is) takes)
 
-pub name-nowhere : (u : code.TypeUse) (n : ℕ) → ((e : EntityId) → u ≢ code.Entity e) → TakesPlainly (type_use u) (parameter.name n) → ⊥
-name-nowhere (code.Entity e) n not takes = not e refl
-name-nowhere other n not takes = takes
-
 -- the name of an instance, with what is needed
 pub name_at : (s : Schema) (base : Base) (n : ℕ) (member : Member) (old new : List Need) → DecidesName s base (Some member) → n < 2 ^ 64 → new ≡ old ++ record { target = n; wanted = member } ∷ [] → FitsFrom s base (parameter.name n) old (Ok (value.Reference n)) new
 name_at s base n member old new decides low same type is =
@@ -73,27 +67,8 @@ name_refused s base n fault old new decides is_fault type is = broken s type (pa
 
 -- ---- keywords
 
-pub key_chosen : (s : Schema) (base : Base) (t chosen : TypeId) (key : Key) (name : List ℕ) → base ≡ Select t → key ≡ key_of name → IsKeyword name → Offers s t.0 (type_member chosen.0) → TypeNamed s chosen.0 name → DecidesKey s base key (Some chosen)
-key_chosen s base t chosen key name same key_is keyword offers named type is =
-    record { select = t.0; type_is = (subst (IsBase s type) same is).0; name = name; key_is = key_is; keyword = keyword; offers = offers; named = named }
-
 pub no_key : (s : Schema) (base other : Base) (key : Key) → base ≡ other → ((p : Param) → TakesAt s other (parameter.typed key p) → ⊥) → DecidesKey s base key None
 no_key s base other key same nowhere type p is takes = nowhere p (base-takes s type other (parameter.typed key p) (subst (IsBase s type) same is) takes)
-
--- at what is no select
-pub no_key-other : (s : Schema) (base : Base) (key : Key) → ((t : TypeId) → base ≢ Select t) → DecidesKey s base key None
-no_key-other s (Plain b) key not = no_key s (Plain b) (Plain b) key refl (λ p takes. plain-no_key (type_use b.now) key p takes)
-  where
-    plain-no_key : (type : TypeUse) (k : Key) (p : Param) → TakesPlainly type (parameter.typed k p) → ⊥
-    plain-no_key schema.whole k p takes = takes
-    plain-no_key schema.real k p takes = takes
-    plain-no_key schema.number k p takes = takes
-    plain-no_key other k p takes = takes
-no_key-other s (Items words) key not = no_key s (Items words) (Items words) key refl (λ p takes. takes)
-no_key-other s (Select t) key not = absurd (not t refl)
-
-pub user-no_key : (s : Schema) (base : Base) (t : TypeId) (key : Key) → base ≡ Select t → key.user ≡ true → DecidesKey s base key None
-user-no_key s base t key same user = no_key s base (Select t) key same (λ p (u, name, key_is, offers, named). let h : true ≡ false = sym user ∙ ap (λ (k : Key). k.user) key_is in cc)
 
 pub unnamed-no_key : (s : Schema) (base : Base) (t : TypeId) (key : Key) → base ≡ Select t → ((u : ℕ) → TypeNamed s u key.word → ⊥) → DecidesKey s base key None
 unnamed-no_key s base t key same none = no_key s base (Select t) key same (λ p (u, name, key_is, offers, named). none u (subst (TypeNamed s u) (sym (ap (λ (k : Key). k.word) key_is)) named))
@@ -103,6 +78,3 @@ unoffered-no_key s distinct base t chosen key same named none = no_key s base (S
 
 pub named-known : (s : Schema) (t : ℕ) (name : List ℕ) → TypeNamed s t name → IsType s t
 named-known s t name (x, at, _) = slice_get_within s.types t x at
-
-pub base-known : (s : Schema) (base : Base) (t : TypeId) → base ≡ Select t → IsBaseIn s base → IsType s t.0
-base-known s base t same (type, known, is) = subst (IsTypeUse s) (subst (IsBase s type) same is).0 known

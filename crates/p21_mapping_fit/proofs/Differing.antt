@@ -9,9 +9,9 @@ use Rattle.p21_files.specs.SameValue.{Same, Among, here, there, AreDistinct}
 use Rattle.p21_files.specs.Value as meant
 use Rattle.p21_files.specs.Value.{Values, no_values, value, missing}
 use Rattle.p21_files.specs.ValueText.{value_text}
-use Rattle.p21_mapping_fit.specs.Present.{lengths_of, one, present_texts}
+use Rattle.p21_mapping_fit.specs.Present.{one, present_texts}
 use Rattle.p21_mapping_text.proofs.Elements.{pieces-joined}
-use Rattle.p21_mapping_text.specs.Pieces.{NoneTwice, joined, pieces}
+use Rattle.p21_mapping_text.specs.Pieces.{NoneTwice, joined, pieces, lengths_of}
 use Rattle.p21_mapping_values.specs.declared.value.Value.{Value}
 use Rattle.p21_mapping_values.specs.View.{in_row, view, views}
 use Rattle.p21_schemas.specs.Schema.{Schema, TypeUse}

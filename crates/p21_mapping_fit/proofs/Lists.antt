@@ -1,15 +1,12 @@
 -- The elements of a list, and the aggregate of their values.
-use Rattle.std.proofs.Common.{◌≡◌, ◌≢◌, ◌∙◌, ◌↔◌, sym, ap, refl, subst, inl, inr, ℕ, suc, ◌+◌, ◌⊎◌, Bool, true, false, List, [], ◌∷◌, ◌++◌, ◌<◌, ◌≤◌, get_or, length, map, reverse, Result, Ok, Err, Option, Some, None, IsTrue, Contains, Vec, Box, Global, append_assoc, rules, arith}
+use Rattle.std.proofs.Common.{◌≡◌, ◌≢◌, ◌∙◌, sym, ap, refl, subst, inl, inr, ℕ, suc, ◌+◌, ◌⊎◌, Bool, true, false, List, [], ◌∷◌, ◌++◌, ◌<◌, ◌≤◌, get_or, length, reverse, Ok, Err, Some, None, Contains, Vec, Box, Global, append_assoc, arith}
 use Rattle.std.proofs.lemmas.List.{append-nil, map-append, reverse-append, reverse-reverse}
-use Rattle.std.specs.List.{AllByRecursion as Each}
 use denote.Param.Weighed.{at_most, most}
 use denote.Ref.{Bor}
-use Rattle.p21_basics.proofs.Members.{Contains-none, Contains-first, Contains-later, Contains-cases}
+use Rattle.p21_basics.proofs.Members.{Contains-none, Contains-first, Contains-later, Contains-cases, some_pair_is}
 use Rattle.p21_claim_values.proofs.Needs.{assignment, each-servable, served-each}
 use Rattle.p21_claim_values.proofs.OfType.{OfType, EachOf, of_none, of_next, of_empty, of_array, of_list, of_set, of_bag, of_chosen_type, offers-select}
 use Rattle.p21_claim_values.specs.Needs.{FitsWith, FitEachWith, FitsAtWith, with_none, with_next, with_empty, with_dollar, with_fit, with_array, with_list, with_set, with_bag, with_chosen_type}
-use Rattle.p21_claim_values.specs.Written.{IsSpelled}
-use Rattle.p21_exchange.specs.Keyword.{IsKeyword}
 use Rattle.p21_exchange.specs.Parameter as parameter
 use Rattle.p21_exchange.specs.Parameter.{Param, Params, Key, no_params, param, listed, key_of}
 use Rattle.p21_express_tables.specs.Base.{IsBase}
@@ -19,18 +16,17 @@ use Rattle.p21_express_tables.specs.Resolved.{IsTypeUse, IsType}
 use Rattle.p21_express_types.specs.declared.number.TypeId.{TypeId}
 use Rattle.p21_express_types.specs.declared.type_use.TypeUse as code
 use Rattle.p21_express_types.specs.Meaning.{type_use}
-use Rattle.p21_files.specs.BrokenValue.{BreaksWithin, BreaksAtPlace, HasSameElements, IsLeftOut, out_of_bounds, not_distinct, itself, in_element, in_chosen, stored}
+use Rattle.p21_files.specs.BrokenValue.{BreaksWithin, BreaksAtPlace, out_of_bounds, not_distinct, in_element, in_chosen, stored}
 use Rattle.p21_files.specs.ParameterKind.{AllowsCount, IsUnique, element_type}
 use Rattle.p21_files.specs.Reference as reference
-use Rattle.p21_files.specs.SameValue.{AreDistinct}
 use Rattle.p21_files.specs.Value as meant
 use Rattle.p21_files.specs.Value.{Values, no_values, value, count}
 use Rattle.p21_grammar_tree.specs.declared.param.Param as tree
 use Rattle.p21_grammar_tree.specs.View as tree_view
 use Rattle.p21_mapping_fit.proofs.Taking.{TakesPlainly}
 use Rattle.p21_mapping_fit.specs.Aggregate.{aggregate_value}
-use Rattle.p21_mapping_fit.specs.Choosing.{Chooses, DecidesKey, IsBaseIn}
-use Rattle.p21_mapping_fit.specs.Outcome.{Answers, AreElementsOf, AreTyped, BreaksAmong, ElementOrBreaks, ElementsOrBreak, FitsFrom, FitsOrBreaks, Found, IsElementOf, IsKindFault, IsValueOf, KeepsUnique, needs_view}
+use Rattle.p21_mapping_fit.specs.Choosing.{DecidesKey, IsBaseIn}
+use Rattle.p21_mapping_fit.specs.Outcome.{AreElementsOf, BreaksAmong, FitsFrom, FitsOrBreaks, Found, IsElementOf, IsKindFault, IsValueOf, KeepsUnique, needs_view}
 use Rattle.p21_mapping_fit.proofs.Outcomes.{broken, value-means}
 use Rattle.p21_mapping_values.specs.Fault.{fault_number}
 use Rattle.p21_mapping_text.specs.KnownTypes.{HasKnownTypes, HaveKnownTypes}
@@ -41,10 +37,10 @@ use Rattle.p21_mapping_values.specs.declared.need.Need.{Need}
 use Rattle.p21_mapping_values.specs.declared.value.Value.{Value}
 use Rattle.p21_mapping_values.specs.declared.value.Value as code_value
 use Rattle.p21_mapping_values.specs.TypedView.{need_view}
-use Rattle.p21_mapping_values.specs.View.{in_row, view, views}
+use Rattle.p21_mapping_values.specs.View.{view, views}
 use Rattle.p21_schemas.specs.PlaceType.{stored_place}
 use Rattle.p21_schemas.specs.Schema as schema
-use Rattle.p21_schemas.specs.Schema.{Schema, TypeUse, type_member, TypeNamed}
+use Rattle.p21_schemas.specs.Schema.{Schema, TypeUse, type_member}
 
 -- ---- an element more
 
@@ -184,27 +180,24 @@ each-count s optional type ps vs needs (with_none _ _) = refl
 each-count s optional type ps vs needs (with_next _ _ p v ps_ vs_ first more fit each) = ap suc (each-count s optional type ps_ vs_ more each)
 each-count s optional type ps vs needs (with_empty _ ps_ vs_ _ each) = ap suc (each-count s true type ps_ vs_ needs each)
 
-parts : (o optional : Bool) (e element : TypeUse) → ◌≡◌ {A = Option (Bool × TypeUse)} (Some (o, e)) (Some (optional, element)) → (o ≡ optional) × (e ≡ element)
-parts o optional e element is = let q : ◌≡◌ {A = Bool × TypeUse} (o, e) (optional, element) = cc in (ap (λ (x : Bool × TypeUse). x.0) q, ap (λ (x : Bool × TypeUse). x.1) q)
-
 -- the aggregate of values that fit
 aggregate-fits : (s : Schema) (type : TypeUse) (optional : Bool) (element : TypeUse) (ps : Params) (vs : Values) (needs : List reference.Need) → element_type type ≡ Some (optional, element) → FitEachWith s optional element ps vs needs → AllowsCount type (count vs) → KeepsUnique type vs
     → FitsWith s type (parameter.list ps) (aggregate_value type vs) needs
 aggregate-fits s (schema.array low high o u e) optional element ps vs needs is each allowed unique =
-    let (eo, ee) = parts o optional e element is in with_array low high o u e ps vs needs (rw (eo, ee) each) allowed unique
+    let (eo, ee) = some_pair_is o optional e element is in with_array low high o u e ps vs needs (rw (eo, ee) each) allowed unique
 aggregate-fits s (schema.list low high u e) optional element ps vs needs is each allowed unique =
-    let (eo, ee) = parts false optional e element is in with_list low high u e ps vs needs (rw (eo, ee) each) allowed unique
+    let (eo, ee) = some_pair_is false optional e element is in with_list low high u e ps vs needs (rw (eo, ee) each) allowed unique
 aggregate-fits s (schema.set low high e) optional element ps vs needs is each allowed unique =
-    let (eo, ee) = parts false optional e element is in with_set low high e ps vs needs (rw (eo, ee) each) allowed (unique tt)
+    let (eo, ee) = some_pair_is false optional e element is in with_set low high e ps vs needs (rw (eo, ee) each) allowed (unique tt)
 aggregate-fits s (schema.bag low high e) optional element ps vs needs is each allowed unique =
-    let (eo, ee) = parts false optional e element is in with_bag low high e ps vs needs (rw (eo, ee) each) allowed
+    let (eo, ee) = some_pair_is false optional e element is in with_bag low high e ps vs needs (rw (eo, ee) each) allowed
 aggregate-fits s other optional element ps vs needs is each allowed unique = cc
 
 aggregate-of : (s : Schema) (type : TypeUse) (optional : Bool) (element : TypeUse) (vs : Values) → element_type type ≡ Some (optional, element) → EachOf s optional element vs → KeepsUnique type vs → OfType s type (aggregate_value type vs)
-aggregate-of s (schema.array low high o u e) optional element vs is each unique = let (eo, ee) = parts o optional e element is in of_array low high o u e vs (rw (eo, ee) each)
-aggregate-of s (schema.list low high u e) optional element vs is each unique = let (eo, ee) = parts false optional e element is in of_list low high u e vs (rw (eo, ee) each)
-aggregate-of s (schema.set low high e) optional element vs is each unique = let (eo, ee) = parts false optional e element is in of_set low high e vs (rw (eo, ee) each) (unique tt)
-aggregate-of s (schema.bag low high e) optional element vs is each unique = let (eo, ee) = parts false optional e element is in of_bag low high e vs (rw (eo, ee) each)
+aggregate-of s (schema.array low high o u e) optional element vs is each unique = let (eo, ee) = some_pair_is o optional e element is in of_array low high o u e vs (rw (eo, ee) each)
+aggregate-of s (schema.list low high u e) optional element vs is each unique = let (eo, ee) = some_pair_is false optional e element is in of_list low high u e vs (rw (eo, ee) each)
+aggregate-of s (schema.set low high e) optional element vs is each unique = let (eo, ee) = some_pair_is false optional e element is in of_set low high e vs (rw (eo, ee) each) (unique tt)
+aggregate-of s (schema.bag low high e) optional element vs is each unique = let (eo, ee) = some_pair_is false optional e element is in of_bag low high e vs (rw (eo, ee) each)
 aggregate-of s other optional element vs is each unique = cc
 
 aggregate-known : (s : Schema) (type : TypeUse) (vs : Values) → HaveKnownTypes s vs → HasKnownTypes s (aggregate_value type vs)
@@ -228,10 +221,10 @@ aggregate_at s base b ps n optional element old new found v same is h counted al
     })
 
 pub element-known : (s : Schema) (type : TypeUse) (optional : Bool) (element : TypeUse) → element_type type ≡ Some (optional, element) → IsTypeUse s type → IsTypeUse s element
-element-known s (schema.array _ _ o _ e) optional element is known = subst (IsTypeUse s) (parts o optional e element is).1 known
-element-known s (schema.list _ _ _ e) optional element is known = subst (IsTypeUse s) (parts false optional e element is).1 known
-element-known s (schema.set _ _ e) optional element is known = subst (IsTypeUse s) (parts false optional e element is).1 known
-element-known s (schema.bag _ _ e) optional element is known = subst (IsTypeUse s) (parts false optional e element is).1 known
+element-known s (schema.array _ _ o _ e) optional element is known = subst (IsTypeUse s) (some_pair_is o optional e element is).1 known
+element-known s (schema.list _ _ _ e) optional element is known = subst (IsTypeUse s) (some_pair_is false optional e element is).1 known
+element-known s (schema.set _ _ e) optional element is known = subst (IsTypeUse s) (some_pair_is false optional e element is).1 known
+element-known s (schema.bag _ _ e) optional element is known = subst (IsTypeUse s) (some_pair_is false optional e element is).1 known
 element-known s other optional element is known = cc
 
 pub plain-known : (s : Schema) (base : Base) (b : Bor code.TypeUse) → base ≡ Plain b → IsBaseIn s base → IsTypeUse s (type_use b.now)

@@ -1,5 +1,5 @@
 -- The texts of the values in a row, those that are missing apart.
-use Rattle.std.specs.Prelude.{ℕ, List, [], ◌∷◌, map, length}
+use Rattle.std.specs.Prelude.{ℕ, List, [], ◌∷◌}
 use Rattle.p21_schemas.specs.Schema.{Schema}
 use Rattle.p21_files.specs.Value.{Value, Values, missing, no_values, value}
 use Rattle.p21_files.specs.ValueText.{value_text}
@@ -12,7 +12,3 @@ abbrev pub present_texts : Schema → Values → List (List ℕ)
 present_texts s no_values = []
 present_texts s (value missing vs) = present_texts s vs
 present_texts s (value v vs) = value_text s v ∷ present_texts s vs
-
--- how long each text is
-abbrev pub lengths_of : List (List ℕ) → List ℕ
-lengths_of texts = map (λ (text : List ℕ). length text) texts

@@ -4,8 +4,8 @@ ghost use Rattle.p21_mapping_text.specs.KnownTypes.{HasKnownTypes, HaveKnownType
 ghost use Rattle.p21_mapping_values.specs.View.{view, views};
 ghost use Rattle.p21_mapping_fit.specs.Outcome.{AreTyped, KeepsUnique};
 ghost use Rattle.p21_express_types.specs.Meaning.{type_use};
-ghost use Rattle.p21_mapping_text.specs.Pieces.{joined};
-ghost use Rattle.p21_mapping_fit.specs.Present.{lengths_of, one, present_texts};
+ghost use Rattle.p21_mapping_text.specs.Pieces.{joined, lengths_of};
+ghost use Rattle.p21_mapping_fit.specs.Present.{one, present_texts};
 
 use crate::aggregate::is_unique;
 use p21_express_tables::Schema;

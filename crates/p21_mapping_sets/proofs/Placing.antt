@@ -1,13 +1,14 @@
 -- The first places of numbers in a list.
 use Rattle.std.specs.Prelude.{◌≡◌, ◌≢◌, ℕ, suc, ◌<◌, ◌≤◌, List, Option, Some, None, length, map, take, slice_get, Contains}
-use Rattle.std.specs.BTreeMap.{BTreeMap, Updates, get, is_at}
-use Rattle.std.specs.Ordering.{is_eq, nat_cmp}
-use Rattle.std.proofs.Common.{arith, ap, sym, ◌∙◌, subst, inl, inr, refl, Bool, true, false}
-use Rattle.std.proofs.lemmas.Bool.Decides.{eqb_tells, leb_tells, nat_tests}
+use Rattle.std.specs.BTreeMap.{BTreeMap, Updates, get}
+use Rattle.std.specs.Ordering.{nat_cmp}
+use Rattle.std.proofs.Common.{arith, ap, sym, ◌∙◌, subst, inl, inr}
+use Rattle.std.proofs.lemmas.Bool.Decides.{eqb_tells, leb_tells}
 use Rattle.std.proofs.lemmas.Option.{slice_get_within}
 use Rattle.p21_basics.proofs.Members.{Contains-at}
 use Rattle.p21_mapping_sets.specs.Positions.{AreFirstPlaces, FindsFirst}
 use Rattle.p21_mapping_sets.proofs.Rows.{map-take, take-at}
+use Rattle.p21_basics.proofs.Comparing.{is_at-other}
 
 -- the first place of a number from a place on, if it stands at one
 abbrev pub FindsFrom : List ℕ → ℕ → ℕ → Option ℕ → Type 0
@@ -47,14 +48,8 @@ placed-more es n e find new so_far at here others f = elim (eqb_tells f e) [
   | inr differ ↦ (let Q : Option ℕ → Type 0 = λ o. FindsFrom es n f o in subst Q (sym (others f differ.1)) (other-before es n e f at differ.1 (find f) (so_far f)))
 ]
 
-other_query : (a b : ℕ) → b ≢ a → is_at (nat_cmp a) b ≡ false
-other_query a b other = by (is_eq (nat_cmp a b)) refl where
-  by : (r : Bool) → is_eq (nat_cmp a b) ≡ r → is_eq (nat_cmp a b) ≡ false
-  by false e = e
-  by true e = let same : a ≡ b = grind (arith, nat_tests) in absurd (other (sym same))
-
 pub placed-next : (es : List ℕ) (n e : ℕ) (now after : BTreeMap ℕ ℕ) → ArePlacedFrom es (suc n) (get nat_cmp now) → slice_get es n ≡ Some e → Updates nat_cmp now after e (Some n) → ArePlacedFrom es n (get nat_cmp after)
-placed-next es n e now after so_far at updates = placed-more es n e (get nat_cmp now) (get nat_cmp after) so_far at updates.1 (λ other differs. updates.2 other (other_query e other differs))
+placed-next es n e now after so_far at updates = placed-more es n e (get nat_cmp now) (get nat_cmp after) so_far at updates.1 (λ other differs. updates.2 other (is_at-other e other differs))
 
 -- from the first place on
 pub placed-all : (es : List ℕ) (find : ℕ → Option ℕ) → ArePlacedFrom es 0 find → AreFirstPlaces es find

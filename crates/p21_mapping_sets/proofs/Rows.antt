@@ -1,20 +1,15 @@
 -- Lists that grow by one, and what holds of each of their elements.
 use Rattle.std.specs.Prelude.{◌≡◌, ℕ, zero, suc, ◌+◌, ◌<◌, ◌≤◌, ◌⊎◌, List, [], ◌∷◌, ◌++◌, length, map, take, slice_get, Some, Contains, refl}
 use Rattle.std.specs.List.{AllZip, flat_map}
-use Rattle.std.proofs.Common.{arith, ap, sym, ◌∙◌, subst, inl, inr, get_or, append_assoc}
+use Rattle.std.proofs.Common.{arith, ap, sym, ◌∙◌, subst, inl, inr, get_or}
 use Rattle.std.proofs.lemmas.List.{append-nil, length-append, take_more}
 use Rattle.std.proofs.lemmas.Option.{slice_get-get_or, slice_get-map}
 use Rattle.std.specs.Option.{option_map}
+use Rattle.std.proofs.lemmas.Grind.{flat_map-append}
 use Rattle.p21_basics.proofs.Members.{Contains-found, Contains-none, Contains-first, Contains-later, Contains-cases}
 use Rattle.p21_basics.proofs.Shuffles.{NoneTwice}
 use Rattle.p21_express_tables.proofs.Lookups.{numbers-more}
 use Rattle.p21_express_tables.proofs.Pairs.{AllZip-more}
-
-pub AllZip-length : {X Y : Type 0} (R : X → Y → Type 0) (xs : List X) (ys : List Y) → AllZip R xs ys → length xs ≡ length ys
-AllZip-length R [] [] all = refl
-AllZip-length R [] (y ∷ ys) all = absurd all
-AllZip-length R (x ∷ xs) [] all = absurd all
-AllZip-length R (x ∷ xs) (y ∷ ys) all = ap suc (AllZip-length R xs ys all.1)
 
 -- what stands beside the element at a place
 pub AllZip-at_second : {X Y : Type 0} (R : X → Y → Type 0) (xs : List X) (ys : List Y) (k : ℕ) (y : Y) → AllZip R xs ys → slice_get ys k ≡ Some y → (x : X) × (slice_get xs k ≡ Some x) × R x y
@@ -35,13 +30,6 @@ AllZip-at_both R (z ∷ xs) (w ∷ ys) (suc k) x y all at at_ = AllZip-at_both R
 pub AllZip-both_more : {X Y Z W : Type 0} (R : Z → W → Type 0) (f : X → Z) (g : Y → W) (xs : List X) (ys : List Y) (k : ℕ) (d : X) (e : Y) → k < length xs → k < length ys
     → AllZip R (map f (take k xs)) (map g (take k ys)) → R (f (get_or xs k d)) (g (get_or ys k e)) → AllZip R (map f (take (k + 1) xs)) (map g (take (k + 1) ys))
 AllZip-both_more R f g xs ys k d e below below_ all one = AllZip-more R f g xs k d (take k ys) (take (k + 1) ys) (get_or ys k e) below (take_more ys k e below_) all one
-
--- pairs place by place
-pub AllZip-from_places : {X Y Z W : Type 0} (R : Z → W → Type 0) (f : X → Z) (g : Y → W) (xs : List X) (ys : List Y) (d : X) (e : Y) → length xs ≡ length ys → ((k : ℕ) → k < length xs → R (f (get_or xs k d)) (g (get_or ys k e))) → AllZip R (map f xs) (map g ys)
-AllZip-from_places R f g [] [] d e long each = tt
-AllZip-from_places R f g [] (y ∷ ys) d e long each = absurd (omega (arith, long))
-AllZip-from_places R f g (x ∷ xs) [] d e long each = absurd (omega (arith, long))
-AllZip-from_places R f g (x ∷ xs) (y ∷ ys) d e long each = (each zero (omega arith), AllZip-from_places R f g xs ys d e (omega (arith, long)) (λ k below. each (suc k) (omega (arith, below))))
 
 -- an element of a front stands there in the whole list
 pub take-at : {X : Type 0} (xs : List X) (n k : ℕ) (x : X) → slice_get (take n xs) k ≡ Some x → (k < n) × (slice_get xs k ≡ Some x)
@@ -90,10 +78,6 @@ numbered-is {X} {Y} f xs k x below is = let P : X → Type 0 = λ z. Contains (m
 -- a member at its place
 pub numbered : {X Y : Type 0} (f : X → Y) (xs : List X) (k : ℕ) (d : X) → k < length xs → Contains (map f xs) (f (get_or xs k d))
 numbered f xs k d below = Contains-found (map f xs) k (f (get_or xs k d)) (mapped-at f xs k d below)
-
-pub flat_map-append : {X Y : Type 0} (f : X → List Y) (xs ys : List X) → flat_map f (xs ++ ys) ≡ flat_map f xs ++ flat_map f ys
-flat_map-append f [] ys = refl
-flat_map-append f (x ∷ xs) ys = ap (λ zs. f x ++ zs) (flat_map-append f xs ys) ∙ sym (append_assoc (f x) (flat_map f xs) (flat_map f ys))
 
 -- how much one list more adds
 pub flat_map-more : {X Y : Type 0} (number : X → ℕ) (f : ℕ → List Y) (xs : List X) (k : ℕ) (d : X) → k < length xs → length (flat_map f (map number (take (k + 1) xs))) ≡ length (flat_map f (map number (take k xs))) + length (f (number (get_or xs k d)))

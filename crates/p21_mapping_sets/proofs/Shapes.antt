@@ -15,7 +15,7 @@ use Rattle.p21_express_tables.proofs.OrderTables.{order-tells, IsA-within, are-e
 use Rattle.p21_files.proofs.OneMeaning.{EntityNamed-one, NamesEntity-one}
 use Rattle.p21_files.proofs.RecordSets.{internal-set, external-set}
 use Rattle.p21_files.specs.BrokenRule.{Breaks, part_twice, part_missing, abstract_leaf, one_of, open_place, wrong_count}
-use Rattle.p21_files.specs.Meaning.{AreKeywordsRising, NamesEntity}
+use Rattle.p21_files.specs.Meaning.{NamesEntity}
 use Rattle.p21_files.specs.RecordPlaces.{IsSetOf}
 use Rattle.p21_grammar_tree.specs.declared.param.Param.{Param as Parameter}
 use Rattle.p21_grammar_tree.specs.declared.record.Part as tree
@@ -27,17 +27,13 @@ use Rattle.p21_mapping_sets.specs.Shape.{Refuses, AreNamed, HasTwice, IsClosed, 
 use Rattle.p21_mapping_sets.proofs.Rows.{AllZip-at_second, AllZip-at_both}
 use Rattle.p21_schemas.proofs.PlaceTypes.{IsA-antisymmetric}
 use Rattle.p21_schemas.specs.Order.{order, places, own_places}
-use Rattle.p21_schemas.specs.PlaceType.{TypeAt, derived_place, stored_place, two_redeclarations}
-use Rattle.p21_schemas.specs.Schema.{Schema, Place, TypeUse, Member, Kind, Defined, EntityNamed, IsAbstract, attributes_of, kind_of}
+use Rattle.p21_schemas.specs.PlaceType.{TypeAt, stored_place, two_redeclarations}
+use Rattle.p21_schemas.specs.Schema.{Schema, Place, TypeUse, Member, Kind, Defined, EntityNamed, IsAbstract, attributes_of, kind_of, AreRisingByName}
 use Rattle.p21_schemas.specs.Select.{Offers, offered, offered_within}
 use Rattle.p21_schemas.specs.Supertype.{itself, IsLeaf, AreLeaves, LeavesAmong, no_more, leaf_next, other_next}
 use Rattle.p21_schemas.specs.WellFormed.{HasDistinctEntities}
 
 -- ---- keywords
-
--- a named entity is one of the schema
-pub named-entity : (s : Schema) (key : Key) (e : ℕ) → NamesEntity s key e → (x : _) × (slice_get s.entities e ≡ Some x)
-named-entity s key e (name, (x, at, is), same) = (x, at)
 
 twice-breaks : (s : Schema) (parts : List Part) (es : List ℕ) → AreNamed s parts es → HasTwice es → Breaks s (complex parts) 44
 twice-breaks s parts es named (i, j, e, differ, at, at_) =
@@ -146,22 +142,6 @@ same-entities s es fs same within f among = within f ((same f).1 among)
 
 -- ---- open places
 
-own-within : (e k n i : ℕ) → i < n → Contains (places_from e k n) (record { entity = e; index = k + i })
-own-within e k zero i below = absurd (omega (arith, below))
-own-within e k (suc n) zero below = let same : k ≡ k + 0 = omega arith in (0, omega arith, ap (λ m. record { entity = e; index = m }) same)
-own-within e k (suc n) (suc i) below =
-    let same : k + 1 + i ≡ k + suc i = omega arith in
-    let P : ℕ → Type 0 = λ m. Contains (places_from e (k + 1) n) (record { entity = e; index = m }) in
-    Contains-later (record { entity = e; index = k }) (places_from e (k + 1) n) (record { entity = e; index = k + suc i }) (subst P same (own-within e (k + 1) n i (omega (arith, below))))
-
--- an own place
-pub own-place : (s : Schema) (e i : ℕ) → i < length (attributes_of s e) → Contains (own_places s e) (record { entity = e; index = i })
-own-place s e i below =
-    let same : 0 + i ≡ i = omega arith in
-    let P : ℕ → Type 0 = λ m. Contains (places_from e 0 (length (attributes_of s e))) (record { entity = e; index = m }) in
-    let Q : List Place → Type 0 = λ ps. Contains ps (record { entity = e; index = i }) in
-    subst Q (own-places-are s e) (subst P same (own-within e 0 (length (attributes_of s e)) i below))
-
 from-each : (P : Place → Type 0) (e k n : ℕ) → ((i : ℕ) → i < n → P (record { entity = e; index = k + i })) → Each P (places_from e k n)
 from-each P e k zero each = tt
 from-each P e k (suc n) each = (
@@ -182,16 +162,13 @@ own-count s e = ap length (sym (own-places-are s e)) ∙ from-length e 0 (length
     from-length e k zero = refl
     from-length e k (suc n) = ap suc (from-length e (k + 1) n)
 
-pub derived-not_open : (s : Schema) (es : List ℕ) (place : Place) → TypeAt s es place derived_place → TypeAt s es place two_redeclarations → ⊥
-derived-not_open s es place is two = two.0 is
-
 pub stored-not_open : (s : Schema) (es : List ℕ) (place : Place) (optional : Bool) (type : TypeUse) → TypeAt s es place (stored_place optional type) → TypeAt s es place two_redeclarations → ⊥
 stored-not_open s es place optional type (underived, inl (r, decides, _, _)) two = two.2 r decides
 stored-not_open s es place optional type (underived, inr (none, _)) two = none two.1
 
 -- ---- all that is known
 
-pub simple-shape : (s : Schema) → HoldsTogether s → HasDistinctEntities s → (part : Part) (e : ℕ) (es entities : List ℕ) → NamesEntity s part.key e → es ≡ order s e → HaveSame es entities → AreKeywordsRising s entities → ¬ IsAbstract s e
+pub simple-shape : (s : Schema) → HoldsTogether s → HasDistinctEntities s → (part : Part) (e : ℕ) (es entities : List ℕ) → NamesEntity s part.key e → es ≡ order s e → HaveSame es entities → AreRisingByName s entities → ¬ IsAbstract s e
     → PassesSet s entities → length (listed part.params) ≡ length (flat_map (own_places s) es) → HasShape s (simple part) es entities
 simple-shape s holds distinct part e es entities named is same rising concrete passes count =
     let P : List ℕ → Type 0 = λ xs. HaveSame xs entities in
@@ -207,7 +184,7 @@ simple-shape s holds distinct part e es entities named is same rising concrete p
       counts = simple-counts s distinct part e named (count ∙ ap (λ xs. length (flat_map (own_places s) xs)) is);
     }
 
-pub complex-shape : (s : Schema) → HasDistinctEntities s → (parts : List Part) (es entities : List ℕ) → AreNamed s parts es → IsDistinct nat_eq es → IsClosed s es → HaveSame es entities → AreKeywordsRising s entities → HasNoLeaf s entities
+pub complex-shape : (s : Schema) → HasDistinctEntities s → (parts : List Part) (es entities : List ℕ) → AreNamed s parts es → IsDistinct nat_eq es → IsClosed s es → HaveSame es entities → AreRisingByName s entities → HasNoLeaf s entities
     → PassesSet s entities → AllZip (HasCount s) parts es → HasShape s (complex parts) es entities
 complex-shape s distinct parts es entities named differ closed same rising concrete passes counts = record {
   listed_are = (named, differ, closed);

@@ -8,7 +8,7 @@ use Rattle.p21_express_tables.specs.Resolved.{IsEntity}
 use Rattle.p21_express_tables.specs.Rising.{HaveSame}
 use Rattle.p21_express_types.specs.declared.number.EntityId.{EntityId}
 use Rattle.p21_files.specs.BrokenRule.{Breaks}
-use Rattle.p21_files.specs.Meaning.{AreKeywordsRising, HasPlaceTypes, NamesEntity}
+use Rattle.p21_files.specs.Meaning.{HasPlaceTypes, NamesEntity}
 use Rattle.p21_files.specs.RecordPlaces.{HasPart, IsSetOf, part_places}
 use Rattle.p21_mapping_values.specs.Fault.{fault_number}
 use Rattle.p21_mapping_values.specs.declared.fault.CheckFault.{CheckFault}
@@ -16,7 +16,7 @@ use Rattle.p21_mapping_values.specs.declared.fault.CheckFault.TheVariants.{PartT
 use Rattle.p21_schemas.specs.OneOf.{Clashes}
 use Rattle.p21_schemas.specs.Order.{order, own_places}
 use Rattle.p21_schemas.specs.PlaceType.{TypeAt, two_redeclarations}
-use Rattle.p21_schemas.specs.Schema.{Schema, Place, IsAbstract}
+use Rattle.p21_schemas.specs.Schema.{Schema, Place, IsAbstract, AreRisingByName}
 use Rattle.p21_schemas.specs.Supertype.{InClosure, IsLeaf}
 
 -- a refusal other than want of memory has the number of a rule that the record breaks
@@ -117,7 +117,7 @@ pub record HasShape (s : Schema) (record_ : Record) (es entities : List ℕ) : T
   pub listed_are : IsListed s record_ es
   pub same : HaveSame es entities
   pub set_is : IsSetOf s record_ entities
-  pub rising : AreKeywordsRising s entities
+  pub rising : AreRisingByName s entities
   pub no_abstract_leaf : HasNoLeaf s entities
   pub no_clash : ¬ Clashes s entities
   pub place_types : Each (HasPlaceTypes s entities) entities

@@ -1,18 +1,16 @@
 -- The texts of values in a row, as they are written one after the other.
-use Rattle.std.proofs.Common.{◌≡◌, ◌==◌, ℕ, zero, suc, ◌+◌, ◌-◌, ◌<◌, ◌≤◌, false, List, [], ◌∷◌, ◌++◌, length, map, take, sum, get_or, Result, refl, ap, sym, ◌∙◌, subst, arith, rules, append_assoc, length-append}
+use Rattle.std.proofs.Common.{◌≡◌, ◌==◌, ℕ, zero, suc, ◌+◌, ◌-◌, ◌<◌, ◌≤◌, false, List, [], ◌∷◌, ◌++◌, length, map, take, sum, get_or, refl, ap, sym, ◌∙◌, subst, arith, rules, append_assoc, length-append}
 use Rattle.std.proofs.lemmas.List.{append-nil, take_all, take_more, map-append}
-use Rattle.std.specs.Result.{OnOk}
 use Rattle.std.proofs.Math.Seq.{take-append_seam, drop-append_seam}
 use Rattle.std.specs.List.{fold}
 use Rattle.p21_schemas.specs.Schema.{Schema}
-use Rattle.p21_files.specs.Value as meant
 use Rattle.p21_files.specs.ValueText.{value_text, value_texts, with_commas, with_commas_between}
 use Rattle.p21_mapping_values.specs.declared.value.Value.{Value}
 use Rattle.p21_mapping_values.specs.View.{view, views}
 use Rattle.p21_mapping_text.specs.KnownTypes.{HasKnownTypes, HaveKnownTypes}
 use Rattle.p21_mapping_text.specs.Pieces.{element_text, joined, pieces}
 use Rattle.p21_values.specs.Canonical.{Continues}
-use Rattle.p21_mapping_text.proofs.Rising.{with_commas-push}
+use Rattle.p21_files.proofs.Commas.{with_commas-push}
 
 -- the text of each value
 abbrev pub texts : Schema → List Value → List (List ℕ)
@@ -49,13 +47,6 @@ pub known_at : (s : Schema) (xs : List Value) (i : ℕ) (x : Value) → x ≡ ge
 known_at s [] i x is low known = absurd (omega (arith, low))
 known_at s (y ∷ ys) zero x is low known = subst (λ z. HasKnownTypes s (view z)) (sym is) known.0
 known_at s (y ∷ ys) (suc i) x is low known = known_at s ys i x is (omega (arith, low)) known.1
-
--- what is written is the text of what is meant
-pub text_by : {T E : Type 0} (s : Schema) (v a : meant.Value) (r : Result T E) (old new : List ℕ) → v ≡ a → OnOk r (new ≡ old ++ value_text s a) → OnOk r (new ≡ old ++ value_text s v)
-text_by s v a r old new e h = subst (λ z. OnOk r (new ≡ old ++ value_text s z)) (sym e) h
-
-pub known_by : (s : Schema) (v a : meant.Value) → v ≡ a → HasKnownTypes s v → HasKnownTypes s a
-known_by s v a e known = subst (HasKnownTypes s) e known
 
 joined-push : (ts : List (List ℕ)) (t : List ℕ) → joined (ts ++ t ∷ []) ≡ joined ts ++ t
 joined-push [] t = append-nil t

@@ -1,5 +1,5 @@
 -- Texts that stand one behind the other.
-use Rattle.std.specs.Prelude.{ℕ, Bool, true, false, List, [], ◌∷◌, ◌++◌, take, drop, Contains}
+use Rattle.std.specs.Prelude.{ℕ, Bool, true, false, List, [], ◌∷◌, ◌++◌, take, drop, map, length, Contains}
 
 -- the texts of these lengths, as far as the bytes go
 abbrev pub pieces : List ℕ → List ℕ → List (List ℕ)
@@ -10,6 +10,10 @@ pieces bytes (n ∷ ns) = take n bytes ∷ pieces (drop n bytes) ns
 abbrev pub joined : List (List ℕ) → List ℕ
 joined [] = []
 joined (text ∷ texts) = text ++ joined texts
+
+-- how long each is
+abbrev pub lengths_of : List (List ℕ) → List ℕ
+lengths_of texts = map (λ (text : List ℕ). length text) texts
 
 -- no text is there twice
 abbrev pub NoneTwice : List (List ℕ) → Type 0

@@ -2,6 +2,7 @@
 use Rattle.std.specs.Prelude.{◌≡◌, ℕ, zero, suc, ◌+◌, ◌≤◌, false, List, [], ◌∷◌, length, codes, Some, None, refl}
 use Rattle.std.specs.List.{AllZip, enumerate_from}
 use Rattle.std.proofs.Common.{arith}
+use Rattle.std.proofs.lemmas.Slice.Zip.{AllZip-long}
 use Rattle.p21_schemas.specs.WrittenType.{WrittenType, real_type, string_type, array_type, list_type, bounded, unbounded}
 use Rattle.p21_schemas.specs.TypeDeclaration.{underlying}
 use Rattle.p21_schemas.specs.SchemaDeclaration.{SchemaDeclaration, entities_of, types_of}
@@ -61,16 +62,10 @@ numbered-length R n [] (y ∷ ys) all = absurd all
 numbered-length R n (x ∷ xs) [] all = absurd all
 numbered-length R n (x ∷ xs) (y ∷ ys) all = omega (arith, numbered-length R (n + 1) xs ys all.1)
 
-zip-length : {X Y : Type 0} (R : X → Y → Type 0) (xs : List X) (ys : List Y) → AllZip R xs ys → length ys ≡ length xs
-zip-length R [] [] all = refl
-zip-length R [] (y ∷ ys) all = absurd all
-zip-length R (x ∷ xs) [] all = absurd all
-zip-length R (x ∷ xs) (y ∷ ys) all = omega (arith, zip-length R xs ys all.1)
-
 -- 65,536 entities and types together are too many
 pub too_many-declare_nothing : (tree : SchemaDeclaration) (s : Schema) → 65536 ≤ length (entities_of tree.declarations) + length (types_of tree.declarations) → DeclaresSchema tree s → ⊥
 too_many-declare_nothing tree s many declares =
-    omega (arith, many, declares.few, numbered-length _ 0 (entities_of tree.declarations) s.entities declares.entities_are, zip-length (DefinedIs s) (types_of tree.declarations) s.types declares.types_are)
+    omega (arith, many, declares.few, numbered-length _ 0 (entities_of tree.declarations) s.entities declares.entities_are, AllZip-long (DefinedIs s) (types_of tree.declarations) s.types declares.types_are)
 
 -- and so is a text of 16,777,217 bytes too long
 pub too_long-declares_nothing : (bytes : List ℕ) (s : Schema) → 16777217 ≤ length bytes → Declares bytes s → ⊥

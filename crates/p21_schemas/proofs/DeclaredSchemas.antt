@@ -1,27 +1,19 @@
 -- What the laws on schemas take holds of each schema that a declaration declares.
 use Rattle.std.specs.Prelude.{◌≡◌, ℕ, zero, suc, ◌+◌, ◌<◌, Bool, true, false, List, [], ◌∷◌, ◌++◌, length, map, Option, Some, None, slice_get, Contains, refl, nat_eq, ◌&&◌}
-use Rattle.std.specs.List.{IsDistinct, AllByRecursion as Each}
+use Rattle.std.specs.List.{IsDistinct}
 use Rattle.std.specs.Str.{bytes_eq}
 use Rattle.std.proofs.Common.{arith, inl, inr, subst, ap, sym, ◌∙◌}
 use Rattle.std.proofs.lemmas.Bool.{eq-eqb}
 use Rattle.std.proofs.lemmas.Option.{slice_get_within}
-use Rattle.std.proofs.lemmas.Slice.Eq.{bytes_eq-Decides}
 use Rattle.p21_schemas.specs.EntityDeclaration.{EntityDeclaration}
 use Rattle.p21_schemas.specs.SchemaDeclaration.{SchemaDeclaration, entities_of}
 use Rattle.p21_schemas.specs.Schema.{Schema, Entity, Place, Redeclared, EntityNamed, TypeNamed}
 use Rattle.p21_schemas.specs.DeclaredEntity.{EntityIs, same_place, names_of}
 use Rattle.p21_schemas.specs.DeclaredOneOf.{all_one_of_names, OneOfIs}
 use Rattle.p21_schemas.specs.Declared.{DeclaresSchema}
-use Rattle.p21_basics.proofs.Members.{Each-at, Each-member, Contains-none, Contains-cases, Contains-at, Contains-found, Contains-mapped, AllZip-member, AllZip-second_member, AllZip-numbered, AllZip-numbered_first}
+use Rattle.p21_basics.proofs.Members.{Each-at, Each-member, Contains-none, Contains-cases, Contains-at, Contains-found, Contains-mapped, AllZip-member, AllZip-second_member, AllZip-numbered, AllZip-numbered_first, Each-front, Each-back, Each-unmapped, Each-append}
 pub use Rattle.p21_schemas.specs.WellFormed.{HasDistinctEntities, HasDistinctTypes, AreEntities, AreListedEntities, RedeclaresOnce, IsWellFormed}
-
-Each-front : {X : Type 0} (P : X → Type 0) (xs ys : List X) → Each P (xs ++ ys) → Each P xs
-Each-front P [] ys each = tt
-Each-front P (x ∷ xs) ys each = (each.0, Each-front P xs ys each.1)
-
-Each-unmapped : {X Y : Type 0} (P : Y → Type 0) (f : X → Y) (xs : List X) → Each P (map f xs) → Each (λ x. P (f x)) xs
-Each-unmapped P f [] each = tt
-Each-unmapped P f (x ∷ xs) each = (each.0, Each-unmapped P f xs each.1)
+use Rattle.p21_basics.proofs.Comparing.{bytes_eq-itself}
 
 -- where all f of the front differ, two of the same f have one number
 distinct-number : {X Y : Type 0} (eq : Y → Y → Bool) → ((y : Y) → eq y y ≡ true) → (f : X → Y) (xs : List X) (ys : List Y) → IsDistinct eq (map f xs ++ ys) → (i j : ℕ) (x z : X) → slice_get xs i ≡ Some x → slice_get xs j ≡ Some z → f x ≡ f z → i ≡ j
@@ -43,17 +35,10 @@ unfolding IsDistinct
 IsDistinct-back eq [] ys distinct = distinct
 IsDistinct-back eq (x ∷ xs) ys distinct = IsDistinct-back eq xs ys distinct.1
 
-Each-padded : {X : Type 0} (P : X → Type 0) (xs : List X) → Each P xs → Each P (xs ++ [])
-Each-padded P [] each = tt
-Each-padded P (x ∷ xs) each = (each.0, Each-padded P xs each.1)
-
 IsDistinct-unpadded : {Y : Type 0} (eq : Y → Y → Bool) (xs : List Y) → IsDistinct eq xs → IsDistinct eq (xs ++ [])
 unfolding IsDistinct
 IsDistinct-unpadded eq [] distinct = tt
-IsDistinct-unpadded eq (x ∷ xs) distinct = (Each-padded (λ y. eq x y ≡ false) xs distinct.0, IsDistinct-unpadded eq xs distinct.1)
-
-bytes_eq-reflexive : (xs : List ℕ) → bytes_eq xs xs ≡ true
-bytes_eq-reflexive xs = (bytes_eq-Decides xs xs).1 refl
+IsDistinct-unpadded eq (x ∷ xs) distinct = (Each-append (λ y. eq x y ≡ false) xs [] distinct.0 tt, IsDistinct-unpadded eq xs distinct.1)
 
 same_place-reflexive : (place : Place) → same_place place place ≡ true
 same_place-reflexive place = ap (λ b. b && nat_eq place.index place.index) (eq-eqb place.entity place.entity refl) ∙ eq-eqb place.index place.index refl
@@ -99,11 +84,11 @@ abbrev pub names_of_all : Schema → List (List ℕ)
 names_of_all s = map (λ z. z.name) s.entities ++ map (λ z. z.name) s.types
 
 pub distinct_names-entities : (s : Schema) → IsDistinct bytes_eq (names_of_all s) → HasDistinctEntities s
-distinct_names-entities s distinct e f name (x, at_e, x_named) (y, at_f, y_named) = distinct-number bytes_eq bytes_eq-reflexive (λ z. z.name) s.entities (map (λ z. z.name) s.types) distinct e f x y at_e at_f (x_named ∙ sym y_named)
+distinct_names-entities s distinct e f name (x, at_e, x_named) (y, at_f, y_named) = distinct-number bytes_eq bytes_eq-itself (λ z. z.name) s.entities (map (λ z. z.name) s.types) distinct e f x y at_e at_f (x_named ∙ sym y_named)
 
 pub distinct_names-types : (s : Schema) → IsDistinct bytes_eq (names_of_all s) → HasDistinctTypes s
 distinct_names-types s distinct t u name (x, at_t, x_named) (y, at_u, y_named) =
-    distinct-number bytes_eq bytes_eq-reflexive (λ z. z.name) s.types [] (IsDistinct-unpadded bytes_eq (map (λ z. z.name) s.types) (IsDistinct-back bytes_eq (map (λ z. z.name) s.entities) (map (λ z. z.name) s.types) distinct)) t u x y at_t at_u (x_named ∙ sym y_named)
+    distinct-number bytes_eq bytes_eq-itself (λ z. z.name) s.types [] (IsDistinct-unpadded bytes_eq (map (λ z. z.name) s.types) (IsDistinct-back bytes_eq (map (λ z. z.name) s.entities) (map (λ z. z.name) s.types) distinct)) t u x y at_t at_u (x_named ∙ sym y_named)
 
 -- where all f of the front differ, two members of the same f are one
 distinct-member : {X Y : Type 0} (eq : Y → Y → Bool) → ((y : Y) → eq y y ≡ true) → (f : X → Y) (xs : List X) (ys : List Y) (x z : X) → IsDistinct eq (map f xs ++ ys) → Contains xs x → Contains xs z → f x ≡ f z → x ≡ z
@@ -121,10 +106,6 @@ declared-redeclares_once tree s declares e r q (x, at, among) (y, at_, among_) s
     let (d, at_d, entity_is) = declared-entity tree s declares e x at in
     distinct-member same_place same_place-reflexive (λ z. z.place) x.redeclared x.derived r q entity_is.places_distinct among (subst P one among_) same
 
-Each-back : {X : Type 0} (P : X → Type 0) (xs ys : List X) → Each P (xs ++ ys) → Each P ys
-Each-back P [] ys each = each
-Each-back P (x ∷ xs) ys each = Each-back P xs ys each.1
-
 -- no f of the front is one of the back
 distinct-apart : {X Y : Type 0} (eq : Y → Y → Bool) → ((y : Y) → eq y y ≡ true) → (f : X → Y) (xs : List X) (ys : List Y) (x : X) → IsDistinct eq (map f xs ++ ys) → Contains xs x → Contains ys (f x) → ⊥
 unfolding IsDistinct
@@ -138,7 +119,7 @@ distinct-apart eq reflexive f (z ∷ zs) ys x distinct among among_back = elim (
 pub distinct_names-apart : (s : Schema) → IsDistinct bytes_eq (names_of_all s) → (e t : ℕ) (name : List ℕ) → EntityNamed s e name → TypeNamed s t name → ⊥
 distinct_names-apart s distinct e t name (x, at, named) (y, at_t, named_t) =
     let P : List ℕ → Type 0 = λ n. Contains (map (λ z. z.name) s.types) n in
-    distinct-apart bytes_eq bytes_eq-reflexive (λ z. z.name) s.entities (map (λ z. z.name) s.types) x distinct (Contains-found s.entities e x at) (subst P (named_t ∙ sym named) (Contains-mapped (λ z. z.name) s.types y (Contains-found s.types t y at_t)))
+    distinct-apart bytes_eq bytes_eq-itself (λ z. z.name) s.entities (map (λ z. z.name) s.types) x distinct (Contains-found s.entities e x at) (subst P (named_t ∙ sym named) (Contains-mapped (λ z. z.name) s.types y (Contains-found s.types t y at_t)))
 
 -- no entity redeclares a place both as an explicit and as a derived attribute
 pub declared-explicit_or_derived : (tree : SchemaDeclaration) (s : Schema) → DeclaresSchema tree s → (e : ℕ) (x : Entity) (r : Redeclared) → slice_get s.entities e ≡ Some x → Contains x.redeclared r → Contains x.derived r.place → ⊥

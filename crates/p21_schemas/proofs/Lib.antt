@@ -12,6 +12,7 @@ pub mod OneOfOrRun
 pub mod OneOfReadings
 pub mod OrderedOnce
 pub mod Orders
+pub mod OwnPlaces
 pub mod PlaceTypes
 pub mod Ranks
 mod Scanned

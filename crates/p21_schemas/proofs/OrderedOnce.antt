@@ -2,7 +2,7 @@
 use Rattle.std.specs.Prelude.{◌≡◌, ◌≢◌, ℕ, zero, suc, List, [], ◌∷◌, ◌++◌, length, Contains, refl, Bool, true, false, cond, filter, not, nat_eq}
 use Rattle.std.specs.List.{flat_map, IsDistinct, AllByRecursion as Each}
 use Rattle.std.proofs.Common.{arith, subst, ap, sym, ◌∙◌, inl, inr, append_assoc}
-use Rattle.std.proofs.lemmas.Bool.{cases_eq, eqb-true}
+use Rattle.std.proofs.lemmas.Bool.{cases_eq, eqb-true, not-true, not-false}
 use Rattle.std.proofs.lemmas.List.Elements.{Contains-append_left, Contains-append_right, Contains-append_cases}
 use Rattle.p21_schemas.specs.Schema.{Schema}
 use Rattle.p21_schemas.specs.Supertype.{IsA, itself, above, supertypes_of}
@@ -15,14 +15,6 @@ use Rattle.p21_schemas.proofs.Orders.{HasHeight, order-height, order_within-self
 by_test : (P : List ℕ → Type 0) (b : Bool) (xs ys : List ℕ) → (b ≡ true → P xs) → (b ≡ false → P ys) → P (cond b xs ys)
 by_test P true xs ys passes fails = passes refl
 by_test P false xs ys passes fails = fails refl
-
-not-same : (b : Bool) → not b ≡ true → b ≡ false
-not-same true is = sym is
-not-same false is = refl
-
-not-other : (b : Bool) → not b ≡ false → b ≡ true
-not-other true is = refl
-not-other false is = sym is
 
 Each-filtered : (P : ℕ → Type 0) (test : ℕ → Bool) (xs : List ℕ) → Each P xs → Each P (filter test xs)
 Each-filtered P test [] each = tt
@@ -39,7 +31,7 @@ others-differ : (e : ℕ) (xs : List ℕ) → Each (λ y. nat_eq e y ≡ false) 
 others-differ e [] = tt
 others-differ e (x ∷ xs) =
     let rest : Each (λ y. nat_eq e y ≡ false) (filter (λ f. not (nat_eq e f)) xs) = others-differ e xs in
-    by_test (Each (λ y. nat_eq e y ≡ false)) (not (nat_eq e x)) (x ∷ filter (λ f. not (nat_eq e f)) xs) (filter (λ f. not (nat_eq e f)) xs) (λ h. (not-same (nat_eq e x) h, rest)) (λ h. rest)
+    by_test (Each (λ y. nat_eq e y ≡ false)) (not (nat_eq e x)) (x ∷ filter (λ f. not (nat_eq e f)) xs) (filter (λ f. not (nat_eq e f)) xs) (λ h. (not-true (nat_eq e x) h, rest)) (λ h. rest)
 
 firsts-distinct : (xs : List ℕ) → IsDistinct nat_eq (firsts xs)
 unfolding IsDistinct
@@ -77,7 +69,7 @@ AreBehind-filtered : (s : Schema) (e : ℕ) (seen es : List ℕ) → Contains se
 AreBehind-filtered s e seen [] in_seen behind = tt
 AreBehind-filtered s e seen (x ∷ xs) in_seen behind = by_test (AreBehind s seen) (not (nat_eq e x)) (x ∷ filter (λ f. not (nat_eq e f)) xs) (filter (λ f. not (nat_eq e f)) xs)
     (λ h. (behind.0, AreBehind-filtered s e (x ∷ seen) xs (Contains-later x seen e in_seen) behind.1))
-    (λ h. let same : e ≡ x = eqb-true e x (not-other (nat_eq e x) h) in
+    (λ h. let same : e ≡ x = eqb-true e x (not-false (nat_eq e x) h) in
     let P : ℕ → Type 0 = λ y. Contains seen y in
     AreBehind-filtered s e seen xs in_seen (AreBehind-wider s (x ∷ seen) seen xs (AreWithin-seen x seen (subst P same in_seen)) behind.1))
 

@@ -2,26 +2,26 @@
 use Rattle.std.specs.Prelude.{◌≡◌, ℕ, zero, suc, ◌+◌, ◌-◌, ◌<◌, ◌≤◌, min, List, [], ◌∷◌, ◌++◌, length, Contains, refl, ◌⊎◌, not, nat_eq}
 use Rattle.std.specs.List.{flat_map}
 use Rattle.std.proofs.lemmas.List.Elements.{Contains-append_left, Contains-append_right, Contains-append_cases}
-use Rattle.std.proofs.Common.{arith, subst, ap, sym, ◌∙◌, inl, inr}
+use Rattle.std.proofs.Common.{arith, subst, ap, sym, inl, inr}
 use Rattle.std.proofs.lemmas.Bool.{cases_lt, cases_eq, ne_eqb}
 use Rattle.p21_schemas.specs.Schema.{Schema}
 use Rattle.p21_schemas.specs.Supertype.{IsA, itself, above, supertypes_of}
 use Rattle.p21_schemas.specs.Order.{order_within, order, firsts}
 use Rattle.p21_schemas.specs.Declared.{HasNoCircle, HasSupertype}
 use Rattle.p21_schemas.specs.WellFormed.{AreEntities}
-use Rattle.p21_basics.proofs.Members.{Contains-later, Contains-cases, Contains-flat_map, Contains-one_of, Contains-filter, Contains-unfiltered}
+use Rattle.p21_basics.proofs.Members.{Contains-later, Contains-cases, Contains-flat_map, Contains-one_of, Contains-filter, Contains-unfiltered, flat_map-same}
 
 -- there are at most this many levels of supertypes above the entity
 abbrev pub HasHeight : Schema → ℕ → ℕ → Type 0
 HasHeight s zero e = (f : ℕ) → HasSupertype s e f → ⊥
 HasHeight s (suc n) e = (f : ℕ) → HasSupertype s e f → HasHeight s n f
 
--- how many of the first n entities are below a rank
-abbrev count_below : (ℕ → ℕ) → ℕ → ℕ → ℕ
+-- how many of the first n numbers are below a rank
+abbrev pub count_below : (ℕ → ℕ) → ℕ → ℕ → ℕ
 count_below rank r zero = 0
 count_below rank r (suc n) = min 1 (r - rank n) + count_below rank r n
 
-count_below-le : (rank : ℕ → ℕ) (r n : ℕ) → count_below rank r n ≤ n
+pub count_below-le : (rank : ℕ → ℕ) (r n : ℕ) → count_below rank r n ≤ n
 count_below-le rank r zero = omega arith
 count_below-le rank r (suc n) = omega (arith, count_below-le rank r n)
 
@@ -29,7 +29,7 @@ count_below-rises : (rank : ℕ → ℕ) (q r n : ℕ) → q ≤ r → count_bel
 count_below-rises rank q r zero le = omega arith
 count_below-rises rank q r (suc n) le = omega (arith, le, count_below-rises rank q r n le)
 
-count_below-rises_past : (rank : ℕ → ℕ) (f r n : ℕ) → f < n → rank f < r → count_below rank (rank f) n < count_below rank r n
+pub count_below-rises_past : (rank : ℕ → ℕ) (f r n : ℕ) → f < n → rank f < r → count_below rank (rank f) n < count_below rank r n
 count_below-rises_past rank f r zero below lt = omega (arith, below)
 count_below-rises_past rank f r (suc n) below lt = elim (last f n below) [
   | inl is ↦ let same : rank f ≡ rank n = ap rank is in omega (arith, lt, same, count_below-rises rank (rank f) r n (omega (arith, lt)))
@@ -42,10 +42,6 @@ count_below-rises_past rank f r (suc n) below lt = elim (last f n below) [
 has_height : (s : Schema) → AreEntities s → (rank : ℕ → ℕ) → ((e f : ℕ) → HasSupertype s e f → rank f < rank e) → (n e : ℕ) → count_below rank (rank e) (length s.entities) ≤ n → HasHeight s n e
 has_height s are rank falls zero e few = λ f up. omega (arith, few, count_below-rises_past rank f (rank e) (length s.entities) (are e f up) (falls e f up))
 has_height s are rank falls (suc n) e few = λ f up. has_height s are rank falls n f (omega (arith, few, count_below-rises_past rank f (rank e) (length s.entities) (are e f up) (falls e f up)))
-
-flat_map-same : (g h : ℕ → List ℕ) (xs : List ℕ) → ((x : ℕ) → Contains xs x → g x ≡ h x) → flat_map g xs ≡ flat_map h xs
-flat_map-same g h [] same = refl
-flat_map-same g h (x ∷ xs) same = ap (λ ys. ys ++ flat_map g xs) (same x (0, omega arith, refl)) ∙ ap (λ ys. h x ++ ys) (flat_map-same g h xs (λ y among. same y (Contains-later x xs y among)))
 
 no_elements : (xs : List ℕ) → ((x : ℕ) → Contains xs x → ⊥) → xs ≡ []
 no_elements [] none = refl

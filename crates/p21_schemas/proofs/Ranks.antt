@@ -28,10 +28,6 @@ none-stuck Step ends Stuck goes_on x stuck = by (suc (ends.0 x)) x (omega arith)
     by zero x below stuck = omega (arith, below)
     by (suc n) x below stuck = let (y, stuck_, step) = goes_on x stuck in by n y (omega (arith, below, ends.1 x y step)) stuck_
 
--- a relation with fewer steps has the same ranks
-pub fewer-end : (Step More : ℕ → ℕ → Type 0) → ((x y : ℕ) → Step x y → More x y) → HasNoCircle More → HasNoCircle Step
-fewer-end Step More is ends = (ends.0, λ x y step. ends.1 x y (is x y step))
-
 -- the relation that lists give: each number leads to those of its list
 abbrev pub Listed : (ℕ → List ℕ) → ℕ → ℕ → Type 0
 Listed next x y = Contains (next x) y

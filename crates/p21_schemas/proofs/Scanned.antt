@@ -3,7 +3,8 @@ use Rattle.std.specs.Prelude.{◌≡◌, ℕ, ◌≤◌, Bool, true, false, not,
 use Rattle.std.specs.List.{flat_map, AllByRecursion as Each}
 use Rattle.std.proofs.Common.{arith, inl, inr, ap}
 use Rattle.std.proofs.lemmas.Bool.Decides.{nat_tests}
-use Rattle.p21_basics.specs.Digits.{IsDigit, AllDigits}
+use Rattle.std.proofs.lemmas.Bool.{and_parts, not-true}
+use Rattle.p21_basics.specs.Digits.{IsDigit, AllDigits, is_digit}
 use Rattle.p21_schemas.specs.Express.{Lexeme, identifier, digits, symbol, IsLetter, IsIdentifierByte, upper, LexemeMayFollow}
 use Rattle.p21_schemas.specs.ExpressLaying.{LexemeIsFollowed, LaidLexemes}
 use Rattle.p21_schemas.specs.Remark.{blank}
@@ -17,9 +18,6 @@ pub data Piece : Type 0 where
 
 abbrev is_letter : ℕ → Bool
 is_letter byte = if nat_le 65 byte && nat_le byte 90 then true else nat_le 97 byte && nat_le byte 122
-
-abbrev is_digit : ℕ → Bool
-is_digit byte = nat_le 48 byte && nat_le byte 57
 
 abbrev is_inner : ℕ → Bool
 is_inner byte = if is_letter byte then true else if is_digit byte then true else byte == 95
@@ -95,14 +93,6 @@ abbrev pub are_pieces : List Piece → Bool
 are_pieces [] = true
 are_pieces (piece ∷ pieces) = is_piece piece && (may_follow piece pieces && are_pieces pieces)
 
-both : (a b : Bool) → (a && b) ≡ true → (a ≡ true) × (b ≡ true)
-both true b h = (refl, h)
-both false b h = cc
-
-not-true : (a : Bool) → not a ≡ true → a ≡ false
-not-true true h = cc
-not-true false h = refl
-
 letter-is : (byte : ℕ) → is_letter byte ≡ true → IsLetter byte
 letter-is byte h = grind (arith, nat_tests, h)
 
@@ -120,11 +110,11 @@ not-inner byte h (inr (inr is)) = grind (arith, nat_tests, h, is)
 
 each-inner : (bytes : List ℕ) → all_inner bytes ≡ true → Each IsIdentifierByte bytes
 each-inner [] h = tt
-each-inner (byte ∷ bytes) h = let is = both (is_inner byte) (all_inner bytes) h in (inner-is byte is.0, each-inner bytes is.1)
+each-inner (byte ∷ bytes) h = let is = and_parts (is_inner byte) (all_inner bytes) h in (inner-is byte is.0, each-inner bytes is.1)
 
 each-digit : (bytes : List ℕ) → all_digits bytes ≡ true → AllDigits bytes
 each-digit [] h = tt
-each-digit (byte ∷ bytes) h = let is = both (is_digit byte) (all_digits bytes) h in (digit-is byte is.0, each-digit bytes is.1)
+each-digit (byte ∷ bytes) h = let is = and_parts (is_digit byte) (all_digits bytes) h in (digit-is byte is.0, each-digit bytes is.1)
 
 -- what a symbol is
 record IsMark (byte : ℕ) : Type 0 where
@@ -141,12 +131,12 @@ differs byte other h same = grind (arith, nat_tests, h, same)
 
 mark-is : (byte : ℕ) → is_mark byte ≡ true → IsMark byte
 mark-is byte h =
-    let a = both (nat_le 33 byte) _ h in
-    let b = both (nat_le byte 126) _ a.1 in
-    let c = both (not (is_inner byte)) _ b.1 in
-    let d = both (not (byte == 39)) _ c.1 in
-    let e = both (not (byte == 34)) _ d.1 in
-    let f = both (not (byte == 42)) (not (byte == 45)) e.1 in
+    let a = and_parts (nat_le 33 byte) _ h in
+    let b = and_parts (nat_le byte 126) _ a.1 in
+    let c = and_parts (not (is_inner byte)) _ b.1 in
+    let d = and_parts (not (byte == 39)) _ c.1 in
+    let e = and_parts (not (byte == 34)) _ d.1 in
+    let f = and_parts (not (byte == 42)) (not (byte == 45)) e.1 in
     let first = a.0 in
     let second = b.0 in
     record {
@@ -171,7 +161,7 @@ word-ends lexeme follows (space ∷ pieces) ends are = follows 32 (λ is. no_spa
     no_space (inr (inr h)) = omega (arith, h)
 word-ends lexeme follows (letters word ∷ pieces) ends are = cc
 word-ends lexeme follows (number ds ∷ pieces) ends are = cc
-word-ends lexeme follows (mark byte ∷ pieces) ends are = follows byte (mark-is byte (both (is_mark byte) _ are).0).no_inner
+word-ends lexeme follows (mark byte ∷ pieces) ends are = follows byte (mark-is byte (and_parts (is_mark byte) _ are).0).no_inner
 
 -- and behind a symbol, which begins no remark
 mark-ends : (byte : ℕ) (pieces : List Piece) → are_pieces pieces ≡ true → LexemeIsFollowed (symbol byte) (bytes_of pieces)
@@ -179,7 +169,7 @@ mark-ends byte [] are = tt
 mark-ends byte (space ∷ pieces) are = (λ h k. omega (arith, k), λ h k. omega (arith, k))
 mark-ends byte (letters [] ∷ pieces) are = cc
 mark-ends byte (letters (b ∷ word) ∷ pieces) are =
-    let first = (both (is_letter b) _ (both (is_letter b && all_inner word) _ are).0).0 in
+    let first = (and_parts (is_letter b) _ (and_parts (is_letter b && all_inner word) _ are).0).0 in
     by (letter-is b first)
   where
     by : IsLetter b → LexemeMayFollow (symbol byte) b
@@ -187,9 +177,9 @@ mark-ends byte (letters (b ∷ word) ∷ pieces) are =
     by (inr is) = (λ h k. omega (arith, k, is), λ h k. omega (arith, k, is))
 mark-ends byte (number [] ∷ pieces) are = cc
 mark-ends byte (number (b ∷ ds) ∷ pieces) are =
-    let is : IsDigit b = digit-is b (both (is_digit b) _ (both (is_digit b && all_digits ds) _ are).0).0 in
+    let is : IsDigit b = digit-is b (and_parts (is_digit b) _ (and_parts (is_digit b && all_digits ds) _ are).0).0 in
     (λ h k. omega (arith, k, is), λ h k. omega (arith, k, is))
-mark-ends byte (mark b ∷ pieces) are = let is = mark-is b (both (is_mark b) _ are).0 in (λ h k. is.no_star k, λ h k. is.no_hyphen k)
+mark-ends byte (mark b ∷ pieces) are = let is = mark-is b (and_parts (is_mark b) _ are).0 in (λ h k. is.no_star k, λ h k. is.no_hyphen k)
 
 -- a space before what is laid
 space-before : (lexemes : List Lexeme) (bytes : List ℕ) → LaidLexemes lexemes bytes → LaidLexemes lexemes (32 ∷ bytes)
@@ -203,17 +193,17 @@ pieces-laid [] are = inl ([], tt, refl)
 pieces-laid (space ∷ pieces) are = space-before (lexemes_of pieces) (bytes_of pieces) (pieces-laid pieces are)
 pieces-laid (letters [] ∷ pieces) are = cc
 pieces-laid (letters (b ∷ word) ∷ pieces) are =
-    let first = both (is_letter b && all_inner word) (ends_word pieces && are_pieces pieces) are in
-    let is = both (is_letter b) (all_inner word) first.0 in
-    let next = both (ends_word pieces) (are_pieces pieces) first.1 in
+    let first = and_parts (is_letter b && all_inner word) (ends_word pieces && are_pieces pieces) are in
+    let is = and_parts (is_letter b) (all_inner word) first.0 in
+    let next = and_parts (ends_word pieces) (are_pieces pieces) first.1 in
     ([], b ∷ word, bytes_of pieces, refl, ([], tt, refl), ((letter-is b is.0, each-inner word is.1), refl), word-ends (identifier (map upper (b ∷ word))) (λ byte none. none) pieces next.0 next.1, pieces-laid pieces next.1)
 pieces-laid (number [] ∷ pieces) are = cc
 pieces-laid (number (b ∷ ds) ∷ pieces) are =
-    let first = both (is_digit b && all_digits ds) (ends_word pieces && are_pieces pieces) are in
-    let is = both (is_digit b) (all_digits ds) first.0 in
-    let next = both (ends_word pieces) (are_pieces pieces) first.1 in
+    let first = and_parts (is_digit b && all_digits ds) (ends_word pieces && are_pieces pieces) are in
+    let is = and_parts (is_digit b) (all_digits ds) first.0 in
+    let next = and_parts (ends_word pieces) (are_pieces pieces) first.1 in
     ([], b ∷ ds, bytes_of pieces, refl, ([], tt, refl), (refl, omega arith, (digit-is b is.0, each-digit ds is.1)), word-ends (digits (b ∷ ds)) (λ byte none digit. none (inr (inl digit))) pieces next.0 next.1, pieces-laid pieces next.1)
 pieces-laid (mark b ∷ pieces) are =
-    let first = both (is_mark b) (are_pieces pieces) are in
+    let first = and_parts (is_mark b) (are_pieces pieces) are in
     let is = mark-is b first.0 in
     ([], b ∷ [], bytes_of pieces, refl, ([], tt, refl), (refl, is.low, is.high, λ h. is.no_inner (inl h), λ h. is.no_inner (inr (inl h)), is.no_apostrophe, is.no_quote), mark-ends b pieces first.1, pieces-laid pieces first.1)

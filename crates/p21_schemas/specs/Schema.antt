@@ -1,6 +1,10 @@
 -- A schema with all names resolved: an entity is its number among the entities, a type its number among the types, both in
 -- the order of the declarations (ISO 10303-11, Schema declaration).
 use Rattle.std.specs.Prelude.{◌≡◌, ℕ, Bool, true, List, [], Option, Some, None, slice_get}
+use Rattle.std.specs.Cmp.Lexicographic.{slice_cmp}
+use Rattle.std.specs.List.{AllZip}
+use Rattle.std.specs.List.Sorted.{IsStrictlySortedBy}
+use Rattle.std.specs.Ordering.{nat_cmp}
 
 -- an explicit attribute, by the entity that declares it and its number among those of that entity, redeclarations apart
 pub record Place : Type 0 where
@@ -77,6 +81,10 @@ pub record Schema : Type 0 where
 -- the entity of this number has this name
 abbrev pub EntityNamed : Schema → ℕ → List ℕ → Type 0
 EntityNamed s e name = (x : Entity) × (slice_get s.entities e ≡ Some x) × (x.name ≡ name)
+
+-- byte by byte, the name of each entity is above that of the one before it
+abbrev pub AreRisingByName : Schema → List ℕ → Type 0
+AreRisingByName s entities = (names : List (List ℕ)) × AllZip (EntityNamed s) entities names × IsStrictlySortedBy (slice_cmp nat_cmp) names
 
 -- the type of this number has this name
 abbrev pub TypeNamed : Schema → ℕ → List ℕ → Type 0

@@ -53,22 +53,3 @@ longest-at (c ∷ chars) (suc n) below front stop = (front zero (omega arith), l
 pub longest-all : (chars : List ℕ) → ((k : ℕ) → k < length chars → IsIdentifierByte (get_or chars k 0)) → IsLongest chars (length chars)
 longest-all [] front = tt
 longest-all (c ∷ chars) front = (front zero (omega arith), longest-all chars (λ k h. front (suc k) (omega (arith, h))))
-
-pub all-upper : (chars bytes : List ℕ) → length chars ≡ length bytes → ((k : ℕ) → k < length chars → upper (get_or chars k 0) ≡ get_or bytes k 0) → map upper chars ≡ bytes
-all-upper [] [] same each = refl
-all-upper [] (b ∷ bytes) same each = absurd (omega (arith, same))
-all-upper (c ∷ chars) [] same each = absurd (omega (arith, same))
-all-upper (c ∷ chars) (b ∷ bytes) same each =
-    ap (λ (l : List ℕ). upper c ∷ l) (all-upper chars bytes (omega (arith, same)) (λ k h. each (suc k) (omega (arith, h)))) ∙ ap (λ (x : ℕ). x ∷ bytes) (each zero (omega arith))
-
-pub upper-at : (chars bytes : List ℕ) → map upper chars ≡ bytes → (k : ℕ) → k < length chars → upper (get_or chars k 0) ≡ get_or bytes k 0
-upper-at [] bytes is k h = absurd (omega (arith, h))
-upper-at (c ∷ chars) [] is k h = cc
-upper-at (c ∷ chars) (b ∷ bytes) is zero h = cc
-upper-at (c ∷ chars) (b ∷ bytes) is (suc k) h = upper-at chars bytes (cc) k (omega (arith, h))
-
-pub upper-length : (chars bytes : List ℕ) → map upper chars ≡ bytes → length chars ≡ length bytes
-upper-length [] [] is = refl
-upper-length [] (b ∷ bytes) is = cc
-upper-length (c ∷ chars) [] is = cc
-upper-length (c ∷ chars) (b ∷ bytes) is = let later : length chars ≡ length bytes = upper-length chars bytes (cc) in omega (arith, later)

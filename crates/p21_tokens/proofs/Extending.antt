@@ -17,7 +17,7 @@ use Rattle.p21_tokens_automaton.proofs.Steps.{lex-nil}
 use Rattle.p21_tokens_automaton.proofs.Theorems.{laid_read, tail-is, tail-ends, form-ends, steps-on, laid-up-to, size-is, one-laying, same-tokens}
 use Rattle.std.proofs.lemmas.Bool.{cond_both}
 use Rattle.std.proofs.lemmas.Bool.Decides.{nat_tests}
-use Rattle.p21_tokens_automaton.specs.Bytes.{is_blank, is_digit, is_upper}
+use Rattle.p21_tokens_automaton.specs.Bytes.{is_blank, is_upper}
 use Rattle.p21_tokens_automaton.specs.Step.{advance, mark_action}
 use Rattle.p21_tokens_automaton.specs.declared.mode.Action.{Action}
 use Rattle.p21_tokens_automaton.specs.declared.mode.Action.TheVariants.{Pass, Keep, End, Refuse}
@@ -40,6 +40,7 @@ use Rattle.p21_tokens.specs.Token.{meant, waits}
 use Rattle.p21_tokens.specs.declared.fault.TokenFault.{TokenFault}
 use Rattle.p21_tokens.specs.declared.fault.TokenFault.TheVariants as fault
 use Rattle.p21_tokens.specs.declared.token.Token.{Token as TokenRead}
+use Rattle.p21_basics.specs.Digits.{is_digit}
 
 -- ---- a new lexer
 
@@ -103,9 +104,6 @@ same-state v w r =
     let e : open_at (state_of v) ≡ open_at (state_of w) = ap (λ (a : Answer). a.ending) (sym (lex-nil (state_of v)) ∙ (r.rest_is [] ∙ lex-nil (state_of w))) in cc
 
 -- ---- bytes that gave no token
-
-none-call : List ℕ → TokenHistory
-none-call bytes = record { taken = bytes; seen = None; given = []; refusal = None }
 
 live-none : (v w : Held) (h : TokenHistory) (bytes : List ℕ) → IsLive v h → IsOffered h.seen bytes → SameLimits v w → TakesRun v bytes w → IsLive w (record { taken = h.taken ++ bytes; seen = seen_behind h.seen bytes None; given = h.given ++ []; refusal = None })
 live-none v w h bytes live o s r = record {

@@ -102,23 +102,20 @@ finish-names v (Err x) r e = finish-wrong v x r e.1 e.2
 
 -- ---- a lexer that has refused
 
-dead-history : (v : Held) (h : TokenHistory) (x : TokenFault) → v.refused ≡ Some x → Stands v h → h.refusal ≡ None → ⊥
+pub refused-none : (v : Held) (h : TokenHistory) (x : TokenFault) → v.refused ≡ Some x → Stands v h → h.refusal ≡ None → ⊥
 unfolding Stands
-dead-history v h x e s alive = let p : v.refused ≡ None = s.0 ∙ alive in cc
+refused-none v h x e s alive = let p : v.refused ≡ None = s.0 ∙ alive in cc
 
 pub next-refused : (v w : Held) (piece : List ℕ) (x : TokenFault) → v.refused ≡ Some x → NextGives v piece (Err x) w
-next-refused v w piece x e h s o alive = absurd (dead-history v h x e s alive)
-
-pub refused-none : (v : Held) (h : TokenHistory) (x : TokenFault) → v.refused ≡ Some x → Stands v h → h.refusal ≡ None → ⊥
-refused-none = dead-history
+next-refused v w piece x e h s o alive = absurd (refused-none v h x e s alive)
 
 pub finish-refused : (v : Held) (x : TokenFault) → v.refused ≡ Some x → FinishGives v (Err x)
 finish-refused v fault.NoMemory e = tt
-finish-refused v _ e = λ h s _ alive. absurd (dead-history v h _ e s alive)
+finish-refused v _ e = λ h s _ alive. absurd (refused-none v h _ e s alive)
 
 pub names-refused : (v : Held) (x : TokenFault) → v.refused ≡ Some x → FinishNames v (Err x)
 names-refused v fault.NoMemory e = tt
-names-refused v _ e = λ h s _ alive. absurd (dead-history v h _ e s alive)
+names-refused v _ e = λ h s _ alive. absurd (refused-none v h _ e s alive)
 
 -- ---- separators need no memory
 

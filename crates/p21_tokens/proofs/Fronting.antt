@@ -8,7 +8,7 @@ use Rattle.std.proofs.lemmas.Option.{slice_get_within, slice_get-get_or}
 use Rattle.std.proofs.Math.Seq.{take-add}
 use Rattle.p21_exchange.specs.Laying.{count_behind}
 use Rattle.p21_exchange.specs.Token as meaning
-use Rattle.p21_basics.specs.Digits.{IsDigit}
+use Rattle.p21_basics.specs.Digits.{IsDigit, is_digit}
 use Rattle.std.specs.List.{AllByRecursion as Each}
 use Rattle.p21_exchange.specs.Keyword.{IsUpper, IsKeywordByte, IsKeyword}
 use Rattle.p21_exchange.specs.Number as number
@@ -20,9 +20,9 @@ use Rattle.p21_tokens_automaton.proofs.Runs.{run-names, run-puts}
 use Rattle.p21_tokens_automaton.proofs.Steps.{lex-nil, lex-pass, lex-skip, lex-give, lex-end}
 use Rattle.p21_tokens_automaton.proofs.TokenRuns.{waits-keyword, waits-whole, waits-real}
 use Rattle.p21_tokens_automaton.proofs.Waits.{Waits}
-use Rattle.p21_tokens_automaton.specs.Bytes.{is_blank, is_digit, is_keyword_byte}
+use Rattle.p21_tokens_automaton.specs.Bytes.{is_blank, is_keyword_byte}
 use Rattle.p21_tokens_automaton.specs.Meaning.{found_of}
-use Rattle.p21_tokens_automaton.specs.Reading.{known, State, start, Answer, nothing_but, open_at, before, Found, single_token, ended, lex}
+use Rattle.p21_tokens_automaton.specs.Reading.{known, State, start, before, Found, single_token, ended, lex}
 use Rattle.p21_tokens_automaton.specs.Step.{advance}
 use Rattle.p21_tokens_automaton.specs.Run.{AreNameDigits, EachDoes}
 use Rattle.p21_tokens_automaton.specs.declared.mode.Mode.TheVariants.{Between, Name, Text, Word}
@@ -40,6 +40,7 @@ use Rattle.p21_tokens.specs.Token.{meant, waits}
 use Rattle.p21_tokens.specs.declared.token.Token.{Token}
 use Rattle.p21_tokens.proofs.Scanning.{Along, behind-those, byte-behind, run-join, along-gave}
 use Rattle.p21_tokens.proofs.Stepping.{ended-waits, single-at_once, waits-count}
+use Rattle.p21_tokens_automaton.proofs.Theorems.{same-open}
 
 -- separators alone lead nowhere
 blank-reads : (bytes : List ℕ) → AreBlank bytes → lex start bytes ≡ lex start []
@@ -49,16 +50,10 @@ blank-reads (b ∷ bytes) k = lex-pass start Between b bytes (passes b k.0) ∙ 
     passes : (b : ℕ) → is_blank b ≡ true → advance Between b ≡ Pass Between
     passes b e = rw e refl
 
-same-state : (s t : State) → nothing_but (open_at s) ≡ nothing_but (open_at t) → s ≡ t
-same-state s t e = of_ending s t (ap (λ (a : Answer). a.ending) e)
-  where
-    of_ending : (s t : State) → open_at s ≡ open_at t → s ≡ t
-    of_ending s t e = cc
-
 no-blanks : (bytes : List ℕ) (state : State) (found : Found) → ((rest : List ℕ) → lex start (bytes ++ rest) ≡ lex state rest) → ended state ≡ Some found → AreBlank bytes → ⊥
 no-blanks bytes state found reaches e k =
     let reads : lex start bytes ≡ lex state [] = ap (λ (x : List ℕ). lex start x) (sym (append-nil bytes)) ∙ reaches [] in
-    let same : start ≡ state = same-state start state (sym (lex-nil start) ∙ (sym (blank-reads bytes k) ∙ (reads ∙ lex-nil state))) in
+    let same : start ≡ state = same-open start state (sym (lex-nil start) ∙ (sym (blank-reads bytes k) ∙ (reads ∙ lex-nil state))) in
     let none : ended start ≡ Some found = ap ended same ∙ e in
     cc
 

@@ -2,16 +2,16 @@
 use Rattle.std.proofs.Common.{◌≡◌, ℕ, zero, suc, ◌+◌, ◌-◌, ◌^◌, ◌≤◌, ◌<◌, Bool, true, false, cond, List, [], ◌∷◌, ◌++◌, ◌⊎◌, inl, inr, length, length-append, length-drop, take, drop, refl, sym, ap, ◌∙◌, subst, append_assoc, append-nil, arith, take_all, Option, Some, None, Result, Ok, Err}
 use Rattle.std.specs.List.{slice_get, slice_range}
 use Rattle.std.proofs.lemmas.List.{take-append-drop}
-use Rattle.p21_basics.specs.History.{extended, seen_behind, first_refusal, looked_at, IsOffered, empty}
+use Rattle.p21_basics.specs.History.{extended, seen_behind, first_refusal, looked_at, IsOffered}
 use Rattle.p21_exchange.specs.Laying.{Lexeme, Laid, LaidAs, HoldsScalar, open_bytes, count_behind, tokens_in}
 use Rattle.p21_basics.specs.Limits.{text_limit}
 use Rattle.p21_exchange.specs.Pending.{Tail, nothing, unfinished, slash, open_comment, tail_bytes, tail_size, LaidUpTo}
-use Rattle.p21_exchange.specs.Token.{Token, IsScalarToken, Spells}
+use Rattle.p21_exchange.specs.Token.{Token, IsScalarToken, Spells, IsSpelled}
 use Rattle.p21_tokens_automaton.proofs.Theorems.{one-laying}
 use Rattle.p21_tokens.specs.Finding.{FindsScalar, FindsOnly}
 use Rattle.p21_exchange.specs.Spelling.{spelling}
-use Rattle.p21_tokens_automaton.proofs.Spellings.{same-spelling, spells-itself}
-use Rattle.p21_tokens_automaton.specs.SameToken.{IsSpelled}
+use Rattle.p21_exchange.proofs.CanonicalSpellings.{spells-itself}
+use Rattle.p21_tokens_automaton.proofs.Spellings.{same-spelling}
 use Rattle.p21_tokens.specs.Parameter.{AreNoScalar, HoldsOthers, stand_first, are_all, EndsUnfinished, IsRefusedFor, at_byte, at_end, IsAnswer, IsRefusal}
 use Rattle.p21_tokens.proofs.Extending.{stands-laid, take-one}
 use Rattle.p21_tokens.proofs.Following.{count-le}
@@ -38,9 +38,6 @@ pub record Kept (v : Held) (bytes rest : List ℕ) (found : Option TokenRead) : 
   pub within : length bytes ≤ text_limit
   pub statement_limit : v.statement_limit ≡ 2 ^ 29
   pub file_limit : v.file_limit ≡ 2 ^ 36
-
-pub kept-new : (v : Held) (bytes : List ℕ) → Stands v empty → length bytes ≤ text_limit → v.statement_limit ≡ 2 ^ 29 → v.file_limit ≡ 2 ^ 36 → Kept v bytes bytes None
-kept-new v bytes s l m n = record { history = empty; stands = s; alive = refl; all_is = refl; given_is = refl; goes = tt; scalar = tt; within = l; statement_limit = m; file_limit = n }
 
 offered : (seen : Option ℕ) (rest : List ℕ) → GoesOn seen rest → IsOffered seen rest
 offered None rest g = tt

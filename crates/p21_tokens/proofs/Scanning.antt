@@ -4,7 +4,7 @@ use Rattle.std.specs.List.{slice_get, slice_range}
 use Rattle.std.proofs.lemmas.List.{take_more}
 use Rattle.std.proofs.lemmas.List.{get_or-drop}
 use Rattle.std.proofs.lemmas.Option.{slice_get_within, slice_get-get_or, get_or_from_slice_get}
-use Rattle.std.proofs.Math.Seq.{take-length, take-add}
+use Rattle.std.proofs.Math.Seq.{take-add}
 use Rattle.p21_tokens.specs.Held.{Held}
 use Rattle.p21_tokens.specs.Steps.{AreBlank, rest_of, SameLimits, RefusesAt, RefusesByte, Steps, TakesRun, Runs, Scans, ScansToken, Walks, gave, handed}
 use Rattle.p21_tokens.specs.declared.fault.TokenFault.{TokenFault}
@@ -118,8 +118,3 @@ module _ (v w u : Held) (piece : List ℕ) (n : ℕ) (a : Along v w piece n) whe
       on_rest : RefusesAt w (drop n piece) x u → RefusesAt v piece x u
       on_rest (middle, m, byte, is, same, run, limits, refuses, pending) =
           (middle, n + m, byte, byte-behind piece n m byte is, limits-after v w middle a.same same, subst (λ (y : List ℕ). TakesRun v y middle) (sym (take-add n m piece)) (on middle (take m (drop n piece)) run), limits-after v w u a.same limits, refuses, pending)
-
-pub along-all : (v w : Held) (piece : List ℕ) (n : ℕ) → length piece ≤ n → Along v w piece n → Scans v piece (Ok (n, None)) w
-along-all v w piece n l a =
-    let whole : n ≡ length piece = let k = a.within in omega arith in
-    (a.same, (whole, subst (λ (x : List ℕ). TakesRun v x w) (ap (λ (k : ℕ). take k piece) whole ∙ take-length piece) a.run))

@@ -4,8 +4,8 @@ use Rattle.p21_exchange.specs.Laying.{Lexeme, Laid, tokens_in, HoldsScalar}
 use Rattle.p21_exchange.specs.Pending.{Tail, LaidUpTo}
 use Rattle.p21_basics.specs.Limits.{text_limit}
 use Rattle.p21_exchange.specs.Spelling.{spelling}
-use Rattle.p21_exchange.specs.Token.{Token, Spells, IsScalarToken}
-use Rattle.p21_tokens_automaton.specs.SameToken.{IsSpelled, SameToken}
+use Rattle.p21_exchange.specs.Token.{Token, Spells, IsScalarToken, IsSpelled}
+use Rattle.p21_tokens_automaton.specs.SameToken.{SameToken}
 use Rattle.p21_tokens.specs.Histories.{NamesByte, NamesEnd}
 use Rattle.p21_tokens.specs.declared.fault.TokenFault.{TokenFault}
 use Rattle.p21_tokens.specs.declared.fault.TokenFault.TheVariants.{NotOneParameter, RecordTooLong, FileTooLong, EndsEarly, NoMemory}

@@ -1,6 +1,6 @@
 -- Characters of a string in UTF-8, read at once.
-use Rattle.std.proofs.Common.{◌≡◌, ℕ, zero, suc, ◌+◌, ◌<◌, true, false, ◌&&◌, List, [], ◌∷◌, ◌++◌, inl, inr, take, refl, sym, ap, ◌∙◌, subst, append_assoc, append-nil, arith, Bool}
-use Rattle.std.proofs.lemmas.Bool.{cases_lt}
+use Rattle.std.proofs.Common.{◌≡◌, ℕ, zero, suc, ◌+◌, ◌<◌, true, List, [], ◌∷◌, ◌++◌, inl, inr, take, refl, sym, ap, ◌∙◌, subst, append_assoc, append-nil, arith}
+use Rattle.std.proofs.lemmas.Bool.{cases_lt, and_parts}
 use Rattle.std.proofs.lemmas.Bool.Decides.{nat_tests}
 use Rattle.std.proofs.lemmas.List.{length-take-le}
 use Rattle.std.proofs.lemmas.Str.{encode_ascii, encodes-chars, scalars-chars}
@@ -35,10 +35,6 @@ each-taken (b ∷ bytes) (suc count) h = (
 ascii-puts : (c : ℕ) → c < 128 → is_character_byte c ≡ true → text_action Inside c ≡ Put (Text Inside) c
 ascii-puts c l h = grind (arith, nat_tests)
 
-both-true : (a b : Bool) → (a && b) ≡ true → (a ≡ true) × (b ≡ true)
-both-true true b h = (refl, h)
-both-true false b h = absurd cc
-
 character-run : (c : ℕ) (behind : List ℕ) → IsScalar c → EachCharacterByte (encode c ++ behind) → (a : List ℕ) → Runs Inside a (encode c) Inside (a ++ c ∷ [])
 character-run c behind s h a =
     elim (cases_lt c 128) [
@@ -51,7 +47,7 @@ character-run c behind s h a =
 characters-run : (cs : List ℕ) → scalars cs ≡ true → EachCharacterByte (encodes cs) → (a : List ℕ) → Runs Inside a (encodes cs) Inside (a ++ cs)
 characters-run [] s h a = subst (λ (x : List ℕ). Runs Inside a [] Inside x) (sym (append-nil a)) (runs-none Inside a)
 characters-run (c ∷ cs) s h a =
-    let parts = both-true (scalar c) (scalars cs) s in
+    let parts = and_parts (scalar c) (scalars cs) s in
     subst (λ (x : List ℕ). Runs Inside a (encode c ++ encodes cs) Inside x) (append_assoc a (c ∷ []) cs)
     (runs-join Inside Inside Inside a (a ++ c ∷ []) ((a ++ c ∷ []) ++ cs) (encode c) (encodes cs)
     (character-run c (encodes cs) parts.0 h a) (characters-run cs parts.1 (each-behind (encode c) (encodes cs) h) (a ++ c ∷ [])))

@@ -1,5 +1,5 @@
 -- What `hex` makes of one upper-case digit behind a zero.
-use Rattle.std.proofs.Common.{◌≡◌, ℕ, ◌+◌, ◌<◌, ◌*◌, true, List, [], ◌∷◌, ap, arith, Some, Result, Ok, Err}
+use Rattle.std.proofs.Common.{◌≡◌, ℕ, ◌+◌, ◌*◌, true, List, [], ◌∷◌, ap, arith, Some, Result, Ok, Err}
 use Rattle.std.proofs.lemmas.Bool.Decides.{nat_tests}
 use Rattle.hex.specs.Hex.{decode_sized, decode_pairs, hex_digit_value}
 use Rattle.hex.specs.declared.error.FromHexError.{FromHexError}
@@ -14,9 +14,6 @@ digit-decodes b h = rw (digit-value b h) (ap (λ (x : ℕ). Ok (x ∷ [])) (zero
   where
     zero-times : (n : ℕ) → 0 * 16 + n ≡ n
     zero-times n = omega arith
-
-pub digit-small : (b : ℕ) → is_hex b ≡ true → hex_value b < 16
-digit-small b h = grind (arith, nat_tests)
 
 pub one-byte : (a : ℕ) (r : Result (List ℕ) FromHexError) (bytes : List ℕ) → r ≡ Ok bytes → r ≡ Ok (a ∷ []) → bytes ≡ a ∷ []
 one-byte a r bytes e f = cc

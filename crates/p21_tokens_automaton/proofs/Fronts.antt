@@ -79,10 +79,6 @@ not-empty lexemes last l =
     nothing-read : (founds : List Sized) → all_of (lex start []) ≡ Some founds → founds ≡ []
     nothing-read founds e = let same : Some [] ≡ Some founds = sym (ap all_of (lex-nil start)) ∙ e in cc
 
-follows-more : (token : Token) (spelling rest more : List ℕ) (lexemes : List Lexeme) (last : Lexeme) → LaidAs rest (lexemes ++ last ∷ []) → IsFollowed token spelling rest → IsFollowed token spelling (rest ++ more)
-follows-more token spelling [] more lexemes last l f = absurd (not-empty lexemes last l)
-follows-more token spelling (b ∷ rest) more lexemes last l f = f
-
 -- a spelling and a byte behind it
 one-token : (token : Token) (spelling : List ℕ) (b : ℕ) (rest : List ℕ) → Spells token spelling → IsFollowed token spelling (b ∷ rest) → lex start (spelling ++ b ∷ rest) ≡ before (record { found = found_of token spelling; size = length spelling }) (lex start (b ∷ rest))
 one-token token spelling b rest s f = elim (readings token spelling s) [

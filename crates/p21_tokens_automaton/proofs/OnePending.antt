@@ -4,7 +4,7 @@ use Rattle.p21_exchange.specs.Laying.{Lexeme, count_behind, open_bytes}
 use Rattle.p21_exchange.specs.Pending.{Tail, nothing, unfinished, slash, open_comment, tail_bytes, tail_size, BeginsNoSeparator, IsTail, LaidUpTo, IsPending}
 use Rattle.p21_exchange.specs.Separator.{blank, comment}
 use Rattle.p21_exchange.specs.Token.{Token, begin, finish, keyword, user_keyword, name, whole, real, text, item, bits, left, right, comma, semicolon, equals, dollar, star, Spells, IsFollowed, IsWholeAtOnce}
-use Rattle.p21_exchange.proofs.FirstBytes.{spelling_begins}
+use Rattle.p21_exchange.proofs.FirstBytes.{spelling_begins, no-spelling, slash-first}
 use Rattle.p21_exchange.proofs.OneGap.{HasNoSeparator, gap-one}
 use Rattle.p21_basics.proofs.Members.{head_is, tail_is}
 use Rattle.p21_tokens_automaton.specs.Meaning.{Means, found_of}
@@ -107,25 +107,17 @@ count-more equals size count open_ = refl
 count-more dollar size count open_ = refl
 count-more star size count open_ = refl
 
-no-spelling : (token : Token) (spelling rest : List ℕ) → Spells token spelling → spelling ++ rest ≡ [] → ⊥
-no-spelling token [] rest spells same = spelling_begins token [] spells
-no-spelling token (byte ∷ bytes) rest spells same = cc
-
 nothing-in : (gap rest : List ℕ) → [] ≡ gap ++ rest → rest ≡ []
 nothing-in [] rest same = sym same
 nothing-in (byte ∷ gap) rest same = cc
 
 -- no bytes have no token bytes
-none-pending : (lexemes : List Lexeme) (tail : Tail) (count : ℕ) → LaidUpTo [] lexemes tail → open_bytes count lexemes + tail_size tail ≡ count
+pub none-pending : (lexemes : List Lexeme) (tail : Tail) (count : ℕ) → LaidUpTo [] lexemes tail → open_bytes count lexemes + tail_size tail ≡ count
 none-pending [] nothing count laid = omega arith
 none-pending [] slash count laid = omega arith
 none-pending [] (open_comment inside) count laid = omega arith
 none-pending [] (unfinished bytes) count (gap, is, separates, tail_is_) = absurd (subst BeginsNoSeparator (nothing-in gap bytes is) tail_is_.first)
 none-pending (lexeme ∷ lexemes) tail count (gap, spelling, rest, is, separates, spells, size, followed, more) = absurd (no-spelling lexeme.token spelling rest spells (nothing-in gap (spelling ++ rest) is))
-
-slash-first : (token : Token) (spelling rest more : List ℕ) → Spells token spelling → spelling ++ rest ≡ 47 ∷ more → ⊥
-slash-first token [] rest more spells same = spelling_begins token [] spells
-slash-first token (byte ∷ bytes) rest more spells same = (spelling_begins token (byte ∷ bytes) spells).2 (head_is byte 47 _ _ same)
 
 -- a last token counts as much as one that is not known to be whole
 last-counts : (l : Lexeme) (lexemes : List Lexeme) (tail other : Tail) (spelling rest : List ℕ) (count : ℕ) → Spells l.token spelling → l.size ≡ length spelling → IsFollowed l.token spelling rest → LaidUpTo rest lexemes tail → IsTail other → spelling ++ rest ≡ tail_bytes other

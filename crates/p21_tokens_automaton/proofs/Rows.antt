@@ -1,20 +1,12 @@
 -- Bytes of a class behind those that are known to be of it.
-use Rattle.std.proofs.Common.{◌≡◌, ℕ, suc, ◌+◌, ◌-◌, ◌*◌, ◌<◌, ◌≤◌, Bool, true, false, not, cond, inl, inr, List, [], ◌∷◌, map, length, slice_index, refl, sym, ap, ◌∙◌, arith}
-use Rattle.std.proofs.lemmas.Bool.{cases_lt}
+use Rattle.std.proofs.Common.{◌≡◌, ℕ, suc, ◌+◌, ◌-◌, ◌*◌, ◌<◌, ◌≤◌, Bool, true, false, not, cond, inl, inr, List, [], ◌∷◌, map, length, slice_index, sym, ap, ◌∙◌, arith}
+use Rattle.std.proofs.lemmas.Bool.{cases_lt, not-true, not-false}
 use Rattle.std.specs.List.{prefix_len}
 use Rattle.std.proofs.lemmas.Simd.{none_from_empty_mask, trailing_mask_l, run_in_chunk_le, run_in_chunk_fails, run_in_chunk_stops, length-chunk, get_or-chunk}
 use lib.Count.{count_trailing_zeros}
 use lib.Lanes.{chunk, mask_l}
 use Rattle.p21_tokens_automaton.specs.Run.{AreOf, is_of, is_other}
 use Rattle.p21_tokens_automaton.specs.declared.run.Class.{Class}
-
-of-class : (b : Bool) → not b ≡ false → b ≡ true
-of-class true h = refl
-of-class false h = absurd cc
-
-not-of-class : (b : Bool) → not b ≡ true → b ≡ false
-not-of-class true h = absurd cc
-not-of-class false h = refl
 
 first-set : (b : Bool) (n m l : ℕ) → 0 < cond b 1 0 + 2 * n → (0 < n → m < l) → cond (not b) (1 + m) 0 < suc l
 first-set true n m l some f = omega arith
@@ -31,7 +23,7 @@ module _ (class : Class) (bytes : List ℕ) (count : ℕ) (known : AreOf class b
     within = room;
     each = λ k l. elim (cases_lt k count) [
       | inl less ↦ known.each k less
-      | inr from ↦ of-class _ (h k from l)
+      | inr from ↦ not-false _ (h k from l)
     ];
   }
 
@@ -55,7 +47,7 @@ module _ (class : Class) (bytes : List ℕ) (count : ℕ) (known : AreOf class b
       let n = count_trailing_zeros 64 (mask_l (map (is_other class) row)) in
       let counted = trailing_mask_l (is_other class) 64 row (omega (arith, long)) some in
       let short : n < 32 = omega (arith, counted, long, some-short (is_other class) row some) in
-      not-of-class _ (run_in_chunk_stops (is_other class) bytes count 32 n 0 room counted short)
+      not-true _ (run_in_chunk_stops (is_other class) bytes count 32 n 0 room counted short)
 
   -- those at the front of what is left
   pub few-more : (n : ℕ) → AreOf class (chunk count (length bytes - count) bytes) n → AreOf class bytes (count + n)

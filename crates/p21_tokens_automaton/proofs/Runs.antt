@@ -2,7 +2,6 @@
 use Rattle.std.proofs.Common.{◌≡◌, ℕ, zero, suc, ◌+◌, ◌-◌, ◌*◌, ◌^◌, ◌<◌, ◌≤◌, true, inl, inr, List, [], ◌∷◌, ◌++◌, length, take, slice_index, refl, sym, ap, ◌∙◌, subst, append_assoc, append-nil, arith, lt-ltb}
 use Rattle.std.proofs.lemmas.Bool.{cases_lt}
 use Rattle.std.proofs.lemmas.List.{take_more}
-use Rattle.p21_tokens_automaton.specs.Bytes.{is_digit}
 use Rattle.p21_tokens_automaton.specs.Step.{advance}
 use Rattle.p21_tokens_automaton.specs.Reading.{State, lex}
 use Rattle.p21_tokens_automaton.specs.Run.{EachDoes, AreNameDigits, name_value}
@@ -12,6 +11,7 @@ use Rattle.p21_tokens_automaton.specs.declared.mode.NameMode.TheVariants.{Digits
 use Rattle.p21_tokens_automaton.specs.declared.mode.Action.{Action}
 use Rattle.p21_tokens_automaton.specs.declared.mode.Action.TheVariants.{Pass, Skip, Keep, Put}
 use Rattle.p21_tokens_automaton.proofs.Steps.{lex-pass, lex-skip, lex-keep, lex-put}
+use Rattle.p21_basics.specs.Digits.{is_digit}
 
 rest-does : (mode : Mode) (does : ℕ → Action) (b : ℕ) (bytes : List ℕ) (count : ℕ) → EachDoes mode (b ∷ bytes) (suc count) does → EachDoes mode bytes count does
 rest-does mode does b bytes count h = record { within = let w = h.within in omega arith; each = λ k l. h.each (suc k) (omega arith) }

@@ -1,11 +1,10 @@
 -- One byte of the reading, by the action that it calls for.
 use Rattle.std.proofs.Common.{◌≡◌, ℕ, ◌+◌, List, [], ◌∷◌, ◌++◌, refl, ap, ◌∙◌, Option, Some}
 use Rattle.p21_tokens_automaton.specs.Step.{advance}
-use Rattle.p21_tokens_automaton.specs.Reading.{State, start, pass, skip, keep, put, Answer, nothing_but, before, Goes, Found, known, single_token, ended, closed, marker_of, given_first, dashed, first, act, lex, stopped, open_at}
+use Rattle.p21_tokens_automaton.specs.Reading.{State, start, pass, skip, keep, put, Answer, nothing_but, before, Goes, Found, known, single_token, ended, closed, marker_of, given_first, dashed, first, act, lex, open_at}
 use Rattle.p21_tokens_automaton.specs.declared.mode.Mode.{Mode}
 use Rattle.p21_tokens_automaton.specs.declared.mode.Mode.TheVariants.{Between}
 use Rattle.p21_tokens_automaton.specs.declared.mode.Single.{Single}
-use Rattle.p21_tokens_automaton.specs.declared.mode.Wrong.{Wrong}
 use Rattle.p21_tokens_automaton.specs.declared.mode.Action.{Action}
 use Rattle.p21_tokens_automaton.specs.declared.mode.Action.TheVariants.{Pass, Skip, Keep, Put, Give, Close, End, Dash, Refuse}
 
@@ -40,9 +39,6 @@ lex-close s f b bs e g = by_action s b bs Close e ∙ ap (λ (x : Option Found).
 
 pub lex-dash : (s : State) (m : Mode) (b : ℕ) (bs : List ℕ) → advance s.mode b ≡ Dash → marker_of s.kept ≡ Some m → lex s (b ∷ bs) ≡ lex (keep s m b) bs
 lex-dash s m b bs e g = by_action s b bs Dash e ∙ ap (λ (x : Option Mode). dashed x s b (λ next. lex next bs)) g
-
-pub lex-refuse : (s : State) (w : Wrong) (b : ℕ) (bs : List ℕ) → advance s.mode b ≡ Refuse w → lex s (b ∷ bs) ≡ nothing_but (stopped w)
-lex-refuse s w b bs e = by_action s b bs (Refuse w) e
 
 pub first-act : (a : Action) (b : ℕ) (go : Goes) → first a b go ≡ act a start b go
 first-act (Pass m) b go = refl

@@ -24,16 +24,13 @@ use Rattle.p21_tokens_automaton.proofs.Utf16.{groups-one, groups-from_pair}
 use Rattle.p21_tokens_automaton.proofs.Utf8.{two-lead, three-lead, four-lead}
 use Rattle.p21_tokens_automaton.proofs.TextFits.{InString, InGroups, BehindGroup, InEnd, IsPart, IsHighSurrogate, LeadsToLast, LeadsToSecond, LeadsToThird, TextFits}
 use Rattle.p21_tokens_automaton.proofs.Fits.{EndFits, StepFits}
-
-each-push : {A : Type 0} (P : A → Type 0) (xs : List A) (x : A) → Each P xs → P x → Each P (xs ++ x ∷ [])
-each-push P [] x h p = (p, tt)
-each-push P (y ∷ ys) x h p = (h.0, each-push P ys x h.1 p)
+use Rattle.p21_basics.proofs.Members.{Each-append}
 
 -- one more unit
 pub Encodes-more : (inside characters : List ℕ) → Encodes inside characters → (unit : StringUnit) → IsStringUnit unit → Encodes (inside ++ unit_bytes unit) (characters ++ unit_characters unit)
 Encodes-more inside characters e unit h = record {
   units = e.units ++ unit ∷ [];
-  are_units = each-push IsStringUnit e.units unit e.are_units h;
+  are_units = Each-append IsStringUnit e.units (unit ∷ []) e.are_units (h, tt);
   bytes_are = ap (λ x. x ++ unit_bytes unit) e.bytes_are ∙ flat_map_more unit_bytes [] e.units unit;
   characters_are = ap (λ x. x ++ unit_characters unit) e.characters_are ∙ flat_map_more unit_characters [] e.units unit;
 }
@@ -47,9 +44,6 @@ in_string-more characters tail front byte s =
 in_string-unit : (characters front : List ℕ) (unit : StringUnit) → IsStringUnit unit → InString characters (unit_bytes unit) front → InString (characters ++ unit_characters unit) [] front
 in_string-unit characters front unit h s =
     (s.0 ++ unit_bytes unit, s.1 ∙ ap (λ x. 39 ∷ x) (sym (append-nil (s.0 ++ unit_bytes unit))), Encodes-more s.0 characters s.2 unit h)
-
-pub text-fits-first : TextFits text_mode.Inside [] (39 ∷ [])
-text-fits-first = ([], refl, record { units = []; are_units = tt; bytes_are = refl; characters_are = refl })
 
 -- Groups of `\X2\` and `\X4\`
 
@@ -91,7 +85,7 @@ behind_group mark group characters front character h g =
       front_is = g.front_is ∙ ap (λ x. 39 ∷ (g.inside ++ (92 ∷ 88 ∷ mark ∷ 92 ∷ x))) (flat_map_more group [] g.own character ∙ sym (append-nil (flat_map group (g.own ++ character ∷ []))));
       encodes = g.encodes;
       characters_are = ap (λ x. x ++ character ∷ []) g.characters_are ∙ append_assoc g.outer g.own (character ∷ []);
-      are_scalars = each-push IsScalar g.own character g.are_scalars h;
+      are_scalars = Each-append IsScalar g.own (character ∷ []) g.are_scalars (h, tt);
     } in
     (groups, longer g.own character)
 

@@ -86,7 +86,7 @@ tail-is e (unfinished bytes) t = record {
   not_whole = λ token spelling rest q s k. gives token spelling rest e s k (ap (λ (x : List ℕ). lex start x) (sym q) ∙ t.2);
 }
 
-same-open : (s e : State) → nothing_but (open_at s) ≡ nothing_but (open_at e) → s ≡ e
+pub same-open : (s e : State) → nothing_but (open_at s) ≡ nothing_but (open_at e) → s ≡ e
 same-open s e q = let p : open_at s ≡ open_at e = ap (λ (a : Answer). a.ending) q in cc
 
 same-waits : (e : State) (bytes : List ℕ) → TailIs e (unfinished bytes) → (token : Token) → (w : Waits token bytes) → w.state ≡ e

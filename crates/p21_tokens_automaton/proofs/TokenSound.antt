@@ -8,13 +8,13 @@ use Rattle.std.proofs.lemmas.Slice.Eq.{bytes_eq-Decides}
 use Rattle.std.specs.List.{AllByRecursion as Each}
 use Rattle.std.proofs.lemmas.Option.{none-some, same_Some}
 use Rattle.p21_basics.proofs.PlainDigits.{digits_append}
-use Rattle.p21_basics.specs.Digits.{IsDigit, AllDigits, number as number_of}
+use Rattle.p21_basics.specs.Digits.{IsDigit, AllDigits, number as number_of, is_digit}
 use Rattle.p21_exchange.specs.Keyword.{IsKeyword, IsKeywordByte}
 use Rattle.p21_exchange.specs.Name.{SpellsName}
 use Rattle.p21_exchange.specs.Number.{Sign, none, plus, minus, sign_bytes, is_minus, signed, exponent, no_exponent, exponent_bytes, RealForm, SpellsReal, SpellsWhole}
 use Rattle.p21_exchange.specs.Token.{Token, Spells, MayFollow, HasNoExponent}
 use Rattle.p21_exchange.specs.Token as token
-use Rattle.p21_tokens_automaton.specs.Bytes.{is_digit, is_upper, is_keyword_byte, is_hex, hex_value, is_blank}
+use Rattle.p21_tokens_automaton.specs.Bytes.{is_upper, is_keyword_byte, is_hex, hex_value, is_blank}
 use Rattle.p21_tokens_automaton.specs.Meaning.{IsOfKind, Means}
 use Rattle.p21_tokens_automaton.specs.Step.{behind_digit, no_digit, number_action, marker_text, marker_action, word_action, name_digit, name_action, padded, binary_action, mark_action, between_action, text_action, advance}
 use Rattle.p21_tokens_automaton.specs.Reading.{Found, Kind, keyword, user_keyword, whole, real, item, bits, known, spelled, marker_token, ended}

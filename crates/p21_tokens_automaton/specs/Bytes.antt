@@ -1,8 +1,6 @@
 -- Classes of bytes, as tests.
 use Rattle.std.specs.Prelude.{ℕ, ◌-◌, Bool, nat_le, ◌==◌, ◌&&◌, ◌||◌, if◌then◌else◌}
-
-abbrev pub is_digit : ℕ → Bool
-is_digit byte = nat_le 48 byte && nat_le byte 57
+use Rattle.p21_basics.specs.Digits.{is_digit}
 
 abbrev pub is_upper : ℕ → Bool
 is_upper byte = nat_le 65 byte && nat_le byte 90 || byte == 95

@@ -1,6 +1,6 @@
 -- Bytes at the front that a reader takes all alike, and that leave it where it stands.
 use Rattle.std.specs.Prelude.{◌≡◌, ℕ, ◌+◌, ◌-◌, ◌*◌, ◌^◌, ◌<◌, ◌≤◌, Bool, true, not, nat_le, ◌==◌, ◌&&◌, List, [], ◌∷◌, length, take, slice_index}
-use Rattle.p21_tokens_automaton.specs.Bytes.{is_digit, is_keyword_byte, is_hex, is_blank}
+use Rattle.p21_tokens_automaton.specs.Bytes.{is_keyword_byte, is_hex, is_blank}
 use Rattle.p21_tokens_automaton.specs.Step.{advance}
 use Rattle.p21_tokens_automaton.specs.declared.mode.Mode.{Mode}
 use Rattle.p21_tokens_automaton.specs.declared.mode.Mode.TheVariants.{Name, Text}
@@ -12,6 +12,7 @@ use Rattle.p21_tokens_automaton.specs.declared.run.Class.{Class}
 use Rattle.p21_tokens_automaton.specs.declared.run.Class.TheVariants.{Blank, Commented, Digit, KeywordByte, HexDigit, Plain, CharacterByte}
 use Rattle.p21_tokens_automaton.specs.declared.run.Run.{Run}
 use Rattle.p21_tokens_automaton.specs.declared.run.Run.TheVariants.{Passed, Kept, Characters, Named, Utf8}
+use Rattle.p21_basics.specs.Digits.{is_digit}
 
 -- the byte may be one of a character of a string in UTF-8
 abbrev pub is_character_byte : ℕ → Bool

@@ -1,11 +1,7 @@
 -- When two tokens mean the same, whatever their spellings (ISO 10303-21, clause 6: tokens).
-use Rattle.std.specs.Prelude.{◌≡◌, ℕ, List}
+use Rattle.std.specs.Prelude.{◌≡◌}
 use Rattle.p21_exchange.specs.Number.{SameRatio, ratio_of}
-use Rattle.p21_exchange.specs.Token.{Token, real, Spells}
-
--- some bytes spell the token
-abbrev pub IsSpelled : Token → Type 0
-IsSpelled token = (bytes : List ℕ) × Spells token bytes
+use Rattle.p21_exchange.specs.Token.{Token, real}
 
 -- reals are the same where their ratios are equal, other tokens where they are equal
 abbrev pub SameToken : Token → Token → Type 0

@@ -2,7 +2,7 @@
 -- proofs/Complete and proofs/Sound join it to the tokens that are laid in bytes.
 use Rattle.std.specs.Prelude.{ℕ, ◌+◌, ◌-◌, ◌*◌, ◌%◌, ◌^◌, Bool, nat_le, nat_lt, ◌==◌, ◌&&◌, ◌||◌, if◌then◌else◌, List, length, Option, Some, None, codes, slice_get}
 use lib.Utf8.{scalar}
-use Rattle.p21_tokens_automaton.specs.Bytes.{is_digit, is_upper, is_keyword_byte, is_hex, hex_value, is_blank}
+use Rattle.p21_tokens_automaton.specs.Bytes.{is_upper, is_keyword_byte, is_hex, hex_value, is_blank}
 use Rattle.p21_tokens_automaton.specs.declared.mode.Mode.{Mode}
 use Rattle.p21_tokens_automaton.specs.declared.mode.Mode.TheVariants.{Between, Slash, Comment, Star, Number, Word, Name, Binary, Text}
 use Rattle.p21_tokens_automaton.specs.declared.mode.NumberMode.{NumberMode}
@@ -22,6 +22,7 @@ use Rattle.p21_tokens_automaton.specs.declared.mode.Absent.TheVariants.{Scope, V
 use Rattle.p21_tokens_automaton.specs.declared.mode.Wrong.TheVariants as wrong
 use Rattle.p21_tokens_automaton.specs.declared.mode.Action.{Action}
 use Rattle.p21_tokens_automaton.specs.declared.mode.Action.TheVariants.{Pass, Skip, Keep, Put, Give, Close, End, Dash, Refuse}
+use Rattle.p21_basics.specs.Digits.{is_digit}
 
 -- the part of a number that a digit belongs to
 abbrev pub behind_digit : NumberMode → NumberMode

@@ -1,5 +1,6 @@
+ghost use Rattle.p21_basics.specs.Digits.{is_digit};
 ghost use Rattle.std.specs.Prelude.{◌≡◌, ◌<◌, IsTrue};
-ghost use Rattle.p21_tokens_automaton.specs.Bytes.{is_digit, is_upper, is_keyword_byte, is_hex, hex_value, is_blank};
+ghost use Rattle.p21_tokens_automaton.specs.Bytes.{is_upper, is_keyword_byte, is_hex, hex_value, is_blank};
 
 use hex::FromHex;
 

@@ -1,5 +1,5 @@
+ghost use Rattle.p21_basics.specs.Digits.{is_digit};
 ghost use Rattle.std.specs.Prelude.{◌≡◌, ◌^◌, ◌<◌, ◌≤◌, ◌⊎◌, false, length, slice_index};
-ghost use Rattle.p21_tokens_automaton.specs.Bytes.{is_digit};
 ghost use Rattle.p21_tokens_automaton.specs.Run.{IsRun, AreNameDigits, AreOf, EachDoes, is_of};
 ghost use Rattle.p21_tokens_automaton.specs.declared.mode.Action.TheVariants.{Keep, Pass, Put};
 ghost use Rattle.p21_tokens_automaton.specs.declared.mode.Mode.TheVariants.{Between, Name, Text, Word};

@@ -1,18 +1,17 @@
 -- Binaries.
-use Rattle.std.proofs.Common.{◌≡◌, ℕ, zero, suc, ◌+◌, ◌-◌, ◌*◌, ◌/◌, ◌%◌, ◌^◌, ◌≤◌, ◌<◌, Bool, false, List, [], ◌∷◌, ◌++◌, length, map, take, drop, get_or, replicate, refl, ap, ap₂, sym, subst, ◌∙◌, arith, length-drop, length-take-le}
+use Rattle.std.proofs.Common.{◌≡◌, ℕ, suc, ◌+◌, ◌-◌, ◌*◌, ◌/◌, ◌^◌, ◌≤◌, ◌<◌, Bool, List, [], ◌∷◌, ◌++◌, length, map, take, drop, get_or, ap, ap₂, sym, subst, ◌∙◌, arith, length-drop, length-take-le}
 use Rattle.std.proofs.lemmas.Bool.Decides.{nat_tests}
 use Rattle.std.proofs.lemmas.List.{length-map, take-append-drop, take_more}
-use Rattle.std.proofs.lemmas.List.Elements.{All-append, All-cons, All-head, All-nil, All-tail}
+use Rattle.std.proofs.lemmas.List.Elements.{All-append, All-cons, All-nil}
 use Rattle.std.proofs.Math.Seq.{take-add}
-use Rattle.std.specs.List.{AllByRecursion as Each}
 use Rattle.std.specs.Prelude.{All, IsTrue, nat_lt}
-use Rattle.p21_basics.specs.Digits.{hex_digit}
 use Rattle.p21_exchange.proofs.BitSpellings.{bits_spelled_once, length_spelled}
-use Rattle.p21_exchange.specs.Binary.{SpellsBits, four_bits, has_bit}
+use Rattle.p21_exchange.specs.Binary.{SpellsBits}
 use Rattle.p21_exchange.specs.Token.{IsFollowed, bits}
 use Rattle.p21_values.specs.Bits.{bits_of_digits, hex_value, is_hex_digit}
 use Rattle.p21_transcribe.specs.Bits.{AreHexDigits, IsPadded}
 use Rattle.p21_transcribe.specs.Leaf.{IsCanonicalAtFront}
+use Rattle.p21_values.proofs.BitsLemmas.{hex_values_back, small_padded}
 
 -- ---- hex digits
 
@@ -22,30 +21,10 @@ hex_more bytes i below are is =
     let P : ℕ → Type 0 = λ byte. IsTrue (is_hex_digit byte) in
     subst (All P) (sym (take_more bytes i 0 below)) (All-append P (take i bytes) (get_or bytes i 0 ∷ []) are (All-cons P (get_or bytes i 0) [] is (All-nil P)))
 
-hex_back : (c : ℕ) → IsTrue (is_hex_digit c) → (hex_value c < 16) × (hex_digit (hex_value c) ≡ c)
-hex_back c h = (grind (arith, nat_tests), grind (arith, nat_tests))
-
-hex_values_back : (digits : List ℕ) → All (λ c. IsTrue (is_hex_digit c)) digits → Each (λ n. n < 16) (map hex_value digits) × (map hex_digit (map hex_value digits) ≡ digits)
-hex_values_back [] p = (tt, refl)
-hex_values_back (c ∷ cs) p =
-    let first = hex_back c (All-head (λ d. IsTrue (is_hex_digit d)) c cs p) in
-    let rest = hex_values_back cs (All-tail (λ d. IsTrue (is_hex_digit d)) c cs p) in
-    ((first.0, rest.0), (cc))
-
 -- ---- the bits that fill
 
-clear_bit : (worth n : ℕ) → n / worth % 2 ≡ 0 → has_bit worth n ≡ false
-clear_bit worth n e = rw e refl
-
-padded : (p n : ℕ) (rest : List Bool) → p < 4 → n < 16 / 2 ^ p → take p (four_bits n ++ rest) ≡ replicate p false
-padded zero n rest h l = refl
-padded (suc zero) n rest h l = let a = clear_bit 8 n (omega arith) in cc
-padded (suc (suc zero)) n rest h l = let a = clear_bit 8 n (omega arith) in let b = clear_bit 4 n (omega arith) in cc
-padded (suc (suc (suc zero))) n rest h l = let a = clear_bit 8 n (omega arith) in let b = clear_bit 4 n (omega arith) in let c = clear_bit 2 n (omega arith) in cc
-padded (suc (suc (suc (suc p)))) n rest h l = absurd (omega arith)
-
 pub padded_digits : (p first value : ℕ) (rest digits : List ℕ) → p < 4 → value ≡ hex_value first → digits ≡ first ∷ rest → IsTrue (nat_lt value (16 / 2 ^ p)) → IsPadded p digits
-padded_digits p first value rest digits h v e small = rw e (padded p (hex_value first) (bits_of_digits rest) h (grind (arith, nat_tests)))
+padded_digits p first value rest digits h v e small = rw e (small_padded p (hex_value first) (bits_of_digits rest) h (grind (arith, nat_tests)))
 
 -- ---- the token
 

@@ -4,10 +4,9 @@ use Rattle.std.proofs.lemmas.Simd.{trailing_mask_l, run_in_chunk_fails, run_in_c
 use lib.Count.{count_trailing_zeros}
 use lib.Lanes.{chunk, mask_l}
 use mathlib.Core.Bool.{not}
-use Rattle.p21_basics.specs.Digits.{AllDigits, IsDigit}
+use Rattle.p21_basics.specs.Digits.{AllDigits, IsDigit, is_digit}
 use Rattle.p21_exchange.proofs.Forms.{NoDigitFirst}
 use Rattle.p21_tokens_automaton.proofs.Classes.{digit-decides}
-use Rattle.p21_tokens_automaton.specs.Bytes.{is_digit}
 use Rattle.p21_transcribe.specs.Runs.{IsDigitRun}
 
 digits-front : (bytes : List ℕ) (n : ℕ) → ((k : ℕ) → k < n → IsDigit (get_or bytes k 0)) → AllDigits (take n bytes)

@@ -1,35 +1,18 @@
 -- What stands between tokens, separator by separator.
-use Rattle.std.proofs.Common.{◌≡◌, ◌≢◌, ℕ, ◌+◌, ◌-◌, ◌<◌, ◌≤◌, List, [], ◌∷◌, ◌++◌, length, take, drop, get_or, refl, ap, sym, subst, ◌∙◌, append_assoc, length-append, length-take-le, arith}
+use Rattle.std.proofs.Common.{◌≡◌, ℕ, ◌+◌, ◌-◌, ◌<◌, ◌≤◌, List, [], ◌∷◌, ◌++◌, length, take, drop, get_or, refl, ap, sym, subst, ◌∙◌, append_assoc, length-append, length-take-le, arith}
 use Rattle.std.proofs.lemmas.List.{get_or-append-add, get_or-take, take_more, take-append-drop}
 use Rattle.std.proofs.Math.Seq.{get_or-append_seam}
 use Rattle.p21_basics.proofs.Members.{head_is, tail_is}
-use Rattle.p21_exchange.proofs.OneGap.{HasNoSeparator}
+use Rattle.p21_exchange.proofs.OneGap.{HasNoSeparator, nothing-first}
 use Rattle.p21_exchange.specs.Separator.{EndsOnce, IsSeparator, Separator, blank, comment, separator_bytes}
-use Rattle.p21_transcribe.specs.Runs.{NotFirst}
 use Rattle.p21_transcribe.specs.Gaps.{BeginsComment, NoBlankFirst, PassesBlank, PassesSeparator, PassesSeparators}
 
 -- ---- no separator
 
-pub no_bytes : HasNoSeparator []
-no_bytes (blank b) rest is same = cc
-no_bytes (comment inside) rest is same = cc
-
-pub other_byte : (byte : ℕ) (bytes : List ℕ) → (IsSeparator (blank byte) → ⊥) → byte ≢ 47 → HasNoSeparator (byte ∷ bytes)
-other_byte byte bytes no_blank no_slash (blank b) rest is same = no_blank (subst (λ (x : ℕ). IsSeparator (blank x)) (sym (head_is byte b _ _ same)) is)
-other_byte byte bytes no_blank no_slash (comment inside) rest is same = no_slash (head_is byte 47 _ _ same)
-
 pub no_blank_or_comment : (bytes : List ℕ) → NoBlankFirst bytes → ((inside rest : List ℕ) → EndsOnce inside → BeginsComment inside bytes rest → ⊥) → HasNoSeparator bytes
-no_blank_or_comment [] no_blank none separator rest is same = no_bytes separator rest is same
+no_blank_or_comment [] no_blank none separator rest is same = nothing-first separator rest is same
 no_blank_or_comment (byte ∷ bytes) no_blank none (blank b) rest is same = no_blank (subst (λ (x : ℕ). IsSeparator (blank x)) (sym (head_is byte b _ _ same)) is)
 no_blank_or_comment (byte ∷ bytes) no_blank none (comment inside) rest is same = none inside rest is (same ∙ ap (λ (x : List ℕ). 47 ∷ 42 ∷ x) (append_assoc inside (42 ∷ 47 ∷ []) rest))
-
-pub not_slash : (bytes : List ℕ) → NotFirst 47 bytes → (inside rest : List ℕ) → EndsOnce inside → BeginsComment inside bytes rest → ⊥
-not_slash [] other inside rest once is = cc
-not_slash (byte ∷ bytes) other inside rest once is = other (head_is byte 47 _ _ is)
-
-pub not_star : (bytes star : List ℕ) → bytes ≡ 47 ∷ star → NotFirst 42 star → (inside rest : List ℕ) → EndsOnce inside → BeginsComment inside bytes rest → ⊥
-not_star bytes [] slash other inside rest once is = let none = tail_is 47 47 _ _ (sym slash ∙ is) in cc
-not_star bytes (byte ∷ star) slash other inside rest once is = other (head_is byte 42 _ _ (tail_is 47 47 _ _ (sym slash ∙ is)))
 
 pub not_ended : (bytes star text : List ℕ) → bytes ≡ 47 ∷ star → star ≡ 42 ∷ text → ((front rest : List ℕ) → text ≡ front ++ (42 ∷ 47 ∷ rest) → ⊥) → (inside rest : List ℕ) → EndsOnce inside → BeginsComment inside bytes rest → ⊥
 not_ended bytes star text slash opened none inside rest once is = none inside rest (tail_is 42 42 _ _ (sym opened ∙ tail_is 47 47 _ _ (sym slash ∙ is)))
@@ -52,9 +35,6 @@ comment_passes bytes rest (inside, once, is) = record {
 some_bytes : (separator : Separator) → 0 < length (separator_bytes separator)
 some_bytes (blank b) = omega arith
 some_bytes (comment inside) = omega arith
-
-pub fewer_left : (bytes rest : List ℕ) → PassesSeparator bytes rest → length rest < length bytes
-fewer_left bytes rest h = omega (arith, ap length h.bytes_are, length-append (separator_bytes h.separator) rest, some_bytes h.separator)
 
 pub none_passed : (bytes : List ℕ) → HasNoSeparator bytes → PassesSeparators bytes bytes
 none_passed bytes ends = record { gap = []; bytes_are = refl; is_gap = ([], tt, refl); ends = ends }

@@ -1,9 +1,8 @@
 -- Enumeration items.
-use Rattle.std.proofs.Common.{◌≡◌, ℕ, suc, ◌+◌, ◌≤◌, Bool, true, false, List, [], ◌∷◌, ◌++◌, length, take, drop, get_or, refl, ap, sym, subst, ◌∙◌, arith, inl, inr, lit<, if◌then◌else◌, ◌⊎◌, Contains, length-drop}
+use Rattle.std.proofs.Common.{◌≡◌, ℕ, suc, ◌+◌, ◌≤◌, List, [], ◌∷◌, ◌++◌, length, take, drop, get_or, ap, sym, subst, ◌∙◌, arith, length-drop}
 use Rattle.std.proofs.Math.Seq.{take-add}
 use Rattle.p21_exchange.specs.Keyword.{IsKeyword, IsUpper}
 use Rattle.p21_exchange.specs.Token.{IsFollowed, item}
-use Rattle.p21_files.specs.Fits.{boolean_items, logical_items}
 use Rattle.p21_transcribe.specs.Leaf.{IsCanonicalAtFront}
 
 followed-item : (word spelling rest : List ℕ) → IsFollowed (item word) spelling rest
@@ -33,15 +32,3 @@ letter-between (a ∷ b ∷ []) letter room e f g upper = absurd (omega arith)
 letter-between (a ∷ b ∷ c ∷ bytes) letter room e f g upper =
     subst (λ (x : ℕ). IsCanonicalAtFront (a ∷ b ∷ c ∷ bytes) 3 (item (x ∷ []))) f
     (item-between (a ∷ b ∷ c ∷ bytes) (b ∷ c ∷ bytes) bytes 1 (ap (λ (x : ℕ). x ∷ b ∷ c ∷ bytes) e) (omega arith) (subst IsUpper (sym f) upper, tt) (ap (λ (x : ℕ). x ∷ bytes) g))
-
-pub true_or_false : (unknown : Bool) (letter : ℕ) → (letter ≡ 84) ⊎ (letter ≡ 70) → Contains (if unknown then logical_items else boolean_items) (letter ∷ [])
-true_or_false unknown letter (inl e) = subst (λ (x : ℕ). Contains (if unknown then logical_items else boolean_items) (x ∷ [])) (sym e) (at unknown)
-  where
-    at : (u : Bool) → Contains (if u then logical_items else boolean_items) (84 ∷ [])
-    at true = (0, lit< tt, refl)
-    at false = (0, lit< tt, refl)
-true_or_false unknown letter (inr e) = subst (λ (x : ℕ). Contains (if unknown then logical_items else boolean_items) (x ∷ [])) (sym e) (at unknown)
-  where
-    at : (u : Bool) → Contains (if u then logical_items else boolean_items) (70 ∷ [])
-    at true = (1, lit< tt, refl)
-    at false = (1, lit< tt, refl)

@@ -12,10 +12,6 @@ part_behind false front bytes text old middle new e is h = (front, h ∙ is)
 pub part_alone : (r : Bool) (bytes text old new : List ℕ) → text ≡ bytes → AppendsIf r bytes old new → AppendsPart r text old new
 part_alone r bytes text old new e h = part_behind r [] bytes text old old new e (sym (append-nil old)) h
 
-pub continues_part : (r : Bool) (text old new : List ℕ) → AppendsPart r text old new → Continues old new
-continues_part true text old new h = (text, h)
-continues_part false text old new h = h
-
 -- ---- a text that goes on
 
 pub goes-on : (old middle new more : List ℕ) → Continues old middle → new ≡ middle ++ more → Continues old new

@@ -5,7 +5,7 @@ use Rattle.std.proofs.lemmas.Grind.{flat_map-append}
 use Rattle.std.proofs.lemmas.List.{append_cancel_right, length-take-le, drop-drop}
 use Rattle.std.proofs.Math.Seq.{take-add}
 use Rattle.std.specs.Char.{IsScalar}
-use Rattle.std.specs.List.{flat_map, AllByRecursion as Each}
+use Rattle.std.specs.List.{flat_map}
 use Rattle.std.specs.Prelude.{if◌then◌else◌, nat_le, nat_lt}
 use lib.Utf8.{low_scalar}
 use Rattle.p21_basics.specs.Digits.{hex_digits}
@@ -24,6 +24,7 @@ use Rattle.p21_transcribe.proofs.Splits.{rest_is}
 use Rattle.p21_transcribe.specs.Characters.{AreCharacters, EndsText, IsDoubled, IsExtendedCharacter, IsExtendedDirective}
 use Rattle.p21_transcribe.specs.Leaf.{IsAtFront, IsCanonicalAtFront}
 use Rattle.p21_transcribe.specs.Runs.{NotFirst}
+use Rattle.p21_basics.proofs.Members.{Each-append}
 
 pub no_characters : (bytes : List ℕ) → AreCharacters bytes 0 0
 no_characters bytes = record { characters = []; are_scalars = tt; size_is = refl; within = omega arith; bytes_are = refl }
@@ -38,15 +39,11 @@ one_character bytes count character scalar within e = record {
   bytes_are = e ∙ sym (append-nil (character_spelling character));
 }
 
-both : (xs ys : List ℕ) → Each IsScalar xs → Each IsScalar ys → Each IsScalar (xs ++ ys)
-both [] ys p q = q
-both (x ∷ xs) ys p q = (p.0, both xs ys p.1 q)
-
 -- characters, and others behind them
 pub more_characters : (bytes : List ℕ) (count size more many : ℕ) → AreCharacters bytes count size → AreCharacters (take (length bytes - count) (drop count bytes)) more many → AreCharacters bytes (count + more) (size + many)
 more_characters bytes count size more many a others = let b = subst (λ (x : List ℕ). AreCharacters x more many) (rest_is bytes count) others in record {
   characters = a.characters ++ b.characters;
-  are_scalars = both a.characters b.characters a.are_scalars b.are_scalars;
+  are_scalars = Each-append IsScalar a.characters b.characters a.are_scalars b.are_scalars;
   size_is = ap₂ (λ (m n : ℕ). m + n) a.size_is b.size_is ∙ sym (length-append a.characters b.characters);
   within = let w = a.within in let v = b.within in omega (arith, length-drop count bytes);
   bytes_are = take-add count more bytes ∙ ap₂ (λ (x y : List ℕ). x ++ y) a.bytes_are b.bytes_are ∙ sym (flat_map-append character_spelling a.characters b.characters);
@@ -135,13 +132,6 @@ pub doubled-front : (bytes : List ℕ) → 2 ≤ length bytes → get_or bytes 0
 doubled-front [] room e h = absurd (omega arith)
 doubled-front (x ∷ []) room e h = absurd (omega arith)
 doubled-front (x ∷ y ∷ bytes) room e h = record { byte = x; rest = bytes; bytes_are = ap (λ (b : ℕ). x ∷ b ∷ bytes) (sym e); is = h }
-
--- the parts of a directive
-pub directive-parts : (bytes digits : List ℕ) (code : ℕ) → 12 ≤ length bytes → take 4 bytes ≡ 92 ∷ 88 ∷ 50 ∷ 92 ∷ [] → digits ≡ take 4 (drop 4 bytes) → take 4 (drop 4 (drop 4 bytes)) ≡ end_extended → digits ≡ hex_digits 4 code → IsExtendedDirective bytes code
-directive-parts bytes digits code room start middle end value = record {
-  within = room;
-  bytes_are = take-add 4 8 bytes ∙ ap₂ (λ (x y : List ℕ). x ++ y) start (take-add 4 4 (drop 4 bytes) ∙ ap₂ (λ (x y : List ℕ). x ++ y) (sym middle ∙ value) end);
-}
 
 -- a character from 7F on or below 20 has a directive of its own
 directive_of : (character : ℕ) → (character < 32) ⊎ (127 ≤ character) → character < 0x1_0000 → character_spelling character ≡ 92 ∷ 88 ∷ 50 ∷ 92 ∷ (hex_digits 4 character ++ end_extended)

@@ -1,10 +1,9 @@
 //! Bytes at the front: a certain one, or a run of digits, and the number that digits stand for.
 ghost use Rattle.std.specs.Prelude.{◌≡◌, ◌<◌, ◌≤◌, ◌∷◌, false, length, map, not, take, IfNone, IfSome};
 ghost use Rattle.std.specs.Simd.Lanes.{mask_l};
-ghost use Rattle.p21_basics.specs.Digits.{AllDigits, number};
+ghost use Rattle.p21_basics.specs.Digits.{AllDigits, number, is_digit};
 ghost use Rattle.p21_exchange.proofs.Forms.{behind_sign, first_sign};
 ghost use Rattle.p21_exchange.specs.Number.{is_minus};
-ghost use Rattle.p21_tokens_automaton.specs.Bytes.{is_digit};
 ghost use Rattle.p21_values.specs.Digits.{WithoutEndZeros};
 ghost use Rattle.p21_transcribe.specs.Runs.{AreFrontZeros, IsDigitRun, NotFirst};
 

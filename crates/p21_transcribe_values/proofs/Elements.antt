@@ -1,5 +1,5 @@
 -- Elements that are taken one behind the other.
-use Rattle.std.proofs.Common.{◌≡◌, ◌∙◌, ℕ, suc, ◌+◌, ◌-◌, ◌<◌, ◌≤◌, Bool, true, false, List, [], ◌∷◌, ◌++◌, length, map, take, drop, refl, ap, sym, subst, arith, append_assoc, length-append, Option, Some}
+use Rattle.std.proofs.Common.{◌≡◌, ◌∙◌, ℕ, suc, ◌+◌, ◌-◌, ◌<◌, ◌≤◌, Bool, true, false, List, [], ◌∷◌, ◌++◌, length, map, take, drop, refl, ap, sym, subst, arith, append_assoc, length-append, Some}
 use Rattle.std.proofs.Math.Seq.{drop-append_seam, take-append_seam}
 use Rattle.std.proofs.lemmas.List.{append-nil, map-append}
 use denote.Ref.{Bor}
@@ -32,10 +32,12 @@ use Rattle.p21_transcribe.specs.Gaps.{PassesSeparators}
 use Rattle.p21_transcribe_values.proofs.Laid.{laid-enclosed, laid-join, laid-next, laid-shorter}
 use Rattle.p21_transcribe_values.proofs.Typed.{behind-gap, enclosed-text}
 use Rattle.p21_transcribe_values.proofs.Distinct.{elements-distinct}
-use Rattle.p21_transcribe_values.specs.Arranged.{Closes, HoldsElements, arranged, compares, lengths_of}
+use Rattle.p21_transcribe_values.specs.Arranged.{Closes, HoldsElements, arranged, compares}
 use Rattle.p21_transcribe_values.specs.Elements.{AddsLength, IsAggregateOf, TakesEach, TakesElements}
 use Rattle.p21_transcribe_values.specs.Taken.{IsBaseIn, KeepsNeeds, LaidBefore, PassesMark, TakesWithNeeds}
 use Rattle.p21_values.specs.Canonical.{Continues}
+use Rattle.p21_mapping_text.specs.Pieces.{lengths_of}
+use Rattle.p21_basics.proofs.Members.{some_pair_is}
 
 -- elements with a comma before each
 abbrev pub TakesMore : Schema → Bool → TypeUse → Bool → ℕ → ℕ → List ℕ → List ℕ → List ℕ → List ℕ → List ℕ → List ℕ → List Need → List Need → Type 0
@@ -169,20 +171,17 @@ next-shorter s base optional most behind next inside later old text before betwe
 
 -- ---- aggregates
 
-elements-are : (o optional : Bool) (e element : TypeUse) → ◌≡◌ {A = Option (Bool × TypeUse)} (Some (o, e)) (Some (optional, element)) → (o ≡ optional) × (e ≡ element)
-elements-are o optional e element is = let q : ◌≡◌ {A = Bool × TypeUse} (o, e) (optional, element) = cc in (ap (λ (x : Bool × TypeUse). x.0) q, ap (λ (x : Bool × TypeUse). x.1) q)
-
 -- the value of an aggregate, with its text
 aggregate-fits : (s : Schema) (type : TypeUse) (optional : Bool) (element : TypeUse) (ps : Params) (vs : Values) (needs : List reference.Need) → element_type type ≡ Some (optional, element) → AllowsCount type (count vs) → FitEachWith s optional element ps vs needs → (IsUnique type → AreDistinct vs)
     → (v : Value) × FitsWith s type (parameter.list ps) v needs × (value_text s v ≡ list_text (arranged type (value_texts s vs)))
 aggregate-fits s (schema.array low high may_be unique type) optional element ps vs needs is allowed each differ =
-    let (may, same) = elements-are may_be optional type element is in (meant.array vs, with_array low high may_be unique type ps vs needs (rw (may, same) each) allowed differ, refl)
+    let (may, same) = some_pair_is may_be optional type element is in (meant.array vs, with_array low high may_be unique type ps vs needs (rw (may, same) each) allowed differ, refl)
 aggregate-fits s (schema.list low high unique type) optional element ps vs needs is allowed each differ =
-    let (may, same) = elements-are false optional type element is in (meant.list vs, with_list low high unique type ps vs needs (rw (may, same) each) allowed differ, refl)
+    let (may, same) = some_pair_is false optional type element is in (meant.list vs, with_list low high unique type ps vs needs (rw (may, same) each) allowed differ, refl)
 aggregate-fits s (schema.set low high type) optional element ps vs needs is allowed each differ =
-    let (may, same) = elements-are false optional type element is in (meant.set vs, with_set low high type ps vs needs (rw (may, same) each) allowed (differ tt), refl)
+    let (may, same) = some_pair_is false optional type element is in (meant.set vs, with_set low high type ps vs needs (rw (may, same) each) allowed (differ tt), refl)
 aggregate-fits s (schema.bag low high type) optional element ps vs needs is allowed each differ =
-    let (may, same) = elements-are false optional type element is in (meant.bag vs, with_bag low high type ps vs needs (rw (may, same) each) allowed, refl)
+    let (may, same) = some_pair_is false optional type element is in (meant.bag vs, with_bag low high type ps vs needs (rw (may, same) each) allowed, refl)
 aggregate-fits s other optional element ps vs needs is allowed each differ = cc
 
 -- the elements in parentheses are a list
@@ -263,10 +262,10 @@ start-within start old middle at (tail, is) = omega (arith, at, ap length is, le
 
 -- what the elements are of is of the schema
 pub element-known : (s : Schema) (type : TypeUse) (optional : Bool) (element : TypeUse) → IsAggregateOf type optional element → IsTypeUse s type → IsTypeUse s element
-element-known s (schema.array low high may_be unique type) optional element is known = subst (IsTypeUse s) (elements-are may_be optional type element is.0).1 known
-element-known s (schema.list low high unique type) optional element is known = subst (IsTypeUse s) (elements-are false optional type element is.0).1 known
-element-known s (schema.set low high type) optional element is known = subst (IsTypeUse s) (elements-are false optional type element is.0).1 known
-element-known s (schema.bag low high type) optional element is known = subst (IsTypeUse s) (elements-are false optional type element is.0).1 known
+element-known s (schema.array low high may_be unique type) optional element is known = subst (IsTypeUse s) (some_pair_is may_be optional type element is.0).1 known
+element-known s (schema.list low high unique type) optional element is known = subst (IsTypeUse s) (some_pair_is false optional type element is.0).1 known
+element-known s (schema.set low high type) optional element is known = subst (IsTypeUse s) (some_pair_is false optional type element is.0).1 known
+element-known s (schema.bag low high type) optional element is known = subst (IsTypeUse s) (some_pair_is false optional type element is.0).1 known
 element-known s other optional element is known = let none = is.0 in cc
 
 pub plain-known : (s : Schema) (base : Base) (b : Bor code.TypeUse) → base ≡ Plain b → IsBaseIn s base → HoldsTogether s → IsTypeUse s (type_use b.now)

@@ -10,8 +10,9 @@ use Rattle.p21_files.specs.ValueText.{value_texts, with_commas_between}
 use Rattle.p21_mapping_values.specs.declared.need.Need.{Need}
 use Rattle.p21_mapping_values.specs.TypedView.{need_view}
 use Rattle.p21_schemas.specs.Schema.{Schema, TypeUse}
-use Rattle.p21_transcribe_values.specs.Arranged.{compares, lengths_of}
+use Rattle.p21_transcribe_values.specs.Arranged.{compares}
 use Rattle.p21_transcribe_values.specs.Taken.{LaidBefore}
+use Rattle.p21_mapping_text.specs.Pieces.{lengths_of}
 
 -- the length of a text from a place to another is added, where elements are compared
 abbrev pub AddsLength : Bool → ℕ → ℕ → List ℕ → List ℕ → Type 0

@@ -21,7 +21,7 @@ hex_back c h = (grind (arith, nat_tests), grind (arith, nat_tests))
 hex_forth : (n : ℕ) → n < 16 → IsTrue (is_hex_digit (hex_digit n)) × (hex_value (hex_digit n) ≡ n)
 hex_forth n h = (grind (arith, nat_tests), grind (arith, nat_tests))
 
-hex_values_back : (digits : List ℕ) → All (λ c. IsTrue (is_hex_digit c)) digits → Each (λ n. n < 16) (map hex_value digits) × (map hex_digit (map hex_value digits) ≡ digits)
+pub hex_values_back : (digits : List ℕ) → All (λ c. IsTrue (is_hex_digit c)) digits → Each (λ n. n < 16) (map hex_value digits) × (map hex_digit (map hex_value digits) ≡ digits)
 hex_values_back [] p = (tt, refl)
 hex_values_back (c ∷ cs) p =
     let first = hex_back c (All-head (λ d. IsTrue (is_hex_digit d)) c cs p) in
@@ -41,31 +41,33 @@ clear_bit worth n e = rw e refl
 bit_clear : (worth n : ℕ) → has_bit worth n ≡ false → n / worth % 2 ≢ 1
 bit_clear worth n e h = grind (arith, nat_tests)
 
-padded : (p n : ℕ) (rest : List Bool) → p < 4 → n < 16
-    → (n < 16 / 2 ^ p → take p (four_bits n ++ rest) ≡ replicate p false) × (take p (four_bits n ++ rest) ≡ replicate p false → n < 16 / 2 ^ p)
-padded zero n rest h k = (λ l. refl, λ e. k)
-padded (suc zero) n rest h k = (
-  λ l. let a = clear_bit 8 n (omega arith) in cc,
-  λ e. let a : has_bit 8 n ≡ false = cc in omega (arith, bit_clear 8 n a),
-)
-padded (suc (suc zero)) n rest h k = (
-  λ l. let a = clear_bit 8 n (omega arith) in let b = clear_bit 4 n (omega arith) in cc,
-  λ e. let a : has_bit 8 n ≡ false = cc in let b : has_bit 4 n ≡ false = cc in omega (arith, bit_clear 8 n a, bit_clear 4 n b),
-)
-padded (suc (suc (suc zero))) n rest h k = (
-  λ l. let a = clear_bit 8 n (omega arith) in let b = clear_bit 4 n (omega arith) in let c = clear_bit 2 n (omega arith) in cc,
-  λ e. let a : has_bit 8 n ≡ false = cc in
-      let b : has_bit 4 n ≡ false = cc in
-      let c : has_bit 2 n ≡ false = cc in
-      omega (arith, bit_clear 8 n a, bit_clear 4 n b, bit_clear 2 n c),
-)
-padded (suc (suc (suc (suc p)))) n rest h k = absurd (omega arith)
+-- small digits begin with clear bits
+pub small_padded : (p n : ℕ) (rest : List Bool) → p < 4 → n < 16 / 2 ^ p → take p (four_bits n ++ rest) ≡ replicate p false
+small_padded zero n rest h l = refl
+small_padded (suc zero) n rest h l = let a = clear_bit 8 n (omega arith) in cc
+small_padded (suc (suc zero)) n rest h l = let a = clear_bit 8 n (omega arith) in let b = clear_bit 4 n (omega arith) in cc
+small_padded (suc (suc (suc zero))) n rest h l = let a = clear_bit 8 n (omega arith) in let b = clear_bit 4 n (omega arith) in let c = clear_bit 2 n (omega arith) in cc
+small_padded (suc (suc (suc (suc p)))) n rest h l = absurd (omega arith)
+
+-- and those that do are small
+padded_small : (p n : ℕ) (rest : List Bool) → p < 4 → n < 16 → take p (four_bits n ++ rest) ≡ replicate p false → n < 16 / 2 ^ p
+padded_small zero n rest h k e = k
+padded_small (suc zero) n rest h k e = let a : has_bit 8 n ≡ false = cc in omega (arith, bit_clear 8 n a)
+padded_small (suc (suc zero)) n rest h k e = let a : has_bit 8 n ≡ false = cc in let b : has_bit 4 n ≡ false = cc in omega (arith, bit_clear 8 n a, bit_clear 4 n b)
+padded_small (suc (suc (suc zero))) n rest h k e =
+    let a : has_bit 8 n ≡ false = cc in
+    let b : has_bit 4 n ≡ false = cc in
+    let c : has_bit 2 n ≡ false = cc in
+    omega (arith, bit_clear 8 n a, bit_clear 4 n b, bit_clear 2 n c)
+padded_small (suc (suc (suc (suc p)))) n rest h k e = absurd (omega arith)
 
 pub padded_digits : (p first value : ℕ) (rest digits : List ℕ) → p < 4 → IsTrue (is_hex_digit first) → value ≡ hex_value first → digits ≡ first ∷ rest
     → IsTrue (nat_lt value (16 / 2 ^ p)) ↔ (take p (bits_of_digits digits) ≡ replicate p false)
 padded_digits p first value rest digits h hex v e =
-    let own = padded p (hex_value first) (bits_of_digits rest) h (hex_back first hex).0 in
-    rw (e, v) (λ l. own.0 (grind (arith, nat_tests)), λ t. let l = own.1 t in grind (arith, nat_tests))
+    let long = bits_of_digits rest in rw (e, v) (
+      λ l. small_padded p (hex_value first) long h (grind (arith, nat_tests)),
+      λ t. let l = padded_small p (hex_value first) long h (hex_back first hex).0 t in grind (arith, nat_tests),
+    )
 
 bits_of-token : (p : ℕ) (digits : List ℕ) → bits_of (token_of p digits) ≡ drop p (bits_of_digits digits)
 bits_of-token p digits =

@@ -1,4 +1,4 @@
-mod BitsLemmas
+pub mod BitsLemmas
 mod DigitLemmas
 mod NameLemmas
 pub mod DigitRuns

@@ -1,5 +1,5 @@
 -- Decimals as they are stored: known by their value, and near to its spelling.
-use Rattle.std.proofs.Common.{◌≡◌, ℕ, zero, suc, ◌+◌, ◌-◌, ◌*◌, ◌^◌, ◌%◌, ◌<◌, Bool, true, false, cond, ◌&&◌, List, [], ◌∷◌, ◌++◌, length, Result, Ok, ℤ, pos, negsuc, ◌+ℤ◌, ◌-ℤ◌, ◌*ℤ◌, ◌≤ℤ◌, ◌<ℤ◌, nat_abs, nat_eq, refl, ap, sym, ◌∙◌, subst, arith}
+use Rattle.std.proofs.Common.{◌≡◌, ℕ, zero, suc, ◌+◌, ◌-◌, ◌*◌, ◌^◌, ◌%◌, ◌<◌, Bool, true, false, cond, List, [], ◌∷◌, ◌++◌, length, Result, Ok, ℤ, pos, negsuc, ◌+ℤ◌, ◌-ℤ◌, ◌*ℤ◌, ◌≤ℤ◌, ◌<ℤ◌, nat_abs, nat_eq, refl, ap, sym, ◌∙◌, subst, arith}
 use Rattle.std.proofs.lemmas.Bool.Decides.{Decides-eqb, Decides-int_eq}
 use Rattle.std.proofs.lemmas.Int.{ints}
 use Rattle.std.proofs.lemmas.List.{append-nil, append_assoc}
@@ -8,6 +8,7 @@ use Rattle.std.proofs.Math.Nat.{one-le-pow, zero-mul}
 use Rattle.std.specs.Bool.{Decides}
 use Rattle.std.specs.Cmp.Lexicographic.{pointwise}
 use Rattle.std.specs.Ordering.{int_eq}
+use Rattle.std.proofs.lemmas.Bool.{and_parts}
 use mathlib.Core.Bool.{beq, not}
 use borrow.Author.Differences.{up, down}
 use Rattle.p21_basics.specs.Digits.{AllDigits, number, plain_digits}
@@ -100,16 +101,11 @@ ratio_decides n m ds es k l s t x y e f r h = (
   λ same. h.1 (reduced_once x y (subst IsReduced e (stored_reduced n ds k s)) (subst IsReduced f (stored_reduced m es l t)) same),
 )
 
-both_true : (a b : Bool) → (a && b) ≡ true → (a ≡ true) × (b ≡ true)
-both_true true true e = (refl, refl)
-both_true true false e = cc
-both_true false b e = cc
-
 pub decimal_eq_decides : (x y : Decimal) → Decides (decimal_eq x y) (x ≡ y)
 decimal_eq_decides x y =
     let m = Decides-int_eq x.significand y.significand in
     let k = Decides-int_eq x.exponent y.exponent in (
-      λ yes. let p = both_true (int_eq x.significand y.significand) (int_eq x.exponent y.exponent) yes in same_decimal _ _ _ _ (m.0 p.0) (k.0 p.1),
+      λ yes. let p = and_parts (int_eq x.significand y.significand) (int_eq x.exponent y.exponent) yes in same_decimal _ _ _ _ (m.0 p.0) (k.0 p.1),
       λ same. rw (m.1 (ap (λ (d : Decimal). d.significand) same), k.1 (ap (λ (d : Decimal). d.exponent) same)),
     )
 

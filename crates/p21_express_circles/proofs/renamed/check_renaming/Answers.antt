@@ -1,11 +1,11 @@
 use Rattle.std.specs.Prelude.{◌≡◌, ℕ, List, map}
 use Rattle.std.proofs.Common.{ap, sym, ◌∙◌, subst}
-use Rattle.p21_express_circles.specs.Chains.{renamed}
 use Rattle.p21_express_tables.specs.Parts.{schema_of}
 use Rattle.p21_express_tables.specs.Settled.{AreWithin, lists_of}
 use Rattle.p21_express_types.specs.Meaning.{kind}
 use Rattle.p21_express_circles.proofs.Settling.{renamed-are, renamed-checked, renamed-within, renamed_lists}
 use Rattle.p21_express_circles.proofs.renamed.check_renaming.Goals as goal
+use Rattle.p21_express_tables.specs.Renamed.{renamed}
 
 pub check_ends-requires-clause-within : goal.check_ends-requires-clause-within
 check_ends-requires-clause-within c =

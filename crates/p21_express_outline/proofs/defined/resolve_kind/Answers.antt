@@ -8,8 +8,9 @@ use Rattle.p21_express_outline.specs.Known.{names_of}
 use Rattle.p21_express_resolve.specs.Outline.{KeptKindIs, KeptTypeIs, MemberIs, IsNoEntity}
 use Rattle.p21_express_resolve.proofs.KeptTypes.{type-one}
 use Rattle.p21_express_types.specs.Meaning.{kind, member, type_use}
-use Rattle.p21_express_outline.proofs.Finding.{find-refused, check-refused, AllZip-flip}
+use Rattle.p21_express_outline.proofs.Finding.{find-refused, check-refused}
 use Rattle.p21_express_outline.proofs.defined.resolve_kind.Goals as goal
+use Rattle.p21_basics.proofs.Members.{AllZip-turned}
 
 pub returns-in_err-members-in-Select : goal.returns-in_err-members-in-Select
 returns-in_err-members-in-Select c =
@@ -17,7 +18,7 @@ returns-in_err-members-in-Select c =
     let names = c.in-Select.names.items in
     let Each : List Member → Type 0 = λ ys. AllZip (λ name m. MemberIs n m name) names ys in
     rw c.in-Select.is (find-refused kind (KeptKindIs n (select names)) Each c.in_err-members-in-Select.field-0.0 c.from_residual-in_err-members-in-Select.result
-    c.from_residual-in_err-members-in-Select.ensures.0 c.from_residual-in_err-members-in-Select.ensures.1 (λ y h. (h.0, AllZip-flip (MemberIs n) h.0 names h.1)) (rw c.deref-in-Select-2.ensures.value at c.in_err-members-in-Select.ensures))
+    c.from_residual-in_err-members-in-Select.ensures.0 c.from_residual-in_err-members-in-Select.ensures.1 (λ y h. (h.0, AllZip-turned (MemberIs n) h.0 names h.1)) (rw c.deref-in-Select-2.ensures.value at c.in_err-members-in-Select.ensures))
 
 pub returns-in_err-found-in-Underlying : goal.returns-in_err-found-in-Underlying
 returns-in_err-found-in-Underlying c =
@@ -39,4 +40,4 @@ returns-in_ok-members-in-Select c =
     let n = names_of c.args.known.now in
     let names = c.in-Select.names.items in
     let members : List Member = map member c.in_ok-members-in-Select.members.items in
-    rw (c.in-Select.is, c.from_vec-in-Select.ensures) (members, AllZip-flip (λ name m. MemberIs n m name) names members (rw c.deref-in-Select-2.ensures.value at c.in_ok-members-in-Select.ensures), rw c.deref-in-Select.ensures.value at c.in_ok-check_distinct-in-Select.ensures, refl)
+    rw (c.in-Select.is, c.from_vec-in-Select.ensures) (members, AllZip-turned (λ name m. MemberIs n m name) names members (rw c.deref-in-Select-2.ensures.value at c.in_ok-members-in-Select.ensures), rw c.deref-in-Select.ensures.value at c.in_ok-check_distinct-in-Select.ensures, refl)

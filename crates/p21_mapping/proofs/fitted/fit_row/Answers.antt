@@ -9,11 +9,11 @@ use Rattle.p21_mapping.proofs.Here.{row-room}
 use Rattle.p21_mapping.proofs.RowLists.{row-begins, row-more, row-ends, row-next}
 use Rattle.p21_mapping_fit.specs.Outcome.{needs_view}
 use Rattle.p21_mapping.specs.Rows.{param_views}
-use Rattle.p21_mapping_sets.proofs.Shapes.{own-place}
 use Rattle.p21_mapping_values.specs.View.{view}
 use Rattle.p21_schemas.specs.Order.{own_places}
 use Rattle.p21_schemas.specs.PlaceType.{TypeAt, two_redeclarations}
 use Rattle.p21_mapping.proofs.fitted.fit_row.Goals as goal
+use Rattle.p21_schemas.proofs.OwnPlaces.{own_places-has}
 
 pub loop-index-init : goal.loop-index-init
 loop-index-init c = rw c.in_ok-values.ensures.items (row-begins c.args.schema.now (numbers c.args.entities.now) c.args.owner.0 (param_views (into_iter_items c.args.params.now)) (needs_view c.args.needs.now.items))
@@ -26,7 +26,7 @@ unreachable-requires c =
 pub fit_here-requires-clause-decided : goal.fit_here-requires-clause-decided
 fit_here-requires-clause-decided c =
     Each-member (λ place. ¬ TypeAt c.args.schema.now (numbers c.args.entities.now) place two_redeclarations) (own_places c.args.schema.now c.args.owner.0) (record { entity = c.args.owner.0; index = c.loop-index.index }) c.requires.decided
-    (own-place c.args.schema.now c.args.owner.0 c.loop-index.index (omega (arith, c.loop-index-test.true, c.attribute_count-count.ensures)))
+    (own_places-has c.args.schema.now c.args.owner.0 c.loop-index.index (omega (arith, c.loop-index-test.true, c.attribute_count-count.ensures)))
 
 pub returns-in-Err : goal.returns-in-Err
 returns-in-Err c = λ other. (

@@ -1,7 +1,7 @@
 use Rattle.std.proofs.Common.{◌≡◌, take}
 use Rattle.p21_mapping_values.specs.View.{views}
-use Rattle.p21_mapping_text.specs.Pieces.{joined}
-use Rattle.p21_mapping_fit.specs.Present.{lengths_of, present_texts}
+use Rattle.p21_mapping_text.specs.Pieces.{joined, lengths_of}
+use Rattle.p21_mapping_fit.specs.Present.{present_texts}
 use Rattle.p21_mapping_fit.proofs.distinct.are_different.Given as goal
 
 abbrev pub invariant-loop-value : goal.invariant-loop-value

@@ -3,6 +3,7 @@ use Rattle.std.specs.List.{AllZip, IsDistinct}
 use Rattle.std.proofs.Common.{ap, sym, ◌∙◌, subst}
 use Rattle.std.proofs.lemmas.Bool.{MatchBool-at_true, MatchBool-at_false}
 use Rattle.std.proofs.lemmas.Result.{err_from_is_err_and}
+use Rattle.std.proofs.lemmas.Slice.Zip.{AllZip-long}
 use Rattle.p21_exchange.specs.Record.{Part, complex}
 use Rattle.p21_express_tables.specs.Orders.{numbers}
 use Rattle.p21_express_types.specs.declared.number.EntityId.{EntityId}
@@ -10,7 +11,6 @@ use Rattle.p21_files.specs.Meaning.{NamesEntity}
 use Rattle.p21_grammar_tree.specs.View.{part_views}
 use Rattle.p21_express_tables.specs.Rising.{HaveSame}
 use Rattle.p21_mapping_sets.specs.Shape.{IsClosed, HasLeaf, HasNoLeaf, PassesSet, RefusesSet, HasCount, HasOtherCount}
-use Rattle.p21_mapping_sets.proofs.Rows.{AllZip-length}
 use Rattle.p21_mapping_sets.proofs.Shapes.{named-entities, same-entities, members-refuse, leaf-breaks, complex-set, set-refuses, complex-miscount, complex-shape, views-length, numbers-length}
 use Rattle.p21_mapping_sets.proofs.shape.complex_shape.Goals as goal
 
@@ -46,7 +46,7 @@ have_counts-requires-clause-entities c = rw c.deref-5.ensures.value (named-entit
 
 pub have_counts-requires-clause-each : goal.have_counts-requires-clause-each
 have_counts-requires-clause-each c =
-    sym (views-length c.args.parts.now) ∙ AllZip-length (λ (part : Part) e. NamesEntity c.args.schema.now part.key e) (part_views c.args.parts.now) (numbers c.in_ok-listed.listed.items) c.in_ok-listed.ensures ∙ numbers-length c.in_ok-listed.listed.items ∙ ap length (sym c.deref-5.ensures.value)
+    sym (views-length c.args.parts.now) ∙ sym (AllZip-long (λ (part : Part) e. NamesEntity c.args.schema.now part.key e) (part_views c.args.parts.now) (numbers c.in_ok-listed.listed.items) c.in_ok-listed.ensures) ∙ numbers-length c.in_ok-listed.listed.items ∙ ap length (sym c.deref-5.ensures.value)
 
 pub returns-then-not-have_counts : goal.returns-then-not-have_counts
 returns-then-not-have_counts c = λ _. complex-miscount c.args.schema.now (part_views c.args.parts.now) (numbers c.in_ok-listed.listed.items) c.in_ok-listed.ensures (let P : List EntityId → Type 0 = λ xs. HasOtherCount c.args.schema.now (part_views c.args.parts.now) (numbers xs) in subst P c.deref-5.ensures.value c.if-not-have_counts.ensures)

@@ -1,7 +1,8 @@
 use Rattle.std.proofs.Common.{◌≡◌, ◌<◌, ℕ, List, slice_index, ap, sym, subst, ◌∙◌}
 use Rattle.p21_tokens_automaton.specs.Bytes.{hex_value}
-use Rattle.p21_tokens_automaton.proofs.Decoded.{digit-decodes, digit-small, one-byte, not-refused}
+use Rattle.p21_tokens_automaton.proofs.Decoded.{digit-decodes, one-byte, not-refused}
 use Rattle.p21_tokens_automaton.proofs.bytes.hex_value.Goals as goal
+use Rattle.p21_tokens_automaton.proofs.HexDigits.{hex_value-small}
 
 value : (c : goal.In-Ok) → slice_index c.in-Ok.bytes 0 ≡ hex_value c.args.byte
 value c = ap (λ (x : List ℕ). slice_index x 0) (one-byte (hex_value c.args.byte) c.from_hex.result c.in-Ok.bytes c.in-Ok.is (c.from_hex.ensures ∙ digit-decodes c.args.byte c.requires))
@@ -10,7 +11,7 @@ pub returns-in-Ok-clause-value : goal.returns-in-Ok-clause-value
 returns-in-Ok-clause-value c = value c
 
 pub returns-in-Ok-clause-small : goal.returns-in-Ok-clause-small
-returns-in-Ok-clause-small c = subst (λ (x : ℕ). x < 16) (sym (value c)) (digit-small c.args.byte c.requires)
+returns-in-Ok-clause-small c = subst (λ (x : ℕ). x < 16) (sym (value c)) (hex_value-small c.args.byte c.requires)
 
 pub returns-in-Err-clause-value : goal.returns-in-Err-clause-value
 returns-in-Err-clause-value c = absurd (not-refused (hex_value c.args.byte) c.from_hex.result c.in-Err._fault c.in-Err.is (c.from_hex.ensures ∙ digit-decodes c.args.byte c.requires))
