@@ -5,8 +5,7 @@ use Rattle.std.specs.BTreeSet.{BTreeSet, contains_by}
 use Rattle.std.specs.Cmp.Lexicographic.{slice_cmp}
 use Rattle.std.specs.Ordering.{nat_cmp}
 use Rattle.std.specs.declared.alloc.Global.{Global}
-use Rattle.p21_exchange.specs.DataSection.{Heading, section_names, unnamed}
-use Rattle.p21_grammar_machine.specs.Shape.{heading_of}
+use Rattle.p21_exchange.specs.DataSection.{Heading, section_names, unnamed, heading_of}
 use Rattle.p21_grammar_tree.specs.View.{items_of, views}
 use Rattle.p21_grammar_tree.specs.declared.record.Part.{Part}
 use Rattle.p21_stream_kept.specs.declared.sections.Section.{Section}

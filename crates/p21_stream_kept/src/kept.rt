@@ -2,7 +2,6 @@ ghost use Rattle.std.specs.Prelude.{◌≡◌, ◌≤◌, ◌↔◌, Contains, I
 ghost use Rattle.p21_claim_steps.specs.Keeping.{nothing_kept};
 ghost use Rattle.p21_claim_steps.specs.Stored.{Stored};
 ghost use Rattle.p21_exchange.specs.Statement.{data_start, header, instance, section};
-ghost use Rattle.p21_grammar_machine.specs.Shape.{heading_of};
 ghost use Rattle.p21_grammar_machine.specs.Statements.{line_of};
 ghost use Rattle.p21_grammar_tree.specs.View.{items_of, part_view, record_view, views};
 ghost use Rattle.p21_mapping.specs.Checked.{needs_view};
@@ -355,7 +354,7 @@ fn append_record(part: &Part, out: &mut Vec<u8>) -> Result<u64, NoMemory>
     Ok(size)
 }
 
-ghost use Rattle.p21_exchange.specs.DataSection.{named};
+ghost use Rattle.p21_exchange.specs.DataSection.{named, heading_of};
 
 /// The canonical line that begins a data section with a name, its line feed apart.
 pub(crate) fn heading_line(alloc: Global, name: &Text, text: &Text) -> Result<Vec<u8>, NoMemory>

@@ -1,8 +1,7 @@
 //! The data sections of a file, with their names.
 ghost use Rattle.std.specs.Prelude.{◌≡◌, ◌<◌, ◌≤◌, ◌+◌, ◌++◌, ◌∷◌, ◌↔◌, [], length, Contains, IfOk, IsTrue, OnOk, option_to_list};
 ghost use Rattle.p21_claim_steps.specs.Keeping.{headings_behind};
-ghost use Rattle.p21_exchange.specs.DataSection.{heading_names, section_names};
-ghost use Rattle.p21_grammar_machine.specs.Shape.{heading_of};
+ghost use Rattle.p21_exchange.specs.DataSection.{heading_names, section_names, heading_of};
 ghost use Rattle.p21_grammar_machine.specs.Statements.{line_of};
 ghost use Rattle.p21_grammar_tree.specs.View.{items_of, views};
 ghost use Rattle.p21_stream_kept.specs.Sections.{headings_of, names_in};

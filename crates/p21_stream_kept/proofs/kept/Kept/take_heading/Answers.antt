@@ -1,9 +1,8 @@
 use Rattle.std.proofs.Common.{◌≡◌, ◌+◌, ◌++◌, ◌∷◌, [], ℕ, List, true, ap, length, subst, sym, ◌∙◌, Ok, Err, arith}
 use Rattle.std.specs.Prelude.{vec_len}
 use Rattle.p21_claim_steps.specs.Keeping.{Kept}
-use Rattle.p21_exchange.specs.DataSection.{Heading}
+use Rattle.p21_exchange.specs.DataSection.{Heading, heading_of}
 use Rattle.p21_exchange.specs.Statement.{data_start, section}
-use Rattle.p21_grammar_machine.specs.Shape.{heading_of}
 use Rattle.p21_grammar_tree.specs.View.{items_of, views}
 use Rattle.p21_schemas.specs.SchemaName.{NamesSchema}
 use Rattle.p21_stream_fault.specs.declared.fault.Fault.TheVariants.{CanonicalTooLong, SchemaName, SectionTwice}
