@@ -4,8 +4,8 @@ use Rattle.std.proofs.lemmas.Grind.{flat_map-append}
 use Rattle.std.proofs.lemmas.List.{length-map}
 use Rattle.std.specs.List.{flat_map}
 use Rattle.p21_basics.proofs.Members.{Each-append, head_is, tail_is}
-use Rattle.p21_exchange.proofs.FirstBytes.{spelling_begins}
-use Rattle.p21_exchange.proofs.OneGap.{HasNoSeparator, gap-one}
+use Rattle.p21_exchange.proofs.FirstBytes.{spelling_begins, no-spelling, slash-first}
+use Rattle.p21_exchange.proofs.OneGap.{HasNoSeparator, gap-one, nothing-first}
 use Rattle.p21_exchange.specs.Laying.{Lexeme, count_behind, open_bytes, tokens_in}
 use Rattle.p21_exchange.specs.Pending.{Tail, nothing, unfinished, slash, open_comment, tail_bytes, tail_size, BeginsNoSeparator, IsPending, IsTail, LaidUpTo}
 use Rattle.p21_exchange.specs.Separator.{blank, comment, IsSeparator, IsSeparatorText, separator_bytes}
@@ -18,13 +18,13 @@ use Rattle.p21_stream_front.proofs.Seen.{offered}
 use Rattle.p21_stream_front.specs.Front.{Held, IsLive, IsSeenAt, NeedsNoMemory, Reading}
 use Rattle.p21_tokens.specs.Held.{pending_of, record_limit_of}
 use Rattle.p21_tokens.specs.Histories as tokens
-use Rattle.p21_tokens.specs.Histories.{AreSeparators, IsLaidWithin, TokenHistory, call_of}
+use Rattle.p21_tokens.specs.Histories.{AreSeparators, IsLaidWithin, TokenHistory}
 use Rattle.p21_tokens.specs.Held as tokens_held
 use Rattle.p21_tokens.specs.Token.{meant}
 use Rattle.p21_tokens.specs.declared.fault.TokenFault.{TokenFault}
 use Rattle.p21_tokens.specs.declared.fault.TokenFault.TheVariants as token_fault
 use Rattle.p21_tokens.specs.declared.token.Token.{Token as TokenRead}
-use Rattle.p21_tokens_automaton.proofs.OnePending.{append-rest, begins-no_separator, begins-on, front-one, pending-one}
+use Rattle.p21_tokens_automaton.proofs.OnePending.{append-rest, begins-no_separator, begins-on, front-one, pending-one, none-pending}
 
 -- ---- separators
 
@@ -75,18 +75,6 @@ no-close (x ∷ xs) bytes (b ∷ before) after are none same =
 
 -- ---- what stands last, with separators behind it, begins no token
 
-no-spelling : (token : Token) (spelling rest : List ℕ) → Spells token spelling → spelling ++ rest ≡ [] → ⊥
-no-spelling token [] rest spells same = spelling_begins token [] spells
-no-spelling token (byte ∷ bytes) rest spells same = cc
-
-slash-first : (token : Token) (spelling rest more : List ℕ) → Spells token spelling → spelling ++ rest ≡ 47 ∷ more → ⊥
-slash-first token [] rest more spells same = spelling_begins token [] spells
-slash-first token (byte ∷ bytes) rest more spells same = (spelling_begins token (byte ∷ bytes) spells).2 (head_is byte 47 (bytes ++ rest) more same)
-
-nothing-first : HasNoSeparator []
-nothing-first (blank b) rest separates same = cc
-nothing-first (comment inside) rest separates same = cc
-
 slash-no_separator : (bytes : List ℕ) → AreSeparators bytes → HasNoSeparator (47 ∷ bytes)
 slash-no_separator bytes are (blank b) rest separates same = no-slash b separates (sym (head_is 47 b bytes rest same))
 slash-no_separator bytes are (comment inside) rest separates same = star-among bytes [] ((inside ++ (42 ∷ 47 ∷ [])) ++ rest) are (tail_is 47 47 bytes (42 ∷ ((inside ++ (42 ∷ 47 ∷ [])) ++ rest)) same)
@@ -112,17 +100,6 @@ no-token-first (open_comment inside) gap other spelling rest piece token is size
     (sym (gap-one gap other (47 ∷ 42 ∷ (inside ++ piece)) (spelling ++ rest) sep sep_ (comment-no_separator inside piece is are) (begins-no_separator (spelling ++ rest) (begins-on spelling rest (spelling_begins token spelling spells))) (sym (append_assoc gap (47 ∷ 42 ∷ inside) piece) ∙ same)))
 
 -- ---- behind a last token of which no bytes are pending any byte may stand
-
-nothing-in : (gap rest : List ℕ) → [] ≡ gap ++ rest → rest ≡ []
-nothing-in [] rest same = sym same
-nothing-in (byte ∷ gap) rest same = cc
-
-none-pending : (lexemes : List Lexeme) (tail : Tail) (count : ℕ) → LaidUpTo [] lexemes tail → open_bytes count lexemes + tail_size tail ≡ count
-none-pending [] nothing count laid = omega arith
-none-pending [] slash count laid = omega arith
-none-pending [] (open_comment inside) count laid = omega arith
-none-pending [] (unfinished bytes) count (gap, is, separates, tail_is_) = absurd (subst BeginsNoSeparator (nothing-in gap bytes is) tail_is_.first)
-none-pending (lexeme ∷ lexemes) tail count (gap, spelling, rest, is, separates, spells, size, followed, more) = absurd (no-spelling lexeme.token spelling rest spells (nothing-in gap (spelling ++ rest) is))
 
 counted : (token : Token) (size count : ℕ) → count_behind count (record { token = token; size = size }) ≡ 0 → (token ≡ semicolon) ⊎ (size ≡ 0)
 counted begin size count is = inr (omega (arith, is))

@@ -1,8 +1,8 @@
 -- A step of a lexer with a parser behind it, by the readings that they stand for.
 use Rattle.std.proofs.Common.{◌≡◌, ◌≢◌, ◌+◌, ◌≤◌, ◌<◌, ◌⊎◌, ℕ, Bool, true, false, List, [], ◌∷◌, ◌++◌, length, take, Option, Some, None, Ok, Err, inl, inr, refl, sym, ap, subst, ◌∙◌, append_assoc, length-append, if◌then◌else◌, arith}
-use Rattle.std.proofs.lemmas.List.{append-nil, take_all}
+use Rattle.std.proofs.lemmas.List.{append-nil}
 use Rattle.std.specs.List.{flat_map, slice_get}
-use Rattle.p21_basics.specs.History.{empty, extended, first_refusal, looked_at, seen_behind}
+use Rattle.p21_basics.specs.History.{empty, extended, first_refusal, looked_at}
 use Rattle.p21_basics.specs.Limits.{Limits}
 use Rattle.p21_claim.proofs.Fronts.{front-taken, long-source, no-front, no-laying}
 use Rattle.p21_claim.proofs.LongStatements.{full-statement}
@@ -25,7 +25,7 @@ use Rattle.p21_stream_fault.specs.Fault.{of_grammar, of_token}
 use Rattle.p21_stream_fault.specs.declared.fault.Fault.{Fault}
 use Rattle.p21_stream_fault.specs.declared.fault.Fault.TheVariants.{NoMemory}
 use Rattle.p21_tokens.proofs.Extending.{take-one}
-use Rattle.p21_stream_front.proofs.Seen.{looked-up_to, offered, seen-behind, seen-none}
+use Rattle.p21_stream_front.proofs.Seen.{looked-up_to, offered, seen-behind}
 use Rattle.p21_stream_front.specs.Front.{GoesOn, Held, IsEndedBy, IsLive, IsSeenAt, Reading, RefusesWithin, limits_of, looked, new_reading}
 use Rattle.p21_tokens.specs.Fault.{Cause, of_form, of_end, of_statement, of_file, of_parameter, of_memory, cause_of}
 use Rattle.p21_tokens.specs.Held as tokens_held
@@ -136,31 +136,6 @@ token-refused old piece fault lexer gives other reading live at =
       within = let below = refuses.within in omega (arith, below);
       dead = λ s all record_is file_is. subst (λ (taken : List ℕ). IsDead s all (taken ++ take (refuses.count + 1) piece)) live.taken_are
           (dead-says (cause_of fault) old.lexer live.history.taken piece refuses.count refuses.refuses (lacks-memory fault (λ is. other (ap of_token is))) s all record_is file_is);
-    }
-
--- ---- all taken, and no token
-
-pub went-rest : (old : Held) (piece : List ℕ) (count : ℕ) (lexer : tokens_held.Held) → tokens.NextGives old.lexer piece (Ok (count, None)) lexer → count ≡ length piece
-    → (reading : Reading) → IsLive old reading → IsSeenAt reading.seen piece 0 → IsLive (record { lexer = lexer; parser = old.parser }) (record { taken = reading.taken ++ piece; seen = None; given = reading.given })
-went-rest old piece count lexer gives all reading live at =
-    let own : IsSeenAt live.history.seen piece 0 = subst (λ (seen : Option ℕ). IsSeenAt seen piece 0) (sym live.seen_is) at in
-    let answers = gives live.history live.lexer (offered live.history.seen piece own) in
-    let whole : take count piece ≡ piece = ap (λ (n : ℕ). take n piece) all ∙ take_all (length piece) piece (omega arith) in
-    record {
-      history = extended live.history (call_of piece count None);
-      lexer = answers.stands;
-      answered = inr answers;
-      lexer_open = ap (λ (r : Option TokenFault). first_refusal r None) live.lexer_open;
-      taken_are = ap (λ (l : List ℕ). live.history.taken ++ l) whole ∙ ap (λ (l : List ℕ). l ++ piece) live.taken_are;
-      seen_is = ap (λ (l : List ℕ). seen_behind live.history.seen l None) whole ∙ seen-none live.history.seen piece own;
-      parsing = live.parsing;
-      parser = live.parser;
-      parser_open = live.parser_open;
-      tokens_are = live.tokens_are ∙ sym (append-nil live.history.given);
-      given_are = live.given_are;
-      given_first = live.given_first;
-      ended_by = live.ended_by;
-      of_file = live.of_file;
     }
 
 -- ---- a token

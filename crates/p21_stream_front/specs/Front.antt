@@ -4,7 +4,6 @@ use Rattle.std.specs.Prelude.{◌≡◌, ◌≢◌, ◌≤◌, ◌+◌, ◌⊎�
 use Rattle.std.specs.List.{flat_map}
 use Rattle.p21_basics.specs.History.{empty}
 use Rattle.p21_basics.specs.Limits.{Limits}
-use Rattle.p21_claim.specs.Taken.{AreTaken}
 use Rattle.p21_exchange.specs.Laying.{Laid, tokens_in}
 use Rattle.p21_exchange.specs.OpenNesting.{IsDepth}
 use Rattle.p21_exchange.specs.Pending.{IsPending}
@@ -126,7 +125,3 @@ pub record HasOpen (reading : Reading) (pending depth : ℕ) : Type 0 where
   pub pending_is : IsPending reading.taken pending
   pub depth_is : IsDepth (tokens_in pending_is.lexemes) depth
   pub ended_are : depth_is.open_statement.ended ≡ flat_map statement_tokens reading.given
-
--- what stands in the bytes: each tree of bytes that begin so begins with the statements given
-abbrev pub GivesTaken : Held → Type 0
-GivesTaken held = (reading : Reading) → IsLive held reading → AreTaken (looked reading) reading.given
