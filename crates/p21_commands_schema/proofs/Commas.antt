@@ -3,16 +3,12 @@ use Rattle.std.specs.Prelude.{◌≡◌, ℕ, zero, suc, ◌+◌, ◌<◌, List,
 use Rattle.std.specs.List.{AllZip, flat_map, range_with_len}
 use Rattle.std.proofs.Common.{arith, ap, sym, ◌∙◌, subst, append_assoc, get_or}
 use Rattle.std.proofs.lemmas.List.{append-nil, map-append}
+use Rattle.std.proofs.lemmas.Grind.{flat_map-append}
 use Rattle.p21_express_outline.proofs.Finding.{AllZip-append}
 use Rattle.p21_express_tables.proofs.Lookups.{take-snoc}
 use Rattle.p21_files.specs.ValueText.{with_commas, with_commas_between}
 use Rattle.p21_schemas.specs.Schema.{Place}
-
-commas-more : (words : List (List ℕ)) (word : List ℕ) → with_commas (words ++ word ∷ []) ≡ with_commas words ++ (codes "," ++ word)
-commas-more [] word = ap (λ w. codes "," ++ w) (append-nil word)
-commas-more (first ∷ words) word =
-    ap (λ rest. codes "," ++ (first ++ rest)) (commas-more words word)
-    ∙ ap (λ rest. codes "," ++ rest) (sym (append_assoc first (with_commas words) (codes "," ++ word)))
+use Rattle.p21_files.proofs.Commas.{with_commas-push}
 
 pub others-more : {X : Type 0} (f : X → Place) (R : Place → List ℕ → Type 0) (xs : List X) (k : ℕ) (d : X) (old now new : List ℕ) → k < length xs → ((words : List (List ℕ)) × AllZip R (map f (take k xs)) words × (now ≡ old ++ with_commas words))
     → ((word : List ℕ) × R (f (get_or xs k d)) word × (new ≡ now ++ (codes "," ++ word))) → (words : List (List ℕ)) × AllZip R (map f (take (k + 1) xs)) words × (new ≡ old ++ with_commas words)
@@ -23,7 +19,7 @@ others-more f R xs k d old now new below (words, all, now_is) (word, is, new_is)
     let front : map f (take (k + 1) xs) ≡ map f (take k xs) ++ f x ∷ [] = ap (λ j. map f (take j xs)) next ∙ ap (map f) (take-snoc xs k d below) ∙ map-append f (take k xs) (x ∷ []) in (
       words ++ word ∷ [],
       subst P (sym front) (AllZip-append R (map f (take k xs)) (f x ∷ []) words (word ∷ []) all (is, tt)),
-      new_is ∙ ap (λ zs. zs ++ (codes "," ++ word)) now_is ∙ append_assoc old (with_commas words) (codes "," ++ word) ∙ ap (λ zs. old ++ zs) (sym (commas-more words word)),
+      new_is ∙ ap (λ zs. zs ++ (codes "," ++ word)) now_is ∙ append_assoc old (with_commas words) (codes "," ++ word) ∙ ap (λ zs. old ++ zs) (sym (with_commas-push words word)),
     )
 
 -- ---- lines
@@ -35,10 +31,6 @@ range-suc a (suc n) = let same : (a + 1) + n ≡ a + suc n = omega arith in ap (
 abbrev joined : List (List ℕ) → List ℕ
 joined lines = flat_map (λ line. line) lines
 
-joined-more : (lines : List (List ℕ)) (line : List ℕ) → joined (lines ++ line ∷ []) ≡ joined lines ++ line
-joined-more [] line = append-nil line
-joined-more (first ∷ lines) line = ap (λ rest. first ++ rest) (joined-more lines line) ∙ sym (append_assoc first (joined lines) line)
-
 pub lines-more : (R : ℕ → List ℕ → Type 0) (n : ℕ) (front now new : List ℕ) → ((lines : List (List ℕ)) × AllZip R (range_with_len 0 n) lines × (now ≡ front ++ joined lines)) → ((line : List ℕ) × R n line × (new ≡ now ++ line))
     → (lines : List (List ℕ)) × AllZip R (range_with_len 0 (n + 1)) lines × (new ≡ front ++ joined lines)
 lines-more R n front now new (lines, all, now_is) (line, is, new_is) =
@@ -48,7 +40,7 @@ lines-more R n front now new (lines, all, now_is) (line, is, new_is) =
     let longer : range_with_len 0 (n + 1) ≡ range_with_len 0 n ++ n ∷ [] = ap (range_with_len 0) next ∙ range-suc 0 n ∙ ap (λ x. range_with_len 0 n ++ x ∷ []) zero_ in (
       lines ++ line ∷ [],
       subst P (sym longer) (AllZip-append R (range_with_len 0 n) (n ∷ []) lines (line ∷ []) all (is, tt)),
-      new_is ∙ ap (λ zs. zs ++ line) now_is ∙ append_assoc front (joined lines) line ∙ ap (λ zs. front ++ zs) (sym (joined-more lines line)),
+      new_is ∙ ap (λ zs. zs ++ line) now_is ∙ append_assoc front (joined lines) line ∙ ap (λ zs. front ++ zs) (sym (flat_map-append (λ l. l) lines (line ∷ []) ∙ ap (λ zs. joined lines ++ zs) (append-nil line))),
     )
 
 -- ---- words in parentheses
@@ -61,7 +53,3 @@ words-first {X} f R all others first word old between new all_is is between_is (
       subst P (sym all_is) (is, so),
       new_is ∙ ap (λ zs. zs ++ with_commas words) between_is ∙ append_assoc old word (with_commas words),
     )
-
-pub words-none : {X : Type 0} (f : X → Place) (R : Place → List ℕ → Type 0) (all : List X) (old : List ℕ) → length all ≡ 0 → (words : List (List ℕ)) × AllZip R (map f all) words × (old ≡ old ++ with_commas_between words)
-words-none f R [] old none = ([], tt, sym (append-nil old))
-words-none f R (x ∷ all) old none = absurd (omega (arith, none))

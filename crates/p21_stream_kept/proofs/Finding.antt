@@ -2,10 +2,9 @@
 use Rattle.std.proofs.Common.{◌≡◌, ◌+◌, ◌∷◌, ◌++◌, ◌∙◌, List, [], ℕ, length, map, Ok, add-one, ap, refl, sym, subst}
 use Rattle.std.specs.List.{AllByRecursion as Each}
 use Rattle.std.specs.List.Sorted.{IsPermutation}
-use Rattle.std.specs.Prelude.{◌≢◌, Contains}
+use Rattle.std.specs.Prelude.{Contains}
 use Rattle.p21_basics.specs.Limits.{Limits}
 use Rattle.p21_canon_record.proofs.Statements.{statement-instance}
-use Rattle.p21_canon_record.specs.Meant.{IsMeant}
 use Rattle.p21_canon_record.specs.Statement.{AppendsStatement}
 use Rattle.p21_claim.specs.Ended.{Entry}
 use Rattle.p21_claim_steps.specs.Keeping.{Kept}
@@ -19,28 +18,19 @@ use Rattle.p21_exchange.specs.Record.{Record, record_tokens}
 use Rattle.p21_exchange.specs.Statement.{Statement, instance, statement_tokens}
 use Rattle.p21_exchange.specs.Text.{IsGraphic}
 use Rattle.p21_exchange.specs.Token.{semicolon}
-use Rattle.p21_files.specs.BrokenRule.{Breaks}
 use Rattle.p21_files.specs.Kept.{IsInstanceText}
 use Rattle.p21_files.specs.Meaning.{Typed}
 use Rattle.p21_files.specs.Reference.{Need}
 use Rattle.p21_express_types.specs.declared.number.EntityId.{EntityId}
-use Rattle.p21_mapping.specs.Checked.{IsChecked, IsRefused, needs_view}
+use Rattle.p21_mapping.specs.Checked.{IsChecked, needs_view}
 use Rattle.p21_mapping_values.specs.TypedView.{ids_view}
-use Rattle.p21_mapping_values.specs.declared.fault.CheckFault.{CheckFault}
-use Rattle.p21_mapping_values.specs.declared.fault.CheckFault.TheVariants as check_fault
 use Rattle.p21_mapping_values.specs.declared.need.Need as mapping
 use Rattle.p21_schemas.specs.Schema.{Schema}
 use Rattle.p21_stream_accepted.specs.Output.{IsNamed}
-use Rattle.p21_stream_fault.specs.Fault.{fault_number, of_check}
-use Rattle.p21_stream_fault.specs.declared.fault.Fault.TheVariants as fault
 use Rattle.p21_stream_kept.proofs.Instances.{took-instance}
 use Rattle.p21_stream_kept.specs.Found.{HasFound}
 use Rattle.p21_stream_kept.specs.Served.{AddsWaiting}
 use Rattle.p21_stream_kept.specs.Steps.{HasRoom, StepGives}
-
--- a checked record can be written
-pub checked-meant : (s : Schema) (r : Record) (m : Typed) (needs : List Need) → IsChecked s r m needs → IsMeant s m
-checked-meant s r m needs checked = record { record_ = r; needs = needs; means = checked.means; types_known = checked.known }
 
 pub found : (s : Schema) (n : ℕ) (r : Record) (m : Typed) (needs : List Need) → IsChecked s r m needs → (text : List ℕ) → AppendsStatement s n m [] text → HasFound s n r m.entities needs text
 found s n r m needs checked text (own, is, statement) =
@@ -66,11 +56,6 @@ found-same s n r es fs ns ms xs ys same_entities same_needs same_text is =
     let N : List mapping.Need → Type 0 = λ a. HasFound s n r (ids_view fs) (needs_view a) xs in
     let T : List ℕ → Type 0 = λ a. HasFound s n r (ids_view fs) (needs_view ms) a in
     subst T (sym same_text) (subst N (sym same_needs) (subst E (sym same_entities) is))
-
--- a refused record breaks a rule
-pub refused-breaks : (s : Schema) (r : Record) (f : CheckFault) → (f ≢ check_fault.NoMemory → IsRefused s r f) → of_check f ≢ fault.NoMemory → Breaks s r (fault_number (of_check f))
-refused-breaks s r check_fault.NoMemory refused other = absurd (other refl)
-refused-breaks s r f refused other = (refused (λ same. cc)).breaks
 
 -- ---- the step
 

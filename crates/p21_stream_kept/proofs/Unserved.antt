@@ -43,9 +43,6 @@ none-refused s stored need (Some fault) none refused = cc
 
 -- ---- needs that wait
 
-pub waiting-none : (s : Schema) (stored : List Stored) (holder : ℕ) (old : List Reference) → AddsWaiting s stored holder [] old old
-waiting-none s stored holder old = record { added = []; are_needs = tt; others_served = tt; new_is = sym (append-nil old) }
-
 -- one that is served
 pub waiting-served : (s : Schema) (stored : List Stored) (holder : ℕ) (need : Need) (old : List Reference) → IsServedBy s stored need → AddsWaiting s stored holder (need ∷ []) old old
 waiting-served s stored holder need old served = record { added = []; are_needs = tt; others_served = (inr served, tt); new_is = sym (append-nil old) }

@@ -1,14 +1,13 @@
 -- Data sections as they are kept, with a set of their names.
-use Rattle.std.specs.Prelude.{◌↔◌, ℕ, List, [], ◌∷◌, map, Bool, Option, Some, None, Contains, IsTrue}
+use Rattle.std.specs.Prelude.{ℕ, List, [], ◌∷◌, map, Option, Some, None}
 use Rattle.std.specs.Prelude as std
-use Rattle.std.specs.BTreeSet.{BTreeSet, contains_by}
-use Rattle.std.specs.Cmp.Lexicographic.{slice_cmp}
-use Rattle.std.specs.Ordering.{nat_cmp}
+use Rattle.std.specs.BTreeSet.{BTreeSet}
 use Rattle.std.specs.declared.alloc.Global.{Global}
 use Rattle.p21_exchange.specs.DataSection.{Heading, section_names, unnamed, heading_of}
 use Rattle.p21_grammar_tree.specs.View.{items_of, views}
 use Rattle.p21_grammar_tree.specs.declared.record.Part.{Part}
 use Rattle.p21_stream_kept.specs.declared.sections.Section.{Section}
+use Rattle.p21_express_types.specs.TextSet.{HasTexts}
 
 -- how a section begins
 abbrev pub heading_in : Option Part → Heading
@@ -23,10 +22,6 @@ abbrev pub names_in : Option (std.Vec ℕ Global) → List (List ℕ)
 names_in None = []
 names_in (Some name) = name.items ∷ []
 
--- whether the set has a name
-abbrev pub has_name : BTreeSet (std.Vec ℕ Global) → List ℕ → Bool
-has_name names name = contains_by (λ (other : std.Vec ℕ Global). slice_cmp nat_cmp name other.items) names
-
 -- the set has the names of the sections, and no others
 abbrev pub HasNames : BTreeSet (std.Vec ℕ Global) → List Section → Type 0
-HasNames names sections = (name : List ℕ) → IsTrue (has_name names name) ↔ Contains (section_names (headings_of sections)) name
+HasNames names sections = HasTexts names (section_names (headings_of sections))
