@@ -86,6 +86,9 @@ fn append_unit(rest: &[u8], draft: &mut Draft) -> Option<(usize, usize)>
     ensures some { IfSome result (λ front. Respells Encodes rest.now front.0 front.1 draft.old draft.new) }
     ensures none { IfNone result (Continues draft.old draft.new) }
 {
+    if is_long_run(rest) {
+        return None;
+    }
     let before = draft.len();
     let found = append_extended(rest, draft);
     if found.is_some() {
@@ -93,6 +96,17 @@ fn append_unit(rest: &[u8], draft: &mut Draft) -> Option<(usize, usize)>
     }
     draft.cut(before);
     append_by_steps(rest, draft)
+}
+
+/// A run of so many bytes in UTF-8 is left to the lexer, which takes it at once.
+const LONG_RUN: usize = 48;
+
+/// Whether a run of bytes in UTF-8 at the front has at least as many.
+fn is_long_run(rest: &[u8]) -> bool {
+    match rest.first_chunk::<LONG_RUN>() {
+        Some(front) => front.iter().all(|byte| *byte >= 0x80),
+        None => false,
+    }
 }
 
 /// Appends what the unit at the front stands for, by the steps of the lexer.
