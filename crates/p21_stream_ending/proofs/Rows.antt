@@ -1,13 +1,16 @@
 -- Rows, one place more.
-use Rattle.std.proofs.Common.{◌≡◌, ◌+◌, ◌<◌, ◌≤◌, ℕ, zero, suc, List, [], ◌∷◌, ◌++◌, Bool, cond, length, take, get_or, nat_eq, inl, inr, slice_set, refl, sym, ap, subst, ◌∙◌, arith}
+use Rattle.std.proofs.Common.{◌≡◌, ◌+◌, ◌<◌, ◌≤◌, ℕ, zero, suc, List, [], ◌∷◌, ◌++◌, Bool, cond, length, take, get_or, nat_eq, inl, inr, Option, None, slice_set, refl, sym, ap, subst, ◌∙◌, arith}
 use Rattle.std.proofs.lemmas.Bool.Decides.{eqb_tells}
 use Rattle.std.specs.Prelude.{filter}
 use Rattle.std.proofs.lemmas.List.{append_assoc, append-nil, take_more}
 use Rattle.std.proofs.lemmas.Option.{get_or_from_slice_get, slice_get_within}
 use Rattle.std.specs.Prelude.{slice_get, Some}
-use Rattle.p21_stream_ending.specs.Filing.{filed, heads_of, rows_of, with_place}
+use Rattle.p21_basics.proofs.Members.{Each-at}
+use Rattle.p21_stream_ending.specs.Filing.{AreOfSections, filed, heads_of, rows_of, section_at, section_in, with_place}
 use Rattle.p21_stream_ending.specs.Parts.{AreEmpty}
 use Rattle.p21_stream_ending.specs.declared.parts.Part.{Part}
+use Rattle.p21_stream_kinds.specs.Kinds.{Kind}
+use Rattle.p21_stream_store.specs.Kept.{Kept}
 
 filed-more : (f : ℕ → ℕ) (order : List ℕ) (place : ℕ) (rows : List (List ℕ)) → filed f (order ++ place ∷ []) rows ≡ with_place (f place) place (filed f order rows)
 filed-more f [] place rows = refl
@@ -99,3 +102,33 @@ part-filed f order old new none are i part at =
     ∙ ap (λ (rows : List (List ℕ)). get_or rows i []) are
     ∙ row-filed f order (rows_of old) i (omega (arith, low, many))
     ∙ ap (λ (ns : List ℕ). ns ++ filter (λ (place : ℕ). nat_eq (f place) i) order) (row-empty old i none)
+
+-- ---- one section alone
+
+pub row-given : (parts : List Part) (part : Part) (places : List ℕ) → length parts ≡ 1 → part.places ≡ places → rows_of (slice_set parts 0 part) ≡ places ∷ []
+row-given [] part places one are = absurd (omega (arith, one))
+row-given (x ∷ []) part places one are = ap (λ (ns : List ℕ). ns ∷ []) are
+row-given (x ∷ y ∷ parts) part places one are = absurd (omega (arith, one))
+
+-- each place is in the first section, where each kind is of it
+first-section : (kinds : List Kind) (kept : List Kept) → AreOfSections 1 kinds → (place : ℕ) → section_at kinds kept place ≡ 0
+first-section kinds kept all place = of_instance (slice_get kept place) where
+  of_kind : (number : ℕ) (kind : Option Kind) → slice_get kinds number ≡ kind → ◌≡◌ {A = ℕ} (elim kind [ Some k ↦ k.section | None ↦ 0 ]) 0
+  of_kind number None is = refl
+  of_kind number (Some kind) is = let below = Each-at (λ (x : Kind). x.section < 1) kinds number kind all is in omega (arith, below)
+
+  of_instance : (found : Option Kept) → ◌≡◌ {A = ℕ} (elim found [ Some x ↦ section_in kinds x.kind | None ↦ 0 ]) 0
+  of_instance None = refl
+  of_instance (Some x) = of_kind x.kind (slice_get kinds x.kind) refl
+
+filed-first : (f : ℕ → ℕ) → ((place : ℕ) → f place ≡ 0) → (order row : List ℕ) → filed f order (row ∷ []) ≡ (row ++ order) ∷ []
+filed-first f first [] row = ap (λ (ns : List ℕ). ns ∷ []) (sym (append-nil row))
+filed-first f first (place ∷ order) row =
+    ap (λ (n : ℕ). filed f order (with_place n place (row ∷ []))) (first place) ∙ filed-first f first order (row ++ place ∷ []) ∙ ap (λ (ns : List ℕ). ns ∷ []) (append_assoc row (place ∷ []) order)
+
+-- so it gets all places in their order
+pub one-filed : (kinds : List Kind) (kept : List Kept) (order : List ℕ) (parts : List Part) → AreOfSections (length parts) kinds → AreEmpty parts → length parts ≡ 1 → order ∷ [] ≡ filed (section_at kinds kept) order (rows_of parts)
+one-filed kinds kept order [] all none one = absurd (omega (arith, one))
+one-filed kinds kept order (x ∷ []) all none one =
+    sym (ap (λ (ns : List ℕ). filed (section_at kinds kept) order (ns ∷ [])) none.0 ∙ filed-first (section_at kinds kept) (first-section kinds kept all) order [])
+one-filed kinds kept order (x ∷ y ∷ parts) all none one = absurd (omega (arith, one))

@@ -1,6 +1,7 @@
 //! The instances of each data section, by rising names.
-ghost use Rattle.std.specs.Prelude.{◌≡◌, OnOk};
-ghost use Rattle.p21_stream_ending.specs.Filing.{AreKinds, IsFiling, filed, heads_of, rows_of, section_at, with_place};
+ghost use Rattle.std.specs.Prelude.{◌≡◌, [], ◌∷◌, length, OnOk};
+ghost use Rattle.p21_stream_ending.specs.Filing.{AreKinds, AreOfSections, IsFiling, filed, heads_of, rows_of, section_at, with_place};
+ghost use Rattle.p21_stream_ending.specs.Parts.{AreEmpty};
 
 use crate::parts::Part;
 use p21_stream_kinds::Kinds;
@@ -8,7 +9,8 @@ use p21_stream_store::{Instances, Numbers};
 use p21_values::NoMemory;
 use std::alloc::Global;
 
-/// Adds the places of all instances to those of their data sections, by rising names.
+/// Puts the places of all instances into their data sections, by rising names. Where there is one section, they are not
+/// copied.
 ///
 /// # Errors
 ///
@@ -19,12 +21,29 @@ pub(crate) fn file_instances(
     kinds: &Kinds,
     instances: &Instances,
 ) -> Result<(), NoMemory>
-    requires { AreKinds kinds.now instances.now }
+    requires kinds { AreKinds kinds.now instances.now }
+    requires sections { AreOfSections (length parts.old.items) kinds.now }
+    requires empty { AreEmpty parts.old.items }
     ensures heads { heads_of parts.new.items ≡ heads_of parts.old.items }
     ensures rows { OnOk result (IsFiling kinds.now instances.now (rows_of parts.old.items) (rows_of parts.new.items)) }
 {
     let order = instances.order(alloc)?;
+    if parts.len() == 1 {
+        hand_over(parts, order);
+        return Ok(());
+    }
     file(parts, kinds, instances, &order)
+}
+
+/// Gives all places to the only section.
+fn hand_over(parts: &mut Vec<Part>, order: Numbers)
+    requires { length parts.old.items ≡ 1 }
+    ensures heads { heads_of parts.new.items ≡ heads_of parts.old.items }
+    ensures rows { rows_of parts.new.items ≡ order ∷ [] }
+{
+    if let Some(part) = parts.get_mut(0) {
+        part.places = order;
+    }
 }
 
 /// Adds places behind those of their sections.
