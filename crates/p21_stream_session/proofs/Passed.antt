@@ -72,8 +72,8 @@ front-is piece front rest is =
 
 -- ---- what is found
 
-pub found-in : (s : Schema) (n e : ℕ) (piece rest old new : List ℕ) (before after : List Need) → TakesInstance s n e piece rest old new before after → old ≡ [] → before ≡ [] → IsFoundIn s n e (take (length piece - length rest) piece) new (map need_view after)
-found-in s n e piece rest old new before after takes no_text no_needs =
+pub found-in : (s : Schema) (n : ℕ) (entities piece rest old new : List ℕ) (before after : List Need) → TakesInstance s n entities piece rest old new before after → old ≡ [] → before ≡ [] → IsFoundIn s n entities (take (length piece - length rest) piece) new (map need_view after)
+found-in s n entities piece rest old new before after takes no_text no_needs =
     let (front, is, laid) = laid-front piece rest (statement_tokens (instance n takes.record_)) takes.laid in
     let text : new ≡ takes.text = takes.appended ∙ ap (λ (l : List ℕ). l ++ takes.text) no_text in
     let needs : after ≡ takes.added = takes.needs_are ∙ ap (λ (l : List Need). l ++ takes.added) no_needs in
@@ -83,31 +83,26 @@ found-in s n e piece rest old new before after takes no_text no_needs =
         laid = subst (λ (l : List ℕ). Laid l (instance_tokens ((n, takes.record_) ∷ []))) (front-is piece front rest is) (subst (λ (ts : List Token). Laid front ts) (sym (append-nil (statement_tokens (instance n takes.record_)))) laid);
         of_data = (takes.data_record, tt);
       };
-      entities = takes.meaning.entities;
-      set_is = takes.set_is;
       found = record {
         meaning = takes.meaning;
         meant = subst (λ (l : List Need). MeansWith s takes.record_ takes.meaning (map need_view l)) (sym needs) takes.means;
-        entities_are = refl;
+        entities_are = takes.set_is;
         printed = subst (λ (l : List ℕ). IsInstanceText s n takes.record_ l) (sym text) takes.text_is;
       };
     }
-
--- the entity of an instance is one of the schema
-pub found-entity : (s : Schema) → HoldsTogether s → (n e : ℕ) (piece rest old new : List ℕ) (before after : List Need) → TakesInstance s n e piece rest old new before after → IsEntity s e
-found-entity s holds n e piece rest old new before after takes =
-    let (same, (names, all, rise)) = takes.set_is in
-    let (word, among, (x, is, named)) = AllZip-member (EntityNamed s) takes.meaning.entities names e all ((same e).0 ((order-tells s holds e e).1 (itself e))) in
-    slice_get_within s.entities e x is
 
 -- lists that have the entity and its supertypes, rising by name, are equal
 own-one : (s : Schema) (e : ℕ) (es fs : List ℕ) → IsOwnRising s e es → IsOwnRising s e fs → es ≡ fs
 own-one s e es fs (same, (ns, all, rise)) (same_, (ms, all_, rise_)) = rising-one s es fs ns ms all all_ rise rise_ (λ x among. (same_ x).0 ((same x).1 among)) (λ x among. (same x).0 ((same_ x).1 among))
 
+-- what is found has each list of these
+pub found-as : (s : Schema) (e n : ℕ) (es fs bytes text : List ℕ) (needs : List meant.Need) → IsOwnRising s e es → IsOwnRising s e fs → IsFoundIn s n es bytes text needs → IsFoundIn s n fs bytes text needs
+found-as s e n es fs bytes text needs rising other found = subst (λ (xs : List ℕ). IsFoundIn s n xs bytes text needs) (own-one s e es fs rising other) found
+
 -- the same, of a line and of needs that are equal to these
-pub found-same : (s : Schema) (n e : ℕ) (bytes text line : List ℕ) (needs needed : List Need) → IsFoundIn s n e bytes text (map need_view needs) → line ≡ text → needed ≡ needs → IsFoundIn s n e bytes line (map need_view needed)
-found-same s n e bytes text line needs needed found line_is needed_is =
-    subst (λ (l : List ℕ). IsFoundIn s n e bytes l (map need_view needed)) (sym line_is) (subst (λ (l : List Need). IsFoundIn s n e bytes text (map need_view l)) (sym needed_is) found)
+pub found-same : (s : Schema) (n : ℕ) (entities bytes text line : List ℕ) (needs needed : List Need) → IsFoundIn s n entities bytes text (map need_view needs) → line ≡ text → needed ≡ needs → IsFoundIn s n entities bytes line (map need_view needed)
+found-same s n entities bytes text line needs needed found line_is needed_is =
+    subst (λ (l : List ℕ). IsFoundIn s n entities bytes l (map need_view needed)) (sym line_is) (subst (λ (l : List Need). IsFoundIn s n entities bytes text (map need_view l)) (sym needed_is) found)
 
 pub whole-range : (text line : List ℕ) (len : ℕ) → len ≡ length text → line ≡ slice_range text 0 len → line ≡ text
 whole-range text line len size is = is ∙ take_all (len - 0) text (omega (arith, size))
@@ -129,7 +124,7 @@ tokens-no_separators bytes (lexeme ∷ lexemes) token tokens is (gap, spelling, 
 
 -- ---- an instance that is passed over
 
-module _ (s : Schema) (limits : Limits) (held next : front.Held) (kept : Kept) (piece : List ℕ) (count n e : ℕ) (text : List ℕ) (needs : List meant.Need) (found : IsFoundIn s n e (take count piece) text needs) (within : count ≤ length piece) where
+module _ (s : Schema) (limits : Limits) (held next : front.Held) (kept : Kept) (piece : List ℕ) (count n : ℕ) (entities text : List ℕ) (needs : List meant.Need) (found : IsFoundIn s n entities (take count piece) text needs) (within : count ≤ length piece) where
   abbrev one : List (ℕ × Record)
   one = (n, found.record_) ∷ []
 
@@ -148,10 +143,7 @@ module _ (s : Schema) (limits : Limits) (held next : front.Held) (kept : Kept) (
   pub passed-none : (many : ℕ) → EndsNoToken s limits held kept piece (Ok (Some many))
   passed-none many reading live at pending are = none-separate are
 
-  module _ (entities : List ℕ) (set_is : IsOwnRising s e entities) (gives : GivesPassed held count next) (same : limits_of next ≡ limits_of held) where
-    has : HasFound s n found.record_ entities needs text
-    has = subst (λ (es : List ℕ). HasFound s n found.record_ es needs text) (own-one s e found.entities entities found.set_is set_is) found.found
-
+  module _ (gives : GivesPassed held count next) (same : limits_of next ≡ limits_of held) where
     goes : (reading : Reading) (live : front.IsLive held reading) → GoesOnBy reading (length live.history.given) (take count piece) one next
     goes reading live = gives reading live (take count piece) one (length-take-le count piece within) found.are
 
@@ -160,7 +152,7 @@ module _ (s : Schema) (limits : Limits) (held next : front.Held) (kept : Kept) (
         let on = goes way.reading way.live.reads in
         record {
           record_ = found.record_;
-          found = has;
+          found = found.found;
           follows = follows-behind s limits next kept way.reading (behind way.reading) (instance n found.record_) way.live.keeps on.live refl (ap (λ p. p.1) (same ∙ way.live.limits_are)) way.counted;
         }
 
@@ -171,7 +163,7 @@ module _ (s : Schema) (limits : Limits) (held next : front.Held) (kept : Kept) (
         let some : length (instance_tokens one) ≡ suc (length (equals ∷ ((record_tokens found.record_ ++ (semicolon ∷ [])) ++ []))) = refl in
         record {
           reading = behind reading;
-          live = record { reads = on.live; limits_are = same ∙ live.limits_are; keeps = takes found.record_ has reading.given live.keeps };
+          live = record { reads = on.live; limits_are = same ∙ live.limits_are; keeps = takes found.record_ found.found reading.given live.keeps };
           taken_are = refl;
           seen_at = tt;
           more = omega (arith, more, some);
@@ -180,7 +172,7 @@ module _ (s : Schema) (limits : Limits) (held next : front.Held) (kept : Kept) (
     pub passed-offends : IsWellFormed s → (after : Kept) (refusal : Refusal) (fault : Fault) → refusal.fault ≡ fault → FoundGives s limits kept n entities needs text (Err fault) after → StepGives s limits held kept piece (Err refusal) next after
     passed-offends formed after refusal fault is takes other reading live at =
         let on = goes reading live.reads in
-        dead-behind s formed limits next kept after reading (behind reading) piece count (instance n found.record_) fault live.keeps on.live refl refl tt within (takes found.record_ has) (λ none. other (is ∙ none))
+        dead-behind s formed limits next kept after reading (behind reading) piece count (instance n found.record_) fault live.keeps on.live refl refl tt within (takes found.record_ found.found) (λ none. other (is ∙ none))
 
 -- ---- where none is
 

@@ -3,7 +3,6 @@ use Rattle.std.specs.Prelude.{◌≡◌, ℕ, List, [], ◌∷◌, Option, Some,
 use Rattle.p21_basics.specs.Limits.{Limits}
 use Rattle.p21_claim_steps.specs.Keeping.{Kept}
 use Rattle.p21_exchange.specs.Record.{Record}
-use Rattle.p21_express_tables.specs.Rising.{IsOwnRising}
 use Rattle.p21_files.specs.Reference.{Need}
 use Rattle.p21_schemas.specs.Schema.{Schema}
 use Rattle.p21_stream_fault.specs.declared.refusal.Refusal.{Refusal}
@@ -12,13 +11,10 @@ use Rattle.p21_stream_front.specs.Passing.{AreInstances}
 use Rattle.p21_stream_kept.specs.Found.{HasFound}
 use Rattle.p21_stream_session.specs.Pieces.{StepGives}
 
--- The bytes are an instance of this name, whose set is the entity and its supertypes; this is its canonical text, and these
--- are its needs
-pub record IsFoundIn (s : Schema) (n e : ℕ) (bytes text : List ℕ) (needs : List Need) : Type 0 where
+-- The bytes are an instance of this name, whose set are these entities; this is its canonical text, and these are its needs
+pub record IsFoundIn (s : Schema) (n : ℕ) (entities bytes text : List ℕ) (needs : List Need) : Type 0 where
   pub record_ : Record
   pub are : AreInstances bytes ((n, record_) ∷ [])
-  pub entities : List ℕ
-  pub set_is : IsOwnRising s e entities
   pub found : HasFound s n record_ entities needs text
 
 -- what an instance gives that is taken so: as much as its tokens do; where it isn't, all is as before

@@ -1,12 +1,13 @@
 //! Instances that stand whole at the front of a piece, taken straight from their bytes (ISO 10303-21, data sections).
-ghost use Rattle.std.specs.Prelude.{◌≡◌, ◌≤◌, length, take, IfErr, IfSome};
-ghost use Rattle.p21_express_tables.specs.Resolved.{IsEntity};
+ghost use Rattle.std.specs.Prelude.{◌≡◌, ◌≤◌, ℕ, List, length, take, IfErr, IfSome};
+ghost use Rattle.p21_express_tables.specs.Rising.{IsOwnRising};
 ghost use Rattle.p21_mapping.specs.Checked.{needs_view};
 ghost use Rattle.p21_stream_fault.specs.Source.{IsOfBytes};
 ghost use Rattle.p21_stream_front.specs.Front.{limits_of};
 ghost use Rattle.p21_stream_kept.specs.Steps.{StepKeepsBound};
 ghost use Rattle.p21_stream_session.specs.Passing.{IsFoundIn, PassGives};
 ghost use Rattle.p21_stream_session.specs.Pieces.{EndsNoToken, IsUnderWay, NeedsNoMemory, TakesOf};
+ghost use Rattle.p21_transcribe_plan.specs.Steps.{IsPlanOf};
 
 use crate::progress::{Progress, refused};
 use p21_express_tables::Schema;
@@ -41,11 +42,10 @@ impl Progress {
         &mut self,
         schema: &Schema,
         limits: Limits,
-        plan: &mut Plan<'_>,
         piece: &[u8],
     ) -> Result<Option<usize>, Refusal>
         requires way { IsUnderWay schema.now limits self.old.front self.old.kept piece.now }
-        requires plan { plan.old ≡ schema.now }
+        requires plan { IsPlanOf schema.now self.old.plan }
         ensures takes { TakesOf piece.now result }
         ensures gives { PassGives schema.now limits self.old.front self.old.kept piece.now result self.new.front self.new.kept }
         ensures no_memory { NeedsNoMemory schema.now limits self.old.front self.old.kept piece.now result }
@@ -54,26 +54,29 @@ impl Progress {
         ensures bound { StepKeepsBound limits self.old.kept self.new.kept }
         ensures limits { limits_of self.new.front ≡ limits_of self.old.front }
         ensures refused { self.new.refused ≡ self.old.refused }
-        ensures plan { plan.new ≡ plan.old }
+        ensures plan { IsPlanOf schema.now self.new.plan }
     {
         schema.well_formed();
         if !self.front.is_between_instances() {
             return Ok(None);
         }
-        let Some(found) = find(schema, plan, piece, &mut self.draft, &mut self.needs) else {
+        let Some(found) = find(
+            schema,
+            &mut self.plan,
+            piece,
+            &mut self.draft,
+            &mut self.needs,
+        ) else {
             return Ok(None);
         };
-        let Ok(set) = schema.own_rising(found.entity) else {
+        let Some(row) = self.plan.row(found.entity) else {
             return Ok(None);
         };
         if !self.front.pass_over(found.count) {
             return Ok(None);
         }
         let line = self.draft.between(0, self.draft.len());
-        match self
-            .kept
-            .take_found(schema, limits, found.name, &set, line, &self.needs)
-        {
+        match self.kept.take_found(schema, limits, found.name, &row.entities, line, &self.needs) {
             Ok(()) => {
                 self.statement = self.statement.saturating_add(1);
                 Ok(Some(found.count))
@@ -87,18 +90,16 @@ impl Progress {
 /// and its references are the needs. Want of memory counts as none.
 pub(crate) fn find(
     schema: &Schema,
-    plan: &mut Plan<'_>,
+    plan: &mut Plan,
     piece: &[u8],
     draft: &mut Draft,
     needs: &mut Vec<Need>,
 ) -> Option<Passing>
-    requires { plan.old ≡ schema.now }
-    ensures found { IfSome result (λ found. IsFoundIn schema.now found.name found.entity.0 (take found.count piece.now) draft.new (needs_view needs.new.items)) }
-    ensures entity { IfSome result (λ found. IsEntity schema.now found.entity.0) }
+    requires { IsPlanOf schema.now plan.old }
+    ensures found { IfSome result (λ found. (entities : List ℕ) × IsOwnRising schema.now found.entity.0 entities × IsFoundIn schema.now found.name entities (take found.count piece.now) draft.new (needs_view needs.new.items)) }
     ensures within { IfSome result (λ found. found.count ≤ length piece.now) }
-    ensures plan { plan.new ≡ plan.old }
+    ensures plan { IsPlanOf schema.now plan.new }
 {
-    schema.holds_together();
     let Ok(()) = draft.make_room(ROOM) else {
         return None;
     };

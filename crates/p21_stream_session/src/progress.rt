@@ -2,6 +2,7 @@ ghost use Rattle.std.specs.Prelude.{◌≡◌, ◌<◌, ◌^◌, IfErr, None, So
 ghost use Rattle.p21_basics.specs.Limits.{Limits as MeantLimits};
 ghost use Rattle.p21_claim_steps.specs.Keeping.{nothing_kept};
 ghost use Rattle.p21_grammar_machine.specs.Statements.{statement_of};
+ghost use Rattle.p21_schemas.specs.Schema.{Schema as Meant};
 ghost use Rattle.p21_stream_front.specs.Front.{IsLive, limits_of, new_reading};
 ghost use Rattle.p21_stream_fault.specs.Source.{IsOfBytes};
 ghost use Rattle.p21_stream_fault.specs.declared.refusal.Refusal.{Refusal};
@@ -12,6 +13,7 @@ ghost use Rattle.p21_stream_session.specs.Bounds.{IsBounded};
 ghost use Rattle.p21_stream_session.specs.Histories.{FeedChecks, FeedGives, FeedNeedsNoMemory, FinishGives, RefusesAgain, RefusesAtEnd};
 ghost use Rattle.p21_stream_session.specs.Inside.{held_in};
 ghost use Rattle.p21_stream_session.specs.Pieces.{EndGives, EndsNoToken, IsBetweenPieces, IsUnderWay, NeedsNoMemory, ReadGives, StepGives, TakesOf};
+ghost use Rattle.p21_transcribe_plan.specs.Steps.{IsPlanOf};
 
 use p21_express_tables::Schema;
 use p21_grammar::Event;
@@ -35,6 +37,8 @@ pub(crate) struct Progress {
     // The line and the references of an instance that is taken straight from its bytes.
     pub draft: Draft,
     pub needs: Vec<Need>,
+    // What is kept of the schema for them.
+    pub plan: Plan,
     // The number of the open one, counted from 1.
     pub statement: u64,
     // The refusal that was answered, and is answered again.
@@ -49,6 +53,7 @@ impl Progress {
         ensures kept { result.kept ≡ nothing_kept }
         ensures refused { result.refused ≡ None }
         ensures counted { limits.file_source < 2 ^ 64 }
+        ensures plan { (s : Meant) → IsPlanOf s result.plan }
     {
         // Looked at, so that the proof knows that it is a number of 64 bits.
         let _most = limits.file_source();
@@ -58,6 +63,7 @@ impl Progress {
             kept: Kept::new(alloc),
             draft: Draft::new(alloc),
             needs: Vec::new(alloc),
+            plan: Plan::new(alloc),
             statement: 1,
             refused: None,
         }
@@ -74,7 +80,8 @@ impl Progress {
         limits: Limits,
         piece: &[u8],
     ) -> Result<(), Refusal>
-        requires { IsBounded (held_in schema.now limits self.old) }
+        requires bounded { IsBounded (held_in schema.now limits self.old) }
+        requires plan { IsPlanOf schema.now self.old.plan }
         ensures gives { FeedGives (held_in schema.now limits self.old) piece.now result (held_in schema.now limits self.new) }
         ensures checks { FeedChecks (held_in schema.now limits self.old) piece.now result }
         ensures no_memory { FeedNeedsNoMemory (held_in schema.now limits self.old) piece.now result }
@@ -82,6 +89,7 @@ impl Progress {
         ensures refused { IfErr result (λ refusal. self.new.refused ≡ Some refusal) }
         ensures kind { IfErr result (λ refusal. IsOfBytes refusal.fault) }
         ensures bounded { IsBounded (held_in schema.now limits self.new) }
+        ensures plan { IsPlanOf schema.now self.new.plan }
     {
         if let Some(refusal) = self.refused {
             return Err(refusal);
@@ -136,20 +144,21 @@ impl Progress {
     ///
     /// The refusal of its first byte, token or statement that is refused.
     fn read(&mut self, schema: &Schema, limits: Limits, piece: &[u8]) -> Result<(), Refusal>
-        requires { IsUnderWay schema.now limits self.old.front self.old.kept piece.now }
+        requires way { IsUnderWay schema.now limits self.old.front self.old.kept piece.now }
+        requires plan { IsPlanOf schema.now self.old.plan }
         ensures gives { ReadGives schema.now limits self.old.front self.old.kept piece.now result self.new.front self.new.kept }
         ensures no_memory { NeedsNoMemory schema.now limits self.old.front self.old.kept piece.now result }
         ensures kind { IfErr result (λ refusal. IsOfBytes refusal.fault) }
         ensures bound { StepKeepsBound limits self.old.kept self.new.kept }
         ensures limits { limits_of self.new.front ≡ limits_of self.old.front }
         ensures refused { self.new.refused ≡ self.old.refused }
+        ensures plan { IsPlanOf schema.now self.new.plan }
     {
-        let mut plan = Plan::new(self.alloc, schema);
         let mut rest = piece;
         // Each round takes a token or more, and a file has no more tokens than bytes.
         let mut rounds: u64 = 0;
         loop {
-            let taken = match self.advance(schema, limits, &mut plan, rest) {
+            let taken = match self.advance(schema, limits, rest) {
                 Ok(taken) => taken,
                 Err(refusal) => return Err(refusal),
             };
@@ -171,11 +180,10 @@ impl Progress {
         &mut self,
         schema: &Schema,
         limits: Limits,
-        plan: &mut Plan<'_>,
         piece: &[u8],
     ) -> Result<Option<usize>, Refusal>
         requires way { IsUnderWay schema.now limits self.old.front self.old.kept piece.now }
-        requires plan { plan.old ≡ schema.now }
+        requires plan { IsPlanOf schema.now self.old.plan }
         ensures takes { TakesOf piece.now result }
         ensures gives { StepGives schema.now limits self.old.front self.old.kept piece.now result self.new.front self.new.kept }
         ensures no_memory { NeedsNoMemory schema.now limits self.old.front self.old.kept piece.now result }
@@ -184,9 +192,9 @@ impl Progress {
         ensures bound { StepKeepsBound limits self.old.kept self.new.kept }
         ensures limits { limits_of self.new.front ≡ limits_of self.old.front }
         ensures refused { self.new.refused ≡ self.old.refused }
-        ensures plan { plan.new ≡ plan.old }
+        ensures plan { IsPlanOf schema.now self.new.plan }
     {
-        let passed = match self.pass(schema, limits, plan, piece) {
+        let passed = match self.pass(schema, limits, piece) {
             Ok(passed) => passed,
             Err(refusal) => return Err(refusal),
         };
@@ -217,6 +225,7 @@ impl Progress {
         ensures bound { StepKeepsBound limits self.old.kept self.new.kept }
         ensures limits { limits_of self.new.front ≡ limits_of self.old.front }
         ensures refused { self.new.refused ≡ self.old.refused }
+        ensures plan { self.new.plan ≡ self.old.plan }
     {
         schema.well_formed();
         let answer = match self.front.step(piece) {

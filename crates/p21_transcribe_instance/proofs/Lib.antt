@@ -1,7 +1,6 @@
 pub mod Laid
 pub mod Meaning
 pub mod Plain
-pub mod Rising
 pub mod Rows
 pub mod Stepping
 pub mod Texts

@@ -23,9 +23,9 @@ use Rattle.p21_exchange.specs.Spelling.{name_spelling}
 use Rattle.p21_exchange.specs.Statement.{instance, statement_tokens}
 use Rattle.p21_exchange.specs.Token as token
 use Rattle.p21_exchange.specs.Token.{Token}
-use Rattle.p21_express_tables.proofs.OrderTables.{order-tells, IsA-within, are-entities}
+use Rattle.p21_express_tables.proofs.OrderTables.{order-tells}
 use Rattle.p21_express_tables.specs.Resolved.{HoldsTogether, IsEntity}
-use Rattle.p21_express_tables.specs.Rising.{AreNamesRising, HaveSame, IsOwnRising}
+use Rattle.p21_express_tables.specs.Rising.{HaveSame, IsOwnRising}
 use Rattle.p21_files.proofs.SameFiles.{SameTyped-symmetric}
 use Rattle.p21_files.specs.CanonicalRecord.{AreCanonicalAt}
 use Rattle.p21_files.specs.Kept.{IsInstanceText}
@@ -41,12 +41,11 @@ use Rattle.p21_schemas.specs.Supertype.{IsA}
 use Rattle.p21_schemas.specs.WellFormed.{IsWellFormed}
 use Rattle.p21_transcribe_instance.proofs.Laid.{laid-spelled, takes-join}
 use Rattle.p21_transcribe_instance.proofs.Plain.{placed-plain}
-use Rattle.p21_transcribe_instance.proofs.Rising.{rising-exists}
 use Rattle.p21_transcribe_instance.proofs.Rows.{HasMeaning, has-meaning}
 use Rattle.p21_transcribe_instance.proofs.Texts.{AreMeant, canonical-fit, canonical-spelled, canonical-stand, canonical_at, line-is}
 use Rattle.p21_transcribe_instance.specs.Instance.{TakesInstance}
 use Rattle.p21_transcribe_instance.specs.Taking.{IsPlaced, Placed, Takes, TakesEntity, TakesSteps, body_text, body_tokens, needs_at, params_at, places_at, texts_at}
-use Rattle.p21_transcribe_plan.specs.Steps.{HasSteps, MayStandAlone}
+use Rattle.p21_transcribe_plan.specs.Steps.{AreStepsAt, MayStandAlone}
 use Rattle.p21_transcribe_plan.specs.declared.step.Step.{Step}
 use Rattle.p21_transcribe_values.specs.Taken.{LaidBefore}
 
@@ -58,18 +57,9 @@ all-shallow : (s : Schema) (entities : List ℕ) (ps : List Placed) → Each (Is
 all-shallow s entities [] each = omega arith
 all-shallow s entities (p ∷ ps) each = let first = each.0.shallow in let more = all-shallow s entities ps each.1 in omega (arith, first, more)
 
-module _ (s : Schema) (formed : IsWellFormed s) (holds : HoldsTogether s) (e : ℕ) (is : IsEntity s e) (may : MayStandAlone s e) (word : List ℕ) (named : EntityNamed s e word) (ps : List Placed) (placed : Each (IsPlaced s (order s e)) ps) (at_places : places_at ps ≡ places s e) where
-  rising : (fs : List ℕ) × HaveSame (order s e) fs × AreNamesRising s fs
-  rising = rising-exists s formed.entities_distinct (order s e) (λ f among. IsA-within s (are-entities s holds) e f ((order-tells s holds e f).0 among) is) (distinct-none_twice (order s e) (order-distinct s e))
-
-  abbrev set : List ℕ
-  set = rising.0
-
-  set-is : IsOwnRising s e set
-  set-is = (rising.1, rising.2)
-
+module _ (s : Schema) (formed : IsWellFormed s) (holds : HoldsTogether s) (e : ℕ) (is : IsEntity s e) (may : MayStandAlone s e) (word : List ℕ) (named : EntityNamed s e word) (ps : List Placed) (placed : Each (IsPlaced s (order s e)) ps) (at_places : places_at ps ≡ places s e) (set : List ℕ) (set-is : IsOwnRising s e set) where
   same : HaveSame (order s e) set
-  same = rising.1
+  same = set-is.0
 
   values : HasMeaning s set ps
   values = has-meaning s (order s e) set ps (distinct-none_twice (order s e) (order-distinct s e)) (λ f. (same f).0) (λ f. (same f).1) at_places
@@ -102,7 +92,7 @@ module _ (s : Schema) (formed : IsWellFormed s) (holds : HoldsTogether s) (e : �
   record-means =
       let passes = own-passes s e set same (may.concrete, may.agrees, may.decided) in
       record {
-        rising = rising.2;
+        rising = set-is.1;
         own_counts = values.counts;
         no_abstract_leaf = simple-no_leaf s holds e set same may.concrete;
         no_clash = passes.0;
@@ -156,10 +146,10 @@ pub entity-is : (s : Schema) (e : ℕ) (word : List ℕ) → EntityNamed s e wor
 entity-is s e word (x, at, is) = slice_get_within s.entities e x at
 
 -- the parts of an instance one behind the other
-pub instance-taken : (s : Schema) → IsWellFormed s → HoldsTogether s → (n e : ℕ) → (steps : List Step) → HasSteps s e steps → (bytes keyed behind rest old headed worded new : List ℕ) (before after : List code.Need)
-    → Takes (token.name n ∷ token.equals ∷ []) (name_spelling n ++ 61 ∷ []) bytes keyed old headed → TakesEntity s e keyed behind headed worded → TakesSteps s body_tokens body_text steps behind rest worded new before after → TakesInstance s n e bytes rest old new before after
-instance-taken s formed holds n e steps has bytes keyed behind rest old headed worded new before after head (word, named, key) takes =
-    let h = takes (order s e) (places s e) has.steps_are in
+pub instance-taken : (s : Schema) → IsWellFormed s → HoldsTogether s → (n e : ℕ) (entities : List ℕ) → IsOwnRising s e entities → MayStandAlone s e → (steps : List Step) → AreStepsAt s (order s e) (places s e) steps → (bytes keyed behind rest old headed worded new : List ℕ) (before after : List code.Need)
+    → Takes (token.name n ∷ token.equals ∷ []) (name_spelling n ++ 61 ∷ []) bytes keyed old headed → TakesEntity s e keyed behind headed worded → TakesSteps s body_tokens body_text steps behind rest worded new before after → TakesInstance s n entities bytes rest old new before after
+instance-taken s formed holds n e entities rising may steps are bytes keyed behind rest old headed worded new before after head (word, named, key) takes =
+    let h = takes (order s e) (places s e) are in
     let ps : List Placed = h.placed in
     let part : Part = record { key = key_of word; params = params_at ps } in
     let body : Takes (body_tokens (params_at ps)) (body_text (texts_at s ps)) behind rest worded new = record { laid = h.laid; appended = h.text_is } in
@@ -173,13 +163,13 @@ instance-taken s formed holds n e steps has bytes keyed behind rest old headed w
     record {
       record_ = simple part;
       laid = laid;
-      data_record = data-record s formed holds e is has.may word named ps h.each h.places_are;
-      meaning = meant s formed holds e is has.may word named ps h.each h.places_are;
-      set_is = set-is s formed holds e is has.may word named ps h.each h.places_are;
+      data_record = data-record s formed holds e is may word named ps h.each h.places_are entities rising;
+      meaning = meant s formed holds e is may word named ps h.each h.places_are entities rising;
+      set_is = refl;
       added = h.added;
       needs_are = h.needs_are;
-      means = subst (λ (ns : List Need). MeansWith s (simple part) (meant s formed holds e is has.may word named ps h.each h.places_are) ns) h.added_are (means-so s formed holds e is has.may word named ps h.each h.places_are);
+      means = subst (λ (ns : List Need). MeansWith s (simple part) (meant s formed holds e is may word named ps h.each h.places_are entities rising) ns) h.added_are (means-so s formed holds e is may word named ps h.each h.places_are entities rising);
       text = text;
-      text_is = text-is s formed holds e is has.may word named ps h.each h.places_are n (laid-spelled bytes rest (statement_tokens (instance n (simple part))) laid) text (line-is s n word ps);
+      text_is = text-is s formed holds e is may word named ps h.each h.places_are entities rising n (laid-spelled bytes rest (statement_tokens (instance n (simple part))) laid) text (line-is s n word ps);
       appended = all.appended;
     }

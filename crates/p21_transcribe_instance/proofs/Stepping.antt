@@ -19,7 +19,7 @@ use Rattle.p21_transcribe.specs.Gaps.{PassesSeparators}
 use Rattle.p21_transcribe.specs.Leaf.{Transcribes}
 use Rattle.p21_transcribe_instance.proofs.Laid.{takes-join, takes-mark}
 use Rattle.p21_transcribe_instance.specs.Taking.{AreStepsIn, IsPlaced, Placed, Takes, TakesEntity, TakesMark, TakesPlaces, TakesSteps, body_text, body_tokens, needs_at, params_at, texts_at}
-use Rattle.p21_transcribe_plan.specs.Steps.{AreStepsAt, HasSteps, IsStepAt, IsStepIn, Says}
+use Rattle.p21_transcribe_plan.specs.Steps.{AreStepsAt, IsStepAt, IsStepIn, Says}
 use Rattle.p21_transcribe_plan.specs.declared.step.Step.{Step}
 use Rattle.p21_transcribe_values.proofs.Laid.{laid-join, param-behind}
 use Rattle.p21_transcribe_values.specs.Taken.{KeepsNeeds, LaidBefore, TakesWithNeeds}
@@ -40,8 +40,8 @@ each-in s [] k x is below are = absurd (omega (arith, below))
 each-in s (step ∷ steps) zero x is below are = subst (IsStepIn s) (sym is) (first-in s step steps are)
 each-in s (step ∷ steps) (suc k) x is below are = each-in s steps k x is (omega (arith, below)) (others-in s step steps are)
 
-pub entity-in : (s : Schema) (e : ℕ) (steps : List Step) → HasSteps s e steps → AreStepsIn s steps
-entity-in s e steps has = (order s e, places s e, has.steps_are)
+pub row-in : (s : Schema) (e : ℕ) (steps : List Step) → AreStepsAt s (order s e) (places s e) steps → AreStepsIn s steps
+row-in s e steps are = (order s e, places s e, are)
 
 -- the last of some steps speaks of the last of their places
 pub record HasLast (s : Schema) (entities : List ℕ) (places : List Place) (steps : List Step) (step : Step) : Type 0 where

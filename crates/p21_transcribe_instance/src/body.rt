@@ -16,7 +16,7 @@ use p21_transcribe_plan::Step;
 /// and adds their references: what stands behind the `;`.
 pub(crate) fn append_body<'a>(
     schema: &Schema,
-    steps: &[Step<'_>],
+    steps: &[Step],
     bytes: &'a [u8],
     draft: &mut Draft,
     needs: &mut Vec<Need>,

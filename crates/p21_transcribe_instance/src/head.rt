@@ -3,12 +3,14 @@ ghost use Rattle.std.specs.Prelude.{[], ◌∷◌, ◌++◌, IfNone, IfSome};
 ghost use Rattle.p21_exchange.specs.Spelling.{name_spelling};
 ghost use Rattle.p21_exchange.specs.Token.{equals, name};
 ghost use Rattle.p21_transcribe_instance.specs.Taking.{Takes, TakesEntity};
+ghost use Rattle.p21_transcribe_plan.specs.Steps.{IsPlanOf};
 ghost use Rattle.p21_values.specs.Canonical.{Continues};
 
 use crate::mark::append_mark;
 use p21_express_tables::Schema;
 use p21_express_types::EntityId;
 use p21_transcribe::{Draft, append_keyword, append_name, behind_separators};
+use p21_transcribe_plan::Plan;
 
 /// Appends the name at the front and the `=` behind it: its number, and what stands behind them.
 #[inline(always)]
@@ -26,14 +28,16 @@ pub(crate) fn append_head<'a>(bytes: &'a [u8], draft: &mut Draft) -> Option<(u64
 #[inline(always)]
 pub(crate) fn append_entity<'a>(
     schema: &Schema,
+    plan: &mut Plan,
     bytes: &'a [u8],
     draft: &mut Draft,
 ) -> Option<(EntityId, &'a [u8])>
     ensures some { IfSome result (λ found. TakesEntity schema.now found.0.0 bytes.now found.1.now draft.old draft.new) }
     ensures none { IfNone result (Continues draft.old draft.new) }
+    ensures plan { IsPlanOf schema.now plan.old → IsPlanOf schema.now plan.new }
 {
     let front = behind_separators(bytes);
     let word = append_keyword(front, draft)?;
-    let entity = schema.entity(word)?;
+    let entity = plan.entity(schema, word)?;
     Some((entity, &front[word.len()..]))
 }

@@ -1,7 +1,9 @@
 //! The statement of an instance (ISO 10303-21, data sections; mapping of EXPRESS entity data types: internal mapping).
-ghost use Rattle.std.specs.Prelude.{◌≡◌, IfNone, IfSome, IsTrue, Contains};
+ghost use Rattle.std.specs.Prelude.{ℕ, IfNone, IfSome, List};
 ghost use Rattle.p21_express_tables.specs.Resolved.{IsEntity};
+ghost use Rattle.p21_express_tables.specs.Rising.{IsOwnRising};
 ghost use Rattle.p21_transcribe_instance.specs.Instance.{TakesInstance};
+ghost use Rattle.p21_transcribe_plan.specs.Steps.{IsPlanOf};
 ghost use Rattle.p21_transcribe_values.specs.Taken.{KeepsNeeds};
 ghost use Rattle.p21_values.specs.Canonical.{Continues};
 
@@ -27,26 +29,26 @@ pub struct Instance<'a> {
 /// references go on from those before.
 pub fn append_instance<'a>(
     schema: &Schema,
-    plan: &mut Plan<'_>,
+    plan: &mut Plan,
     bytes: &'a [u8],
     draft: &mut Draft,
     needs: &mut Vec<Need>,
 ) -> Option<Instance<'a>>
-    requires { plan.old ≡ schema.now }
-    ensures some { IfSome result (λ found. TakesInstance schema.now found.name found.entity.0 bytes.now found.rest.now draft.old draft.new needs.old.items needs.new.items) }
+    requires { IsPlanOf schema.now plan.old }
+    ensures some { IfSome result (λ found. (entities : List ℕ) × IsOwnRising schema.now found.entity.0 entities × TakesInstance schema.now found.name entities bytes.now found.rest.now draft.old draft.new needs.old.items needs.new.items) }
     ensures draft { IfNone result (Continues draft.old draft.new) }
     ensures needs { IfNone result (KeepsNeeds needs.old.items needs.new.items) }
-    ensures plan { plan.new ≡ plan.old }
+    ensures plan { IsPlanOf schema.now plan.new }
 {
     schema.well_formed();
     schema.holds_together();
     let (number, keyed) = append_head(bytes, draft)?;
-    let (entity, behind) = append_entity(schema, keyed, draft)?;
-    if !is_prepared(plan, entity) {
+    let (entity, behind) = append_entity(schema, plan, keyed, draft)?;
+    if !is_prepared(plan, schema, entity) {
         return None;
     }
-    let steps = plan.steps(entity)?;
-    let rest = append_body(schema, steps, behind, draft, needs)?;
+    let row = plan.row(entity)?;
+    let rest = append_body(schema, &row.steps, behind, draft, needs)?;
     Some(Instance {
         name: Name(number),
         entity,
@@ -57,14 +59,14 @@ pub fn append_instance<'a>(
 /// Prepares an entity, where it isn't, and says whether instances may have its closure as their set. Want of memory counts as
 /// no.
 #[inline(always)]
-fn is_prepared(plan: &mut Plan<'_>, entity: EntityId) -> bool
-    requires { IsEntity plan.old entity.0 }
-    ensures { plan.new ≡ plan.old }
+fn is_prepared(plan: &mut Plan, schema: &Schema, entity: EntityId) -> bool
+    requires { IsEntity schema.now entity.0 }
+    ensures { IsPlanOf schema.now plan.old → IsPlanOf schema.now plan.new }
 {
-    if plan.steps(entity).is_some() {
+    if plan.row(entity).is_some() {
         return true;
     }
-    match plan.prepare(entity) {
+    match plan.prepare(schema, entity) {
         Ok(may) => may,
         Err(_) => false,
     }

@@ -21,7 +21,7 @@ use p21_transcribe_values::append_value;
 /// references: what stands behind them.
 pub(crate) fn append_places<'a>(
     schema: &Schema,
-    steps: &[Step<'_>],
+    steps: &[Step],
     bytes: &'a [u8],
     draft: &mut Draft,
     needs: &mut Vec<Need>,
@@ -41,7 +41,7 @@ pub(crate) fn append_places<'a>(
 /// The same with a comma before each.
 fn append_others<'a>(
     schema: &Schema,
-    steps: &[Step<'_>],
+    steps: &[Step],
     bytes: &'a [u8],
     draft: &mut Draft,
     needs: &mut Vec<Need>,
@@ -63,7 +63,7 @@ fn append_others<'a>(
 #[inline(always)]
 fn append_place<'a>(
     schema: &Schema,
-    step: &Step<'_>,
+    step: &Step,
     bytes: &'a [u8],
     draft: &mut Draft,
     needs: &mut Vec<Need>,

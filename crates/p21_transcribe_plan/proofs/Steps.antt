@@ -1,20 +1,28 @@
--- Steps of places in turn.
+-- Steps of places in turn, and rows of entities.
 use Rattle.std.proofs.Common.{◌≡◌, ℕ, ◌<◌, List, [], ◌∷◌, ◌++◌, length, get_or, set, refl, ap, sym, subst, ◌∙◌, arith, inl, inr, length-append}
 use Rattle.std.proofs.lemmas.Bool.{cases_eq, cases_lt}
 use Rattle.std.proofs.lemmas.List.{get_or_append_left, get_or-set_other, get_or-set_same, length-set}
 use Rattle.std.proofs.lemmas.Option.{get_or_from_slice_get, slice_get-get_or, slice_get_within}
 use Rattle.std.proofs.Math.Seq.{get_or-append_seam}
-use Rattle.std.specs.Prelude.{Option, Some, None, Vec, slice_get, Contains, Bool, true, false, IsTrue, ◌↔◌}
-use Rattle.std.specs.declared.alloc.Global.{Global}
+use Rattle.std.specs.Prelude.{Option, Some, None, slice_get, Contains, Bool, true, false, IsTrue, ◌↔◌, Result, Ok, Err, IfOk}
+use denote.Ref.{Bor}
 use Rattle.p21_express_tables.proofs.OwnSets.{place-among}
 use Rattle.p21_express_tables.proofs.OrderTables.{IsA-within, are-entities, order-tells}
+use Rattle.p21_express_tables.proofs.Renaming.{comes-is}
+use Rattle.p21_express_tables.specs.Base.{ComesTo, HasBase, IsBase, at_itself}
+use Rattle.p21_express_tables.specs.declared.base.Base.{Base}
+use Rattle.p21_express_tables.specs.declared.base.Base.TheVariants.{Plain}
 use Rattle.p21_express_tables.specs.OwnSets.{HasOwnFaults, LeavesOpen}
 use Rattle.p21_express_tables.specs.declared.own_sets.OwnFaults.{OwnFaults}
-use Rattle.p21_express_tables.specs.Resolved.{HoldsTogether, IsEntity, IsPlace}
+use Rattle.p21_express_tables.specs.Resolved.{HoldsTogether, IsEntity, IsPlace, IsTypeUse}
+use Rattle.p21_express_types.specs.Meaning.{type_use}
+use Rattle.p21_express_types.specs.declared.type_use.TypeUse as code
+use Rattle.p21_values.specs.declared.fault.NoMemory.{NoMemory}
 use Rattle.p21_schemas.specs.Order.{order}
 use Rattle.p21_schemas.specs.PlaceType.{TypeAt, two_redeclarations}
 use Rattle.p21_schemas.specs.Schema.{Place, Schema}
-use Rattle.p21_transcribe_plan.specs.Steps.{AreRows, AreStepsAt, HasSteps, IsStepAt, MayStandAlone}
+use Rattle.p21_transcribe_plan.specs.Steps.{AreRows, AreStepsAt, IsRow, IsStepAt, MayStandAlone}
+use Rattle.p21_transcribe_plan.specs.declared.row.Row.{Row}
 use Rattle.p21_transcribe_plan.specs.declared.step.Step.{Step}
 
 -- one step more
@@ -33,43 +41,55 @@ module _ (s : Schema) (holds : HoldsTogether s) (e : ℕ) where
   pub decided_at : (place : Place) → Contains (order s e) place.entity → IsPlace s place → (LeavesOpen s e → ⊥) → TypeAt s (order s e) place two_redeclarations → ⊥
   decided_at place among is decided two = decided (place, (place-among s holds e place is ((order-tells s holds e place.entity).0 among), two))
 
+-- ---- what a type comes down to
+
+-- a plain type that is copied
+pub reduced-plain : (s : Schema) → HoldsTogether s → (of : code.TypeUse) (last : Bor code.TypeUse) (base : Base) → base ≡ Plain last → HasBase s (type_use of) base → IsTypeUse s (type_use of) → (copy : Result code.TypeUse NoMemory) → IfOk copy (λ c. type_use c ≡ type_use last.now)
+    → IfOk copy (λ c. IsTypeUse s (type_use c) × ComesTo s (type_use of) (type_use c))
+reduced-plain s holds of last base is (found_, comes, base_is) known (Ok copy) same =
+    let plain : found_ ≡ type_use copy = (subst (IsBase s found_) is base_is).0 ∙ sym same in
+    (subst (IsTypeUse s) plain (comes-is s holds (type_use of) found_ comes known), subst (ComesTo s (type_use of)) plain comes)
+reduced-plain s holds of last base is has known (Err fault) same = tt
+
+-- the type itself
+pub reduced-same : (s : Schema) (of : code.TypeUse) → IsTypeUse s (type_use of) → (copy : Result code.TypeUse NoMemory) → IfOk copy (λ c. type_use c ≡ type_use of) → IfOk copy (λ c. IsTypeUse s (type_use c) × ComesTo s (type_use of) (type_use c))
+reduced-same s of known (Ok copy) same = (subst (IsTypeUse s) (sym same) known, subst (ComesTo s (type_use of)) (sym same) (at_itself (type_use of)))
+reduced-same s of known (Err fault) same = tt
+
 -- ---- rows
 
-abbrev Steps : Type 0
-Steps = Vec Step Global
+found : (rows : List (Option Row)) (e : ℕ) (row : Row) → slice_get rows e ≡ Some (Some row) → (e < length rows) × (get_or rows e None ≡ Some row)
+found rows e row at = (slice_get_within rows e (Some row) at, get_or_from_slice_get rows e (Some row) None at)
 
-found : (rows : List (Option Steps)) (e : ℕ) (steps : Steps) → slice_get rows e ≡ Some (Some steps) → (e < length rows) × (get_or rows e None ≡ Some steps)
-found rows e steps at = (slice_get_within rows e (Some steps) at, get_or_from_slice_get rows e (Some steps) None at)
+found_back : (rows : List (Option Row)) (e : ℕ) (row : Row) → e < length rows → get_or rows e None ≡ Some row → slice_get rows e ≡ Some (Some row)
+found_back rows e row below at = slice_get-get_or rows e None below ∙ ap (λ (x : Option Row). Some x) at
 
-found_back : (rows : List (Option Steps)) (e : ℕ) (steps : Steps) → e < length rows → get_or rows e None ≡ Some steps → slice_get rows e ≡ Some (Some steps)
-found_back rows e steps below at = slice_get-get_or rows e None below ∙ ap (λ (x : Option Steps). Some x) at
-
--- a row with none
-pub row_more : (s : Schema) (rows : List (Option Steps)) → AreRows s rows → AreRows s (rows ++ None ∷ [])
-row_more s rows are e steps at =
-    let (below, is) = found (rows ++ None ∷ []) e steps at in
+-- a row with nothing
+pub row_more : (s : Schema) (rows : List (Option Row)) → AreRows s rows → AreRows s (rows ++ None ∷ [])
+row_more s rows are e row at =
+    let (below, is) = found (rows ++ None ∷ []) e row at in
     elim (cases_lt e (length rows)) [
-      | inl h ↦ are e steps (found_back rows e steps h (sym (get_or_append_left rows (None ∷ []) None e h) ∙ is))
+      | inl h ↦ are e row (found_back rows e row h (sym (get_or_append_left rows (None ∷ []) None e h) ∙ is))
       | inr h ↦
           let last : e ≡ length rows = omega (arith, h, below, length-append rows (None ∷ [])) in
-          let none : None ≡ Some steps = sym (ap (λ (k : ℕ). get_or (rows ++ None ∷ []) k None) last ∙ get_or-append_seam rows None [] None) ∙ is in cc
+          let none : None ≡ Some row = sym (ap (λ (k : ℕ). get_or (rows ++ None ∷ []) k None) last ∙ get_or-append_seam rows None [] None) ∙ is in cc
     ]
 
--- a row with these steps
-pub row_put : (s : Schema) (rows : List (Option Steps)) (k : ℕ) (new : Steps) → AreRows s rows → HasSteps s k new.items → AreRows s (set rows k (Some new))
-row_put s rows k new are has e steps at =
-    let (below, is) = found (set rows k (Some new)) e steps at in
+-- this row in its place
+pub row_put : (s : Schema) (rows : List (Option Row)) (k : ℕ) (new : Row) → AreRows s rows → IsRow s k new → AreRows s (set rows k (Some new))
+row_put s rows k new are has e row at =
+    let (below, is) = found (set rows k (Some new)) e row at in
     let room : e < length rows = omega (arith, below, length-set rows k (Some new)) in
     elim (cases_eq e k) [
       | inl same ↦
-          let both : Some new ≡ Some steps = sym (ap (λ (i : ℕ). get_or (set rows k (Some new)) i None) same ∙ get_or-set_same rows k (Some new) None (subst (λ (i : ℕ). i < length rows) same room)) ∙ is in
-          let one : new ≡ steps = cc in
-          subst (λ (i : ℕ). HasSteps s i steps.items) (sym same) (subst (λ (x : Steps). HasSteps s k x.items) one has)
-      | inr other ↦ are e steps (found_back rows e steps room (sym (get_or-set_other rows k e (Some new) None other) ∙ is))
+          let both : Some new ≡ Some row = sym (ap (λ (i : ℕ). get_or (set rows k (Some new)) i None) same ∙ get_or-set_same rows k (Some new) None (subst (λ (i : ℕ). i < length rows) same room)) ∙ is in
+          let one : new ≡ row = cc in
+          subst (λ (i : ℕ). IsRow s i row) (sym same) (subst (λ (x : Row). IsRow s k x) one has)
+      | inr other ↦ are e row (found_back rows e row room (sym (get_or-set_other rows k e (Some new) None other) ∙ is))
     ]
 
-pub row_at : (s : Schema) (rows : List (Option Steps)) (e : ℕ) (row : Option Steps) (steps : Steps) → AreRows s rows → (e < length rows) × ((d : Option Steps) → row ≡ get_or rows e d) → row ≡ Some steps → HasSteps s e steps.items
-row_at s rows e row steps are (below, at) is = are e steps (found_back rows e steps below (sym (at None) ∙ is))
+pub row_at : (s : Schema) (rows : List (Option Row)) (e : ℕ) (found_ : Option Row) (row : Row) → AreRows s rows → (e < length rows) × ((d : Option Row) → found_ ≡ get_or rows e d) → found_ ≡ Some row → IsRow s e row
+row_at s rows e found_ row are (below, at) is = are e row (found_back rows e row below (sym (at None) ∙ is))
 
 -- ---- sets of their own
 

@@ -1,60 +1,54 @@
-ghost use Rattle.std.specs.Prelude.{◌≡◌, ◌↔◌, false, IfOk, IfSome, IsTrue};
+ghost use Rattle.std.specs.Prelude.{◌↔◌, false, ◌≡◌, IfOk, IfSome, IsTrue};
 ghost use Rattle.p21_express_tables.specs.Resolved.{IsEntity};
-ghost use Rattle.p21_schemas.specs.Schema.{Schema as Meant};
-ghost use Rattle.p21_transcribe_plan.specs.Steps.{AreRows, HasSteps, MayStandAlone};
+ghost use Rattle.p21_schemas.specs.Schema.{EntityNamed, Schema as Meant};
+ghost use Rattle.p21_transcribe_plan.specs.Steps.{AreRows, IsPlanOf, IsRow, MayStandAlone};
 
-use crate::step::{Step, find_steps};
+use crate::guess::Guesses;
+use crate::row::{Row, find_row};
 use p21_express_tables::{OwnFaults, Schema};
 use p21_express_types::EntityId;
 use p21_values::NoMemory;
 use std::alloc::Global;
-use std::marker::Model;
 
-/// What may stand at the attributes of the instances of a schema, for the entities that were prepared.
+/// What is known of the instances of a schema, for the entities that were prepared, and guesses of the entities that keywords
+/// name. It borrows nothing of the schema.
 #[derive(Drop)]
-pub struct Plan<'a> {
+pub struct Plan {
     alloc: Global,
-    schema: &'a Schema,
     // By the number of the entity; those from the last row on aren't prepared.
-    rows: Vec<Option<Vec<Step<'a>>>>,
+    rows: Vec<Option<Row>>,
+    guesses: Guesses,
 }
 
-impl<'a> Model for Plan<'a> {
-    ghost use Rattle.p21_express_tables.specs.Coding.{schema_code};
-    ghost use Rattle.p21_schemas.specs.Schema.{Schema as Meant};
-
-    ghost Value = { Meant };
-
-    ghost coded = { schema_code };
-
-    ghost use Rattle.p21_transcribe_plan.specs.Steps.{AreRows};
-
-    ghost view = { λ plan. plan.schema.now };
-
-    ghost invariant = { λ plan. AreRows plan.schema.now plan.rows.items };
-}
-
-impl<'a> Plan<'a> {
+impl Plan {
     /// Nothing prepared. It takes no memory.
-    pub fn new(alloc: Global, schema: &'a Schema) -> Plan<'a>
-        ensures { result ≡ schema.now }
+    pub fn new(alloc: Global) -> Plan
+        ensures { (s : Meant) → IsPlanOf s result }
     {
         Plan {
             alloc,
-            schema,
             rows: Vec::new(alloc),
+            guesses: Guesses::new(alloc),
         }
     }
 
-    /// What may stand at the attributes of an instance whose set is the entity and its supertypes, in the order of internal
-    /// mapping: none where that isn't prepared.
+    /// The entity of this name, in upper case.
     #[inline(always)]
-    pub fn steps(&self, entity: EntityId) -> Option<&[Step<'a>]>
-        ensures { IfSome result (λ steps. HasSteps self.now entity.0 steps.now) }
+    pub fn entity(&mut self, schema: &Schema, name: &[u8]) -> Option<EntityId>
+        ensures some { IfSome result (λ entity. EntityNamed schema.now entity.0 name.now) }
+        ensures plan { IsPlanOf schema.now self.old → IsPlanOf schema.now self.new }
+    {
+        self.guesses.entity(schema, name)
+    }
+
+    /// What is known of the instances whose set is the entity and its supertypes: none where that isn't prepared.
+    #[inline(always)]
+    pub fn row(&self, entity: EntityId) -> Option<&Row>
+        ensures { (s : Meant) → IsPlanOf s self.now → IfSome result (λ row. IsRow s entity.0 row.now) }
     {
         let row = self.rows.get(entity.0 as usize)?;
         match row {
-            Some(steps) => Some(steps),
+            Some(row) => Some(row),
             None => None,
         }
     }
@@ -65,16 +59,16 @@ impl<'a> Plan<'a> {
     ///
     /// `NoMemory`.
     #[inline(never)]
-    pub fn prepare(&mut self, entity: EntityId) -> Result<bool, NoMemory>
-        requires { IsEntity self.old entity.0 }
-        ensures schema { self.new ≡ self.old }
-        ensures may { IfOk result (λ may. IsTrue may ↔ MayStandAlone self.old entity.0) }
+    pub fn prepare(&mut self, schema: &Schema, entity: EntityId) -> Result<bool, NoMemory>
+        requires { IsEntity schema.now entity.0 }
+        ensures plan { IsPlanOf schema.now self.old → IsPlanOf schema.now self.new }
+        ensures may { IfOk result (λ may. IsTrue may ↔ MayStandAlone schema.now entity.0) }
     {
-        if !may_stand_alone(self.schema, entity) {
+        if !may_stand_alone(schema, entity) {
             return Ok(false);
         }
-        let steps = find_steps(self.alloc, self.schema, entity)?;
-        put_row(&mut self.rows, entity.0 as usize, steps)?;
+        let row = find_row(self.alloc, schema, entity)?;
+        put_row(&mut self.rows, entity.0 as usize, row)?;
         Ok(true)
     }
 }
@@ -93,17 +87,13 @@ fn has_none(faults: OwnFaults) -> bool
     !faults.is_abstract && !faults.leaves_open && !faults.clashes
 }
 
-/// Puts the steps of an entity in its row.
-fn put_row<'a>(
-    rows: &mut Vec<Option<Vec<Step<'a>>>>,
-    at: usize,
-    steps: Vec<Step<'a>>,
-) -> Result<(), NoMemory>
-    ensures { (s : Meant) → AreRows s rows.old.items → HasSteps s at steps.entry.items → AreRows s rows.new.items }
+/// Puts the row of an entity in its place.
+fn put_row(rows: &mut Vec<Option<Row>>, at: usize, row: Row) -> Result<(), NoMemory>
+    ensures { (s : Meant) → AreRows s rows.old.items → IsRow s at row → AreRows s rows.new.items }
 {
     while rows.len() <= at {
         rows.push(None)?;
     }
-    rows[at] = Some(steps);
+    rows[at] = Some(row);
     Ok(())
 }

@@ -1,24 +1,26 @@
 ghost use Rattle.std.specs.Prelude.{List, ◌++◌, Contains, IfOk, OnOk};
+ghost use Rattle.p21_express_tables.specs.Base.{ComesTo};
 ghost use Rattle.p21_express_tables.specs.OwnSets.{LeavesOpen};
-ghost use Rattle.p21_express_tables.specs.Resolved.{IsEntity, IsPlace};
-ghost use Rattle.p21_express_types.specs.Meaning.{place as place_of};
+ghost use Rattle.p21_express_tables.specs.Resolved.{IsEntity, IsPlace, IsTypeUse};
+ghost use Rattle.p21_express_types.specs.Meaning.{place as place_of, type_use};
 ghost use Rattle.p21_schemas.specs.Order.{order, own_places, places};
 ghost use Rattle.p21_schemas.specs.PlaceType.{TypeAt, two_redeclarations};
 ghost use Rattle.p21_schemas.specs.Schema.{Place as MeantPlace};
 ghost use Rattle.p21_transcribe_plan.specs.Steps.{AreStepsAt, IsStepAt};
 
+use crate::copied::copied;
 use p21_express_tables::{Base, Schema};
-use p21_express_types::{EntityId, Place, PlaceType};
+use p21_express_types::{EntityId, Place, PlaceType, TypeUse};
 use p21_values::NoMemory;
 use std::alloc::Global;
 
 /// What may stand at an attribute of an instance (ISO 10303-11, Attribute redeclaration).
 #[derive(Debug, Drop)]
-pub enum Step<'a> {
+pub enum Step {
     /// `*`.
     Derived,
-    /// A value of a type that comes down to this, or `$` where it is OPTIONAL.
-    Stored(bool, Base<'a>),
+    /// A value of a type that comes down to this one, or `$` where it is OPTIONAL.
+    Stored(bool, TypeUse),
 }
 
 /// What may stand at the attributes of an instance whose set is an entity and its supertypes, in the order of internal
@@ -27,11 +29,11 @@ pub enum Step<'a> {
 /// # Errors
 ///
 /// `NoMemory`.
-pub(crate) fn find_steps<'a>(
+pub(crate) fn find_steps(
     alloc: Global,
-    schema: &'a Schema,
+    schema: &Schema,
     entity: EntityId,
-) -> Result<Vec<Step<'a>>, NoMemory>
+) -> Result<Vec<Step>, NoMemory>
     requires entity { IsEntity schema.now entity.0 }
     requires decided { LeavesOpen schema.now entity.0 → ⊥ }
     ensures { IfOk result (λ steps. AreStepsAt schema.now (order schema.now entity.0) (places schema.now entity.0) steps.items) }
@@ -39,17 +41,18 @@ pub(crate) fn find_steps<'a>(
     let mut steps = Vec::new(alloc);
     schema.holds_together();
     for owner in schema.order_of(entity) {
-        push_steps(schema, entity, *owner, &mut steps)?;
+        push_steps(alloc, schema, entity, *owner, &mut steps)?;
     }
     Ok(steps)
 }
 
 /// Adds what may stand at the attributes that one of these entities declares itself.
-fn push_steps<'a>(
-    schema: &'a Schema,
+fn push_steps(
+    alloc: Global,
+    schema: &Schema,
     entity: EntityId,
     owner: EntityId,
-    steps: &mut Vec<Step<'a>>,
+    steps: &mut Vec<Step>,
 ) -> Result<(), NoMemory>
     requires entity { IsEntity schema.now entity.0 }
     requires owner { Contains (order schema.now entity.0) owner.0 }
@@ -63,22 +66,35 @@ fn push_steps<'a>(
             entity: owner,
             index,
         };
-        steps.push(step_at(schema, entity, place))?;
+        let step = step_at(alloc, schema, entity, place)?;
+        steps.push(step)?;
     }
     Ok(())
 }
 
 /// What may stand at one of these attributes.
-fn step_at<'a>(schema: &'a Schema, entity: EntityId, place: Place) -> Step<'a>
+fn step_at(alloc: Global, schema: &Schema, entity: EntityId, place: Place) -> Result<Step, NoMemory>
     requires entity { IsEntity schema.now entity.0 }
     requires place { IsPlace schema.now (place_of place) }
     requires decided { TypeAt schema.now (order schema.now entity.0) (place_of place) two_redeclarations → ⊥ }
-    ensures { IsStepAt schema.now (order schema.now entity.0) (place_of place) result }
+    ensures { IfOk result (λ step. IsStepAt schema.now (order schema.now entity.0) (place_of place) step) }
 {
     schema.holds_together();
     match schema.own_type(entity, place) {
-        PlaceType::Derived => Step::Derived,
-        PlaceType::Stored(optional, of) => Step::Stored(optional, schema.base(of)),
+        PlaceType::Derived => Ok(Step::Derived),
+        PlaceType::Stored(optional, of) => Ok(Step::Stored(optional, reduced(alloc, schema, of)?)),
         PlaceType::Two => unreachable!(),
+    }
+}
+
+/// What a type comes down to, where that is no declared type; else the type.
+fn reduced(alloc: Global, schema: &Schema, of: &TypeUse) -> Result<TypeUse, NoMemory>
+    requires { IsTypeUse schema.now (type_use of.now) }
+    ensures { IfOk result (λ last. IsTypeUse schema.now (type_use last) × ComesTo schema.now (type_use of.now) (type_use last)) }
+{
+    schema.holds_together();
+    match schema.base(of) {
+        Base::Plain(last) => copied(alloc, last),
+        _ => copied(alloc, of),
     }
 }

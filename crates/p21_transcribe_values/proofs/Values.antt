@@ -11,7 +11,7 @@ use Rattle.p21_express_tables.proofs.Resolving.{type-is}
 use Rattle.p21_express_tables.specs.Base.{ComesTo, HasBase, IsBase, at_itself, through}
 use Rattle.p21_express_tables.specs.declared.base.Base.{Base}
 use Rattle.p21_express_tables.specs.declared.base.Base.TheVariants.{Items, Select}
-use Rattle.p21_express_tables.specs.Resolved.{IsType}
+use Rattle.p21_express_tables.specs.Resolved.{IsType, IsTypeUse}
 use Rattle.p21_express_types.specs.declared.kind.Member.{Member}
 use Rattle.p21_express_types.specs.declared.number.TypeId.{TypeId}
 use Rattle.p21_express_types.specs.declared.type_use.TypeUse as code
@@ -125,14 +125,18 @@ dollar-put optional bytes rest old new may h = (may, h.0, h.1)
 
 -- ---- steps
 
-pub step-base : (s : Schema) (step : Step) (optional : Bool) (base : Base) → step ≡ Stored optional base → IsStepIn s step → IsBaseIn s base
-step-base s step optional base is (at, says) = let says_ = subst (Says s at) is says in (says_.0, says_.2, says_.3)
+pub step-known : (s : Schema) (step : Step) (optional : Bool) (of : code.TypeUse) → step ≡ Stored optional of → IsStepIn s step → IsTypeUse s (type_use of)
+step-known s step optional of is (at, says) = (subst (Says s at) is says).2
 
-pub step-taken : (s : Schema) (step : Step) (optional : Bool) (base : Base) (bytes rest old new : List ℕ) (before after : List Need) → step ≡ Stored optional base
+comes-join : (s : Schema) (type middle last : TypeUse) → ComesTo s type middle → ComesTo s middle last → ComesTo s type last
+comes-join s type middle last (at_itself _) more = more
+comes-join s type middle last (through t next _ is comes) more = through t next last is (comes-join s next middle last comes more)
+
+pub step-taken : (s : Schema) (step : Step) (optional : Bool) (of : code.TypeUse) (base : Base) (bytes rest old new : List ℕ) (before after : List Need) → step ≡ Stored optional of → HasBase s (type_use of) base
     → ((type : TypeUse) → HasBase s type base → TakesWithNeeds s (FitsAtWith s (stored_place optional type)) 64 bytes rest old new before after) → (at : PlaceType) → Says s at step → TakesWithNeeds s (FitsAtWith s at) 64 bytes rest old new before after
-step-taken s step optional base bytes rest old new before after is takes at says =
+step-taken s step optional of base bytes rest old new before after is (last, comes, base_is) takes at says =
     let says_ = subst (Says s at) is says in
-    subst (λ (x : PlaceType). TakesWithNeeds s (FitsAtWith s x) 64 bytes rest old new before after) (sym says_.1) (takes says_.0 says_.3)
+    subst (λ (x : PlaceType). TakesWithNeeds s (FitsAtWith s x) 64 bytes rest old new before after) (sym says_.1) (takes says_.0 (last, comes-join s says_.0 (type_use of) last says_.3 comes, base_is))
 
 pub base-select : (s : Schema) (base : Base) (t : TypeId) → base ≡ Select t → IsBaseIn s base → IsSelect s t.0
 base-select s base t is (type, known, (last, comes, found)) = (subst (IsBase s last) is found).1

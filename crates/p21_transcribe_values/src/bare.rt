@@ -13,6 +13,7 @@ use p21_mapping_values::Need;
 use p21_transcribe::Draft;
 
 /// A value of a type that is no declared one and no aggregate: what stands behind it.
+#[inline(always)]
 pub(crate) fn append_plain<'a>(
     of: &TypeUse,
     bytes: &'a [u8],

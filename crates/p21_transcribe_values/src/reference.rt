@@ -12,6 +12,7 @@ use p21_transcribe::{Draft, append_name};
 use p21_values::Name;
 
 /// Appends the name of an instance at the front, and adds what the instance has to be: what stands behind it.
+#[inline(never)]
 pub(crate) fn append_reference<'a>(
     wanted: Member,
     bytes: &'a [u8],

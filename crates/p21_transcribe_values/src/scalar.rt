@@ -16,6 +16,7 @@ use p21_transcribe::{
 const MOST_ITEMS: usize = 128;
 
 /// Appends the scalar at the front, at a type that is no declared one: what stands behind it.
+#[inline(always)]
 pub(crate) fn append_scalar<'a>(
     of: &TypeUse,
     bytes: &'a [u8],
@@ -29,6 +30,7 @@ pub(crate) fn append_scalar<'a>(
 }
 
 /// Appends the item at the front, at an enumeration with these items: what stands behind it.
+#[inline(never)]
 pub(crate) fn append_listed<'a>(
     words: &Words,
     bytes: &'a [u8],
@@ -46,6 +48,7 @@ pub(crate) fn append_listed<'a>(
 }
 
 /// Appends the scalar at the front, at a simple type: how many bytes it has.
+#[inline(always)]
 fn append_simple(of: &TypeUse, bytes: &[u8], draft: &mut Draft) -> Option<usize>
     ensures some { IfSome result (λ count. TakesScalar (type_use of.now) bytes.now count draft.old draft.new) }
     ensures none { IfNone result (Continues draft.old draft.new) }
@@ -63,6 +66,7 @@ fn append_simple(of: &TypeUse, bytes: &[u8], draft: &mut Draft) -> Option<usize>
 }
 
 /// Appends the string at the front, if the width allows its characters: how many bytes it has.
+#[inline(never)]
 fn append_string(width: Option<Width>, bytes: &[u8], draft: &mut Draft) -> Option<usize>
     ensures some { IfSome result (λ count. TakesScalar (schema.text (width_option width)) bytes.now count draft.old draft.new) }
     ensures none { IfNone result (Continues draft.old draft.new) }
@@ -75,6 +79,7 @@ fn append_string(width: Option<Width>, bytes: &[u8], draft: &mut Draft) -> Optio
 }
 
 /// Appends the binary at the front, if the width allows its bits: how many bytes it has.
+#[inline(never)]
 fn append_binary(width: Option<Width>, bytes: &[u8], draft: &mut Draft) -> Option<usize>
     ensures some { IfSome result (λ count. TakesScalar (schema.bits (width_option width)) bytes.now count draft.old draft.new) }
     ensures none { IfNone result (Continues draft.old draft.new) }

@@ -31,9 +31,10 @@ const NESTING: usize = 64;
 /// Appends the canonical text of the value at the front, by what may stand at its attribute, and adds its references, in the
 /// order in which they are named: what stands behind the value. None where it isn't taken this way; then the text and the
 /// references go on from those before.
+#[inline(always)]
 pub fn append_value<'a>(
     schema: &Schema,
-    step: &Step<'_>,
+    step: &Step,
     bytes: &'a [u8],
     draft: &mut Draft,
     needs: &mut Vec<Need>,
@@ -45,14 +46,16 @@ pub fn append_value<'a>(
 {
     match step {
         Step::Derived => append_mark(b'*', bytes, draft),
-        Step::Stored(optional, base) => append_stored(
-            schema, *optional, base, NESTING, bytes, draft, needs,
-        ),
+        Step::Stored(optional, of) => {
+            let base = base_of(schema, of);
+            append_stored(schema, *optional, &base, NESTING, bytes, draft, needs)
+        }
     }
 }
 
 /// A value of a type that comes down to this, or `$` where it is OPTIONAL. Lists and typed parameters stand at most so deep
 /// in it.
+#[inline(always)]
 #[cycle(append)]
 fn append_stored<'a>(
     schema: &Schema,
@@ -87,6 +90,7 @@ fn append_left_out<'a>(optional: bool, bytes: &'a [u8], draft: &mut Draft) -> Op
 }
 
 /// A value of a type that comes down to this.
+#[inline(always)]
 #[cycle(append)]
 fn append_present<'a>(
     schema: &Schema,
@@ -109,6 +113,7 @@ fn append_present<'a>(
 }
 
 /// What a select offers: a reference, or a typed parameter.
+#[inline(never)]
 #[cycle(append)]
 fn append_choice<'a>(
     schema: &Schema,
@@ -130,6 +135,7 @@ fn append_choice<'a>(
 }
 
 /// A typed parameter.
+#[inline(always)]
 #[cycle(append)]
 fn append_typed<'a>(
     schema: &Schema,
@@ -154,6 +160,7 @@ fn append_typed<'a>(
 }
 
 /// A value of a type that comes down to this, in parentheses.
+#[inline(always)]
 #[cycle(append)]
 fn append_enclosed<'a>(
     schema: &Schema,
@@ -175,6 +182,7 @@ fn append_enclosed<'a>(
 }
 
 /// A value of a type that is no declared one.
+#[inline(always)]
 #[cycle(append)]
 fn append_undeclared<'a>(
     schema: &Schema,
@@ -198,6 +206,7 @@ fn append_undeclared<'a>(
 }
 
 /// An aggregate.
+#[inline(never)]
 #[cycle(append)]
 fn append_aggregate<'a>(
     schema: &Schema,
@@ -235,6 +244,7 @@ fn append_aggregate<'a>(
 }
 
 /// An aggregate whose elements come down to this, in parentheses. How long its elements are is kept where they are compared.
+#[inline(always)]
 #[cycle(append)]
 fn append_counted<'a>(
     schema: &Schema,
@@ -268,6 +278,7 @@ fn append_counted<'a>(
 
 /// Elements with a comma between each two: how many, and what stands behind them. How long they are is added where they are
 /// compared.
+#[inline(always)]
 #[cycle(append)]
 fn append_each<'a>(
     schema: &Schema,
@@ -304,6 +315,7 @@ fn append_each<'a>(
 }
 
 /// An element. How long it is is added where elements are compared.
+#[inline(always)]
 #[cycle(append)]
 fn append_element<'a>(
     schema: &Schema,

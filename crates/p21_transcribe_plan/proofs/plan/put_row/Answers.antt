@@ -10,4 +10,4 @@ pub returns-in_err-push : goal.returns-in_err-push
 returns-in_err-push c = λ s are has. subst (AreRows s) (sym c.in_err-push.ensures.items) (c.loop-rows.invariant s are)
 
 pub returns : goal.returns
-returns c = λ s are has. row_put s c.loop-rows.rows.items c.args.at c.args.steps (c.loop-rows.invariant s are) has
+returns c = λ s are has. row_put s c.loop-rows.rows.items c.args.at c.args.row (c.loop-rows.invariant s are) has

@@ -23,9 +23,9 @@ loop-index-preserved c = λ before are.
     let place : Place = record { entity = e; index = i } in
     let same : 0 + i ≡ i = omega arith in
     let places : places_from e 0 (i + 1) ≡ places_from e 0 i ++ place ∷ [] = places-more e 0 i ∙ ap (λ (k : ℕ). places_from e 0 i ++ record { entity = e; index = k } ∷ []) same in
-    let more = steps_more s set (before ++ places_from e 0 i) c.loop-index.steps.items place c.step_at.result (c.loop-index.invariant before are) c.step_at.ensures in
+    let more = steps_more s set (before ++ places_from e 0 i) c.loop-index.steps.items place c.in_ok-step.step (c.loop-index.invariant before are) c.in_ok-step.ensures in
     subst (λ (steps : List Step). AreStepsAt s set (before ++ places_from e 0 (i + 1)) steps) (sym c.in_ok-push.ensures.items)
-    (subst (λ (ps : List Place). AreStepsAt s set ps (c.loop-index.steps.items ++ c.step_at.result ∷ [])) (append_assoc before (places_from e 0 i) (place ∷ []) ∙ ap (λ (x : List Place). before ++ x) (sym places)) more)
+    (subst (λ (ps : List Place). AreStepsAt s set ps (c.loop-index.steps.items ++ c.in_ok-step.step ∷ [])) (append_assoc before (places_from e 0 i) (place ∷ []) ∙ ap (λ (x : List Place). before ++ x) (sym places)) more)
 
 pub returns : goal.returns
 returns c = λ before are.

@@ -1,6 +1,6 @@
 use Rattle.p21_transcribe.proofs.Found.{none_to, some_to}
 use Rattle.p21_transcribe.proofs.Parts.{stays}
-use Rattle.p21_transcribe_values.proofs.Values.{needs-kept, star-taken, step-base, step-taken}
+use Rattle.p21_transcribe_values.proofs.Values.{needs-kept, star-taken, step-known, step-taken}
 use Rattle.p21_transcribe_values.proofs.value.append_value.Goals as goal
 
 pub returns-in-Derived-clause-some : goal.returns-in-Derived-clause-some
@@ -12,8 +12,8 @@ returns-in-Derived-clause-draft c = none_to _ (stays _ _) c.append_mark.ensures.
 pub returns-in-Derived-clause-needs : goal.returns-in-Derived-clause-needs
 returns-in-Derived-clause-needs c = needs-kept c.append_mark.result c.args.needs.now.items
 
-pub append_stored-requires : goal.append_stored-requires
-append_stored-requires c = step-base c.args.schema.now c.args.step.now _ _ c.in-Stored.is c.requires
+pub base_of-base-requires : goal.base_of-base-requires
+base_of-base-requires c = step-known c.args.schema.now c.args.step.now _ _ c.in-Stored.is c.requires
 
 pub returns-in-Stored-clause-some : goal.returns-in-Stored-clause-some
-returns-in-Stored-clause-some c = some_to _ (λ rest. step-taken c.args.schema.now c.args.step.now _ _ c.args.bytes.now rest.now _ _ _ _ c.in-Stored.is) c.append_stored.ensures.some
+returns-in-Stored-clause-some c = some_to _ (λ rest. step-taken c.args.schema.now c.args.step.now _ _ _ c.args.bytes.now rest.now _ _ _ _ c.in-Stored.is c.base_of-base.ensures.has) c.append_stored.ensures.some

@@ -5,6 +5,7 @@ use Rattle.p21_stream_kept.specs.Steps.{StepKeepsBound}
 use Rattle.p21_stream_session.proofs.Passed.{as-before}
 use Rattle.p21_stream_session.specs.Passing.{PassGives}
 use Rattle.p21_stream_session.specs.Pieces.{EndsNoToken, IsUnderWay, NeedsNoMemory, StepGives, TakesOf}
+use Rattle.p21_transcribe_plan.specs.Steps.{IsPlanOf}
 use Rattle.p21_stream_session.proofs.progress.Progress.advance.Goals as goal
 
 pub step-requires : goal.step-requires
@@ -45,3 +46,6 @@ returns-clause-bound c =
     let same : (c.pass.new.self.front ≡ c.args.self.now.front) × (c.pass.new.self.kept ≡ c.args.self.now.kept) =
     subst (λ (o : Option ℕ). PassGives c.args.schema.now c.args.limits c.args.self.now.front c.args.self.now.kept c.args.piece.now (Ok o) c.pass.new.self.front c.pass.new.self.kept) c.in_default.is c.in-Ok.ensures.gives in
     as-before (λ (h : front.Held) (k : Kept). StepKeepsBound c.args.limits k c.step.new.self.kept) c.args.self.now.front c.pass.new.self.front c.args.self.now.kept c.pass.new.self.kept same.0 same.1 c.step.ensures.bound
+
+pub returns-clause-plan : goal.returns-clause-plan
+returns-clause-plan c = subst (IsPlanOf c.args.schema.now) (sym c.step.ensures.plan) c.in-Ok.ensures.plan

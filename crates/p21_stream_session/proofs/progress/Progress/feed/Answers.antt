@@ -20,7 +20,7 @@ returns-in-Ok-clause-checks c =
 pub returns-in-Ok-clause-bounded : goal.returns-in-Ok-clause-bounded
 returns-in-Ok-clause-bounded c =
     bounded-whole c.args.schema.now c.args.limits c.args.self.now.front c.read.new.self.front c.args.self.now.kept c.read.new.self.kept c.args.piece.now c.args.self.now.refused c.read.new.self.refused c.in_default.is c.in-Ok.ensures.refused c.in-Ok.ensures.gives
-    c.in-Ok.ensures.bound c.in-Ok.ensures.limits c.requires
+    c.in-Ok.ensures.bound c.in-Ok.ensures.limits c.requires.bounded
 
 pub returns-in-Err-clause-gives : goal.returns-in-Err-clause-gives
 returns-in-Err-clause-gives c =
@@ -39,17 +39,17 @@ returns-in-Err-clause-no_memory c =
     (fed-quiet c.args.schema.now c.args.limits c.args.self.now.front c.args.self.now.kept c.args.piece.now c.args.self.now.refused c.in-Err.refusal c.in-Err.ensures.no_memory)
 
 pub returns-in-Some-clause-kind : goal.returns-in-Some-clause-kind
-returns-in-Some-clause-kind c = c.requires.of_bytes c.in-Some.refusal c.in-Some.is
+returns-in-Some-clause-kind c = c.requires.bounded.of_bytes c.in-Some.refusal c.in-Some.is
 
 pub returns-in-Err-clause-kind : goal.returns-in-Err-clause-kind
 returns-in-Err-clause-kind c = subst (λ (r : Result (Unit {0}) Refusal). IfErr r (λ refusal. IsOfBytes refusal.fault)) (sym (c.answered.ensures c.in-Err.refusal refl)) c.in-Err.ensures.kind
 
 pub returns-in-Err-clause-bounded : goal.returns-in-Err-clause-bounded
 returns-in-Err-clause-bounded c =
-    bounded-refused c.args.schema.now c.args.limits c.args.self.now.front c.read.new.self.front c.args.self.now.kept c.new.result c.args.self.now.refused c.in-Err.refusal c.new.ensures c.in-Err.ensures.limits c.in-Err.ensures.kind c.requires
+    bounded-refused c.args.schema.now c.args.limits c.args.self.now.front c.read.new.self.front c.args.self.now.kept c.new.result c.args.self.now.refused c.in-Err.refusal c.new.ensures c.in-Err.ensures.limits c.in-Err.ensures.kind c.requires.bounded
 
-pub read-requires : goal.read-requires
-read-requires c = under-way c.args.schema.now c.args.limits c.args.self.now.front c.args.self.now.kept c.args.self.now.refused c.args.piece.now c.requires c.in_default.is
+pub read-requires-clause-way : goal.read-requires-clause-way
+read-requires-clause-way c = under-way c.args.schema.now c.args.limits c.args.self.now.front c.args.self.now.kept c.args.self.now.refused c.args.piece.now c.requires.bounded c.in_default.is
 
 pub returns-in-Err-clause-refused : goal.returns-in-Err-clause-refused
 returns-in-Err-clause-refused c = subst (λ (r : Result (Unit {0}) Refusal). IfErr r (λ refusal. Some c.in-Err.refusal ≡ Some refusal)) (sym (c.answered.ensures c.in-Err.refusal refl)) refl

@@ -10,7 +10,7 @@ pub returns-clause-again : goal.returns-clause-again
 returns-clause-again c = subst (λ (h : SessionHeld). RefusesAtEnd h c.finish.result) c.self.view_is (c.finish.ensures.again c.self.inside.limits)
 
 pub returns-clause-kind : goal.returns-clause-kind
-returns-clause-kind c = c.finish.ensures.kind c.self.inside.limits c.self.invariant
+returns-clause-kind c = c.finish.ensures.kind c.self.inside.limits c.self.invariant.0
 
 pub finish-requires : goal.finish-requires
-finish-requires c = (c.self.inside.limits, c.self.invariant)
+finish-requires c = (c.self.inside.limits, c.self.invariant.0)

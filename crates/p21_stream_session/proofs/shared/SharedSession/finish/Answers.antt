@@ -15,7 +15,7 @@ returns-clause-again c = subst (λ (h : SessionHeld). RefusesAtEnd h c.finish.re
     (subst (λ (s : Schema). RefusesAtEnd (held_in s c.self.inside.limits c.self.inside.progress) c.finish.result) c.deref.ensures (c.finish.ensures.again c.self.inside.limits))
 
 pub returns-clause-kind : goal.returns-clause-kind
-returns-clause-kind c = c.finish.ensures.kind c.self.inside.limits (subst (λ (s : Schema). IsBounded (held_in s c.self.inside.limits c.self.inside.progress)) (sym c.deref.ensures) c.self.invariant)
+returns-clause-kind c = c.finish.ensures.kind c.self.inside.limits (subst (λ (s : Schema). IsBounded (held_in s c.self.inside.limits c.self.inside.progress)) (sym c.deref.ensures) c.self.invariant.0)
 
 pub finish-requires : goal.finish-requires
-finish-requires c = (c.self.inside.limits, subst (λ (s : Schema). IsBounded (held_in s c.self.inside.limits c.self.inside.progress)) (sym c.deref.ensures) c.self.invariant)
+finish-requires c = (c.self.inside.limits, subst (λ (s : Schema). IsBounded (held_in s c.self.inside.limits c.self.inside.progress)) (sym c.deref.ensures) c.self.invariant.0)

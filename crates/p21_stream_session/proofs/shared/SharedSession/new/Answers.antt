@@ -3,7 +3,8 @@ use Rattle.p21_stream_session.proofs.Feeding.{bounded-new, stands-new}
 use Rattle.p21_stream_session.proofs.shared.SharedSession.new.Goals as goal
 
 pub invariant_of-result : goal.invariant_of-result
-invariant_of-result c = bounded-new (arc_value c.args.schema) c.args.limits c.new.result.front c.new.result.kept c.new.result.refused c.new.ensures.live c.new.ensures.counted c.new.ensures.limits c.new.ensures.kept c.new.ensures.refused
+invariant_of-result c =
+    (bounded-new (arc_value c.args.schema) c.args.limits c.new.result.front c.new.result.kept c.new.result.refused c.new.ensures.live c.new.ensures.counted c.new.ensures.limits c.new.ensures.kept c.new.ensures.refused, c.new.ensures.plan (arc_value c.args.schema))
 
 pub returns-clause-stands : goal.returns-clause-stands
 returns-clause-stands c = stands-new (arc_value c.args.schema) c.args.limits c.new.result.front c.new.result.kept c.new.result.refused c.new.ensures.live c.new.ensures.counted c.new.ensures.limits c.new.ensures.kept c.new.ensures.refused

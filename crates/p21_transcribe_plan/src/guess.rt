@@ -1,0 +1,88 @@
+//! Guesses of the entities that keywords name.
+ghost use Rattle.std.specs.Prelude.{IfSome, IsTrue};
+ghost use Rattle.p21_schemas.specs.Schema.{EntityNamed};
+
+use crate::same::are_same;
+use p21_express_tables::Schema;
+use p21_express_types::EntityId;
+use std::alloc::Global;
+
+/// How many guesses are kept.
+const COUNT: usize = 256;
+
+/// For some keywords the entity that was found for the last one like it. It is a guess, which is compared before it counts, so
+/// nothing is claimed of it.
+#[derive(Drop)]
+pub(crate) struct Guesses {
+    entities: Vec<EntityId>,
+}
+
+impl Guesses {
+    /// No guess. It takes no memory.
+    pub(crate) fn new(alloc: Global) -> Guesses {
+        Guesses {
+            entities: Vec::new(alloc),
+        }
+    }
+
+    /// The entity of this name, in upper case, mostly by a guess.
+    #[inline(always)]
+    pub(crate) fn entity(&mut self, schema: &Schema, name: &[u8]) -> Option<EntityId>
+        ensures { IfSome result (λ entity. EntityNamed schema.now entity.0 name.now) }
+    {
+        let place = place_of(name);
+        if let Some(guess) = self.entities.get(place) {
+            let guess = *guess;
+            if has_name(schema, guess, name) {
+                return Some(guess);
+            }
+        }
+        self.look_up(schema, name, place)
+    }
+
+    /// The same with no guess. What is found is the next guess.
+    #[inline(never)]
+    fn look_up(&mut self, schema: &Schema, name: &[u8], place: usize) -> Option<EntityId>
+        ensures { IfSome result (λ entity. EntityNamed schema.now entity.0 name.now) }
+    {
+        let entity = schema.entity(name)?;
+        self.keep(place, entity);
+        Some(entity)
+    }
+
+    /// Keeps a guess, where there is memory.
+    fn keep(&mut self, place: usize, entity: EntityId) {
+        if self.entities.is_empty() {
+            let Ok(()) = self.entities.resize(COUNT, entity) else {
+                return;
+            };
+        }
+        if place < self.entities.len() {
+            self.entities[place] = entity;
+        }
+    }
+}
+
+/// Where the guess for a name is kept.
+#[inline(always)]
+fn place_of(name: &[u8]) -> usize {
+    let size = name.len();
+    if size < 2 {
+        return 0;
+    }
+    let first = usize::from(name[0]);
+    let middle = usize::from(name[size / 2]);
+    let last = usize::from(name[size - 2]);
+    (size % COUNT + first * 3 + middle * 7 + last * 13) % COUNT
+}
+
+/// Whether there is such an entity, of this name.
+#[inline(always)]
+fn has_name(schema: &Schema, entity: EntityId, name: &[u8]) -> bool
+    ensures { IsTrue result → EntityNamed schema.now entity.0 name.now }
+{
+    if entity.0 as usize >= schema.entities() {
+        return false;
+    }
+    are_same(schema.entity_name(entity), name)
+}
