@@ -13,4 +13,4 @@ pub use key::named;
 pub use members::has;
 pub use needed::serves;
 pub use positions::Positions;
-pub use shape::{Shape, shape_of};
+pub use shape::{Shape, check_members, check_set, has_abstract_leaf, shape_of};

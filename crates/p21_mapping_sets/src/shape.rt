@@ -111,8 +111,12 @@ fn complex_shape(alloc: Global, schema: &Schema, parts: &[Part]) -> Result<Shape
     })
 }
 
-/// No entity stands twice, and all supertypes are there.
-fn check_members(alloc: Global, schema: &Schema, listed: &[EntityId]) -> Result<(), CheckFault>
+/// Checks that no entity stands twice, and that all supertypes are there.
+///
+/// # Errors
+///
+/// In this order: `PartTwice`, `PartMissing`. `NoMemory`.
+pub fn check_members(alloc: Global, schema: &Schema, listed: &[EntityId]) -> Result<(), CheckFault>
     requires { AreEntities schema.now (numbers listed.now) }
     ensures { MatchResult result (λ _. AreMembers schema.now (numbers listed.now)) (RefusesMembers schema.now (numbers listed.now)) }
 {
@@ -126,8 +130,12 @@ fn check_members(alloc: Global, schema: &Schema, listed: &[EntityId]) -> Result<
     Ok(())
 }
 
-/// No two entities of the set are of one ONEOF list, and no place of it is open.
-fn check_set(schema: &Schema, entities: &[EntityId]) -> Result<(), CheckFault>
+/// Checks that no two entities of the set are of one ONEOF list, and that no place of it is open.
+///
+/// # Errors
+///
+/// In this order: `OneOf`, `TwoRedeclarations`. `NoMemory`.
+pub fn check_set(schema: &Schema, entities: &[EntityId]) -> Result<(), CheckFault>
     requires { AreEntities schema.now (numbers entities.now) }
     ensures { MatchResult result (λ _. PassesSet schema.now (numbers entities.now)) (RefusesSet schema.now (numbers entities.now)) }
 {
@@ -142,7 +150,11 @@ fn check_set(schema: &Schema, entities: &[EntityId]) -> Result<(), CheckFault>
 }
 
 /// Whether a leaf of the set is abstract.
-fn has_abstract_leaf(schema: &Schema, entities: &[EntityId]) -> Result<bool, NoMemory>
+///
+/// # Errors
+///
+/// `NoMemory`.
+pub fn has_abstract_leaf(schema: &Schema, entities: &[EntityId]) -> Result<bool, NoMemory>
     requires { AreEntities schema.now (numbers entities.now) }
     ensures { IfOk result (λ found. MatchBool found (HasLeaf schema.now (numbers entities.now)) (HasNoLeaf schema.now (numbers entities.now))) }
 {

@@ -49,11 +49,11 @@ use Rattle.p21_transcribe_plan.specs.Steps.{AreStepsAt, MayStandAlone}
 use Rattle.p21_transcribe_plan.specs.declared.step.Step.{Step}
 use Rattle.p21_transcribe_values.specs.Taken.{LaidBefore}
 
-fit-with : (s : Schema) (m : Typed) (ps : List Placed) → Each (IsPlaced s m.entities) ps → AreMeant m ps → FitPlacesWith s m (places_at ps) (params_at ps) (needs_at ps)
+pub fit-with : (s : Schema) (m : Typed) (ps : List Placed) → Each (IsPlaced s m.entities) ps → AreMeant m ps → FitPlacesWith s m (places_at ps) (params_at ps) (needs_at ps)
 fit-with s m [] each has = refl
 fit-with s m (p ∷ ps) each has = (p.needs, needs_at ps, refl, (each.0.at, p.value, each.0.type_at, each.0.fits, has.0), fit-with s m ps each.1 has.1)
 
-all-shallow : (s : Schema) (entities : List ℕ) (ps : List Placed) → Each (IsPlaced s entities) ps → IsShallow (params_at ps)
+pub all-shallow : (s : Schema) (entities : List ℕ) (ps : List Placed) → Each (IsPlaced s entities) ps → IsShallow (params_at ps)
 all-shallow s entities [] each = omega arith
 all-shallow s entities (p ∷ ps) each = let first = each.0.shallow in let more = all-shallow s entities ps each.1 in omega (arith, first, more)
 

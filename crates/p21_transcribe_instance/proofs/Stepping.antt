@@ -62,7 +62,7 @@ has-last s entities (place ∷ places) (x ∷ steps) step are =
 
 -- ---- places
 
-none-places : (s : Schema) (entities : List ℕ) (tokens_of : Params → List Token) (text_of : List (List ℕ) → List ℕ) (places : List Place) (bytes old : List ℕ) (needs : List Need) → tokens_of no_params ≡ [] → text_of [] ≡ [] → places ≡ [] → TakesPlaces s entities tokens_of text_of places bytes bytes old old needs needs
+pub none-places : (s : Schema) (entities : List ℕ) (tokens_of : Params → List Token) (text_of : List (List ℕ) → List ℕ) (places : List Place) (bytes old : List ℕ) (needs : List Need) → tokens_of no_params ≡ [] → text_of [] ≡ [] → places ≡ [] → TakesPlaces s entities tokens_of text_of places bytes bytes old old needs needs
 none-places s entities tokens_of text_of places bytes old needs no_tokens no_text none = record {
   placed = [];
   each = tt;

@@ -62,7 +62,7 @@ canonical-spelled s kinds entities (p ∷ ps) each served written =
 
 -- ---- texts
 
-texts-are : (s : Schema) (ps : List Placed) → param_texts (canonical_at s ps) ≡ texts_at s ps
+pub texts-are : (s : Schema) (ps : List Placed) → param_texts (canonical_at s ps) ≡ texts_at s ps
 texts-are s [] = refl
 texts-are s (p ∷ ps) = ap (λ (x : List ℕ). x ∷ param_texts (canonical_at s ps)) (sym (value_text-is s p.value)) ∙ ap (λ (xs : List (List ℕ)). value_text s p.value ∷ xs) (texts-are s ps)
 

@@ -33,7 +33,7 @@ pub(crate) fn append_body<'a>(
 
 /// Appends `)` and `;`: what stands behind them.
 #[inline(always)]
-fn append_end<'a>(bytes: &'a [u8], draft: &mut Draft) -> Option<&'a [u8]>
+pub(crate) fn append_end<'a>(bytes: &'a [u8], draft: &mut Draft) -> Option<&'a [u8]>
     ensures some { IfSome result (λ rest. Takes (right ∷ semicolon ∷ []) (41 ∷ 59 ∷ []) bytes.now rest.now draft.old draft.new) }
     ensures none { IfNone result (Continues draft.old draft.new) }
 {

@@ -114,11 +114,15 @@ left-out s optional type most bytes rest old new needs may e is =
     (needs-nothing s (FitsAtWith s (stored_place true type)) most bytes rest old new needs
     (record { parameter = parameter.dollar; value = meant.missing; fits = with_dollar type; shallow = omega arith; laid = laid-mark 36 token.dollar bytes rest refl (λ byte. tt) e; text_is = is }))
 
+-- a derived attribute
+pub star-at : (s : Schema) (bytes rest old new : List ℕ) (needs : List Need) → (bytes ≡ 42 ∷ rest) × (new ≡ old ++ 42 ∷ []) → TakesWithNeeds s (FitsAtWith s derived_place) 64 bytes rest old new needs needs
+star-at s bytes rest old new needs (e, is) =
+    needs-nothing s (FitsAtWith s derived_place) 64 bytes rest old new needs
+    (record { parameter = parameter.star; value = meant.derived; fits = with_star; shallow = omega arith; laid = laid-mark 42 token.star bytes rest refl (λ byte. tt) e; text_is = is })
+
 pub star-taken : (s : Schema) (step : Step) (bytes rest old new : List ℕ) (needs : List Need) → step ≡ Derived → (bytes ≡ 42 ∷ rest) × (new ≡ old ++ 42 ∷ []) → (at : PlaceType) → Says s at step → TakesWithNeeds s (FitsAtWith s at) 64 bytes rest old new needs needs
-star-taken s step bytes rest old new needs derived (e, is) at says =
-    subst (λ (x : PlaceType). TakesWithNeeds s (FitsAtWith s x) 64 bytes rest old new needs needs) (sym (subst (Says s at) derived says))
-    (needs-nothing s (FitsAtWith s derived_place) 64 bytes rest old new needs
-    (record { parameter = parameter.star; value = meant.derived; fits = with_star; shallow = omega arith; laid = laid-mark 42 token.star bytes rest refl (λ byte. tt) e; text_is = is }))
+star-taken s step bytes rest old new needs derived taken at says =
+    subst (λ (x : PlaceType). TakesWithNeeds s (FitsAtWith s x) 64 bytes rest old new needs needs) (sym (subst (Says s at) derived says)) (star-at s bytes rest old new needs taken)
 
 pub dollar-put : (optional : Bool) (bytes rest old new : List ℕ) → optional ≡ true → (bytes ≡ 36 ∷ rest) × (new ≡ old ++ 36 ∷ []) → (optional ≡ true) × (bytes ≡ 36 ∷ rest) × (new ≡ old ++ 36 ∷ [])
 dollar-put optional bytes rest old new may h = (may, h.0, h.1)

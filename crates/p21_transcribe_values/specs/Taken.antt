@@ -15,6 +15,7 @@ use Rattle.p21_files.specs.Value.{Value, reference}
 use Rattle.p21_files.specs.ValueText.{value_text}
 use Rattle.p21_mapping_values.specs.declared.need.Need.{Need}
 use Rattle.p21_mapping_values.specs.TypedView.{need_view}
+use Rattle.p21_schemas.specs.PlaceType.{PlaceType, stored_place}
 use Rattle.p21_schemas.specs.Schema.{Member, Schema, TypeNamed, TypeUse, type_member}
 use Rattle.p21_schemas.specs.Select.{Offers}
 use Rattle.p21_transcribe.specs.Leaf.{IsAtFront}
@@ -83,6 +84,11 @@ TakesNames s type wanted = (n : ℕ) → FitsWith s type (parameter.name n) (ref
 -- some type of the schema comes down to this base
 abbrev pub IsBaseIn : Schema → Base → Type 0
 IsBaseIn s base = (type : TypeUse) × IsTypeUse s type × HasBase s type base
+
+-- the type of a place, where there is one, is of the schema
+abbrev pub IsKnownAt : Schema → PlaceType → Type 0
+IsKnownAt s (stored_place optional type) = IsTypeUse s type
+IsKnownAt s other = Unit {0}
 
 -- the new needs begin with the old ones
 abbrev pub KeepsNeeds : List Need → List Need → Type 0

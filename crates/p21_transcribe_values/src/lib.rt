@@ -14,4 +14,4 @@ mod scalar;
 mod value;
 mod width;
 
-pub use value::append_value;
+pub use value::{append_placed, append_value};

@@ -3,13 +3,13 @@ ghost use Rattle.std.specs.Prelude.{◌≡◌, ◌+◌, [], ◌∷◌, ◌++◌,
 ghost use Rattle.p21_claim_values.specs.Needs.{FitsAtWith, FitsWith};
 ghost use Rattle.p21_express_tables.specs.Base.{HasBase, IsBase};
 ghost use Rattle.p21_express_tables.specs.Resolved.{HoldsTogether, IsTypeUse};
-ghost use Rattle.p21_express_types.specs.Meaning.{type_use};
-ghost use Rattle.p21_schemas.specs.PlaceType.{PlaceType, stored_place};
+ghost use Rattle.p21_express_types.specs.Meaning.{place_type, type_use};
+ghost use Rattle.p21_schemas.specs.PlaceType.{PlaceType as MeantPlace, stored_place};
 ghost use Rattle.p21_schemas.specs.Schema.{TypeUse as MeantType, defined};
 ghost use Rattle.p21_schemas.specs.Select.{IsSelect};
 ghost use Rattle.p21_transcribe_plan.specs.Steps.{IsStepIn, Says};
 ghost use Rattle.p21_transcribe_values.specs.Elements.{AddsLength, IsAggregateOf, TakesElements};
-ghost use Rattle.p21_transcribe_values.specs.Taken.{IsBaseIn, KeepsNeeds, TakesEnclosed, TakesWithNeeds};
+ghost use Rattle.p21_transcribe_values.specs.Taken.{IsBaseIn, IsKnownAt, KeepsNeeds, TakesEnclosed, TakesWithNeeds};
 ghost use Rattle.p21_values.specs.Canonical.{Continues};
 
 use crate::aggregate::{allows_count, are_compared, element_of};
@@ -20,7 +20,7 @@ use crate::mark::{append_mark, append_next_mark};
 use crate::order::append_close;
 use crate::scalar::append_listed;
 use p21_express_tables::{Base, Schema};
-use p21_express_types::{TypeId, TypeUse};
+use p21_express_types::{PlaceType, TypeId, TypeUse};
 use p21_mapping_values::Need;
 use p21_transcribe::{Draft, behind_separators};
 use p21_transcribe_plan::Step;
@@ -40,7 +40,7 @@ pub fn append_value<'a>(
     needs: &mut Vec<Need>,
 ) -> Option<&'a [u8]>
     requires { IsStepIn schema.now step.now }
-    ensures some { IfSome result (λ rest. (at : PlaceType) → Says schema.now at step.now → TakesWithNeeds schema.now (FitsAtWith schema.now at) 64 bytes.now rest.now draft.old draft.new needs.old.items needs.new.items) }
+    ensures some { IfSome result (λ rest. (at : MeantPlace) → Says schema.now at step.now → TakesWithNeeds schema.now (FitsAtWith schema.now at) 64 bytes.now rest.now draft.old draft.new needs.old.items needs.new.items) }
     ensures draft { IfNone result (Continues draft.old draft.new) }
     ensures needs { IfNone result (KeepsNeeds needs.old.items needs.new.items) }
 {
@@ -50,6 +50,29 @@ pub fn append_value<'a>(
             let base = base_of(schema, of);
             append_stored(schema, *optional, &base, NESTING, bytes, draft, needs)
         }
+    }
+}
+
+/// The same, by the type of the place. None where redeclarations leave that open.
+pub fn append_placed<'a>(
+    schema: &Schema,
+    at: PlaceType<'_>,
+    bytes: &'a [u8],
+    draft: &mut Draft,
+    needs: &mut Vec<Need>,
+) -> Option<&'a [u8]>
+    requires { IsKnownAt schema.now (place_type at) }
+    ensures some { IfSome result (λ rest. TakesWithNeeds schema.now (FitsAtWith schema.now (place_type at.entry)) 64 bytes.now rest.now draft.old draft.new needs.old.items needs.new.items) }
+    ensures draft { IfNone result (Continues draft.old draft.new) }
+    ensures needs { IfNone result (KeepsNeeds needs.old.items needs.new.items) }
+{
+    match at {
+        PlaceType::Derived => append_mark(b'*', bytes, draft),
+        PlaceType::Stored(optional, of) => {
+            let base = base_of(schema, of);
+            append_stored(schema, optional, &base, NESTING, bytes, draft, needs)
+        }
+        PlaceType::Two => None,
     }
 }
 

@@ -1,0 +1,202 @@
+-- Simple records that are taken one behind the other.
+use Rattle.std.proofs.Common.{◌≡◌, ◌∙◌, ℕ, Contains, inl, inr, length-append, suc, ◌+◌, ◌-◌, ◌<◌, ◌≤◌, length, get_or, take, arith, List, [], ◌∷◌, ◌++◌, map, refl, ap, sym, subst, append_assoc}
+use Rattle.std.proofs.lemmas.Grind.{flat_map-append}
+use Rattle.std.proofs.lemmas.List.{append-nil, map-append, take-append-le, take_all, take_more}
+use Rattle.std.specs.List.{flat_map}
+use Rattle.std.proofs.lemmas.List.Elements.{Contains-append_cases}
+use Rattle.std.proofs.lemmas.Option.{slice_get_within}
+use Rattle.p21_basics.proofs.Members.{AllZip-member, Contains-cases, Contains-none, Each-append, Each-at}
+use Rattle.p21_claim_values.specs.Needs.{FitsAtWith}
+use Rattle.p21_exchange.specs.Parameter.{Params, more_tokens, params_tokens}
+use Rattle.p21_exchange.specs.Record.{part_tokens}
+use Rattle.p21_exchange.specs.Token as token
+use Rattle.p21_exchange.specs.Token.{Token}
+use Rattle.p21_express_tables.proofs.Lookups.{own-places-are, places-more}
+use Rattle.p21_express_tables.proofs.Resolving.{stored-is}
+use Rattle.p21_express_tables.specs.Lookups.{AreEntities, places_from}
+use Rattle.p21_express_tables.specs.Orders.{numbers}
+use Rattle.p21_express_tables.specs.Resolved.{HoldsTogether, IsEntity}
+use Rattle.p21_express_tables.specs.Rising.{AreNamesRising}
+use Rattle.p21_express_types.specs.declared.number.EntityId.{EntityId}
+use Rattle.p21_files.specs.Reference as meant
+use Rattle.p21_files.specs.ValueText.{value_text, with_commas, with_commas_between}
+use Rattle.p21_mapping_values.specs.declared.need.Need.{Need}
+use Rattle.p21_mapping_values.specs.TypedView.{need_view}
+use Rattle.p21_schemas.specs.Order.{own_places}
+use Rattle.p21_schemas.specs.PlaceType.{PlaceType, TypeAt, derived_place, stored_place, two_redeclarations}
+use Rattle.p21_schemas.specs.Schema.{EntityNamed, Place, Schema, attributes_of}
+use Rattle.p21_transcribe.specs.Gaps.{PassesSeparators}
+use Rattle.p21_transcribe_instance.proofs.Laid.{takes-join, takes-mark}
+use Rattle.p21_transcribe_instance.proofs.Stepping.{GoOn, first-places, next-places, none-places}
+use Rattle.p21_transcribe_instance.specs.Records.{IsOwned, Owned, TakesAt, TakesNumbered, TakesParts, TakesRecord, needs_in, owned_text, owned_texts, owners_at, part_of, parts_at}
+use Rattle.p21_transcribe_instance.specs.Taking.{Takes, TakesEntity, TakesMark, TakesPlaces, needs_at, params_at, texts_at}
+use Rattle.p21_transcribe_instance.specs.Usual.{AreUsual, IsNumbered, IsUsual}
+use Rattle.p21_transcribe_values.proofs.Laid.{laid-join, param-behind}
+use Rattle.p21_transcribe_values.specs.Taken.{IsKnownAt, KeepsNeeds, LaidBefore, TakesWithNeeds}
+use Rattle.p21_schemas.specs.Supertype.{IsLeaf, LeavesAmong, leaf_next, no_more, other_next}
+use Rattle.p21_values.specs.Canonical.{Continues}
+
+pub no-parts : (s : Schema) (entities bytes old : List ℕ) (needs : List Need) → TakesParts s entities [] bytes bytes old old needs needs
+no-parts s entities bytes old needs = record {
+  owned = [];
+  each = tt;
+  owners_are = refl;
+  added = [];
+  needs_are = sym (append-nil needs);
+  added_are = refl;
+  laid = refl;
+  text_is = sym (append-nil old);
+}
+
+-- the simple record of one entity
+pub one-part : (s : Schema) (entities : List ℕ) (e : ℕ) (bytes keyed inside behind rest old worded opened between new : List ℕ) (before after : List Need) → TakesEntity s e bytes keyed old worded → TakesMark 40 keyed inside worded opened
+    → TakesPlaces s entities params_tokens with_commas_between (own_places s e) inside behind opened between before after → TakesMark 41 behind rest between new → TakesParts s entities (e ∷ []) bytes rest old new before after
+one-part s entities e bytes keyed inside behind rest old worded opened between new before after (word, named, key) left places right =
+    let o : Owned = record { owner = e; word = word; placed = places.placed } in
+    let ts : List Token = params_tokens (params_at places.placed) in
+    let t : List ℕ = with_commas_between (texts_at s places.placed) in
+    let opening : Takes (token.left ∷ []) (40 ∷ []) keyed inside worded opened = takes-mark 40 token.left keyed inside worded opened refl (λ byte. tt) left in
+    let params : Takes ts t inside behind opened between = record { laid = places.laid; appended = places.text_is } in
+    let closing : Takes (token.right ∷ []) (41 ∷ []) behind rest between new = takes-mark 41 token.right behind rest between new refl (λ byte. tt) right in
+    let closed = takes-join ts (token.right ∷ []) t (41 ∷ []) inside behind rest opened between new params closing in
+    let listed = takes-join (token.left ∷ []) (ts ++ (token.right ∷ [])) (40 ∷ []) (t ++ (41 ∷ [])) keyed inside rest worded opened new opening closed in
+    let all = takes-join (token.keyword word ∷ []) (token.left ∷ (ts ++ (token.right ∷ []))) word (40 ∷ (t ++ (41 ∷ []))) bytes keyed rest old worded new key listed in
+    record {
+      owned = o ∷ [];
+      each = (record { named = named; places_are = places.places_are; each = places.each }, tt);
+      owners_are = refl;
+      added = places.added;
+      needs_are = places.needs_are;
+      added_are = append-nil (needs_at places.placed) ∙ places.added_are;
+      laid = subst (λ (xs : List Token). LaidBefore bytes xs rest) (sym (append-nil (part_tokens (part_of o)))) all.laid;
+      text_is = all.appended ∙ ap (λ (x : List ℕ). old ++ x) (sym (append-nil (owned_text s o)));
+    }
+
+-- and others behind it
+pub join-parts : (s : Schema) (entities es fs bytes middle rest old between new : List ℕ) (before among after : List Need) → TakesParts s entities es bytes middle old between before among → TakesParts s entities fs middle rest between new among after
+    → TakesParts s entities (es ++ fs) bytes rest old new before after
+join-parts s entities es fs bytes middle rest old between new before among after first second =
+    let tokens : flat_map part_tokens (parts_at (first.owned ++ second.owned)) ≡ flat_map part_tokens (parts_at first.owned) ++ flat_map part_tokens (parts_at second.owned) =
+    ap (flat_map part_tokens) (map-append part_of first.owned second.owned) ∙ flat_map-append part_tokens (parts_at first.owned) (parts_at second.owned) in
+    record {
+      owned = first.owned ++ second.owned;
+      each = Each-append (IsOwned s entities) first.owned second.owned first.each second.each;
+      owners_are = map-append (λ (o : Owned). o.owner) first.owned second.owned ∙ ap (λ (xs : List ℕ). xs ++ owners_at second.owned) first.owners_are ∙ ap (λ (xs : List ℕ). es ++ xs) second.owners_are;
+      added = first.added ++ second.added;
+      needs_are = second.needs_are ∙ ap (λ (ns : List Need). ns ++ second.added) first.needs_are ∙ append_assoc before first.added second.added;
+      added_are = flat_map-append (λ (o : Owned). needs_at o.placed) first.owned second.owned ∙ ap (λ (ns : List meant.Need). ns ++ needs_in second.owned) first.added_are ∙ ap (λ (ns : List meant.Need). map need_view first.added ++ ns) second.added_are
+          ∙ sym (map-append need_view first.added second.added);
+      laid = subst (λ (ts : List Token). LaidBefore bytes ts rest) (sym tokens) (laid-join bytes middle rest (flat_map part_tokens (parts_at first.owned)) (flat_map part_tokens (parts_at second.owned)) first.laid second.laid);
+      text_is = second.text_is ∙ ap (λ (x : List ℕ). x ++ owned_texts s second.owned) first.text_is ∙ append_assoc old (owned_texts s first.owned) (owned_texts s second.owned)
+          ∙ ap (λ (x : List ℕ). old ++ x) (sym (flat_map-append (owned_text s) first.owned second.owned));
+    }
+
+-- ---- what is appended and added
+
+pub places-go_on : (s : Schema) (entities : List ℕ) (tokens_of : Params → List Token) (text_of : List (List ℕ) → List ℕ) (places : List Place) (bytes rest old new : List ℕ) (before after : List Need)
+    → TakesPlaces s entities tokens_of text_of places bytes rest old new before after → GoOn old new before after
+places-go_on s entities tokens_of text_of places bytes rest old new before after h = ((text_of (texts_at s h.placed), h.text_is), (h.added, h.needs_are))
+
+pub at-goes_on : (s : Schema) (entities : List ℕ) (place : Place) (bytes rest old new : List ℕ) (before after : List Need) → TakesAt s entities place bytes rest old new before after → GoOn old new before after
+at-goes_on s entities place bytes rest old new before after (at, type_at, h) = ((value_text s h.takes.value, h.takes.text_is), (h.added, h.needs_are))
+
+pub parts-go_on : (s : Schema) (entities owners bytes rest old new : List ℕ) (before after : List Need) → TakesParts s entities owners bytes rest old new before after → GoOn old new before after
+parts-go_on s entities owners bytes rest old new before after h = ((owned_texts s h.owned, h.text_is), (h.added, h.needs_are))
+
+-- ---- values
+
+-- the type at a place of a set is of the schema
+pub known-at : (s : Schema) → HoldsTogether s → (entities : List ℕ) (place : Place) (at : PlaceType) → TypeAt s entities place at → IsKnownAt s at
+known-at s holds entities place derived_place is = tt
+known-at s holds entities place (stored_place optional type) is = stored-is s holds entities place optional type is
+known-at s holds entities place two_redeclarations is = tt
+
+-- a value behind separators
+pub at-behind : (s : Schema) (entities : List ℕ) (place : Place) (at : PlaceType) (bytes front rest old new : List ℕ) (before after : List Need) → TypeAt s entities place at → PassesSeparators bytes front → TakesWithNeeds s (FitsAtWith s at) 64 front rest old new before after
+    → TakesAt s entities place bytes rest old new before after
+at-behind s entities place at bytes front rest old new before after type_at passes h = (
+  at,
+  type_at,
+  record {
+    added = h.added;
+    needs_are = h.needs_are;
+    takes = record { parameter = h.takes.parameter; value = h.takes.value; fits = h.takes.fits; shallow = h.takes.shallow; laid = param-behind bytes front rest h.takes.parameter passes h.takes.laid; text_is = h.takes.text_is };
+  },
+)
+
+-- no attributes
+pub own-none : (s : Schema) (entities : List ℕ) (e count : ℕ) (bytes old : List ℕ) (needs : List Need) → count ≡ length (attributes_of s e) → count ≡ 0 → TakesPlaces s entities params_tokens with_commas_between (own_places s e) bytes bytes old old needs needs
+own-none s entities e count bytes old needs is none = none-places s entities params_tokens with_commas_between (own_places s e) bytes old needs refl refl (sym (own-places-are s e) ∙ ap (places_from e 0) (sym is ∙ none))
+
+-- the first attribute and the others
+pub own-first : (s : Schema) (entities : List ℕ) (e count : ℕ) (bytes middle rest old between new : List ℕ) (before among after : List Need) → count ≡ length (attributes_of s e) → 1 ≤ count → TakesAt s entities (record { entity = e; index = 0 }) bytes middle old between before among
+    → TakesPlaces s entities more_tokens with_commas (places_from e 1 (count - 1)) middle rest between new among after → TakesPlaces s entities params_tokens with_commas_between (own_places s e) bytes rest old new before after
+own-first s entities e count bytes middle rest old between new before among after is some (at, type_at, h) more =
+    let size : suc (count - 1) ≡ length (attributes_of s e) = omega (arith, is, some) in
+    subst (λ (ps : List Place). TakesPlaces s entities params_tokens with_commas_between ps bytes rest old new before after) (ap (places_from e 0) size ∙ own-places-are s e)
+    (first-places s entities (record { entity = e; index = 0 }) at (places_from e 1 (count - 1)) bytes middle rest old between new before among after type_at h more)
+
+-- the attributes so far and the next
+pub own-next : (s : Schema) (entities : List ℕ) (e index : ℕ) (bytes middle behind rest old between comma new : List ℕ) (before among after : List Need) → 1 ≤ index → TakesPlaces s entities more_tokens with_commas (places_from e 1 (index - 1)) bytes middle old between before among
+    → TakesMark 44 middle behind between comma → TakesAt s entities (record { entity = e; index = index }) behind rest comma new among after → TakesPlaces s entities more_tokens with_commas (places_from e 1 (index + 1 - 1)) bytes rest old new before after
+own-next s entities e index bytes middle behind rest old between comma new before among after some front mark (at, type_at, h) =
+    let next : 1 + (index - 1) ≡ index = omega (arith, some) in
+    let more : (index - 1) + 1 ≡ index + 1 - 1 = omega (arith, some) in
+    let places : places_from e 1 (index - 1) ++ record { entity = e; index = index } ∷ [] ≡ places_from e 1 (index + 1 - 1) =
+    ap (λ (k : ℕ). places_from e 1 (index - 1) ++ record { entity = e; index = k } ∷ []) (sym next) ∙ sym (places-more e 1 (index - 1)) ∙ ap (places_from e 1) more in
+    subst (λ (ps : List Place). TakesPlaces s entities more_tokens with_commas ps bytes rest old new before after) places
+    (next-places s entities (record { entity = e; index = index }) at (places_from e 1 (index - 1)) bytes middle behind rest old between comma new before among after type_at front mark h)
+
+-- ---- usual sets
+
+-- the entities of a set that rises are those of the schema
+pub rising-known : (s : Schema) (entities : List ℕ) → AreNamesRising s entities → AreEntities s entities
+rising-known s entities (names, named, rise) e among = let (name, at, (x, is, same)) = AllZip-member (EntityNamed s) entities names e named among in slice_get_within s.entities e x is
+
+-- the one of a number
+pub usual-at : (s : Schema) (sets : List (List ℕ)) (at : ℕ) (entities : List ℕ) → AreUsual s sets → IsNumbered sets at entities → IsUsual s entities
+usual-at s sets at entities are numbered = Each-at (IsUsual s) sets at entities are numbered
+
+-- ---- one simple record more
+
+pub next-part : (s : Schema) (entities : List ℕ) (set : List EntityId) (k : ℕ) (d : EntityId) (bytes middle rest old between new : List ℕ) (before among after : List Need) → k < length set → TakesParts s entities (numbers (take k set)) bytes middle old between before among
+    → TakesParts s entities ((get_or set k d).0 ∷ []) middle rest between new among after → TakesParts s entities (numbers (take (k + 1) set)) bytes rest old new before after
+next-part s entities set k d bytes middle rest old between new before among after below front next =
+    let more : numbers (take (k + 1) set) ≡ numbers (take k set) ++ (get_or set k d).0 ∷ [] = ap numbers (take_more set k d below) ∙ map-append (λ (e : EntityId). e.0) (take k set) (get_or set k d ∷ []) in
+    subst (λ (es : List ℕ). TakesParts s entities es bytes rest old new before after) (sym more) (join-parts s entities (numbers (take k set)) ((get_or set k d).0 ∷ []) bytes middle rest old between new before among after front next)
+
+-- ---- what is taken back
+
+pub draft-back : (old new : List ℕ) (start : ℕ) → start ≡ length old → Continues old new → (start ≤ length new) × (take start new ≡ old)
+draft-back old new start is (tail, appended) =
+    let size = ap length appended ∙ length-append old tail in
+    (omega (arith, is, size), ap (take start) appended ∙ take-append-le start old tail (omega (arith, is)) ∙ take_all start old (omega (arith, is)))
+
+pub needs-back : (before after : List Need) (count : ℕ) → count ≡ length before → KeepsNeeds before after → take count after ≡ before
+needs-back before after count is (added, appended) = ap (take count) appended ∙ take-append-le count before added (omega (arith, is)) ∙ take_all count before (omega (arith, is))
+
+-- ---- leaves
+
+pub leaves-all : (s : Schema) (entities among leaves : List ℕ) → LeavesAmong s entities among leaves → (e : ℕ) → Contains leaves e → IsLeaf s entities e
+leaves-all s entities among leaves no_more e there = absurd (Contains-none e there)
+leaves-all s entities among leaves (leaf_next f es ls leaf rest) e there = elim (Contains-cases f ls e there) [
+  | inl h ↦ subst (IsLeaf s entities) h leaf
+  | inr h ↦ leaves-all s entities es ls rest e h
+]
+leaves-all s entities among leaves (other_next f es ls other rest) e there = leaves-all s entities es leaves rest e there
+
+-- the entities so far and one more
+pub known-more : (s : Schema) (es : List EntityId) (x : EntityId) → AreEntities s (numbers es) → IsEntity s x.0 → AreEntities s (numbers (es ++ x ∷ []))
+known-more s es x are is e among = elim (Contains-append_cases (numbers es) (x.0 ∷ []) e (subst (λ (ns : List ℕ). Contains ns e) (map-append (λ (y : EntityId). y.0) es (x ∷ [])) among)) [
+  | inl before ↦ are e before
+  | inr last ↦ elim (Contains-cases x.0 [] e last) [ inl same ↦ subst (IsEntity s) same is | inr none ↦ absurd (Contains-none e none) ]
+]
+
+-- ---- the whole record
+
+pub record-taken : (s : Schema) (entities bytes middle rest old between new : List ℕ) (before after : List Need) → TakesParts s entities entities bytes middle old between before after → Takes (token.right ∷ token.semicolon ∷ []) (41 ∷ 59 ∷ []) middle rest between new
+    → TakesRecord s entities bytes rest old new before after
+record-taken s entities bytes middle rest old between new before after parts end = record { middle = middle; between = between; parts = parts; end = end }
+
+pub numbered-taken : (s : Schema) (sets : List (List ℕ)) (at : ℕ) (entities bytes rest old new : List ℕ) (before after : List Need) → IsNumbered sets at entities → IsUsual s entities → TakesRecord s entities bytes rest old new before after → TakesNumbered s sets at bytes rest old new before after
+numbered-taken s sets at entities bytes rest old new before after numbered usual takes = record { entities = entities; numbered = numbered; usual = usual; takes = takes }

@@ -1,0 +1,14 @@
+use Rattle.std.proofs.Common.{take}
+use Rattle.p21_express_tables.specs.Orders.{numbers}
+use Rattle.p21_transcribe_instance.specs.Records.{TakesParts}
+use Rattle.p21_transcribe_values.specs.Taken.{KeepsNeeds}
+use Rattle.p21_values.specs.Canonical.{Continues}
+use Rattle.p21_transcribe_instance.proofs.parts.append_parts.Given as goal
+
+-- the simple records of the entities so far are taken
+abbrev pub invariant-loop-owner : goal.invariant-loop-owner
+invariant-loop-owner l = record {
+  takes : TakesParts l.schema (numbers l.set) (numbers (take l.owner-index l.set)) l.bytes l.rest l.fn.draft l.draft l.fn.needs.items l.needs.items;
+  draft : Continues l.fn.draft l.draft;
+  needs : KeepsNeeds l.fn.needs.items l.needs.items;
+}
