@@ -16,7 +16,6 @@ use Rattle.p21_express_tables.proofs.Resolving.{stored-is}
 use Rattle.p21_express_tables.specs.Lookups.{AreEntities, places_from}
 use Rattle.p21_express_tables.specs.Orders.{numbers}
 use Rattle.p21_express_tables.specs.Resolved.{HoldsTogether, IsEntity}
-use Rattle.p21_express_tables.specs.Rising.{AreNamesRising}
 use Rattle.p21_express_types.specs.declared.number.EntityId.{EntityId}
 use Rattle.p21_files.specs.Reference as meant
 use Rattle.p21_files.specs.ValueText.{value_text, with_commas, with_commas_between}
@@ -24,7 +23,7 @@ use Rattle.p21_mapping_values.specs.declared.need.Need.{Need}
 use Rattle.p21_mapping_values.specs.TypedView.{need_view}
 use Rattle.p21_schemas.specs.Order.{own_places}
 use Rattle.p21_schemas.specs.PlaceType.{PlaceType, TypeAt, derived_place, stored_place, two_redeclarations}
-use Rattle.p21_schemas.specs.Schema.{EntityNamed, Place, Schema, attributes_of}
+use Rattle.p21_schemas.specs.Schema.{AreRisingByName, EntityNamed, Place, Schema, attributes_of}
 use Rattle.p21_transcribe.specs.Gaps.{PassesSeparators}
 use Rattle.p21_transcribe_instance.proofs.Laid.{takes-join, takes-mark}
 use Rattle.p21_transcribe_instance.proofs.Stepping.{GoOn, first-places, next-places, none-places}
@@ -150,7 +149,7 @@ own-next s entities e index bytes middle behind rest old between comma new befor
 -- ---- usual sets
 
 -- the entities of a set that rises are those of the schema
-pub rising-known : (s : Schema) (entities : List ℕ) → AreNamesRising s entities → AreEntities s entities
+pub rising-known : (s : Schema) (entities : List ℕ) → AreRisingByName s entities → AreEntities s entities
 rising-known s entities (names, named, rise) e among = let (name, at, (x, is, same)) = AllZip-member (EntityNamed s) entities names e named among in slice_get_within s.entities e x is
 
 -- the one of a number

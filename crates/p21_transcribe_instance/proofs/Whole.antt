@@ -41,7 +41,7 @@ use Rattle.p21_transcribe_instance.proofs.Meaning.{all-shallow, fit-with}
 use Rattle.p21_transcribe_instance.proofs.Plain.{placed-plain}
 use Rattle.p21_transcribe_instance.proofs.Rows.{HasMeaning, has-meaning}
 use Rattle.p21_transcribe_instance.proofs.Texts.{AreMeant, canonical-fit, canonical-spelled, canonical-stand, canonical_at, texts-are}
-use Rattle.p21_transcribe_instance.specs.Numbered.{TakesOfSet}
+use Rattle.p21_transcribe_instance.specs.Instance.{TakesInstance}
 use Rattle.p21_transcribe_instance.specs.Records.{IsOwned, Owned, TakesRecord, needs_in, owned_text, owned_texts, owners_at, part_of, parts_at}
 use Rattle.p21_transcribe_instance.specs.Taking.{Placed, Takes, TakesMark, needs_at, params_at, places_at}
 use Rattle.p21_transcribe_instance.specs.Usual.{IsUsual}
@@ -254,7 +254,7 @@ module _ (s : Schema) (entities : List ℕ) (usual : IsUsual s entities) (os : L
 
 -- the parts of an instance one behind the other
 pub external-taken : (s : Schema) (entities : List ℕ) → IsUsual s entities → (n : ℕ) (bytes keyed inside rest old headed opened new : List ℕ) (before after : List code.Need)
-    → Takes (token.name n ∷ token.equals ∷ []) (name_spelling n ++ 61 ∷ []) bytes keyed old headed → TakesMark 40 keyed inside headed opened → TakesRecord s entities inside rest opened new before after → TakesOfSet s n entities bytes rest old new before after
+    → Takes (token.name n ∷ token.equals ∷ []) (name_spelling n ++ 61 ∷ []) bytes keyed old headed → TakesMark 40 keyed inside headed opened → TakesRecord s entities inside rest opened new before after → TakesInstance s n entities bytes rest old new before after
 external-taken s entities usual n bytes keyed inside rest old headed opened new before after head mark h =
     let os : List Owned = h.parts.owned in
     let parts : List Part = parts_at os in

@@ -1,35 +1,12 @@
 -- Instances of external mapping that are taken straight from their bytes.
-use Rattle.std.specs.Prelude.{◌≡◌, ℕ, List, ◌++◌, map}
-use Rattle.p21_claim_values.specs.Needs.{MeansWith}
-use Rattle.p21_exchange.specs.Grammar.{IsDataRecord}
-use Rattle.p21_exchange.specs.Record.{Record}
-use Rattle.p21_exchange.specs.Statement.{instance, statement_tokens}
-use Rattle.p21_files.specs.Kept.{IsInstanceText}
-use Rattle.p21_files.specs.Meaning.{Typed}
+use Rattle.std.specs.Prelude.{ℕ, List}
 use Rattle.p21_mapping_values.specs.declared.need.Need.{Need}
-use Rattle.p21_mapping_values.specs.TypedView.{need_view}
 use Rattle.p21_schemas.specs.Schema.{Schema}
+use Rattle.p21_transcribe_instance.specs.Instance.{TakesInstance}
 use Rattle.p21_transcribe_instance.specs.Usual.{IsNumbered}
-use Rattle.p21_transcribe_values.specs.Taken.{LaidBefore}
 
--- The statement of an instance of this name is laid at the front, with the rest behind it. Its record may stand in a data
--- section, and means something, whose set are these entities, with the needs that are added to those before. Its canonical
--- text is appended
-pub record TakesOfSet (s : Schema) (n : ℕ) (entities bytes rest old new : List ℕ) (before after : List Need) : Type 0 where
-  pub record_ : Record
-  pub laid : LaidBefore bytes (statement_tokens (instance n record_)) rest
-  pub data_record : IsDataRecord record_
-  pub meaning : Typed
-  pub set_is : meaning.entities ≡ entities
-  pub added : List Need
-  pub needs_are : after ≡ before ++ added
-  pub means : MeansWith s record_ meaning (map need_view added)
-  pub text : List ℕ
-  pub text_is : IsInstanceText s n record_ text
-  pub appended : new ≡ old ++ text
-
--- the same of an instance whose set has this number among others
+-- an instance is taken whose set has this number among others
 pub record TakesNumberedInstance (s : Schema) (n : ℕ) (sets : List (List ℕ)) (at : ℕ) (bytes rest old new : List ℕ) (before after : List Need) : Type 0 where
   pub entities : List ℕ
   pub numbered : IsNumbered sets at entities
-  pub takes : TakesOfSet s n entities bytes rest old new before after
+  pub takes : TakesInstance s n entities bytes rest old new before after

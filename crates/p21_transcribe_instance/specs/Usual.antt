@@ -1,9 +1,8 @@
 -- Sets of entities that instances of external mapping may have, with their simple records in the order of the canonical file.
 use Rattle.std.specs.Prelude.{◌≡◌, ◌≢◌, ℕ, List, Some, nat_eq, slice_get}
 use Rattle.std.specs.List.{AllByRecursion as Each, IsDistinct}
-use Rattle.p21_express_tables.specs.Rising.{AreNamesRising}
 use Rattle.p21_mapping_sets.specs.Shape.{HasNoLeaf, IsClosed, PassesSet}
-use Rattle.p21_schemas.specs.Schema.{Schema}
+use Rattle.p21_schemas.specs.Schema.{AreRisingByName, Schema}
 use Rattle.p21_schemas.specs.Supertype.{IsLeaf}
 
 -- the set has leaves that differ
@@ -14,7 +13,7 @@ HasSeveralLeaves s entities = (e f : ℕ) × (e ≢ f) × IsLeaf s entities e ×
 pub record IsUsual (s : Schema) (entities : List ℕ) : Type 0 where
   pub distinct : IsDistinct nat_eq entities
   pub closed : IsClosed s entities
-  pub rising : AreNamesRising s entities
+  pub rising : AreRisingByName s entities
   pub several_leaves : HasSeveralLeaves s entities
   pub no_abstract_leaf : HasNoLeaf s entities
   pub passes : PassesSet s entities
