@@ -3,7 +3,7 @@ use Rattle.std.proofs.Common.{◌≡◌, ◌≤◌, ◌-◌, ◌⊎◌, ℕ, suc
 use Rattle.std.proofs.lemmas.List.{append-nil, length-take-le, take-append-drop, take-append-le, take_all}
 use Rattle.std.proofs.lemmas.Option.{slice_get_within}
 use Rattle.std.specs.List.{slice_range}
-use Rattle.p21_basics.proofs.Members.{AllZip-member, Each-back, Each-front}
+use Rattle.p21_basics.proofs.Members.{AllZip-member, Each-back, Each-front, some_is}
 use Rattle.p21_basics.specs.Limits.{Limits}
 use Rattle.p21_claim_steps.specs.Keeping.{Kept}
 use Rattle.p21_claim_values.specs.Needs.{MeansWith}
@@ -35,7 +35,9 @@ use Rattle.p21_stream_kept.specs.Steps.{FoundGives}
 use Rattle.p21_stream_kept.specs.Taking.{FollowsFound}
 use Rattle.p21_stream_session.proofs.Going.{dead-behind}
 use Rattle.p21_stream_session.proofs.Pieces.{follows-behind}
-use Rattle.p21_stream_session.specs.Passing.{IsFoundIn}
+use Rattle.p21_stream_session.specs.Passing.{HasEntities, IsFoundIn}
+use Rattle.p21_stream_session.specs.declared.passing.Set.{Set}
+use Rattle.p21_stream_session.specs.declared.passing.Set.TheVariants.{Numbered, Own}
 use Rattle.p21_stream_session.specs.Pieces.{EndsNoToken, IsUnderWay, NeedsNoMemory, StepGives}
 use Rattle.p21_tokens.specs.Histories.{AreSeparators}
 use Rattle.p21_transcribe_instance.specs.Instance.{TakesInstance}
@@ -95,9 +97,14 @@ found-in s n entities piece rest old new before after takes no_text no_needs =
 own-one : (s : Schema) (e : ℕ) (es fs : List ℕ) → IsOwnRising s e es → IsOwnRising s e fs → es ≡ fs
 own-one s e es fs (same, (ns, all, rise)) (same_, (ms, all_, rise_)) = rising-one s es fs ns ms all all_ rise rise_ (λ x among. (same_ x).0 ((same x).1 among)) (λ x among. (same x).0 ((same_ x).1 among))
 
+-- lists that are the entities of a set are equal
+entities-one : (s : Schema) (sets : List (List ℕ)) (set : Set) (es fs : List ℕ) → HasEntities s sets set es → HasEntities s sets set fs → es ≡ fs
+entities-one s sets (Own e) es fs are other = own-one s e.0 es fs are other
+entities-one s sets (Numbered at) es fs are other = some_is es fs (sym are ∙ other)
+
 -- what is found has each list of these
-pub found-as : (s : Schema) (e n : ℕ) (es fs bytes text : List ℕ) (needs : List meant.Need) → IsOwnRising s e es → IsOwnRising s e fs → IsFoundIn s n es bytes text needs → IsFoundIn s n fs bytes text needs
-found-as s e n es fs bytes text needs rising other found = subst (λ (xs : List ℕ). IsFoundIn s n xs bytes text needs) (own-one s e es fs rising other) found
+pub found-as : (s : Schema) (sets : List (List ℕ)) (set : Set) (n : ℕ) (es fs bytes text : List ℕ) (needs : List meant.Need) → HasEntities s sets set es → HasEntities s sets set fs → IsFoundIn s n es bytes text needs → IsFoundIn s n fs bytes text needs
+found-as s sets set n es fs bytes text needs are other found = subst (λ (xs : List ℕ). IsFoundIn s n xs bytes text needs) (entities-one s sets set es fs are other) found
 
 -- the same, of a line and of needs that are equal to these
 pub found-same : (s : Schema) (n : ℕ) (entities bytes text line : List ℕ) (needs needed : List Need) → IsFoundIn s n entities bytes text (map need_view needs) → line ≡ text → needed ≡ needs → IsFoundIn s n entities bytes line (map need_view needed)

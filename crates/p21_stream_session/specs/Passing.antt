@@ -3,12 +3,16 @@ use Rattle.std.specs.Prelude.{◌≡◌, ℕ, List, [], ◌∷◌, Option, Some,
 use Rattle.p21_basics.specs.Limits.{Limits}
 use Rattle.p21_claim_steps.specs.Keeping.{Kept}
 use Rattle.p21_exchange.specs.Record.{Record}
+use Rattle.p21_express_tables.specs.Rising.{IsOwnRising}
 use Rattle.p21_files.specs.Reference.{Need}
 use Rattle.p21_schemas.specs.Schema.{Schema}
 use Rattle.p21_stream_fault.specs.declared.refusal.Refusal.{Refusal}
 use Rattle.p21_stream_front.specs.Front as front
 use Rattle.p21_stream_front.specs.Passing.{AreInstances}
 use Rattle.p21_stream_kept.specs.Found.{HasFound}
+use Rattle.p21_transcribe_instance.specs.Usual.{IsNumbered}
+use Rattle.p21_stream_session.specs.declared.passing.Set.{Set}
+use Rattle.p21_stream_session.specs.declared.passing.Set.TheVariants.{Numbered, Own}
 use Rattle.p21_stream_session.specs.Pieces.{StepGives}
 
 -- The bytes are an instance of this name, whose set are these entities; this is its canonical text, and these are its needs
@@ -16,6 +20,11 @@ pub record IsFoundIn (s : Schema) (n : ℕ) (entities bytes text : List ℕ) (ne
   pub record_ : Record
   pub are : AreInstances bytes ((n, record_) ∷ [])
   pub found : HasFound s n record_ entities needs text
+
+-- the entities of a set of an instance, where sets are kept by number
+abbrev pub HasEntities : Schema → List (List ℕ) → Set → List ℕ → Type 0
+HasEntities s sets (Own e) entities = IsOwnRising s e.0 entities
+HasEntities s sets (Numbered at) entities = IsNumbered sets at entities
 
 -- what an instance gives that is taken so: as much as its tokens do; where it isn't, all is as before
 abbrev pub PassGives : Schema → Limits → front.Held → Kept → List ℕ → Result (Option ℕ) Refusal → front.Held → Kept → Type 0

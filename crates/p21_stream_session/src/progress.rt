@@ -1,4 +1,4 @@
-ghost use Rattle.std.specs.Prelude.{◌≡◌, ◌<◌, ◌^◌, IfErr, None, Some, Err};
+ghost use Rattle.std.specs.Prelude.{◌≡◌, ◌<◌, ◌^◌, [], IfErr, None, Some, Err};
 ghost use Rattle.p21_basics.specs.Limits.{Limits as MeantLimits};
 ghost use Rattle.p21_claim_steps.specs.Keeping.{nothing_kept};
 ghost use Rattle.p21_grammar_machine.specs.Statements.{statement_of};
@@ -13,6 +13,7 @@ ghost use Rattle.p21_stream_session.specs.Bounds.{IsBounded};
 ghost use Rattle.p21_stream_session.specs.Histories.{FeedChecks, FeedGives, FeedNeedsNoMemory, FinishGives, RefusesAgain, RefusesAtEnd};
 ghost use Rattle.p21_stream_session.specs.Inside.{held_in};
 ghost use Rattle.p21_stream_session.specs.Pieces.{EndGives, EndsNoToken, IsBetweenPieces, IsUnderWay, NeedsNoMemory, ReadGives, StepGives, TakesOf};
+ghost use Rattle.p21_transcribe_instance.specs.Usual.{AreUsual};
 ghost use Rattle.p21_transcribe_plan.specs.Steps.{IsPlanOf};
 
 use p21_express_tables::Schema;
@@ -23,6 +24,7 @@ use p21_stream_fault::{At, Fault, Refusal};
 use p21_stream_front::Front;
 use p21_stream_kept::Kept;
 use p21_transcribe::Draft;
+use p21_transcribe_instance::Sets;
 use p21_transcribe_plan::Plan;
 use p21_values::{Limits, Name};
 use std::alloc::Global;
@@ -39,6 +41,8 @@ pub(crate) struct Progress {
     pub needs: Vec<Need>,
     // What is kept of the schema for them.
     pub plan: Plan,
+    // The sets of those of external mapping.
+    pub sets: Sets,
     // The number of the open one, counted from 1.
     pub statement: u64,
     // The refusal that was answered, and is answered again.
@@ -54,6 +58,7 @@ impl Progress {
         ensures refused { result.refused ≡ None }
         ensures counted { limits.file_source < 2 ^ 64 }
         ensures plan { (s : Meant) → IsPlanOf s result.plan }
+        ensures sets { result.sets ≡ [] }
     {
         // Looked at, so that the proof knows that it is a number of 64 bits.
         let _most = limits.file_source();
@@ -64,6 +69,7 @@ impl Progress {
             draft: Draft::new(alloc),
             needs: Vec::new(alloc),
             plan: Plan::new(alloc),
+            sets: Sets::new(alloc),
             statement: 1,
             refused: None,
         }
@@ -82,6 +88,7 @@ impl Progress {
     ) -> Result<(), Refusal>
         requires bounded { IsBounded (held_in schema.now limits self.old) }
         requires plan { IsPlanOf schema.now self.old.plan }
+        requires sets { AreUsual schema.now self.old.sets }
         ensures gives { FeedGives (held_in schema.now limits self.old) piece.now result (held_in schema.now limits self.new) }
         ensures checks { FeedChecks (held_in schema.now limits self.old) piece.now result }
         ensures no_memory { FeedNeedsNoMemory (held_in schema.now limits self.old) piece.now result }
@@ -90,6 +97,7 @@ impl Progress {
         ensures kind { IfErr result (λ refusal. IsOfBytes refusal.fault) }
         ensures bounded { IsBounded (held_in schema.now limits self.new) }
         ensures plan { IsPlanOf schema.now self.new.plan }
+        ensures sets { AreUsual schema.now self.new.sets }
     {
         if let Some(refusal) = self.refused {
             return Err(refusal);
@@ -146,6 +154,7 @@ impl Progress {
     fn read(&mut self, schema: &Schema, limits: Limits, piece: &[u8]) -> Result<(), Refusal>
         requires way { IsUnderWay schema.now limits self.old.front self.old.kept piece.now }
         requires plan { IsPlanOf schema.now self.old.plan }
+        requires sets { AreUsual schema.now self.old.sets }
         ensures gives { ReadGives schema.now limits self.old.front self.old.kept piece.now result self.new.front self.new.kept }
         ensures no_memory { NeedsNoMemory schema.now limits self.old.front self.old.kept piece.now result }
         ensures kind { IfErr result (λ refusal. IsOfBytes refusal.fault) }
@@ -153,6 +162,7 @@ impl Progress {
         ensures limits { limits_of self.new.front ≡ limits_of self.old.front }
         ensures refused { self.new.refused ≡ self.old.refused }
         ensures plan { IsPlanOf schema.now self.new.plan }
+        ensures sets { AreUsual schema.now self.new.sets }
     {
         let mut rest = piece;
         // Each round takes a token or more, and a file has no more tokens than bytes.
@@ -184,6 +194,7 @@ impl Progress {
     ) -> Result<Option<usize>, Refusal>
         requires way { IsUnderWay schema.now limits self.old.front self.old.kept piece.now }
         requires plan { IsPlanOf schema.now self.old.plan }
+        requires sets { AreUsual schema.now self.old.sets }
         ensures takes { TakesOf piece.now result }
         ensures gives { StepGives schema.now limits self.old.front self.old.kept piece.now result self.new.front self.new.kept }
         ensures no_memory { NeedsNoMemory schema.now limits self.old.front self.old.kept piece.now result }
@@ -193,6 +204,7 @@ impl Progress {
         ensures limits { limits_of self.new.front ≡ limits_of self.old.front }
         ensures refused { self.new.refused ≡ self.old.refused }
         ensures plan { IsPlanOf schema.now self.new.plan }
+        ensures sets { AreUsual schema.now self.new.sets }
     {
         let passed = match self.pass(schema, limits, piece) {
             Ok(passed) => passed,
@@ -225,6 +237,7 @@ impl Progress {
         ensures bound { StepKeepsBound limits self.old.kept self.new.kept }
         ensures limits { limits_of self.new.front ≡ limits_of self.old.front }
         ensures refused { self.new.refused ≡ self.old.refused }
+        ensures sets { self.new.sets ≡ self.old.sets }
         ensures plan { self.new.plan ≡ self.old.plan }
     {
         schema.well_formed();

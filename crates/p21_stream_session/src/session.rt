@@ -30,11 +30,12 @@ impl<'s> Model for Session<'s> {
 
     ghost use Rattle.p21_stream_session.specs.Bounds.{IsBounded};
     ghost use Rattle.p21_stream_session.specs.Inside.{held_in};
+    ghost use Rattle.p21_transcribe_instance.specs.Usual.{AreUsual};
     ghost use Rattle.p21_transcribe_plan.specs.Steps.{IsPlanOf};
 
     ghost view = { λ a. held_in a.schema.now a.limits a.progress };
 
-    ghost invariant = { λ a. IsBounded (held_in a.schema.now a.limits a.progress) × IsPlanOf a.schema.now a.progress.plan };
+    ghost invariant = { λ a. IsBounded (held_in a.schema.now a.limits a.progress) × IsPlanOf a.schema.now a.progress.plan × AreUsual a.schema.now a.progress.sets };
 }
 
 impl<'s> Session<'s> {

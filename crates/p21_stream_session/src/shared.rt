@@ -31,12 +31,13 @@ impl Model for SharedSession {
 
     ghost use Rattle.p21_stream_session.specs.Bounds.{IsBounded};
     ghost use Rattle.p21_stream_session.specs.Inside.{held_in};
+    ghost use Rattle.p21_transcribe_instance.specs.Usual.{AreUsual};
     ghost use Rattle.p21_transcribe_plan.specs.Steps.{IsPlanOf};
     ghost use Rattle.std.specs.Arc.{arc_value};
 
     ghost view = { λ a. held_in (arc_value a.schema) a.limits a.progress };
 
-    ghost invariant = { λ a. IsBounded (held_in (arc_value a.schema) a.limits a.progress) × IsPlanOf (arc_value a.schema) a.progress.plan };
+    ghost invariant = { λ a. IsBounded (held_in (arc_value a.schema) a.limits a.progress) × IsPlanOf (arc_value a.schema) a.progress.plan × AreUsual (arc_value a.schema) a.progress.sets };
 }
 
 impl SharedSession {

@@ -4,8 +4,8 @@ use Rattle.p21_stream_session.proofs.Passed.{found-in}
 use Rattle.p21_transcribe_values.proofs.Laid.{laid-shorter}
 use Rattle.p21_stream_session.proofs.passing.find.Goals as goal
 
-pub returns-clause-found : goal.returns-clause-found
-returns-clause-found c =
+pub returns-in-Some-clause-found : goal.returns-in-Some-clause-found
+returns-in-Some-clause-found c =
     let (entities, rising, takes) = c.in-Some.ensures.some in
     (entities, rising, found-in c.args.schema.now c.in-Some.instance.name entities c.args.piece.now c.in-Some.instance.rest.now _ _ _ _ takes c.cut.ensures c.clear.ensures.items)
 

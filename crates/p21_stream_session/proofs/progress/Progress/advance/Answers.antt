@@ -5,6 +5,7 @@ use Rattle.p21_stream_kept.specs.Steps.{StepKeepsBound}
 use Rattle.p21_stream_session.proofs.Passed.{as-before}
 use Rattle.p21_stream_session.specs.Passing.{PassGives}
 use Rattle.p21_stream_session.specs.Pieces.{EndsNoToken, IsUnderWay, NeedsNoMemory, StepGives, TakesOf}
+use Rattle.p21_transcribe_instance.specs.Usual.{AreUsual}
 use Rattle.p21_transcribe_plan.specs.Steps.{IsPlanOf}
 use Rattle.p21_stream_session.proofs.progress.Progress.advance.Goals as goal
 
@@ -49,3 +50,6 @@ returns-clause-bound c =
 
 pub returns-clause-plan : goal.returns-clause-plan
 returns-clause-plan c = subst (IsPlanOf c.args.schema.now) (sym c.step.ensures.plan) c.in-Ok.ensures.plan
+
+pub returns-clause-sets : goal.returns-clause-sets
+returns-clause-sets c = subst (AreUsual c.args.schema.now) (sym c.step.ensures.sets) c.in-Ok.ensures.sets

@@ -21,13 +21,14 @@ loop-taken-preserved c = (
       c.in-Ok.ensures.bound c.in-Ok.ensures.limits c.in-Ok.ensures.refused
       (subst (λ (o : Option ℕ). EndsNoToken c.args.schema.now c.args.limits c.loop-taken.self.front c.loop-taken.self.kept c.loop-taken.rest.now (Ok o)) c.in-Some.is c.in-Ok.ensures.no_token)),
   c.in-Ok.ensures.plan,
+  c.in-Ok.ensures.sets,
 )
 
 pub returns-in-Err-clause-no_memory : goal.returns-in-Err-clause-no_memory
 returns-in-Err-clause-no_memory c = c.loop-taken.invariant.0.quiet (Err c.in-Err.refusal) c.in-Err.ensures.no_memory
 
 pub loop-taken-init : goal.loop-taken-init
-loop-taken-init c = (rest-first c.args.schema.now c.args.limits c.args.self.now c.args.piece.now c.requires.way, c.requires.plan)
+loop-taken-init c = (rest-first c.args.schema.now c.args.limits c.args.self.now c.args.piece.now c.requires.way, c.requires.plan, c.requires.sets)
 
 pub overflow_add-rounds : goal.overflow_add-rounds
 overflow_add-rounds c =
