@@ -1,5 +1,5 @@
 //! Instances that stand whole at the front of a piece, taken straight from their bytes (ISO 10303-21, data sections).
-ghost use Rattle.std.specs.Prelude.{◌≡◌, ◌≤◌, ℕ, List, length, take, IfErr, IfSome};
+ghost use Rattle.std.specs.Prelude.{◌≡◌, ◌≤◌, ℕ, List, [], length, take, IfErr, IfSome};
 ghost use Rattle.p21_mapping_values.specs.TypedView.{ids_view};
 ghost use Rattle.p21_schemas.specs.Schema.{Schema as Meant};
 ghost use Rattle.p21_mapping.specs.Checked.{needs_view};
@@ -122,8 +122,7 @@ pub(crate) fn find(
     let Ok(()) = draft.make_room(ROOM) else {
         return None;
     };
-    draft.cut(0);
-    needs.clear();
+    forget(draft, needs);
     match append_instance(schema, plan, piece, draft, needs) {
         Some(instance) => Some(Passing {
             name: instance.name,
@@ -148,8 +147,7 @@ fn find_external(
     ensures within { IfSome result (λ found. found.count ≤ length piece.now) }
     ensures sets { AreUsual schema.now sets.new }
 {
-    draft.cut(0);
-    needs.clear();
+    forget(draft, needs);
     let Some(instance) = append_external(schema, sets, piece, draft, needs) else {
         return None;
     };
@@ -158,6 +156,16 @@ fn find_external(
         set: Set::Numbered(instance.set),
         count: piece.len() - instance.rest.len(),
     })
+}
+
+/// Gives up what an instance left in the line and the references.
+#[inline(always)]
+fn forget(draft: &mut Draft, needs: &mut Vec<Need>)
+    ensures draft { draft.new ≡ [] }
+    ensures needs { needs.new.items ≡ [] }
+{
+    draft.cut(0);
+    needs.clear();
 }
 
 /// The entities of a set, rising by name.
