@@ -9,7 +9,7 @@
 benchmarks=$(dirname -- "$(readlink -f -- "$0")")
 "$benchmarks/build.sh" parsing p21_grammar p21_tokens p21_values || exit
 "$benchmarks/build.sh" checking p21_mapping p21_mapping_values p21_express p21_express_tables p21_grammar p21_tokens p21_values || exit
-"$benchmarks/build.sh" printing p21_canon p21_canon_record p21_mapping p21_mapping_values p21_express p21_express_tables p21_grammar p21_tokens p21_values || exit
+"$benchmarks/build.sh" printing p21_canon p21_mapping p21_mapping_values p21_express p21_express_tables p21_grammar p21_tokens p21_values || exit
 
 PYTHONDONTWRITEBYTECODE=1 PYTHONPATH=$benchmarks exec python3 - "$benchmarks/out" <<'PROGRAM'
 import os

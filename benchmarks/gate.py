@@ -129,4 +129,5 @@ def main():
     print(f"{last}; {clock:.0f} s; docs/GATE.md is written")
 
 
-main()
+if __name__ == "__main__":
+    main()

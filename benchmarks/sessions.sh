@@ -6,7 +6,7 @@
 # Needs rt, rustc and python3. A folder in TMPDIR with 100 MB of room, best in memory, takes the files.
 
 benchmarks=$(dirname -- "$(readlink -f -- "$0")")
-"$benchmarks/build.sh" printing p21_canon p21_canon_record p21_mapping p21_mapping_values p21_express p21_express_tables p21_grammar p21_tokens p21_values || exit
+"$benchmarks/build.sh" printing p21_canon p21_mapping p21_mapping_values p21_express p21_express_tables p21_grammar p21_tokens p21_values || exit
 "$benchmarks/build.sh" sessions p21_stream p21_express p21_express_tables p21_values || exit
 
 PYTHONDONTWRITEBYTECODE=1 PYTHONPATH=$benchmarks exec python3 - "$benchmarks/out" <<'PROGRAM'

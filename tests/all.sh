@@ -34,7 +34,7 @@ run() {
 }
 
 if [ "$#" -eq 0 ]; then
-    set -- program.sh texts.py definitions.py library.py install.sh pages.sh bindings.sh
+    set -- program.sh texts.py definitions.py edits.py refusals.py library.py install.sh pages.sh bindings.sh
     for tools in tools_*.py; do
         [ ! -e "$tools" ] || set -- "$@" "$tools"
     done

@@ -23,7 +23,7 @@ def shown(name):
 def examples():
     """The files of the examples that the page shows."""
     for folder in sorted((ROOT / "crates").glob("p21_example_*")):
-        if folder.name == "p21_example_rows":
+        if folder.name == "p21_example_tests":
             continue
         for path in sorted(folder.rglob("*")):
             name = path.relative_to(ROOT).as_posix()

@@ -12,7 +12,7 @@ use Rattle.clap.specs.declared.parser.matches.ArgMatches.TheViews.{out-ArgMatche
 use Rattle.clap.specs.declared.error.Error.{Error}
 use Rattle.clap.specs.declared.error.kind.ErrorKind.{ErrorKind}
 use Rattle.clap.specs.declared.error.kind.ErrorKind.TheVariants.{DisplayHelp, DisplayVersion, OutOfMemory}
-use Rattle.p21.specs.Statuses.{AreMistaken, AreTaken, AskForHelp, IsOfCommand, IsOfRun, IsOfStop, IsOfWords, IsStatus, IsUnopened, NamesFiles, command_in, kinds_in}
+use Rattle.p21.specs.Statuses.{AreMistaken, AreTaken, AskForHelp, IsOfCommand, IsOfRun, IsOfStop, IsOfWords, IsStatus, IsUnopened, NamesFiles, command_in, error_kinds_in}
 use Rattle.p21.specs.declared.commands.Stopped.{Stopped}
 use Rattle.p21.specs.declared.commands.Stopped.TheVariants.{NoCommand, Signed, NoRefusal, Unopened}
 use Rattle.p21_command_line.specs.CommandLine.{program_app}
@@ -27,11 +27,11 @@ program_is_simple = refl
 -- ---- what `clap` finds in the words, by its answer
 
 are_taken : (app : App) (words : List Text) → app ≡ program_app → (is_simple_and_free app ≡ true → fault_of app words ≡ []) → AreTaken words
-unfolding kinds_in
+unfolding error_kinds_in
 are_taken app words same finds = subst (λ (a : App). fault_of a words ≡ []) same (finds (ap is_simple_and_free same ∙ program_is_free))
 
-have_kind : (app : App) (words : List Text) (error : Error) → app ≡ program_app → (is_simple_and_free app ≡ true → HasKind (fault_of app words) error) → HasKind (kinds_in words) error
-unfolding kinds_in
+have_kind : (app : App) (words : List Text) (error : Error) → app ≡ program_app → (is_simple_and_free app ≡ true → HasKind (fault_of app words) error) → HasKind (error_kinds_in words) error
+unfolding error_kinds_in
 have_kind app words error same finds = subst (λ (a : App). HasKind (fault_of a words) error) same (finds (ap is_simple_and_free same ∙ program_is_free))
 
 -- ---- the command that is named
@@ -113,19 +113,19 @@ module _ (words : List Text) (error : Error) (status : ℕ) (explained : IsExpla
   never_refused (inr (inl is)) e = cc (is, e)
   never_refused (inr (inr is)) e = cc (is, e)
 
-  among_help : IsAmong (kind_of error) (kinds_in words) → (kind_of error ≡ DisplayHelp) ⊎ (kind_of error ≡ DisplayVersion) → AskForHelp words
-  among_help among (inl same) = inl (subst (λ (k : ErrorKind). IsAmong k (kinds_in words)) same among)
-  among_help among (inr same) = inr (subst (λ (k : ErrorKind). IsAmong k (kinds_in words)) same among)
+  among_help : IsAmong (kind_of error) (error_kinds_in words) → (kind_of error ≡ DisplayHelp) ⊎ (kind_of error ≡ DisplayVersion) → AskForHelp words
+  among_help among (inl same) = inl (subst (λ (k : ErrorKind). IsAmong k (error_kinds_in words)) same among)
+  among_help among (inr same) = inr (subst (λ (k : ErrorKind). IsAmong k (error_kinds_in words)) same among)
 
-  asks : HasKind (kinds_in words) error → status ≡ done → AskForHelp words
+  asks : HasKind (error_kinds_in words) error → status ≡ done → AskForHelp words
   asks (inl memory) e = cc (explained.memory memory, e)
   asks (inr among) e = among_help among (explained.shown e)
 
-  mistaken : HasKind (kinds_in words) error → status ≡ usage → AreMistaken words
+  mistaken : HasKind (error_kinds_in words) error → status ≡ usage → AreMistaken words
   mistaken (inl memory) e = cc (explained.memory memory, e)
   mistaken (inr among) e = record { mistake = kind_of error; among = among; not_help = (explained.mistake e).0; not_version = (explained.mistake e).1 }
 
-  of_kind : HasKind (kinds_in words) error → IsOfWords words status
+  of_kind : HasKind (error_kinds_in words) error → IsOfWords words status
   of_kind has = record {
     known = known_of_error explained.known;
     when_done = λ e. inr (asks has e);

@@ -30,18 +30,18 @@ IsOfMistake status = (status ≡ usage) ⊎ (status ≡ failed)
 
 -- the kinds of what `clap` finds in the words: a mistake, or that they ask for help or for the version; none where it takes
 -- them
-unfoldable pub kinds_in : List Text → Kinds
-kinds_in words = fault_of program_app words
+unfoldable pub error_kinds_in : List Text → Kinds
+error_kinds_in words = fault_of program_app words
 
 abbrev pub AreTaken : List Text → Type 0
-AreTaken words = kinds_in words ≡ []
+AreTaken words = error_kinds_in words ≡ []
 
 abbrev pub AskForHelp : List Text → Type 0
-AskForHelp words = IsAmong DisplayHelp (kinds_in words) ⊎ IsAmong DisplayVersion (kinds_in words)
+AskForHelp words = IsAmong DisplayHelp (error_kinds_in words) ⊎ IsAmong DisplayVersion (error_kinds_in words)
 
 pub record AreMistaken (words : List Text) : Type 0 where
   pub mistake : ErrorKind
-  pub among : IsAmong mistake (kinds_in words)
+  pub among : IsAmong mistake (error_kinds_in words)
   pub not_help : mistake ≢ DisplayHelp
   pub not_version : mistake ≢ DisplayVersion
 

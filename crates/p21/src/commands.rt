@@ -3,13 +3,14 @@ ghost use Rattle.std.specs.Prelude.{Some, IfErr, IfOk};
 ghost use Rattle.clap.specs.Words.{subcommand_name_of};
 ghost use Rattle.p21.specs.Statuses.{IsOfAnswer, IsOfCommand, IsUnopened, NamesFiles};
 
-use crate::progress::Told;
+use crate::progress::ProgressReader;
 use crate::refusals::SECTIONS;
 use clap::ArgMatches;
 use p21_command_line::LIST;
-use p21_commands::{CommandFault, DONE, param_command, report};
-use p21_commands_files::{canon_command, check_command, same_command, show_command};
-use p21_commands_schema::schema_command;
+use p21_commands::{
+    CommandFault, DONE, canon_command, check_command, param_command, report, same_command,
+    schema_command, show_command,
+};
 use p21_stream_io::Watched;
 use p21_values::Name;
 use std::fs::{self, File};
@@ -91,7 +92,7 @@ fn run_check<'a>(rt: &HostRuntime, found: &ArgMatches<'a>) -> Result<u8, Stopped
     ensures unopened { IfErr result IsUnopened }
 {
     let mut schema = Watched::new(open(rt, found, "S")?);
-    let mut file = Watched::new(open_told(rt, found, "FILE")?);
+    let mut file = Watched::new(open_with_progress(rt, found, "FILE")?);
     Ok(check_command(
         rt.alloc(),
         &mut schema,
@@ -107,7 +108,7 @@ fn run_canon<'a>(rt: &HostRuntime, found: &ArgMatches<'a>) -> Result<u8, Stopped
     ensures unopened { IfErr result IsUnopened }
 {
     let mut schema = Watched::new(open(rt, found, "S")?);
-    let mut file = Watched::new(open_told(rt, found, "FILE")?);
+    let mut file = Watched::new(open_with_progress(rt, found, "FILE")?);
     let mut output = Watched::new(rt.stdout());
     Ok(canon_command(
         rt.alloc(),
@@ -150,8 +151,8 @@ fn run_same<'a>(rt: &HostRuntime, found: &ArgMatches<'a>) -> Result<u8, Stopped<
     ensures unopened { IfErr result IsUnopened }
 {
     let mut schema = Watched::new(open(rt, found, "S")?);
-    let mut first = Watched::new(open_told(rt, found, "A")?);
-    let mut second = Watched::new(open_told(rt, found, "B")?);
+    let mut first = Watched::new(open_with_progress(rt, found, "A")?);
+    let mut second = Watched::new(open_with_progress(rt, found, "B")?);
     Ok(same_command(
         rt.alloc(),
         &mut schema,
@@ -222,15 +223,15 @@ fn open<'a>(rt: &HostRuntime, found: &ArgMatches<'a>, argument: &str) -> Result<
 
 /// Opens the file that an argument names, for a command that may have to say how much of it is read: with `--progress`, on a
 /// terminal.
-fn open_told<'a>(
+fn open_with_progress<'a>(
     rt: &HostRuntime,
     found: &ArgMatches<'a>,
     argument: &str,
-) -> Result<Told<'a, File, Stderr>, Stopped<'a>>
+) -> Result<ProgressReader<'a, File, Stderr>, Stopped<'a>>
     ensures { IfErr result IsUnopened }
 {
     let file = open(rt, found, argument)?;
     let path = found.get_str(argument).unwrap_or_default();
     let lines = (found.get_flag("progress") && rt.stderr().is_terminal()).then(|| rt.stderr());
-    Ok(Told::new(file, path, lines))
+    Ok(ProgressReader::new(file, path, lines))
 }

@@ -12,19 +12,19 @@ const MEBIBYTE: u64 = 1_048_576;
 /// A reader that says, where it has a writer for it, how much was read: a line for each step. A line that can't be written
 /// is dropped.
 #[derive(Drop)]
-pub struct Told<'a, R, W> {
+pub struct ProgressReader<'a, R, W> {
     inner: R,
     path: &'a str,
     lines: Option<W>,
     taken: u64,
 }
 
-impl<'a, R, W> Told<'a, R, W> {
-    /// Nothing is read yet.
-    pub fn new(inner: R, path: &'a str, lines: Option<W>) -> Told<'a, R, W>
+impl<'a, R, W> ProgressReader<'a, R, W> {
+    /// A reader of which nothing is read yet.
+    pub fn new(inner: R, path: &'a str, lines: Option<W>) -> ProgressReader<'a, R, W>
         ensures { result.inner ≡ inner }
     {
-        Told {
+        ProgressReader {
             inner,
             path,
             lines,
@@ -33,7 +33,7 @@ impl<'a, R, W> Told<'a, R, W> {
     }
 }
 
-impl<'a, R, W: Write> Told<'a, R, W> {
+impl<'a, R, W: Write> ProgressReader<'a, R, W> {
     /// Counts the bytes of one read.
     fn count(&mut self, bytes: u64)
         ensures { self.new.inner ≡ self.old.inner }
@@ -50,7 +50,7 @@ impl<'a, R, W: Write> Told<'a, R, W> {
     }
 }
 
-impl<'a, R: Read, W: Write> Read for Told<'a, R, W> {
+impl<'a, R: Read, W: Write> Read for ProgressReader<'a, R, W> {
     ghost remaining = { λ told. R.remaining told.inner };
 
     fn read(&mut self, buf: &mut [u8]) -> io::Result<usize> {

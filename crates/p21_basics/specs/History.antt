@@ -38,15 +38,15 @@ abbrev pub looked_at : {Input Output Fault : Type 0} → History Input Output Fa
 looked_at history = history.taken ++ elim history.seen [ None ↦ [] | Some input ↦ input ∷ [] ]
 
 -- the caller offers first what was seen and not taken
-abbrev pub IsOffered : {Input : Type 0} → Option Input → List Input → Type 0
-IsOffered None piece = Unit {0}
-IsOffered (Some input) [] = Unit {0}
-IsOffered (Some input) (first ∷ rest) = first ≡ input
+abbrev pub IsOfferedFirst : {Input : Type 0} → Option Input → List Input → Type 0
+IsOfferedFirst None piece = Unit {0}
+IsOfferedFirst (Some input) [] = Unit {0}
+IsOfferedFirst (Some input) (first ∷ rest) = first ≡ input
 
 -- a new reader stands for the empty history
-abbrev pub StandsNew : {Value Input Output Fault : Type 0} → (Value → History Input Output Fault → Type 0) → Value → Type 0
-StandsNew Stands new = Stands new empty
+abbrev pub StandsForEmptyHistory : {Value Input Output Fault : Type 0} → (Value → History Input Output Fault → Type 0) → Value → Type 0
+StandsForEmptyHistory Stands new = Stands new empty
 
 -- of a reader that stood for a history, a call leaves one that stands for it with the call added
-abbrev pub StandsAfter : {Value Input Output Fault : Type 0} → (Value → History Input Output Fault → Type 0) → Value → History Input Output Fault → Value → Type 0
-StandsAfter {Input = Input} {Output = Output} {Fault = Fault} Stands old call new = (history : History Input Output Fault) → Stands old history → Stands new (extended history call)
+abbrev pub StandsAfterCall : {Value Input Output Fault : Type 0} → (Value → History Input Output Fault → Type 0) → Value → History Input Output Fault → Value → Type 0
+StandsAfterCall {Input = Input} {Output = Output} {Fault = Fault} Stands old call new = (history : History Input Output Fault) → Stands old history → Stands new (extended history call)

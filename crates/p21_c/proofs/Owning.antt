@@ -1,4 +1,4 @@
--- A handle and a box's parts at their machine values. Assumes `Logic`.
+-- A handle and a box's components at their machine values. Assumes `Logic`.
 use Rattle.std.proofs.Common.{◌≡◌, ℕ, List, [], ◌∷◌, ◌++◌, refl, subst, lit<}
 use seplogic.Ra.Ura.{Ura}
 use base.Fraction.{full_share}
@@ -29,17 +29,17 @@ use Rattle.std.specs.contracts.alloc.Global as Heap
 use Rattle.std.specs.contracts.impls.GlobalAllocator.TheImpl.{ghosts, dict}
 use Rattle.std.proofs.alloc.Global.TheLaws as heap
 use Rattle.std.proofs.GlobalToken.{dealloc_token-Testable}
-use Rattle.p21_c.specs.Owned.{owned}
+use Rattle.p21_c.specs.Owned.{handle_owns}
 use Rattle.p21_c.specs.contracts.contents.Content as Content
 use Rattle.p21_c.proofs.contents.Content.TheLaws as content
 use Rattle.p21_c.specs.contracts.handles.Handle as Handle
-use Rattle.p21_c.specs.contracts.parts.Parts as Parts
+use Rattle.p21_c.specs.contracts.components.BoxComponents as BoxComponents
 
 abbrev pub E : Bx
 E = record { row = Content.the_row; laws = content.the_row_laws; al = record { row = Heap.the_row; laws = heap.the_row_laws; g = ghosts; d = dict; drops = impl [] tnil dnil } }
 
 abbrev pub PartsRow : RattleType
-PartsRow = Parts.the_row Content.the_row Heap.the_row ghosts
+PartsRow = BoxComponents.the_row Content.the_row Heap.the_row ghosts
 
 abbrev pub FromParts : Slot 0
 FromParts = plain (λ _. PartsRow)
@@ -65,7 +65,7 @@ tested {𝓤 = 𝓤} 𝓛 a p x =
 module _ {M : Type 1} {𝓤 : Ura M} {𝓛 : Logic 𝓤} {K : Type 0} {Γ : List (Item 𝓤)} {G : Goal 𝓤 𝓛.H} where
   -- nothing, or what a box owns
   pub owned_cases : K → (a : Global) (p : Ptr) (value : Option Content.the_row.Denot) → (p ≡ null_ptr → value ≡ None → Seq K 𝓛 Γ G)
-      → ((b o : ℕ) (x : Content.the_row.Denot) → p ≡ block_ptr b o → value ≡ Some x → Testable (block_ptr b o) → Seq K 𝓛 (‵ (Boxed a (block_ptr b o) x) ∷ Γ) G) → Seq K 𝓛 (‵ (owned a p value) ∷ Γ) G
+      → ((b o : ℕ) (x : Content.the_row.Denot) → p ≡ block_ptr b o → value ≡ Some x → Testable (block_ptr b o) → Seq K 𝓛 (‵ (Boxed a (block_ptr b o) x) ∷ Γ) G) → Seq K 𝓛 (‵ (handle_owns a p value) ∷ Γ) G
   owned_cases t a p None none one = feq_l t (λ e. none e refl)
   owned_cases t a p (Some x) none one =
       in_a_block t p (λ q. Boxed a q x) (fst∗ 𝓤 (never 𝓤) (sem 𝓛 (ghosts.dealloc_token a (bare (lone Content.the_row.mir)) null_ptr))) (λ b o e.
@@ -73,7 +73,7 @@ module _ {M : Type 1} {𝓤 : Ura M} {𝓛 : Logic 𝓤} {K : Type 0} {Γ : List
 
   -- a handle by value: [what it owns; the allocator]
   pub handle_out : K → (d : Handle.the_row.Denot) (vs : List Val)
-      → ((h : Val) → Good (layout Heap.the_row) h → vs ≡ word (ptr_val d.at) h ∷ [] → Seq K 𝓛 (‵ (owned d.alloc d.at d.value) ∷ ‵ (Heap.the_row.own_val d.alloc (h ∷ [])) ∷ Γ) G)
+      → ((h : Val) → Good (layout Heap.the_row) h → vs ≡ word (ptr_val d.at) h ∷ [] → Seq K 𝓛 (‵ (handle_owns d.alloc d.at d.value) ∷ ‵ (Heap.the_row.own_val d.alloc (h ∷ [])) ∷ Γ) G)
       → Seq K 𝓛 (‵ (Handle.the_row.own_val d vs) ∷ Γ) G
   handle_out t d vs k =
       fsplit t $ fpick t (λ vss. fsplit t $ feq_l t (λ ev. fsplit t $ feq_l t (λ ep. fsplit t $ handle_tells (E.al) t d.alloc vss.1.0 (λ h ea fits. move t (1 ∷ []) $ drop t $ move t (1 ∷ []) $
@@ -81,7 +81,7 @@ module _ {M : Type 1} {𝓤 : Ura M} {𝓛 : Logic 𝓤} {K : Type 0} {Γ : List
 
   -- and made of these
   pub handle_in : K → (p : Ptr) (h : Val) (a : Heap.the_row.Denot) (value : Option Content.the_row.Denot)
-      → Step K 𝓛 (‵ (Handle.the_row.own_val (record { at = p; alloc = a; value = value }) (word (ptr_val p) h ∷ [])) ∷ Γ) G (‵ (owned a p value) ∷ ‵ (Heap.the_row.own_val a (h ∷ [])) ∷ Γ) G
+      → Step K 𝓛 (‵ (Handle.the_row.own_val (record { at = p; alloc = a; value = value }) (word (ptr_val p) h ∷ [])) ∷ Γ) G (‵ (handle_owns a p value) ∷ ‵ (Heap.the_row.own_val a (h ∷ [])) ∷ Γ) G
   handle_in t p h a value = step (λ s. let v : Val = word (ptr_val p) h in
       nothing t $ move t (2 ∷ 0 ∷ []) $ fjoin t $ feq_i t (List Val) (ptr_val p ∷ []) (ptr_val p ∷ []) refl $ fjoin t $ feq_i t (List Val) (v ∷ []) (v ∷ []) refl $ fjoin t $
       fpack t (Valss (RawPtr ∷ Heap.the_row ∷ [])) (within (shape Handle.the_type) (p, (Heap.the_field.into a, tt)) (v ∷ [])) (ptr_val p ∷ [], (h ∷ [], tt)) $ fjoin t $ s)
@@ -90,7 +90,7 @@ module _ {M : Type 1} {𝓤 : Ura M} {𝓛 : Logic 𝓤} {K : Type 0} {Γ : List
       → Step K 𝓛 (‵ (PartsRow.own_val (record { ptr = block_ptr b o; alloc = a; value = x }) (word (vptr b o) h ∷ [])) ∷ Γ) G (‵ (Boxed a (block_ptr b o) x) ∷ ‵ (Heap.the_row.own_val a (h ∷ [])) ∷ Γ) G
   parts_in t b o h a x = step (λ s. let v : Val = word (vptr b o) h in
       nothing t $ move t (2 ∷ 0 ∷ []) $ fjoin t $ feq_i t (List Val) (vptr b o ∷ []) (vptr b o ∷ []) refl $ fjoin t $ feq_i t (List Val) (v ∷ []) (v ∷ []) refl $ fjoin t $
-      fpack t (Valss (RawPtr ∷ Heap.the_row ∷ [])) (within (shape (Parts.the_type Content.the_row Heap.the_row ghosts)) (block_ptr b o, (a, tt)) (v ∷ [])) (vptr b o ∷ [], (h ∷ [], tt)) $ fjoin t $ s)
+      fpack t (Valss (RawPtr ∷ Heap.the_row ∷ [])) (within (shape (BoxComponents.the_type Content.the_row Heap.the_row ghosts)) (block_ptr b o, (a, tt)) (v ∷ [])) (vptr b o ∷ [], (h ∷ [], tt)) $ fjoin t $ s)
 
 pub ptr_good : (p : Ptr) → T (has_ty ty_ptr (ptr_val p)) × WT (ptr_val p)
 ptr_good (block_ptr b o) = (tt, tt)

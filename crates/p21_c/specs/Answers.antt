@@ -4,7 +4,7 @@ use Rattle.std.specs.Global.{Vec}
 use Rattle.std.specs.Vec.{vec_ptr}
 use denote.RawPtr.{Ptr}
 use Rattle.p21_basics.specs.Limits.{usual}
-use Rattle.p21_c.specs.Contents.{HoldsText, handed, output_in, schema_in, session_in}
+use Rattle.p21_c.specs.Contents.{HoldsText, handed_content, output_in, schema_in, session_in}
 use Rattle.p21_c.specs.declared.answers.Answer.{Answer}
 use Rattle.p21_c.specs.declared.contents.Content.{Content}
 use Rattle.p21_claim.specs.CanonicalLaws.{MeanTheSame}
@@ -13,22 +13,22 @@ use Rattle.p21_express_outline.specs.Fault as schema_fault
 use Rattle.p21_express_outline.specs.declared.fault.SchemaFault.{SchemaFault}
 use Rattle.p21_express_outline.specs.declared.fault.SchemaFault.TheVariants as schema_faults
 use Rattle.p21_files.specs.Accepted.{IsAccepted}
-use Rattle.p21_grammar_machine.specs.declared.fault.GrammarFault.{GrammarFault}
-use Rattle.p21_grammar_machine.specs.declared.fault.GrammarFault.TheVariants as form
+use Rattle.p21_grammar.specs.declared.fault.GrammarFault.{GrammarFault}
+use Rattle.p21_grammar.specs.declared.fault.GrammarFault.TheVariants as form
 use Rattle.p21_schemas.specs.Schema.{Schema}
 use Rattle.p21_stream.specs.Answers.{IsOnlyCanonicalFile}
-use Rattle.p21_stream_accepted.specs.Output.{Output, output_text}
-use Rattle.p21_stream_fault.specs.Fault.{fault_number}
-use Rattle.p21_stream_fault.specs.Source.{IsOfBytes}
-use Rattle.p21_stream_fault.specs.declared.fault.Fault.{Fault}
-use Rattle.p21_stream_fault.specs.declared.fault.Fault.TheVariants.{Grammar, NoMemory, Token}
-use Rattle.p21_stream_fault.specs.declared.refusal.At.{At}
-use Rattle.p21_stream_fault.specs.declared.refusal.At.TheVariants.{Statement, Instance}
-use Rattle.p21_stream_fault.specs.declared.refusal.Refusal.{Refusal}
-use Rattle.p21_stream_session.specs.Canonical.{IsCanonicalOutput}
-use Rattle.p21_stream_session.specs.Held.{SessionHeld, limits_of, schema_of}
-use Rattle.p21_stream_session.specs.Histories.{FeedGives, FinishGives, KeepsSchema, RefusesAgain, Stands, nothing_taken}
-use Rattle.p21_stream_store.specs.Kept.{kept_names}
+use Rattle.p21_stream_output.specs.Output.{Output, output_text}
+use Rattle.p21_stream_kept.specs.Fault.{fault_number}
+use Rattle.p21_stream_kept.specs.Source.{IsOfBytes}
+use Rattle.p21_stream_kept.specs.declared.fault.Fault.{Fault}
+use Rattle.p21_stream_kept.specs.declared.fault.Fault.TheVariants.{Grammar, NoMemory, Token}
+use Rattle.p21_stream_kept.specs.declared.refusal.At.{At}
+use Rattle.p21_stream_kept.specs.declared.refusal.At.TheVariants.{Statement, Instance}
+use Rattle.p21_stream_kept.specs.declared.refusal.Refusal.{Refusal}
+use Rattle.p21_stream.specs.Canonical.{IsCanonicalOutput}
+use Rattle.p21_stream.specs.Held.{SessionHeld, limits_of, schema_of}
+use Rattle.p21_stream.specs.Histories.{FeedGives, FinishGives, KeepsSchema, RefusesAgain, Stands, nothing_taken}
+use Rattle.p21_stream_store.specs.StoredInstance.{instance_names}
 use Rattle.p21_tokens_automaton.specs.declared.mode.Absent.{Absent}
 use Rattle.p21_tokens_automaton.specs.declared.mode.Absent.TheVariants.{UserKeyword, Scope, ConstantName, ValueName, Anchor, Reference, Signature, SecondSection, NoDataSection}
 use Rattle.p21_tokens.specs.declared.fault.TokenFault.{TokenFault}
@@ -63,23 +63,23 @@ schema_status_of fault = refused
 abbrev pub nothing : ℕ
 nothing = 0
 
-abbrev pub the_schema : ℕ
-the_schema = 1
+abbrev pub schema_subject : ℕ
+schema_subject = 1
 
-abbrev pub the_file : ℕ
-the_file = 2
+abbrev pub file_subject : ℕ
+file_subject = 2
 
-abbrev pub the_second : ℕ
-the_second = 3
+abbrev pub second_subject : ℕ
+second_subject = 3
 
 -- where: at a statement, or in an instance
-abbrev pub place_of : At → ℕ
-place_of (Statement number) = 1
-place_of (Instance name) = 2
+abbrev pub location_of : At → ℕ
+location_of (Statement number) = 1
+location_of (Instance name) = 2
 
-abbrev pub position_of : At → ℕ
-position_of (Statement number) = number
-position_of (Instance name) = name
+abbrev pub location_number_of : At → ℕ
+location_number_of (Statement number) = number
+location_number_of (Instance name) = name
 
 -- what is left out
 abbrev pub absent_number_of : Absent → ℕ
@@ -122,16 +122,16 @@ abbrev pub accepted_answer : Output → Answer
 accepted_answer output = record { status = done; report = record { subject = nothing; number = 0; absent = 0; place = 0; at = 0; instances = length output.kept; bytes = length (output_text output) } }
 
 abbrev pub refused_answer : ℕ → Refusal → Answer
-refused_answer subject refusal = record { status = status_of refusal.fault; report = record { subject = subject; number = fault_number refusal.fault; absent = absent_of refusal.fault; place = place_of refusal.at; at = position_of refusal.at; instances = 0; bytes = 0 } }
+refused_answer subject refusal = record { status = status_of refusal.fault; report = record { subject = subject; number = fault_number refusal.fault; absent = absent_of refusal.fault; place = location_of refusal.at; at = location_number_of refusal.at; instances = 0; bytes = 0 } }
 
 abbrev pub schema_refused_answer : SchemaFault → Answer
-schema_refused_answer fault = record { status = schema_status_of fault; report = record { subject = the_schema; number = schema_fault.fault_number fault; absent = 0; place = 0; at = 0; instances = 0; bytes = 0 } }
+schema_refused_answer fault = record { status = schema_status_of fault; report = record { subject = schema_subject; number = schema_fault.fault_number fault; absent = 0; place = 0; at = 0; instances = 0; bytes = 0 } }
 
 -- ---- what is handed out
 
 -- what was made is held from now on; where nothing was, what was held before
-abbrev pub Hands : (Option Content → Type 0) → Option Content → Option Content → Type 0
-Hands IsMade old new = (made : Option Content) × IsMade made × (new ≡ handed made old)
+abbrev pub HoldsMade : (Option Content → Type 0) → Option Content → Option Content → Type 0
+HoldsMade IsMade old new = (made : Option Content) × IsMade made × (new ≡ handed_content made old)
 
 -- ---- schemas
 
@@ -143,8 +143,8 @@ MakesSchema text answer made =
     ⊎ ((made ≡ None) × (answer ≡ no_memory_answer))
 
 -- a schema is kept; or nothing, since there is no memory
-abbrev pub KeepsSchemaIn : Schema → Answer → Option Content → Type 0
-KeepsSchemaIn s answer made = ((schema_in made ≡ Some s) × (answer ≡ done_answer)) ⊎ ((made ≡ None) × (answer ≡ no_memory_answer))
+abbrev pub StoresSchema : Schema → Answer → Option Content → Type 0
+StoresSchema s answer made = ((schema_in made ≡ Some s) × (answer ≡ done_answer)) ⊎ ((made ≡ None) × (answer ≡ no_memory_answer))
 
 -- ---- files in memory
 
@@ -162,16 +162,16 @@ IsAcceptedBy s text answer = (output : Output) × IsAcceptedText s text output �
 abbrev pub IsRefusedBy : ℕ → Schema → List ℕ → Answer → Type 0
 IsRefusedBy subject s text answer = (refusal : Refusal) × RefusesText s text refusal × (answer ≡ refused_answer subject refusal)
 
-abbrev pub Checks : Option Schema → List ℕ → Answer → Type 0
-Checks None file answer = answer ≡ misused_answer
-Checks (Some s) file answer = IsAcceptedBy s file answer ⊎ IsRefusedBy the_file s file answer
+abbrev pub ChecksFile : Option Schema → List ℕ → Answer → Type 0
+ChecksFile None file answer = answer ≡ misused_answer
+ChecksFile (Some s) file answer = IsAcceptedBy s file answer ⊎ IsRefusedBy file_subject s file answer
 
 -- the canonical file; or nothing
 abbrev pub MakesCanonical : Option Schema → List ℕ → Answer → Option Content → Type 0
 MakesCanonical None file answer made = (made ≡ None) × (answer ≡ misused_answer)
 MakesCanonical (Some s) file answer made =
     ((output : Output) × IsAcceptedText s file output × HoldsText made (output_text output) × (answer ≡ accepted_answer output))
-    ⊎ (IsRefusedBy the_file s file answer × (made ≡ None))
+    ⊎ (IsRefusedBy file_subject s file answer × (made ≡ None))
     ⊎ ((made ≡ None) × (answer ≡ no_memory_answer))
 
 -- whether two files mean the same; or nothing, since one of them is refused or there is no memory
@@ -179,18 +179,18 @@ abbrev pub Compares : Option Schema → List ℕ → List ℕ → Answer → Opt
 Compares None first second answer same = (same ≡ None) × (answer ≡ misused_answer)
 Compares (Some s) first second answer same =
     ((yes : Bool) × (same ≡ Some yes) × IsAccepted s usual first × IsAccepted s usual second × (IsTrue yes ↔ MeanTheSame s usual first second) × (answer ≡ done_answer))
-    ⊎ (IsRefusedBy the_file s first answer × (same ≡ None))
-    ⊎ (IsAccepted s usual first × IsRefusedBy the_second s second answer × (same ≡ None))
+    ⊎ (IsRefusedBy file_subject s first answer × (same ≡ None))
+    ⊎ (IsAccepted s usual first × IsRefusedBy second_subject s second answer × (same ≡ None))
     ⊎ ((same ≡ None) × (answer ≡ no_memory_answer))
 
 -- an answer told by 1 and 0; where there is none, what stood there before
-abbrev pub told : Option Bool → ℕ → ℕ
-told None old = old
-told (Some true) old = 1
-told (Some false) old = 0
+abbrev pub told_answer : Option Bool → ℕ → ℕ
+told_answer None old = old
+told_answer (Some true) old = 1
+told_answer (Some false) old = 0
 
-abbrev pub Tells : (Option Bool → Type 0) → ℕ → ℕ → Type 0
-Tells IsAnswer old new = (same : Option Bool) × IsAnswer same × (new ≡ told same old)
+abbrev pub TellsAnswer : (Option Bool → Type 0) → ℕ → ℕ → Type 0
+TellsAnswer IsAnswer old new = (same : Option Bool) × IsAnswer same × (new ≡ told_answer same old)
 
 -- ---- sessions
 
@@ -209,7 +209,7 @@ pub record IsFed (old : SessionHeld) (piece : List ℕ) (result : Result (Unit {
 
 abbrev pub feed_answer : Result (Unit {0}) Refusal → Answer
 feed_answer (Ok taken) = done_answer
-feed_answer (Err refusal) = refused_answer the_file refusal
+feed_answer (Err refusal) = refused_answer file_subject refusal
 
 abbrev pub Feeds : Option SessionHeld → List ℕ → Answer → Option Content → Option Content → Type 0
 Feeds None piece answer old new = (new ≡ old) × (answer ≡ misused_answer)
@@ -221,7 +221,7 @@ abbrev pub Finishes : Option SessionHeld → Answer → Option Content → Optio
 Finishes None answer old new = (new ≡ old) × (answer ≡ misused_answer)
 Finishes (Some held) answer old new =
     ((output : Output) × FinishGives held (Ok output) × (output_in new ≡ Some output) × (answer ≡ accepted_answer output))
-    ⊎ ((refusal : Refusal) × FinishGives held (Err refusal) × (new ≡ None) × (answer ≡ refused_answer the_file refusal))
+    ⊎ ((refusal : Refusal) × FinishGives held (Err refusal) × (new ≡ None) × (answer ≡ refused_answer file_subject refusal))
 
 -- ---- accepted files
 
@@ -229,8 +229,8 @@ Finishes (Some held) answer old new =
 abbrev pub MakesLine : Option Output → ℕ → ℕ → Option Content → Type 0
 MakesLine None name status made = (made ≡ None) × (status ≡ misused)
 MakesLine (Some output) name status made =
-    ((kind : ℕ) × (text : List ℕ) × Contains output.kept (record { name = name; kind = kind; text = text }) × HoldsText made text × (status ≡ done))
-    ⊎ ((Contains (kept_names output.kept) name → ⊥) × (made ≡ None) × (status ≡ refused))
+    ((membership : ℕ) × (text : List ℕ) × Contains output.kept (record { name = name; membership = membership; text = text }) × HoldsText made text × (status ≡ done))
+    ⊎ ((Contains (instance_names output.kept) name → ⊥) × (made ≡ None) × (status ≡ refused))
     ⊎ ((made ≡ None) × (status ≡ failed))
 
 -- the canonical file; or nothing
@@ -241,6 +241,6 @@ MakesFile (Some output) status made = (HoldsText made (output_text output) × (s
 -- ---- texts
 
 -- where the bytes lie that a handle holds, and how many they are
-abbrev pub Shows : Option (Vec ℕ) → ℕ → Ptr → Ptr → ℕ → ℕ → Type 0
-Shows None status at_old at_new length_old length_new = (status ≡ misused) × (at_new ≡ at_old) × (length_new ≡ length_old)
-Shows (Some text) status at_old at_new length_old length_new = (status ≡ done) × (at_new ≡ vec_ptr text) × (length_new ≡ length text.items)
+abbrev pub ShowsText : Option (Vec ℕ) → ℕ → Ptr → Ptr → ℕ → ℕ → Type 0
+ShowsText None status at_old at_new length_old length_new = (status ≡ misused) × (at_new ≡ at_old) × (length_new ≡ length_old)
+ShowsText (Some text) status at_old at_new length_old length_new = (status ≡ done) × (at_new ≡ vec_ptr text) × (length_new ≡ length text.items)

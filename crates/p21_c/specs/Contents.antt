@@ -6,15 +6,15 @@ use Rattle.p21_c.specs.declared.contents.Content.TheVariants as content
 use Rattle.p21_c.specs.declared.contents.Taken.{Taken}
 use Rattle.p21_c.specs.declared.contents.Taken.TheVariants as taken
 use Rattle.p21_schemas.specs.Schema.{Schema}
-use Rattle.p21_stream_accepted.specs.Output.{Output}
-use Rattle.p21_stream_session.specs.Held.{SessionHeld}
+use Rattle.p21_stream_output.specs.Output.{Output}
+use Rattle.p21_stream.specs.Held.{SessionHeld}
 
 -- the content of a box, if there is one
-abbrev pub unboxed : Option (Box Content) → Option Content
-unboxed None = None
-unboxed (Some b) = Some b.value
+abbrev pub boxed_content : Option (Box Content) → Option Content
+boxed_content None = None
+boxed_content (Some b) = Some b.value
 
--- what is held, where it is of one kind
+-- what is held, where it is of one sort
 abbrev pub schema_in : Option Content → Option Schema
 schema_in (Some (content.Schema shared)) = Some shared.value
 schema_in other = None
@@ -31,15 +31,15 @@ abbrev pub text_in : Option Content → Option (Vec ℕ)
 text_in (Some (content.Text text)) = Some text
 text_in other = None
 
--- a session that was held is taken, and what is none stays
+-- a session that was held is taken, and what is no session stays
 abbrev pub TakesSession : Option Content → Taken → Type 0
 TakesSession held (taken.Session session place) = held ≡ Some (content.Session session)
-TakesSession held (taken.Other rest) = (unboxed rest ≡ held) × (session_in held ≡ None)
+TakesSession held (taken.Other rest) = (boxed_content rest ≡ held) × (session_in held ≡ None)
 
 -- what a handle holds once it is handed something, or nothing
-abbrev pub handed : Option Content → Option Content → Option Content
-handed None old = old
-handed (Some new) old = Some new
+abbrev pub handed_content : Option Content → Option Content → Option Content
+handed_content None old = old
+handed_content (Some new) old = Some new
 
 -- a text of these bytes is held
 abbrev pub HoldsText : Option Content → List ℕ → Type 0

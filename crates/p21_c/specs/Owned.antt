@@ -9,9 +9,9 @@ use denote.RawPtr.{Ptr, null_ptr}
 use Rattle.p21_c.specs.contracts.contents.Content.{the_row}
 use Rattle.p21_c.specs.declared.contents.Content.{Content}
 
-abbrev pub owned : Global → Ptr → Option Content → Fml
-owned alloc p None = feq Ptr p null_ptr
-owned alloc p (Some x) = box_owns (ghosts.dealloc_token alloc) the_row p x
+abbrev pub handle_owns : Global → Ptr → Option Content → Fml
+handle_owns alloc p None = feq Ptr p null_ptr
+handle_owns alloc p (Some x) = box_owns (ghosts.dealloc_token alloc) the_row p x
 
 -- what is held stored as numbers and lists, so that two can be told apart; nothing that is claimed rests on it
 abbrev pub held_code : Coded (Option Content)

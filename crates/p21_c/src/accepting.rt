@@ -5,10 +5,9 @@ ghost use Rattle.p21_c.specs.Answers.{IsAcceptedText, RefusesText};
 ghost use Rattle.p21_stream.specs.Claim.{Claim};
 
 use p21_express_tables::Schema;
-use p21_stream::headline;
-use p21_stream_accepted::Accepted;
-use p21_stream_fault::Refusal;
-use p21_stream_session::Session;
+use p21_stream::{Session, headline};
+use p21_stream_kept::Refusal;
+use p21_stream_output::Accepted;
 use p21_values::Limits;
 use std::alloc::Global;
 

@@ -1,15 +1,15 @@
 //! What a call answers: a status, and a report.
 ghost use Rattle.std.specs.Prelude.{◌≡◌};
-ghost use Rattle.p21_c.specs.Answers.{absent_form_of, absent_number_of, absent_of, absent_token_of, accepted_answer, done_answer, misused_answer, no_memory_answer, place_of, position_of, quiet_answer, refused_answer, schema_refused_answer, schema_status_of, status_of};
+ghost use Rattle.p21_c.specs.Answers.{absent_form_of, absent_number_of, absent_of, absent_token_of, accepted_answer, done_answer, misused_answer, no_memory_answer, location_of, location_number_of, quiet_answer, refused_answer, schema_refused_answer, schema_status_of, status_of};
 
 use p21_express_outline::SchemaFault;
-use p21_grammar_machine::GrammarFault;
-use p21_stream_accepted::Accepted;
-use p21_stream_fault::{At, Fault, Refusal};
+use p21_grammar::GrammarFault;
+use p21_stream_kept::{At, Fault, Refusal};
+use p21_stream_output::Accepted;
 use p21_tokens::{Absent, TokenFault};
 use p21_values::Name;
 
-/// What was asked is done.
+/// The call did what it was asked.
 pub const DONE: u8 = 0;
 /// The schema or the file is refused, or there is no such instance.
 pub const REFUSED: u8 = 1;
@@ -43,7 +43,7 @@ pub struct Report {
     pub number: u8,
     /// What is left out, where the number is 26: as `absent_number` counts.
     pub absent: u8,
-    /// Where: 0 where no place is named, `STATEMENT` or `INSTANCE`.
+    /// Where: 0 where no location is named, `STATEMENT` or `INSTANCE`.
     pub place: u8,
     /// The number of the statement, or the name of the instance.
     pub at: u64,
@@ -60,7 +60,7 @@ pub(crate) struct Answer {
     pub report: Report,
 }
 
-/// Nothing to report.
+/// A status with an empty report.
 fn quiet(status: u8) -> Answer
     ensures { result ≡ quiet_answer status }
 {
@@ -78,7 +78,7 @@ fn quiet(status: u8) -> Answer
     }
 }
 
-/// It is done.
+/// The answer of a call that did what it was asked.
 pub(crate) fn done() -> Answer
     ensures { result ≡ done_answer }
 {
@@ -208,9 +208,9 @@ fn absent_number(absent: Absent) -> u8
     }
 }
 
-/// A place, with its number.
+/// A location, with its number.
 fn place(at: At) -> (u8, u64)
-    ensures { result ≡ (place_of at, position_of at) }
+    ensures { result ≡ (location_of at, location_number_of at) }
 {
     match at {
         At::Statement(statement) => (STATEMENT, statement),

@@ -1,15 +1,15 @@
 //! What a handle of C holds.
 ghost use Rattle.std.specs.Prelude.{◌≡◌, IfSome, MatchOption, None, Some};
-ghost use Rattle.p21_c.specs.Contents.{TakesSession, output_in, schema_in, text_in, unboxed};
+ghost use Rattle.p21_c.specs.Contents.{TakesSession, output_in, schema_in, text_in, boxed_content};
 ghost use Rattle.p21_c.specs.declared.contents.Content.TheVariants as content;
 
 use p21_express_tables::Schema;
-use p21_stream_accepted::Accepted;
-use p21_stream_session::SharedSession;
+use p21_stream::SharedSession;
+use p21_stream_output::Accepted;
 use std::alloc::Global;
 use std::sync::Arc;
 
-/// What a handle holds. `Nothing` stands in its place while it is used.
+/// What a handle holds. While it is used, `Nothing` stands for it.
 #[derive(Drop)]
 pub enum Content {
     Schema(Arc<Schema, Global>),
@@ -32,7 +32,7 @@ pub(crate) fn boxed(alloc: Global, content: Content) -> Holding
     }
 }
 
-/// A content in the place of another one.
+/// Puts a content where another one was.
 fn replaced(mut held: Box<Content, Global>, content: Content) -> Box<Content, Global>
     ensures { result.value ≡ content }
 {
@@ -42,7 +42,7 @@ fn replaced(mut held: Box<Content, Global>, content: Content) -> Box<Content, Gl
 
 /// The schema that is held.
 pub(crate) fn schema_of(held: &Holding) -> Option<&Arc<Schema, Global>>
-    ensures { MatchOption result (schema_in (unboxed held.now) ≡ None) (λ shared. schema_in (unboxed held.now) ≡ Some shared.now.value) }
+    ensures { MatchOption result (schema_in (boxed_content held.now) ≡ None) (λ shared. schema_in (boxed_content held.now) ≡ Some shared.now.value) }
 {
     let Some(content) = held else {
         return None;
@@ -55,7 +55,7 @@ pub(crate) fn schema_of(held: &Holding) -> Option<&Arc<Schema, Global>>
 
 /// The accepted file that is held.
 pub(crate) fn accepted_of(held: &Holding) -> Option<&Accepted>
-    ensures { MatchOption result (output_in (unboxed held.now) ≡ None) (λ accepted. output_in (unboxed held.now) ≡ Some accepted.now) }
+    ensures { MatchOption result (output_in (boxed_content held.now) ≡ None) (λ accepted. output_in (boxed_content held.now) ≡ Some accepted.now) }
 {
     let Some(content) = held else {
         return None;
@@ -68,7 +68,7 @@ pub(crate) fn accepted_of(held: &Holding) -> Option<&Accepted>
 
 /// The text that is held.
 pub(crate) fn text_of(held: &Holding) -> Option<&Vec<u8>>
-    ensures { MatchOption result (text_in (unboxed held.now) ≡ None) (λ text. text_in (unboxed held.now) ≡ Some text.now) }
+    ensures { MatchOption result (text_in (boxed_content held.now) ≡ None) (λ text. text_in (boxed_content held.now) ≡ Some text.now) }
 {
     let Some(content) = held else {
         return None;
@@ -79,15 +79,15 @@ pub(crate) fn text_of(held: &Holding) -> Option<&Vec<u8>>
     }
 }
 
-/// A session, and the place that it leaves; or what was held where it is none.
+/// A session, and the block that it leaves; or what was held, where that is no session.
 pub(crate) enum Taken {
     Session(SharedSession, Box<Content, Global>),
     Other(Holding),
 }
 
-/// Takes a session out of its place.
+/// Takes a session out of its block.
 pub(crate) fn take_session(held: Holding) -> Taken
-    ensures { TakesSession (unboxed held) result }
+    ensures { TakesSession (boxed_content held) result }
 {
     let Some(mut place) = held else {
         return Taken::Other(None);
@@ -98,16 +98,16 @@ pub(crate) fn take_session(held: Holding) -> Taken
     }
 }
 
-/// Puts a session into a place.
+/// Puts a session into a block.
 pub(crate) fn put_session(place: Box<Content, Global>, session: SharedSession) -> Holding
-    ensures { unboxed result ≡ Some (content.Session session) }
+    ensures { boxed_content result ≡ Some (content.Session session) }
 {
     Some(replaced(place, Content::Session(session)))
 }
 
-/// Puts an accepted file into a place.
+/// Puts an accepted file into a block.
 pub(crate) fn put_accepted(place: Box<Content, Global>, accepted: Accepted) -> Holding
-    ensures { unboxed result ≡ Some (content.Accepted accepted) }
+    ensures { boxed_content result ≡ Some (content.Accepted accepted) }
 {
     Some(replaced(place, Content::Accepted(accepted)))
 }

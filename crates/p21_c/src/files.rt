@@ -1,7 +1,7 @@
 //! Files in memory.
 ghost use Rattle.std.specs.Prelude.{◌≡◌, Some};
-ghost use Rattle.p21_c.specs.Answers.{Checks, Compares, Hands, MakesCanonical, Tells, told};
-ghost use Rattle.p21_c.specs.Contents.{schema_in, unboxed};
+ghost use Rattle.p21_c.specs.Answers.{ChecksFile, Compares, HoldsMade, MakesCanonical, TellsAnswer, told_answer};
+ghost use Rattle.p21_c.specs.Contents.{schema_in, boxed_content};
 
 use crate::accepting::{accept_text, claim_under};
 use crate::answers::{Answer, FILE, Report, SECOND, accepted, done, misused, no_memory, refused};
@@ -19,7 +19,7 @@ pub extern "C" fn p21_check(
     file: &[u8],
     report: &mut Report,
 ) -> u8
-    ensures checks { Checks (schema_in schema.old.value) file.now (record { status = result; report = report.new }) }
+    ensures checks { ChecksFile (schema_in schema.old.value) file.now (record { status = result; report = report.new }) }
     ensures schema { schema.new.value ≡ schema.old.value }
 {
     let content = schema.take(alloc);
@@ -38,7 +38,7 @@ pub extern "C" fn p21_canonical(
     text: &mut Handle,
     report: &mut Report,
 ) -> u8
-    ensures canonical { Hands (MakesCanonical (schema_in schema.old.value) file.now (record { status = result; report = report.new })) text.old.value text.new.value }
+    ensures canonical { HoldsMade (MakesCanonical (schema_in schema.old.value) file.now (record { status = result; report = report.new })) text.old.value text.new.value }
     ensures schema { schema.new.value ≡ schema.old.value }
 {
     let content = schema.take(alloc);
@@ -59,20 +59,20 @@ pub extern "C" fn p21_same(
     same: &mut u8,
     report: &mut Report,
 ) -> u8
-    ensures same { Tells (Compares (schema_in schema.old.value) first.now second.now (record { status = result; report = report.new })) same.old same.new }
+    ensures same { TellsAnswer (Compares (schema_in schema.old.value) first.now second.now (record { status = result; report = report.new })) same.old same.new }
     ensures schema { schema.new.value ≡ schema.old.value }
 {
     let content = schema.take(alloc);
-    let (told, answer) = compare(alloc, &content, first, second);
+    let (told_answer, answer) = compare(alloc, &content, first, second);
     schema.put(alloc, content);
-    tell(told, same);
+    tell(told_answer, same);
     *report = answer.report;
     answer.status
 }
 
 /// Whether a file is accepted under the schema that is held.
 fn check(alloc: Global, held: &Holding, file: &[u8]) -> Answer
-    ensures { Checks (schema_in (unboxed held.now)) file.now result }
+    ensures { ChecksFile (schema_in (boxed_content held.now)) file.now result }
 {
     let Some(schema) = schema_of(held) else {
         return misused();
@@ -85,7 +85,7 @@ fn check(alloc: Global, held: &Holding, file: &[u8]) -> Answer
 
 /// The canonical file of a file.
 fn canonical(alloc: Global, held: &Holding, file: &[u8]) -> (Holding, Answer)
-    ensures { MakesCanonical (schema_in (unboxed held.now)) file.now result.1 (unboxed result.0) }
+    ensures { MakesCanonical (schema_in (boxed_content held.now)) file.now result.1 (boxed_content result.0) }
 {
     let Some(schema) = schema_of(held) else {
         return (None, misused());
@@ -102,7 +102,7 @@ fn canonical(alloc: Global, held: &Holding, file: &[u8]) -> (Holding, Answer)
 
 /// Whether two files mean the same under the schema that is held.
 fn compare(alloc: Global, held: &Holding, first: &[u8], second: &[u8]) -> (Option<bool>, Answer)
-    ensures { Compares (schema_in (unboxed held.now)) first.now second.now result.1 result.0 }
+    ensures { Compares (schema_in (boxed_content held.now)) first.now second.now result.1 result.0 }
 {
     let Some(schema) = schema_of(held) else {
         return (None, misused());
@@ -135,7 +135,7 @@ fn compare_under(
 
 /// Tells an answer, if there is one.
 fn tell(answer: Option<bool>, place: &mut u8)
-    ensures { place.new ≡ told answer place.old }
+    ensures { place.new ≡ told_answer answer place.old }
 {
     match answer {
         Some(true) => *place = 1,

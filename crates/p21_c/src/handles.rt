@@ -1,11 +1,11 @@
 //! The handles that C keeps.
 ghost use Rattle.std.specs.Prelude.{◌≡◌, Option, None, Some, MatchOption};
-ghost use Rattle.p21_c.specs.Contents.{handed, unboxed};
+ghost use Rattle.p21_c.specs.Contents.{handed_content, boxed_content};
 ghost use Rattle.p21_c.specs.Owned.{held_code};
 ghost use Rattle.p21_c.specs.declared.contents.Content.{Content};
 
+use crate::components::BoxComponents;
 use crate::contents::{Content, Holding};
-use crate::parts::Parts;
 use std::alloc::Global;
 use std::marker::Model;
 use std::mem::replace;
@@ -20,9 +20,9 @@ pub struct Handle {
 }
 
 impl Model for Handle {
-    ghost use Rattle.p21_c.specs.Owned.{owned};
+    ghost use Rattle.p21_c.specs.Owned.{handle_owns};
 
-    ghost also_owns = { λ h. owned h.alloc h.at h.value };
+    ghost also_owns = { λ h. handle_owns h.alloc h.at h.value };
 }
 
 impl Handle {
@@ -35,24 +35,24 @@ impl Handle {
         }
     }
 
-    fn of_parts(parts: Parts<Content, Global>) -> Handle
-        ensures { result.value ≡ Some parts.value }
+    fn of_components(components: BoxComponents<Content, Global>) -> Handle
+        ensures { result.value ≡ Some components.value }
     {
-        let Parts { ptr, alloc } = parts;
+        let BoxComponents { ptr, alloc } = components;
         Handle {
             at: ptr as *mut u8,
             alloc,
         }
     }
 
-    fn into_parts(self) -> Option<Parts<Content, Global>>
-        ensures { MatchOption result (self.value ≡ None) (λ parts. self.value ≡ Some parts.value) }
+    fn into_components(self) -> Option<BoxComponents<Content, Global>>
+        ensures { MatchOption result (self.value ≡ None) (λ components. self.value ≡ Some components.value) }
     {
         let Handle { at, alloc } = self;
         if at == ptr::null_mut() {
             None
         } else {
-            Some(Parts {
+            Some(BoxComponents {
                 ptr: at as *mut Content,
                 alloc,
             })
@@ -60,26 +60,26 @@ impl Handle {
     }
 
     fn holding(alloc: Global, content: Holding) -> Handle
-        ensures { result.value ≡ unboxed content }
+        ensures { result.value ≡ boxed_content content }
     {
         match content {
             None => Handle::empty(alloc),
-            Some(content) => Handle::of_parts(Parts::of(content)),
+            Some(content) => Handle::of_components(BoxComponents::of(content)),
         }
     }
 
     fn into_content(self) -> Holding
-        ensures { unboxed result ≡ self.value }
+        ensures { boxed_content result ≡ self.value }
     {
-        match self.into_parts() {
+        match self.into_components() {
             None => None,
-            Some(parts) => Some(parts.into_box()),
+            Some(components) => Some(components.into_box()),
         }
     }
 
     /// Takes out what is held.
     pub(crate) fn take(&mut self, alloc: Global) -> Holding
-        ensures taken { unboxed result ≡ self.old.value }
+        ensures taken { boxed_content result ≡ self.old.value }
         ensures empty { self.new.value ≡ None }
     {
         replace(self, Handle::empty(alloc)).into_content()
@@ -87,14 +87,14 @@ impl Handle {
 
     /// Holds this from now on, and lets go of what was held.
     pub(crate) fn put(&mut self, alloc: Global, content: Holding)
-        ensures { self.new.value ≡ unboxed content }
+        ensures { self.new.value ≡ boxed_content content }
     {
         let _ = replace(self, Handle::holding(alloc, content)).into_content();
     }
 
     /// Holds this from now on, where there is something.
     pub(crate) fn hand(&mut self, alloc: Global, content: Holding)
-        ensures { self.new.value ≡ handed (unboxed content) self.old.value }
+        ensures { self.new.value ≡ handed_content (boxed_content content) self.old.value }
     {
         if let Some(content) = content {
             self.put(alloc, Some(content));

@@ -4,10 +4,10 @@
 
 mod accepting;
 mod answers;
+mod components;
 mod contents;
 mod files;
 mod handles;
-mod parts;
 mod schemas;
 mod sessions;
 mod texts;

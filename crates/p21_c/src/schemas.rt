@@ -1,7 +1,7 @@
 //! Schemas.
 ghost use Rattle.std.specs.Prelude.{◌≡◌, None, Some};
-ghost use Rattle.p21_c.specs.Answers.{Hands, KeepsSchemaIn, MakesSchema};
-ghost use Rattle.p21_c.specs.Contents.{unboxed};
+ghost use Rattle.p21_c.specs.Answers.{HoldsMade, StoresSchema, MakesSchema};
+ghost use Rattle.p21_c.specs.Contents.{boxed_content};
 
 use crate::answers::{Answer, Report, done, no_memory, schema_refused};
 use crate::contents::{Content, Holding, boxed};
@@ -19,7 +19,7 @@ pub extern "C" fn p21_schema_new(
     schema: &mut Handle,
     report: &mut Report,
 ) -> u8
-    ensures { Hands (MakesSchema text.now (record { status = result; report = report.new })) schema.old.value schema.new.value }
+    ensures { HoldsMade (MakesSchema text.now (record { status = result; report = report.new })) schema.old.value schema.new.value }
 {
     let (content, answer) = read(alloc, text);
     schema.hand(alloc, content);
@@ -37,17 +37,17 @@ pub extern "C" fn p21_schema_free(alloc: Global, schema: &mut Handle)
 
 /// The schema that a text declares.
 fn read(alloc: Global, text: &[u8]) -> (Holding, Answer)
-    ensures { MakesSchema text.now result.1 (unboxed result.0) }
+    ensures { MakesSchema text.now result.1 (boxed_content result.0) }
 {
     match read_schema(alloc, text) {
-        Ok(schema) => keep(alloc, schema),
+        Ok(schema) => store_schema(alloc, schema),
         Err(fault) => (None, schema_refused(fault)),
     }
 }
 
 /// A schema that sessions may share.
-fn keep(alloc: Global, schema: Schema) -> (Holding, Answer)
-    ensures { KeepsSchemaIn schema result.1 (unboxed result.0) }
+fn store_schema(alloc: Global, schema: Schema) -> (Holding, Answer)
+    ensures { StoresSchema schema result.1 (boxed_content result.0) }
 {
     let schema = match Arc::new(alloc, schema) {
         Ok(schema) => schema,

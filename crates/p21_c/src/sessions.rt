@@ -1,7 +1,7 @@
 //! Sessions, and the accepted files that they end in.
 ghost use Rattle.std.specs.Prelude.{◌≡◌, None};
-ghost use Rattle.p21_c.specs.Answers.{Feeds, Finishes, Hands, MakesFile, MakesLine, MakesSession, feed_answer};
-ghost use Rattle.p21_c.specs.Contents.{output_in, schema_in, session_in, unboxed};
+ghost use Rattle.p21_c.specs.Answers.{Feeds, Finishes, HoldsMade, MakesFile, MakesLine, MakesSession, feed_answer};
+ghost use Rattle.p21_c.specs.Contents.{output_in, schema_in, session_in, boxed_content};
 
 use crate::answers::{
     Answer, DONE, FAILED, FILE, MISUSED, REFUSED, Report, accepted, done, misused, refused,
@@ -11,8 +11,8 @@ use crate::contents::{
 };
 use crate::handles::Handle;
 use crate::texts::{copy_of, file_of};
-use p21_stream_fault::Refusal;
-use p21_stream_session::SharedSession;
+use p21_stream::SharedSession;
+use p21_stream_kept::Refusal;
 use p21_values::{Limits, Name};
 use std::alloc::Global;
 use std::sync::Arc;
@@ -20,7 +20,7 @@ use std::sync::Arc;
 /// Hands out a session over a schema.
 #[unsafe(no_mangle)]
 pub extern "C" fn p21_session_new(alloc: Global, schema: &mut Handle, session: &mut Handle) -> u8
-    ensures session { Hands (MakesSession (schema_in schema.old.value) result) session.old.value session.new.value }
+    ensures session { HoldsMade (MakesSession (schema_in schema.old.value) result) session.old.value session.new.value }
     ensures schema { schema.new.value ≡ schema.old.value }
 {
     let content = schema.take(alloc);
@@ -73,7 +73,7 @@ pub extern "C" fn p21_accepted_line(
     name: u64,
     text: &mut Handle,
 ) -> u8
-    ensures line { Hands (MakesLine (output_in session.old.value) name result) text.old.value text.new.value }
+    ensures line { HoldsMade (MakesLine (output_in session.old.value) name result) text.old.value text.new.value }
     ensures session { session.new.value ≡ session.old.value }
 {
     let content = session.take(alloc);
@@ -86,7 +86,7 @@ pub extern "C" fn p21_accepted_line(
 /// Hands out the canonical file.
 #[unsafe(no_mangle)]
 pub extern "C" fn p21_accepted_write(alloc: Global, session: &mut Handle, text: &mut Handle) -> u8
-    ensures file { Hands (MakesFile (output_in session.old.value) result) text.old.value text.new.value }
+    ensures file { HoldsMade (MakesFile (output_in session.old.value) result) text.old.value text.new.value }
     ensures session { session.new.value ≡ session.old.value }
 {
     let content = session.take(alloc);
@@ -98,7 +98,7 @@ pub extern "C" fn p21_accepted_write(alloc: Global, session: &mut Handle, text: 
 
 /// A session over the schema that is held.
 fn begin(alloc: Global, held: &Holding) -> (Holding, u8)
-    ensures { MakesSession (schema_in (unboxed held.now)) result.1 (unboxed result.0) }
+    ensures { MakesSession (schema_in (boxed_content held.now)) result.1 (boxed_content result.0) }
 {
     let Some(schema) = schema_of(held) else {
         return (None, MISUSED);
@@ -115,18 +115,18 @@ fn begin(alloc: Global, held: &Holding) -> (Holding, u8)
 
 /// Feeds the session that is held.
 fn feed(held: Holding, piece: &[u8]) -> (Holding, Answer)
-    ensures { Feeds (session_in (unboxed held)) piece.now result.1 (unboxed held) (unboxed result.0) }
+    ensures { Feeds (session_in (boxed_content held)) piece.now result.1 (boxed_content held) (boxed_content result.0) }
 {
     let (mut session, place) = match take_session(held) {
         Taken::Session(session, place) => (session, place),
         Taken::Other(held) => return (held, misused()),
     };
-    let answer = fed(session.feed(piece));
+    let answer = answer_to_feed(session.feed(piece));
     (put_session(place, session), answer)
 }
 
 /// What is answered to a piece.
-fn fed(taken: Result<(), Refusal>) -> Answer
+fn answer_to_feed(taken: Result<(), Refusal>) -> Answer
     ensures { result ≡ feed_answer taken }
 {
     match taken {
@@ -137,7 +137,7 @@ fn fed(taken: Result<(), Refusal>) -> Answer
 
 /// Ends the session that is held.
 fn finish(held: Holding) -> (Holding, Answer)
-    ensures { Finishes (session_in (unboxed held)) result.1 (unboxed held) (unboxed result.0) }
+    ensures { Finishes (session_in (boxed_content held)) result.1 (boxed_content held) (boxed_content result.0) }
 {
     let (session, place) = match take_session(held) {
         Taken::Session(session, place) => (session, place),
@@ -154,7 +154,7 @@ fn finish(held: Holding) -> (Holding, Answer)
 
 /// The statement of an instance of the accepted file that is held.
 fn line(alloc: Global, held: &Holding, name: u64) -> (Holding, u8)
-    ensures { MakesLine (output_in (unboxed held.now)) name result.1 (unboxed result.0) }
+    ensures { MakesLine (output_in (boxed_content held.now)) name result.1 (boxed_content result.0) }
 {
     let Some(output) = accepted_of(held) else {
         return (None, MISUSED);
@@ -170,7 +170,7 @@ fn line(alloc: Global, held: &Holding, name: u64) -> (Holding, u8)
 
 /// The accepted file that is held.
 fn file(alloc: Global, held: &Holding) -> (Holding, u8)
-    ensures { MakesFile (output_in (unboxed held.now)) result.1 (unboxed result.0) }
+    ensures { MakesFile (output_in (boxed_content held.now)) result.1 (boxed_content result.0) }
 {
     let Some(output) = accepted_of(held) else {
         return (None, MISUSED);

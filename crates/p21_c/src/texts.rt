@@ -1,14 +1,14 @@
 //! Texts that are handed out.
 ghost use Rattle.std.specs.Prelude.{◌≡◌, IfSome, None, Some};
-ghost use Rattle.p21_c.specs.Answers.{Shows};
-ghost use Rattle.p21_c.specs.Contents.{HoldsText, text_in, unboxed};
-ghost use Rattle.p21_stream_accepted.specs.Output.{output_text};
+ghost use Rattle.p21_c.specs.Answers.{ShowsText};
+ghost use Rattle.p21_c.specs.Contents.{HoldsText, text_in, boxed_content};
+ghost use Rattle.p21_stream_output.specs.Output.{output_text};
 
 use crate::answers::{DONE, MISUSED};
 use crate::contents::{Content, Holding, boxed, text_of as held_text};
 use crate::handles::Handle;
-use p21_stream_accepted::Accepted;
 use p21_stream_io::Watched;
+use p21_stream_output::Accepted;
 use std::alloc::Global;
 
 /// Where the bytes of a text lie, and how many they are. They stay there until the text is let go.
@@ -19,7 +19,7 @@ pub extern "C" fn p21_text_bytes(
     at: &mut *const u8,
     length: &mut usize,
 ) -> u8
-    ensures shows { Shows (text_in text.old.value) result at.old at.new length.old length.new }
+    ensures shows { ShowsText (text_in text.old.value) result at.old at.new length.old length.new }
     ensures text { text.new.value ≡ text.old.value }
 {
     let content = text.take(alloc);
@@ -38,7 +38,7 @@ pub extern "C" fn p21_text_free(alloc: Global, text: &mut Handle)
 
 /// Where the bytes of the text that is held lie, and how many they are.
 fn show(held: &Holding, at: &mut *const u8, length: &mut usize) -> u8
-    ensures { Shows (text_in (unboxed held.now)) result at.old at.new length.old length.new }
+    ensures { ShowsText (text_in (boxed_content held.now)) result at.old at.new length.old length.new }
 {
     let Some(text) = held_text(held) else {
         return MISUSED;

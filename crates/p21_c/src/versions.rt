@@ -1,7 +1,7 @@
 //! The version of the library.
 ghost use Rattle.std.specs.Prelude.{◌≡◌};
 
-/// The parts of a version.
+/// The numbers of a version.
 #[repr(C)]
 #[derive(Clone, Copy)]
 pub struct Version {

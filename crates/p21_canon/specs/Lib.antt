@@ -1,3 +1,7 @@
+pub mod Meant
+pub mod StatementTexts
+pub mod Statement
+pub mod Occurrences
 -- What the clauses of its calls cite, for callers who name this crate alone
 pub use Rattle.p21_basics.specs as p21_basics
 pub use Rattle.p21_exchange.specs as p21_exchange
@@ -6,7 +10,6 @@ pub use Rattle.p21_files.specs as p21_files
 pub use Rattle.p21_claim_values.specs as p21_claim_values
 pub use Rattle.p21_values.specs as p21_values
 pub use Rattle.p21_grammar_tree.specs as p21_grammar_tree
+pub use Rattle.p21_express_graph.specs as p21_express_graph
 pub use Rattle.p21_express_tables.specs as p21_express_tables
 pub use Rattle.p21_mapping_values.specs as p21_mapping_values
-pub use Rattle.p21_mapping_text.specs as p21_mapping_text
-pub use Rattle.p21_canon_record.specs as p21_canon_record

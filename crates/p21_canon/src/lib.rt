@@ -1,11 +1,17 @@
 //! Canonical statements: of instances and of header records; and the plain comparison of two values.
 #![tactic(auto)]
 
-pub use p21_canon_header::write_header;
-pub use p21_canon_record::write_record;
-pub use p21_canon_same::same;
+mod header;
+mod leaf;
+mod parts;
+mod sameness;
+mod statement;
+
+pub use header::write_header;
 pub use p21_express_tables::Schema;
 pub use p21_express_types::{EntityId, TypeId};
 pub use p21_grammar_tree::{Key, Param, Params, Part};
 pub use p21_mapping_values::{Ids, Rows, Typed, Value, Values};
 pub use p21_values::{Bits, Decimal, Name, NoMemory, Text, Whole, Word};
+pub use sameness::same;
+pub use statement::write_record;

@@ -10,8 +10,8 @@ use Rattle.p21_basics.proofs.Members.{Contains-first, Contains-later, Contains-f
 use Rattle.p21_files.specs.Canonical.{Canonical}
 use Rattle.p21_exchange.specs.CanonicalText.{statement_text}
 use Rattle.p21_exchange.specs.DataSection.{Heading, DataSection, instances_in}
-use Rattle.p21_files.specs.File.{FileMeaning, Reads, placed_in}
-use Rattle.p21_files.specs.Kept.{IsInstanceText}
+use Rattle.p21_files.specs.File.{FileMeaning, Reads, names_with_heading}
+use Rattle.p21_files.specs.CanonicalTexts.{IsInstanceText}
 use Rattle.p21_exchange.specs.Record.{Record}
 use Rattle.p21_files.specs.SameFile.{HaveSameMembers, SameFileMeaning}
 use Rattle.p21_schemas.specs.Schema.{Schema}
@@ -22,7 +22,7 @@ use Rattle.p21_basics.proofs.Shuffles.{distinct-none_twice, one-keyed}
 use Rattle.p21_claim.proofs.SaidFiles.{Instance}
 use Rattle.p21_claim.proofs.SectionsOnce.{named}
 use Rattle.p21_claim.proofs.OneLine.{instance-in_canonical}
-use Rattle.p21_claim.specs.Ended.{Entry, Line, Group, Block, IsPrinted, AreLinesRising, written_in, entries_in, lines_in, section_of, block_of_group, block_headings, placed_lines}
+use Rattle.p21_claim.specs.CompleteFile.{Entry, Line, SectionEntries, Block, IsPrinted, AreLinesRising, written_in, entries_in, lines_in, section_of, block_of_section, block_headings, lines_with_heading}
 use Rattle.p21_basics.proofs.Shuffles.{AreMembers, NoneTwice}
 
 abbrev pub text_of : Instance → Line
@@ -47,9 +47,9 @@ same-blocks (b ∷ bs) (c ∷ cs) heads lines =
     ∙ ap (λ (ds : List Block). c ∷ ds) (same-blocks bs cs rest (λ x y at at_ same. lines x y (Contains-later b bs x at) (Contains-later c cs y at_) same))
 
 -- the lines of one heading
-lines-onto : (bs cs : List Block) → NoneTwice (block_headings cs) → AreMembers (flat_map placed_lines bs) (flat_map placed_lines cs) → (b c : Block) → Contains bs b → Contains cs c → b.heading ≡ c.heading → AreMembers b.lines c.lines
+lines-onto : (bs cs : List Block) → NoneTwice (block_headings cs) → AreMembers (flat_map lines_with_heading bs) (flat_map lines_with_heading cs) → (b c : Block) → Contains bs b → Contains cs c → b.heading ≡ c.heading → AreMembers b.lines c.lines
 lines-onto bs cs none onto b c at at_ same l among =
-    let (d, at_d, found) = Contains-one_of placed_lines cs (b.heading, l) (onto (b.heading, l) (Contains-flat_map placed_lines bs b (b.heading, l) at (Contains-mapped (λ (k : Line). (b.heading, k)) b.lines l among))) in
+    let (d, at_d, found) = Contains-one_of lines_with_heading cs (b.heading, l) (onto (b.heading, l) (Contains-flat_map lines_with_heading bs b (b.heading, l) at (Contains-mapped (λ (k : Line). (b.heading, k)) b.lines l among))) in
     let (k, at_k, is) = Contains-unmapped (λ (k : Line). (d.heading, k)) d.lines (b.heading, l) found in
     let one : d ≡ c = one-keyed (λ (x : Block). x.heading) cs none d c at_d at_ (ap (λ (p : Heading × Line). p.0) is ∙ same) in
     let P : Line → Type 0 = λ x. Contains d.lines x in
@@ -57,7 +57,7 @@ lines-onto bs cs none onto b c at at_ same l among =
     subst Q one (subst P (ap (λ (p : Heading × Line). p.1) is) at_k)
 
 -- blocks that rise are fixed by their headings and their lines
-pub blocks-once : (bs cs : List Block) → block_headings bs ≡ block_headings cs → NoneTwice (block_headings cs) → Each AreLinesRising bs → Each AreLinesRising cs → HaveSameMembers (flat_map placed_lines bs) (flat_map placed_lines cs) → bs ≡ cs
+pub blocks-once : (bs cs : List Block) → block_headings bs ≡ block_headings cs → NoneTwice (block_headings cs) → Each AreLinesRising bs → Each AreLinesRising cs → HaveSameMembers (flat_map lines_with_heading bs) (flat_map lines_with_heading cs) → bs ≡ cs
 blocks-once bs cs heads none rise rise_ same = same-blocks bs cs heads (λ b c at at_ h.
     rises-once nat_cmp nat_cmp_total (λ (l : Line). l.0) b.lines c.lines
     (rises-mapped nat_cmp (λ (l : Line). l.0) b.lines (Each-member AreLinesRising bs b rise at)) (rises-mapped nat_cmp (λ (l : Line). l.0) c.lines (Each-member AreLinesRising cs c rise_ at_))
@@ -73,9 +73,9 @@ instance-in_section s formed bytes m reads out c same x n r text at among is =
     let u : Structure = c.reads.structure in
     let place : ℕ × Heading = (n, x.heading) in
     let A : List (ℕ × Heading) → Type 0 = λ ps. Contains ps place in
-    let own : Contains (flat_map placed_in reads.structure.sections) place = Contains-flat_map placed_in reads.structure.sections x place at (Contains-mapped (λ (i : Instance). (i.0, x.heading)) x.instances (n, r) among) in
-    let there : Contains (flat_map placed_in u.sections) place = subst A c.reads.instance_sections_are ((same.instance_sections place).1 (subst A (sym reads.instance_sections_are) own)) in
-    let (y, at_y, found) = Contains-one_of placed_in u.sections place there in
+    let own : Contains (flat_map names_with_heading reads.structure.sections) place = Contains-flat_map names_with_heading reads.structure.sections x place at (Contains-mapped (λ (i : Instance). (i.0, x.heading)) x.instances (n, r) among) in
+    let there : Contains (flat_map names_with_heading u.sections) place = subst A c.reads.instance_sections_are ((same.instance_sections place).1 (subst A (sym reads.instance_sections_are) own)) in
+    let (y, at_y, found) = Contains-one_of names_with_heading u.sections place there in
     let (i, at_i, is_i) = Contains-unmapped (λ (j : Instance). (j.0, y.heading)) y.instances place found in
     let canonical : Contains (instances_in u.sections) (n, is.canonical) = instance-in_canonical s formed bytes m reads out c same n r text (Contains-flat_map (λ (z : DataSection). z.instances) reads.structure.sections x (n, r) at among) is in
     let one : i ≡ (n, is.canonical) = one-keyed (λ (j : Instance). j.0) (instances_in u.sections) (distinct-none_twice (named (instances_in u.sections)) c.reads.names_differ) i (n, is.canonical)
@@ -84,11 +84,11 @@ instance-in_section s formed bytes m reads out c same x n r text at among is =
     (y, at_y, ap (λ (p : ℕ × Heading). p.1) is_i, subst P one at_i)
 
 -- the names of all lines
-line-keys : (xs : List DataSection) → map (λ (p : Heading × Line). p.1.0) (flat_map placed_lines (map block_of xs)) ≡ named (instances_in xs)
+line-keys : (xs : List DataSection) → map (λ (p : Heading × Line). p.1.0) (flat_map lines_with_heading (map block_of xs)) ≡ named (instances_in xs)
 line-keys [] = refl
 line-keys (x ∷ xs) =
-    map-append (λ (p : Heading × Line). p.1.0) (placed_lines (block_of x)) (flat_map placed_lines (map block_of xs))
-    ∙ ap (λ (ns : List ℕ). ns ++ map (λ (p : Heading × Line). p.1.0) (flat_map placed_lines (map block_of xs))) (own x.instances)
+    map-append (λ (p : Heading × Line). p.1.0) (lines_with_heading (block_of x)) (flat_map lines_with_heading (map block_of xs))
+    ∙ ap (λ (ns : List ℕ). ns ++ map (λ (p : Heading × Line). p.1.0) (flat_map lines_with_heading (map block_of xs))) (own x.instances)
     ∙ ap (λ (ns : List ℕ). named x.instances ++ ns) (line-keys xs)
     ∙ sym (map-append (λ (i : Instance). i.0) x.instances (instances_in xs))
   where
@@ -96,56 +96,56 @@ line-keys (x ∷ xs) =
     own [] = refl
     own (i ∷ is) = ap (λ (ns : List ℕ). i.0 ∷ ns) (own is)
 
-pub placed-same : (s : Schema) → IsWellFormed s → (bytes : List ℕ) (m : FileMeaning) (reads : Reads s bytes m) (out : List ℕ) (c : Canonical s out) → SameFileMeaning c.meaning m → (groups : List Group) → reads.structure.sections ≡ map section_of groups
-    → Each (IsPrinted s) (entries_in groups) → HaveSameMembers (flat_map placed_lines (map block_of c.reads.structure.sections)) (flat_map placed_lines (map block_of_group groups))
+pub placed-same : (s : Schema) → IsWellFormed s → (bytes : List ℕ) (m : FileMeaning) (reads : Reads s bytes m) (out : List ℕ) (c : Canonical s out) → SameFileMeaning c.meaning m → (groups : List SectionEntries) → reads.structure.sections ≡ map section_of groups
+    → Each (IsPrinted s) (entries_in groups) → HaveSameMembers (flat_map lines_with_heading (map block_of c.reads.structure.sections)) (flat_map lines_with_heading (map block_of_section groups))
 placed-same s formed bytes m reads out c same groups are printed p = (back, into)
   where
-    entry-into : (g : Group) (e : Entry) → Contains groups g → Contains g.entries e → Contains (flat_map placed_lines (map block_of c.reads.structure.sections)) (g.heading, (e.name, e.text))
+    entry-into : (g : SectionEntries) (e : Entry) → Contains groups g → Contains g.entries e → Contains (flat_map lines_with_heading (map block_of c.reads.structure.sections)) (g.heading, (e.name, e.text))
     entry-into g e at at_e =
-        let is : IsInstanceText s e.name e.record_ e.text = Each-member (IsPrinted s) (entries_in groups) e printed (Contains-flat_map (λ (h : Group). h.entries) groups g e at at_e) in
+        let is : IsInstanceText s e.name e.record_ e.text = Each-member (IsPrinted s) (entries_in groups) e printed (Contains-flat_map (λ (h : SectionEntries). h.entries) groups g e at at_e) in
         let S : List DataSection → Type 0 = λ xs. Contains xs (section_of g) in
         let (y, at_y, head, found) = instance-in_section s formed bytes m reads out c same (section_of g) e.name e.record_ e.text (subst S (sym are) (Contains-mapped section_of groups g at)) (Contains-mapped (λ (x : Entry). (x.name, x.record_)) g.entries e at_e) is in
         let l : Line = text_of (e.name, is.canonical) in
-        let stands : Contains (flat_map placed_lines (map block_of c.reads.structure.sections)) (y.heading, l) =
-        Contains-flat_map placed_lines (map block_of c.reads.structure.sections) (block_of y) (y.heading, l) (Contains-mapped block_of c.reads.structure.sections y at_y)
+        let stands : Contains (flat_map lines_with_heading (map block_of c.reads.structure.sections)) (y.heading, l) =
+        Contains-flat_map lines_with_heading (map block_of c.reads.structure.sections) (block_of y) (y.heading, l) (Contains-mapped block_of c.reads.structure.sections y at_y)
         (Contains-mapped (λ (k : Line). (y.heading, k)) (map text_of y.instances) l (Contains-mapped text_of y.instances (e.name, is.canonical) found)) in
-        let P : Heading → Type 0 = λ h. Contains (flat_map placed_lines (map block_of c.reads.structure.sections)) (h, l) in
-        let Q : List ℕ → Type 0 = λ text. Contains (flat_map placed_lines (map block_of c.reads.structure.sections)) (g.heading, (e.name, text)) in
+        let P : Heading → Type 0 = λ h. Contains (flat_map lines_with_heading (map block_of c.reads.structure.sections)) (h, l) in
+        let Q : List ℕ → Type 0 = λ text. Contains (flat_map lines_with_heading (map block_of c.reads.structure.sections)) (g.heading, (e.name, text)) in
         subst Q (sym is.text_is) (subst P head stands)
 
-    into : Contains (flat_map placed_lines (map block_of_group groups)) p → Contains (flat_map placed_lines (map block_of c.reads.structure.sections)) p
+    into : Contains (flat_map lines_with_heading (map block_of_section groups)) p → Contains (flat_map lines_with_heading (map block_of c.reads.structure.sections)) p
     into among =
-        let (b, at_b, found) = Contains-one_of placed_lines (map block_of_group groups) p among in
-        let (g, at_g, is_b) = Contains-unmapped block_of_group groups b at_b in
-        let B : Block → Type 0 = λ x. Contains (placed_lines x) p in
+        let (b, at_b, found) = Contains-one_of lines_with_heading (map block_of_section groups) p among in
+        let (g, at_g, is_b) = Contains-unmapped block_of_section groups b at_b in
+        let B : Block → Type 0 = λ x. Contains (lines_with_heading x) p in
         let (l, at_l, is_l) = Contains-unmapped (λ (k : Line). (g.heading, k)) (lines_in g.entries) p (subst B (sym is_b) found) in
         let (e, at_e, is_e) = Contains-unmapped (λ (x : Entry). (x.name, x.text)) g.entries l at_l in
-        let P : Heading × Line → Type 0 = λ q. Contains (flat_map placed_lines (map block_of c.reads.structure.sections)) q in
+        let P : Heading × Line → Type 0 = λ q. Contains (flat_map lines_with_heading (map block_of c.reads.structure.sections)) q in
         subst P (ap (λ (k : Line). (g.heading, k)) is_e ∙ is_l) (entry-into g e at_g at_e)
 
-    back : Contains (flat_map placed_lines (map block_of c.reads.structure.sections)) p → Contains (flat_map placed_lines (map block_of_group groups)) p
+    back : Contains (flat_map lines_with_heading (map block_of c.reads.structure.sections)) p → Contains (flat_map lines_with_heading (map block_of_section groups)) p
     back among =
-        let (b, at_b, found) = Contains-one_of placed_lines (map block_of c.reads.structure.sections) p among in
+        let (b, at_b, found) = Contains-one_of lines_with_heading (map block_of c.reads.structure.sections) p among in
         let (y, at_y, is_b) = Contains-unmapped block_of c.reads.structure.sections b at_b in
-        let B : Block → Type 0 = λ x. Contains (placed_lines x) p in
+        let B : Block → Type 0 = λ x. Contains (lines_with_heading x) p in
         let (l, at_l, is_l) = Contains-unmapped (λ (k : Line). (y.heading, k)) (map text_of y.instances) p (subst B (sym is_b) found) in
         let (i, at_i, is_i) = Contains-unmapped text_of y.instances l at_l in
         let place : ℕ × Heading = (i.0, y.heading) in
         let A : List (ℕ × Heading) → Type 0 = λ ps. Contains ps place in
-        let own : Contains (flat_map placed_in c.reads.structure.sections) place = Contains-flat_map placed_in c.reads.structure.sections y place at_y (Contains-mapped (λ (j : Instance). (j.0, y.heading)) y.instances i at_i) in
-        let there : Contains (flat_map placed_in reads.structure.sections) place = subst A reads.instance_sections_are ((same.instance_sections place).0 (subst A (sym c.reads.instance_sections_are) own)) in
-        let T : List DataSection → Type 0 = λ xs. Contains (flat_map placed_in xs) place in
-        let (x, at_x, in_x) = Contains-one_of placed_in (map section_of groups) place (subst T are there) in
+        let own : Contains (flat_map names_with_heading c.reads.structure.sections) place = Contains-flat_map names_with_heading c.reads.structure.sections y place at_y (Contains-mapped (λ (j : Instance). (j.0, y.heading)) y.instances i at_i) in
+        let there : Contains (flat_map names_with_heading reads.structure.sections) place = subst A reads.instance_sections_are ((same.instance_sections place).0 (subst A (sym c.reads.instance_sections_are) own)) in
+        let T : List DataSection → Type 0 = λ xs. Contains (flat_map names_with_heading xs) place in
+        let (x, at_x, in_x) = Contains-one_of names_with_heading (map section_of groups) place (subst T are there) in
         let (g, at_g, is_x) = Contains-unmapped section_of groups x at_x in
-        let X : DataSection → Type 0 = λ z. Contains (placed_in z) place in
+        let X : DataSection → Type 0 = λ z. Contains (names_with_heading z) place in
         let (j, at_j, is_j) = Contains-unmapped (λ (k : Instance). (k.0, g.heading)) (written_in g.entries) place (subst X (sym is_x) in_x) in
         let (e, at_e, is_e) = Contains-unmapped (λ (x : Entry). (x.name, x.record_)) g.entries j at_j in
         let q : Heading × Line = (g.heading, (e.name, e.text)) in
         let name : e.name ≡ p.1.0 = ap (λ (k : Instance). k.0) is_e ∙ ap (λ (k : ℕ × Heading). k.0) is_j ∙ ap (λ (k : Line). k.0) is_i ∙ ap (λ (k : Heading × Line). k.1.0) is_l in
-        let once : NoneTwice (map (λ (k : Heading × Line). k.1.0) (flat_map placed_lines (map block_of c.reads.structure.sections))) =
+        let once : NoneTwice (map (λ (k : Heading × Line). k.1.0) (flat_map lines_with_heading (map block_of c.reads.structure.sections))) =
         subst NoneTwice (sym (line-keys c.reads.structure.sections)) (distinct-none_twice (named (instances_in c.reads.structure.sections)) c.reads.names_differ) in
-        let one : q ≡ p = one-keyed (λ (k : Heading × Line). k.1.0) (flat_map placed_lines (map block_of c.reads.structure.sections)) once q p (entry-into g e at_g at_e) among name in
-        let P : Heading × Line → Type 0 = λ k. Contains (flat_map placed_lines (map block_of_group groups)) k in
+        let one : q ≡ p = one-keyed (λ (k : Heading × Line). k.1.0) (flat_map lines_with_heading (map block_of c.reads.structure.sections)) once q p (entry-into g e at_g at_e) among name in
+        let P : Heading × Line → Type 0 = λ k. Contains (flat_map lines_with_heading (map block_of_section groups)) k in
         subst P one
-        (Contains-flat_map placed_lines (map block_of_group groups) (block_of_group g) q (Contains-mapped block_of_group groups g at_g)
+        (Contains-flat_map lines_with_heading (map block_of_section groups) (block_of_section g) q (Contains-mapped block_of_section groups g at_g)
         (Contains-mapped (λ (k : Line). (g.heading, k)) (lines_in g.entries) (e.name, e.text) (Contains-mapped (λ (x : Entry). (x.name, x.text)) g.entries e at_e)))

@@ -4,7 +4,7 @@ use Rattle.std.proofs.Common.{arith, get_or, ap, sym, subst, ◌∙◌, inl, inr
 use Rattle.p21_basics.proofs.Members.{Contains-cases, Each-member, AllZip-member}
 use Rattle.p21_files.specs.Accepted.{IsDead, IsLineWithin, Means}
 use Rattle.p21_exchange.specs.DataSection.{instances_in}
-use Rattle.p21_files.specs.File.{FileMeaning, InstanceMeans, kinds_of}
+use Rattle.p21_files.specs.File.{FileMeaning, InstanceMeans, entity_sets_of}
 use Rattle.p21_exchange.specs.Header.{IsHeader, IsFileSchema}
 use Rattle.p21_basics.specs.Limits.{Limits}
 use Rattle.p21_exchange.specs.Parameter as parameter
@@ -21,9 +21,9 @@ use Rattle.p21_basics.proofs.Shuffles.{none_twice-distinct}
 use Rattle.p21_basics.proofs.Shuffles.{distinct-none_twice}
 use Rattle.p21_claim.proofs.OneLine.{instance-in_canonical, header-in_canonical}
 use Rattle.p21_claim.proofs.Statements.{Contains-begins, instance-among, instances-append, instances-begin, headings-begin, heading-among, line-statement, names-append, among-statements, header-among, header-statement}
-use Rattle.p21_claim.specs.DeadLaws.{BrokenRuleIsDead, EqualNamesAreDead, EqualSectionNamesAreDead, NameAgainIsDead, NoMeaningIsDead, OtherSchemaIsDead, SectionAgainIsDead, SectionOfOtherSchemaIsDead}
+use Rattle.p21_claim.specs.DeadLaws.{BrokenRuleIsDead, EqualNamesAreDead, EqualSectionNamesAreDead, RepeatedNameIsDead, NoMeaningIsDead, OtherSchemaIsDead, RepeatedSectionNameIsDead, SectionOfOtherSchemaIsDead}
 use Rattle.p21_claim.specs.SizeLaws.{LongHeaderIsDead, LongInstanceIsDead, LongSectionLineIsDead}
-use Rattle.p21_claim.specs.Taken.{AreTaken, BeginsWith, headings_among, instances_among, names_among, section_names_among}
+use Rattle.p21_claim.specs.Taken.{AreStatementsTaken, BeginsWith, headings_among, instances_among, names_among, section_names_among}
 use Rattle.p21_basics.proofs.Shuffles.{NoneTwice, NoneTwice-again, NoneTwice-front, none_twice-texts, texts-none_twice}
 use Rattle.p21_exchange.specs.DataSection as heading
 use Rattle.p21_exchange.specs.DataSection.{Heading, heading_names, headings, section_names}
@@ -36,7 +36,7 @@ use Rattle.std.proofs.lemmas.Grind.{flat_map-append}
 use Rattle.std.proofs.lemmas.List.{map-append}
 
 -- bytes are dead where no accepted bytes have a tree that begins with the statements taken
-pub dead-by : (s : Schema) (limits : Limits) (bytes : List ℕ) (taken : List Statement) → AreTaken bytes taken
+pub dead-by : (s : Schema) (limits : Limits) (bytes : List ℕ) (taken : List Statement) → AreStatementsTaken bytes taken
     → ((more : List ℕ) (m : FileMeaning) (means : Means s limits (bytes ++ more) m) → BeginsWith taken (statements means.reads.structure) → ⊥) → IsDead s limits bytes
 dead-by s limits bytes taken front none more are (m, means) = none more m means (front more are means.reads.structure means.reads.schema_text means.reads.in_grammar)
 
@@ -46,8 +46,8 @@ pub no-meaning : NoMeaningIsDead
 no-meaning s limits bytes taken front n r among nothing = dead-by s limits bytes taken front (λ more m means begins.
     let t : Structure = means.reads.structure in
     let at : Contains (instances_in t.sections) (n, r) = instance-among t n r (Contains-begins taken (statements t) (instance n r) begins among) in
-    let (x, at_x, holds) = AllZip-member (InstanceMeans s (kinds_of m.instances)) (instances_in t.sections) m.instances (n, r) means.reads.means at in
-    nothing (kinds_of m.instances) x.1 holds.1)
+    let (x, at_x, holds) = AllZip-member (InstanceMeans s (entity_sets_of m.instances)) (instances_in t.sections) m.instances (n, r) means.reads.means at in
+    nothing (entity_sets_of m.instances) x.1 holds.1)
 
 -- ---- canonical lines over their limit
 
@@ -104,7 +104,7 @@ equal-names s limits bytes taken front equal = dead-by s limits bytes taken fron
     let none : NoneTwice (named (instances_among taken ++ rest)) = subst P is (distinct-none_twice (named (instances_in t.sections)) means.reads.names_differ) in
     equal (none_twice-distinct (names_among taken) (names-first (instances_among taken) rest none)))
 
-pub name-again : NameAgainIsDead
+pub name-again : RepeatedNameIsDead
 name-again s limits bytes taken n r front among =
     equal-names s limits bytes (taken ++ (instance n r ∷ [])) front (λ distinct.
     let none : NoneTwice (names_among (taken ++ (instance n r ∷ []))) = distinct-none_twice (names_among (taken ++ (instance n r ∷ []))) distinct in
@@ -118,7 +118,7 @@ equal-section_names s limits bytes taken front equal = dead-by s limits bytes ta
     let names : section_names (headings t.sections) ≡ section_names_among taken ++ section_names rest = ap section_names is ∙ flat_map-append heading_names (headings_among taken) rest in
     equal (none_twice-texts (section_names_among taken) (NoneTwice-front (section_names_among taken) (section_names rest) (subst NoneTwice names (texts-none_twice (section_names (headings t.sections)) means.reads.section_names_differ)))))
 
-pub section-again : SectionAgainIsDead
+pub section-again : RepeatedSectionNameIsDead
 section-again s limits bytes taken name text front among =
     let again : List Statement = section (data_start (heading.named name text)) ∷ [] in
     equal-section_names s limits bytes (taken ++ again) front (λ distinct.

@@ -13,11 +13,11 @@ use Rattle.p21_files.specs.Accepted.{IsAccepted, IsCanonicalOf, IsLineWithin, Me
 use Rattle.p21_files.specs.Canonical.{AreNamesRising, Canonical}
 use Rattle.p21_exchange.specs.CanonicalText.{line}
 use Rattle.p21_exchange.specs.DataSection.{Heading, DataSection, AreHeadings, headings, instances_in}
-use Rattle.p21_files.specs.File.{FileMeaning, InstanceMeans, Reads, kinds_of, placed_in}
+use Rattle.p21_files.specs.File.{FileMeaning, InstanceMeans, Reads, entity_sets_of, names_with_heading}
 use Rattle.p21_basics.specs.Limits.{Limits}
 use Rattle.p21_files.specs.Meaning.{RecordMeans, Typed}
 use Rattle.p21_exchange.specs.Record.{Part}
-use Rattle.p21_files.specs.Reference.{Kinds, IsServed, Serves}
+use Rattle.p21_files.specs.Reference.{EntitySets, IsServed, Serves}
 use Rattle.p21_files.specs.SameFile.{HaveSameMembers}
 use Rattle.p21_schemas.specs.Schema.{Schema}
 use Rattle.p21_exchange.specs.Statement.{Statement, section, header, instance, begin, header_start, section_end, data_start, finish}
@@ -32,9 +32,9 @@ use Rattle.p21_basics.proofs.Shuffles.{distinct-none_twice}
 use Rattle.p21_claim.proofs.Blocks.{text_of, block_of, blocks-once, placed-same}
 use Rattle.p21_claim_values.proofs.Needs.{served-means, means-served}
 use Rattle.p21_claim.proofs.OneLine.{header-in_canonical}
-use Rattle.p21_claim.specs.EndLaws.{UnservedIsRefused, UnknownIsRefused, UnfitIsRefused, NoLayingIsRefused, NoTreeIsRefused, DeadIsRefused, EndedIsAccepted}
-use Rattle.p21_claim_values.specs.Needs.{MeansWith}
-use Rattle.p21_claim.specs.Ended.{Entry, Group, Block, Line, IsMeant, AreNeedsServed, AreLinesRising, written_in, meant_in, kinds_in, entries_in, section_of, block_of_group, block_headings, placed_lines, line_bytes, block_bytes, structure_of, head_statements, file_text}
+use Rattle.p21_claim.specs.EndLaws.{UnservedNeedIsRefused, UnknownReferenceIsRefused, UnfitReferenceIsRefused, NoLayingIsRefused, NoTreeIsRefused, DeadIsRefused, CompleteFileIsAccepted}
+use Rattle.p21_claim_values.specs.Needs.{MeansWithNeeds}
+use Rattle.p21_claim.specs.CompleteFile.{Entry, SectionEntries, Block, Line, IsMeant, AreNeedsServed, AreLinesRising, written_in, meant_in, entity_sets_in, entries_in, section_of, block_of_section, block_headings, lines_with_heading, line_bytes, block_bytes, structure_of, head_statements, file_text}
 use Rattle.p21_basics.proofs.Shuffles.{NoneTwice}
 use Rattle.p21_files.proofs.OneMeaning.{RecordMeans-one}
 
@@ -52,51 +52,51 @@ pub dead-refused : DeadIsRefused
 dead-refused s limits bytes dead accepted = dead [] tt (let P : List ℕ → Type 0 = λ x. IsAccepted s limits x in subst P (sym (append-nil bytes)) accepted)
 
 -- the sets of the instances are those of the entries
-entries-kinds : (s : Schema) → IsWellFormed s → (others : Kinds) (entries : List Entry) (ms : List Meant) → Each (IsMeant s) entries → AllZip (InstanceMeans s others) (written_in entries) ms → kinds_of ms ≡ kinds_in entries
-entries-kinds s formed others [] [] each all = refl
-entries-kinds s formed others [] (m ∷ ms) each all = absurd all
-entries-kinds s formed others (e ∷ es) [] each all = absurd all
-entries-kinds s formed others (e ∷ es) (m ∷ ms) each all =
+entries-entity_sets : (s : Schema) → IsWellFormed s → (others : EntitySets) (entries : List Entry) (ms : List Meant) → Each (IsMeant s) entries → AllZip (InstanceMeans s others) (written_in entries) ms → entity_sets_of ms ≡ entity_sets_in entries
+entries-entity_sets s formed others [] [] each all = refl
+entries-entity_sets s formed others [] (m ∷ ms) each all = absurd all
+entries-entity_sets s formed others (e ∷ es) [] each all = absurd all
+entries-entity_sets s formed others (e ∷ es) (m ∷ ms) each all =
     let one : m.1 ≡ e.meaning = RecordMeans-one s formed others each.0.kinds e.record_ m.1 e.meaning all.0.1 each.0.means in
-    ap (λ (n : ℕ). (n, m.1.entities) ∷ kinds_of ms) all.0.0
-    ∙ ap (λ (x : Typed). (e.name, x.entities) ∷ kinds_of ms) one
-    ∙ ap (λ (ks : Kinds). (e.name, e.meaning.entities) ∷ ks) (entries-kinds s formed others es ms each.1 all.1)
+    ap (λ (n : ℕ). (n, m.1.entities) ∷ entity_sets_of ms) all.0.0
+    ∙ ap (λ (x : Typed). (e.name, x.entities) ∷ entity_sets_of ms) one
+    ∙ ap (λ (ks : EntitySets). (e.name, e.meaning.entities) ∷ ks) (entries-entity_sets s formed others es ms each.1 all.1)
 
-written-are : (groups : List Group) → instances_in (map section_of groups) ≡ written_in (entries_in groups)
+written-are : (groups : List SectionEntries) → instances_in (map section_of groups) ≡ written_in (entries_in groups)
 written-are [] = refl
 written-are (g ∷ gs) = ap (λ (is : List Instance). written_in g.entries ++ is) (written-are gs) ∙ sym (map-append (λ (e : Entry). (e.name, e.record_)) g.entries (entries_in gs))
 
-pub unserved : UnservedIsRefused
+pub unserved : UnservedNeedIsRefused
 unserved s formed limits bytes parts groups laid each entry need among at none (m, means) =
     let entries : List Entry = entries_in groups in
     let t : Structure = means.reads.structure in
     let u : Structure = structure_of parts groups in
     let same : t ≡ u = one_tree t u (one-laying bytes (tokens_of t) (tokens_of u) means.reads.in_grammar.laid laid) in
-    let kinds : Kinds = kinds_of m.instances in
+    let kinds : EntitySets = entity_sets_of m.instances in
     let P : Structure → Type 0 = λ x. AllZip (InstanceMeans s kinds) (instances_in x.sections) m.instances in
     let W : List Instance → Type 0 = λ is. AllZip (InstanceMeans s kinds) is m.instances in
     let all : AllZip (InstanceMeans s kinds) (written_in entries) m.instances = subst W (written-are groups) (subst P same means.reads.means) in
-    let is : MeansWith s entry.record_ entry.meaning entry.needs = Each-member (IsMeant s) entries entry each among in
+    let is : MeansWithNeeds s entry.record_ entry.meaning entry.needs = Each-member (IsMeant s) entries entry each among in
     let (x, at_x, holds) = AllZip-member (InstanceMeans s kinds) (written_in entries) m.instances (entry.name, entry.record_) all (Contains-mapped (λ (e : Entry). (e.name, e.record_)) entries entry among) in
     let one : x.1 ≡ entry.meaning = RecordMeans-one s formed kinds is.kinds entry.record_ x.1 entry.meaning holds.1 is.means in
     let Q : Typed → Type 0 = λ y. RecordMeans s kinds entry.record_ y in
     let served : Each (IsServed s kinds) entry.needs = means-served s formed entry.record_ entry.meaning entry.needs is kinds (subst Q one holds.1) in
-    let R : Kinds → Type 0 = λ ks. IsServed s ks need in
-    none (subst R (entries-kinds s formed kinds entries m.instances each all) (Each-member (IsServed s kinds) entry.needs need served at))
+    let R : EntitySets → Type 0 = λ ks. IsServed s ks need in
+    none (subst R (entries-entity_sets s formed kinds entries m.instances each all) (Each-member (IsServed s kinds) entry.needs need served at))
 
 names-meant : (entries : List Entry) → meant_names (meant_in entries) ≡ named (written_in entries)
 names-meant [] = refl
 names-meant (e ∷ es) = ap (λ (ns : List ℕ). e.name ∷ ns) (names-meant es)
 
 -- what stands for a name among the sets is an entry's
-entry-of : (entries : List Entry) (n : ℕ) (entities : List ℕ) → Contains (kinds_in entries) (n, entities) → (e : Entry) × Contains entries e × (e.name ≡ n) × (e.meaning.entities ≡ entities)
+entry-of : (entries : List Entry) (n : ℕ) (entities : List ℕ) → Contains (entity_sets_in entries) (n, entities) → (e : Entry) × Contains entries e × (e.name ≡ n) × (e.meaning.entities ≡ entities)
 entry-of [] n entities among = absurd (Contains-none (n, entities) among)
-entry-of (e ∷ es) n entities among = elim (Contains-cases (e.name, e.meaning.entities) (kinds_in es) (n, entities) among) [
+entry-of (e ∷ es) n entities among = elim (Contains-cases (e.name, e.meaning.entities) (entity_sets_in es) (n, entities) among) [
   | inl h ↦ (e, Contains-first e es, ap (λ (k : ℕ × List ℕ). k.0) h, ap (λ (k : ℕ × List ℕ). k.1) h)
   | inr h ↦ let (x, at, name, is) = entry-of es n entities h in (x, Contains-later e es x at, name, is)
 ]
 
-pub unknown : UnknownIsRefused
+pub unknown : UnknownReferenceIsRefused
 unknown s formed limits bytes parts groups laid each entry need among at none accepted =
     let entries : List Entry = entries_in groups in
     unserved s formed limits bytes parts groups laid each entry need among at (λ served.
@@ -104,7 +104,7 @@ unknown s formed limits bytes parts groups laid each entry need among at none ac
     let P : ℕ → Type 0 = λ n. Contains (map (λ (e : Entry). e.name) entries) n in
     none (subst P name (Contains-mapped (λ (e : Entry). e.name) entries x at_x))) accepted
 
-pub unfit : UnfitIsRefused
+pub unfit : UnfitReferenceIsRefused
 unfit s formed limits bytes parts groups laid each entry target need among at among_ name none (m, means) =
     let entries : List Entry = entries_in groups in
     let t : Structure = means.reads.structure in
@@ -153,7 +153,7 @@ pub block-headings : (xs : List DataSection) → block_headings (map block_of xs
 block-headings [] = refl
 block-headings (x ∷ xs) = ap (λ (hs : List Heading). x.heading ∷ hs) (block-headings xs)
 
-pub group-headings : (groups : List Group) → headings (map section_of groups) ≡ map (λ (g : Group). g.heading) groups
+pub group-headings : (groups : List SectionEntries) → headings (map section_of groups) ≡ map (λ (g : SectionEntries). g.heading) groups
 group-headings [] = refl
 group-headings (g ∷ gs) = ap (λ (hs : List Heading). g.heading ∷ hs) (group-headings gs)
 
@@ -163,7 +163,7 @@ blocks-rise (x ∷ xs) rise = (subst (IsStrictlySortedBy nat_cmp) (sym (names-of
 
 -- ---- acceptance
 
-entries-mean : (s : Schema) → IsWellFormed s → (kinds : Kinds) (entries : List Entry) → Each (IsMeant s) entries → Each (AreNeedsServed s kinds) entries → AllZip (InstanceMeans s kinds) (written_in entries) (meant_in entries)
+entries-mean : (s : Schema) → IsWellFormed s → (kinds : EntitySets) (entries : List Entry) → Each (IsMeant s) entries → Each (AreNeedsServed s kinds) entries → AllZip (InstanceMeans s kinds) (written_in entries) (meant_in entries)
 entries-mean s formed kinds [] each served = tt
 entries-mean s formed kinds (e ∷ es) each served = ((refl, served-means s formed e.record_ e.meaning e.needs each.0 kinds served.0), entries-mean s formed kinds es each.1 served.1)
 
@@ -191,12 +191,12 @@ lines-within limits u sections headers within =
       ),
     )
 
-pub ended-accepted : EndedIsAccepted
+pub ended-accepted : CompleteFileIsAccepted
 ended-accepted s formed limits bytes parts groups blocks is =
     let entries : List Entry = entries_in groups in
     let sections : List DataSection = map section_of groups in
-    let m : FileMeaning = record { header = parts; schema = s.name; sections = headings sections; instances = meant_in entries; instance_sections = flat_map placed_in sections } in
-    let W : List Instance → Type 0 = λ js. AllZip (InstanceMeans s (kinds_in entries)) js (meant_in entries) in
+    let m : FileMeaning = record { header = parts; schema = s.name; sections = headings sections; instances = meant_in entries; instance_sections = flat_map names_with_heading sections } in
+    let W : List Instance → Type 0 = λ js. AllZip (InstanceMeans s (entity_sets_in entries)) js (meant_in entries) in
     let reads : Reads s bytes m = record {
       structure = structure_of parts groups;
       schema_text = is.schema_text;
@@ -205,7 +205,7 @@ ended-accepted s formed limits bytes parts groups blocks is =
       sections_name_schema = is.sections_name_schema;
       section_names_differ = is.section_names_differ;
       names_differ = is.names_differ;
-      means = subst W (sym (written-are groups)) (entries-mean s formed (kinds_in entries) entries is.meant is.served);
+      means = subst W (sym (written-are groups)) (entries-mean s formed (entity_sets_in entries) entries is.meant is.served);
       header_is = refl;
       schema_is = refl;
       sections_are = refl;
@@ -224,8 +224,8 @@ ended-accepted s formed limits bytes parts groups blocks is =
     let heads : block_headings blocks ≡ headings u.sections =
     headings-once (block_headings blocks) (headings u.sections) is.blocks_rise.are_headings are_u is.blocks_rise.sections_rise c.sections_rise (λ h among. (members h).1 ((members_ h).0 among)) (λ h among. (members_ h).1 ((members h).0 among)) in
     let none : NoneTwice (block_headings own) = subst NoneTwice (sym (block-headings u.sections)) (headings-none_twice (headings u.sections) are_u c.sections_rise) in
-    let placed : HaveSameMembers (flat_map placed_lines own) (flat_map placed_lines (map block_of_group groups)) = placed-same s formed bytes m reads has.bytes c has.same groups refl is.printed in
-    let lines : HaveSameMembers (flat_map placed_lines blocks) (flat_map placed_lines own) = λ p. (λ among. (placed p).1 ((is.blocks_rise.lines_are p).0 among), λ among. (is.blocks_rise.lines_are p).1 ((placed p).0 among)) in
+    let placed : HaveSameMembers (flat_map lines_with_heading own) (flat_map lines_with_heading (map block_of_section groups)) = placed-same s formed bytes m reads has.bytes c has.same groups refl is.printed in
+    let lines : HaveSameMembers (flat_map lines_with_heading blocks) (flat_map lines_with_heading own) = λ p. (λ among. (placed p).1 ((is.blocks_rise.lines_are p).0 among), λ among. (is.blocks_rise.lines_are p).1 ((placed p).0 among)) in
     let all : blocks ≡ own = blocks-once blocks own (heads ∙ sym (block-headings u.sections)) none is.blocks_rise.names_rise (blocks-rise u.sections c.names_rise) lines in
     let P : List Part → Type 0 = λ ps. Each (λ (part : Part). IsLineWithin limits (header part)) ps in
     let L : List Block → Type 0 = λ bs. Each (λ (b : Block). Each (λ (l : Line). length l.1 ≤ limits.record_canonical) b.lines) bs in

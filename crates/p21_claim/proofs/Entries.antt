@@ -5,11 +5,11 @@ use Rattle.std.proofs.Common.{ap, subst, inl, inr}
 use Rattle.p21_schemas.specs.WellFormed.{IsWellFormed}
 use Rattle.p21_basics.proofs.Members.{Contains-none, Contains-first, Contains-later, Contains-cases, Each-append, Each-front}
 use Rattle.p21_files.specs.CanonicalRecord.{IsCanonicalRecord}
-use Rattle.p21_files.specs.File.{InstanceMeans, kinds_of}
+use Rattle.p21_files.specs.File.{InstanceMeans, entity_sets_of}
 use Rattle.p21_exchange.specs.Grammar.{IsDataRecord}
 use Rattle.p21_files.specs.Meaning.{Typed, RecordMeans}
 use Rattle.p21_exchange.specs.Record.{record_tokens}
-use Rattle.p21_files.specs.Reference.{Kinds}
+use Rattle.p21_files.specs.Reference.{EntitySets}
 use Rattle.p21_schemas.specs.Schema.{Schema}
 use Rattle.p21_exchange.specs.Statement.{instance}
 use Rattle.p21_exchange.specs.Token as token
@@ -26,7 +26,7 @@ use Rattle.p21_claim_values.specs.Written.{IsSpelled}
 abbrev pub Entry : Type 0
 Entry = Instance × Meant
 
-pub record IsEntry (s : Schema) (kinds : Kinds) (e : Entry) : Type 0 where
+pub record IsEntry (s : Schema) (kinds : EntitySets) (e : Entry) : Type 0 where
   pub name : e.1.0 ≡ e.0.0
   pub means : RecordMeans s kinds e.0.1 e.1.1
   pub canonical : IsCanonicalRecord s e.0.1 e.1.1
@@ -45,13 +45,13 @@ meants_in es = map (λ (e : Entry). e.1) es
 abbrev pub names_in : List Entry → List ℕ
 names_in es = map (λ (e : Entry). e.0.0) es
 
-pub record AreEntries (s : Schema) (kinds : Kinds) (is : List Instance) (ms : List Meant) : Type 0 where
+pub record AreEntries (s : Schema) (kinds : EntitySets) (is : List Instance) (ms : List Meant) : Type 0 where
   pub entries : List Entry
   pub each : Each (IsEntry s kinds) entries
   pub names : names_in entries ≡ named is
   pub meants : meants_in entries ≡ map (canonical_meant s) ms
 
-pub enter : (s : Schema) → IsWellFormed s → (kinds : Kinds) (is : List Instance) (ms : List Meant) → AllZip (InstanceMeans s kinds) is ms → Each (λ (i : Instance). IsWrittenStatement (instance i.0 i.1)) is → Each (λ (i : Instance). IsDataRecord i.1) is → AreEntries s kinds is ms
+pub enter : (s : Schema) → IsWellFormed s → (kinds : EntitySets) (is : List Instance) (ms : List Meant) → AllZip (InstanceMeans s kinds) is ms → Each (λ (i : Instance). IsWrittenStatement (instance i.0 i.1)) is → Each (λ (i : Instance). IsDataRecord i.1) is → AreEntries s kinds is ms
 enter s formed kinds [] [] all said_ data_ = record { entries = []; each = tt; names = refl; meants = refl }
 enter s formed kinds [] (m ∷ ms) all said_ data_ = absurd all
 enter s formed kinds (i ∷ is) [] all said_ data_ = absurd all
@@ -80,25 +80,25 @@ pub names-of : (es : List Entry) → names_in es ≡ named (written_in es)
 names-of [] = refl
 names-of (e ∷ es) = ap (λ (ns : List ℕ). e.0.0 ∷ ns) (names-of es)
 
-pub entries-mean : (s : Schema) (kinds wide : Kinds) → IsWider kinds wide → (es : List Entry) → Each (IsEntry s kinds) es → AllZip (InstanceMeans s wide) (written_in es) (meants_in es)
+pub entries-mean : (s : Schema) (kinds wide : EntitySets) → IsWider kinds wide → (es : List Entry) → Each (IsEntry s kinds) es → AllZip (InstanceMeans s wide) (written_in es) (meants_in es)
 entries-mean s kinds wide wider [] each = tt
 entries-mean s kinds wide wider (e ∷ es) each = ((each.0.name, record-wider s kinds wide wider e.0.1 e.1.1 each.0.means), entries-mean s kinds wide wider es each.1)
 
-pub entries-canonical : (s : Schema) (kinds : Kinds) (es : List Entry) → Each (IsEntry s kinds) es → AllZip (λ (written : Instance) (meant : Meant). IsCanonicalRecord s written.1 meant.1) (written_in es) (meants_in es)
+pub entries-canonical : (s : Schema) (kinds : EntitySets) (es : List Entry) → Each (IsEntry s kinds) es → AllZip (λ (written : Instance) (meant : Meant). IsCanonicalRecord s written.1 meant.1) (written_in es) (meants_in es)
 entries-canonical s kinds [] each = tt
 entries-canonical s kinds (e ∷ es) each = (each.0.canonical, entries-canonical s kinds es each.1)
 
-pub entries-data : (s : Schema) (kinds : Kinds) (es : List Entry) → Each (IsEntry s kinds) es → Each (λ (i : Instance). IsDataRecord i.1) (written_in es)
+pub entries-data : (s : Schema) (kinds : EntitySets) (es : List Entry) → Each (IsEntry s kinds) es → Each (λ (i : Instance). IsDataRecord i.1) (written_in es)
 entries-data s kinds [] each = tt
 entries-data s kinds (e ∷ es) each = (each.0.data_record, entries-data s kinds es each.1)
 
-pub entries-said : (s : Schema) (kinds : Kinds) (es : List Entry) → Each (IsEntry s kinds) es → Each IsWrittenStatement (map instance_of (written_in es))
+pub entries-said : (s : Schema) (kinds : EntitySets) (es : List Entry) → Each (IsEntry s kinds) es → Each IsWrittenStatement (map instance_of (written_in es))
 entries-said s kinds [] each = tt
 entries-said s kinds (e ∷ es) each = (each.0.said, entries-said s kinds es each.1)
 
-pub kinds-kept : (s : Schema) (ms : List Meant) → kinds_of (map (canonical_meant s) ms) ≡ kinds_of ms
-kinds-kept s [] = refl
-kinds-kept s (m ∷ ms) = ap (λ (ks : Kinds). (m.0, m.1.entities) ∷ ks) (kinds-kept s ms)
+pub entity_sets-same : (s : Schema) (ms : List Meant) → entity_sets_of (map (canonical_meant s) ms) ≡ entity_sets_of ms
+entity_sets-same s [] = refl
+entity_sets-same s (m ∷ ms) = ap (λ (ks : EntitySets). (m.0, m.1.entities) ∷ ks) (entity_sets-same s ms)
 
 pub Contains-canonical : (s : Schema) (ms : List Meant) (n : ℕ) (y : Typed) → Contains (map (canonical_meant s) ms) (n, y) → (x : Typed) × Contains ms (n, x) × (canonical_typed s x ≡ y)
 Contains-canonical s [] n y among = absurd (Contains-none (n, y) among)

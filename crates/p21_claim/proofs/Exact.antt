@@ -13,12 +13,12 @@ use Rattle.p21_files.specs.Accepted.{IsLineWithin}
 use Rattle.p21_files.specs.Canonical.{AreSectionsRising, Canonical}
 use Rattle.p21_exchange.specs.CanonicalText.{statement_text}
 use Rattle.p21_exchange.specs.DataSection.{Heading, DataSection, AreHeadings, headings, instances_in, section_names}
-use Rattle.p21_files.specs.File.{FileMeaning, HeadingNamesSchema, InstanceMeans, Reads, kinds_of}
+use Rattle.p21_files.specs.File.{FileMeaning, HeadingNamesSchema, InstanceMeans, Reads, entity_sets_of}
 use Rattle.p21_exchange.specs.Grammar.{InGrammar}
-use Rattle.p21_files.specs.Kept.{IsInstanceText}
+use Rattle.p21_files.specs.CanonicalTexts.{IsInstanceText}
 use Rattle.p21_files.specs.Meaning.{Typed}
 use Rattle.p21_exchange.specs.Record.{Part, Record}
-use Rattle.p21_files.specs.Reference.{Kinds}
+use Rattle.p21_files.specs.Reference.{EntitySets}
 use Rattle.p21_files.specs.SameFile.{HaveSameMembers, SameFileMeaning}
 use Rattle.p21_schemas.specs.Schema.{Schema}
 use Rattle.p21_exchange.specs.Statement.{section, header, instance, data_start, finish}
@@ -34,8 +34,8 @@ use Rattle.p21_claim.proofs.LongFiles.{last-line}
 use Rattle.p21_claim_values.proofs.Needs.{has-needs, means-served}
 use Rattle.p21_claim.proofs.OneLine.{IsCanonicalInstance, header-in_canonical}
 use Rattle.p21_claim.proofs.Statements.{among-statements, header-statement, heading-statement}
-use Rattle.p21_claim.specs.EndLaws.{AcceptedIsEnded}
-use Rattle.p21_claim.specs.Ended.{Entry, Group, Block, Line, IsMeant, IsPrinted, AreNeedsServed, AreRisingBlocks, written_in, meant_in, kinds_in, entries_in, section_of, block_headings, structure_of, file_text}
+use Rattle.p21_claim.specs.EndLaws.{AcceptedFileIsComplete}
+use Rattle.p21_claim.specs.CompleteFile.{Entry, SectionEntries, Block, Line, IsMeant, IsPrinted, AreNeedsServed, AreRisingBlocks, written_in, meant_in, entity_sets_in, entries_in, section_of, block_headings, structure_of, file_text}
 
 -- the canonical text of an instance of a file is a line of its canonical file
 record HasText (s : Schema) (n : ℕ) (r : Record) : Type 0 where
@@ -44,8 +44,8 @@ record HasText (s : Schema) (n : ℕ) (r : Record) : Type 0 where
 
 has-text : (s : Schema) (bytes : List ℕ) (m : FileMeaning) (reads : Reads s bytes m) (out : List ℕ) (c : Canonical s out) → SameFileMeaning c.meaning m → (n : ℕ) (r : Record) → Contains (instances_in reads.structure.sections) (n, r) → HasText s n r
 has-text s bytes m reads out c same n r among =
-    let kinds : Kinds = kinds_of m.instances in
-    let others : Kinds = kinds_of c.meaning.instances in
+    let kinds : EntitySets = entity_sets_of m.instances in
+    let others : EntitySets = entity_sets_of c.meaning.instances in
     let u : Structure = c.reads.structure in
     let first = AllZip-member (InstanceMeans s kinds) (instances_in reads.structure.sections) m.instances (n, r) reads.means among in
     let x : Typed = first.0.1 in
@@ -71,7 +71,7 @@ has-text s bytes m reads out c same n r among =
       };
     }
 
-record AreEntries (s : Schema) (kinds : Kinds) (is : List Instance) (ms : List Meant) : Type 0 where
+record AreEntries (s : Schema) (kinds : EntitySets) (is : List Instance) (ms : List Meant) : Type 0 where
   entries : List Entry
   written : written_in entries ≡ is
   meant : meant_in entries ≡ ms
@@ -79,7 +79,7 @@ record AreEntries (s : Schema) (kinds : Kinds) (is : List Instance) (ms : List M
   printed : Each (IsPrinted s) entries
   served : Each (AreNeedsServed s kinds) entries
 
-enter : (s : Schema) → IsWellFormed s → (kinds : Kinds) (is : List Instance) (ms : List Meant) → AllZip (InstanceMeans s kinds) is ms → ((n : ℕ) (r : Record) → Contains is (n, r) → HasText s n r) → AreEntries s kinds is ms
+enter : (s : Schema) → IsWellFormed s → (kinds : EntitySets) (is : List Instance) (ms : List Meant) → AllZip (InstanceMeans s kinds) is ms → ((n : ℕ) (r : Record) → Contains is (n, r) → HasText s n r) → AreEntries s kinds is ms
 enter s formed kinds [] [] all texts = record { entries = []; written = refl; meant = refl; each_meant = tt; printed = tt; served = tt }
 enter s formed kinds [] (m ∷ ms) all texts = absurd all
 enter s formed kinds (i ∷ is) [] all texts = absurd all
@@ -121,7 +121,7 @@ split (i ∷ is) js (e ∷ es) same =
     }
 
 record AreGrouped (xs : List DataSection) (es : List Entry) : Type 0 where
-  groups : List Group
+  groups : List SectionEntries
   sections : xs ≡ map section_of groups
   entries : entries_in groups ≡ es
 
@@ -131,23 +131,23 @@ regroup [] (e ∷ es) same = absurd (cc)
 regroup (x ∷ xs) es same =
     let parts = split x.instances (instances_in xs) es same in
     let rest = regroup xs parts.later parts.later_are in
-    let g : Group = record { heading = x.heading; entries = parts.first } in
+    let g : SectionEntries = record { heading = x.heading; entries = parts.first } in
     record {
       groups = g ∷ rest.groups;
       sections = ap (λ (is : List Instance). record { heading = x.heading; instances = is } ∷ xs) (sym parts.first_are) ∙ ap (λ (ys : List DataSection). section_of g ∷ ys) rest.sections;
       entries = ap (λ (ys : List Entry). parts.first ++ ys) rest.entries ∙ parts.joined;
     }
 
-pub accepted-ended : AcceptedIsEnded
+pub accepted-ended : AcceptedFileIsComplete
 accepted-ended s formed limits bytes (m, means) =
     let reads : Reads s bytes m = means.reads in
     let t : Structure = reads.structure in
     let file = means.is_canonical in
     let c : Canonical s means.canonical = file.canonical in
     let u : Structure = c.reads.structure in
-    let are = enter s formed (kinds_of m.instances) (instances_in t.sections) m.instances reads.means (has-text s bytes m reads means.canonical c file.same) in
+    let are = enter s formed (entity_sets_of m.instances) (instances_in t.sections) m.instances reads.means (has-text s bytes m reads means.canonical c file.same) in
     let by = regroup t.sections are.entries are.written in
-    let groups : List Group = by.groups in
+    let groups : List SectionEntries = by.groups in
     let blocks : List Block = map block_of u.sections in
     let structure : t ≡ structure_of t.header groups = ap (λ (xs : List DataSection). record { header = t.header; sections = xs }) by.sections in
     let G : Structure → Type 0 = λ x. InGrammar bytes x reads.schema_text in
@@ -157,14 +157,14 @@ accepted-ended s formed limits bytes (m, means) =
     let D : List DataSection → Type 0 = λ xs. IsDistinct bytes_eq (section_names (headings xs)) in
     let M : List Entry → Type 0 = λ es. Each (IsMeant s) es in
     let R : List Entry → Type 0 = λ es. Each (IsPrinted s) es in
-    let K : List Meant → Type 0 = λ ms. Each (AreNeedsServed s (kinds_of ms)) are.entries in
-    let V : List Entry → Type 0 = λ es. Each (AreNeedsServed s (kinds_in es)) es in
+    let K : List Meant → Type 0 = λ ms. Each (AreNeedsServed s (entity_sets_of ms)) are.entries in
+    let V : List Entry → Type 0 = λ es. Each (AreNeedsServed s (entity_sets_in es)) es in
     let printed : Each (IsPrinted s) (entries_in groups) = subst R (sym by.entries) are.printed in
     let H : List Heading → Type 0 = λ hs. HaveSameMembers (headings u.sections) hs in
     let H_ : List Heading → Type 0 = λ hs. HaveSameMembers hs m.sections in
     let members : HaveSameMembers (headings u.sections) (headings t.sections) = subst H reads.sections_are (subst H_ c.reads.sections_are file.same.sections) in
     let T : List DataSection → Type 0 = λ xs. HaveSameMembers (headings u.sections) (headings xs) in
-    let A : List Heading → Type 0 = λ hs. HaveSameMembers hs (map (λ (g : Group). g.heading) groups) in
+    let A : List Heading → Type 0 = λ hs. HaveSameMembers hs (map (λ (g : SectionEntries). g.heading) groups) in
     let back : headings u.sections ≡ block_headings blocks = sym (block-headings u.sections) in
     let rising : AreRisingBlocks groups blocks = record {
       are_headings = subst AreHeadings back c.reads.in_grammar.is_file.headings_are;

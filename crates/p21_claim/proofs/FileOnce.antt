@@ -10,11 +10,11 @@ use Rattle.p21_files.specs.Canonical.{Canonical}
 use Rattle.p21_files.specs.CanonicalRecord.{IsCanonicalRecord}
 use Rattle.p21_exchange.specs.CanonicalText.{line}
 use Rattle.p21_exchange.specs.DataSection.{Heading, DataSection, AreHeadings, headings, instances_in}
-use Rattle.p21_files.specs.File.{FileMeaning, InstanceMeans, Reads, kinds_of, placed_in}
+use Rattle.p21_files.specs.File.{FileMeaning, InstanceMeans, Reads, entity_sets_of, names_with_heading}
 use Rattle.p21_basics.specs.Limits.{Limits}
 use Rattle.p21_files.specs.Meaning.{Typed}
 use Rattle.p21_exchange.specs.Record.{Part, Record, record_tokens}
-use Rattle.p21_files.specs.Reference.{Kinds}
+use Rattle.p21_files.specs.Reference.{EntitySets}
 use Rattle.p21_files.specs.SameFile.{SamePart, SameTyped, HaveSameMembers, SameFileMeaning}
 use Rattle.p21_schemas.specs.Schema.{Schema}
 use Rattle.p21_exchange.specs.Structure.{Structure, statements, tokens_of}
@@ -37,7 +37,7 @@ Meant = ℕ × Typed
 abbrev pub meant_names : List Meant → List ℕ
 meant_names ms = map (λ (m : Meant). m.0) ms
 
-pub meant-named : (s : Schema) (kinds : Kinds) (is : List Instance) (ms : List Meant) → AllZip (InstanceMeans s kinds) is ms → meant_names ms ≡ named is
+pub meant-named : (s : Schema) (kinds : EntitySets) (is : List Instance) (ms : List Meant) → AllZip (InstanceMeans s kinds) is ms → meant_names ms ≡ named is
 meant-named s kinds [] [] all = refl
 meant-named s kinds [] (m ∷ ms) all = absurd all
 meant-named s kinds (i ∷ is) [] all = absurd all
@@ -64,7 +64,7 @@ pair-same : (m n : ℕ) (r q : Record) → m ≡ n → r ≡ q → ◌≡◌ {A 
 pair-same m n r q first second = ap (λ (k : ℕ). (k, r)) first ∙ ap (λ (x : Record). (n, x)) second
 
 -- canonical instances under the same names
-instances-once : (s : Schema) → IsWellFormed s → (kinds others : Kinds) (is js : List Instance) (xs ys : List Meant) → AllZip (InstanceMeans s kinds) is xs → AllZip (InstanceMeans s others) js ys
+instances-once : (s : Schema) → IsWellFormed s → (kinds others : EntitySets) (is js : List Instance) (xs ys : List Meant) → AllZip (InstanceMeans s kinds) is xs → AllZip (InstanceMeans s others) js ys
     → AllZip (λ (written : Instance) (meant : Meant). IsCanonicalRecord s written.1 meant.1) is xs → AllZip (λ (written : Instance) (meant : Meant). IsCanonicalRecord s written.1 meant.1) js ys
     → Each (λ (i : Instance). Each IsSpelled (record_tokens i.1)) is → Each (λ (i : Instance). Each IsSpelled (record_tokens i.1)) js → ((n : ℕ) (x y : Typed) → Contains xs (n, x) → Contains ys (n, y) → SameTyped x y) → named is ≡ named js → is ≡ js
 instances-once s formed kinds others [] [] xs ys mean mean_ canonical canonical_ said_ said__ same names = refl
@@ -103,11 +103,11 @@ file-once s formed bytes others c d same =
     let heads : headings t.sections ≡ headings u.sections =
     headings-once (headings t.sections) (headings u.sections) are d.reads.in_grammar.is_file.headings_are c.sections_rise d.sections_rise (λ h. (heads_same h).0) (λ h. (heads_same h).1) in
     let Q : List (ℕ × Heading) → List (ℕ × Heading) → Type 0 = λ xs ys. HaveSameMembers xs ys in
-    let placed : HaveSameMembers (flat_map placed_in t.sections) (flat_map placed_in u.sections) =
-    subst (λ xs. Q xs (flat_map placed_in u.sections)) c.reads.instance_sections_are (subst (Q c.meaning.instance_sections) d.reads.instance_sections_are same.instance_sections) in
+    let placed : HaveSameMembers (flat_map names_with_heading t.sections) (flat_map names_with_heading u.sections) =
+    subst (λ xs. Q xs (flat_map names_with_heading u.sections)) c.reads.instance_sections_are (subst (Q c.meaning.instance_sections) d.reads.instance_sections_are same.instance_sections) in
     let names = names-by_sections t.sections u.sections (headings-none_twice (headings t.sections) are c.sections_rise) heads placed c.names_rise d.names_rise in
-    let kinds = kinds_of c.meaning.instances in
-    let kinds_ = kinds_of d.meaning.instances in
+    let kinds = entity_sets_of c.meaning.instances in
+    let kinds_ = entity_sets_of d.meaning.instances in
     let dn : meant_names d.meaning.instances ≡ named (instances_in u.sections) = meant-named s kinds_ (instances_in u.sections) d.meaning.instances d.reads.means in
     let none : NoneTwice (meant_names d.meaning.instances) = subst NoneTwice (sym dn) (distinct-none_twice (named (instances_in u.sections)) d.reads.names_differ) in
     let instances : instances_in t.sections ≡ instances_in u.sections =

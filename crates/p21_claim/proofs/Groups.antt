@@ -11,9 +11,9 @@ use Rattle.std.proofs.lemmas.Map.Lookups.{exact_unsigned, exact_bytes}
 use Rattle.p21_schemas.specs.WellFormed.{IsWellFormed}
 use Rattle.p21_files.specs.Canonical.{AreNamesRising}
 use Rattle.p21_exchange.specs.DataSection.{Heading, DataSection, headings, instances_in}
-use Rattle.p21_files.specs.File.{InstanceMeans, placed_in}
+use Rattle.p21_files.specs.File.{InstanceMeans, names_with_heading}
 use Rattle.p21_exchange.specs.Grammar.{IsDataRecord}
-use Rattle.p21_files.specs.Reference.{Kinds}
+use Rattle.p21_files.specs.Reference.{EntitySets}
 use Rattle.p21_schemas.specs.Schema.{Schema}
 use Rattle.p21_exchange.specs.Statement.{section, section_end, data_start}
 use Rattle.p21_exchange.specs.Structure.{section_statements}
@@ -30,33 +30,33 @@ use Rattle.p21_basics.proofs.Shuffles.{Shuffled, Shuffled-transitive, Shuffled-s
 use Rattle.p21_basics.proofs.Members.{Each-append, Each-front, Each-back, Each-joined, Each-weaker}
 use Rattle.std.proofs.lemmas.List.Folds.{flat_map-map}
 
-pub record Group : Type 0 where
+pub record SectionEntries : Type 0 where
   pub heading : Heading
   pub entries : List Entry
 
-abbrev pub entries_of : List Group → List Entry
-entries_of gs = flat_map (λ (g : Group). g.entries) gs
+abbrev pub entries_of : List SectionEntries → List Entry
+entries_of gs = flat_map (λ (g : SectionEntries). g.entries) gs
 
-abbrev pub section_of : Group → DataSection
+abbrev pub section_of : SectionEntries → DataSection
 section_of g = record { heading = g.heading; instances = written_in g.entries }
 
-abbrev pub group_headings : List Group → List Heading
-group_headings gs = map (λ (g : Group). g.heading) gs
+abbrev pub group_headings : List SectionEntries → List Heading
+group_headings gs = map (λ (g : SectionEntries). g.heading) gs
 
-abbrev pub group_placed : Group → List (ℕ × Heading)
-group_placed g = placed_in (section_of g)
+abbrev pub group_placed : SectionEntries → List (ℕ × Heading)
+group_placed g = names_with_heading (section_of g)
 
-pub record IsGroup (s : Schema) (kinds : Kinds) (g : Group) : Type 0 where
+pub record IsGroup (s : Schema) (kinds : EntitySets) (g : SectionEntries) : Type 0 where
   pub said : IsWrittenStatement (section (data_start g.heading))
   pub each : Each (IsEntry s kinds) g.entries
 
-pub record AreGroups (s : Schema) (kinds : Kinds) (xs : List DataSection) (ms : List Meant) : Type 0 where
-  pub groups : List Group
+pub record AreGroups (s : Schema) (kinds : EntitySets) (xs : List DataSection) (ms : List Meant) : Type 0 where
+  pub groups : List SectionEntries
   pub each : Each (IsGroup s kinds) groups
   pub heads : group_headings groups ≡ headings xs
   pub names : names_in (entries_of groups) ≡ named (instances_in xs)
   pub meants : meants_in (entries_of groups) ≡ map (canonical_meant s) ms
-  pub placed : flat_map group_placed groups ≡ flat_map placed_in xs
+  pub placed : flat_map group_placed groups ≡ flat_map names_with_heading xs
 
 -- a list beside two lists, one behind the other
 record Parted {X Y : Type 0} (R : X → Y → Type 0) (xs us : List X) (ys : List Y) : Type 0 where
@@ -77,11 +77,11 @@ part R (x ∷ xs) us (y ∷ ys) all =
 abbrev beside : Heading → List ℕ → List (ℕ × Heading)
 beside h ns = map (λ n. (n, h)) ns
 
-placed-beside : (h : Heading) (is : List Instance) → placed_in (record { heading = h; instances = is }) ≡ beside h (named is)
+placed-beside : (h : Heading) (is : List Instance) → names_with_heading (record { heading = h; instances = is }) ≡ beside h (named is)
 placed-beside h [] = refl
 placed-beside h (i ∷ is) = ap (λ (z : List (ℕ × Heading)). (i.0, h) ∷ z) (placed-beside h is)
 
-pub group : (s : Schema) → IsWellFormed s → (kinds : Kinds) (xs : List DataSection) (ms : List Meant) → AllZip (InstanceMeans s kinds) (instances_in xs) ms → Each (λ (x : DataSection). Each IsWrittenStatement (section_statements x)) xs → Each (λ (i : Instance). IsDataRecord i.1) (instances_in xs)
+pub group : (s : Schema) → IsWellFormed s → (kinds : EntitySets) (xs : List DataSection) (ms : List Meant) → AllZip (InstanceMeans s kinds) (instances_in xs) ms → Each (λ (x : DataSection). Each IsWrittenStatement (section_statements x)) xs → Each (λ (i : Instance). IsDataRecord i.1) (instances_in xs)
     → AreGroups s kinds xs ms
 group s formed kinds [] [] all said_ data_ = record { groups = []; each = tt; heads = refl; names = refl; meants = refl; placed = refl }
 group s formed kinds [] (m ∷ ms) all said_ data_ = absurd all
@@ -104,7 +104,7 @@ group s formed kinds (x ∷ xs) ms all said_ data_ =
           ∙ sym (map-append (canonical_meant s) parted.first parted.second)
           ∙ ap (map (canonical_meant s)) (sym parted.are);
       placed = ap (λ (ps : List (ℕ × Heading)). ps ++ flat_map group_placed rest.groups) (placed-beside x.heading (written_in own.entries) ∙ ap (beside x.heading) own_named ∙ sym (placed-beside x.heading x.instances))
-          ∙ ap (λ (ps : List (ℕ × Heading)). placed_in x ++ ps) rest.placed;
+          ∙ ap (λ (ps : List (ℕ × Heading)). names_with_heading x ++ ps) rest.placed;
     }
 
 -- ---- in order
@@ -112,49 +112,49 @@ group s formed kinds (x ∷ xs) ms all said_ data_ =
 abbrev entry_name : Entry → ℕ
 entry_name e = e.0.0
 
-abbrev group_text : Group → List ℕ
+abbrev group_text : SectionEntries → List ℕ
 group_text g = heading_text g.heading
 
-abbrev ordered : Group → Group
+abbrev ordered : SectionEntries → SectionEntries
 ordered g = record { heading = g.heading; entries = sort_by nat_cmp entry_name g.entries }
 
-abbrev pub arranged : List Group → List Group
+abbrev pub arranged : List SectionEntries → List SectionEntries
 arranged gs = sort_by (slice_cmp nat_cmp) group_text (map ordered gs)
 
-arranged-shuffled : (gs : List Group) → Shuffled (map ordered gs) (arranged gs)
+arranged-shuffled : (gs : List SectionEntries) → Shuffled (map ordered gs) (arranged gs)
 arranged-shuffled gs = sort-shuffled (slice_cmp nat_cmp) group_text (map ordered gs)
 
 -- what is said of groups in any order of their entries
-arranged-by : {X : Type 0} (f : Group → List X) → ((g : Group) → Shuffled (f g) (f (ordered g))) → (gs : List Group) → Shuffled (flat_map f gs) (flat_map f (arranged gs))
+arranged-by : {X : Type 0} (f : SectionEntries → List X) → ((g : SectionEntries) → Shuffled (f g) (f (ordered g))) → (gs : List SectionEntries) → Shuffled (flat_map f gs) (flat_map f (arranged gs))
 arranged-by {X} f each gs =
     let first : Shuffled (flat_map f gs) (flat_map (λ g. f (ordered g)) gs) = Shuffled-each f (λ g. f (ordered g)) each gs in
     let P : List X → Type 0 = λ xs. Shuffled (flat_map f gs) xs in
     Shuffled-transitive (flat_map f gs) (flat_map f (map ordered gs)) (flat_map f (arranged gs)) (subst P (sym (flat_map-map f ordered gs)) first)
     (Shuffled-flat_map f (map ordered gs) (arranged gs) (arranged-shuffled gs))
 
-pub arranged-entries : (gs : List Group) → Shuffled (entries_of gs) (entries_of (arranged gs))
-arranged-entries gs = arranged-by (λ (g : Group). g.entries) (λ g. sort-shuffled nat_cmp entry_name g.entries) gs
+pub arranged-entries : (gs : List SectionEntries) → Shuffled (entries_of gs) (entries_of (arranged gs))
+arranged-entries gs = arranged-by (λ (g : SectionEntries). g.entries) (λ g. sort-shuffled nat_cmp entry_name g.entries) gs
 
-pub arranged-placed : (gs : List Group) → Shuffled (flat_map group_placed gs) (flat_map group_placed (arranged gs))
+pub arranged-placed : (gs : List SectionEntries) → Shuffled (flat_map group_placed gs) (flat_map group_placed (arranged gs))
 arranged-placed gs =
     arranged-by group_placed
     (λ g. Shuffled-mapped (λ (i : Instance). (i.0, g.heading)) (written_in g.entries) (written_in (sort_by nat_cmp entry_name g.entries))
     (Shuffled-mapped (λ (e : Entry). e.0) g.entries (sort_by nat_cmp entry_name g.entries) (sort-shuffled nat_cmp entry_name g.entries)))
     gs
 
-ordered-headings : (gs : List Group) → group_headings (map ordered gs) ≡ group_headings gs
+ordered-headings : (gs : List SectionEntries) → group_headings (map ordered gs) ≡ group_headings gs
 ordered-headings [] = refl
 ordered-headings (g ∷ gs) = ap (λ (hs : List Heading). g.heading ∷ hs) (ordered-headings gs)
 
-pub arranged-headings : (gs : List Group) → Shuffled (group_headings gs) (group_headings (arranged gs))
+pub arranged-headings : (gs : List SectionEntries) → Shuffled (group_headings gs) (group_headings (arranged gs))
 arranged-headings gs =
     let P : List Heading → Type 0 = λ hs. Shuffled hs (group_headings (arranged gs)) in
-    subst P (ordered-headings gs) (Shuffled-mapped (λ (g : Group). g.heading) (map ordered gs) (arranged gs) (arranged-shuffled gs))
+    subst P (ordered-headings gs) (Shuffled-mapped (λ (g : SectionEntries). g.heading) (map ordered gs) (arranged gs) (arranged-shuffled gs))
 
-pub arranged-each : (s : Schema) (kinds : Kinds) (gs : List Group) → Each (IsGroup s kinds) gs → Each (IsGroup s kinds) (arranged gs)
+pub arranged-each : (s : Schema) (kinds : EntitySets) (gs : List SectionEntries) → Each (IsGroup s kinds) gs → Each (IsGroup s kinds) (arranged gs)
 arranged-each s kinds gs each = each-shuffled (IsGroup s kinds) (map ordered gs) (arranged gs) (Shuffled-symmetric (map ordered gs) (arranged gs) (arranged-shuffled gs)) (of gs each)
   where
-    of : (hs : List Group) → Each (IsGroup s kinds) hs → Each (IsGroup s kinds) (map ordered hs)
+    of : (hs : List SectionEntries) → Each (IsGroup s kinds) hs → Each (IsGroup s kinds) (map ordered hs)
     of [] all = tt
     of (h ∷ hs) all = (
       record { said = all.0.said; each = each-shuffled (IsEntry s kinds) h.entries (sort_by nat_cmp entry_name h.entries) (Shuffled-symmetric h.entries (sort_by nat_cmp entry_name h.entries) (sort-shuffled nat_cmp entry_name h.entries)) all.0.each },
@@ -163,31 +163,31 @@ arranged-each s kinds gs each = each-shuffled (IsGroup s kinds) (map ordered gs)
 
 -- ---- they rise
 
-texts-of : (gs : List Group) → map group_text (map ordered gs) ≡ map heading_text (group_headings gs)
+texts-of : (gs : List SectionEntries) → map group_text (map ordered gs) ≡ map heading_text (group_headings gs)
 texts-of [] = refl
 texts-of (g ∷ gs) = ap (λ (ts : List (List ℕ)). group_text g ∷ ts) (texts-of gs)
 
-groups-rise : (gs : List Group) → Rises (slice_cmp nat_cmp) group_text gs → DoRise (group_headings gs)
+groups-rise : (gs : List SectionEntries) → Rises (slice_cmp nat_cmp) group_text gs → DoRise (group_headings gs)
 groups-rise [] rises = tt
 groups-rise (g ∷ gs) rises = (each gs rises.0, groups-rise gs rises.1)
   where
-    each : (hs : List Group) → Each (λ h. slice_cmp nat_cmp (group_text g) (group_text h) ≡ Less) hs → Each (λ h. slice_cmp nat_cmp (group_text g) (heading_text h) ≡ Less) (group_headings hs)
+    each : (hs : List SectionEntries) → Each (λ h. slice_cmp nat_cmp (group_text g) (group_text h) ≡ Less) hs → Each (λ h. slice_cmp nat_cmp (group_text g) (heading_text h) ≡ Less) (group_headings hs)
     each [] all = tt
     each (h ∷ hs) all = (all.0, each hs all.1)
 
-pub arranged-rise : (gs : List Group) → NoneTwice (map heading_text (group_headings gs)) → DoRise (group_headings (arranged gs))
+pub arranged-rise : (gs : List SectionEntries) → NoneTwice (map heading_text (group_headings gs)) → DoRise (group_headings (arranged gs))
 arranged-rise gs none = groups-rise (arranged gs) (sort-rises (slice_cmp nat_cmp) nat_list_cmp_total exact_bytes group_text (map ordered gs) (subst NoneTwice (sym (texts-of gs)) none))
 
-ordered-names_rise : (g : Group) → NoneTwice (names_in g.entries) → AreNamesRising (section_of (ordered g))
+ordered-names_rise : (g : SectionEntries) → NoneTwice (names_in g.entries) → AreNamesRising (section_of (ordered g))
 ordered-names_rise g none =
     let es : List Entry = sort_by nat_cmp entry_name g.entries in
     subst (IsStrictlySortedBy nat_cmp) (names-of es) (mapped-rises nat_cmp entry_name es (sort-rises nat_cmp nat_cmp_total exact_unsigned entry_name g.entries none))
 
-pub arranged-names_rise : (gs : List Group) → NoneTwice (names_in (entries_of gs)) → Each (λ (g : Group). AreNamesRising (section_of g)) (arranged gs)
+pub arranged-names_rise : (gs : List SectionEntries) → NoneTwice (names_in (entries_of gs)) → Each (λ (g : SectionEntries). AreNamesRising (section_of g)) (arranged gs)
 arranged-names_rise gs none =
-    each-shuffled (λ (g : Group). AreNamesRising (section_of g)) (map ordered gs) (arranged gs) (Shuffled-symmetric (map ordered gs) (arranged gs) (arranged-shuffled gs)) (of gs none)
+    each-shuffled (λ (g : SectionEntries). AreNamesRising (section_of g)) (map ordered gs) (arranged gs) (Shuffled-symmetric (map ordered gs) (arranged gs) (arranged-shuffled gs)) (of gs none)
   where
-    of : (hs : List Group) → NoneTwice (names_in (entries_of hs)) → Each (λ (g : Group). AreNamesRising (section_of g)) (map ordered hs)
+    of : (hs : List SectionEntries) → NoneTwice (names_in (entries_of hs)) → Each (λ (g : SectionEntries). AreNamesRising (section_of g)) (map ordered hs)
     of [] none_ = tt
     of (h ∷ hs) none_ =
         let apart : NoneTwice (names_in h.entries ++ names_in (entries_of hs)) = subst NoneTwice (map-append entry_name h.entries (entries_of hs)) none_ in
@@ -195,30 +195,30 @@ arranged-names_rise gs none =
 
 -- ---- as sections
 
-abbrev pub sections_of : List Group → List DataSection
+abbrev pub sections_of : List SectionEntries → List DataSection
 sections_of gs = map section_of gs
 
-pub headings-of : (gs : List Group) → headings (sections_of gs) ≡ group_headings gs
+pub headings-of : (gs : List SectionEntries) → headings (sections_of gs) ≡ group_headings gs
 headings-of [] = refl
 headings-of (g ∷ gs) = ap (λ (hs : List Heading). g.heading ∷ hs) (headings-of gs)
 
-pub instances-of : (gs : List Group) → instances_in (sections_of gs) ≡ written_in (entries_of gs)
+pub instances-of : (gs : List SectionEntries) → instances_in (sections_of gs) ≡ written_in (entries_of gs)
 instances-of [] = refl
 instances-of (g ∷ gs) = ap (λ (is : List Instance). written_in g.entries ++ is) (instances-of gs) ∙ sym (map-append (λ (e : Entry). e.0) g.entries (entries_of gs))
 
-pub placed-of : (gs : List Group) → flat_map placed_in (sections_of gs) ≡ flat_map group_placed gs
-placed-of gs = flat_map-map placed_in section_of gs
+pub placed-of : (gs : List SectionEntries) → flat_map names_with_heading (sections_of gs) ≡ flat_map group_placed gs
+placed-of gs = flat_map-map names_with_heading section_of gs
 
-pub entries-each : (s : Schema) (kinds : Kinds) (gs : List Group) → Each (IsGroup s kinds) gs → Each (IsEntry s kinds) (entries_of gs)
-entries-each s kinds gs each = Each-joined (IsEntry s kinds) (λ (g : Group). g.entries) gs (Each-weaker (IsGroup s kinds) (λ (g : Group). Each (IsEntry s kinds) g.entries) (λ g is. is.each) gs each)
+pub entries-each : (s : Schema) (kinds : EntitySets) (gs : List SectionEntries) → Each (IsGroup s kinds) gs → Each (IsEntry s kinds) (entries_of gs)
+entries-each s kinds gs each = Each-joined (IsEntry s kinds) (λ (g : SectionEntries). g.entries) gs (Each-weaker (IsGroup s kinds) (λ (g : SectionEntries). Each (IsEntry s kinds) g.entries) (λ g is. is.each) gs each)
 
-pub sections-each : (P : DataSection → Type 0) (gs : List Group) → Each (λ (g : Group). P (section_of g)) gs → Each P (sections_of gs)
+pub sections-each : (P : DataSection → Type 0) (gs : List SectionEntries) → Each (λ (g : SectionEntries). P (section_of g)) gs → Each P (sections_of gs)
 sections-each P [] each = tt
 sections-each P (g ∷ gs) each = (each.0, sections-each P gs each.1)
 
-pub groups-said : (s : Schema) (kinds : Kinds) (gs : List Group) → IsWrittenStatement (section section_end) → Each (IsGroup s kinds) gs → Each IsWrittenStatement (flat_map section_statements (sections_of gs))
+pub groups-said : (s : Schema) (kinds : EntitySets) (gs : List SectionEntries) → IsWrittenStatement (section section_end) → Each (IsGroup s kinds) gs → Each IsWrittenStatement (flat_map section_statements (sections_of gs))
 groups-said s kinds gs end each =
     Each-joined IsWrittenStatement section_statements (sections_of gs)
     (sections-each (λ (x : DataSection). Each IsWrittenStatement (section_statements x)) gs
-    (Each-weaker (IsGroup s kinds) (λ (g : Group). Each IsWrittenStatement (section_statements (section_of g)))
+    (Each-weaker (IsGroup s kinds) (λ (g : SectionEntries). Each IsWrittenStatement (section_statements (section_of g)))
     (λ g is. (is.said, Each-append IsWrittenStatement (map instance_of (written_in g.entries)) (section section_end ∷ []) (entries-said s kinds g.entries is.each) (end, tt))) gs each))

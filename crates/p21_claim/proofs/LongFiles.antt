@@ -7,7 +7,7 @@ use Rattle.p21_basics.proofs.Members.{Contains-none, Contains-first, Contains-la
 use Rattle.p21_files.specs.Accepted.{IsLineWithin}
 use Rattle.p21_exchange.specs.CanonicalText.{line, statement_text}
 use Rattle.p21_exchange.specs.DataSection.{Heading, unnamed, named as named_as, DataSection, headings, heading_names, IsNamed, AreHeadings, instances_in, section_names}
-use Rattle.p21_files.specs.Kept.{AreKept, IsInstanceText}
+use Rattle.p21_files.specs.CanonicalTexts.{HaveCanonicalSize, IsInstanceText}
 use Rattle.p21_exchange.specs.Record.{Part, Record}
 use Rattle.p21_schemas.specs.Schema.{Schema}
 use Rattle.p21_exchange.specs.Statement.{Statement, section, header, instance, begin, header_start, section_end, data_start, finish}
@@ -19,7 +19,7 @@ use Rattle.p21_basics.proofs.Shuffles.{texts-none_twice}
 use Rattle.p21_claim.proofs.Dead.{dead-by, names-first, headings-in_canonical}
 use Rattle.p21_claim.proofs.OneLine.{instance-in_canonical, header-in_canonical}
 use Rattle.p21_claim.proofs.Statements.{Contains-begins, instance-among, instances-are, instances-begin}
-use Rattle.p21_claim.specs.SizeLaws.{NarrowIsDead, framing, LongFileIsDead}
+use Rattle.p21_claim.specs.SizeLaws.{NarrowLineLimitIsDead, framing, LongFileIsDead}
 use Rattle.p21_claim.specs.Taken.{instances_among, names_among}
 use Rattle.p21_basics.proofs.Shuffles.{NoneTwice, Taken, taken_first, taken_later, Taken-other, Contains-taken}
 
@@ -136,17 +136,17 @@ record Lines (P : Instance → Type 0) (taken : List Statement) (total : ℕ) : 
   size : total ≡ outer taken + inner instances
   each : Each P instances
 
-kept-lines : (s : Schema) (P : Instance → Type 0) (taken : List Statement) (kept : ℕ) → AreKept s taken kept → ((n : ℕ) (r : Record) (text : List ℕ) → Contains taken (instance n r) → (is : IsInstanceText s n r text) → P (n, is.canonical)) → Lines P taken (kept + framing taken)
-kept-lines s P [] kept are holds = record { instances = []; names = refl; size = (let h : kept ≡ 0 = are in omega (arith, h)); each = tt }
-kept-lines s P (section line_ ∷ taken) kept are holds =
-    let rest = kept-lines s P taken kept are (λ n r text among is. holds n r text (Contains-later (section line_) taken (instance n r) among) is) in
+canonical_size-lines : (s : Schema) (P : Instance → Type 0) (taken : List Statement) (kept : ℕ) → HaveCanonicalSize s taken kept → ((n : ℕ) (r : Record) (text : List ℕ) → Contains taken (instance n r) → (is : IsInstanceText s n r text) → P (n, is.canonical)) → Lines P taken (kept + framing taken)
+canonical_size-lines s P [] kept are holds = record { instances = []; names = refl; size = (let h : kept ≡ 0 = are in omega (arith, h)); each = tt }
+canonical_size-lines s P (section line_ ∷ taken) kept are holds =
+    let rest = canonical_size-lines s P taken kept are (λ n r text among is. holds n r text (Contains-later (section line_) taken (instance n r) among) is) in
     record { instances = rest.instances; names = rest.names; size = (let h = rest.size in omega (arith, h)); each = rest.each }
-kept-lines s P (header part ∷ taken) kept (more, is_kept, are) holds =
-    let rest = kept-lines s P taken more are (λ n r text among is. holds n r text (Contains-later (header part) taken (instance n r) among) is) in
+canonical_size-lines s P (header part ∷ taken) kept (more, is_kept, are) holds =
+    let rest = canonical_size-lines s P taken more are (λ n r text among is. holds n r text (Contains-later (header part) taken (instance n r) among) is) in
     let long = length-append (statement_text (header part)) (10 ∷ []) in
     record { instances = rest.instances; names = rest.names; size = (let h = rest.size in omega (arith, h, is_kept, long)); each = rest.each }
-kept-lines s P (instance m q ∷ taken) kept (text, more, is_kept, printed, are) holds =
-    let rest = kept-lines s P taken more are (λ n r text_ among is. holds n r text_ (Contains-later (instance m q) taken (instance n r) among) is) in
+canonical_size-lines s P (instance m q ∷ taken) kept (text, more, is_kept, printed, are) holds =
+    let rest = canonical_size-lines s P taken more are (λ n r text_ among is. holds n r text_ (Contains-later (instance m q) taken (instance n r) among) is) in
     let long = length-append (statement_text (instance m printed.canonical)) (10 ∷ []) in
     let same : length text ≡ length (statement_text (instance m printed.canonical)) = ap length printed.text_is in
     record {
@@ -162,7 +162,7 @@ long-file s formed limits bytes taken front kept are long = dead-by s limits byt
     let file = means.is_canonical in
     let u : Structure = file.canonical.reads.structure in
     let P : Instance → Type 0 = λ i. Contains (instances_in u.sections) i in
-    let lines = kept-lines s P taken kept are (λ n r text among is.
+    let lines = canonical_size-lines s P taken kept are (λ n r text among is.
     instance-in_canonical s formed (bytes ++ more) m means.reads means.canonical file.canonical file.same n r text (instance-among t n r (Contains-begins taken (statements t) (instance n r) begins among)) is) in
     let rest = instances-begin taken t begins in
     let Q : List Instance → Type 0 = λ js. NoneTwice (named js) in
@@ -190,7 +190,7 @@ last-line t =
     (Contains-later (section section_end) (flat_map section_statements t.sections ++ (section finish ∷ [])) (section finish)
     (Contains-append_right (flat_map section_statements t.sections) (section finish ∷ []) (section finish) (Contains-first (section finish) [])))
 
-pub narrow : NarrowIsDead
+pub narrow : NarrowLineLimitIsDead
 narrow s limits bytes few more are (m, means) =
     let u : Structure = means.is_canonical.canonical.reads.structure in
     let within : 17 ≤ limits.record_canonical = Each-member (IsLineWithin limits) (statements u) (section finish) means.is_canonical.lines_within (last-line u) in

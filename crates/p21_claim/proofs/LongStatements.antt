@@ -1,12 +1,12 @@
 -- Bytes are dead where a byte is one more than the tokens of a statement may have.
 use Rattle.std.proofs.Common.{◌≡◌, ℕ, suc, ◌+◌, ◌<◌, ◌≤◌, ◌⊎◌, inl, inr, List, [], ◌∷◌, ◌++◌, length, length-append, append_assoc, append-nil, ap, sym, subst, ◌∙◌, refl, arith}
 use Rattle.p21_basics.proofs.Members.{tail_is}
-use Rattle.p21_claim.proofs.Fronts.{long-statement}
+use Rattle.p21_claim.proofs.TokenPrefixes.{long-statement}
 use Rattle.p21_claim.specs.SizeLaws.{FullStatementIsDead}
 use Rattle.p21_exchange.proofs.FirstBytes.{spelling_begins}
 use Rattle.p21_exchange.proofs.OneGap.{gap-one, nothing-first}
 use Rattle.p21_exchange.specs.Laying.{AreStatementsWithin, LaidAs, Lexeme, count_behind, open_bytes}
-use Rattle.p21_exchange.specs.Pending.{BeginsNoSeparator, IsTokenByte, LaidUpTo, Tail, nothing, open_comment, slash, tail_size, unfinished}
+use Rattle.p21_exchange.specs.Pending.{BeginsWithNoSeparator, IsTokenByte, LaidUpTo, Tail, nothing, open_comment, slash, tail_size, unfinished}
 use Rattle.p21_exchange.specs.Separator.{IsSeparatorText}
 use Rattle.p21_exchange.specs.Token.{IsFollowed, MayFollow, Spells, Token, semicolon}
 use Rattle.p21_tokens_automaton.proofs.OnePending.{append-rest, begins-no_separator, begins-on, count-more, front-one}
@@ -28,17 +28,17 @@ no-front [] b bytes same = cc
 no-front (c ∷ gap) b bytes same = cc
 
 -- separator text is no token's front
-no-token : (gap x bytes : List ℕ) → IsSeparatorText gap → BeginsNoSeparator x → bytes ≡ gap ++ x → IsSeparatorText bytes → ⊥
+no-token : (gap x bytes : List ℕ) → IsSeparatorText gap → BeginsWithNoSeparator x → bytes ≡ gap ++ x → IsSeparatorText bytes → ⊥
 no-token gap x bytes separates begins is separates_ =
     let none : [] ≡ x = gap-one bytes gap [] x separates_ separates nothing-first (begins-no_separator x begins) (append-nil bytes ∙ is) in
-    subst BeginsNoSeparator (sym none) begins
+    subst BeginsWithNoSeparator (sym none) begins
 
 some-bytes : (token : Token) (q : List ℕ) → Spells token q → 1 ≤ length q
 some-bytes token [] spells = absurd (spelling_begins token [] spells)
 some-bytes token (byte ∷ q) spells = omega arith
 
 -- a byte that separates nothing is one of a token
-first-counts : (most count : ℕ) (gap more : List ℕ) (byte : ℕ) (ls : List Lexeme) → IsSeparatorText gap → BeginsNoSeparator (byte ∷ []) → LaidAs (gap ++ (byte ∷ more)) ls → AreStatementsWithin most count ls → count + 1 ≤ most
+first-counts : (most count : ℕ) (gap more : List ℕ) (byte : ℕ) (ls : List Lexeme) → IsSeparatorText gap → BeginsWithNoSeparator (byte ∷ []) → LaidAs (gap ++ (byte ∷ more)) ls → AreStatementsWithin most count ls → count + 1 ≤ most
 first-counts most count gap more byte [] separates begins laid within = absurd (no-token gap (byte ∷ more) (gap ++ (byte ∷ more)) separates begins refl laid)
 first-counts most count gap more byte (m ∷ ms) separates begins (gap_, q, w, is, separates_, spells, size, followed, rest) within =
     let some = some-bytes m.token q spells in
@@ -53,7 +53,7 @@ count-most count l = at l.token
     at other = omega arith
 
 -- what stands behind the last byte of a token
-behind-last : (lexemes : List Lexeme) (tail : Tail) (count byte : ℕ) → LaidUpTo [] lexemes tail → IsTokenByte tail byte → BeginsNoSeparator (byte ∷ []) × (open_bytes count lexemes + tail_size tail ≡ count)
+behind-last : (lexemes : List Lexeme) (tail : Tail) (count byte : ℕ) → LaidUpTo [] lexemes tail → IsTokenByte tail byte → BeginsWithNoSeparator (byte ∷ []) × (open_bytes count lexemes + tail_size tail ≡ count)
 behind-last [] nothing count byte laid counts = (counts, omega arith)
 behind-last [] slash count byte laid counts = absurd counts
 behind-last [] (open_comment inside) count byte laid counts = absurd counts
@@ -123,7 +123,7 @@ within (l ∷ lexemes) tail bytes more byte (m ∷ ms) most count (gap, p, r, is
           | inl found ↦ last found.0 found.1 found.2 begins none
         ]
       where
-        last : (x : List ℕ) → p ≡ q ++ x → w ≡ x ++ (byte ∷ more) → BeginsNoSeparator (byte ∷ []) → open_bytes (count_behind count l) lexemes + tail_size tail ≡ count_behind count l → open_bytes (count_behind count l) lexemes + tail_size tail + 1 ≤ most
+        last : (x : List ℕ) → p ≡ q ++ x → w ≡ x ++ (byte ∷ more) → BeginsWithNoSeparator (byte ∷ []) → open_bytes (count_behind count l) lexemes + tail_size tail ≡ count_behind count l → open_bytes (count_behind count l) lexemes + tail_size tail + 1 ≤ most
         last [] front behind begins none =
             let one = front-one l.token m.token p q [] [] spells spells_ tt tt (append-nil p ∙ front) in
             let size_is : l.size ≡ m.size = size ∙ one.size ∙ sym size_ in

@@ -8,10 +8,10 @@ use Rattle.p21_files.proofs.SameFiles.{SameTyped-transitive}
 use Rattle.p21_files.specs.Canonical.{Canonical}
 use Rattle.p21_files.specs.CanonicalRecord.{IsCanonicalRecord}
 use Rattle.p21_exchange.specs.DataSection.{instances_in}
-use Rattle.p21_files.specs.File.{FileMeaning, InstanceMeans, Reads, kinds_of}
-use Rattle.p21_files.specs.Kept.{IsInstanceText}
+use Rattle.p21_files.specs.File.{FileMeaning, InstanceMeans, Reads, entity_sets_of}
+use Rattle.p21_files.specs.CanonicalTexts.{IsInstanceText}
 use Rattle.p21_exchange.specs.Record.{Part, Record, record_tokens}
-use Rattle.p21_files.specs.Reference.{Kinds}
+use Rattle.p21_files.specs.Reference.{EntitySets}
 use Rattle.p21_files.specs.SameFile.{SameFileMeaning, SamePart, SameTyped}
 use Rattle.p21_schemas.specs.Schema.{Schema}
 use Rattle.p21_exchange.specs.Statement.{instance, statement_tokens}
@@ -32,8 +32,8 @@ IsCanonicalInstance s written meant = IsCanonicalRecord s written.1 meant.1
 pub instance-in_canonical : (s : Schema) → IsWellFormed s → (bytes : List ℕ) (m : FileMeaning) (reads : Reads s bytes m) (out : List ℕ) (c : Canonical s out) → SameFileMeaning c.meaning m
     → (n : ℕ) (r : Record) (text : List ℕ) → Contains (instances_in reads.structure.sections) (n, r) → (is : IsInstanceText s n r text) → Contains (instances_in c.reads.structure.sections) (n, is.canonical)
 instance-in_canonical s formed bytes m reads out c same n r text among is =
-    let kinds : Kinds = kinds_of m.instances in
-    let others : Kinds = kinds_of c.meaning.instances in
+    let kinds : EntitySets = entity_sets_of m.instances in
+    let others : EntitySets = entity_sets_of c.meaning.instances in
     let (x, at, holds) = AllZip-member (InstanceMeans s kinds) (instances_in reads.structure.sections) m.instances (n, r) reads.means among in
     let A : ℕ → Type 0 = λ k. Contains m.instances (k, x.1) in
     let (y, at_y, alike) = same.back n x.1 (subst A holds.0 at) in

@@ -4,25 +4,25 @@ use Rattle.std.specs.List.{AllZip, flat_map}
 use Rattle.p21_schemas.specs.WellFormed.{IsWellFormed}
 use Rattle.p21_exchange.proofs.OneTree.{one_tree}
 use Rattle.p21_exchange.specs.DataSection.{Heading, headings, instances_in}
-use Rattle.p21_files.specs.File.{FileMeaning, InstanceMeans, Reads, kinds_of, placed_in}
+use Rattle.p21_files.specs.File.{FileMeaning, InstanceMeans, Reads, entity_sets_of, names_with_heading}
 use Rattle.p21_exchange.specs.Grammar.{InGrammar}
 use Rattle.p21_exchange.specs.Header.{IsHeader}
 use Rattle.p21_exchange.specs.Laying.{AreStatementsWithin, Laid, LaidAs, Lexeme}
 use Rattle.p21_files.specs.Meaning.{Typed}
 use Rattle.p21_exchange.specs.Parameter.{list, no_params, param, text}
 use Rattle.p21_exchange.specs.Record.{Part, Record}
-use Rattle.p21_files.specs.Reference.{Kinds}
+use Rattle.p21_files.specs.Reference.{EntitySets}
 use Rattle.p21_schemas.specs.Schema.{Schema}
 use Rattle.p21_exchange.specs.Structure.{Structure}
 use Rattle.p21_exchange.specs.Token.{Token}
 use Rattle.p21_tokens_automaton.proofs.Once.{means-once}
 use Rattle.p21_tokens_automaton.proofs.Theorems.{laid_read, one-laying}
 use Rattle.p21_tokens_automaton.specs.Meaning.{MeanAll}
-use Rattle.p21_tokens_automaton.specs.Reading.{Sized}
+use Rattle.p21_tokens_automaton.specs.Reading.{SizedToken}
 use Rattle.p21_files.proofs.OneMeaning.{RecordMeans-one}
 
 -- what is found has one list of lexemes, with their sizes
-same-lexemes : (founds : List Sized) (ls ms : List Lexeme) → MeanAll founds ls → MeanAll founds ms → ls ≡ ms
+same-lexemes : (founds : List SizedToken) (ls ms : List Lexeme) → MeanAll founds ls → MeanAll founds ms → ls ≡ ms
 same-lexemes [] [] [] first second = refl
 same-lexemes [] [] (m ∷ ms) first second = absurd second
 same-lexemes [] (l ∷ ls) ms first second = absurd first
@@ -41,7 +41,7 @@ one_lexemes bytes ls ms laid laid_ =
     let p = laid_read ls bytes laid in
     let q = laid_read ms bytes laid_ in
     let same : p.0 ≡ q.0 = let e : Some p.0 ≡ Some q.0 = sym p.1 ∙ q.1 in cc in
-    same-lexemes q.0 ls ms (subst (λ (x : List Sized). MeanAll x ls) same p.2) q.2
+    same-lexemes q.0 ls ms (subst (λ (x : List SizedToken). MeanAll x ls) same p.2) q.2
 
 pub laid-one_lexemes : (bytes : List ℕ) (tokens others : List Token) (l : Laid bytes tokens) (m : Laid bytes others) → l.lexemes ≡ m.lexemes
 laid-one_lexemes bytes tokens others l m = one_lexemes bytes l.lexemes m.lexemes l.laid m.laid
@@ -68,7 +68,7 @@ one_schema_text_of bytes t u a b in_ also =
     one_schema_text u.header a b (subst (λ (x : Structure). IsHeader x.header a) (one_structure_of bytes t u a b in_ also) in_.is_file.header) also.is_file.header
 
 -- instances mean one list
-instances-one : (s : Schema) → IsWellFormed s → (kinds others : Kinds) (is : List (ℕ × Record)) (ms ns : List (ℕ × Typed)) → AllZip (InstanceMeans s kinds) is ms → AllZip (InstanceMeans s others) is ns → ms ≡ ns
+instances-one : (s : Schema) → IsWellFormed s → (kinds others : EntitySets) (is : List (ℕ × Record)) (ms ns : List (ℕ × Typed)) → AllZip (InstanceMeans s kinds) is ms → AllZip (InstanceMeans s others) is ns → ms ≡ ns
 instances-one s formed kinds others [] [] [] all all_ = refl
 instances-one s formed kinds others [] [] (n ∷ ns) all all_ = absurd all_
 instances-one s formed kinds others [] (m ∷ ms) ns all all_ = absurd all
@@ -97,6 +97,6 @@ Reads-one s formed bytes m n reads reads_ =
     (reads.header_is ∙ ap (λ (x : Structure). x.header) same ∙ sym reads_.header_is)
     (reads.schema_is ∙ sym reads_.schema_is)
     (reads.sections_are ∙ ap (λ (x : Structure). headings x.sections) same ∙ sym reads_.sections_are)
-    (instances-one s formed (kinds_of m.instances) (kinds_of n.instances) (instances_in u.sections) m.instances n.instances
-    (subst (λ (x : Structure). AllZip (InstanceMeans s (kinds_of m.instances)) (instances_in x.sections) m.instances) same reads.means) reads_.means)
-    (reads.instance_sections_are ∙ ap (λ (x : Structure). flat_map placed_in x.sections) same ∙ sym reads_.instance_sections_are)
+    (instances-one s formed (entity_sets_of m.instances) (entity_sets_of n.instances) (instances_in u.sections) m.instances n.instances
+    (subst (λ (x : Structure). AllZip (InstanceMeans s (entity_sets_of m.instances)) (instances_in x.sections) m.instances) same reads.means) reads_.means)
+    (reads.instance_sections_are ∙ ap (λ (x : Structure). flat_map names_with_heading x.sections) same ∙ sym reads_.instance_sections_are)

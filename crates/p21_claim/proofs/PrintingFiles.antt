@@ -9,19 +9,19 @@ use Rattle.p21_files.specs.Canonical.{Canonical, AreSectionsRising, AreNamesRisi
 use Rattle.p21_files.specs.CanonicalRecord.{IsCanonicalRecord}
 use Rattle.p21_exchange.specs.CanonicalText.{line}
 use Rattle.p21_exchange.specs.DataSection.{Heading, DataSection, AreHeadings, headings, heading_names, instances_in, section_names}
-use Rattle.p21_files.specs.File.{FileMeaning, InstanceMeans, Reads, kinds_of, placed_in, HeadingNamesSchema}
+use Rattle.p21_files.specs.File.{FileMeaning, InstanceMeans, Reads, entity_sets_of, names_with_heading, HeadingNamesSchema}
 use Rattle.p21_exchange.specs.Grammar.{IsDataRecord}
 use Rattle.p21_files.specs.Meaning.{Typed}
 use Rattle.p21_exchange.specs.Record.{Part}
-use Rattle.p21_files.specs.Reference.{Kinds}
+use Rattle.p21_files.specs.Reference.{EntitySets}
 use Rattle.p21_files.specs.SameFile.{HaveSameMembers, SamePart, SameTyped, SameFileMeaning}
 use Rattle.p21_schemas.specs.Schema.{Schema}
 use Rattle.p21_exchange.specs.Statement.{section, header, finish}
 use Rattle.p21_exchange.specs.Structure.{Structure, section_statements, statements, tokens_of}
 use Rattle.p21_claim_values.proofs.CanonicalLaid.{laid-each_spelled}
-use Rattle.p21_claim.proofs.Entries.{Entry, IsEntry, canonical_meant, written_in, meants_in, names_in, names-of, entries-mean, entries-canonical, entries-data, kinds-kept, Contains-canonical}
+use Rattle.p21_claim.proofs.Entries.{Entry, IsEntry, canonical_meant, written_in, meants_in, names_in, names-of, entries-mean, entries-canonical, entries-data, entity_sets-same, Contains-canonical}
 use Rattle.p21_claim.proofs.FileOnce.{Meant}
-use Rattle.p21_claim.proofs.Groups.{Group, IsGroup, entries_of, group_headings, group_placed, group, arranged, arranged-entries, arranged-placed, arranged-headings, arranged-each, arranged-rise, arranged-names_rise, sections_of, headings-of, instances-of, placed-of, entries-each, sections-each, groups-said}
+use Rattle.p21_claim.proofs.Groups.{SectionEntries, IsGroup, entries_of, group_headings, group_placed, group, arranged, arranged-entries, arranged-placed, arranged-headings, arranged-each, arranged-rise, arranged-names_rise, sections_of, headings-of, instances-of, placed-of, entries-each, sections-each, groups-said}
 use Rattle.p21_claim.proofs.Headings.{heading_text, DoRise, rise-headings}
 use Rattle.p21_claim.proofs.SaidFiles.{Instance, said, behind_header, header-lines_said, behind-said, sections-said}
 use Rattle.p21_claim_values.specs.Written.{IsWrittenStatement}
@@ -60,13 +60,13 @@ pub record HasCanonicalFile (s : Schema) (m : FileMeaning) : Type 0 where
 pub has-canonical_file : (s : Schema) → IsWellFormed s → (bytes : List ℕ) (m : FileMeaning) → Reads s bytes m → HasCanonicalFile s m
 has-canonical_file s formed bytes m reads =
     let t : Structure = reads.structure in
-    let kinds : Kinds = kinds_of m.instances in
+    let kinds : EntitySets = entity_sets_of m.instances in
     let heads : List Heading = headings t.sections in
     let source : Each IsWrittenStatement (statements t) = said t (laid-each_spelled bytes (tokens_of t) reads.in_grammar.laid) in
     let sections : Each (λ (x : DataSection). Each IsWrittenStatement (section_statements x)) t.sections = sections-said t source in
     let behind : Each IsWrittenStatement (behind_header t) = behind-said t source in
     let are = group s formed kinds t.sections m.instances reads.means sections reads.in_grammar.is_file.data_records in
-    let gs : List Group = arranged are.groups in
+    let gs : List SectionEntries = arranged are.groups in
     let own_sections : List DataSection = sections_of gs in
     let es : List Entry = entries_of gs in
     let group_each : Each (IsGroup s kinds) gs = arranged-each s kinds are.groups are.each in
@@ -76,9 +76,9 @@ has-canonical_file s formed bytes m reads =
     let none_ : NoneTwice (names_in es) = Shuffled-none_twice (names_in (entries_of are.groups)) (names_in es) (Shuffled-mapped (λ (e : Entry). e.0.0) (entries_of are.groups) es shuffled) none in
     let S : List Meant → Type 0 = λ ms. Shuffled ms (meants_in es) in
     let mixed : Shuffled (map (canonical_meant s) m.instances) (meants_in es) = subst S are.meants (Shuffled-mapped (λ (e : Entry). e.1) (entries_of are.groups) es shuffled) in
-    let K : Kinds → Type 0 = λ ks. Shuffled ks (kinds_of (meants_in es)) in
-    let wider : IsWider kinds (kinds_of (meants_in es)) =
-    Shuffled-members kinds (kinds_of (meants_in es)) (subst K (kinds-kept s m.instances) (Shuffled-mapped (λ (i : Meant). (i.0, i.1.entities)) (map (canonical_meant s) m.instances) (meants_in es) mixed)) in
+    let K : EntitySets → Type 0 = λ ks. Shuffled ks (entity_sets_of (meants_in es)) in
+    let wider : IsWider kinds (entity_sets_of (meants_in es)) =
+    Shuffled-members kinds (entity_sets_of (meants_in es)) (subst K (entity_sets-same s m.instances) (Shuffled-mapped (λ (i : Meant). (i.0, i.1.entities)) (map (canonical_meant s) m.instances) (meants_in es) mixed)) in
     let H : List Heading → Type 0 = λ hs. Shuffled hs (headings own_sections) in
     let H_ : List Heading → Type 0 = λ hs. Shuffled (group_headings are.groups) hs in
     let heads_mixed : Shuffled heads (headings own_sections) = subst H are.heads (subst H_ (sym (headings-of gs)) (arranged-headings are.groups)) in
@@ -90,9 +90,9 @@ has-canonical_file s formed bytes m reads =
     let texts_none : NoneTwice (map heading_text (group_headings are.groups)) =
     (let P : List Heading → Type 0 = λ hs. NoneTwice (map heading_text hs) in subst P (sym are.heads) (texts_none_twice heads headings_are spelled names_none)) in
     let rise : AreSectionsRising (headings own_sections) = rise-headings (headings own_sections) headings_are_ (subst DoRise (sym (headings-of gs)) (arranged-rise are.groups texts_none)) in
-    let R : List (ℕ × Heading) → Type 0 = λ ps. Shuffled ps (flat_map placed_in own_sections) in
+    let R : List (ℕ × Heading) → Type 0 = λ ps. Shuffled ps (flat_map names_with_heading own_sections) in
     let R_ : List (ℕ × Heading) → Type 0 = λ ps. Shuffled (flat_map group_placed are.groups) ps in
-    let placed_mixed : Shuffled (flat_map placed_in t.sections) (flat_map placed_in own_sections) = subst R are.placed (subst R_ (sym (placed-of gs)) (arranged-placed are.groups)) in
+    let placed_mixed : Shuffled (flat_map names_with_heading t.sections) (flat_map names_with_heading own_sections) = subst R are.placed (subst R_ (sym (placed-of gs)) (arranged-placed are.groups)) in
     let instances_are : written_in es ≡ instances_in own_sections = sym (instances-of gs) in
     let u : Structure = record { header = t.header; sections = own_sections } in
     let all_said : Each IsWrittenStatement (statements u) = (
@@ -103,10 +103,10 @@ has-canonical_file s formed bytes m reads =
             (behind.0, Each-append IsWrittenStatement (flat_map section_statements own_sections) (section finish ∷ []) (groups-said s kinds gs behind.0 group_each) (Each-back IsWrittenStatement (flat_map section_statements t.sections) (section finish ∷ []) behind.1)),
       ),
     ) in
-    let own : FileMeaning = record { header = t.header; schema = s.name; sections = headings own_sections; instances = meants_in es; instance_sections = flat_map placed_in own_sections } in
+    let own : FileMeaning = record { header = t.header; schema = s.name; sections = headings own_sections; instances = meants_in es; instance_sections = flat_map names_with_heading own_sections } in
     let out : List ℕ = flat_map line (statements u) in
     let D : List Instance → Type 0 = λ is. Each (λ (i : Instance). IsDataRecord i.1) is in
-    let M : List Instance → Type 0 = λ is. AllZip (InstanceMeans s (kinds_of (meants_in es))) is (meants_in es) in
+    let M : List Instance → Type 0 = λ is. AllZip (InstanceMeans s (entity_sets_of (meants_in es))) is (meants_in es) in
     let C : List Instance → Type 0 = λ is. AllZip (λ (written : Instance) (meant : Meant). IsCanonicalRecord s written.1 meant.1) is (meants_in es) in
     let new_reads : Reads s out own = record {
       structure = u;
@@ -124,7 +124,7 @@ has-canonical_file s formed bytes m reads =
       sections_name_schema = each-shuffled (HeadingNamesSchema s.name) heads (headings own_sections) (Shuffled-symmetric heads (headings own_sections) heads_mixed) reads.sections_name_schema;
       section_names_differ = none_twice-texts (section_names (headings own_sections)) names_none_;
       names_differ = subst (IsDistinct nat_eq) (names-of es ∙ ap named instances_are) (none_twice-distinct (names_in es) none_);
-      means = subst M instances_are (entries-mean s kinds (kinds_of (meants_in es)) wider es each);
+      means = subst M instances_are (entries-mean s kinds (entity_sets_of (meants_in es)) wider es each);
       header_is = refl;
       schema_is = refl;
       sections_are = refl;
@@ -149,6 +149,6 @@ has-canonical_file s formed bytes m reads =
             (x, found, same-by (canonical_typed s x) y x is (SameTyped-symmetric x (canonical_typed s x) (canonical-same_typed s x)));
         back = λ n x among.
             (canonical_typed s x, Shuffled-members (map (canonical_meant s) m.instances) (meants_in es) mixed (n, canonical_typed s x) (Contains-mapped (canonical_meant s) m.instances (n, x) among), canonical-same_typed s x);
-        instance_sections = (let P : List (ℕ × Heading) → Type 0 = λ ps. HaveSameMembers (flat_map placed_in own_sections) ps in subst P (sym reads.instance_sections_are) (mixed-members (flat_map placed_in t.sections) (flat_map placed_in own_sections) placed_mixed));
+        instance_sections = (let P : List (ℕ × Heading) → Type 0 = λ ps. HaveSameMembers (flat_map names_with_heading own_sections) ps in subst P (sym reads.instance_sections_are) (mixed-members (flat_map names_with_heading t.sections) (flat_map names_with_heading own_sections) placed_mixed));
       };
     }

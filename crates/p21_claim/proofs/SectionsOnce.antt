@@ -8,7 +8,7 @@ use Rattle.std.proofs.lemmas.List.{map-append}
 use Rattle.p21_basics.proofs.Members.{Contains-none, Contains-first, Contains-later, Contains-cases, Contains-flat_map, Contains-mapped, Contains-one_of, Each-member}
 use Rattle.p21_files.specs.Canonical.{AreNamesRising}
 use Rattle.p21_exchange.specs.DataSection.{Heading, DataSection, headings, instances_in}
-use Rattle.p21_files.specs.File.{placed_in}
+use Rattle.p21_files.specs.File.{names_with_heading}
 use Rattle.p21_files.specs.SameFile.{HaveSameMembers}
 use Rattle.p21_basics.proofs.RisingLists.{rises-once, rises-own}
 use Rattle.p21_claim.proofs.SaidFiles.{Instance}
@@ -50,7 +50,7 @@ one-section (x ∷ xs) none a b among among_ same = elim (Contains-cases x xs a 
     twice z is at = none.0 (let P : Heading → Type 0 = λ h. Contains (headings xs) h in subst P (sym is) (Contains-mapped (λ (w : DataSection). w.heading) xs z at))
 
 -- a name that stands with a heading
-placed-names : (x : DataSection) (n : ℕ) (h : Heading) → Contains (placed_in x) (n, h) → (x.heading ≡ h) × Contains (own_names x) n
+placed-names : (x : DataSection) (n : ℕ) (h : Heading) → Contains (names_with_heading x) (n, h) → (x.heading ≡ h) × Contains (own_names x) n
 placed-names x n h among = by x.instances among
   where
     by : (is : List Instance) → Contains {X = ℕ × Heading} (map (λ (i : Instance). (i.0, x.heading)) is) (n, h) → (x.heading ≡ h) × Contains (named is) n
@@ -60,7 +60,7 @@ placed-names x n h among = by x.instances among
       | inr later ↦ let found = by is later in (found.0, Contains-later i.0 (named is) n found.1)
     ]
 
-names-placed : (x : DataSection) (n : ℕ) → Contains (own_names x) n → Contains (placed_in x) (n, x.heading)
+names-placed : (x : DataSection) (n : ℕ) → Contains (own_names x) n → Contains (names_with_heading x) (n, x.heading)
 names-placed x n among = by x.instances among
   where
     by : (is : List Instance) → Contains (named is) n → Contains {X = ℕ × Heading} (map (λ (i : Instance). (i.0, x.heading)) is) (n, x.heading)
@@ -71,9 +71,9 @@ names-placed x n among = by x.instances among
     ]
 
 -- sections of one heading have the same names, where each instance is in the same section
-names-onto : (xs ys : List DataSection) → NoneTwice (headings ys) → AreMembers (flat_map placed_in xs) (flat_map placed_in ys) → (x y : DataSection) → Contains xs x → Contains ys y → x.heading ≡ y.heading → AreMembers (own_names x) (own_names y)
+names-onto : (xs ys : List DataSection) → NoneTwice (headings ys) → AreMembers (flat_map names_with_heading xs) (flat_map names_with_heading ys) → (x y : DataSection) → Contains xs x → Contains ys y → x.heading ≡ y.heading → AreMembers (own_names x) (own_names y)
 names-onto xs ys none onto x y at at_ same n among =
-    let (z, among_, found) = Contains-one_of placed_in ys (n, x.heading) (onto (n, x.heading) (Contains-flat_map placed_in xs x (n, x.heading) at (names-placed x n among))) in
+    let (z, among_, found) = Contains-one_of names_with_heading ys (n, x.heading) (onto (n, x.heading) (Contains-flat_map names_with_heading xs x (n, x.heading) at (names-placed x n among))) in
     let placed = placed-names z n x.heading found in
     let one : z ≡ y = one-section ys none z y among_ at_ (placed.0 ∙ same) in
     let P : DataSection → Type 0 = λ w. Contains (own_names w) n in
@@ -93,7 +93,7 @@ names-walk (u ∷ us) (v ∷ vs) names same =
     ∙ ap (λ (nss : List (List ℕ)). own_names v ∷ nss) (names-walk us vs (λ x y at at_ h. names x y (Contains-later u us x at) (Contains-later v vs y at_) h) rest)
 
 -- the instance names of each section are one list
-pub names-by_sections : (xs ys : List DataSection) → NoneTwice (headings xs) → headings xs ≡ headings ys → HaveSameMembers (flat_map placed_in xs) (flat_map placed_in ys) → Each AreNamesRising xs → Each AreNamesRising ys → names_by xs ≡ names_by ys
+pub names-by_sections : (xs ys : List DataSection) → NoneTwice (headings xs) → headings xs ≡ headings ys → HaveSameMembers (flat_map names_with_heading xs) (flat_map names_with_heading ys) → Each AreNamesRising xs → Each AreNamesRising ys → names_by xs ≡ names_by ys
 names-by_sections xs ys none same placed rise rise_ =
     let none_ : NoneTwice (headings ys) = subst NoneTwice same none in
     names-walk xs ys

@@ -8,9 +8,9 @@ use Rattle.p21_claim.proofs.OneReading.{one_lexemes, one_schema_text_of, one_str
 use Rattle.p21_claim.proofs.OwnCanonical.{accepted-has_file, canonical-means, file-accepted, file-is_own, file-means_same, own-means}
 use Rattle.p21_claim.proofs.PrintingFiles.{has-canonical_file}
 use Rattle.p21_claim.proofs.SaidFiles.{said}
-use Rattle.p21_claim.specs.CanonicalLaws.{CanonicalBytesAreGraphic, CanonicalBytesAreTheirOwn, CanonicalBytesExist, CanonicalBytesTell, CanonicalFileExists, CanonicalFileIsAccepted, CanonicalFileIsItsOwn, CanonicalFileMeansTheSame, CanonicalFilesTell, OneCanonicalFile, ShortCanonicalIsAccepted}
+use Rattle.p21_claim.specs.CanonicalLaws.{CanonicalBytesAreGraphic, CanonicalBytesAreTheirOwn, CanonicalBytesExist, CanonicalBytesTellMeaning, CanonicalFileExists, CanonicalFileIsAccepted, CanonicalFileIsItsOwn, CanonicalFileMeansTheSame, CanonicalFilesTellMeaning, OneCanonicalFile, CanonicalWithinLimitsIsAccepted}
 use Rattle.p21_claim.specs.Headline.{Headline}
-use Rattle.p21_claim.specs.ReadingLaws.{LimitHoldsForEachReading, OneListOfLexemes, OneMeaningOfBytes, OneMeaningWithin, OneTreeOfBytes}
+use Rattle.p21_claim.specs.ReadingLaws.{LimitHoldsForEachReading, OneListOfLexemes, OneMeaningOfBytes, OneMeaningWithinLimits, OneTreeOfBytes}
 use Rattle.p21_claim_values.proofs.CanonicalLaid.{laid-each_spelled}
 use Rattle.p21_claim_values.proofs.GraphicTexts.{lines-graphic}
 use Rattle.p21_claim_values.specs.Written.{IsWrittenStatement}
@@ -36,7 +36,7 @@ one-tree bytes structure other text other_text in_ also = (one_structure_of byte
 pub one-meaning : OneMeaningOfBytes
 one-meaning s formed = Reads-one s formed
 
-pub one-meaning_within : OneMeaningWithin
+pub one-meaning_within : OneMeaningWithinLimits
 one-meaning_within s formed = Means-one s formed
 
 pub each-reading : LimitHoldsForEachReading
@@ -47,7 +47,7 @@ each-reading = Means-any_reading
 pub bytes-exist : CanonicalBytesExist
 bytes-exist s formed bytes m reads = let has = has-canonical_file s formed bytes m reads in (has.bytes, has.canonical, has.same)
 
-pub bytes-tell : CanonicalBytesTell
+pub bytes-tell : CanonicalBytesTellMeaning
 bytes-tell s formed a b c d = (
   λ same. file-once s formed a b c d same,
   λ equal. canonical-same s formed a b c d equal,
@@ -66,7 +66,7 @@ bytes-graphic s a c =
     subst (Each (λ byte. IsGraphic byte ⊎ (byte ≡ 10))) (sym c.lines)
     (line-bytes (statements c.reads.structure) (said c.reads.structure (laid-each_spelled a (tokens_of c.reads.structure) c.reads.in_grammar.laid)))
 
-pub files-tell : CanonicalFilesTell
+pub files-tell : CanonicalFilesTellMeaning
 files-tell s formed limits bytes others a b (m, means, is) (n, means_, is_) =
     let law = files-same s formed limits m n a b is is_ in (
       λ (x, y, of_x, of_y, same).
@@ -100,7 +100,7 @@ bytes-own s formed limits bytes c (m, means) =
     let equal : means.canonical ≡ bytes = file-once s formed means.canonical bytes is.canonical c (subst (SameFileMeaning is.canonical.meaning) (sym one) is.same) in
     subst (λ (x : List ℕ). IsCanonicalFile s limits bytes x) equal (m, means, is)
 
-pub short-accepted : ShortCanonicalIsAccepted
+pub short-accepted : CanonicalWithinLimitsIsAccepted
 short-accepted s limits are bytes c short within = (c.meaning, own-means s limits are bytes c short within)
 
 -- ---- the claim

@@ -3,9 +3,9 @@ use Rattle.std.specs.Prelude.{◌≡◌, ℕ, List, [], ◌∷◌, Contains}
 use Rattle.std.proofs.Common.{ap, sym, subst, ◌∙◌, inl, inr}
 use Rattle.p21_basics.proofs.Members.{Contains-none, Contains-first, Contains-later, Contains-cases, Each-member, AllZip-member}
 use Rattle.p21_exchange.specs.DataSection.{instances_in}
-use Rattle.p21_files.specs.File.{InstanceMeans, kinds_of}
+use Rattle.p21_files.specs.File.{InstanceMeans, entity_sets_of}
 use Rattle.p21_files.specs.Meaning.{RecordMeans, Typed}
-use Rattle.p21_files.specs.Reference.{Kinds, IsServed, Serves}
+use Rattle.p21_files.specs.Reference.{EntitySets, IsServed, Serves}
 use Rattle.p21_exchange.specs.Statement.{instance}
 use Rattle.p21_exchange.specs.Structure.{Structure, statements}
 use Rattle.p21_claim.proofs.FileOnce.{Meant, meant_names, meant-named, one-meant}
@@ -14,22 +14,22 @@ use Rattle.p21_basics.proofs.Shuffles.{distinct-none_twice}
 use Rattle.p21_claim.proofs.Dead.{dead-by}
 use Rattle.p21_claim_values.proofs.Needs.{means-served}
 use Rattle.p21_claim.proofs.Statements.{Contains-begins, instance-among}
-use Rattle.p21_claim.specs.DeadLaws.{UnfitIsDead}
+use Rattle.p21_claim.specs.DeadLaws.{UnfitReferenceIsDead}
 use Rattle.p21_basics.proofs.Shuffles.{NoneTwice}
 use Rattle.p21_files.proofs.OneMeaning.{RecordMeans-one}
 
 -- what stands for a name among the sets is that of an instance of the name
-meant-of : (ms : List Meant) (n : ℕ) (entities : List ℕ) → Contains (kinds_of ms) (n, entities) → (x : Typed) × Contains ms (n, x) × (x.entities ≡ entities)
+meant-of : (ms : List Meant) (n : ℕ) (entities : List ℕ) → Contains (entity_sets_of ms) (n, entities) → (x : Typed) × Contains ms (n, x) × (x.entities ≡ entities)
 meant-of [] n entities among = absurd (Contains-none (n, entities) among)
-meant-of (m ∷ ms) n entities among = elim (Contains-cases (m.0, m.1.entities) (kinds_of ms) (n, entities) among) [
+meant-of (m ∷ ms) n entities among = elim (Contains-cases (m.0, m.1.entities) (entity_sets_of ms) (n, entities) among) [
   | inl h ↦ (let P : ℕ → Type 0 = λ k. Contains (m ∷ ms) (k, m.1) in (m.1, subst P (ap (λ (k : ℕ × List ℕ). k.0) h) (Contains-first m ms), ap (λ (k : ℕ × List ℕ). k.1) h))
   | inr h ↦ let (x, at, is) = meant-of ms n entities h in (x, Contains-later m ms (n, x) at, is)
 ]
 
-pub unfit-dead : UnfitIsDead
+pub unfit-dead : UnfitReferenceIsDead
 unfit-dead s formed limits bytes taken front n r a needs need among is at target others b among_ means_ none = dead-by s limits bytes taken front (λ more m means begins.
     let t : Structure = means.reads.structure in
-    let kinds : Kinds = kinds_of m.instances in
+    let kinds : EntitySets = entity_sets_of m.instances in
     let first = AllZip-member (InstanceMeans s kinds) (instances_in t.sections) m.instances (n, r) means.reads.means (instance-among t n r (Contains-begins taken (statements t) (instance n r) begins among)) in
     let one : first.0.1 ≡ a = RecordMeans-one s formed kinds is.kinds r first.0.1 a first.2.1 is.means in
     let P : Typed → Type 0 = λ x. RecordMeans s kinds r x in

@@ -18,8 +18,8 @@ abbrev pub CanonicalBytesExist : Type 0
 CanonicalBytesExist = (s : Schema) → IsWellFormed s → (bytes : List ℕ) (m : FileMeaning) → Reads s bytes m → (a : List ℕ) × (c : Canonical s a) × SameFileMeaning c.meaning m
 
 -- canonical bytes mean the same exactly if they are equal
-abbrev pub CanonicalBytesTell : Type 0
-CanonicalBytesTell = (s : Schema) → IsWellFormed s → (a b : List ℕ) (c : Canonical s a) (d : Canonical s b) → SameFileMeaning c.meaning d.meaning ↔ (a ≡ b)
+abbrev pub CanonicalBytesTellMeaning : Type 0
+CanonicalBytesTellMeaning = (s : Schema) → IsWellFormed s → (a b : List ℕ) (c : Canonical s a) (d : Canonical s b) → SameFileMeaning c.meaning d.meaning ↔ (a ≡ b)
 
 -- they hold bytes 20 to 7E, and LF at the end of each line
 abbrev pub CanonicalBytesAreGraphic : Type 0
@@ -32,8 +32,8 @@ abbrev pub MeanTheSame : Schema → Limits → List ℕ → List ℕ → Type 0
 MeanTheSame s limits bytes others = (m n : FileMeaning) × Means s limits bytes m × Means s limits others n × SameFileMeaning m n
 
 -- accepted bytes mean the same exactly if their canonical files are equal
-abbrev pub CanonicalFilesTell : Type 0
-CanonicalFilesTell = (s : Schema) → IsWellFormed s → (limits : Limits) (bytes others a b : List ℕ) → IsCanonicalFile s limits bytes a → IsCanonicalFile s limits others b → MeanTheSame s limits bytes others ↔ (a ≡ b)
+abbrev pub CanonicalFilesTellMeaning : Type 0
+CanonicalFilesTellMeaning = (s : Schema) → IsWellFormed s → (limits : Limits) (bytes others a b : List ℕ) → IsCanonicalFile s limits bytes a → IsCanonicalFile s limits others b → MeanTheSame s limits bytes others ↔ (a ≡ b)
 
 -- accepted bytes have a canonical file
 abbrev pub CanonicalFileExists : Type 0
@@ -60,5 +60,5 @@ abbrev pub CanonicalBytesAreTheirOwn : Type 0
 CanonicalBytesAreTheirOwn = (s : Schema) → IsWellFormed s → (limits : Limits) (bytes : List ℕ) → Canonical s bytes → IsAccepted s limits bytes → IsCanonicalFile s limits bytes bytes
 
 -- canonical bytes within the limits are accepted
-abbrev pub ShortCanonicalIsAccepted : Type 0
-ShortCanonicalIsAccepted = (s : Schema) (limits : Limits) → AreLimits limits → (bytes : List ℕ) (c : Canonical s bytes) → length bytes ≤ limits.file_canonical → Each (IsLineWithin limits) (statements c.reads.structure) → IsAccepted s limits bytes
+abbrev pub CanonicalWithinLimitsIsAccepted : Type 0
+CanonicalWithinLimitsIsAccepted = (s : Schema) (limits : Limits) → AreLimits limits → (bytes : List ℕ) (c : Canonical s bytes) → length bytes ≤ limits.file_canonical → Each (IsLineWithin limits) (statements c.reads.structure) → IsAccepted s limits bytes

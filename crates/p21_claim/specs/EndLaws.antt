@@ -11,7 +11,7 @@ use Rattle.p21_files.specs.Reference.{Need, IsServed, Serves}
 use Rattle.p21_schemas.specs.Schema.{Schema}
 use Rattle.p21_exchange.specs.Structure.{Structure, tokens_of}
 use Rattle.p21_exchange.specs.Token.{Token}
-use Rattle.p21_claim.specs.Ended.{Entry, Group, Block, IsMeant, IsEnded, entries_in, kinds_in, structure_of, file_text}
+use Rattle.p21_claim.specs.CompleteFile.{Entry, SectionEntries, Block, IsMeant, IsCompleteFile, entries_in, entity_sets_in, structure_of, file_text}
 
 -- ---- refused at the end
 
@@ -24,18 +24,18 @@ abbrev pub NoTreeIsRefused : Type 0
 NoTreeIsRefused = (s : Schema) (limits : Limits) (bytes : List ℕ) (tokens : List Token) → Laid bytes tokens → ((structure : Structure) (text : List ℕ) → IsFile structure text → tokens_of structure ≢ tokens) → ¬ IsAccepted s limits bytes
 
 -- a need that no instance of the file serves
-abbrev pub UnservedIsRefused : Type 0
-UnservedIsRefused = (s : Schema) → IsWellFormed s → (limits : Limits) (bytes : List ℕ) (parts : List Part) (groups : List Group) → Laid bytes (tokens_of (structure_of parts groups)) → Each (IsMeant s) (entries_in groups)
-    → (entry : Entry) (need : Need) → Contains (entries_in groups) entry → Contains entry.needs need → ¬ IsServed s (kinds_in (entries_in groups)) need → ¬ IsAccepted s limits bytes
+abbrev pub UnservedNeedIsRefused : Type 0
+UnservedNeedIsRefused = (s : Schema) → IsWellFormed s → (limits : Limits) (bytes : List ℕ) (parts : List Part) (groups : List SectionEntries) → Laid bytes (tokens_of (structure_of parts groups)) → Each (IsMeant s) (entries_in groups)
+    → (entry : Entry) (need : Need) → Contains (entries_in groups) entry → Contains entry.needs need → ¬ IsServed s (entity_sets_in (entries_in groups)) need → ¬ IsAccepted s limits bytes
 
 -- a reference to a name that no instance has
-abbrev pub UnknownIsRefused : Type 0
-UnknownIsRefused = (s : Schema) → IsWellFormed s → (limits : Limits) (bytes : List ℕ) (parts : List Part) (groups : List Group) → Laid bytes (tokens_of (structure_of parts groups)) → Each (IsMeant s) (entries_in groups)
+abbrev pub UnknownReferenceIsRefused : Type 0
+UnknownReferenceIsRefused = (s : Schema) → IsWellFormed s → (limits : Limits) (bytes : List ℕ) (parts : List Part) (groups : List SectionEntries) → Laid bytes (tokens_of (structure_of parts groups)) → Each (IsMeant s) (entries_in groups)
     → (entry : Entry) (need : Need) → Contains (entries_in groups) entry → Contains entry.needs need → ¬ Contains (map (λ e. e.name) (entries_in groups)) need.target → ¬ IsAccepted s limits bytes
 
 -- a reference to an instance whose set doesn't serve
-abbrev pub UnfitIsRefused : Type 0
-UnfitIsRefused = (s : Schema) → IsWellFormed s → (limits : Limits) (bytes : List ℕ) (parts : List Part) (groups : List Group) → Laid bytes (tokens_of (structure_of parts groups)) → Each (IsMeant s) (entries_in groups)
+abbrev pub UnfitReferenceIsRefused : Type 0
+UnfitReferenceIsRefused = (s : Schema) → IsWellFormed s → (limits : Limits) (bytes : List ℕ) (parts : List Part) (groups : List SectionEntries) → Laid bytes (tokens_of (structure_of parts groups)) → Each (IsMeant s) (entries_in groups)
     → (entry target : Entry) (need : Need) → Contains (entries_in groups) entry → Contains entry.needs need → Contains (entries_in groups) target → target.name ≡ need.target → ¬ Serves s need.wanted target.meaning.entities → ¬ IsAccepted s limits bytes
 
 -- what is dead is refused at its end too
@@ -45,11 +45,11 @@ DeadIsRefused = (s : Schema) (limits : Limits) (bytes : List ℕ) → IsDead s l
 -- ---- accepted at the end
 
 -- a file of which nothing of this is wrong is accepted, and its sections and their lines by rising names are its canonical file
-abbrev pub EndedIsAccepted : Type 0
-EndedIsAccepted = (s : Schema) → IsWellFormed s → (limits : Limits) (bytes : List ℕ) (parts : List Part) (groups : List Group) (blocks : List Block) → IsEnded s limits bytes parts groups blocks
+abbrev pub CompleteFileIsAccepted : Type 0
+CompleteFileIsAccepted = (s : Schema) → IsWellFormed s → (limits : Limits) (bytes : List ℕ) (parts : List Part) (groups : List SectionEntries) (blocks : List Block) → IsCompleteFile s limits bytes parts groups blocks
     → IsCanonicalFile s limits bytes (file_text parts blocks)
 
 -- and each accepted file is such
-abbrev pub AcceptedIsEnded : Type 0
-AcceptedIsEnded = (s : Schema) → IsWellFormed s → (limits : Limits) (bytes : List ℕ) → IsAccepted s limits bytes
-    → (parts : List Part) × (groups : List Group) × (blocks : List Block) × IsEnded s limits bytes parts groups blocks
+abbrev pub AcceptedFileIsComplete : Type 0
+AcceptedFileIsComplete = (s : Schema) → IsWellFormed s → (limits : Limits) (bytes : List ℕ) → IsAccepted s limits bytes
+    → (parts : List Part) × (groups : List SectionEntries) × (blocks : List Block) × IsCompleteFile s limits bytes parts groups blocks

@@ -22,8 +22,8 @@ abbrev pub OneMeaningOfBytes : Type 0
 OneMeaningOfBytes = (s : Schema) → IsWellFormed s → (bytes : List ℕ) (m n : FileMeaning) → Reads s bytes m → Reads s bytes n → m ≡ n
 
 -- within whatever limits, too
-abbrev pub OneMeaningWithin : Type 0
-OneMeaningWithin = (s : Schema) → IsWellFormed s → (limits others : Limits) (bytes : List ℕ) (m n : FileMeaning) → Means s limits bytes m → Means s others bytes n → m ≡ n
+abbrev pub OneMeaningWithinLimits : Type 0
+OneMeaningWithinLimits = (s : Schema) → IsWellFormed s → (limits others : Limits) (bytes : List ℕ) (m n : FileMeaning) → Means s limits bytes m → Means s others bytes n → m ≡ n
 
 -- the limit on statements holds for each reading of bytes that mean something within it
 abbrev pub LimitHoldsForEachReading : Type 0

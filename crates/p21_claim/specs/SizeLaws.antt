@@ -3,7 +3,7 @@ use Rattle.std.specs.Prelude.{◌<◌, ◌+◌, ℕ, List, [], ◌∷◌, ◌++�
 use Rattle.std.specs.List.{AllByRecursion as Each}
 use Rattle.p21_basics.specs.Digits.{IsByte}
 use Rattle.p21_basics.specs.Limits.{Limits}
-use Rattle.p21_claim.specs.Taken.{AreTaken, BeginsWith}
+use Rattle.p21_claim.specs.Taken.{AreStatementsTaken, BeginsWith}
 use Rattle.p21_schemas.specs.WellFormed.{IsWellFormed}
 use Rattle.p21_exchange.specs.CanonicalText.{line, statement_text}
 use Rattle.p21_exchange.specs.Laying.{AreStatementsWithin, LaidAs, Lexeme, open_bytes}
@@ -11,7 +11,7 @@ use Rattle.p21_exchange.specs.Pending.{IsTokenByte, LaidUpTo, Tail, tail_size}
 use Rattle.p21_exchange.specs.Record.{Part, Record}
 use Rattle.p21_exchange.specs.Statement.{SectionLine, Statement, section, header, instance}
 use Rattle.p21_files.specs.Accepted.{IsDead}
-use Rattle.p21_files.specs.Kept.{AreKept, IsInstanceText}
+use Rattle.p21_files.specs.CanonicalTexts.{HaveCanonicalSize, IsInstanceText}
 use Rattle.p21_schemas.specs.Schema.{Schema}
 
 -- ---- the source
@@ -38,20 +38,20 @@ FullStatementIsDead = (s : Schema) (limits : Limits) (bytes : List ℕ) (lexemes
 
 -- a section line over its limit: that of a data section with a name, or under a limit that no file keeps
 abbrev pub LongSectionLineIsDead : Type 0
-LongSectionLineIsDead = (s : Schema) (limits : Limits) (bytes : List ℕ) (taken : List Statement) → AreTaken bytes taken → (line_ : SectionLine) → Contains taken (section line_) → limits.record_canonical < length (statement_text (section line_)) → IsDead s limits bytes
+LongSectionLineIsDead = (s : Schema) (limits : Limits) (bytes : List ℕ) (taken : List Statement) → AreStatementsTaken bytes taken → (line_ : SectionLine) → Contains taken (section line_) → limits.record_canonical < length (statement_text (section line_)) → IsDead s limits bytes
 
 -- a header record whose canonical line is over its limit
 abbrev pub LongHeaderIsDead : Type 0
-LongHeaderIsDead = (s : Schema) (limits : Limits) (bytes : List ℕ) (taken : List Statement) → AreTaken bytes taken → (part : Part) → Contains taken (header part) → limits.record_canonical < length (statement_text (header part)) → IsDead s limits bytes
+LongHeaderIsDead = (s : Schema) (limits : Limits) (bytes : List ℕ) (taken : List Statement) → AreStatementsTaken bytes taken → (part : Part) → Contains taken (header part) → limits.record_canonical < length (statement_text (header part)) → IsDead s limits bytes
 
 -- an instance whose canonical line is over its limit
 abbrev pub LongInstanceIsDead : Type 0
-LongInstanceIsDead = (s : Schema) → IsWellFormed s → (limits : Limits) (bytes : List ℕ) (taken : List Statement) → AreTaken bytes taken
+LongInstanceIsDead = (s : Schema) → IsWellFormed s → (limits : Limits) (bytes : List ℕ) (taken : List Statement) → AreStatementsTaken bytes taken
     → (n : ℕ) (record_ : Record) (text : List ℕ) → Contains taken (instance n record_) → IsInstanceText s n record_ text → limits.record_canonical < length text → IsDead s limits bytes
 
 -- the last line of each canonical file has 17 bytes: under a lower limit on lines nothing is accepted
-abbrev pub NarrowIsDead : Type 0
-NarrowIsDead = (s : Schema) (limits : Limits) (bytes : List ℕ) → limits.record_canonical < 17 → IsDead s limits bytes
+abbrev pub NarrowLineLimitIsDead : Type 0
+NarrowLineLimitIsDead = (s : Schema) (limits : Limits) (bytes : List ℕ) → limits.record_canonical < 17 → IsDead s limits bytes
 
 -- ---- canonical files
 
@@ -63,5 +63,5 @@ framing (other ∷ rest) = 1 + framing rest
 
 -- the canonical lines of the statements that have ended are more than a canonical file may have
 abbrev pub LongFileIsDead : Type 0
-LongFileIsDead = (s : Schema) → IsWellFormed s → (limits : Limits) (bytes : List ℕ) (taken : List Statement) → AreTaken bytes taken
-    → (kept : ℕ) → AreKept s taken kept → limits.file_canonical < kept + framing taken → IsDead s limits bytes
+LongFileIsDead = (s : Schema) → IsWellFormed s → (limits : Limits) (bytes : List ℕ) (taken : List Statement) → AreStatementsTaken bytes taken
+    → (kept : ℕ) → HaveCanonicalSize s taken kept → limits.file_canonical < kept + framing taken → IsDead s limits bytes

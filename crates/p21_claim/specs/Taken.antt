@@ -16,16 +16,16 @@ abbrev pub BeginsWith : {X : Type 0} → List X → List X → Type 0
 BeginsWith {X} front whole = (rest : List X) × (whole ≡ front ++ rest)
 
 -- the tokens laid in any bytes that begin so begin with these
-abbrev pub AreGiven : List ℕ → List Token → Type 0
-AreGiven bytes given = (more : List ℕ) → Each IsByte more → (tokens : List Token) → Laid (bytes ++ more) tokens → BeginsWith given tokens
+abbrev pub AreTokensTaken : List ℕ → List Token → Type 0
+AreTokensTaken bytes given = (more : List ℕ) → Each IsByte more → (tokens : List Token) → Laid (bytes ++ more) tokens → BeginsWith given tokens
 
 -- a tree whose tokens begin with these begins with these statements
-abbrev pub AreEnded : List Token → List Statement → Type 0
-AreEnded given taken = (structure : Structure) (text : List ℕ) → IsFile structure text → BeginsWith given (tokens_of structure) → BeginsWith taken (statements structure)
+abbrev pub AreStatementsEnded : List Token → List Statement → Type 0
+AreStatementsEnded given taken = (structure : Structure) (text : List ℕ) → IsFile structure text → BeginsWith given (tokens_of structure) → BeginsWith taken (statements structure)
 
 -- each tree of bytes that begin so begins with these statements
-abbrev pub AreTaken : List ℕ → List Statement → Type 0
-AreTaken bytes taken = (more : List ℕ) → Each IsByte more → (structure : Structure) (text : List ℕ) → InGrammar (bytes ++ more) structure text → BeginsWith taken (statements structure)
+abbrev pub AreStatementsTaken : List ℕ → List Statement → Type 0
+AreStatementsTaken bytes taken = (more : List ℕ) → Each IsByte more → (structure : Structure) (text : List ℕ) → InGrammar (bytes ++ more) structure text → BeginsWith taken (statements structure)
 
 -- the instances among statements, and their names
 abbrev pub instances_among : List Statement → List (ℕ × Record)

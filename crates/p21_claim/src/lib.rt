@@ -1,13 +1,13 @@
 //! One canonical file for each meaning: the laws of files, from the definitions alone. It holds no code beside them.
 #![tactic(auto)]
 
-ghost use Rattle.p21_claim.specs.CanonicalLaws.{CanonicalBytesAreGraphic, CanonicalBytesAreTheirOwn, CanonicalBytesExist, CanonicalBytesTell, CanonicalFileExists, CanonicalFileIsAccepted, CanonicalFileIsItsOwn, CanonicalFileMeansTheSame, CanonicalFilesTell, OneCanonicalFile, ShortCanonicalIsAccepted};
-ghost use Rattle.p21_claim.specs.DeadLaws.{BrokenRuleIsDead, EqualNamesAreDead, EqualSectionNamesAreDead, NameAgainIsDead, NoMeaningIsDead, OtherSchemaIsDead, SectionAgainIsDead, SectionOfOtherSchemaIsDead, UnfitIsDead};
-ghost use Rattle.p21_claim.specs.EndLaws.{AcceptedIsEnded, DeadIsRefused, EndedIsAccepted, NoLayingIsRefused, NoTreeIsRefused, UnfitIsRefused, UnknownIsRefused, UnservedIsRefused};
+ghost use Rattle.p21_claim.specs.CanonicalLaws.{CanonicalBytesAreGraphic, CanonicalBytesAreTheirOwn, CanonicalBytesExist, CanonicalBytesTellMeaning, CanonicalFileExists, CanonicalFileIsAccepted, CanonicalFileIsItsOwn, CanonicalFileMeansTheSame, CanonicalFilesTellMeaning, OneCanonicalFile, CanonicalWithinLimitsIsAccepted};
+ghost use Rattle.p21_claim.specs.DeadLaws.{BrokenRuleIsDead, EqualNamesAreDead, EqualSectionNamesAreDead, RepeatedNameIsDead, NoMeaningIsDead, OtherSchemaIsDead, RepeatedSectionNameIsDead, SectionOfOtherSchemaIsDead, UnfitReferenceIsDead};
+ghost use Rattle.p21_claim.specs.EndLaws.{AcceptedFileIsComplete, DeadIsRefused, CompleteFileIsAccepted, NoLayingIsRefused, NoTreeIsRefused, UnfitReferenceIsRefused, UnknownReferenceIsRefused, UnservedNeedIsRefused};
 ghost use Rattle.p21_claim.specs.Headline.{Headline};
-ghost use Rattle.p21_claim.specs.ReadingLaws.{LimitHoldsForEachReading, OneListOfLexemes, OneMeaningOfBytes, OneMeaningWithin, OneTreeOfBytes};
-ghost use Rattle.p21_claim.specs.SizeLaws.{FullStatementIsDead, LongFileIsDead, LongHeaderIsDead, LongInstanceIsDead, LongLexemesAreDead, LongSectionLineIsDead, LongSourceIsDead, LongStatementIsDead, NarrowIsDead};
-ghost use Rattle.p21_claim.specs.TakenLaws.{DeadFurther, FrontIsTaken, NoFrontIsDead, NoLayingIsDead, StatementsAreEnded, TakenFurther};
+ghost use Rattle.p21_claim.specs.ReadingLaws.{LimitHoldsForEachReading, OneListOfLexemes, OneMeaningOfBytes, OneMeaningWithinLimits, OneTreeOfBytes};
+ghost use Rattle.p21_claim.specs.SizeLaws.{FullStatementIsDead, LongFileIsDead, LongHeaderIsDead, LongInstanceIsDead, LongLexemesAreDead, LongSectionLineIsDead, LongSourceIsDead, LongStatementIsDead, NarrowLineLimitIsDead};
+ghost use Rattle.p21_claim.specs.TakenLaws.{DeadStaysDead, PrefixIsTaken, NoTreePrefixIsDead, NoLayingIsDead, FirstStatementsAreEnded, TakenStaysTaken};
 
 /// The claim: two accepted files mean the same exactly if their canonical files are equal, and a canonical file is
 /// accepted, means what its source meant, and is its own.
@@ -20,47 +20,47 @@ pub fn reading_laws()
     ensures one_list_of_lexemes { OneListOfLexemes }
     ensures one_tree { OneTreeOfBytes }
     ensures one_meaning { OneMeaningOfBytes }
-    ensures one_meaning_within { OneMeaningWithin }
+    ensures one_meaning_within { OneMeaningWithinLimits }
     ensures each_reading { LimitHoldsForEachReading }
 {}
 
 /// A meaning has one canonical file.
 pub fn canonical_laws()
     ensures bytes_exist { CanonicalBytesExist }
-    ensures bytes_tell { CanonicalBytesTell }
+    ensures bytes_tell { CanonicalBytesTellMeaning }
     ensures bytes_are_graphic { CanonicalBytesAreGraphic }
-    ensures files_tell { CanonicalFilesTell }
-    ensures one_meaning { OneMeaningWithin }
+    ensures files_tell { CanonicalFilesTellMeaning }
+    ensures one_meaning { OneMeaningWithinLimits }
     ensures file_exists { CanonicalFileExists }
     ensures one_file { OneCanonicalFile }
     ensures is_accepted { CanonicalFileIsAccepted }
     ensures means_the_same { CanonicalFileMeansTheSame }
     ensures is_its_own { CanonicalFileIsItsOwn }
     ensures bytes_are_their_own { CanonicalBytesAreTheirOwn }
-    ensures short_is_accepted { ShortCanonicalIsAccepted }
+    ensures short_is_accepted { CanonicalWithinLimitsIsAccepted }
 {}
 
 /// What all files that begin with some bytes begin with, and bytes with which none begins.
 pub fn taken_laws()
-    ensures front { FrontIsTaken }
-    ensures statements { StatementsAreEnded }
-    ensures further { TakenFurther }
+    ensures front { PrefixIsTaken }
+    ensures statements { FirstStatementsAreEnded }
+    ensures further { TakenStaysTaken }
     ensures no_laying { NoLayingIsDead }
-    ensures no_front { NoFrontIsDead }
-    ensures dead_further { DeadFurther }
+    ensures no_front { NoTreePrefixIsDead }
+    ensures dead_further { DeadStaysDead }
 {}
 
 /// Bytes with which no accepted bytes begin, for what stands in the statements that they end: one law for each reason.
 pub fn dead_laws()
     ensures other_schema { OtherSchemaIsDead }
     ensures section_of_other_schema { SectionOfOtherSchemaIsDead }
-    ensures section_again { SectionAgainIsDead }
+    ensures section_again { RepeatedSectionNameIsDead }
     ensures equal_section_names { EqualSectionNamesAreDead }
-    ensures name_again { NameAgainIsDead }
+    ensures name_again { RepeatedNameIsDead }
     ensures equal_names { EqualNamesAreDead }
     ensures no_meaning { NoMeaningIsDead }
     ensures broken_rule { BrokenRuleIsDead }
-    ensures unfit { UnfitIsDead }
+    ensures unfit { UnfitReferenceIsDead }
 {}
 
 /// Bytes with which no accepted bytes begin since they, or their canonical lines, are too long.
@@ -72,7 +72,7 @@ pub fn size_laws()
     ensures long_section_line { LongSectionLineIsDead }
     ensures long_header { LongHeaderIsDead }
     ensures long_instance { LongInstanceIsDead }
-    ensures narrow { NarrowIsDead }
+    ensures narrow { NarrowLineLimitIsDead }
     ensures long_file { LongFileIsDead }
 {}
 
@@ -80,10 +80,10 @@ pub fn size_laws()
 pub fn end_laws()
     ensures no_laying { NoLayingIsRefused }
     ensures no_tree { NoTreeIsRefused }
-    ensures unserved { UnservedIsRefused }
-    ensures unknown { UnknownIsRefused }
-    ensures unfit { UnfitIsRefused }
+    ensures unserved { UnservedNeedIsRefused }
+    ensures unknown { UnknownReferenceIsRefused }
+    ensures unfit { UnfitReferenceIsRefused }
     ensures dead { DeadIsRefused }
-    ensures accepted { EndedIsAccepted }
-    ensures ended { AcceptedIsEnded }
+    ensures accepted { CompleteFileIsAccepted }
+    ensures ended { AcceptedFileIsComplete }
 {}

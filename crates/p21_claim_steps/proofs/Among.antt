@@ -3,14 +3,14 @@ use Rattle.std.specs.Prelude.{◌≡◌, ◌<◌, ℕ, List, [], ◌∷◌, ◌+
 use Rattle.std.specs.List.{flat_map}
 use Rattle.std.proofs.Common.{arith, ap, sym, ◌∙◌, append_assoc, append-nil}
 use Rattle.p21_claim.proofs.SaidFiles.{Instance, behind_header, instance_of}
-use Rattle.p21_claim.specs.Ended.{Group, section_of, structure_of}
+use Rattle.p21_claim.specs.CompleteFile.{SectionEntries, section_of, structure_of}
 use Rattle.p21_claim.specs.Taken.{instances_among}
 use Rattle.p21_claim_steps.specs.Among.{instances_before, parts_among, sections_among}
-use Rattle.p21_claim_steps.specs.Grown.{sections_behind, with_instance}
+use Rattle.p21_claim_steps.specs.UnrefusedStatements.{sections_behind, with_instance}
 use Rattle.p21_exchange.specs.DataSection.{DataSection, Heading, instances_in}
 use Rattle.p21_exchange.specs.Record.{Part, Record}
 use Rattle.p21_exchange.specs.Statement.{SectionLine, Statement, begin, data_start, finish, header, header_start, instance, section, section_end}
-use Rattle.p21_exchange.specs.Structure.{AreFirst, Structure, section_statements, statements}
+use Rattle.p21_exchange.specs.Structure.{AreFirstStatements, Structure, section_statements, statements}
 
 -- ---- the header records
 
@@ -91,7 +91,7 @@ pub sections-are : (t : Structure) → sections_among (statements t) ≡ t.secti
 sections-are t = sections-behind_headers t.header (behind_header t) ∙ sections-of t.sections
 
 -- so the statements tell the tree
-pub statements-tell : (t : Structure) (given : List Statement) (groups : List Group) → statements t ≡ given → sections_among given ≡ map section_of groups → t ≡ structure_of (parts_among given) groups
+pub statements-tell : (t : Structure) (given : List Statement) (groups : List SectionEntries) → statements t ≡ given → sections_among given ≡ map section_of groups → t ≡ structure_of (parts_among given) groups
 statements-tell t given groups same sections =
     ap (λ (ps : List Part). record { header = ps; sections = t.sections }) (sym (parts-are t) ∙ ap parts_among same)
     ∙ ap (λ (xs : List DataSection). record { header = parts_among given; sections = xs }) (sym (sections-are t) ∙ ap sections_among same ∙ sections)
@@ -124,7 +124,7 @@ instance-before (header part ∷ xs) later n r none before = instance-before xs 
 instance-before (instance m q ∷ xs) later n r none before = cc
 
 -- an instance of a tree stands in a data section
-pub instance-in_section : (given : List Statement) (n : ℕ) (r : Record) (t : Structure) → AreFirst (given ++ (instance n r ∷ [])) t → 0 < length (sections_among given)
+pub instance-in_section : (given : List Statement) (n : ℕ) (r : Record) (t : Structure) → AreFirstStatements (given ++ (instance n r ∷ [])) t → 0 < length (sections_among given)
 instance-in_section given n r t (later, is) = some (sections_among given) refl
   where
     some : (xs : List DataSection) → sections_among given ≡ xs → 0 < length xs

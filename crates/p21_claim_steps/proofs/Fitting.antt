@@ -2,7 +2,7 @@
 use Rattle.std.specs.Prelude.{◌≡◌, ℕ, List, [], ◌∷◌, ◌++◌, map, refl}
 use Rattle.std.specs.List.{AllByRecursion as Each}
 use Rattle.std.proofs.Common.{ap, sym, subst, ◌∙◌}
-use Rattle.p21_claim_steps.specs.FittingLaws.{FitsBySchemaText, FitsWithNoSchemaText, NamesAtEnd, NamesByCharacter, NamesNoMore, NamesUpToOther}
+use Rattle.p21_claim_steps.specs.FittingLaws.{FitsBySchemaText, FitsWithNoSchemaText, SchemaNameAtEnd, SchemaNameByCharacter, SchemaNameNoLonger, SchemaNameUpToOther}
 use Rattle.p21_exchange.specs.Header.{IsFileSchema}
 use Rattle.p21_exchange.specs.Parameter as parameter
 use Rattle.p21_exchange.specs.Parameter.{Params, no_params, param}
@@ -32,7 +32,7 @@ ends-empty (c ∷ prefix) rest same = cc
 names-nothing : (chars : List ℕ) → ((char : ℕ) (more : List ℕ) → chars ≡ char ∷ more → IsIdentifierByte char → ⊥) → NamesSchema chars []
 names-nothing chars stops = record { prefix = []; rest = chars; chars_are = refl; prefix_is = tt; longest = stops; name_is = refl }
 
-pub names-at_end : NamesAtEnd
+pub names-at_end : SchemaNameAtEnd
 names-at_end name = (
   λ is. sym is.name_is ∙ ap (map upper) (ends-empty is.prefix is.rest is.chars_are),
   λ none. subst (λ (n : List ℕ). NamesSchema [] n) (sym none) (names-nothing [] (λ char more same. cc)),
@@ -58,7 +58,7 @@ begins char chars name may is = by is.prefix is.rest is.chars_are is.prefix_is i
           names = record { prefix = prefix; rest = rest; chars_are = later; prefix_is = each.1; longest = stops; name_is = refl };
         }
 
-pub names-by_character : NamesByCharacter
+pub names-by_character : SchemaNameByCharacter
 names-by_character char chars next name may = (to, from)
   where
     to : NamesSchema (char ∷ chars) (next ∷ name) → (upper char ≡ next) × NamesSchema chars name
@@ -79,10 +79,10 @@ names-by_character char chars next name may = (to, from)
       name_is = ap (λ (x : ℕ). x ∷ map upper is.prefix) first ∙ ap (λ (xs : List ℕ). next ∷ xs) is.name_is;
     }
 
-pub names-no_more : NamesNoMore
+pub names-no_more : SchemaNameNoLonger
 names-no_more char chars may is = let it = begins char chars [] may is in let same : [] ≡ upper char ∷ it.more = it.name_is in cc
 
-pub names-up_to_other : NamesUpToOther
+pub names-up_to_other : SchemaNameUpToOther
 names-up_to_other char chars name other = (
   λ is. by is.prefix is.rest is.chars_are is.prefix_is is.name_is,
   λ none. subst (λ (n : List ℕ). NamesSchema (char ∷ chars) n) (sym none) (names-nothing (char ∷ chars) (λ c more same may. other (let first : char ≡ c = cc in subst IsIdentifierByte (sym first) may))),

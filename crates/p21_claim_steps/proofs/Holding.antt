@@ -4,12 +4,12 @@ use Rattle.std.specs.List.{flat_map, AllByRecursion as Each}
 use Rattle.std.proofs.Common.{arith, ap, sym, ◌∙◌, length-append}
 use Rattle.std.proofs.lemmas.List.{append_cancel_right, length-map}
 use Rattle.p21_basics.proofs.Members.{Each-weaker}
-use Rattle.p21_claim.specs.Ended.{Entry, IsMeant, entries_in, written_in}
+use Rattle.p21_claim.specs.CompleteFile.{Entry, IsMeant, entries_in, written_in}
 use Rattle.p21_claim.specs.Taken.{instances_among}
-use Rattle.p21_claim_steps.proofs.Growth.{kept-of_grown}
-use Rattle.p21_claim_steps.specs.Grown.{IsFound}
+use Rattle.p21_claim_steps.proofs.Growth.{canonical_size-of_unrefused}
+use Rattle.p21_claim_steps.specs.UnrefusedStatements.{IsFound}
 use Rattle.p21_claim_steps.specs.Waiting.{references_in, references_of}
-use Rattle.p21_claim_steps.specs.WholeLaws.{GrownIsHeld, ReferencesAreFew, ReferencesCounted, StatementsEnd}
+use Rattle.p21_claim_steps.specs.WholeLaws.{UnrefusedAreHeld, ReferencesAreFew, AsManyReferencesAsNeeds, TokensEndStatements}
 use Rattle.p21_claim_values.proofs.RecordTheorems.{needs-are_references}
 use Rattle.p21_exchange.proofs.OneDepth.{one_open_statement}
 use Rattle.p21_exchange.proofs.Semicolons.{statements-end}
@@ -42,9 +42,9 @@ references-of_entries s (e ∷ es) each (instance n r ∷ given) same =
     let more = references-of_entries s es each.1 given rest in
     omega (arith, own, targets, mapped, named, one, two, more)
 
-pub references-counted : ReferencesCounted
-references-counted s limits given groups grown =
-    references-of_entries s (entries_in groups) (Each-weaker (IsFound s limits) (IsMeant s) (λ e found. found.meant) (entries_in groups) grown.found) given grown.instances_are
+pub references-counted : AsManyReferencesAsNeeds
+references-counted s limits given groups unrefused =
+    references-of_entries s (entries_in groups) (Each-weaker (IsFound s limits) (IsMeant s) (λ e found. found.meant) (entries_in groups) unrefused.found) given unrefused.instances_are
 
 -- ---- few references
 
@@ -115,14 +115,14 @@ references-few (instance n r ∷ given) =
 
 -- ---- what is held
 
-pub statements-ended : StatementsEnd
+pub statements-ended : TokensEndStatements
 statements-ended given opened tokens depth tokens_are none is =
     let open_ : IsOpenStatement tokens opened = record { ended = flat_map statement_tokens given; given_are = tokens_are; ends = statements-end given; no_semicolon = none } in
     let same : is.opened ≡ opened = one_open_statement tokens is.opened opened is.open_statement open_ in
     append_cancel_right is.open_statement.ended (flat_map statement_tokens given) opened (ap (λ (x : List Token). is.open_statement.ended ++ x) (sym same) ∙ sym is.open_statement.given_are ∙ tokens_are)
 
-pub grown-held : GrownIsHeld
-grown-held s limits bytes given groups grown pending depth is open_ ended t text is_file first = record {
+pub unrefused-held : UnrefusedAreHeld
+unrefused-held s limits bytes given groups unrefused pending depth is open_ ended t text is_file first = record {
   pending = is;
   depth = open_;
   statements = given;
@@ -131,6 +131,6 @@ grown-held s limits bytes given groups grown pending depth is open_ ended t text
   is_file = is_file;
   are_first = first;
   ended_are = ended;
-  kept = kept-of_grown s limits given groups grown;
-  needs = sym (references-counted s limits given groups grown);
+  kept = canonical_size-of_unrefused s limits given groups unrefused;
+  needs = sym (references-counted s limits given groups unrefused);
 }

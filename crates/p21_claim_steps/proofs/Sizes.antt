@@ -13,7 +13,7 @@ use Rattle.p21_basics.proofs.RisingLists.{rises-mapped, rises-none_twice}
 use Rattle.p21_basics.proofs.Shuffles.{AreMembers, Contains-taken, NoneTwice, Taken, Taken-other, taken_first, taken_later}
 use Rattle.p21_claim.proofs.Headings.{headings-none_twice}
 use Rattle.p21_claim.proofs.SaidFiles.{instance_of}
-use Rattle.p21_claim.specs.Ended.{AreLinesRising, AreRisingBlocks, Block, Entry, Group, Line, block_bytes, block_headings, block_of_group, entries_in, file_text, head_statements, line_bytes, lines_in, placed_lines, section_of, structure_of, written_in}
+use Rattle.p21_claim.specs.CompleteFile.{AreLinesRising, AreRisingBlocks, Block, Entry, SectionEntries, Line, block_bytes, block_headings, block_of_section, entries_in, file_text, head_statements, line_bytes, lines_in, lines_with_heading, section_of, structure_of, written_in}
 use Rattle.p21_claim.specs.SizeLaws.{framing}
 use Rattle.p21_claim_steps.proofs.Growing.{framing-append}
 use Rattle.p21_exchange.specs.CanonicalText.{line, statement_text}
@@ -68,17 +68,17 @@ placed-once h (l ∷ ls) none = (
   placed-once h ls none.1,
 )
 
-placed-heading : (bs : List Block) (p : Heading × Line) → Contains (flat_map placed_lines bs) p → Contains (block_headings bs) p.0
+placed-heading : (bs : List Block) (p : Heading × Line) → Contains (flat_map lines_with_heading bs) p → Contains (block_headings bs) p.0
 placed-heading bs p among =
-    let (b, at, found) = Contains-one_of placed_lines bs p among in
+    let (b, at, found) = Contains-one_of lines_with_heading bs p among in
     let (l, at_l, is) = Contains-unmapped (λ (x : Line). (b.heading, x)) b.lines p found in
     let P : Heading → Type 0 = λ h. Contains (block_headings bs) h in
     subst P (ap (λ (q : Heading × Line). q.0) is) (Contains-mapped (λ (x : Block). x.heading) bs b at)
 
-placed-none_twice : (bs : List Block) → NoneTwice (block_headings bs) → Each AreLinesRising bs → NoneTwice (flat_map placed_lines bs)
+placed-none_twice : (bs : List Block) → NoneTwice (block_headings bs) → Each AreLinesRising bs → NoneTwice (flat_map lines_with_heading bs)
 placed-none_twice [] none rise = tt
 placed-none_twice (b ∷ bs) none rise =
-    joined-none_twice (placed_lines b) (flat_map placed_lines bs) (placed-once b.heading b.lines (rises-none_twice nat_cmp nat_cmp_total (λ (l : Line). l.0) b.lines (rises-mapped nat_cmp (λ (l : Line). l.0) b.lines rise.0)))
+    joined-none_twice (lines_with_heading b) (flat_map lines_with_heading bs) (placed-once b.heading b.lines (rises-none_twice nat_cmp nat_cmp_total (λ (l : Line). l.0) b.lines (rises-mapped nat_cmp (λ (l : Line). l.0) b.lines rise.0)))
     (placed-none_twice bs none.1 rise.1)
     (λ p at among. none.0 (
     let (l, at_l, is) = Contains-unmapped (λ (x : Line). (b.heading, x)) b.lines p at in
@@ -103,7 +103,7 @@ own-lines h (l ∷ ls) =
     let rest = own-lines h ls in
     omega (arith, long, own, rest)
 
-blocks-size : (bs : List Block) → length (flat_map block_bytes bs) ≡ sum_by heading_size (block_headings bs) + sum_by placed_size (flat_map placed_lines bs)
+blocks-size : (bs : List Block) → length (flat_map block_bytes bs) ≡ sum_by heading_size (block_headings bs) + sum_by placed_size (flat_map lines_with_heading bs)
 unfolding heading_size
 blocks-size [] = refl
 blocks-size (b ∷ bs) =
@@ -111,36 +111,36 @@ blocks-size (b ∷ bs) =
     let first = length-append (line (section (data_start b.heading))) (flat_map line_bytes b.lines ++ line (section section_end)) in
     let second = length-append (flat_map line_bytes b.lines) (line (section section_end)) in
     let heads = sum_by-cons heading_size b.heading (block_headings bs) in
-    let lines = sum_by-append placed_size (placed_lines b) (flat_map placed_lines bs) in
+    let lines = sum_by-append placed_size (lines_with_heading b) (flat_map lines_with_heading bs) in
     let own = own-lines b.heading b.lines in
     let rest = blocks-size bs in
     omega (arith, long, first, second, heads, lines, own, rest)
 
-group-headings : (groups : List Group) → block_headings (map block_of_group groups) ≡ map (λ (g : Group). g.heading) groups
+group-headings : (groups : List SectionEntries) → block_headings (map block_of_section groups) ≡ map (λ (g : SectionEntries). g.heading) groups
 group-headings [] = refl
 group-headings (g ∷ gs) = ap (λ (hs : List Heading). g.heading ∷ hs) (group-headings gs)
 
 -- rising blocks have as many bytes as the groups that they are of, where nothing of these stands twice
-blocks-same : (groups : List Group) (blocks : List Block) → AreRisingBlocks groups blocks → NoneTwice (block_headings (map block_of_group groups)) → NoneTwice (flat_map placed_lines (map block_of_group groups)) → length (flat_map block_bytes blocks) ≡ length (flat_map block_bytes (map block_of_group groups))
+blocks-same : (groups : List SectionEntries) (blocks : List Block) → AreRisingBlocks groups blocks → NoneTwice (block_headings (map block_of_section groups)) → NoneTwice (flat_map lines_with_heading (map block_of_section groups)) → length (flat_map block_bytes blocks) ≡ length (flat_map block_bytes (map block_of_section groups))
 blocks-same groups blocks rising heads_once lines_once =
-    let others : List Block = map block_of_group groups in
+    let others : List Block = map block_of_section groups in
     let none : NoneTwice (block_headings blocks) = headings-none_twice (block_headings blocks) rising.are_headings rising.sections_rise in
     let H : List Heading → Type 0 = λ hs. AreMembers (block_headings blocks) hs in
     let G : List Heading → Type 0 = λ hs. AreMembers hs (block_headings blocks) in
     let heads = sum-within heading_size (block_headings blocks) (block_headings others) none (subst H (sym (group-headings groups)) (λ h at. (rising.headings_are h).0 at)) in
     let heads_ = sum-within heading_size (block_headings others) (block_headings blocks) heads_once (subst G (sym (group-headings groups)) (λ h at. (rising.headings_are h).1 at)) in
-    let lines = sum-within placed_size (flat_map placed_lines blocks) (flat_map placed_lines others) (placed-none_twice blocks none rising.names_rise) (λ p at. (rising.lines_are p).0 at) in
-    let lines_ = sum-within placed_size (flat_map placed_lines others) (flat_map placed_lines blocks) lines_once (λ p at. (rising.lines_are p).1 at) in
+    let lines = sum-within placed_size (flat_map lines_with_heading blocks) (flat_map lines_with_heading others) (placed-none_twice blocks none rising.names_rise) (λ p at. (rising.lines_are p).0 at) in
+    let lines_ = sum-within placed_size (flat_map lines_with_heading others) (flat_map lines_with_heading blocks) lines_once (λ p at. (rising.lines_are p).1 at) in
     let own = blocks-size blocks in
     let all = blocks-size others in
     omega (arith, heads, heads_, lines, lines_, own, all)
 
 -- so it is where the names of instances differ
-line-names : (groups : List Group) → map (λ (p : Heading × Line). p.1.0) (flat_map placed_lines (map block_of_group groups)) ≡ map (λ (e : Entry). e.name) (entries_in groups)
+line-names : (groups : List SectionEntries) → map (λ (p : Heading × Line). p.1.0) (flat_map lines_with_heading (map block_of_section groups)) ≡ map (λ (e : Entry). e.name) (entries_in groups)
 line-names [] = refl
 line-names (g ∷ gs) =
-    map-append (λ (p : Heading × Line). p.1.0) (placed_lines (block_of_group g)) (flat_map placed_lines (map block_of_group gs))
-    ∙ ap (λ (ns : List ℕ). ns ++ map (λ (p : Heading × Line). p.1.0) (flat_map placed_lines (map block_of_group gs))) (own g.entries)
+    map-append (λ (p : Heading × Line). p.1.0) (lines_with_heading (block_of_section g)) (flat_map lines_with_heading (map block_of_section gs))
+    ∙ ap (λ (ns : List ℕ). ns ++ map (λ (p : Heading × Line). p.1.0) (flat_map lines_with_heading (map block_of_section gs))) (own g.entries)
     ∙ ap (λ (ns : List ℕ). map (λ (e : Entry). e.name) g.entries ++ ns) (line-names gs)
     ∙ sym (map-append (λ (e : Entry). e.name) g.entries (entries_in gs))
   where
@@ -169,11 +169,11 @@ entries-size (e ∷ es) =
     let rest = entries-size es in
     omega (arith, long, own, sum, rest)
 
-groups-size : (groups : List Group) → length (flat_map block_bytes (map block_of_group groups)) ≡ texts_sum (entries_in groups) + framing (flat_map section_statements (map section_of groups))
+groups-size : (groups : List SectionEntries) → length (flat_map block_bytes (map block_of_section groups)) ≡ texts_sum (entries_in groups) + framing (flat_map section_statements (map section_of groups))
 groups-size [] = refl
 groups-size (g ∷ gs) =
-    let b : Block = block_of_group g in
-    let long = length-append (block_bytes b) (flat_map block_bytes (map block_of_group gs)) in
+    let b : Block = block_of_section g in
+    let long = length-append (block_bytes b) (flat_map block_bytes (map block_of_section gs)) in
     let first = length-append (line (section (data_start b.heading))) (flat_map line_bytes b.lines ++ line (section section_end)) in
     let second = length-append (flat_map line_bytes b.lines) (line (section section_end)) in
     let sum = sum_by-append (λ (x : Entry). length x.text) g.entries (entries_in gs) in
@@ -193,7 +193,7 @@ headers-size (part ∷ parts) =
     omega (arith, long, own, sum, rest)
 
 -- the file's text by these blocks has as many bytes as the canonical lines of the tree
-pub text-size : (parts : List Part) (groups : List Group) (blocks : List Block) → AreRisingBlocks groups blocks → NoneTwice (map (λ (g : Group). g.heading) groups) → NoneTwice (map (λ (e : Entry). e.name) (entries_in groups))
+pub text-size : (parts : List Part) (groups : List SectionEntries) (blocks : List Block) → AreRisingBlocks groups blocks → NoneTwice (map (λ (g : SectionEntries). g.heading) groups) → NoneTwice (map (λ (e : Entry). e.name) (entries_in groups))
     → length (file_text parts blocks) ≡ parts_sum parts + texts_sum (entries_in groups) + framing (statements (structure_of parts groups))
 text-size parts groups blocks rising heads_once names_once =
     let sections : List Statement = flat_map section_statements (map section_of groups) in
@@ -205,7 +205,7 @@ text-size parts groups blocks rising heads_once names_once =
     let head_four = length-append (flat_map line (map header parts)) (flat_map line (section section_end ∷ [])) in
     let head_five = length-append (line (section section_end)) [] in
     let headers = headers-size parts in
-    let lines_once = keyed-once (λ (p : Heading × Line). p.1.0) (flat_map placed_lines (map block_of_group groups)) (subst NoneTwice (sym (line-names groups)) names_once) in
+    let lines_once = keyed-once (λ (p : Heading × Line). p.1.0) (flat_map lines_with_heading (map block_of_section groups)) (subst NoneTwice (sym (line-names groups)) names_once) in
     let within = blocks-same groups blocks rising (subst NoneTwice (sym (group-headings groups)) heads_once) lines_once in
     let inner = groups-size groups in
     let framed = framing-append (map header parts) (section section_end ∷ (sections ++ (section finish ∷ []))) in

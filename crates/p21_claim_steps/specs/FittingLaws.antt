@@ -1,7 +1,7 @@
 -- The laws of statements that may stand by themselves, and of texts that name a schema.
 use Rattle.std.specs.Prelude.{◌≡◌, ◌↔◌, ℕ, List, [], ◌∷◌}
 use Rattle.p21_basics.specs.Limits.{Limits}
-use Rattle.p21_claim_steps.specs.Grown.{IsFitting}
+use Rattle.p21_claim_steps.specs.UnrefusedStatements.{IsFitting}
 use Rattle.p21_exchange.specs.Header.{IsFileSchema}
 use Rattle.p21_exchange.specs.Record.{Part}
 use Rattle.p21_exchange.specs.Statement.{header}
@@ -22,17 +22,17 @@ FitsWithNoSchemaText = (s : Schema) (limits : Limits) (part : Part) → ((chars 
 
 -- ---- schema texts, character by character
 
-abbrev pub NamesAtEnd : Type 0
-NamesAtEnd = (name : List ℕ) → NamesSchema [] name ↔ (name ≡ [])
+abbrev pub SchemaNameAtEnd : Type 0
+SchemaNameAtEnd = (name : List ℕ) → NamesSchema [] name ↔ (name ≡ [])
 
 -- a character that the name may have is the next one of the name, without case
-abbrev pub NamesByCharacter : Type 0
-NamesByCharacter = (char : ℕ) (chars : List ℕ) (next : ℕ) (name : List ℕ) → IsIdentifierByte char → NamesSchema (char ∷ chars) (next ∷ name) ↔ ((upper char ≡ next) × NamesSchema chars name)
+abbrev pub SchemaNameByCharacter : Type 0
+SchemaNameByCharacter = (char : ℕ) (chars : List ℕ) (next : ℕ) (name : List ℕ) → IsIdentifierByte char → NamesSchema (char ∷ chars) (next ∷ name) ↔ ((upper char ≡ next) × NamesSchema chars name)
 
 -- behind the name no such character stands
-abbrev pub NamesNoMore : Type 0
-NamesNoMore = (char : ℕ) (chars : List ℕ) → IsIdentifierByte char → ¬ NamesSchema (char ∷ chars) []
+abbrev pub SchemaNameNoLonger : Type 0
+SchemaNameNoLonger = (char : ℕ) (chars : List ℕ) → IsIdentifierByte char → ¬ NamesSchema (char ∷ chars) []
 
 -- any other character ends the name
-abbrev pub NamesUpToOther : Type 0
-NamesUpToOther = (char : ℕ) (chars name : List ℕ) → ¬ IsIdentifierByte char → NamesSchema (char ∷ chars) name ↔ (name ≡ [])
+abbrev pub SchemaNameUpToOther : Type 0
+SchemaNameUpToOther = (char : ℕ) (chars name : List ℕ) → ¬ IsIdentifierByte char → NamesSchema (char ∷ chars) name ↔ (name ≡ [])

@@ -2,11 +2,11 @@
 use Rattle.std.specs.Prelude.{◌≡◌, ◌+◌, ◌⊎◌, ℕ, List, [], ◌∷◌, ◌++◌, map, length, slice_get, Some, Contains}
 use Rattle.std.specs.List.{flat_map, AllByRecursion as Each}
 use Rattle.p21_basics.specs.Limits.{Limits}
-use Rattle.p21_claim.specs.Ended.{AreLinesRising, Block, Entry, Group, block_bytes, block_headings, entries_in}
+use Rattle.p21_claim.specs.CompleteFile.{AreLinesRising, Block, Entry, SectionEntries, block_bytes, block_headings, entries_in}
 use Rattle.p21_claim.specs.SizeLaws.{framing}
 use Rattle.p21_claim_steps.specs.Among.{parts_among}
-use Rattle.p21_claim_steps.specs.Grown.{Grown, kept_size}
-use Rattle.p21_claim_steps.specs.Stored.{AreLinesOf, IsStore, Stored}
+use Rattle.p21_claim_steps.specs.UnrefusedStatements.{AreUnrefused, canonical_size}
+use Rattle.p21_claim_steps.specs.Stored.{AreLinesOf, IsStore, StoredEntry}
 use Rattle.p21_claim_steps.specs.Waiting.{IsWaiting, Reference, references_in}
 use Rattle.p21_exchange.specs.CanonicalText.{line, statement_text}
 use Rattle.p21_exchange.specs.DataSection.{Heading}
@@ -22,7 +22,7 @@ use Rattle.p21_schemas.specs.Schema.{Schema}
 pub record Kept : Type 0 where
   pub header : List ℕ
   pub headings : List Heading
-  pub stored : List Stored
+  pub stored : List StoredEntry
   pub waiting : List Reference
   pub references : ℕ
   pub bytes : ℕ
@@ -38,14 +38,14 @@ abbrev pub headings_behind : List Heading → SectionLine → List Heading
 headings_behind headings (data_start heading) = headings ++ (heading ∷ [])
 headings_behind headings other = headings
 
-abbrev pub keep_line : Kept → SectionLine → Kept
-keep_line kept line_ = record kept { headings = headings_behind kept.headings line_; framing = kept.framing + (length (statement_text (section line_)) + 1) }
+abbrev pub keep_section_line : Kept → SectionLine → Kept
+keep_section_line kept line_ = record kept { headings = headings_behind kept.headings line_; framing = kept.framing + (length (statement_text (section line_)) + 1) }
 
 abbrev pub keep_header : Kept → Part → Kept
 keep_header kept part = record kept { header = kept.header ++ line (header part); bytes = kept.bytes + length (statement_text (header part)); framing = kept.framing + 1 }
 
 -- an instance, with its needs that wait
-abbrev pub keep_instance : Kept → Entry → List Need → List Stored → Kept
+abbrev pub keep_instance : Kept → Entry → List Need → List StoredEntry → Kept
 keep_instance kept entry added stored =
     record kept { stored = stored; waiting = kept.waiting ++ map (λ (need : Need). (entry.name, need)) added; references = kept.references + length entry.needs; bytes = kept.bytes + length entry.text; framing = kept.framing + 1 }
 
@@ -53,23 +53,23 @@ keep_instance kept entry added stored =
 
 -- this is kept of the statements given, none of which was refused
 pub record Keeps (s : Schema) (limits : Limits) (given : List Statement) (kept : Kept) : Type 0 where
-  pub groups : List Group
-  pub grown : Grown s limits given groups
+  pub groups : List SectionEntries
+  pub unrefused : AreUnrefused s limits given groups
   pub header_is : kept.header ≡ flat_map line (map header (parts_among given))
-  pub headings_are : kept.headings ≡ map (λ (g : Group). g.heading) groups
+  pub headings_are : kept.headings ≡ map (λ (g : SectionEntries). g.heading) groups
   pub store : IsStore groups kept.stored
   pub waits : IsWaiting s (entries_in groups) kept.waiting
   pub references_are : kept.references ≡ length (references_in (entries_in groups))
-  pub bytes_are : kept.bytes ≡ kept_size given groups
+  pub bytes_are : kept.bytes ≡ canonical_size given groups
   pub framing_is : kept.framing ≡ framing given
 
 -- the need is served by what is stored
-abbrev pub IsServedBy : Schema → List Stored → Need → Type 0
-IsServedBy s stored need = (x : Stored) × Contains stored x × (x.name ≡ need.target) × Serves s need.wanted x.entities
+abbrev pub IsServedBy : Schema → List StoredEntry → Need → Type 0
+IsServedBy s stored need = (x : StoredEntry) × Contains stored x × (x.name ≡ need.target) × Serves s need.wanted x.entities
 
 -- it is served by none: no instance of the name is stored, or one that doesn't serve
-abbrev pub IsServedByNone : Schema → List Stored → Need → Type 0
-IsServedByNone s stored need = (¬ Contains (map (λ (x : Stored). x.name) stored) need.target) ⊎ ((x : Stored) × Contains stored x × (x.name ≡ need.target) × ¬ Serves s need.wanted x.entities)
+abbrev pub IsServedByNone : Schema → List StoredEntry → Need → Type 0
+IsServedByNone s stored need = (¬ Contains (map (λ (x : StoredEntry). x.name) stored) need.target) ⊎ ((x : StoredEntry) × Contains stored x × (x.name ≡ need.target) × ¬ Serves s need.wanted x.entities)
 
 -- ---- what is written of it
 
@@ -86,5 +86,5 @@ pub record AreBlocksOf (kept : Kept) (blocks : List Block) : Type 0 where
   pub lines_rise : Each AreLinesRising blocks
 
 -- the lines of a file with these header lines
-abbrev pub text_with : List ℕ → List Block → List ℕ
-text_with header_lines blocks = line (section begin) ++ (line (section header_start) ++ (header_lines ++ (line (section section_end) ++ (flat_map block_bytes blocks ++ line (section finish)))))
+abbrev pub text_with_header : List ℕ → List Block → List ℕ
+text_with_header header_lines blocks = line (section begin) ++ (line (section header_start) ++ (header_lines ++ (line (section section_end) ++ (flat_map block_bytes blocks ++ line (section finish)))))

@@ -3,12 +3,12 @@ use Rattle.std.specs.Prelude.{◌≡◌, ◌≤◌, ◌<◌, ◌+◌, ◌⊎◌,
 use Rattle.std.specs.List.{flat_map, AllByRecursion as Each}
 use Rattle.std.specs.List.Sorted.{IsPermutation}
 use Rattle.p21_basics.specs.Limits.{Limits}
-use Rattle.p21_claim.specs.Ended.{Block, Entry}
+use Rattle.p21_claim.specs.CompleteFile.{Block, Entry}
 use Rattle.p21_claim.specs.Taken.{names_among, section_names_among}
-use Rattle.p21_claim_steps.specs.Grown.{IsFitting, IsFound}
-use Rattle.p21_claim_steps.specs.Keeping.{AreBlocksOf, IsServedBy, IsServedByNone, Keeps, Kept, nothing_kept, text_with, keep_header, keep_instance, keep_line}
-use Rattle.p21_claim_steps.specs.Offending.{HasSize}
-use Rattle.p21_claim_steps.specs.Stored.{Stored, stored_of}
+use Rattle.p21_claim_steps.specs.UnrefusedStatements.{IsFitting, IsFound}
+use Rattle.p21_claim_steps.specs.Keeping.{AreBlocksOf, IsServedBy, IsServedByNone, Keeps, Kept, nothing_kept, text_with_header, keep_header, keep_instance, keep_section_line}
+use Rattle.p21_claim_steps.specs.Offending.{HasFileSize}
+use Rattle.p21_claim_steps.specs.Stored.{StoredEntry, stored_of}
 use Rattle.p21_claim_steps.specs.Waiting.{Reference}
 use Rattle.p21_exchange.specs.CanonicalText.{statement_text}
 use Rattle.p21_exchange.specs.DataSection.{section_names}
@@ -18,7 +18,7 @@ use Rattle.p21_exchange.specs.OpenNesting.{IsDepth}
 use Rattle.p21_exchange.specs.Pending.{IsPending}
 use Rattle.p21_exchange.specs.Record.{Part, Record}
 use Rattle.p21_exchange.specs.Statement.{SectionLine, Statement, header, instance, section, statement_tokens}
-use Rattle.p21_exchange.specs.Structure.{AreFirst, Structure, statements, tokens_of}
+use Rattle.p21_exchange.specs.Structure.{AreFirstStatements, Structure, statements, tokens_of}
 use Rattle.p21_exchange.specs.Token.{Token}
 use Rattle.p21_files.specs.Accepted.{IsAccepted, IsCanonicalFile}
 use Rattle.p21_files.specs.Held.{IsHeld}
@@ -32,10 +32,10 @@ abbrev pub KeepsAtStart : Type 0
 KeepsAtStart = (s : Schema) (limits : Limits) → Keeps s limits [] nothing_kept
 
 -- a section line that fits, under no name that stands before it
-abbrev pub KeepsByLine : Type 0
-KeepsByLine = (s : Schema) (limits : Limits) (given : List Statement) (kept : Kept) → Keeps s limits given kept → (line_ : SectionLine) → IsFitting s limits (section line_)
+abbrev pub KeepsBySectionLine : Type 0
+KeepsBySectionLine = (s : Schema) (limits : Limits) (given : List Statement) (kept : Kept) → Keeps s limits given kept → (line_ : SectionLine) → IsFitting s limits (section line_)
     → ((name : List ℕ) → Contains (section_names_among (section line_ ∷ [])) name → ¬ Contains (section_names kept.headings) name) → kept.bytes + kept.framing + (length (statement_text (section line_)) + 1) ≤ limits.file_canonical
-    → Keeps s limits (given ++ (section line_ ∷ [])) (keep_line kept line_)
+    → Keeps s limits (given ++ (section line_ ∷ [])) (keep_section_line kept line_)
 
 -- a header record that fits
 abbrev pub KeepsByHeader : Type 0
@@ -45,50 +45,50 @@ KeepsByHeader = (s : Schema) (limits : Limits) (given : List Statement) (kept : 
 -- an instance of the last section, of which all was found, under a name that none has that is stored; each of its needs
 -- waits or is served by what is stored
 abbrev pub KeepsByInstance : Type 0
-KeepsByInstance = (s : Schema) (limits : Limits) (given : List Statement) (kept : Kept) → Keeps s limits given kept → (entry : Entry) → IsFound s limits entry → ¬ Contains (map (λ (x : Stored). x.name) kept.stored) entry.name
+KeepsByInstance = (s : Schema) (limits : Limits) (given : List Statement) (kept : Kept) → Keeps s limits given kept → (entry : Entry) → IsFound s limits entry → ¬ Contains (map (λ (x : StoredEntry). x.name) kept.stored) entry.name
     → (added : List Need) → Each (Contains entry.needs) added → Each (λ (need : Need). Contains added need ⊎ IsServedBy s kept.stored need) entry.needs
-    → (number : ℕ) → suc number ≡ length kept.headings → (stored : List Stored) → IsPermutation (stored_of (number, entry) ∷ kept.stored) stored → kept.bytes + kept.framing + (length entry.text + 1) ≤ limits.file_canonical
+    → (number : ℕ) → suc number ≡ length kept.headings → (stored : List StoredEntry) → IsPermutation (stored_of (number, entry) ∷ kept.stored) stored → kept.bytes + kept.framing + (length entry.text + 1) ≤ limits.file_canonical
     → Keeps s limits (given ++ (instance entry.name entry.record_ ∷ [])) (keep_instance kept entry added stored)
 
 -- an instance of a tree stands in a section
-abbrev pub KeepsSection : Type 0
-KeepsSection = (s : Schema) (limits : Limits) (given : List Statement) (kept : Kept) → Keeps s limits given kept → (n : ℕ) (record_ : Record) (t : Structure) → AreFirst (given ++ (instance n record_ ∷ [])) t → 0 < length kept.headings
+abbrev pub KeepsSectionOfInstance : Type 0
+KeepsSectionOfInstance = (s : Schema) (limits : Limits) (given : List Statement) (kept : Kept) → Keeps s limits given kept → (n : ℕ) (record_ : Record) (t : Structure) → AreFirstStatements (given ++ (instance n record_ ∷ [])) t → 0 < length kept.headings
 
 -- ---- refusals
 
 -- the bytes of canonical lines
-abbrev pub KeepsSize : Type 0
-KeepsSize = (s : Schema) (limits : Limits) (given : List Statement) (kept : Kept) → Keeps s limits given kept → HasSize s given (kept.bytes + kept.framing) × (kept.bytes + kept.framing ≤ limits.file_canonical)
+abbrev pub KeepsFileSize : Type 0
+KeepsFileSize = (s : Schema) (limits : Limits) (given : List Statement) (kept : Kept) → Keeps s limits given kept → HasFileSize s given (kept.bytes + kept.framing) × (kept.bytes + kept.framing ≤ limits.file_canonical)
 
 -- the names that stand in the statements
 abbrev pub KeepsSectionNames : Type 0
 KeepsSectionNames = (s : Schema) (limits : Limits) (given : List Statement) (kept : Kept) → Keeps s limits given kept → section_names_among given ≡ section_names kept.headings
 
-abbrev pub KeepsNames : Type 0
-KeepsNames = (s : Schema) (limits : Limits) (given : List Statement) (kept : Kept) → Keeps s limits given kept → (x : Stored) → Contains kept.stored x → Contains (names_among given) x.name
+abbrev pub KeepsInstanceNames : Type 0
+KeepsInstanceNames = (s : Schema) (limits : Limits) (given : List Statement) (kept : Kept) → Keeps s limits given kept → (x : StoredEntry) → Contains kept.stored x → Contains (names_among given) x.name
 
 -- a reference that waits, and that nothing serves, at the end
-abbrev pub KeepsUnserved : Type 0
-KeepsUnserved = (s : Schema) → IsWellFormed s → (limits : Limits) (bytes : List ℕ) (given : List Statement) (kept : Kept) → Keeps s limits given kept → (structure : Structure) → statements structure ≡ given → Laid bytes (tokens_of structure)
+abbrev pub KeptUnservedIsNotAccepted : Type 0
+KeptUnservedIsNotAccepted = (s : Schema) → IsWellFormed s → (limits : Limits) (bytes : List ℕ) (given : List Statement) (kept : Kept) → Keeps s limits given kept → (structure : Structure) → statements structure ≡ given → Laid bytes (tokens_of structure)
     → (reference : Reference) → Contains kept.waiting reference → IsServedByNone s kept.stored reference.1 → ¬ IsAccepted s limits bytes
 
 -- ---- what is held, and the end
 
-abbrev pub KeepsIsHeld : Type 0
-KeepsIsHeld = (s : Schema) (limits : Limits) (bytes : List ℕ) (given : List Statement) (kept : Kept) → Keeps s limits given kept → (pending depth : ℕ) (is : IsPending bytes pending) (open_ : IsDepth (tokens_in is.lexemes) depth) → open_.open_statement.ended ≡ flat_map statement_tokens given
-    → (structure : Structure) (text : List ℕ) → IsFile structure text → AreFirst given structure → IsHeld s bytes (record { pending = pending; depth = depth; kept = kept.bytes; needs = kept.references })
+abbrev pub KeptIsHeld : Type 0
+KeptIsHeld = (s : Schema) (limits : Limits) (bytes : List ℕ) (given : List Statement) (kept : Kept) → Keeps s limits given kept → (pending depth : ℕ) (is : IsPending bytes pending) (open_ : IsDepth (tokens_in is.lexemes) depth) → open_.open_statement.ended ≡ flat_map statement_tokens given
+    → (structure : Structure) (text : List ℕ) → IsFile structure text → AreFirstStatements given structure → IsHeld s bytes (record { pending = pending; depth = depth; kept = kept.bytes; needs = kept.references })
 
 -- there are no more references than tokens of the statements
 abbrev pub KeepsFewReferences : Type 0
 KeepsFewReferences = (s : Schema) (limits : Limits) (given : List Statement) (kept : Kept) → Keeps s limits given kept → kept.references ≤ length (flat_map statement_tokens given)
 
 -- where all that wait are served, the bytes are accepted, and the lines by rising names are their canonical file
-abbrev pub KeepsIsAccepted : Type 0
-KeepsIsAccepted = (s : Schema) → IsWellFormed s → (limits : Limits) (bytes : List ℕ) (given : List Statement) (kept : Kept) → Keeps s limits given kept → (structure : Structure) (text : List ℕ) → IsFile structure text → statements structure ≡ given
+abbrev pub KeptIsAccepted : Type 0
+KeptIsAccepted = (s : Schema) → IsWellFormed s → (limits : Limits) (bytes : List ℕ) (given : List Statement) (kept : Kept) → Keeps s limits given kept → (structure : Structure) (text : List ℕ) → IsFile structure text → statements structure ≡ given
     → (tokens : List Token) → tokens_of structure ≡ tokens → (laid : Laid bytes tokens) → AreStatementsWithin limits.record_source 0 laid.lexemes → length bytes ≤ limits.file_source
-    → Each (λ (r : Reference). IsServedBy s kept.stored r.1) kept.waiting → (blocks : List Block) → AreBlocksOf kept blocks → IsCanonicalFile s limits bytes (text_with kept.header blocks)
+    → Each (λ (r : Reference). IsServedBy s kept.stored r.1) kept.waiting → (blocks : List Block) → AreBlocksOf kept blocks → IsCanonicalFile s limits bytes (text_with_header kept.header blocks)
 
 -- it has as many bytes as are kept
-abbrev pub KeepsTextSize : Type 0
-KeepsTextSize = (s : Schema) (limits : Limits) (given : List Statement) (kept : Kept) → Keeps s limits given kept → (structure : Structure) (text : List ℕ) → IsFile structure text → statements structure ≡ given → (blocks : List Block) → AreBlocksOf kept blocks
-    → length (text_with kept.header blocks) ≡ kept.bytes + kept.framing
+abbrev pub KeptTextSize : Type 0
+KeptTextSize = (s : Schema) (limits : Limits) (given : List Statement) (kept : Kept) → Keeps s limits given kept → (structure : Structure) (text : List ℕ) → IsFile structure text → statements structure ≡ given → (blocks : List Block) → AreBlocksOf kept blocks
+    → length (text_with_header kept.header blocks) ≡ kept.bytes + kept.framing

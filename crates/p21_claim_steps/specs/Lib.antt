@@ -1,7 +1,7 @@
 pub mod Among
 pub mod FittingLaws
-pub mod Grown
-pub mod GrownLaws
+pub mod UnrefusedStatements
+pub mod UnrefusedLaws
 pub mod Keeping
 pub mod KeepingLaws
 pub mod OffenderLaws

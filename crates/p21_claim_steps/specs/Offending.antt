@@ -1,7 +1,7 @@
 -- Why a session refuses a statement or a reference, each by the number with which it does (this project's own numbers).
 use Rattle.std.specs.Prelude.{◌≡◌, ◌+◌, ◌<◌, ℕ, List, map, length, Contains}
 use Rattle.p21_basics.specs.Limits.{Limits}
-use Rattle.p21_claim.specs.Ended.{Entry}
+use Rattle.p21_claim.specs.CompleteFile.{Entry}
 use Rattle.p21_claim.specs.SizeLaws.{framing}
 use Rattle.p21_claim.specs.Taken.{names_among, section_names_among}
 use Rattle.p21_claim_steps.specs.Waiting.{Reference}
@@ -12,7 +12,7 @@ use Rattle.p21_exchange.specs.Record.{Part, Record}
 use Rattle.p21_exchange.specs.Statement.{Statement, data_start, header, instance, section}
 use Rattle.p21_files.specs.BrokenRule.{Breaks}
 use Rattle.p21_files.specs.File.{HeadingNamesSchema}
-use Rattle.p21_files.specs.Kept.{AreKept, IsInstanceText}
+use Rattle.p21_files.specs.CanonicalTexts.{HaveCanonicalSize, IsInstanceText}
 use Rattle.p21_files.specs.Reference.{Serves}
 use Rattle.p21_schemas.specs.Schema.{Schema}
 use Rattle.p21_schemas.specs.SchemaName.{NamesSchema}
@@ -23,8 +23,8 @@ IsTextOf s (instance n record_) text = IsInstanceText s n record_ text
 IsTextOf s other text = text ≡ statement_text other
 
 -- the canonical lines of the statements have so many bytes, with an LF each
-abbrev pub HasSize : Schema → List Statement → ℕ → Type 0
-HasSize s given size = (kept : ℕ) × AreKept s given kept × (size ≡ kept + framing given)
+abbrev pub HasFileSize : Schema → List Statement → ℕ → Type 0
+HasFileSize s given size = (kept : ℕ) × HaveCanonicalSize s given kept × (size ≡ kept + framing given)
 
 -- Behind the statements given, whose canonical lines have so many bytes, this statement is refused with this number
 pub data Offends (s : Schema) (limits : Limits) (given : List Statement) (size : ℕ) : Statement → ℕ → Type 0 where

@@ -4,27 +4,27 @@ use Rattle.std.specs.List.{AllZip, IsDistinct, range_with_len, AllByRecursion as
 use Rattle.std.specs.List.Sorted.{IsNonDecreasingBy, IsPermutation, IsStrictlySortedBy}
 use Rattle.std.specs.Ordering.{nat_cmp}
 use Rattle.p21_basics.specs.Limits.{Limits}
-use Rattle.p21_claim.specs.Ended.{AreLinesRising, Block, Line, block_headings}
+use Rattle.p21_claim.specs.CompleteFile.{AreLinesRising, Block, Line, block_headings}
 use Rattle.p21_claim_steps.specs.Keeping.{AreBlocksOf, IsBlockAt, Keeps, Kept}
-use Rattle.p21_claim_steps.specs.Stored.{AreLinesOf, Stored}
+use Rattle.p21_claim_steps.specs.Stored.{AreLinesOf, StoredEntry}
 use Rattle.p21_exchange.specs.Statement.{Statement}
 use Rattle.p21_files.specs.Canonical.{AreSectionsRising}
 use Rattle.p21_schemas.specs.Schema.{Schema}
 
 -- the names of what is stored differ
-abbrev pub KeepsNamesDiffer : Type 0
-KeepsNamesDiffer = (s : Schema) (limits : Limits) (given : List Statement) (kept : Kept) → Keeps s limits given kept → IsDistinct nat_eq (map (λ (x : Stored). x.name) kept.stored)
+abbrev pub StoredNamesDiffer : Type 0
+StoredNamesDiffer = (s : Schema) (limits : Limits) (given : List Statement) (kept : Kept) → Keeps s limits given kept → IsDistinct nat_eq (map (λ (x : StoredEntry). x.name) kept.stored)
 
 -- what is stored of one section
-abbrev pub stored_at : ℕ → List Stored → List Stored
-stored_at number stored = filter (λ (x : Stored). nat_eq x.section number) stored
+abbrev pub stored_at : ℕ → List StoredEntry → List StoredEntry
+stored_at number stored = filter (λ (x : StoredEntry). nat_eq x.section number) stored
 
-abbrev pub lines_of : List Stored → List Line
-lines_of stored = map (λ (x : Stored). (x.name, x.text)) stored
+abbrev pub lines_of : List StoredEntry → List Line
+lines_of stored = map (λ (x : StoredEntry). (x.name, x.text)) stored
 
 -- its lines by rising names
 abbrev pub LinesBySection : Type 0
-LinesBySection = (stored : List Stored) → IsDistinct nat_eq (map (λ (x : Stored). x.name) stored) → (number : ℕ) (own : List Stored) → IsPermutation (stored_at number stored) own → IsNonDecreasingBy (λ (x : Stored). x.name) own
+LinesBySection = (stored : List StoredEntry) → IsDistinct nat_eq (map (λ (x : StoredEntry). x.name) stored) → (number : ℕ) (own : List StoredEntry) → IsPermutation (stored_at number stored) own → IsNonDecreasingBy (λ (x : StoredEntry). x.name) own
     → AreLinesOf stored number (lines_of own) × IsStrictlySortedBy nat_cmp (map (λ (l : Line). l.0) (lines_of own))
 
 -- a block for each section, in whatever order that rises

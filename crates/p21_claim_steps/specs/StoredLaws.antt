@@ -2,10 +2,10 @@
 use Rattle.std.specs.Prelude.{◌≡◌, ℕ, suc, List, [], ◌∷◌, map, length, Contains, sum_by, slice_get, Some}
 use Rattle.std.specs.List.{AllByRecursion as Each}
 use Rattle.std.specs.List.Sorted.{IsPermutation}
-use Rattle.p21_claim.specs.Ended.{AreLinesRising, AreRisingBlocks, Block, Entry, Group, Line, block_headings, entries_in, kinds_in, lines_in}
-use Rattle.p21_claim_steps.specs.Grown.{groups_behind, with_entry}
+use Rattle.p21_claim.specs.CompleteFile.{AreLinesRising, AreRisingBlocks, Block, Entry, SectionEntries, Line, block_headings, entries_in, entity_sets_in, lines_in}
+use Rattle.p21_claim_steps.specs.UnrefusedStatements.{section_entries_behind, with_entry}
 use Rattle.p21_claim_steps.specs.Offending.{IsUnserved}
-use Rattle.p21_claim_steps.specs.Stored.{AreLinesOf, IsBlockOf, IsStore, Stored, stored_of}
+use Rattle.p21_claim_steps.specs.Stored.{AreLinesOf, IsBlockOf, IsStore, StoredEntry, stored_of}
 use Rattle.p21_claim_steps.specs.Waiting.{Reference}
 use Rattle.p21_exchange.specs.DataSection.{AreHeadings}
 use Rattle.p21_exchange.specs.Statement.{SectionLine}
@@ -19,44 +19,44 @@ use Rattle.p21_schemas.specs.Schema.{Schema}
 abbrev pub StoreAtStart : Type 0
 StoreAtStart = IsStore [] []
 
-abbrev pub StoreByLine : Type 0
-StoreByLine = (groups : List Group) (kept : List Stored) → IsStore groups kept → (line_ : SectionLine) → IsStore (groups_behind groups line_) kept
+abbrev pub StoreBySectionLine : Type 0
+StoreBySectionLine = (groups : List SectionEntries) (kept : List StoredEntry) → IsStore groups kept → (line_ : SectionLine) → IsStore (section_entries_behind groups line_) kept
 
 -- an instance of the last section
 abbrev pub StoreByEntry : Type 0
-StoreByEntry = (groups : List Group) (old new : List Stored) → IsStore groups old → (number : ℕ) (entry : Entry) → suc number ≡ length groups → IsPermutation (stored_of (number, entry) ∷ old) new → IsStore (with_entry groups entry) new
+StoreByEntry = (groups : List SectionEntries) (old new : List StoredEntry) → IsStore groups old → (number : ℕ) (entry : Entry) → suc number ≡ length groups → IsPermutation (stored_of (number, entry) ∷ old) new → IsStore (with_entry groups entry) new
 
 -- ---- what is found in it
 
 -- what is kept is of an instance
 abbrev pub StoredIsEntry : Type 0
-StoredIsEntry = (groups : List Group) (kept : List Stored) → IsStore groups kept → (x : Stored) → Contains kept x → (entry : Entry) × Contains (entries_in groups) entry × (entry.name ≡ x.name) × (entry.meaning.entities ≡ x.entities) × (entry.text ≡ x.text)
+StoredIsEntry = (groups : List SectionEntries) (kept : List StoredEntry) → IsStore groups kept → (x : StoredEntry) → Contains kept x → (entry : Entry) × Contains (entries_in groups) entry × (entry.name ≡ x.name) × (entry.meaning.entities ≡ x.entities) × (entry.text ≡ x.text)
 
 -- a name that none has there is of no instance
-abbrev pub NoneStored : Type 0
-NoneStored = (groups : List Group) (kept : List Stored) → IsStore groups kept → (name : ℕ) → ¬ Contains (map (λ (x : Stored). x.name) kept) name → ¬ Contains (map (λ (e : Entry). e.name) (entries_in groups)) name
+abbrev pub UnstoredNameIsOfNoInstance : Type 0
+UnstoredNameIsOfNoInstance = (groups : List SectionEntries) (kept : List StoredEntry) → IsStore groups kept → (name : ℕ) → ¬ Contains (map (λ (x : StoredEntry). x.name) kept) name → ¬ Contains (map (λ (e : Entry). e.name) (entries_in groups)) name
 
 -- the texts have so many bytes
 abbrev pub StoredSize : Type 0
-StoredSize = (groups : List Group) (kept : List Stored) → IsStore groups kept → sum_by (λ (x : Stored). length x.text) kept ≡ sum_by (λ (e : Entry). length e.text) (entries_in groups)
+StoredSize = (groups : List SectionEntries) (kept : List StoredEntry) → IsStore groups kept → sum_by (λ (x : StoredEntry). length x.text) kept ≡ sum_by (λ (e : Entry). length e.text) (entries_in groups)
 
 -- a reference to what is kept is served, or is refused at the end; one to a name that none has is
-abbrev pub StoredServes : Type 0
-StoredServes = (s : Schema) (groups : List Group) (kept : List Stored) → IsStore groups kept → (need : Need) (x : Stored) → Contains kept x → x.name ≡ need.target → Serves s need.wanted x.entities → IsServed s (kinds_in (entries_in groups)) need
+abbrev pub StoredTargetServes : Type 0
+StoredTargetServes = (s : Schema) (groups : List SectionEntries) (kept : List StoredEntry) → IsStore groups kept → (need : Need) (x : StoredEntry) → Contains kept x → x.name ≡ need.target → Serves s need.wanted x.entities → IsServed s (entity_sets_in (entries_in groups)) need
 
-abbrev pub StoredIsUnfit : Type 0
-StoredIsUnfit = (s : Schema) (groups : List Group) (kept : List Stored) → IsStore groups kept → (reference : Reference) (x : Stored) → Contains kept x → x.name ≡ reference.1.target → ¬ Serves s reference.1.wanted x.entities → IsUnserved s (entries_in groups) reference 57
+abbrev pub StoredTargetIsUnfit : Type 0
+StoredTargetIsUnfit = (s : Schema) (groups : List SectionEntries) (kept : List StoredEntry) → IsStore groups kept → (reference : Reference) (x : StoredEntry) → Contains kept x → x.name ≡ reference.1.target → ¬ Serves s reference.1.wanted x.entities → IsUnserved s (entries_in groups) reference 57
 
-abbrev pub NoneStoredIsUnknown : Type 0
-NoneStoredIsUnknown = (s : Schema) (groups : List Group) (kept : List Stored) → IsStore groups kept → (reference : Reference) → ¬ Contains (map (λ (x : Stored). x.name) kept) reference.1.target → IsUnserved s (entries_in groups) reference 56
+abbrev pub UnstoredTargetIsUnknown : Type 0
+UnstoredTargetIsUnknown = (s : Schema) (groups : List SectionEntries) (kept : List StoredEntry) → IsStore groups kept → (reference : Reference) → ¬ Contains (map (λ (x : StoredEntry). x.name) kept) reference.1.target → IsUnserved s (entries_in groups) reference 56
 
 -- ---- what is written of it
 
 -- the lines of a number are those of the section of the number
 abbrev pub StoredLines : Type 0
-StoredLines = (groups : List Group) (kept : List Stored) → IsStore groups kept → (number : ℕ) (g : Group) → slice_get groups number ≡ Some g → (lines : List Line) → AreLinesOf kept number lines → HaveSameMembers lines (lines_in g.entries)
+StoredLines = (groups : List SectionEntries) (kept : List StoredEntry) → IsStore groups kept → (number : ℕ) (g : SectionEntries) → slice_get groups number ≡ Some g → (lines : List Line) → AreLinesOf kept number lines → HaveSameMembers lines (lines_in g.entries)
 
 -- blocks of the sections, one for each, that rise, are the canonical order
-abbrev pub BlocksOfGroups : Type 0
-BlocksOfGroups = (groups : List Group) (blocks : List Block) → AreHeadings (map (λ (g : Group). g.heading) groups) → length blocks ≡ length groups → Each (λ (b : Block). (g : Group) × Contains groups g × IsBlockOf g b) blocks → Each (λ (g : Group). (b : Block) × Contains blocks b × IsBlockOf g b) groups
+abbrev pub BlocksOfSections : Type 0
+BlocksOfSections = (groups : List SectionEntries) (blocks : List Block) → AreHeadings (map (λ (g : SectionEntries). g.heading) groups) → length blocks ≡ length groups → Each (λ (b : Block). (g : SectionEntries) × Contains groups g × IsBlockOf g b) blocks → Each (λ (g : SectionEntries). (b : Block) × Contains blocks b × IsBlockOf g b) groups
     → AreSectionsRising (block_headings blocks) → Each AreLinesRising blocks → AreRisingBlocks groups blocks

@@ -1,7 +1,7 @@
 -- The needs of the instances that were taken: those that wait for the end of the file, and those that are served.
 use Rattle.std.specs.Prelude.{◌⊎◌, ℕ, List, map, Contains}
 use Rattle.std.specs.List.{flat_map, AllByRecursion as Each}
-use Rattle.p21_claim.specs.Ended.{Entry, kinds_in}
+use Rattle.p21_claim.specs.CompleteFile.{Entry, entity_sets_in}
 use Rattle.p21_files.specs.Reference.{IsServed, Need}
 use Rattle.p21_schemas.specs.Schema.{Schema}
 
@@ -19,4 +19,4 @@ references_in entries = flat_map references_of entries
 -- these wait: each of them is a need of one of the instances, and each need of theirs waits or is served among them
 pub record IsWaiting (s : Schema) (entries : List Entry) (waiting : List Reference) : Type 0 where
   pub are_needs : Each (Contains (references_in entries)) waiting
-  pub others_served : Each (λ (r : Reference). Contains waiting r ⊎ IsServed s (kinds_in entries) r.1) (references_in entries)
+  pub others_served : Each (λ (r : Reference). Contains waiting r ⊎ IsServed s (entity_sets_in entries) r.1) (references_in entries)

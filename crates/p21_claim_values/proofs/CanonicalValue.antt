@@ -6,7 +6,7 @@ use Rattle.p21_exchange.specs.CanonicalText.{param_text, param_texts}
 use Rattle.p21_files.specs.Fits.{Fits, a_whole, a_real, a_number, a_whole_number, a_boolean, a_logical, a_text, a_binary, an_instance, as_underlying, an_item, a_chosen_instance, a_chosen_type, an_array, a_list, a_set, a_bag, FitEach, none_left, fits_next, empty_next, FitsAt, star, dollar, fits}
 use Rattle.p21_exchange.specs.Parameter.{Param, Params, key_of}
 use Rattle.p21_schemas.specs.PlaceType.{PlaceType}
-use Rattle.p21_files.specs.Reference.{Kinds}
+use Rattle.p21_files.specs.Reference.{EntitySets}
 use Rattle.p21_schemas.specs.Schema as schema
 use Rattle.p21_schemas.specs.Schema.{Schema, Defined, TypeUse, TypeNamed}
 use Rattle.p21_exchange.specs.Token as token
@@ -21,7 +21,7 @@ pub named-is : (s : Schema) (t : ℕ) (name : List ℕ) → TypeNamed s t name �
 named-is s t name (x, at, is) = ap (λ (o : Option Defined). elim o [ Some d ↦ d.name | None ↦ [] ]) at ∙ is
 
 mutual
-  pub canonical-text : (s : Schema) (kinds : Kinds) (type : TypeUse) (p : Param) (v : Value) → Fits s kinds type p v → IsCanonicalParam p v → param_text p ≡ value_text s v
+  pub canonical-text : (s : Schema) (kinds : EntitySets) (type : TypeUse) (p : Param) (v : Value) → Fits s kinds type p v → IsCanonicalParam p v → param_text p ≡ value_text s v
   canonical-text s kinds type p v (a_whole z) canonical = one-token (token.whole z)
   canonical-text s kinds type p v (a_real d) canonical = one-token (token.real d)
   canonical-text s kinds type p v (a_number d) canonical = one-token (token.real d)
@@ -44,14 +44,14 @@ mutual
   canonical-text s kinds type p v (a_bag _ _ element ps vs each _) canonical =
       list-is ps ∙ ap list_text (sym (sort-rising (param_texts ps) (canonical.1 tt)) ∙ ap sort_texts (canonical-texts s kinds false element ps vs each canonical.0))
 
-  pub canonical-texts : (s : Schema) (kinds : Kinds) (optional : Bool) (type : TypeUse) (ps : Params) (vs : Values) → FitEach s kinds optional type ps vs → AreCanonicalParams ps vs → param_texts ps ≡ value_texts s vs
+  pub canonical-texts : (s : Schema) (kinds : EntitySets) (optional : Bool) (type : TypeUse) (ps : Params) (vs : Values) → FitEach s kinds optional type ps vs → AreCanonicalParams ps vs → param_texts ps ≡ value_texts s vs
   canonical-texts s kinds optional type ps vs (none_left _ _) canonical = refl
   canonical-texts s kinds optional type ps vs (fits_next _ _ p v ps_ vs_ fit each) canonical =
       ap (λ (x : List ℕ). x ∷ param_texts ps_) (canonical-text s kinds type p v fit canonical.0) ∙ ap (λ (xs : List (List ℕ)). value_text s v ∷ xs) (canonical-texts s kinds optional type ps_ vs_ each canonical.1)
   canonical-texts s kinds optional type ps vs (empty_next _ ps_ vs_ each) canonical = ap (λ (xs : List (List ℕ)). codes "$" ∷ xs) (canonical-texts s kinds true type ps_ vs_ each canonical.1)
 
 -- and so at a place
-pub canonical_at-text : (s : Schema) (kinds : Kinds) (at : PlaceType) (p : Param) (v : Value) → FitsAt s kinds at p v → IsCanonicalParam p v → param_text p ≡ value_text s v
+pub canonical_at-text : (s : Schema) (kinds : EntitySets) (at : PlaceType) (p : Param) (v : Value) → FitsAt s kinds at p v → IsCanonicalParam p v → param_text p ≡ value_text s v
 canonical_at-text s kinds at p v star canonical = refl
 canonical_at-text s kinds at p v (dollar _) canonical = refl
 canonical_at-text s kinds at p v (fits _ type _ _ fit) canonical = canonical-text s kinds type p v fit canonical

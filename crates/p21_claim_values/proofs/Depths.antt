@@ -5,7 +5,7 @@ use Rattle.p21_exchange.specs.CanonicalText.{param_text}
 use Rattle.p21_files.specs.Fits.{Fits, a_whole, a_real, a_number, a_whole_number, a_boolean, a_logical, a_text, a_binary, an_instance, as_underlying, an_item, a_chosen_instance, a_chosen_type, an_array, a_list, a_set, a_bag, FitEach, none_left, fits_next, empty_next}
 use Rattle.p21_exchange.specs.Nesting.{depth, params_depth}
 use Rattle.p21_exchange.specs.Parameter.{Param, Params, params_of}
-use Rattle.p21_files.specs.Reference.{Kinds}
+use Rattle.p21_files.specs.Reference.{EntitySets}
 use Rattle.p21_schemas.specs.Schema as schema
 use Rattle.p21_schemas.specs.Schema.{Schema, TypeUse}
 use Rattle.p21_files.specs.Value.{Value, Values}
@@ -26,7 +26,7 @@ sort-depth [] = refl
 sort-depth (p ∷ ps) = insert-depth p (sort_params ps) ∙ ap (max (depth p)) (sort-depth ps)
 
 mutual
-  pub canonical-depth : (s : Schema) (kinds : Kinds) (type : TypeUse) (p : Param) (v : Value) → Fits s kinds type p v → depth (canonical_param s v) ≤ depth p
+  pub canonical-depth : (s : Schema) (kinds : EntitySets) (type : TypeUse) (p : Param) (v : Value) → Fits s kinds type p v → depth (canonical_param s v) ≤ depth p
   canonical-depth s kinds type p v (a_whole _) = omega arith
   canonical-depth s kinds type p v (a_real _) = omega arith
   canonical-depth s kinds type p v (a_number _) = omega arith
@@ -45,7 +45,7 @@ mutual
   canonical-depth s kinds type p v (a_set _ _ element ps vs each _ _) = omega (arith, canonical-depths s kinds false element ps vs each, sort-depth (canonical_params s vs))
   canonical-depth s kinds type p v (a_bag _ _ element ps vs each _) = omega (arith, canonical-depths s kinds false element ps vs each, sort-depth (canonical_params s vs))
 
-  canonical-depths : (s : Schema) (kinds : Kinds) (optional : Bool) (type : TypeUse) (ps : Params) (vs : Values) → FitEach s kinds optional type ps vs → params_depth (params_of (canonical_params s vs)) ≤ params_depth ps
+  canonical-depths : (s : Schema) (kinds : EntitySets) (optional : Bool) (type : TypeUse) (ps : Params) (vs : Values) → FitEach s kinds optional type ps vs → params_depth (params_of (canonical_params s vs)) ≤ params_depth ps
   canonical-depths s kinds optional type ps vs (none_left _ _) = omega arith
   canonical-depths s kinds optional type ps vs (fits_next _ _ p v ps_ vs_ fit each) = omega (arith, canonical-depth s kinds type p v fit, canonical-depths s kinds optional type ps_ vs_ each)
   canonical-depths s kinds optional type ps vs (empty_next _ ps_ vs_ each) = omega (arith, canonical-depths s kinds true type ps_ vs_ each)

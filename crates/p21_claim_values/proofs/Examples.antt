@@ -10,7 +10,7 @@ use Rattle.p21_claim_values.proofs.SameTexts.{same-exactly_texts}
 use Rattle.p21_files.specs.Fits.{Fits, a_real, a_whole, a_set, none_left, fits_next}
 use Rattle.p21_exchange.specs.Number.{Decimal}
 use Rattle.p21_exchange.specs.Parameter as parameter
-use Rattle.p21_files.specs.Reference.{Kinds}
+use Rattle.p21_files.specs.Reference.{EntitySets}
 use Rattle.p21_files.specs.SameValue.{Same, same_reals, same_wholes, Among, here, there}
 use Rattle.p21_schemas.specs.Schema as schema
 use Rattle.p21_schemas.specs.Schema.{Schema}
@@ -48,7 +48,7 @@ ten_reduced = record { significand = pos 1; exponent = pos 1 }
 unreduced_same : Same (real ten) (real ten_reduced)
 unreduced_same = same_reals ten ten_reduced refl
 
-unreduced_fits : (kinds : Kinds) → Fits s kinds schema.real (parameter.real ten) (real ten)
+unreduced_fits : (kinds : EntitySets) → Fits s kinds schema.real (parameter.real ten) (real ten)
 unreduced_fits kinds = a_real ten
 
 unreduced_text : value_text s (real ten) ≡ codes "1.0E1"

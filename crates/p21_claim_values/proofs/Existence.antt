@@ -3,12 +3,12 @@ use Rattle.std.specs.Prelude.{◌≡◌, ℕ, suc, ◌+◌, Bool, true, false, L
 use Rattle.std.specs.List.{AllByRecursion as Each}
 use Rattle.std.proofs.Common.{ap, sym, subst, ◌∙◌}
 use Rattle.p21_files.proofs.Sameness.{SamePaired-symmetric, Same-reflexive}
-use Rattle.p21_files.specs.CanonicalRecord.{IsCanonicalParam, AreCanonicalParams, AreRising}
+use Rattle.p21_files.specs.CanonicalRecord.{IsCanonicalParam, AreCanonicalParams, AreTextsRising}
 use Rattle.p21_exchange.specs.CanonicalText.{param_text, param_texts}
-use Rattle.p21_files.specs.Fits.{Fits, a_whole, a_real, a_number, a_whole_number, a_boolean, a_logical, a_text, a_binary, an_instance, as_underlying, an_item, a_chosen_instance, a_chosen_type, an_array, a_list, a_set, a_bag, FitEach, none_left, fits_next, empty_next, IsBounded}
+use Rattle.p21_files.specs.Fits.{Fits, a_whole, a_real, a_number, a_whole_number, a_boolean, a_logical, a_text, a_binary, an_instance, as_underlying, an_item, a_chosen_instance, a_chosen_type, an_array, a_list, a_set, a_bag, FitEach, none_left, fits_next, empty_next, IsWithinBounds}
 use Rattle.p21_exchange.specs.Parameter as parameter
 use Rattle.p21_exchange.specs.Parameter.{Param, Params, key_of, params_of}
-use Rattle.p21_files.specs.Reference.{Kinds}
+use Rattle.p21_files.specs.Reference.{EntitySets}
 use Rattle.p21_files.specs.SameValue.{Same, same_lists, same_arrays, same_sets, same_bags, same_typed, SameInOrder, both_end, both_next, SamePaired, both_empty, paired, Without, without_first, without_later}
 use Rattle.p21_schemas.specs.Schema as schema
 use Rattle.p21_schemas.specs.Schema.{Schema, TypeUse}
@@ -164,10 +164,10 @@ pairs-canonical : (xs : List Pair) → Each (λ (x : Pair). IsCanonicalParam x.0
 pairs-canonical [] each = tt
 pairs-canonical (x ∷ xs) each = (each.0, pairs-canonical xs each.1)
 
-sorted-rises : (s : Schema) (vs : Values) → AreRising (param_texts (params_of (sort_params (canonical_params s vs))))
+sorted-rises : (s : Schema) (vs : Values) → AreTextsRising (param_texts (params_of (sort_params (canonical_params s vs))))
 sorted-rises s vs =
     let is : param_texts (params_of (sort_params (canonical_params s vs))) ≡ sort_texts (map param_text (canonical_params s vs)) = texts-of (sort_params (canonical_params s vs)) ∙ sort-params_texts (canonical_params s vs) in
-    subst AreRising (sym is) (sort-rises (map param_text (canonical_params s vs)))
+    subst AreTextsRising (sym is) (sort-rises (map param_text (canonical_params s vs)))
 
 in_place : (s : Schema) (vs : Values) → AreCanonicalParams (params_of (params_in (canonical_pairs s vs))) (values_in (canonical_pairs s vs)) → AreCanonicalParams (params_of (canonical_params s vs)) (values_in (canonical_pairs s vs))
 in_place s vs are = let P : List Param → Type 0 = λ ps. AreCanonicalParams (params_of ps) (values_in (canonical_pairs s vs)) in subst P (pairs-params s vs) are
@@ -199,18 +199,18 @@ mutual
 
 -- ---- the canonical parameter fits
 
-pairs-fit : (s : Schema) (kinds : Kinds) (type : TypeUse) (xs : List Pair) → Each (λ (x : Pair). Fits s kinds type x.0 x.1) xs → FitEach s kinds false type (params_of (params_in xs)) (values_in xs)
+pairs-fit : (s : Schema) (kinds : EntitySets) (type : TypeUse) (xs : List Pair) → Each (λ (x : Pair). Fits s kinds type x.0 x.1) xs → FitEach s kinds false type (params_of (params_in xs)) (values_in xs)
 pairs-fit s kinds type [] each = none_left false type
 pairs-fit s kinds type (x ∷ xs) each = fits_next false type x.0 x.1 (params_of (params_in xs)) (values_in xs) each.0 (pairs-fit s kinds type xs each.1)
 
-sorted-fit : (s : Schema) (kinds : Kinds) (type : TypeUse) (vs : Values) → Each (λ (x : Pair). Fits s kinds type x.0 x.1) (canonical_pairs s vs)
+sorted-fit : (s : Schema) (kinds : EntitySets) (type : TypeUse) (vs : Values) → Each (λ (x : Pair). Fits s kinds type x.0 x.1) (canonical_pairs s vs)
     → FitEach s kinds false type (params_of (sort_params (canonical_params s vs))) (values_in (sort_pairs (canonical_pairs s vs)))
 sorted-fit s kinds type vs each =
     let P : List Param → Type 0 = λ qs. FitEach s kinds false type (params_of qs) (values_in (sort_pairs (canonical_pairs s vs))) in
     subst P (sorted-params s vs) (pairs-fit s kinds type (sort_pairs (canonical_pairs s vs)) (sort-each (λ (x : Pair). Fits s kinds type x.0 x.1) (canonical_pairs s vs) each))
 
 mutual
-  pub canonical-fits : (s : Schema) (kinds : Kinds) (type : TypeUse) (p : Param) (v : Value) → Fits s kinds type p v → Fits s kinds type (canonical_param s v) (canonical_value s v)
+  pub canonical-fits : (s : Schema) (kinds : EntitySets) (type : TypeUse) (p : Param) (v : Value) → Fits s kinds type p v → Fits s kinds type (canonical_param s v) (canonical_value s v)
   canonical-fits s kinds type p v (a_whole z) = a_whole z
   canonical-fits s kinds type p v (a_real d) = a_real d
   canonical-fits s kinds type p v (a_number d) = a_number d
@@ -230,26 +230,26 @@ mutual
       an_array low high optional unique element (params_of (canonical_params s vs)) (values_in (canonical_pairs s vs)) (canonical-fit_each s kinds optional element ps vs each) (ap (λ (n : ℕ). n + low) (pairs-count s vs) ∙ counted)
       (λ is. distinct-paired vs (values_in (canonical_pairs s vs)) (in_order-paired vs (values_in (canonical_pairs s vs)) (canonical-in_order s vs)) (distinct is))
   canonical-fits s kinds type p v (a_list low high unique element ps vs each bounded distinct) =
-      a_list low high unique element (params_of (canonical_params s vs)) (values_in (canonical_pairs s vs)) (canonical-fit_each s kinds false element ps vs each) (subst (IsBounded low high) (sym (pairs-count s vs)) bounded)
+      a_list low high unique element (params_of (canonical_params s vs)) (values_in (canonical_pairs s vs)) (canonical-fit_each s kinds false element ps vs each) (subst (IsWithinBounds low high) (sym (pairs-count s vs)) bounded)
       (λ is. distinct-paired vs (values_in (canonical_pairs s vs)) (in_order-paired vs (values_in (canonical_pairs s vs)) (canonical-in_order s vs)) (distinct is))
   canonical-fits s kinds type p v (a_set low high element ps vs each bounded distinct) =
-      a_set low high element (params_of (sort_params (canonical_params s vs))) (values_in (sort_pairs (canonical_pairs s vs))) (sorted-fit s kinds element vs (canonical-fit_pairs s kinds element ps vs each)) (subst (IsBounded low high) (sym (sorted-count s vs)) bounded)
+      a_set low high element (params_of (sort_params (canonical_params s vs))) (values_in (sort_pairs (canonical_pairs s vs))) (sorted-fit s kinds element vs (canonical-fit_pairs s kinds element ps vs each)) (subst (IsWithinBounds low high) (sym (sorted-count s vs)) bounded)
       (distinct-paired vs (values_in (sort_pairs (canonical_pairs s vs))) (canonical-paired s vs) distinct)
   canonical-fits s kinds type p v (a_bag low high element ps vs each bounded) =
-      a_bag low high element (params_of (sort_params (canonical_params s vs))) (values_in (sort_pairs (canonical_pairs s vs))) (sorted-fit s kinds element vs (canonical-fit_pairs s kinds element ps vs each)) (subst (IsBounded low high) (sym (sorted-count s vs)) bounded)
+      a_bag low high element (params_of (sort_params (canonical_params s vs))) (values_in (sort_pairs (canonical_pairs s vs))) (sorted-fit s kinds element vs (canonical-fit_pairs s kinds element ps vs each)) (subst (IsWithinBounds low high) (sym (sorted-count s vs)) bounded)
 
-  canonical-fit_each : (s : Schema) (kinds : Kinds) (optional : Bool) (type : TypeUse) (ps : Params) (vs : Values) → FitEach s kinds optional type ps vs → FitEach s kinds optional type (params_of (canonical_params s vs)) (values_in (canonical_pairs s vs))
+  canonical-fit_each : (s : Schema) (kinds : EntitySets) (optional : Bool) (type : TypeUse) (ps : Params) (vs : Values) → FitEach s kinds optional type ps vs → FitEach s kinds optional type (params_of (canonical_params s vs)) (values_in (canonical_pairs s vs))
   canonical-fit_each s kinds optional type ps vs (none_left _ _) = none_left optional type
   canonical-fit_each s kinds optional type ps vs (fits_next _ _ p v ps_ vs_ fit each) =
       fits_next optional type (canonical_param s v) (canonical_value s v) (params_of (canonical_params s vs_)) (values_in (canonical_pairs s vs_)) (canonical-fits s kinds type p v fit) (canonical-fit_each s kinds optional type ps_ vs_ each)
   canonical-fit_each s kinds optional type ps vs (empty_next _ ps_ vs_ each) = empty_next type (params_of (canonical_params s vs_)) (values_in (canonical_pairs s vs_)) (canonical-fit_each s kinds true type ps_ vs_ each)
 
-  canonical-fit_pairs : (s : Schema) (kinds : Kinds) (type : TypeUse) (ps : Params) (vs : Values) → FitEach s kinds false type ps vs → Each (λ (x : Pair). Fits s kinds type x.0 x.1) (canonical_pairs s vs)
+  canonical-fit_pairs : (s : Schema) (kinds : EntitySets) (type : TypeUse) (ps : Params) (vs : Values) → FitEach s kinds false type ps vs → Each (λ (x : Pair). Fits s kinds type x.0 x.1) (canonical_pairs s vs)
   canonical-fit_pairs s kinds type ps vs (none_left _ _) = tt
   canonical-fit_pairs s kinds type ps vs (fits_next _ _ p v ps_ vs_ fit each) = (canonical-fits s kinds type p v fit, canonical-fit_pairs s kinds type ps_ vs_ each)
 
 -- each value that a parameter stands for has a canonical parameter, with the value's text, that stands for a value that is the same
-pub record HasCanonical (s : Schema) (kinds : Kinds) (type : TypeUse) (p : Param) (v : Value) : Type 0 where
+pub record HasCanonical (s : Schema) (kinds : EntitySets) (type : TypeUse) (p : Param) (v : Value) : Type 0 where
   pub param : Param
   pub value : Value
   pub fit : Fits s kinds type param value
@@ -258,7 +258,7 @@ pub record HasCanonical (s : Schema) (kinds : Kinds) (type : TypeUse) (p : Param
   pub text : param_text param ≡ value_text s v
   pub written : IsWritten p → IsWritten param
 
-pub has-canonical : (s : Schema) (kinds : Kinds) (type : TypeUse) (p : Param) (v : Value) → Fits s kinds type p v → HasCanonical s kinds type p v
+pub has-canonical : (s : Schema) (kinds : EntitySets) (type : TypeUse) (p : Param) (v : Value) → Fits s kinds type p v → HasCanonical s kinds type p v
 has-canonical s kinds type p v fit = record {
   param = canonical_param s v;
   value = canonical_value s v;

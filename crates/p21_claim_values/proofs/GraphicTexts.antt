@@ -14,7 +14,7 @@ use Rattle.p21_exchange.proofs.Texts.{text_spelling-graphic}
 use Rattle.p21_exchange.specs.CanonicalText.{tokens_text}
 use Rattle.p21_exchange.specs.Keyword.{IsKeyword, IsKeywordByte, IsUpper}
 use Rattle.p21_exchange.specs.Number.{Decimal}
-use Rattle.p21_exchange.specs.Spelling.{bits_spelling, exponent_spelling, minus_bytes, normalised_exponent, pointed, spelling, whole_spelling}
+use Rattle.p21_exchange.specs.Spelling.{bits_spelling, exponent_spelling, minus_bytes, normalised_exponent, digits_with_point, spelling, whole_spelling}
 use Rattle.p21_exchange.specs.Statement.{statement_tokens}
 use Rattle.p21_exchange.specs.Text.{IsGraphic}
 use Rattle.p21_exchange.specs.Token.{Token, begin, finish, keyword, user_keyword, name, whole, real, text, item, bits, left, right, comma, semicolon, equals, dollar, star}
@@ -46,7 +46,7 @@ whole-graphic : (z : ℤ) → Each IsGraphic (whole_spelling z)
 whole-graphic (pos n) = plain n
 whole-graphic (negsuc n) = ((lit≤ tt, lit≤ tt), plain (suc n))
 
-pointed-graphic : (bytes : List ℕ) → Each IsGraphic bytes → Each IsGraphic (pointed bytes)
+pointed-graphic : (bytes : List ℕ) → Each IsGraphic bytes → Each IsGraphic (digits_with_point bytes)
 pointed-graphic [] are = ((lit≤ tt, lit≤ tt), tt)
 pointed-graphic (digit ∷ bytes) are = (are.0, ((lit≤ tt, lit≤ tt), are.1))
 
@@ -62,7 +62,7 @@ exponent-graphic (negsuc n) = ((lit≤ tt, lit≤ tt), whole-graphic (negsuc n))
 real-graphic : (d : Decimal) → Each IsGraphic (spelling (real d))
 real-graphic d =
     Each-append IsGraphic (minus_bytes d.significand) _ (minus-graphic d.significand)
-    (Each-append IsGraphic (pointed (plain_digits (nat_abs d.significand))) _ (pointed-graphic (plain_digits (nat_abs d.significand)) (plain (nat_abs d.significand))) (exponent-graphic (normalised_exponent d)))
+    (Each-append IsGraphic (digits_with_point (plain_digits (nat_abs d.significand))) _ (pointed-graphic (plain_digits (nat_abs d.significand)) (plain (nat_abs d.significand))) (exponent-graphic (normalised_exponent d)))
 
 hex_digit-graphic : (n : ℕ) → n < 16 → IsGraphic (hex_digit n)
 hex_digit-graphic n below = by_test (nat_lt n 10)

@@ -19,9 +19,9 @@ use Rattle.p21_exchange.specs.Token as token
 use Rattle.p21_exchange.specs.Token.{Token}
 use Rattle.p21_files.proofs.OneMeaning.{RecordMeans-one}
 use Rattle.p21_files.proofs.SameFiles.{SameTyped-reflexive, SameTyped-symmetric, SameTyped-transitive}
-use Rattle.p21_files.specs.Kept.{AreKept, IsInstanceText}
+use Rattle.p21_files.specs.CanonicalTexts.{HaveCanonicalSize, IsInstanceText}
 use Rattle.p21_files.specs.Meaning.{RecordMeans, Typed}
-use Rattle.p21_files.specs.Reference.{Kinds}
+use Rattle.p21_files.specs.Reference.{EntitySets}
 use Rattle.p21_files.specs.SameFile.{SameTyped}
 use Rattle.p21_schemas.specs.WellFormed.{IsWellFormed}
 use Rattle.p21_schemas.specs.Schema.{Schema}
@@ -85,7 +85,7 @@ texts-told s formed n m r q text other is is_ equal =
     (name, SameTyped-transitive is.meaning is.canonical_meaning is_.meaning (SameTyped-symmetric is.canonical_meaning is.meaning is.same) (subst (λ (x : Typed). SameTyped x is_.meaning) (sym meaning) is_.same))
 
 -- an instance whose record means something has a text
-pub has-text : (s : Schema) → IsWellFormed s → (kinds : Kinds) (n : ℕ) (r : Record) (a : Typed) → RecordMeans s kinds r a → IsDataRecord r → IsWrittenStatement (instance n r) → (text : List ℕ) × IsInstanceText s n r text
+pub has-text : (s : Schema) → IsWellFormed s → (kinds : EntitySets) (n : ℕ) (r : Record) (a : Typed) → RecordMeans s kinds r a → IsDataRecord r → IsWrittenStatement (instance n r) → (text : List ℕ) × IsInstanceText s n r text
 has-text s formed kinds n r a means data_record written =
     let has = has-canonical_record s formed kinds r a means (Each-front IsSpelled (record_tokens r) (token.semicolon ∷ []) written.1.1) data_record in
     let out : Statement = instance n has.record_ in
@@ -106,12 +106,12 @@ has-text s formed kinds n r a means data_record written =
     )
 
 -- the bytes kept of statements are one number
-pub kept-one : (s : Schema) → IsWellFormed s → (sts : List Statement) (kept other : ℕ) → AreKept s sts kept → AreKept s sts other → kept ≡ other
-kept-one s formed [] kept other are are_ = are ∙ sym are_
-kept-one s formed (section line ∷ sts) kept other are are_ = kept-one s formed sts kept other are are_
-kept-one s formed (header part ∷ sts) kept other (more, is, are) (more_, is_, are_) = let rest : more ≡ more_ = kept-one s formed sts more more_ are are_ in omega (arith, is, is_, rest)
-kept-one s formed (instance n r ∷ sts) kept other (text, more, is, of, are) (text_, more_, is_, of_, are_) =
+pub canonical_size-one : (s : Schema) → IsWellFormed s → (sts : List Statement) (kept other : ℕ) → HaveCanonicalSize s sts kept → HaveCanonicalSize s sts other → kept ≡ other
+canonical_size-one s formed [] kept other are are_ = are ∙ sym are_
+canonical_size-one s formed (section line ∷ sts) kept other are are_ = canonical_size-one s formed sts kept other are are_
+canonical_size-one s formed (header part ∷ sts) kept other (more, is, are) (more_, is_, are_) = let rest : more ≡ more_ = canonical_size-one s formed sts more more_ are are_ in omega (arith, is, is_, rest)
+canonical_size-one s formed (instance n r ∷ sts) kept other (text, more, is, of, are) (text_, more_, is_, of_, are_) =
     let one : text ≡ text_ = one-text_of s formed n r text text_ of of_ in
-    let rest : more ≡ more_ = kept-one s formed sts more more_ are are_ in
+    let rest : more ≡ more_ = canonical_size-one s formed sts more more_ are are_ in
     let P : List ℕ → Type 0 = λ x. kept ≡ length x + more in
     let is_one : kept ≡ length text_ + more = subst P one is in omega (arith, is_one, is_, rest)

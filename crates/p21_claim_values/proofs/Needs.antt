@@ -15,21 +15,21 @@ use Rattle.p21_exchange.specs.Parameter as parameter
 use Rattle.p21_exchange.specs.Parameter.{Param, Params, no_params, param}
 use Rattle.p21_schemas.specs.PlaceType.{PlaceType}
 use Rattle.p21_exchange.specs.Record.{Part, Record, simple, complex}
-use Rattle.p21_files.specs.Reference.{Kinds, Need, IsServed, param_references, references, record_references}
+use Rattle.p21_files.specs.Reference.{EntitySets, Need, IsServed, param_references, references, record_references}
 use Rattle.p21_schemas.specs.Schema as schema
 use Rattle.p21_schemas.specs.Schema.{Schema, Place, TypeUse, alias, items}
 use Rattle.p21_files.specs.Value.{Value, Values}
 use Rattle.p21_files.proofs.OneMeaning.{NamesEntity-one}
-use Rattle.p21_claim_values.specs.Needs.{FitsWith, with_whole, with_real, with_number, with_whole_number, with_boolean, with_logical, with_text, with_binary, with_instance, with_underlying, with_item, with_chosen_instance, with_chosen_type, with_array, with_list, with_set, with_bag, FitEachWith, with_none, with_next, with_empty, FitsAtWith, with_star, with_dollar, with_fit, FitPlacesWith, PartsNeed, RecordNeeds, MeansWith}
+use Rattle.p21_claim_values.specs.Needs.{FitsWithNeeds, with_whole, with_real, with_number, with_whole_number, with_boolean, with_logical, with_text, with_binary, with_instance, with_underlying, with_item, with_chosen_instance, with_chosen_type, with_array, with_list, with_set, with_bag, FitEachWithNeeds, with_none, with_next, with_empty, FitsAtWithNeeds, with_star, with_dollar, with_fit, FitPlacesWithNeeds, AreNeedsOfParts, AreNeedsOfRecord, MeansWithNeeds}
 use Rattle.p21_files.proofs.Served.{MayBeServed}
 
-abbrev pub AreServed : Schema → Kinds → List Need → Type 0
+abbrev pub AreServed : Schema → EntitySets → List Need → Type 0
 AreServed s kinds needs = Each (IsServed s kinds) needs
 
 -- ---- where the needs are served, the parameter fits
 
 mutual
-  pub served-fits : (s : Schema) (kinds : Kinds) (type : TypeUse) (p : Param) (v : Value) (needs : List Need) → FitsWith s type p v needs → AreServed s kinds needs → Fits s kinds type p v
+  pub served-fits : (s : Schema) (kinds : EntitySets) (type : TypeUse) (p : Param) (v : Value) (needs : List Need) → FitsWithNeeds s type p v needs → AreServed s kinds needs → Fits s kinds type p v
   served-fits s kinds type p v needs (with_whole z) served = a_whole z
   served-fits s kinds type p v needs (with_real d) served = a_real d
   served-fits s kinds type p v needs (with_number d) served = a_number d
@@ -48,24 +48,24 @@ mutual
   served-fits s kinds type p v needs (with_set low high element ps vs _ each bounded distinct) served = a_set low high element ps vs (served-each s kinds false element ps vs needs each served) bounded distinct
   served-fits s kinds type p v needs (with_bag low high element ps vs _ each bounded) served = a_bag low high element ps vs (served-each s kinds false element ps vs needs each served) bounded
 
-  pub served-each : (s : Schema) (kinds : Kinds) (optional : Bool) (type : TypeUse) (ps : Params) (vs : Values) (needs : List Need) → FitEachWith s optional type ps vs needs → AreServed s kinds needs → FitEach s kinds optional type ps vs
+  pub served-each : (s : Schema) (kinds : EntitySets) (optional : Bool) (type : TypeUse) (ps : Params) (vs : Values) (needs : List Need) → FitEachWithNeeds s optional type ps vs needs → AreServed s kinds needs → FitEach s kinds optional type ps vs
   served-each s kinds optional type ps vs needs (with_none _ _) served = none_left optional type
   served-each s kinds optional type ps vs needs (with_next _ _ p v ps_ vs_ first more fit each) served =
       fits_next optional type p v ps_ vs_ (served-fits s kinds type p v first fit (Each-front (IsServed s kinds) first more served)) (served-each s kinds optional type ps_ vs_ more each (Each-back (IsServed s kinds) first more served))
   served-each s kinds optional type ps vs needs (with_empty _ ps_ vs_ _ each) served = empty_next type ps_ vs_ (served-each s kinds true type ps_ vs_ needs each served)
 
-pub served-at : (s : Schema) (kinds : Kinds) (at : PlaceType) (p : Param) (v : Value) (needs : List Need) → FitsAtWith s at p v needs → AreServed s kinds needs → FitsAt s kinds at p v
+pub served-at : (s : Schema) (kinds : EntitySets) (at : PlaceType) (p : Param) (v : Value) (needs : List Need) → FitsAtWithNeeds s at p v needs → AreServed s kinds needs → FitsAt s kinds at p v
 served-at s kinds at p v needs with_star served = star
 served-at s kinds at p v needs (with_dollar type) served = dollar type
 served-at s kinds at p v needs (with_fit optional type _ _ _ fit) served = fits optional type p v (served-fits s kinds type p v needs fit served)
 
 -- ---- where it fits, the needs are served, whatever value it stands for
 
-dollar-with_nothing : (s : Schema) (type : TypeUse) (v : Value) (needs : List Need) → FitsWith s type parameter.dollar v needs → ⊥
+dollar-with_nothing : (s : Schema) (type : TypeUse) (v : Value) (needs : List Need) → FitsWithNeeds s type parameter.dollar v needs → ⊥
 dollar-with_nothing s type v needs (with_underlying t under _ _ _ is fit) = dollar-with_nothing s under v needs fit
 
 mutual
-  pub fits-served : (s : Schema) → HasDistinctTypes s → (kinds : Kinds) (type : TypeUse) (p : Param) (v w : Value) (needs : List Need) → FitsWith s type p v needs → Fits s kinds type p w → AreServed s kinds needs
+  pub fits-served : (s : Schema) → HasDistinctTypes s → (kinds : EntitySets) (type : TypeUse) (p : Param) (v w : Value) (needs : List Need) → FitsWithNeeds s type p v needs → Fits s kinds type p w → AreServed s kinds needs
   fits-served s distinct kinds type p v w needs (with_whole z) fit_ = tt
   fits-served s distinct kinds type p v w needs (with_real d) fit_ = tt
   fits-served s distinct kinds type p v w needs (with_number d) fit_ = tt
@@ -95,7 +95,7 @@ mutual
   fits-served s distinct kinds type p v w needs (with_set _ _ element ps vs _ each _ _) (a_set _ _ _ _ ws each_ _ _) = each-served s distinct kinds false element ps vs ws needs each each_
   fits-served s distinct kinds type p v w needs (with_bag _ _ element ps vs _ each _) (a_bag _ _ _ _ ws each_ _) = each-served s distinct kinds false element ps vs ws needs each each_
 
-  each-served : (s : Schema) → HasDistinctTypes s → (kinds : Kinds) (optional : Bool) (type : TypeUse) (ps : Params) (vs ws : Values) (needs : List Need) → FitEachWith s optional type ps vs needs → FitEach s kinds optional type ps ws → AreServed s kinds needs
+  each-served : (s : Schema) → HasDistinctTypes s → (kinds : EntitySets) (optional : Bool) (type : TypeUse) (ps : Params) (vs ws : Values) (needs : List Need) → FitEachWithNeeds s optional type ps vs needs → FitEach s kinds optional type ps ws → AreServed s kinds needs
   each-served s distinct kinds optional type ps vs ws needs (with_none _ _) each_ = tt
   each-served s distinct kinds optional type ps vs ws needs (with_next _ _ p v ps_ vs_ first more fit each) (fits_next _ _ _ w _ ws_ fit_ each_) =
       Each-append (IsServed s kinds) first more (fits-served s distinct kinds type p v w first fit fit_) (each-served s distinct kinds optional type ps_ vs_ ws_ more each each_)
@@ -103,7 +103,7 @@ mutual
   each-served s distinct kinds optional type ps vs ws needs (with_empty _ ps_ vs_ _ each) (fits_next _ _ _ w _ _ fit _) = absurd (dollar-fits_nothing s kinds type w fit)
   each-served s distinct kinds optional type ps vs ws needs (with_empty _ ps_ vs_ _ each) (empty_next _ _ ws_ each_) = each-served s distinct kinds true type ps_ vs_ ws_ needs each each_
 
-pub at-served : (s : Schema) → HasDistinctTypes s → (kinds : Kinds) (at : PlaceType) (p : Param) (v w : Value) (needs : List Need) → FitsAtWith s at p v needs → FitsAt s kinds at p w → AreServed s kinds needs
+pub at-served : (s : Schema) → HasDistinctTypes s → (kinds : EntitySets) (at : PlaceType) (p : Param) (v w : Value) (needs : List Need) → FitsAtWithNeeds s at p v needs → FitsAt s kinds at p w → AreServed s kinds needs
 at-served s distinct kinds at p v w needs with_star fit_ = tt
 at-served s distinct kinds at p v w needs (with_dollar type) fit_ = tt
 at-served s distinct kinds at p v w needs (with_fit _ type _ _ _ fit) (dollar _) = absurd (dollar-with_nothing s type v needs fit)
@@ -112,7 +112,7 @@ at-served s distinct kinds at p v w needs (with_fit _ type _ _ _ fit) (fits _ _ 
 -- ---- what fits has needs
 
 mutual
-  pub fits-needs : (s : Schema) (kinds : Kinds) (type : TypeUse) (p : Param) (v : Value) → Fits s kinds type p v → (needs : List Need) × FitsWith s type p v needs
+  pub fits-needs : (s : Schema) (kinds : EntitySets) (type : TypeUse) (p : Param) (v : Value) → Fits s kinds type p v → (needs : List Need) × FitsWithNeeds s type p v needs
   fits-needs s kinds type p v (a_whole z) = ([], with_whole z)
   fits-needs s kinds type p v (a_real d) = ([], with_real d)
   fits-needs s kinds type p v (a_number d) = ([], with_number d)
@@ -131,7 +131,7 @@ mutual
   fits-needs s kinds type p v (a_set low high element ps vs each bounded distinct) = let (needs, found) = each-needs s kinds false element ps vs each in (needs, with_set low high element ps vs needs found bounded distinct)
   fits-needs s kinds type p v (a_bag low high element ps vs each bounded) = let (needs, found) = each-needs s kinds false element ps vs each in (needs, with_bag low high element ps vs needs found bounded)
 
-  each-needs : (s : Schema) (kinds : Kinds) (optional : Bool) (type : TypeUse) (ps : Params) (vs : Values) → FitEach s kinds optional type ps vs → (needs : List Need) × FitEachWith s optional type ps vs needs
+  each-needs : (s : Schema) (kinds : EntitySets) (optional : Bool) (type : TypeUse) (ps : Params) (vs : Values) → FitEach s kinds optional type ps vs → (needs : List Need) × FitEachWithNeeds s optional type ps vs needs
   each-needs s kinds optional type ps vs (none_left _ _) = ([], with_none optional type)
   each-needs s kinds optional type ps vs (fits_next _ _ p v ps_ vs_ fit each) =
       let (first, found) = fits-needs s kinds type p v fit in
@@ -139,14 +139,14 @@ mutual
       (first ++ more, with_next optional type p v ps_ vs_ first more found rest)
   each-needs s kinds optional type ps vs (empty_next _ ps_ vs_ each) = let (needs, found) = each-needs s kinds true type ps_ vs_ each in (needs, with_empty type ps_ vs_ needs found)
 
-pub at-needs : (s : Schema) (kinds : Kinds) (at : PlaceType) (p : Param) (v : Value) → FitsAt s kinds at p v → (needs : List Need) × FitsAtWith s at p v needs
+pub at-needs : (s : Schema) (kinds : EntitySets) (at : PlaceType) (p : Param) (v : Value) → FitsAt s kinds at p v → (needs : List Need) × FitsAtWithNeeds s at p v needs
 at-needs s kinds at p v star = ([], with_star)
 at-needs s kinds at p v (dollar type) = ([], with_dollar type)
 at-needs s kinds at p v (fits optional type _ _ fit) = let (needs, found) = fits-needs s kinds type p v fit in (needs, with_fit optional type p v needs found)
 
 -- ---- places
 
-pub served-places : (s : Schema) (kinds : Kinds) (m : Typed) (ps : List Place) (xs : Params) (needs : List Need) → FitPlacesWith s m ps xs needs → AreServed s kinds needs → FitPlaces s kinds m ps xs
+pub served-places : (s : Schema) (kinds : EntitySets) (m : Typed) (ps : List Place) (xs : Params) (needs : List Need) → FitPlacesWithNeeds s m ps xs needs → AreServed s kinds needs → FitPlaces s kinds m ps xs
 served-places s kinds m [] no_params needs fit served = tt
 served-places s kinds m [] (param x xs) needs fit served = absurd fit
 served-places s kinds m (p ∷ ps) no_params needs fit served = absurd fit
@@ -154,7 +154,7 @@ served-places s kinds m (p ∷ ps) (param x xs) needs (first, more, is, (at, v, 
     let both : AreServed s kinds (first ++ more) = subst (Each (IsServed s kinds)) is served in
     ((at, v, type_at, served-at s kinds at x v first fit (Each-front (IsServed s kinds) first more both), has), served-places s kinds m ps xs more rest (Each-back (IsServed s kinds) first more both))
 
-places-served : (s : Schema) → IsWellFormed s → (kinds : Kinds) (m : Typed) (ps : List Place) (xs : Params) (needs : List Need) → FitPlacesWith s m ps xs needs → FitPlaces s kinds m ps xs → AreServed s kinds needs
+places-served : (s : Schema) → IsWellFormed s → (kinds : EntitySets) (m : Typed) (ps : List Place) (xs : Params) (needs : List Need) → FitPlacesWithNeeds s m ps xs needs → FitPlaces s kinds m ps xs → AreServed s kinds needs
 places-served s formed kinds m [] no_params needs fit fit_ = let P : List Need → Type 0 = λ ns. AreServed s kinds ns in subst P (sym fit) tt
 places-served s formed kinds m [] (param x xs) needs fit fit_ = absurd fit
 places-served s formed kinds m (p ∷ ps) no_params needs fit fit_ = absurd fit
@@ -164,7 +164,7 @@ places-served s formed kinds m (p ∷ ps) (param x xs) needs (first, more, is, (
     let P : List Need → Type 0 = λ ns. AreServed s kinds ns in
     subst P (sym is) (Each-append (IsServed s kinds) first more (at-served s formed.types_distinct kinds at x v w first fit (subst Q one fit_)) (places-served s formed kinds m ps xs more rest rest_))
 
-places-needs : (s : Schema) (kinds : Kinds) (m : Typed) (ps : List Place) (xs : Params) → FitPlaces s kinds m ps xs → (needs : List Need) × FitPlacesWith s m ps xs needs
+places-needs : (s : Schema) (kinds : EntitySets) (m : Typed) (ps : List Place) (xs : Params) → FitPlaces s kinds m ps xs → (needs : List Need) × FitPlacesWithNeeds s m ps xs needs
 places-needs s kinds m [] no_params fit = ([], refl)
 places-needs s kinds m [] (param x xs) fit = absurd fit
 places-needs s kinds m (p ∷ ps) no_params fit = absurd fit
@@ -175,7 +175,7 @@ places-needs s kinds m (p ∷ ps) (param x xs) ((at, v, type_at, fit, has), rest
 
 -- ---- records
 
-served-parts : (s : Schema) → IsWellFormed s → (kinds others : Kinds) (m : Typed) (parts : List Part) (es : List ℕ) (needs : List Need) → AllZip (PartMeans s kinds m) parts es → PartsNeed s m parts needs → AreServed s others needs → AllZip (PartMeans s others m) parts es
+served-parts : (s : Schema) → IsWellFormed s → (kinds others : EntitySets) (m : Typed) (parts : List Part) (es : List ℕ) (needs : List Need) → AllZip (PartMeans s kinds m) parts es → AreNeedsOfParts s m parts needs → AreServed s others needs → AllZip (PartMeans s others m) parts es
 served-parts s formed kinds others m [] [] needs all need served = tt
 served-parts s formed kinds others m [] (e ∷ es) needs all need served = absurd all
 served-parts s formed kinds others m (p ∷ ps) [] needs all need served = absurd all
@@ -187,7 +187,7 @@ served-parts s formed kinds others m (p ∷ ps) (e ∷ es) needs all (first, mor
       served-parts s formed kinds others m ps es more all.1 rest (Each-back (IsServed s others) first more both),
     )
 
-parts-served : (s : Schema) → IsWellFormed s → (kinds : Kinds) (m : Typed) (parts : List Part) (es : List ℕ) (needs : List Need) → PartsNeed s m parts needs → AllZip (PartMeans s kinds m) parts es → AreServed s kinds needs
+parts-served : (s : Schema) → IsWellFormed s → (kinds : EntitySets) (m : Typed) (parts : List Part) (es : List ℕ) (needs : List Need) → AreNeedsOfParts s m parts needs → AllZip (PartMeans s kinds m) parts es → AreServed s kinds needs
 parts-served s formed kinds m [] es needs need all = let P : List Need → Type 0 = λ ns. AreServed s kinds ns in subst P (sym need) tt
 parts-served s formed kinds m (p ∷ ps) [] needs need all = absurd all
 parts-served s formed kinds m (p ∷ ps) (e ∷ es) needs (first, more, is, (f, named, fit), rest) all =
@@ -196,7 +196,7 @@ parts-served s formed kinds m (p ∷ ps) (e ∷ es) needs (first, more, is, (f, 
     let Q : List Need → Type 0 = λ ns. AreServed s kinds ns in
     subst Q (sym is) (Each-append (IsServed s kinds) first more (places-served s formed kinds m (own_places s f) p.params first fit (subst P ef all.0.1)) (parts-served s formed kinds m ps es more rest all.1))
 
-parts-needs : (s : Schema) (kinds : Kinds) (m : Typed) (parts : List Part) (es : List ℕ) → AllZip (PartMeans s kinds m) parts es → (needs : List Need) × PartsNeed s m parts needs
+parts-needs : (s : Schema) (kinds : EntitySets) (m : Typed) (parts : List Part) (es : List ℕ) → AllZip (PartMeans s kinds m) parts es → (needs : List Need) × AreNeedsOfParts s m parts needs
 parts-needs s kinds m [] es all = ([], refl)
 parts-needs s kinds m (p ∷ ps) [] all = absurd all
 parts-needs s kinds m (p ∷ ps) (e ∷ es) all =
@@ -204,7 +204,7 @@ parts-needs s kinds m (p ∷ ps) (e ∷ es) all =
     let (more, others) = parts-needs s kinds m ps es all.1 in
     (first ++ more, (first, more, refl, (e, all.0.0, found), others))
 
-served-mapping : (s : Schema) → IsWellFormed s → (kinds others : Kinds) (r : Record) (m : Typed) (needs : List Need) → MeansByMapping s kinds r m → RecordNeeds s r m needs → AreServed s others needs → MeansByMapping s others r m
+served-mapping : (s : Schema) → IsWellFormed s → (kinds others : EntitySets) (r : Record) (m : Typed) (needs : List Need) → MeansByMapping s kinds r m → AreNeedsOfRecord s r m needs → AreServed s others needs → MeansByMapping s others r m
 served-mapping s formed kinds others (simple part) m needs means (e, named, fit) served =
     let same : e ≡ means.entity = NamesEntity-one s formed.entities_distinct part.key e means.entity named means.named in
     let P : ℕ → Type 0 = λ x. FitPlaces s others m (places s x) part.params in
@@ -218,7 +218,7 @@ served-mapping s formed kinds others (complex parts) m needs means need served =
   parts_mean = served-parts s formed kinds others m parts means.entities needs means.parts_mean need served;
 }
 
-mapping-served : (s : Schema) → IsWellFormed s → (kinds : Kinds) (r : Record) (m : Typed) (needs : List Need) → RecordNeeds s r m needs → MeansByMapping s kinds r m → AreServed s kinds needs
+mapping-served : (s : Schema) → IsWellFormed s → (kinds : EntitySets) (r : Record) (m : Typed) (needs : List Need) → AreNeedsOfRecord s r m needs → MeansByMapping s kinds r m → AreServed s kinds needs
 mapping-served s formed kinds (simple part) m needs (e, named, fit) means =
     let same : means.entity ≡ e = NamesEntity-one s formed.entities_distinct part.key means.entity e means.named named in
     let P : ℕ → Type 0 = λ x. FitPlaces s kinds m (places s x) part.params in
@@ -226,7 +226,7 @@ mapping-served s formed kinds (simple part) m needs (e, named, fit) means =
 mapping-served s formed kinds (complex parts) m needs need means = parts-served s formed kinds m parts means.entities needs need means.parts_mean
 
 -- where the needs are served the record means the same, whatever sets serve them
-pub served-means : (s : Schema) → IsWellFormed s → (r : Record) (m : Typed) (needs : List Need) → MeansWith s r m needs → (kinds : Kinds) → Each (IsServed s kinds) needs → RecordMeans s kinds r m
+pub served-means : (s : Schema) → IsWellFormed s → (r : Record) (m : Typed) (needs : List Need) → MeansWithNeeds s r m needs → (kinds : EntitySets) → Each (IsServed s kinds) needs → RecordMeans s kinds r m
 served-means s formed r m needs is kinds served = record {
   rising = is.means.rising;
   own_counts = is.means.own_counts;
@@ -237,11 +237,11 @@ served-means s formed r m needs is kinds served = record {
 }
 
 -- and where it means that the needs are served
-pub means-served : (s : Schema) → IsWellFormed s → (r : Record) (m : Typed) (needs : List Need) → MeansWith s r m needs → (kinds : Kinds) → RecordMeans s kinds r m → Each (IsServed s kinds) needs
+pub means-served : (s : Schema) → IsWellFormed s → (r : Record) (m : Typed) (needs : List Need) → MeansWithNeeds s r m needs → (kinds : EntitySets) → RecordMeans s kinds r m → Each (IsServed s kinds) needs
 means-served s formed r m needs is kinds means = mapping-served s formed kinds r m needs is.needs_are means.means
 
 -- what a record means it means with some needs
-pub has-needs : (s : Schema) (kinds : Kinds) (r : Record) (m : Typed) → RecordMeans s kinds r m → (needs : List Need) × MeansWith s r m needs
+pub has-needs : (s : Schema) (kinds : EntitySets) (r : Record) (m : Typed) → RecordMeans s kinds r m → (needs : List Need) × MeansWithNeeds s r m needs
 has-needs s kinds (simple part) m means =
     let (needs, found) = places-needs s kinds m (places s means.means.entity) part.params means.means.fit in
     (needs, record { kinds = kinds; means = means; needs_are = (means.means.entity, means.means.named, found) })
@@ -253,7 +253,7 @@ abbrev pub CanServeEach : Schema → List Need → Type 0
 CanServeEach s needs = Each (MayBeServed s) needs
 
 mutual
-  pub fits-servable : (s : Schema) (type : TypeUse) (p : Param) (v : Value) (needs : List Need) → FitsWith s type p v needs → CanServeEach s needs
+  pub fits-servable : (s : Schema) (type : TypeUse) (p : Param) (v : Value) (needs : List Need) → FitsWithNeeds s type p v needs → CanServeEach s needs
   fits-servable s type p v needs (with_instance e n) = ((e ∷ [], Contains-first e []), tt)
   fits-servable s type p v needs (with_chosen_instance t n e offers) = ((e ∷ [], (e, offers, Contains-first e [])), tt)
   fits-servable s type p v needs (with_underlying t under _ _ _ is fit) = fits-servable s under p v needs fit
@@ -264,17 +264,17 @@ mutual
   fits-servable s type p v needs (with_bag _ _ element ps vs _ each _) = each-servable s false element ps vs needs each
   fits-servable s type p v needs other = tt
 
-  pub each-servable : (s : Schema) (optional : Bool) (type : TypeUse) (ps : Params) (vs : Values) (needs : List Need) → FitEachWith s optional type ps vs needs → CanServeEach s needs
+  pub each-servable : (s : Schema) (optional : Bool) (type : TypeUse) (ps : Params) (vs : Values) (needs : List Need) → FitEachWithNeeds s optional type ps vs needs → CanServeEach s needs
   each-servable s optional type ps vs needs (with_none _ _) = tt
   each-servable s optional type ps vs needs (with_next _ _ p v ps_ vs_ first more fit each) = Each-append (MayBeServed s) first more (fits-servable s type p v first fit) (each-servable s optional type ps_ vs_ more each)
   each-servable s optional type ps vs needs (with_empty _ ps_ vs_ _ each) = each-servable s true type ps_ vs_ needs each
 
-at-servable : (s : Schema) (at : PlaceType) (p : Param) (v : Value) (needs : List Need) → FitsAtWith s at p v needs → CanServeEach s needs
+at-servable : (s : Schema) (at : PlaceType) (p : Param) (v : Value) (needs : List Need) → FitsAtWithNeeds s at p v needs → CanServeEach s needs
 at-servable s at p v needs with_star = tt
 at-servable s at p v needs (with_dollar type) = tt
 at-servable s at p v needs (with_fit _ type _ _ _ fit) = fits-servable s type p v needs fit
 
-places-servable : (s : Schema) (m : Typed) (ps : List Place) (xs : Params) (needs : List Need) → FitPlacesWith s m ps xs needs → CanServeEach s needs
+places-servable : (s : Schema) (m : Typed) (ps : List Place) (xs : Params) (needs : List Need) → FitPlacesWithNeeds s m ps xs needs → CanServeEach s needs
 places-servable s m [] no_params needs fit = let P : List Need → Type 0 = λ ns. CanServeEach s ns in subst P (sym fit) tt
 places-servable s m [] (param x xs) needs fit = absurd fit
 places-servable s m (p ∷ ps) no_params needs fit = absurd fit
@@ -282,30 +282,30 @@ places-servable s m (p ∷ ps) (param x xs) needs (first, more, is, (at, v, type
     let P : List Need → Type 0 = λ ns. CanServeEach s ns in
     subst P (sym is) (Each-append (MayBeServed s) first more (at-servable s at x v first fit) (places-servable s m ps xs more rest))
 
-served-later : (s : Schema) (kinds : Kinds) (entry : ℕ × List ℕ) (needs : List Need) → AreServed s kinds needs → AreServed s (entry ∷ kinds) needs
+served-later : (s : Schema) (kinds : EntitySets) (entry : ℕ × List ℕ) (needs : List Need) → AreServed s kinds needs → AreServed s (entry ∷ kinds) needs
 served-later s kinds entry [] served = tt
 served-later s kinds entry (need ∷ needs) served =
     let (entities, at, serves) = served.0 in
     ((entities, Contains-later entry kinds (need.target, entities) at, serves), served-later s kinds entry needs served.1)
 
-pub assignment : (s : Schema) (needs : List Need) → CanServeEach s needs → (kinds : Kinds) × Each (IsServed s kinds) needs
+pub assignment : (s : Schema) (needs : List Need) → CanServeEach s needs → (kinds : EntitySets) × Each (IsServed s kinds) needs
 assignment s [] can = ([], tt)
 assignment s (need ∷ needs) can =
     let (kinds, served) = assignment s needs can.1 in
     let entities : List ℕ = can.0.0 in
     ((need.target, entities) ∷ kinds, ((entities, Contains-first (need.target, entities) kinds, can.0.1), served-later s kinds (need.target, entities) needs served))
 
-parts-servable : (s : Schema) (m : Typed) (parts : List Part) (needs : List Need) → PartsNeed s m parts needs → CanServeEach s needs
+parts-servable : (s : Schema) (m : Typed) (parts : List Part) (needs : List Need) → AreNeedsOfParts s m parts needs → CanServeEach s needs
 parts-servable s m [] needs need = let P : List Need → Type 0 = λ ns. CanServeEach s ns in subst P (sym need) tt
 parts-servable s m (part ∷ parts) needs (first, more, is, (e, named, fit), rest) =
     let P : List Need → Type 0 = λ ns. CanServeEach s ns in
     subst P (sym is) (Each-append (MayBeServed s) first more (places-servable s m (own_places s e) part.params first fit) (parts-servable s m parts more rest))
 
-record-servable : (s : Schema) (r : Record) (m : Typed) (needs : List Need) → RecordNeeds s r m needs → CanServeEach s needs
+record-servable : (s : Schema) (r : Record) (m : Typed) (needs : List Need) → AreNeedsOfRecord s r m needs → CanServeEach s needs
 record-servable s (simple part) m needs (e, named, fit) = places-servable s m (places s e) part.params needs fit
 record-servable s (complex parts) m needs need = parts-servable s m parts needs need
 
-pub needs-can_be_served : (s : Schema) (r : Record) (m : Typed) (needs : List Need) → RecordNeeds s r m needs → (kinds : Kinds) × Each (IsServed s kinds) needs
+pub needs-can_be_served : (s : Schema) (r : Record) (m : Typed) (needs : List Need) → AreNeedsOfRecord s r m needs → (kinds : EntitySets) × Each (IsServed s kinds) needs
 needs-can_be_served s r m needs need = assignment s needs (record-servable s r m needs need)
 
 -- ---- the targets are the references
@@ -317,7 +317,7 @@ joined : (first more needs : List Need) (ns ms : List ℕ) → needs ≡ first +
 joined first more needs ns ms is firsts mores = ap targets is ∙ map-append (λ (need : Need). need.target) first more ∙ ap (λ (xs : List ℕ). xs ++ targets more) firsts ∙ ap (λ (xs : List ℕ). ns ++ xs) mores
 
 mutual
-  fits-references : (s : Schema) (type : TypeUse) (p : Param) (v : Value) (needs : List Need) → FitsWith s type p v needs → targets needs ≡ param_references p
+  fits-references : (s : Schema) (type : TypeUse) (p : Param) (v : Value) (needs : List Need) → FitsWithNeeds s type p v needs → targets needs ≡ param_references p
   fits-references s type p v needs (with_underlying t under _ _ _ is fit) = fits-references s under p v needs fit
   fits-references s type p v needs (with_chosen_type t u name q x _ offers named fit) = fits-references s (schema.defined u) q x needs fit
   fits-references s type p v needs (with_array _ _ optional _ element ps vs _ each _ _) = each-references s optional element ps vs needs each
@@ -326,29 +326,29 @@ mutual
   fits-references s type p v needs (with_bag _ _ element ps vs _ each _) = each-references s false element ps vs needs each
   fits-references s type p v needs other = refl
 
-  each-references : (s : Schema) (optional : Bool) (type : TypeUse) (ps : Params) (vs : Values) (needs : List Need) → FitEachWith s optional type ps vs needs → targets needs ≡ references ps
+  each-references : (s : Schema) (optional : Bool) (type : TypeUse) (ps : Params) (vs : Values) (needs : List Need) → FitEachWithNeeds s optional type ps vs needs → targets needs ≡ references ps
   each-references s optional type ps vs needs (with_none _ _) = refl
   each-references s optional type ps vs needs (with_next _ _ p v ps_ vs_ first more fit each) =
       joined first more needs (param_references p) (references ps_) refl (fits-references s type p v first fit) (each-references s optional type ps_ vs_ more each)
   each-references s optional type ps vs needs (with_empty _ ps_ vs_ _ each) = each-references s true type ps_ vs_ needs each
 
-at-references : (s : Schema) (at : PlaceType) (p : Param) (v : Value) (needs : List Need) → FitsAtWith s at p v needs → targets needs ≡ param_references p
+at-references : (s : Schema) (at : PlaceType) (p : Param) (v : Value) (needs : List Need) → FitsAtWithNeeds s at p v needs → targets needs ≡ param_references p
 at-references s at p v needs with_star = refl
 at-references s at p v needs (with_dollar type) = refl
 at-references s at p v needs (with_fit _ type _ _ _ fit) = fits-references s type p v needs fit
 
-places-references : (s : Schema) (m : Typed) (ps : List Place) (xs : Params) (needs : List Need) → FitPlacesWith s m ps xs needs → targets needs ≡ references xs
+places-references : (s : Schema) (m : Typed) (ps : List Place) (xs : Params) (needs : List Need) → FitPlacesWithNeeds s m ps xs needs → targets needs ≡ references xs
 places-references s m [] no_params needs fit = ap targets fit
 places-references s m [] (param x xs) needs fit = absurd fit
 places-references s m (p ∷ ps) no_params needs fit = absurd fit
 places-references s m (p ∷ ps) (param x xs) needs (first, more, is, (at, v, type_at, fit, has), rest) =
     joined first more needs (param_references x) (references xs) is (at-references s at x v first fit) (places-references s m ps xs more rest)
 
-parts-references : (s : Schema) (m : Typed) (parts : List Part) (needs : List Need) → PartsNeed s m parts needs → targets needs ≡ record_references (complex parts)
+parts-references : (s : Schema) (m : Typed) (parts : List Part) (needs : List Need) → AreNeedsOfParts s m parts needs → targets needs ≡ record_references (complex parts)
 parts-references s m [] needs need = ap targets need
 parts-references s m (part ∷ parts) needs (first, more, is, (e, named, fit), rest) =
     joined first more needs (references part.params) (record_references (complex parts)) is (places-references s m (own_places s e) part.params first fit) (parts-references s m parts more rest)
 
-pub needs-references : (s : Schema) (r : Record) (m : Typed) (needs : List Need) → RecordNeeds s r m needs → targets needs ≡ record_references r
+pub needs-references : (s : Schema) (r : Record) (m : Typed) (needs : List Need) → AreNeedsOfRecord s r m needs → targets needs ≡ record_references r
 needs-references s (simple part) m needs (e, named, fit) = places-references s m (places s e) part.params needs fit
 needs-references s (complex parts) m needs need = parts-references s m parts needs need

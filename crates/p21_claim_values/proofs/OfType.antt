@@ -4,7 +4,7 @@ use Rattle.std.specs.List.{AllByRecursion as Each}
 use Rattle.p21_files.specs.Fits.{Fits, a_whole, a_real, a_number, a_whole_number, a_boolean, a_logical, a_text, a_binary, an_instance, as_underlying, an_item, a_chosen_instance, a_chosen_type, an_array, a_list, a_set, a_bag, FitEach, none_left, fits_next, empty_next}
 use Rattle.p21_exchange.specs.Number.{Decimal}
 use Rattle.p21_exchange.specs.Parameter.{Param, Params, no_params, param, param_tokens, params_tokens, more_tokens}
-use Rattle.p21_files.specs.Reference.{Kinds}
+use Rattle.p21_files.specs.Reference.{EntitySets}
 use Rattle.p21_files.specs.SameValue.{AreDistinct}
 use Rattle.p21_schemas.specs.Schema as schema
 use Rattle.p21_schemas.specs.Schema.{Schema, TypeUse, Member, Width, alias, items, kind_of, TypeNamed}
@@ -64,7 +64,7 @@ offers-select s t m (offered _ members _ is _ _) = (members, is)
 offers-select s t m (offered_within _ _ members _ is _ _) = (members, is)
 
 mutual
-  pub fits-of : (s : Schema) (kinds : Kinds) (type : TypeUse) (p : Param) (v : Value) → Fits s kinds type p v → IsWritten p → OfType s type v
+  pub fits-of : (s : Schema) (kinds : EntitySets) (type : TypeUse) (p : Param) (v : Value) → Fits s kinds type p v → IsWritten p → OfType s type v
   fits-of s kinds type p v (a_whole z) written = of_whole z
   fits-of s kinds type p v (a_real d) written = of_real d written.0
   fits-of s kinds type p v (a_number d) written = of_number d written.0
@@ -84,7 +84,7 @@ mutual
   fits-of s kinds type p v (a_set low high element ps vs each _ distinct) written = of_set low high element vs (fit_each-of s kinds false element ps vs each (list-written ps written.1)) distinct
   fits-of s kinds type p v (a_bag low high element ps vs each _) written = of_bag low high element vs (fit_each-of s kinds false element ps vs each (list-written ps written.1))
 
-  pub fit_each-of : (s : Schema) (kinds : Kinds) (optional : Bool) (type : TypeUse) (ps : Params) (vs : Values) → FitEach s kinds optional type ps vs → AreWritten ps → EachOf s optional type vs
+  pub fit_each-of : (s : Schema) (kinds : EntitySets) (optional : Bool) (type : TypeUse) (ps : Params) (vs : Values) → FitEach s kinds optional type ps vs → AreWritten ps → EachOf s optional type vs
   fit_each-of s kinds optional type ps vs (none_left _ _) written = of_none optional type
   fit_each-of s kinds optional type ps vs (fits_next _ _ p v ps_ vs_ fit each) written = of_next optional type v vs_ (fits-of s kinds type p v fit written.0) (fit_each-of s kinds optional type ps_ vs_ each written.1)
   fit_each-of s kinds optional type ps vs (empty_next _ ps_ vs_ each) written = of_empty type vs_ (fit_each-of s kinds true type ps_ vs_ each written.1)

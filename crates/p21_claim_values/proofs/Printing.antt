@@ -15,7 +15,7 @@ use Rattle.p21_exchange.specs.Parameter as parameter
 use Rattle.p21_exchange.specs.Parameter.{Key, key_token, Param, Params, no_params, param, param_tokens, params_tokens, more_tokens, params_of}
 use Rattle.p21_schemas.specs.PlaceType.{PlaceType}
 use Rattle.p21_exchange.specs.Record.{Part, Record, simple, part_tokens, record_tokens}
-use Rattle.p21_files.specs.Reference.{Kinds}
+use Rattle.p21_files.specs.Reference.{EntitySets}
 use Rattle.p21_files.specs.SameFile.{SameTyped}
 use Rattle.p21_files.specs.SameValue.{SameInOrder}
 use Rattle.p21_schemas.specs.Schema.{Schema, Place}
@@ -120,7 +120,7 @@ has-canonical_value s a place v (vs, has, at) = (row s vs, rows-zip s a.entities
 
 -- ---- canonical parameters at places
 
-pub record Printed (s : Schema) (kinds : Kinds) (b : Typed) (ps : List Place) : Type 0 where
+pub record Printed (s : Schema) (kinds : EntitySets) (b : Typed) (ps : List Place) : Type 0 where
   pub params : Params
   pub fit : FitPlaces s kinds b ps params
   pub canonical : AreCanonicalAt b ps params
@@ -128,22 +128,22 @@ pub record Printed (s : Schema) (kinds : Kinds) (b : Typed) (ps : List Place) : 
   pub plain : ArePlain params
   pub shallow : IsShallow params
 
-pub at-fits : (s : Schema) (kinds : Kinds) (at : PlaceType) (p : Param) (v : Value) → FitsAt s kinds at p v → FitsAt s kinds at (canonical_param s v) (canonical_value s v)
+pub at-fits : (s : Schema) (kinds : EntitySets) (at : PlaceType) (p : Param) (v : Value) → FitsAt s kinds at p v → FitsAt s kinds at (canonical_param s v) (canonical_value s v)
 at-fits s kinds at p v star = star
 at-fits s kinds at p v (dollar type) = dollar type
 at-fits s kinds at p v (fits optional type _ _ fit) = fits optional type (canonical_param s v) (canonical_value s v) (canonical-fits s kinds type p v fit)
 
-pub at-written : (s : Schema) (kinds : Kinds) (at : PlaceType) (p : Param) (v : Value) → FitsAt s kinds at p v → IsWritten p → IsWritten (canonical_param s v)
+pub at-written : (s : Schema) (kinds : EntitySets) (at : PlaceType) (p : Param) (v : Value) → FitsAt s kinds at p v → IsWritten p → IsWritten (canonical_param s v)
 at-written s kinds at p v star written = written
 at-written s kinds at p v (dollar type) written = written
 at-written s kinds at p v (fits optional type _ _ fit) written = canonical-written s type v (fits-of s kinds type p v fit written)
 
-at-depth : (s : Schema) (kinds : Kinds) (at : PlaceType) (p : Param) (v : Value) → FitsAt s kinds at p v → depth (canonical_param s v) ≤ depth p
+at-depth : (s : Schema) (kinds : EntitySets) (at : PlaceType) (p : Param) (v : Value) → FitsAt s kinds at p v → depth (canonical_param s v) ≤ depth p
 at-depth s kinds at p v star = omega arith
 at-depth s kinds at p v (dollar type) = omega arith
 at-depth s kinds at p v (fits optional type _ _ fit) = canonical-depth s kinds type p v fit
 
-pub printed-places : (s : Schema) (kinds : Kinds) (a : Typed) (ps : List Place) (xs : Params) → FitPlaces s kinds a ps xs → AreWritten xs → IsShallow xs → Printed s kinds (canonical_typed s a) ps
+pub printed-places : (s : Schema) (kinds : EntitySets) (a : Typed) (ps : List Place) (xs : Params) → FitPlaces s kinds a ps xs → AreWritten xs → IsShallow xs → Printed s kinds (canonical_typed s a) ps
 printed-places s kinds a [] no_params fit written shallow = record { params = no_params; fit = tt; canonical = tt; written = tt; plain = tt; shallow = omega arith }
 printed-places s kinds a [] (param x xs) fit written shallow = absurd fit
 printed-places s kinds a (p ∷ ps) no_params fit written shallow = absurd fit
@@ -165,7 +165,7 @@ abbrev join : Params → Params → Params
 join no_params ys = ys
 join (param x xs) ys = param x (join xs ys)
 
-join-fit : (s : Schema) (kinds : Kinds) (b : Typed) (ps qs : List Place) (xs ys : Params) → FitPlaces s kinds b ps xs → FitPlaces s kinds b qs ys → FitPlaces s kinds b (ps ++ qs) (join xs ys)
+join-fit : (s : Schema) (kinds : EntitySets) (b : Typed) (ps qs : List Place) (xs ys : Params) → FitPlaces s kinds b ps xs → FitPlaces s kinds b qs ys → FitPlaces s kinds b (ps ++ qs) (join xs ys)
 join-fit s kinds b [] qs no_params ys first second = second
 join-fit s kinds b [] qs (param x xs) ys first second = absurd first
 join-fit s kinds b (p ∷ ps) qs no_params ys first second = absurd first
@@ -189,7 +189,7 @@ join-shallow : (xs ys : Params) → IsShallow xs → IsShallow ys → IsShallow 
 join-shallow no_params ys first second = second
 join-shallow (param x xs) ys first second = let more = join-shallow xs ys (omega (arith, first)) second in omega (arith, first, more)
 
-printed-join : (s : Schema) (kinds : Kinds) (b : Typed) (ps qs : List Place) → Printed s kinds b ps → Printed s kinds b qs → Printed s kinds b (ps ++ qs)
+printed-join : (s : Schema) (kinds : EntitySets) (b : Typed) (ps qs : List Place) → Printed s kinds b ps → Printed s kinds b qs → Printed s kinds b (ps ++ qs)
 printed-join s kinds b ps qs first second = record {
   params = join first.params second.params;
   fit = join-fit s kinds b ps qs first.params second.params first.fit second.fit;
@@ -199,14 +199,14 @@ printed-join s kinds b ps qs first second = record {
   shallow = join-shallow first.params second.params first.shallow second.shallow;
 }
 
-pub printed-each : (s : Schema) (kinds : Kinds) (b : Typed) (es : List ℕ) → ((e : ℕ) → Contains es e → Printed s kinds b (own_places s e)) → Printed s kinds b (flat_map (own_places s) es)
+pub printed-each : (s : Schema) (kinds : EntitySets) (b : Typed) (es : List ℕ) → ((e : ℕ) → Contains es e → Printed s kinds b (own_places s e)) → Printed s kinds b (flat_map (own_places s) es)
 printed-each s kinds b [] each = record { params = no_params; fit = tt; canonical = tt; written = tt; plain = tt; shallow = omega arith }
 printed-each s kinds b (e ∷ es) each = printed-join s kinds b (own_places s e) (flat_map (own_places s) es) (each e (Contains-first e es)) (printed-each s kinds b es (λ f among. each f (Contains-later e es f among)))
 
 -- ---- records
 
 -- a canonical record of this meaning, with its sets and bags in order
-pub record HasCanonicalRecord (s : Schema) (kinds : Kinds) (a : Typed) : Type 0 where
+pub record HasCanonicalRecord (s : Schema) (kinds : EntitySets) (a : Typed) : Type 0 where
   pub record_ : Record
   pub means : RecordMeans s kinds record_ (canonical_typed s a)
   pub canonical : IsCanonicalRecord s record_ (canonical_typed s a)
@@ -216,7 +216,7 @@ pub record HasCanonicalRecord (s : Schema) (kinds : Kinds) (a : Typed) : Type 0 
 pub canonical-same_typed : (s : Schema) (a : Typed) → SameTyped a (canonical_typed s a)
 canonical-same_typed s a = (refl, rows-same s a.values)
 
-pub means-with : (s : Schema) (kinds : Kinds) (r q : Record) (a : Typed) → RecordMeans s kinds r a → MeansByMapping s kinds q (canonical_typed s a) → RecordMeans s kinds q (canonical_typed s a)
+pub means-with : (s : Schema) (kinds : EntitySets) (r q : Record) (a : Typed) → RecordMeans s kinds r a → MeansByMapping s kinds q (canonical_typed s a) → RecordMeans s kinds q (canonical_typed s a)
 means-with s kinds r q a means mapping = record {
   rising = means.rising;
   own_counts = rows-count s a.entities a.values means.own_counts;
@@ -244,7 +244,7 @@ pub part-plain : (part : Part) → IsNoUserKeyword (key_token part.key) → AreP
 part-plain part key plain = (key, (tt, Each-append IsNoUserKeyword (params_tokens part.params) (token.right ∷ []) (params-plain part.params plain) (tt, tt)))
 
 -- in internal mapping
-pub print-simple : (s : Schema) (kinds : Kinds) (r : Record) (a : Typed) → RecordMeans s kinds r a → (key : Key) (e : ℕ) → NamesEntity s key e → IsSpelled (key_token key) → ((f : ℕ) → Contains a.entities f ↔ IsA s e f) → HasOneLeaf s a.entities
+pub print-simple : (s : Schema) (kinds : EntitySets) (r : Record) (a : Typed) → RecordMeans s kinds r a → (key : Key) (e : ℕ) → NamesEntity s key e → IsSpelled (key_token key) → ((f : ℕ) → Contains a.entities f ↔ IsA s e f) → HasOneLeaf s a.entities
     → Printed s kinds (canonical_typed s a) (places s e) → HasCanonicalRecord s kinds a
 print-simple s kinds r a means key e named spelled closure leaf printed =
     let part : Part = record { key = key; params = printed.params } in
@@ -256,7 +256,7 @@ print-simple s kinds r a means key e named spelled closure leaf printed =
       data_record = record { some_parts = omega arith; shallow = (printed.shallow, tt); no_user_keywords = part-plain part (key-plain s key e named) printed.plain };
     }
 
-pub print-record : (s : Schema) → IsWellFormed s → (kinds : Kinds) (part : Part) (a : Typed) → RecordMeans s kinds (simple part) a → Each IsSpelled (record_tokens (simple part)) → IsDataRecord (simple part) → HasCanonicalRecord s kinds a
+pub print-record : (s : Schema) → IsWellFormed s → (kinds : EntitySets) (part : Part) (a : Typed) → RecordMeans s kinds (simple part) a → Each IsSpelled (record_tokens (simple part)) → IsDataRecord (simple part) → HasCanonicalRecord s kinds a
 print-record s formed kinds part a means written data_record =
     print-simple s kinds (simple part) a means part.key means.means.entity means.means.named written.0 means.means.closure (closure-leaf s formed a.entities means.means.entity means.means.closure)
     (printed-places s kinds a (places s means.means.entity) part.params means.means.fit (part-written part written) data_record.shallow.0)

@@ -5,13 +5,13 @@ use Rattle.std.proofs.Common.{arith, ap, sym, subst, ◌∙◌, append_assoc, in
 use Rattle.p21_schemas.specs.WellFormed.{IsWellFormed}
 use Rattle.p21_basics.proofs.Members.{Contains-first, Contains-later, Each-member, AllZip-second_member, Each-append, Each-back}
 use Rattle.p21_schemas.proofs.Orders.{order_within-only}
-use Rattle.p21_files.specs.CanonicalRecord.{AreRising, HasOneLeaf, IsCanonicalPart}
+use Rattle.p21_files.specs.CanonicalRecord.{AreTextsRising, HasOneLeaf, IsCanonicalPart}
 use Rattle.p21_exchange.specs.Grammar.{IsDataRecord, IsNoUserKeyword, IsShallowPart}
 use Rattle.p21_files.specs.Meaning.{Typed, PartMeans, RecordMeans}
 use Rattle.p21_schemas.specs.Order.{order, own_places}
 use Rattle.p21_exchange.specs.Parameter.{key_token}
 use Rattle.p21_exchange.specs.Record.{Part, Record, simple, complex, part_tokens, record_tokens}
-use Rattle.p21_files.specs.Reference.{Kinds}
+use Rattle.p21_files.specs.Reference.{EntitySets}
 use Rattle.p21_schemas.specs.Schema.{Schema}
 use Rattle.p21_schemas.specs.Supertype.{InClosure}
 use Rattle.p21_exchange.specs.Token as token
@@ -35,7 +35,7 @@ keys-said (part ∷ parts) rest each =
 
 -- ---- where the set has one leaf: in internal mapping
 
-print-leaf : (s : Schema) → IsWellFormed s → (kinds : Kinds) (parts : List Part) (a : Typed) → RecordMeans s kinds (complex parts) a → Each IsSpelled (record_tokens (complex parts)) → IsDataRecord (complex parts) → HasOneLeaf s a.entities → HasCanonicalRecord s kinds a
+print-leaf : (s : Schema) → IsWellFormed s → (kinds : EntitySets) (parts : List Part) (a : Typed) → RecordMeans s kinds (complex parts) a → Each IsSpelled (record_tokens (complex parts)) → IsDataRecord (complex parts) → HasOneLeaf s a.entities → HasCanonicalRecord s kinds a
 print-leaf s formed kinds parts a means written data_record leaf =
     let ext = means.means in
     let closed : (f : ℕ) → InClosure s a.entities f → Contains a.entities f = λ f in_closure. (ext.same_entities f).0 (ext.closed f (in_closure.0, (ext.same_entities in_closure.0).1 in_closure.1, in_closure.2)) in
@@ -55,7 +55,7 @@ print-leaf s formed kinds parts a means written data_record leaf =
 abbrev Made : Type 0
 Made = Part × ℕ
 
-record IsMade (s : Schema) (kinds : Kinds) (b : Typed) (x : Made) : Type 0 where
+record IsMade (s : Schema) (kinds : EntitySets) (b : Typed) (x : Made) : Type 0 where
   means : PartMeans s kinds b x.0 x.1
   canonical : IsCanonicalPart s b x.0
   said : Each IsSpelled (part_tokens x.0)
@@ -71,12 +71,12 @@ entities_in xs = map (λ (x : Made). x.1) xs
 abbrev words_in : List Made → List (List ℕ)
 words_in xs = map (λ (part : Part). part.key.word) (parts_in xs)
 
-record AreMade (s : Schema) (kinds : Kinds) (b : Typed) (es : List ℕ) : Type 0 where
+record AreMade (s : Schema) (kinds : EntitySets) (b : Typed) (es : List ℕ) : Type 0 where
   made : List Made
   each : Each (IsMade s kinds b) made
   entities : entities_in made ≡ es
 
-make : (s : Schema) (kinds : Kinds) (a : Typed) (parts : List Part) (es : List ℕ) → AllZip (PartMeans s kinds a) parts es → Each (λ (part : Part). IsSpelled (key_token part.key)) parts → Each (λ (part : Part). AreWritten part.params) parts → Each IsShallowPart parts
+make : (s : Schema) (kinds : EntitySets) (a : Typed) (parts : List Part) (es : List ℕ) → AllZip (PartMeans s kinds a) parts es → Each (λ (part : Part). IsSpelled (key_token part.key)) parts → Each (λ (part : Part). AreWritten part.params) parts → Each IsShallowPart parts
     → AreMade s kinds (canonical_typed s a) es
 make s kinds a [] [] all keys written shallow = record { made = []; each = tt; entities = refl }
 make s kinds a [] (e ∷ es) all keys written shallow = absurd all
@@ -140,19 +140,19 @@ each-shuffled {X} P xs ys shuffled each = of_members ys (λ x among. Each-member
     of_members [] all = tt
     of_members (z ∷ zs) all = (all z (Contains-first z zs), of_members zs (λ x among. all x (Contains-later z zs x among)))
 
-made-mean : (s : Schema) (kinds : Kinds) (b : Typed) (xs : List Made) → Each (IsMade s kinds b) xs → AllZip (PartMeans s kinds b) (parts_in xs) (entities_in xs)
+made-mean : (s : Schema) (kinds : EntitySets) (b : Typed) (xs : List Made) → Each (IsMade s kinds b) xs → AllZip (PartMeans s kinds b) (parts_in xs) (entities_in xs)
 made-mean s kinds b [] each = tt
 made-mean s kinds b (x ∷ xs) each = (each.0.means, made-mean s kinds b xs each.1)
 
-made-canonical : (s : Schema) (kinds : Kinds) (b : Typed) (xs : List Made) → Each (IsMade s kinds b) xs → Each (IsCanonicalPart s b) (parts_in xs)
+made-canonical : (s : Schema) (kinds : EntitySets) (b : Typed) (xs : List Made) → Each (IsMade s kinds b) xs → Each (IsCanonicalPart s b) (parts_in xs)
 made-canonical s kinds b [] each = tt
 made-canonical s kinds b (x ∷ xs) each = (each.0.canonical, made-canonical s kinds b xs each.1)
 
-made-shallow : (s : Schema) (kinds : Kinds) (b : Typed) (xs : List Made) → Each (IsMade s kinds b) xs → Each IsShallowPart (parts_in xs)
+made-shallow : (s : Schema) (kinds : EntitySets) (b : Typed) (xs : List Made) → Each (IsMade s kinds b) xs → Each IsShallowPart (parts_in xs)
 made-shallow s kinds b [] each = tt
 made-shallow s kinds b (x ∷ xs) each = (each.0.shallow, made-shallow s kinds b xs each.1)
 
-made-tokens : (s : Schema) (kinds : Kinds) (b : Typed) (P : Token → Type 0) → ((x : Made) → IsMade s kinds b x → Each P (part_tokens x.0)) → (xs : List Made) → Each (IsMade s kinds b) xs → Each P (flat_map part_tokens (parts_in xs))
+made-tokens : (s : Schema) (kinds : EntitySets) (b : Typed) (P : Token → Type 0) → ((x : Made) → IsMade s kinds b x → Each P (part_tokens x.0)) → (xs : List Made) → Each (IsMade s kinds b) xs → Each P (flat_map part_tokens (parts_in xs))
 made-tokens s kinds b P of [] each = tt
 made-tokens s kinds b P of (x ∷ xs) each = Each-append P (part_tokens x.0) (flat_map part_tokens (parts_in xs)) (of x each.0) (made-tokens s kinds b P of xs each.1)
 
@@ -163,12 +163,12 @@ some-made (x ∷ xs) some = omega arith
 some-member : {X : Type 0} (xs : List X) (x : X) → Contains xs x → 0 < length xs
 some-member xs x (k, below, is) = omega (arith, below)
 
-first-entity : (s : Schema) (kinds : Kinds) (a : Typed) (parts : List Part) (es : List ℕ) → AllZip (PartMeans s kinds a) parts es → 0 < length parts → (e : ℕ) × Contains es e
+first-entity : (s : Schema) (kinds : EntitySets) (a : Typed) (parts : List Part) (es : List ℕ) → AllZip (PartMeans s kinds a) parts es → 0 < length parts → (e : ℕ) × Contains es e
 first-entity s kinds a [] es all some = absurd (omega (arith, some))
 first-entity s kinds a (part ∷ parts) [] all some = absurd all
 first-entity s kinds a (part ∷ parts) (e ∷ es) all some = (e, Contains-first e es)
 
-print-parts : (s : Schema) → IsWellFormed s → (kinds : Kinds) (parts : List Part) (a : Typed) → RecordMeans s kinds (complex parts) a → Each IsSpelled (record_tokens (complex parts)) → IsDataRecord (complex parts) → ¬ HasOneLeaf s a.entities → HasCanonicalRecord s kinds a
+print-parts : (s : Schema) → IsWellFormed s → (kinds : EntitySets) (parts : List Part) (a : Typed) → RecordMeans s kinds (complex parts) a → Each IsSpelled (record_tokens (complex parts)) → IsDataRecord (complex parts) → ¬ HasOneLeaf s a.entities → HasCanonicalRecord s kinds a
 print-parts s formed kinds parts a means written data_record no_leaf =
     let ext = means.means in
     let b : Typed = canonical_typed s a in
@@ -192,7 +192,7 @@ print-parts s formed kinds parts a means written data_record no_leaf =
         closed = λ f in_closure. onto f (ext.closed f (in_closure.0, back in_closure.0 in_closure.1, in_closure.2));
         parts_mean = made-mean s kinds b xs each;
       });
-      canonical = record { form = (no_leaf, subst AreRising (sym (sort-words are.made)) (sort-rises (words_in are.made))); params = made-canonical s kinds b xs each };
+      canonical = record { form = (no_leaf, subst AreTextsRising (sym (sort-words are.made)) (sort-rises (words_in are.made))); params = made-canonical s kinds b xs each };
       written = ((codes "(", refl), Each-append IsSpelled (flat_map part_tokens (parts_in xs)) (token.right ∷ []) (made-tokens s kinds b IsSpelled (λ x is. is.said) xs each) ((codes ")", refl), tt));
       data_record = record {
         some_parts = some;
@@ -202,7 +202,7 @@ print-parts s formed kinds parts a means written data_record no_leaf =
     }
 
 -- each record of a data section that means something, written, has a canonical record
-pub has-canonical_record : (s : Schema) → IsWellFormed s → (kinds : Kinds) (r : Record) (a : Typed) → RecordMeans s kinds r a → Each IsSpelled (record_tokens r) → IsDataRecord r → HasCanonicalRecord s kinds a
+pub has-canonical_record : (s : Schema) → IsWellFormed s → (kinds : EntitySets) (r : Record) (a : Typed) → RecordMeans s kinds r a → Each IsSpelled (record_tokens r) → IsDataRecord r → HasCanonicalRecord s kinds a
 has-canonical_record s formed kinds (simple part) a means written data_record = print-record s formed kinds part a means written data_record
 has-canonical_record s formed kinds (complex parts) a means written data_record = elim (decide-one_leaf s formed a.entities) [
   | inl leaf ↦ print-leaf s formed kinds parts a means written data_record leaf

@@ -12,7 +12,7 @@ use Rattle.p21_schemas.specs.Order.{places, own_places}
 use Rattle.p21_exchange.specs.Parameter.{Key, key_of, Param, Params, no_params, param, params_tokens}
 use Rattle.p21_schemas.specs.PlaceType.{PlaceType, TypeAt}
 use Rattle.p21_exchange.specs.Record.{Part, Record, simple, complex, part_tokens, record_tokens}
-use Rattle.p21_files.specs.Reference.{Kinds}
+use Rattle.p21_files.specs.Reference.{EntitySets}
 use Rattle.p21_files.specs.SameFile.{SameTyped}
 use Rattle.p21_files.specs.SameValue.{Same, SameInOrder, both_end, both_next}
 use Rattle.p21_schemas.specs.Schema.{Schema, Place, EntityNamed}
@@ -65,12 +65,12 @@ same-at a b same none place v w (vs, has, at) (ws, has_, at_) =
 
 -- ---- canonical parameters
 
-at-once : (s : Schema) → IsWellFormed s → (kinds others : Kinds) (at : PlaceType) (p q : Param) (v w : Value) → FitsAt s kinds at p v → FitsAt s others at q w → IsWritten p → IsWritten q → IsCanonicalParam p v → IsCanonicalParam q w → Same v w → p ≡ q
+at-once : (s : Schema) → IsWellFormed s → (kinds others : EntitySets) (at : PlaceType) (p q : Param) (v w : Value) → FitsAt s kinds at p v → FitsAt s others at q w → IsWritten p → IsWritten q → IsCanonicalParam p v → IsCanonicalParam q w → Same v w → p ≡ q
 at-once s formed kinds others at p q v w fit fit_ written written_ canonical canonical_ same =
     one-text p q written written_
     (canonical_at-text s kinds at p v fit canonical ∙ (same-exactly_texts_at s formed.types_distinct kinds others at p q v w fit fit_ written written_).0 same ∙ sym (canonical_at-text s others at q w fit_ canonical_))
 
-places-once : (s : Schema) → IsWellFormed s → (kinds others : Kinds) (a b : Typed) → SameTyped a b → NoneTwice a.entities → NoneTwice b.entities → (ps : List Place) (xs ys : Params) → FitPlaces s kinds a ps xs → FitPlaces s others b ps ys
+places-once : (s : Schema) → IsWellFormed s → (kinds others : EntitySets) (a b : Typed) → SameTyped a b → NoneTwice a.entities → NoneTwice b.entities → (ps : List Place) (xs ys : Params) → FitPlaces s kinds a ps xs → FitPlaces s others b ps ys
     → AreCanonicalAt a ps xs → AreCanonicalAt b ps ys → AreWritten xs → AreWritten ys → xs ≡ ys
 places-once s formed kinds others a b same none none_ [] no_params no_params fit fit_ canonical canonical_ written written_ = refl
 places-once s formed kinds others a b same none none_ [] no_params (param y ys) fit fit_ canonical canonical_ written written_ = absurd fit_
@@ -97,7 +97,7 @@ abbrev pub words : List Part → List (List ℕ)
 words parts = map (λ (part : Part). part.key.word) parts
 
 -- all parts, where they have the same keywords
-parts-once : (s : Schema) → IsWellFormed s → (kinds others : Kinds) (a b : Typed) → SameTyped a b → NoneTwice a.entities → NoneTwice b.entities → (parts qs : List Part) (es fs : List ℕ)
+parts-once : (s : Schema) → IsWellFormed s → (kinds others : EntitySets) (a b : Typed) → SameTyped a b → NoneTwice a.entities → NoneTwice b.entities → (parts qs : List Part) (es fs : List ℕ)
     → AllZip (PartMeans s kinds a) parts es → AllZip (PartMeans s others b) qs fs → Each (IsCanonicalPart s a) parts → Each (IsCanonicalPart s b) qs → Each (λ (part : Part). AreWritten part.params) parts → Each (λ (part : Part). AreWritten part.params) qs
     → words parts ≡ words qs → parts ≡ qs
 parts-once s formed kinds others a b same none none_ [] [] es fs mean mean_ canonical canonical_ written written_ keys = refl
@@ -119,7 +119,7 @@ parts-once s formed kinds others a b same none none_ (p ∷ ps) (q ∷ qs) (e �
     let params : p.params ≡ q.params = places-once s formed kinds others a b same none none_ (own_places s e) p.params q.params mean.0.1 (subst F ef mean_.0.1) (subst A ge at) (subst B (hf ∙ ef) at_) written.0 written_.0 in
     ap (λ (z : Part). z ∷ ps) (part-same p q key params) ∙ ap (λ (zs : List Part). q ∷ zs) (parts-once s formed kinds others a b same none none_ ps qs es fs mean.1 mean_.1 canonical canonical_ written.1 written_.1 rest)
 
-parts-named : (s : Schema) (kinds : Kinds) (a : Typed) (parts : List Part) (es : List ℕ) → AllZip (PartMeans s kinds a) parts es → AllZip (EntityNamed s) es (words parts)
+parts-named : (s : Schema) (kinds : EntitySets) (a : Typed) (parts : List Part) (es : List ℕ) → AllZip (PartMeans s kinds a) parts es → AllZip (EntityNamed s) es (words parts)
 parts-named s kinds a [] [] mean = tt
 parts-named s kinds a [] (e ∷ es) mean = absurd mean
 parts-named s kinds a (p ∷ ps) [] mean = absurd mean
@@ -153,7 +153,7 @@ leaf-is : (s : Schema) (entities : List ℕ) (e : ℕ) → ((f : ℕ) → Contai
 leaf-is s entities e closure leaf = leaf.1.1 e ((closure e).1 (itself e)) ((closure leaf.0).0 leaf.1.0)
 
 -- under a well formed schema, whatever the other instances of the two files
-pub record-once : (s : Schema) → IsWellFormed s → (kinds others : Kinds) (r q : Record) (a b : Typed) → RecordMeans s kinds r a → RecordMeans s others q b → SameTyped a b → IsCanonicalRecord s r a → IsCanonicalRecord s q b
+pub record-once : (s : Schema) → IsWellFormed s → (kinds others : EntitySets) (r q : Record) (a b : Typed) → RecordMeans s kinds r a → RecordMeans s others q b → SameTyped a b → IsCanonicalRecord s r a → IsCanonicalRecord s q b
     → Each IsSpelled (record_tokens r) → Each IsSpelled (record_tokens q) → r ≡ q
 record-once s formed kinds others (simple p) (simple q) a b means means_ same canonical canonical_ written written_ =
     let none = rising-none_twice s a.entities means.rising.0 means.rising.1 means.rising.2 in

@@ -1,9 +1,9 @@
 -- The laws of instances and of what they need, as the contract has them.
 use Rattle.std.proofs.Common.{◌≡◌, sym, subst}
-use Rattle.p21_claim_values.proofs.InstanceTexts.{has-text, kept-one, one-text_of, texts-once, texts-told}
+use Rattle.p21_claim_values.proofs.InstanceTexts.{has-text, canonical_size-one, one-text_of, texts-once, texts-told}
 use Rattle.p21_claim_values.proofs.Needs.{has-needs, means-served, needs-can_be_served, needs-references, served-means, served-places}
-use Rattle.p21_claim_values.specs.NeedLaws.{NeedsAreReferences, NeedsCanBeServed, NeedsDecide, RecordHasNeeds, ServedFit}
-use Rattle.p21_claim_values.specs.RecordLaws.{InstanceHasText, OneMeaningOfRecord, OneNumberKept, OneTextOfInstance, TextsTellInstances}
+use Rattle.p21_claim_values.specs.NeedLaws.{NeedsAreReferences, NeedsCanBeServed, ServedNeedsDecideMeaning, RecordHasNeeds, ServedParamsFit}
+use Rattle.p21_claim_values.specs.RecordLaws.{InstanceHasText, OneMeaningOfRecord, OneCanonicalSize, OneTextOfInstance, TextsTellInstances}
 use Rattle.p21_files.proofs.OneMeaning.{RecordMeans-one}
 use Rattle.p21_files.specs.Meaning.{Typed}
 use Rattle.p21_files.specs.SameFile.{SameTyped}
@@ -29,10 +29,10 @@ texts-tell s formed kinds others n m record_ other a b text other_text means mea
           (name, subst (λ (x : Typed). SameTyped x b) first (subst (SameTyped is.meaning) second same)),
     )
 
-pub one-number_kept : OneNumberKept
-one-number_kept s formed = kept-one s formed
+pub one-canonical_size : OneCanonicalSize
+one-canonical_size s formed = canonical_size-one s formed
 
-pub needs-decide : NeedsDecide
+pub needs-decide : ServedNeedsDecideMeaning
 needs-decide s formed record_ meaning needs is kinds =
     (λ means. means-served s formed record_ meaning needs is kinds means, λ served. served-means s formed record_ meaning needs is kinds served)
 
@@ -45,5 +45,5 @@ needs-are_references = needs-references
 pub needs-served : NeedsCanBeServed
 needs-served = needs-can_be_served
 
-pub served-fit : ServedFit
+pub served-fit : ServedParamsFit
 served-fit = served-places

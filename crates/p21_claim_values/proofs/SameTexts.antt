@@ -10,7 +10,7 @@ use Rattle.p21_exchange.specs.CanonicalText.{param_text}
 use Rattle.p21_files.specs.Fits.{Fits, FitsAt, star, dollar, fits}
 use Rattle.p21_exchange.specs.Parameter.{Param}
 use Rattle.p21_schemas.specs.PlaceType.{PlaceType}
-use Rattle.p21_files.specs.Reference.{Kinds}
+use Rattle.p21_files.specs.Reference.{EntitySets}
 use Rattle.p21_files.specs.SameValue.{Same, both_derived, both_missing}
 use Rattle.p21_schemas.specs.Schema.{Schema, TypeUse}
 use Rattle.p21_files.specs.Value.{Value, missing}
@@ -24,7 +24,7 @@ use Rattle.p21_files.specs.ValueText.{value_text}
 use Rattle.p21_claim_values.specs.Written.{IsWritten}
 
 -- whatever the instances of the two files, and in whatever order the elements were written
-pub same-exactly_texts : (s : Schema) → HasDistinctTypes s → (kinds others : Kinds) (type : TypeUse) (p q : Param) (v w : Value) → Fits s kinds type p v → Fits s others type q w → IsWritten p → IsWritten q
+pub same-exactly_texts : (s : Schema) → HasDistinctTypes s → (kinds others : EntitySets) (type : TypeUse) (p q : Param) (v w : Value) → Fits s kinds type p v → Fits s others type q w → IsWritten p → IsWritten q
     → Same v w ↔ (value_text s v ≡ value_text s w)
 same-exactly_texts s distinct kinds others type p q v w fit fit_ written written_ =
     let of = fits-of s kinds type p v fit written in
@@ -32,7 +32,7 @@ same-exactly_texts s distinct kinds others type p q v w fit fit_ written written
     (λ same. text-from_same s distinct type v w of of_ same, λ same. same-from_text s distinct type v w of of_ same)
 
 -- and so at a place, which may be derived or empty
-pub same-exactly_texts_at : (s : Schema) → HasDistinctTypes s → (kinds others : Kinds) (at : PlaceType) (p q : Param) (v w : Value) → FitsAt s kinds at p v → FitsAt s others at q w → IsWritten p → IsWritten q
+pub same-exactly_texts_at : (s : Schema) → HasDistinctTypes s → (kinds others : EntitySets) (at : PlaceType) (p q : Param) (v w : Value) → FitsAt s kinds at p v → FitsAt s others at q w → IsWritten p → IsWritten q
     → Same v w ↔ (value_text s v ≡ value_text s w)
 same-exactly_texts_at s distinct kinds others at p q v w star star written written_ = (λ _. refl, λ _. both_derived)
 same-exactly_texts_at s distinct kinds others at p q v w (dollar _) (dollar _) written written_ = (λ _. refl, λ _. both_missing)
@@ -45,7 +45,7 @@ same-exactly_texts_at s distinct kinds others at p q v w (fits _ type _ _ fit) (
 same-exactly_texts_at s distinct kinds others at p q v w (fits _ type _ _ fit) (fits _ _ _ _ fit_) written written_ = same-exactly_texts s distinct kinds others type p q v w fit fit_ written written_
 
 -- canonical parameters of values that are the same are equal, and those of others are not
-pub one-canonical : (s : Schema) → HasDistinctTypes s → (kinds others : Kinds) (type : TypeUse) (p q : Param) (v w : Value) → Fits s kinds type p v → Fits s others type q w → IsWritten p → IsWritten q
+pub one-canonical : (s : Schema) → HasDistinctTypes s → (kinds others : EntitySets) (type : TypeUse) (p q : Param) (v w : Value) → Fits s kinds type p v → Fits s others type q w → IsWritten p → IsWritten q
     → IsCanonicalParam p v → IsCanonicalParam q w → Same v w ↔ (p ≡ q)
 one-canonical s distinct kinds others type p q v w fit fit_ written written_ canonical canonical_ =
     let law = same-exactly_texts s distinct kinds others type p q v w fit fit_ written written_ in
@@ -54,7 +54,7 @@ one-canonical s distinct kinds others type p q v w fit fit_ written written_ can
     (λ same. one-text p q written written_ (first ∙ law.0 same ∙ sym second), λ same. law.1 (sym first ∙ ap param_text same ∙ second))
 
 -- two canonical parameters of values that are the same at one place
-pub canonical-once : (s : Schema) → HasDistinctTypes s → (kinds : Kinds) (at : PlaceType) (v : Value) (p q : Param) → IsCanonicalFor s kinds at v p → IsCanonicalFor s kinds at v q → q ≡ p
+pub canonical-once : (s : Schema) → HasDistinctTypes s → (kinds : EntitySets) (at : PlaceType) (v : Value) (p q : Param) → IsCanonicalFor s kinds at v p → IsCanonicalFor s kinds at v q → q ≡ p
 canonical-once s distinct kinds at v p q first second =
     let same : Same second.value first.value = Same-transitive v second.value first.value (Same-symmetric v second.value second.same) first.same in
     one-text q p second.written first.written
@@ -63,7 +63,7 @@ canonical-once s distinct kinds at v p q first second =
     ∙ sym (canonical_at-text s kinds at p first.value first.fit first.canonical))
 
 -- and one that there is
-pub canonical-there : (s : Schema) (kinds : Kinds) (at : PlaceType) (v : Value) (p : Param) → FitsAt s kinds at p v → IsWritten p → (q : Param) × IsCanonicalFor s kinds at v q
+pub canonical-there : (s : Schema) (kinds : EntitySets) (at : PlaceType) (v : Value) (p : Param) → FitsAt s kinds at p v → IsWritten p → (q : Param) × IsCanonicalFor s kinds at v q
 canonical-there s kinds at v p star written = (p, record { value = v; fit = star; written = written; canonical = tt; same = both_derived })
 canonical-there s kinds at v p (dollar type) written = (p, record { value = v; fit = dollar type; written = written; canonical = tt; same = both_missing })
 canonical-there s kinds at v p (fits optional type _ _ fit) written =

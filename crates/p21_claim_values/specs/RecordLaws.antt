@@ -5,19 +5,19 @@ use Rattle.p21_claim_values.specs.Written.{IsWrittenStatement}
 use Rattle.p21_exchange.specs.Grammar.{IsDataRecord}
 use Rattle.p21_exchange.specs.Record.{Record}
 use Rattle.p21_exchange.specs.Statement.{Statement, instance}
-use Rattle.p21_files.specs.Kept.{AreKept, IsInstanceText}
+use Rattle.p21_files.specs.CanonicalTexts.{HaveCanonicalSize, IsInstanceText}
 use Rattle.p21_files.specs.Meaning.{RecordMeans, Typed}
-use Rattle.p21_files.specs.Reference.{Kinds}
+use Rattle.p21_files.specs.Reference.{EntitySets}
 use Rattle.p21_files.specs.SameFile.{SameTyped}
 use Rattle.p21_schemas.specs.Schema.{Schema}
 
 -- a record has one meaning, whatever the other instances are
 abbrev pub OneMeaningOfRecord : Type 0
-OneMeaningOfRecord = (s : Schema) → IsWellFormed s → (kinds others : Kinds) (record_ : Record) (a b : Typed) → RecordMeans s kinds record_ a → RecordMeans s others record_ b → a ≡ b
+OneMeaningOfRecord = (s : Schema) → IsWellFormed s → (kinds others : EntitySets) (record_ : Record) (a b : Typed) → RecordMeans s kinds record_ a → RecordMeans s others record_ b → a ≡ b
 
 -- an instance that a file may have, whose record means something, has a canonical text
 abbrev pub InstanceHasText : Type 0
-InstanceHasText = (s : Schema) → IsWellFormed s → (kinds : Kinds) (n : ℕ) (record_ : Record) (meaning : Typed) → RecordMeans s kinds record_ meaning → IsDataRecord record_ → IsWrittenStatement (instance n record_)
+InstanceHasText = (s : Schema) → IsWellFormed s → (kinds : EntitySets) (n : ℕ) (record_ : Record) (meaning : Typed) → RecordMeans s kinds record_ meaning → IsDataRecord record_ → IsWrittenStatement (instance n record_)
     → (text : List ℕ) × IsInstanceText s n record_ text
 
 -- and one only, whatever the other instances are
@@ -26,9 +26,9 @@ OneTextOfInstance = (s : Schema) → IsWellFormed s → (n : ℕ) (record_ : Rec
 
 -- two instances, of one file or of two, have one name and mean the same exactly if their canonical texts are equal
 abbrev pub TextsTellInstances : Type 0
-TextsTellInstances = (s : Schema) → IsWellFormed s → (kinds others : Kinds) (n m : ℕ) (record_ other : Record) (a b : Typed) (text other_text : List ℕ) → RecordMeans s kinds record_ a → RecordMeans s others other b
+TextsTellInstances = (s : Schema) → IsWellFormed s → (kinds others : EntitySets) (n m : ℕ) (record_ other : Record) (a b : Typed) (text other_text : List ℕ) → RecordMeans s kinds record_ a → RecordMeans s others other b
     → IsInstanceText s n record_ text → IsInstanceText s m other other_text → ((n ≡ m) × SameTyped a b) ↔ (text ≡ other_text)
 
 -- the bytes that are kept of statements are one number
-abbrev pub OneNumberKept : Type 0
-OneNumberKept = (s : Schema) → IsWellFormed s → (statements : List Statement) (kept other : ℕ) → AreKept s statements kept → AreKept s statements other → kept ≡ other
+abbrev pub OneCanonicalSize : Type 0
+OneCanonicalSize = (s : Schema) → IsWellFormed s → (statements : List Statement) (kept other : ℕ) → HaveCanonicalSize s statements kept → HaveCanonicalSize s statements other → kept ≡ other

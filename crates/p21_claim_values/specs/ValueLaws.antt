@@ -6,7 +6,7 @@ use Rattle.p21_exchange.specs.CanonicalText.{param_text}
 use Rattle.p21_exchange.specs.Parameter.{Param}
 use Rattle.p21_files.specs.CanonicalRecord.{IsCanonicalParam}
 use Rattle.p21_files.specs.Fits.{Fits, FitsAt}
-use Rattle.p21_files.specs.Reference.{Kinds}
+use Rattle.p21_files.specs.Reference.{EntitySets}
 use Rattle.p21_files.specs.SameValue.{Same}
 use Rattle.p21_files.specs.Value.{Value}
 use Rattle.p21_files.specs.ValueText.{value_text}
@@ -15,26 +15,26 @@ use Rattle.p21_schemas.specs.Schema.{Schema, TypeUse}
 
 -- a parameter stands for one value at a type, whatever the other instances are
 abbrev pub OneValue : Type 0
-OneValue = (s : Schema) → IsWellFormed s → (kinds others : Kinds) (type : TypeUse) (p : Param) (v w : Value) → Fits s kinds type p v → Fits s others type p w → v ≡ w
+OneValue = (s : Schema) → IsWellFormed s → (kinds others : EntitySets) (type : TypeUse) (p : Param) (v w : Value) → Fits s kinds type p v → Fits s others type p w → v ≡ w
 
 -- and at a place
 abbrev pub OneValueAtPlace : Type 0
-OneValueAtPlace = (s : Schema) → IsWellFormed s → (kinds others : Kinds) (at : PlaceType) (p : Param) (v w : Value) → FitsAt s kinds at p v → FitsAt s others at p w → v ≡ w
+OneValueAtPlace = (s : Schema) → IsWellFormed s → (kinds others : EntitySets) (at : PlaceType) (p : Param) (v w : Value) → FitsAt s kinds at p v → FitsAt s others at p w → v ≡ w
 
 -- the value stands at the place in some file
-abbrev pub StandsAt : Schema → Kinds → PlaceType → Value → Type 0
-StandsAt s kinds at v = (p : Param) × FitsAt s kinds at p v × IsWritten p
+abbrev pub IsPossibleAt : Schema → EntitySets → PlaceType → Value → Type 0
+IsPossibleAt s kinds at v = (p : Param) × FitsAt s kinds at p v × IsWritten p
 
 -- two values at one place are the same exactly if their texts are equal, whatever the files that they stand in
 abbrev pub TextsTellValues : Type 0
-TextsTellValues = (s : Schema) → IsWellFormed s → (kinds others : Kinds) (at : PlaceType) (v w : Value) → StandsAt s kinds at v → StandsAt s others at w → Same v w ↔ (value_text s v ≡ value_text s w)
+TextsTellValues = (s : Schema) → IsWellFormed s → (kinds others : EntitySets) (at : PlaceType) (v w : Value) → IsPossibleAt s kinds at v → IsPossibleAt s others at w → Same v w ↔ (value_text s v ≡ value_text s w)
 
 -- a canonical parameter has the text of its value
 abbrev pub CanonicalHasValueText : Type 0
-CanonicalHasValueText = (s : Schema) (kinds : Kinds) (at : PlaceType) (p : Param) (v : Value) → FitsAt s kinds at p v → IsCanonicalParam p v → param_text p ≡ value_text s v
+CanonicalHasValueText = (s : Schema) (kinds : EntitySets) (at : PlaceType) (p : Param) (v : Value) → FitsAt s kinds at p v → IsCanonicalParam p v → param_text p ≡ value_text s v
 
 -- the parameter is canonical, and stands there for a value that is the same
-pub record IsCanonicalFor (s : Schema) (kinds : Kinds) (at : PlaceType) (v : Value) (p : Param) : Type 0 where
+pub record IsCanonicalFor (s : Schema) (kinds : EntitySets) (at : PlaceType) (v : Value) (p : Param) : Type 0 where
   pub value : Value
   pub fit : FitsAt s kinds at p value
   pub written : IsWritten p
@@ -43,5 +43,5 @@ pub record IsCanonicalFor (s : Schema) (kinds : Kinds) (at : PlaceType) (v : Val
 
 -- each value has one canonical parameter, and one only
 abbrev pub OneCanonicalParameter : Type 0
-OneCanonicalParameter = (s : Schema) → IsWellFormed s → (kinds : Kinds) (at : PlaceType) (v : Value) → StandsAt s kinds at v
+OneCanonicalParameter = (s : Schema) → IsWellFormed s → (kinds : EntitySets) (at : PlaceType) (v : Value) → IsPossibleAt s kinds at v
     → (p : Param) × IsCanonicalFor s kinds at v p × ((q : Param) → IsCanonicalFor s kinds at v q → q ≡ p)

@@ -4,8 +4,8 @@
 
 ghost use Rattle.p21_claim_values.specs.HeaderLaws.{LinesTellHeaderRecords, TextsTellHeaderParameters};
 ghost use Rattle.p21_claim_values.specs.LineLaws.{LinesAreGraphic};
-ghost use Rattle.p21_claim_values.specs.NeedLaws.{NeedsAreReferences, NeedsCanBeServed, NeedsDecide, RecordHasNeeds, ServedFit};
-ghost use Rattle.p21_claim_values.specs.RecordLaws.{InstanceHasText, OneMeaningOfRecord, OneNumberKept, OneTextOfInstance, TextsTellInstances};
+ghost use Rattle.p21_claim_values.specs.NeedLaws.{NeedsAreReferences, NeedsCanBeServed, ServedNeedsDecideMeaning, RecordHasNeeds, ServedParamsFit};
+ghost use Rattle.p21_claim_values.specs.RecordLaws.{InstanceHasText, OneMeaningOfRecord, OneCanonicalSize, OneTextOfInstance, TextsTellInstances};
 ghost use Rattle.p21_claim_values.specs.SchemaLaws.{DeclaredIsWellFormed};
 ghost use Rattle.p21_claim_values.specs.ValueLaws.{CanonicalHasValueText, OneCanonicalParameter, OneValue, OneValueAtPlace, TextsTellValues};
 
@@ -37,16 +37,16 @@ pub fn record_laws()
     ensures has_text { InstanceHasText }
     ensures one_text { OneTextOfInstance }
     ensures texts_tell { TextsTellInstances }
-    ensures one_number_kept { OneNumberKept }
+    ensures one_canonical_size { OneCanonicalSize }
 {}
 
 /// What a record needs of the instances that it refers to decides among which of them it has its meaning.
 pub fn need_laws()
-    ensures decide { NeedsDecide }
+    ensures decide { ServedNeedsDecideMeaning }
     ensures has_needs { RecordHasNeeds }
     ensures are_references { NeedsAreReferences }
     ensures can_be_served { NeedsCanBeServed }
-    ensures served_fit { ServedFit }
+    ensures served_fit { ServedParamsFit }
 {}
 
 /// A canonical line holds bytes 20 to 7E alone.

@@ -33,20 +33,20 @@ abbrev pub schema_app : App
 schema_app = with_rule (new_app (codes "schema")) (given_rule (codes "S"))
 
 -- a command on a schema and a file
-abbrev pub on_file : Text → App
-on_file name = with_rule (with_rule (new_app name) (given_rule (codes "S"))) (given_rule (codes "FILE"))
+abbrev pub file_app : Text → App
+file_app name = with_rule (with_rule (new_app name) (given_rule (codes "S"))) (given_rule (codes "FILE"))
 
 -- `check S FILE [--progress]`
 abbrev pub check_app : App
-check_app = with_rule (on_file (codes "check")) progress_rule
+check_app = with_rule (file_app (codes "check")) progress_rule
 
 -- `canon S FILE [--progress]`
 abbrev pub canon_app : App
-canon_app = with_rule (on_file (codes "canon")) progress_rule
+canon_app = with_rule (file_app (codes "canon")) progress_rule
 
 -- `show S FILE --name N`
 abbrev pub show_app : App
-show_app = with_rule (on_file (codes "show")) name_rule
+show_app = with_rule (file_app (codes "show")) name_rule
 
 -- `same S A B [--progress]`
 abbrev pub same_app : App
@@ -58,8 +58,8 @@ abbrev pub faults_app : App
 faults_app = with_rule (new_app (codes "faults")) (optional_rule (codes "N"))
 
 -- a program with a version that wants one of its commands, before these are added
-abbrev pub bare_app : App
-bare_app =
+abbrev pub app_without_commands : App
+app_without_commands =
     let program = new_app (codes "p21") in
     record program { top = record program.top { has_version = true; subcommand_required = true } }
 
@@ -67,5 +67,5 @@ bare_app =
 abbrev pub program_app : App
 program_app =
     with_subcommand (with_subcommand (with_subcommand (with_subcommand
-    (with_subcommand (with_subcommand (with_subcommand bare_app
+    (with_subcommand (with_subcommand (with_subcommand app_without_commands
     param_app.top) schema_app.top) check_app.top) canon_app.top) show_app.top) same_app.top) faults_app.top

@@ -2,7 +2,7 @@
 ghost use Rattle.std.specs.Prelude.{◌≡◌, IfOk, codes, false};
 ghost use Rattle.clap.specs.Words.{app_of, rule_of};
 ghost use Rattle.clap.specs.declared.builder.command.Command.TheViews.{out-Command as fields_of};
-ghost use Rattle.p21_command_line.specs.CommandLine.{bare_app, canon_app, check_app, faults_app, given_rule, name_rule, optional_rule, param_app, progress_rule};
+ghost use Rattle.p21_command_line.specs.CommandLine.{app_without_commands, canon_app, check_app, faults_app, given_rule, name_rule, optional_rule, param_app, progress_rule};
 ghost use Rattle.p21_command_line.specs.CommandLine.{program_app, same_app, schema_app, show_app};
 
 use crate::{help, refusals};
@@ -25,7 +25,7 @@ pub fn command_line<'a>(alloc: Global) -> Result<Command<'a>, AllocError>
 
 /// The program, before its commands are added.
 fn program<'a>(alloc: Global) -> Command<'a>
-    ensures { app_of result ≡ bare_app }
+    ensures { app_of result ≡ app_without_commands }
 {
     Command::new(alloc, "p21")
         .about(

@@ -1,3 +1,10 @@
 pub mod Failing
 pub mod Reporting
 mod TransferLemmas
+pub mod Commas
+pub mod Within
+pub mod Comparing
+pub mod Counting
+pub mod FileFailing
+pub mod Showing
+pub mod Writing

@@ -5,3 +5,11 @@ pub mod Fault
 pub mod Param
 pub mod Status
 pub mod Transfer
+pub mod Load
+pub mod Print
+pub mod Canon
+pub mod Check
+pub mod Files
+pub mod Refusals
+pub mod Same
+pub mod Show

@@ -15,7 +15,7 @@ GivesText reader text = IfSome reader (λ bytes. text ≡ take most_read bytes)
 abbrev pub ConsumesAtMost : Option (List ℕ) → Option (List ℕ) → Type 0
 ConsumesAtMost old new = (taken : List ℕ) × Consumes old new taken × (length taken ≤ most_read)
 
--- the writer gets a line of this kind
+-- the writer gets such a line
 pub record Writes (IsLine : List ℕ → Type 0) (old new : Option (List ℕ)) : Type 0 where
   pub line : List ℕ
   pub is_line : IsLine line

@@ -2,12 +2,25 @@
 //! it writes, and its exit status. They know no command line and open no files.
 #![tactic(auto)]
 
+mod canon;
+mod check;
 mod fault;
+mod file_fault;
+mod load;
 mod param;
+mod print;
+mod read_under;
+mod same;
+mod schema;
+mod show;
 mod status;
 mod transfer;
 
+pub use canon::canon_command;
+pub use check::check_command;
 pub use fault::{CommandFault, report};
 pub use param::param_command;
+pub use same::same_command;
+pub use schema::schema_command;
+pub use show::show_command;
 pub use status::{DONE, FAILED, REFUSED, USAGE};
-pub use transfer::{MOST_READ, read_text, write_whole};

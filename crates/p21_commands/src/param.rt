@@ -63,12 +63,12 @@ fn write_param<R: Read, W: Write>(
     ensures failed { IfErr result (FailedBy (failures_of input.old input.new ∷ []) (failures_of output.old output.new ∷ [])) }
 {
     let text = read_text(alloc, input)?;
-    let line = param_line(alloc, &text)?;
+    let line = param_answer_line(alloc, &text)?;
     write_whole(output, &line)
 }
 
 /// The canonical spelling of the parameter that a text holds, and a line feed.
-fn param_line(alloc: Global, text: &[u8]) -> Result<Vec<u8>, CommandFault>
+fn param_answer_line(alloc: Global, text: &[u8]) -> Result<Vec<u8>, CommandFault>
     ensures { MatchResult result (λ line. IsAnswerLine text.now line.items) (RefusesBy text.now) }
 {
     match canonical_param(alloc, text) {

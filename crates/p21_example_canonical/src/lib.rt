@@ -1,4 +1,4 @@
-//! Is a file accepted under a schema, and what is its canonical file?
+//! Answers whether a file is accepted under a schema, and what its canonical file is.
 #![tactic(auto)]
 
 ghost use Rattle.std.specs.Prelude.{IfErr, IfOk};

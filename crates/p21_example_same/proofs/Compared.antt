@@ -4,7 +4,7 @@ use Rattle.std.specs.Io.KnownBytes.{Consumes, IsAtEnd}
 use Rattle.p21_example_same.specs.Answer.{IsRefused, IsRefusedOf, TellsSame}
 use Rattle.p21_stream.specs.Answers.{Compares, FailsToCompare}
 use Rattle.p21_stream.specs.Claim.{Claim}
-use Rattle.p21_stream.specs.Reading.{IsReadWhole, RefusesRead}
+use Rattle.p21_stream.specs.ReaderInput.{IsReadWhole, RefusesRead}
 use Rattle.p21_stream.specs.declared.comparing.Which.{Which}
 use Rattle.p21_stream.specs.declared.comparing.Which.TheVariants.{First, Second}
 use Rattle.p21_stream.specs.p21_basics.Limits.{Limits}

@@ -19,7 +19,7 @@ TellsSame s limits first second same = (bytes others : List ℕ) → first ≡ S
 abbrev pub IsRefused : Schema → Limits → Option (List ℕ) → Fault → Type 0
 IsRefused s limits reader fault = (bytes : List ℕ) → reader ≡ Some bytes → Each IsByte bytes → IsFailure fault ⊎ ¬ IsAccepted s limits bytes
 
--- that of the reader that is named
+-- the failure is that of the reader that is named
 abbrev pub IsRefusedOf : Schema → Limits → Option (List ℕ) → Option (List ℕ) → Which → Fault → Type 0
 IsRefusedOf s limits first second First fault = IsRefused s limits first fault
 IsRefusedOf s limits first second Second fault = IsRefused s limits second fault

@@ -1,4 +1,4 @@
-//! Do two readers hold the same model?
+//! Answers whether two readers hold the same model.
 #![tactic(auto)]
 
 ghost use Rattle.std.specs.Prelude.{IfErr, IfOk};

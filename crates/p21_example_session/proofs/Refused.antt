@@ -7,10 +7,10 @@ use Rattle.p21_stream.specs.Claim.{Claim, IsFailure, IsOpen}
 use Rattle.p21_stream.specs.p21_basics.Digits.{IsByte}
 use Rattle.p21_stream.specs.declared.Fault.{Fault}
 use Rattle.p21_stream.specs.declared.Fault.TheVariants.{NoMemory, Read, Write}
-use Rattle.p21_stream.specs.p21_stream_session.Held.{SessionHeld}
-use Rattle.p21_stream.specs.p21_stream_session.Histories.{FeedGives, FinishGives, SessionHistory}
+use Rattle.p21_stream.specs.Held.{SessionHeld}
+use Rattle.p21_stream.specs.Histories.{FeedGives, FinishGives, SessionHistory}
 use Rattle.p21_stream.specs.p21_basics.Limits.{Limits}
-use Rattle.p21_stream.specs.Reading.{IsOfBytes, IsRefused}
+use Rattle.p21_stream.specs.ReaderInput.{IsOfBytes, IsRefused}
 use Rattle.p21_stream.specs.declared.Refusal.{Refusal}
 use Rattle.p21_stream.specs.p21_schemas.Schema.{Schema}
 

@@ -7,12 +7,12 @@ use Rattle.p21_example_session.specs.declared.Stopped.TheVariants.{Refused, TooL
 use Rattle.p21_stream.specs.Claim.{IsOpen}
 use Rattle.p21_stream.specs.declared.Fault.TheVariants.{NoMemory}
 use Rattle.p21_stream.specs.p21_files.Held.{IsHeld}
-use Rattle.p21_stream.specs.p21_stream_session.Held.{SessionHeld}
+use Rattle.p21_stream.specs.Held.{SessionHeld}
 use Rattle.p21_stream.specs.declared.Held.{Held}
-use Rattle.p21_stream.specs.p21_stream_session.Histories.{SessionHistory}
-use Rattle.p21_stream.specs.p21_stream_session.Inside.{held_of}
+use Rattle.p21_stream.specs.Histories.{SessionHistory}
+use Rattle.p21_stream.specs.Inside.{held_of}
 use Rattle.p21_stream.specs.p21_basics.Limits.{Limits}
-use Rattle.p21_stream.specs.Reading.{IsRefused}
+use Rattle.p21_stream.specs.ReaderInput.{IsRefused}
 use Rattle.p21_stream.specs.p21_schemas.Schema.{Schema}
 
 -- the source gave some bytes, and the session stands for them

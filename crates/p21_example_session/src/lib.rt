@@ -5,8 +5,8 @@ ghost use Rattle.std.specs.Prelude.{◌≢◌, ◌≤◌, ◌↔◌, ◌++◌, I
 ghost use Rattle.p21_example_session.specs.Receiving.{IsReceived, Stops};
 ghost use Rattle.p21_stream.specs.Claim.{IsOpen};
 ghost use Rattle.p21_stream.specs.p21_files.Accepted.{IsDead};
-ghost use Rattle.p21_stream.specs.p21_stream_session.Histories.{FeedGives, KeepsSchema, SessionHistory, nothing_taken};
-ghost use Rattle.p21_stream.specs.Reading.{IsAcceptedRead};
+ghost use Rattle.p21_stream.specs.Histories.{FeedGives, KeepsSchema, SessionHistory, nothing_taken};
+ghost use Rattle.p21_stream.specs.ReaderInput.{IsAcceptedInput};
 
 use p21_stream::{Accepted, Fault, Held, Limits, Refusal, Schema, Session, headline};
 use std::alloc::Global;
@@ -57,7 +57,7 @@ pub fn receive<R: Read>(
     source: &mut R,
     budget: Budget,
 ) -> Result<Accepted, Stopped>
-    ensures accepted { IfOk result (IsAcceptedRead schema.now limits (R.remaining source.old) (R.remaining source.new)) }
+    ensures accepted { IfOk result (IsAcceptedInput schema.now limits (R.remaining source.old) (R.remaining source.new)) }
     ensures stopped { IfErr result (Stops schema.now limits budget (R.remaining source.old) (R.remaining source.new)) }
 {
     headline(schema, limits);

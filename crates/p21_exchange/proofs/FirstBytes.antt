@@ -4,7 +4,7 @@ use Rattle.std.proofs.lemmas.List.{append-nil}
 use Rattle.p21_basics.specs.Digits.{AllDigits}
 use Rattle.p21_exchange.specs.Keyword.{IsKeyword}
 use Rattle.p21_exchange.specs.Number.{Sign, none, plus, minus, sign_bytes}
-use Rattle.p21_exchange.specs.Pending.{BeginsNoSeparator}
+use Rattle.p21_exchange.specs.Pending.{BeginsWithNoSeparator}
 use Rattle.p21_exchange.specs.Token.{Token, begin, finish, keyword, user_keyword, name, whole, real, text, item, bits, left, right, comma, semicolon, equals, dollar, star, Spells}
 use Rattle.p21_basics.proofs.Members.{head_is}
 
@@ -49,36 +49,36 @@ apostrophe_first (whole z) spelling spells same =
 apostrophe_first (real d) spelling spells same =
     number_first spells.form.sign spells.form.whole _ spells.form.some_digits spells.form.are_digits (sym (ap first spells.form.bytes_are) ∙ same)
 
-keyword_begins : (word : List ℕ) → IsKeyword word → BeginsNoSeparator word
+keyword_begins : (word : List ℕ) → IsKeyword word → BeginsWithNoSeparator word
 keyword_begins [] is = is
 keyword_begins (byte ∷ bytes) ((inl letter), more) = (omega (arith, letter), λ e. omega (arith, letter, e), λ e. omega (arith, letter, e))
 keyword_begins (byte ∷ bytes) ((inr line), more) = (omega (arith, line), λ e. omega (arith, line, e), λ e. omega (arith, line, e))
 
-number_begins : (sign : Sign) (digits rest : List ℕ) → 0 < length digits → AllDigits digits → BeginsNoSeparator (sign_bytes sign ++ (digits ++ rest))
+number_begins : (sign : Sign) (digits rest : List ℕ) → 0 < length digits → AllDigits digits → BeginsWithNoSeparator (sign_bytes sign ++ (digits ++ rest))
 number_begins none [] rest some are = absurd (omega (arith, some))
 number_begins none (digit ∷ digits) rest some are = (omega (arith, are.0), λ e. omega (arith, are.0, e), λ e. omega (arith, are.0, e))
 number_begins plus digits rest some are = (lit< tt, λ e. omega (arith, e), λ e. omega (arith, e))
 number_begins minus digits rest some are = (lit< tt, λ e. omega (arith, e), λ e. omega (arith, e))
 
 -- a spelling begins with no separator, and with no `/`
-pub spelling_begins : (token : Token) (spelling : List ℕ) → Spells token spelling → BeginsNoSeparator spelling
-spelling_begins (text chars) spelling spells = subst BeginsNoSeparator (sym spells.bytes_are) (lit< tt, λ e. omega (arith, e), λ e. omega (arith, e))
-spelling_begins begin spelling spells = subst BeginsNoSeparator (sym spells) (lit< tt, λ e. omega (arith, e), λ e. omega (arith, e))
-spelling_begins finish spelling spells = subst BeginsNoSeparator (sym spells) (lit< tt, λ e. omega (arith, e), λ e. omega (arith, e))
-spelling_begins left spelling spells = subst BeginsNoSeparator (sym spells) (lit< tt, λ e. omega (arith, e), λ e. omega (arith, e))
-spelling_begins right spelling spells = subst BeginsNoSeparator (sym spells) (lit< tt, λ e. omega (arith, e), λ e. omega (arith, e))
-spelling_begins comma spelling spells = subst BeginsNoSeparator (sym spells) (lit< tt, λ e. omega (arith, e), λ e. omega (arith, e))
-spelling_begins semicolon spelling spells = subst BeginsNoSeparator (sym spells) (lit< tt, λ e. omega (arith, e), λ e. omega (arith, e))
-spelling_begins equals spelling spells = subst BeginsNoSeparator (sym spells) (lit< tt, λ e. omega (arith, e), λ e. omega (arith, e))
-spelling_begins dollar spelling spells = subst BeginsNoSeparator (sym spells) (lit< tt, λ e. omega (arith, e), λ e. omega (arith, e))
-spelling_begins star spelling spells = subst BeginsNoSeparator (sym spells) (lit< tt, λ e. omega (arith, e), λ e. omega (arith, e))
-spelling_begins (user_keyword word) spelling spells = subst BeginsNoSeparator (sym spells.0) (lit< tt, λ e. omega (arith, e), λ e. omega (arith, e))
-spelling_begins (name n) spelling spells = subst BeginsNoSeparator (sym spells.form.bytes_are) (lit< tt, λ e. omega (arith, e), λ e. omega (arith, e))
-spelling_begins (item word) spelling spells = subst BeginsNoSeparator (sym spells.0) (lit< tt, λ e. omega (arith, e), λ e. omega (arith, e))
-spelling_begins (bits value) spelling spells = subst BeginsNoSeparator (sym spells.bytes_are) (lit< tt, λ e. omega (arith, e), λ e. omega (arith, e))
-spelling_begins (keyword word) spelling spells = subst BeginsNoSeparator (sym spells.0) (keyword_begins word spells.1)
-spelling_begins (whole z) spelling spells = subst BeginsNoSeparator (sym (spells.bytes_are ∙ ap (λ (xs : List ℕ). sign_bytes spells.sign ++ xs) (sym (append-nil spells.digits)))) (number_begins spells.sign spells.digits [] spells.some_digits spells.are_digits)
-spelling_begins (real d) spelling spells = subst BeginsNoSeparator (sym spells.form.bytes_are) (number_begins spells.form.sign spells.form.whole _ spells.form.some_digits spells.form.are_digits)
+pub spelling_begins : (token : Token) (spelling : List ℕ) → Spells token spelling → BeginsWithNoSeparator spelling
+spelling_begins (text chars) spelling spells = subst BeginsWithNoSeparator (sym spells.bytes_are) (lit< tt, λ e. omega (arith, e), λ e. omega (arith, e))
+spelling_begins begin spelling spells = subst BeginsWithNoSeparator (sym spells) (lit< tt, λ e. omega (arith, e), λ e. omega (arith, e))
+spelling_begins finish spelling spells = subst BeginsWithNoSeparator (sym spells) (lit< tt, λ e. omega (arith, e), λ e. omega (arith, e))
+spelling_begins left spelling spells = subst BeginsWithNoSeparator (sym spells) (lit< tt, λ e. omega (arith, e), λ e. omega (arith, e))
+spelling_begins right spelling spells = subst BeginsWithNoSeparator (sym spells) (lit< tt, λ e. omega (arith, e), λ e. omega (arith, e))
+spelling_begins comma spelling spells = subst BeginsWithNoSeparator (sym spells) (lit< tt, λ e. omega (arith, e), λ e. omega (arith, e))
+spelling_begins semicolon spelling spells = subst BeginsWithNoSeparator (sym spells) (lit< tt, λ e. omega (arith, e), λ e. omega (arith, e))
+spelling_begins equals spelling spells = subst BeginsWithNoSeparator (sym spells) (lit< tt, λ e. omega (arith, e), λ e. omega (arith, e))
+spelling_begins dollar spelling spells = subst BeginsWithNoSeparator (sym spells) (lit< tt, λ e. omega (arith, e), λ e. omega (arith, e))
+spelling_begins star spelling spells = subst BeginsWithNoSeparator (sym spells) (lit< tt, λ e. omega (arith, e), λ e. omega (arith, e))
+spelling_begins (user_keyword word) spelling spells = subst BeginsWithNoSeparator (sym spells.0) (lit< tt, λ e. omega (arith, e), λ e. omega (arith, e))
+spelling_begins (name n) spelling spells = subst BeginsWithNoSeparator (sym spells.form.bytes_are) (lit< tt, λ e. omega (arith, e), λ e. omega (arith, e))
+spelling_begins (item word) spelling spells = subst BeginsWithNoSeparator (sym spells.0) (lit< tt, λ e. omega (arith, e), λ e. omega (arith, e))
+spelling_begins (bits value) spelling spells = subst BeginsWithNoSeparator (sym spells.bytes_are) (lit< tt, λ e. omega (arith, e), λ e. omega (arith, e))
+spelling_begins (keyword word) spelling spells = subst BeginsWithNoSeparator (sym spells.0) (keyword_begins word spells.1)
+spelling_begins (whole z) spelling spells = subst BeginsWithNoSeparator (sym (spells.bytes_are ∙ ap (λ (xs : List ℕ). sign_bytes spells.sign ++ xs) (sym (append-nil spells.digits)))) (number_begins spells.sign spells.digits [] spells.some_digits spells.are_digits)
+spelling_begins (real d) spelling spells = subst BeginsWithNoSeparator (sym spells.form.bytes_are) (number_begins spells.form.sign spells.form.whole _ spells.form.some_digits spells.form.are_digits)
 
 -- no spelling stands at the front of no bytes
 pub no-spelling : (token : Token) (spelling rest : List ℕ) → Spells token spelling → spelling ++ rest ≡ [] → ⊥

@@ -2,7 +2,7 @@
 use Rattle.std.proofs.Common.{◌≡◌, ℕ, true, false, pos, List, [], ◌∷◌, refl, ap, sym, ◌∙◌, subst, inl, inr}
 use Rattle.std.specs.Prelude.{codes}
 use Rattle.std.specs.List.{AllByRecursion as Each}
-use Rattle.p21_exchange.specs.Header.{IsFileDescription, IsFileName, IsFileSchema, IsFurther, IsHeader, IsTextOrUnset}
+use Rattle.p21_exchange.specs.Header.{IsFileDescription, IsFileName, IsFileSchema, IsFurtherRecord, IsHeader, IsTextOrUnset}
 use Rattle.p21_exchange.specs.Parameter.{Key, Param, dollar, star, whole, text, name, list, no_params, key_of, params_of}
 use Rattle.p21_exchange.specs.Record.{Part}
 
@@ -71,7 +71,7 @@ two_schemas chars h = let e = h.1 in (cc)
 other_word : (word word_ : List ℕ) → (word ≡ word_ → ⊥) → key_of word ≡ key_of word_ → ⊥
 other_word word word_ differ same = differ (ap (λ (key : Key). key.word) same)
 
-endsec_further : IsFurther (part_of (codes "ENDSEC") (whole (pos 1) ∷ star ∷ []))
+endsec_further : IsFurtherRecord (part_of (codes "ENDSEC") (whole (pos 1) ∷ star ∷ []))
 endsec_further = record {
   no_file_description = other_word (codes "ENDSEC") (codes "FILE_DESCRIPTION") (λ h. cc);
   no_file_name = other_word (codes "ENDSEC") (codes "FILE_NAME") (λ h. cc);
@@ -86,7 +86,7 @@ user_is_other : (word : List ℕ) → user_key ≡ key_of word → ⊥
 unfolding user_key
 user_is_other word same = let h : true ≡ false = ap (λ (key : Key). key.user) same in cc
 
-user_further : IsFurther (record { key = user_key; params = no_params })
+user_further : IsFurtherRecord (record { key = user_key; params = no_params })
 unfolding user_key
 user_further = record {
   no_file_description = user_is_other (codes "FILE_DESCRIPTION");
@@ -95,11 +95,11 @@ user_further = record {
   no_names = (tt, (tt, (tt, tt)));
 }
 
-file_name_again : (ps : List Param) → IsFurther (part_of (codes "FILE_NAME") ps) → ⊥
+file_name_again : (ps : List Param) → IsFurtherRecord (part_of (codes "FILE_NAME") ps) → ⊥
 file_name_again ps further = further.no_file_name refl
 
 -- it holds no instance name, in a list neither
-name_within : IsFurther (part_of (codes "OWNER") (texts (name 1 ∷ []) ∷ [])) → ⊥
+name_within : IsFurtherRecord (part_of (codes "OWNER") (texts (name 1 ∷ []) ∷ [])) → ⊥
 name_within further = further.no_names.1.1.1.0
 
 -- two records are no header, nor three in another order, nor three and the first again
@@ -125,5 +125,5 @@ first_again : (schema : List ℕ) → IsHeader (description ∷ file_name ∷ fi
 first_again schema h =
     let e = h.header_is in
     let further : description ∷ [] ≡ h.further = cc in
-    let are : Each IsFurther (description ∷ []) = subst (Each IsFurther) (sym further) h.are_further in
+    let are : Each IsFurtherRecord (description ∷ []) = subst (Each IsFurtherRecord) (sym further) h.are_further in
     are.0.no_file_description refl

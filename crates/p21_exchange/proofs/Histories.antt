@@ -2,7 +2,7 @@
 use Rattle.std.proofs.Common.{◌≡◌, ℕ, pos, List, [], ◌∷◌, ◌++◌, Option, Some, None, refl, append_assoc}
 use Rattle.std.proofs.lemmas.List.{append-nil}
 use Rattle.std.specs.Prelude.{codes}
-use Rattle.p21_basics.specs.History.{History, empty, seen_behind, first_refusal, extended, looked_at, IsOffered}
+use Rattle.p21_basics.specs.History.{History, empty, seen_behind, first_refusal, extended, looked_at, IsOfferedFirst}
 use Rattle.p21_exchange.specs.Number.{Decimal}
 use Rattle.p21_exchange.specs.Token.{Token, real, right}
 
@@ -57,7 +57,7 @@ two_calls-are = refl
 looked : looked_at two_calls ≡ codes "1.E2)"
 looked = refl
 
-offered : IsOffered two_calls.seen (codes ")")
+offered : IsOfferedFirst two_calls.seen (codes ")")
 offered = refl
 
 three_calls : extended two_calls (call (codes ")") None (right ∷ [])) ≡ call (codes "1.E2)") None (real hundred ∷ right ∷ [])

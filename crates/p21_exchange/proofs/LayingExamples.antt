@@ -7,7 +7,7 @@ use Rattle.p21_exchange.specs.Number.{Decimal, RealForm, SpellsReal, SpellsWhole
 use Rattle.p21_exchange.specs.Keyword.{IsKeywordByte}
 use Rattle.p21_exchange.specs.Laying.{AreStatementsWithin, HoldsScalar, LaidAs, Lexeme}
 use Rattle.p21_exchange.specs.Name.{SpellsName}
-use Rattle.p21_exchange.specs.Separator.{EndsOnce, IsSeparator, IsSeparatorText, Separator, blank, comment, separator_bytes}
+use Rattle.p21_exchange.specs.Separator.{IsCommentText, IsSeparator, IsSeparatorText, Separator, blank, comment, separator_bytes}
 use Rattle.p21_exchange.specs.Token.{HasNoExponent, MayFollow, Token, begin, item, keyword, name, real, semicolon, user_keyword, whole}
 use Rattle.p21_exchange.proofs.Exponents.{in_range_by}
 use Rattle.p21_exchange.proofs.Forms.{same_form}
@@ -15,7 +15,7 @@ use Rattle.p21_basics.proofs.Members.{head_is, tail_is}
 use Rattle.p21_exchange.proofs.Laying.{keyword_by, lay}
 
 -- a comment ends with its first `*/`
-not_nested : EndsOnce (codes " */ ") → ⊥
+not_nested : IsCommentText (codes " */ ") → ⊥
 not_nested h = let e : codes " */" ≡ [] = h (codes " ") (codes " */") refl in (cc)
 
 star_no_slash : ◌≢◌ {A = ℕ} 42 47
@@ -25,7 +25,7 @@ star_no_slash e = omega (arith, e)
 star_within : IsSeparatorText (codes "/***/")
 star_within = (comment (42 ∷ []) ∷ [], (once, tt), refl)
   where
-    once : EndsOnce (42 ∷ [])
+    once : IsCommentText (42 ∷ [])
     once [] after e = absurd (star_no_slash (head_is 42 47 _ _ (tail_is 42 42 _ _ e)))
     once (x ∷ []) after e = sym (tail_is 47 47 _ _ (tail_is 42 42 _ _ (tail_is 42 x _ _ e)))
     once (x ∷ y ∷ []) after e = absurd (star_no_slash (sym (head_is 47 42 _ _ (tail_is 42 y _ _ (tail_is 42 x _ _ e)))))
@@ -161,7 +161,7 @@ behind_gap = record { token = whole (pos 34); size = 2 } ∷ last semicolon 1
 abbrev two_wholes : List Lexeme
 two_wholes = record { token = whole (pos 12); size = 2 } ∷ behind_gap
 
-empty_comment : EndsOnce []
+empty_comment : IsCommentText []
 empty_comment [] after e = sym (tail_is 47 47 _ _ (tail_is 42 42 _ _ e))
 empty_comment (x ∷ []) after e = absurd (star_no_slash (sym (head_is 47 42 _ _ (tail_is 42 x _ _ e))))
 empty_comment (x ∷ y ∷ []) after e = cc

@@ -5,7 +5,7 @@ use lib.Signed.{le_z_yes}
 use Rattle.std.specs.Prelude.{codes, nat_le}
 use Rattle.std.proofs.lemmas.Bool.{and_parts}
 use Rattle.p21_basics.specs.Digits.{AllDigits, number}
-use Rattle.p21_exchange.specs.Number.{plus, minus, none, exponent, no_exponent, IsShort, SpellsWhole, Decimal, RealForm, SpellsReal, real_ratio, HasNormalisedExponent}
+use Rattle.p21_exchange.specs.Number.{plus, minus, none, exponent, no_exponent, IsShortExponent, SpellsWhole, Decimal, RealForm, SpellsReal, real_ratio, HasNormalisedExponent}
 use Rattle.p21_exchange.specs.Spelling.{real_spelling, whole_spelling, spelling}
 use Rattle.p21_exchange.specs.Token.{name}
 use Rattle.p21_exchange.specs.Name.{SpellsName}
@@ -203,7 +203,7 @@ long_exponent : (value : Decimal) â†’ SpellsReal (codes "0.E1000000000") value â
 unfolding long_exponent-form
 long_exponent value s =
     let same = (same_form (codes "0.E1000000000") s.form long_exponent-form).power in
-    let short : IsShort (exponent none (codes "1000000000")) = subst IsShort same s.is_short in
+    let short : IsShortExponent (exponent none (codes "1000000000")) = subst IsShortExponent same s.is_short in
     omega (arith, short)
 
 -- `1` has no point: it is an integer and no real

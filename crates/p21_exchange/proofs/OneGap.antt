@@ -2,7 +2,7 @@
 use Rattle.std.proofs.Common.{◌≡◌, ℕ, List, [], ◌∷◌, ◌++◌, ap, sym, ◌∙◌, append_assoc, arith, inl, inr}
 use Rattle.std.specs.List.{flat_map, AllByRecursion as Each}
 use Rattle.p21_basics.proofs.Members.{head_is, tail_is}
-use Rattle.p21_exchange.specs.Separator.{Separator, blank, comment, EndsOnce, IsSeparator, separator_bytes, IsSeparatorText}
+use Rattle.p21_exchange.specs.Separator.{Separator, blank, comment, IsCommentText, IsSeparator, separator_bytes, IsSeparatorText}
 
 -- no separator stands in front
 abbrev pub HasNoSeparator : List ℕ → Type 0
@@ -13,11 +13,11 @@ pub nothing-first : HasNoSeparator []
 nothing-first (blank b) rest is same = cc
 nothing-first (comment inside) rest is same = cc
 
-EndsOnce-tail : (byte : ℕ) (inside : List ℕ) → EndsOnce (byte ∷ inside) → EndsOnce inside
+EndsOnce-tail : (byte : ℕ) (inside : List ℕ) → IsCommentText (byte ∷ inside) → IsCommentText inside
 EndsOnce-tail byte inside once before after same = once (byte ∷ before) after (ap (λ bytes. byte ∷ bytes) same)
 
 -- no `*/` stands in front of the one that ends a comment
-early : (a : ℕ) (inside rest more : List ℕ) → EndsOnce (a ∷ inside) → 42 ∷ 47 ∷ rest ≡ a ∷ (inside ++ (42 ∷ 47 ∷ more)) → ⊥
+early : (a : ℕ) (inside rest more : List ℕ) → IsCommentText (a ∷ inside) → 42 ∷ 47 ∷ rest ≡ a ∷ (inside ++ (42 ∷ 47 ∷ more)) → ⊥
 early a [] rest more once same = let h : 47 ≡ 42 = head_is 47 42 _ _ (tail_is 42 a _ _ same) in omega (arith, h)
 early a (c ∷ inside) rest more once same =
     let star : 42 ≡ a = head_is 42 a _ _ same in
@@ -29,7 +29,7 @@ early a (c ∷ inside) rest more once same =
     none (x ∷ xs) h = cc
 
 -- so what stands behind a comment is one
-ends-one : (a b r q : List ℕ) → EndsOnce a → EndsOnce b → a ++ (42 ∷ 47 ∷ r) ≡ b ++ (42 ∷ 47 ∷ q) → r ≡ q
+ends-one : (a b r q : List ℕ) → IsCommentText a → IsCommentText b → a ++ (42 ∷ 47 ∷ r) ≡ b ++ (42 ∷ 47 ∷ q) → r ≡ q
 ends-one [] [] r q once once_ same = tail_is 47 47 _ _ (tail_is 42 42 _ _ same)
 ends-one [] (y ∷ b) r q once once_ same = absurd (early y b r q once_ same)
 ends-one (x ∷ a) [] r q once once_ same = absurd (early x a q r once (sym same))

@@ -7,7 +7,7 @@ use Rattle.p21_exchange.specs.DataSection.{unnamed, named, data_part, DataSectio
 use Rattle.p21_exchange.specs.Parameter.{Key, key_of, Param, dollar, star, whole, real, text, name, item, bits, list, typed, Params, no_params, param, key_token, param_tokens, params_tokens, more_tokens}
 use Rattle.p21_exchange.specs.Record.{Part, Record, simple, complex, part_tokens, record_tokens}
 use Rattle.p21_exchange.specs.Statement.{SectionLine, begin, header_start, section_end, data_start, finish, Statement, section, header, instance, statement_tokens}
-use Rattle.p21_exchange.specs.Structure.{Structure, section_statements, statements, tokens_of, AreFirst}
+use Rattle.p21_exchange.specs.Structure.{Structure, section_statements, statements, tokens_of, AreFirstStatements}
 use Rattle.p21_exchange.specs.Token as token
 use Rattle.p21_exchange.specs.Token.{Token}
 use Rattle.p21_exchange.proofs.SectionOrder.{Part_of_file, in_header, in_data, AreInOrder, instance_of, sections_with, statements-in_order, first-in_order}
@@ -297,7 +297,7 @@ one_statements ss us are are_ same =
     sym (restored-is in_header ss are) ∙ ap (restored in_header) read ∙ restored-is in_header us are_
 
 -- so the first statements of any two trees are fixed by their tokens
-pub one_front : (ss us : List Statement) (t u : Structure) → AreFirst ss t → AreFirst us u → flat_map statement_tokens ss ≡ flat_map statement_tokens us → ss ≡ us
+pub one_front : (ss us : List Statement) (t u : Structure) → AreFirstStatements ss t → AreFirstStatements us u → flat_map statement_tokens ss ≡ flat_map statement_tokens us → ss ≡ us
 one_front ss us t u first first_ = one_statements ss us (first-in_order ss t first) (first-in_order us u first_)
 
 -- the header records among statements

@@ -1,24 +1,24 @@
 -- The parentheses of parameters and records are balanced.
 use Rattle.std.proofs.Common.{◌≡◌, ℕ, ◌+◌, Bool, true, false, List, [], ◌∷◌, ◌++◌, refl, arith}
 use Rattle.std.specs.List.{flat_map}
-use Rattle.p21_exchange.specs.OpenNesting.{lefts, rights}
+use Rattle.p21_exchange.specs.OpenNesting.{left_count, right_count}
 use Rattle.p21_exchange.specs.Parameter.{Param, list, typed, Params, no_params, param, key_token, param_tokens, params_tokens, more_tokens}
 use Rattle.p21_exchange.specs.Record.{Part, part_tokens}
 use Rattle.p21_exchange.specs.Token.{Token, left, right}
 
-pub lefts-append : (xs ys : List Token) → lefts (xs ++ ys) ≡ lefts xs + lefts ys
+pub lefts-append : (xs ys : List Token) → left_count (xs ++ ys) ≡ left_count xs + left_count ys
 lefts-append [] ys = omega arith
 lefts-append (left ∷ xs) ys = omega (arith, lefts-append xs ys)
 lefts-append (other ∷ xs) ys = lefts-append xs ys
 
-pub rights-append : (xs ys : List Token) → rights (xs ++ ys) ≡ rights xs + rights ys
+pub rights-append : (xs ys : List Token) → right_count (xs ++ ys) ≡ right_count xs + right_count ys
 rights-append [] ys = omega arith
 rights-append (right ∷ xs) ys = omega (arith, rights-append xs ys)
 rights-append (other ∷ xs) ys = rights-append xs ys
 
 -- as many close as open
 pub record IsBalanced (tokens : List Token) : Type 0 where
-  pub same : lefts tokens ≡ rights tokens
+  pub same : left_count tokens ≡ right_count tokens
 
 appended : (xs ys : List Token) → IsBalanced xs → IsBalanced ys → IsBalanced (xs ++ ys)
 appended xs ys first second = record { same = omega (arith, lefts-append xs ys, rights-append xs ys, first.same, second.same) }

@@ -5,8 +5,8 @@ use Rattle.std.proofs.lemmas.Int.{ints}
 use Rattle.std.proofs.Math.Nat.{one-le-pow}
 use borrow.Author.Differences.{up, down}
 use Rattle.p21_basics.specs.Digits.{AllDigits, number, plain_digits}
-use Rattle.p21_exchange.specs.Number.{none, minus, sign_bytes, is_minus, signed, Ratio, scaled, SameRatio, HasNormalisedExponent, IsExponentInRange, IsInRange, Exponent, no_exponent, exponent, exponent_bytes, IsExponent, exponent_value, IsShort, RealForm, real_ratio, Decimal, IsReduced, SpellsReal, ratio_of}
-use Rattle.p21_exchange.specs.Spelling.{pointed, minus_bytes, exponent_spelling, normalised_exponent, real_spelling}
+use Rattle.p21_exchange.specs.Number.{none, minus, sign_bytes, is_minus, signed, Ratio, scaled, SameRatio, HasNormalisedExponent, IsExponentInRange, IsInRange, Exponent, no_exponent, exponent, exponent_bytes, IsExponent, exponent_value, IsShortExponent, RealForm, real_ratio, Decimal, IsReduced, SpellsReal, ratio_of}
+use Rattle.p21_exchange.specs.Spelling.{digits_with_point, minus_bytes, exponent_spelling, normalised_exponent, real_spelling}
 use Rattle.p21_exchange.proofs.Exponents.{has_exponent, in_range_of_same}
 use Rattle.p21_exchange.proofs.Forms.{same_form}
 use Rattle.p21_basics.proofs.PlainDigits.{ArePlain, plain_are_digits, plain_digits_are, plain_high, plain_low, plain_some}
@@ -43,7 +43,7 @@ power_of_are (negsuc n) =
     let own = plain_digits_are (suc n) in
     ((plain_some (plain_digits (suc n)) own.0, plain_are_digits (plain_digits (suc n)) own.0), rw own.1, refl)
 
-short_power : (k : ℤ) → IsExponentInRange k → IsShort (power_of k)
+short_power : (k : ℤ) → IsExponentInRange k → IsShortExponent (power_of k)
 short_power (pos zero) h = tt
 short_power (pos (suc n)) h = rw (plain_digits_are (suc n)).1 (omega (arith, ints, h.1))
 short_power (negsuc n) h = rw (plain_digits_are (suc n)).1 (omega (arith, ints, h.0))
@@ -52,7 +52,7 @@ minus_bytes_is : (m : ℤ) (xs : List ℕ) → minus_bytes m ++ xs ≡ sign_byte
 minus_bytes_is (pos n) xs = refl
 minus_bytes_is (negsuc n) xs = refl
 
-form_of : (m : ℤ) (d : ℕ) (ds : List ℕ) (k : ℤ) → AllDigits (d ∷ ds) → RealForm (minus_bytes m ++ (pointed (d ∷ ds) ++ exponent_spelling k))
+form_of : (m : ℤ) (d : ℕ) (ds : List ℕ) (k : ℤ) → AllDigits (d ∷ ds) → RealForm (minus_bytes m ++ (digits_with_point (d ∷ ds) ++ exponent_spelling k))
 form_of m d ds k p =
     record {
       sign = sign_of m;
@@ -95,7 +95,7 @@ near d reduced in_range =
       | inr some ↦ in_range (normalised_exponent d) (normalised_exponent_is d (omega arith))
     ]
 
-spells : (d : Decimal) (digits : List ℕ) → IsReduced d → IsInRange (ratio_of d) → ArePlain digits → number digits ≡ nat_abs d.significand → (k : ℤ) → k ≡ d.exponent +ℤ pos (length digits - 1) → IsExponentInRange k → SpellsReal (minus_bytes d.significand ++ (pointed digits ++ exponent_spelling k)) d
+spells : (d : Decimal) (digits : List ℕ) → IsReduced d → IsInRange (ratio_of d) → ArePlain digits → number digits ≡ nat_abs d.significand → (k : ℤ) → k ≡ d.exponent +ℤ pos (length digits - 1) → IsExponentInRange k → SpellsReal (minus_bytes d.significand ++ (digits_with_point digits ++ exponent_spelling k)) d
 unfolding form_of
 spells d [] reduced in_range plain n k same near = absurd plain
 spells d (c ∷ cs) reduced in_range plain n k same near =

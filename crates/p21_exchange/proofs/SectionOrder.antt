@@ -4,7 +4,7 @@ use Rattle.std.specs.List.{flat_map}
 use Rattle.p21_exchange.specs.DataSection.{DataSection}
 use Rattle.p21_exchange.specs.Record.{Part, Record}
 use Rattle.p21_exchange.specs.Statement.{begin, header_start, section_end, data_start, finish, Statement, section, header, instance}
-use Rattle.p21_exchange.specs.Structure.{Structure, section_statements, statements, AreFirst}
+use Rattle.p21_exchange.specs.Structure.{Structure, section_statements, statements, AreFirstStatements}
 
 -- where statements stand
 pub data Part_of_file : Type 0 where
@@ -62,5 +62,5 @@ pub statements-in_order : (t : Structure) → AreInOrder in_header (statements t
 statements-in_order t = header-in_order t.header (flat_map section_statements t.sections ++ (section finish ∷ [])) (sections-in_order t.sections (section finish ∷ []) tt)
 
 -- statements that a tree begins with
-pub first-in_order : (ss : List Statement) (t : Structure) → AreFirst ss t → AreInOrder in_header ss
+pub first-in_order : (ss : List Statement) (t : Structure) → AreFirstStatements ss t → AreInOrder in_header ss
 first-in_order ss t (later, is) = front-in_order in_header ss later (subst (AreInOrder in_header) is (statements-in_order t))

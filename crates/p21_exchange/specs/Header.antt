@@ -36,16 +36,16 @@ abbrev pub IsFileSchema : Part → List ℕ → Type 0
 IsFileSchema part chars = (part.key ≡ key_of (codes "FILE_SCHEMA")) × (part.params ≡ param (list (param (text chars) no_params)) no_params)
 
 -- a token that is no instance name
-abbrev pub IsNoName : Token → Type 0
-IsNoName (name n) = ⊥
-IsNoName other = Unit {0}
+abbrev pub IsNoInstanceName : Token → Type 0
+IsNoInstanceName (name n) = ⊥
+IsNoInstanceName other = Unit {0}
 
 -- a record with another keyword than these three, kept as it is; it holds no instance name
-pub record IsFurther (part : Part) : Type 0 where
+pub record IsFurtherRecord (part : Part) : Type 0 where
   pub no_file_description : part.key ≢ key_of (codes "FILE_DESCRIPTION")
   pub no_file_name : part.key ≢ key_of (codes "FILE_NAME")
   pub no_file_schema : part.key ≢ key_of (codes "FILE_SCHEMA")
-  pub no_names : Each IsNoName (part_tokens part)
+  pub no_names : Each IsNoInstanceName (part_tokens part)
 
 -- the three records in their order, then further ones; `schema` is the text of the third
 pub record IsHeader (header : List Part) (schema : List ℕ) : Type 0 where
@@ -57,4 +57,4 @@ pub record IsHeader (header : List Part) (schema : List ℕ) : Type 0 where
   pub is_file_description : IsFileDescription file_description
   pub is_file_name : IsFileName file_name
   pub is_file_schema : IsFileSchema file_schema schema
-  pub are_further : Each IsFurther further
+  pub are_further : Each IsFurtherRecord further

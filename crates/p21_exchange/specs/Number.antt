@@ -81,9 +81,9 @@ IsExponent no_exponent = Unit {0}
 IsExponent (exponent sign digits) = (0 < length digits) × AllDigits digits
 
 -- at most nine digits apart from leading zeros
-abbrev pub IsShort : Exponent → Type 0
-IsShort no_exponent = Unit {0}
-IsShort (exponent sign digits) = number digits < 10 ^ 9
+abbrev pub IsShortExponent : Exponent → Type 0
+IsShortExponent no_exponent = Unit {0}
+IsShortExponent (exponent sign digits) = number digits < 10 ^ 9
 
 -- the form of a real, whatever its range: a sign or none, digits, a point, digits or none, and an exponent or none
 pub record RealForm (bytes : List ℕ) : Type 0 where
@@ -117,7 +117,7 @@ IsReduced d = nat_abs d.significand % 10 ≡ 0 → (d.significand ≡ pos 0) × 
 -- the form, in range as it is written and as it is meant, and the number of the same ratio
 pub record SpellsReal (bytes : List ℕ) (value : Decimal) : Type 0 where
   pub form : RealForm bytes
-  pub is_short : IsShort form.power
+  pub is_short : IsShortExponent form.power
   pub in_range : IsInRange (real_ratio form)
   pub is_reduced : IsReduced value
   pub same : SameRatio (real_ratio form) (ratio_of value)

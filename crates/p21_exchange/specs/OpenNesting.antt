@@ -5,21 +5,21 @@ use Rattle.std.specs.List.{AllByRecursion as Each}
 use Rattle.p21_exchange.specs.Token.{Token, name, left, right, semicolon, equals}
 
 -- how many parentheses open
-abbrev pub lefts : List Token → ℕ
-lefts [] = 0
-lefts (left ∷ tokens) = suc (lefts tokens)
-lefts (other ∷ tokens) = lefts tokens
+abbrev pub left_count : List Token → ℕ
+left_count [] = 0
+left_count (left ∷ tokens) = suc (left_count tokens)
+left_count (other ∷ tokens) = left_count tokens
 
 -- how many parentheses close
-abbrev pub rights : List Token → ℕ
-rights [] = 0
-rights (right ∷ tokens) = suc (rights tokens)
-rights (other ∷ tokens) = rights tokens
+abbrev pub right_count : List Token → ℕ
+right_count [] = 0
+right_count (right ∷ tokens) = suc (right_count tokens)
+right_count (other ∷ tokens) = right_count tokens
 
 -- the open parentheses of a statement that begins so, apart from those of a simple record and of an external mapping
 abbrev pub open_depth : List Token → ℕ
-open_depth (name n ∷ equals ∷ left ∷ tokens) = lefts tokens - rights tokens - 1
-open_depth tokens = lefts tokens - rights tokens - 1
+open_depth (name n ∷ equals ∷ left ∷ tokens) = left_count tokens - right_count tokens - 1
+open_depth tokens = left_count tokens - right_count tokens - 1
 
 -- no tokens, or some of which the last is `;`
 abbrev pub EndsWithSemicolon : List Token → Type 0

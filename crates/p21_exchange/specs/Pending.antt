@@ -24,9 +24,9 @@ tail_size (unfinished bytes) = length bytes
 tail_size other = 0
 
 -- a byte stands first that is no separator and no `/`
-abbrev pub BeginsNoSeparator : List ℕ → Type 0
-BeginsNoSeparator [] = ⊥
-BeginsNoSeparator (byte ∷ bytes) = (32 < byte) × (byte ≢ 127) × (byte ≢ 47)
+abbrev pub BeginsWithNoSeparator : List ℕ → Type 0
+BeginsWithNoSeparator [] = ⊥
+BeginsWithNoSeparator (byte ∷ bytes) = (32 < byte) × (byte ≢ 127) × (byte ≢ 47)
 
 -- a spelling is known to be whole by its last byte or by the one behind it
 abbrev pub IsKnownWhole : Token → List ℕ → List ℕ → Type 0
@@ -35,7 +35,7 @@ IsKnownWhole token spelling (byte ∷ bytes) = MayFollow token spelling byte
 
 -- bytes that begin with no separator, and with no token that is known to be whole
 pub record IsUnfinished (bytes : List ℕ) : Type 0 where
-  pub first : BeginsNoSeparator bytes
+  pub first : BeginsWithNoSeparator bytes
   pub not_whole : (token : Token) (spelling rest : List ℕ) → bytes ≡ spelling ++ rest → Spells token spelling → IsKnownWhole token spelling rest → ⊥
 
 -- the tail is what it says: in an open comment no `*/` stands
@@ -62,7 +62,7 @@ pub record IsPending (taken : List ℕ) (pending : ℕ) : Type 0 where
 -- whether a byte behind the tail counts as one of a token: inside a token each byte, between tokens, and where it may
 -- follow the token that the tail spells, none that is a separator or a `/`, and inside a comment and behind a lone `/` none
 abbrev pub IsTokenByte : Tail → ℕ → Type 0
-IsTokenByte nothing byte = BeginsNoSeparator (byte ∷ [])
-IsTokenByte (unfinished bytes) byte = (token : Token) → Spells token bytes → MayFollow token bytes byte → BeginsNoSeparator (byte ∷ [])
+IsTokenByte nothing byte = BeginsWithNoSeparator (byte ∷ [])
+IsTokenByte (unfinished bytes) byte = (token : Token) → Spells token bytes → MayFollow token bytes byte → BeginsWithNoSeparator (byte ∷ [])
 IsTokenByte slash byte = ⊥
 IsTokenByte (open_comment inside) byte = ⊥

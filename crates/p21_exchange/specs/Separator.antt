@@ -8,12 +8,12 @@ pub data Separator : Type 0 where
   comment : List ℕ → Separator
 
 -- `*/` occurs in the bytes followed by `*/` only at the end
-abbrev pub EndsOnce : List ℕ → Type 0
-EndsOnce inside = (before after : List ℕ) → inside ++ (42 ∷ 47 ∷ []) ≡ before ++ (42 ∷ 47 ∷ after) → after ≡ []
+abbrev pub IsCommentText : List ℕ → Type 0
+IsCommentText inside = (before after : List ℕ) → inside ++ (42 ∷ 47 ∷ []) ≡ before ++ (42 ∷ 47 ∷ after) → after ≡ []
 
 abbrev pub IsSeparator : Separator → Type 0
 IsSeparator (blank byte) = (byte ≤ 32) ⊎ (byte ≡ 127)
-IsSeparator (comment inside) = EndsOnce inside
+IsSeparator (comment inside) = IsCommentText inside
 
 abbrev pub separator_bytes : Separator → List ℕ
 separator_bytes (blank byte) = byte ∷ []

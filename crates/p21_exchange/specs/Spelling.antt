@@ -33,9 +33,9 @@ minus_bytes (pos n) = []
 minus_bytes (negsuc n) = 45 ∷ []
 
 -- the first digit, a point, the other digits
-abbrev pub pointed : List ℕ → List ℕ
-pointed [] = 46 ∷ []
-pointed (digit ∷ digits) = digit ∷ 46 ∷ digits
+abbrev pub digits_with_point : List ℕ → List ℕ
+digits_with_point [] = 46 ∷ []
+digits_with_point (digit ∷ digits) = digit ∷ 46 ∷ digits
 
 -- `E` and the exponent, unless it is 0
 abbrev pub exponent_spelling : ℤ → List ℕ
@@ -49,7 +49,7 @@ normalised_exponent d = d.exponent +ℤ pos (length (plain_digits (nat_abs d.sig
 
 -- a reduced number; `0.` where it is zero, whose exponent is 0
 abbrev pub real_spelling : Decimal → List ℕ
-real_spelling d = minus_bytes d.significand ++ (pointed (plain_digits (nat_abs d.significand)) ++ exponent_spelling (normalised_exponent d))
+real_spelling d = minus_bytes d.significand ++ (digits_with_point (plain_digits (nat_abs d.significand)) ++ exponent_spelling (normalised_exponent d))
 
 -- how many zero bits fill the first hex digit
 abbrev pub padding_of : ℕ → ℕ

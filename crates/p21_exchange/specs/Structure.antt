@@ -26,5 +26,5 @@ abbrev pub tokens_of : Structure → List Token
 tokens_of structure = flat_map statement_tokens (statements structure)
 
 -- these are the first statements of the tree, or all of them
-abbrev pub AreFirst : List Statement → Structure → Type 0
-AreFirst first structure = (later : List Statement) × (statements structure ≡ first ++ later)
+abbrev pub AreFirstStatements : List Statement → Structure → Type 0
+AreFirstStatements first structure = (later : List Statement) × (statements structure ≡ first ++ later)

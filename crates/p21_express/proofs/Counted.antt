@@ -8,11 +8,11 @@ use Rattle.p21_schemas.specs.EntityDeclaration.{AttributeName, own, redeclared, 
 use Rattle.p21_schemas.specs.Express.{Lexeme, identifier, digits, simple_string, encoded_string, symbol, SpellsLexeme, quote_twice}
 use Rattle.p21_schemas.specs.ExpressLaying.{LaidLexemes}
 use Rattle.p21_schemas.specs.SchemaDeclaration.{Declaration, entity, defined, read_over, SchemaDeclaration, entities_of, declaration_lexemes, schema_lexemes, version_lexemes}
-use Rattle.p21_schemas.specs.Separated.{separated}
+use Rattle.p21_schemas.specs.Separated.{comma_separated}
 use Rattle.p21_schemas.specs.SupertypeConstraint.{constraint_lexemes}
 use Rattle.p21_schemas.specs.WrittenType.{word, symbols, optional_word, type_lexemes}
-use Rattle.p21_express_resolve.specs.Outline.{kept_own, kept_own_names}
-use Rattle.p21_express_syntax.specs.Keeping.{kept_name, kept_attributes}
+use Rattle.p21_express_outline.specs.Outline.{digest_own_explicit, digest_own_names}
+use Rattle.p21_express_syntax.specs.Digesting.{name_digest, attributes_digest}
 use Rattle.p21_express_syntax.specs.ReadDeclarations.{IsTextOf}
 
 front_le : {A : Type 0} (xs ys : List A) → length xs ≤ length (xs ++ ys)
@@ -50,36 +50,36 @@ name_some : (name : AttributeName) → 1 ≤ length (attribute_lexemes name)
 name_some (own name) = omega arith
 name_some (redeclared supertype name) = omega arith
 
-own_more : (name : AttributeName) (names : List AttributeName) → length (kept_own_names (map kept_name (name ∷ names))) ≤ suc (length (kept_own_names (map kept_name names)))
+own_more : (name : AttributeName) (names : List AttributeName) → length (digest_own_names (map name_digest (name ∷ names))) ≤ suc (length (digest_own_names (map name_digest names)))
 own_more (own name) names = omega arith
 own_more (redeclared supertype name) names = omega arith
 
-names_few : (names : List AttributeName) → length (kept_own_names (map kept_name names)) ≤ length (separated attribute_lexemes names)
+names_few : (names : List AttributeName) → length (digest_own_names (map name_digest names)) ≤ length (comma_separated attribute_lexemes names)
 names_few [] = omega arith
 names_few (x ∷ []) = let more = own_more x [] in let some = name_some x in omega (arith, more, some)
 names_few (x ∷ y ∷ names) =
     let more = own_more x (y ∷ names) in
     let few = names_few (y ∷ names) in
-    let all : length (separated attribute_lexemes (x ∷ y ∷ names)) ≡ length (attribute_lexemes x ++ symbols (codes ",")) + length (separated attribute_lexemes (y ∷ names)) = length-append (attribute_lexemes x ++ symbols (codes ",")) (separated attribute_lexemes (y ∷ names)) in
+    let all : length (comma_separated attribute_lexemes (x ∷ y ∷ names)) ≡ length (attribute_lexemes x ++ symbols (codes ",")) + length (comma_separated attribute_lexemes (y ∷ names)) = length-append (attribute_lexemes x ++ symbols (codes ",")) (comma_separated attribute_lexemes (y ∷ names)) in
     let front = front_le (attribute_lexemes x) (symbols (codes ",")) in
     let some = name_some x in
     omega (arith, more, few, all, front, some)
 
-explicit_few : (x : ExplicitAttributes) → length (kept_own_names (map kept_name x.names)) ≤ length (explicit_lexemes x)
+explicit_few : (x : ExplicitAttributes) → length (digest_own_names (map name_digest x.names)) ≤ length (explicit_lexemes x)
 explicit_few x =
-    let named = separated attribute_lexemes x.names in
+    let named = comma_separated attribute_lexemes x.names in
     let one = front_le named (symbols (codes ":")) in
     let two = front_le (named ++ symbols (codes ":")) (optional_word x.optional (codes "OPTIONAL")) in
     let three = front_le (named ++ symbols (codes ":") ++ optional_word x.optional (codes "OPTIONAL")) (type_lexemes x.type) in
     let four = front_le (named ++ symbols (codes ":") ++ optional_word x.optional (codes "OPTIONAL") ++ type_lexemes x.type) (symbols (codes ";")) in
     then_le _ _ _ (names_few x.names) (then_le _ _ _ one (then_le _ _ _ two (then_le _ _ _ three four)))
 
-attributes_few : (explicit : List ExplicitAttributes) → length (kept_own (map kept_attributes explicit)) ≤ length (flat_map explicit_lexemes explicit)
+attributes_few : (explicit : List ExplicitAttributes) → length (digest_own_explicit (map attributes_digest explicit)) ≤ length (flat_map explicit_lexemes explicit)
 attributes_few [] = omega arith
 attributes_few (x ∷ explicit) =
-    let these = map (λ name. (name, x.optional, (kept_attributes x).type)) (kept_own_names (map kept_name x.names)) in
-    let kept : length (kept_own (map kept_attributes (x ∷ explicit))) ≡ length these + length (kept_own (map kept_attributes explicit)) = length-append these (kept_own (map kept_attributes explicit)) in
-    let named : length these ≡ length (kept_own_names (map kept_name x.names)) = length-map (kept_own_names (map kept_name x.names)) (λ name. (name, x.optional, (kept_attributes x).type)) in
+    let these = map (λ name. (name, x.optional, (attributes_digest x).type)) (digest_own_names (map name_digest x.names)) in
+    let kept : length (digest_own_explicit (map attributes_digest (x ∷ explicit))) ≡ length these + length (digest_own_explicit (map attributes_digest explicit)) = length-append these (digest_own_explicit (map attributes_digest explicit)) in
+    let named : length these ≡ length (digest_own_names (map name_digest x.names)) = length-map (digest_own_names (map name_digest x.names)) (λ name. (name, x.optional, (attributes_digest x).type)) in
     let written : length (flat_map explicit_lexemes (x ∷ explicit)) ≡ length (explicit_lexemes x) + length (flat_map explicit_lexemes explicit) = length-append (explicit_lexemes x) (flat_map explicit_lexemes explicit) in
     let few = explicit_few x in
     let more = attributes_few explicit in
@@ -116,9 +116,9 @@ in_schema tree =
     let three = front_le (whole ++ word (codes "END_SCHEMA")) (symbols (codes ";")) in
     then_le _ _ _ one (then_le _ _ _ two three)
 
-pub few-attributes : (tree : SchemaDeclaration) (text : List ℕ) (x : EntityDeclaration) → IsTextOf tree text → Contains (entities_of tree.declarations) x → length (kept_own (map kept_attributes x.explicit)) < 2 ^ 32
+pub few-attributes : (tree : SchemaDeclaration) (text : List ℕ) (x : EntityDeclaration) → IsTextOf tree text → Contains (entities_of tree.declarations) x → length (digest_own_explicit (map attributes_digest x.explicit)) < 2 ^ 32
 few-attributes tree text x is among =
-    let few : length (kept_own (map kept_attributes x.explicit)) ≤ length text =
+    let few : length (digest_own_explicit (map attributes_digest x.explicit)) ≤ length text =
     then_le _ _ _ (attributes_few x.explicit) (then_le _ _ _ (in_entity x) (then_le _ _ _ (in_declarations tree.declarations x among) (then_le _ _ _ (in_schema tree) (laid_count (schema_lexemes tree) text is.laid)))) in
     let short : length text ≤ 16777216 = is.is_short in
     let big : 2 ^ 32 ≡ 4294967296 = refl in

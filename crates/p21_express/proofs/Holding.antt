@@ -17,26 +17,26 @@ use Rattle.p21_schemas.proofs.DeclaredSchemas.{distinct_names-entities, distinct
 use Rattle.p21_express.specs.ReadSchema.{AreOfText, IsBareSchema}
 use Rattle.p21_express.proofs.Counted.{few-attributes}
 use Rattle.p21_express.proofs.Outlines.{outline-few}
-use Rattle.p21_express_circles.specs.Chains.{AreMembers}
-use Rattle.p21_express_redeclared.proofs.Places.{named-within}
-use Rattle.p21_express_resolve.specs.Bare.{bare, bare_entity}
-use Rattle.p21_express_resolve.specs.DeclaredBy.{DeclaredBy}
-use Rattle.p21_express_resolve.specs.Redeclarations.{KeptRedeclaredIs, KeptDerivedAre, no_more, a_place, no_place, RedeclarationsAre}
-use Rattle.p21_express_resolve.specs.Outline.{Named, kept_named, IsNamed, SimpleIs, KeptTypeIs, KeptKindIs, MemberIs, KeptAttributeIs, KeptOneOfIs, EntityOutline, TypeOutline, IsOutline, kept_own, kept_one_of, kept_redeclared, kept_redeclared_names, aggregates_of}
-use Rattle.p21_express_resolve.proofs.KeptSchemas.{kept-declares}
-use Rattle.p21_express_resolve.proofs.Zips.{AllZip-same}
-use Rattle.p21_express_syntax.specs.Kept.{KeptSchema, KeptEntity, KeptType, KeptBody, enumeration, select, underlying}
-use Rattle.p21_express_syntax.specs.Keeping.{kept_schema, kept_entity}
+use Rattle.p21_express_outline.specs.Chains.{AreMembers}
+use Rattle.p21_express.proofs.PlaceLemmas.{named-within}
+use Rattle.p21_express_outline.specs.Bare.{bare, bare_entity}
+use Rattle.p21_express_outline.specs.DeclaredBy.{DeclaredBy}
+use Rattle.p21_express_outline.specs.Redeclarations.{DigestRedeclaredIs, DigestDerivedAre, no_more, a_place, no_place, RedeclarationsAre}
+use Rattle.p21_express_outline.specs.Outline.{Named, digest_names, IsNamed, SimpleIs, DigestTypeIs, DigestKindIs, MemberIs, DigestAttributeIs, DigestOneOfIs, EntityOutline, TypeOutline, IsOutline, digest_own_explicit, digest_one_of_lists, digest_redeclared_explicit, digest_redeclared_names, aggregates_of}
+use Rattle.p21_express_outline.proofs.SchemaDigests.{digest-declares}
+use Rattle.p21_express_outline.proofs.Zips.{AllZip-same}
+use Rattle.p21_express_syntax.specs.Digest.{SchemaDigest, EntityDigest, TypeDigest, BodyDigest, enumeration, select, underlying}
+use Rattle.p21_express_syntax.specs.Digesting.{schema_digest, entity_digest}
 use Rattle.p21_express_syntax.specs.ReadDeclarations.{IsTextOf}
 use Rattle.p21_express_syntax.specs.declared.types.Aggregate.{Aggregate}
 use Rattle.p21_express_syntax.specs.declared.types.Aggregate.TheVariants as aggregate
 use Rattle.p21_express_syntax.specs.declared.types.SimpleType.{SimpleType}
 use Rattle.p21_express_syntax.specs.declared.types.SimpleType.TheVariants as simple
-use Rattle.p21_express_tables.specs.Resolved.{IsEntity, IsType, IsPlace, IsTypeUse, IsMember, IsKind, IsAttribute, IsRedeclared, IsResolved, HoldsTogether}
+use Rattle.p21_express_graph.specs.Resolved.{IsEntity, IsType, IsPlace, IsTypeUse, IsMember, IsKind, IsAttribute, IsRedeclared, IsResolved, HoldsTogether}
 
-module _ (k : KeptSchema) (s : Schema) (outline : IsOutline k s) where
+module _ (k : SchemaDigest) (s : Schema) (outline : IsOutline k s) where
   abbrev n : Named
-  n = kept_named k
+  n = digest_names k
 
   entity_is : (e : ℕ) (name : List ℕ) → IsNamed n.entities e name → IsEntity s e
   entity_is e name named =
@@ -72,14 +72,14 @@ module _ (k : KeptSchema) (s : Schema) (outline : IsOutline k s) where
   around_is (aggregate.Set range ∷ aggregates) element is = around_is aggregates element is
   around_is (aggregate.Bag range ∷ aggregates) element is = around_is aggregates element is
 
-  type_use_is : (kept : KeptType) (type : TypeUse) → KeptTypeIs n kept type → IsTypeUse s type
+  type_use_is : (kept : TypeDigest) (type : TypeUse) → DigestTypeIs n kept type → IsTypeUse s type
   type_use_is kept type (element, is, same) = subst (IsTypeUse s) (sym same) (around_is kept.aggregates element (simple_is kept.element element is))
 
   member_is : (m : Member) (name : List ℕ) → MemberIs n m name → IsMember s m
   member_is (entity_member e) name named = entity_is e name named
   member_is (type_member t) name named = type_is t name named
 
-  kind_is : (body : KeptBody) (kind : Kind) → KeptKindIs n body kind → IsKind s kind
+  kind_is : (body : BodyDigest) (kind : Kind) → DigestKindIs n body kind → IsKind s kind
   kind_is (underlying kept) kind (type, (element, is, same), alone, kind_same) =
       subst (IsKind s) (sym kind_same) (subst (IsTypeUse s) (sym same) (around_is kept.aggregates element (simple_is kept.element element is)))
   kind_is (enumeration names) kind is = subst (IsKind s) (sym is.0) tt
@@ -93,7 +93,7 @@ module _ (k : KeptSchema) (s : Schema) (outline : IsOutline k s) where
 
   one_of_are : Each (Each (IsEntity s)) s.one_of_lists
   one_of_are = Each-of_members (Each (IsEntity s)) s.one_of_lists (λ listed among.
-      let (names, _, is) = AllZip-second_member (KeptOneOfIs n) (kept_one_of k.entities) s.one_of_lists listed outline.one_of_are among in
+      let (names, _, is) = AllZip-second_member (DigestOneOfIs n) (digest_one_of_lists k.entities) s.one_of_lists listed outline.one_of_are among in
       Each-of_members (IsEntity s) listed (λ e among_. let (name, _, named) = AllZip-member (IsNamed n.entities) listed names e is.0 among_ in entity_is e name named))
 
   -- ---- entities
@@ -112,15 +112,15 @@ module _ (k : KeptSchema) (s : Schema) (outline : IsOutline k s) where
       let Q : List Place → Type 0 = Each (IsPlace s) in
       (subst P (sym none) tt, subst Q (sym none_derived) tt)
 
-  entities_are : ((x : Entity) → Contains s.entities x → Each (IsRedeclared s) x.redeclared × Each (IsPlace s) x.derived) → ((d : KeptEntity) → Contains k.entities d → length (kept_own d.explicit) < 2 ^ 32) → Each (IsResolved s) s.entities
+  entities_are : ((x : Entity) → Contains s.entities x → Each (IsRedeclared s) x.redeclared × Each (IsPlace s) x.derived) → ((d : EntityDigest) → Contains k.entities d → length (digest_own_explicit d.explicit) < 2 ^ 32) → Each (IsResolved s) s.entities
   entities_are redeclared few = Each-of_members (IsResolved s) s.entities (λ x among.
       let (d, d_among, is) = AllZip-second_member (EntityOutline n) k.entities s.entities x outline.entities_are among in
-      let long : length x.attributes ≡ length (kept_own d.explicit) = AllZip-long (KeptAttributeIs n) (kept_own d.explicit) x.attributes is.attributes_are in
-      let small : length (kept_own d.explicit) < 2 ^ 32 = few d d_among in
+      let long : length x.attributes ≡ length (digest_own_explicit d.explicit) = AllZip-long (DigestAttributeIs n) (digest_own_explicit d.explicit) x.attributes is.attributes_are in
+      let small : length (digest_own_explicit d.explicit) < 2 ^ 32 = few d d_among in
       record {
         few = let P : ℕ → Type 0 = λ m. m < 2 ^ 32 in subst P (sym long) small;
         supertypes_are = Each-of_members (IsEntity s) x.supertypes (λ e e_among. let (name, _, named) = AllZip-member (IsNamed n.entities) x.supertypes d.supertypes e is.supertypes_are e_among in entity_is e name named);
-        attributes_are = Each-of_members (IsAttribute s) x.attributes (λ a a_among. let (kept, _, found) = AllZip-second_member (KeptAttributeIs n) (kept_own d.explicit) x.attributes a is.attributes_are a_among in type_use_is kept.2 a.type found.2);
+        attributes_are = Each-of_members (IsAttribute s) x.attributes (λ a a_among. let (kept, _, found) = AllZip-second_member (DigestAttributeIs n) (digest_own_explicit d.explicit) x.attributes a is.attributes_are a_among in type_use_is kept.2 a.type found.2);
         redeclared_are = (redeclared x among).0;
         derived_are = (redeclared x among).1;
       })
@@ -140,7 +140,7 @@ module _ (k : KeptSchema) (s : Schema) (outline : IsOutline k s) where
   distinct = let P : List (List ℕ) → Type 0 = IsDistinct bytes_eq in subst P (sym (ap (λ ns. ns ++ map (λ x. x.name) s.types) names_are.0 ∙ ap (λ ns. n.entities ++ ns) names_are.1)) outline.names_distinct
 
 -- the types among the members of a select are of the schema
-pub outline-members : (k : KeptSchema) (s : Schema) → IsOutline k s → AreMembers s
+pub outline-members : (k : SchemaDigest) (s : Schema) → IsOutline k s → AreMembers s
 outline-members k s outline t u members is among = by (slice_get s.types t) refl is
   where
     by : (o : Option Defined) → slice_get s.types t ≡ o → ◌≡◌ {A = Option Kind} (elim o [ Some x ↦ Some x.kind | None ↦ None ]) (Some (schema.choice members)) → u < length s.types
@@ -156,48 +156,48 @@ redeclares-within : (s : Schema) (e : ℕ) (supertype name : List ℕ) (place : 
 redeclares-within s e supertype name place (sup, proper, inl own) = named-within s place name own.1
 redeclares-within s e supertype name place (sup, proper, inr is) = named-within s place name is.1.1
 
-derived-within : (s : Schema) (entities : List KeptEntity) (e : ℕ) (names : List (List ℕ × List ℕ)) (found : List Place) → KeptDerivedAre s entities e names found → Each (IsPlace s) found
+derived-within : (s : Schema) (entities : List EntityDigest) (e : ℕ) (names : List (List ℕ × List ℕ)) (found : List Place) → DigestDerivedAre s entities e names found → Each (IsPlace s) found
 derived-within s entities e _ _ no_more = tt
 derived-within s entities e _ _ (a_place supertype name place names found is rest) = (redeclares-within s e supertype name place is, derived-within s entities e names found rest)
 derived-within s entities e _ _ (no_place supertype name sup names found is none derives rest) = derived-within s entities e names found rest
 
-redeclared-within : (k : KeptSchema) (s : Schema) → DeclaredBy k s → (x : Entity) → Contains s.entities x → Each (IsRedeclared s) x.redeclared × Each (IsPlace s) x.derived
+redeclared-within : (k : SchemaDigest) (s : Schema) → DeclaredBy k s → (x : Entity) → Contains s.entities x → Each (IsRedeclared s) x.redeclared × Each (IsPlace s) x.derived
 redeclared-within k s by x among =
-    let (own, _, are) = AllZip-second_member (λ p found. RedeclarationsAre s (kept_named k) k.entities p.0 p.1 found) (enumerate_from 0 k.entities) s.entities x by.redeclared among in (
+    let (own, _, are) = AllZip-second_member (λ p found. RedeclarationsAre s (digest_names k) k.entities p.0 p.1 found) (enumerate_from 0 k.entities) s.entities x by.redeclared among in (
       Each-of_members (IsRedeclared s) x.redeclared (λ r r_among.
-          let (kept, _, is) = AllZip-second_member (KeptRedeclaredIs s (kept_named k) own.0) (kept_redeclared own.1.explicit) x.redeclared r are.redeclared_are r_among in
+          let (kept, _, is) = AllZip-second_member (DigestRedeclaredIs s (digest_names k) own.0) (digest_redeclared_explicit own.1.explicit) x.redeclared r are.redeclared_are r_among in
           (redeclares-within s own.0 kept.0.0 kept.0.1 r.place is.0, type_use_is k s by.outline kept.2 r.type is.2)),
-      derived-within s k.entities own.0 (kept_redeclared_names own.1.derived) x.derived are.derived_are,
+      derived-within s k.entities own.0 (digest_redeclared_names own.1.derived) x.derived are.derived_are,
     )
 
 -- ---- the schema
 
-outline-holds : (tree : SchemaDeclaration) (text : List ℕ) (s : Schema) → IsTextOf tree text → IsOutline (kept_schema tree) s → ((x : Entity) → Contains s.entities x → Each (IsRedeclared s) x.redeclared × Each (IsPlace s) x.derived) → HasNoCircle (HasSupertype s) → HasNoCircle (Renames s)
+outline-holds : (tree : SchemaDeclaration) (text : List ℕ) (s : Schema) → IsTextOf tree text → IsOutline (schema_digest tree) s → ((x : Entity) → Contains s.entities x → Each (IsRedeclared s) x.redeclared × Each (IsPlace s) x.derived) → HasNoCircle (HasSupertype s) → HasNoCircle (Renames s)
     → HasNoCircle (HasSelect s) → RedeclaresOnce s → HoldsTogether s
 outline-holds tree text s is outline redeclared supertypes renaming selects once = record {
-  entities_are = entities_are (kept_schema tree) s outline redeclared (λ d among.
-      let (x, x_among, same) = Contains-unmapped kept_entity (entities_of tree.declarations) d among in
-      let P : KeptEntity → Type 0 = λ z. length (kept_own z.explicit) < 2 ^ 32 in
+  entities_are = entities_are (schema_digest tree) s outline redeclared (λ d among.
+      let (x, x_among, same) = Contains-unmapped entity_digest (entities_of tree.declarations) d among in
+      let P : EntityDigest → Type 0 = λ z. length (digest_own_explicit z.explicit) < 2 ^ 32 in
       subst P same (few-attributes tree text x is x_among));
-  types_are = types_are (kept_schema tree) s outline;
-  one_of_are = one_of_are (kept_schema tree) s outline;
+  types_are = types_are (schema_digest tree) s outline;
+  one_of_are = one_of_are (schema_digest tree) s outline;
   few = outline-few tree s text is outline;
   supertypes_end = supertypes;
   renaming_ends = renaming;
   selects_end = selects;
-  entities_distinct = distinct_names-entities s (distinct (kept_schema tree) s outline);
-  types_distinct = distinct_names-types s (distinct (kept_schema tree) s outline);
+  entities_distinct = distinct_names-entities s (distinct (schema_digest tree) s outline);
+  types_distinct = distinct_names-types s (distinct (schema_digest tree) s outline);
   redeclares_once = once;
 }
 
-pub bare-holds : (k : KeptSchema) (s : Schema) → AreOfText k → IsBareSchema k s → HoldsTogether s
+pub bare-holds : (k : SchemaDigest) (s : Schema) → AreOfText k → IsBareSchema k s → HoldsTogether s
 bare-holds k s (tree, text, is, same) is_bare_schema =
-    let P : KeptSchema → Type 0 = λ v. IsOutline v s in
+    let P : SchemaDigest → Type 0 = λ v. IsOutline v s in
     let outline = subst P same is_bare_schema.outline in
-    outline-holds tree text s is outline (bare_holds (kept_schema tree) s outline is_bare_schema.is_bare) is_bare_schema.supertypes_end is_bare_schema.renaming_ends is_bare_schema.selects_end (redeclares_once (kept_schema tree) s outline is_bare_schema.is_bare)
+    outline-holds tree text s is outline (bare_holds (schema_digest tree) s outline is_bare_schema.is_bare) is_bare_schema.supertypes_end is_bare_schema.renaming_ends is_bare_schema.selects_end (redeclares_once (schema_digest tree) s outline is_bare_schema.is_bare)
 
-pub whole-holds : (k : KeptSchema) (s : Schema) → AreOfText k → DeclaredBy k s → HoldsTogether s
+pub whole-holds : (k : SchemaDigest) (s : Schema) → AreOfText k → DeclaredBy k s → HoldsTogether s
 whole-holds k s (tree, text, is, same) declared =
-    let P : KeptSchema → Type 0 = λ v. DeclaredBy v s in
-    let by : DeclaredBy (kept_schema tree) s = subst P same declared in
-    outline-holds tree text s is by.outline (redeclared-within (kept_schema tree) s by) by.supertypes_end by.renaming_ends by.selects_end (declared-redeclares_once tree s (kept-declares tree s is.is_within by))
+    let P : SchemaDigest → Type 0 = λ v. DeclaredBy v s in
+    let by : DeclaredBy (schema_digest tree) s = subst P same declared in
+    outline-holds tree text s is by.outline (redeclared-within (schema_digest tree) s by) by.supertypes_end by.renaming_ends by.selects_end (declared-redeclares_once tree s (digest-declares tree s is.is_within by))

@@ -1,3 +1,8 @@
+pub mod Deriving
+pub mod Explicit
+pub mod Keys
+pub mod PlaceLemmas
+pub mod Resolving
 pub mod Counted
 pub mod Holding
 pub mod Outlines

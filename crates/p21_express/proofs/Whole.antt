@@ -9,27 +9,27 @@ use Rattle.std.proofs.lemmas.List.{length-map}
 use Rattle.std.proofs.lemmas.List.FromFn.{length-enumerate_from, get_or-enumerate_from}
 use Rattle.std.proofs.lemmas.Slice.Zip.{AllZip-long}
 use Rattle.p21_schemas.specs.Schema.{Schema, Entity}
-use Rattle.p21_express.specs.ReadSchema.{IsBareSchema, DeclaresNone, BareRead, SchemaDeclared}
+use Rattle.p21_express.specs.ReadSchema.{IsBareSchema, DeclareNoSchema, BareRead, SchemaDeclared}
 use Rattle.p21_express.proofs.Outlines.{supertypes-same, renaming-same, no_select-same, selects-same}
 use Rattle.p21_express_outline.proofs.Finding.{each-refused, take-all, zip-more}
-use Rattle.p21_express_outline.specs.Finding.{Refused, FindsEach}
+use Rattle.p21_express_outline.specs.Finding.{RefusalShows, FindsEach}
 use Rattle.p21_express_outline.specs.declared.fault.SchemaFault.{SchemaFault}
 use Rattle.p21_express_outline.specs.declared.fault.SchemaFault.TheVariants as fault
-use Rattle.p21_express_resolve.specs.Bare.{bare, bare_entity}
-use Rattle.p21_express_resolve.specs.DeclaredBy.{DeclaredBy}
-use Rattle.p21_express_resolve.specs.Outline.{Named, kept_named, EntityOutline, IsOutline}
-use Rattle.p21_express_resolve.specs.Redeclarations.{RedeclarationsAre}
-use Rattle.p21_express_resolve.proofs.Agreeing.{Agree, bare-agrees, agrees-bare, redeclarations-agree}
-use Rattle.p21_express_resolve.proofs.OneOutline.{outline-one}
-use Rattle.p21_express_resolve.proofs.Zips.{numbered-weaker}
-use Rattle.p21_express_syntax.specs.Kept.{KeptEntity, KeptSchema}
+use Rattle.p21_express_outline.specs.Bare.{bare, bare_entity}
+use Rattle.p21_express_outline.specs.DeclaredBy.{DeclaredBy}
+use Rattle.p21_express_outline.specs.Outline.{Named, digest_names, EntityOutline, IsOutline}
+use Rattle.p21_express_outline.specs.Redeclarations.{RedeclarationsAre}
+use Rattle.p21_express_outline.proofs.Agreeing.{Agree, bare-agrees, agrees-bare, redeclarations-agree}
+use Rattle.p21_express_outline.proofs.OneOutline.{outline-one}
+use Rattle.p21_express_outline.proofs.Zips.{numbered-weaker}
+use Rattle.p21_express_syntax.specs.Digest.{EntityDigest, SchemaDigest}
 use Rattle.p21_express_syntax.specs.Views.{entity_view, schema_view}
 use Rattle.p21_express_syntax.specs.declared.schema.Declarations.{Declarations}
 use Rattle.p21_express_syntax.specs.declared.entity.Entity as syntax
-use Rattle.p21_express_tables.specs.Parts.{redeclared}
-use Rattle.p21_express_tables.specs.Redeclaring.{redeclaring, redeclaring_as, redeclaring_each, redeclaring_schema}
-use Rattle.p21_express_tables.specs.declared.parts.Redeclarations.{Redeclarations}
-use Rattle.p21_express_tables.proofs.KeptTables.{each-same}
+use Rattle.p21_express_graph.specs.SchemaContents.{redeclared}
+use Rattle.p21_express_graph.specs.Redeclaring.{redeclaring, redeclaring_as, redeclaring_each, redeclaring_schema}
+use Rattle.p21_express_graph.specs.declared.schema_contents.Redeclarations.{Redeclarations}
+use Rattle.p21_express_graph.proofs.SameEntities.{each-same}
 use Rattle.p21_express_types.specs.Meaning.{place}
 
 -- ---- entities, each with what another one redeclares
@@ -52,41 +52,41 @@ each-second R so (w ∷ ws) xs [] long all = absurd all
 each-second R so (w ∷ ws) [] (y ∷ ys) long all = absurd (omega (arith, long))
 each-second R so (w ∷ ws) (x ∷ xs) (y ∷ ys) long all = (so w x y all.0, each-second R so ws xs ys (omega (arith, long)) all.1)
 
-outline-as : (n : Named) (w : KeptEntity) (x y : Entity) → EntityOutline n w x → EntityOutline n w (redeclaring_as x y)
+outline-as : (n : Named) (w : EntityDigest) (x y : Entity) → EntityOutline n w x → EntityOutline n w (redeclaring_as x y)
 outline-as n w x y is = record { name_is = is.name_is; abstract_is = is.abstract_is; supertypes_are = is.supertypes_are; attributes_are = is.attributes_are; supertypes_distinct = is.supertypes_distinct; names_distinct = is.names_distinct }
 
-redeclared-as : (s : Schema) (n : Named) (entities : List KeptEntity) (e : ℕ) (w : KeptEntity) (x y : Entity) → RedeclarationsAre s n entities e w y → RedeclarationsAre s n entities e w (redeclaring_as x y)
+redeclared-as : (s : Schema) (n : Named) (entities : List EntityDigest) (e : ℕ) (w : EntityDigest) (x y : Entity) → RedeclarationsAre s n entities e w y → RedeclarationsAre s n entities e w (redeclaring_as x y)
 redeclared-as s n entities e w x y is = record { redeclared_are = is.redeclared_are; derived_are = is.derived_are; places_distinct = is.places_distinct }
 
 -- ---- a schema with its redeclarations
 
 -- what each entity redeclares, in the order of the declarations
-abbrev AreIn : Schema → KeptSchema → List Entity → Type 0
-AreIn s k ys = AllZip (λ own found. RedeclarationsAre s (kept_named k) k.entities own.0 own.1 found) (enumerate_from 0 k.entities) ys
+abbrev AreIn : Schema → SchemaDigest → List Entity → Type 0
+AreIn s k ys = AllZip (λ own found. RedeclarationsAre s (digest_names k) k.entities own.0 own.1 found) (enumerate_from 0 k.entities) ys
 
-pub found-length : (k : KeptSchema) (s : Schema) (ys : List Entity) → IsBareSchema k s → AreIn s k ys → length s.entities ≡ length ys
+pub found-length : (k : SchemaDigest) (s : Schema) (ys : List Entity) → IsBareSchema k s → AreIn s k ys → length s.entities ≡ length ys
 found-length k s ys is are =
-    let x : length s.entities ≡ length k.entities = AllZip-long (EntityOutline (kept_named k)) k.entities s.entities is.outline.entities_are in
-    let y : length ys ≡ length (enumerate_from 0 k.entities) = AllZip-long (λ own found. RedeclarationsAre s (kept_named k) k.entities own.0 own.1 found) (enumerate_from 0 k.entities) ys are in
+    let x : length s.entities ≡ length k.entities = AllZip-long (EntityOutline (digest_names k)) k.entities s.entities is.outline.entities_are in
+    let y : length ys ≡ length (enumerate_from 0 k.entities) = AllZip-long (λ own found. RedeclarationsAre s (digest_names k) k.entities own.0 own.1 found) (enumerate_from 0 k.entities) ys are in
     let z : length (enumerate_from 0 k.entities) ≡ length k.entities = length-enumerate_from 0 k.entities in
     omega (arith, x, y, z)
 
-whole-bare : (k : KeptSchema) (s : Schema) (ys : List Entity) → IsBareSchema k s → AreIn s k ys → bare (redeclaring_schema s ys) ≡ s
+whole-bare : (k : SchemaDigest) (s : Schema) (ys : List Entity) → IsBareSchema k s → AreIn s k ys → bare (redeclaring_schema s ys) ≡ s
 whole-bare k s ys is are =
     let f : List Entity → Schema = λ es. record { name = s.name; entities = es; types = s.types; one_of_lists = s.one_of_lists } in
     ap f (each-same bare_entity (λ x y. refl) s.entities ys (found-length k s ys is are)) ∙ is.is_bare
 
-whole-outline : (k : KeptSchema) (s : Schema) (ys : List Entity) → IsBareSchema k s → AreIn s k ys → IsOutline k (redeclaring_schema s ys)
+whole-outline : (k : SchemaDigest) (s : Schema) (ys : List Entity) → IsBareSchema k s → AreIn s k ys → IsOutline k (redeclaring_schema s ys)
 whole-outline k s ys is are = record {
   name_is = is.outline.name_is;
-  entities_are = each-first (EntityOutline (kept_named k)) (outline-as (kept_named k)) k.entities s.entities ys (found-length k s ys is are) is.outline.entities_are;
+  entities_are = each-first (EntityOutline (digest_names k)) (outline-as (digest_names k)) k.entities s.entities ys (found-length k s ys is are) is.outline.entities_are;
   types_are = is.outline.types_are;
   one_of_are = is.outline.one_of_are;
   names_distinct = is.outline.names_distinct;
 }
 
 -- the schema is declared
-pub whole-declared : (k : KeptSchema) (s : Schema) (ys : List Entity) → IsBareSchema k s → AreIn s k ys → DeclaredBy k (redeclaring_schema s ys)
+pub whole-declared : (k : SchemaDigest) (s : Schema) (ys : List Entity) → IsBareSchema k s → AreIn s k ys → DeclaredBy k (redeclaring_schema s ys)
 whole-declared k s ys is are =
     let t : Schema = redeclaring_schema s ys in
     let outline : IsOutline k t = whole-outline k s ys is are in
@@ -94,9 +94,9 @@ whole-declared k s ys is are =
     let agree : Agree s t = subst P (whole-bare k s ys is are) (bare-agrees t) in
     record {
       outline = outline;
-      redeclared = numbered-weaker (RedeclarationsAre s (kept_named k) k.entities) (RedeclarationsAre t (kept_named k) k.entities) 0 k.entities t.entities
-          (λ e w found h. redeclarations-agree s t agree (kept_named k) k.entities e w found h)
-          (each-second (λ own found. RedeclarationsAre s (kept_named k) k.entities own.0 own.1 found) (λ own x y h. redeclared-as s (kept_named k) k.entities own.0 own.1 x y h) (enumerate_from 0 k.entities) s.entities ys (found-length k s ys is are) are);
+      redeclared = numbered-weaker (RedeclarationsAre s (digest_names k) k.entities) (RedeclarationsAre t (digest_names k) k.entities) 0 k.entities t.entities
+          (λ e w found h. redeclarations-agree s t agree (digest_names k) k.entities e w found h)
+          (each-second (λ own found. RedeclarationsAre s (digest_names k) k.entities own.0 own.1 found) (λ own x y h. redeclared-as s (digest_names k) k.entities own.0 own.1 x y h) (enumerate_from 0 k.entities) s.entities ys (found-length k s ys is are) are);
       no_select = no_select-same k t s outline is.outline is.no_select;
       supertypes_end = supertypes-same k t s outline is.outline is.supertypes_end;
       renaming_ends = renaming-same k t s outline is.outline is.renaming_ends;
@@ -104,18 +104,18 @@ whole-declared k s ys is are =
     }
 
 -- what a declared schema redeclares is so in the bare one
-pub declared-redeclares : (k : KeptSchema) (s t : Schema) → IsBareSchema k s → DeclaredBy k t → AreIn s k t.entities
+pub declared-redeclares : (k : SchemaDigest) (s t : Schema) → IsBareSchema k s → DeclaredBy k t → AreIn s k t.entities
 declared-redeclares k s t is by =
     let P : Schema → Type 0 = λ v. Agree t v in
     let agree : Agree t s = subst P (outline-one k t s by.outline is.outline ∙ is.is_bare) (agrees-bare t) in
-    numbered-weaker (RedeclarationsAre t (kept_named k) k.entities) (RedeclarationsAre s (kept_named k) k.entities) 0 k.entities t.entities (λ e w found h. redeclarations-agree t s agree (kept_named k) k.entities e w found h) by.redeclared
+    numbered-weaker (RedeclarationsAre t (digest_names k) k.entities) (RedeclarationsAre s (digest_names k) k.entities) 0 k.entities t.entities (λ e w found h. redeclarations-agree t s agree (digest_names k) k.entities e w found h) by.redeclared
 
 -- ---- the steps
 
 -- there are as many entities as declarations
 pub declared-length : (d : Declarations) (s : Schema) → IsBareSchema (schema_view d) s → length d.entities.items ≡ length s.entities
 declared-length d s is =
-    let x : length s.entities ≡ length (map entity_view d.entities.items) = AllZip-long (EntityOutline (kept_named (schema_view d))) (map entity_view d.entities.items) s.entities is.outline.entities_are in
+    let x : length s.entities ≡ length (map entity_view d.entities.items) = AllZip-long (EntityOutline (digest_names (schema_view d))) (map entity_view d.entities.items) s.entities is.outline.entities_are in
     sym (x ∙ length-map d.entities.items entity_view)
 
 -- the number of a declaration, and itself
@@ -132,7 +132,7 @@ abbrev Declared : Type 0
 Declared = syntax.Entity
 
 -- what the entities redeclare whose declarations these are
-abbrev AreOf : Schema → Named → List Declared → ℕ × KeptEntity → Entity → Type 0
+abbrev AreOf : Schema → Named → List Declared → ℕ × EntityDigest → Entity → Type 0
 AreOf s n declared own found = RedeclarationsAre s n (map entity_view declared) own.0 own.1 found
 
 pub one-more : (s : Schema) (n : Named) (declared : List Declared) (k number : ℕ) (own : Declared) (found new : List Redeclarations) (item : Redeclarations) → k < length declared → own ≡ get_or declared k own → number ≡ k
@@ -145,16 +145,16 @@ one-more s n declared k number own found new item below at same so_far is new_is
     zip-more redeclaring (AreOf s n declared) all k (k, entity_view own) found new item under (numbered-at entity_view declared k own below at) so_far (subst P same (is (redeclaring item) refl refl)) new_is
 
 pub one-refused : {Z : Type 0} (s : Schema) (n : Named) (declared : List Declared) (k number : ℕ) (own : Declared) (fault : SchemaFault) (result : Result (Vec Redeclarations Z) SchemaFault) → IsErr result → IsErrAnd result (λ found. found ≡ fault) → k < length declared → own ≡ get_or declared k own → number ≡ k
-    → Refused fault ((y : Entity) → RedeclarationsAre s n (map entity_view declared) number (entity_view own) y → ⊥) → FindsEach redeclaring (AreOf s n declared) (enumerate_from 0 (map entity_view declared)) result
+    → RefusalShows fault ((y : Entity) → RedeclarationsAre s n (map entity_view declared) number (entity_view own) y → ⊥) → FindsEach redeclaring (AreOf s n declared) (enumerate_from 0 (map entity_view declared)) result
 one-refused s n declared k number own fault result is_err is below at same refused =
     let all = enumerate_from 0 (map entity_view declared) in
     let under : k < length all = omega (arith, below, length-enumerate_from 0 (map entity_view declared), length-map declared entity_view) in
-    let P : ℕ → Type 0 = λ j. Refused fault ((y : Entity) → RedeclarationsAre s n (map entity_view declared) j (entity_view own) y → ⊥) in
+    let P : ℕ → Type 0 = λ j. RefusalShows fault ((y : Entity) → RedeclarationsAre s n (map entity_view declared) j (entity_view own) y → ⊥) in
     each-refused redeclaring (AreOf s n declared) all k (k, entity_view own) fault result is_err is under (numbered-at entity_view declared k own below at) (subst P same refused)
 
 pub all-found : (s : Schema) (n : Named) (declared : List Declared) (k : ℕ) (found : List Redeclarations) → length declared ≤ k → AllZip (AreOf s n declared) (take k (enumerate_from 0 (map entity_view declared))) (map redeclaring found) → AllZip (AreOf s n declared) (enumerate_from 0 (map entity_view declared)) (map redeclaring found)
 all-found s n declared k found le all =
-    let P : List (ℕ × KeptEntity) → Type 0 = λ xs. AllZip (AreOf s n declared) xs (map redeclaring found) in
+    let P : List (ℕ × EntityDigest) → Type 0 = λ xs. AllZip (AreOf s n declared) xs (map redeclaring found) in
     let over : length (enumerate_from 0 (map entity_view declared)) ≤ k = omega (arith, le, length-enumerate_from 0 (map entity_view declared), length-map declared entity_view) in
     subst P (take-all (enumerate_from 0 (map entity_view declared)) k over) all
 
@@ -162,18 +162,18 @@ all-found s n declared k found le all =
 
 -- names that aren't different are those of no schema
 pub names-refused : {A B X Z : Type 0} (view : A → B) (R : X → B → Type 0) (xs : List X) (names : List (List ℕ)) (fault : SchemaFault) (result : Result (Vec A Z) SchemaFault) → IsErr result → IsErrAnd result (λ found. found ≡ fault) → IsDistinct bytes_eq names
-    → Refused fault (IsDistinct bytes_eq names → ⊥) → FindsEach view R xs result
+    → RefusalShows fault (IsDistinct bytes_eq names → ⊥) → FindsEach view R xs result
 names-refused view R xs names fault (Ok u) is_err is distinct refused = cc
 names-refused view R xs names fault (Err found) is_err is distinct refused = λ other ys all. refused (λ e. other (is ∙ e)) distinct
 
-pub bare-refused : (k : KeptSchema) (fault : SchemaFault) (result : Result Schema SchemaFault) → IsErr result → IsErrAnd result (λ found. found ≡ fault) → Refused fault (DeclaresNone k) → SchemaDeclared k result
+pub bare-refused : (k : SchemaDigest) (fault : SchemaFault) (result : Result Schema SchemaFault) → IsErr result → IsErrAnd result (λ found. found ≡ fault) → RefusalShows fault (DeclareNoSchema k) → SchemaDeclared k result
 bare-refused k fault (Ok s) is_err is refused = cc
 bare-refused k fault (Err found) is_err is refused = λ other. refused (λ e. other (is ∙ e))
 
-pub found-refused : (k : KeptSchema) (s : Schema) (fault : SchemaFault) (result : Result Schema SchemaFault) → IsErr result → IsErrAnd result (λ found. found ≡ fault) → IsBareSchema k s → Refused fault ((ys : List Entity) → AreIn s k ys → ⊥) → SchemaDeclared k result
+pub found-refused : (k : SchemaDigest) (s : Schema) (fault : SchemaFault) (result : Result Schema SchemaFault) → IsErr result → IsErrAnd result (λ found. found ≡ fault) → IsBareSchema k s → RefusalShows fault ((ys : List Entity) → AreIn s k ys → ⊥) → SchemaDeclared k result
 found-refused k s fault (Ok t) is_err is is_bare refused = cc
 found-refused k s fault (Err found) is_err is is_bare refused = λ other t by. refused (λ e. other (is ∙ e)) t.entities (declared-redeclares k s t is_bare by)
 
-pub memory-bare : (k : KeptSchema) (result : Result Schema SchemaFault) → IsErr result → IsErrAnd result (λ found. found ≡ fault.NoMemory) → BareRead k result
+pub memory-bare : (k : SchemaDigest) (result : Result Schema SchemaFault) → IsErr result → IsErrAnd result (λ found. found ≡ fault.NoMemory) → BareRead k result
 memory-bare k (Ok s) is_err is = cc
 memory-bare k (Err found) is_err is = λ other. absurd (other is)

@@ -3,23 +3,23 @@ use Rattle.std.specs.Prelude.{◌≡◌, ℕ, List, Result, Ok, Err}
 use Rattle.p21_schemas.specs.Declared.{Declares, HasNoCircle, HasSupertype, Renames, HasSelect}
 use Rattle.p21_schemas.specs.Schema.{Schema}
 use Rattle.p21_schemas.specs.SchemaDeclaration.{SchemaDeclaration}
-use Rattle.p21_express_outline.specs.Finding.{Refused}
+use Rattle.p21_express_outline.specs.Finding.{RefusalShows}
 use Rattle.p21_express_outline.specs.declared.fault.SchemaFault.{SchemaFault}
-use Rattle.p21_express_resolve.specs.Bare.{bare}
-use Rattle.p21_express_resolve.specs.DeclaredBy.{DeclaredBy, RenamesNoSelect}
-use Rattle.p21_express_resolve.specs.Outline.{IsOutline}
-use Rattle.p21_express_syntax.specs.Kept.{KeptSchema}
-use Rattle.p21_express_syntax.specs.Keeping.{kept_schema}
+use Rattle.p21_express_outline.specs.Bare.{bare}
+use Rattle.p21_express_outline.specs.DeclaredBy.{DeclaredBy, RenamesNoSelect}
+use Rattle.p21_express_outline.specs.Outline.{IsOutline}
+use Rattle.p21_express_syntax.specs.Digest.{SchemaDigest}
+use Rattle.p21_express_syntax.specs.Digesting.{schema_digest}
 use Rattle.p21_express_syntax.specs.ReadDeclarations.{IsTextOf}
-use Rattle.p21_express_tables.specs.Parts.{schema_of, AreNamed}
-use Rattle.p21_express_tables.specs.declared.parts.Parts.{Parts}
+use Rattle.p21_express_graph.specs.SchemaContents.{schema_of, AreNamed}
+use Rattle.p21_express_graph.specs.declared.schema_contents.SchemaContents.{SchemaContents}
 
 -- the declarations are those of a text
-abbrev pub AreOfText : KeptSchema → Type 0
-AreOfText k = (tree : SchemaDeclaration) × (text : List ℕ) × IsTextOf tree text × (k ≡ kept_schema tree)
+abbrev pub AreOfText : SchemaDigest → Type 0
+AreOfText k = (tree : SchemaDeclaration) × (text : List ℕ) × IsTextOf tree text × (k ≡ schema_digest tree)
 
 -- the schema is what the declarations declare, but that nothing is redeclared
-pub record IsBareSchema (k : KeptSchema) (s : Schema) : Type 0 where
+pub record IsBareSchema (k : SchemaDigest) (s : Schema) : Type 0 where
   pub outline : IsOutline k s
   pub is_bare : bare s ≡ s
   pub supertypes_end : HasNoCircle (HasSupertype s)
@@ -28,25 +28,25 @@ pub record IsBareSchema (k : KeptSchema) (s : Schema) : Type 0 where
   pub selects_end : HasNoCircle (HasSelect s)
 
 -- the declarations declare no schema
-abbrev pub DeclaresNone : KeptSchema → Type 0
-DeclaresNone k = (s : Schema) → DeclaredBy k s → ⊥
+abbrev pub DeclareNoSchema : SchemaDigest → Type 0
+DeclareNoSchema k = (s : Schema) → DeclaredBy k s → ⊥
 
 -- the parts of such a schema, or none is declared
-abbrev pub OutlineChecked : KeptSchema → Result Parts SchemaFault → Type 0
+abbrev pub OutlineChecked : SchemaDigest → Result SchemaContents SchemaFault → Type 0
 OutlineChecked k (Ok parts) = IsBareSchema k (schema_of parts) × AreNamed parts
-OutlineChecked k (Err fault) = Refused fault (DeclaresNone k)
+OutlineChecked k (Err fault) = RefusalShows fault (DeclareNoSchema k)
 
 -- such a schema, or none is declared
-abbrev pub BareRead : KeptSchema → Result Schema SchemaFault → Type 0
+abbrev pub BareRead : SchemaDigest → Result Schema SchemaFault → Type 0
 BareRead k (Ok s) = IsBareSchema k s
-BareRead k (Err fault) = Refused fault (DeclaresNone k)
+BareRead k (Err fault) = RefusalShows fault (DeclareNoSchema k)
 
 -- the schema that is declared, or none is
-abbrev pub SchemaDeclared : KeptSchema → Result Schema SchemaFault → Type 0
+abbrev pub SchemaDeclared : SchemaDigest → Result Schema SchemaFault → Type 0
 SchemaDeclared k (Ok s) = DeclaredBy k s
-SchemaDeclared k (Err fault) = Refused fault (DeclaresNone k)
+SchemaDeclared k (Err fault) = RefusalShows fault (DeclareNoSchema k)
 
 -- the schema that the text declares, or it declares none
 abbrev pub SchemaRead : List ℕ → Result Schema SchemaFault → Type 0
 SchemaRead text (Ok s) = Declares text s
-SchemaRead text (Err fault) = Refused fault ((s : Schema) → Declares text s → ⊥)
+SchemaRead text (Err fault) = RefusalShows fault ((s : Schema) → Declares text s → ⊥)

@@ -1,17 +1,18 @@
 ghost use Rattle.p21_express.specs.ReadSchema.{AreOfText, OutlineChecked};
 ghost use Rattle.p21_express_syntax.specs.Views.{schema_view};
 
-use p21_express_circles::{check_no_select, check_renaming, check_selects, check_supertypes};
-use p21_express_outline::{SchemaFault, outline};
+use p21_express_graph::SchemaContents;
+use p21_express_outline::{
+    SchemaFault, check_no_select, check_renaming, check_selects, check_supertypes, outline,
+};
 use p21_express_syntax::Declarations;
-use p21_express_tables::Parts;
 use std::alloc::Global;
 
 /// What declarations declare, all but what they redeclare; no chain of it comes back.
 pub(crate) fn checked_outline(
     alloc: Global,
     declarations: &Declarations,
-) -> Result<Parts, SchemaFault>
+) -> Result<SchemaContents, SchemaFault>
     requires { AreOfText (schema_view declarations.now) }
     ensures { OutlineChecked (schema_view declarations.now) result }
 {

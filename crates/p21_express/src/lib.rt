@@ -1,9 +1,19 @@
-//! Schemas read from their texts (ISO 10303-11).
+//! Schemas read from their texts (ISO 10303-11): what their entities redeclare (Attribute redeclaration), and which refusal
+//! comes first where a text has several.
 #![tactic(auto)]
 
 mod checked;
-mod reading;
+mod derived;
+mod distinct;
+mod duplicates;
+mod first;
+mod lookups;
+mod places;
+mod redeclarations;
+mod redeclared;
 mod redeclaring;
+mod schema_reader;
+mod unknown;
 
 pub use p21_express_outline::SchemaFault;
 pub use p21_express_tables::Schema;
@@ -11,4 +21,4 @@ pub use p21_express_types::{
     EntityId, Member, Members, Place, PlaceType, TypeId, TypeKind, TypeUse, Width, Words,
 };
 pub use p21_values::NoMemory;
-pub use reading::read_schema;
+pub use schema_reader::read_schema;

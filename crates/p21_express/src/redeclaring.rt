@@ -2,15 +2,16 @@ ghost use Rattle.std.specs.Prelude.{◌≡◌, length, map};
 ghost use Rattle.std.specs.List.{enumerate_from};
 ghost use Rattle.p21_express_outline.specs.Finding.{FindsEach};
 ghost use Rattle.p21_express_outline.specs.Known.{AreFew, names_of};
-ghost use Rattle.p21_express_redeclared.specs.Found.{HasDistinctAttributes};
-ghost use Rattle.p21_express_resolve.specs.Redeclarations.{RedeclarationsAre};
+ghost use Rattle.p21_express.specs.Found.{HasDistinctAttributes};
+ghost use Rattle.p21_express_outline.specs.Redeclarations.{RedeclarationsAre};
 ghost use Rattle.p21_express_syntax.specs.Views.{entity_view};
-ghost use Rattle.p21_express_tables.specs.Redeclaring.{redeclaring};
+ghost use Rattle.p21_express_graph.specs.Redeclaring.{redeclaring};
 
-use p21_express_outline::{Known, SchemaFault};
-use p21_express_redeclared::redeclarations_of;
+use crate::redeclarations::redeclarations_of;
+use p21_express_graph::Redeclarations;
+use p21_express_outline::{KnownNames, SchemaFault};
 use p21_express_syntax::Entity as Declared;
-use p21_express_tables::{Redeclarations, Schema};
+use p21_express_tables::Schema;
 use p21_express_types::EntityId;
 use std::alloc::Global;
 
@@ -18,7 +19,7 @@ use std::alloc::Global;
 pub(crate) fn all_redeclarations(
     alloc: Global,
     schema: &Schema,
-    known: &Known,
+    known: &KnownNames,
     declared: &[Declared],
 ) -> Result<Vec<Redeclarations>, SchemaFault>
     requires few { AreFew known.now }

@@ -6,10 +6,10 @@ use Rattle.std.proofs.lemmas.Bool.Decides.{nat_tests}
 use Rattle.p21_basics.specs.Digits.{IsDigit, AllDigits}
 use Rattle.p21_schemas.specs.Express.{Lexeme, identifier, digits, simple_string, encoded_string, symbol, IsLetter, IsIdentifierByte, SpellsLexeme, quote_twice, upper}
 use Rattle.p21_schemas.specs.ExpressLaying.{LexemeIsFollowed, LaidLexemes}
-use Rattle.p21_schemas.specs.Remark.{Mark, opening_mark, closing_mark, remark_byte, mark_bytes, HeadIsNot, AreMarks, ClosesLast, Separator, blank, embedded_remark, tail_remark, IsSeparator, separator_bytes, IsSeparatorText, IsLastSeparatorText}
+use Rattle.p21_schemas.specs.Remark.{Mark, opening_mark, closing_mark, remark_byte, mark_bytes, DoesNotBeginWith, AreMarks, ClosesAtLastMark, Separator, blank, embedded_remark, tail_remark, IsSeparator, separator_bytes, IsSeparatorText, IsLastSeparatorText}
 use Rattle.p21_express_lexemes.specs.Bytes.{is_of, begins, begins_of, begins_both, front, behind}
 use Rattle.p21_express_lexemes.specs.Skipping.{between, line, remark, skip}
-use Rattle.p21_express_lexemes.specs.Reading.{found, ended, quoted, after, unquote, simple_of, encoded_of, lexeme_of, front_within, front_of}
+use Rattle.p21_express_lexemes.specs.FirstLexeme.{found, ended, quoted, after, unquote, simple_of, encoded_of, lexeme_of, first_lexeme_within, first_lexeme_of}
 use Rattle.p21_express_lexemes.specs.declared.bytes.Class.{Class}
 use Rattle.p21_express_lexemes.specs.declared.bytes.Class.TheVariants.{Blank, Digit, IdentifierByte, Encoded}
 use Rattle.p21_express_lexemes.proofs.Classes.{blank_is, letter_is, digit_is, identifier_is, encoded_is, no_letter, no_digit, no_identifier, symbol_is, printing_no_blank, letter_prints, digit_no_letter}
@@ -21,23 +21,23 @@ use Rattle.p21_express_lexemes.proofs.Skips.{opens_remark, opens_line, passes_bl
 pub not_both : (first second b : ℕ) (rest : List ℕ) → b ≢ first → begins_both first second (b ∷ rest) ≡ false
 not_both first second b rest n = and_left (b == first) (begins second rest) (ne_eqb b first n)
 
-head_apart : (c : ℕ) (xs rest : List ℕ) → 0 < length xs → HeadIsNot c xs → begins c (xs ++ rest) ≡ false
+head_apart : (c : ℕ) (xs rest : List ℕ) → 0 < length xs → DoesNotBeginWith c xs → begins c (xs ++ rest) ≡ false
 head_apart c [] rest some h = absurd (omega arith)
 head_apart c (x ∷ xs) rest some h = ne_eqb x c h
 
-both_apart : (first second b : ℕ) (xs rest : List ℕ) → 0 < length xs → (b ≡ first → HeadIsNot second xs) → begins_both first second (b ∷ (xs ++ rest)) ≡ false
+both_apart : (first second b : ℕ) (xs rest : List ℕ) → 0 < length xs → (b ≡ first → DoesNotBeginWith second xs) → begins_both first second (b ∷ (xs ++ rest)) ≡ false
 both_apart first second b xs rest some h = elim (cases_eq b first) [
   | inl e ↦ and_right (b == first) (begins second (xs ++ rest)) (head_apart second xs rest some (h e))
   | inr n ↦ not_both first second b (xs ++ rest) n
 ]
 
-goes_on : (inner : ℕ) (marks : List Mark) → ClosesLast inner marks → 0 < length (flat_map mark_bytes marks)
+goes_on : (inner : ℕ) (marks : List Mark) → ClosesAtLastMark inner marks → 0 < length (flat_map mark_bytes marks)
 goes_on inner [] c = absurd c
 goes_on inner (opening_mark ∷ marks) c = omega arith
 goes_on inner (closing_mark ∷ marks) c = omega arith
 goes_on inner (remark_byte b ∷ marks) c = omega arith
 
-marks_run : (inner : ℕ) (marks : List Mark) (rest : List ℕ) → AreMarks marks → ClosesLast inner marks → skip (remark inner) (flat_map mark_bytes marks ++ rest) ≡ skip between rest
+marks_run : (inner : ℕ) (marks : List Mark) (rest : List ℕ) → AreMarks marks → ClosesAtLastMark inner marks → skip (remark inner) (flat_map mark_bytes marks ++ rest) ≡ skip between rest
 unfolding skip
 marks_run inner [] rest a c = absurd c
 marks_run inner (opening_mark ∷ marks) rest a c = marks_run (suc inner) marks rest a c
@@ -102,8 +102,8 @@ unquote_run (x ∷ inside) rest h = elim (cases_Bool (x == 39)) [
   | inr n ↦ rw (n, n) (ap (after (x ∷ [])) (unquote_run inside rest h))
 ]
 
-begins_lexeme : (bytes : List ℕ) → begins_both 40 42 bytes ≡ false → begins_both 45 45 bytes ≡ false → begins_of Blank bytes ≡ false → front_of bytes ≡ lexeme_of bytes
-begins_lexeme bytes n m k = ap front_within (stops bytes n m k)
+begins_lexeme : (bytes : List ℕ) → begins_both 40 42 bytes ≡ false → begins_both 45 45 bytes ≡ false → begins_of Blank bytes ≡ false → first_lexeme_of bytes ≡ lexeme_of bytes
+begins_lexeme bytes n m k = ap first_lexeme_within (stops bytes n m k)
 
 identifier_ends : (name rest : List ℕ) → LexemeIsFollowed (identifier name) rest → begins_of IdentifierByte rest ≡ false
 identifier_ends name [] f = refl
@@ -147,7 +147,7 @@ symbol_no_line : (b : ℕ) (rest : List ℕ) → b ≡ 45 → LexemeIsFollowed (
 symbol_no_line b [] e f = refl
 symbol_no_line b (c ∷ rest) e f = ne_eqb c 45 (f.1 e)
 
-lexeme_run : (lexeme : Lexeme) (spelling rest : List ℕ) → SpellsLexeme lexeme spelling → LexemeIsFollowed lexeme rest → front_of (spelling ++ rest) ≡ found lexeme rest
+lexeme_run : (lexeme : Lexeme) (spelling rest : List ℕ) → SpellsLexeme lexeme spelling → LexemeIsFollowed lexeme rest → first_lexeme_of (spelling ++ rest) ≡ found lexeme rest
 lexeme_run (identifier name) [] rest s f = absurd s.0
 lexeme_run (identifier name) (b ∷ bytes) rest s f =
     let p = letter_prints b s.0.0 in
@@ -167,7 +167,7 @@ lexeme_run (digits ds) (b ∷ bytes) rest s f =
 lexeme_run (simple_string inside) spelling rest s f =
     let tail = flat_map quote_twice inside in
     let same : (tail ++ 39 ∷ []) ++ rest ≡ tail ++ 39 ∷ rest = append_assoc tail (39 ∷ []) rest in
-    ap (λ (x : List ℕ). front_of (x ++ rest)) s
+    ap (λ (x : List ℕ). first_lexeme_of (x ++ rest)) s
     ∙ (begins_lexeme (39 ∷ ((tail ++ 39 ∷ []) ++ rest)) refl refl (printing_no_blank 39 (omega arith) (omega arith))
     ∙ (at_simple (39 ∷ ((tail ++ 39 ∷ []) ++ rest)) (no_letter 39 (λ h. not_letter_39 h)) (no_digit 39 (λ h. omega arith)) refl
     ∙ ap simple_of (ap (λ (x : List ℕ). unquote false x) same ∙ unquote_run inside rest (apostrophe_ends inside rest f))))
@@ -178,7 +178,7 @@ lexeme_run (simple_string inside) spelling rest s f =
 lexeme_run (encoded_string inside) spelling rest s f =
     let same : (inside ++ 34 ∷ []) ++ rest ≡ inside ++ 34 ∷ rest = append_assoc inside (34 ∷ []) rest in
     let span = span_run Encoded inside (34 ∷ rest) (encoded_bytes inside s.1) not_quote in
-    ap (λ (x : List ℕ). front_of (x ++ rest)) s.0
+    ap (λ (x : List ℕ). first_lexeme_of (x ++ rest)) s.0
     ∙ (begins_lexeme (34 ∷ ((inside ++ 34 ∷ []) ++ rest)) refl refl (printing_no_blank 34 (omega arith) (omega arith))
     ∙ (at_encoded (34 ∷ ((inside ++ 34 ∷ []) ++ rest)) (no_letter 34 (λ h. not_letter_34 h)) (no_digit 34 (λ h. omega arith)) refl refl
     ∙ (ap (λ (x : List ℕ). encoded_of (front Encoded x) (behind Encoded x)) same
@@ -188,7 +188,7 @@ lexeme_run (encoded_string inside) spelling rest s f =
     not_letter_34 (inl h) = omega arith
     not_letter_34 (inr h) = omega arith
 lexeme_run (symbol b) spelling rest (is, low, high, n, m, k, l) f =
-    ap (λ (x : List ℕ). front_of (x ++ rest)) is
+    ap (λ (x : List ℕ). first_lexeme_of (x ++ rest)) is
     ∙ (begins_lexeme (b ∷ rest) (symbol_apart 40 42 b rest (symbol_no_remark b rest) f) (symbol_apart 45 45 b rest (symbol_no_line b rest) f) (printing_no_blank b low high)
     ∙ at_symbol (b ∷ rest) (no_letter b n) (no_digit b m) (ne_eqb b 39 k) (ne_eqb b 34 l) (symbol_is b low high (no_letter b n) (no_digit b m) k l))
 
@@ -196,10 +196,10 @@ lexeme_run (symbol b) spelling rest (is, low, high, n, m, k, l) f =
 
 -- the front of a text in which lexemes are laid
 abbrev pub LaidNext : List Lexeme → List ℕ → Type 0
-LaidNext [] bytes = front_of bytes ≡ ended
-LaidNext (lexeme ∷ lexemes) bytes = (rest : List ℕ) × (front_of bytes ≡ found lexeme rest) × LaidLexemes lexemes rest
+LaidNext [] bytes = first_lexeme_of bytes ≡ ended
+LaidNext (lexeme ∷ lexemes) bytes = (rest : List ℕ) × (first_lexeme_of bytes ≡ found lexeme rest) × LaidLexemes lexemes rest
 
 pub laid_read : (lexemes : List Lexeme) (bytes : List ℕ) → LaidLexemes lexemes bytes → LaidNext lexemes bytes
-laid_read [] bytes l = ap front_within (last_run bytes l)
+laid_read [] bytes l = ap first_lexeme_within (last_run bytes l)
 laid_read (lexeme ∷ lexemes) bytes (gap, spelling, rest, is, g, s, f, more) =
-    (rest, ap front_of is ∙ (ap (λ (x : List ℕ). front_of x) (append_assoc gap spelling rest) ∙ (ap front_within (gap_run gap g (spelling ++ rest)) ∙ lexeme_run lexeme spelling rest s f)), more)
+    (rest, ap first_lexeme_of is ∙ (ap (λ (x : List ℕ). first_lexeme_of x) (append_assoc gap spelling rest) ∙ (ap first_lexeme_within (gap_run gap g (spelling ++ rest)) ∙ lexeme_run lexeme spelling rest s f)), more)

@@ -3,7 +3,7 @@ use Rattle.std.proofs.Common.{◌≡◌, ℕ, true, false, List, [], ◌∷◌, 
 use Rattle.std.proofs.lemmas.Bool.Decides.{nat_tests}
 use Rattle.p21_schemas.specs.Express.{identifier, digits, encoded_string, symbol, upper}
 use Rattle.p21_express_lexemes.specs.Bytes.{is_of, begins, begins_of, front, behind}
-use Rattle.p21_express_lexemes.specs.Reading.{found, ended, wrong, unquote, simple_of, encoded_of, lexeme_at, lexeme_of}
+use Rattle.p21_express_lexemes.specs.FirstLexeme.{found, ended, wrong, unquote, simple_of, encoded_of, lexeme_at, lexeme_of}
 use Rattle.p21_express_lexemes.specs.declared.bytes.Class.TheVariants.{Letter, Digit, IdentifierByte, Encoded, SymbolByte}
 
 letter_goes_on : (b : ℕ) → is_of Letter b ≡ true → is_of IdentifierByte b ≡ true

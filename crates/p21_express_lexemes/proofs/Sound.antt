@@ -6,10 +6,10 @@ use Rattle.std.proofs.lemmas.Bool.Decides.{nat_tests}
 use Rattle.p21_basics.specs.Digits.{AllDigits}
 use Rattle.p21_schemas.specs.Express.{Lexeme, identifier, digits, simple_string, encoded_string, symbol, IsIdentifierByte, SpellsLexeme, quote_twice, upper}
 use Rattle.p21_schemas.specs.ExpressLaying.{LexemeIsFollowed, LaidLexemes}
-use Rattle.p21_schemas.specs.Remark.{Mark, opening_mark, closing_mark, remark_byte, mark_bytes, HeadIsNot, AreMarks, ClosesLast, Separator, blank, embedded_remark, tail_remark, IsSeparator, separator_bytes, IsSeparatorText, IsLastSeparatorText}
+use Rattle.p21_schemas.specs.Remark.{Mark, opening_mark, closing_mark, remark_byte, mark_bytes, DoesNotBeginWith, AreMarks, ClosesAtLastMark, Separator, blank, embedded_remark, tail_remark, IsSeparator, separator_bytes, IsSeparatorText, IsLastSeparatorText}
 use Rattle.p21_express_lexemes.specs.Bytes.{is_of, begins, begins_of, begins_both, front, behind}
 use Rattle.p21_express_lexemes.specs.Skipping.{Gap, between, opened, closed, dash, line, remark, closing, skip}
-use Rattle.p21_express_lexemes.specs.Reading.{found, ended, wrong, Quoted, quoted, unquoted, after, unquote, simple_of, encoded_of, lexeme_at, lexeme_of, front_within, front_of}
+use Rattle.p21_express_lexemes.specs.FirstLexeme.{found, ended, wrong, Quoted, quoted, unquoted, after, unquote, simple_of, encoded_of, lexeme_at, lexeme_of, first_lexeme_within, first_lexeme_of}
 use Rattle.p21_express_lexemes.specs.declared.bytes.Class.{Class}
 use Rattle.p21_express_lexemes.specs.declared.bytes.Class.TheVariants.{Blank, Letter, Digit, IdentifierByte, Encoded, SymbolByte}
 use Rattle.p21_express_lexemes.proofs.Classes.{blank_only, letter_is, letter_only, digit_is, digit_only, identifier_is, identifier_only, encoded_only, symbol_only}
@@ -50,7 +50,7 @@ LineTo bytes rest = (l more : List ℕ) × (bytes ≡ l ++ more) × Each (λ byt
 
 -- within an embedded remark
 abbrev RemarkTo : ℕ → List ℕ → List ℕ → Type 0
-RemarkTo inner bytes rest = (marks : List Mark) × (more : List ℕ) × (bytes ≡ flat_map mark_bytes marks ++ more) × AreMarks marks × ClosesLast inner marks × SkipsTo more rest
+RemarkTo inner bytes rest = (marks : List Mark) × (more : List ℕ) × (bytes ≡ flat_map mark_bytes marks ++ more) × AreMarks marks × ClosesAtLastMark inner marks × SkipsTo more rest
 
 -- behind one byte
 abbrev Behind : (List ℕ → Type 0) → List ℕ → Type 0
@@ -94,11 +94,11 @@ second_is first second b c bytes tail h is =
     let e : c ≡ second = eqb-true c second q in
     cc
 
-head_is_not : (c : ℕ) (xs more : List ℕ) → begins c (xs ++ more) ≡ false → HeadIsNot c xs
+head_is_not : (c : ℕ) (xs more : List ℕ) → begins c (xs ++ more) ≡ false → DoesNotBeginWith c xs
 head_is_not c [] more h = tt
 head_is_not c (x ∷ xs) more h = λ e. eqb-false x c h e
 
-mark_apart : (first second b : ℕ) (xs more bytes : List ℕ) → bytes ≡ xs ++ more → (b == first && begins second bytes) ≡ false → b ≡ first → HeadIsNot second xs
+mark_apart : (first second b : ℕ) (xs more bytes : List ℕ) → bytes ≡ xs ++ more → (b == first && begins second bytes) ≡ false → b ≡ first → DoesNotBeginWith second xs
 mark_apart first second b xs more bytes is h e = elim (and_cases (b == first) (begins second bytes) h) [
   | inl n ↦ absurd (eqb-false b first n e)
   | inr n ↦ head_is_not second xs more (ap (begins second) (sym is) ∙ n)
@@ -302,11 +302,11 @@ lexeme_laid bytes (b ∷ left) lexeme rest lexemes t e l =
     let h = lexeme_begins b left lexeme rest t.no_remark t.no_line e in
     (t.gap, h.0, rest, t.is ∙ (ap (λ (x : List ℕ). t.gap ++ x) h.1 ∙ sym (append_assoc t.gap h.0 rest)), t.inner (omega arith), h.2, h.3, l)
 
-within_found : (bytes : List ℕ) (s : Option (List ℕ)) (lexeme : Lexeme) (rest : List ℕ) (lexemes : List Lexeme) → skip between bytes ≡ s → front_within s ≡ found lexeme rest → LaidLexemes lexemes rest → LaidLexemes (lexeme ∷ lexemes) bytes
+within_found : (bytes : List ℕ) (s : Option (List ℕ)) (lexeme : Lexeme) (rest : List ℕ) (lexemes : List Lexeme) → skip between bytes ≡ s → first_lexeme_within s ≡ found lexeme rest → LaidLexemes lexemes rest → LaidLexemes (lexeme ∷ lexemes) bytes
 within_found bytes None lexeme rest lexemes s e l = cc
 within_found bytes (Some left) lexeme rest lexemes s e l = lexeme_laid bytes left lexeme rest lexemes (skipped between bytes left s) e l
 
-pub read_laid : (bytes : List ℕ) (lexeme : Lexeme) (rest : List ℕ) (lexemes : List Lexeme) → front_of bytes ≡ found lexeme rest → LaidLexemes lexemes rest → LaidLexemes (lexeme ∷ lexemes) bytes
+pub read_laid : (bytes : List ℕ) (lexeme : Lexeme) (rest : List ℕ) (lexemes : List Lexeme) → first_lexeme_of bytes ≡ found lexeme rest → LaidLexemes lexemes rest → LaidLexemes (lexeme ∷ lexemes) bytes
 read_laid bytes lexeme rest lexemes e l = within_found bytes (skip between bytes) lexeme rest lexemes refl e l
 
 nothing_begins : (b : ℕ) (bytes : List ℕ) → lexeme_at b bytes ≡ ended → ⊥
@@ -337,9 +337,9 @@ end_laid : (bytes left : List ℕ) → SkipsTo bytes left → lexeme_of left ≡
 end_laid bytes [] t e = subst (λ (x : List ℕ). IsLastSeparatorText x) (sym (t.is ∙ append-nil t.gap)) t.last
 end_laid bytes (b ∷ left) t e = absurd (nothing_begins b left e)
 
-within_ended : (bytes : List ℕ) (s : Option (List ℕ)) → skip between bytes ≡ s → front_within s ≡ ended → LaidLexemes [] bytes
+within_ended : (bytes : List ℕ) (s : Option (List ℕ)) → skip between bytes ≡ s → first_lexeme_within s ≡ ended → LaidLexemes [] bytes
 within_ended bytes None s e = cc
 within_ended bytes (Some left) s e = end_laid bytes left (skipped between bytes left s) e
 
-pub ended_laid : (bytes : List ℕ) → front_of bytes ≡ ended → LaidLexemes [] bytes
+pub ended_laid : (bytes : List ℕ) → first_lexeme_of bytes ≡ ended → LaidLexemes [] bytes
 ended_laid bytes e = within_ended bytes (skip between bytes) refl e

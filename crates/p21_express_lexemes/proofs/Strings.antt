@@ -2,7 +2,7 @@
 use Rattle.std.proofs.Common.{◌≡◌, ℕ, true, false, List, [], ◌∷◌, ◌++◌, ◌==◌, length, take, drop, refl, ap, sym, ◌∙◌, append_assoc, append-nil, arith}
 use Rattle.std.proofs.lemmas.Bool.Decides.{nat_tests}
 use Rattle.p21_express_lexemes.specs.Bytes.{begins, begins_both}
-use Rattle.p21_express_lexemes.specs.Reading.{Quoted, quoted, unquoted, after, unquote}
+use Rattle.p21_express_lexemes.specs.FirstLexeme.{Quoted, quoted, unquoted, after, unquote}
 
 -- what is left of a string leads on as the bytes do
 pub record Leads (bytes rest : List ℕ) : Type 0 where

@@ -3,7 +3,7 @@ use Rattle.std.proofs.Common.{◌≡◌, ◌≢◌, ℕ, zero, suc, ◌+◌, ◌
 use Rattle.std.specs.Borrow.{Bor}
 use Rattle.std.proofs.Math.ListN.{drop_of_length-le}
 use Rattle.std.proofs.Math.Seq.{drop-cons}
-use Rattle.p21_express_lexemes.specs.Words.{is_among, seen_all}
+use Rattle.p21_express_lexemes.specs.Words.{is_among, all_bytes_seen}
 use Rattle.std.specs.Str.{bytes_eq}
 use Rattle.std.proofs.lemmas.Bool.{and_left, and_right, ne_eqb, eq-eqb}
 use Rattle.std.proofs.lemmas.Bool.Decides.{nat_tests}
@@ -28,8 +28,8 @@ differs_at (b ∷ bytes) [] k h l n = refl
 differs_at (b ∷ bytes) (x ∷ word) zero h l n = and_left (upper b == x) _ (ne_eqb (upper b) x n)
 differs_at (b ∷ bytes) (x ∷ word) (suc k) h l n = and_right (upper b == x) _ (differs_at bytes word k (omega arith) (omega arith) n)
 
-pub among_next : (words : List (Bor (List ℕ))) (i : ℕ) (d : Bor (List ℕ)) (name : List ℕ) → i < length words → is_among (seen_all (drop i words)) name ≡ (bytes_eq name (get_or words i d).now || is_among (seen_all (drop (i + 1) words)) name)
-among_next words i d name lt = ap (λ (x : List (Bor (List ℕ))). is_among (seen_all x) name) (drop-cons words i d lt) ∙ ap (λ (k : ℕ). bytes_eq name (get_or words i d).now || is_among (seen_all (drop k words)) name) (sym (add-one i))
+pub among_next : (words : List (Bor (List ℕ))) (i : ℕ) (d : Bor (List ℕ)) (name : List ℕ) → i < length words → is_among (all_bytes_seen (drop i words)) name ≡ (bytes_eq name (get_or words i d).now || is_among (all_bytes_seen (drop (i + 1) words)) name)
+among_next words i d name lt = ap (λ (x : List (Bor (List ℕ))). is_among (all_bytes_seen x) name) (drop-cons words i d lt) ∙ ap (λ (k : ℕ). bytes_eq name (get_or words i d).now || is_among (all_bytes_seen (drop k words)) name) (sym (add-one i))
 
-pub among_end : (words : List (Bor (List ℕ))) (i : ℕ) (name : List ℕ) → length words ≤ i → is_among (seen_all (drop i words)) name ≡ false
-among_end words i name past = ap (λ (x : List (Bor (List ℕ))). is_among (seen_all x) name) (drop_of_length-le words past)
+pub among_end : (words : List (Bor (List ℕ))) (i : ℕ) (name : List ℕ) → length words ≤ i → is_among (all_bytes_seen (drop i words)) name ≡ false
+among_end words i name past = ap (λ (x : List (Bor (List ℕ))). is_among (all_bytes_seen x) name) (drop_of_length-le words past)

@@ -1,6 +1,6 @@
 pub mod Bytes
 pub mod Skipping
-pub mod Reading
+pub mod FirstLexeme
 pub mod Meaning
 pub mod Laid
 pub mod Lexemes

@@ -1,11 +1,11 @@
 -- What a lexeme of the reader stands for.
 use Rattle.std.specs.Prelude.{◌≡◌, ℕ, List, map}
 use Rattle.p21_schemas.specs.Express.{Lexeme as ExpressLexeme, identifier, digits, simple_string, encoded_string, symbol, upper}
-use Rattle.p21_express_lexemes.specs.Reading.{Front as PureFront, found, ended, wrong}
+use Rattle.p21_express_lexemes.specs.FirstLexeme.{FirstLexeme as PureFirstLexeme, found, ended, wrong}
 use Rattle.p21_express_lexemes.specs.declared.lexeme.Lexeme.{Lexeme}
 use Rattle.p21_express_lexemes.specs.declared.lexeme.Lexeme.TheVariants.{Identifier, Digits, SimpleString, EncodedString, Symbol}
-use Rattle.p21_express_lexemes.specs.declared.lexeme.Front.{Front}
-use Rattle.p21_express_lexemes.specs.declared.lexeme.Front.TheVariants.{Found, Ended, Wrong}
+use Rattle.p21_express_lexemes.specs.declared.lexeme.FirstLexeme.{FirstLexeme}
+use Rattle.p21_express_lexemes.specs.declared.lexeme.FirstLexeme.TheVariants.{Found, Ended, Wrong}
 
 -- what stands in a string isn't kept
 abbrev pub Means : Lexeme → ExpressLexeme → Type 0
@@ -16,7 +16,7 @@ Means EncodedString lexeme = (inside : List ℕ) × (lexeme ≡ encoded_string i
 Means (Symbol byte) lexeme = lexeme ≡ symbol byte
 
 -- an answer of the reader is this front
-abbrev pub IsFront : PureFront → Front → Type 0
-IsFront front (Found lexeme rest) = (meant : ExpressLexeme) × (front ≡ found meant rest.now) × Means lexeme meant
-IsFront front Ended = front ≡ ended
-IsFront front Wrong = front ≡ wrong
+abbrev pub IsFirstLexeme : PureFirstLexeme → FirstLexeme → Type 0
+IsFirstLexeme front (Found lexeme rest) = (meant : ExpressLexeme) × (front ≡ found meant rest.now) × Means lexeme meant
+IsFirstLexeme front Ended = front ≡ ended
+IsFirstLexeme front Wrong = front ≡ wrong

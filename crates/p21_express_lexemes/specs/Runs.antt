@@ -3,7 +3,7 @@ use Rattle.std.specs.Prelude.{◌≡◌, ℕ, zero, suc, Bool, true, false, List
 use Rattle.p21_schemas.specs.Express.{Lexeme}
 use Rattle.p21_schemas.specs.Run.{IsRun, is_word, is_symbol, none}
 use Rattle.p21_express_lexemes.specs.Meaning.{Means}
-use Rattle.p21_express_lexemes.specs.Taking.{Items, put, Refused}
+use Rattle.p21_express_lexemes.specs.Taking.{Items, put, RefusalShows}
 use Rattle.p21_express_lexemes.specs.declared.fault.SyntaxFault.{SyntaxFault}
 use Rattle.p21_express_lexemes.specs.declared.lexeme.Lexeme.{Lexeme as CodeLexeme}
 use Rattle.p21_express_lexemes.specs.declared.runs.Mark.{Mark}
@@ -26,9 +26,9 @@ first_is test (None ∷ more) = false
 first_is test (Some lexeme ∷ more) = test lexeme
 
 -- whether the first lexeme was taken
-abbrev pub Advanced : Bool → Items → Items → Type 0
-Advanced true old new = (lexeme : Lexeme) × (old ≡ Some lexeme ∷ new)
-Advanced false old new = (new ≡ old) × ((lexeme : Lexeme) (more : Items) → old ≡ Some lexeme ∷ more → ⊥)
+abbrev pub HasAdvanced : Bool → Items → Items → Type 0
+HasAdvanced true old new = (lexeme : Lexeme) × (old ≡ Some lexeme ∷ new)
+HasAdvanced false old new = (new ≡ old) × ((lexeme : Lexeme) (more : Items) → old ≡ Some lexeme ∷ more → ⊥)
 
 abbrev pub with_first : List Lexeme → Option (List Lexeme × Items) → Option (List Lexeme × Items)
 with_first lexemes None = None
@@ -65,12 +65,12 @@ behind_run opens closes items = left_of (run_of opens closes 1 items)
 -- a run and what closes it was read, and no other can be; a refusal, where none stands first
 abbrev pub ReadsRun : Result (Unit {0}) SyntaxFault → (Lexeme → Bool) → (Lexeme → Bool) → Items → Items → Type 0
 ReadsRun (Ok u) opens closes old new = HasRun opens closes old new × ((other : Items) → HasRun opens closes old other → other ≡ new)
-ReadsRun (Err fault) opens closes old new = Refused fault ((other : Items) → HasRun opens closes old other → ⊥)
+ReadsRun (Err fault) opens closes old new = RefusalShows fault ((other : Items) → HasRun opens closes old other → ⊥)
 
 -- whether the first lexeme passes, and is taken
-abbrev pub Took : Bool → (Lexeme → Bool) → Items → Items → Type 0
-Took true test old new = (lexeme : Lexeme) × (old ≡ Some lexeme ∷ new) × (test lexeme ≡ true)
-Took false test old new = (new ≡ old) × (first_is test old ≡ false)
+abbrev pub WasTaken : Bool → (Lexeme → Bool) → Items → Items → Type 0
+WasTaken true test old new = (lexeme : Lexeme) × (old ≡ Some lexeme ∷ new) × (test lexeme ≡ true)
+WasTaken false test old new = (new ≡ old) × (first_is test old ≡ false)
 
 -- what a lexeme of the reader is tested for
 abbrev pub IsMarked : Bool → CodeLexeme → (Lexeme → Bool) → Type 0

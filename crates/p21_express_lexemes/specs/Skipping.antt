@@ -35,11 +35,11 @@ at_end between = Some []
 at_end line = Some []
 at_end other = None
 
-abbrev pub stepped : Option Gap → List ℕ → (Gap → Option (List ℕ)) → Option (List ℕ)
-stepped None bytes go = Some bytes
-stepped (Some gap) bytes go = go gap
+abbrev pub skip_from : Option Gap → List ℕ → (Gap → Option (List ℕ)) → Option (List ℕ)
+skip_from None bytes go = Some bytes
+skip_from (Some gap) bytes go = go gap
 
 -- what is left, unless a remark stays open
 unfoldable pub skip : Gap → List ℕ → Option (List ℕ)
 skip gap [] = at_end gap
-skip gap (byte ∷ bytes) = stepped (step gap byte bytes) (byte ∷ bytes) (λ next. skip next bytes)
+skip gap (byte ∷ bytes) = skip_from (step gap byte bytes) (byte ∷ bytes) (λ next. skip next bytes)

@@ -66,43 +66,43 @@ take_name (None ∷ rest) = None
 take_name (Some lexeme ∷ rest) = name_or lexeme rest
 
 -- an answer whether it was taken
-abbrev pub Took : Bool → Option Items → Items → Items → Type 0
-Took true taken old new = taken ≡ Some new
-Took false taken old new = (taken ≡ None) × (new ≡ old)
+abbrev pub WasTaken : Bool → Option Items → Items → Items → Type 0
+WasTaken true taken old new = taken ≡ Some new
+WasTaken false taken old new = (taken ≡ None) × (new ≡ old)
 
 -- what was found first, with what is left
-abbrev pub beside : {A : Type 0} → Option A → Items → Option (A × Items)
-beside None rest = None
-beside (Some x) rest = Some (x, rest)
+abbrev pub with_rest : {A : Type 0} → Option A → Items → Option (A × Items)
+with_rest None rest = None
+with_rest (Some x) rest = Some (x, rest)
 
 -- what was taken, and what is left
-abbrev pub TookOne : {A : Type 0} → Option A → Option (A × Items) → Items → Items → Type 0
-TookOne (Some x) taken old new = taken ≡ Some (x, new)
-TookOne None taken old new = (taken ≡ None) × (new ≡ old)
+abbrev pub OneWasTaken : {A : Type 0} → Option A → Option (A × Items) → Items → Items → Type 0
+OneWasTaken (Some x) taken old new = taken ≡ Some (x, new)
+OneWasTaken None taken old new = (taken ≡ None) × (new ≡ old)
 
 -- bytes that the code refers to
-abbrev pub seen : Option (Bor (List ℕ)) → Option (List ℕ)
-seen None = None
-seen (Some bytes) = Some bytes.now
+abbrev pub bytes_seen : Option (Bor (List ℕ)) → Option (List ℕ)
+bytes_seen None = None
+bytes_seen (Some bytes) = Some bytes.now
 
 -- in upper case
-abbrev pub seen_upper : Option (Bor (List ℕ)) → Option (List ℕ)
-seen_upper None = None
-seen_upper (Some bytes) = Some (map upper bytes.now)
+abbrev pub upper_bytes_seen : Option (Bor (List ℕ)) → Option (List ℕ)
+upper_bytes_seen None = None
+upper_bytes_seen (Some bytes) = Some (map upper bytes.now)
 
 -- a refusal for want of memory owes nothing, any other that nothing is read
-abbrev pub Refused : SyntaxFault → Type 0 → Type 0
-Refused fault claim = fault ≢ NoMemory → claim
+abbrev pub RefusalShows : SyntaxFault → Type 0 → Type 0
+RefusalShows fault claim = fault ≢ NoMemory → claim
 
 -- what was read by this function, if anything was, and what is left
 abbrev pub ReadBy : {A B : Type 0} → (A → B) → Result A SyntaxFault → Option (B × Items) → Items → Type 0
 ReadBy meant (Ok x) read new = read ≡ Some (meant x, new)
-ReadBy meant (Err fault) read new = Refused fault (read ≡ None)
+ReadBy meant (Err fault) read new = RefusalShows fault (read ≡ None)
 
 -- what was taken, if it stood first
-abbrev pub Expected : Result (Unit {0}) SyntaxFault → Option Items → Items → Type 0
-Expected (Ok u) taken new = taken ≡ Some new
-Expected (Err fault) taken new = Refused fault (taken ≡ None)
+abbrev pub TakesExpected : Result (Unit {0}) SyntaxFault → Option Items → Items → Type 0
+TakesExpected (Ok u) taken new = taken ≡ Some new
+TakesExpected (Err fault) taken new = RefusalShows fault (taken ≡ None)
 
 -- in upper case
 abbrev pub upper_of : Bor (List ℕ) → List ℕ

@@ -2,7 +2,7 @@
 use Rattle.std.specs.Prelude.{◌≡◌, Bool, Option, Some, None, if◌then◌else◌}
 use Rattle.p21_schemas.specs.Express.{Lexeme as ExpressLexeme}
 use Rattle.p21_express_lexemes.specs.Meaning.{Means}
-use Rattle.p21_express_lexemes.specs.Taking.{Items, beside}
+use Rattle.p21_express_lexemes.specs.Taking.{Items, with_rest}
 use Rattle.p21_express_lexemes.specs.declared.fault.SyntaxFault.{SyntaxFault}
 use Rattle.p21_express_lexemes.specs.declared.lexeme.Lexeme.{Lexeme}
 
@@ -12,7 +12,7 @@ IsTest answer lexeme taken = (meant : ExpressLexeme) → Means lexeme meant → 
 
 -- what the lexeme has, if it is of the kind that is taken
 abbrev pub IsContent : {A : Type 0} → Option A → Lexeme → (ExpressLexeme → Items → Option (A × Items)) → Type 0
-IsContent content lexeme taken = (meant : ExpressLexeme) → Means lexeme meant → (rest : Items) → taken meant rest ≡ beside content rest
+IsContent content lexeme taken = (meant : ExpressLexeme) → Means lexeme meant → (rest : Items) → taken meant rest ≡ with_rest content rest
 
 -- the refusal that the lexeme shows
 abbrev pub IsShown : SyntaxFault → Lexeme → (ExpressLexeme → SyntaxFault) → Type 0

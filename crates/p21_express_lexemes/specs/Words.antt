@@ -13,6 +13,6 @@ unfoldable pub is_reserved : List ℕ → Bool
 is_reserved name = is_among reserved_words name
 
 -- the bytes that a list of slices refers to
-abbrev pub seen_all : List (Bor (List ℕ)) → List (List ℕ)
-seen_all [] = []
-seen_all (bytes ∷ more) = bytes.now ∷ seen_all more
+abbrev pub all_bytes_seen : List (Bor (List ℕ)) → List (List ℕ)
+all_bytes_seen [] = []
+all_bytes_seen (bytes ∷ more) = bytes.now ∷ all_bytes_seen more

@@ -1,9 +1,9 @@
 ghost use Rattle.std.specs.Prelude.{◌≡◌, ℕ, List, MatchOption};
 ghost use Rattle.p21_schemas.specs.Express.{Lexeme as ExpressLexeme};
 ghost use Rattle.p21_schemas.specs.ExpressLaying.{LaidLexemes};
-ghost use Rattle.p21_express_lexemes.specs.Laid.{ReadsFront};
-ghost use Rattle.p21_express_lexemes.specs.Meaning.{IsFront};
-ghost use Rattle.p21_express_lexemes.specs.Reading.{front_of, lexeme_of, unquote, quoted, unquoted};
+ghost use Rattle.p21_express_lexemes.specs.Laid.{ReadsFirstLexeme};
+ghost use Rattle.p21_express_lexemes.specs.Meaning.{IsFirstLexeme};
+ghost use Rattle.p21_express_lexemes.specs.FirstLexeme.{first_lexeme_of, lexeme_of, unquote, quoted, unquoted};
 
 use crate::bytes::{Class, begins, begins_both, begins_of, behind, split_of};
 use crate::skip::behind_separators;
@@ -21,7 +21,7 @@ pub enum Lexeme<'a> {
 
 /// What stands at the front of a text.
 #[derive(Clone, Copy)]
-pub enum Front<'a> {
+pub enum FirstLexeme<'a> {
     /// A lexeme, and what is left behind it.
     Found(Lexeme<'a>, &'a [u8]),
     /// Separators alone.
@@ -31,14 +31,14 @@ pub enum Front<'a> {
 }
 
 /// Reads the lexeme at the front of a text.
-#[tactic(auto, using(crate::proofs::Once::reads_front))]
-pub fn read_front(bytes: &[u8]) -> Front
-    ensures front { IsFront (front_of bytes.now) result }
-    ensures laid { ReadsFront bytes.now result }
+#[tactic(auto, using(crate::proofs::Once::reads_first_lexeme))]
+pub fn read_first_lexeme(bytes: &[u8]) -> FirstLexeme
+    ensures front { IsFirstLexeme (first_lexeme_of bytes.now) result }
+    ensures laid { ReadsFirstLexeme bytes.now result }
 {
     match behind_separators(bytes) {
         Some(rest) => lexeme_of(rest),
-        None => Front::Wrong,
+        None => FirstLexeme::Wrong,
     }
 }
 
@@ -50,19 +50,19 @@ pub fn one_laying()
 
 /// The lexeme that begins with the first byte.
 #[tactic(auto, using(crate::proofs::Lexing::at_end, crate::proofs::Lexing::at_identifier, crate::proofs::Lexing::at_digits, crate::proofs::Lexing::at_simple, crate::proofs::Lexing::at_encoded, crate::proofs::Lexing::at_symbol, crate::proofs::Lexing::at_nothing))]
-fn lexeme_of(bytes: &[u8]) -> Front
-    ensures { IsFront (lexeme_of bytes.now) result }
+fn lexeme_of(bytes: &[u8]) -> FirstLexeme
+    ensures { IsFirstLexeme (lexeme_of bytes.now) result }
 {
     if bytes.is_empty() {
-        return Front::Ended;
+        return FirstLexeme::Ended;
     }
     if begins_of(Class::Letter, bytes) {
         let (name, rest) = split_of(Class::IdentifierByte, bytes);
-        return Front::Found(Lexeme::Identifier(name), rest);
+        return FirstLexeme::Found(Lexeme::Identifier(name), rest);
     }
     if begins_of(Class::Digit, bytes) {
         let (digits, rest) = split_of(Class::Digit, bytes);
-        return Front::Found(Lexeme::Digits(digits), rest);
+        return FirstLexeme::Found(Lexeme::Digits(digits), rest);
     }
     if begins(b'\'', bytes) {
         return simple_string(behind(1, bytes));
@@ -71,35 +71,35 @@ fn lexeme_of(bytes: &[u8]) -> Front
         return encoded_string(behind(1, bytes));
     }
     if begins_of(Class::SymbolByte, bytes) {
-        return Front::Found(Lexeme::Symbol(bytes[0]), behind(1, bytes));
+        return FirstLexeme::Found(Lexeme::Symbol(bytes[0]), behind(1, bytes));
     }
-    Front::Wrong
+    FirstLexeme::Wrong
 }
 
-ghost use Rattle.p21_express_lexemes.specs.Reading.{simple_of, encoded_of};
+ghost use Rattle.p21_express_lexemes.specs.FirstLexeme.{simple_of, encoded_of};
 ghost use Rattle.p21_express_lexemes.specs.Bytes.{front as front_bytes, behind as behind_bytes};
 ghost use Rattle.p21_express_lexemes.specs.declared.bytes.Class.TheVariants.{Encoded};
 ghost use Rattle.std.specs.Prelude.{false};
 
 /// A simple string, behind its first mark.
-fn simple_string(bytes: &[u8]) -> Front
-    ensures { IsFront (simple_of (unquote false bytes.now)) result }
+fn simple_string(bytes: &[u8]) -> FirstLexeme
+    ensures { IsFirstLexeme (simple_of (unquote false bytes.now)) result }
 {
     match behind_simple(bytes) {
-        Some(rest) => Front::Found(Lexeme::SimpleString, rest),
-        None => Front::Wrong,
+        Some(rest) => FirstLexeme::Found(Lexeme::SimpleString, rest),
+        None => FirstLexeme::Wrong,
     }
 }
 
 /// An encoded string, behind its first mark.
-fn encoded_string(bytes: &[u8]) -> Front
-    ensures { IsFront (encoded_of (front_bytes Encoded bytes.now) (behind_bytes Encoded bytes.now)) result }
+fn encoded_string(bytes: &[u8]) -> FirstLexeme
+    ensures { IsFirstLexeme (encoded_of (front_bytes Encoded bytes.now) (behind_bytes Encoded bytes.now)) result }
 {
     let (_inside, rest) = split_of(Class::Encoded, bytes);
     if rest.is_empty() {
-        return Front::Wrong;
+        return FirstLexeme::Wrong;
     }
-    Front::Found(Lexeme::EncodedString, behind(1, rest))
+    FirstLexeme::Found(Lexeme::EncodedString, behind(1, rest))
 }
 
 /// What stands behind a simple string, within it.

@@ -5,8 +5,8 @@ ghost use Rattle.p21_schemas.specs.Express.{Lexeme as ExpressLexeme, upper};
 ghost use Rattle.p21_schemas.specs.ExpressLaying.{LaidLexemes};
 ghost use Rattle.p21_express_lexemes.specs.Fault.{refusal_of, shown_by, left_out_words, is_operator};
 ghost use Rattle.p21_express_lexemes.specs.Lexemes.{lexemes_of};
-ghost use Rattle.p21_express_lexemes.specs.Runs.{Took as TookMarked, Advanced, IsMarked, marks};
-ghost use Rattle.p21_express_lexemes.specs.Taking.{put, Took, TookOne, Expected, ReadBy, take_symbol, take_word, take_simple_string, take_digits, take_name, symbol_or, word_or, simple_string_or, digits_or, name_or, seen, seen_upper, upper_of};
+ghost use Rattle.p21_express_lexemes.specs.Runs.{WasTaken as MarkedWasTaken, HasAdvanced, IsMarked, marks};
+ghost use Rattle.p21_express_lexemes.specs.Taking.{put, WasTaken, OneWasTaken, TakesExpected, ReadBy, take_symbol, take_word, take_simple_string, take_digits, take_name, symbol_or, word_or, simple_string_or, digits_or, name_or, bytes_seen, upper_bytes_seen, upper_of};
 ghost use Rattle.p21_express_lexemes.specs.Tests.{IsTest, IsContent, IsShown};
 ghost use Rattle.p21_express_lexemes.specs.Words.{is_among};
 ghost use Rattle.p21_express_lexemes.specs.declared.fault.SyntaxFault.TheVariants.{Syntax, LeftOut};
@@ -14,7 +14,7 @@ ghost use Rattle.p21_express_lexemes.specs.declared.lexeme.Lexeme.TheVariants.{I
 ghost use Rattle.p21_express_lexemes.specs.declared.fault.Wanted.TheVariants.{Grammar, Width, BehindDigits};
 
 use crate::fault::{SyntaxFault, Wanted};
-use crate::lexeme::{Front, Lexeme, read_front};
+use crate::lexeme::{FirstLexeme, Lexeme, read_first_lexeme};
 use crate::reserved::{is_left_out, is_reserved, is_same_word};
 use crate::runs::Mark;
 use std::marker::Model;
@@ -23,21 +23,21 @@ use std::marker::Model;
 #[derive(Drop)]
 pub struct Lexemes<'a> {
     left: &'a [u8],
-    front: Front<'a>,
+    front: FirstLexeme<'a>,
 }
 
 impl<'a> Model for Lexemes<'a> {
     ghost use Rattle.std.specs.Prelude.{List};
     ghost use Rattle.p21_express_lexemes.specs.Lexemes.{lexemes_of};
-    ghost use Rattle.p21_express_lexemes.specs.Meaning.{IsFront};
-    ghost use Rattle.p21_express_lexemes.specs.Reading.{front_of};
+    ghost use Rattle.p21_express_lexemes.specs.Meaning.{IsFirstLexeme};
+    ghost use Rattle.p21_express_lexemes.specs.FirstLexeme.{first_lexeme_of};
     ghost use Rattle.p21_express_lexemes.specs.Taking.{Items};
 
     ghost Value = { Items };
 
     ghost view = { λ a. lexemes_of a.left.now };
 
-    ghost invariant = { λ a. IsFront (front_of a.left.now) a.front };
+    ghost invariant = { λ a. IsFirstLexeme (first_lexeme_of a.left.now) a.front };
 }
 
 /// The lexemes of a text are those that are laid in it, where nothing in it is wrong.
@@ -53,7 +53,7 @@ impl<'a> Lexemes<'a> {
     {
         Lexemes {
             left: text,
-            front: read_front(text),
+            front: read_first_lexeme(text),
         }
     }
 
@@ -72,9 +72,9 @@ impl<'a> Lexemes<'a> {
         ensures { IsTrue result ↔ (self.now ≡ []) }
     {
         match self.front {
-            Front::Found(_lexeme, _rest) => false,
-            Front::Ended => true,
-            Front::Wrong => false,
+            FirstLexeme::Found(_lexeme, _rest) => false,
+            FirstLexeme::Ended => true,
+            FirstLexeme::Wrong => false,
         }
     }
 
@@ -88,130 +88,130 @@ impl<'a> Lexemes<'a> {
 
     /// Takes the first lexeme, if there is one.
     pub fn advance(&mut self) -> bool
-        ensures { Advanced result self.old self.new }
+        ensures { HasAdvanced result self.old self.new }
     {
         match self.front {
-            Front::Found(_lexeme, rest) => {
+            FirstLexeme::Found(_lexeme, rest) => {
                 self.left = rest;
-                self.front = read_front(rest);
+                self.front = read_first_lexeme(rest);
                 true
             }
-            Front::Ended => false,
-            Front::Wrong => false,
+            FirstLexeme::Ended => false,
+            FirstLexeme::Wrong => false,
         }
     }
 
     /// Takes the first lexeme, if it is marked.
     pub fn take(&mut self, mark: Mark) -> bool
-        ensures { TookMarked result (marks mark.entry) self.old self.new }
+        ensures { MarkedWasTaken result (marks mark.entry) self.old self.new }
     {
         match self.front {
-            Front::Found(lexeme, rest) => {
+            FirstLexeme::Found(lexeme, rest) => {
                 if is_marked(lexeme, mark) {
                     self.left = rest;
-                    self.front = read_front(rest);
+                    self.front = read_first_lexeme(rest);
                     true
                 } else {
                     false
                 }
             }
-            Front::Ended => false,
-            Front::Wrong => false,
+            FirstLexeme::Ended => false,
+            FirstLexeme::Wrong => false,
         }
     }
 
     /// Takes this symbol, if it stands first.
     pub fn take_symbol(&mut self, byte: u8) -> bool
-        ensures { Took result (take_symbol byte self.old) self.old self.new }
+        ensures { WasTaken result (take_symbol byte self.old) self.old self.new }
     {
         match self.front {
-            Front::Found(lexeme, rest) => {
+            FirstLexeme::Found(lexeme, rest) => {
                 if is_symbol(lexeme, byte) {
                     self.left = rest;
-                    self.front = read_front(rest);
+                    self.front = read_first_lexeme(rest);
                     true
                 } else {
                     false
                 }
             }
-            Front::Ended => false,
-            Front::Wrong => false,
+            FirstLexeme::Ended => false,
+            FirstLexeme::Wrong => false,
         }
     }
 
     /// Takes this word, which is in upper case, if it stands first.
     pub fn take_word(&mut self, word: &[u8]) -> bool
-        ensures { Took result (take_word word.now self.old) self.old self.new }
+        ensures { WasTaken result (take_word word.now self.old) self.old self.new }
     {
         match self.front {
-            Front::Found(lexeme, rest) => {
+            FirstLexeme::Found(lexeme, rest) => {
                 if is_word(lexeme, word) {
                     self.left = rest;
-                    self.front = read_front(rest);
+                    self.front = read_first_lexeme(rest);
                     true
                 } else {
                     false
                 }
             }
-            Front::Ended => false,
-            Front::Wrong => false,
+            FirstLexeme::Ended => false,
+            FirstLexeme::Wrong => false,
         }
     }
 
     /// Takes a simple string, if one stands first.
     pub fn take_simple_string(&mut self) -> bool
-        ensures { Took result (take_simple_string self.old) self.old self.new }
+        ensures { WasTaken result (take_simple_string self.old) self.old self.new }
     {
         match self.front {
-            Front::Found(lexeme, rest) => {
+            FirstLexeme::Found(lexeme, rest) => {
                 if is_simple_string(lexeme) {
                     self.left = rest;
-                    self.front = read_front(rest);
+                    self.front = read_first_lexeme(rest);
                     true
                 } else {
                     false
                 }
             }
-            Front::Ended => false,
-            Front::Wrong => false,
+            FirstLexeme::Ended => false,
+            FirstLexeme::Wrong => false,
         }
     }
 
     /// Takes digits, if they stand first.
     pub fn take_digits(&mut self) -> Option<&'a [u8]>
-        ensures taken { TookOne (seen result) (take_digits self.old) self.old self.new }
+        ensures taken { OneWasTaken (bytes_seen result) (take_digits self.old) self.old self.new }
         ensures are_digits { IfSome result (λ digits. AllDigits digits.now) }
     {
         match self.front {
-            Front::Found(lexeme, rest) => match digits_of(lexeme) {
+            FirstLexeme::Found(lexeme, rest) => match digits_of(lexeme) {
                 Some(digits) => {
                     self.left = rest;
-                    self.front = read_front(rest);
+                    self.front = read_first_lexeme(rest);
                     Some(digits)
                 }
                 None => None,
             },
-            Front::Ended => None,
-            Front::Wrong => None,
+            FirstLexeme::Ended => None,
+            FirstLexeme::Wrong => None,
         }
     }
 
     /// Takes a name, if it stands first.
     pub fn take_name(&mut self) -> Option<&'a [u8]>
-        ensures taken { TookOne (seen_upper result) (take_name self.old) self.old self.new }
+        ensures taken { OneWasTaken (upper_bytes_seen result) (take_name self.old) self.old self.new }
         ensures keyword { IfSome result (λ name. IsKeyword (map upper name.now)) }
     {
         match self.front {
-            Front::Found(lexeme, rest) => match name_of(lexeme) {
+            FirstLexeme::Found(lexeme, rest) => match name_of(lexeme) {
                 Some(name) => {
                     self.left = rest;
-                    self.front = read_front(rest);
+                    self.front = read_first_lexeme(rest);
                     Some(name)
                 }
                 None => None,
             },
-            Front::Ended => None,
-            Front::Wrong => None,
+            FirstLexeme::Ended => None,
+            FirstLexeme::Wrong => None,
         }
     }
 
@@ -221,7 +221,7 @@ impl<'a> Lexemes<'a> {
     ///
     /// Where another lexeme stands first, or none.
     pub fn expect_symbol(&mut self, byte: u8) -> Result<(), SyntaxFault>
-        ensures { Expected result (take_symbol byte self.old) self.new }
+        ensures { TakesExpected result (take_symbol byte self.old) self.new }
     {
         if self.take_symbol(byte) {
             Ok(())
@@ -236,7 +236,7 @@ impl<'a> Lexemes<'a> {
     ///
     /// Where another lexeme stands first, or none.
     pub fn expect_word(&mut self, word: &[u8]) -> Result<(), SyntaxFault>
-        ensures { Expected result (take_word word.now self.old) self.new }
+        ensures { TakesExpected result (take_word word.now self.old) self.new }
     {
         if self.take_word(word) {
             Ok(())
@@ -265,9 +265,9 @@ impl<'a> Lexemes<'a> {
         ensures { result ≡ refusal_of wanted self.now }
     {
         match self.front {
-            Front::Found(lexeme, _rest) => shown_by(lexeme, wanted),
-            Front::Ended => SyntaxFault::Syntax,
-            Front::Wrong => SyntaxFault::Token,
+            FirstLexeme::Found(lexeme, _rest) => shown_by(lexeme, wanted),
+            FirstLexeme::Ended => SyntaxFault::Syntax,
+            FirstLexeme::Wrong => SyntaxFault::Token,
         }
     }
 }
@@ -313,7 +313,7 @@ fn is_word(lexeme: Lexeme, word: &[u8]) -> bool
 }
 
 fn digits_of(lexeme: Lexeme) -> Option<&[u8]>
-    ensures content { IsContent (seen result) lexeme.entry digits_or }
+    ensures content { IsContent (bytes_seen result) lexeme.entry digits_or }
     ensures is { IfSome result (λ digits. lexeme.entry ≡ Digits digits) }
 {
     match lexeme {
@@ -323,7 +323,7 @@ fn digits_of(lexeme: Lexeme) -> Option<&[u8]>
 }
 
 fn name_of(lexeme: Lexeme) -> Option<&[u8]>
-    ensures content { IsContent (seen_upper result) lexeme.entry name_or }
+    ensures content { IsContent (upper_bytes_seen result) lexeme.entry name_or }
     ensures is { IfSome result (λ name. lexeme.entry ≡ Identifier name) }
 {
     match lexeme {

@@ -11,7 +11,7 @@ mod runs;
 mod skip;
 
 pub use fault::{SyntaxFault, Wanted};
-pub use lexeme::{Front, Lexeme, one_laying, read_front};
+pub use lexeme::{FirstLexeme, Lexeme, one_laying, read_first_lexeme};
 pub use lexemes::{Lexemes, lexemes_are_laid};
 pub use reserved::upper;
 pub use runs::{Mark, read_over};

@@ -2,7 +2,7 @@ ghost use Rattle.std.specs.Prelude.{◌≡◌, map};
 ghost use Rattle.std.specs.Str.{bytes_eq};
 ghost use Rattle.p21_schemas.specs.Express.{upper};
 ghost use Rattle.p21_express_lexemes.specs.Fault.{left_out_words};
-ghost use Rattle.p21_express_lexemes.specs.Words.{is_among, is_reserved, seen_all};
+ghost use Rattle.p21_express_lexemes.specs.Words.{is_among, is_reserved, all_bytes_seen};
 
 /// The upper case of a letter; any other byte as it is.
 pub fn upper(byte: u8) -> u8
@@ -44,7 +44,7 @@ pub(crate) fn is_reserved(name: &[u8]) -> bool
 /// Whether it is one of the words, in any case.
 #[tactic(auto, using(crate::proofs::Words::among_next, crate::proofs::Words::among_end))]
 fn is_among(words: &[&[u8]], name: &[u8]) -> bool
-    ensures { result ≡ is_among (seen_all words.now) (map upper name.now) }
+    ensures { result ≡ is_among (all_bytes_seen words.now) (map upper name.now) }
 {
     for word in words {
         if is_same_word(name, *word) {

@@ -1,5 +1,5 @@
 ghost use Rattle.p21_express_lexemes.specs.Runs.{AreApart, marks, run_of, behind_run, RunRead, ReadsRun};
-ghost use Rattle.p21_express_lexemes.specs.Taking.{Expected};
+ghost use Rattle.p21_express_lexemes.specs.Taking.{TakesExpected};
 
 use crate::fault::{SyntaxFault, Wanted};
 use crate::lexemes::Lexemes;
@@ -21,7 +21,7 @@ pub enum Mark<'a> {
 #[tactic(auto, unfolding(crate::specs::Runs::behind_run))]
 pub fn read_over(lexemes: &mut Lexemes, opens: Mark, closes: Mark) -> Result<(), SyntaxFault>
     requires { AreApart (marks opens) (marks closes) }
-    ensures behind { Expected result (behind_run (marks opens.entry) (marks closes.entry) lexemes.old) lexemes.new }
+    ensures behind { TakesExpected result (behind_run (marks opens.entry) (marks closes.entry) lexemes.old) lexemes.new }
     ensures reads { ReadsRun result (marks opens.entry) (marks closes.entry) lexemes.old lexemes.new }
 {
     if run_over(lexemes, opens, closes) {

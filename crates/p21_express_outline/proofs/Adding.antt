@@ -8,21 +8,21 @@ use Rattle.std.proofs.lemmas.List.{map-append}
 use Rattle.std.proofs.lemmas.Option.{slice_get_within, slice_get-get_or}
 use Rattle.std.proofs.lemmas.Slice.Eq.{bytes_eq-Decides}
 use Rattle.p21_basics.proofs.Members.{Contains-first, Contains-later, Contains-at, Contains-found, Contains-mapped, Each-front, Each-append, Each-member, Each-of_members, Each-weaker, at-front, at-behind}
-use Rattle.p21_express_outline.specs.Finding.{AddsNames, Checked, Refused}
+use Rattle.p21_express_outline.specs.Finding.{AddsNames, DecidesClaim, RefusalShows}
 use Rattle.p21_express_outline.specs.declared.fault.SchemaFault.{SchemaFault}
 use Rattle.p21_express_outline.specs.Known.{AreOthers, KnowsNames, names_of}
-use Rattle.p21_express_outline.specs.declared.names.Known.{Known}
-use Rattle.p21_express_resolve.specs.Outline.{Named, kept_named, kept_own_names}
+use Rattle.p21_express_outline.specs.declared.names.KnownNames.{KnownNames}
+use Rattle.p21_express_outline.specs.Outline.{Named, digest_names, digest_own_names}
 use Rattle.p21_express_syntax.specs.Views.{attributes_view, defined_view, entity_view, schema_view}
 use Rattle.p21_express_syntax.specs.declared.schema.Declarations.{Declarations}
-use Rattle.p21_express_resolve.proofs.Zips.{map-twice}
+use Rattle.p21_express_outline.proofs.Zips.{map-twice}
 use Rattle.p21_express_syntax.specs.declared.attributes.ExplicitAttributes.{ExplicitAttributes}
 use Rattle.p21_express_syntax.specs.declared.defined_type.DefinedType.{DefinedType}
-use Rattle.p21_express_tables.proofs.Lookups.{take-snoc}
+use Rattle.p21_express_graph.proofs.Lookups.{take-snoc}
 use Rattle.p21_express_syntax.specs.declared.attributes.AttributeName.{AttributeName}
 use Rattle.p21_express_syntax.specs.declared.attributes.AttributeName.TheVariants.{Own, Redeclared}
-use Rattle.p21_express_resolve.proofs.Names.{distinct-at}
-use Rattle.p21_express_resolve.proofs.OneOutline.{own_names-append}
+use Rattle.p21_express_outline.proofs.NameLemmas.{distinct-at}
+use Rattle.p21_express_outline.proofs.OneOutline.{own_names-append}
 
 apart : (b : Bool) → (b ≡ true → ⊥) → b ≡ false
 apart true none = absurd (none refl)
@@ -75,18 +75,18 @@ pub adding-twice : (old now left all some rest : List (List ℕ)) → Adding old
 adding-twice old now left all some rest adding left_is none distinct =
     none (distinct-front (now ++ some) rest (subst (IsDistinct bytes_eq) (sym adding.joined ∙ ap (λ ns. now ++ ns) left_is ∙ sym (append_assoc now some rest)) distinct))
 
-pub checked : (words : List (List ℕ)) (result : Result (Unit {0}) SchemaFault) (new : List (List ℕ)) → AddsNames [] words result new → Checked (IsDistinct bytes_eq words) result
+pub checked : (words : List (List ℕ)) (result : Result (Unit {0}) SchemaFault) (new : List (List ℕ)) → AddsNames [] words result new → DecidesClaim (IsDistinct bytes_eq words) result
 unfolding IsDistinct
 checked words (Ok u) new adds = subst (IsDistinct bytes_eq) adds.0 (adds.1 tt)
 checked words (Err fault) new adds = adds
 
 -- a refusal at the first of what is left is one of all
 pub adding-refused : (old now left all some rest : List (List ℕ)) (fault : SchemaFault) (result : Result (Unit {0}) SchemaFault) (new : List (List ℕ)) → IsErr result → IsErrAnd result (λ found. found ≡ fault) → Adding old now left all → left ≡ some ++ rest
-    → Refused fault (IsDistinct bytes_eq (now ++ some) → ⊥) → AddsNames old all result new
+    → RefusalShows fault (IsDistinct bytes_eq (now ++ some) → ⊥) → AddsNames old all result new
 adding-refused old now left all some rest fault (Ok u) new is_err is adding left_is refused = cc
 adding-refused old now left all some rest fault (Err found) new is_err is adding left_is refused = λ other distinct. adding-twice old now left all some rest adding left_is (refused (λ h. other (is ∙ h))) distinct
 
-pub own-first : (x : AttributeName) (xs : List AttributeName) → kept_own_names (x ∷ xs) ≡ kept_own_names (x ∷ []) ++ kept_own_names xs
+pub own-first : (x : AttributeName) (xs : List AttributeName) → digest_own_names (x ∷ xs) ≡ digest_own_names (x ∷ []) ++ digest_own_names xs
 own-first (Own name) xs = refl
 own-first (Redeclared entity name) xs = refl
 
@@ -96,19 +96,19 @@ drop-at xs k x below is = drop-next xs k x below ∙ ap (λ y. y ∷ drop (k + 1
 -- ---- several lists of names
 
 abbrev pub explicit_names : List ExplicitAttributes → List (List ℕ)
-explicit_names explicit = kept_own_names (flat_map (λ d. d.names) (map attributes_view explicit))
+explicit_names explicit = digest_own_names (flat_map (λ d. d.names) (map attributes_view explicit))
 
-pub explicit-first : (xs : List ExplicitAttributes) (k : ℕ) (x : ExplicitAttributes) → k < length xs → x ≡ get_or xs k x → explicit_names (drop k xs) ≡ kept_own_names x.names.items ++ explicit_names (drop (k + 1) xs)
+pub explicit-first : (xs : List ExplicitAttributes) (k : ℕ) (x : ExplicitAttributes) → k < length xs → x ≡ get_or xs k x → explicit_names (drop k xs) ≡ digest_own_names x.names.items ++ explicit_names (drop (k + 1) xs)
 explicit-first xs k x below is = ap explicit_names (drop-at xs k x below is) ∙ own_names-append x.names.items (flat_map (λ d. d.names) (map attributes_view (drop (k + 1) xs)))
 
 -- names behind names from nothing
-pub checked-two : (first second : List (List ℕ)) (now : List (List ℕ)) (result : Result (Unit {0}) SchemaFault) (new : List (List ℕ)) → now ≡ [] ++ first → (IsDistinct bytes_eq [] → IsDistinct bytes_eq now) → AddsNames now second result new → Checked (IsDistinct bytes_eq (first ++ second)) result
+pub checked-two : (first second : List (List ℕ)) (now : List (List ℕ)) (result : Result (Unit {0}) SchemaFault) (new : List (List ℕ)) → now ≡ [] ++ first → (IsDistinct bytes_eq [] → IsDistinct bytes_eq now) → AddsNames now second result new → DecidesClaim (IsDistinct bytes_eq (first ++ second)) result
 unfolding IsDistinct
 checked-two first second now (Ok u) new is distinct adds = subst (IsDistinct bytes_eq) (adds.0 ∙ ap (λ ns. ns ++ second) is) (adds.1 (distinct tt))
 checked-two first second now (Err fault) new is distinct adds = λ other h. adds other (subst (IsDistinct bytes_eq) (ap (λ ns. ns ++ second) (sym is)) h)
 
 -- a refusal handed on by `?`
-pub checked-refused : (claim less : Type 0) (fault : SchemaFault) (result : Result (Unit {0}) SchemaFault) → IsErr result → IsErrAnd result (λ found. found ≡ fault) → (claim → less) → Refused fault (less → ⊥) → Checked claim result
+pub checked-refused : (claim less : Type 0) (fault : SchemaFault) (result : Result (Unit {0}) SchemaFault) → IsErr result → IsErrAnd result (λ found. found ≡ fault) → (claim → less) → RefusalShows fault (less → ⊥) → DecidesClaim claim result
 checked-refused claim less fault (Ok u) is_err is so refused = cc
 checked-refused claim less fault (Err found) is_err is so refused = λ other h. refused (λ e. other (is ∙ e)) (so h)
 
@@ -145,7 +145,7 @@ distinct-others xs ys distinct = Each-of_members (λ n. Contains xs n → ⊥) y
     let same = distinct-at (xs ++ ys) distinct i (length xs + j) y (at-front xs ys i y at) (at-behind xs ys j y at_) in
     omega (arith, below, same))
 
-pub knows-refused : (n : Named) (less : Type 0) (fault : SchemaFault) (result : Result Known SchemaFault) → IsErr result → IsErrAnd result (λ found. found ≡ fault) → (IsDistinct bytes_eq (n.entities ++ n.types) → less) → Refused fault (less → ⊥) → KnowsNames n result
+pub knows-refused : (n : Named) (less : Type 0) (fault : SchemaFault) (result : Result KnownNames SchemaFault) → IsErr result → IsErrAnd result (λ found. found ≡ fault) → (IsDistinct bytes_eq (n.entities ++ n.types) → less) → RefusalShows fault (less → ⊥) → KnowsNames n result
 knows-refused n less fault (Ok u) is_err is so refused = cc
 knows-refused n less fault (Err found) is_err is so refused = λ other h. refused (λ e. other (is ∙ e)) (so h)
 
@@ -158,10 +158,10 @@ abbrev pub type_names : Declarations → List (List ℕ)
 type_names d = map (λ x. x.name) d.types.items
 
 abbrev AreApartIn : Declarations → Type 0
-AreApartIn d = IsDistinct bytes_eq ((kept_named (schema_view d)).entities ++ (kept_named (schema_view d)).types)
+AreApartIn d = IsDistinct bytes_eq ((digest_names (schema_view d)).entities ++ (digest_names (schema_view d)).types)
 
-names-are : (d : Declarations) → (kept_named (schema_view d)).entities ++ (kept_named (schema_view d)).types ≡ entity_names d ++ type_names d
-names-are d = ap (λ ns. ns ++ (kept_named (schema_view d)).types) (map-twice entity_view (λ x. x.name) d.entities.items) ∙ ap (λ ns. entity_names d ++ ns) (map-twice defined_view (λ x. x.name) d.types.items)
+names-are : (d : Declarations) → (digest_names (schema_view d)).entities ++ (digest_names (schema_view d)).types ≡ entity_names d ++ type_names d
+names-are d = ap (λ ns. ns ++ (digest_names (schema_view d)).types) (map-twice entity_view (λ x. x.name) d.entities.items) ∙ ap (λ ns. entity_names d ++ ns) (map-twice defined_view (λ x. x.name) d.types.items)
 
 pub entities-apart : (d : Declarations) → AreApartIn d → IsDistinct bytes_eq ([] ++ entity_names d)
 entities-apart d distinct = distinct-front (entity_names d) (type_names d) (subst (IsDistinct bytes_eq) (names-are d) distinct)
@@ -175,11 +175,11 @@ others-apart d names is distinct =
     subst P (sym is) (distinct-others (entity_names d) (type_names d) (subst (IsDistinct bytes_eq) (names-are d) distinct))
 
 pub known-found : (d : Declarations) (entities types : List (List ℕ)) → entities ≡ [] ++ entity_names d → (IsDistinct bytes_eq [] → IsDistinct bytes_eq entities) → types ≡ [] ++ type_names d → (IsDistinct bytes_eq [] → IsDistinct bytes_eq types) → AreOthers entities (type_names d)
-    → (names_of (record { entities = entities; types = types }) ≡ kept_named (schema_view d)) × AreApartIn d
+    → (names_of (record { entities = entities; types = types }) ≡ digest_names (schema_view d)) × AreApartIn d
 unfolding IsDistinct
 known-found d entities types entities_are distinct types_are distinct_ others =
     let f : List (List ℕ) → Named = λ ns. record { entities = ns; types = types } in
-    let g : List (List ℕ) → Named = λ ns. record { entities = (kept_named (schema_view d)).entities; types = ns } in
+    let g : List (List ℕ) → Named = λ ns. record { entities = (digest_names (schema_view d)).entities; types = ns } in
     let P : List (List ℕ) → Type 0 = λ ns. AreOthers ns (type_names d) in (
       ap f (entities_are ∙ sym (map-twice entity_view (λ x. x.name) d.entities.items)) ∙ ap g (types_are ∙ sym (map-twice defined_view (λ x. x.name) d.types.items)),
       subst (IsDistinct bytes_eq) (sym (names-are d)) (distinct-joined (entity_names d) (type_names d) (subst (IsDistinct bytes_eq) entities_are (distinct tt)) (subst (IsDistinct bytes_eq) types_are (distinct_ tt)) (subst P entities_are others)),

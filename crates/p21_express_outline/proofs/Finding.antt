@@ -4,19 +4,19 @@ use Rattle.std.specs.List.{AllZip}
 use Rattle.std.specs.Result.{IsErr, IsErrAnd}
 use Rattle.std.proofs.Common.{arith, ap, sym, ◌∙◌, subst, get_or, append_assoc}
 use Rattle.std.proofs.lemmas.List.{append-nil, map-append, take-append-drop}
-use Rattle.p21_express_outline.specs.Finding.{Refused, Finds, FindsEach, AddsEach}
+use Rattle.p21_express_outline.specs.Finding.{RefusalShows, Finds, FindsEach, AddsEach}
 use Rattle.p21_express_outline.specs.declared.fault.SchemaFault.{SchemaFault}
-use Rattle.p21_express_resolve.proofs.Zips.{AllZip-mapped, AllZip-unmapped}
+use Rattle.p21_express_outline.proofs.Zips.{AllZip-mapped, AllZip-unmapped}
 use Rattle.p21_express_outline.proofs.Adding.{drop-at}
-use Rattle.p21_express_resolve.specs.Outline.{kept_one_of, kept_own, kept_own_names, one_of_list}
-use Rattle.p21_express_tables.proofs.Lookups.{take-snoc}
+use Rattle.p21_express_outline.specs.Outline.{digest_one_of_lists, digest_own_explicit, digest_own_names, one_of_list}
+use Rattle.p21_express_graph.proofs.Lookups.{take-snoc}
 use Rattle.p21_express_outline.specs.Attributes.{own_of}
-use Rattle.p21_express_syntax.specs.Kept.{KeptType, KeptAttributes}
+use Rattle.p21_express_syntax.specs.Digest.{TypeDigest, AttributesDigest}
 use Rattle.p21_express_syntax.specs.Views.{attributes_view, entity_view, some_list}
 use Rattle.p21_express_syntax.specs.declared.entity.Entity.{Entity}
 use Rattle.p21_express_syntax.specs.declared.attributes.AttributeName.{AttributeName}
 use Rattle.p21_express_syntax.specs.declared.attributes.ExplicitAttributes.{ExplicitAttributes}
-use Rattle.p21_express_resolve.proofs.OneOutline.{own_names-append}
+use Rattle.p21_express_outline.proofs.OneOutline.{own_names-append}
 
 pub AllZip-append : {X Y : Type 0} (R : X → Y → Type 0) (xs zs : List X) (ys ws : List Y) → AllZip R xs ys → AllZip R zs ws → AllZip R (xs ++ zs) (ys ++ ws)
 AllZip-append R [] zs [] ws all all_ = all_
@@ -48,12 +48,12 @@ zip-none R (z ∷ xs) (suc k) x below is none (y ∷ ys) all = zip-none R xs k x
 
 -- a refusal handed on by `?`
 pub each-refused : {A B X Z : Type 0} (view : A → B) (R : X → B → Type 0) (xs : List X) (k : ℕ) (x : X) (fault : SchemaFault) (result : Result (Vec A Z) SchemaFault) → IsErr result → IsErrAnd result (λ found. found ≡ fault) → k < length xs → x ≡ get_or xs k x
-    → Refused fault ((y : B) → R x y → ⊥) → FindsEach view R xs result
+    → RefusalShows fault ((y : B) → R x y → ⊥) → FindsEach view R xs result
 each-refused view R xs k x fault (Ok u) is_err is below at refused = cc
 each-refused view R xs k x fault (Err found) is_err is below at refused = λ other. zip-none R xs k x below at (refused (λ e. other (is ∙ e)))
 
 pub find-refused : {A B C : Type 0} (view : A → B) (Is : B → Type 0) (Less : C → Type 0) (fault : SchemaFault) (result : Result A SchemaFault) → IsErr result → IsErrAnd result (λ found. found ≡ fault) → ((y : B) → Is y → (z : C) × Less z)
-    → Refused fault ((z : C) → Less z → ⊥) → Finds view Is result
+    → RefusalShows fault ((z : C) → Less z → ⊥) → Finds view Is result
 find-refused view Is Less fault (Ok u) is_err is so refused = cc
 find-refused view Is Less fault (Err found) is_err is so refused = λ other y holds. let less = so y holds in refused (λ e. other (is ∙ e)) less.0 less.1
 
@@ -66,7 +66,7 @@ adds-more view R done some fn now new (ys, now_is, all) (zs, new_is, all_) =
 
 -- there is none for all where there is none for some
 pub adds-refused : {A B X Z : Type 0} (view : A → B) (R : X → B → Type 0) (all done some left : List X) (fault : SchemaFault) (result : Result (Unit {0}) SchemaFault) (old new : Vec A Z) → IsErr result → IsErrAnd result (λ found. found ≡ fault) → all ≡ done ++ (some ++ left)
-    → Refused fault ((ys : List B) → AllZip R some ys → ⊥) → AddsEach view R all result old new
+    → RefusalShows fault ((ys : List B) → AllZip R some ys → ⊥) → AddsEach view R all result old new
 adds-refused view R all done some left fault (Ok u) old new is_err is all_is refused = cc
 adds-refused {A} {B} {X} view R all done some left fault (Err found) old new is_err is all_is refused = λ other ys zipped.
     let P : List X → Type 0 = λ xs. AllZip R xs ys in
@@ -75,7 +75,7 @@ adds-refused {A} {B} {X} view R all done some left fault (Err found) old new is_
     refused (λ e. other (is ∙ e)) mine.0.0 mine.0.1
 
 pub all-refused : {A B X Z : Type 0} (view : A → B) (R : X → B → Type 0) (all done some left : List X) (fault : SchemaFault) (result : Result (Vec A Z) SchemaFault) → IsErr result → IsErrAnd result (λ found. found ≡ fault) → all ≡ done ++ (some ++ left)
-    → Refused fault ((ys : List B) → AllZip R some ys → ⊥) → FindsEach view R all result
+    → RefusalShows fault ((ys : List B) → AllZip R some ys → ⊥) → FindsEach view R all result
 all-refused view R all done some left fault (Ok u) is_err is all_is refused = cc
 all-refused {A} {B} {X} view R all done some left fault (Err found) is_err is all_is refused = λ other ys zipped.
     let P : List X → Type 0 = λ xs. AllZip R xs ys in
@@ -109,35 +109,35 @@ push-one {A} {B} {X} view R x all old new y new_is holds all_is =
 
 -- ---- new attributes
 
-own_of-append : (x : KeptAttributes) (xs ys : List AttributeName) → own_of x (xs ++ ys) ≡ own_of x xs ++ own_of x ys
-own_of-append x xs ys = ap (map (λ name. (name, x.optional, x.type))) (own_names-append xs ys) ∙ map-append (λ name. (name, x.optional, x.type)) (kept_own_names xs) (kept_own_names ys)
+own_of-append : (x : AttributesDigest) (xs ys : List AttributeName) → own_of x (xs ++ ys) ≡ own_of x xs ++ own_of x ys
+own_of-append x xs ys = ap (map (λ name. (name, x.optional, x.type))) (own_names-append xs ys) ∙ map-append (λ name. (name, x.optional, x.type)) (digest_own_names xs) (digest_own_names ys)
 
-pub own_of-taken : (x : KeptAttributes) (names : List AttributeName) (k : ℕ) (name : AttributeName) → k < length names → name ≡ get_or names k name → own_of x (take (k + 1) names) ≡ own_of x (take k names) ++ own_of x (name ∷ [])
+pub own_of-taken : (x : AttributesDigest) (names : List AttributeName) (k : ℕ) (name : AttributeName) → k < length names → name ≡ get_or names k name → own_of x (take (k + 1) names) ≡ own_of x (take k names) ++ own_of x (name ∷ [])
 own_of-taken x names k name below is = ap (own_of x) (split-at names k name below is).0 ∙ own_of-append x (take k names) (name ∷ [])
 
-pub own_of-split : (x : KeptAttributes) (names : List AttributeName) (k : ℕ) (name : AttributeName) → k < length names → name ≡ get_or names k name → own_of x names ≡ own_of x (take k names) ++ (own_of x (name ∷ []) ++ own_of x (drop (k + 1) names))
+pub own_of-split : (x : AttributesDigest) (names : List AttributeName) (k : ℕ) (name : AttributeName) → k < length names → name ≡ get_or names k name → own_of x names ≡ own_of x (take k names) ++ (own_of x (name ∷ []) ++ own_of x (drop (k + 1) names))
 own_of-split x names k name below is =
     ap (own_of x) (split-at names k name below is).1 ∙ own_of-append x (take k names) (name ∷ [] ++ drop (k + 1) names)
     ∙ ap (λ zs. own_of x (take k names) ++ zs) (own_of-append x (name ∷ []) (drop (k + 1) names))
 
-abbrev own_in : List ExplicitAttributes → List (List ℕ × Bool × KeptType)
-own_in explicit = kept_own (map attributes_view explicit)
+abbrev own_in : List ExplicitAttributes → List (List ℕ × Bool × TypeDigest)
+own_in explicit = digest_own_explicit (map attributes_view explicit)
 
 own_in-append : (xs ys : List ExplicitAttributes) → own_in (xs ++ ys) ≡ own_in xs ++ own_in ys
 own_in-append [] ys = refl
 own_in-append (x ∷ xs) ys = ap (λ zs. own_of (attributes_view x) x.names.items ++ zs) (own_in-append xs ys) ∙ sym (append_assoc (own_of (attributes_view x) x.names.items) (own_in xs) (own_in ys))
 
-pub own_in-taken : (explicit : List ExplicitAttributes) (k : ℕ) (x : ExplicitAttributes) → k < length explicit → x ≡ get_or explicit k x → kept_own (map attributes_view (take (k + 1) explicit)) ≡ kept_own (map attributes_view (take k explicit)) ++ own_of (attributes_view x) x.names.items
+pub own_in-taken : (explicit : List ExplicitAttributes) (k : ℕ) (x : ExplicitAttributes) → k < length explicit → x ≡ get_or explicit k x → digest_own_explicit (map attributes_view (take (k + 1) explicit)) ≡ digest_own_explicit (map attributes_view (take k explicit)) ++ own_of (attributes_view x) x.names.items
 own_in-taken explicit k x below is = ap own_in (split-at explicit k x below is).0 ∙ own_in-append (take k explicit) (x ∷ []) ∙ ap (λ zs. own_in (take k explicit) ++ zs) (append-nil (own_of (attributes_view x) x.names.items))
 
 pub own_in-split : (explicit : List ExplicitAttributes) (k : ℕ) (x : ExplicitAttributes) → k < length explicit → x ≡ get_or explicit k x
-    → kept_own (map attributes_view explicit) ≡ kept_own (map attributes_view (take k explicit)) ++ (own_of (attributes_view x) x.names.items ++ kept_own (map attributes_view (drop (k + 1) explicit)))
+    → digest_own_explicit (map attributes_view explicit) ≡ digest_own_explicit (map attributes_view (take k explicit)) ++ (own_of (attributes_view x) x.names.items ++ digest_own_explicit (map attributes_view (drop (k + 1) explicit)))
 own_in-split explicit k x below is = ap own_in (split-at explicit k x below is).1 ∙ own_in-append (take k explicit) (x ∷ [] ++ drop (k + 1) explicit)
 
 -- ---- views of what is written
 
 pub each-refused_mapped : {A B W X Z : Type 0} (view : A → B) (R : X → B → Type 0) (f : W → X) (xs : List W) (k : ℕ) (x : W) (fault : SchemaFault) (result : Result (Vec A Z) SchemaFault) → IsErr result → IsErrAnd result (λ found. found ≡ fault) → k < length xs → x ≡ get_or xs k x
-    → Refused fault ((y : B) → R (f x) y → ⊥) → FindsEach view R (map f xs) result
+    → RefusalShows fault ((y : B) → R (f x) y → ⊥) → FindsEach view R (map f xs) result
 each-refused_mapped view R f xs k x fault (Ok u) is_err is below at refused = cc
 each-refused_mapped view R f xs k x fault (Err found) is_err is below at refused = λ other ys all. zip-none (λ w y. R (f w) y) xs k x below at (refused (λ e. other (is ∙ e))) ys (AllZip-unmapped R f xs ys all)
 
@@ -156,22 +156,22 @@ each-whole {A} {B} {W} {X} view R f xs k found le all =
     each-mapped view R f xs found (subst P (take-all xs k le) all)
 
 -- what a refused test takes away
-pub check-refused : {A B : Type 0} (view : A → B) (Is : B → Type 0) (less : Type 0) (fault : SchemaFault) (result : Result A SchemaFault) → IsErr result → IsErrAnd result (λ found. found ≡ fault) → ((y : B) → Is y → less) → Refused fault (less → ⊥) → Finds view Is result
+pub check-refused : {A B : Type 0} (view : A → B) (Is : B → Type 0) (less : Type 0) (fault : SchemaFault) (result : Result A SchemaFault) → IsErr result → IsErrAnd result (λ found. found ≡ fault) → ((y : B) → Is y → less) → RefusalShows fault (less → ⊥) → Finds view Is result
 check-refused view Is less fault (Ok u) is_err is so refused = cc
 check-refused view Is less fault (Err found) is_err is so refused = λ other y holds. refused (λ e. other (is ∙ e)) (so y holds)
 
 -- ---- ONEOF lists
 
 abbrev lists_in : List Entity → List (List (List ℕ))
-lists_in entities = kept_one_of (map entity_view entities)
+lists_in entities = digest_one_of_lists (map entity_view entities)
 
 lists_in-append : (xs ys : List Entity) → lists_in (xs ++ ys) ≡ lists_in xs ++ lists_in ys
 lists_in-append [] ys = refl
 lists_in-append (x ∷ xs) ys = ap (λ zs. one_of_list (some_list x.constraint.one_of) ++ zs) (lists_in-append xs ys) ∙ sym (append_assoc (one_of_list (some_list x.constraint.one_of)) (lists_in xs) (lists_in ys))
 
-pub lists_in-taken : (entities : List Entity) (k : ℕ) (x : Entity) → k < length entities → x ≡ get_or entities k x → kept_one_of (map entity_view (take (k + 1) entities)) ≡ kept_one_of (map entity_view (take k entities)) ++ one_of_list (some_list x.constraint.one_of)
+pub lists_in-taken : (entities : List Entity) (k : ℕ) (x : Entity) → k < length entities → x ≡ get_or entities k x → digest_one_of_lists (map entity_view (take (k + 1) entities)) ≡ digest_one_of_lists (map entity_view (take k entities)) ++ one_of_list (some_list x.constraint.one_of)
 lists_in-taken entities k x below is = ap lists_in (split-at entities k x below is).0 ∙ lists_in-append (take k entities) (x ∷ []) ∙ ap (λ zs. lists_in (take k entities) ++ zs) (append-nil (one_of_list (some_list x.constraint.one_of)))
 
 pub lists_in-split : (entities : List Entity) (k : ℕ) (x : Entity) → k < length entities → x ≡ get_or entities k x
-    → kept_one_of (map entity_view entities) ≡ kept_one_of (map entity_view (take k entities)) ++ (one_of_list (some_list x.constraint.one_of) ++ kept_one_of (map entity_view (drop (k + 1) entities)))
+    → digest_one_of_lists (map entity_view entities) ≡ digest_one_of_lists (map entity_view (take k entities)) ++ (one_of_list (some_list x.constraint.one_of) ++ digest_one_of_lists (map entity_view (drop (k + 1) entities)))
 lists_in-split entities k x below is = ap lists_in (split-at entities k x below is).1 ∙ lists_in-append (take k entities) (x ∷ [] ++ drop (k + 1) entities)

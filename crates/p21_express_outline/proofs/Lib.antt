@@ -1,3 +1,15 @@
+pub mod Zips
+pub mod NameLemmas
+pub mod TypeDigests
+pub mod EntityDigests
+pub mod KindDigests
+pub mod SchemaDigests
+pub mod Agreeing
+pub mod OneOutline
+pub mod OneSchema
 pub mod Adding
 pub mod Finding
 pub mod Outlining
+pub mod Settling
+pub mod Selecting
+pub mod Choosing

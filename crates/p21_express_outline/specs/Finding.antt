@@ -6,30 +6,30 @@ use Rattle.p21_express_outline.specs.declared.fault.SchemaFault.{SchemaFault}
 use Rattle.p21_express_outline.specs.declared.fault.SchemaFault.TheVariants.{NoMemory}
 
 -- want of memory owes nothing
-abbrev pub Refused : SchemaFault → Type 0 → Type 0
-Refused fault claim = fault ≢ NoMemory → claim
+abbrev pub RefusalShows : SchemaFault → Type 0 → Type 0
+RefusalShows fault claim = fault ≢ NoMemory → claim
 
 -- the claim holds, or it doesn't
-abbrev pub Checked : Type 0 → Result (Unit {0}) SchemaFault → Type 0
-Checked claim (Ok u) = claim
-Checked claim (Err fault) = Refused fault (claim → ⊥)
+abbrev pub DecidesClaim : Type 0 → Result (Unit {0}) SchemaFault → Type 0
+DecidesClaim claim (Ok u) = claim
+DecidesClaim claim (Err fault) = RefusalShows fault (claim → ⊥)
 
 -- one was found, or there is none
 abbrev pub Finds : {A B : Type 0} → (A → B) → (B → Type 0) → Result A SchemaFault → Type 0
 Finds view Is (Ok x) = Is (view x)
-Finds {A} {B} view Is (Err fault) = Refused fault ((y : B) → Is y → ⊥)
+Finds {A} {B} view Is (Err fault) = RefusalShows fault ((y : B) → Is y → ⊥)
 
 -- one was found for each, or there is a list of none
 abbrev pub FindsEach : {A B X Z : Type 0} → (A → B) → (X → B → Type 0) → List X → Result (Vec A Z) SchemaFault → Type 0
 FindsEach view Is xs (Ok found) = AllZip Is xs (map view found.items)
-FindsEach {A} {B} view Is xs (Err fault) = Refused fault ((ys : List B) → AllZip Is xs ys → ⊥)
+FindsEach {A} {B} view Is xs (Err fault) = RefusalShows fault ((ys : List B) → AllZip Is xs ys → ⊥)
 
 -- the same, behind those that are there
 abbrev pub AddsEach : {A B X Z : Type 0} → (A → B) → (X → B → Type 0) → List X → Result (Unit {0}) SchemaFault → Vec A Z → Vec A Z → Type 0
 AddsEach {A} {B} view Is xs (Ok u) old new = (ys : List B) × (map view new.items ≡ map view old.items ++ ys) × AllZip Is xs ys
-AddsEach {A} {B} view Is xs (Err fault) old new = Refused fault ((ys : List B) → AllZip Is xs ys → ⊥)
+AddsEach {A} {B} view Is xs (Err fault) old new = RefusalShows fault ((ys : List B) → AllZip Is xs ys → ⊥)
 
 -- names were added, each once, or one of them is twice
 abbrev pub AddsNames : List (List ℕ) → List (List ℕ) → Result (Unit {0}) SchemaFault → List (List ℕ) → Type 0
 AddsNames old added (Ok u) new = (new ≡ old ++ added) × (IsDistinct bytes_eq old → IsDistinct bytes_eq new)
-AddsNames old added (Err fault) new = Refused fault (IsDistinct bytes_eq (old ++ added) → ⊥)
+AddsNames old added (Err fault) new = RefusalShows fault (IsDistinct bytes_eq (old ++ added) → ⊥)

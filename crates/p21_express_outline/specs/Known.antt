@@ -3,16 +3,16 @@ use Rattle.std.specs.Prelude.{◌≡◌, ℕ, ◌+◌, ◌≤◌, List, ◌++◌
 use Rattle.std.specs.List.{IsDistinct, AllByRecursion as Each}
 use Rattle.std.specs.Str.{bytes_eq}
 use Rattle.p21_schemas.specs.Declared.{most_declarations}
-use Rattle.p21_express_outline.specs.Finding.{Refused}
+use Rattle.p21_express_outline.specs.Finding.{RefusalShows}
 use Rattle.p21_express_outline.specs.declared.fault.SchemaFault.{SchemaFault}
-use Rattle.p21_express_outline.specs.declared.names.Known.{Known}
-use Rattle.p21_express_resolve.specs.Outline.{Named}
+use Rattle.p21_express_outline.specs.declared.names.KnownNames.{KnownNames}
+use Rattle.p21_express_outline.specs.Outline.{Named}
 
-abbrev pub names_of : Known → Named
+abbrev pub names_of : KnownNames → Named
 names_of known = record { entities = known.entities; types = known.types }
 
 -- their numbers are small
-abbrev pub AreFew : Known → Type 0
+abbrev pub AreFew : KnownNames → Type 0
 AreFew known = length known.entities + length known.types ≤ most_declarations
 
 -- none of the others is among the names
@@ -20,10 +20,10 @@ abbrev pub AreOthers : List (List ℕ) → List (List ℕ) → Type 0
 AreOthers names others = Each (λ name. Contains names name → ⊥) others
 
 -- the names, which are all different, or they aren't
-abbrev pub KnowsNames : Named → Result Known SchemaFault → Type 0
+abbrev pub KnowsNames : Named → Result KnownNames SchemaFault → Type 0
 KnowsNames n (Ok known) = (names_of known ≡ n) × IsDistinct bytes_eq (n.entities ++ n.types)
-KnowsNames n (Err fault) = Refused fault (IsDistinct bytes_eq (n.entities ++ n.types) → ⊥)
+KnowsNames n (Err fault) = RefusalShows fault (IsDistinct bytes_eq (n.entities ++ n.types) → ⊥)
 
 -- the names are all different
-abbrev pub AreDifferent : Known → Type 0
+abbrev pub AreDifferent : KnownNames → Type 0
 AreDifferent known = IsDistinct bytes_eq ((names_of known).entities ++ (names_of known).types)

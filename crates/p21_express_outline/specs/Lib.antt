@@ -1,6 +1,11 @@
+pub mod Bare
+pub mod DeclaredBy
+pub mod Outline
+pub mod Redeclarations
 pub mod Attributes
 pub mod Entities
 pub mod Fault
 pub mod Finding
 pub mod Known
 pub mod Outlined
+pub mod Chains

@@ -1,24 +1,24 @@
 ghost use Rattle.std.specs.Prelude.{◌≡◌, IfOk, map};
-ghost use Rattle.p21_express_outline.specs.Finding.{Checked, Finds, FindsEach};
+ghost use Rattle.p21_express_outline.specs.Finding.{DecidesClaim, Finds, FindsEach};
 ghost use Rattle.p21_express_outline.specs.Known.{AreDifferent, AreFew, names_of};
-ghost use Rattle.p21_express_resolve.specs.Outline.{IsNoEntity, KeptKindIs, TypeOutline};
+ghost use Rattle.p21_express_outline.specs.Outline.{IsNoEntity, DigestKindIs, TypeOutline};
 ghost use Rattle.p21_express_syntax.specs.Views.{body_view, defined_view};
-ghost use Rattle.p21_express_tables.specs.Parts.{defined as defined_of};
+ghost use Rattle.p21_express_graph.specs.SchemaContents.{defined as defined_of};
 ghost use Rattle.p21_express_types.specs.Meaning.{kind, type_use};
 
 use crate::fault::SchemaFault;
 use crate::lists::{copied, members_named};
-use crate::names::{Known, check_distinct};
+use crate::names::{KnownNames, check_distinct};
 use crate::types::resolve_type;
+use p21_express_graph::Defined;
 use p21_express_syntax::{Body, DefinedType};
-use p21_express_tables::Defined;
 use p21_express_types::{Members, TypeKind, TypeUse, Words};
 use p21_values::{NoMemory, Word};
 use std::alloc::Global;
 
 /// A type isn't just the name of an entity.
 fn check_no_entity(found: &TypeUse) -> Result<(), SchemaFault>
-    ensures { Checked (IsNoEntity (type_use found.now)) result }
+    ensures { DecidesClaim (IsNoEntity (type_use found.now)) result }
 {
     match found {
         TypeUse::Entity(_entity) => Err(SchemaFault::UnknownName),
@@ -50,10 +50,10 @@ fn copied_all(alloc: Global, words: &[Word]) -> Result<Vec<Word>, NoMemory>
 }
 
 /// What a type is declared as.
-fn resolve_kind(alloc: Global, known: &Known, body: &Body) -> Result<TypeKind, SchemaFault>
+fn resolve_kind(alloc: Global, known: &KnownNames, body: &Body) -> Result<TypeKind, SchemaFault>
     requires few { AreFew known.now }
     requires different { AreDifferent known.now }
-    ensures { Finds kind (KeptKindIs (names_of known.now) (body_view body.now)) result }
+    ensures { Finds kind (DigestKindIs (names_of known.now) (body_view body.now)) result }
 {
     match body {
         Body::Enumeration(items) => {
@@ -77,7 +77,7 @@ fn resolve_kind(alloc: Global, known: &Known, body: &Body) -> Result<TypeKind, S
 /// A declared type.
 fn resolve_defined(
     alloc: Global,
-    known: &Known,
+    known: &KnownNames,
     declared: &DefinedType,
 ) -> Result<Defined, SchemaFault>
     requires few { AreFew known.now }
@@ -94,7 +94,7 @@ fn resolve_defined(
 /// All declared types.
 pub(crate) fn resolve_types(
     alloc: Global,
-    known: &Known,
+    known: &KnownNames,
     declared: &[DefinedType],
 ) -> Result<Vec<Defined>, SchemaFault>
     requires few { AreFew known.now }

@@ -2,20 +2,24 @@ ghost use Rattle.std.specs.Prelude.{[], map};
 ghost use Rattle.p21_express_outline.specs.Entities.{EntityFound};
 ghost use Rattle.p21_express_outline.specs.Finding.{Finds, FindsEach};
 ghost use Rattle.p21_express_outline.specs.Known.{AreFew, names_of};
-ghost use Rattle.p21_express_resolve.specs.Outline.{EntityOutline};
+ghost use Rattle.p21_express_outline.specs.Outline.{EntityOutline};
 ghost use Rattle.p21_express_syntax.specs.Views.{entity_view};
-ghost use Rattle.p21_express_tables.specs.Parts.{entity as entity_of};
+ghost use Rattle.p21_express_graph.specs.SchemaContents.{entity as entity_of};
 
 use crate::attributes::own_attributes;
 use crate::fault::SchemaFault;
 use crate::lists::{copied, entities_named};
-use crate::names::{Known, check_attribute_names, check_distinct};
+use crate::names::{KnownNames, check_attribute_names, check_distinct};
+use p21_express_graph::Entity;
 use p21_express_syntax::Entity as Declared;
-use p21_express_tables::Entity;
 use std::alloc::Global;
 
 /// An entity, all but what it redeclares.
-fn resolve_entity(alloc: Global, known: &Known, declared: &Declared) -> Result<Entity, SchemaFault>
+fn resolve_entity(
+    alloc: Global,
+    known: &KnownNames,
+    declared: &Declared,
+) -> Result<Entity, SchemaFault>
     requires { AreFew known.now }
     ensures { Finds entity_of (EntityFound (names_of known.now) (entity_view declared.now)) result }
 {
@@ -36,7 +40,7 @@ fn resolve_entity(alloc: Global, known: &Known, declared: &Declared) -> Result<E
 /// All entities, all but what they redeclare.
 pub(crate) fn resolve_entities(
     alloc: Global,
-    known: &Known,
+    known: &KnownNames,
     declared: &[Declared],
 ) -> Result<Vec<Entity>, SchemaFault>
     requires { AreFew known.now }

@@ -1,11 +1,11 @@
 ghost use Rattle.std.specs.Prelude.{◌≡◌, IfOk};
 ghost use Rattle.p21_express_outline.specs.Finding.{Finds, FindsEach};
 ghost use Rattle.p21_express_outline.specs.Known.{AreFew, names_of};
-ghost use Rattle.p21_express_resolve.specs.Outline.{IsNamed, MemberIs};
+ghost use Rattle.p21_express_outline.specs.Outline.{IsNamed, MemberIs};
 ghost use Rattle.p21_express_types.specs.Meaning.{member};
 
 use crate::fault::SchemaFault;
-use crate::names::Known;
+use crate::names::KnownNames;
 use p21_express_types::{EntityId, Member, TypeId};
 use p21_values::{Canonical, NoMemory, Word};
 use std::alloc::Global;
@@ -16,11 +16,11 @@ pub(crate) fn copied(alloc: Global, word: &Word) -> Result<Word, NoMemory>
 {
     let mut bytes = Vec::new(alloc);
     word.write_canonical(&mut bytes)?;
-    Word::of_front(alloc, &bytes, bytes.len())
+    Word::of_prefix(alloc, &bytes, bytes.len())
 }
 
 /// The entity of a name.
-fn entity_named(known: &Known, name: &[u8]) -> Result<EntityId, SchemaFault>
+fn entity_named(known: &KnownNames, name: &[u8]) -> Result<EntityId, SchemaFault>
     requires { AreFew known.now }
     ensures { Finds (λ e. e.0) (λ e. IsNamed (names_of known.now).entities e name.now) result }
 {
@@ -33,7 +33,7 @@ fn entity_named(known: &Known, name: &[u8]) -> Result<EntityId, SchemaFault>
 /// The entities of names.
 pub(crate) fn entities_named(
     alloc: Global,
-    known: &Known,
+    known: &KnownNames,
     names: &[Word],
 ) -> Result<Vec<EntityId>, SchemaFault>
     requires { AreFew known.now }
@@ -48,7 +48,7 @@ pub(crate) fn entities_named(
 }
 
 /// The entity or type of a name.
-fn member_named(known: &Known, name: &[u8]) -> Result<Member, SchemaFault>
+fn member_named(known: &KnownNames, name: &[u8]) -> Result<Member, SchemaFault>
     requires { AreFew known.now }
     ensures { Finds member (λ m. MemberIs (names_of known.now) m name.now) result }
 {
@@ -64,7 +64,7 @@ fn member_named(known: &Known, name: &[u8]) -> Result<Member, SchemaFault>
 /// The entities and types of names.
 pub(crate) fn members_named(
     alloc: Global,
-    known: &Known,
+    known: &KnownNames,
     names: &[Word],
 ) -> Result<Vec<Member>, SchemaFault>
     requires { AreFew known.now }

@@ -1,20 +1,20 @@
 ghost use Rattle.std.specs.Prelude.{◌≡◌, [], ◌∷◌, map};
 ghost use Rattle.std.specs.List.{IsDistinct, flat_map};
 ghost use Rattle.std.specs.Str.{bytes_eq};
-ghost use Rattle.p21_express_outline.specs.Finding.{AddsNames, Checked};
+ghost use Rattle.p21_express_outline.specs.Finding.{AddsNames, DecidesClaim};
 ghost use Rattle.p21_express_outline.specs.Known.{AreOthers, KnowsNames};
-ghost use Rattle.p21_express_resolve.specs.Outline.{attribute_names, kept_named, kept_own_names};
+ghost use Rattle.p21_express_outline.specs.Outline.{attribute_names, digest_names, digest_own_names};
 ghost use Rattle.p21_express_syntax.specs.Views.{attributes_view, entity_view, schema_view};
 
 use crate::fault::SchemaFault;
+use p21_express_graph::Names;
 use p21_express_syntax::{AttributeName, Declarations, DefinedType, Entity, ExplicitAttributes};
-use p21_express_tables::Names;
 use p21_values::Word;
 use std::alloc::Global;
 
 /// The names of the entities and of the types of a schema, each in the order of the declarations.
 #[derive(Drop)]
-pub struct Known {
+pub struct KnownNames {
     pub entities: Names,
     pub types: Names,
 }
@@ -43,7 +43,7 @@ fn add_words(alloc: Global, names: &mut Names, words: &[Word]) -> Result<(), Sch
 
 /// No name stands twice in a list.
 pub(crate) fn check_distinct(alloc: Global, words: &[Word]) -> Result<(), SchemaFault>
-    ensures { Checked (IsDistinct bytes_eq words.now) result }
+    ensures { DecidesClaim (IsDistinct bytes_eq words.now) result }
 {
     let mut names = Names::new(alloc);
     add_words(alloc, &mut names, words)
@@ -77,7 +77,7 @@ fn add_own_names(
     names: &mut Names,
     attributes: &[AttributeName],
 ) -> Result<(), SchemaFault>
-    ensures { AddsNames names.old (kept_own_names attributes.now) result names.new }
+    ensures { AddsNames names.old (digest_own_names attributes.now) result names.new }
 {
     for attribute in attributes {
         let attribute: &AttributeName = attribute;
@@ -91,7 +91,7 @@ fn add_own_name(
     names: &mut Names,
     attribute: &AttributeName,
 ) -> Result<(), SchemaFault>
-    ensures { AddsNames names.old (kept_own_names (attribute.now ∷ [])) result names.new }
+    ensures { AddsNames names.old (digest_own_names (attribute.now ∷ [])) result names.new }
 {
     match attribute {
         AttributeName::Own(name) => add_name(alloc, names, name.bytes()),
@@ -105,7 +105,7 @@ fn add_explicit_names(
     names: &mut Names,
     explicit: &[ExplicitAttributes],
 ) -> Result<(), SchemaFault>
-    ensures { AddsNames names.old (kept_own_names (flat_map (λ d. d.names) (map attributes_view explicit.now))) result names.new }
+    ensures { AddsNames names.old (digest_own_names (flat_map (λ d. d.names) (map attributes_view explicit.now))) result names.new }
 {
     for attributes in explicit {
         let attributes: &ExplicitAttributes = attributes;
@@ -116,7 +116,7 @@ fn add_explicit_names(
 
 /// No two new attributes of an entity have one name.
 pub(crate) fn check_attribute_names(alloc: Global, entity: &Entity) -> Result<(), SchemaFault>
-    ensures { Checked (IsDistinct bytes_eq (attribute_names (entity_view entity.now))) result }
+    ensures { DecidesClaim (IsDistinct bytes_eq (attribute_names (entity_view entity.now))) result }
 {
     let mut names = Names::new(alloc);
     add_explicit_names(alloc, &mut names, &entity.explicit)?;
@@ -125,7 +125,7 @@ pub(crate) fn check_attribute_names(alloc: Global, entity: &Entity) -> Result<()
 
 /// No type has the name of an entity.
 fn check_apart(entities: &Names, types: &[DefinedType]) -> Result<(), SchemaFault>
-    ensures { Checked (AreOthers entities.now (map (λ x. x.name) types.now)) result }
+    ensures { DecidesClaim (AreOthers entities.now (map (λ x. x.name) types.now)) result }
 {
     for defined in types {
         let defined: &DefinedType = defined;
@@ -142,13 +142,13 @@ fn check_apart(entities: &Names, types: &[DefinedType]) -> Result<(), SchemaFaul
 /// # Errors
 ///
 /// `Duplicate` for a name twice, `NoMemory`.
-pub fn known_names(alloc: Global, declarations: &Declarations) -> Result<Known, SchemaFault>
-    ensures { KnowsNames (kept_named (schema_view declarations.now)) result }
+pub fn known_names(alloc: Global, declarations: &Declarations) -> Result<KnownNames, SchemaFault>
+    ensures { KnowsNames (digest_names (schema_view declarations.now)) result }
 {
     let mut entities = Names::new(alloc);
     add_entities(alloc, &mut entities, &declarations.entities)?;
     let mut types = Names::new(alloc);
     add_types(alloc, &mut types, &declarations.types)?;
     check_apart(&entities, &declarations.types)?;
-    Ok(Known { entities, types })
+    Ok(KnownNames { entities, types })
 }

@@ -1,8 +1,8 @@
 ghost use Rattle.std.specs.Prelude.{◌≡◌, ◌+◌, ◌≤◌, length, map};
 ghost use Rattle.p21_express_outline.specs.Finding.{AddsEach, FindsEach};
 ghost use Rattle.p21_express_outline.specs.Known.{AreFew, names_of};
-ghost use Rattle.p21_express_outline.specs.Outlined.{Outlined, list_of};
-ghost use Rattle.p21_express_resolve.specs.Outline.{KeptOneOfIs, kept_one_of, one_of_list};
+ghost use Rattle.p21_express_outline.specs.Outlined.{OutlineFound, list_of};
+ghost use Rattle.p21_express_outline.specs.Outline.{DigestOneOfIs, digest_one_of_lists, one_of_list};
 ghost use Rattle.p21_express_syntax.specs.Views.{entity_view, schema_view, some_list};
 ghost use Rattle.p21_schemas.specs.Declared.{most_declarations};
 
@@ -10,9 +10,9 @@ use crate::defined::resolve_types;
 use crate::entity::resolve_entities;
 use crate::fault::SchemaFault;
 use crate::lists::{copied, entities_named};
-use crate::names::{Known, check_distinct, known_names};
+use crate::names::{KnownNames, check_distinct, known_names};
+use p21_express_graph::SchemaContents;
 use p21_express_syntax::{Declarations, Entity};
-use p21_express_tables::Parts;
 use p21_express_types::EntityId;
 use p21_values::Word;
 use std::alloc::Global;
@@ -20,12 +20,12 @@ use std::alloc::Global;
 /// Adds a ONEOF list, if there is one.
 fn add_list(
     alloc: Global,
-    known: &Known,
+    known: &KnownNames,
     names: &Option<Vec<Word>>,
     out: &mut Vec<Vec<EntityId>>,
 ) -> Result<(), SchemaFault>
     requires { AreFew known.now }
-    ensures { AddsEach list_of (KeptOneOfIs (names_of known.now)) (one_of_list (some_list names.now)) result out.old out.new }
+    ensures { AddsEach list_of (DigestOneOfIs (names_of known.now)) (one_of_list (some_list names.now)) result out.old out.new }
 {
     match names {
         Some(names) => {
@@ -41,11 +41,11 @@ fn add_list(
 /// The ONEOF lists of all entities.
 fn resolve_lists(
     alloc: Global,
-    known: &Known,
+    known: &KnownNames,
     declared: &[Entity],
 ) -> Result<Vec<Vec<EntityId>>, SchemaFault>
     requires { AreFew known.now }
-    ensures { FindsEach list_of (KeptOneOfIs (names_of known.now)) (kept_one_of (map entity_view declared.now)) result }
+    ensures { FindsEach list_of (DigestOneOfIs (names_of known.now)) (digest_one_of_lists (map entity_view declared.now)) result }
 {
     let mut found = Vec::new(alloc);
     for entity in declared {
@@ -62,16 +62,16 @@ fn resolve_lists(
 /// `Duplicate` for a name twice among the entities and types, in a SUBTYPE OF, a ONEOF list, an enumeration or a select, or
 /// among the new attributes of an entity; `UnknownName` for a name that isn't declared, a supertype or a name of a ONEOF
 /// list that is no entity, and a type that is just the name of an entity; `NoMemory`.
-pub fn outline(alloc: Global, declarations: &Declarations) -> Result<Parts, SchemaFault>
+pub fn outline(alloc: Global, declarations: &Declarations) -> Result<SchemaContents, SchemaFault>
     requires { length declarations.now.entities.items + length declarations.now.types.items ≤ most_declarations }
-    ensures { Outlined (schema_view declarations.now) result }
+    ensures { OutlineFound (schema_view declarations.now) result }
 {
     let known = known_names(alloc, declarations)?;
     let entities = resolve_entities(alloc, &known, &declarations.entities)?;
     let one_of_lists = resolve_lists(alloc, &known, &declarations.entities)?;
     let types = resolve_types(alloc, &known, &declarations.types)?;
     let name = copied(alloc, &declarations.name)?;
-    Ok(Parts {
+    Ok(SchemaContents {
         name,
         entity_names: known.entities,
         entities,

@@ -1,20 +1,20 @@
 ghost use Rattle.std.specs.Prelude.{◌≡◌, IfOk};
 ghost use Rattle.p21_express_outline.specs.Finding.{Finds};
 ghost use Rattle.p21_express_outline.specs.Known.{AreFew, names_of};
-ghost use Rattle.p21_express_resolve.specs.Outline.{SimpleIs, KeptTypeIs, aggregate_of, aggregates_of, width_of};
+ghost use Rattle.p21_express_outline.specs.Outline.{SimpleIs, DigestTypeIs, aggregate_of, aggregates_of, width_of};
 ghost use Rattle.p21_express_syntax.specs.Views.{type_view};
 ghost use Rattle.p21_express_syntax.specs.declared.types.SimpleType.TheVariants as simple;
 ghost use Rattle.p21_express_types.specs.Meaning.{type_use, width_option};
 
 use crate::fault::SchemaFault;
-use crate::names::Known;
+use crate::names::KnownNames;
 use p21_express_syntax::{Aggregate, DataType, SimpleType, Width as WrittenWidth};
 use p21_express_types::{EntityId, TypeId, TypeUse, Width};
 use p21_values::NoMemory;
 use std::alloc::Global;
 
 /// The entity or type of a name.
-fn named_type(known: &Known, name: &[u8]) -> Result<TypeUse, SchemaFault>
+fn named_type(known: &KnownNames, name: &[u8]) -> Result<TypeUse, SchemaFault>
     requires { AreFew known.now }
     ensures { Finds type_use (SimpleIs (names_of known.now) (simple.Named name.now)) result }
 {
@@ -40,7 +40,7 @@ fn width(written: Option<WrittenWidth>) -> Option<Width>
 }
 
 /// A type that is no aggregate.
-fn simple_type(known: &Known, written: &SimpleType) -> Result<TypeUse, SchemaFault>
+fn simple_type(known: &KnownNames, written: &SimpleType) -> Result<TypeUse, SchemaFault>
     requires { AreFew known.now }
     ensures { Finds type_use (SimpleIs (names_of known.now) written.now) result }
 {
@@ -100,11 +100,11 @@ fn around(alloc: Global, aggregate: Aggregate, element: TypeUse) -> Result<TypeU
 /// `UnknownName` for a name that isn't declared, `NoMemory`.
 pub fn resolve_type(
     alloc: Global,
-    known: &Known,
+    known: &KnownNames,
     written: &DataType,
 ) -> Result<TypeUse, SchemaFault>
     requires { AreFew known.now }
-    ensures { Finds type_use (KeptTypeIs (names_of known.now) (type_view written.now)) result }
+    ensures { Finds type_use (DigestTypeIs (names_of known.now) (type_view written.now)) result }
 {
     let mut found = simple_type(known, &written.element)?;
     let mut left = written.aggregates.len();

@@ -1,7 +1,7 @@
 -- Words that open and words that close, told apart, and the end of lexemes.
 use Rattle.std.proofs.Common.{◌≡◌, ◌↔◌, ℕ, Bool, true, false, IsTrue, List, [], ◌∷◌, codes, refl}
 use Rattle.p21_express_lexemes.specs.Taking.{Items}
-use Rattle.p21_express_syntax.specs.Declaring.{ended}
+use Rattle.p21_express_syntax.specs.Declaring.{has_nothing_left}
 use Rattle.std.specs.Str.{bytes_eq}
 use Rattle.std.proofs.lemmas.Slice.Eq.{bytes_eq-Decides}
 use Rattle.p21_schemas.specs.Express.{identifier, digits, simple_string, encoded_string, symbol}
@@ -21,7 +21,7 @@ functions_apart = words_apart (codes "FUNCTION") (codes "END_FUNCTION") refl
 pub procedures_apart : AreApart (is_word (codes "PROCEDURE")) (is_word (codes "END_PROCEDURE"))
 procedures_apart = words_apart (codes "PROCEDURE") (codes "END_PROCEDURE") refl
 
-pub ended_of : (answer : Bool) (items : Items) → IsTrue answer ↔ (items ≡ []) → answer ≡ ended items
+pub ended_of : (answer : Bool) (items : Items) → IsTrue answer ↔ (items ≡ []) → answer ≡ has_nothing_left items
 ended_of true [] h = refl
 ended_of false [] h = absurd (let e : IsTrue false = h.1 refl in cc)
 ended_of true (item ∷ items) h = absurd (let e = h.0 refl in cc)

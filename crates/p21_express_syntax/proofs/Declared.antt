@@ -15,10 +15,10 @@ use Rattle.p21_express_lexemes.specs.Taking.{Items, put, take_symbol, take_word,
 use Rattle.p21_express_lexemes.proofs.Put.{put-append}
 use Rattle.p21_express_lexemes.proofs.Running.{nothing_apart, parentheses_apart}
 use Rattle.p21_express_syntax.specs.Declaring.{names_of, one_of_of, expression_by, expression_of, abstract_at, constraint_of, supertypes_of, derive_of, take_rules, entity_end, entity_at, body_of, type_end, defined_at, explicit_of, derived_of}
-use Rattle.p21_express_syntax.specs.Kept.{KeptConstraint, KeptAttributes, KeptEntity, KeptBody, underlying, KeptDefinedType}
-use Rattle.p21_express_syntax.specs.Keeping.{kept_attributes, kept_expression, kept_constraint, kept_derived, derived_if, kept_entity, kept_body, kept_defined}
+use Rattle.p21_express_syntax.specs.Digest.{ConstraintDigest, AttributesDigest, EntityDigest, BodyDigest, underlying, DefinedTypeDigest}
+use Rattle.p21_express_syntax.specs.Digesting.{attributes_digest, expression_digest, constraint_digest, derived_digest, derived_digests, entity_digest, body_digest, defined_type_digest}
 use Rattle.p21_express_syntax.specs.Many.{many_of}
-use Rattle.p21_express_syntax.specs.Reading.{bind, type_of}
+use Rattle.p21_express_syntax.specs.DataTypes.{bind, type_of}
 use Rattle.p21_express_syntax.specs.Within.{AreAttributesWithin, IsEntityWithin, IsBodyWithin, IsDefinedWithin}
 use Rattle.p21_express_syntax.specs.declared.attributes.AttributeName.{AttributeName}
 use Rattle.p21_express_syntax.proofs.Lists.{names_are, AreAttributes, explicit_written, derived_written, run_written, symbol_only, word_only}
@@ -52,7 +52,7 @@ pub record ExpressionWritten (value : Option (List (List ℕ))) (items rest : It
   pub tree : SupertypeExpression
   pub stands : items ≡ put (expression_lexemes tree) (over (symbol 41) rest)
   pub is_one : IsExpression tree
-  pub same : kept_expression tree ≡ value
+  pub same : expression_digest tree ≡ value
 
 expression_by_is : (items : Items) (o : Option (List (List ℕ) × Items)) → one_of_of items ≡ o → OfSome (expression_by o (behind_run (is_symbol 40) (is_symbol 41) items)) (λ f. ExpressionWritten f.0 items f.1)
 expression_by_is items None e = of_bind (behind_run (is_symbol 40) (is_symbol 41) items) _ _ (λ rest er.
@@ -72,10 +72,10 @@ put_supertype_of e more =
     put-append (word (codes "SUPERTYPE") ++ word (codes "OF") ++ symbols (codes "(") ++ expression_lexemes e) (symbols (codes ")")) more
     ∙ put-append (word (codes "SUPERTYPE") ++ word (codes "OF") ++ symbols (codes "(")) (expression_lexemes e) (over (symbol 41) more)
 
-abbrev pub ConstraintWritten : KeptConstraint → Items → Items → Type 0
-ConstraintWritten value items rest = Written constraint_lexemes IsConstraint kept_constraint value items rest
+abbrev pub ConstraintWritten : ConstraintDigest → Items → Items → Type 0
+ConstraintWritten value items rest = Written constraint_lexemes IsConstraint constraint_digest value items rest
 
-constraint_same : (is_abstract : Bool) (tree : SupertypeExpression) (value : Option (List (List ℕ))) → kept_expression tree ≡ value → ◌≡◌ {A = KeptConstraint} (record { is_abstract = is_abstract; one_of = kept_expression tree }) (record { is_abstract = is_abstract; one_of = value })
+constraint_same : (is_abstract : Bool) (tree : SupertypeExpression) (value : Option (List (List ℕ))) → expression_digest tree ≡ value → ◌≡◌ {A = ConstraintDigest} (record { is_abstract = is_abstract; one_of = expression_digest tree }) (record { is_abstract = is_abstract; one_of = value })
 constraint_same is_abstract tree value e = rw e refl
 
 supertype_stands : (items a b c rest : Items) (e : SupertypeExpression) → items ≡ over (identifier (codes "SUPERTYPE")) a → a ≡ over (identifier (codes "OF")) b → b ≡ over (symbol 40) c → c ≡ put (expression_lexemes e) (over (symbol 41) rest) → items ≡ put (supertype_of_lexemes e) rest
@@ -131,13 +131,13 @@ pub record DeriveWritten (value : List AttributeName) (items rest : Items) : Typ
   pub tree : Option (List DerivedAttribute)
   pub stands : items ≡ put (derive_lexemes tree) rest
   pub is_one : IfSome tree (Each IsDerived)
-  pub same : derived_if tree ≡ value
+  pub same : derived_digests tree ≡ value
 
 derive_is : (items : Items) → OfSome (derive_of items) (λ f. DeriveWritten f.0 items f.1)
 unfolding derive_of
 derive_is items = of_choose (take_word (codes "DERIVE") items) _ _ _
     (λ a ea. some_of (many_of derived_of a) _ (λ n en.
-    let w = of_some (many_of derived_of a) _ (many_is derived_of derived_lexemes IsDerived kept_derived derived_written a) n en in
+    let w = of_some (many_of derived_of a) _ (many_is derived_of derived_lexemes IsDerived derived_digest derived_written a) n en in
     record { tree = Some w.tree; stands = word_taken (codes "DERIVE") items a ea ∙ ap (over (identifier (codes "DERIVE"))) w.stands; is_one = w.is_one; same = w.same }))
     (λ n. record { tree = None; stands = refl; is_one = tt; same = refl })
 
@@ -183,18 +183,18 @@ entity_stands : (x : EntityDeclaration) (items a b c d e f g h i rest : Items) �
     → f ≡ put (derive_lexemes x.derive) g → g ≡ put (rules_lexemes x.rules) (over (identifier (codes "END_ENTITY")) i) → i ≡ over (symbol 59) rest → items ≡ put (entity_lexemes x) rest
 entity_stands x items a b c d e f g h i rest p q r s t u v w y = rw (p, q, r, s, t, u, v, w, y) (sym (put_entity x rest))
 
-entity_same : (name : List ℕ) (constraint : SupertypeConstraint) (subtype_of : Option (List (List ℕ))) (explicit : List ExplicitAttributes) (derive : Option (List DerivedAttribute)) (rules : Option Rules) (c : KeptConstraint) (s : List (List ℕ)) (e : List KeptAttributes) (d : List AttributeName)
-    → kept_constraint constraint ≡ c → names_written subtype_of ≡ s → map kept_attributes explicit ≡ e → derived_if derive ≡ d
-    → ◌≡◌ {A = KeptEntity} (kept_entity (record { name = name; constraint = constraint; subtype_of = subtype_of; explicit = explicit; derive = derive; rules = rules })) (record { name = name; constraint = c; supertypes = s; explicit = e; derived = d })
+entity_same : (name : List ℕ) (constraint : SupertypeConstraint) (subtype_of : Option (List (List ℕ))) (explicit : List ExplicitAttributes) (derive : Option (List DerivedAttribute)) (rules : Option Rules) (c : ConstraintDigest) (s : List (List ℕ)) (e : List AttributesDigest) (d : List AttributeName)
+    → constraint_digest constraint ≡ c → names_written subtype_of ≡ s → map attributes_digest explicit ≡ e → derived_digests derive ≡ d
+    → ◌≡◌ {A = EntityDigest} (entity_digest (record { name = name; constraint = constraint; subtype_of = subtype_of; explicit = explicit; derive = derive; rules = rules })) (record { name = name; constraint = c; supertypes = s; explicit = e; derived = d })
 entity_same name tree subtype_of explicit derive rules c s e d p q r t = rw (← p, ← q, ← r, ← t) refl
 
-pub entity_is : (items : Items) → OfSome (entity_at items) (λ f. Written entity_lexemes IsEntity kept_entity f.0 (over (identifier (codes "ENTITY")) items) f.1)
+pub entity_is : (items : Items) → OfSome (entity_at items) (λ f. Written entity_lexemes IsEntity entity_digest f.0 (over (identifier (codes "ENTITY")) items) f.1)
 unfolding entity_at
 entity_is items = of_bind (take_name items) _ _ (λ n en. of_bind (constraint_of n.1) _ _ (λ c ec. of_bind (supertypes_of c.1) _ _ (λ s es. of_bind (take_symbol 59 s.1) _ _ (λ a ea. of_bind (many_of explicit_of a) _ _ (λ e ee. of_bind (derive_of e.1) _ _ (λ d ed. of_bind (entity_end d.1) _ _ (λ b eb. of_bind (take_symbol 59 b) _ _ (λ rest er.
     let name = name_taken items n.0 n.1 en in
     let constraint = of_some (constraint_of n.1) _ (constraint_is n.1) c ec in
     let supertypes = of_some (supertypes_of c.1) _ (supertypes_are c.1) s es in
-    let explicit = of_some (many_of explicit_of a) _ (many_is explicit_of explicit_lexemes AreAttributes kept_attributes explicit_written a) e ee in
+    let explicit = of_some (many_of explicit_of a) _ (many_is explicit_of explicit_lexemes AreAttributes attributes_digest explicit_written a) e ee in
     let derive = of_some (derive_of e.1) _ (derive_is e.1) d ed in
     let end = of_some (entity_end d.1) _ (end_is d.1) b eb in
     let parts = explicit_parts explicit.tree explicit.is_one in
@@ -211,7 +211,7 @@ entity_is items = of_bind (take_name items) _ _ (λ n en. of_bind (constraint_of
 abbrev pub IsBodyOf : type_declaration.Body → Type 0
 IsBodyOf x = IsBody x × IsBodyWithin x
 
-body_is : (items : Items) → OfSome (body_of items) (λ f. Written body_lexemes IsBodyOf kept_body f.0 items f.1)
+body_is : (items : Items) → OfSome (body_of items) (λ f. Written body_lexemes IsBodyOf body_digest f.0 items f.1)
 unfolding body_of
 body_is items = of_choose (take_word (codes "ENUMERATION") items) _ _ _
     (λ a ea. of_bind (take_word (codes "OF") a) _ _ (λ b eb. of_bind (names_of b) _ _ (λ n en.
@@ -250,10 +250,10 @@ defined_stands : (x : TypeDeclaration) (items a b c d e f rest : Items) → item
     → over (identifier (codes "TYPE")) items ≡ put (type_declaration_lexemes x) rest
 defined_stands x items a b c d e f rest p q r s t u = rw (p, q, r, s, t, u) (sym (put_defined x rest))
 
-defined_same : (name : List ℕ) (body : type_declaration.Body) (rules : Option (List Lexeme)) (b : KeptBody) → kept_body body ≡ b → ◌≡◌ {A = KeptDefinedType} (kept_defined (record { name = name; body = body; rules = rules })) (record { name = name; body = b })
+defined_same : (name : List ℕ) (body : type_declaration.Body) (rules : Option (List Lexeme)) (b : BodyDigest) → body_digest body ≡ b → ◌≡◌ {A = DefinedTypeDigest} (defined_type_digest (record { name = name; body = body; rules = rules })) (record { name = name; body = b })
 defined_same name body rules b p = rw (← p) refl
 
-pub defined_is : (items : Items) → OfSome (defined_at items) (λ f. Written type_declaration_lexemes IsDefined kept_defined f.0 (over (identifier (codes "TYPE")) items) f.1)
+pub defined_is : (items : Items) → OfSome (defined_at items) (λ f. Written type_declaration_lexemes IsDefined defined_type_digest f.0 (over (identifier (codes "TYPE")) items) f.1)
 unfolding defined_at
 defined_is items = of_bind (take_name items) _ _ (λ n en. of_bind (take_symbol 61 n.1) _ _ (λ a ea. of_bind (body_of a) _ _ (λ b eb. of_bind (take_symbol 59 b.1) _ _ (λ c ec. of_bind (type_end c) _ _ (λ d ed. of_bind (take_symbol 59 d) _ _ (λ rest er.
     let name = name_taken items n.0 n.1 en in

@@ -15,8 +15,8 @@ use Rattle.p21_express_lexemes.specs.Runs.{behind_run}
 use Rattle.p21_express_lexemes.specs.Taking.{Items, put, take_symbol, take_word, take_name}
 use Rattle.p21_express_lexemes.proofs.Running.{runs, nothing_apart, parentheses_apart}
 use Rattle.p21_express_syntax.specs.Declaring.{one_of_of, expression_of, abstract_at, constraint_of, supertypes_of, derive_of, take_rules, entity_end, entity_at, body_of, type_end, defined_at, attribute_of, explicit_of, derived_of}
-use Rattle.p21_express_syntax.specs.Kept.{KeptConstraint, KeptAttributes, KeptEntity, KeptBody, KeptDefinedType}
-use Rattle.p21_express_syntax.specs.Keeping.{kept_attributes, kept_expression, kept_constraint, kept_derived, derived_if, kept_entity, kept_body, kept_defined}
+use Rattle.p21_express_syntax.specs.Digest.{ConstraintDigest, AttributesDigest, EntityDigest, BodyDigest, DefinedTypeDigest}
+use Rattle.p21_express_syntax.specs.Digesting.{attributes_digest, expression_digest, constraint_digest, derived_digest, derived_digests, entity_digest, body_digest, defined_type_digest}
 use Rattle.p21_express_syntax.specs.Within.{AreAttributesWithin, IsBodyWithin}
 use Rattle.p21_express_syntax.specs.declared.attributes.AttributeName.{AttributeName}
 use Rattle.p21_express_syntax.proofs.Declared.{IsEntity, IsDefined, one_of_is, one_of_read, put_supertype_of, put_entity, put_defined}
@@ -56,7 +56,7 @@ no_one_of run more is = by (one_of_of (put run (over (symbol 41) more))) refl
         let w = of_some {A = List (List ℕ) × Items} (one_of_of (put run (over (symbol 41) more))) (λ f. (put run (over (symbol 41) more) ≡ put (one_of_lexemes f.0) (over (symbol 41) f.1)) × AreNames f.0) (one_of_is (put run (over (symbol 41) more))) (names, rest) e in
         absurd (is.1 (names, w.1, same_run run (one_of_lexemes names) more rest is.0 (expression-is_run (one_of names) w.1) w.0))
 
-expression_read : (x : SupertypeExpression) (more : Items) → IsExpression x → ◌≡◌ {A = Option (Option (List (List ℕ)) × Items)} (expression_of (over (symbol 40) (put (expression_lexemes x) (over (symbol 41) more)))) (Some (kept_expression x, more))
+expression_read : (x : SupertypeExpression) (more : Items) → IsExpression x → ◌≡◌ {A = Option (Option (List (List ℕ)) × Items)} (expression_of (over (symbol 40) (put (expression_lexemes x) (over (symbol 41) more)))) (Some (expression_digest x, more))
 unfolding expression_of take_symbol
 expression_read (one_of names) more is = rw (one_of_read names more is) refl
 expression_read (other_run run) more is = rw (no_one_of run more is) (rw (run_read (is_symbol 40) (is_symbol 41) (symbol 41) run more parentheses_apart is.0 refl) refl)
@@ -67,7 +67,7 @@ pub record NoConstraint (more : Items) : Type 0 where
   pub no_supertype : take_word (codes "SUPERTYPE") more ≡ None
   pub no_of : take_word (codes "OF") more ≡ None
 
-constraint_read : (x : SupertypeConstraint) (more : Items) → IsConstraint x → NoConstraint more → ◌≡◌ {A = Option (KeptConstraint × Items)} (constraint_of (put (constraint_lexemes x) more)) (Some (kept_constraint x, more))
+constraint_read : (x : SupertypeConstraint) (more : Items) → IsConstraint x → NoConstraint more → ◌≡◌ {A = Option (ConstraintDigest × Items)} (constraint_of (put (constraint_lexemes x) more)) (Some (constraint_digest x, more))
 unfolding constraint_of abstract_at take_word
 constraint_read no_constraint more is n = rw (n.no_abstract, n.no_supertype) refl
 constraint_read abstract_entity more is n = rw n.no_supertype refl
@@ -93,7 +93,7 @@ no_subtype more = refl
 
 -- no attribute and no DERIVE stands first
 pub record NoAttribute (more : Items) : Type 0 where
-  pub no_explicit : ◌≡◌ {A = Option (Option (KeptAttributes × Items))} (explicit_of more) None
+  pub no_explicit : ◌≡◌ {A = Option (Option (AttributesDigest × Items))} (explicit_of more) None
   pub no_derived : ◌≡◌ {A = Option (Option (AttributeName × Items))} (derived_of more) None
   pub no_derive : take_word (codes "DERIVE") more ≡ None
 
@@ -112,15 +112,15 @@ rules_first : (rules : Option Rules) (more : Items) → IfSome rules AreRules �
 rules_first None more is = end_first more
 rules_first (Some rules) more is = rule_first rules.first (put rules.run (over (identifier (codes "END_ENTITY")) more)) is.0
 
-derive_first : (derive : Option (List DerivedAttribute)) (more : Items) → NoAttribute more → ◌≡◌ {A = Option (Option (KeptAttributes × Items))} (explicit_of (put (derive_lexemes derive) more)) None
+derive_first : (derive : Option (List DerivedAttribute)) (more : Items) → NoAttribute more → ◌≡◌ {A = Option (Option (AttributesDigest × Items))} (explicit_of (put (derive_lexemes derive) more)) None
 unfolding explicit_of attribute_of take_word take_name is_reserved
 derive_first None more n = n.no_explicit
 derive_first (Some derived) more n = refl
 
-derive_read : (derive : Option (List DerivedAttribute)) (more : Items) → IfSome derive (Each IsDerived) → NoAttribute more → ◌≡◌ {A = Option (List AttributeName × Items)} (derive_of (put (derive_lexemes derive) more)) (Some (derived_if derive, more))
+derive_read : (derive : Option (List DerivedAttribute)) (more : Items) → IfSome derive (Each IsDerived) → NoAttribute more → ◌≡◌ {A = Option (List AttributeName × Items)} (derive_of (put (derive_lexemes derive) more)) (Some (derived_digests derive, more))
 unfolding derive_of take_word
 derive_read None more is n = rw n.no_derive refl
-derive_read (Some derived) more is n = many_read derived_of derived_shortens derived_lexemes IsDerived kept_derived derived_read derived more is n.no_derived
+derive_read (Some derived) more is n = many_read derived_of derived_shortens derived_lexemes IsDerived derived_digest derived_read derived more is n.no_derived
 
 both_explicit : (xs : List ExplicitAttributes) → Each AreExplicit xs → Each AreAttributesWithin xs → Each AreAttributes xs
 both_explicit [] h k = tt
@@ -149,9 +149,9 @@ end_read (Some rules) more is = rules_read rules more is
 -- ---- entities
 
 entity_by : (x : EntityDeclaration) (more : Items) → IsEntity x
-    → ◌≡◌ {A = Option (KeptEntity × Items)} (entity_at (over (identifier x.name) (put (constraint_lexemes x.constraint) (put (subtype_lexemes x.subtype_of) (over (symbol 59) (put (flat_map explicit_lexemes x.explicit) (put (derive_lexemes x.derive) (put (rules_lexemes x.rules)
+    → ◌≡◌ {A = Option (EntityDigest × Items)} (entity_at (over (identifier x.name) (put (constraint_lexemes x.constraint) (put (subtype_lexemes x.subtype_of) (over (symbol 59) (put (flat_map explicit_lexemes x.explicit) (put (derive_lexemes x.derive) (put (rules_lexemes x.rules)
     (over (identifier (codes "END_ENTITY")) (over (symbol 59) more))))))))))
-    (Some (kept_entity x, more))
+    (Some (entity_digest x, more))
 unfolding entity_at take_symbol
 entity_by x more is =
     let last : Items = over (symbol 59) more in
@@ -163,10 +163,10 @@ entity_by x more is =
     rw (name_read x.name (put (constraint_lexemes x.constraint) subtype) is.0.name_is)
     (rw (constraint_read x.constraint subtype is.0.constraint_is (behind_constraint x.subtype_of explicit))
     (rw (supertypes_read x.subtype_of (over (symbol 59) explicit) is.0.supertypes_are (no_subtype explicit))
-    (rw (many_read explicit_of explicit_shortens explicit_lexemes AreAttributes kept_attributes explicit_read x.explicit derive (both_explicit x.explicit is.0.explicit_are is.1) (derive_first x.derive rules free))
+    (rw (many_read explicit_of explicit_shortens explicit_lexemes AreAttributes attributes_digest explicit_read x.explicit derive (both_explicit x.explicit is.0.explicit_are is.1) (derive_first x.derive rules free))
     (rw (derive_read x.derive rules is.0.derived_are free) (rw (end_read x.rules last is.0.rules_are) refl)))))
 
-pub entity_read : (x : EntityDeclaration) (more : Items) → IsEntity x → (behind : Items) × (put (entity_lexemes x) more ≡ over (identifier (codes "ENTITY")) behind) × ◌≡◌ {A = Option (KeptEntity × Items)} (entity_at behind) (Some (kept_entity x, more))
+pub entity_read : (x : EntityDeclaration) (more : Items) → IsEntity x → (behind : Items) × (put (entity_lexemes x) more ≡ over (identifier (codes "ENTITY")) behind) × ◌≡◌ {A = Option (EntityDigest × Items)} (entity_at behind) (Some (entity_digest x, more))
 entity_read x more is = (_, put_entity x more, entity_by x more is)
 
 -- ---- types
@@ -191,7 +191,7 @@ type_begins (list_type bounds unique element) more is = (refl, refl)
 type_begins (set_type bounds element) more is = (refl, refl)
 type_begins (bag_type bounds element) more is = (refl, refl)
 
-body_read : (x : type_declaration.Body) (more : Items) → IsBody x → IsBodyWithin x → ◌≡◌ {A = Option (KeptBody × Items)} (body_of (put (body_lexemes x) (over (symbol 59) more))) (Some (kept_body x, over (symbol 59) more))
+body_read : (x : type_declaration.Body) (more : Items) → IsBody x → IsBodyWithin x → ◌≡◌ {A = Option (BodyDigest × Items)} (body_of (put (body_lexemes x) (over (symbol 59) more))) (Some (body_digest x, over (symbol 59) more))
 unfolding body_of take_word
 body_read (type_declaration.enumeration names) more is within = rw (names_read names (over (symbol 59) more) is) refl
 body_read (type_declaration.select names) more is within = rw (names_read names (over (symbol 59) more) is) refl
@@ -205,8 +205,8 @@ where_read None more is = refl
 where_read (Some run) more is = run_read none (is_word (codes "END_TYPE")) (identifier (codes "END_TYPE")) run more (nothing_apart (is_word (codes "END_TYPE"))) is refl
 
 defined_by : (x : TypeDeclaration) (more : Items) → IsDefined x
-    → ◌≡◌ {A = Option (KeptDefinedType × Items)} (defined_at (over (identifier x.name) (over (symbol 61) (put (body_lexemes x.body) (over (symbol 59) (put (where_lexemes x.rules) (over (identifier (codes "END_TYPE")) (over (symbol 59) more))))))))
-    (Some (kept_defined x, more))
+    → ◌≡◌ {A = Option (DefinedTypeDigest × Items)} (defined_at (over (identifier x.name) (over (symbol 61) (put (body_lexemes x.body) (over (symbol 59) (put (where_lexemes x.rules) (over (identifier (codes "END_TYPE")) (over (symbol 59) more))))))))
+    (Some (defined_type_digest x, more))
 unfolding defined_at take_symbol
 defined_by x more is =
     let last : Items = over (symbol 59) more in
@@ -214,5 +214,5 @@ defined_by x more is =
     let body : Items = put (body_lexemes x.body) (over (symbol 59) rules) in
     rw (name_read x.name (over (symbol 61) body) is.0.name_is) (rw (body_read x.body rules is.0.body_is is.1) (rw (where_read x.rules last is.0.rules_are) refl))
 
-pub defined_read : (x : TypeDeclaration) (more : Items) → IsDefined x → (behind : Items) × (put (type_declaration_lexemes x) more ≡ over (identifier (codes "TYPE")) behind) × ◌≡◌ {A = Option (KeptDefinedType × Items)} (defined_at behind) (Some (kept_defined x, more))
+pub defined_read : (x : TypeDeclaration) (more : Items) → IsDefined x → (behind : Items) × (put (type_declaration_lexemes x) more ≡ over (identifier (codes "TYPE")) behind) × ◌≡◌ {A = Option (DefinedTypeDigest × Items)} (defined_at behind) (Some (defined_type_digest x, more))
 defined_read x more is = (_, put_defined x more, defined_by x more is)

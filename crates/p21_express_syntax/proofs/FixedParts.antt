@@ -12,7 +12,7 @@ use Rattle.p21_express_lexemes.specs.Taking.{Items, put, take_symbol, take_word,
 use Rattle.p21_express_lexemes.proofs.Put.{put-append}
 use Rattle.p21_express_lexemes.proofs.Running.{runs, nothing_apart, parentheses_apart}
 use Rattle.p21_express_syntax.specs.Declaring.{names_of, one_of_of}
-use Rattle.p21_express_syntax.specs.Reading.{bind, choose, flag_of}
+use Rattle.p21_express_syntax.specs.DataTypes.{bind, choose, flag_of}
 use Rattle.p21_express_syntax.proofs.Declared.{one_of_read, put_supertype_of}
 use Rattle.p21_express_syntax.proofs.DeclaredRead.{NoConstraint, no_one_of, snoc_same}
 use Rattle.p21_express_syntax.proofs.Lists.{comma, put_explicit, put_derived}

@@ -6,7 +6,7 @@ use Rattle.std.proofs.lemmas.Slice.Eq.{bytes_eq-Decides}
 use Rattle.p21_schemas.specs.Express.{Lexeme, identifier, digits, simple_string, encoded_string, symbol}
 use Rattle.p21_schemas.specs.ReservedWord.{IsName, AreNames}
 use Rattle.p21_schemas.specs.WrittenType.{WrittenType, word, symbols, optional_word, type_lexemes}
-use Rattle.p21_schemas.specs.Separated.{separated, names_lexemes}
+use Rattle.p21_schemas.specs.Separated.{comma_separated, names_lexemes}
 use Rattle.p21_schemas.specs.EntityDeclaration as written
 use Rattle.p21_schemas.specs.EntityDeclaration.{own, redeclared, attribute_lexemes, IsAttributeName, ExplicitAttributes, explicit_lexemes, AreExplicit, DerivedAttribute, derived_lexemes, IsDerived}
 use Rattle.p21_schemas.specs.Run.{IsRun, is_word, is_symbol, none}
@@ -15,10 +15,10 @@ use Rattle.p21_express_lexemes.specs.Taking.{Items, put, take_symbol, take_word,
 use Rattle.p21_express_lexemes.proofs.Put.{put-append}
 use Rattle.p21_express_lexemes.proofs.Running.{nothing_apart, has_one_run}
 use Rattle.p21_express_syntax.specs.Declaring.{comma_name_of, names_from, names_of, redeclared_at, own_of, attribute_of, comma_attribute_of, attributes_from, attributes_behind, explicit_of, derived_behind, derived_of, flat, step_bind}
-use Rattle.p21_express_syntax.specs.Kept.{KeptType, KeptAttributes}
-use Rattle.p21_express_syntax.specs.Keeping.{kept_type, kept_name, kept_attributes, kept_derived}
+use Rattle.p21_express_syntax.specs.Digest.{TypeDigest, AttributesDigest}
+use Rattle.p21_express_syntax.specs.Digesting.{type_digest, name_digest, attributes_digest, derived_digest}
 use Rattle.p21_express_syntax.specs.Many.{with_items, many_of}
-use Rattle.p21_express_syntax.specs.Reading.{flag_of, type_of}
+use Rattle.p21_express_syntax.specs.DataTypes.{flag_of, type_of}
 use Rattle.p21_express_syntax.specs.Within.{AreAttributesWithin}
 use Rattle.p21_express_syntax.specs.declared.attributes.AttributeName.{AttributeName}
 use Rattle.p21_express_syntax.proofs.Repeated.{Shortens, StepWritten, ManyWritten, step_written, many_is, written_shortens}
@@ -31,11 +31,11 @@ use Rattle.p21_express_syntax.proofs.TypesSound.{over, type_is}
 abbrev pub comma : {A : Type 0} → (A → List Lexeme) → A → List Lexeme
 comma f x = symbol 44 ∷ f x
 
-pub put_separated : {A : Type 0} (f : A → List Lexeme) (first : A) (others : List A) (more : Items) → put (separated f (first ∷ others)) more ≡ put (f first) (put (flat_map (comma f) others) more)
+pub put_separated : {A : Type 0} (f : A → List Lexeme) (first : A) (others : List A) (more : Items) → put (comma_separated f (first ∷ others)) more ≡ put (f first) (put (flat_map (comma f) others) more)
 put_separated f first [] more = refl
 put_separated f first (x ∷ others) more =
-    put-append (f first ++ symbols (codes ",")) (separated f (x ∷ others)) more
-    ∙ (put-append (f first) (symbols (codes ",")) (put (separated f (x ∷ others)) more)
+    put-append (f first ++ symbols (codes ",")) (comma_separated f (x ∷ others)) more
+    ∙ (put-append (f first) (symbols (codes ",")) (put (comma_separated f (x ∷ others)) more)
     ∙ ap (λ (y : Items). put (f first) (Some (symbol 44) ∷ y)) (put_separated f x others more ∙ sym (put-append (f x) (flat_map (comma f) others) more)))
 
 comma_some : {A : Type 0} (f : A → List Lexeme) (x : A) → 0 < length (comma f x)
@@ -81,7 +81,7 @@ from_is first items = from_others first items (many_of comma_name_of items) (man
 
 pub put_names : (first : List ℕ) (names : List (List ℕ)) (more : Items) → put (names_lexemes (first ∷ names)) more ≡ over (symbol 40) (over (identifier first) (put (flat_map (comma word) names) (over (symbol 41) more)))
 put_names first names more =
-    ap (over (symbol 40)) (put-append (separated word (first ∷ names)) (symbols (codes ")")) more ∙ put_separated word first names (over (symbol 41) more))
+    ap (over (symbol 40)) (put-append (comma_separated word (first ∷ names)) (symbols (codes ")")) more ∙ put_separated word first names (over (symbol 41) more))
 
 abbrev pub NamesWritten : List (List ℕ) → Items → Items → Type 0
 NamesWritten names items rest = (items ≡ put (names_lexemes names) rest) × AreNames names
@@ -101,7 +101,7 @@ names_are items = of_bind (take_symbol 40 items) _ _ (λ a ea. of_bind (take_nam
 -- ---- attributes
 
 abbrev pub AttributeWritten : AttributeName → Items → Items → Type 0
-AttributeWritten value items rest = Written attribute_lexemes IsAttributeName kept_name value items rest
+AttributeWritten value items rest = Written attribute_lexemes IsAttributeName name_digest value items rest
 
 redeclared_is : (items : Items) → OfSome (redeclared_at items) (λ f. AttributeWritten f.0 (over (identifier (codes "SELF")) items) f.1)
 unfolding redeclared_at
@@ -132,31 +132,31 @@ flat_is None claim h = tt
 flat_is (Some None) claim h = tt
 flat_is (Some (Some x)) claim h = h
 
-pub comma_attribute_written : StepWritten comma_attribute_of (comma attribute_lexemes) IsAttributeName kept_name
+pub comma_attribute_written : StepWritten comma_attribute_of (comma attribute_lexemes) IsAttributeName name_digest
 unfolding comma_attribute_of
-comma_attribute_written = step_written comma_attribute_of (comma attribute_lexemes) IsAttributeName kept_name (λ items. of_choose (take_symbol 44 items) _ _ _
+comma_attribute_written = step_written comma_attribute_of (comma attribute_lexemes) IsAttributeName name_digest (λ items. of_choose (take_symbol 44 items) _ _ _
     (λ r er. some_of (flat (attribute_of r)) _ (λ f ef.
     let w = of_some (flat (attribute_of r)) _ (flat_is (attribute_of r) _ (attribute_is r)) f ef in
     record { tree = w.tree; stands = symbol_taken 44 items r er ∙ ap (over (symbol 44)) w.stands; is_one = w.is_one; same = w.same }))
     (λ n. tt))
 
 pub comma_attribute_shortens : Shortens comma_attribute_of
-comma_attribute_shortens = written_shortens comma_attribute_of (comma attribute_lexemes) IsAttributeName kept_name comma_attribute_written (λ x. comma_some attribute_lexemes x)
+comma_attribute_shortens = written_shortens comma_attribute_of (comma attribute_lexemes) IsAttributeName name_digest comma_attribute_written (λ x. comma_some attribute_lexemes x)
 
 -- attributes behind a first one
 pub record AttributesFrom (first : AttributeName) (all : List AttributeName) (items rest : Items) : Type 0 where
   pub others : List written.AttributeName
-  pub all_are : all ≡ first ∷ map kept_name others
+  pub all_are : all ≡ first ∷ map name_digest others
   pub stands : items ≡ put (flat_map (comma attribute_lexemes) others) rest
   pub are_names : Each IsAttributeName others
 
-all_others : (first : AttributeName) (items : Items) (o : Option (List AttributeName × Items)) → OfSome o (λ r. ManyWritten (comma attribute_lexemes) IsAttributeName kept_name r.0 items r.1) → OfSome (with_items (first ∷ []) o) (λ r. AttributesFrom first r.0 items r.1)
+all_others : (first : AttributeName) (items : Items) (o : Option (List AttributeName × Items)) → OfSome o (λ r. ManyWritten (comma attribute_lexemes) IsAttributeName name_digest r.0 items r.1) → OfSome (with_items (first ∷ []) o) (λ r. AttributesFrom first r.0 items r.1)
 all_others first items None h = tt
 all_others first items (Some (names, rest)) h = record { others = h.tree; all_are = ap (λ (x : List AttributeName). first ∷ x) (sym h.same); stands = h.stands; are_names = h.is_one }
 
 attributes_are : (first : AttributeName) (items : Items) → OfSome (attributes_from first items) (λ r. AttributesFrom first r.0 items r.1)
 unfolding attributes_from
-attributes_are first items = all_others first items (many_of comma_attribute_of items) (many_is comma_attribute_of (comma attribute_lexemes) IsAttributeName kept_name comma_attribute_written items)
+attributes_are first items = all_others first items (many_of comma_attribute_of items) (many_is comma_attribute_of (comma attribute_lexemes) IsAttributeName name_digest comma_attribute_written items)
 
 -- ---- explicit attributes
 
@@ -167,21 +167,21 @@ pub put_explicit : (first : written.AttributeName) (others : List written.Attrib
     → put (explicit_lexemes (record { names = first ∷ others; optional = optional; type = type })) more
     ≡ put (attribute_lexemes first) (put (flat_map (comma attribute_lexemes) others) (over (symbol 58) (put (optional_word optional (codes "OPTIONAL")) (put (type_lexemes type) (over (symbol 59) more)))))
 put_explicit first others optional type more =
-    put-append (separated attribute_lexemes (first ∷ others) ++ symbols (codes ":") ++ optional_word optional (codes "OPTIONAL") ++ type_lexemes type) (symbols (codes ";")) more
-    ∙ (put-append (separated attribute_lexemes (first ∷ others) ++ symbols (codes ":") ++ optional_word optional (codes "OPTIONAL")) (type_lexemes type) (over (symbol 59) more)
-    ∙ (put-append (separated attribute_lexemes (first ∷ others) ++ symbols (codes ":")) (optional_word optional (codes "OPTIONAL")) (put (type_lexemes type) (over (symbol 59) more))
-    ∙ (put-append (separated attribute_lexemes (first ∷ others)) (symbols (codes ":")) (put (optional_word optional (codes "OPTIONAL")) (put (type_lexemes type) (over (symbol 59) more)))
+    put-append (comma_separated attribute_lexemes (first ∷ others) ++ symbols (codes ":") ++ optional_word optional (codes "OPTIONAL") ++ type_lexemes type) (symbols (codes ";")) more
+    ∙ (put-append (comma_separated attribute_lexemes (first ∷ others) ++ symbols (codes ":") ++ optional_word optional (codes "OPTIONAL")) (type_lexemes type) (over (symbol 59) more)
+    ∙ (put-append (comma_separated attribute_lexemes (first ∷ others) ++ symbols (codes ":")) (optional_word optional (codes "OPTIONAL")) (put (type_lexemes type) (over (symbol 59) more))
+    ∙ (put-append (comma_separated attribute_lexemes (first ∷ others)) (symbols (codes ":")) (put (optional_word optional (codes "OPTIONAL")) (put (type_lexemes type) (over (symbol 59) more)))
     ∙ put_separated attribute_lexemes first others (over (symbol 58) (put (optional_word optional (codes "OPTIONAL")) (put (type_lexemes type) (over (symbol 59) more)))))))
 
-attributes_same : (first : AttributeName) (tree : written.AttributeName) (others : List written.AttributeName) (all : List AttributeName) (optional : Bool) (type : WrittenType) (value : KeptType) → kept_name tree ≡ first → all ≡ first ∷ map kept_name others → kept_type type ≡ value
-    → ◌≡◌ {A = KeptAttributes} (kept_attributes (record { names = tree ∷ others; optional = optional; type = type })) (record { names = all; optional = optional; type = value })
+attributes_same : (first : AttributeName) (tree : written.AttributeName) (others : List written.AttributeName) (all : List AttributeName) (optional : Bool) (type : WrittenType) (value : TypeDigest) → name_digest tree ≡ first → all ≡ first ∷ map name_digest others → type_digest type ≡ value
+    → ◌≡◌ {A = AttributesDigest} (attributes_digest (record { names = tree ∷ others; optional = optional; type = type })) (record { names = all; optional = optional; type = value })
 attributes_same first tree others all optional type value e f g = rw (f, ← e, ← g) refl
 
 explicit_stands : (items a b c d e rest : Items) (first : written.AttributeName) (others : List written.AttributeName) (optional : Bool) (type : WrittenType) → items ≡ put (attribute_lexemes first) a → a ≡ put (flat_map (comma attribute_lexemes) others) b → b ≡ over (symbol 58) c → c ≡ put (optional_word optional (codes "OPTIONAL")) d
     → d ≡ put (type_lexemes type) e → e ≡ over (symbol 59) rest → items ≡ put (explicit_lexemes (record { names = first ∷ others; optional = optional; type = type })) rest
 explicit_stands items a b c d e rest first others optional type p q r s t u = rw (p, q, r, s, t, u) (sym (put_explicit first others optional type rest))
 
-behind_is : (first : AttributeName) (items behind : Items) → AttributeWritten first items behind → OfSome (attributes_behind first behind) (λ f. Written explicit_lexemes AreAttributes kept_attributes f.0 items f.1)
+behind_is : (first : AttributeName) (items behind : Items) → AttributeWritten first items behind → OfSome (attributes_behind first behind) (λ f. Written explicit_lexemes AreAttributes attributes_digest f.0 items f.1)
 unfolding attributes_behind
 behind_is first items behind w = of_bind (attributes_from first behind) _ _ (λ all el. of_bind (take_symbol 58 all.1) _ _ (λ a ea.
     let flag = flag_of (codes "OPTIONAL") a in
@@ -203,16 +203,16 @@ step_is (Some (Some (x, r))) go claim h = h x r refl
 one_attribute : (items : Items) (x : AttributeName) (r : Items) → ◌≡◌ {A = Option (Option (AttributeName × Items))} (attribute_of items) (Some (Some (x, r))) → AttributeWritten x items r
 one_attribute items x r e = of_some {A = Option (AttributeName × Items)} (attribute_of items) (λ p. OfSome p (λ f. AttributeWritten f.0 items f.1)) (attribute_is items) (Some (x, r)) e
 
-pub explicit_written : StepWritten explicit_of explicit_lexemes AreAttributes kept_attributes
+pub explicit_written : StepWritten explicit_of explicit_lexemes AreAttributes attributes_digest
 unfolding explicit_of
-explicit_written = step_written explicit_of explicit_lexemes AreAttributes kept_attributes (λ items. step_is (attribute_of items) attributes_behind _ (λ x r e. behind_is x items r (one_attribute items x r e)))
+explicit_written = step_written explicit_of explicit_lexemes AreAttributes attributes_digest (λ items. step_is (attribute_of items) attributes_behind _ (λ x r e. behind_is x items r (one_attribute items x r e)))
 
 longer : (a b : List Lexeme) → 0 < length b → 0 < length (a ++ b)
 longer [] b h = h
 longer (x ∷ a) b h = omega arith
 
 pub explicit_shortens : Shortens explicit_of
-explicit_shortens = written_shortens explicit_of explicit_lexemes AreAttributes kept_attributes explicit_written (λ x. longer (separated attribute_lexemes x.names ++ symbols (codes ":") ++ optional_word x.optional (codes "OPTIONAL") ++ type_lexemes x.type) (symbols (codes ";")) (omega arith))
+explicit_shortens = written_shortens explicit_of explicit_lexemes AreAttributes attributes_digest explicit_written (λ x. longer (comma_separated attribute_lexemes x.names ++ symbols (codes ":") ++ optional_word x.optional (codes "OPTIONAL") ++ type_lexemes x.type) (symbols (codes ";")) (omega arith))
 
 -- ---- derived attributes
 
@@ -257,7 +257,7 @@ put_derived name run more =
 derived_stands : (items a b rest : Items) (name : written.AttributeName) (run : List Lexeme) → items ≡ put (attribute_lexemes name) a → a ≡ over (symbol 58) b → b ≡ put run (over (symbol 59) rest) → items ≡ put (derived_lexemes (record { name = name; run = run })) rest
 derived_stands items a b rest name run e f g = rw (e, f, g) (sym (put_derived name run rest))
 
-derived_is : (name : AttributeName) (items behind : Items) → AttributeWritten name items behind → OfSome (derived_behind name behind) (λ f. Written derived_lexemes IsDerived kept_derived f.0 items f.1)
+derived_is : (name : AttributeName) (items behind : Items) → AttributeWritten name items behind → OfSome (derived_behind name behind) (λ f. Written derived_lexemes IsDerived derived_digest f.0 items f.1)
 unfolding derived_behind
 derived_is name items behind w = of_bind (take_symbol 58 behind) _ _ (λ a ea. of_bind (behind_run none (is_symbol 59) a) _ _ (λ rest er.
     let r = run_written none (is_symbol 59) (symbol 59) (nothing_apart (is_symbol 59)) (symbol_only 59) a rest er in
@@ -268,9 +268,9 @@ derived_is name items behind w = of_bind (take_symbol 58 behind) _ _ (λ a ea. o
       same = w.same;
     }))
 
-pub derived_written : StepWritten derived_of derived_lexemes IsDerived kept_derived
+pub derived_written : StepWritten derived_of derived_lexemes IsDerived derived_digest
 unfolding derived_of
-derived_written = step_written derived_of derived_lexemes IsDerived kept_derived (λ items. step_is (attribute_of items) derived_behind _ (λ x r e. derived_is x items r (one_attribute items x r e)))
+derived_written = step_written derived_of derived_lexemes IsDerived derived_digest (λ items. step_is (attribute_of items) derived_behind _ (λ x r e. derived_is x items r (one_attribute items x r e)))
 
 pub derived_shortens : Shortens derived_of
-derived_shortens = written_shortens derived_of derived_lexemes IsDerived kept_derived derived_written (λ x. longer (attribute_lexemes x.name ++ symbols (codes ":") ++ x.run) (symbols (codes ";")) (omega arith))
+derived_shortens = written_shortens derived_of derived_lexemes IsDerived derived_digest derived_written (λ x. longer (attribute_lexemes x.name ++ symbols (codes ":") ++ x.run) (symbols (codes ";")) (omega arith))

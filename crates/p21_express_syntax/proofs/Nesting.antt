@@ -1,13 +1,13 @@
 -- The aggregates of a type, one more at a time.
 use Rattle.std.proofs.Common.{◌≡◌, ℕ, zero, suc, ◌-◌, ◌<◌, List, [], ◌∷◌, ◌++◌, length, length-append, Option, Some, None, refl, ap, sym, ◌∙◌, arith}
 use Rattle.p21_express_lexemes.specs.Taking.{Items}
-use Rattle.p21_express_syntax.specs.Kept.{KeptType}
-use Rattle.p21_express_syntax.specs.Reading.{under, kind_of, aggregate_at, simple_of, element_of, type_of}
+use Rattle.p21_express_syntax.specs.Digest.{TypeDigest}
+use Rattle.p21_express_syntax.specs.DataTypes.{under, kind_of, aggregate_at, simple_of, element_of, type_of}
 use Rattle.p21_express_syntax.specs.declared.types.Aggregate.{Aggregate}
 use Rattle.p21_express_syntax.specs.declared.types.Kind.{Kind}
 use Rattle.p21_express_syntax.specs.declared.types.SimpleType.{SimpleType}
 
-abbrev pub within : List Aggregate → Option (KeptType × Items) → Option (KeptType × Items)
+abbrev pub within : List Aggregate → Option (TypeDigest × Items) → Option (TypeDigest × Items)
 within [] inner = inner
 within (first ∷ aggregates) inner = under first (within aggregates inner)
 
@@ -29,7 +29,7 @@ type_deep : (items : Items) (k : Kind) (behind : Items) → kind_of items ≡ So
 unfolding type_of
 type_deep items k behind e = rw e refl
 
-within_push : (aggregates : List Aggregate) (last : Aggregate) (inner : Option (KeptType × Items)) → within (aggregates ++ last ∷ []) inner ≡ within aggregates (under last inner)
+within_push : (aggregates : List Aggregate) (last : Aggregate) (inner : Option (TypeDigest × Items)) → within (aggregates ++ last ∷ []) inner ≡ within aggregates (under last inner)
 within_push [] last inner = refl
 within_push (first ∷ aggregates) last inner = ap (under first) (within_push aggregates last inner)
 
@@ -41,7 +41,7 @@ within_some : (aggregates : List Aggregate) (element : SimpleType) (rest : Items
 within_some [] element rest = refl
 within_some (first ∷ aggregates) element rest = ap (under first) (within_some aggregates element rest)
 
-pub more_layers : (start : Option (KeptType × Items)) (aggregates : List Aggregate) (items : Items) (k : Kind) (behind : Items) (last : Aggregate) (rest : Items) → start ≡ within aggregates (type_of (32 - length aggregates) items) → length aggregates < 32 → kind_of items ≡ Some (k, behind) → aggregate_at k behind ≡ Some (last, rest)
+pub more_layers : (start : Option (TypeDigest × Items)) (aggregates : List Aggregate) (items : Items) (k : Kind) (behind : Items) (last : Aggregate) (rest : Items) → start ≡ within aggregates (type_of (32 - length aggregates) items) → length aggregates < 32 → kind_of items ≡ Some (k, behind) → aggregate_at k behind ≡ Some (last, rest)
     → start ≡ within (aggregates ++ last ∷ []) (type_of (32 - length (aggregates ++ last ∷ [])) rest)
 more_layers start aggregates items k behind last rest so_far room e f =
     let more = length-append aggregates (last ∷ []) in
@@ -49,10 +49,10 @@ more_layers start aggregates items k behind last rest so_far room e f =
     so_far ∙ (ap (λ (n : ℕ). within aggregates (type_of n items)) left
     ∙ (ap (within aggregates) (type_step (32 - length (aggregates ++ last ∷ [])) items k behind last rest e f) ∙ sym (within_push aggregates last (type_of (32 - length (aggregates ++ last ∷ [])) rest))))
 
-pub no_more : (start : Option (KeptType × Items)) (aggregates : List Aggregate) (items : Items) (k : Kind) (behind : Items) → start ≡ within aggregates (type_of (32 - length aggregates) items) → kind_of items ≡ Some (k, behind) → aggregate_at k behind ≡ None → start ≡ None
+pub no_more : (start : Option (TypeDigest × Items)) (aggregates : List Aggregate) (items : Items) (k : Kind) (behind : Items) → start ≡ within aggregates (type_of (32 - length aggregates) items) → kind_of items ≡ Some (k, behind) → aggregate_at k behind ≡ None → start ≡ None
 no_more start aggregates items k behind so_far e f = so_far ∙ (ap (within aggregates) (type_wrong (32 - length aggregates) items k behind e f) ∙ within_none aggregates)
 
-pub too_deep : (start : Option (KeptType × Items)) (aggregates : List Aggregate) (items : Items) (k : Kind) (behind : Items) → start ≡ within aggregates (type_of (32 - length aggregates) items) → length aggregates ≡ 32 → kind_of items ≡ Some (k, behind) → start ≡ None
+pub too_deep : (start : Option (TypeDigest × Items)) (aggregates : List Aggregate) (items : Items) (k : Kind) (behind : Items) → start ≡ within aggregates (type_of (32 - length aggregates) items) → length aggregates ≡ 32 → kind_of items ≡ Some (k, behind) → start ≡ None
 too_deep start aggregates items k behind so_far full e =
     let none : 32 - length aggregates ≡ 0 = omega arith in
     so_far ∙ (ap (λ (n : ℕ). within aggregates (type_of n items)) none ∙ (ap (within aggregates) (type_deep items k behind e) ∙ within_none aggregates))
@@ -63,9 +63,9 @@ base_none items b = rw b refl
 base_some : (items : Items) (element : SimpleType) (rest : Items) → simple_of items ≡ Some (element, rest) → element_of items ≡ Some (record { aggregates = []; element = element }, rest)
 base_some items element rest b = rw b refl
 
-pub base_wrong : (start : Option (KeptType × Items)) (aggregates : List Aggregate) (items : Items) → start ≡ within aggregates (type_of (32 - length aggregates) items) → kind_of items ≡ None → simple_of items ≡ None → start ≡ None
+pub base_wrong : (start : Option (TypeDigest × Items)) (aggregates : List Aggregate) (items : Items) → start ≡ within aggregates (type_of (32 - length aggregates) items) → kind_of items ≡ None → simple_of items ≡ None → start ≡ None
 base_wrong start aggregates items so_far e b = so_far ∙ (ap (within aggregates) (type_base (32 - length aggregates) items e ∙ base_none items b) ∙ within_none aggregates)
 
-pub base_right : (start : Option (KeptType × Items)) (aggregates : List Aggregate) (items : Items) (element : SimpleType) (rest : Items) → start ≡ within aggregates (type_of (32 - length aggregates) items) → kind_of items ≡ None → simple_of items ≡ Some (element, rest)
+pub base_right : (start : Option (TypeDigest × Items)) (aggregates : List Aggregate) (items : Items) (element : SimpleType) (rest : Items) → start ≡ within aggregates (type_of (32 - length aggregates) items) → kind_of items ≡ None → simple_of items ≡ Some (element, rest)
     → start ≡ Some (record { aggregates = aggregates; element = element }, rest)
 base_right start aggregates items element rest so_far e b = so_far ∙ (ap (within aggregates) (type_base (32 - length aggregates) items e ∙ base_some items element rest b) ∙ within_some aggregates element rest)

@@ -16,7 +16,7 @@ use Rattle.p21_express_lexemes.specs.Words.{is_reserved}
 use Rattle.p21_express_lexemes.proofs.Once.{one_laying}
 use Rattle.p21_express_lexemes.proofs.Running.{nothing_apart}
 use Rattle.p21_express_syntax.specs.Declaring.{names_of}
-use Rattle.p21_express_syntax.specs.Reading.{bind, choose}
+use Rattle.p21_express_syntax.specs.DataTypes.{bind, choose}
 use Rattle.p21_express_syntax.proofs.Apart.{functions_apart, procedures_apart}
 use Rattle.p21_express_syntax.proofs.Declared.{put_entity, put_defined}
 use Rattle.p21_express_syntax.proofs.DeclaredRead.{behind_constraint, no_subtype, type_begins}

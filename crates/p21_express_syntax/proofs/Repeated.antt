@@ -4,14 +4,14 @@ use Rattle.std.specs.List.{flat_map, AllByRecursion as Each}
 use Rattle.p21_schemas.specs.Express.{Lexeme}
 use Rattle.p21_express_lexemes.specs.Taking.{Items, put}
 use Rattle.p21_express_lexemes.proofs.Put.{put-append}
-use Rattle.p21_express_syntax.specs.Many.{Step, with_items, many_by, many_within, many_of}
+use Rattle.p21_express_syntax.specs.Many.{Step, with_items, many_from_step, many_within, many_of}
 use Rattle.p21_express_syntax.proofs.Sounding.{OfSome, of_some, Written}
 
 -- each takes a lexeme at least
 abbrev pub Shortens : {A : Type 0} → Step A → Type 0
 Shortens {A} step = (items : Items) (x : A) (rest : Items) → ◌≡◌ {A = Option (Option (A × Items))} (step items) (Some (Some (x, rest))) → length rest < length items
 
-by_same : {A : Type 0} (o : Option (Option (A × Items))) (items : Items) (f g : Items → Option (List A × Items)) → ((x : A) (rest : Items) → ◌≡◌ {A = Option (Option (A × Items))} o (Some (Some (x, rest))) → f rest ≡ g rest) → many_by o items f ≡ many_by o items g
+by_same : {A : Type 0} (o : Option (Option (A × Items))) (items : Items) (f g : Items → Option (List A × Items)) → ((x : A) (rest : Items) → ◌≡◌ {A = Option (Option (A × Items))} o (Some (Some (x, rest))) → f rest ≡ g rest) → many_from_step o items f ≡ many_from_step o items g
 by_same None items f g h = refl
 by_same (Some None) items f g h = refl
 by_same (Some (Some (x, rest))) items f g h = ap (with_items (x ∷ [])) (h x rest refl)
@@ -28,15 +28,15 @@ pub many_next : {A : Type 0} (step : Step A) → Shortens step → (items : Item
 unfolding many_of many_within
 many_next {A} step short items x rest e =
     let less = short items x rest e in
-    ap (λ (o : Option (Option (A × Items))). many_by o items (λ r. many_within step (length items) r)) e ∙ ap (with_items (x ∷ [])) (enough step short (length items) (suc (length rest)) rest less (omega arith))
+    ap (λ (o : Option (Option (A × Items))). many_from_step o items (λ r. many_within step (length items) r)) e ∙ ap (with_items (x ∷ [])) (enough step short (length items) (suc (length rest)) rest less (omega arith))
 
 pub many_none : {A : Type 0} (step : Step A) (items : Items) → ◌≡◌ {A = Option (Option (A × Items))} (step items) None → ◌≡◌ {A = Option (List A × Items)} (many_of step items) (Some ([], items))
 unfolding many_of many_within
-many_none {A} step items e = ap (λ (o : Option (Option (A × Items))). many_by o items (λ r. many_within step (length items) r)) e
+many_none {A} step items e = ap (λ (o : Option (Option (A × Items))). many_from_step o items (λ r. many_within step (length items) r)) e
 
 pub many_wrong : {A : Type 0} (step : Step A) (items : Items) → ◌≡◌ {A = Option (Option (A × Items))} (step items) (Some None) → ◌≡◌ {A = Option (List A × Items)} (many_of step items) None
 unfolding many_of many_within
-many_wrong {A} step items e = ap (λ (o : Option (Option (A × Items))). many_by o items (λ r. many_within step (length items) r)) e
+many_wrong {A} step items e = ap (λ (o : Option (Option (A × Items))). many_from_step o items (λ r. many_within step (length items) r)) e
 
 -- ---- loops: what was read stands in front of what is read of the rest
 
@@ -95,7 +95,7 @@ one_more {A} {K} f P kept x items left w (Some (xs, rest)) h = record {
 
 by_is : {A K : Type 0} (step : Step K) (f : A → List Lexeme) (P : A → Type 0) (kept : A → K) → StepWritten step f P kept
     → (go : Items → Option (List K × Items)) → ((items : Items) → OfSome (go items) (λ r. ManyWritten f P kept r.0 items r.1))
-    → (items : Items) (o : Option (Option (K × Items))) → ◌≡◌ {A = Option (Option (K × Items))} (step items) o → OfSome (many_by o items go) (λ r. ManyWritten f P kept r.0 items r.1)
+    → (items : Items) (o : Option (Option (K × Items))) → ◌≡◌ {A = Option (Option (K × Items))} (step items) o → OfSome (many_from_step o items go) (λ r. ManyWritten f P kept r.0 items r.1)
 by_is step f P kept is go inner items None o = nothing_is f P kept items
 by_is step f P kept is go inner items (Some None) o = tt
 by_is step f P kept is go inner items (Some (Some (x, left))) o = one_more f P kept x items left (is items x left o) (go left) (inner left)

@@ -10,9 +10,9 @@ use Rattle.p21_express_lexemes.specs.Runs.{AreApart, behind_run}
 use Rattle.p21_express_lexemes.specs.Taking.{Items, put, take_symbol, take_word, take_simple_string, take_name}
 use Rattle.p21_express_lexemes.proofs.Put.{put-append}
 use Rattle.p21_express_lexemes.proofs.Running.{nothing_apart}
-use Rattle.p21_express_syntax.specs.Declaring.{KeptDeclaration, entity, defined, passed, entity_at, defined_at, over_end, over_at, passed_word_of, passed_behind, over_by, over_of, declaration_of, kept_entities, kept_types, behind_version, count, few, if_few, declarations_of, kept_of, only, schema_of}
-use Rattle.p21_express_syntax.specs.Kept.{KeptEntity, KeptDefinedType, KeptSchema}
-use Rattle.p21_express_syntax.specs.Keeping.{kept_entity, kept_defined, kept_schema}
+use Rattle.p21_express_syntax.specs.Declaring.{DeclarationDigest, entity, defined, passed, entity_at, defined_at, over_end, over_at, passed_word_of, passed_behind, over_by, over_of, declaration_of, entity_digests, defined_type_digests, behind_version, count, few, if_few, declarations_of, digest_of, digest_if_ended, schema_of}
+use Rattle.p21_express_syntax.specs.Digest.{EntityDigest, DefinedTypeDigest, SchemaDigest}
+use Rattle.p21_express_syntax.specs.Digesting.{entity_digest, defined_type_digest, schema_digest}
 use Rattle.p21_express_syntax.specs.Many.{many_of}
 use Rattle.p21_express_syntax.specs.Within.{IsEntityWithin, IsDefinedWithin, IsSchemaWithin}
 use Rattle.p21_express_syntax.specs.declared.schema.PassedWord.{PassedWord}
@@ -27,10 +27,10 @@ use Rattle.p21_schemas.specs.Declared.{most_declarations}
 
 -- ---- declarations
 
-abbrev pub kept_declaration : Declaration → KeptDeclaration
-kept_declaration (written.entity x) = entity (kept_entity x)
-kept_declaration (written.defined x) = defined (kept_defined x)
-kept_declaration (read_over x) = passed
+abbrev pub declaration_digest : Declaration → DeclarationDigest
+declaration_digest (written.entity x) = entity (entity_digest x)
+declaration_digest (written.defined x) = defined (defined_type_digest x)
+declaration_digest (read_over x) = passed
 
 abbrev pub IsDeclarationWithin : Declaration → Type 0
 IsDeclarationWithin (written.entity x) = IsEntityWithin x
@@ -40,8 +40,8 @@ IsDeclarationWithin (read_over x) = Unit {0}
 abbrev pub IsOne : Declaration → Type 0
 IsOne x = IsDeclaration x × IsDeclarationWithin x
 
-abbrev pub DeclarationWritten : KeptDeclaration → Items → Items → Type 0
-DeclarationWritten value items rest = Written declaration_lexemes IsOne kept_declaration value items rest
+abbrev pub DeclarationWritten : DeclarationDigest → Items → Items → Type 0
+DeclarationWritten value items rest = Written declaration_lexemes IsOne declaration_digest value items rest
 
 pub put_over : (first last : List ℕ) (nests : Bool) (run : List Lexeme) (more : Items) → put (read_over_lexemes (record { first = first; last = last; nests = nests; run = run })) more ≡ over (identifier first) (put run (over (identifier last) (over (symbol 59) more)))
 put_over first last nests run more = simp put-append
@@ -100,8 +100,8 @@ declaration_is items = of_choose (take_word (codes "ENTITY") items) _ _ _
     record { tree = written.defined w.tree; stands = word_taken (codes "TYPE") items a ea ∙ w.stands; is_one = (w.is_one.0, w.is_one.1); same = ap defined w.same }))
     (λ m. passed_is items))
 
-pub declaration_written : StepWritten declaration_of declaration_lexemes IsOne kept_declaration
-declaration_written = step_written declaration_of declaration_lexemes IsOne kept_declaration declaration_is
+pub declaration_written : StepWritten declaration_of declaration_lexemes IsOne declaration_digest
+declaration_written = step_written declaration_of declaration_lexemes IsOne declaration_digest declaration_is
 
 declaration_some : (x : Declaration) → 0 < length (declaration_lexemes x)
 declaration_some (written.entity x) = omega arith
@@ -109,26 +109,26 @@ declaration_some (written.defined x) = omega arith
 declaration_some (read_over x) = omega arith
 
 pub declaration_shortens : Shortens declaration_of
-declaration_shortens = written_shortens declaration_of declaration_lexemes IsOne kept_declaration declaration_written declaration_some
+declaration_shortens = written_shortens declaration_of declaration_lexemes IsOne declaration_digest declaration_written declaration_some
 
 -- ---- schemas
 
-pub entities_are : (ds : List Declaration) → kept_entities (map kept_declaration ds) ≡ map kept_entity (entities_of ds)
+pub entities_are : (ds : List Declaration) → entity_digests (map declaration_digest ds) ≡ map entity_digest (entities_of ds)
 entities_are [] = refl
-entities_are (written.entity x ∷ ds) = ap (λ (y : List KeptEntity). kept_entity x ∷ y) (entities_are ds)
+entities_are (written.entity x ∷ ds) = ap (λ (y : List EntityDigest). entity_digest x ∷ y) (entities_are ds)
 entities_are (written.defined x ∷ ds) = entities_are ds
 entities_are (read_over x ∷ ds) = entities_are ds
 
-pub types_are : (ds : List Declaration) → kept_types (map kept_declaration ds) ≡ map kept_defined (types_of ds)
+pub types_are : (ds : List Declaration) → defined_type_digests (map declaration_digest ds) ≡ map defined_type_digest (types_of ds)
 types_are [] = refl
 types_are (written.entity x ∷ ds) = types_are ds
-types_are (written.defined x ∷ ds) = ap (λ (y : List KeptDefinedType). kept_defined x ∷ y) (types_are ds)
+types_are (written.defined x ∷ ds) = ap (λ (y : List DefinedTypeDigest). defined_type_digest x ∷ y) (types_are ds)
 types_are (read_over x ∷ ds) = types_are ds
 
-pub count_is : (ds : List Declaration) → count (map kept_declaration ds) ≡ length (entities_of ds) + length (types_of ds)
+pub count_is : (ds : List Declaration) → count (map declaration_digest ds) ≡ length (entities_of ds) + length (types_of ds)
 count_is ds =
-    let e = ap length (entities_are ds) ∙ length-map (entities_of ds) kept_entity in
-    let t = ap length (types_are ds) ∙ length-map (types_of ds) kept_defined in
+    let e = ap length (entities_are ds) ∙ length-map (entities_of ds) entity_digest in
+    let t = ap length (types_are ds) ∙ length-map (types_of ds) defined_type_digest in
     omega arith
 
 are_declarations : (ds : List Declaration) → Each IsOne ds → Each IsDeclaration ds
@@ -152,21 +152,21 @@ IsSchema x = IsSchemaDeclaration x × IsSchemaWithin x
 
 -- ---- all declarations
 
-pub record AllWritten (ds : List KeptDeclaration) (items rest : Items) : Type 0 where
+pub record AllWritten (ds : List DeclarationDigest) (items rest : Items) : Type 0 where
   pub tree : List Declaration
   pub stands : items ≡ put (flat_map declaration_lexemes tree) rest
   pub are : Each IsOne tree
-  pub same : map kept_declaration tree ≡ ds
+  pub same : map declaration_digest tree ≡ ds
   pub are_few : count ds ≤ most_declarations
 
-if_few_is : (found : List KeptDeclaration × Items) (claim : List KeptDeclaration × Items → Type 0) (test : Bool) → few found.0 ≡ test → (few found.0 ≡ true → claim found) → OfSome (if_few found) claim
+if_few_is : (found : List DeclarationDigest × Items) (claim : List DeclarationDigest × Items → Type 0) (test : Bool) → few found.0 ≡ test → (few found.0 ≡ true → claim found) → OfSome (if_few found) claim
 if_few_is found claim true e h = rw e (h e)
 if_few_is found claim false e h = rw e tt
 
 all_are : (items : Items) → OfSome (declarations_of items) (λ f. AllWritten f.0 items f.1)
 unfolding declarations_of
 all_are items = of_bind (many_of declaration_of items) _ _ (λ f ef. if_few_is f (λ g. AllWritten g.0 items g.1) (few f.0) refl (λ t.
-    let w = of_some (many_of declaration_of items) _ (many_is declaration_of declaration_lexemes IsOne kept_declaration declaration_written items) f ef in
+    let w = of_some (many_of declaration_of items) _ (many_is declaration_of declaration_lexemes IsOne declaration_digest declaration_written items) f ef in
     record { tree = w.tree; stands = w.stands; are = w.is_one; same = w.same; are_few = le_of (count f.0) most_declarations t }))
 
 version_is : (items : Items) → (version : Option (List ℕ)) × (items ≡ put (version_lexemes version) (behind_version items))
@@ -184,19 +184,19 @@ schema_stands : (x : SchemaDeclaration) (items a b c d e f rest : Items) → ite
     → items ≡ put (schema_lexemes x) rest
 schema_stands x items a b c d e f rest p q r s t u v = rw (p, q, r, s, t, u, v) (sym (put_schema x rest))
 
-schema_same : (name : List ℕ) (version : Option (List ℕ)) (tree : List Declaration) (ds : List KeptDeclaration) → map kept_declaration tree ≡ ds → ◌≡◌ {A = KeptSchema} (kept_schema (record { name = name; version = version; declarations = tree })) (kept_of name ds)
+schema_same : (name : List ℕ) (version : Option (List ℕ)) (tree : List Declaration) (ds : List DeclarationDigest) → map declaration_digest tree ≡ ds → ◌≡◌ {A = SchemaDigest} (schema_digest (record { name = name; version = version; declarations = tree })) (digest_of name ds)
 schema_same name version tree ds e =
-    let p = sym (entities_are tree) ∙ ap kept_entities e in
-    let q = sym (types_are tree) ∙ ap kept_types e in
+    let p = sym (entities_are tree) ∙ ap entity_digests e in
+    let q = sym (types_are tree) ∙ ap defined_type_digests e in
     rw (p, q) refl
 
-pub record SchemaWritten (value : KeptSchema) (items : Items) : Type 0 where
+pub record SchemaWritten (value : SchemaDigest) (items : Items) : Type 0 where
   pub tree : SchemaDeclaration
   pub stands : items ≡ put (schema_lexemes tree) []
   pub is_one : IsSchema tree
-  pub same : kept_schema tree ≡ value
+  pub same : schema_digest tree ≡ value
 
-only_is : (name : List ℕ) (ds : List KeptDeclaration) (rest : Items) (claim : KeptSchema → Type 0) → (rest ≡ [] → claim (kept_of name ds)) → OfSome (only name ds rest) claim
+only_is : (name : List ℕ) (ds : List DeclarationDigest) (rest : Items) (claim : SchemaDigest → Type 0) → (rest ≡ [] → claim (digest_of name ds)) → OfSome (digest_if_ended name ds rest) claim
 only_is name ds [] claim h = h refl
 only_is name ds (item ∷ rest) claim h = tt
 

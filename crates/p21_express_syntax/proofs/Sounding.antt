@@ -11,7 +11,7 @@ use Rattle.p21_schemas.specs.ReservedWord.{reserved_words, IsName}
 use Rattle.p21_schemas.specs.WrittenType.{optional_word}
 use Rattle.p21_express_lexemes.specs.Taking.{Items, put, take_symbol, take_word, take_simple_string, take_digits, take_name}
 use Rattle.p21_express_lexemes.specs.Words.{is_among, is_reserved}
-use Rattle.p21_express_syntax.specs.Reading.{bind, choose, guard, flag_of}
+use Rattle.p21_express_syntax.specs.DataTypes.{bind, choose, guard, flag_of}
 use Rattle.p21_basics.proofs.Members.{some_is, some_pair_is}
 
 -- if something was read, this holds of it

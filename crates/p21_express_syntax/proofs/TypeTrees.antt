@@ -5,7 +5,7 @@ use Rattle.p21_schemas.specs.ReservedWord.{IsName}
 use Rattle.p21_schemas.specs.WrittenType.{Width, UpperBound, bounded, unbounded, Bounds, WrittenType, integer_type, real_type, number_type, boolean_type, logical_type, string_type, binary_type, named_type, array_type, list_type, set_type, bag_type, word, optional_word, precision_lexemes, width_lexemes, upper_bound_lexemes, bounds_lexemes, type_lexemes, IsWrittenType, nesting}
 use Rattle.p21_express_lexemes.specs.Taking.{Items, put, take_symbol, take_word, take_digits, take_name}
 use Rattle.p21_express_lexemes.proofs.Put.{put-append}
-use Rattle.p21_express_syntax.specs.Reading.{bind, choose, flag_of, kind_of}
+use Rattle.p21_express_syntax.specs.DataTypes.{bind, choose, flag_of, kind_of}
 use Rattle.p21_express_syntax.specs.declared.types.Kind.{Kind}
 use Rattle.p21_express_syntax.specs.declared.types.Kind.TheVariants as kind
 use Rattle.p21_express_syntax.proofs.Sounding.{name_read, name_apart}

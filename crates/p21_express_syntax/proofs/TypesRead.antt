@@ -3,13 +3,13 @@ use Rattle.std.proofs.Common.{◌≡◌, ℕ, zero, suc, ◌≤◌, Bool, true, 
 use Rattle.p21_basics.specs.Digits.{number}
 use Rattle.p21_schemas.specs.Express.{identifier, digits, symbol}
 use Rattle.p21_schemas.specs.ReservedWord.{IsName}
-use Rattle.p21_schemas.specs.DeclaredType.{UpperBoundIs, BoundsAre}
+use Rattle.p21_schemas.specs.DeclaredType.{DenotesUpperBound, DenotesBounds}
 use Rattle.p21_schemas.specs.WrittenType.{Width as WrittenWidth, UpperBound, bounded, unbounded, Bounds, WrittenType, integer_type, real_type, number_type, boolean_type, logical_type, string_type, binary_type, named_type, array_type, list_type, set_type, bag_type, word, optional_word, precision_lexemes, width_lexemes, upper_bound_lexemes, bounds_lexemes, type_lexemes, IsWrittenType, nesting}
 use Rattle.p21_express_lexemes.specs.Taking.{Items, put, take_symbol, take_word, take_digits}
 use Rattle.p21_express_lexemes.proofs.Put.{put-append}
-use Rattle.p21_express_syntax.specs.Kept.{KeptType}
-use Rattle.p21_express_syntax.specs.Keeping.{kept_width, kept_high, kept_range, array_high, kept_type, of}
-use Rattle.p21_express_syntax.specs.Reading.{low_of, top_of, high_of, range_of, array_of, most_of, width_of, precision_of, kind_of, aggregate_at, simple_of, under, type_of, around}
+use Rattle.p21_express_syntax.specs.Digest.{TypeDigest}
+use Rattle.p21_express_syntax.specs.Digesting.{width_digest, high_digest, range_digest, array_high, type_digest, of}
+use Rattle.p21_express_syntax.specs.DataTypes.{low_of, top_of, high_of, range_of, array_of, most_of, width_of, precision_of, kind_of, aggregate_at, simple_of, under, type_of, around}
 use Rattle.p21_express_syntax.specs.Within.{HasWidth, HasBounds, HasNumbers}
 use Rattle.p21_express_syntax.specs.declared.types.Aggregate.{Aggregate}
 use Rattle.p21_express_syntax.specs.declared.types.Aggregate.TheVariants as aggregate
@@ -20,7 +20,7 @@ use Rattle.p21_express_syntax.specs.declared.types.SimpleType.{SimpleType}
 use Rattle.p21_express_syntax.specs.declared.types.SimpleType.TheVariants as simple
 use Rattle.p21_express_syntax.specs.declared.types.Width.{Width}
 use Rattle.p21_express_syntax.proofs.Sounding.{name_read, name_apart, of_le}
-use Rattle.p21_express_syntax.proofs.TypesSound.{over, Layer, array_layer, list_layer, set_layer, bag_layer, layer_lexemes, IsLayer, kept_layer, kind_word, three, four, five, put_bounds, put_width}
+use Rattle.p21_express_syntax.proofs.TypesSound.{over, Layer, array_layer, list_layer, set_layer, bag_layer, layer_lexemes, IsLayer, layer_digest, kind_word, three, four, five, put_bounds, put_width}
 
 -- ---- bounds and widths
 
@@ -32,20 +32,20 @@ top_read : (low : ℕ) (ds : List ℕ) (more : Items) → number ds ≤ 42949672
 unfolding top_of take_digits
 top_read low ds more h k = rw (of_le (number ds) 4294967295 h) (rw (of_le low (number ds) k) refl)
 
-high_read : (low : ℕ) (high : UpperBound) (value : Option ℕ) (more : Items) → UpperBoundIs low high value → ◌≡◌ {A = Option (Option ℕ × Items)} (high_of low (put (upper_bound_lexemes high) more)) (Some (kept_high high, more))
+high_read : (low : ℕ) (high : UpperBound) (value : Option ℕ) (more : Items) → DenotesUpperBound low high value → ◌≡◌ {A = Option (Option ℕ × Items)} (high_of low (put (upper_bound_lexemes high) more)) (Some (high_digest high, more))
 unfolding high_of take_symbol
 high_read low unbounded value more h = refl
 high_read low (bounded ds) value more h = rw (top_read low ds more h.2 h.1) refl
 
-low_within : (b : Bounds) (low : ℕ) (high : Option ℕ) → BoundsAre (Some b) low high → (number b.low ≤ 4294967295) × UpperBoundIs (number b.low) b.high high
-low_within b low high h = (subst (λ (x : ℕ). x ≤ 4294967295) h.0 h.1, subst (λ (x : ℕ). UpperBoundIs x b.high high) h.0 h.2)
+low_within : (b : Bounds) (low : ℕ) (high : Option ℕ) → DenotesBounds (Some b) low high → (number b.low ≤ 4294967295) × DenotesUpperBound (number b.low) b.high high
+low_within b low high h = (subst (λ (x : ℕ). x ≤ 4294967295) h.0 h.1, subst (λ (x : ℕ). DenotesUpperBound x b.high high) h.0 h.2)
 
-range_by : (low : List ℕ) (high : UpperBound) (value : Option ℕ) (more : Items) → number low ≤ 4294967295 → UpperBoundIs (number low) high value
-    → ◌≡◌ {A = Option (Range × Items)} (range_of (over (symbol 91) (over (digits low) (over (symbol 58) (put (upper_bound_lexemes high) (over (symbol 93) more)))))) (Some (record { low = number low; high = kept_high high }, more))
+range_by : (low : List ℕ) (high : UpperBound) (value : Option ℕ) (more : Items) → number low ≤ 4294967295 → DenotesUpperBound (number low) high value
+    → ◌≡◌ {A = Option (Range × Items)} (range_of (over (symbol 91) (over (digits low) (over (symbol 58) (put (upper_bound_lexemes high) (over (symbol 93) more)))))) (Some (record { low = number low; high = high_digest high }, more))
 unfolding range_of take_symbol
 range_by low high value more h k = rw (low_read low (over (symbol 58) (put (upper_bound_lexemes high) (over (symbol 93) more))) h) (rw (high_read (number low) high value (over (symbol 93) more) k) refl)
 
-pub range_read : (bounds : Option Bounds) (more : Items) → HasBounds bounds → take_symbol 91 more ≡ None → ◌≡◌ {A = Option (Range × Items)} (range_of (put (bounds_lexemes bounds) more)) (Some (kept_range bounds, more))
+pub range_read : (bounds : Option Bounds) (more : Items) → HasBounds bounds → take_symbol 91 more ≡ None → ◌≡◌ {A = Option (Range × Items)} (range_of (put (bounds_lexemes bounds) more)) (Some (range_digest bounds, more))
 unfolding range_of
 range_read None more h n = rw n refl
 range_read (Some b) more h n = let w = low_within b h.0 h.1 h.2 in ap range_of (put_bounds b.low b.high more) ∙ range_by b.low b.high h.1 more w.0 w.1
@@ -60,7 +60,7 @@ unfolding width_of take_symbol take_word
 width_by most true more h k n = rw (most_read most (over (symbol 41) (put (optional_word true (codes "FIXED")) more)) h k) refl
 width_by most false more h k n = rw (most_read most (over (symbol 41) (put (optional_word false (codes "FIXED")) more)) h k) (rw n refl)
 
-pub width_read : (width : Option WrittenWidth) (more : Items) → HasWidth width → take_symbol 40 more ≡ None → take_word (codes "FIXED") more ≡ None → ◌≡◌ {A = Option (Option Width × Items)} (width_of (put (width_lexemes width) more)) (Some (kept_width width, more))
+pub width_read : (width : Option WrittenWidth) (more : Items) → HasWidth width → take_symbol 40 more ≡ None → take_word (codes "FIXED") more ≡ None → ◌≡◌ {A = Option (Option Width × Items)} (width_of (put (width_lexemes width) more)) (Some (width_digest width, more))
 unfolding width_of
 width_read None more h n m = rw n refl
 width_read (Some w) more h n m = ap width_of (put_width w.most w.fixed more) ∙ width_by w.most w.fixed more h.1.2 (let s = h.1.1 in omega arith) m
@@ -101,7 +101,7 @@ array_by low ds true false more a b c n m = rw (low_read low _ a) (rw (top_read 
 array_by low ds false true more a b c n m = rw (low_read low _ a) (rw (top_read (number low) ds _ b c) refl)
 array_by low ds false false more a b c n m = rw (low_read low _ a) (rw (top_read (number low) ds _ b c) (rw n (rw m refl)))
 
-array_read : (low : List ℕ) (high : UpperBound) (l h : ℕ) (optional unique : Bool) (more : Items) → BoundsAre (Some (record { low = low; high = high })) l (Some h) → take_word (codes "OPTIONAL") more ≡ None → take_word (codes "UNIQUE") more ≡ None
+array_read : (low : List ℕ) (high : UpperBound) (l h : ℕ) (optional unique : Bool) (more : Items) → DenotesBounds (Some (record { low = low; high = high })) l (Some h) → take_word (codes "OPTIONAL") more ≡ None → take_word (codes "UNIQUE") more ≡ None
     → ◌≡◌ {A = Option (Aggregate × Items)} (array_of (put (bounds_lexemes (Some (record { low = low; high = high }))) (put (word (codes "OF")) (put (optional_word optional (codes "OPTIONAL")) (put (optional_word unique (codes "UNIQUE")) more)))))
     (Some (aggregate.Array (number low) (array_high high) optional unique, more))
 array_read low unbounded l h optional unique more b n m = absurd (none_is h (sym b.2))
@@ -129,7 +129,7 @@ pub record LayerRead (layer : Layer) (items more : Items) : Type 0 where
   pub first : Kind
   pub behind : Items
   pub begins : ◌≡◌ {A = Option (Kind × Items)} (kind_of items) (Some (first, behind))
-  pub goes_on : ◌≡◌ {A = Option (Aggregate × Items)} (aggregate_at first behind) (Some (kept_layer layer, more))
+  pub goes_on : ◌≡◌ {A = Option (Aggregate × Items)} (aggregate_at first behind) (Some (layer_digest layer, more))
 
 kind_read : (k : Kind) (more : Items) → ◌≡◌ {A = Option (Kind × Items)} (kind_of (over (identifier (kind_word k)) more)) (Some (k, more))
 unfolding kind_of take_word
@@ -154,7 +154,7 @@ layer_read (list_layer bounds unique) more h n m =
       first = kind.List;
       behind = behind;
       begins = ap kind_of (four (word (codes "LIST")) (bounds_lexemes bounds) (word (codes "OF")) (optional_word unique (codes "UNIQUE")) more) ∙ kind_read kind.List behind;
-      goes_on = list_by behind (kept_range bounds) unique more (range_read bounds (put (word (codes "OF")) (put (optional_word unique (codes "UNIQUE")) more)) h (no_bracket _)) m;
+      goes_on = list_by behind (range_digest bounds) unique more (range_read bounds (put (word (codes "OF")) (put (optional_word unique (codes "UNIQUE")) more)) h (no_bracket _)) m;
     }
 layer_read (set_layer bounds) more h n m =
     let behind : Items = put (bounds_lexemes bounds) (put (word (codes "OF")) more) in
@@ -162,7 +162,7 @@ layer_read (set_layer bounds) more h n m =
       first = kind.Set;
       behind = behind;
       begins = ap kind_of (three (word (codes "SET")) (bounds_lexemes bounds) (word (codes "OF")) more) ∙ kind_read kind.Set behind;
-      goes_on = set_by behind (kept_range bounds) more (range_read bounds (put (word (codes "OF")) more) h (no_bracket _));
+      goes_on = set_by behind (range_digest bounds) more (range_read bounds (put (word (codes "OF")) more) h (no_bracket _));
     }
 layer_read (bag_layer bounds) more h n m =
     let behind : Items = put (bounds_lexemes bounds) (put (word (codes "OF")) more) in
@@ -170,7 +170,7 @@ layer_read (bag_layer bounds) more h n m =
       first = kind.Bag;
       behind = behind;
       begins = ap kind_of (three (word (codes "BAG")) (bounds_lexemes bounds) (word (codes "OF")) more) ∙ kind_read kind.Bag behind;
-      goes_on = bag_by behind (kept_range bounds) more (range_read bounds (put (word (codes "OF")) more) h (no_bracket _));
+      goes_on = bag_by behind (range_digest bounds) more (range_read bounds (put (word (codes "OF")) more) h (no_bracket _));
     }
 
 -- ---- types
@@ -180,7 +180,7 @@ pub record Ends (more : Items) : Type 0 where
   pub no_width : take_symbol 40 more ≡ None
   pub no_fixed : take_word (codes "FIXED") more ≡ None
 
-at_simple : (n : ℕ) (items : Items) (element : SimpleType) (rest : Items) → ◌≡◌ {A = Option (Kind × Items)} (kind_of items) None → ◌≡◌ {A = Option (SimpleType × Items)} (simple_of items) (Some (element, rest)) → ◌≡◌ {A = Option (KeptType × Items)} (type_of n items) (Some (of element, rest))
+at_simple : (n : ℕ) (items : Items) (element : SimpleType) (rest : Items) → ◌≡◌ {A = Option (Kind × Items)} (kind_of items) None → ◌≡◌ {A = Option (SimpleType × Items)} (simple_of items) (Some (element, rest)) → ◌≡◌ {A = Option (TypeDigest × Items)} (type_of n items) (Some (of element, rest))
 unfolding type_of
 at_simple zero items element rest e f = rw e (rw f refl)
 at_simple (suc n) items element rest e f = rw e (rw f refl)
@@ -206,11 +206,11 @@ real_read : (precision : Option (List ℕ)) (more : Items) → take_symbol 40 mo
 unfolding simple_of take_word
 real_read precision more n = rw (precision_read precision more n) refl
 
-string_read : (width : Option WrittenWidth) (more : Items) → HasWidth width → Ends more → ◌≡◌ {A = Option (SimpleType × Items)} (simple_of (over (identifier (codes "STRING")) (put (width_lexemes width) more))) (Some (simple.String (kept_width width), more))
+string_read : (width : Option WrittenWidth) (more : Items) → HasWidth width → Ends more → ◌≡◌ {A = Option (SimpleType × Items)} (simple_of (over (identifier (codes "STRING")) (put (width_lexemes width) more))) (Some (simple.String (width_digest width), more))
 unfolding simple_of take_word
 string_read width more h ends = rw (width_read width more h ends.no_width ends.no_fixed) refl
 
-binary_read : (width : Option WrittenWidth) (more : Items) → HasWidth width → Ends more → ◌≡◌ {A = Option (SimpleType × Items)} (simple_of (over (identifier (codes "BINARY")) (put (width_lexemes width) more))) (Some (simple.Binary (kept_width width), more))
+binary_read : (width : Option WrittenWidth) (more : Items) → HasWidth width → Ends more → ◌≡◌ {A = Option (SimpleType × Items)} (simple_of (over (identifier (codes "BINARY")) (put (width_lexemes width) more))) (Some (simple.Binary (width_digest width), more))
 unfolding simple_of take_word
 binary_read width more h ends = rw (width_read width more h ends.no_width ends.no_fixed) refl
 
@@ -223,15 +223,15 @@ at_layer : (n : ℕ) (items : Items) (k : Kind) (behind : Items) (first : Aggreg
 unfolding type_of
 at_layer n items k behind first rest e f = rw e (rw f refl)
 
-layered : (layer : Layer) (element : WrittenType) (n : ℕ) (more : Items) → IsLayer layer → IsWrittenType element → ◌≡◌ {A = Option (KeptType × Items)} (type_of n (put (type_lexemes element) more)) (Some (kept_type element, more))
-    → ◌≡◌ {A = Option (KeptType × Items)} (type_of (suc n) (put (layer_lexemes layer ++ type_lexemes element) more)) (Some (around (kept_layer layer) (kept_type element), more))
+layered : (layer : Layer) (element : WrittenType) (n : ℕ) (more : Items) → IsLayer layer → IsWrittenType element → ◌≡◌ {A = Option (TypeDigest × Items)} (type_of n (put (type_lexemes element) more)) (Some (type_digest element, more))
+    → ◌≡◌ {A = Option (TypeDigest × Items)} (type_of (suc n) (put (layer_lexemes layer ++ type_lexemes element) more)) (Some (around (layer_digest layer) (type_digest element), more))
 layered layer element n more h is inner =
     let first = type_first element more is in
     let r = layer_read layer (put (type_lexemes element) more) h first.0 first.1 in
     ap (type_of (suc n)) (put-append (layer_lexemes layer) (type_lexemes element) more)
-    ∙ (at_layer n (put (layer_lexemes layer) (put (type_lexemes element) more)) r.first r.behind (kept_layer layer) (put (type_lexemes element) more) r.begins r.goes_on ∙ ap (under (kept_layer layer)) inner)
+    ∙ (at_layer n (put (layer_lexemes layer) (put (type_lexemes element) more)) r.first r.behind (layer_digest layer) (put (type_lexemes element) more) r.begins r.goes_on ∙ ap (under (layer_digest layer)) inner)
 
-pub type_read : (t : WrittenType) (n : ℕ) (more : Items) → nesting t ≤ n → IsWrittenType t → HasNumbers t → Ends more → ◌≡◌ {A = Option (KeptType × Items)} (type_of n (put (type_lexemes t) more)) (Some (kept_type t, more))
+pub type_read : (t : WrittenType) (n : ℕ) (more : Items) → nesting t ≤ n → IsWrittenType t → HasNumbers t → Ends more → ◌≡◌ {A = Option (TypeDigest × Items)} (type_of n (put (type_lexemes t) more)) (Some (type_digest t, more))
 type_read integer_type n more deep is has ends = at_simple n _ _ _ (word_no_kind more).3 (words_read more).0
 type_read (real_type precision) n more deep is has ends = at_simple n _ _ _ (word_no_kind (put (precision_lexemes precision) more)).0 (real_read precision more ends.no_width)
 type_read number_type n more deep is has ends = at_simple n _ _ _ (word_no_kind more).4 (words_read more).1

@@ -3,13 +3,13 @@ use Rattle.std.proofs.Common.{◌≡◌, ℕ, zero, suc, ◌<◌, ◌≤◌, Boo
 use Rattle.std.proofs.lemmas.Bool.{and_parts}
 use Rattle.p21_basics.specs.Digits.{number}
 use Rattle.p21_schemas.specs.Express.{Lexeme, identifier, digits, symbol}
-use Rattle.p21_schemas.specs.DeclaredType.{UpperBoundIs}
+use Rattle.p21_schemas.specs.DeclaredType.{DenotesUpperBound}
 use Rattle.p21_schemas.specs.WrittenType.{UpperBound, bounded, unbounded, Bounds, WrittenType, integer_type, real_type, number_type, boolean_type, logical_type, string_type, binary_type, named_type, array_type, list_type, set_type, bag_type, word, optional_word, precision_lexemes, width_lexemes, upper_bound_lexemes, bounds_lexemes, type_lexemes, IsWrittenType, nesting}
 use Rattle.p21_express_lexemes.specs.Taking.{Items, put, take_symbol, take_word, take_digits, take_name}
 use Rattle.p21_express_lexemes.proofs.Put.{put-append}
-use Rattle.p21_express_syntax.specs.Kept.{KeptType}
-use Rattle.p21_express_syntax.specs.Keeping.{kept_width, kept_high, kept_range, array_high, kept_type, of}
-use Rattle.p21_express_syntax.specs.Reading.{flag_of, low_of, top_of, high_of, range_of, array_of, most_of, width_of, precision_of, kind_of, aggregate_at, simple_of, element_of, under, type_by, type_of}
+use Rattle.p21_express_syntax.specs.Digest.{TypeDigest}
+use Rattle.p21_express_syntax.specs.Digesting.{width_digest, high_digest, range_digest, array_high, type_digest, of}
+use Rattle.p21_express_syntax.specs.DataTypes.{flag_of, low_of, top_of, high_of, range_of, array_of, most_of, width_of, precision_of, kind_of, aggregate_at, simple_of, element_of, under, type_by, type_of}
 use Rattle.p21_express_syntax.specs.Within.{HasWidth, HasBounds, HasBothBounds, HasNumbers}
 use Rattle.p21_express_syntax.specs.declared.types.Aggregate.{Aggregate}
 use Rattle.p21_express_syntax.specs.declared.types.Aggregate.TheVariants as aggregate
@@ -43,7 +43,7 @@ top_is low items = of_bind (take_digits items) _ _ (λ d e. of_guard (nat_le (nu
     let both = and_parts (nat_le (number d.0) 4294967295) (nat_le low (number d.0)) t in
     (d.0, digits_taken items d.0 d.1 e, refl, le_of _ _ both.0, le_of _ _ both.1)))
 
-high_is : (low : ℕ) (items : Items) → OfSome (high_of low items) (λ f. (high : UpperBound) × (items ≡ put (upper_bound_lexemes high) f.1) × (f.0 ≡ kept_high high) × UpperBoundIs low high f.0)
+high_is : (low : ℕ) (items : Items) → OfSome (high_of low items) (λ f. (high : UpperBound) × (items ≡ put (upper_bound_lexemes high) f.1) × (f.0 ≡ high_digest high) × DenotesUpperBound low high f.0)
 unfolding high_of
 high_is low items = of_choose (take_symbol 63 items) _ _ _
     (λ r e. (unbounded, symbol_taken 63 items r e, refl, refl))
@@ -59,7 +59,7 @@ bounded_is : (items a b c d rest : Items) (low : List ℕ) (high : UpperBound) �
     → items ≡ put (bounds_lexemes (Some (record { low = low; high = high }))) rest
 bounded_is items a b c d rest low high e f g h i = rw (e, f, g, h, i) (sym (put_bounds low high rest))
 
-pub range_is : (items : Items) → OfSome (range_of items) (λ f. Written bounds_lexemes HasBounds kept_range f.0 items f.1)
+pub range_is : (items : Items) → OfSome (range_of items) (λ f. Written bounds_lexemes HasBounds range_digest f.0 items f.1)
 unfolding range_of
 range_is items = of_choose (take_symbol 91 items) _ _ _
     (λ a ea. of_bind (low_of a) _ _ (λ low el. of_bind (take_symbol 58 low.1) _ _ (λ b eb. of_bind (high_of low.0 b) _ _ (λ high eh. of_bind (take_symbol 93 high.1) _ _ (λ rest er.
@@ -69,7 +69,7 @@ range_is items = of_choose (take_symbol 91 items) _ _ _
       tree = Some (record { low = l.0; high = h.0 });
       stands = bounded_is items a low.1 b high.1 rest l.0 h.0 (symbol_taken 91 items a ea) l.1 (symbol_taken 58 low.1 b eb) h.1 (symbol_taken 93 high.1 rest er);
       is_one = (low.0, high.0, (l.2, (rw l.2 l.3), h.3));
-      same = range_same low.0 (number l.0) high.0 (kept_high h.0) l.2 h.2;
+      same = range_same low.0 (number l.0) high.0 (high_digest h.0) l.2 h.2;
     })))))
     (λ n. record { tree = None; stands = refl; is_one = (0, None, (refl, refl)); same = refl })
 
@@ -87,7 +87,7 @@ put_width most false more = refl
 wide_is : (items a b c rest : Items) (most : List ℕ) (fixed : Bool) → items ≡ over (symbol 40) a → a ≡ over (digits most) b → b ≡ over (symbol 41) c → c ≡ put (optional_word fixed (codes "FIXED")) rest → items ≡ put (width_lexemes (Some (record { most = most; fixed = fixed }))) rest
 wide_is items a b c rest most fixed e f g h = rw (e, f, g, h) (sym (put_width most fixed rest))
 
-pub width_is : (items : Items) → OfSome (width_of items) (λ f. Written width_lexemes HasWidth kept_width f.0 items f.1)
+pub width_is : (items : Items) → OfSome (width_of items) (λ f. Written width_lexemes HasWidth width_digest f.0 items f.1)
 unfolding width_of
 width_is items = of_choose (take_symbol 40 items) _ _ _
     (λ a ea. of_bind (most_of a) _ _ (λ n en. of_bind (take_symbol 41 n.1) _ _ (λ b eb.
@@ -135,11 +135,11 @@ IsLayer (list_layer bounds unique) = HasBounds bounds
 IsLayer (set_layer bounds) = HasBounds bounds
 IsLayer (bag_layer bounds) = HasBounds bounds
 
-abbrev pub kept_layer : Layer → Aggregate
-kept_layer (array_layer bounds optional unique) = aggregate.Array (number bounds.low) (array_high bounds.high) optional unique
-kept_layer (list_layer bounds unique) = aggregate.List (kept_range bounds) unique
-kept_layer (set_layer bounds) = aggregate.Set (kept_range bounds)
-kept_layer (bag_layer bounds) = aggregate.Bag (kept_range bounds)
+abbrev pub layer_digest : Layer → Aggregate
+layer_digest (array_layer bounds optional unique) = aggregate.Array (number bounds.low) (array_high bounds.high) optional unique
+layer_digest (list_layer bounds unique) = aggregate.List (range_digest bounds) unique
+layer_digest (set_layer bounds) = aggregate.Set (range_digest bounds)
+layer_digest (bag_layer bounds) = aggregate.Bag (range_digest bounds)
 
 abbrev pub kind_word : Kind → List ℕ
 kind_word kind.Array = codes "ARRAY"
@@ -148,7 +148,7 @@ kind_word kind.Set = codes "SET"
 kind_word kind.Bag = codes "BAG"
 
 abbrev pub LayerWritten : Aggregate → Items → Items → Type 0
-LayerWritten first items rest = Written layer_lexemes IsLayer kept_layer first items rest
+LayerWritten first items rest = Written layer_lexemes IsLayer layer_digest first items rest
 
 pub three : (a b c : List Lexeme) (more : Items) → put (a ++ b ++ c) more ≡ put a (put b (put c more))
 three a b c more = put-append (a ++ b) c more ∙ put-append a b (put c more)
@@ -217,8 +217,8 @@ kind_is items = of_choose (take_word (codes "LIST") items) _ _ _ (λ r e. word_t
 abbrev pub IsTypeIn : ℕ → WrittenType → Type 0
 IsTypeIn n t = IsWrittenType t × HasNumbers t × (nesting t ≤ n)
 
-abbrev pub TypeWritten : ℕ → KeptType → Items → Items → Type 0
-TypeWritten n value items rest = Written type_lexemes (IsTypeIn n) kept_type value items rest
+abbrev pub TypeWritten : ℕ → TypeDigest → Items → Items → Type 0
+TypeWritten n value items rest = Written type_lexemes (IsTypeIn n) type_digest value items rest
 
 element_is : (n : ℕ) (items : Items) → OfSome (element_of items) (λ f. TypeWritten n f.0 items f.1)
 unfolding simple_of
@@ -241,7 +241,7 @@ element_is n items = of_bind (simple_of items) _ _ (λ s es. of_some (simple_of 
     record { tree = named_type p.0; stands = w.0; is_one = (w.1, tt, omega arith); same = refl })))))))))
     s es)
 
-of_layer : (n : ℕ) (layer : Layer) (element : WrittenType) (first : Aggregate) (inner : KeptType) (items left rest : Items) → items ≡ put (layer_lexemes layer) left → IsLayer layer → kept_layer layer ≡ first → left ≡ put (type_lexemes element) rest → IsTypeIn n element → kept_type element ≡ inner
+of_layer : (n : ℕ) (layer : Layer) (element : WrittenType) (first : Aggregate) (inner : TypeDigest) (items left rest : Items) → items ≡ put (layer_lexemes layer) left → IsLayer layer → layer_digest layer ≡ first → left ≡ put (type_lexemes element) rest → IsTypeIn n element → type_digest element ≡ inner
     → TypeWritten (suc n) (record { aggregates = first ∷ inner.aggregates; element = inner.element }) items rest
 of_layer n (array_layer bounds optional unique) element first inner items left rest e l k f i m = record {
   tree = array_type bounds optional unique element;
@@ -268,11 +268,11 @@ of_layer n (bag_layer bounds) element first inner items left rest e l k f i m = 
   same = rw (k, m) refl;
 }
 
-under_is : (n : ℕ) (first : Aggregate) (items left : Items) → LayerWritten first items left → (o : Option (KeptType × Items)) → OfSome o (λ f. TypeWritten n f.0 left f.1) → OfSome (under first o) (λ f. TypeWritten (suc n) f.0 items f.1)
+under_is : (n : ℕ) (first : Aggregate) (items left : Items) → LayerWritten first items left → (o : Option (TypeDigest × Items)) → OfSome o (λ f. TypeWritten n f.0 left f.1) → OfSome (under first o) (λ f. TypeWritten (suc n) f.0 items f.1)
 under_is n first items left w None h = tt
 under_is n first items left w (Some (inner, rest)) h = of_layer n w.tree h.tree first inner items left rest w.stands w.is_one w.same h.stands h.is_one h.same
 
-by_is : (n : ℕ) (items : Items) (o : Option (Kind × Items)) → kind_of items ≡ o → (go : Kind → Items → Option (KeptType × Items)) → ((k : Kind) (r : Items) → kind_of items ≡ Some (k, r) → OfSome (go k r) (λ f. TypeWritten n f.0 items f.1)) → OfSome (type_by o (element_of items) go) (λ f. TypeWritten n f.0 items f.1)
+by_is : (n : ℕ) (items : Items) (o : Option (Kind × Items)) → kind_of items ≡ o → (go : Kind → Items → Option (TypeDigest × Items)) → ((k : Kind) (r : Items) → kind_of items ≡ Some (k, r) → OfSome (go k r) (λ f. TypeWritten n f.0 items f.1)) → OfSome (type_by o (element_of items) go) (λ f. TypeWritten n f.0 items f.1)
 by_is n items None o go h = element_is n items
 by_is n items (Some (k, r)) o go h = h k r o
 

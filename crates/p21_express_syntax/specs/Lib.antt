@@ -1,9 +1,9 @@
-pub mod Kept
-pub mod Reading
+pub mod Digest
+pub mod DataTypes
 pub mod Many
 pub mod Declaring
 pub mod Views
-pub mod Keeping
+pub mod Digesting
 pub mod ReadSchema
 pub mod Within
 pub mod ReadDeclarations

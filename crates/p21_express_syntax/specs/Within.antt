@@ -4,21 +4,21 @@ use Rattle.std.specs.Prelude.{ℕ, ◌+◌, ◌≤◌, length, Option, Some}
 use Rattle.std.specs.List.{AllByRecursion as Each}
 use Rattle.p21_schemas.specs.Schema as schema
 use Rattle.p21_schemas.specs.WrittenType.{Width, Bounds, WrittenType, string_type, binary_type, array_type, list_type, set_type, bag_type, nesting}
-use Rattle.p21_schemas.specs.DeclaredType.{WidthIs, BoundsAre, deepest_nesting}
+use Rattle.p21_schemas.specs.DeclaredType.{DenotesWidth, DenotesBounds, deepest_nesting}
 use Rattle.p21_schemas.specs.EntityDeclaration.{ExplicitAttributes, EntityDeclaration}
 use Rattle.p21_schemas.specs.TypeDeclaration.{Body, enumeration, select, underlying, TypeDeclaration}
 use Rattle.p21_schemas.specs.SchemaDeclaration.{SchemaDeclaration, entities_of, types_of}
 use Rattle.p21_schemas.specs.Declared.{most_declarations}
 
 abbrev pub HasWidth : Option Width → Type 0
-HasWidth written = (width : Option schema.Width) × WidthIs written width
+HasWidth written = (width : Option schema.Width) × DenotesWidth written width
 
 abbrev pub HasBounds : Option Bounds → Type 0
-HasBounds written = (low : ℕ) × (high : Option ℕ) × BoundsAre written low high
+HasBounds written = (low : ℕ) × (high : Option ℕ) × DenotesBounds written low high
 
 -- an array has an upper bound
 abbrev pub HasBothBounds : Bounds → Type 0
-HasBothBounds written = (low high : ℕ) × BoundsAre (Some written) low (Some high)
+HasBothBounds written = (low high : ℕ) × DenotesBounds (Some written) low (Some high)
 
 -- widths and bounds are numbers of a schema
 abbrev pub HasNumbers : WrittenType → Type 0

@@ -2,7 +2,7 @@ ghost use Rattle.std.specs.Prelude.{◌≡◌, codes, map};
 ghost use Rattle.p21_express_lexemes.specs.Taking.{ReadBy};
 ghost use Rattle.p21_express_syntax.specs.Declaring.{redeclared_at, attribute_of, comma_attribute_of, attributes_from, attributes_behind, explicit_of, derived_behind, derived_of, flat};
 ghost use Rattle.p21_express_syntax.specs.Many.{many_of, StepRead};
-ghost use Rattle.p21_express_syntax.specs.Reading.{itself};
+ghost use Rattle.p21_express_syntax.specs.DataTypes.{identity};
 ghost use Rattle.p21_express_syntax.specs.Views.{list_view, attributes_view, attributes_views};
 
 use crate::names::{read_name, word_of};
@@ -34,7 +34,7 @@ fn read_attribute(
     alloc: Global,
     lexemes: &mut Lexemes,
 ) -> Result<Option<AttributeName>, SyntaxFault>
-    ensures { StepRead itself result (attribute_of lexemes.old) lexemes.old lexemes.new }
+    ensures { StepRead identity result (attribute_of lexemes.old) lexemes.old lexemes.new }
 {
     if lexemes.take_word(b"SELF") {
         return Ok(Some(read_redeclared(alloc, lexemes)?));
@@ -48,7 +48,7 @@ fn read_attribute(
 /// Behind SELF: `\` entity `.` name.
 #[tactic(auto, unfolding(crate::specs::Declaring::redeclared_at))]
 fn read_redeclared(alloc: Global, lexemes: &mut Lexemes) -> Result<AttributeName, SyntaxFault>
-    ensures { ReadBy itself result (redeclared_at lexemes.old) lexemes.new }
+    ensures { ReadBy identity result (redeclared_at lexemes.old) lexemes.new }
 {
     lexemes.expect_symbol(b'\\')?;
     let entity = read_name(alloc, lexemes)?;
@@ -59,7 +59,7 @@ fn read_redeclared(alloc: Global, lexemes: &mut Lexemes) -> Result<AttributeName
 
 /// An attribute where one must stand.
 fn expect_attribute(alloc: Global, lexemes: &mut Lexemes) -> Result<AttributeName, SyntaxFault>
-    ensures { ReadBy itself result (flat (attribute_of lexemes.old)) lexemes.new }
+    ensures { ReadBy identity result (flat (attribute_of lexemes.old)) lexemes.new }
 {
     match read_attribute(alloc, lexemes)? {
         Some(attribute) => Ok(attribute),
@@ -73,7 +73,7 @@ fn read_comma_attribute(
     alloc: Global,
     lexemes: &mut Lexemes,
 ) -> Result<Option<AttributeName>, SyntaxFault>
-    ensures { StepRead itself result (comma_attribute_of lexemes.old) lexemes.old lexemes.new }
+    ensures { StepRead identity result (comma_attribute_of lexemes.old) lexemes.old lexemes.new }
 {
     if !lexemes.take_symbol(b',') {
         return Ok(None);
@@ -156,7 +156,7 @@ pub(crate) fn read_all_explicit(
 /// A derived attribute, if one begins there: attribute `:` run `;`.
 #[tactic(auto, unfolding(crate::specs::Declaring::derived_of, crate::specs::Declaring::derived_behind))]
 fn read_derived(alloc: Global, lexemes: &mut Lexemes) -> Result<Option<AttributeName>, SyntaxFault>
-    ensures { StepRead itself result (derived_of lexemes.old) lexemes.old lexemes.new }
+    ensures { StepRead identity result (derived_of lexemes.old) lexemes.old lexemes.new }
 {
     match read_attribute(alloc, lexemes)? {
         Some(attribute) => {

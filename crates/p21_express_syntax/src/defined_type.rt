@@ -1,6 +1,6 @@
 ghost use Rattle.std.specs.Prelude.{◌≡◌, codes};
 ghost use Rattle.p21_schemas.specs.Run.{is_word, none};
-ghost use Rattle.p21_express_lexemes.specs.Taking.{Expected, ReadBy};
+ghost use Rattle.p21_express_lexemes.specs.Taking.{TakesExpected, ReadBy};
 ghost use Rattle.p21_express_syntax.specs.Declaring.{body_of, type_end, defined_at, names_of};
 ghost use Rattle.p21_express_syntax.specs.Views.{list_view, body_view, defined_view};
 
@@ -57,7 +57,7 @@ fn read_body(alloc: Global, lexemes: &mut Lexemes) -> Result<Body, SyntaxFault>
 /// What is read over from WHERE on, if it stands there, and END_TYPE.
 #[tactic(auto, unfolding(crate::specs::Declaring::type_end))]
 fn pass_end(lexemes: &mut Lexemes) -> Result<(), SyntaxFault>
-    ensures { Expected result (type_end lexemes.old) lexemes.new }
+    ensures { TakesExpected result (type_end lexemes.old) lexemes.new }
 {
     if lexemes.take_word(b"WHERE") {
         return read_over(lexemes, Mark::Nothing, Mark::Word(b"END_TYPE"));

@@ -1,7 +1,7 @@
 ghost use Rattle.std.specs.Prelude.{◌≡◌, codes};
 ghost use Rattle.p21_schemas.specs.Run.{is_word, is_symbol, none};
-ghost use Rattle.p21_express_lexemes.specs.Taking.{Expected, ReadBy, Took};
-ghost use Rattle.p21_express_syntax.specs.Declaring.{one_of_of, expression_of, abstract_at, constraint_of, supertypes_of, derive_of, take_rules, entity_end, entity_at, constrained, OneOfRead};
+ghost use Rattle.p21_express_lexemes.specs.Taking.{TakesExpected, ReadBy, WasTaken};
+ghost use Rattle.p21_express_syntax.specs.Declaring.{one_of_of, expression_of, abstract_at, constraint_of, supertypes_of, derive_of, take_rules, entity_end, entity_at, constraint_with, OneOfRead};
 ghost use Rattle.p21_express_syntax.specs.Many.{many_of};
 ghost use Rattle.p21_express_syntax.specs.Views.{list_view, some_list, constraint_view, entity_view};
 
@@ -136,7 +136,7 @@ fn read_derive(alloc: Global, lexemes: &mut Lexemes) -> Result<Vec<AttributeName
 /// What is read over from INVERSE, UNIQUE or WHERE on, if it stands there, and END_ENTITY.
 #[tactic(auto, unfolding(crate::specs::Declaring::entity_end))]
 fn pass_end(lexemes: &mut Lexemes) -> Result<(), SyntaxFault>
-    ensures { Expected result (entity_end lexemes.old) lexemes.new }
+    ensures { TakesExpected result (entity_end lexemes.old) lexemes.new }
 {
     if take_rules(lexemes) {
         return read_over(lexemes, Mark::Nothing, Mark::Word(b"END_ENTITY"));
@@ -147,7 +147,7 @@ fn pass_end(lexemes: &mut Lexemes) -> Result<(), SyntaxFault>
 /// Takes INVERSE, UNIQUE or WHERE, if it stands there.
 #[tactic(auto, unfolding(crate::specs::Declaring::take_rules))]
 fn take_rules(lexemes: &mut Lexemes) -> bool
-    ensures { Took result (take_rules lexemes.old) lexemes.old lexemes.new }
+    ensures { WasTaken result (take_rules lexemes.old) lexemes.old lexemes.new }
 {
     if lexemes.take_word(b"INVERSE") {
         return true;

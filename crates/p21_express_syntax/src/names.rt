@@ -1,10 +1,10 @@
 ghost use Rattle.std.specs.Prelude.{◌≡◌, ◌≤◌, IfOk, map, length, take};
 ghost use Rattle.p21_exchange.specs.Keyword.{IsKeyword};
 ghost use Rattle.p21_schemas.specs.Express.{upper};
-ghost use Rattle.p21_express_lexemes.specs.Taking.{ReadBy, Refused, take_name};
+ghost use Rattle.p21_express_lexemes.specs.Taking.{ReadBy, RefusalShows, take_name};
 ghost use Rattle.p21_express_syntax.specs.Declaring.{comma_name_of, names_from, names_of};
 ghost use Rattle.p21_express_syntax.specs.Many.{StepRead};
-ghost use Rattle.p21_express_syntax.specs.Reading.{IsWordOf, itself};
+ghost use Rattle.p21_express_syntax.specs.DataTypes.{IsWordOf, identity};
 ghost use Rattle.p21_express_syntax.specs.Views.{list_view};
 
 use p21_express_lexemes::{Lexemes, SyntaxFault, upper};
@@ -13,7 +13,7 @@ use std::alloc::Global;
 
 /// Reads a name, which is kept in upper case.
 pub(crate) fn read_name(alloc: Global, lexemes: &mut Lexemes) -> Result<Word, SyntaxFault>
-    ensures { ReadBy itself result (take_name lexemes.old) lexemes.new }
+    ensures { ReadBy identity result (take_name lexemes.old) lexemes.new }
 {
     let name = lexemes.expect_name()?;
     word_of(alloc, name)
@@ -36,7 +36,7 @@ pub(crate) fn word_of(alloc: Global, name: &[u8]) -> Result<Word, SyntaxFault>
         place[count] = upper(name[count]);
         count += 1;
     }
-    front_word(alloc, &place, count)
+    prefix_word(alloc, &place, count)
 }
 
 /// The same, for one that is long.
@@ -48,16 +48,16 @@ fn long_word_of(alloc: Global, name: &[u8]) -> Result<Word, SyntaxFault>
     for byte in name {
         bytes.push(upper(*byte))?;
     }
-    front_word(alloc, bytes.as_slice(), bytes.len())
+    prefix_word(alloc, bytes.as_slice(), bytes.len())
 }
 
 /// The word of so many bytes at the front.
-fn front_word(alloc: Global, bytes: &[u8], count: usize) -> Result<Word, SyntaxFault>
+fn prefix_word(alloc: Global, bytes: &[u8], count: usize) -> Result<Word, SyntaxFault>
     requires within { count ≤ length bytes.now }
     requires keyword { IsKeyword (take count bytes.now) }
     ensures { IsWordOf (take count bytes.now) result }
 {
-    match Word::of_front(alloc, bytes, count) {
+    match Word::of_prefix(alloc, bytes, count) {
         Ok(word) => Ok(word),
         Err(_no_memory) => Err(SyntaxFault::NoMemory),
     }
@@ -98,7 +98,7 @@ fn read_names_from(
 /// A comma and a name, if the comma stands there.
 #[tactic(auto, unfolding(crate::specs::Declaring::comma_name_of))]
 fn read_comma_name(alloc: Global, lexemes: &mut Lexemes) -> Result<Option<Word>, SyntaxFault>
-    ensures { StepRead itself result (comma_name_of lexemes.old) lexemes.old lexemes.new }
+    ensures { StepRead identity result (comma_name_of lexemes.old) lexemes.old lexemes.new }
 {
     if !lexemes.take_symbol(b',') {
         return Ok(None);

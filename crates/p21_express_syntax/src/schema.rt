@@ -2,12 +2,12 @@ ghost use Rattle.std.specs.Prelude.{◌≡◌, ◌+◌, ◌≤◌, ◌<◌, code
 ghost use Rattle.p21_schemas.specs.Run.{is_word, none};
 ghost use Rattle.p21_express_lexemes.specs.Lexemes.{lexemes_of};
 ghost use Rattle.p21_express_lexemes.specs.Runs.{AreApart, marks};
-ghost use Rattle.p21_express_lexemes.specs.Taking.{Expected};
-ghost use Rattle.p21_express_syntax.specs.Declaring.{ended, over_end, passed_word_of, passed_behind, WordTaken, over_of, declaration_of, declarations_of, schema_of, begins_kept, OverRead, Added};
+ghost use Rattle.p21_express_lexemes.specs.Taking.{TakesExpected};
+ghost use Rattle.p21_express_syntax.specs.Declaring.{has_nothing_left, over_end, passed_word_of, passed_behind, WordTaken, over_of, declaration_of, declarations_of, schema_of, begins_entity_or_type, OverRead, Added};
 ghost use Rattle.p21_express_syntax.specs.Many.{StepRead};
 ghost use Rattle.p21_express_syntax.specs.OneTree.{LexemesHaveOneTree, TextHasOneTree};
-ghost use Rattle.p21_express_syntax.specs.ReadDeclarations.{ReadsDeclarations, OneTextKept};
-ghost use Rattle.p21_express_syntax.specs.ReadSchema.{DeclarationsRead, SchemaRead, RoomSaid};
+ghost use Rattle.p21_express_syntax.specs.ReadDeclarations.{ReadsDeclarations, TextHasOneDigest};
+ghost use Rattle.p21_express_syntax.specs.ReadSchema.{DeclarationsRead, SchemaRead, SaysOneTooMany};
 ghost use Rattle.p21_express_syntax.specs.Views.{schema_view, declaration_view};
 
 use crate::defined_type::{DefinedType, read_defined_type};
@@ -54,7 +54,7 @@ const MOST_DECLARATIONS: usize = 65535;
 #[tactic(auto, unfolding(crate::specs::Declaring::over_end))]
 fn pass_to(lexemes: &mut Lexemes, opens: Mark, last: &[u8]) -> Result<(), SyntaxFault>
     requires { AreApart (marks opens) (is_word last.now) }
-    ensures { Expected result (over_end (marks opens.entry) last.now lexemes.old) lexemes.new }
+    ensures { TakesExpected result (over_end (marks opens.entry) last.now lexemes.old) lexemes.new }
 {
     read_over(lexemes, opens, Mark::Word(last))?;
     lexemes.expect_symbol(b';')
@@ -86,7 +86,7 @@ fn take_passed_word(lexemes: &mut Lexemes) -> Option<PassedWord>
 /// A declaration that is read over, behind its first word.
 #[tactic(auto, unfolding(crate::specs::Declaring::passed_behind), using(crate::proofs::Apart::functions_apart, crate::proofs::Apart::procedures_apart))]
 fn pass_declaration(lexemes: &mut Lexemes, word: PassedWord) -> Result<(), SyntaxFault>
-    ensures { Expected result (passed_behind word lexemes.old) lexemes.new }
+    ensures { TakesExpected result (passed_behind word lexemes.old) lexemes.new }
 {
     match word {
         PassedWord::Function => pass_to(lexemes, Mark::Word(b"FUNCTION"), b"END_FUNCTION"),
@@ -134,9 +134,9 @@ fn read_declaration(
 }
 
 /// Whether the word of an entity or a type stands first.
-#[tactic(auto, unfolding(crate::specs::Declaring::begins_kept))]
-fn begins_kept(lexemes: &Lexemes) -> bool
-    ensures { result ≡ begins_kept lexemes.now }
+#[tactic(auto, unfolding(crate::specs::Declaring::begins_entity_or_type))]
+fn begins_entity_or_type(lexemes: &Lexemes) -> bool
+    ensures { result ≡ begins_entity_or_type lexemes.now }
 {
     let mut ahead = lexemes.again();
     if ahead.take_word(b"ENTITY") {
@@ -147,12 +147,12 @@ fn begins_kept(lexemes: &Lexemes) -> bool
 
 /// Whether an entity or a type begins, where there are as many as may be.
 fn is_one_too_many(declarations: &Declarations, lexemes: &Lexemes) -> bool
-    ensures { RoomSaid result (schema_view declarations.now) lexemes.now }
+    ensures { SaysOneTooMany result (schema_view declarations.now) lexemes.now }
 {
     if declarations.entities.len() + declarations.types.len() != MOST_DECLARATIONS {
         return false;
     }
-    begins_kept(lexemes)
+    begins_entity_or_type(lexemes)
 }
 
 /// One more declaration.
@@ -207,9 +207,9 @@ pub fn read_declarations(alloc: Global, text: &[u8]) -> Result<Declarations, Syn
 }
 
 /// What is kept of the declarations of a text is one.
-#[tactic(auto, using(crate::proofs::SchemasRead::one_kept))]
+#[tactic(auto, using(crate::proofs::SchemasRead::one_digest))]
 pub fn one_text()
-    ensures { OneTextKept }
+    ensures { TextHasOneDigest }
 {}
 
 /// A text is that of one schema declaration at most.
@@ -222,7 +222,7 @@ pub fn one_tree()
 /// Whether nothing is left.
 #[tactic(auto, using(crate::proofs::Apart::ended_of))]
 fn is_at_end(lexemes: &Lexemes) -> bool
-    ensures { result ≡ ended lexemes.now }
+    ensures { result ≡ has_nothing_left lexemes.now }
 {
     lexemes.is_empty()
 }

@@ -1,6 +1,6 @@
 ghost use Rattle.std.specs.Prelude.{◌≡◌};
 ghost use Rattle.p21_express_lexemes.specs.Taking.{ReadBy};
-ghost use Rattle.p21_express_syntax.specs.Reading.{itself, low_of, high_of, top_of, range_of, array_of, width_of, most_of, precision_of, kind_of, aggregate_at, simple_of, type_of, KindRead, Passed, NumberRead};
+ghost use Rattle.p21_express_syntax.specs.DataTypes.{identity, low_of, high_of, top_of, range_of, array_of, width_of, most_of, precision_of, kind_of, aggregate_at, simple_of, type_of, KindRead, Passed, NumberRead};
 ghost use Rattle.p21_express_syntax.specs.Views.{type_view};
 
 use crate::names::read_name;
@@ -79,9 +79,9 @@ enum Kind {
 const DEEPEST: usize = 32;
 
 /// A lower bound. `?` is none.
-#[tactic(auto, unfolding(crate::specs::Reading::low_of))]
+#[tactic(auto, unfolding(crate::specs::DataTypes::low_of))]
 fn read_low(lexemes: &mut Lexemes) -> Result<u32, SyntaxFault>
-    ensures { ReadBy itself result (low_of lexemes.old) lexemes.new }
+    ensures { ReadBy identity result (low_of lexemes.old) lexemes.new }
 {
     let Some(digits) = lexemes.take_digits() else {
         return Err(no_bound(lexemes));
@@ -102,9 +102,9 @@ fn no_bound(lexemes: &mut Lexemes) -> SyntaxFault {
 }
 
 /// An upper bound in digits.
-#[tactic(auto, unfolding(crate::specs::Reading::top_of))]
+#[tactic(auto, unfolding(crate::specs::DataTypes::top_of))]
 fn read_top(lexemes: &mut Lexemes, low: u32) -> Result<u32, SyntaxFault>
-    ensures { ReadBy itself result (top_of low lexemes.old) lexemes.new }
+    ensures { ReadBy identity result (top_of low lexemes.old) lexemes.new }
 {
     let Some(digits) = lexemes.take_digits() else {
         return Err(no_bound(lexemes));
@@ -122,9 +122,9 @@ fn read_top(lexemes: &mut Lexemes, low: u32) -> Result<u32, SyntaxFault>
 }
 
 /// An upper bound, or `?`.
-#[tactic(auto, unfolding(crate::specs::Reading::high_of))]
+#[tactic(auto, unfolding(crate::specs::DataTypes::high_of))]
 fn read_high(lexemes: &mut Lexemes, low: u32) -> Result<Option<u32>, SyntaxFault>
-    ensures { ReadBy itself result (high_of low lexemes.old) lexemes.new }
+    ensures { ReadBy identity result (high_of low lexemes.old) lexemes.new }
 {
     if lexemes.take_symbol(b'?') {
         return Ok(None);
@@ -144,9 +144,9 @@ fn pass(lexemes: &mut Lexemes, byte: u8) -> Result<(), SyntaxFault>
 }
 
 /// `[` low `:` high `]`, or nothing, which is `[0:?]`.
-#[tactic(auto, unfolding(crate::specs::Reading::range_of))]
+#[tactic(auto, unfolding(crate::specs::DataTypes::range_of))]
 fn read_range(lexemes: &mut Lexemes) -> Result<Range, SyntaxFault>
-    ensures { ReadBy itself result (range_of lexemes.old) lexemes.new }
+    ensures { ReadBy identity result (range_of lexemes.old) lexemes.new }
 {
     if !lexemes.take_symbol(b'[') {
         return Ok(Range { low: 0, high: None });
@@ -159,9 +159,9 @@ fn read_range(lexemes: &mut Lexemes) -> Result<Range, SyntaxFault>
 }
 
 /// Behind ARRAY.
-#[tactic(auto, unfolding(crate::specs::Reading::array_of))]
+#[tactic(auto, unfolding(crate::specs::DataTypes::array_of))]
 fn read_array(lexemes: &mut Lexemes) -> Result<Aggregate, SyntaxFault>
-    ensures { ReadBy itself result (array_of lexemes.old) lexemes.new }
+    ensures { ReadBy identity result (array_of lexemes.old) lexemes.new }
 {
     lexemes.expect_symbol(b'[')?;
     let low = read_low(lexemes)?;
@@ -180,9 +180,9 @@ fn read_array(lexemes: &mut Lexemes) -> Result<Aggregate, SyntaxFault>
 }
 
 /// A width in digits, which is not 0.
-#[tactic(auto, unfolding(crate::specs::Reading::most_of))]
+#[tactic(auto, unfolding(crate::specs::DataTypes::most_of))]
 fn read_most(lexemes: &mut Lexemes) -> Result<u32, SyntaxFault>
-    ensures { ReadBy itself result (most_of lexemes.old) lexemes.new }
+    ensures { ReadBy identity result (most_of lexemes.old) lexemes.new }
 {
     let Some(digits) = lexemes.take_digits() else {
         return Err(lexemes.refusal(Wanted::Width));
@@ -200,9 +200,9 @@ fn read_most(lexemes: &mut Lexemes) -> Result<u32, SyntaxFault>
 }
 
 /// `(` digits `)` and FIXED or not, or nothing.
-#[tactic(auto, unfolding(crate::specs::Reading::width_of))]
+#[tactic(auto, unfolding(crate::specs::DataTypes::width_of))]
 fn read_width(lexemes: &mut Lexemes) -> Result<Option<Width>, SyntaxFault>
-    ensures { ReadBy itself result (width_of lexemes.old) lexemes.new }
+    ensures { ReadBy identity result (width_of lexemes.old) lexemes.new }
 {
     if !lexemes.take_symbol(b'(') {
         return Ok(None);
@@ -214,7 +214,7 @@ fn read_width(lexemes: &mut Lexemes) -> Result<Option<Width>, SyntaxFault>
 }
 
 /// `(` digits `)`, or nothing: the precision of a REAL isn't used.
-#[tactic(auto, unfolding(crate::specs::Reading::precision_of))]
+#[tactic(auto, unfolding(crate::specs::DataTypes::precision_of))]
 fn pass_precision(lexemes: &mut Lexemes) -> Result<(), SyntaxFault>
     ensures { NumberRead result (precision_of lexemes.old) lexemes.new }
 {
@@ -228,7 +228,7 @@ fn pass_precision(lexemes: &mut Lexemes) -> Result<(), SyntaxFault>
 }
 
 /// The word of an aggregate type, if it stands first.
-#[tactic(auto, unfolding(crate::specs::Reading::kind_of))]
+#[tactic(auto, unfolding(crate::specs::DataTypes::kind_of))]
 fn take_kind(lexemes: &mut Lexemes) -> Option<Kind>
     ensures { KindRead result (kind_of lexemes.old) lexemes.old lexemes.new }
 {
@@ -248,9 +248,9 @@ fn take_kind(lexemes: &mut Lexemes) -> Option<Kind>
 }
 
 /// An aggregate type behind its word.
-#[tactic(auto, unfolding(crate::specs::Reading::aggregate_at))]
+#[tactic(auto, unfolding(crate::specs::DataTypes::aggregate_at))]
 fn read_aggregate(lexemes: &mut Lexemes, kind: Kind) -> Result<Aggregate, SyntaxFault>
-    ensures { ReadBy itself result (aggregate_at kind lexemes.old) lexemes.new }
+    ensures { ReadBy identity result (aggregate_at kind lexemes.old) lexemes.new }
 {
     match kind {
         Kind::Array => read_array(lexemes),
@@ -274,9 +274,9 @@ fn read_aggregate(lexemes: &mut Lexemes, kind: Kind) -> Result<Aggregate, Syntax
 }
 
 /// A type that is no aggregate.
-#[tactic(auto, unfolding(crate::specs::Reading::simple_of))]
+#[tactic(auto, unfolding(crate::specs::DataTypes::simple_of))]
 fn read_simple(alloc: Global, lexemes: &mut Lexemes) -> Result<SimpleType, SyntaxFault>
-    ensures { ReadBy itself result (simple_of lexemes.old) lexemes.new }
+    ensures { ReadBy identity result (simple_of lexemes.old) lexemes.new }
 {
     if lexemes.take_word(b"REAL") {
         pass_precision(lexemes)?;

@@ -7,8 +7,8 @@ use Rattle.p21_schemas.specs.Supertype.{IsLeaf}
 use Rattle.p21_express_tables.specs.Above.{AreAbove}
 
 -- proper supertypes in rising order
-pub above-risen : (s : Schema) (es above risen : List ℕ) → AreAbove s es above → ((y : ℕ) → Contains risen y ↔ Contains above y) → AreAbove s es risen
-above-risen s es above risen are same f = (λ has. (are f).0 ((same f).0 has), λ is. (same f).1 ((are f).1 is))
+pub above-risen : (s : Schema) (es above rising_numbers : List ℕ) → AreAbove s es above → ((y : ℕ) → Contains rising_numbers y ↔ Contains above y) → AreAbove s es rising_numbers
+above-risen s es above rising_numbers are same f = (λ has. (are f).0 ((same f).0 has), λ is. (same f).1 ((are f).1 is))
 
 -- a member is a leaf where it is none of them
 module _ (s : Schema) (es above : List ℕ) (are : AreAbove s es above) (e : ℕ) where

@@ -11,11 +11,11 @@ use Rattle.p21_schemas.specs.Declared.{HasNoCircle, HasSupertype}
 use Rattle.p21_schemas.specs.Schema.{Schema}
 use Rattle.p21_schemas.specs.Supertype.{IsA, itself, above}
 use Rattle.p21_schemas.proofs.PlaceTypes.{IsA-antisymmetric, IsA-transitive}
+use Rattle.p21_express_graph.specs.Walk.{IsDone, IsOpen, open_count}
+use Rattle.p21_express_graph.proofs.Walks.{set_count, set_keeps, set_length, set_only}
 use Rattle.p21_express_tables.specs.Above.{AreAbove}
-use Rattle.p21_express_tables.specs.Ascent.{Ascends, GoesOn}
-use Rattle.p21_express_tables.specs.Walk.{IsDone, IsOpen, open_count}
+use Rattle.p21_express_tables.specs.Ascent.{Ascends, AscendsFurther}
 use Rattle.p21_express_tables.specs.declared.ascent.Ascent.{Ascent}
-use Rattle.p21_express_tables.proofs.Walks.{set_count, set_keeps, set_length, set_only}
 
 -- ---- marks
 
@@ -48,10 +48,10 @@ none-found ascent none empty = record {
 
 -- ---- steps
 
-pub stays : (a : Ascent) → Ascends a → GoesOn a a
+pub stays : (a : Ascent) → Ascends a → AscendsFurther a a
 stays a is = record { ascends = is; size = refl; begins = ([], sym (append-nil a.above.items)) }
 
-pub goes-on : (a b c : Ascent) → GoesOn a b → GoesOn b c → GoesOn a c
+pub goes-on : (a b c : Ascent) → AscendsFurther a b → AscendsFurther b c → AscendsFurther a c
 goes-on a b c first second = record {
   ascends = second.ascends;
   size = second.size ∙ first.size;
@@ -59,7 +59,7 @@ goes-on a b c first second = record {
 }
 
 -- what was found stays found
-pub found-kept : (a b : Ascent) → GoesOn a b → (f : ℕ) → Contains a.above.items f → Contains b.above.items f
+pub found-kept : (a b : Ascent) → AscendsFurther a b → (f : ℕ) → Contains a.above.items f → Contains b.above.items f
 found-kept a b goes f among = let P : List ℕ → Type 0 = λ fs. Contains fs f in subst P (sym goes.begins.1) (Contains-append_left a.above.items goes.begins.0 f among)
 
 -- those that are found are so many at most
@@ -92,7 +92,7 @@ module _ (a b : Ascent) (f : ℕ) (is : Ascends a) (open_is : IsOpen a.marked.it
     ]),
   )
 
-  pub goes-more : GoesOn a b
+  pub goes-more : AscendsFurther a b
   goes-more =
       let found : (g : ℕ) → Contains b.above.items g ↔ (Contains a.above.items g ⊎ (g ≡ f)) = more-found a.above.items b.above.items f above_is in
       let count = set_count a.marked.items f open_is in

@@ -13,16 +13,16 @@ use Rattle.p21_schemas.specs.Schema.{Schema, Place, Redeclared, attributes_of}
 use Rattle.p21_schemas.specs.Supertype.{IsA}
 use Rattle.p21_express_types.specs.Meaning.{place}
 use Rattle.p21_express_types.specs.declared.number.Place.{Place as Numbered}
-use Rattle.p21_express_tables.specs.Decided.{AddsDecided, AddsDecision, AreRedeclaring, HaveOwners, IsDecided, RedeclareIn, places_of}
+use Rattle.p21_express_graph.specs.Resolved.{HoldsTogether, IsPlace, IsResolved}
+use Rattle.p21_express_graph.specs.SettledOrder.{nexts_of}
+use Rattle.p21_express_graph.proofs.Lookups.{numbers-more}
+use Rattle.p21_express_graph.proofs.OrderTables.{order-tells}
+use Rattle.p21_express_tables.specs.DecidedPlaces.{AddsDecided, AddsDecision, AreRedeclaring, HaveOwners, IsDecided, RedeclareIn, places_of}
 use Rattle.p21_express_tables.specs.Decisions.{IsDecision}
 use Rattle.p21_express_tables.specs.Redeclarers.{RedeclaresPlace}
-use Rattle.p21_express_tables.specs.Resolved.{HoldsTogether, IsPlace, IsResolved}
-use Rattle.p21_express_tables.specs.declared.decided.Decided.{Decided}
+use Rattle.p21_express_tables.specs.declared.decided.DecidedPlace.{DecidedPlace}
 use Rattle.p21_express_tables.specs.declared.place_types.Decision.{Decision}
 use Rattle.p21_express_tables.specs.declared.place_types.Decision.TheVariants.{Declared, Derived, Redeclared as Redeclared', Two}
-use Rattle.p21_express_tables.specs.Settled.{nexts_of}
-use Rattle.p21_express_tables.proofs.Lookups.{numbers-more}
-use Rattle.p21_express_tables.proofs.OrderTables.{order-tells}
 use Rattle.p21_express_tables.proofs.Owners.{owner_lists, owners-has, owners-within}
 use Rattle.p21_express_tables.proofs.OwnSets.{redeclared-place}
 
@@ -58,20 +58,20 @@ redeclared-are s holds entities p (inl (e, x, in_, at, derives)) = Each-member (
 redeclared-are s holds entities p (inr (e, r, (in_, (x, at, redeclares), is))) = subst (IsPlace s) is (redeclared-place s holds e x r at redeclares)
 
 -- what decides at the first places of an entity has been added
-pub record AddsFirst (s : Schema) (entities : List ℕ) (owner n : ℕ) (before now : List Decided) : Type 0 where
+pub record AddsFirst (s : Schema) (entities : List ℕ) (owner n : ℕ) (before now : List DecidedPlace) : Type 0 where
   pub each : Each (IsDecided s entities) before → Each (IsDecided s entities) now
   pub kept : (p : Place) → Contains (places_of before) p → Contains (places_of now) p
   pub all : (p : Place) → p.entity ≡ owner → p.index < n → RedeclareIn s entities p → Contains (places_of now) p
 
-pub adds-none : (s : Schema) (entities : List ℕ) (owner : ℕ) (before : List Decided) → AddsFirst s entities owner 0 before before
+pub adds-none : (s : Schema) (entities : List ℕ) (owner : ℕ) (before : List DecidedPlace) → AddsFirst s entities owner 0 before before
 adds-none s entities owner before = record { each = λ each. each; kept = λ p among. among; all = λ p owns below. absurd (omega (arith, below)) }
 
-module _ (s : Schema) (entities : List ℕ) (owner n : ℕ) (before now : List Decided) (so_far : AddsFirst s entities owner n before now) where
-  pub adds-more : (p : Numbered) (decision : Decision) (after : List Decided) → p.entity.0 ≡ owner → p.index ≡ n → IsDecision s entities (place p) decision → AddsDecision p decision now after → AddsFirst s entities owner (n + 1) before after
+module _ (s : Schema) (entities : List ℕ) (owner n : ℕ) (before now : List DecidedPlace) (so_far : AddsFirst s entities owner n before now) where
+  pub adds-more : (p : Numbered) (decision : Decision) (after : List DecidedPlace) → p.entity.0 ≡ owner → p.index ≡ n → IsDecision s entities (place p) decision → AddsDecision p decision now after → AddsFirst s entities owner (n + 1) before after
   adds-more p decision after owns index is (inl (declared, same)) = record {
     each = λ each. subst (Each (IsDecided s entities)) (sym same) (so_far.each each);
-    kept = λ q among. let P : List Decided → Type 0 = λ ds. Contains (places_of ds) q in subst P (sym same) (so_far.kept q among);
-    all = λ q q_owns below redeclared. let P : List Decided → Type 0 = λ ds. Contains (places_of ds) q in subst P (sym same) (elim (cases_lt q.index n) [
+    kept = λ q among. let P : List DecidedPlace → Type 0 = λ ds. Contains (places_of ds) q in subst P (sym same) (so_far.kept q among);
+    all = λ q q_owns below redeclared. let P : List DecidedPlace → Type 0 = λ ds. Contains (places_of ds) q in subst P (sym same) (elim (cases_lt q.index n) [
       | inl h ↦ so_far.all q q_owns h redeclared
       | inr h ↦
           let at : q.index ≡ n = omega (arith, below, h) in
@@ -83,7 +83,7 @@ module _ (s : Schema) (entities : List ℕ) (owner n : ℕ) (before now : List D
     ]);
   }
   adds-more p decision after owns index is (inr pushed) =
-      let one : Decided = record { place = p; decision = decision } in
+      let one : DecidedPlace = record { place = p; decision = decision } in
       let places : places_of after ≡ places_of now ++ place p ∷ [] = ap places_of pushed ∙ map-append (λ d. place d.place) now (one ∷ []) in
       record {
         each = λ each. subst (Each (IsDecided s entities)) (sym pushed) (Each-append (IsDecided s entities) now (one ∷ []) (so_far.each each) (is, tt));
@@ -111,14 +111,14 @@ module _ (s : Schema) (entities : List ℕ) (owner n : ℕ) (before now : List D
   }
 
 -- what decides at the places of the first owners has been added
-pub record AreDecidedOf (s : Schema) (entities owners : List ℕ) (now : List Decided) : Type 0 where
+pub record AreDecidedOf (s : Schema) (entities owners : List ℕ) (now : List DecidedPlace) : Type 0 where
   pub each : Each (IsDecided s entities) now
   pub all : (p : Place) → Contains owners p.entity → RedeclareIn s entities p → Contains (places_of now) p
 
 pub decided-none : (s : Schema) (entities : List ℕ) → AreDecidedOf s entities [] []
 decided-none s entities = record { each = tt; all = λ p among. absurd (Contains-none p.entity among) }
 
-pub decided-more : (s : Schema) (entities owners : List ℕ) (owner : ℕ) (now after : List Decided) → AreDecidedOf s entities owners now → AddsDecided s entities owner now after → AreDecidedOf s entities (owners ++ owner ∷ []) after
+pub decided-more : (s : Schema) (entities owners : List ℕ) (owner : ℕ) (now after : List DecidedPlace) → AreDecidedOf s entities owners now → AddsDecided s entities owner now after → AreDecidedOf s entities (owners ++ owner ∷ []) after
 decided-more s entities owners owner now after are adds = record {
   each = adds.each are.each;
   all = λ p among redeclared. elim (Contains-push_cases owners owner p.entity among) [
@@ -133,8 +133,8 @@ owners-more nexts number xs k d before after found below before_is after_is foun
     after_is ∙ ap (λ ns. ns ++ found) before_is ∙ ap (λ ns. flat_map nexts (map number (take k xs)) ++ ns) (found_is ∙ sym (append-nil (nexts x)))
     ∙ sym (flat_map-append nexts (map number (take k xs)) (x ∷ [])) ∙ ap (flat_map nexts) (sym (numbers-more number xs k d below))
 
-pub have-owners : (s : Schema) → HoldsTogether s → (entities owners risen : List ℕ) → owners ≡ flat_map (nexts_of (owner_lists s)) entities → ((y : ℕ) → Contains risen y ↔ Contains owners y) → HaveOwners s entities risen
-have-owners s holds entities owners risen are same = record {
+pub have-owners : (s : Schema) → HoldsTogether s → (entities owners rising_numbers : List ℕ) → owners ≡ flat_map (nexts_of (owner_lists s)) entities → ((y : ℕ) → Contains rising_numbers y ↔ Contains owners y) → HaveOwners s entities rising_numbers
+have-owners s holds entities owners rising_numbers are same = record {
   within = λ f among.
       let P : List ℕ → Type 0 = λ fs. Contains fs f in
       let (e, in_, has) = Contains-one_of (nexts_of (owner_lists s)) entities f (subst P are ((same f).0 among)) in
@@ -142,10 +142,10 @@ have-owners s holds entities owners risen are same = record {
   all = λ p redeclared. by p redeclared;
 }
   where
-    has : (e : ℕ) (p : Place) → Contains entities e → RedeclaresPlace s e p → Contains risen p.entity
+    has : (e : ℕ) (p : Place) → Contains entities e → RedeclaresPlace s e p → Contains rising_numbers p.entity
     has e p in_ redeclares = let P : List ℕ → Type 0 = λ fs. Contains fs p.entity in (same p.entity).1 (subst P (sym are) (Contains-flat_map (nexts_of (owner_lists s)) entities e p.entity in_ (owners-has s e p redeclares)))
 
-    by : (p : Place) → RedeclareIn s entities p → Contains risen p.entity
+    by : (p : Place) → RedeclareIn s entities p → Contains rising_numbers p.entity
     by p (inl (e, x, in_, at, derives)) = has e p in_ (inr (x, at, derives))
     by p (inr (e, r, (in_, redeclares, is))) = has e p in_ (inl (r, (redeclares, is)))
 

@@ -8,11 +8,11 @@ use Rattle.p21_schemas.specs.Schema.{Schema, Place, Redeclared}
 use Rattle.p21_schemas.specs.Supertype.{IsA}
 use Rattle.p21_schemas.proofs.PlaceTypes.{IsA-antisymmetric}
 use Rattle.p21_express_types.specs.declared.number.EntityId.{EntityId}
+use Rattle.p21_express_graph.specs.Lookups.{IsBelow}
+use Rattle.p21_express_graph.specs.Resolved.{HoldsTogether}
 use Rattle.p21_express_tables.specs.Decisions.{IsBelowLast, IsDecision, IsLowest, IsRedeclaredAs, IsRedeclarer}
 use Rattle.p21_express_tables.specs.declared.place_types.Decision.{Decision}
 use Rattle.p21_express_tables.specs.declared.place_types.Decision.TheVariants.{Declared, Derived, Redeclared as Redeclared', Two}
-use Rattle.p21_express_tables.specs.Lookups.{IsBelow}
-use Rattle.p21_express_tables.specs.Resolved.{HoldsTogether}
 
 module _ (s : Schema) (entities : List ℕ) (place : Place) where
   -- the lowest one of those that were seen

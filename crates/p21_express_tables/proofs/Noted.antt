@@ -8,12 +8,12 @@ use Rattle.std.proofs.lemmas.List.Elements.{Contains-append_left, Contains-push,
 use Rattle.p21_basics.proofs.Members.{Contains-none, Contains-at, Contains-cases, Contains-found, Contains-later}
 use Rattle.p21_schemas.specs.OneOf.{Clashes}
 use Rattle.p21_schemas.specs.Schema.{Schema}
-use Rattle.p21_express_tables.specs.Holders.{AreHeld}
+use Rattle.p21_express_tables.specs.NotedEntities.{AreNoted}
 use Rattle.p21_express_tables.specs.OneOf.{ClashesWith, IsListedIn}
 use Rattle.p21_basics.proofs.Comparing.{is_at-other}
 
-pub held-none : (s : Schema) (find : ℕ → Option ℕ) → ((k : ℕ) → find k ≡ None) → AreHeld s [] find
-held-none s find none = record {
+pub noted_none : (s : Schema) (find : ℕ → Option ℕ) → ((k : ℕ) → find k ≡ None) → AreNoted s [] find
+noted_none s find none = record {
   found = λ k e is. (let no : None ≡ Some e = sym (none k) ∙ is in cc);
   kept = λ k e among. absurd (Contains-none e among);
 }
@@ -45,7 +45,7 @@ among_or (y ∷ ys) x = elim (cases_eq y x) [
   ]
 ]
 
-module _ (s : Schema) (seen : List ℕ) (e : ℕ) (lists : List ℕ) (are : (k : ℕ) → Contains lists k ↔ IsListedIn s k e) (old : ℕ → Option ℕ) (held : AreHeld s seen old) where
+module _ (s : Schema) (seen : List ℕ) (e : ℕ) (lists : List ℕ) (are : (k : ℕ) → Contains lists k ↔ IsListedIn s k e) (old : ℕ → Option ℕ) (held : AreNoted s seen old) where
   -- another one at one of its lists
   pub clash-found : (k other : ℕ) (front : List ℕ) (now : ℕ → Option ℕ) → IsNoted e front old now → Contains lists k → now k ≡ Some other → other ≢ e → ClashesWith s seen e
   clash-found k other front now noted among is differ =
@@ -54,8 +54,8 @@ module _ (s : Schema) (seen : List ℕ) (e : ℕ) (lists : List ℕ) (are : (k :
       (other, other_seen, differ, (k, (are k).0 among, listed))
 
   -- it is noted at all of them, where none has another one
-  pub held-more : (new : ℕ → Option ℕ) → IsNoted e lists old new → ((k : ℕ) → Contains lists k → (other : ℕ) → old k ≡ Some other → other ≡ e) → AreHeld s (seen ++ e ∷ []) new
-  held-more new noted none = record {
+  pub noted_more : (new : ℕ → Option ℕ) → IsNoted e lists old new → ((k : ℕ) → Contains lists k → (other : ℕ) → old k ≡ Some other → other ≡ e) → AreNoted s (seen ++ e ∷ []) new
+  noted_more new noted none = record {
     found = λ k f is. by_list k f is (listed_or k);
     kept = λ k f among listed. elim (Contains-push_cases seen e f among) [
       | inl h ↦ by_kept k f h listed (listed_or k)
@@ -87,7 +87,7 @@ clash-of s entities seen e within among (f, f_seen, differ, (k, (listed, at, has
     let P : List ℕ → Type 0 = λ es. Contains es f in
     (listed, Contains-found s.one_of_lists k listed at, (e, f, has, subst P same has_, (λ is. differ (sym is)), among, within f f_seen))
 
-pub no-clash : (s : Schema) (entities : List ℕ) (find : ℕ → Option ℕ) → AreHeld s entities find → Clashes s entities → ⊥
+pub no-clash : (s : Schema) (entities : List ℕ) (find : ℕ → Option ℕ) → AreNoted s entities find → Clashes s entities → ⊥
 no-clash s entities find held (listed, listed_among, (e, f, has, has_, differ, among, among_)) =
     let (k, at) = Contains-at s.one_of_lists listed listed_among in
     let same : Some e ≡ Some f = sym (held.kept k e among (listed, at, has)) ∙ held.kept k f among_ (listed, at, has_) in
@@ -109,11 +109,11 @@ none-more e lists k old now noted here none j among other is = elim (Contains-pu
 ]
 
 -- what stands in front stands in the whole
-pub front-in : {X : Type 0} (number : X → ℕ) (xs : List X) (k f : ℕ) → Contains (map number (take k xs)) f → Contains (map number xs) f
-front-in number [] zero f among = among
-front-in number [] (suc k) f among = among
-front-in number (x ∷ xs) zero f among = absurd (Contains-none f among)
-front-in number (x ∷ xs) (suc k) f among = elim (Contains-cases (number x) (map number (take k xs)) f among) [
+pub prefix-in : {X : Type 0} (number : X → ℕ) (xs : List X) (k f : ℕ) → Contains (map number (take k xs)) f → Contains (map number xs) f
+prefix-in number [] zero f among = among
+prefix-in number [] (suc k) f among = among
+prefix-in number (x ∷ xs) zero f among = absurd (Contains-none f among)
+prefix-in number (x ∷ xs) (suc k) f among = elim (Contains-cases (number x) (map number (take k xs)) f among) [
   | inl is ↦ (0, omega arith, is)
-  | inr more ↦ Contains-later (number x) (map number xs) f (front-in number xs k f more)
+  | inr more ↦ Contains-later (number x) (map number xs) f (prefix-in number xs k f more)
 ]

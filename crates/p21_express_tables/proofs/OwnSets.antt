@@ -12,18 +12,18 @@ use Rattle.p21_schemas.proofs.PlaceTypes.{TypeAt-one}
 use Rattle.p21_express_types.specs.Meaning.{place_type}
 use Rattle.p21_express_types.specs.declared.place_type.PlaceType.{PlaceType}
 use Rattle.p21_express_types.specs.declared.place_type.PlaceType.TheVariants.{Derived, Stored, Two}
-use Rattle.p21_express_tables.specs.Lookups.{AreEntities, places_from}
+use Rattle.p21_express_graph.specs.Lookups.{places_from}
+use Rattle.p21_express_graph.specs.declared.prefixes.PrefixLists.{PrefixLists}
+use Rattle.p21_express_graph.specs.declared.indexes.Index.{Index}
+use Rattle.p21_express_graph.specs.declared.offered.Offered.{Offered}
+use Rattle.p21_express_graph.specs.declared.ranking.Ranking.{Ranking}
+use Rattle.p21_express_graph.specs.Resolved.{HoldsTogether, IsPlace, IsResolved, IsRedeclared as IsRedeclaredOf}
+use Rattle.p21_express_graph.proofs.Lookups.{own-places-are}
+use Rattle.p21_express_graph.proofs.OrderTables.{order-tells}
+use Rattle.p21_express_graph.proofs.Pairs.{snoc-get}
 use Rattle.p21_express_tables.specs.OwnSets.{AreOwnSets, IsOwnSet}
 use Rattle.p21_express_tables.specs.Prepared.{IsPrepared}
-use Rattle.p21_express_tables.specs.declared.fronts.Fronts.{Fronts}
-use Rattle.p21_express_tables.specs.declared.indexes.Index.{Index}
-use Rattle.p21_express_tables.specs.declared.offered.Offered.{Offered}
 use Rattle.p21_express_tables.specs.declared.own_sets.OwnSet.{OwnSet}
-use Rattle.p21_express_tables.specs.declared.ranking.Ranking.{Ranking}
-use Rattle.p21_express_tables.specs.Resolved.{HoldsTogether, IsEntity, IsPlace, IsResolved, IsRedeclared as IsRedeclaredOf}
-use Rattle.p21_express_tables.proofs.Lookups.{own-places-are}
-use Rattle.p21_express_tables.proofs.OrderTables.{are-entities, IsA-within, order-tells}
-use Rattle.p21_express_tables.proofs.Pairs.{snoc-get}
 
 -- the places of an entity by their numbers
 places_from-has : (e k n i : ℕ) → k ≤ i → i < k + n → Contains (places_from e k n) (record { entity = e; index = i })
@@ -58,12 +58,6 @@ module _ (s : Schema) (holds : HoldsTogether s) (e : ℕ) where
       let Q : ℕ → Type 0 = λ g. IsA s e g in
       subst Q (places_from-of f 0 _ place (subst P (sym (own-places-are s f)) own)) ((order-tells s holds e f).0 in_order)
 
-  -- the entities of an own set are those of the schema
-  pub own-entities : IsEntity s e → (entities : List ℕ) → entities ≡ order s e → AreEntities s entities
-  own-entities is entities same f among =
-      let P : List ℕ → Type 0 = λ fs. Contains fs f in
-      IsA-within s (are-entities s holds) e f ((order-tells s holds e f).0 (subst P same among)) is
-
 -- what an entity redeclares are places
 pub redeclared-place : (s : Schema) → HoldsTogether s → (e : ℕ) (x : Entity) (r : Redeclared) → slice_get s.entities e ≡ Some x → Contains x.redeclared r → IsPlace s r.place
 redeclared-place s holds e x r at among = (Each-member (IsRedeclaredOf s) x.redeclared r (Each-at (IsResolved s) s.entities e x holds.entities_are at).redeclared_are among).0
@@ -78,10 +72,10 @@ two-only s holds entities place found is open_ = by found (TypeAt-one s holds.su
     by Two same = refl
 
 -- the tables with other sets
-pub with-own : {s : Schema} {orders : Fronts} {indexes : List Index} {listed_in redeclarers : List (List ℕ)} {ends : List ℕ} {offered : Offered} {ranking : Ranking} {own sets : List OwnSet}
+pub with-own : {s : Schema} {orders : PrefixLists} {indexes : List Index} {listed_in redeclarers : List (List ℕ)} {ends : List ℕ} {offered : Offered} {ranking : Ranking} {own sets : List OwnSet}
     → IsPrepared s orders indexes listed_in redeclarers ends offered ranking own → AreOwnSets s sets → IsPrepared s orders indexes listed_in redeclarers ends offered ranking sets
 with-own is are = record {
-  fronts_are = is.fronts_are;
+  prefixes_are = is.prefixes_are;
   orders_are = is.orders_are;
   indexes_are = is.indexes_are;
   listed_are = is.listed_are;

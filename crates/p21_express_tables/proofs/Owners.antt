@@ -9,12 +9,12 @@ use Rattle.std.proofs.lemmas.Option.{slice_get-map, slice_get_within}
 use Rattle.p21_basics.proofs.Members.{Contains-none, Contains-mapped, Contains-unmapped, Each-at, Each-member}
 use Rattle.p21_schemas.specs.PlaceType.{IsDerivedIn, IsRedeclared}
 use Rattle.p21_schemas.specs.Schema.{Schema, Place, Entity, Attribute}
-use Rattle.p21_express_tables.specs.Inverted.{AreInverted}
+use Rattle.p21_express_graph.specs.InvertedLists.{AreInverted}
+use Rattle.p21_express_graph.specs.Resolved.{HoldsTogether, IsEntity, IsPlace, IsResolved, IsRedeclared as IsRedeclaredOf}
+use Rattle.p21_express_graph.specs.SettledOrder.{nexts_of}
+use Rattle.p21_express_graph.proofs.Gatherings.{mapped-length}
+use Rattle.p21_express_graph.proofs.Inverting.{nothing-past}
 use Rattle.p21_express_tables.specs.Redeclarers.{AreRedeclarers, RedeclaresPlace, owners_of}
-use Rattle.p21_express_tables.specs.Resolved.{HoldsTogether, IsEntity, IsPlace, IsResolved, IsRedeclared as IsRedeclaredOf}
-use Rattle.p21_express_tables.specs.Settled.{nexts_of}
-use Rattle.p21_express_tables.proofs.Gatherings.{mapped-length}
-use Rattle.p21_express_tables.proofs.Inverting.{nothing-past}
 
 -- the declaring entities of a schema's entities
 abbrev pub owner_lists : Schema → List (List ℕ)
@@ -89,7 +89,3 @@ owner-more number owner before xs after x ys k d below after_is is so_far =
 
 pub none-pushed : (ns : List ℕ) → ns ≡ ns ++ []
 none-pushed ns = sym (append-nil ns)
-
-pub map-map : {X Y Z : Type 0} (f : Y → Z) (g : X → Y) (xs : List X) → map (λ x. f (g x)) xs ≡ map f (map g xs)
-map-map f g [] = refl
-map-map f g (x ∷ xs) = ap (λ zs. f (g x) ∷ zs) (map-map f g xs)

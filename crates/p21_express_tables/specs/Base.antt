@@ -1,20 +1,11 @@
 -- What a type comes down to where a declared type just renames another one (ISO 10303-11, Defined data type).
 use Rattle.std.specs.Prelude.{◌≡◌, ℕ, Some}
-use Rattle.p21_schemas.specs.Schema.{Schema, TypeUse, defined, alias, items, kind_of}
+use Rattle.p21_schemas.specs.Schema.{Schema, TypeUse, defined, items, kind_of}
 use Rattle.p21_schemas.specs.Select.{IsSelect}
 use Rattle.p21_express_types.specs.Meaning.{type_use}
+use Rattle.p21_express_graph.specs.DirectRenaming.{ComesTo, IsPlain}
 use Rattle.p21_express_tables.specs.declared.base.Base.{Base}
 use Rattle.p21_express_tables.specs.declared.base.Base.TheVariants.{Plain, Items, Select}
-
--- from type to type, each the declaration of the one before, one comes to the last
-pub data ComesTo (s : Schema) : TypeUse → TypeUse → Type 0 where
-  at_itself : (type : TypeUse) → ComesTo s type type
-  through : (t : ℕ) (type last : TypeUse) → kind_of s t ≡ Some (alias type) → ComesTo s type last → ComesTo s (defined t) last
-
--- no declared type
-abbrev pub IsPlain : TypeUse → Type 0
-IsPlain (defined t) = ⊥
-IsPlain other = Unit {0}
 
 -- the type is this one and no declared type, or an enumeration of these items, or this select
 abbrev pub IsBase : Schema → TypeUse → Base → Type 0

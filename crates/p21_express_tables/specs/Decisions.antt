@@ -4,7 +4,7 @@ use Rattle.p21_schemas.specs.Schema.{Schema, Place, Entity, Redeclared as MeantR
 use Rattle.p21_schemas.specs.PlaceType.{two_redeclarations, TypeAt, IsDerivedIn, IsRedeclared, Decides}
 use Rattle.p21_schemas.specs.Supertype.{IsA}
 use Rattle.p21_express_types.specs.declared.number.EntityId.{EntityId}
-use Rattle.p21_express_tables.specs.Lookups.{IsBelow, RedeclaresAt}
+use Rattle.p21_express_graph.specs.Lookups.{IsBelow, RedeclaresAt}
 use Rattle.p21_express_tables.specs.declared.place_types.Decision.{Decision}
 use Rattle.p21_express_tables.specs.declared.place_types.Decision.TheVariants.{Declared, Derived, Redeclared, Two}
 

@@ -4,9 +4,9 @@ use Rattle.p21_schemas.specs.Schema.{Schema, Place, IsAbstract}
 use Rattle.p21_schemas.specs.OneOf.{Clashes}
 use Rattle.p21_schemas.specs.Order.{order, places}
 use Rattle.p21_schemas.specs.PlaceType.{two_redeclarations, TypeAt}
-use Rattle.p21_express_tables.specs.Decided.{AreDecided}
-use Rattle.p21_express_tables.specs.Orders.{numbers}
-use Rattle.p21_express_tables.specs.Rising.{IsOwnRising}
+use Rattle.p21_express_graph.specs.Orders.{numbers}
+use Rattle.p21_express_graph.specs.Rising.{IsOwnRising}
+use Rattle.p21_express_tables.specs.DecidedPlaces.{AreDecided}
 use Rattle.p21_express_tables.specs.declared.own_sets.OwnFaults.{OwnFaults}
 use Rattle.p21_express_tables.specs.declared.own_sets.OwnSet.{OwnSet}
 

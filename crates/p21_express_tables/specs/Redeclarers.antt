@@ -1,10 +1,10 @@
 -- The entities that redeclare places, in a table by the entities that declare these.
 use Rattle.std.specs.Prelude.{◌⊎◌, ◌++◌, ℕ, List, map, Contains}
 use Rattle.p21_schemas.specs.Schema.{Schema, Place, Entity}
+use Rattle.p21_express_graph.specs.Lookups.{DerivesPlace}
+use Rattle.p21_express_graph.specs.Resolved.{IsEntity}
+use Rattle.p21_express_graph.specs.SettledOrder.{nexts_of}
 use Rattle.p21_express_tables.specs.Decisions.{IsRedeclarer}
-use Rattle.p21_express_tables.specs.Lookups.{DerivesPlace}
-use Rattle.p21_express_tables.specs.Resolved.{IsEntity}
-use Rattle.p21_express_tables.specs.Settled.{nexts_of}
 
 -- the entity redeclares the place, as an explicit or as a derived attribute
 abbrev pub RedeclaresPlace : Schema → ℕ → Place → Type 0

@@ -2,14 +2,14 @@ ghost use Rattle.std.specs.Prelude.{◌≡◌, ◌↔◌, ◌⊎◌, ◌<◌, []
 ghost use Rattle.std.specs.List.Sorted.{IsStrictlyIncreasing};
 ghost use Rattle.p21_schemas.specs.Declared.{HasSupertype};
 ghost use Rattle.p21_schemas.specs.Supertype.{IsA, supertypes_of};
+ghost use Rattle.p21_express_graph.specs.Lookups.{AreEntities};
+ghost use Rattle.p21_express_graph.specs.Orders.{numbers};
+ghost use Rattle.p21_express_graph.specs.Resolved.{IsEntity};
 ghost use Rattle.p21_express_tables.specs.Above.{AreAbove};
-ghost use Rattle.p21_express_tables.specs.Ascent.{Ascends, GoesOn};
-ghost use Rattle.p21_express_tables.specs.Lookups.{AreEntities};
-ghost use Rattle.p21_express_tables.specs.Orders.{numbers};
-ghost use Rattle.p21_express_tables.specs.Resolved.{IsEntity};
+ghost use Rattle.p21_express_tables.specs.Ascent.{Ascends, AscendsFurther};
 
-use crate::collected::risen;
 use crate::schema::Schema;
+use p21_express_graph::rising_numbers;
 use p21_express_types::EntityId;
 use p21_values::NoMemory;
 use std::alloc::Global;
@@ -40,7 +40,7 @@ impl Schema {
         let mut ascent = Ascent::new(self.alloc, self.entities())?;
         self.find_next(entities, &mut ascent)?;
         self.find_rest(&mut ascent)?;
-        Ok(risen(ascent.above))
+        Ok(rising_numbers(ascent.above))
     }
 
     /// Finds the direct supertypes of entities.
@@ -48,7 +48,7 @@ impl Schema {
         requires entities { AreEntities self.now (numbers entities.now) }
         requires ascends { Ascends ascent.old }
         requires size { length ascent.old.marked.items ≡ length self.now.entities }
-        ensures goes_on { OnOk result (GoesOn ascent.old ascent.new) }
+        ensures goes_on { OnOk result (AscendsFurther ascent.old ascent.new) }
         ensures found { OnOk result ((f : ℕ) → Contains ascent.new.above.items f ↔ (Contains ascent.old.above.items f ⊎ ((e : ℕ) × Contains (numbers entities.now) e × HasSupertype self.now e f))) }
     {
         self.holds_together();
@@ -96,7 +96,7 @@ impl Ascent {
     fn add(&mut self, supertypes: &[EntityId]) -> Result<(), NoMemory>
         requires ascends { Ascends self.old }
         requires within { (f : ℕ) → Contains (numbers supertypes.now) f → f < length self.old.marked.items }
-        ensures goes_on { OnOk result (GoesOn self.old self.new) }
+        ensures goes_on { OnOk result (AscendsFurther self.old self.new) }
         ensures found { OnOk result ((f : ℕ) → Contains self.new.above.items f ↔ (Contains self.old.above.items f ⊎ Contains (numbers supertypes.now) f)) }
     {
         for supertype in supertypes {
@@ -109,7 +109,7 @@ impl Ascent {
     fn add_one(&mut self, supertype: EntityId) -> Result<(), NoMemory>
         requires ascends { Ascends self.old }
         requires within { supertype.0 < length self.old.marked.items }
-        ensures goes_on { OnOk result (GoesOn self.old self.new) }
+        ensures goes_on { OnOk result (AscendsFurther self.old self.new) }
         ensures found { OnOk result ((f : ℕ) → Contains self.new.above.items f ↔ (Contains self.old.above.items f ⊎ (f ≡ supertype.0))) }
     {
         let at = supertype.0 as usize;

@@ -1,11 +1,11 @@
 ghost use Rattle.p21_schemas.specs.Schema.{defined};
 ghost use Rattle.p21_express_types.specs.Meaning.{type_use};
+ghost use Rattle.p21_express_graph.specs.DirectRenaming.{IsEnd};
+ghost use Rattle.p21_express_graph.specs.Resolved.{IsType, IsTypeUse};
 ghost use Rattle.p21_express_tables.specs.Base.{HasBase};
-ghost use Rattle.p21_express_tables.specs.Renamed.{IsEnd};
-ghost use Rattle.p21_express_tables.specs.Resolved.{IsType, IsTypeUse};
 
-use crate::renamed::declared;
 use crate::schema::Schema;
+use p21_express_graph::declared;
 use p21_express_types::{TypeId, TypeKind, TypeUse, Words};
 
 /// What a type comes down to where declared types just rename others (ISO 10303-11, Defined data type).
@@ -38,7 +38,7 @@ impl Schema {
     {
         let last = self.end(of);
         match self.type_kind(last) {
-            TypeKind::Alias(renamed) => Base::Plain(renamed),
+            TypeKind::Alias(direct_renaming) => Base::Plain(direct_renaming),
             TypeKind::Items(words) => Base::Items(words),
             TypeKind::Choice(_) => Base::Select(last),
         }

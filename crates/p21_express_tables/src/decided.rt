@@ -2,29 +2,28 @@ ghost use Rattle.std.specs.Prelude.{◌≡◌, ℕ, List, Contains, IfOk, OnOk};
 ghost use Rattle.p21_schemas.specs.Schema.{Schema as Meant};
 ghost use Rattle.p21_schemas.specs.Order.{order};
 ghost use Rattle.p21_express_types.specs.Meaning.{place as place_of};
+ghost use Rattle.p21_express_graph.specs.Orders.{numbers};
+ghost use Rattle.p21_express_graph.specs.Resolved.{IsEntity};
 ghost use Rattle.p21_express_tables.specs.Decisions.{IsDecision};
-ghost use Rattle.p21_express_tables.specs.Decided.{AddsDecided, AddsDecision, AreDecided, AreRedeclaring, HaveOwners};
-ghost use Rattle.p21_express_tables.specs.Orders.{numbers};
-ghost use Rattle.p21_express_tables.specs.Resolved.{IsEntity};
+ghost use Rattle.p21_express_tables.specs.DecidedPlaces.{AddsDecided, AddsDecision, AreDecided, AreRedeclaring, HaveOwners};
 
-use crate::collected::risen;
-use crate::orders::numbers_of;
 use crate::place_types::{Decision, is_same};
 use crate::redeclarers::push_owners;
 use crate::schema::Schema;
+use p21_express_graph::{numbers_of, rising_numbers};
 use p21_express_types::{EntityId, Place};
 use p21_values::NoMemory;
 
 /// A place, and what decides on the type there.
 #[derive(Debug, Drop)]
-pub(crate) struct Decided {
+pub(crate) struct DecidedPlace {
     pub(crate) place: Place,
     pub(crate) decision: Decision,
 }
 
 impl Schema {
     /// What decides at each place that an entity or a supertype of it redeclares.
-    pub(crate) fn find_decided(&self, entity: EntityId) -> Result<Vec<Decided>, NoMemory>
+    pub(crate) fn find_decided(&self, entity: EntityId) -> Result<Vec<DecidedPlace>, NoMemory>
         requires { IsEntity self.now entity.0 }
         ensures { IfOk result (λ decided. AreDecided self.now (order self.now entity.0) decided.items) }
     {
@@ -47,7 +46,7 @@ impl Schema {
             push_owners(self.entity_at(*other), &mut owners)?;
         }
         let numbers = numbers_of(self.alloc, &owners)?;
-        Ok(risen(numbers))
+        Ok(rising_numbers(numbers))
     }
 
     /// Adds what decides at each place of an entity that another one or a supertype of that redeclares.
@@ -55,7 +54,7 @@ impl Schema {
         &self,
         entity: EntityId,
         owner: EntityId,
-        decided: &mut Vec<Decided>,
+        decided: &mut Vec<DecidedPlace>,
     ) -> Result<(), NoMemory>
         requires entity { IsEntity self.now entity.0 }
         requires owner { IsEntity self.now owner.0 }
@@ -92,22 +91,26 @@ impl Schema {
 }
 
 /// Adds what decides at a place, unless that is its declaration.
-fn add_decided(place: Place, decision: Decision, decided: &mut Vec<Decided>) -> Result<(), NoMemory>
+fn add_decided(
+    place: Place,
+    decision: Decision,
+    decided: &mut Vec<DecidedPlace>,
+) -> Result<(), NoMemory>
     ensures { OnOk result (AddsDecision place decision decided.old.items decided.new.items) }
 {
     match decision {
         Decision::Declared => {}
-        _ => decided.push(Decided { place, decision })?,
+        _ => decided.push(DecidedPlace { place, decision })?,
     }
     Ok(())
 }
 
 /// What decides at a place, where these are all that entities redeclare.
-pub(crate) fn decision_at(decided: &[Decided], place: Place) -> Decision
+pub(crate) fn decision_at(decided: &[DecidedPlace], place: Place) -> Decision
     ensures { (s : Meant) (entities : List ℕ) → AreDecided s entities decided.now → IsDecision s entities (place_of place) result }
 {
     for known in decided {
-        let known: &Decided = known;
+        let known: &DecidedPlace = known;
         if is_same(known.place, place) {
             return known.decision;
         }

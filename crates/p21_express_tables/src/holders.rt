@@ -2,9 +2,9 @@ ghost use Rattle.std.specs.Prelude.{◌≡◌, ◌≢◌, ◌↔◌, ◌++◌, �
 ghost use Rattle.std.specs.BTreeMap.{get};
 ghost use Rattle.std.specs.Ordering.{nat_cmp};
 ghost use Rattle.p21_schemas.specs.OneOf.{Clashes};
-ghost use Rattle.p21_express_tables.specs.Holders.{AreHeld};
+ghost use Rattle.p21_express_graph.specs.Orders.{numbers};
+ghost use Rattle.p21_express_tables.specs.NotedEntities.{AreNoted};
 ghost use Rattle.p21_express_tables.specs.OneOf.{ClashesWith};
-ghost use Rattle.p21_express_tables.specs.Orders.{numbers};
 
 use crate::schema::Schema;
 use p21_express_types::EntityId;
@@ -27,11 +27,11 @@ impl Schema {
         if entities.len() <= FEW {
             return Ok(self.clashes(entities));
         }
-        self.find_held(entities)
+        self.find_noted(entities)
     }
 
     /// The same, with a note at each list of the entity that stands in it.
-    fn find_held(&self, entities: &[EntityId]) -> Result<bool, NoMemory>
+    fn find_noted(&self, entities: &[EntityId]) -> Result<bool, NoMemory>
         ensures { IfOk result (λ clash. IsTrue clash ↔ Clashes self.now (numbers entities.now)) }
     {
         let mut holders = BTreeMap::new(self.alloc);
@@ -50,7 +50,7 @@ impl Schema {
         entity: EntityId,
         holders: &mut BTreeMap<usize, u32>,
     ) -> Result<bool, NoMemory>
-        ensures { IfOk result (λ beside. (seen : List ℕ) → AreHeld self.now seen (get nat_cmp holders.old) → MatchBool beside (ClashesWith self.now seen entity.0) (AreHeld self.now (seen ++ entity.0 ∷ []) (get nat_cmp holders.new))) }
+        ensures { IfOk result (λ beside. (seen : List ℕ) → AreNoted self.now seen (get nat_cmp holders.old) → MatchBool beside (ClashesWith self.now seen entity.0) (AreNoted self.now (seen ++ entity.0 ∷ []) (get nat_cmp holders.new))) }
     {
         for number in self.lists_with(entity) {
             if has_other(holders, *number, entity.0) {

@@ -5,19 +5,19 @@ ghost use Rattle.p21_schemas.specs.Order.{order};
 ghost use Rattle.p21_schemas.specs.PlaceType.{TypeAt};
 ghost use Rattle.p21_schemas.specs.Supertype.{IsA};
 ghost use Rattle.p21_express_types.specs.Meaning.{place as place_of, place_type};
-ghost use Rattle.p21_express_tables.specs.Decided.{AreDecided};
+ghost use Rattle.p21_express_graph.specs.Orders.{numbers};
+ghost use Rattle.p21_express_graph.specs.SchemaContents.{redeclared as redeclared_of};
+ghost use Rattle.p21_express_graph.specs.Resolved.{IsEntity, IsPlace};
+ghost use Rattle.p21_express_graph.specs.Rising.{IsOwnRising};
+ghost use Rattle.p21_express_tables.specs.DecidedPlaces.{AreDecided};
 ghost use Rattle.p21_express_tables.specs.Decisions.{IsDecision};
 ghost use Rattle.p21_express_tables.specs.declared.place_types.Decision.TheVariants.{Two};
 ghost use Rattle.p21_express_tables.specs.OwnSets.{HasOwnFaults, IsOpenAt, IsOwnSet, LeavesOpen};
-ghost use Rattle.p21_express_tables.specs.Orders.{numbers};
-ghost use Rattle.p21_express_tables.specs.Parts.{redeclared as redeclared_of};
-ghost use Rattle.p21_express_tables.specs.Resolved.{IsEntity, IsPlace};
-ghost use Rattle.p21_express_tables.specs.Rising.{IsOwnRising};
 
-use crate::decided::{Decided, decision_at};
-use crate::parts::Redeclared;
+use crate::decided::{DecidedPlace, decision_at};
 use crate::place_types::Decision;
 use crate::schema::Schema;
+use p21_express_graph::Redeclared;
 use p21_express_types::{EntityId, Place, PlaceType};
 use p21_values::NoMemory;
 use std::alloc::Global;
@@ -39,7 +39,7 @@ pub struct OwnFaults {
 pub(crate) struct OwnSet {
     pub(crate) faults: OwnFaults,
     // What decides at each place that an entity of it redeclares.
-    pub(crate) decided: Vec<Decided>,
+    pub(crate) decided: Vec<DecidedPlace>,
     // Its entities, rising by name, where they are few.
     pub(crate) rising: Option<Vec<EntityId>>,
 }
@@ -162,14 +162,14 @@ impl Schema {
     }
 
     /// Whether redeclarations leave a place of the own set open, by what decides at those that are redeclared.
-    fn has_open(&self, entity: EntityId, decided: &[Decided]) -> bool
+    fn has_open(&self, entity: EntityId, decided: &[DecidedPlace]) -> bool
         requires entity { IsEntity self.now entity.0 }
         requires decided { AreDecided self.now (order self.now entity.0) decided.now }
         ensures { IsTrue result ↔ LeavesOpen self.now entity.0 }
     {
         self.holds_together();
         for known in decided {
-            let known: &Decided = known;
+            let known: &DecidedPlace = known;
             if self.is_open(entity, known) {
                 return true;
             }
@@ -177,7 +177,7 @@ impl Schema {
         false
     }
 
-    fn is_open(&self, entity: EntityId, decided: &Decided) -> bool
+    fn is_open(&self, entity: EntityId, decided: &DecidedPlace) -> bool
         requires { IsEntity self.now entity.0 }
         ensures { IsTrue result ↔ (IsA self.now entity.0 (place_of decided.now.place).entity × (decided.now.decision ≡ Two)) }
     {

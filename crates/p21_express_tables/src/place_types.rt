@@ -2,14 +2,14 @@ ghost use Rattle.std.specs.Prelude.{◌≡◌, ◌↔◌, ℕ, List, IsTrue, map
 ghost use Rattle.p21_schemas.specs.Schema.{Redeclared as MeantRedeclared};
 ghost use Rattle.p21_schemas.specs.PlaceType.{TypeAt, IsDerivedIn, IsRedeclared};
 ghost use Rattle.p21_express_types.specs.Meaning.{place as place_of, place_type};
+ghost use Rattle.p21_express_graph.specs.Lookups.{AreEntities, DerivesPlace, IsBelow, RedeclaresAt};
+ghost use Rattle.p21_express_graph.specs.Orders.{numbers};
+ghost use Rattle.p21_express_graph.specs.SchemaContents.{redeclared as redeclared_of};
+ghost use Rattle.p21_express_graph.specs.Resolved.{IsEntity, IsPlace};
 ghost use Rattle.p21_express_tables.specs.Decisions.{IsBelowLast, IsDecision, IsLowest, IsRedeclaredAs, IsRedeclarer};
-ghost use Rattle.p21_express_tables.specs.Lookups.{AreEntities, DerivesPlace, IsBelow, RedeclaresAt};
-ghost use Rattle.p21_express_tables.specs.Orders.{numbers};
-ghost use Rattle.p21_express_tables.specs.Parts.{redeclared as redeclared_of};
-ghost use Rattle.p21_express_tables.specs.Resolved.{IsEntity, IsPlace};
 
-use crate::parts::Redeclared;
 use crate::schema::Schema;
+use p21_express_graph::Redeclared;
 use p21_express_types::{EntityId, Place, PlaceType};
 
 /// What decides on the type at a place of an instance.

@@ -1,15 +1,15 @@
 ghost use Rattle.std.specs.Prelude.{◌≡◌, ◌++◌, ℕ, map, Contains, IfOk, OnOk};
 ghost use Rattle.p21_schemas.specs.Schema.{Place as MeantPlace};
 ghost use Rattle.p21_express_types.specs.Meaning.{place as place_of};
-ghost use Rattle.p21_express_tables.specs.Orders.{numbers, tabled};
-ghost use Rattle.p21_express_tables.specs.Parts.{schema_of, entity as entity_of, redeclared as redeclared_of};
+ghost use Rattle.p21_express_graph.specs.Orders.{numbers, number_lists};
+ghost use Rattle.p21_express_graph.specs.SchemaContents.{schema_of, entity as entity_of, redeclared as redeclared_of};
+ghost use Rattle.p21_express_graph.specs.Resolved.{HoldsTogether, IsEntity};
+ghost use Rattle.p21_express_graph.specs.SettledOrder.{lists_of};
 ghost use Rattle.p21_express_tables.specs.Redeclarers.{AreRedeclarers, RedeclaresPlace, owners_of};
-ghost use Rattle.p21_express_tables.specs.Resolved.{HoldsTogether, IsEntity};
-ghost use Rattle.p21_express_tables.specs.Settled.{lists_of};
 
-use crate::inverted::inverted;
-use crate::parts::{Entity, Parts, Redeclared};
 use crate::schema::Schema;
+use p21_express_graph::inverted_lists::inverted_lists;
+use p21_express_graph::{Entity, Redeclared, SchemaContents};
 use p21_express_types::{EntityId, Place};
 use p21_values::NoMemory;
 use std::alloc::Global;
@@ -28,18 +28,21 @@ impl Schema {
 }
 
 /// For each entity the numbers of those that redeclare a place which it declares.
-pub(crate) fn all_redeclarers(alloc: Global, parts: &Parts) -> Result<Vec<Vec<usize>>, NoMemory>
+pub(crate) fn all_redeclarers(
+    alloc: Global,
+    parts: &SchemaContents,
+) -> Result<Vec<Vec<usize>>, NoMemory>
     requires { HoldsTogether (schema_of parts.now) }
     ensures { IfOk result (λ lists. AreRedeclarers (schema_of parts.now) (lists_of lists.items)) }
 {
     let owners = all_owners(alloc, &parts.entities)?;
-    let lists = inverted(alloc, parts.entities.len(), &owners)?;
+    let lists = inverted_lists(alloc, parts.entities.len(), &owners)?;
     Ok(lists)
 }
 
 /// For each entity those that declare the places which it redeclares.
 fn all_owners(alloc: Global, entities: &[Entity]) -> Result<Vec<Vec<EntityId>>, NoMemory>
-    ensures { IfOk result (λ lists. tabled lists.items ≡ map (λ x. owners_of (entity_of x)) entities.now) }
+    ensures { IfOk result (λ lists. number_lists lists.items ≡ map (λ x. owners_of (entity_of x)) entities.now) }
 {
     let mut lists = Vec::with_capacity(alloc, entities.len())?;
     for entity in entities {

@@ -3,26 +3,22 @@ ghost use Rattle.p21_schemas.specs.Schema.{EntityNamed, TypeNamed, PlaceNamed, I
 ghost use Rattle.p21_schemas.specs.Select.{Offers};
 ghost use Rattle.p21_schemas.specs.Supertype.{IsA, AreLeaves};
 ghost use Rattle.p21_schemas.specs.WellFormed.{IsWellFormed};
-ghost use Rattle.p21_express_tables.specs.Lookups.{AreEntities};
+ghost use Rattle.p21_express_graph.specs.Lookups.{AreEntities};
 ghost use Rattle.p21_schemas.specs.Order.{order, places, own_places};
-ghost use Rattle.p21_express_tables.specs.Orders.{numbers};
+ghost use Rattle.p21_express_graph.specs.Orders.{numbers};
 ghost use Rattle.p21_express_types.specs.Meaning.{place as place_of, kind, member as member_of};
-ghost use Rattle.p21_express_tables.specs.Resolved.{HoldsTogether, IsEntity, IsType, IsPlace};
-ghost use Rattle.p21_express_tables.specs.Parts.{schema_of, AreNamed, entity as entity_of, attribute as attribute_of, defined as defined_of};
-ghost use Rattle.p21_express_tables.specs.Redeclaring.{redeclaring, redeclaring_schema};
+ghost use Rattle.p21_express_graph.specs.Resolved.{HoldsTogether, IsEntity, IsType, IsPlace};
+ghost use Rattle.p21_express_graph.specs.SchemaContents.{schema_of, AreNamed, entity as entity_of, attribute as attribute_of, defined as defined_of};
+ghost use Rattle.p21_express_graph.specs.Redeclaring.{redeclaring, redeclaring_schema};
 
-use crate::collected::is_among;
-use crate::fronts::Fronts;
-use crate::indexes::{Index, indexes_of};
-use crate::offered::{Offered, all_offered};
 use crate::one_of::all_listed_in;
-use crate::orders::all_orders;
 use crate::own_sets::OwnSet;
-use crate::parts::{Attribute, Defined, Entity, Parts, Redeclarations};
-use crate::ranking::{Ranking, rank_entities};
 use crate::redeclarers::all_redeclarers;
-use crate::redeclaring::parts_with;
-use crate::renamed::all_ends;
+use p21_express_graph::{
+    Attribute, Defined, Entity, Index, Offered, PrefixLists, Ranking, Redeclarations,
+    SchemaContents, all_ends, all_offered, all_orders, contents_with, indexes_of, is_among,
+    rank_entities,
+};
 use p21_express_types::{EntityId, Member, Place, TypeId, TypeKind};
 use p21_values::NoMemory;
 use std::alloc::Global;
@@ -32,8 +28,8 @@ use std::marker::Model;
 #[derive(Drop)]
 pub struct Schema {
     pub(crate) alloc: Global,
-    parts: Parts,
-    orders: Fronts,
+    parts: SchemaContents,
+    orders: PrefixLists,
     // Of each run of the orders.
     indexes: Vec<Index>,
     offered: Offered,
@@ -56,10 +52,10 @@ impl Model for Schema {
 
     ghost coded = { schema_code };
 
-    ghost use Rattle.p21_express_tables.specs.Parts.{schema_of, AreNamed};
-    ghost use Rattle.p21_express_tables.specs.Resolved.{HoldsTogether};
+    ghost use Rattle.p21_express_graph.specs.SchemaContents.{schema_of, AreNamed};
+    ghost use Rattle.p21_express_graph.specs.Resolved.{HoldsTogether};
+    ghost use Rattle.p21_express_graph.specs.SettledOrder.{lists_of};
     ghost use Rattle.p21_express_tables.specs.Prepared.{IsPrepared};
-    ghost use Rattle.p21_express_tables.specs.Settled.{lists_of};
 
     ghost view = { λ schema. schema_of schema.parts };
 
@@ -72,7 +68,7 @@ impl Schema {
     /// # Errors
     ///
     /// `NoMemory`.
-    pub fn new(alloc: Global, parts: Parts) -> Result<Schema, NoMemory>
+    pub fn new(alloc: Global, parts: SchemaContents) -> Result<Schema, NoMemory>
         requires named { AreNamed parts }
         requires holds_together { HoldsTogether (schema_of parts) }
         ensures { IfOk result (λ schema. schema ≡ schema_of parts) }
@@ -88,7 +84,7 @@ impl Schema {
     /// # Errors
     ///
     /// `NoMemory`.
-    pub fn without_own_sets(alloc: Global, parts: Parts) -> Result<Schema, NoMemory>
+    pub fn without_own_sets(alloc: Global, parts: SchemaContents) -> Result<Schema, NoMemory>
         requires named { AreNamed parts }
         requires holds_together { HoldsTogether (schema_of parts) }
         ensures { IfOk result (λ schema. schema ≡ schema_of parts) }
@@ -147,7 +143,7 @@ impl Schema {
             ranking,
             ..
         } = self;
-        let whole = parts_with(alloc, parts, found)?;
+        let whole = contents_with(alloc, parts, found)?;
         let redeclarers = all_redeclarers(alloc, &whole)?;
         Ok(Schema {
             alloc,
@@ -164,7 +160,7 @@ impl Schema {
     }
 
     /// The parts of the schema. It takes no memory.
-    pub fn into_parts(self) -> Parts
+    pub fn into_contents(self) -> SchemaContents
         ensures value { schema_of result ≡ self }
         ensures named { AreNamed result }
     {
@@ -240,7 +236,7 @@ impl Schema {
         ensures { IsTrue result ↔ IsA self.now sub.0 sup.0 }
     {
         self.holds_together();
-        let front = self.orders.front_of(sub.0);
+        let front = self.orders.prefix_of(sub.0);
         self.indexes[front.run].has(sup.0, front.size)
     }
 

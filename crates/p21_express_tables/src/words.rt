@@ -1,5 +1,5 @@
 ghost use Rattle.p21_schemas.specs.Schema.{EntityNamed, TypeNamed};
-ghost use Rattle.p21_express_tables.specs.Resolved.{IsEntity, IsType};
+ghost use Rattle.p21_express_graph.specs.Resolved.{IsEntity, IsType};
 
 use crate::schema::Schema;
 use p21_express_types::{EntityId, TypeId};

@@ -8,7 +8,7 @@ use Rattle.p21_exchange.proofs.Exponents.{in_range_by}
 use Rattle.p21_exchange.specs.Parameter as parameter
 use Rattle.p21_exchange.specs.Parameter.{Param, Params, no_params, param, key_of, listed}
 use Rattle.p21_files.specs.BrokenRule.{Breaks}
-use Rattle.p21_files.specs.BrokenValue.{BreaksAt, number_range, missing, star_not_derived, wrong_kind, select_type, wrong_width, unknown_item, BreaksWithin, itself, in_underlying, in_chosen, BreaksAtPlace, stored, IsChoice}
+use Rattle.p21_files.specs.BrokenValue.{BreaksAt, number_range, missing, star_not_derived, wrong_kind, select_type, wrong_width, unknown_item, BreaksWithin, itself, in_underlying, in_chosen, BreaksAtPlace, stored, UsesSelect}
 use Rattle.p21_files.specs.Fits.{boolean_items, a_whole_number, Fits, dollar, fits, a_whole, a_real, a_text, a_logical, an_item, as_underlying, a_chosen_type}
 use Rattle.p21_files.specs.ParameterKind.{TakesKind, takes_underlying, takes_chosen_instance, takes_chosen_type, of_boolean, of_enumeration}
 use Rattle.p21_files.specs.Value as value
@@ -158,7 +158,7 @@ real_in_distance = none_at measure (in_distance (parameter.real real_one)) (valu
 
 -- a select takes no untyped value, no name where it has no entity, and no keyword of another type or of a select in it:
 -- `1.` and `#1` at MEASURE, `LENGTH(1.)` at MEASURE, `MEASURE(1.)` at ITEM
-select-breaks : (type : TypeUse) (p : Param) → (p ≡ parameter.dollar → ⊥) → (p ≡ parameter.star → ⊥) → IsChoice (with_place false type) type → ¬ TakesKind (with_place false type) type p → BreaksWith type p 54
+select-breaks : (type : TypeUse) (p : Param) → (p ≡ parameter.dollar → ⊥) → (p ≡ parameter.star → ⊥) → UsesSelect (with_place false type) type → ¬ TakesKind (with_place false type) type p → BreaksWith type p 54
 select-breaks type p no_dollar no_star choice_ not_taken = type-breaks type p 54 (itself _ _ (select_type _ _ (no_dollar, no_star, not_taken) choice_))
 
 -- MEASURE offers DISTANCE alone

@@ -10,8 +10,8 @@ use Rattle.p21_files.specs.BrokenRule.{Breaks, unknown_entity, abstract_leaf, pa
 use Rattle.p21_files.specs.BrokenValue.{BreaksAtPlace, BreaksWithin, stored}
 use Rattle.p21_files.specs.Fits.{FitsAt}
 use Rattle.p21_files.specs.Meaning.{NamesEntity}
-use Rattle.p21_files.specs.RecordPlaces.{IsSetOf, part_places, StandsAt}
-use Rattle.p21_files.specs.Reference.{Kinds}
+use Rattle.p21_files.specs.RecordPlaces.{IsEntitySetOf, part_places, HasParamAt}
+use Rattle.p21_files.specs.Reference.{EntitySets}
 use Rattle.p21_files.specs.Value.{Value}
 use Rattle.p21_schemas.specs.Declared.{HasNoCircle, HasSupertype}
 use Rattle.p21_schemas.specs.PlaceType.{PlaceType, TypeAt, stored_place, IsDerivedIn, Redeclares}
@@ -68,7 +68,7 @@ e-closed optional type f (above _ next _ among up) = absurd (Contains-none next 
 e-closure : (optional : Bool) (type : TypeUse) (f : ℕ) → Contains (0 ∷ []) f ↔ IsA (with_place optional type) 0 f
 e-closure optional type f = (λ among. Each-member (IsA (with_place optional type) 0) (0 ∷ []) f (itself 0, tt) among, e-closed optional type f)
 
-e-set : (optional : Bool) (type : TypeUse) (p : Param) → IsSetOf (with_place optional type) (e_of p) (0 ∷ [])
+e-set : (optional : Bool) (type : TypeUse) (p : Param) → IsEntitySetOf (with_place optional type) (e_of p) (0 ∷ [])
 e-set optional type p = internal-set (with_place optional type) (only_entity optional type) (e_part p) 0 (0 ∷ []) (e-named optional type) (e-closure optional type)
 
 underived : (optional : Bool) (type : TypeUse) (entities : List ℕ) (place : Place) → IsDerivedIn (with_place optional type) entities place → ⊥
@@ -106,7 +106,7 @@ only_part : (p : Param) (part : Part) → Contains (e_part p ∷ []) part → e_
 only_part p part among = Each-member (λ x. e_part p ≡ x) (e_part p ∷ []) part (refl, tt) among
 
 -- only p stands at a place, and only at P
-stands-only : (optional : Bool) (type : TypeUse) (p : Param) (place : Place) (q : Param) → StandsAt (with_place optional type) (e_of p) place q → (place ≡ p_place) × (q ≡ p)
+stands-only : (optional : Bool) (type : TypeUse) (p : Param) (place : Place) (q : Param) → HasParamAt (with_place optional type) (e_of p) place q → (place ≡ p_place) × (q ≡ p)
 stands-only optional type p place q (part, e, (among, named), zipped) =
     let s = with_place optional type in
     let P : Part → Type 0 = λ x. Contains (zip (part_places s (e_of p) e) (listed x.params)) (place, q) in
@@ -149,6 +149,6 @@ pub types-distinct : (optional : Bool) (type : TypeUse) → HasDistinctTypes (wi
 types-distinct optional type = distinct_names-types (with_place optional type) (all-distinct optional type)
 
 -- where its parameter fits the place, none
-pub e-breaks_none : (optional : Bool) (type : TypeUse) (kinds : Kinds) (p : Param) (v : Value) → FitsAt (with_place optional type) kinds (stored_place optional type) p v → (number : ℕ) → Breaks (with_place optional type) (e_of p) number → ⊥
+pub e-breaks_none : (optional : Bool) (type : TypeUse) (kinds : EntitySets) (p : Param) (v : Value) → FitsAt (with_place optional type) kinds (stored_place optional type) p v → (number : ℕ) → Breaks (with_place optional type) (e_of p) number → ⊥
 e-breaks_none optional type kinds p v fit number broken =
     place-fits_nothing (with_place optional type) (types-distinct optional type) kinds number (stored_place optional type) p v (e-breaks_only optional type p number broken) fit

@@ -12,7 +12,7 @@ use Rattle.p21_exchange.specs.Parameter.{Param, listed}
 use Rattle.p21_schemas.specs.PlaceType.{PlaceType, two_redeclarations, TypeAt}
 use Rattle.p21_exchange.specs.Record.{Part, Record, simple, complex, parts_of}
 use Rattle.p21_files.specs.RecordPlaces.{part_places}
-use Rattle.p21_files.specs.Reference.{Kinds}
+use Rattle.p21_files.specs.Reference.{EntitySets}
 use Rattle.p21_schemas.specs.Schema.{Schema}
 use Rattle.p21_schemas.specs.WellFormed.{IsWellFormed}
 use Rattle.p21_basics.proofs.Members.{Each-member, Each-at, AllZip-member, AllZip-second_member}
@@ -21,7 +21,7 @@ use Rattle.p21_schemas.proofs.PlaceTypes.{TypeAt-one}
 use Rattle.p21_files.proofs.RecordSets.{meaning-set, set-members, TypeAt-members, places-count, part-fits, stands-fits}
 use Rattle.p21_files.proofs.BrokenValues.{place-fits_nothing}
 
-unknown_entity-means_nothing : (s : Schema) → IsWellFormed s → (kinds : Kinds) (r : Record) (m : Typed) → HasUnknownEntity s r → RecordMeans s kinds r m → ⊥
+unknown_entity-means_nothing : (s : Schema) → IsWellFormed s → (kinds : EntitySets) (r : Record) (m : Typed) → HasUnknownEntity s r → RecordMeans s kinds r m → ⊥
 unknown_entity-means_nothing s formed kinds r m (part, among, unknown) means = by r among means.means
   where
     by : (r : Record) → Contains (parts_of r) part → MeansByMapping s kinds r m → ⊥
@@ -30,12 +30,12 @@ unknown_entity-means_nothing s formed kinds r m (part, among, unknown) means = b
         unknown means.entity (subst P (Each-member (λ x. only ≡ x) (only ∷ []) part (refl, tt) among) means.named)
     by (complex parts) among means = let (e, in_entities, part_means) = AllZip-member (PartMeans s kinds m) parts means.entities part means.parts_mean among in unknown e part_means.0
 
-abstract-means_nothing : (s : Schema) → IsWellFormed s → (kinds : Kinds) (r : Record) (m : Typed) → HasAbstractLeaf s r → RecordMeans s kinds r m → ⊥
+abstract-means_nothing : (s : Schema) → IsWellFormed s → (kinds : EntitySets) (r : Record) (m : Typed) → HasAbstractLeaf s r → RecordMeans s kinds r m → ⊥
 abstract-means_nothing s formed kinds r m (entities, e, set_is, leaf, is_abstract) means =
     let same = set-members s formed kinds r m entities means set_is in
     means.no_abstract_leaf e ((same e).0 leaf.0, λ f among is. leaf.1 f ((same f).1 among) is) is_abstract
 
-part_missing-means_nothing : (s : Schema) → IsWellFormed s → (kinds : Kinds) (r : Record) (m : Typed) → MissesPart s r → RecordMeans s kinds r m → ⊥
+part_missing-means_nothing : (s : Schema) → IsWellFormed s → (kinds : EntitySets) (r : Record) (m : Typed) → MissesPart s r → RecordMeans s kinds r m → ⊥
 part_missing-means_nothing s formed kinds (simple part) m missing_ means = missing_
 part_missing-means_nothing s formed kinds (complex parts) m (f, in_set, missing_) means =
     let among = (means.means.same_entities f).1 ((meaning-set s formed kinds (complex parts) m means.means f).1 in_set) in
@@ -58,7 +58,7 @@ distinct-at (x ∷ xs) zero (suc j) e distinct at at_ = let same : x ≡ e = cc 
 distinct-at (x ∷ xs) (suc i) zero e distinct at at_ = let same : x ≡ e = cc in let h : true ≡ false = sym (eq-eqb x e same) ∙ Each-at (λ y. nat_eq x y ≡ false) xs i e distinct.0 at in cc
 distinct-at (x ∷ xs) (suc i) (suc j) e distinct at at_ = ap suc (distinct-at xs i j e distinct.1 at at_)
 
-part_twice-means_nothing : (s : Schema) → IsWellFormed s → (kinds : Kinds) (r : Record) (m : Typed) → HasPartTwice r → RecordMeans s kinds r m → ⊥
+part_twice-means_nothing : (s : Schema) → IsWellFormed s → (kinds : EntitySets) (r : Record) (m : Typed) → HasPartTwice r → RecordMeans s kinds r m → ⊥
 part_twice-means_nothing s formed kinds r m (i, j, part, other, differ, at, at_, same) means = by r at at_ means.means
   where
     only : (part_ x : Part) (k : ℕ) → slice_get (part_ ∷ []) k ≡ Some x → k ≡ 0
@@ -75,21 +75,21 @@ part_twice-means_nothing s formed kinds r m (i, j, part, other, differ, at, at_,
         let Q : ℕ → Type 0 = λ x. slice_get means.entities j ≡ Some x in
         differ (distinct-at means.entities i j e means.distinct e_at (subst Q one f_at))
 
-wrong_count-means_nothing : (s : Schema) → IsWellFormed s → (kinds : Kinds) (r : Record) (m : Typed) → HasWrongCount s r → RecordMeans s kinds r m → ⊥
+wrong_count-means_nothing : (s : Schema) → IsWellFormed s → (kinds : EntitySets) (r : Record) (m : Typed) → HasWrongCount s r → RecordMeans s kinds r m → ⊥
 wrong_count-means_nothing s formed kinds r m (part, e, has, differ) means = differ (places-count s kinds m (part_places s r e) part.params (part-fits s formed kinds r m means.means part e has))
 
-open_place-means_nothing : (s : Schema) → IsWellFormed s → (kinds : Kinds) (r : Record) (m : Typed) → HasTwoRedeclarations s r → RecordMeans s kinds r m → ⊥
+open_place-means_nothing : (s : Schema) → IsWellFormed s → (kinds : EntitySets) (r : Record) (m : Typed) → HasTwoRedeclarations s r → RecordMeans s kinds r m → ⊥
 open_place-means_nothing s formed kinds r m (entities, e, place, set_is, among, of_e, two) means =
     let same = set-members s formed kinds r m entities means set_is in
     Each-member (λ q. ¬ TypeAt s m.entities q two_redeclarations) (own_places s e) place (Each-member (HasPlaceTypes s m.entities) m.entities e means.place_types ((same e).0 among)) of_e
     (TypeAt-members s entities m.entities same place two_redeclarations two)
 
-clash-means_nothing : (s : Schema) → IsWellFormed s → (kinds : Kinds) (r : Record) (m : Typed) → HasClash s r → RecordMeans s kinds r m → ⊥
+clash-means_nothing : (s : Schema) → IsWellFormed s → (kinds : EntitySets) (r : Record) (m : Typed) → HasClash s r → RecordMeans s kinds r m → ⊥
 clash-means_nothing s formed kinds r m (entities, set_is, (listed, is_list, (e, f, e_listed, f_listed, differ, has_e, has_f))) means =
     let same = set-members s formed kinds r m entities means set_is in
     means.no_clash (listed, is_list, (e, f, e_listed, f_listed, differ, (same e).0 has_e, (same f).0 has_f))
 
-place-means_nothing : (s : Schema) → IsWellFormed s → (kinds : Kinds) (r : Record) (m : Typed) (number : ℕ) → HasBrokenPlace s r number → RecordMeans s kinds r m → ⊥
+place-means_nothing : (s : Schema) → IsWellFormed s → (kinds : EntitySets) (r : Record) (m : Typed) (number : ℕ) → HasBrokenPlace s r number → RecordMeans s kinds r m → ⊥
 place-means_nothing s formed kinds r m number (entities, place, at, p, set_is, type_at, stands, broken) means =
     let (at_, v, type_at_, fit, has) = stands-fits s formed kinds r m means.means place p stands in
     let known : TypeAt s m.entities place at = TypeAt-members s entities m.entities (set-members s formed kinds r m entities means set_is) place at type_at in
@@ -98,7 +98,7 @@ place-means_nothing s formed kinds r m number (entities, place, at, p, set_is, t
     place-fits_nothing s formed.types_distinct kinds number at p v broken (subst P same fit)
 
 -- a record that breaks a rule has no meaning, whatever the sets of the instances
-pub broken-means_nothing : (s : Schema) → IsWellFormed s → (r : Record) (number : ℕ) → Breaks s r number → (kinds : Kinds) (m : Typed) → RecordMeans s kinds r m → ⊥
+pub broken-means_nothing : (s : Schema) → IsWellFormed s → (r : Record) (number : ℕ) → Breaks s r number → (kinds : EntitySets) (m : Typed) → RecordMeans s kinds r m → ⊥
 broken-means_nothing s formed r number (unknown_entity h) kinds m means = unknown_entity-means_nothing s formed kinds r m h means
 broken-means_nothing s formed r number (part_twice h) kinds m means = part_twice-means_nothing s formed kinds r m h means
 broken-means_nothing s formed r number (part_missing h) kinds m means = part_missing-means_nothing s formed kinds r m h means

@@ -7,7 +7,7 @@ use Rattle.p21_exchange.specs.Parameter.{Param, Params, listed}
 use Rattle.p21_files.specs.BrokenValue.{BreaksAt, number_range, missing, star_not_derived, wrong_kind, select_type, wrong_width, out_of_bounds, not_distinct, unknown_item, BreaksWithin, itself, in_underlying, in_chosen, in_element, BreaksAtPlace, derived_not_star, stored}
 use Rattle.p21_files.specs.Fits.{Fits, FitsAt, dollar, fits, a_whole_number, a_boolean, a_logical, a_text, a_binary, an_item, as_underlying, an_array, a_list, a_set, a_bag}
 use Rattle.p21_files.specs.ParameterKind.{HasItems, of_boolean, of_logical, of_enumeration, HasWidth, AllowsCount}
-use Rattle.p21_files.specs.Reference.{Kinds}
+use Rattle.p21_files.specs.Reference.{EntitySets}
 use Rattle.p21_files.specs.SameValue.{AreDistinct}
 use Rattle.p21_files.specs.Value.{Value}
 use Rattle.p21_schemas.specs.PlaceType.{PlaceType}
@@ -19,22 +19,22 @@ use Rattle.p21_exchange.proofs.Ratios.{ratio-positive}
 use Rattle.p21_files.proofs.OneValue.{FitEach-one_value, dollar-fits_nothing}
 use Rattle.p21_files.proofs.Taken.{Fits-takes, each-fits, elements-fit, underlying-fits, chosen-fits}
 
-star-fits_nothing : (s : Schema) (kinds : Kinds) (type : TypeUse) (v : Value) → Fits s kinds type parameter.star v → ⊥
+star-fits_nothing : (s : Schema) (kinds : EntitySets) (type : TypeUse) (v : Value) → Fits s kinds type parameter.star v → ⊥
 star-fits_nothing s kinds type v (as_underlying t under _ _ is fit) = star-fits_nothing s kinds under v fit
 
-width-fits : (s : Schema) (kinds : Kinds) (type : TypeUse) (p : Param) (v : Value) → Fits s kinds type p v → HasWidth type p
+width-fits : (s : Schema) (kinds : EntitySets) (type : TypeUse) (p : Param) (v : Value) → Fits s kinds type p v → HasWidth type p
 width-fits s kinds type p v (a_text width chars is) = is
 width-fits s kinds type p v (a_binary width bs is) = is
 width-fits s kinds type p v other = tt
 
-count-fits : (s : Schema) (kinds : Kinds) (type : TypeUse) (ps : Params) (v : Value) → Fits s kinds type (parameter.list ps) v → AllowsCount type (length (listed ps))
+count-fits : (s : Schema) (kinds : EntitySets) (type : TypeUse) (ps : Params) (v : Value) → Fits s kinds type (parameter.list ps) v → AllowsCount type (length (listed ps))
 count-fits s kinds type ps v (as_underlying t under _ _ is fit) = tt
 count-fits s kinds type ps v (an_array low high optional unique element _ vs each counted distinct) = (elements-fit s kinds type optional element ps v refl (an_array low high optional unique element ps vs each counted distinct)).allowed
 count-fits s kinds type ps v (a_list low high unique element _ vs each bounded distinct) = (elements-fit s kinds type _ element ps v refl (a_list low high unique element ps vs each bounded distinct)).allowed
 count-fits s kinds type ps v (a_set low high element _ vs each bounded distinct) = (elements-fit s kinds type _ element ps v refl (a_set low high element ps vs each bounded distinct)).allowed
 count-fits s kinds type ps v (a_bag low high element _ vs each bounded) = (elements-fit s kinds type _ element ps v refl (a_bag low high element ps vs each bounded)).allowed
 
-item-fits : (s : Schema) (kinds : Kinds) (type : TypeUse) (words : List (List ℕ)) (word : List ℕ) (v : Value) → HasItems s type words → Fits s kinds type (parameter.item word) v → Contains words word
+item-fits : (s : Schema) (kinds : EntitySets) (type : TypeUse) (words : List (List ℕ)) (word : List ℕ) (v : Value) → HasItems s type words → Fits s kinds type (parameter.item word) v → Contains words word
 item-fits s kinds type words word v of_boolean (a_boolean _ among) = among
 item-fits s kinds type words word v of_logical (a_logical _ among) = among
 item-fits s kinds type words word v (of_enumeration t _ is) (as_underlying _ under _ _ is_ fit) = let h : Some (alias under) ≡ Some (items words) = sym is_ ∙ is in cc
@@ -43,7 +43,7 @@ item-fits s kinds type words word v (of_enumeration t _ is) (an_item _ words_ _ 
     let P : List (List ℕ) → Type 0 = λ ws. Contains ws word in subst P same among
 
 -- a parameter that breaks a rule at a type does not fit it
-pub broken-fits_nothing : (s : Schema) → HasDistinctTypes s → (kinds : Kinds) (number : ℕ) (type : TypeUse) (p : Param) (v : Value) → BreaksAt s type p number → Fits s kinds type p v → ⊥
+pub broken-fits_nothing : (s : Schema) → HasDistinctTypes s → (kinds : EntitySets) (number : ℕ) (type : TypeUse) (p : Param) (v : Value) → BreaksAt s type p number → Fits s kinds type p v → ⊥
 broken-fits_nothing s distinct kinds number type p v (number_range z out_of_range) (a_whole_number _ d reduced range same) = out_of_range (in_range_of_same (ratio_of d) (whole_ratio z) (ratio-positive d) (omega arith) same range)
 broken-fits_nothing s distinct kinds number type p v (missing _) fit = dollar-fits_nothing s kinds type v fit
 broken-fits_nothing s distinct kinds number type p v (star_not_derived _) fit = star-fits_nothing s kinds type v fit
@@ -58,7 +58,7 @@ broken-fits_nothing s distinct kinds number type p v (not_distinct _ ps (unique,
 broken-fits_nothing s distinct kinds number type p v (unknown_item _ words word has other) fit = other (item-fits s kinds type words word v has fit)
 
 -- nor does one that holds such a parameter
-pub within-fits_nothing : (s : Schema) → HasDistinctTypes s → (kinds : Kinds) (number : ℕ) (type : TypeUse) (p : Param) (v : Value) → BreaksWithin s number type p → Fits s kinds type p v → ⊥
+pub within-fits_nothing : (s : Schema) → HasDistinctTypes s → (kinds : EntitySets) (number : ℕ) (type : TypeUse) (p : Param) (v : Value) → BreaksWithin s number type p → Fits s kinds type p v → ⊥
 within-fits_nothing s distinct kinds number type p v (itself _ _ broken) fit = broken-fits_nothing s distinct kinds number type p v broken fit
 within-fits_nothing s distinct kinds number type p v (in_underlying t under _ is broken) fit = within-fits_nothing s distinct kinds number under p v broken (underlying-fits s kinds t under p v is fit)
 within-fits_nothing s distinct kinds number type p v (in_chosen t u name x offers named broken) fit =
@@ -69,7 +69,7 @@ within-fits_nothing s distinct kinds number type p v (in_element aggregate optio
     within-fits_nothing s distinct kinds number element x w broken fit_
 
 -- nor fits one a place at which it breaks a rule
-pub place-fits_nothing : (s : Schema) → HasDistinctTypes s → (kinds : Kinds) (number : ℕ) (at : PlaceType) (p : Param) (v : Value) → BreaksAtPlace s at p number → FitsAt s kinds at p v → ⊥
+pub place-fits_nothing : (s : Schema) → HasDistinctTypes s → (kinds : EntitySets) (number : ℕ) (at : PlaceType) (p : Param) (v : Value) → BreaksAtPlace s at p number → FitsAt s kinds at p v → ⊥
 place-fits_nothing s distinct kinds number at p v (derived_not_star _ other) FitsAt.star = other refl
 place-fits_nothing s distinct kinds number at p v (stored optional type _ _ wanted broken) (dollar _) = wanted (refl, refl)
 place-fits_nothing s distinct kinds number at p v (stored optional type _ _ wanted broken) (fits _ _ _ _ fit) = within-fits_nothing s distinct kinds number type p v broken fit

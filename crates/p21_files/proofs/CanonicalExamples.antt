@@ -4,7 +4,7 @@ use Rattle.std.specs.Prelude.{codes}
 use Rattle.std.specs.Cmp.Lexicographic.{slice_cmp}
 use Rattle.std.specs.List.Sorted.{IsStrictlySortedBy}
 use Rattle.std.specs.Ordering.{nat_cmp, is_lt}
-use Rattle.p21_files.specs.CanonicalRecord.{AreRising, HasOneLeaf, IsCanonicalForm, IsCanonicalParam}
+use Rattle.p21_files.specs.CanonicalRecord.{AreTextsRising, HasOneLeaf, IsCanonicalForm, IsCanonicalParam}
 use Rattle.p21_exchange.specs.CanonicalText.{param_text}
 use Rattle.p21_basics.specs.Limits.{AreLimits, usual, text_limit}
 use Rattle.p21_exchange.specs.Number.{Decimal}
@@ -16,21 +16,21 @@ use Rattle.p21_schemas.specs.Schema.{Schema}
 use Rattle.p21_files.specs.Value as value
 
 -- two texts that rise, by a test
-rising_by : (a b : List ℕ) → is_lt (slice_cmp nat_cmp b a) ≡ false → AreRising (a ∷ b ∷ [])
+rising_by : (a b : List ℕ) → is_lt (slice_cmp nat_cmp b a) ≡ false → AreTextsRising (a ∷ b ∷ [])
 rising_by a b test zero d low high = test
 rising_by a b test (suc k) d low high = absurd (omega (arith, high))
 
 -- `#10` stands before `#2`, a text before what it begins, and MARKED before POINT
-name_texts : AreRising (param_text (name 10) ∷ param_text (name 2) ∷ [])
+name_texts : AreTextsRising (param_text (name 10) ∷ param_text (name 2) ∷ [])
 name_texts = rising_by (codes "#10") (codes "#2") refl
 
-beginning_first : AreRising (codes "#1" ∷ codes "#10" ∷ [])
+beginning_first : AreTextsRising (codes "#1" ∷ codes "#10" ∷ [])
 beginning_first = rising_by (codes "#1") (codes "#10") refl
 
-keywords : AreRising (codes "MARKED" ∷ codes "POINT" ∷ [])
+keywords : AreTextsRising (codes "MARKED" ∷ codes "POINT" ∷ [])
 keywords = rising_by (codes "MARKED") (codes "POINT") refl
 
-beginning_last : AreRising (codes "#10" ∷ codes "#1" ∷ []) → ⊥
+beginning_last : AreTextsRising (codes "#10" ∷ codes "#1" ∷ []) → ⊥
 beginning_last rising = let test = rising 0 [] (lit≤ tt) (lit< tt) in (cc)
 
 abbrev one : Decimal

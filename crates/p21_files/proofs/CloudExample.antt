@@ -18,12 +18,12 @@ use Rattle.p21_exchange.specs.Structure.{Structure}
 use Rattle.p21_exchange.specs.Token as token
 use Rattle.p21_exchange.specs.Token.{name, equals, keyword, MayFollow}
 use Rattle.p21_files.specs.Accepted.{IsCanonicalFile, IsCanonicalOf}
-use Rattle.p21_files.specs.CanonicalRecord.{AreRising, HasOneLeaf, IsCanonicalRecord}
+use Rattle.p21_files.specs.CanonicalRecord.{AreTextsRising, HasOneLeaf, IsCanonicalRecord}
 use Rattle.p21_files.specs.File.{FileMeaning, Reads}
 use Rattle.p21_files.specs.Fits as fits
 use Rattle.p21_files.specs.Fits.{an_instance, a_list, a_set, a_bag, none_left, fits_next}
 use Rattle.p21_files.specs.Meaning.{Typed, RecordMeans}
-use Rattle.p21_files.specs.Reference.{Kinds}
+use Rattle.p21_files.specs.Reference.{EntitySets}
 use Rattle.p21_files.specs.SameValue.{Among}
 use Rattle.p21_files.specs.Value as value
 use Rattle.p21_files.specs.Value.{Value, Values, no_values}
@@ -35,7 +35,7 @@ use Rattle.p21_basics.proofs.Members.{Contains-none, Each-member}
 use Rattle.p21_exchange.proofs.CanonicalLaying.{Laying, end, put, put_on_line, put_left, put_right, put_comma, put_semicolon, put_section, put_record, put_finish, put_text_comma, put_text_right, within_by, no_dash_left}
 use Rattle.p21_exchange.proofs.Laying.{keyword_by, left_ends_words}
 use Rattle.p21_files.proofs.DemoExample.{demo-header, description, file_name, file_schema, header_lines}
-use Rattle.p21_files.proofs.KeptExamples.{equals_ends_digits}
+use Rattle.p21_files.proofs.CanonicalTextExamples.{equals_ends_digits}
 use Rattle.p21_files.proofs.MeaningExamples.{point_set, not_redeclared, no_clash, stored, abstract-is_shape}
 use Rattle.p21_files.proofs.NamedPoints.{two_record, two_meaning, two-means, two-canonical, one_name, two_name, short_line}
 use Rattle.p21_files.proofs.SameFiles.{SameFileMeaning-reflexive}
@@ -92,7 +92,7 @@ no_other : (v : Value) → Among v no_values → ⊥
 no_other v among = elim among [ ]
 
 -- among instances of which #2 is a point
-cloud-means : (kinds : Kinds) → Contains kinds (2, point_set) → RecordMeans demo kinds cloud_record cloud_meaning
+cloud-means : (kinds : EntitySets) → Contains kinds (2, point_set) → RecordMeans demo kinds cloud_record cloud_meaning
 unfolding IsStrictlySortedBy
 cloud-means kinds has_point = record {
   rising = (codes "CLOUD" ∷ [], ((cloud, refl, refl), tt), (tt, tt));
@@ -157,10 +157,10 @@ cloud-canonical = record {
   );
 }
   where
-    one_text : AreRising (codes "#2" ∷ [])
+    one_text : AreTextsRising (codes "#2" ∷ [])
     one_text i j low high = absurd (omega (arith, low, high))
 
-    no_text : AreRising []
+    no_text : AreTextsRising []
     no_text i j low high = absurd (omega (arith, low, high))
 
 -- the line of the CLOUD

@@ -2,19 +2,19 @@
 use Rattle.std.specs.Prelude.{ℕ, Bool, true, false, List, Contains}
 use Rattle.p21_files.specs.Fits.{Fits, a_whole, a_real, a_number, a_whole_number, a_boolean, a_logical, a_text, a_binary, an_instance, as_underlying, an_item, a_chosen_instance, a_chosen_type, an_array, a_list, a_set, a_bag, FitEach, none_left, fits_next, empty_next}
 use Rattle.p21_exchange.specs.Parameter.{Param, Params}
-use Rattle.p21_files.specs.Reference.{Kinds, Need, IsServed}
+use Rattle.p21_files.specs.Reference.{EntitySets, Need, IsServed}
 use Rattle.p21_schemas.specs.Schema as schema
 use Rattle.p21_schemas.specs.Schema.{Schema, TypeUse}
 use Rattle.p21_files.specs.Value.{Value, Values}
 
-abbrev pub IsWider : Kinds → Kinds → Type 0
+abbrev pub IsWider : EntitySets → EntitySets → Type 0
 IsWider kinds wide = (x : ℕ × List ℕ) → Contains kinds x → Contains wide x
 
-served-wider : (s : Schema) (kinds wide : Kinds) → IsWider kinds wide → (need : Need) → IsServed s kinds need → IsServed s wide need
+served-wider : (s : Schema) (kinds wide : EntitySets) → IsWider kinds wide → (need : Need) → IsServed s kinds need → IsServed s wide need
 served-wider s kinds wide wider need (entities, among, serves) = (entities, wider (need.target, entities) among, serves)
 
 mutual
-  pub fits-wider : (s : Schema) (kinds wide : Kinds) → IsWider kinds wide → (type : TypeUse) (p : Param) (v : Value) → Fits s kinds type p v → Fits s wide type p v
+  pub fits-wider : (s : Schema) (kinds wide : EntitySets) → IsWider kinds wide → (type : TypeUse) (p : Param) (v : Value) → Fits s kinds type p v → Fits s wide type p v
   fits-wider s kinds wide wider type p v (a_whole z) = a_whole z
   fits-wider s kinds wide wider type p v (a_real d) = a_real d
   fits-wider s kinds wide wider type p v (a_number d) = a_number d
@@ -33,7 +33,7 @@ mutual
   fits-wider s kinds wide wider type p v (a_set low high element ps vs each bounded distinct) = a_set low high element ps vs (each-wider s kinds wide wider false element ps vs each) bounded distinct
   fits-wider s kinds wide wider type p v (a_bag low high element ps vs each bounded) = a_bag low high element ps vs (each-wider s kinds wide wider false element ps vs each) bounded
 
-  pub each-wider : (s : Schema) (kinds wide : Kinds) → IsWider kinds wide → (optional : Bool) (type : TypeUse) (ps : Params) (vs : Values) → FitEach s kinds optional type ps vs → FitEach s wide optional type ps vs
+  pub each-wider : (s : Schema) (kinds wide : EntitySets) → IsWider kinds wide → (optional : Bool) (type : TypeUse) (ps : Params) (vs : Values) → FitEach s kinds optional type ps vs → FitEach s wide optional type ps vs
   each-wider s kinds wide wider optional type ps vs (none_left _ _) = none_left optional type
   each-wider s kinds wide wider optional type ps vs (fits_next _ _ p v ps_ vs_ fit each) = fits_next optional type p v ps_ vs_ (fits-wider s kinds wide wider type p v fit) (each-wider s kinds wide wider optional type ps_ vs_ each)
   each-wider s kinds wide wider optional type ps vs (empty_next _ ps_ vs_ each) = empty_next type ps_ vs_ (each-wider s kinds wide wider true type ps_ vs_ each)

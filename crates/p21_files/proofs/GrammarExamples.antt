@@ -3,7 +3,7 @@ use Rattle.std.proofs.Common.{◌≡◌, ℕ, zero, suc, true, List, [], ◌∷�
 use Rattle.std.specs.Prelude.{codes}
 use Rattle.p21_exchange.specs.DataSection.{unnamed}
 use Rattle.p21_exchange.specs.Grammar.{IsDataRecord, IsFile}
-use Rattle.p21_files.specs.Reference.{Kinds}
+use Rattle.p21_files.specs.Reference.{EntitySets}
 use Rattle.p21_files.specs.Meaning.{Typed, RecordMeans}
 use Rattle.p21_files.specs.Reference.{param_references}
 use Rattle.p21_exchange.specs.Nesting.{IsShallow}
@@ -29,7 +29,7 @@ complex_record = record { some_parts = lit< tt; shallow = (lit≤ tt, (lit≤ tt
 no_part : IsDataRecord (complex []) → ⊥
 no_part data_record = let h = data_record.some_parts in omega (arith, h)
 
-no_part_means : (s : Schema) (kinds : Kinds) (meaning : Typed) → RecordMeans s kinds (complex []) meaning → ⊥
+no_part_means : (s : Schema) (kinds : EntitySets) (meaning : Typed) → RecordMeans s kinds (complex []) meaning → ⊥
 no_part_means s kinds meaning means = let h = means.means.some_parts in omega (arith, h)
 
 -- `!A()` and `A(!A($))` have user keywords

@@ -4,7 +4,7 @@ use Rattle.std.specs.Prelude.{codes}
 use Rattle.std.specs.List.{flat_map}
 use Rattle.p21_exchange.specs.DataSection.{named}
 use Rattle.p21_files.specs.Held.{Held, IsHeld}
-use Rattle.p21_files.specs.Kept.{AreKept}
+use Rattle.p21_files.specs.CanonicalTexts.{HaveCanonicalSize}
 use Rattle.p21_exchange.specs.Pending.{nothing}
 use Rattle.p21_schemas.specs.Schema.{Schema}
 use Rattle.p21_exchange.specs.Statement.{Statement, section, header, begin, header_start, section_end, data_start, finish, statement_tokens}
@@ -49,7 +49,7 @@ named-held s = record {
 named-kept : (s : Schema) (held : Held) (h : IsHeld s named_bytes held) → h.depth.open_statement.ended ≡ flat_map statement_tokens taken → held.kept ≡ 87
 unfolding named-held
 named-kept s held h ended =
-    let P : List Statement → Type 0 = λ ss. AreKept s ss held.kept in
+    let P : List Statement → Type 0 = λ ss. HaveCanonicalSize s ss held.kept in
     let (more, first, (others, second, (rest, third, last))) = subst P (held_statements-one s named_bytes held _ h (named-held s) ended) h.kept in
     let one : held.kept ≡ 29 + more = first in
     let two : more ≡ 36 + others = second in

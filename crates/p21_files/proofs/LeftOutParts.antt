@@ -8,7 +8,7 @@ use Rattle.p21_files.specs.Meaning.{NamesEntity}
 use Rattle.p21_exchange.specs.Parameter.{whole, Params, no_params, param, key_of}
 use Rattle.p21_schemas.specs.PlaceType.{TypeAt, two_redeclarations, Redeclares}
 use Rattle.p21_exchange.specs.Record.{Part, complex}
-use Rattle.p21_files.specs.RecordPlaces.{HasPart, IsSetOf}
+use Rattle.p21_files.specs.RecordPlaces.{HasPart, IsEntitySetOf}
 use Rattle.p21_schemas.specs.Declared.{HasSupertype}
 use Rattle.p21_schemas.specs.Order.{own_places}
 use Rattle.p21_schemas.specs.Schema as schema
@@ -60,7 +60,7 @@ below_above e f among (above _ next _ up more) = below_above next f (below_super
 d-is_a : IsA below_a 3 1
 d-is_a = above 3 1 1 (0, omega arith, refl) (itself 1)
 
-d_b_s-set : IsSetOf below_a (complex d_b_s_parts) below_set
+d_b_s-set : IsEntitySetOf below_a (complex d_b_s_parts) below_set
 d_b_s-set = external-set below_a (distinct_names-entities below_a below_a-distinct) d_b_s_parts (3 ∷ 2 ∷ 0 ∷ []) below_set
     ((codes "D", (_, refl, refl), refl), ((codes "B", (_, refl, refl), refl), ((codes "S", (_, refl, refl), refl), tt))) (λ f. (in_closure f, λ (e, among, up). below_above e f (Each-member (Contains below_set) (3 ∷ 2 ∷ 0 ∷ []) e ((0, omega arith, refl), ((2, omega arith, refl), ((3, omega arith, refl), tt))) among) up))
   where

@@ -8,7 +8,7 @@ mod CloudExample
 mod GrammarExamples
 mod HeldDemo
 mod HeldNamed
-mod KeptExamples
+mod CanonicalTextExamples
 mod LeftOutParts
 mod MeaningExamples
 mod NamedExample

@@ -15,7 +15,7 @@ use Rattle.p21_schemas.specs.Order.{places}
 use Rattle.p21_schemas.specs.PlaceType.{TypeAt, derived_place, stored_place, two_redeclarations, IsDerivedIn, IsRedeclared}
 use Rattle.p21_files.specs.Value as value
 use Rattle.p21_files.specs.Value.{Value, Values, no_values}
-use Rattle.p21_files.specs.Reference.{Kinds}
+use Rattle.p21_files.specs.Reference.{EntitySets}
 use Rattle.p21_files.specs.Fits as fits
 use Rattle.p21_files.specs.Fits.{FitsAt, as_underlying, a_real}
 use Rattle.p21_files.specs.Meaning.{Typed, NamesEntity, FitsPlace, FitPlaces, PartMeans, RecordMeans}
@@ -86,7 +86,7 @@ y-not_x h = let n : 1 ≡ 0 = ap (λ p. p.index) h in omega (arith, n)
 pub origin-x : TypeAt demo origin_set x_place derived_place
 origin-x = (3, origin, (0, omega arith, refl), refl, (0, omega arith, refl))
 
-pub origin-means : (kinds : Kinds) → RecordMeans demo kinds origin_record origin_meaning
+pub origin-means : (kinds : EntitySets) → RecordMeans demo kinds origin_record origin_meaning
 unfolding IsStrictlySortedBy
 origin-means kinds = record {
   rising = (codes "ORIGIN" ∷ codes "POINT" ∷ codes "SHAPE" ∷ [], ((origin, refl, refl), ((point, refl, refl), ((shape, refl, refl), tt))), ((refl, (refl, tt)), ((refl, tt), (tt, tt))));
@@ -153,10 +153,10 @@ point-derives_none place (e, x, in_set, at, among) =
 pub point-stored : (place : Place) (a : Attribute) → attribute_at demo place ≡ Some a → TypeAt demo point_set place (stored_place a.optional a.type)
 point-stored place a at = (point-derives_none place, inr (not_redeclared point_set place, (a, at, refl, refl)))
 
-a_distance : (kinds : Kinds) → FitsAt demo kinds (stored_place false (schema.defined 0)) (real one) (value.real one)
+a_distance : (kinds : EntitySets) → FitsAt demo kinds (stored_place false (schema.defined 0)) (real one) (value.real one)
 a_distance kinds = fits.fits false (schema.defined 0) (real one) (value.real one) (as_underlying 0 schema.real (real one) (value.real one) refl (a_real one))
 
-pub point-means : (kinds : Kinds) → RecordMeans demo kinds point_record point_meaning
+pub point-means : (kinds : EntitySets) → RecordMeans demo kinds point_record point_meaning
 unfolding IsStrictlySortedBy
 point-means kinds = record {
   rising = (codes "POINT" ∷ codes "SHAPE" ∷ [], ((point, refl, refl), ((shape, refl, refl), tt)), ((refl, tt), (tt, tt)));
@@ -189,13 +189,13 @@ pub named : (word : List ℕ) (n e : ℕ) → EntityNamed demo n word → NamesE
 named word n e of_n (name, of_e, key_is) = let P : List ℕ → Type 0 = λ w. EntityNamed demo e w in distinct_names-entities demo demo-distinct e n word (subst P (sym (ap (λ k. k.word) key_is)) of_e) of_n
 
 -- at a derived place only `*` fits
-derived-needs_star : (kinds : Kinds) (meaning : Typed) (d : Decimal) → Contains meaning.entities 3 → FitsPlace demo kinds meaning x_place (real d) → ⊥
+derived-needs_star : (kinds : EntitySets) (meaning : Typed) (d : Decimal) → Contains meaning.entities 3 → FitsPlace demo kinds meaning x_place (real d) → ⊥
 derived-needs_star kinds meaning d among (derived_place, v, _, fit, has) = elim fit [ ]
 derived-needs_star kinds meaning d among (two_redeclarations, v, _, fit, has) = elim fit [ ]
 derived-needs_star kinds meaning d among (stored_place optional type, v, (not_derived, declared), fit, has) = not_derived (3, origin, among, refl, (0, omega arith, refl))
 
 -- `ORIGIN($,0.,2.)` means nothing
-pub origin_number-means_nothing : (kinds : Kinds) (meaning : Typed) → RecordMeans demo kinds (simple (record { key = key_of (codes "ORIGIN"); params = param dollar (param (real nought) (param (real two) no_params)) })) meaning → ⊥
+pub origin_number-means_nothing : (kinds : EntitySets) (meaning : Typed) → RecordMeans demo kinds (simple (record { key = key_of (codes "ORIGIN"); params = param dollar (param (real nought) (param (real two) no_params)) })) meaning → ⊥
 origin_number-means_nothing kinds meaning means =
     let internal = means.means in
     let is : internal.entity ≡ 3 = named (codes "ORIGIN") 3 internal.entity (origin, refl, refl) internal.named in
@@ -205,7 +205,7 @@ origin_number-means_nothing kinds meaning means =
     derived-needs_star kinds meaning nought (subst Q is ((internal.closure internal.entity).1 (itself internal.entity))) fit.1.0
 
 -- `SHAPE($)` means nothing: its leaf is abstract
-pub abstract-means_nothing : (kinds : Kinds) (meaning : Typed) → RecordMeans demo kinds (simple (record { key = key_of (codes "SHAPE"); params = param dollar no_params })) meaning → ⊥
+pub abstract-means_nothing : (kinds : EntitySets) (meaning : Typed) → RecordMeans demo kinds (simple (record { key = key_of (codes "SHAPE"); params = param dollar no_params })) meaning → ⊥
 abstract-means_nothing kinds meaning means =
     let internal = means.means in
     let is : internal.entity ≡ 0 = named (codes "SHAPE") 0 internal.entity (shape, refl, refl) internal.named in
@@ -214,7 +214,7 @@ abstract-means_nothing kinds meaning means =
     means.no_abstract_leaf 0 ((closure 0).1 (itself 0), λ f among down. elim (demo-is_a 0 f (omega arith) ((closure f).0 among)) [ inl h ↦ h | inr h ↦ h ]) (shape, refl, refl)
 
 -- `(POINT(1.,2.))` means nothing: the part of SHAPE is missing
-pub missing_part-means_nothing : (kinds : Kinds) (meaning : Typed) (d e : Decimal) → RecordMeans demo kinds (complex (record { key = key_of (codes "POINT"); params = param (real d) (param (real e) no_params) } ∷ [])) meaning → ⊥
+pub missing_part-means_nothing : (kinds : EntitySets) (meaning : Typed) (d e : Decimal) → RecordMeans demo kinds (complex (record { key = key_of (codes "POINT"); params = param (real d) (param (real e) no_params) } ∷ [])) meaning → ⊥
 missing_part-means_nothing kinds meaning d e means = refuted means.means.entities means.means.parts_mean (λ f is. means.means.closed f is)
   where
     refuted : (entities : List ℕ) → AllZip (PartMeans demo kinds meaning) (record { key = key_of (codes "POINT"); params = param (real d) (param (real e) no_params) } ∷ []) entities → ((f : ℕ) → InClosure demo entities f → Contains entities f) → ⊥

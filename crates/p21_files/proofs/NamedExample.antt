@@ -7,7 +7,7 @@ use Rattle.p21_files.specs.Accepted.{IsCanonicalFile, IsCanonicalOf}
 use Rattle.p21_files.specs.Canonical.{Canonical}
 use Rattle.p21_exchange.specs.CanonicalText.{line}
 use Rattle.p21_exchange.specs.DataSection.{Heading, named, heading_names, DataSection}
-use Rattle.p21_files.specs.File.{FileMeaning, Reads, kinds_of}
+use Rattle.p21_files.specs.File.{FileMeaning, Reads, entity_sets_of}
 use Rattle.p21_files.specs.Fits.{Fits, an_instance}
 use Rattle.p21_exchange.specs.Parameter as parameter
 use Rattle.p21_schemas.specs.Schema as schema
@@ -16,11 +16,11 @@ use Rattle.p21_exchange.specs.Grammar.{IsDataRecord}
 use Rattle.p21_exchange.specs.Laying.{LaidAs}
 use Rattle.p21_basics.specs.Limits.{Limits}
 use Rattle.p21_files.specs.Meaning.{Typed}
-use Rattle.p21_files.specs.SameFile.{HaveSameMembers, AreAmong, SameFileMeaning}
+use Rattle.p21_files.specs.SameFile.{HaveSameMembers, AreInstancesAmong, SameFileMeaning}
 use Rattle.p21_exchange.specs.Structure.{Structure, statements}
 use Rattle.p21_exchange.proofs.CanonicalLaying.{Laying, end, put_left, put_right, put_semicolon, put_section, put_record, put_finish, put_text_comma, put_text_right, within_by}
 use Rattle.p21_files.proofs.DemoExample.{demo-header, description, file_name, file_schema, header_lines}
-use Rattle.p21_files.proofs.KeptExamples.{point-canonical}
+use Rattle.p21_files.proofs.CanonicalTextExamples.{point-canonical}
 use Rattle.p21_basics.proofs.Members.{Contains-none, Contains-first, Contains-cases}
 use Rattle.p21_files.proofs.MeaningExamples.{point_record, point_meaning, point-means}
 use Rattle.p21_files.proofs.NamedPoints.{two_record, two_meaning, two-means, two-canonical, one_line, short_line, long_line}
@@ -176,7 +176,7 @@ turned x y z among = elim (Contains-cases x (y ∷ []) z among) [
 turned-same : {X : Type 0} (x y : X) → HaveSameMembers (x ∷ y ∷ []) (y ∷ x ∷ [])
 turned-same x y z = (turned x y z, turned y x z)
 
-turned-among : (x y : ℕ × Typed) → AreAmong (x ∷ y ∷ []) (y ∷ x ∷ [])
+turned-among : (x y : ℕ × Typed) → AreInstancesAmong (x ∷ y ∷ []) (y ∷ x ∷ [])
 turned-among x y n typed among = (typed, turned x y (n, typed) among, SameTyped-reflexive typed)
 
 ordered-same : SameFileMeaning ordered_meaning source_meaning
@@ -232,5 +232,5 @@ exchanged-differs same =
     ]
 
 -- a reference goes across sections: in a record of b the name of the point in a may stand for it
-across : Fits schemas.demo (kinds_of source_meaning.instances) (schema.entity 1) (parameter.name 2) (value.reference 2)
+across : Fits schemas.demo (entity_sets_of source_meaning.instances) (schema.entity 1) (parameter.name 2) (value.reference 2)
 across = an_instance 1 2 (1 ∷ 0 ∷ [], (1, omega arith, refl), (0, omega arith, refl))

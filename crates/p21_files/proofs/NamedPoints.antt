@@ -11,7 +11,7 @@ use Rattle.p21_exchange.specs.Number.{none, no_exponent, Decimal, RealForm, Spel
 use Rattle.p21_exchange.specs.Parameter.{dollar, real, no_params, param, key_of}
 use Rattle.p21_schemas.specs.PlaceType.{stored_place}
 use Rattle.p21_exchange.specs.Record.{Record, simple}
-use Rattle.p21_files.specs.Reference.{Kinds}
+use Rattle.p21_files.specs.Reference.{EntitySets}
 use Rattle.p21_schemas.specs.Schema as schema
 use Rattle.p21_exchange.specs.Token as token
 use Rattle.p21_exchange.specs.Token.{name, equals, keyword, MayFollow}
@@ -19,7 +19,7 @@ use Rattle.p21_files.specs.Value as value
 use Rattle.p21_files.specs.Value.{Values, no_values}
 use Rattle.p21_exchange.proofs.CanonicalLaying.{Laying, put, put_on_line, put_left, put_right, put_comma, put_semicolon, no_dash_left}
 use Rattle.p21_exchange.proofs.Exponents.{in_range_by}
-use Rattle.p21_files.proofs.KeptExamples.{one, one-spelled, equals_ends_digits, comma_ends_one, right_ends_one, point-leaf}
+use Rattle.p21_files.proofs.CanonicalTextExamples.{one, one-spelled, equals_ends_digits, comma_ends_one, right_ends_one, point-leaf}
 use Rattle.p21_exchange.proofs.Laying.{keyword_by, left_ends_words}
 use Rattle.p21_files.proofs.MeaningExamples.{point_set, point-is, point-only, point-means, point-stored}
 use Rattle.p21_schemas.proofs.TestSchemas.{demo, point, label, attribute, label_place, x_place, y_place}
@@ -92,10 +92,10 @@ two_values = value.value (value.real two) (value.value (value.real one) no_value
 abbrev pub two_meaning : Typed
 two_meaning = record { entities = point_set; values = two_values ∷ value.value value.missing no_values ∷ [] }
 
-a_distance : (kinds : Kinds) (d : Decimal) → FitsAt demo kinds (stored_place false (schema.defined 0)) (real d) (value.real d)
+a_distance : (kinds : EntitySets) (d : Decimal) → FitsAt demo kinds (stored_place false (schema.defined 0)) (real d) (value.real d)
 a_distance kinds d = fits.fits false (schema.defined 0) (real d) (value.real d) (as_underlying 0 schema.real (real d) (value.real d) refl (a_real d))
 
-pub two-means : (kinds : Kinds) → RecordMeans demo kinds two_record two_meaning
+pub two-means : (kinds : EntitySets) → RecordMeans demo kinds two_record two_meaning
 two-means kinds =
     let other = point-means kinds in
     record {

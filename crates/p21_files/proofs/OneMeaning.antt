@@ -14,7 +14,7 @@ use Rattle.p21_schemas.specs.PlaceType.{PlaceType, TypeAt}
 use Rattle.p21_exchange.specs.Parameter.{Key, Params, no_params, param}
 use Rattle.p21_exchange.specs.Record.{Part, Record, simple, complex}
 use Rattle.p21_files.specs.Value.{Value, Values, no_values, value, count, value_at}
-use Rattle.p21_files.specs.Reference.{Kinds}
+use Rattle.p21_files.specs.Reference.{EntitySets}
 use Rattle.p21_files.specs.Fits.{FitsAt}
 use Rattle.p21_files.specs.Meaning.{Typed, HasValueAt, FitPlaces, NamesEntity, PartMeans, MeansByMapping, HasOwnCount, RecordMeans}
 use Rattle.p21_basics.proofs.Shuffles.{NoneTwice, zip-one}
@@ -104,7 +104,7 @@ rising-none_twice s (e ∷ es) (n ∷ ns) all rise = (
 )
 
 -- two meanings that fit the same parameters at the same places have the same value at each
-FitPlaces-agree : (s : Schema) → IsWellFormed s → (kinds others : Kinds) (a b : Typed) → a.entities ≡ b.entities → (ps : List Place) (params : Params) (place : Place) → FitPlaces s kinds a ps params → FitPlaces s others b ps params → Contains ps place
+FitPlaces-agree : (s : Schema) → IsWellFormed s → (kinds others : EntitySets) (a b : Typed) → a.entities ≡ b.entities → (ps : List Place) (params : Params) (place : Place) → FitPlaces s kinds a ps params → FitPlaces s others b ps params → Contains ps place
     → (v : Value) × HasValueAt a place v × HasValueAt b place v
 FitPlaces-agree s formed kinds others a b same [] xs place fit fit_ among = absurd (Contains-none place among)
 FitPlaces-agree s formed kinds others a b same (p ∷ ps) no_params place fit fit_ among = absurd fit
@@ -120,7 +120,7 @@ FitPlaces-agree s formed kinds others a b same (p ∷ ps) (param x xs) place ((a
   | inr h ↦ FitPlaces-agree s formed kinds others a b same ps xs place more more_ h
 ]
 
-parts-agree : (s : Schema) → IsWellFormed s → (kinds others : Kinds) (a b : Typed) → a.entities ≡ b.entities → (parts : List Part) (es fs : List ℕ) (e : ℕ) (place : Place) → AllZip (PartMeans s kinds a) parts es → AllZip (PartMeans s others b) parts fs
+parts-agree : (s : Schema) → IsWellFormed s → (kinds others : EntitySets) (a b : Typed) → a.entities ≡ b.entities → (parts : List Part) (es fs : List ℕ) (e : ℕ) (place : Place) → AllZip (PartMeans s kinds a) parts es → AllZip (PartMeans s others b) parts fs
     → Contains es e → Contains (own_places s e) place → (v : Value) × HasValueAt a place v × HasValueAt b place v
 parts-agree s formed kinds others a b same parts [] fs e place all all_ among of_e = absurd (Contains-none e among)
 parts-agree s formed kinds others a b same [] (x ∷ es) fs e place all all_ among of_e = absurd all
@@ -135,13 +135,13 @@ parts-agree s formed kinds others a b same (part ∷ parts) (x ∷ es) (y ∷ fs
 ]
 
 -- the same record has the same set of entities
-entities-one : (s : Schema) → IsWellFormed s → (kinds others : Kinds) (r : Record) (a b : Typed) → RecordMeans s kinds r a → RecordMeans s others r b → a.entities ≡ b.entities
+entities-one : (s : Schema) → IsWellFormed s → (kinds others : EntitySets) (r : Record) (a b : Typed) → RecordMeans s kinds r a → RecordMeans s others r b → a.entities ≡ b.entities
 entities-one s formed kinds others r a b means means_ =
     let (ns, all, rise) = means.rising in
     let (ms, all_, rise_) = means_.rising in
     rising-one s a.entities b.entities ns ms all all_ rise rise_ (within kinds others r a b means.means means_.means) (within others kinds r b a means_.means means.means)
   where
-    same_parts : (kinds others : Kinds) (a b : Typed) (parts : List Part) (es fs : List ℕ) → AllZip (PartMeans s kinds a) parts es → AllZip (PartMeans s others b) parts fs → es ≡ fs
+    same_parts : (kinds others : EntitySets) (a b : Typed) (parts : List Part) (es fs : List ℕ) → AllZip (PartMeans s kinds a) parts es → AllZip (PartMeans s others b) parts fs → es ≡ fs
     same_parts kinds others a b [] [] [] all all_ = refl
     same_parts kinds others a b [] (e ∷ es) fs all all_ = absurd all
     same_parts kinds others a b [] [] (f ∷ fs) all all_ = absurd all_
@@ -149,7 +149,7 @@ entities-one s formed kinds others r a b means means_ =
     same_parts kinds others a b (part ∷ parts) (e ∷ es) [] all all_ = absurd all_
     same_parts kinds others a b (part ∷ parts) (e ∷ es) (f ∷ fs) all all_ = ap (λ x. x ∷ es) (NamesEntity-one s formed.entities_distinct part.key e f all.0.0 all_.0.0) ∙ ap (λ xs. f ∷ xs) (same_parts kinds others a b parts es fs all.1 all_.1)
 
-    within : (kinds others : Kinds) (r : Record) (a b : Typed) → MeansByMapping s kinds r a → MeansByMapping s others r b → (e : ℕ) → Contains a.entities e → Contains b.entities e
+    within : (kinds others : EntitySets) (r : Record) (a b : Typed) → MeansByMapping s kinds r a → MeansByMapping s others r b → (e : ℕ) → Contains a.entities e → Contains b.entities e
     within kinds others (simple part) a b means means_ e among =
         let same : means.entity ≡ means_.entity = NamesEntity-one s formed.entities_distinct part.key means.entity means_.entity means.named means_.named in
         let P : ℕ → Type 0 = λ x. IsA s x e in
@@ -160,7 +160,7 @@ entities-one s formed kinds others r a b means means_ =
         (means_.same_entities e).0 (subst P same ((means.same_entities e).1 among))
 
 -- and the same value at each place of its set
-values-agree : (s : Schema) → IsWellFormed s → (kinds others : Kinds) (r : Record) (a b : Typed) → a.entities ≡ b.entities → MeansByMapping s kinds r a → MeansByMapping s others r b → (e i : ℕ) → Contains a.entities e → i < length (attributes_of s e)
+values-agree : (s : Schema) → IsWellFormed s → (kinds others : EntitySets) (r : Record) (a b : Typed) → a.entities ≡ b.entities → MeansByMapping s kinds r a → MeansByMapping s others r b → (e i : ℕ) → Contains a.entities e → i < length (attributes_of s e)
     → (v : Value) × HasValueAt a (record { entity = e; index = i }) v × HasValueAt b (record { entity = e; index = i }) v
 values-agree s formed kinds others (simple part) a b same means means_ e i among below =
     let one_entity : means_.entity ≡ means.entity = NamesEntity-one s formed.entities_distinct part.key means_.entity means.entity means_.named means.named in
@@ -172,7 +172,7 @@ values-agree s formed kinds others (complex parts) a b same means means_ e i amo
     parts-agree s formed kinds others a b same parts means.entities means_.entities e (record { entity = e; index = i }) means.parts_mean means_.parts_mean ((means.same_entities e).1 among) (own_places-has s e i below)
 
 -- under a declared schema a record has one meaning at most, whatever the sets of the instances
-pub RecordMeans-one : (s : Schema) → IsWellFormed s → (kinds others : Kinds) (r : Record) (a b : Typed) → RecordMeans s kinds r a → RecordMeans s others r b → a ≡ b
+pub RecordMeans-one : (s : Schema) → IsWellFormed s → (kinds others : EntitySets) (r : Record) (a b : Typed) → RecordMeans s kinds r a → RecordMeans s others r b → a ≡ b
 RecordMeans-one s formed kinds others r a b means means_ =
     typed-same a b same (zip-same (HasOwnCount s) a.entities a.values b.values means.own_counts (subst (λ es. AllZip (HasOwnCount s) es b.values) (sym same) means_.own_counts) rows)
   where

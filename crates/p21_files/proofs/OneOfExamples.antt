@@ -3,7 +3,7 @@ use Rattle.std.specs.Prelude.{◌≡◌, ◌⊎◌, ℕ, ◌<◌, zero, suc, pos
 use Rattle.std.specs.List.{AllZip, IsDistinct, AllByRecursion as Each}
 use Rattle.std.specs.List.Sorted.{IsStrictlySortedBy}
 use Rattle.std.proofs.Common.{arith, inl, inr, sym, subst, ◌∙◌}
-use Rattle.p21_files.specs.CanonicalRecord.{AreRising, HasOneLeaf, IsCanonicalRecord}
+use Rattle.p21_files.specs.CanonicalRecord.{AreTextsRising, HasOneLeaf, IsCanonicalRecord}
 use Rattle.p21_files.specs.Fits as fits
 use Rattle.p21_files.specs.Fits.{a_whole}
 use Rattle.p21_files.specs.Meaning.{Typed, HasValues, NamesEntity, FitsPlace, PartMeans, RecordMeans}
@@ -11,7 +11,7 @@ use Rattle.p21_schemas.specs.OneOf.{Clashes}
 use Rattle.p21_exchange.specs.Parameter.{whole, Params, no_params, param, key_of}
 use Rattle.p21_schemas.specs.PlaceType.{TypeAt, stored_place, two_redeclarations, IsDerivedIn, IsRedeclared}
 use Rattle.p21_exchange.specs.Record.{Part, Record, simple, complex}
-use Rattle.p21_files.specs.Reference.{Kinds}
+use Rattle.p21_files.specs.Reference.{EntitySets}
 use Rattle.p21_schemas.specs.Schema as schema
 use Rattle.p21_schemas.specs.Schema.{Place, Redeclared, IsAbstract, EntityNamed}
 use Rattle.p21_schemas.specs.Supertype.{IsA, itself, above, InClosure, IsLeaf}
@@ -58,7 +58,7 @@ one_params = param (whole (pos 1)) no_params
 abbrev one_values : Values
 one_values = value.value (value.whole (pos 1)) no_values
 
-one-fits : (lists : List (List ℕ)) (kinds : Kinds) (meaning : Typed) → HasValues meaning 0 one_values → FitsPlace (sole_with lists) kinds meaning k_place (whole (pos 1))
+one-fits : (lists : List (List ℕ)) (kinds : EntitySets) (meaning : Typed) → HasValues meaning 0 one_values → FitsPlace (sole_with lists) kinds meaning k_place (whole (pos 1))
 one-fits lists kinds meaning has = (
   stored_place false schema.whole,
   value.whole (pos 1),
@@ -100,7 +100,7 @@ with_s-closed lists entities has_s f (e, among, is) = elim (sole-is_a lists e f 
 abbrev pub a_b_s : Record
 a_b_s = complex (part_of (codes "A") no_params ∷ part_of (codes "B") no_params ∷ part_of (codes "S") one_params ∷ [])
 
-pub a_and_b-mean_nothing : (kinds : Kinds) (meaning : Typed) → RecordMeans sole kinds a_b_s meaning → ⊥
+pub a_and_b-mean_nothing : (kinds : EntitySets) (meaning : Typed) → RecordMeans sole kinds a_b_s meaning → ⊥
 a_and_b-mean_nothing kinds meaning means =
     let (has_a, has_b) = both means.means.entities means.means.parts_mean in
     means.no_clash (1 ∷ 2 ∷ [], Contains-first (1 ∷ 2 ∷ []) [], (1, 2, (0, omega arith, refl), (1, omega arith, refl), omega arith, (means.means.same_entities 1).0 has_a, (means.means.same_entities 2).0 has_b))
@@ -120,7 +120,7 @@ a_and_b-mean_nothing kinds meaning means =
 abbrev pub a_b_meaning : Typed
 a_b_meaning = record { entities = 1 ∷ 2 ∷ 0 ∷ []; values = no_values ∷ no_values ∷ one_values ∷ [] }
 
-pub a_and_b-mean_without_list : (kinds : Kinds) → RecordMeans (sole_with []) kinds a_b_s a_b_meaning
+pub a_and_b-mean_without_list : (kinds : EntitySets) → RecordMeans (sole_with []) kinds a_b_s a_b_meaning
 unfolding IsStrictlySortedBy IsDistinct
 a_and_b-mean_without_list kinds = record {
   rising = (codes "A" ∷ codes "B" ∷ codes "S" ∷ [], ((below_s (codes "A"), refl, refl), ((below_s (codes "B"), refl, refl), ((s_entity, refl, refl), tt))), ((refl, (refl, tt)), ((refl, tt), (tt, tt))));
@@ -151,7 +151,7 @@ reordered f among = Each-member (Contains (1 ∷ 3 ∷ 0 ∷ [])) (0 ∷ 3 ∷ 1
 ordered : (f : ℕ) → Contains (1 ∷ 3 ∷ 0 ∷ []) f → Contains (0 ∷ 3 ∷ 1 ∷ []) f
 ordered f among = Each-member (Contains (0 ∷ 3 ∷ 1 ∷ [])) (1 ∷ 3 ∷ 0 ∷ []) f ((2, omega arith, refl), ((1, omega arith, refl), ((0, omega arith, refl), tt))) among
 
-pub a_and_c-mean : (kinds : Kinds) → RecordMeans sole kinds s_c_a a_c_meaning
+pub a_and_c-mean : (kinds : EntitySets) → RecordMeans sole kinds s_c_a a_c_meaning
 unfolding IsStrictlySortedBy IsDistinct
 a_and_c-mean kinds = record {
   rising = (codes "A" ∷ codes "C" ∷ codes "S" ∷ [], ((below_s (codes "A"), refl, refl), ((below_s (codes "C"), refl, refl), ((s_entity, refl, refl), tt))), ((refl, (refl, tt)), ((refl, tt), (tt, tt))));
@@ -173,7 +173,7 @@ a_and_c-mean kinds = record {
 abbrev a_c_s : Record
 a_c_s = complex (part_of (codes "A") no_params ∷ part_of (codes "C") no_params ∷ part_of (codes "S") one_params ∷ [])
 
-pub canonical-means : (kinds : Kinds) → RecordMeans sole kinds a_c_s a_c_meaning
+pub canonical-means : (kinds : EntitySets) → RecordMeans sole kinds a_c_s a_c_meaning
 unfolding IsDistinct
 canonical-means kinds = record {
   rising = (a_and_c-mean kinds).rising;
@@ -200,7 +200,7 @@ two_leaves (e, leaf, only) =
     let a_is : 1 ≡ e = only 1 (sub-is_leaf 1 (0, omega arith, refl) (omega arith)) in
     let c_is : 3 ≡ e = only 3 (sub-is_leaf 3 (1, omega arith, refl) (omega arith)) in omega (arith, a_is, c_is)
 
-keywords : AreRising (codes "A" ∷ codes "C" ∷ codes "S" ∷ [])
+keywords : AreTextsRising (codes "A" ∷ codes "C" ∷ codes "S" ∷ [])
 keywords zero d low high = refl
 keywords (suc zero) d low high = refl
 keywords (suc (suc k)) d low high = absurd (omega (arith, high))
@@ -212,7 +212,7 @@ a_c_s-is_canonical = record {
 }
 
 -- `A(1)` and `S(1)` have meanings
-pub a-means : (kinds : Kinds) → RecordMeans sole kinds (simple (part_of (codes "A") one_params)) (record { entities = 1 ∷ 0 ∷ []; values = no_values ∷ one_values ∷ [] })
+pub a-means : (kinds : EntitySets) → RecordMeans sole kinds (simple (part_of (codes "A") one_params)) (record { entities = 1 ∷ 0 ∷ []; values = no_values ∷ one_values ∷ [] })
 unfolding IsStrictlySortedBy
 a-means kinds = record {
   rising = (codes "A" ∷ codes "S" ∷ [], ((below_s (codes "A"), refl, refl), ((s_entity, refl, refl), tt)), ((refl, tt), (tt, tt)));
@@ -231,7 +231,7 @@ a-means kinds = record {
   };
 }
 
-pub s-means : (kinds : Kinds) → RecordMeans sole kinds (simple (part_of (codes "S") one_params)) (record { entities = 0 ∷ []; values = one_values ∷ [] })
+pub s-means : (kinds : EntitySets) → RecordMeans sole kinds (simple (part_of (codes "S") one_params)) (record { entities = 0 ∷ []; values = one_values ∷ [] })
 unfolding IsStrictlySortedBy
 s-means kinds = record {
   rising = (codes "S" ∷ [], ((s_entity, refl, refl), tt), (tt, tt));

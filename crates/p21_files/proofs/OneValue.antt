@@ -8,7 +8,7 @@ use Rattle.p21_schemas.specs.PlaceType.{PlaceType}
 use Rattle.p21_schemas.specs.Select.{Offers, offered, offered_within}
 use Rattle.p21_exchange.specs.Parameter.{Param, dollar as p_dollar, Params}
 use Rattle.p21_files.specs.Value.{Value, number, missing, list, array, set, bag, typed, Values, value}
-use Rattle.p21_files.specs.Reference.{Kinds}
+use Rattle.p21_files.specs.Reference.{EntitySets}
 use Rattle.p21_files.specs.Fits.{Fits, a_whole, a_real, a_number, a_whole_number, a_boolean, a_logical, a_text, a_binary, an_instance, as_underlying, an_item, a_chosen_instance, a_chosen_type, an_array, a_list, a_set, a_bag, FitEach, none_left, fits_next, empty_next, FitsAt, star, dollar, fits}
 use Rattle.p21_schemas.specs.WellFormed.{HasDistinctTypes}
 use Rattle.p21_exchange.proofs.Ratios.{ratio-transitive, ratio-positive}
@@ -24,11 +24,11 @@ pub alias_offers_nothing : (s : Schema) (t : ℕ) (type : TypeUse) (m : Member) 
 alias_offers_nothing s t type m is offers = let (members, is_choice) = offers_choice s t m offers in let h : Some (alias type) ≡ Some (choice members) = sym is ∙ is_choice in cc
 
 -- no type takes `$`
-pub dollar-fits_nothing : (s : Schema) (kinds : Kinds) (type : TypeUse) (v : Value) → Fits s kinds type p_dollar v → ⊥
+pub dollar-fits_nothing : (s : Schema) (kinds : EntitySets) (type : TypeUse) (v : Value) → Fits s kinds type p_dollar v → ⊥
 dollar-fits_nothing s kinds type v (as_underlying t under _ _ is fit) = dollar-fits_nothing s kinds under v fit
 
 mutual
-  pub Fits-one_value : (s : Schema) (kinds others : Kinds) → HasDistinctTypes s → (type : TypeUse) (p : Param) (v w : Value) → Fits s kinds type p v → Fits s others type p w → v ≡ w
+  pub Fits-one_value : (s : Schema) (kinds others : EntitySets) → HasDistinctTypes s → (type : TypeUse) (p : Param) (v w : Value) → Fits s kinds type p v → Fits s others type p w → v ≡ w
   Fits-one_value s kinds others distinct type p v w (a_whole _) (a_whole _) = refl
   Fits-one_value s kinds others distinct type p v w (a_real _) (a_real _) = refl
   Fits-one_value s kinds others distinct type p v w (a_number _) (a_number _) = refl
@@ -60,7 +60,7 @@ mutual
   Fits-one_value s kinds others distinct type p v w (a_set _ _ element ps vs each _ _) (a_set _ _ _ _ ws each_ _ _) = ap set (FitEach-one_value s kinds others distinct false element ps vs ws each each_)
   Fits-one_value s kinds others distinct type p v w (a_bag _ _ element ps vs each _) (a_bag _ _ _ _ ws each_ _) = ap bag (FitEach-one_value s kinds others distinct false element ps vs ws each each_)
 
-  pub FitEach-one_value : (s : Schema) (kinds others : Kinds) → HasDistinctTypes s → (optional : Bool) (type : TypeUse) (ps : Params) (vs ws : Values) → FitEach s kinds optional type ps vs → FitEach s others optional type ps ws → vs ≡ ws
+  pub FitEach-one_value : (s : Schema) (kinds others : EntitySets) → HasDistinctTypes s → (optional : Bool) (type : TypeUse) (ps : Params) (vs ws : Values) → FitEach s kinds optional type ps vs → FitEach s others optional type ps ws → vs ≡ ws
   FitEach-one_value s kinds others distinct optional type ps vs ws (none_left _ _) (none_left _ _) = refl
   FitEach-one_value s kinds others distinct optional type ps vs ws (fits_next _ _ p v ps_ vs_ fit each) (fits_next _ _ _ w _ ws_ fit_ each_) =
       ap (λ x. value x vs_) (Fits-one_value s kinds others distinct type p v w fit fit_) ∙ ap (value w) (FitEach-one_value s kinds others distinct optional type ps_ vs_ ws_ each each_)
@@ -69,7 +69,7 @@ mutual
   FitEach-one_value s kinds others distinct optional type ps vs ws (empty_next _ ps_ vs_ each) (empty_next _ _ ws_ each_) = ap (value missing) (FitEach-one_value s kinds others distinct true type ps_ vs_ ws_ each each_)
 
 -- at one type of a place a parameter stands for at most one value, whatever the sets of the instances
-pub FitsAt-one_value : (s : Schema) (kinds others : Kinds) → HasDistinctTypes s → (at : PlaceType) (p : Param) (v w : Value) → FitsAt s kinds at p v → FitsAt s others at p w → v ≡ w
+pub FitsAt-one_value : (s : Schema) (kinds others : EntitySets) → HasDistinctTypes s → (at : PlaceType) (p : Param) (v w : Value) → FitsAt s kinds at p v → FitsAt s others at p w → v ≡ w
 FitsAt-one_value s kinds others distinct at p v w star star = refl
 FitsAt-one_value s kinds others distinct at p v w (dollar _) (dollar _) = refl
 FitsAt-one_value s kinds others distinct at p v w (dollar type) (fits _ _ _ _ fit) = absurd (dollar-fits_nothing s others type w fit)

@@ -7,7 +7,7 @@ use Rattle.p21_exchange.specs.Record.{Part}
 use Rattle.p21_files.specs.SameValue.{SameInOrder}
 use Rattle.p21_files.specs.Meaning.{Typed}
 use Rattle.p21_files.specs.File.{FileMeaning}
-use Rattle.p21_files.specs.SameFile.{HaveSameMembers, SameParam, both_dollar, both_star, same_wholes, same_reals, same_texts, same_names, same_items, same_bits, same_lists, same_typed, SameParams, both_end, both_next, SamePart, SameTyped, AreAmong, SameFileMeaning}
+use Rattle.p21_files.specs.SameFile.{HaveSameMembers, SameParam, both_dollar, both_star, same_wholes, same_reals, same_texts, same_names, same_items, same_bits, same_lists, same_typed, SameParams, both_end, both_next, SamePart, SameTyped, AreInstancesAmong, SameFileMeaning}
 use Rattle.p21_files.proofs.Sameness.{SameInOrder-reflexive, SameInOrder-symmetric}
 use Rattle.p21_files.proofs.Transitive.{SameInOrder-transitive}
 use Rattle.p21_exchange.proofs.Ratios.{decimals-transitive}
@@ -87,7 +87,7 @@ SameFileMeaning-reflexive m = record {
   instance_sections = HaveSameMembers-reflexive m.instance_sections;
 }
   where
-    own : AreAmong m.instances m.instances
+    own : AreInstancesAmong m.instances m.instances
     own n x among = (x, among, SameTyped-reflexive x)
 
 pub SameFileMeaning-symmetric : (a b : FileMeaning) → SameFileMeaning a b → SameFileMeaning b a
@@ -131,7 +131,7 @@ SamePart-transitive a b c first second = (first.0 ∙ second.0, SameParams-trans
 pub SameTyped-transitive : (x y z : Typed) → SameTyped x y → SameTyped y z → SameTyped x z
 SameTyped-transitive x y z first second = (first.0 ∙ second.0, AllZip-transitive SameInOrder (λ us vs ws. SameInOrder-transitive vs us ws) x.values y.values z.values first.1 second.1)
 
-AreAmong-transitive : (a b c : List (ℕ × Typed)) → AreAmong a b → AreAmong b c → AreAmong a c
+AreAmong-transitive : (a b c : List (ℕ × Typed)) → AreInstancesAmong a b → AreInstancesAmong b c → AreInstancesAmong a c
 AreAmong-transitive a b c first second n x among =
     let (y, among_b, same) = first n x among in
     let (z, among_c, same_) = second n y among_b in

@@ -12,7 +12,7 @@ use Rattle.p21_exchange.specs.Parameter.{Params, no_params, param, key_of}
 use Rattle.p21_exchange.specs.Record.{Part, Record, part_tokens}
 use Rattle.p21_files.specs.SameFile.{SameFileMeaning}
 use Rattle.p21_exchange.specs.Statement.{section, header, begin, header_start, section_end, data_start, section_tokens}
-use Rattle.p21_exchange.specs.Structure.{Structure, AreFirst}
+use Rattle.p21_exchange.specs.Structure.{Structure, AreFirstStatements}
 use Rattle.p21_exchange.specs.Token.{Token}
 use Rattle.p21_basics.proofs.Members.{Contains-cases, Contains-first, Contains-none}
 use Rattle.p21_schemas.proofs.SchemaNames.{one_schema_name, other_name}
@@ -136,5 +136,5 @@ schema_text-differs = only_sections-differ (named (codes "a") (codes "DEMO")) (n
     first_letter (named name text) = get_or text 0 0
 
 -- behind the header no header record stands in a tree: so `DATA('a',('DEMO'));` there is a section line, and is not kept
-as_record : (t : Structure) (part : Part) → AreFirst (section begin ∷ section header_start ∷ section section_end ∷ header part ∷ []) t → ⊥
+as_record : (t : Structure) (part : Part) → AreFirstStatements (section begin ∷ section header_start ∷ section section_end ∷ header part ∷ []) t → ⊥
 as_record t part first = first-in_order (section begin ∷ section header_start ∷ section section_end ∷ header part ∷ []) t first

@@ -6,7 +6,7 @@ use Rattle.p21_exchange.specs.Parameter.{Param, listed}
 use Rattle.p21_exchange.specs.Record.{Part, Record, simple, complex, parts_of}
 use Rattle.p21_files.specs.BrokenValue.{BreaksAtPlace}
 use Rattle.p21_files.specs.Meaning.{NamesEntity}
-use Rattle.p21_files.specs.RecordPlaces.{HasPart, IsInSet, IsSetOf, part_places, StandsAt}
+use Rattle.p21_files.specs.RecordPlaces.{HasPart, IsInEntitySet, IsEntitySetOf, part_places, HasParamAt}
 use Rattle.p21_schemas.specs.OneOf.{Clashes}
 use Rattle.p21_schemas.specs.Order.{own_places}
 use Rattle.p21_schemas.specs.PlaceType.{PlaceType, two_redeclarations, TypeAt}
@@ -24,19 +24,19 @@ HasPartTwice record_ = (i j : ℕ) × (part other : Part) × (i ≢ j) × (slice
 -- in external mapping no simple record has a keyword that names this entity of the set
 abbrev pub MissesPart : Schema → Record → Type 0
 MissesPart s (simple part) = ⊥
-MissesPart s (complex parts) = (f : ℕ) × IsInSet s (complex parts) f × ((part : Part) → ¬ HasPart s (complex parts) part f)
+MissesPart s (complex parts) = (f : ℕ) × IsInEntitySet s (complex parts) f × ((part : Part) → ¬ HasPart s (complex parts) part f)
 
 -- a leaf of the set is abstract
 abbrev pub HasAbstractLeaf : Schema → Record → Type 0
-HasAbstractLeaf s record_ = (entities : List ℕ) × (e : ℕ) × IsSetOf s record_ entities × IsLeaf s entities e × IsAbstract s e
+HasAbstractLeaf s record_ = (entities : List ℕ) × (e : ℕ) × IsEntitySetOf s record_ entities × IsLeaf s entities e × IsAbstract s e
 
 -- the set holds two different entities of one ONEOF list
 abbrev pub HasClash : Schema → Record → Type 0
-HasClash s record_ = (entities : List ℕ) × IsSetOf s record_ entities × Clashes s entities
+HasClash s record_ = (entities : List ℕ) × IsEntitySetOf s record_ entities × Clashes s entities
 
 -- redeclarations leave a place of the set open
 abbrev pub HasTwoRedeclarations : Schema → Record → Type 0
-HasTwoRedeclarations s record_ = (entities : List ℕ) × (e : ℕ) × (place : Place) × IsSetOf s record_ entities × Contains entities e × Contains (own_places s e) place × TypeAt s entities place two_redeclarations
+HasTwoRedeclarations s record_ = (entities : List ℕ) × (e : ℕ) × (place : Place) × IsEntitySetOf s record_ entities × Contains entities e × Contains (own_places s e) place × TypeAt s entities place two_redeclarations
 
 -- a simple record has not as many parameters as places
 abbrev pub HasWrongCount : Schema → Record → Type 0
@@ -45,7 +45,7 @@ HasWrongCount s record_ = (part : Part) × (e : ℕ) × HasPart s record_ part e
 -- the parameter at some place breaks the rule of this number there
 abbrev pub HasBrokenPlace : Schema → Record → ℕ → Type 0
 HasBrokenPlace s record_ number =
-    (entities : List ℕ) × (place : Place) × (at : PlaceType) × (p : Param) × IsSetOf s record_ entities × TypeAt s entities place at × StandsAt s record_ place p × BreaksAtPlace s at p number
+    (entities : List ℕ) × (place : Place) × (at : PlaceType) × (p : Param) × IsEntitySetOf s record_ entities × TypeAt s entities place at × HasParamAt s record_ place p × BreaksAtPlace s at p number
 
 -- The record breaks the rule of this number. A record of external mapping with no simple record breaks none: it is none of
 -- a file, and a reader of files makes none

@@ -7,7 +7,7 @@ use Rattle.p21_exchange.specs.Parameter as parameter
 use Rattle.p21_exchange.specs.Parameter.{Param, Params, key_of, listed}
 use Rattle.p21_files.specs.Fits.{FitEach}
 use Rattle.p21_files.specs.ParameterKind.{TakesKind, HasItems, HasWidth, AllowsCount, element_type, IsUnique}
-use Rattle.p21_files.specs.Reference.{Kinds}
+use Rattle.p21_files.specs.Reference.{EntitySets}
 use Rattle.p21_files.specs.SameValue.{AreDistinct}
 use Rattle.p21_files.specs.Value.{Values}
 use Rattle.p21_schemas.specs.PlaceType.{PlaceType, derived_place, stored_place}
@@ -16,19 +16,19 @@ use Rattle.p21_schemas.specs.Schema.{Schema, TypeUse, type_member, alias, TypeNa
 use Rattle.p21_schemas.specs.Select.{IsSelect, Offers}
 
 -- the type is a select
-abbrev pub IsChoice : Schema → TypeUse → Type 0
-IsChoice s (schema.defined t) = IsSelect s t
-IsChoice s other = ⊥
+abbrev pub UsesSelect : Schema → TypeUse → Type 0
+UsesSelect s (schema.defined t) = IsSelect s t
+UsesSelect s other = ⊥
 
 -- the parameter is neither `$` nor `*`, and the type takes none of its kind
-abbrev pub IsNotTaken : Schema → TypeUse → Param → Type 0
-IsNotTaken s type p = (p ≢ parameter.dollar) × (p ≢ parameter.star) × ¬ TakesKind s type p
+abbrev pub IsOfWrongKind : Schema → TypeUse → Param → Type 0
+IsOfWrongKind s type p = (p ≢ parameter.dollar) × (p ≢ parameter.star) × ¬ TakesKind s type p
 
 -- the elements of a list at an aggregate in which no two may be the same stand for values, among some instances, two of
 -- which are the same
 abbrev pub HasSameElements : Schema → TypeUse → Params → Type 0
 HasSameElements s type ps =
-    IsUnique type × ((optional : Bool) × (element : TypeUse) × (element_type type ≡ Some (optional, element)) × ((kinds : Kinds) × (vs : Values) × FitEach s kinds optional element ps vs × ¬ AreDistinct vs))
+    IsUnique type × ((optional : Bool) × (element : TypeUse) × (element_type type ≡ Some (optional, element)) × ((kinds : EntitySets) × (vs : Values) × FitEach s kinds optional element ps vs × ¬ AreDistinct vs))
 
 -- where a value of the type is wanted, the parameter itself breaks the rule of this number
 pub data BreaksAt (s : Schema) : TypeUse → Param → ℕ → Type 0 where
@@ -37,8 +37,8 @@ pub data BreaksAt (s : Schema) : TypeUse → Param → ℕ → Type 0 where
   missing : (type : TypeUse) → BreaksAt s type parameter.dollar 46
   star_not_derived : (type : TypeUse) → BreaksAt s type parameter.star 47
   -- of a kind that the type does not take; a select also asks for the keyword of one of its types
-  wrong_kind : (type : TypeUse) (p : Param) → IsNotTaken s type p → ¬ IsChoice s type → BreaksAt s type p 49
-  select_type : (type : TypeUse) (p : Param) → IsNotTaken s type p → IsChoice s type → BreaksAt s type p 54
+  wrong_kind : (type : TypeUse) (p : Param) → IsOfWrongKind s type p → ¬ UsesSelect s type → BreaksAt s type p 49
+  select_type : (type : TypeUse) (p : Param) → IsOfWrongKind s type p → UsesSelect s type → BreaksAt s type p 54
   -- more characters or bits than the width of the type, or where it is FIXED another number of them
   wrong_width : (type : TypeUse) (p : Param) → ¬ HasWidth type p → BreaksAt s type p 50
   -- another number of elements than the bounds of the aggregate allow

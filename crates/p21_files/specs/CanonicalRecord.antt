@@ -15,8 +15,8 @@ use Rattle.p21_files.specs.Value as value
 use Rattle.p21_files.specs.Value.{Value, Values}
 
 -- byte by byte no text stands behind one that is above it; a text is below what it begins
-abbrev pub AreRising : List (List ℕ) → Type 0
-AreRising texts = IsSorted (slice_cmp nat_cmp) texts
+abbrev pub AreTextsRising : List (List ℕ) → Type 0
+AreTextsRising texts = IsSorted (slice_cmp nat_cmp) texts
 
 -- a set or a bag
 abbrev pub HasNoOrder : Value → Type 0
@@ -38,16 +38,16 @@ elements (value.bag vs) = vs
 elements other = value.no_values
 
 -- the value that has a type's keyword; no other value is written as a typed parameter
-abbrev pub untyped : Value → Value
-untyped (value.typed t v) = v
-untyped other = other
+abbrev pub untyped_value : Value → Value
+untyped_value (value.typed t v) = v
+untyped_value other = other
 
 -- A parameter that means this value is canonical: the texts of a set or a bag rise, at any depth, and a NUMBER is written as a real
 abbrev mutual
   pub IsCanonicalParam : Param → Value → Type 0
   IsCanonicalParam (whole z) v = IsNumber v → ⊥
-  IsCanonicalParam (list ps) v = AreCanonicalParams ps (elements v) × (HasNoOrder v → AreRising (param_texts ps))
-  IsCanonicalParam (typed key p) v = IsCanonicalParam p (untyped v)
+  IsCanonicalParam (list ps) v = AreCanonicalParams ps (elements v) × (HasNoOrder v → AreTextsRising (param_texts ps))
+  IsCanonicalParam (typed key p) v = IsCanonicalParam p (untyped_value v)
   IsCanonicalParam other v = Unit {0}
 
   pub AreCanonicalParams : Params → Values → Type 0
@@ -63,7 +63,7 @@ HasOneLeaf s entities = (e : ℕ) × IsLeaf s entities e × ((f : ℕ) → IsLea
 -- in internal mapping where the set has one leaf, else in external mapping with keywords that rise
 abbrev pub IsCanonicalForm : Schema → Record → Typed → Type 0
 IsCanonicalForm s (simple part) meaning = HasOneLeaf s meaning.entities
-IsCanonicalForm s (complex parts) meaning = (HasOneLeaf s meaning.entities → ⊥) × AreRising (map (λ (part : Part). part.key.word) parts)
+IsCanonicalForm s (complex parts) meaning = (HasOneLeaf s meaning.entities → ⊥) × AreTextsRising (map (λ (part : Part). part.key.word) parts)
 
 -- the parameters at places one by one, at the values that the meaning has there
 abbrev pub AreCanonicalAt : Typed → List Place → Params → Type 0

@@ -4,7 +4,7 @@ use Rattle.std.specs.List.{AllZip, IsDistinct, flat_map, AllByRecursion as Each}
 use Rattle.std.specs.Str.{bytes_eq}
 use Rattle.p21_exchange.specs.DataSection.{Heading, unnamed, named, DataSection, headings, instances_in, section_names}
 use Rattle.p21_exchange.specs.Grammar.{InGrammar}
-use Rattle.p21_files.specs.Reference.{Kinds}
+use Rattle.p21_files.specs.Reference.{EntitySets}
 use Rattle.p21_files.specs.Meaning.{Typed, RecordMeans}
 use Rattle.p21_exchange.specs.Record.{Part, Record}
 use Rattle.p21_schemas.specs.Schema.{Schema}
@@ -21,16 +21,16 @@ pub record FileMeaning : Type 0 where
   pub instance_sections : List (ℕ × Heading)
 
 -- the set of entities of each instance
-abbrev pub kinds_of : List (ℕ × Typed) → Kinds
-kinds_of instances = map (λ i. (i.0, i.1.entities)) instances
+abbrev pub entity_sets_of : List (ℕ × Typed) → EntitySets
+entity_sets_of instances = map (λ i. (i.0, i.1.entities)) instances
 
 -- an instance means this under the same name
-abbrev pub InstanceMeans : Schema → Kinds → ℕ × Record → ℕ × Typed → Type 0
+abbrev pub InstanceMeans : Schema → EntitySets → ℕ × Record → ℕ × Typed → Type 0
 InstanceMeans s kinds written meant = (meant.0 ≡ written.0) × RecordMeans s kinds written.1 meant.1
 
 -- each instance name of a section, with its heading
-abbrev pub placed_in : DataSection → List (ℕ × Heading)
-placed_in x = map (λ i. (i.0, x.heading)) x.instances
+abbrev pub names_with_heading : DataSection → List (ℕ × Heading)
+names_with_heading x = map (λ i. (i.0, x.heading)) x.instances
 
 -- a section with a name names the schema by its schema text
 abbrev pub HeadingNamesSchema : List ℕ → Heading → Type 0
@@ -47,8 +47,8 @@ pub record Reads (s : Schema) (bytes : List ℕ) (meaning : FileMeaning) : Type 
   pub sections_name_schema : Each (HeadingNamesSchema s.name) (headings structure.sections)
   pub section_names_differ : IsDistinct bytes_eq (section_names (headings structure.sections))
   pub names_differ : IsDistinct nat_eq (map (λ i. i.0) (instances_in structure.sections))
-  pub means : AllZip (InstanceMeans s (kinds_of meaning.instances)) (instances_in structure.sections) meaning.instances
+  pub means : AllZip (InstanceMeans s (entity_sets_of meaning.instances)) (instances_in structure.sections) meaning.instances
   pub header_is : meaning.header ≡ structure.header
   pub schema_is : meaning.schema ≡ s.name
   pub sections_are : meaning.sections ≡ headings structure.sections
-  pub instance_sections_are : meaning.instance_sections ≡ flat_map placed_in structure.sections
+  pub instance_sections_are : meaning.instance_sections ≡ flat_map names_with_heading structure.sections

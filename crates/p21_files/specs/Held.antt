@@ -2,7 +2,7 @@
 -- of ISO 10303-21).
 use Rattle.std.specs.Prelude.{◌≡◌, ℕ, List, [], length}
 use Rattle.std.specs.List.{flat_map}
-use Rattle.p21_files.specs.Kept.{AreKept}
+use Rattle.p21_files.specs.CanonicalTexts.{HaveCanonicalSize}
 use Rattle.p21_exchange.specs.Grammar.{IsFile}
 use Rattle.p21_exchange.specs.Laying.{tokens_in}
 use Rattle.p21_exchange.specs.OpenNesting.{IsDepth}
@@ -10,7 +10,7 @@ use Rattle.p21_exchange.specs.Pending.{IsPending}
 use Rattle.p21_files.specs.Reference.{record_references}
 use Rattle.p21_schemas.specs.Schema.{Schema}
 use Rattle.p21_exchange.specs.Statement.{Statement, instance, statement_tokens}
-use Rattle.p21_exchange.specs.Structure.{Structure, AreFirst}
+use Rattle.p21_exchange.specs.Structure.{Structure, AreFirstStatements}
 
 -- token bytes of the open statement; open lists and typed parameters; bytes of canonical statements; references
 pub record Held : Type 0 where
@@ -33,7 +33,7 @@ pub record IsHeld (s : Schema) (taken : List ℕ) (held : Held) : Type 0 where
   pub structure : Structure
   pub schema_text : List ℕ
   pub is_file : IsFile structure schema_text
-  pub are_first : AreFirst statements structure
+  pub are_first : AreFirstStatements statements structure
   pub ended_are : depth.open_statement.ended ≡ flat_map statement_tokens statements
-  pub kept : AreKept s statements held.kept
+  pub kept : HaveCanonicalSize s statements held.kept
   pub needs : held.needs ≡ length (flat_map statement_references statements)

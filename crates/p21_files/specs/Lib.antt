@@ -12,7 +12,7 @@ pub mod SameFile
 pub mod CanonicalRecord
 pub mod Canonical
 pub mod Accepted
-pub mod Kept
+pub mod CanonicalTexts
 pub mod Held
 pub mod ValueText
 pub mod Sorting

@@ -1,7 +1,7 @@
 -- The kinds of parameters that a type takes, and what its elements, its items and their number are, whatever the values
 -- (ISO 10303-21, Mapping of EXPRESS data types).
 use Rattle.std.specs.Prelude.{◌≡◌, ℕ, ◌+◌, ℤ, Bool, true, false, List, length, Option, Some, None}
-use Rattle.p21_files.specs.Fits.{boolean_items, logical_items, IsBounded, IsWithin}
+use Rattle.p21_files.specs.Fits.{boolean_items, logical_items, IsWithinBounds, IsWithinWidth}
 use Rattle.p21_exchange.specs.Number.{Decimal}
 use Rattle.p21_exchange.specs.Parameter as parameter
 use Rattle.p21_exchange.specs.Parameter.{Param, Params, key_of}
@@ -38,16 +38,16 @@ pub data HasItems (s : Schema) : TypeUse → List (List ℕ) → Type 0 where
 
 -- characters or bits within the width of the type
 abbrev pub HasWidth : TypeUse → Param → Type 0
-HasWidth (schema.text width) (parameter.text chars) = IsWithin width (length chars)
-HasWidth (schema.bits width) (parameter.bits bs) = IsWithin width (length bs)
+HasWidth (schema.text width) (parameter.text chars) = IsWithinWidth width (length chars)
+HasWidth (schema.bits width) (parameter.bits bs) = IsWithinWidth width (length bs)
 HasWidth other p = Unit {0}
 
 -- a number of elements that the bounds of an aggregate allow; an array has one for each index
 abbrev pub AllowsCount : TypeUse → ℕ → Type 0
 AllowsCount (schema.array low high optional unique type) n = n + low ≡ high + 1
-AllowsCount (schema.list low high unique type) n = IsBounded low high n
-AllowsCount (schema.set low high type) n = IsBounded low high n
-AllowsCount (schema.bag low high type) n = IsBounded low high n
+AllowsCount (schema.list low high unique type) n = IsWithinBounds low high n
+AllowsCount (schema.set low high type) n = IsWithinBounds low high n
+AllowsCount (schema.bag low high type) n = IsWithinBounds low high n
 AllowsCount other n = Unit {0}
 
 -- the type of the elements of an aggregate, and whether a place of it may be empty

@@ -14,12 +14,12 @@ abbrev pub HasPart : Schema → Record → Part → ℕ → Type 0
 HasPart s record_ part e = Contains (parts_of record_) part × NamesEntity s part.key e
 
 -- the entities that its keywords name, and all direct and indirect supertypes of them
-abbrev pub IsInSet : Schema → Record → ℕ → Type 0
-IsInSet s record_ f = (part : Part) × (e : ℕ) × HasPart s record_ part e × IsA s e f
+abbrev pub IsInEntitySet : Schema → Record → ℕ → Type 0
+IsInEntitySet s record_ f = (part : Part) × (e : ℕ) × HasPart s record_ part e × IsA s e f
 
 -- the entities are the set of the record
-abbrev pub IsSetOf : Schema → Record → List ℕ → Type 0
-IsSetOf s record_ entities = (f : ℕ) → Contains entities f ↔ IsInSet s record_ f
+abbrev pub IsEntitySetOf : Schema → Record → List ℕ → Type 0
+IsEntitySetOf s record_ entities = (f : ℕ) → Contains entities f ↔ IsInEntitySet s record_ f
 
 -- the places of a simple record whose keyword names the entity: in internal mapping those of the entity's order, in
 -- external mapping those that it declares itself
@@ -28,5 +28,5 @@ part_places s (simple part) e = places s e
 part_places s (complex parts) e = own_places s e
 
 -- the parameter stands at the place
-abbrev pub StandsAt : Schema → Record → Place → Param → Type 0
-StandsAt s record_ place p = (part : Part) × (e : ℕ) × HasPart s record_ part e × Contains (zip (part_places s record_ e) (listed part.params)) (place, p)
+abbrev pub HasParamAt : Schema → Record → Place → Param → Type 0
+HasParamAt s record_ place p = (part : Part) × (e : ℕ) × HasPart s record_ part e × Contains (zip (part_places s record_ e) (listed part.params)) (place, p)

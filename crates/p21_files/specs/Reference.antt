@@ -9,8 +9,8 @@ use Rattle.p21_exchange.specs.Parameter.{Param, Params, no_params, param}
 use Rattle.p21_exchange.specs.Record.{Record, simple, complex}
 
 -- the instances of a file, each by its name with its set of entities
-abbrev pub Kinds : Type 0
-Kinds = List (ℕ × List ℕ)
+abbrev pub EntitySets : Type 0
+EntitySets = List (ℕ × List ℕ)
 
 -- a reference, by the instance name and the entity or select that is wanted there
 pub record Need : Type 0 where
@@ -23,7 +23,7 @@ Serves s (entity_member e) entities = Contains entities e
 Serves s (type_member t) entities = (e : ℕ) × Offers s t (entity_member e) × Contains entities e
 
 -- the instance of this name has a set that may stand there
-abbrev pub IsServed : Schema → Kinds → Need → Type 0
+abbrev pub IsServed : Schema → EntitySets → Need → Type 0
 IsServed s kinds need = (entities : List ℕ) × Contains kinds (need.target, entities) × Serves s need.wanted entities
 
 -- the instance names in parameters, as they stand

@@ -36,8 +36,8 @@ abbrev pub SameTyped : Typed → Typed → Type 0
 SameTyped a b = (a.entities ≡ b.entities) × AllZip SameInOrder a.values b.values
 
 -- each instance of the first has its name and meaning in the second
-abbrev pub AreAmong : List (ℕ × Typed) → List (ℕ × Typed) → Type 0
-AreAmong first second = (n : ℕ) (x : Typed) → Contains first (n, x) → (y : Typed) × Contains second (n, y) × SameTyped x y
+abbrev pub AreInstancesAmong : List (ℕ × Typed) → List (ℕ × Typed) → Type 0
+AreInstancesAmong first second = (n : ℕ) (x : Typed) → Contains first (n, x) → (y : Typed) × Contains second (n, y) × SameTyped x y
 
 -- the same members, in whatever order they stand
 abbrev pub HaveSameMembers : {A : Type 0} → List A → List A → Type 0
@@ -49,6 +49,6 @@ pub record SameFileMeaning (a b : FileMeaning) : Type 0 where
   pub header : AllZip SamePart a.header b.header
   pub schema : a.schema ≡ b.schema
   pub sections : HaveSameMembers a.sections b.sections
-  pub onto : AreAmong a.instances b.instances
-  pub back : AreAmong b.instances a.instances
+  pub onto : AreInstancesAmong a.instances b.instances
+  pub back : AreInstancesAmong b.instances a.instances
   pub instance_sections : HaveSameMembers a.instance_sections b.instance_sections

@@ -21,11 +21,11 @@ use Rattle.p21_grammar.specs.Held.{Held}
 use Rattle.p21_grammar.specs.Histories.{Stands}
 use Rattle.p21_grammar.specs.Runs.{ready_tokens, head_tokens, opening_tokens, stack_tokens, row_tokens, pending}
 use Rattle.p21_grammar.specs.Sound.{IsSound}
-use Rattle.p21_grammar_machine.specs.Machine.{Opening, part_row, list_row, typed_row, Open, open_at, Spot, idle, line, named as name_taken, equal, inside, keyed, next, word, behind, record_end, instance_end, depth_of}
-use Rattle.p21_grammar_machine.specs.Place.{is_in_data, walk}
-use Rattle.p21_grammar_machine.specs.declared.fault.GrammarFault.{GrammarFault}
-use Rattle.p21_grammar_machine.specs.declared.place.Place.{Place}
-use Rattle.p21_grammar_machine.specs.declared.place.Place.TheVariants.{Start, Unnamed, Named}
+use Rattle.p21_grammar.specs.Machine.{Opening, part_row, list_row, typed_row, Open, open_at, Spot, idle, line, named as name_taken, equal, inside, keyed, next, word, behind, record_end, instance_end, depth_of}
+use Rattle.p21_grammar.specs.Stage.{is_in_data, walk}
+use Rattle.p21_grammar.specs.declared.fault.GrammarFault.{GrammarFault}
+use Rattle.p21_grammar.specs.declared.stage.Stage.{Stage}
+use Rattle.p21_grammar.specs.declared.stage.Stage.TheVariants.{Start, Unnamed, Named}
 
 -- ---- where no token is held, no statement is open
 
@@ -65,7 +65,7 @@ pending-none (instance_end n r) e = cc
 
 -- ---- instances more
 
-instances-walk : (instances : List (ℕ × Record)) (p : Place) → is_in_data p ≡ true → walk (instances_of instances) p ≡ Ok p
+instances-walk : (instances : List (ℕ × Record)) (p : Stage) → is_in_data p ≡ true → walk (instances_of instances) p ≡ Ok p
 instances-walk instances Unnamed e = ap (λ z. walk z Unnamed) (sym (append-nil (instances_of instances))) ∙ unnamed-walk instances []
 instances-walk instances Named e = ap (λ z. walk z Named) (sym (append-nil (instances_of instances))) ∙ named-walk instances []
 instances-walk instances other e = absurd cc
@@ -81,7 +81,7 @@ stands-for-more held is flat history instances stands are =
     let before : history.taken ≡ flat_map statement_tokens history.given = live.taken_are ∙ ap (λ z. flat_map statement_tokens history.given ++ z) is.pending ∙ append-nil (flat_map statement_tokens history.given) in
     let now : taken ≡ flat_map statement_tokens given = ap (λ z. z ++ more) before ∙ sym (flat_map-append statement_tokens history.given (instances_of instances)) in
     let behind_none : taken ≡ flat_map statement_tokens given ++ [] = now ∙ sym (append-nil (flat_map statement_tokens given)) in
-    let leads : walk given Start ≡ Ok held.place = walk-append history.given (instances_of instances) Start held.place held.place live.leads (instances-walk instances held.place is.in_data) in
+    let leads : walk given Start ≡ Ok held.stage = walk-append history.given (instances_of instances) Start held.stage held.stage live.leads (instances-walk instances held.stage is.in_data) in
     let sound : Each IsSound given =
     Each-append IsSound history.given (instances_of instances) live.sound (subst (Each IsSound) (append-nil (instances_of instances)) (instances-sound instances [] are tt)) in
     let depth_now : IsDepth taken held.depth = record {
@@ -96,12 +96,12 @@ stands-for-more held is flat history instances stands are =
           depth_now,
           λ none. record { taken_are = behind_none ∙ ap (λ z. flat_map statement_tokens given ++ z) (sym is.pending); leads = leads; sound = sound },
         );
-        given_first = given_first taken given held.place idle (history-ran held.place idle refl taken given behind_none leads sound);
+        given_first = given_first taken given held.stage idle (history-ran held.stage idle refl taken given behind_none leads sound);
         of_file = tt;
         depth_is = depth_now;
         ended_are = refl;
       };
-      of_file = begin_file taken given held.place now leads sound;
+      of_file = begin_file taken given held.stage now leads sound;
     }
 
 -- ---- what a parser answers
@@ -114,7 +114,7 @@ some-is : (refused : Option GrammarFault) → true ≡ is_some refused → refus
 some-is None e none = absurd cc
 some-is (Some fault) e none = absurd cc
 
-module _ (p : Place) (sp : Spot) (depth : ℕ) (refused : Option GrammarFault) (held : Held) (same : held_at p sp depth refused ≡ held) where
+module _ (p : Stage) (sp : Spot) (depth : ℕ) (refused : Option GrammarFault) (held : Held) (same : held_at p sp depth refused ≡ held) where
   is-between : refused ≡ None → is_in_data p ≡ true → sp ≡ idle → IsBetweenInstances held
   is-between none in_data at_rest = subst IsBetweenInstances same (record { refused = none; in_data = in_data; pending = ap pending at_rest })
 

@@ -3,7 +3,7 @@ use Rattle.std.proofs.Common.{◌≡◌, ℕ, ◌+◌, ◌-◌, ◌≤◌, suc, 
 use Rattle.std.specs.List.{flat_map}
 use Rattle.p21_exchange.proofs.Parentheses.{lefts-append, rights-append, IsBalanced, params-balanced, param-balanced, parts-balanced}
 use Rattle.p21_exchange.specs.DataSection.{unnamed, named, data_part}
-use Rattle.p21_exchange.specs.OpenNesting.{lefts, rights, open_depth}
+use Rattle.p21_exchange.specs.OpenNesting.{left_count, right_count, open_depth}
 use Rattle.p21_exchange.specs.Parameter.{Key, Params, no_params, param, key_token, param_tokens, params_tokens}
 use Rattle.p21_exchange.specs.Record.{Part, Record, simple, complex, part_tokens, record_tokens}
 use Rattle.p21_exchange.specs.Statement.{SectionLine, begin, header_start, section_end, data_start, finish}
@@ -11,11 +11,11 @@ use Rattle.p21_exchange.specs.Token as token
 use Rattle.p21_exchange.specs.Token.{Token}
 use Rattle.p21_grammar.proofs.Follows.{IsNested, IsFine, room-of}
 use Rattle.p21_grammar.specs.Runs.{ready_tokens, head_tokens, opening_tokens, row_tokens, stack_tokens, pending}
-use Rattle.p21_grammar_machine.specs.Machine.{Head, bare, simply, among, Opening, part_row, list_row, typed_row, Open, open_at, Spot, idle, line, named as name_taken, equal, inside, keyed, next, word, behind, record_end, instance_end, depth_of}
+use Rattle.p21_grammar.specs.Machine.{Head, bare, simply, among, Opening, part_row, list_row, typed_row, Open, open_at, Spot, idle, line, named as name_taken, equal, inside, keyed, next, word, behind, record_end, instance_end, depth_of}
 
 -- so many more open than close
 record IsOpen (tokens : List Token) (count : ℕ) : Type 0 where
-  opens : lefts tokens ≡ rights tokens + count
+  opens : left_count tokens ≡ right_count tokens + count
 
 both : (xs ys : List Token) (m n : ℕ) → IsOpen xs m → IsOpen ys n → IsOpen (xs ++ ys) (m + n)
 both xs ys m n first second = record { opens = omega (arith, lefts-append xs ys, rights-append xs ys, first.opens, second.opens) }
@@ -35,7 +35,7 @@ record IsBase (tokens : List Token) (count : ℕ) : Type 0 where
   key : Key
   rest : List Token
   tokens_are : tokens ≡ head_tokens head ++ key_token key ∷ token.left ∷ rest
-  opens : lefts rest ≡ rights rest + count
+  opens : left_count rest ≡ right_count rest + count
 
 extended : (tokens more : List Token) (m n : ℕ) → IsBase tokens m → IsOpen more n → IsBase (tokens ++ more) (m + n)
 extended tokens more m n base is = record {
@@ -49,7 +49,7 @@ extended tokens more m n base is = record {
 counted : (tokens : List Token) (m n : ℕ) → m ≡ n → IsBase tokens m → IsBase tokens n
 counted tokens m n e base = subst (IsBase tokens) e base
 
-key-open : (user : Bool) (w : List ℕ) (rest : List Token) (n : ℕ) → lefts rest ≡ rights rest + n → IsOpen (key_token (record { user = user; word = w }) ∷ rest) n
+key-open : (user : Bool) (w : List ℕ) (rest : List Token) (n : ℕ) → left_count rest ≡ right_count rest + n → IsOpen (key_token (record { user = user; word = w }) ∷ rest) n
 key-open true w rest n e = record { opens = e }
 key-open false w rest n e = record { opens = e }
 
@@ -68,20 +68,20 @@ row-base (typed_row k) ps (open_at o us ∷ st) tokens nested is =
 
 -- ---- the depth
 
-key-depth : (user : Bool) (w : List ℕ) (rest : List Token) → open_depth (key_token (record { user = user; word = w }) ∷ rest) ≡ lefts rest - rights rest - 1
+key-depth : (user : Bool) (w : List ℕ) (rest : List Token) → open_depth (key_token (record { user = user; word = w }) ∷ rest) ≡ left_count rest - right_count rest - 1
 key-depth true w rest = refl
 key-depth false w rest = refl
 
-simply-depth : (n : ℕ) (user : Bool) (w : List ℕ) (rest : List Token) → open_depth (token.name n ∷ token.equals ∷ key_token (record { user = user; word = w }) ∷ rest) ≡ lefts rest - rights rest - 1
+simply-depth : (n : ℕ) (user : Bool) (w : List ℕ) (rest : List Token) → open_depth (token.name n ∷ token.equals ∷ key_token (record { user = user; word = w }) ∷ rest) ≡ left_count rest - right_count rest - 1
 simply-depth n true w rest = refl
 simply-depth n false w rest = refl
 
-among-opens : (parts : List Part) (k : Key) (rest : List Token) (count : ℕ) → lefts rest ≡ rights rest + count → IsOpen (flat_map part_tokens parts ++ key_token k ∷ rest) count
+among-opens : (parts : List Part) (k : Key) (rest : List Token) (count : ℕ) → left_count rest ≡ right_count rest + count → IsOpen (flat_map part_tokens parts ++ key_token k ∷ rest) count
 among-opens parts k rest count e =
     let first = key-open k.user k.word rest count e in
     record { opens = omega (arith, lefts-append (flat_map part_tokens parts) (key_token k ∷ rest), rights-append (flat_map part_tokens parts) (key_token k ∷ rest), (parts-balanced parts).same, first.opens) }
 
-head-depth : (h : Head) (k : Key) (rest : List Token) (count : ℕ) → lefts rest ≡ rights rest + count → open_depth (head_tokens h ++ key_token k ∷ token.left ∷ rest) ≡ count
+head-depth : (h : Head) (k : Key) (rest : List Token) (count : ℕ) → left_count rest ≡ right_count rest + count → open_depth (head_tokens h ++ key_token k ∷ token.left ∷ rest) ≡ count
 head-depth bare k rest count e = key-depth k.user k.word (token.left ∷ rest) ∙ omega (arith, e)
 head-depth (simply n) k rest count e = simply-depth n k.user k.word (token.left ∷ rest) ∙ omega (arith, e)
 head-depth (among n parts) k rest count e = let all = among-opens parts k (token.left ∷ rest) (count + 1) (omega (arith, e)) in omega (arith, all.opens)

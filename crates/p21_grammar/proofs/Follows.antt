@@ -1,4 +1,4 @@
--- What a step leaves: the tokens that are held, how they stand, and the place in the file.
+-- What a step leaves: the tokens that are held, how they stand, and the stage of the file.
 use Rattle.std.proofs.Common.{◌≡◌, ℕ, ◌+◌, ◌<◌, ◌≤◌, suc, max, Bool, true, false, List, [], ◌∷◌, ◌++◌, length, Result, Ok, Err, refl, ap, sym, ◌∙◌, arith, append_assoc}
 use Rattle.std.proofs.lemmas.Bool.{ltb-true}
 use Rattle.std.proofs.lemmas.List.{append-nil}
@@ -14,14 +14,14 @@ use Rattle.p21_exchange.specs.Record.{Part, Record, parts_of, part_tokens}
 use Rattle.p21_exchange.specs.Statement.{SectionLine, Statement, section, header, instance, header_start, section_end, data_start, section_tokens, statement_tokens}
 use Rattle.p21_exchange.specs.Token as token
 use Rattle.p21_exchange.specs.Token.{Token}
-use Rattle.p21_grammar_machine.specs.Machine.{Head, bare, simply, among, Opening, part_row, list_row, typed_row, Open, open_at, Spot, idle, line, named as name_taken, equal, inside, keyed, next, word, behind, record_end, instance_end, Move, go, emit, refuse, ended, step, push, pushed, put, enter, close, close_typed, close_empty, closed_part, comma, at_next, at_keyed, end_keyword, end_heading, end_record, at_idle}
-use Rattle.p21_grammar_machine.specs.Place.{is_in_header, after, after_heading}
-use Rattle.p21_grammar_machine.specs.Shape.{is_key, is_heading}
-use Rattle.p21_grammar_machine.specs.declared.fault.GrammarFault.{GrammarFault}
-use Rattle.p21_grammar_machine.specs.declared.fault.GrammarFault.TheVariants.{Unexpected, TooDeep, LeftOut, SectionShape}
+use Rattle.p21_grammar.specs.Machine.{Head, bare, simply, among, Opening, part_row, list_row, typed_row, Open, open_at, Spot, idle, line, named as name_taken, equal, inside, keyed, next, word, behind, record_end, instance_end, Move, go, emit, refuse, ended, step, push, pushed, put, enter, close, close_typed, close_empty, closed_part, comma, at_next, at_keyed, end_keyword, end_heading, end_record, at_idle}
+use Rattle.p21_grammar.specs.Stage.{is_in_header, after, after_heading}
+use Rattle.p21_grammar.specs.Shape.{is_key, is_heading}
+use Rattle.p21_grammar.specs.declared.fault.GrammarFault.{GrammarFault}
+use Rattle.p21_grammar.specs.declared.fault.GrammarFault.TheVariants.{Unexpected, TooDeep, LeftOut, SectionShape}
 use Rattle.p21_tokens_automaton.specs.declared.mode.Absent.TheVariants.{UserKeyword}
-use Rattle.p21_grammar_machine.specs.declared.place.Place.{Place}
-use Rattle.p21_grammar_machine.specs.declared.place.Place.TheVariants.{Start, Begun, Description, FileName, FileSchema, Further, Headed, Unnamed, Named, BehindUnnamed, BehindNamed, Ended}
+use Rattle.p21_grammar.specs.declared.stage.Stage.{Stage}
+use Rattle.p21_grammar.specs.declared.stage.Stage.TheVariants.{Start, Begun, Description, FileName, FileSchema, Further, Headed, Unnamed, Named, BehindUnnamed, BehindNamed, Ended}
 use Rattle.p21_grammar.proofs.Shapes.{key-is, heading-tokens}
 use Rattle.p21_grammar.specs.Runs.{ready_tokens, head_tokens, opening_tokens, row_tokens, stack_tokens, filled_tokens, pending}
 use Rattle.p21_basics.proofs.Members.{Each-append}
@@ -126,7 +126,7 @@ pushed-tokens (open_at o ps) st q =
     append_assoc (stack_tokens st) (opening_tokens o ++ ready_tokens ps) (param_tokens q)
     ∙ ap (λ z. stack_tokens st ++ z) (append_assoc (opening_tokens o) (ready_tokens ps) (param_tokens q) ∙ ap (λ z. opening_tokens o ++ z) (sym (first-push ps q)))
 
-put-follows : (p : Place) (row : Open) (st : List Open) (q : Param) (h : List Token) → IsReady row → IsNested row st → depth q + length st ≤ 64
+put-follows : (p : Stage) (row : Open) (st : List Open) (q : Param) (h : List Token) → IsReady row → IsNested row st → depth q + length st ≤ 64
     → h ≡ (stack_tokens st ++ row_tokens row) ++ param_tokens q → Follows (put p row st q) h
 put-follows p row st q h ready nested deep e = ((pushed-filled row q ready, pushed-nested row st q nested deep), e ∙ pushed-tokens row st q)
 
@@ -140,26 +140,26 @@ room-of (open_at (typed_row k) ps) (row ∷ st) nested = omega (arith, nested.0)
 scalar-room : (row : Open) (st : List Open) → IsNested row st → 0 + length st ≤ 64
 scalar-room row st nested = omega (arith, room-of row st nested)
 
-enter-follows : (p : Place) (o : Opening) (row : Open) (st : List Open) (h : List Token) → IsReady row → IsNested row st → IsReady (open_at o no_params)
+enter-follows : (p : Stage) (o : Opening) (row : Open) (st : List Open) (h : List Token) → IsReady row → IsNested row st → IsReady (open_at o no_params)
     → ((length st < 64) → IsNested (open_at o no_params) (row ∷ st)) → h ≡ (stack_tokens st ++ row_tokens row) ++ opening_tokens o → Follows (enter p o row st) h
 enter-follows p o row st h ready nested new inner e = by (nat_lt (length st) 64) refl where
   by : (b : Bool) → nat_lt (length st) 64 ≡ b → Follows (if b then go p (next (open_at o no_params) (row ∷ st)) else refuse TooDeep) h
   by true room = ((new, inner (ltb-true (length st) 64 room)), e ∙ ap (λ z. (stack_tokens st ++ row_tokens row) ++ z) (sym (append-nil (opening_tokens o))))
   by false room = tt
 
-list-follows : (p : Place) (row : Open) (st : List Open) (h : List Token) → IsReady row → IsNested row st → h ≡ (stack_tokens st ++ row_tokens row) ++ token.left ∷ [] → Follows (enter p list_row row st) h
+list-follows : (p : Stage) (row : Open) (st : List Open) (h : List Token) → IsReady row → IsNested row st → h ≡ (stack_tokens st ++ row_tokens row) ++ token.left ∷ [] → Follows (enter p list_row row st) h
 list-follows p row st h ready nested e = enter-follows p list_row row st h ready nested tt (λ room. (omega (arith, room), ready, nested)) e
 
-typed-follows : (p : Place) (k : Key) (row : Open) (st : List Open) (h : List Token) → IsReady row → IsNested row st → h ≡ (stack_tokens st ++ row_tokens row) ++ key_token k ∷ token.left ∷ [] → Follows (enter p (typed_row k) row st) h
+typed-follows : (p : Stage) (k : Key) (row : Open) (st : List Open) (h : List Token) → IsReady row → IsNested row st → h ≡ (stack_tokens st ++ row_tokens row) ++ key_token k ∷ token.left ∷ [] → Follows (enter p (typed_row k) row st) h
 typed-follows p k row st h ready nested e = enter-follows p (typed_row k) row st h ready nested refl (λ room. (omega (arith, room), ready, nested)) e
 
-part-follows : (p : Place) (h : Head) (part : Part) (tokens : List Token) → IsShallowHead h → IsShallowPart part → tokens ≡ head_tokens h ++ part_tokens part → Follows (go p (closed_part h part)) tokens
+part-follows : (p : Stage) (h : Head) (part : Part) (tokens : List Token) → IsShallowHead h → IsShallowPart part → tokens ≡ head_tokens h ++ part_tokens part → Follows (go p (closed_part h part)) tokens
 part-follows p bare part tokens head shallow e = (shallow, e)
 part-follows p (simply n) part tokens head shallow e = ((omega arith, (shallow, tt)), e)
 part-follows p (among n parts) part tokens head shallow e =
     (Each-append IsShallowPart parts (part ∷ []) head (shallow, tt), e ∙ ap (λ z. token.name n ∷ token.equals ∷ token.left ∷ z) (sym (flat_map-push part_tokens parts part)))
 
-close_typed-follows : (p : Place) (k : Key) (ps : Params) (row : Open) (st : List Open) (h : List Token) → params_depth ps + suc (length st) ≤ 64 → IsReady row → IsNested row st
+close_typed-follows : (p : Stage) (k : Key) (ps : Params) (row : Open) (st : List Open) (h : List Token) → params_depth ps + suc (length st) ≤ 64 → IsReady row → IsNested row st
     → h ≡ ((stack_tokens st ++ row_tokens row) ++ key_token k ∷ token.left ∷ params_tokens ps) ++ token.right ∷ [] → Follows (close_typed p (row ∷ st) k ps) h
 close_typed-follows p k no_params row st h deep ready nested e = tt
 close_typed-follows p k (param q no_params) row st h deep ready nested e =
@@ -168,7 +168,7 @@ close_typed-follows p k (param q no_params) row st h deep ready nested e =
     ∙ ap (λ z. (stack_tokens st ++ row_tokens row) ++ key_token k ∷ token.left ∷ (z ++ token.right ∷ [])) (append-nil (param_tokens q)))
 close_typed-follows p k (param q (param r us)) row st h deep ready nested e = tt
 
-close-follows : (p : Place) (row : Open) (st : List Open) (h : List Token) → IsNested row st → h ≡ (stack_tokens st ++ filled_tokens row) ++ token.right ∷ [] → Follows (close p row st) h
+close-follows : (p : Stage) (row : Open) (st : List Open) (h : List Token) → IsNested row st → h ≡ (stack_tokens st ++ filled_tokens row) ++ token.right ∷ [] → Follows (close p row st) h
 close-follows p (open_at (part_row hd k) ps) st h nested e =
     part-follows p hd (record { key = k; params = ps }) h nested.2 nested.1
     (e ∙ ap (λ z. (stack_tokens z ++ ((head_tokens hd ++ key_token k ∷ token.left ∷ []) ++ params_tokens ps)) ++ token.right ∷ []) nested.0
@@ -180,7 +180,7 @@ close-follows p (open_at list_row ps) (row ∷ st) h nested e =
 close-follows p (open_at (typed_row k) ps) [] h nested e = absurd nested
 close-follows p (open_at (typed_row k) ps) (row ∷ st) h nested e = close_typed-follows p k ps row st h nested.0 nested.1 nested.2 e
 
-close_empty-follows : (p : Place) (row : Open) (st : List Open) (h : List Token) → IsNested row st → h ≡ (stack_tokens st ++ row_tokens row) ++ token.right ∷ [] → Follows (close_empty p row st) h
+close_empty-follows : (p : Stage) (row : Open) (st : List Open) (h : List Token) → IsNested row st → h ≡ (stack_tokens st ++ row_tokens row) ++ token.right ∷ [] → Follows (close_empty p row st) h
 close_empty-follows p (open_at o no_params) st h nested e = close-follows p (open_at o no_params) st h nested e
 close_empty-follows p (open_at o (param q us)) st h nested e = tt
 
@@ -191,12 +191,12 @@ comma-tokens o ps st (q, us, is) =
     (append_assoc (opening_tokens o) (params_tokens ps) (token.comma ∷ [])
     ∙ ap (λ z. opening_tokens o ++ z) (ap (λ z. params_tokens z ++ token.comma ∷ []) is ∙ sym (ready-first q us) ∙ ap ready_tokens (sym is)))
 
-comma-follows : (p : Place) (row : Open) (st : List Open) → IsFilled row → IsNested row st → Follows (comma p row st) ((stack_tokens st ++ filled_tokens row) ++ token.comma ∷ [])
+comma-follows : (p : Stage) (row : Open) (st : List Open) → IsFilled row → IsNested row st → Follows (comma p row st) ((stack_tokens st ++ filled_tokens row) ++ token.comma ∷ [])
 comma-follows p (open_at (part_row h k) ps) st filled nested = ((tt, nested), comma-tokens (part_row h k) ps st filled)
 comma-follows p (open_at list_row ps) st filled nested = ((tt, nested), comma-tokens list_row ps st filled)
 comma-follows p (open_at (typed_row k) ps) st filled nested = tt
 
-at_next-follows : (p : Place) (row : Open) (st : List Open) (t : Token) → IsReady row → IsNested row st → Follows (at_next p row st t) ((stack_tokens st ++ row_tokens row) ++ t ∷ [])
+at_next-follows : (p : Stage) (row : Open) (st : List Open) (t : Token) → IsReady row → IsNested row st → Follows (at_next p row st t) ((stack_tokens st ++ row_tokens row) ++ t ∷ [])
 at_next-follows p row st token.dollar ready nested = put-follows p row st dollar _ ready nested (scalar-room row st nested) refl
 at_next-follows p row st token.star ready nested = put-follows p row st star _ ready nested (scalar-room row st nested) refl
 at_next-follows p row st (token.whole z) ready nested = put-follows p row st (whole z) _ ready nested (scalar-room row st nested) refl
@@ -223,23 +223,23 @@ at_next-follows p row st token.equals ready nested = tt
 
 -- ---- statements
 
-ended-follows : (s : Statement) (r : Result Place GrammarFault) (h : List Token) → IsShallowStatement s → h ≡ statement_tokens s → Follows (ended s r) h
+ended-follows : (s : Statement) (r : Result Stage GrammarFault) (h : List Token) → IsShallowStatement s → h ≡ statement_tokens s → Follows (ended s r) h
 ended-follows s (Ok p) h shallow e = (shallow, e)
 ended-follows s (Err why) h shallow e = tt
 
-word-follows : (p : Place) (w wanted : List ℕ) (sp : Spot) (why : GrammarFault) → IsFine sp → (w ≡ wanted → token.keyword w ∷ [] ≡ pending sp) → Follows (if bytes_eq w wanted then go p sp else refuse why) (token.keyword w ∷ [])
+word-follows : (p : Stage) (w wanted : List ℕ) (sp : Spot) (why : GrammarFault) → IsFine sp → (w ≡ wanted → token.keyword w ∷ [] ≡ pending sp) → Follows (if bytes_eq w wanted then go p sp else refuse why) (token.keyword w ∷ [])
 word-follows p w wanted sp why fine held = by (bytes_eq w wanted) refl where
   by : (b : Bool) → bytes_eq w wanted ≡ b → Follows (if b then go p sp else refuse why) (token.keyword w ∷ [])
   by true e = (fine, held ((bytes_eq-Decides w wanted).0 e))
   by false e = tt
 
-key-follows : (k : Key) (wanted : List ℕ) (l : SectionLine) (r : Result Place GrammarFault) (why : GrammarFault) → section_tokens l ≡ token.keyword wanted ∷ [] → Follows (if is_key wanted k then ended (section l) r else refuse why) (key_token k ∷ token.semicolon ∷ [])
+key-follows : (k : Key) (wanted : List ℕ) (l : SectionLine) (r : Result Stage GrammarFault) (why : GrammarFault) → section_tokens l ≡ token.keyword wanted ∷ [] → Follows (if is_key wanted k then ended (section l) r else refuse why) (key_token k ∷ token.semicolon ∷ [])
 key-follows k wanted l r why tokens = by (is_key wanted k) refl where
   by : (b : Bool) → is_key wanted k ≡ b → Follows (if b then ended (section l) r else refuse why) (key_token k ∷ token.semicolon ∷ [])
   by true e = ended-follows (section l) r _ tt (ap (λ z. key_token z ∷ token.semicolon ∷ []) (key-is wanted k e) ∙ ap (λ z. z ++ token.semicolon ∷ []) (sym tokens))
   by false e = tt
 
-end_keyword-follows : (p : Place) (k : Key) → Follows (end_keyword p k) (key_token k ∷ token.semicolon ∷ [])
+end_keyword-follows : (p : Stage) (k : Key) → Follows (end_keyword p k) (key_token k ∷ token.semicolon ∷ [])
 end_keyword-follows p k = by (is_in_header p) where
   by : (b : Bool) → Follows (if b
       then (if is_key (codes "ENDSEC") k then ended (section section_end) (after p (section section_end)) else refuse Unexpected)
@@ -247,19 +247,19 @@ end_keyword-follows p k = by (is_in_header p) where
   by true = key-follows k (codes "ENDSEC") section_end (after p (section section_end)) Unexpected refl
   by false = key-follows k (codes "DATA") (data_start unnamed) (after p (section (data_start unnamed))) Unexpected refl
 
-end_heading-follows : (p : Place) (part : Part) → Follows (end_heading p part) (part_tokens part ++ token.semicolon ∷ [])
+end_heading-follows : (p : Stage) (part : Part) → Follows (end_heading p part) (part_tokens part ++ token.semicolon ∷ [])
 end_heading-follows p part = by (is_heading part) refl where
   by : (b : Bool) → is_heading part ≡ b → Follows (if b then ended (section (data_start (heading_of part.params))) (after_heading p) else refuse SectionShape) (part_tokens part ++ token.semicolon ∷ [])
   by true e = ended-follows (section (data_start (heading_of part.params))) (after_heading p) _ tt (ap (λ z. z ++ token.semicolon ∷ []) (sym (heading-tokens part e)))
   by false e = tt
 
-end_record-follows : (p : Place) (part : Part) → IsShallowPart part → Follows (end_record p part) (part_tokens part ++ token.semicolon ∷ [])
+end_record-follows : (p : Stage) (part : Part) → IsShallowPart part → Follows (end_record p part) (part_tokens part ++ token.semicolon ∷ [])
 end_record-follows p part shallow = by (is_in_header p) where
   by : (b : Bool) → Follows (if b then ended (header part) (after p (header part)) else end_heading p part) (part_tokens part ++ token.semicolon ∷ [])
   by true = ended-follows (header part) (after p (header part)) _ shallow refl
   by false = end_heading-follows p part
 
-at_idle-follows : (p : Place) (t : Token) → Follows (at_idle p t) (t ∷ [])
+at_idle-follows : (p : Stage) (t : Token) → Follows (at_idle p t) (t ∷ [])
 at_idle-follows Start token.begin = (tt, refl)
 at_idle-follows Start other = tt
 at_idle-follows Begun (token.keyword w) = word-follows Begun w (codes "HEADER") (line header_start) _ tt (ap (λ z. token.keyword z ∷ []))
@@ -292,17 +292,17 @@ at_idle-follows BehindNamed other = tt
 at_idle-follows Ended (token.keyword w) = tt
 at_idle-follows Ended other = tt
 
-open-follows : (p : Place) (h : Head) (k : Key) → IsShallowHead h → Follows (go p (next (open_at (part_row h k) no_params) [])) ((head_tokens h ++ key_token k ∷ []) ++ token.left ∷ [])
+open-follows : (p : Stage) (h : Head) (k : Key) → IsShallowHead h → Follows (go p (next (open_at (part_row h k) no_params) [])) ((head_tokens h ++ key_token k ∷ []) ++ token.left ∷ [])
 open-follows p h k shallow = ((tt, (refl, omega arith, shallow)), append_assoc (head_tokens h) (key_token k ∷ []) (token.left ∷ []) ∙ sym (append-nil (head_tokens h ++ key_token k ∷ token.left ∷ [])))
 
-at_keyed-follows : (p : Place) (h : Head) (k : Key) (t : Token) → IsShallowHead h → Follows (at_keyed p h k t) ((head_tokens h ++ key_token k ∷ []) ++ t ∷ [])
+at_keyed-follows : (p : Stage) (h : Head) (k : Key) (t : Token) → IsShallowHead h → Follows (at_keyed p h k t) ((head_tokens h ++ key_token k ∷ []) ++ t ∷ [])
 at_keyed-follows p bare k token.left shallow = open-follows p bare k shallow
 at_keyed-follows p (simply n) k token.left shallow = open-follows p (simply n) k shallow
 at_keyed-follows p (among n parts) k token.left shallow = open-follows p (among n parts) k shallow
 at_keyed-follows p bare k token.semicolon shallow = end_keyword-follows p k
 at_keyed-follows p h k other shallow = tt
 
-pub step-follows : (p : Place) (sp : Spot) (t : Token) → IsFine sp → Follows (step p sp t) (pending sp ++ t ∷ [])
+pub step-follows : (p : Stage) (sp : Spot) (t : Token) → IsFine sp → Follows (step p sp t) (pending sp ++ t ∷ [])
 step-follows p idle t fine = at_idle-follows p t
 step-follows p (line l) token.semicolon fine = ended-follows (section l) (after p (section l)) _ tt refl
 step-follows p (line l) other fine = tt

@@ -1,3 +1,5 @@
+pub mod ShapeTests
+pub mod Stacks
 pub mod RunsParams
 pub mod RunsStatements
 pub mod Shapes

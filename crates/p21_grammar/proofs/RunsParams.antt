@@ -4,24 +4,24 @@ use Rattle.std.proofs.lemmas.Bool.{lt-ltb}
 use Rattle.std.specs.Prelude.{if◌then◌else◌}
 use Rattle.std.specs.List.{AllByRecursion as Each}
 use Rattle.p21_exchange.specs.Grammar.{IsNoUserKeyword}
-use Rattle.p21_exchange.specs.Header.{IsNoName}
+use Rattle.p21_exchange.specs.Header.{IsNoInstanceName}
 use Rattle.p21_exchange.specs.Nesting.{depth, params_depth}
 use Rattle.p21_exchange.specs.Parameter.{Key, Param, dollar, star, whole, real, text, name, item, bits, list, typed, Params, no_params, param, key_token, param_tokens, params_tokens, more_tokens}
 use Rattle.p21_exchange.specs.Token as token
 use Rattle.p21_exchange.specs.Token.{Token}
 use Rattle.p21_tokens_automaton.specs.declared.mode.Absent.TheVariants.{UserKeyword}
-use Rattle.p21_grammar_machine.specs.Machine.{Opening, part_row, list_row, typed_row, Open, open_at, next, word, behind, go, refuse, push, enter, close}
-use Rattle.p21_grammar_machine.specs.Place.{is_in_header}
+use Rattle.p21_grammar.specs.Machine.{Opening, part_row, list_row, typed_row, Open, open_at, next, word, behind, go, refuse, push, enter, close}
+use Rattle.p21_grammar.specs.Stage.{is_in_header}
 use Rattle.p21_grammar.specs.Runs.{moved, run}
-use Rattle.p21_grammar_machine.specs.declared.fault.GrammarFault.TheVariants.{Unexpected, LeftOut}
-use Rattle.p21_grammar_machine.specs.declared.place.Place.{Place}
+use Rattle.p21_grammar.specs.declared.fault.GrammarFault.TheVariants.{Unexpected, LeftOut}
+use Rattle.p21_grammar.specs.declared.stage.Stage.{Stage}
 
 -- in the header no name, elsewhere no user keyword
 abbrev pub IsAllowed : Bool → Token → Type 0
-IsAllowed true t = IsNoName t
+IsAllowed true t = IsNoInstanceName t
 IsAllowed false t = IsNoUserKeyword t
 
-abbrev pub AreAllowed : Place → List Token → Type 0
+abbrev pub AreAllowed : Stage → List Token → Type 0
 AreAllowed p tokens = Each (IsAllowed (is_in_header p)) tokens
 
 pub Each-front : {A : Type 0} (P : A → Type 0) (xs ys : List A) → Each P (xs ++ ys) → Each P xs
@@ -36,11 +36,11 @@ abbrev pub user_key : List ℕ → Key
 user_key w = record { user = true; word = w }
 
 -- an opening that has room
-pub run-enter : (p : Place) (o : Opening) (row : Open) (st : List Open) (x : List Token) → length st < 64 → moved (enter p o row st) (run x) ≡ run x p (next (open_at o no_params) (row ∷ st))
+pub run-enter : (p : Stage) (o : Opening) (row : Open) (st : List Open) (x : List Token) → length st < 64 → moved (enter p o row st) (run x) ≡ run x p (next (open_at o no_params) (row ∷ st))
 run-enter p o row st x room = rw (lt-ltb (length st) 64 room) refl
 
 -- the keyword of a typed parameter, and a name
-run-key : (p : Place) (row : Open) (st : List Open) (user : Bool) (w : List ℕ) (x : List Token) → IsAllowed (is_in_header p) (key_token (record { user = user; word = w }))
+run-key : (p : Stage) (row : Open) (st : List Open) (user : Bool) (w : List ℕ) (x : List Token) → IsAllowed (is_in_header p) (key_token (record { user = user; word = w }))
     → run (key_token (record { user = user; word = w }) ∷ x) p (next row st) ≡ run x p (word (record { user = user; word = w }) row st)
 run-key p row st false w x allowed = refl
 run-key p row st true w x allowed = by (is_in_header p) allowed where
@@ -48,7 +48,7 @@ run-key p row st true w x allowed = by (is_in_header p) allowed where
   by true allowed = refl
   by false allowed = absurd allowed
 
-run-name : (p : Place) (o : Opening) (ps : Params) (st : List Open) (n : ℕ) (x : List Token) → IsAllowed (is_in_header p) (token.name n)
+run-name : (p : Stage) (o : Opening) (ps : Params) (st : List Open) (n : ℕ) (x : List Token) → IsAllowed (is_in_header p) (token.name n)
     → run (token.name n ∷ x) p (next (open_at o ps) st) ≡ run x p (behind (open_at o (push ps (name n))) st)
 run-name p o ps st n x allowed = by (is_in_header p) allowed where
   by : (b : Bool) → IsAllowed b (token.name n) → moved (if b then refuse Unexpected else go p (behind (open_at o (push ps (name n))) st)) (run x) ≡ run x p (behind (open_at o (push ps (name n))) st)
@@ -73,13 +73,13 @@ IsRow (part_row h k) = Unit {0}
 IsRow list_row = Unit {0}
 IsRow (typed_row k) = ⊥
 
-run-comma : (p : Place) (o : Opening) (done : Params) (st : List Open) (x : List Token) → IsRow o → run (token.comma ∷ x) p (behind (open_at o done) st) ≡ run x p (next (open_at o done) st)
+run-comma : (p : Stage) (o : Opening) (done : Params) (st : List Open) (x : List Token) → IsRow o → run (token.comma ∷ x) p (behind (open_at o done) st) ≡ run x p (next (open_at o done) st)
 run-comma p (part_row h k) done st x row = refl
 run-comma p list_row done st x row = refl
 run-comma p (typed_row k) done st x row = absurd row
 
 mutual
-  pub run-param : (q : Param) (p : Place) (o : Opening) (ps : Params) (st : List Open) (x : List Token) → AreAllowed p (param_tokens q) → depth q + length st ≤ 64
+  pub run-param : (q : Param) (p : Stage) (o : Opening) (ps : Params) (st : List Open) (x : List Token) → AreAllowed p (param_tokens q) → depth q + length st ≤ 64
       → run (param_tokens q ++ x) p (next (open_at o ps) st) ≡ run x p (behind (open_at o (push ps q)) st)
   run-param dollar p o ps st x allowed deep = refl
   run-param star p o ps st x allowed deep = refl
@@ -99,7 +99,7 @@ mutual
       ∙ run-enter p (typed_row k) (open_at o ps) st (param_tokens q ++ token.right ∷ x) (omega (arith, deep))
       ∙ run-param q p (typed_row k) no_params (open_at o ps ∷ st) (token.right ∷ x) (Each-front (IsAllowed (is_in_header p)) (param_tokens q) (token.right ∷ []) allowed.1.1) (omega (arith, deep))
 
-  pub run-row : (us : Params) (p : Place) (o : Opening) (st : List Open) (x : List Token) → IsRow o → AreAllowed p (params_tokens us) → params_depth us + length st ≤ 64
+  pub run-row : (us : Params) (p : Stage) (o : Opening) (st : List Open) (x : List Token) → IsRow o → AreAllowed p (params_tokens us) → params_depth us + length st ≤ 64
       → run (params_tokens us ++ token.right ∷ x) p (next (open_at o no_params) st) ≡ moved (close p (open_at o us) st) (run x)
   run-row no_params p o st x row allowed deep = refl
   run-row (param q us) p o st x row allowed deep =
@@ -108,7 +108,7 @@ mutual
       ∙ run-rest us p o (param q no_params) st x row (Each-back (IsAllowed (is_in_header p)) (param_tokens q) (more_tokens us) allowed) (omega (arith, deep))
       ∙ ap (λ z. moved (close p (open_at o z) st) (run x)) (pushes-param q no_params us ∙ ap (param q) (pushes-none us))
 
-  run-rest : (us : Params) (p : Place) (o : Opening) (done : Params) (st : List Open) (x : List Token) → IsRow o → AreAllowed p (more_tokens us) → params_depth us + length st ≤ 64
+  run-rest : (us : Params) (p : Stage) (o : Opening) (done : Params) (st : List Open) (x : List Token) → IsRow o → AreAllowed p (more_tokens us) → params_depth us + length st ≤ 64
       → run (more_tokens us ++ token.right ∷ x) p (behind (open_at o done) st) ≡ moved (close p (open_at o (pushes done us)) st) (run x)
   run-rest no_params p o done st x row allowed deep = refl
   run-rest (param q us) p o done st x row allowed deep =

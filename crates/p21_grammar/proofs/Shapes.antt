@@ -5,14 +5,14 @@ use Rattle.std.proofs.lemmas.Slice.Eq.{bytes_eq-Decides}
 use Rattle.std.specs.Prelude.{◌≢◌, ◌&&◌, not, codes}
 use Rattle.std.specs.List.{AllZip, AllByRecursion as Each}
 use Rattle.p21_exchange.specs.DataSection.{named, data_part, heading_of}
-use Rattle.p21_exchange.specs.Header.{HeaderType, string, strings, IsTextOrUnset, IsOfType, IsHeaderRecord, IsFileSchema, IsFurther, IsNoName}
+use Rattle.p21_exchange.specs.Header.{HeaderType, string, strings, IsTextOrUnset, IsOfType, IsHeaderRecord, IsFileSchema, IsFurtherRecord, IsNoInstanceName}
 use Rattle.p21_exchange.specs.Parameter.{Key, key_of, Param, dollar, text, list, Params, no_params, param, listed, key_token, param_tokens, params_tokens, more_tokens}
 use Rattle.p21_exchange.specs.Record.{Part, part_tokens}
 use Rattle.p21_exchange.specs.Statement.{data_start, section_tokens}
 use Rattle.p21_exchange.specs.Token as token
 use Rattle.p21_exchange.specs.Token.{Token}
 use Rattle.p21_exchange.proofs.Semicolons.{Each-append}
-use Rattle.p21_grammar_machine.specs.Shape.{is_key, is_text, is_text_or_unset, are_texts, are_strings, is_of_type, have_types, is_schema_row, is_schema, is_only_schema, is_name_and_schema, is_file_schema, is_further, is_heading}
+use Rattle.p21_grammar.specs.Shape.{is_key, is_text, is_text_or_unset, are_texts, are_strings, is_of_type, have_types, is_schema_row, is_schema, is_only_schema, is_name_and_schema, is_file_schema, is_further, is_heading}
 
 key-cases : (wanted : List ℕ) (user : Bool) (w : List ℕ) → is_key wanted (record { user = user; word = w }) ≡ true → ◌≡◌ {A = Key} (record { user = user; word = w }) (key_of wanted)
 key-cases wanted true w e = absurd cc
@@ -86,41 +86,41 @@ have-types (t ∷ ts) no_params all = absurd all
 have-types (t ∷ ts) (param p ps) all = both (is_of_type t p) (have_types ts ps) (is-type t p all.0) (have-types ts ps all.1)
 
 -- parameters of these types hold no names
-text-no_names : (p : Param) → is_text_or_unset p ≡ true → Each IsNoName (param_tokens p)
+text-no_names : (p : Param) → is_text_or_unset p ≡ true → Each IsNoInstanceName (param_tokens p)
 text-no_names dollar e = (tt, tt)
 text-no_names (text chars) e = (tt, tt)
 text-no_names other e = absurd cc
 
-more-no_names : (ps : Params) → are_texts ps ≡ true → Each IsNoName (more_tokens ps)
+more-no_names : (ps : Params) → are_texts ps ≡ true → Each IsNoInstanceName (more_tokens ps)
 more-no_names no_params e = tt
 more-no_names (param p ps) e =
-    let parts = and_parts (is_text_or_unset p) (are_texts ps) e in (tt, Each-append IsNoName (param_tokens p) (more_tokens ps) (text-no_names p parts.0) (more-no_names ps parts.1))
+    let parts = and_parts (is_text_or_unset p) (are_texts ps) e in (tt, Each-append IsNoInstanceName (param_tokens p) (more_tokens ps) (text-no_names p parts.0) (more-no_names ps parts.1))
 
-texts-no_names : (ps : Params) → are_texts ps ≡ true → Each IsNoName (params_tokens ps)
+texts-no_names : (ps : Params) → are_texts ps ≡ true → Each IsNoInstanceName (params_tokens ps)
 texts-no_names no_params e = tt
 texts-no_names (param p ps) e =
-    let parts = and_parts (is_text_or_unset p) (are_texts ps) e in Each-append IsNoName (param_tokens p) (more_tokens ps) (text-no_names p parts.0) (more-no_names ps parts.1)
+    let parts = and_parts (is_text_or_unset p) (are_texts ps) e in Each-append IsNoInstanceName (param_tokens p) (more_tokens ps) (text-no_names p parts.0) (more-no_names ps parts.1)
 
-type-no_names : (t : HeaderType) (p : Param) → is_of_type t p ≡ true → Each IsNoName (param_tokens p)
+type-no_names : (t : HeaderType) (p : Param) → is_of_type t p ≡ true → Each IsNoInstanceName (param_tokens p)
 type-no_names string p e = text-no_names p e
 type-no_names strings dollar e = (tt, tt)
-type-no_names strings (list ps) e = (tt, Each-append IsNoName (params_tokens ps) (token.right ∷ []) (texts-no_names ps e) (tt, tt))
+type-no_names strings (list ps) e = (tt, Each-append IsNoInstanceName (params_tokens ps) (token.right ∷ []) (texts-no_names ps e) (tt, tt))
 type-no_names strings other e = absurd cc
 
-types-more : (ts : List HeaderType) (ps : Params) → have_types ts ps ≡ true → Each IsNoName (more_tokens ps)
+types-more : (ts : List HeaderType) (ps : Params) → have_types ts ps ≡ true → Each IsNoInstanceName (more_tokens ps)
 types-more ts no_params e = tt
 types-more [] (param p ps) e = absurd cc
 types-more (t ∷ ts) (param p ps) e =
-    let parts = and_parts (is_of_type t p) (have_types ts ps) e in (tt, Each-append IsNoName (param_tokens p) (more_tokens ps) (type-no_names t p parts.0) (types-more ts ps parts.1))
+    let parts = and_parts (is_of_type t p) (have_types ts ps) e in (tt, Each-append IsNoInstanceName (param_tokens p) (more_tokens ps) (type-no_names t p parts.0) (types-more ts ps parts.1))
 
-types-no_names : (ts : List HeaderType) (ps : Params) → have_types ts ps ≡ true → Each IsNoName (params_tokens ps)
+types-no_names : (ts : List HeaderType) (ps : Params) → have_types ts ps ≡ true → Each IsNoInstanceName (params_tokens ps)
 types-no_names ts no_params e = tt
 types-no_names [] (param p ps) e = absurd cc
 types-no_names (t ∷ ts) (param p ps) e =
-    let parts = and_parts (is_of_type t p) (have_types ts ps) e in Each-append IsNoName (param_tokens p) (more_tokens ps) (type-no_names t p parts.0) (types-more ts ps parts.1)
+    let parts = and_parts (is_of_type t p) (have_types ts ps) e in Each-append IsNoInstanceName (param_tokens p) (more_tokens ps) (type-no_names t p parts.0) (types-more ts ps parts.1)
 
-part-no_names : (w : List ℕ) (part : Part) → part.key ≡ key_of w → Each IsNoName (params_tokens part.params) → Each IsNoName (part_tokens part)
-part-no_names w part e all = (subst (λ z. IsNoName (key_token z)) (sym e) tt, (tt, Each-append IsNoName (params_tokens part.params) (token.right ∷ []) all (tt, tt)))
+part-no_names : (w : List ℕ) (part : Part) → part.key ≡ key_of w → Each IsNoInstanceName (params_tokens part.params) → Each IsNoInstanceName (part_tokens part)
+part-no_names w part e all = (subst (λ z. IsNoInstanceName (key_token z)) (sym e) tt, (tt, Each-append IsNoInstanceName (params_tokens part.params) (token.right ∷ []) all (tt, tt)))
 
 pub record-is : (w : List ℕ) (ts : List HeaderType) (part : Part) → (is_key w part.key && have_types ts part.params) ≡ true → IsHeaderRecord w ts part
 record-is w ts part e = let parts = and_parts (is_key w part.key) (have_types ts part.params) e in (key-is w part.key parts.0, types-are ts part.params parts.1)
@@ -128,7 +128,7 @@ record-is w ts part e = let parts = and_parts (is_key w part.key) (have_types ts
 pub is-record : (w : List ℕ) (ts : List HeaderType) (part : Part) → IsHeaderRecord w ts part → (is_key w part.key && have_types ts part.params) ≡ true
 is-record w ts part is = both (is_key w part.key) (have_types ts part.params) (is-key w part.key is.0) (have-types ts part.params is.1)
 
-pub record-no_names : (w : List ℕ) (ts : List HeaderType) (part : Part) → IsHeaderRecord w ts part → Each IsNoName (part_tokens part)
+pub record-no_names : (w : List ℕ) (ts : List HeaderType) (part : Part) → IsHeaderRecord w ts part → Each IsNoInstanceName (part_tokens part)
 record-no_names w ts part is = part-no_names w part is.0 (types-no_names ts part.params (have-types ts part.params is.1))
 
 -- a list of one text
@@ -161,10 +161,10 @@ schema-is part e =
 pub is-schema : (part : Part) (chars : List ℕ) → IsFileSchema part chars → is_file_schema part ≡ true
 is-schema part chars is = both (is_key (codes "FILE_SCHEMA") part.key) (is_only_schema part.params) (is-key (codes "FILE_SCHEMA") part.key is.0) (ap is_only_schema is.1)
 
-pub schema-no_names : (part : Part) (chars : List ℕ) → IsFileSchema part chars → Each IsNoName (part_tokens part)
-schema-no_names part chars is = part-no_names (codes "FILE_SCHEMA") part is.0 (subst (λ z. Each IsNoName (params_tokens z)) (sym is.1) (tt, (tt, (tt, tt))))
+pub schema-no_names : (part : Part) (chars : List ℕ) → IsFileSchema part chars → Each IsNoInstanceName (part_tokens part)
+schema-no_names part chars is = part-no_names (codes "FILE_SCHEMA") part is.0 (subst (λ z. Each IsNoInstanceName (params_tokens z)) (sym is.1) (tt, (tt, (tt, tt))))
 
-pub further-is : (part : Part) → is_further part ≡ true → Each IsNoName (part_tokens part) → IsFurther part
+pub further-is : (part : Part) → is_further part ≡ true → Each IsNoInstanceName (part_tokens part) → IsFurtherRecord part
 further-is part e none =
     let one = and_parts (not (is_key (codes "FILE_DESCRIPTION") part.key)) (not (is_key (codes "FILE_NAME") part.key) && not (is_key (codes "FILE_SCHEMA") part.key)) e in
     let two = and_parts (not (is_key (codes "FILE_NAME") part.key)) (not (is_key (codes "FILE_SCHEMA") part.key)) one.1 in
@@ -175,7 +175,7 @@ further-is part e none =
       no_names = none;
     }
 
-pub is-further : (part : Part) → IsFurther part → is_further part ≡ true
+pub is-further : (part : Part) → IsFurtherRecord part → is_further part ≡ true
 is-further part is =
     both (not (is_key (codes "FILE_DESCRIPTION") part.key)) (not (is_key (codes "FILE_NAME") part.key) && not (is_key (codes "FILE_SCHEMA") part.key))
     (key-not (codes "FILE_DESCRIPTION") part.key is.no_file_description)

@@ -7,16 +7,16 @@ use Rattle.p21_exchange.proofs.Semicolons.{Each-append}
 use Rattle.p21_exchange.proofs.SectionOrder.{instance_of, sections_with}
 use Rattle.p21_exchange.specs.DataSection.{Heading, unnamed, named, DataSection, headings, instances_in, IsNamed, AreHeadings}
 use Rattle.p21_exchange.specs.Grammar.{IsShallowPart, IsDataRecord, IsFile}
-use Rattle.p21_exchange.specs.Header.{string, strings, IsFileDescription, IsFileName, IsFileSchema, IsFurther}
+use Rattle.p21_exchange.specs.Header.{string, strings, IsFileDescription, IsFileName, IsFileSchema, IsFurtherRecord}
 use Rattle.p21_exchange.specs.Parameter.{key_of, dollar, no_params, param}
 use Rattle.p21_exchange.specs.Record.{Part, Record}
 use Rattle.p21_exchange.specs.Statement.{SectionLine, Statement, section, header, instance, begin, header_start, section_end, data_start, finish}
 use Rattle.p21_exchange.specs.Structure.{Structure, section_statements, statements}
-use Rattle.p21_grammar_machine.specs.Place.{after, after_line, after_part, shaped, then_walk, walk}
-use Rattle.p21_grammar_machine.specs.Shape.{is_file_description, is_file_name, is_file_schema, is_further}
-use Rattle.p21_grammar_machine.specs.declared.fault.GrammarFault.{GrammarFault}
-use Rattle.p21_grammar_machine.specs.declared.place.Place.{Place}
-use Rattle.p21_grammar_machine.specs.declared.place.Place.TheVariants.{Start, Begun, Description, FileName, FileSchema, Further, Headed, Unnamed, Named, BehindUnnamed, BehindNamed, Ended}
+use Rattle.p21_grammar.specs.Stage.{after, after_line, after_part, shaped, then_walk, walk}
+use Rattle.p21_grammar.specs.Shape.{is_file_description, is_file_name, is_file_schema, is_further}
+use Rattle.p21_grammar.specs.declared.fault.GrammarFault.{GrammarFault}
+use Rattle.p21_grammar.specs.declared.stage.Stage.{Stage}
+use Rattle.p21_grammar.specs.declared.stage.Stage.TheVariants.{Start, Begun, Description, FileName, FileSchema, Further, Headed, Unnamed, Named, BehindUnnamed, BehindNamed, Ended}
 use Rattle.p21_grammar.proofs.RunsParams.{Each-front, Each-back}
 use Rattle.p21_grammar.proofs.RunsStatements.{ok-same}
 use Rattle.p21_grammar.proofs.Shapes.{record-is, is-record, record-no_names, schema-is, is-schema, schema-no_names, further-is, is-further, only_schema}
@@ -27,7 +27,7 @@ IsInstance i = IsDataRecord i.1
 
 -- ---- a file leads to its end
 
-further-walk : (parts : List Part) (ss : List Statement) → Each IsFurther parts → walk (map header parts ++ ss) Further ≡ walk ss Further
+further-walk : (parts : List Part) (ss : List Statement) → Each IsFurtherRecord parts → walk (map header parts ++ ss) Further ≡ walk ss Further
 further-walk [] ss all = refl
 further-walk (part ∷ parts) ss all = ap (λ z. then_walk (walk (map header parts ++ ss)) (shaped z Further)) (is-further part all.0) ∙ further-walk parts ss all.1
 
@@ -61,7 +61,7 @@ headed-walk : (xs : List DataSection) → AreHeadings (headings xs) → walk (fl
 headed-walk [] are = absurd are
 headed-walk (x ∷ xs) are = ap (λ z. walk z Headed) (sections_with x xs (section finish ∷ [])) ∙ first-walk x.heading x.instances xs are
 
-header-walk : (d n s : Part) (further : List Part) (text : List ℕ) (ss : List Statement) → IsFileDescription d → IsFileName n → IsFileSchema s text → Each IsFurther further
+header-walk : (d n s : Part) (further : List Part) (text : List ℕ) (ss : List Statement) → IsFileDescription d → IsFileName n → IsFileSchema s text → Each IsFurtherRecord further
     → walk (header d ∷ header n ∷ header s ∷ (map header further ++ ss)) Description ≡ walk ss Further
 header-walk d n s further text ss first second third all =
     let rest : List Statement = map header further ++ ss in
@@ -80,7 +80,7 @@ file-walk t text is =
 
 -- ---- and its statements are sound
 
-further-sound : (parts : List Part) (ss : List Statement) → Each IsFurther parts → Each IsShallowPart parts → Each IsSound ss → Each IsSound (map header parts ++ ss)
+further-sound : (parts : List Part) (ss : List Statement) → Each IsFurtherRecord parts → Each IsShallowPart parts → Each IsSound ss → Each IsSound (map header parts ++ ss)
 further-sound [] ss all shallow rest = rest
 further-sound (part ∷ parts) ss all shallow rest = ((shallow.0, all.0.no_names), further-sound parts ss all.1 shallow.1 rest)
 
@@ -94,7 +94,7 @@ sections-sound (x ∷ xs) ss all rest =
     subst (Each IsSound) (sym (sections_with x xs ss))
     (tt, instances-sound x.instances _ (Each-front IsInstance x.instances (instances_in xs) all) (tt, sections-sound xs ss (Each-back IsInstance x.instances (instances_in xs) all) rest))
 
-header-sound : (d n s : Part) (further : List Part) (text : List ℕ) (ss : List Statement) → IsFileDescription d → IsFileName n → IsFileSchema s text → Each IsFurther further
+header-sound : (d n s : Part) (further : List Part) (text : List ℕ) (ss : List Statement) → IsFileDescription d → IsFileName n → IsFileSchema s text → Each IsFurtherRecord further
     → Each IsShallowPart (d ∷ n ∷ s ∷ further) → Each IsSound ss → Each IsSound (header d ∷ header n ∷ header s ∷ (map header further ++ ss))
 header-sound d n s further text ss first second third all shallow rest = (
   (shallow.0, record-no_names (codes "FILE_DESCRIPTION") (strings ∷ string ∷ []) d first),
@@ -120,10 +120,10 @@ file-sound t text is =
       ),
     )
 
--- ---- what may stand behind a place
+-- ---- what may stand behind a stage
 
 abbrev AreFurther : List Part → Type 0
-AreFurther parts = Each IsFurther parts
+AreFurther parts = Each IsFurtherRecord parts
 
 abbrev BeginWithSchema : List Part → Type 0
 BeginWithSchema parts = (s : Part) × (more : List Part) × (text : List ℕ) × (parts ≡ s ∷ more) × IsFileSchema s text × AreFurther more
@@ -176,7 +176,7 @@ record IsStartTail (ss : List Statement) : Type 0 where
   tail : IsBegunTail behind
   is : ss ≡ section begin ∷ behind
 
-abbrev IsTail : Place → List Statement → Type 0
+abbrev IsTail : Stage → List Statement → Type 0
 IsTail Start ss = IsStartTail ss
 IsTail Begun ss = IsBegunTail ss
 IsTail Description ss = IsHeaderTail BeginWithDescription ss
@@ -190,11 +190,11 @@ IsTail BehindUnnamed ss = ss ≡ section finish ∷ []
 IsTail BehindNamed ss = IsBehindTail ss
 IsTail Ended ss = ss ≡ []
 
-record IsShaped (b : Bool) (p q : Place) : Type 0 where
+record HasHeadingShape (b : Bool) (p q : Stage) : Type 0 where
   test : b ≡ true
   leads : p ≡ q
 
-shaped-ok : (b : Bool) (p q : Place) → shaped b p ≡ Ok q → IsShaped b p q
+shaped-ok : (b : Bool) (p q : Stage) → shaped b p ≡ Ok q → HasHeadingShape b p q
 shaped-ok true p q e = record { test = refl; leads = ok-same p q e }
 shaped-ok false p q e = absurd cc
 
@@ -208,7 +208,7 @@ header-back part ss fits shallow t = record {
   is = ap (λ z. header part ∷ z) t.is;
 }
 
-part-back : (p : Place) (part : Part) (q : Place) (ss : List Statement) → after_part p part ≡ Ok q → IsSound (header part) → IsTail q ss → IsTail p (header part ∷ ss)
+part-back : (p : Stage) (part : Part) (q : Stage) (ss : List Statement) → after_part p part ≡ Ok q → IsSound (header part) → IsTail q ss → IsTail p (header part ∷ ss)
 part-back Description part q ss e sound t =
     let is = shaped-ok (is_file_description part) FileName q e in
     header-back part ss (λ parts next. (part, parts, refl, record-is (codes "FILE_DESCRIPTION") (strings ∷ string ∷ []) part is.test, next)) sound.0 (subst (λ z. IsTail z ss) (sym is.leads) t)
@@ -254,7 +254,7 @@ named-back chars schema ss t = record {
   is = named-with (named chars schema) ss t;
 }
 
-line-back : (p : Place) (l : SectionLine) (q : Place) (ss : List Statement) → after_line p l ≡ Ok q → IsTail q ss → IsTail p (section l ∷ ss)
+line-back : (p : Stage) (l : SectionLine) (q : Stage) (ss : List Statement) → after_line p l ≡ Ok q → IsTail q ss → IsTail p (section l ∷ ss)
 line-back Start begin q ss e t = record { behind = ss; tail = subst (λ z. IsTail z ss) (sym (ok-same Begun q e)) t; is = refl }
 line-back Begun header_start q ss e t = record { behind = ss; tail = subst (λ z. IsTail z ss) (sym (ok-same Description q e)) t; is = refl }
 line-back Further section_end q ss e t = record { parts = []; behind = ss; fit = tt; shallow = tt; tail = subst (λ z. IsTail z ss) (sym (ok-same Headed q e)) t; is = refl }
@@ -271,7 +271,7 @@ line-back FileSchema section_end q ss e t = absurd cc
 line-back Ended section_end q ss e t = absurd cc
 line-back p l q ss e t = absurd cc
 
-instance-back : (p : Place) (n : ℕ) (r : Record) (q : Place) (ss : List Statement) → after p (instance n r) ≡ Ok q → IsDataRecord r → IsTail q ss → IsTail p (instance n r ∷ ss)
+instance-back : (p : Stage) (n : ℕ) (r : Record) (q : Stage) (ss : List Statement) → after p (instance n r) ≡ Ok q → IsDataRecord r → IsTail q ss → IsTail p (instance n r ∷ ss)
 instance-back Unnamed n r q ss e sound t =
     let u : IsUnnamedTail ss = subst (λ z. IsTail z ss) (sym (ok-same Unnamed q e)) t in
     record { instances = (n, r) ∷ u.instances; records = (sound, u.records); is = ap (λ z. instance n r ∷ z) u.is }
@@ -280,19 +280,19 @@ instance-back Named n r q ss e sound t =
     record { instances = (n, r) ∷ u.instances; behind = u.behind; records = (sound, u.records); tail = u.tail; is = ap (λ z. instance n r ∷ z) u.is }
 instance-back other n r q ss e sound t = absurd cc
 
-back : (p : Place) (s : Statement) (q : Place) (ss : List Statement) → after p s ≡ Ok q → IsSound s → IsTail q ss → IsTail p (s ∷ ss)
+back : (p : Stage) (s : Statement) (q : Stage) (ss : List Statement) → after p s ≡ Ok q → IsSound s → IsTail q ss → IsTail p (s ∷ ss)
 back p (section l) q ss e sound t = line-back p l q ss e t
 back p (header part) q ss e sound t = part-back p part q ss e sound t
 back p (instance n r) q ss e sound t = instance-back p n r q ss e sound t
 
-back-all : (es : List Statement) (p q : Place) (ss : List Statement) → walk es p ≡ Ok q → Each IsSound es → IsTail q ss → IsTail p (es ++ ss)
+back-all : (es : List Statement) (p q : Stage) (ss : List Statement) → walk es p ≡ Ok q → Each IsSound es → IsTail q ss → IsTail p (es ++ ss)
 back-all [] p q ss w sound t = subst (λ z. IsTail z ss) (sym (ok-same p q w)) t
 back-all (e ∷ es) p q ss w sound t = by (λ next v. back-all es next q ss v sound.1 t) (after p e) refl w where
-  by : ((next : Place) → walk es next ≡ Ok q → IsTail next (es ++ ss)) → (r : Result Place GrammarFault) → after p e ≡ r → then_walk (walk es) r ≡ Ok q → IsTail p (e ∷ (es ++ ss))
+  by : ((next : Stage) → walk es next ≡ Ok q → IsTail next (es ++ ss)) → (r : Result Stage GrammarFault) → after p e ≡ r → then_walk (walk es) r ≡ Ok q → IsTail p (e ∷ (es ++ ss))
   by again (Ok next) is v = back p e next (es ++ ss) is sound.0 (again next v)
   by again (Err why) is v = absurd cc
 
--- ---- something may stand behind each place
+-- ---- something may stand behind each stage
 
 abbrev plain_schema : Part
 plain_schema = record { key = key_of (codes "FILE_SCHEMA"); params = only_schema [] }
@@ -330,7 +330,7 @@ plain-description = (header plain_description ∷ plain-name.0, header-back plai
 plain-begun : (ss : List Statement) × IsBegunTail ss
 plain-begun = (section header_start ∷ plain-description.0, record { behind = plain-description.0; tail = plain-description.1; is = refl })
 
-some-tail : (p : Place) → (ss : List Statement) × IsTail p ss
+some-tail : (p : Stage) → (ss : List Statement) × IsTail p ss
 some-tail Start = (section begin ∷ plain-begun.0, record { behind = plain-begun.0; tail = plain-begun.1; is = refl })
 some-tail Begun = plain-begun
 some-tail Description = plain-description
@@ -382,7 +382,7 @@ file-of ss t =
     }
 
 -- statements that lead somewhere, with some behind them, are those of a file
-pub led-file : (es : List Statement) (p : Place) → walk es Start ≡ Ok p → Each IsSound es → (later : List Statement) × HasFile (es ++ later)
+pub led-file : (es : List Statement) (p : Stage) → walk es Start ≡ Ok p → Each IsSound es → (later : List Statement) × HasFile (es ++ later)
 led-file es p w sound = let t = some-tail p in (t.0, file-of (es ++ t.0) (back-all es Start p t.0 w sound t.1))
 
 -- those that lead to the end are all of a file

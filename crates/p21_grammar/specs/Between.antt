@@ -8,12 +8,12 @@ use Rattle.p21_exchange.specs.Record.{Record}
 use Rattle.p21_exchange.specs.Statement.{Statement, instance, statement_tokens}
 use Rattle.p21_grammar.specs.Held.{Held}
 use Rattle.p21_grammar.specs.Histories.{GrammarHistory, BeginsFile, Stands, Answers}
-use Rattle.p21_grammar_machine.specs.Place.{is_in_data}
+use Rattle.p21_grammar.specs.Stage.{is_in_data}
 
 -- in a data section, with no statement open
 pub record IsBetweenInstances (held : Held) : Type 0 where
   pub refused : held.refused ≡ None
-  pub in_data : is_in_data held.place ≡ true
+  pub in_data : is_in_data held.stage ≡ true
   pub pending : held.pending ≡ []
 
 -- instances, each by its name and its record, as statements

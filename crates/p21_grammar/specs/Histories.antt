@@ -7,17 +7,17 @@ use Rattle.p21_exchange.specs.DataSection.{data_part}
 use Rattle.p21_exchange.specs.Grammar.{IsFile}
 use Rattle.p21_exchange.specs.OpenNesting.{IsDepth}
 use Rattle.p21_exchange.specs.Statement.{Statement, statement_tokens}
-use Rattle.p21_exchange.specs.Structure.{Structure, statements, tokens_of, AreFirst}
+use Rattle.p21_exchange.specs.Structure.{Structure, statements, tokens_of, AreFirstStatements}
 use Rattle.p21_exchange.specs.Token.{Token, left}
 use Rattle.p21_grammar.specs.Held.{Held}
 use Rattle.p21_grammar.specs.Sound.{IsSound}
-use Rattle.p21_grammar_machine.specs.Place.{walk}
-use Rattle.p21_grammar_machine.specs.Statements.{statements_of}
-use Rattle.p21_grammar_machine.specs.declared.event.Event.{Event}
-use Rattle.p21_grammar_machine.specs.declared.event.Event.TheVariants.{Named}
-use Rattle.p21_grammar_machine.specs.declared.fault.GrammarFault.{GrammarFault}
-use Rattle.p21_grammar_machine.specs.declared.fault.GrammarFault.TheVariants.{AfterEnd, EndsEarly, NoMemory, TooDeep}
-use Rattle.p21_grammar_machine.specs.declared.place.Place.TheVariants.{Start}
+use Rattle.p21_grammar.specs.Stage.{walk}
+use Rattle.p21_grammar.specs.Statements.{statements_of}
+use Rattle.p21_grammar.specs.declared.event.Event.{Event}
+use Rattle.p21_grammar.specs.declared.event.Event.TheVariants.{Named}
+use Rattle.p21_grammar.specs.declared.fault.GrammarFault.{GrammarFault}
+use Rattle.p21_grammar.specs.declared.fault.GrammarFault.TheVariants.{AfterEnd, EndsEarly, NoMemory, TooDeep}
+use Rattle.p21_grammar.specs.declared.stage.Stage.TheVariants.{Start}
 use Rattle.p21_grammar_tree.specs.View.{part_view}
 
 -- the tokens taken, the one behind them if it was looked at and refused, the statements given, and the refusal
@@ -37,20 +37,20 @@ refused_call token fault = record { taken = []; seen = Some token; given = []; r
 -- ---- what holds of tokens and statements
 
 -- the tokens of the tree begin with these
-abbrev pub BeginsSo : List Token → Structure → Type 0
-BeginsSo tokens structure = (rest : List Token) × (tokens_of structure ≡ tokens ++ rest)
+abbrev pub BeginsWithTokens : List Token → Structure → Type 0
+BeginsWithTokens tokens structure = (rest : List Token) × (tokens_of structure ≡ tokens ++ rest)
 
 -- each tree of a file whose tokens begin so begins with these statements
 abbrev pub AreGivenFirst : List Token → List Statement → Type 0
-AreGivenFirst taken given = (structure : Structure) (text : List ℕ) → IsFile structure text → BeginsSo taken structure → AreFirst given structure
+AreGivenFirst taken given = (structure : Structure) (text : List ℕ) → IsFile structure text → BeginsWithTokens taken structure → AreFirstStatements given structure
 
 -- there is a tree of a file whose tokens begin so, and whose first statements are these
 pub record BeginsFile (taken : List Token) (given : List Statement) : Type 0 where
   pub structure : Structure
   pub text : List ℕ
   pub is_file : IsFile structure text
-  pub tokens_begin : BeginsSo taken structure
-  pub are_first : AreFirst given structure
+  pub tokens_begin : BeginsWithTokens taken structure
+  pub are_first : AreFirstStatements given structure
 
 -- there is a tree of a file with these tokens, and these are its statements
 pub record IsWholeFile (taken : List Token) (given : List Statement) : Type 0 where
@@ -62,17 +62,17 @@ pub record IsWholeFile (taken : List Token) (given : List Statement) : Type 0 wh
 
 -- no tree of a file has tokens that begin so; no tree of a file has these tokens
 abbrev pub BeginNoFile : List Token → Type 0
-BeginNoFile tokens = (structure : Structure) (text : List ℕ) → IsFile structure text → BeginsSo tokens structure → ⊥
+BeginNoFile tokens = (structure : Structure) (text : List ℕ) → IsFile structure text → BeginsWithTokens tokens structure → ⊥
 
 abbrev pub AreNoFile : List Token → Type 0
 AreNoFile tokens = (structure : Structure) (text : List ℕ) → IsFile structure text → tokens_of structure ≡ tokens → ⊥
 
 -- ---- the relation
 
--- the tokens taken are those of the statements given and those that are held; the statements given lead to the place
+-- the tokens taken are those of the statements given and those that are held; the statements given lead to the stage
 pub record IsLive (held : Held) (history : GrammarHistory) : Type 0 where
   pub taken_are : history.taken ≡ flat_map statement_tokens history.given ++ held.pending
-  pub leads : walk history.given Start ≡ Ok held.place
+  pub leads : walk history.given Start ≡ Ok held.stage
   pub sound : Each IsSound history.given
 
 -- what is held stands for a history: what it says is what `new`, `take` and `finish` say of it
@@ -87,9 +87,9 @@ GivesOfFile None history = Unit {0}
 GivesOfFile (Some event) history = BeginsFile history.taken history.given
 
 -- what is given of a data section with a name has the form of one
-abbrev pub IsShapedEvent : Option Event → Type 0
-IsShapedEvent (Some (Named part)) = (name schema : List ℕ) × (part_view part ≡ data_part name schema)
-IsShapedEvent other = Unit {0}
+abbrev pub HasHeadingForm : Option Event → Type 0
+HasHeadingForm (Some (Named part)) = (name schema : List ℕ) × (part_view part ≡ data_part name schema)
+HasHeadingForm other = Unit {0}
 
 -- what holds behind a call that answered
 pub record Answers (held : Held) (event : Option Event) (history : GrammarHistory) : Type 0 where

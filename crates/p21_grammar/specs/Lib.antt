@@ -1,3 +1,9 @@
+pub mod Shape
+pub mod Stage
+pub mod Statements
+pub mod Machine
+pub mod Fault
+pub mod HeadingShape
 pub mod Runs
 pub mod Sound
 pub mod Held
@@ -11,4 +17,3 @@ pub use Rattle.p21_values.specs as p21_values
 pub use Rattle.p21_tokens_automaton.specs as p21_tokens_automaton
 pub use Rattle.p21_tokens.specs as p21_tokens
 pub use Rattle.p21_grammar_tree.specs as p21_grammar_tree
-pub use Rattle.p21_grammar_machine.specs as p21_grammar_machine

@@ -5,24 +5,24 @@ use Rattle.p21_exchange.specs.Parameter.{Params, no_params, param, key_token, pa
 use Rattle.p21_exchange.specs.Record.{part_tokens, record_tokens}
 use Rattle.p21_exchange.specs.Statement.{Statement, section_tokens}
 use Rattle.p21_exchange.specs.Token.{Token, name, equals, left, comma}
-use Rattle.p21_grammar_machine.specs.Machine.{Head, bare, simply, among, Opening, part_row, list_row, typed_row, Open, open_at, Spot, idle, line, named, equal, inside, keyed, next, word, behind, record_end, instance_end, Move, go, emit, refuse, step}
-use Rattle.p21_grammar_machine.specs.declared.place.Place.{Place}
+use Rattle.p21_grammar.specs.Machine.{Head, bare, simply, among, Opening, part_row, list_row, typed_row, Open, open_at, Spot, idle, line, named, equal, inside, keyed, next, word, behind, record_end, instance_end, Move, go, emit, refuse, step}
+use Rattle.p21_grammar.specs.declared.stage.Stage.{Stage}
 
 -- the statements that a run gave, and where it is
-pub data Out : Type 0 where
-  out : List Statement → Place → Spot → Out
+pub data RunOutcome : Type 0 where
+  run_outcome : List Statement → Stage → Spot → RunOutcome
 
-abbrev pub with_first : List Statement → Option Out → Option Out
-with_first es None = None
-with_first es (Some (out fs p sp)) = Some (out (es ++ fs) p sp)
+abbrev pub with_first_statements : List Statement → Option RunOutcome → Option RunOutcome
+with_first_statements es None = None
+with_first_statements es (Some (run_outcome fs p sp)) = Some (run_outcome (es ++ fs) p sp)
 
-abbrev pub moved : Move → (Place → Spot → Option Out) → Option Out
+abbrev pub moved : Move → (Stage → Spot → Option RunOutcome) → Option RunOutcome
 moved (go p sp) then = then p sp
-moved (emit s p) then = with_first (s ∷ []) (then p idle)
+moved (emit s p) then = with_first_statements (s ∷ []) (then p idle)
 moved (refuse why) then = None
 
-abbrev pub run : List Token → Place → Spot → Option Out
-run [] p sp = Some (out [] p sp)
+abbrev pub run : List Token → Stage → Spot → Option RunOutcome
+run [] p sp = Some (run_outcome [] p sp)
 run (t ∷ ts) p sp = moved (step p sp t) (run ts)
 
 -- ---- the tokens that are held

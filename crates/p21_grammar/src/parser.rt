@@ -1,12 +1,14 @@
 ghost use Rattle.std.specs.Prelude.{◌≡◌, ◌≤◌, ◌↔◌, IsTrue, true, Some, None, Err, IfErr, IfOk};
-ghost use Rattle.p21_basics.specs.History.{StandsNew};
+ghost use Rattle.p21_basics.specs.History.{StandsForEmptyHistory};
 ghost use Rattle.p21_exchange.specs.OpenNesting.{IsDepth};
 ghost use Rattle.p21_grammar.specs.Between.{IsBetweenInstances, StandsForMore};
-ghost use Rattle.p21_grammar.specs.Histories.{GrammarHistory, Stands, TakeGives, FinishGives, IsShapedEvent, RefusalIsKnown, RefusesAgain};
-ghost use Rattle.p21_grammar_machine.specs.declared.fault.GrammarFault.{GrammarFault};
+ghost use Rattle.p21_grammar.specs.Histories.{GrammarHistory, Stands, TakeGives, FinishGives, HasHeadingForm, RefusalIsKnown, RefusesAgain};
+ghost use Rattle.p21_grammar.specs.declared.fault.GrammarFault.{GrammarFault};
 ghost use Rattle.p21_tokens.specs.Token.{meant};
 
-use p21_grammar_machine::{Event, GrammarFault, Machine};
+use crate::event::Event;
+use crate::fault::GrammarFault;
+use crate::machine::Machine;
 use p21_tokens::Token;
 use std::alloc::Global;
 use std::marker::Model;
@@ -34,7 +36,7 @@ impl Model for Parser {
 impl Parser {
     /// A parser that has taken nothing. It takes no memory.
     pub fn new(alloc: Global) -> Parser
-        ensures stands { StandsNew Stands result }
+        ensures stands { StandsForEmptyHistory Stands result }
         ensures goes_on { result.refused ≡ None }
     {
         Parser {
@@ -54,7 +56,7 @@ impl Parser {
     /// `NoMemory`. After a refusal each call answers it.
     pub fn take(&mut self, token: Token) -> Result<Option<Event>, GrammarFault>
         ensures gives { TakeGives self.old (meant token) result self.new }
-        ensures shaped { IfOk result IsShapedEvent }
+        ensures shaped { IfOk result HasHeadingForm }
         ensures goes_on { IfOk result (λ event. self.new.refused ≡ None) }
         ensures again { RefusesAgain self.old result self.new }
         ensures refused { IfErr result (λ fault. self.new.refused ≡ Some fault) }

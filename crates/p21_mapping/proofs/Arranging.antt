@@ -8,13 +8,13 @@ use Rattle.std.proofs.lemmas.List.Elements.{Contains-append_left, Contains-appen
 use Rattle.std.proofs.lemmas.Option.{slice_get-map}
 use Rattle.p21_basics.proofs.Members.{Contains-cases, Contains-first, Contains-later, Contains-found}
 use Rattle.p21_basics.proofs.Shuffles.{NoneTwice, distinct-none_twice}
-use Rattle.p21_express_tables.proofs.Lookups.{numbers-more}
-use Rattle.p21_express_tables.specs.Orders.{numbers}
+use Rattle.p21_express_graph.proofs.Lookups.{numbers-more}
+use Rattle.p21_express_graph.specs.Orders.{numbers}
 use Rattle.p21_express_types.specs.declared.number.EntityId.{EntityId}
 use Rattle.p21_files.specs.Value.{Values}
-use Rattle.p21_mapping.specs.Arranged.{AreArranged, ArrangedSoFar}
-use Rattle.p21_express_tables.proofs.Pairs.{AllZip-more}
-use Rattle.p21_mapping_sets.proofs.Rows.{mapped-at}
+use Rattle.p21_mapping.specs.ArrangedRows.{AreArranged, ArrangedSoFar}
+use Rattle.p21_express_graph.proofs.Pairs.{AllZip-more}
+use Rattle.p21_mapping.proofs.GrownLists.{mapped-at}
 use Rattle.p21_mapping_values.specs.declared.value.Values.{Values as Stored}
 use Rattle.p21_mapping_values.specs.TypedView.{rows_view}
 use Rattle.p21_mapping_values.specs.View.{list_of, views}

@@ -10,7 +10,7 @@ use Rattle.p21_files.specs.Value as meant
 use Rattle.p21_grammar_tree.specs.declared.param.Param.{Param as Parameter}
 use Rattle.p21_mapping.proofs.RowLists.{row-left}
 use Rattle.p21_mapping.specs.Rows.{FitsHere, RefusesHere, RowSoFar, param_views}
-use Rattle.p21_mapping_fit.specs.Outcome.{FitsPlaceOrBreaks, needs_view}
+use Rattle.p21_mapping.specs.Outcome.{FitsPlaceOrBreaks, needs_view}
 use Rattle.p21_mapping_values.specs.declared.fault.CheckFault.{CheckFault}
 use Rattle.p21_mapping_values.specs.declared.need.Need.{Need}
 use Rattle.p21_mapping_values.specs.declared.value.Value.{Value}

@@ -7,14 +7,14 @@ use Rattle.std.proofs.lemmas.Option.{slice_get_within}
 use Rattle.p21_basics.proofs.Members.{AllZip-member, Contains-first, Each-member, Each-of_members}
 use Rattle.p21_exchange.specs.Parameter.{Param, listed}
 use Rattle.p21_exchange.specs.Record.{Part, Record, simple, complex}
-use Rattle.p21_express_tables.specs.Lookups.{AreEntities}
+use Rattle.p21_express_graph.specs.Lookups.{AreEntities}
 use Rattle.p21_files.specs.BrokenRule.{Breaks, at_place}
 use Rattle.p21_files.specs.Meaning.{HasPlaceTypes}
-use Rattle.p21_files.specs.RecordPlaces.{StandsAt}
+use Rattle.p21_files.specs.RecordPlaces.{HasParamAt}
 use Rattle.p21_files.specs.Reference.{Need}
-use Rattle.p21_mapping.specs.Arranged.{HasRows}
+use Rattle.p21_mapping.specs.ArrangedRows.{HasRows}
 use Rattle.p21_mapping.specs.Rows.{BreaksAmong, TakesRows, TakesParts, RefusesAmong, RefusesPart}
-use Rattle.p21_mapping_sets.specs.Shape.{HasShape, Refuses}
+use Rattle.p21_mapping.specs.Shape.{HasShape, Refuses}
 use Rattle.p21_mapping_values.specs.declared.fault.CheckFault.{CheckFault}
 use Rattle.p21_mapping_values.specs.Fault.{fault_number}
 use Rattle.p21_mapping_values.specs.declared.value.Values.{Values as Stored}
@@ -35,7 +35,7 @@ pub simple-long : (s : Schema) (part : Part) (es entities : List ℕ) → HasSha
 simple-long s part es entities shape = let (e, named, is) = shape.listed_are in shape.counts part e (Contains-first part [], named) ∙ ap (λ xs. length (flat_map (own_places s) xs)) (sym is)
 
 -- what is broken at a place the record breaks
-broken : (s : Schema) (r : Record) (es entities : List ℕ) → HasShape s r es entities → (pairs : List (Place × Param)) → ((place : Place) (p : Param) → Contains pairs (place, p) → StandsAt s r place p) → (number : ℕ) → BreaksAmong s entities pairs number → Breaks s r number
+broken : (s : Schema) (r : Record) (es entities : List ℕ) → HasShape s r es entities → (pairs : List (Place × Param)) → ((place : Place) (p : Param) → Contains pairs (place, p) → HasParamAt s r place p) → (number : ℕ) → BreaksAmong s entities pairs number → Breaks s r number
 broken s r es entities shape pairs stands number (place, p, among, (at, type_at, breaks)) = at_place number (entities, place, at, p, shape.set_is, type_at, stands place p among, breaks)
 
 pub simple-refused : (s : Schema) (part : Part) (es entities : List ℕ) → HasShape s (simple part) es entities → (number : ℕ) → BreaksAmong s entities (zip (flat_map (own_places s) es) (listed part.params)) number → Breaks s (simple part) number

@@ -5,19 +5,19 @@ use Rattle.std.proofs.Common.{arith, ap, sym, ◌∙◌, subst, append_assoc}
 use Rattle.std.proofs.lemmas.List.{append-nil, map-append, length-append}
 use Rattle.std.proofs.lemmas.Grind.{flat_map-append}
 use Rattle.p21_basics.proofs.Members.{Contains-first, Contains-later, Each-append}
-use Rattle.p21_claim_values.specs.Needs.{FitPlacesWith, PartsNeed}
+use Rattle.p21_claim_values.specs.Needs.{FitPlacesWithNeeds, AreNeedsOfParts}
 use Rattle.p21_exchange.specs.Parameter.{Param, Params, param, listed, params_of}
 use Rattle.p21_exchange.specs.Record.{Part}
-use Rattle.p21_express_tables.specs.Lookups.{places_from}
-use Rattle.p21_express_tables.proofs.Lookups.{own-places-are, places-more}
+use Rattle.p21_express_graph.specs.Lookups.{places_from}
+use Rattle.p21_express_graph.proofs.Lookups.{own-places-are, places-more}
 use Rattle.p21_files.specs.Meaning.{Typed, HasValues}
 use Rattle.p21_files.specs.Reference.{Need}
 use Rattle.p21_files.specs.Value.{Value, Values, count, value_at}
-use Rattle.p21_mapping.specs.Rows.{Fitted, IsFitted, FitsHere, FitsRow, Row, IsRow, FitsRows, RowSoFar, TakesRow}
-use Rattle.p21_mapping_sets.proofs.Shapes.{own-count}
-use Rattle.p21_mapping_sets.specs.Shape.{AreNamed}
-use Rattle.p21_mapping_text.specs.KnownTypes.{HaveKnownTypes}
-use Rattle.p21_mapping_values.specs.View.{in_row}
+use Rattle.p21_mapping.specs.Rows.{FittedParam, IsFitted, FitsHere, FitsRow, Row, IsRow, FitsRows, RowSoFar, TakesRow}
+use Rattle.p21_mapping.proofs.Shapes.{own-count}
+use Rattle.p21_mapping.specs.Shape.{AreNamed}
+use Rattle.p21_mapping_values.specs.KnownTypes.{HaveKnownTypes}
+use Rattle.p21_mapping_values.specs.View.{row_of_values}
 use Rattle.p21_schemas.specs.Order.{own_places}
 use Rattle.p21_schemas.specs.PlaceType.{TypeAt}
 use Rattle.p21_schemas.specs.Schema.{Schema, Place, attributes_of}
@@ -28,92 +28,92 @@ use Rattle.p21_exchange.proofs.Parameters.{params-listed}
 pub row-none : (s : Schema) (entities : List ℕ) → FitsRow s entities [] [] [] []
 row-none s entities = record { fitted = []; each = tt; places_are = refl; params_are = refl; values_are = refl; needs_are = refl }
 
-pub row-push : (s : Schema) (entities : List ℕ) (places : List Place) (ps : List Param) (vs : List Value) (needs : List Need) (f : Fitted) → FitsRow s entities places ps vs needs → IsFitted s entities f
+pub row-push : (s : Schema) (entities : List ℕ) (places : List Place) (ps : List Param) (vs : List Value) (needs : List Need) (f : FittedParam) → FitsRow s entities places ps vs needs → IsFitted s entities f
     → FitsRow s entities (places ++ f.place ∷ []) (ps ++ f.param ∷ []) (vs ++ f.value ∷ []) (needs ++ f.needs)
 row-push s entities places ps vs needs f row one = record {
   fitted = row.fitted ++ f ∷ [];
   each = Each-append (IsFitted s entities) row.fitted (f ∷ []) row.each (one, tt);
-  places_are = map-append (λ (g : Fitted). g.place) row.fitted (f ∷ []) ∙ ap (λ xs. xs ++ f.place ∷ []) row.places_are;
-  params_are = map-append (λ (g : Fitted). g.param) row.fitted (f ∷ []) ∙ ap (λ xs. xs ++ f.param ∷ []) row.params_are;
-  values_are = map-append (λ (g : Fitted). g.value) row.fitted (f ∷ []) ∙ ap (λ xs. xs ++ f.value ∷ []) row.values_are;
-  needs_are = flat_map-append (λ (g : Fitted). g.needs) row.fitted (f ∷ []) ∙ ap (λ xs. flat_map (λ (g : Fitted). g.needs) row.fitted ++ xs) (append-nil f.needs) ∙ ap (λ xs. xs ++ f.needs) row.needs_are;
+  places_are = map-append (λ (g : FittedParam). g.place) row.fitted (f ∷ []) ∙ ap (λ xs. xs ++ f.place ∷ []) row.places_are;
+  params_are = map-append (λ (g : FittedParam). g.param) row.fitted (f ∷ []) ∙ ap (λ xs. xs ++ f.param ∷ []) row.params_are;
+  values_are = map-append (λ (g : FittedParam). g.value) row.fitted (f ∷ []) ∙ ap (λ xs. xs ++ f.value ∷ []) row.values_are;
+  needs_are = flat_map-append (λ (g : FittedParam). g.needs) row.fitted (f ∷ []) ∙ ap (λ xs. flat_map (λ (g : FittedParam). g.needs) row.fitted ++ xs) (append-nil f.needs) ∙ ap (λ xs. xs ++ f.needs) row.needs_are;
 }
 
 pub rows-none : (s : Schema) (entities : List ℕ) → FitsRows s entities [] [] [] []
 rows-none s entities = record { rows = []; each = tt; owners_are = refl; params_are = refl; values_are = refl; needs_are = refl }
 
 pub rows-push : (s : Schema) (entities owners : List ℕ) (pss : List (List Param)) (vss : List Values) (needs : List Need) (row : Row) → FitsRows s entities owners pss vss needs → IsRow s entities row
-    → FitsRows s entities (owners ++ row.owner ∷ []) (pss ++ row.params ∷ []) (vss ++ in_row row.values ∷ []) (needs ++ row.needs)
+    → FitsRows s entities (owners ++ row.owner ∷ []) (pss ++ row.params ∷ []) (vss ++ row_of_values row.values ∷ []) (needs ++ row.needs)
 rows-push s entities owners pss vss needs row all one = record {
   rows = all.rows ++ row ∷ [];
   each = Each-append (IsRow s entities) all.rows (row ∷ []) all.each (one, tt);
   owners_are = map-append (λ (r : Row). r.owner) all.rows (row ∷ []) ∙ ap (λ xs. xs ++ row.owner ∷ []) all.owners_are;
   params_are = map-append (λ (r : Row). r.params) all.rows (row ∷ []) ∙ ap (λ xs. xs ++ row.params ∷ []) all.params_are;
-  values_are = map-append (λ (r : Row). in_row r.values) all.rows (row ∷ []) ∙ ap (λ xs. xs ++ in_row row.values ∷ []) all.values_are;
+  values_are = map-append (λ (r : Row). row_of_values r.values) all.rows (row ∷ []) ∙ ap (λ xs. xs ++ row_of_values row.values ∷ []) all.values_are;
   needs_are = flat_map-append (λ (r : Row). r.needs) all.rows (row ∷ []) ∙ ap (λ xs. flat_map (λ (r : Row). r.needs) all.rows ++ xs) (append-nil row.needs) ∙ ap (λ xs. xs ++ row.needs) all.needs_are;
 }
 
 -- ---- a row at its places
 
-value_at-in_row : (vs : List Value) (i : ℕ) → value_at (in_row vs) i ≡ slice_get vs i
-value_at-in_row [] i = refl
-value_at-in_row (v ∷ vs) zero = refl
-value_at-in_row (v ∷ vs) (suc i) = value_at-in_row vs i
+value_at-row_of_values : (vs : List Value) (i : ℕ) → value_at (row_of_values vs) i ≡ slice_get vs i
+value_at-row_of_values [] i = refl
+value_at-row_of_values (v ∷ vs) zero = refl
+value_at-row_of_values (v ∷ vs) (suc i) = value_at-row_of_values vs i
 
-fitted-places : (s : Schema) (m : Typed) (e : ℕ) (whole : Values) → HasValues m e whole → (k n : ℕ) (fitted : List Fitted) → Each (IsFitted s m.entities) fitted → map (λ (f : Fitted). f.place) fitted ≡ places_from e k n
-    → ((i : ℕ) (v : Value) → slice_get (map (λ (f : Fitted). f.value) fitted) i ≡ Some v → value_at whole (k + i) ≡ Some v)
-    → FitPlacesWith s m (places_from e k n) (params_of (map (λ (f : Fitted). f.param) fitted)) (flat_map (λ (f : Fitted). f.needs) fitted)
+fitted-places : (s : Schema) (m : Typed) (e : ℕ) (whole : Values) → HasValues m e whole → (k n : ℕ) (fitted : List FittedParam) → Each (IsFitted s m.entities) fitted → map (λ (f : FittedParam). f.place) fitted ≡ places_from e k n
+    → ((i : ℕ) (v : Value) → slice_get (map (λ (f : FittedParam). f.value) fitted) i ≡ Some v → value_at whole (k + i) ≡ Some v)
+    → FitPlacesWithNeeds s m (places_from e k n) (params_of (map (λ (f : FittedParam). f.param) fitted)) (flat_map (λ (f : FittedParam). f.needs) fitted)
 fitted-places s m e whole has k zero [] each same values = refl
 fitted-places s m e whole has k zero (f ∷ fs) each same values = cc
 fitted-places s m e whole has k (suc n) [] each same values = cc
 fitted-places s m e whole has k (suc n) (f ∷ fs) each same values =
     let place_is : f.place ≡ record { entity = e; index = k } = cc in
-    let rest_is : map (λ (g : Fitted). g.place) fs ≡ places_from e (k + 1) n = cc in
+    let rest_is : map (λ (g : FittedParam). g.place) fs ≡ places_from e (k + 1) n = cc in
     let (at, type_at, fit, known) = each.0 in
     let P : Place → Type 0 = λ place. TypeAt s m.entities place at in
     let here : k + 0 ≡ k = omega arith in
     let there : value_at whole k ≡ Some f.value = ap (value_at whole) (sym here) ∙ values 0 f.value refl in (
       f.needs,
-      flat_map (λ (g : Fitted). g.needs) fs,
+      flat_map (λ (g : FittedParam). g.needs) fs,
       refl,
       (at, f.value, subst P place_is type_at, fit, (whole, has, there)),
       fitted-places s m e whole has (k + 1) n fs each.1 rest_is (λ i v is. let next : k + 1 + i ≡ k + suc i = omega arith in ap (value_at whole) next ∙ values (suc i) v is),
     )
 
 -- the parameters of a row fit the places of its entity
-pub row-fits : (s : Schema) (m : Typed) (row : Row) → IsRow s m.entities row → HasValues m row.owner (in_row row.values) → FitPlacesWith s m (own_places s row.owner) (params_of row.params) row.needs
+pub row-fits : (s : Schema) (m : Typed) (row : Row) → IsRow s m.entities row → HasValues m row.owner (row_of_values row.values) → FitPlacesWithNeeds s m (own_places s row.owner) (params_of row.params) row.needs
 row-fits s m row is has =
     let n : ℕ = length (attributes_of s row.owner) in
-    let found = fitted-places s m row.owner (in_row row.values) has 0 n is.fitted is.each (is.places_are ∙ sym (own-places-are s row.owner)) (λ i v at. let zero_ : 0 + i ≡ i = omega arith in ap (value_at (in_row row.values)) zero_ ∙ value_at-in_row row.values i ∙ ap (λ vs. slice_get vs i) (sym is.values_are) ∙ at) in
-    let P : List Place → Type 0 = λ places. FitPlacesWith s m places (params_of row.params) row.needs in
-    let Q : List Param → Type 0 = λ ps. FitPlacesWith s m (places_from row.owner 0 n) (params_of ps) row.needs in
-    let R : List Need → Type 0 = λ needs. FitPlacesWith s m (places_from row.owner 0 n) (params_of (map (λ (f : Fitted). f.param) is.fitted)) needs in
+    let found = fitted-places s m row.owner (row_of_values row.values) has 0 n is.fitted is.each (is.places_are ∙ sym (own-places-are s row.owner)) (λ i v at. let zero_ : 0 + i ≡ i = omega arith in ap (value_at (row_of_values row.values)) zero_ ∙ value_at-row_of_values row.values i ∙ ap (λ vs. slice_get vs i) (sym is.values_are) ∙ at) in
+    let P : List Place → Type 0 = λ places. FitPlacesWithNeeds s m places (params_of row.params) row.needs in
+    let Q : List Param → Type 0 = λ ps. FitPlacesWithNeeds s m (places_from row.owner 0 n) (params_of ps) row.needs in
+    let R : List Need → Type 0 = λ needs. FitPlacesWithNeeds s m (places_from row.owner 0 n) (params_of (map (λ (f : FittedParam). f.param) is.fitted)) needs in
     subst P (own-places-are s row.owner) (subst Q is.params_are (subst R is.needs_are found))
 
 -- as many values as places
-pub row-count : (s : Schema) (entities : List ℕ) (row : Row) → IsRow s entities row → count (in_row row.values) ≡ length (attributes_of s row.owner)
+pub row-count : (s : Schema) (entities : List ℕ) (row : Row) → IsRow s entities row → count (row_of_values row.values) ≡ length (attributes_of s row.owner)
 row-count s entities row is =
-    counted row.values ∙ ap length (sym is.values_are) ∙ mapped (λ (f : Fitted). f.value) is.fitted ∙ sym (mapped (λ (f : Fitted). f.place) is.fitted) ∙ ap length is.places_are ∙ own-count s row.owner
+    counted row.values ∙ ap length (sym is.values_are) ∙ mapped (λ (f : FittedParam). f.value) is.fitted ∙ sym (mapped (λ (f : FittedParam). f.place) is.fitted) ∙ ap length is.places_are ∙ own-count s row.owner
   where
-    counted : (vs : List Value) → count (in_row vs) ≡ length vs
+    counted : (vs : List Value) → count (row_of_values vs) ≡ length vs
     counted [] = refl
     counted (v ∷ vs) = ap suc (counted vs)
 
-    mapped : {Y : Type 0} (g : Fitted → Y) (fs : List Fitted) → length (map g fs) ≡ length fs
+    mapped : {Y : Type 0} (g : FittedParam → Y) (fs : List FittedParam) → length (map g fs) ≡ length fs
     mapped g [] = refl
     mapped g (f ∷ fs) = ap suc (mapped g fs)
 
-pub row-known : (s : Schema) (entities : List ℕ) (row : Row) → IsRow s entities row → HaveKnownTypes s (in_row row.values)
-row-known s entities row is = let P : List Value → Type 0 = λ vs. HaveKnownTypes s (in_row vs) in subst P is.values_are (known is.fitted is.each)
+pub row-known : (s : Schema) (entities : List ℕ) (row : Row) → IsRow s entities row → HaveKnownTypes s (row_of_values row.values)
+row-known s entities row is = let P : List Value → Type 0 = λ vs. HaveKnownTypes s (row_of_values vs) in subst P is.values_are (known is.fitted is.each)
   where
-    known : (fs : List Fitted) → Each (IsFitted s entities) fs → HaveKnownTypes s (in_row (map (λ (f : Fitted). f.value) fs))
+    known : (fs : List FittedParam) → Each (IsFitted s entities) fs → HaveKnownTypes s (row_of_values (map (λ (f : FittedParam). f.value) fs))
     known [] each = tt
     known (f ∷ fs) each = (each.0.3, known fs each.1)
 
 -- ---- rows one behind the other
 
-fit-joined : (s : Schema) (m : Typed) (places more : List Place) (ps qs : List Param) (needs others : List Need) → FitPlacesWith s m places (params_of ps) needs → FitPlacesWith s m more (params_of qs) others → FitPlacesWith s m (places ++ more) (params_of (ps ++ qs)) (needs ++ others)
-fit-joined s m [] more [] qs needs others fit fits = let P : List Need → Type 0 = λ ns. FitPlacesWith s m more (params_of qs) (ns ++ others) in subst P (sym fit) fits
+fit-joined : (s : Schema) (m : Typed) (places more : List Place) (ps qs : List Param) (needs others : List Need) → FitPlacesWithNeeds s m places (params_of ps) needs → FitPlacesWithNeeds s m more (params_of qs) others → FitPlacesWithNeeds s m (places ++ more) (params_of (ps ++ qs)) (needs ++ others)
+fit-joined s m [] more [] qs needs others fit fits = let P : List Need → Type 0 = λ ns. FitPlacesWithNeeds s m more (params_of qs) (ns ++ others) in subst P (sym fit) fits
 fit-joined s m [] more (p ∷ ps) qs needs others fit fits = absurd fit
 fit-joined s m (place ∷ places) more [] qs needs others fit fits = absurd fit
 fit-joined s m (place ∷ places) more (p ∷ ps) qs needs others (first, rest, is, here, later) fits =
@@ -121,24 +121,24 @@ fit-joined s m (place ∷ places) more (p ∷ ps) qs needs others (first, rest, 
 
 -- each row has its values in what is meant
 abbrev pub HaveValues : Typed → List Row → Type 0
-HaveValues m rows = Each (λ (row : Row). HasValues m row.owner (in_row row.values)) rows
+HaveValues m rows = Each (λ (row : Row). HasValues m row.owner (row_of_values row.values)) rows
 
 -- in internal mapping all parameters stand one behind the other
 pub rows-joined : (s : Schema) (m : Typed) (rows : List Row) → Each (IsRow s m.entities) rows → HaveValues m rows
-    → FitPlacesWith s m (flat_map (own_places s) (map (λ (row : Row). row.owner) rows)) (params_of (flat_map (λ (ps : List Param). ps) (map (λ (row : Row). row.params) rows))) (flat_map (λ (row : Row). row.needs) rows)
+    → FitPlacesWithNeeds s m (flat_map (own_places s) (map (λ (row : Row). row.owner) rows)) (params_of (flat_map (λ (ps : List Param). ps) (map (λ (row : Row). row.params) rows))) (flat_map (λ (row : Row). row.needs) rows)
 rows-joined s m [] each has = refl
 rows-joined s m (row ∷ rows) each has = fit-joined s m (own_places s row.owner) _ row.params _ row.needs _ (row-fits s m row each.0 has.0) (rows-joined s m rows each.1 has.1)
 
 -- in external mapping each simple record has a row
 pub rows-parts : (s : Schema) (m : Typed) (parts : List Part) (rows : List Row) → Each (IsRow s m.entities) rows → HaveValues m rows → AreNamed s parts (map (λ (row : Row). row.owner) rows) → map (λ (row : Row). row.params) rows ≡ map (λ (part : Part). listed part.params) parts
-    → PartsNeed s m parts (flat_map (λ (row : Row). row.needs) rows)
+    → AreNeedsOfParts s m parts (flat_map (λ (row : Row). row.needs) rows)
 rows-parts s m [] [] each has named same = refl
 rows-parts s m [] (row ∷ rows) each has named same = absurd named
 rows-parts s m (part ∷ parts) [] each has named same = absurd named
 rows-parts s m (part ∷ parts) (row ∷ rows) each has named same =
     let here : row.params ≡ listed part.params = cc in
     let later : map (λ (r : Row). r.params) rows ≡ map (λ (p : Part). listed p.params) parts = cc in
-    let P : Params → Type 0 = λ ps. FitPlacesWith s m (own_places s row.owner) ps row.needs in (
+    let P : Params → Type 0 = λ ps. FitPlacesWithNeeds s m (own_places s row.owner) ps row.needs in (
       row.needs,
       flat_map (λ (r : Row). r.needs) rows,
       refl,
@@ -195,9 +195,9 @@ from-length e k zero = refl
 from-length e k (suc n) = ap suc (from-length e (k + 1) n)
 
 pub row-long : (s : Schema) (entities : List ℕ) (places : List Place) (ps : List Param) (vs : List Value) (needs : List Need) → FitsRow s entities places ps vs needs → length places ≡ length ps
-row-long s entities places ps vs needs row = sym (ap length row.places_are) ∙ mapped (λ (f : Fitted). f.place) row.fitted ∙ sym (mapped (λ (f : Fitted). f.param) row.fitted) ∙ ap length row.params_are
+row-long s entities places ps vs needs row = sym (ap length row.places_are) ∙ mapped (λ (f : FittedParam). f.place) row.fitted ∙ sym (mapped (λ (f : FittedParam). f.param) row.fitted) ∙ ap length row.params_are
   where
-    mapped : {Y : Type 0} (g : Fitted → Y) (fs : List Fitted) → length (map g fs) ≡ length fs
+    mapped : {Y : Type 0} (g : FittedParam → Y) (fs : List FittedParam) → length (map g fs) ≡ length fs
     mapped g [] = refl
     mapped g (f ∷ fs) = ap suc (mapped g fs)
 

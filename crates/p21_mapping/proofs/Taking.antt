@@ -8,8 +8,8 @@ use Rattle.std.proofs.lemmas.Slice.Zip.{AllZip-long}
 use Rattle.p21_basics.proofs.Members.{Contains-none, Contains-later, Contains-cases, Contains-found}
 use Rattle.p21_exchange.specs.Parameter.{Param, listed}
 use Rattle.p21_exchange.specs.Record.{Part, complex}
-use Rattle.p21_express_tables.proofs.Lookups.{numbers-more}
-use Rattle.p21_express_tables.specs.Orders.{numbers}
+use Rattle.p21_express_graph.proofs.Lookups.{numbers-more}
+use Rattle.p21_express_graph.specs.Orders.{numbers}
 use Rattle.p21_express_types.specs.declared.number.EntityId.{EntityId}
 use Rattle.p21_files.specs.Meaning.{NamesEntity}
 use Rattle.p21_files.specs.RecordPlaces.{HasPart}
@@ -17,12 +17,12 @@ use Rattle.p21_files.specs.Reference.{Need}
 use Rattle.p21_files.specs.Value.{Value, Values}
 use Rattle.p21_mapping.specs.Rows.{Row, IsRow, FitsRows, TakesRow, TakesRows, TakesParts, BreaksAmong}
 use Rattle.p21_mapping.proofs.RowLists.{rows-none, rows-push, row-long}
-use Rattle.p21_mapping_sets.proofs.Rows.{flat_map-more, flat_map-front, AllZip-at_both, mapped-at}
-use Rattle.p21_mapping_sets.proofs.Shapes.{own-count}
-use Rattle.p21_mapping_sets.specs.Shape.{AreNamed}
+use Rattle.p21_mapping.proofs.GrownLists.{flat_map-more, flat_map-front, AllZip-at_both, mapped-at}
+use Rattle.p21_mapping.proofs.Shapes.{own-count}
+use Rattle.p21_mapping.specs.Shape.{AreNamed}
 use Rattle.p21_mapping_values.specs.declared.value.Values.{Values as Stored}
 use Rattle.p21_mapping_values.specs.TypedView.{rows_view}
-use Rattle.p21_mapping_values.specs.View.{in_row, list_of, view}
+use Rattle.p21_mapping_values.specs.View.{row_of_values, list_of, view}
 use Rattle.p21_schemas.specs.Order.{own_places}
 use Rattle.p21_schemas.specs.Schema.{Schema, Place, attributes_of}
 
@@ -33,8 +33,8 @@ flat pss = flat_map (λ (ps : List Param). ps) pss
 flat-push : (pss : List (List Param)) (ps : List Param) → flat (pss ++ ps ∷ []) ≡ flat pss ++ ps
 flat-push pss ps = flat_map-append (λ (xs : List Param). xs) pss (ps ∷ []) ∙ ap (λ xs. flat pss ++ xs) (append-nil ps)
 
-rows_view-push : (rows after : List Stored) (row : Stored) → after ≡ rows ++ row ∷ [] → rows_view after ≡ rows_view rows ++ in_row (map view (list_of row)) ∷ []
-rows_view-push rows after row pushed = ap rows_view pushed ∙ map-append (λ (x : Stored). in_row (map view (list_of x))) rows (row ∷ [])
+rows_view-push : (rows after : List Stored) (row : Stored) → after ≡ rows ++ row ∷ [] → rows_view after ≡ rows_view rows ++ row_of_values (map view (list_of row)) ∷ []
+rows_view-push rows after row pushed = ap rows_view pushed ∙ map-append (λ (x : Stored). row_of_values (map view (list_of x))) rows (row ∷ [])
 
 -- as many parameters as places
 rows-long : (s : Schema) (entities owners : List ℕ) (pss : List (List Param)) (vss : List Values) (needs : List Need) → FitsRows s entities owners pss vss needs → length (flat pss) ≡ length (flat_map (own_places s) owners)
@@ -139,7 +139,7 @@ module _ (s : Schema) (entities : List ℕ) (owners : List EntityId) where
       let pss : List (List Param) = map (λ (x : Part). listed x.params) all.parts in
       let P : List ℕ → Type 0 = λ es. FitsRows s entities es (map (λ (x : Part). listed x.params) (all.parts ++ part ∷ [])) (rows_view after) (all.added ++ one.added) in
       let Q : List Values → Type 0 = λ vss. FitsRows s entities (numbers (take k owners) ++ e ∷ []) (map (λ (x : Part). listed x.params) (all.parts ++ part ∷ [])) vss (all.added ++ one.added) in
-      let R : List (List Param) → Type 0 = λ xss. FitsRows s entities (numbers (take k owners) ++ e ∷ []) xss (rows_view rows ++ in_row (map view (list_of row)) ∷ []) (all.added ++ one.added) in
+      let R : List (List Param) → Type 0 = λ xss. FitsRows s entities (numbers (take k owners) ++ e ∷ []) xss (rows_view rows ++ row_of_values (map view (list_of row)) ∷ []) (all.added ++ one.added) in
       record {
         parts = all.parts ++ part ∷ [];
         added = all.added ++ one.added;

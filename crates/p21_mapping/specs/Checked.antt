@@ -2,15 +2,15 @@
 use Rattle.std.specs.Prelude.{◌≡◌, ◌≢◌, ◌↔◌, List, map, Result, Ok, Err, Vec}
 use Rattle.std.specs.Global.{Global}
 use Rattle.std.specs.List.{AllByRecursion as Each}
-use Rattle.p21_claim_values.specs.Needs.{MeansWith}
+use Rattle.p21_claim_values.specs.Needs.{MeansWithNeeds}
 use Rattle.p21_exchange.specs.Record.{Record}
 use Rattle.p21_files.specs.BrokenRule.{Breaks}
 use Rattle.p21_files.specs.Meaning.{RecordMeans}
 use Rattle.p21_files.specs.Meaning as meaning
-use Rattle.p21_files.specs.Reference.{IsServed, Kinds, record_references}
+use Rattle.p21_files.specs.Reference.{IsServed, EntitySets, record_references}
 use Rattle.p21_files.specs.Reference as reference
-pub use Rattle.p21_mapping_fit.specs.Outcome.{needs_view}
-use Rattle.p21_mapping_text.specs.KnownTypes.{HaveKnownTypes}
+pub use Rattle.p21_mapping.specs.Outcome.{needs_view}
+use Rattle.p21_mapping_values.specs.KnownTypes.{HaveKnownTypes}
 use Rattle.p21_mapping_values.specs.declared.fault.CheckFault.{CheckFault}
 use Rattle.p21_mapping_values.specs.declared.fault.CheckFault.TheVariants.{NoMemory}
 use Rattle.p21_mapping_values.specs.declared.need.Need.{Need}
@@ -21,15 +21,15 @@ use Rattle.p21_schemas.specs.Schema.{Schema}
 
 -- the record has no meaning, whatever the sets of the instances
 abbrev pub MeansNothing : Schema → Record → Type 0
-MeansNothing s record_ = (kinds : Kinds) (m : meaning.Typed) → ¬ RecordMeans s kinds record_ m
+MeansNothing s record_ = (kinds : EntitySets) (m : meaning.Typed) → ¬ RecordMeans s kinds record_ m
 
 -- The record means this with these needs: it has a meaning exactly among instances that serve each of them, and that is
 -- this one. Some instances serve them all; they are the names in its parameters, in their order. Each keyword of a value names a type
 pub record IsChecked (s : Schema) (record_ : Record) (m : meaning.Typed) (needs : List reference.Need) : Type 0 where
-  pub means : MeansWith s record_ m needs
-  pub decided : (kinds : Kinds) → RecordMeans s kinds record_ m ↔ Each (IsServed s kinds) needs
-  pub sole : (kinds : Kinds) (other : meaning.Typed) → RecordMeans s kinds record_ other → other ≡ m
-  pub can_be_served : (kinds : Kinds) × Each (IsServed s kinds) needs
+  pub means : MeansWithNeeds s record_ m needs
+  pub decided : (kinds : EntitySets) → RecordMeans s kinds record_ m ↔ Each (IsServed s kinds) needs
+  pub sole : (kinds : EntitySets) (other : meaning.Typed) → RecordMeans s kinds record_ other → other ≡ m
+  pub can_be_served : (kinds : EntitySets) × Each (IsServed s kinds) needs
   pub targets_are : map (λ (need : reference.Need). need.target) needs ≡ record_references record_
   pub known : Each (HaveKnownTypes s) m.values
 

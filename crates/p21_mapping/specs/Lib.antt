@@ -1,6 +1,12 @@
+pub mod Positions
+pub mod Shape
+pub mod Aggregate
+pub mod Outcome
+pub mod Choosing
+pub mod PresentTexts
 pub mod Rows
 pub mod Checked
-pub mod Arranged
+pub mod ArrangedRows
 -- What the clauses of its calls cite, for callers who name this crate alone
 pub use Rattle.p21_basics.specs as p21_basics
 pub use Rattle.p21_exchange.specs as p21_exchange
@@ -10,8 +16,6 @@ pub use Rattle.p21_claim_values.specs as p21_claim_values
 pub use Rattle.p21_values.specs as p21_values
 pub use Rattle.p21_grammar_tree.specs as p21_grammar_tree
 pub use Rattle.p21_express_types.specs as p21_express_types
+pub use Rattle.p21_express_graph.specs as p21_express_graph
 pub use Rattle.p21_express_tables.specs as p21_express_tables
 pub use Rattle.p21_mapping_values.specs as p21_mapping_values
-pub use Rattle.p21_mapping_text.specs as p21_mapping_text
-pub use Rattle.p21_mapping_fit.specs as p21_mapping_fit
-pub use Rattle.p21_mapping_sets.specs as p21_mapping_sets

@@ -1,43 +1,43 @@
 -- Parameters at the places of entities, with the values that they stand for there and what these need.
 use Rattle.std.specs.Prelude.{◌≡◌, ◌≢◌, ℕ, List, ◌++◌, map, Contains}
 use Rattle.std.specs.List.{AllByRecursion as Each, flat_map, zip}
-use Rattle.p21_claim_values.specs.Needs.{FitsAtWith}
+use Rattle.p21_claim_values.specs.Needs.{FitsAtWithNeeds}
 use Rattle.p21_exchange.specs.Parameter.{Param, listed}
 use Rattle.p21_exchange.specs.Record.{Part, complex}
-use Rattle.p21_express_tables.specs.Lookups.{places_from}
+use Rattle.p21_express_graph.specs.Lookups.{places_from}
 use Rattle.p21_files.specs.BrokenValue.{BreaksAtPlace}
 use Rattle.p21_files.specs.RecordPlaces.{HasPart}
 use Rattle.p21_files.specs.Reference.{Need}
 use Rattle.p21_files.specs.Value.{Value, Values}
 use Rattle.p21_grammar_tree.specs.declared.param.Param.{Param as Parameter}
 use Rattle.p21_grammar_tree.specs.View as tree
-use Rattle.p21_mapping_text.specs.KnownTypes.{HasKnownTypes}
+use Rattle.p21_mapping_values.specs.KnownTypes.{HasKnownTypes}
 use Rattle.p21_mapping_values.specs.declared.fault.CheckFault.{CheckFault}
 use Rattle.p21_mapping_values.specs.declared.fault.CheckFault.TheVariants.{NoMemory}
 use Rattle.p21_mapping_values.specs.Fault.{fault_number}
-use Rattle.p21_mapping_values.specs.View.{in_row}
+use Rattle.p21_mapping_values.specs.View.{row_of_values}
 use Rattle.p21_schemas.specs.Order.{own_places}
 use Rattle.p21_schemas.specs.PlaceType.{PlaceType, TypeAt}
 use Rattle.p21_schemas.specs.Schema.{Schema, Place}
 
 -- a parameter at a place, its value there, and its needs
-pub record Fitted : Type 0 where
+pub record FittedParam : Type 0 where
   pub place : Place
   pub param : Param
   pub value : Value
   pub needs : List Need
 
-abbrev pub IsFitted : Schema → List ℕ → Fitted → Type 0
-IsFitted s entities f = (at : PlaceType) × TypeAt s entities f.place at × FitsAtWith s at f.param f.value f.needs × HasKnownTypes s f.value
+abbrev pub IsFitted : Schema → List ℕ → FittedParam → Type 0
+IsFitted s entities f = (at : PlaceType) × TypeAt s entities f.place at × FitsAtWithNeeds s at f.param f.value f.needs × HasKnownTypes s f.value
 
 -- parameters at places one by one
 pub record FitsRow (s : Schema) (entities : List ℕ) (places : List Place) (ps : List Param) (vs : List Value) (needs : List Need) : Type 0 where
-  pub fitted : List Fitted
+  pub fitted : List FittedParam
   pub each : Each (IsFitted s entities) fitted
-  pub places_are : map (λ (f : Fitted). f.place) fitted ≡ places
-  pub params_are : map (λ (f : Fitted). f.param) fitted ≡ ps
-  pub values_are : map (λ (f : Fitted). f.value) fitted ≡ vs
-  pub needs_are : flat_map (λ (f : Fitted). f.needs) fitted ≡ needs
+  pub places_are : map (λ (f : FittedParam). f.place) fitted ≡ places
+  pub params_are : map (λ (f : FittedParam). f.param) fitted ≡ ps
+  pub values_are : map (λ (f : FittedParam). f.value) fitted ≡ vs
+  pub needs_are : flat_map (λ (f : FittedParam). f.needs) fitted ≡ needs
 
 -- an entity, with the parameters at the places that it declares itself
 pub record Row : Type 0 where
@@ -55,7 +55,7 @@ pub record FitsRows (s : Schema) (entities owners : List ℕ) (pss : List (List 
   pub each : Each (IsRow s entities) rows
   pub owners_are : map (λ (row : Row). row.owner) rows ≡ owners
   pub params_are : map (λ (row : Row). row.params) rows ≡ pss
-  pub values_are : map (λ (row : Row). in_row row.values) rows ≡ vss
+  pub values_are : map (λ (row : Row). row_of_values row.values) rows ≡ vss
   pub needs_are : flat_map (λ (row : Row). row.needs) rows ≡ needs
 
 -- the parameters one by one

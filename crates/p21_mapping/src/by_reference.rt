@@ -1,19 +1,19 @@
 ghost use Rattle.p21_grammar_tree.specs.View.{record_view};
 ghost use Rattle.p21_mapping.specs.Checked.{ChecksRecord};
 
-use crate::check::check_moved;
+use crate::check::check_owned_record;
+use crate::record::copied_record;
 use p21_express_tables::Schema;
 use p21_grammar_tree::Record;
-use p21_mapping_copies::copied_record;
 use p21_mapping_values::{CheckFault, Need, Typed};
 use std::alloc::Global;
 
-/// Checks a record against a schema as `check_moved` does, and leaves the record as it is: the typed record has copies of its
+/// Checks a record as `check_owned_record` does, and leaves it as it is: the typed record has copies of its
 /// texts, numbers and names.
 ///
 /// # Errors
 ///
-/// Those of `check_moved`, in the same order.
+/// Those of `check_owned_record`, in the same order.
 pub fn check_record(
     alloc: Global,
     schema: &Schema,
@@ -22,5 +22,5 @@ pub fn check_record(
     ensures { ChecksRecord schema.now (record_view of.now) result }
 {
     let copy = copied_record(alloc, of)?;
-    check_moved(alloc, schema, copy)
+    check_owned_record(alloc, schema, copy)
 }

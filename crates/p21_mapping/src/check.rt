@@ -1,20 +1,20 @@
 ghost use Rattle.std.specs.Prelude.{MatchResult};
-ghost use Rattle.p21_express_tables.specs.Orders.{numbers};
-ghost use Rattle.p21_express_tables.specs.Resolved.{HoldsTogether};
+ghost use Rattle.p21_express_graph.specs.Orders.{numbers};
+ghost use Rattle.p21_express_graph.specs.Resolved.{HoldsTogether};
 ghost use Rattle.p21_grammar_tree.specs.View.{record_view};
-ghost use Rattle.p21_mapping.specs.Arranged.{HasRows};
-ghost use Rattle.p21_mapping_fit.specs.Outcome.{needs_view};
+ghost use Rattle.p21_mapping.specs.ArrangedRows.{HasRows};
+ghost use Rattle.p21_mapping.specs.Outcome.{needs_view};
 ghost use Rattle.p21_mapping.specs.Checked.{ChecksRecord};
-ghost use Rattle.p21_mapping_sets.specs.Shape.{HasShape, IsOwn, Refuses};
+ghost use Rattle.p21_mapping.specs.Shape.{HasShape, IsOwnClosure, Refuses};
 ghost use Rattle.p21_mapping_values.specs.TypedView.{rows_view};
 ghost use Rattle.p21_schemas.specs.WellFormed.{IsWellFormed};
 
-use crate::arranged::arranged;
+use crate::arranged_rows::arranged_rows;
 use crate::fitted::{complex_rows, simple_rows};
+use crate::shape::{Shape, shape_of};
 use p21_express_tables::Schema;
 use p21_express_types::EntityId;
 use p21_grammar_tree::Record;
-use p21_mapping_sets::{Shape, shape_of};
 use p21_mapping_values::{CheckFault, Ids, Need, Rows, Typed, Values};
 use std::alloc::Global;
 
@@ -26,7 +26,7 @@ use std::alloc::Global;
 ///
 /// In this order: `UnknownEntity`, `PartTwice`, `PartMissing`, `Abstract`, `OneOf`, `TwoRedeclarations`, `Count`; then the
 /// fault of the first parameter that doesn't fit its place. `NoMemory`.
-pub fn check_moved(
+pub fn check_owned_record(
     alloc: Global,
     schema: &Schema,
     of: Record,
@@ -36,13 +36,13 @@ pub fn check_moved(
     schema.well_formed();
     schema.holds_together();
     match shape_of(alloc, schema, &of) {
-        Ok(shape) => check_shaped(alloc, schema, shape, of),
+        Ok(shape) => check_with_shape(alloc, schema, shape, of),
         Err(fault) => Err(fault),
     }
 }
 
 /// Checks a record whose entities are known.
-fn check_shaped(
+fn check_with_shape(
     alloc: Global,
     schema: &Schema,
     shape: Shape,
@@ -50,7 +50,7 @@ fn check_shaped(
 ) -> Result<(Typed, Vec<Need>), CheckFault>
     requires formed { IsWellFormed schema.now }
     requires holds { HoldsTogether schema.now }
-    requires own { IsOwn schema.now shape.own (numbers shape.entities.items) }
+    requires own { IsOwnClosure schema.now shape.own (numbers shape.entities.items) }
     requires shape { HasShape schema.now (record_view of) (numbers shape.listed.items) (numbers shape.entities.items) }
     ensures { ChecksRecord schema.now (record_view of) result }
 {
@@ -64,7 +64,7 @@ fn check_shaped(
         Ok(rows) => rows,
         Err(fault) => return Err(fault),
     };
-    let values = arranged(alloc, &entities, &listed, rows)?;
+    let values = arranged_rows(alloc, &entities, &listed, rows)?;
     let typed = Typed {
         parts: Ids::from_vec(entities),
         values: Rows::from_vec(values),
@@ -84,7 +84,7 @@ fn rows_of(
 ) -> Result<Vec<Values>, CheckFault>
     requires holds { HoldsTogether schema.now }
     requires formed { IsWellFormed schema.now }
-    requires own { IsOwn schema.now own (numbers entities.now) }
+    requires own { IsOwnClosure schema.now own (numbers entities.now) }
     requires shape { HasShape schema.now (record_view of) (numbers listed.now) (numbers entities.now) }
     ensures { MatchResult result (λ rows. HasRows schema.now (record_view of) (numbers listed.now) (numbers entities.now) (rows_view rows.items) (needs_view needs.old.items) (needs_view needs.new.items)) (Refuses schema.now (record_view of)) }
 {

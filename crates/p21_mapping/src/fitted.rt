@@ -1,26 +1,26 @@
 ghost use Rattle.std.specs.Prelude.{◌≡◌, ◌≤◌, [], length, map, MatchResult};
 ghost use Rattle.std.specs.List.{AllByRecursion as Each, flat_map, zip};
 ghost use Rattle.std.specs.Vec.Iter.{into_iter_items};
-ghost use Rattle.p21_express_tables.specs.Lookups.{AreEntities};
-ghost use Rattle.p21_express_tables.specs.Orders.{numbers};
-ghost use Rattle.p21_express_tables.specs.Resolved.{IsEntity, IsPlace};
+ghost use Rattle.p21_express_graph.specs.Lookups.{AreEntities};
+ghost use Rattle.p21_express_graph.specs.Orders.{numbers};
+ghost use Rattle.p21_express_graph.specs.Resolved.{IsEntity, IsPlace};
 ghost use Rattle.p21_express_types.specs.Meaning.{place as place_of, place_type};
 ghost use Rattle.p21_files.specs.Meaning.{HasPlaceTypes};
 ghost use Rattle.p21_grammar_tree.specs.View.{part_views, view as tree};
-ghost use Rattle.p21_mapping_fit.specs.Outcome.{needs_view};
+ghost use Rattle.p21_mapping.specs.Outcome.{needs_view};
 ghost use Rattle.p21_mapping.specs.Rows.{FitsHere, RefusesAmong, RefusesHere, RefusesPart, TakesParts, TakesRow, TakesRows, param_views};
 ghost use Rattle.p21_exchange.specs.Record.{complex};
-ghost use Rattle.p21_mapping_sets.specs.Shape.{AreNamed, HasCounts, IsOwn};
+ghost use Rattle.p21_mapping.specs.Shape.{AreNamed, HasCounts, IsOwnClosure};
 ghost use Rattle.p21_mapping_values.specs.TypedView.{rows_view};
 ghost use Rattle.p21_mapping_values.specs.View.{list_of, view};
 ghost use Rattle.p21_schemas.specs.Order.{own_places};
 ghost use Rattle.p21_schemas.specs.PlaceType.{TypeAt, two_redeclarations};
 ghost use Rattle.p21_schemas.specs.Schema.{attributes_of};
 
+use crate::place::fit_place;
 use p21_express_tables::Schema;
 use p21_express_types::{EntityId, Place, PlaceType};
 use p21_grammar_tree::{Param, Part};
-use p21_mapping_fit::fit_place;
 use p21_mapping_values::{CheckFault, Need, Value, Values};
 use std::alloc::Global;
 use std::vec::IntoIter;
@@ -32,7 +32,7 @@ fn type_here<'a>(
     entities: &[EntityId],
     place: Place,
 ) -> PlaceType<'a>
-    requires own { IsOwn schema.now own (numbers entities.now) }
+    requires own { IsOwnClosure schema.now own (numbers entities.now) }
     requires entities { AreEntities schema.now (numbers entities.now) }
     requires place { IsPlace schema.now (place_of place) }
     ensures { TypeAt schema.now (numbers entities.now) (place_of place) (place_type result) }
@@ -53,7 +53,7 @@ fn fit_here(
     param: Param,
     needs: &mut Vec<Need>,
 ) -> Result<Value, CheckFault>
-    requires own { IsOwn schema.now own (numbers entities.now) }
+    requires own { IsOwnClosure schema.now own (numbers entities.now) }
     requires entities { AreEntities schema.now (numbers entities.now) }
     requires place { IsPlace schema.now (place_of place) }
     requires decided { TypeAt schema.now (numbers entities.now) (place_of place) two_redeclarations → ⊥ }
@@ -75,7 +75,7 @@ pub(crate) fn fit_row(
     params: &mut IntoIter<Param, Global>,
     needs: &mut Vec<Need>,
 ) -> Result<Values, CheckFault>
-    requires own { IsOwn schema.now own (numbers entities.now) }
+    requires own { IsOwnClosure schema.now own (numbers entities.now) }
     requires entities { AreEntities schema.now (numbers entities.now) }
     requires owner { IsEntity schema.now owner.0 }
     requires decided { HasPlaceTypes schema.now (numbers entities.now) owner.0 }
@@ -110,7 +110,7 @@ pub(crate) fn simple_rows(
     params: Vec<Param>,
     needs: &mut Vec<Need>,
 ) -> Result<Vec<Values>, CheckFault>
-    requires own { IsOwn schema.now own (numbers entities.now) }
+    requires own { IsOwnClosure schema.now own (numbers entities.now) }
     requires entities { AreEntities schema.now (numbers entities.now) }
     requires listed { AreEntities schema.now (numbers listed.now) }
     requires decided { Each (HasPlaceTypes schema.now (numbers entities.now)) (numbers listed.now) }

@@ -9,9 +9,9 @@ use Rattle.p21_files.specs.Value as meant
 abbrev pub list_of : Values → List Value
 list_of vs = vs.all.items
 
-abbrev pub in_row : List meant.Value → meant.Values
-in_row [] = meant.no_values
-in_row (v ∷ vs) = meant.value v (in_row vs)
+abbrev pub row_of_values : List meant.Value → meant.Values
+row_of_values [] = meant.no_values
+row_of_values (v ∷ vs) = meant.value v (row_of_values vs)
 
 -- one level, with each value inside already seen as what it means
 abbrev pub view_step : Value-F meant.Value meant.Values → meant.Value
@@ -31,7 +31,7 @@ view_step (Value-F.Bag vs) = meant.bag vs
 view_step (Value-F.Tagged t v) = meant.typed t.0 v.value
 
 abbrev pub view_row_step : Values-F meant.Value meant.Values → meant.Values
-view_row_step vs = in_row vs.all.items
+view_row_step vs = row_of_values vs.all.items
 
 -- what the value means
 abbrev pub view : Value → meant.Value
@@ -39,4 +39,4 @@ view = fold-Value meant.Value meant.Values view_step view_row_step
 
 -- what the values mean
 abbrev pub views : List Value → meant.Values
-views vs = in_row (map view vs)
+views vs = row_of_values (map view vs)

@@ -8,8 +8,8 @@ use Rattle.std.proofs.lemmas.Option.{slice_get_within}
 use Rattle.p21_schemas.specs.EntityDeclaration.{EntityDeclaration}
 use Rattle.p21_schemas.specs.SchemaDeclaration.{SchemaDeclaration, entities_of}
 use Rattle.p21_schemas.specs.Schema.{Schema, Entity, Place, Redeclared, EntityNamed, TypeNamed}
-use Rattle.p21_schemas.specs.DeclaredEntity.{EntityIs, same_place, names_of}
-use Rattle.p21_schemas.specs.DeclaredOneOf.{all_one_of_names, OneOfIs}
+use Rattle.p21_schemas.specs.DeclaredEntity.{DeclaresEntity, same_place, names_of}
+use Rattle.p21_schemas.specs.DeclaredOneOf.{all_one_of_names, DeclaresOneOf}
 use Rattle.p21_schemas.specs.Declared.{DeclaresSchema}
 use Rattle.p21_basics.proofs.Members.{Each-at, Each-member, Contains-none, Contains-cases, Contains-at, Contains-found, Contains-mapped, AllZip-member, AllZip-second_member, AllZip-numbered, AllZip-numbered_first, Each-front, Each-back, Each-unmapped, Each-append}
 pub use Rattle.p21_schemas.specs.WellFormed.{HasDistinctEntities, HasDistinctTypes, AreEntities, AreListedEntities, RedeclaresOnce, IsWellFormed}
@@ -45,20 +45,20 @@ same_place-reflexive place = ap (λ b. b && nat_eq place.index place.index) (eq-
 
 -- each entity of a declared schema is declared
 pub declared-entity : (tree : SchemaDeclaration) (s : Schema) → DeclaresSchema tree s → (e : ℕ) (x : Entity) → slice_get s.entities e ≡ Some x
-    → (d : EntityDeclaration) × (slice_get (entities_of tree.declarations) e ≡ Some d) × EntityIs s (entities_of tree.declarations) e d x
+    → (d : EntityDeclaration) × (slice_get (entities_of tree.declarations) e ≡ Some d) × DeclaresEntity s (entities_of tree.declarations) e d x
 declared-entity tree s declares e x is =
-    let (d, at, holds) = AllZip-numbered (λ k d found. EntityIs s (entities_of tree.declarations) k d found) 0 (entities_of tree.declarations) s.entities e x declares.entities_are is in
+    let (d, at, holds) = AllZip-numbered (λ k d found. DeclaresEntity s (entities_of tree.declarations) k d found) 0 (entities_of tree.declarations) s.entities e x declares.entities_are is in
     let zero_ : 0 + e ≡ e = omega arith in
-    let P : ℕ → Type 0 = λ k. EntityIs s (entities_of tree.declarations) k d x in
+    let P : ℕ → Type 0 = λ k. DeclaresEntity s (entities_of tree.declarations) k d x in
     (d, at, subst P zero_ holds)
 
 -- each entity that is declared is one of the schema
 pub declared-found : (tree : SchemaDeclaration) (s : Schema) → DeclaresSchema tree s → (e : ℕ) (d : EntityDeclaration) → slice_get (entities_of tree.declarations) e ≡ Some d
-    → (x : Entity) × (slice_get s.entities e ≡ Some x) × EntityIs s (entities_of tree.declarations) e d x
+    → (x : Entity) × (slice_get s.entities e ≡ Some x) × DeclaresEntity s (entities_of tree.declarations) e d x
 declared-found tree s declares e d is =
-    let (x, at, holds) = AllZip-numbered_first (λ k d found. EntityIs s (entities_of tree.declarations) k d found) 0 (entities_of tree.declarations) s.entities e d declares.entities_are is in
+    let (x, at, holds) = AllZip-numbered_first (λ k d found. DeclaresEntity s (entities_of tree.declarations) k d found) 0 (entities_of tree.declarations) s.entities e d declares.entities_are is in
     let zero_ : 0 + e ≡ e = omega arith in
-    let P : ℕ → Type 0 = λ k. EntityIs s (entities_of tree.declarations) k d x in
+    let P : ℕ → Type 0 = λ k. DeclaresEntity s (entities_of tree.declarations) k d x in
     (x, at, subst P zero_ holds)
 
 -- each supertype is an entity of the schema
@@ -75,7 +75,7 @@ declared-supertypes tree s declares e f up = by_entity (slice_get s.entities e) 
 -- each member of a ONEOF list is an entity of the schema
 pub declared-listed : (tree : SchemaDeclaration) (s : Schema) → DeclaresSchema tree s → AreListedEntities s
 declared-listed tree s declares listed e among has =
-    let (names, in_names, is) = AllZip-second_member (OneOfIs s) (all_one_of_names (entities_of tree.declarations)) s.one_of_lists listed declares.one_of_are among in
+    let (names, in_names, is) = AllZip-second_member (DeclaresOneOf s) (all_one_of_names (entities_of tree.declarations)) s.one_of_lists listed declares.one_of_are among in
     let (name, in_list, named) = AllZip-member (EntityNamed s) listed names e is.0 has in
     slice_get_within s.entities e named.0 named.1
 

@@ -5,7 +5,7 @@ use Rattle.std.proofs.Common.{arith, inl, inr, subst, sym}
 use Rattle.p21_schemas.specs.Express.{Lexeme, identifier, digits, simple_string, encoded_string, symbol, IsIdentifier, SpellsLexeme, LexemeMayFollow, quote_twice}
 use Rattle.p21_schemas.specs.ExpressLaying.{LaidLexemes}
 use Rattle.p21_schemas.specs.EntityDeclaration.{redeclared, attribute_lexemes}
-use Rattle.p21_schemas.specs.Remark.{Mark, opening_mark, closing_mark, remark_byte, Separator, blank, embedded_remark, tail_remark, mark_bytes, HeadIsNot, IsSeparatorText, IsLastSeparatorText, IsSeparator, separator_bytes}
+use Rattle.p21_schemas.specs.Remark.{Mark, opening_mark, closing_mark, remark_byte, Separator, blank, embedded_remark, tail_remark, mark_bytes, DoesNotBeginWith, IsSeparatorText, IsLastSeparatorText, IsSeparator, separator_bytes}
 use Rattle.p21_schemas.specs.Run.{IsRun, is_word}
 use Rattle.p21_basics.proofs.Members.{head_is, tail_is}
 
@@ -119,7 +119,7 @@ second_opens (remark_byte byte ∷ marks) is gap_is =
     let tail = tail_is 42 42 _ _ (tail_is 40 40 _ _ is) in
     let h : byte ≡ 40 = head_is byte 40 _ _ tail in
     let more : flat_map mark_bytes marks ≡ codes "*)" = tail_is byte 40 _ _ tail in
-    let P : List ℕ → Type 0 = λ bytes. HeadIsNot 42 bytes in
+    let P : List ℕ → Type 0 = λ bytes. DoesNotBeginWith 42 bytes in
     subst P more (gap_is.0.0 h) refl
 
 first_closes : (marks : List Mark) → separator_bytes (embedded_remark marks) ≡ codes "(**)*)" → IsSeparator (embedded_remark marks) → ⊥
@@ -131,7 +131,7 @@ first_closes (remark_byte byte ∷ marks) is gap_is =
     let tail = tail_is 42 42 _ _ (tail_is 40 40 _ _ is) in
     let h : byte ≡ 42 = head_is byte 42 _ _ tail in
     let more : flat_map mark_bytes marks ≡ codes ")*)" = tail_is byte 42 _ _ tail in
-    let P : List ℕ → Type 0 = λ bytes. HeadIsNot 41 bytes in
+    let P : List ℕ → Type 0 = λ bytes. DoesNotBeginWith 41 bytes in
     subst P more (gap_is.0.1 h) refl
 
 -- marks and apostrophes in a tail remark are plain; its line ends, or the text does

@@ -5,7 +5,7 @@ use Rattle.std.specs.Str.{bytes_eq}
 use Rattle.std.proofs.Common.{arith, get_or, ap, sym, subst, ◌∙◌}
 use Rattle.p21_schemas.specs.Declared.{HasSupertype, DeclaresSchema}
 use Rattle.p21_schemas.specs.DeclaredEntity.{no_more}
-use Rattle.p21_schemas.specs.DeclaredOneOf.{all_one_of_names, OneOfIs}
+use Rattle.p21_schemas.specs.DeclaredOneOf.{all_one_of_names, DeclaresOneOf}
 use Rattle.p21_schemas.specs.EntityDeclaration.{EntityDeclaration}
 use Rattle.p21_schemas.specs.Express.{Lexeme, identifier, symbol}
 use Rattle.p21_schemas.specs.ReservedWord.{reserved_words, AreNames}
@@ -69,10 +69,10 @@ lists-kept : all_one_of_names (record { name = codes "S"; constraint = abstract_
 lists-kept = refl
 
 -- the only list of a schema so declared
-only_list : (names : List (List ℕ)) (s : Schema) → DeclaresSchema (with_list names) s → (listed : List ℕ) × OneOfIs s names listed
+only_list : (names : List (List ℕ)) (s : Schema) → DeclaresSchema (with_list names) s → (listed : List ℕ) × DeclaresOneOf s names listed
 only_list names s declares = first s.one_of_lists declares.one_of_are
   where
-    first : (lists : List (List ℕ)) → AllZip (OneOfIs s) (names ∷ []) lists → (listed : List ℕ) × OneOfIs s names listed
+    first : (lists : List (List ℕ)) → AllZip (DeclaresOneOf s) (names ∷ []) lists → (listed : List ℕ) × DeclaresOneOf s names listed
     first [] all = absurd all
     first (listed ∷ lists) all = (listed, all.0)
 
@@ -100,7 +100,7 @@ unrelated-is_listed = record {
     no_supertype (suc (suc e)) f among = Contains-none f among
 
 -- no list has the name of a type
-pub type-is_not_listed : (s : Schema) → IsDistinct bytes_eq (names_of_all s) → (t : ℕ) (name : List ℕ) (names : List (List ℕ)) (listed : List ℕ) → TypeNamed s t name → Contains names name → OneOfIs s names listed → ⊥
+pub type-is_not_listed : (s : Schema) → IsDistinct bytes_eq (names_of_all s) → (t : ℕ) (name : List ℕ) (names : List (List ℕ)) (listed : List ℕ) → TypeNamed s t name → Contains names name → DeclaresOneOf s names listed → ⊥
 type-is_not_listed s distinct t name names listed named among is =
     let (e, in_list, e_named) = AllZip-second_member (EntityNamed s) listed names name is.0 among in distinct_names-apart s distinct e t name e_named named
 

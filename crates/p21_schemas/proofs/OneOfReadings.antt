@@ -5,7 +5,7 @@ use Rattle.std.proofs.lemmas.List.Sums.{sum_by-cons}
 use Rattle.std.proofs.Common.{cond, arith, ap, sym, ◌∙◌}
 use Rattle.p21_schemas.specs.Express.{Lexeme, identifier, digits, simple_string, encoded_string, symbol}
 use Rattle.p21_schemas.specs.Run.{IsRun, is_symbol}
-use Rattle.p21_schemas.specs.Separated.{separated}
+use Rattle.p21_schemas.specs.Separated.{comma_separated}
 use Rattle.p21_schemas.specs.SupertypeConstraint.{SupertypeExpression, one_of, other_run, one_of_lexemes, expression_lexemes, IsExpression}
 use Rattle.p21_schemas.specs.WrittenType.{word, symbols}
 
@@ -18,7 +18,7 @@ identifiers (simple_string inside ∷ lexemes) = identifiers lexemes
 identifiers (encoded_string inside ∷ lexemes) = identifiers lexemes
 identifiers (symbol byte ∷ lexemes) = identifiers lexemes
 
-separated-identifiers : (names : List (List ℕ)) → identifiers (separated word names ++ symbols (codes ")")) ≡ names
+separated-identifiers : (names : List (List ℕ)) → identifiers (comma_separated word names ++ symbols (codes ")")) ≡ names
 separated-identifiers [] = refl
 separated-identifiers (name ∷ []) = refl
 separated-identifiers (name ∷ next ∷ names) = ap (λ ns. name ∷ ns) (separated-identifiers (next ∷ names))
@@ -38,7 +38,7 @@ one_reading (other_run run) (one_of names) is is_ same = absurd (is.1 (names, is
 one_reading (other_run run) (other_run other) is is_ same = ap other_run same
 
 -- behind the `(` of a list one lexeme closes, the last, and none opens
-tail-closes : (names : List (List ℕ)) (k : ℕ) → count_by (is_symbol 41) (take k (separated word names ++ symbols (codes ")"))) ≤ 1
+tail-closes : (names : List (List ℕ)) (k : ℕ) → count_by (is_symbol 41) (take k (comma_separated word names ++ symbols (codes ")"))) ≤ 1
 tail-closes [] zero = omega arith
 tail-closes [] (suc zero) = omega arith
 tail-closes [] (suc (suc k)) = omega arith
@@ -48,7 +48,7 @@ tail-closes (name ∷ next ∷ names) zero = omega arith
 tail-closes (name ∷ next ∷ names) (suc zero) = omega arith
 tail-closes (name ∷ next ∷ names) (suc (suc k)) = let h = tail-closes (next ∷ names) k in omega (arith, h)
 
-tail-balance : (names : List (List ℕ)) → (count_by (is_symbol 41) (separated word names ++ symbols (codes ")")) ≡ 1) × (count_by (is_symbol 40) (separated word names ++ symbols (codes ")")) ≡ 0)
+tail-balance : (names : List (List ℕ)) → (count_by (is_symbol 41) (comma_separated word names ++ symbols (codes ")")) ≡ 1) × (count_by (is_symbol 40) (comma_separated word names ++ symbols (codes ")")) ≡ 0)
 tail-balance [] = (refl, refl)
 tail-balance (name ∷ []) = (refl, refl)
 tail-balance (name ∷ next ∷ names) = let h = tail-balance (next ∷ names) in (omega (arith, h), omega (arith, h))
@@ -66,7 +66,7 @@ expression-is_run (other_run run) is = is.0
 expression-is_run (one_of names) is = (each, let h = tail-balance names in omega (arith, h, opened rest, not_closed rest))
   where
     rest : List Lexeme
-    rest = separated word names ++ symbols (codes ")")
+    rest = comma_separated word names ++ symbols (codes ")")
 
     each : (k : ℕ) → count_by (is_symbol 41) (take k (identifier (codes "ONEOF") ∷ symbol 40 ∷ rest)) ≤ count_by (is_symbol 40) (take k (identifier (codes "ONEOF") ∷ symbol 40 ∷ rest))
     each zero = omega arith

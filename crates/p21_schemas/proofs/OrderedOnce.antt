@@ -6,7 +6,7 @@ use Rattle.std.proofs.lemmas.Bool.{cases_eq, eqb-true, not-true, not-false}
 use Rattle.std.proofs.lemmas.List.Elements.{Contains-append_left, Contains-append_right, Contains-append_cases}
 use Rattle.p21_schemas.specs.Schema.{Schema}
 use Rattle.p21_schemas.specs.Supertype.{IsA, itself, above, supertypes_of}
-use Rattle.p21_schemas.specs.Order.{order_within, order, firsts}
+use Rattle.p21_schemas.specs.Order.{order_within, order, first_occurrences}
 use Rattle.p21_schemas.specs.Declared.{HasNoCircle, HasSupertype}
 use Rattle.p21_schemas.specs.WellFormed.{AreEntities}
 use Rattle.p21_basics.proofs.Members.{Contains-none, Contains-first, Contains-later, Contains-cases, Contains-flat_map}
@@ -33,10 +33,10 @@ others-differ e (x ∷ xs) =
     let rest : Each (λ y. nat_eq e y ≡ false) (filter (λ f. not (nat_eq e f)) xs) = others-differ e xs in
     by_test (Each (λ y. nat_eq e y ≡ false)) (not (nat_eq e x)) (x ∷ filter (λ f. not (nat_eq e f)) xs) (filter (λ f. not (nat_eq e f)) xs) (λ h. (not-true (nat_eq e x) h, rest)) (λ h. rest)
 
-firsts-distinct : (xs : List ℕ) → IsDistinct nat_eq (firsts xs)
+firsts-distinct : (xs : List ℕ) → IsDistinct nat_eq (first_occurrences xs)
 unfolding IsDistinct
 firsts-distinct [] = tt
-firsts-distinct (e ∷ es) = (others-differ e (firsts es), IsDistinct-filtered (λ f. not (nat_eq e f)) (firsts es) (firsts-distinct es))
+firsts-distinct (e ∷ es) = (others-differ e (first_occurrences es), IsDistinct-filtered (λ f. not (nat_eq e f)) (first_occurrences es) (firsts-distinct es))
 
 -- the order has each entity once
 pub order_within-distinct : (s : Schema) (n e : ℕ) → IsDistinct nat_eq (order_within s n e)
@@ -73,9 +73,9 @@ AreBehind-filtered s e seen (x ∷ xs) in_seen behind = by_test (AreBehind s see
     let P : ℕ → Type 0 = λ y. Contains seen y in
     AreBehind-filtered s e seen xs in_seen (AreBehind-wider s (x ∷ seen) seen xs (AreWithin-seen x seen (subst P same in_seen)) behind.1))
 
-AreBehind-firsts : (s : Schema) (seen es : List ℕ) → AreBehind s seen es → AreBehind s seen (firsts es)
+AreBehind-firsts : (s : Schema) (seen es : List ℕ) → AreBehind s seen es → AreBehind s seen (first_occurrences es)
 AreBehind-firsts s seen [] behind = tt
-AreBehind-firsts s seen (e ∷ es) behind = (behind.0, AreBehind-filtered s e (e ∷ seen) (firsts es) (Contains-first e seen) (AreBehind-firsts s (e ∷ seen) es behind.1))
+AreBehind-firsts s seen (e ∷ es) behind = (behind.0, AreBehind-filtered s e (e ∷ seen) (first_occurrences es) (Contains-first e seen) (AreBehind-firsts s (e ∷ seen) es behind.1))
 
 AreBehind-joined : (s : Schema) (seen xs ys : List ℕ) → AreBehind s seen xs → ((wider : List ℕ) → AreWithin seen wider → AreWithin xs wider → AreBehind s wider ys) → AreBehind s seen (xs ++ ys)
 AreBehind-joined s seen [] ys behind more = more seen (λ x among. among) (λ x among. absurd (Contains-none x among))

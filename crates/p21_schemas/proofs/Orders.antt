@@ -6,7 +6,7 @@ use Rattle.std.proofs.Common.{arith, subst, ap, sym, inl, inr}
 use Rattle.std.proofs.lemmas.Bool.{cases_lt, cases_eq, ne_eqb}
 use Rattle.p21_schemas.specs.Schema.{Schema}
 use Rattle.p21_schemas.specs.Supertype.{IsA, itself, above, supertypes_of}
-use Rattle.p21_schemas.specs.Order.{order_within, order, firsts}
+use Rattle.p21_schemas.specs.Order.{order_within, order, first_occurrences}
 use Rattle.p21_schemas.specs.Declared.{HasNoCircle, HasSupertype}
 use Rattle.p21_schemas.specs.WellFormed.{AreEntities}
 use Rattle.p21_basics.proofs.Members.{Contains-later, Contains-cases, Contains-flat_map, Contains-one_of, Contains-filter, Contains-unfiltered, flat_map-same}
@@ -50,22 +50,22 @@ no_elements (x ∷ xs) none = absurd (none x (0, omega arith, refl))
 -- more levels than there are change nothing
 order_within-same : (s : Schema) (n m e : ℕ) → HasHeight s n e → n ≤ m → order_within s m e ≡ order_within s n e
 order_within-same s zero zero e high le = refl
-order_within-same s zero (suc m) e high le = ap (λ es. firsts (flat_map (order_within s m) es ++ e ∷ [])) (no_elements (supertypes_of s e) high)
+order_within-same s zero (suc m) e high le = ap (λ es. first_occurrences (flat_map (order_within s m) es ++ e ∷ [])) (no_elements (supertypes_of s e) high)
 order_within-same s (suc n) zero e high le = let none : ⊥ = omega (arith, le) in absurd none
-order_within-same s (suc n) (suc m) e high le = ap (λ es. firsts (es ++ e ∷ [])) (flat_map-same (order_within s m) (order_within s n) (supertypes_of s e) (λ f up. order_within-same s n m f (high f up) (omega (arith, le))))
+order_within-same s (suc n) (suc m) e high le = ap (λ es. first_occurrences (es ++ e ∷ [])) (flat_map-same (order_within s m) (order_within s n) (supertypes_of s e) (λ f up. order_within-same s n m f (high f up) (omega (arith, le))))
 
 pub order-height : (s : Schema) → AreEntities s → HasNoCircle (HasSupertype s) → (e : ℕ) → HasHeight s (length s.entities) e
 order-height s are ends e = has_height s are ends.0 ends.1 (length s.entities) e (count_below-le ends.0 (ends.0 e) (length s.entities))
 
 -- the equation of the order
-pub order-is : (s : Schema) → AreEntities s → HasNoCircle (HasSupertype s) → (e : ℕ) → order s e ≡ firsts (flat_map (order s) (supertypes_of s e) ++ e ∷ [])
+pub order-is : (s : Schema) → AreEntities s → HasNoCircle (HasSupertype s) → (e : ℕ) → order s e ≡ first_occurrences (flat_map (order s) (supertypes_of s e) ++ e ∷ [])
 order-is s are ends e = sym (order_within-same s (length s.entities) (suc (length s.entities)) e (order-height s are ends e) (omega arith))
 
-Contains-firsts : (xs : List ℕ) (y : ℕ) → Contains xs y → Contains (firsts xs) y
+Contains-firsts : (xs : List ℕ) (y : ℕ) → Contains xs y → Contains (first_occurrences xs) y
 Contains-firsts [] y (k, below, is) = let none : ⊥ = omega (arith, below) in absurd none
 Contains-firsts (x ∷ xs) y among = elim (cases_eq x y) [
   | inl h ↦ (0, omega arith, h)
-  | inr h ↦ Contains-later x _ y (Contains-filter (λ f. not (nat_eq x f)) (firsts xs) y (ap not (ne_eqb x y h)) (Contains-firsts xs y (elim (Contains-cases x xs y among) [ inl is ↦ absurd (h is) | inr more ↦ more ])))
+  | inr h ↦ Contains-later x _ y (Contains-filter (λ f. not (nat_eq x f)) (first_occurrences xs) y (ap not (ne_eqb x y h)) (Contains-firsts xs y (elim (Contains-cases x xs y among) [ inl is ↦ absurd (h is) | inr more ↦ more ])))
 ]
 
 -- the order has the entity and all its direct and indirect supertypes
@@ -74,11 +74,11 @@ order-has s are ends e f (itself _) = let P : List ℕ → Type 0 = λ es. Conta
 order-has s are ends e f (above _ next _ up more) = let P : List ℕ → Type 0 = λ es. Contains es f in subst P (sym (order-is s are ends e)) (Contains-firsts (flat_map (order s) (supertypes_of s e) ++ e ∷ []) f
     (Contains-append_left (flat_map (order s) (supertypes_of s e)) (e ∷ []) f (Contains-flat_map (order s) (supertypes_of s e) next f up (order-has s are ends next f more))))
 
-Contains-not_first : (xs : List ℕ) (y : ℕ) → Contains (firsts xs) y → Contains xs y
+Contains-not_first : (xs : List ℕ) (y : ℕ) → Contains (first_occurrences xs) y → Contains xs y
 Contains-not_first [] y among = among
 Contains-not_first (x ∷ xs) y among = elim (Contains-cases x _ y among) [
   | inl h ↦ (0, omega arith, h)
-  | inr h ↦ Contains-later x xs y (Contains-not_first xs y (Contains-unfiltered (λ f. not (nat_eq x f)) (firsts xs) y h))
+  | inr h ↦ Contains-later x xs y (Contains-not_first xs y (Contains-unfiltered (λ f. not (nat_eq x f)) (first_occurrences xs) y h))
 ]
 
 -- the order has nothing else

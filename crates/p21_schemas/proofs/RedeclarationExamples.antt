@@ -9,7 +9,7 @@ use Rattle.p21_schemas.specs.Schema as schema
 use Rattle.p21_schemas.specs.Schema.{Schema, Place, Entity, Attribute, EntityNamed, PlaceNamed, attributes_of, attribute_at}
 use Rattle.p21_schemas.specs.Supertype.{itself, above}
 use Rattle.p21_schemas.specs.Redeclaration.{IsOwnPlace, IsPlaceOf, RedeclaresPlace, HasNoPlace}
-use Rattle.p21_schemas.specs.DeclaredEntity.{DerivedAre, no_more, a_place, no_place}
+use Rattle.p21_schemas.specs.DeclaredEntity.{DeclaresDerived, no_more, a_place, no_place}
 use Rattle.p21_basics.proofs.Members.{Contains-none, Each-member}
 use Rattle.p21_schemas.proofs.DeclaredSchemas.{HasDistinctEntities}
 use Rattle.p21_schemas.proofs.TestSchemas.{entity_of, attribute}
@@ -55,7 +55,7 @@ several-are_none place (sup, (named, is_a, proper), inr (none, of_sup, only)) =
     let h : 0 ≡ 1 = ap (λ p. p.entity) (all (place_of 0) k_of_r ∙ sym (all (place_of 1) k_of_q)) in omega (arith, h)
 
 -- and a DERIVE of it is refused, whatever M derives
-pub several-derive_nothing : (declarations : List EntityDeclaration) (found : List Place) → DerivedAre r_and_q declarations 3 ((codes "M", codes "K") ∷ []) found → ⊥
+pub several-derive_nothing : (declarations : List EntityDeclaration) (found : List Place) → DeclaresDerived r_and_q declarations 3 ((codes "M", codes "K") ∷ []) found → ⊥
 several-derive_nothing declarations found (a_place _ _ place _ _ stands more) = several-are_none place stands
 several-derive_nothing declarations found (no_place _ _ sup _ _ proper none derives more) = let P : ℕ → Type 0 = λ e. HasNoPlace r_and_q e (codes "K") in subst P (only_m sup proper.0) none (place_of 0) k_of_r
 
@@ -91,8 +91,8 @@ no_attributes = schema_with (entity_of (codes "A") [] [] ∷ entity_of (codes "B
 abbrev derives_z : EntityDeclaration
 derives_z = record { name = codes "A"; constraint = no_constraint; subtype_of = None; explicit = []; derive = Some (record { name = own (codes "Z"); run = [] } ∷ []); rules = None }
 
-pub derived-counts_nothing : (b : EntityDeclaration) → DerivedAre no_attributes (derives_z ∷ b ∷ []) 1 ((codes "A", codes "Z") ∷ (codes "A", codes "Z") ∷ []) []
+pub derived-counts_nothing : (b : EntityDeclaration) → DeclaresDerived no_attributes (derives_z ∷ b ∷ []) 1 ((codes "A", codes "Z") ∷ (codes "A", codes "Z") ∷ []) []
 derived-counts_nothing b = again _ [] (again [] [] no_more)
   where
-    again : (names : List (List ℕ × List ℕ)) (found : List Place) → DerivedAre no_attributes (derives_z ∷ b ∷ []) 1 names found → DerivedAre no_attributes (derives_z ∷ b ∷ []) 1 ((codes "A", codes "Z") ∷ names) found
+    again : (names : List (List ℕ × List ℕ)) (found : List Place) → DeclaresDerived no_attributes (derives_z ∷ b ∷ []) 1 names found → DeclaresDerived no_attributes (derives_z ∷ b ∷ []) 1 ((codes "A", codes "Z") ∷ names) found
     again names found more = no_place (codes "A") (codes "Z") 0 names found ((entity_of (codes "A") [] [], refl, refl), above 1 0 0 (0, omega arith, refl) (itself 0), omega arith) (λ place of_a. Contains-none place of_a.0) (0, derives_z, itself 0, refl, (0, omega arith, refl)) more

@@ -8,9 +8,9 @@ use Rattle.p21_schemas.specs.EntityDeclaration.{EntityDeclaration, own, redeclar
 use Rattle.p21_schemas.specs.SupertypeConstraint.{no_constraint}
 use Rattle.p21_schemas.specs.Schema as schema
 use Rattle.p21_schemas.specs.Schema.{Schema, Entity, Defined, Kind, type_member, choice, alias, kind_of, TypeNamed, Place, Attribute, TypeUse, EntityNamed, PlaceNamed}
-use Rattle.p21_schemas.specs.DeclaredType.{TypeIs, is_entity, is_defined, is_list}
-use Rattle.p21_schemas.specs.DeclaredEntity.{AttributeIs, DerivedAre, a_place, no_place, own_explicit, names_of, EntityIs, own_names, derived_names}
-use Rattle.p21_schemas.specs.DefinedType.{DefinedIs, KindIs, is_alias, is_items}
+use Rattle.p21_schemas.specs.DeclaredType.{DenotesType, is_entity, is_defined, is_list}
+use Rattle.p21_schemas.specs.DeclaredEntity.{DeclaresAttribute, DeclaresDerived, a_place, no_place, own_explicit, names_of, DeclaresEntity, own_names, derived_names}
+use Rattle.p21_schemas.specs.DefinedType.{DeclaresType, DeclaresKind, is_alias, is_items}
 use Rattle.p21_schemas.specs.Select.{IsSelect}
 use Rattle.p21_schemas.specs.TypeDeclaration.{underlying, enumeration}
 use Rattle.p21_schemas.specs.ReservedWord.{IsName}
@@ -32,17 +32,17 @@ twice-declares_nothing s declares =
     omega (arith, h)
 
 -- the only attribute of the only entity has a type
-only_attribute : (type : WrittenType) (s : Schema) → DeclaresSchema (schema_of (entity_named (codes "A") (attribute_named (codes "X") type ∷ []) ∷ [])) s → (t : TypeUse) × TypeIs s type t
+only_attribute : (type : WrittenType) (s : Schema) → DeclaresSchema (schema_of (entity_named (codes "A") (attribute_named (codes "X") type ∷ []) ∷ [])) s → (t : TypeUse) × DenotesType s type t
 only_attribute type s declares =
     let (x, at, x_is) = declared-found _ s declares 0 (entity_named (codes "A") (attribute_named (codes "X") type ∷ [])) refl in
-    let (a, among, a_is) = AllZip-member (AttributeIs s) (own_explicit (attribute_named (codes "X") type ∷ [])) x.attributes (codes "X", false, type) x_is.attributes_are (Contains-first (codes "X", false, type) []) in
+    let (a, among, a_is) = AllZip-member (DeclaresAttribute s) (own_explicit (attribute_named (codes "X") type ∷ [])) x.attributes (codes "X", false, type) x_is.attributes_are (Contains-first (codes "X", false, type) []) in
     (a.type, a_is.2)
 
 -- `ENTITY a; x : foo; END_ENTITY;`: a name that is not declared
 pub unknown_name-declares_nothing : (s : Schema) → DeclaresSchema (schema_of (entity_named (codes "A") (attribute_named (codes "X") (named_type (codes "FOO")) ∷ []) ∷ [])) s → ⊥
 unknown_name-declares_nothing s declares = refuted (only_attribute (named_type (codes "FOO")) s declares).0 (only_attribute (named_type (codes "FOO")) s declares).1
   where
-    no_types : (types : List Defined) (u : ℕ) (x : Defined) → AllZip (DefinedIs s) [] types → slice_get types u ≡ Some x → ⊥
+    no_types : (types : List Defined) (u : ℕ) (x : Defined) → AllZip (DeclaresType s) [] types → slice_get types u ≡ Some x → ⊥
     no_types [] u x all at = cc
     no_types (y ∷ ys) u x all at = absurd all
 
@@ -50,7 +50,7 @@ unknown_name-declares_nothing s declares = refuted (only_attribute (named_type (
     no_entity zero x d at name_is is = let h : d ≡ entity_named (codes "A") (attribute_named (codes "X") (named_type (codes "FOO")) ∷ []) = cc in let k : codes "FOO" ≡ codes "A" = sym is ∙ name_is ∙ ap (λ y. y.name) h in cc
     no_entity (suc e) x d at name_is is = cc
 
-    refuted : (t : TypeUse) → TypeIs s (named_type (codes "FOO")) t → ⊥
+    refuted : (t : TypeUse) → DenotesType s (named_type (codes "FOO")) t → ⊥
     refuted t (is_entity _ e (x, at, is)) = let (d, at_d, x_is) = declared-entity _ s declares e x at in no_entity e x d at_d x_is.name_is is
     refuted t (is_defined _ u (x, at, is)) = no_types s.types u x declares.types_are at
 
@@ -58,7 +58,7 @@ unknown_name-declares_nothing s declares = refuted (only_attribute (named_type (
 pub bounds-declare_nothing : (s : Schema) → DeclaresSchema (schema_of (entity_named (codes "A") (attribute_named (codes "X") (list_type (Some (record { low = codes "3"; high = bounded (codes "1") })) false (real_type None)) ∷ []) ∷ [])) s → ⊥
 bounds-declare_nothing s declares = refuted _ (only_attribute _ s declares).1
   where
-    refuted : (t : TypeUse) → TypeIs s (list_type (Some (record { low = codes "3"; high = bounded (codes "1") })) false (real_type None)) t → ⊥
+    refuted : (t : TypeUse) → DenotesType s (list_type (Some (record { low = codes "3"; high = bounded (codes "1") })) false (real_type None)) t → ⊥
     refuted t (is_list _ low high unique element type bounds is) = omega (arith, bounds.0, bounds.2.1)
 
 -- `ENTITY a SUBTYPE OF (b); END_ENTITY; ENTITY b SUBTYPE OF (a); END_ENTITY;`: supertypes that come back
@@ -98,7 +98,7 @@ no_place-declares_nothing s declares =
     let (x, at, x_is) = declared-found no_z s declares 1 derives_z refl in
     refuted x.derived x_is.derived_are
   where
-    no_attributes : (attributes : List Attribute) → AllZip (AttributeIs s) [] attributes → (i : ℕ) (a : Attribute) → slice_get attributes i ≡ Some a → ⊥
+    no_attributes : (attributes : List Attribute) → AllZip (DeclaresAttribute s) [] attributes → (i : ℕ) (a : Attribute) → slice_get attributes i ≡ Some a → ⊥
     no_attributes [] all i a at = cc
     no_attributes (b ∷ bs) all i a at = absurd all
 
@@ -114,7 +114,7 @@ no_place-declares_nothing s declares =
         by_entity None is at = cc
         by_entity (Some x) is at =
             let (d, at_d, x_is) = declared-entity no_z s declares place.entity x is in
-            let P : List (List ℕ × Bool × WrittenType) → Type 0 = λ xs. AllZip (AttributeIs s) xs x.attributes in
+            let P : List (List ℕ × Bool × WrittenType) → Type 0 = λ xs. AllZip (DeclaresAttribute s) xs x.attributes in
             no_attributes x.attributes (subst P (declares_none place.entity d at_d) x_is.attributes_are) place.index a at
 
     underived : (f : ℕ) (d : EntityDeclaration) (name : List ℕ) → slice_get (entities_of no_z.declarations) f ≡ Some d → Contains (own_names (derived_names d.derive)) name → ⊥
@@ -122,23 +122,23 @@ no_place-declares_nothing s declares =
     underived (suc zero) d name at among = let h : d ≡ derives_z = cc in let P : EntityDeclaration → Type 0 = λ y. Contains (own_names (derived_names y.derive)) name in Contains-none name (subst P h among)
     underived (suc (suc f)) d name at among = cc
 
-    refuted : (found : List Place) → DerivedAre s (entities_of no_z.declarations) 1 ((codes "A", codes "Z") ∷ []) found → ⊥
+    refuted : (found : List Place) → DeclaresDerived s (entities_of no_z.declarations) 1 ((codes "A", codes "Z") ∷ []) found → ⊥
     refuted found (a_place _ _ place _ _ (sup, proper, inl of_itself) more) = unnamed place (codes "Z") of_itself.1
     refuted found (a_place _ _ place _ _ (sup, proper, inr (none, of_sup, only)) more) = unnamed place (codes "Z") of_sup.1
     refuted found (no_place _ _ sup _ _ proper none (f, d, is_a, at, among) more) = underived f d (codes "Z") at among
 
 -- a TYPE that is just the name of a select declares nothing
-pub renamed_select-declares_nothing : (s : Schema) → IsDistinct bytes_eq (names_of_all s) → (t : ℕ) (name : List ℕ) (kind : Kind) → TypeNamed s t name → IsSelect s t → KindIs s (underlying (named_type name)) kind → ⊥
+pub renamed_select-declares_nothing : (s : Schema) → IsDistinct bytes_eq (names_of_all s) → (t : ℕ) (name : List ℕ) (kind : Kind) → TypeNamed s t name → IsSelect s t → DeclaresKind s (underlying (named_type name)) kind → ⊥
 renamed_select-declares_nothing s distinct t name kind named select (is_alias _ type (is_entity _ e of_e) shallow may) = may
 renamed_select-declares_nothing s distinct t name kind named select (is_alias _ type (is_defined _ u of_u) shallow may) = let P : ℕ → Type 0 = λ v. IsSelect s v in may (subst P (distinct_names-types s distinct t u name named of_u) select)
 
 -- so does a TYPE that is just the name of an entity
-pub renamed_entity-declares_nothing : (s : Schema) → IsDistinct bytes_eq (names_of_all s) → (e : ℕ) (name : List ℕ) (kind : Kind) → EntityNamed s e name → KindIs s (underlying (named_type name)) kind → ⊥
+pub renamed_entity-declares_nothing : (s : Schema) → IsDistinct bytes_eq (names_of_all s) → (e : ℕ) (name : List ℕ) (kind : Kind) → EntityNamed s e name → DeclaresKind s (underlying (named_type name)) kind → ⊥
 renamed_entity-declares_nothing s distinct e name kind named (is_alias _ type (is_entity _ f of_f) shallow may) = may
 renamed_entity-declares_nothing s distinct e name kind named (is_alias _ type (is_defined _ t of_t) shallow may) = distinct_names-apart s distinct e t name named of_t
 
 -- an enumeration with one item twice declares nothing
-pub repeated_item-declares_nothing : (s : Schema) (kind : Kind) → KindIs s (enumeration (codes "RED" ∷ codes "RED" ∷ [])) kind → ⊥
+pub repeated_item-declares_nothing : (s : Schema) (kind : Kind) → DeclaresKind s (enumeration (codes "RED" ∷ codes "RED" ∷ [])) kind → ⊥
 unfolding IsDistinct
 repeated_item-declares_nothing s kind (is_items _ distinct) = let h : true ≡ false = distinct.0.0 in cc
 
@@ -162,7 +162,7 @@ list_of_itself-ends = (λ t. 0, never)
     never (suc t) u is = cc
 
 -- `SUBTYPE OF (a, a)`
-pub listed_twice-declares_nothing : (s : Schema) (declarations : List EntityDeclaration) (e : ℕ) (x : EntityDeclaration) (found : Entity) → x.subtype_of ≡ Some (codes "A" ∷ codes "A" ∷ []) → EntityIs s declarations e x found → ⊥
+pub listed_twice-declares_nothing : (s : Schema) (declarations : List EntityDeclaration) (e : ℕ) (x : EntityDeclaration) (found : Entity) → x.subtype_of ≡ Some (codes "A" ∷ codes "A" ∷ []) → DeclaresEntity s declarations e x found → ⊥
 unfolding IsDistinct
 listed_twice-declares_nothing s declarations e x found listed is =
     let P : Option (List (List ℕ)) → Type 0 = λ names. IsDistinct bytes_eq (names_of names) in
@@ -173,6 +173,6 @@ listed_twice-declares_nothing s declarations e x found listed is =
 abbrev x_twice : EntityDeclaration
 x_twice = record { name = codes "A"; constraint = no_constraint; subtype_of = None; explicit = attribute_named (codes "X") (real_type None) ∷ []; derive = Some (record { name = own (codes "X"); run = [] } ∷ []); rules = None }
 
-pub named_twice-declares_nothing : (s : Schema) (declarations : List EntityDeclaration) (e : ℕ) (found : Entity) → EntityIs s declarations e x_twice found → ⊥
+pub named_twice-declares_nothing : (s : Schema) (declarations : List EntityDeclaration) (e : ℕ) (found : Entity) → DeclaresEntity s declarations e x_twice found → ⊥
 unfolding IsDistinct
 named_twice-declares_nothing s declarations e found is = let h : true ≡ false = is.names_distinct.0.0 in cc

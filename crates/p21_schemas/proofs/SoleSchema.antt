@@ -5,7 +5,7 @@ use Rattle.std.specs.List.{AllZip, IsDistinct}
 use Rattle.std.proofs.Common.{arith, rules}
 use Rattle.p21_schemas.specs.Declared.{HasSupertype, DeclaresSchema}
 use Rattle.p21_schemas.specs.DeclaredEntity.{no_more}
-use Rattle.p21_schemas.specs.DeclaredOneOf.{all_one_of_names, OneOfIs}
+use Rattle.p21_schemas.specs.DeclaredOneOf.{all_one_of_names, DeclaresOneOf}
 use Rattle.p21_schemas.specs.DeclaredType.{is_integer}
 use Rattle.p21_schemas.specs.EntityDeclaration.{EntityDeclaration}
 use Rattle.p21_schemas.specs.ReservedWord.{reserved_words}
@@ -62,7 +62,7 @@ sole-supertypes lists (suc (suc (suc zero))) f among = let h : f ≡ 0 = Each-me
 sole-supertypes lists (suc (suc (suc (suc e)))) f among = absurd (Contains-none f among)
 
 record IsListed (expression : SupertypeExpression) (lists : List (List ℕ)) : Type 0 where
-  lists_are : AllZip (OneOfIs (sole_with lists)) (all_one_of_names (entities_of (sole_tree expression).declarations)) lists
+  lists_are : AllZip (DeclaresOneOf (sole_with lists)) (all_one_of_names (entities_of (sole_tree expression).declarations)) lists
 
 declares-with : (expression : SupertypeExpression) (lists : List (List ℕ)) → IsListed expression lists → DeclaresSchema (sole_tree expression) (sole_with lists)
 unfolding IsDistinct

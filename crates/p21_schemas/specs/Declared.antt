@@ -9,9 +9,9 @@ use Rattle.p21_schemas.specs.Schema as schema
 use Rattle.p21_schemas.specs.Schema.{Schema, Member, type_member, alias, choice, kind_of}
 use Rattle.p21_schemas.specs.Supertype.{supertypes_of}
 use Rattle.p21_schemas.specs.Select.{IsSelect}
-use Rattle.p21_schemas.specs.DeclaredEntity.{EntityIs}
-use Rattle.p21_schemas.specs.DefinedType.{DefinedIs}
-use Rattle.p21_schemas.specs.DeclaredOneOf.{all_one_of_names, OneOfIs}
+use Rattle.p21_schemas.specs.DeclaredEntity.{DeclaresEntity}
+use Rattle.p21_schemas.specs.DefinedType.{DeclaresType}
+use Rattle.p21_schemas.specs.DeclaredOneOf.{all_one_of_names, DeclaresOneOf}
 
 -- the most entities and types of a schema together (this project's own)
 abbrev pub most_declarations : ℕ
@@ -37,9 +37,9 @@ HasSelect s t u = ((members : List Member) × (kind_of s t ≡ Some (choice memb
 -- chain of supertypes, of renamed types or of selects in selects that comes back
 pub record DeclaresSchema (tree : SchemaDeclaration) (s : Schema) : Type 0 where
   pub name_is : s.name ≡ tree.name
-  pub entities_are : AllZip (λ x found. EntityIs s (entities_of tree.declarations) x.0 x.1 found) (enumerate_from 0 (entities_of tree.declarations)) s.entities
-  pub types_are : AllZip (DefinedIs s) (types_of tree.declarations) s.types
-  pub one_of_are : AllZip (OneOfIs s) (all_one_of_names (entities_of tree.declarations)) s.one_of_lists
+  pub entities_are : AllZip (λ x found. DeclaresEntity s (entities_of tree.declarations) x.0 x.1 found) (enumerate_from 0 (entities_of tree.declarations)) s.entities
+  pub types_are : AllZip (DeclaresType s) (types_of tree.declarations) s.types
+  pub one_of_are : AllZip (DeclaresOneOf s) (all_one_of_names (entities_of tree.declarations)) s.one_of_lists
   pub few : length s.entities + length s.types ≤ most_declarations
   pub names_distinct : IsDistinct bytes_eq (map (λ x. x.name) s.entities ++ map (λ x. x.name) s.types)
   pub supertypes_end : HasNoCircle (HasSupertype s)

@@ -7,7 +7,7 @@ use Rattle.p21_schemas.specs.EntityDeclaration.{EntityDeclaration, AttributeName
 use Rattle.p21_schemas.specs.SupertypeConstraint.{SupertypeConstraint, no_constraint, abstract_entity, abstract_supertype, abstract_supertype_of, supertype_of}
 use Rattle.p21_schemas.specs.Schema.{Schema, Entity, Attribute, Redeclared, Place, EntityNamed}
 use Rattle.p21_schemas.specs.Supertype.{IsA}
-use Rattle.p21_schemas.specs.DeclaredType.{TypeIs, deepest_nesting}
+use Rattle.p21_schemas.specs.DeclaredType.{DenotesType, deepest_nesting}
 use Rattle.p21_schemas.specs.Redeclaration.{IsProperSupertype, RedeclaresPlace, HasNoPlace}
 
 -- the two are one place
@@ -53,12 +53,12 @@ abbrev pub redeclared_explicit : List ExplicitAttributes → List ((List ℕ × 
 redeclared_explicit explicit = flat_map (λ x. map (λ name. (name, x.optional, x.type)) (redeclared_names x.names)) explicit
 
 -- a new attribute as it is written
-abbrev pub AttributeIs : Schema → List ℕ × Bool × WrittenType → Attribute → Type 0
-AttributeIs s written a = (a.name ≡ written.0) × (a.optional ≡ written.1) × TypeIs s written.2 a.type
+abbrev pub DeclaresAttribute : Schema → List ℕ × Bool × WrittenType → Attribute → Type 0
+DeclaresAttribute s written a = (a.name ≡ written.0) × (a.optional ≡ written.1) × DenotesType s written.2 a.type
 
 -- an explicit redeclaration as it is written
-abbrev pub RedeclaredIs : Schema → ℕ → (List ℕ × List ℕ) × Bool × WrittenType → Redeclared → Type 0
-RedeclaredIs s e written r = RedeclaresPlace s e written.0.0 written.0.1 r.place × (r.optional ≡ written.1) × TypeIs s written.2 r.type
+abbrev pub DeclaresRedeclared : Schema → ℕ → (List ℕ × List ℕ) × Bool × WrittenType → Redeclared → Type 0
+DeclaresRedeclared s e written r = RedeclaresPlace s e written.0.0 written.0.1 r.place × (r.optional ≡ written.1) × DenotesType s written.2 r.type
 
 -- the entity or a supertype of it derives a new attribute of this name
 abbrev pub DerivesName : Schema → List EntityDeclaration → ℕ → List ℕ → Type 0
@@ -66,22 +66,22 @@ DerivesName s declarations e name = (f : ℕ) × (x : EntityDeclaration) × IsA 
 
 -- The places that the redeclarations of a DERIVE clause stand for. One stands for none where its supertype has no place
 -- of that name, but it or a supertype of it derives an attribute of that name
-pub data DerivedAre (s : Schema) (declarations : List EntityDeclaration) (e : ℕ) : List (List ℕ × List ℕ) → List Place → Type 0 where
-  no_more : DerivedAre s declarations e [] []
-  a_place : (supertype name : List ℕ) (place : Place) (names : List (List ℕ × List ℕ)) (found : List Place) → RedeclaresPlace s e supertype name place → DerivedAre s declarations e names found
-      → DerivedAre s declarations e ((supertype, name) ∷ names) (place ∷ found)
+pub data DeclaresDerived (s : Schema) (declarations : List EntityDeclaration) (e : ℕ) : List (List ℕ × List ℕ) → List Place → Type 0 where
+  no_more : DeclaresDerived s declarations e [] []
+  a_place : (supertype name : List ℕ) (place : Place) (names : List (List ℕ × List ℕ)) (found : List Place) → RedeclaresPlace s e supertype name place → DeclaresDerived s declarations e names found
+      → DeclaresDerived s declarations e ((supertype, name) ∷ names) (place ∷ found)
   no_place : (supertype name : List ℕ) (sup : ℕ) (names : List (List ℕ × List ℕ)) (found : List Place) → IsProperSupertype s e sup supertype → HasNoPlace s sup name → DerivesName s declarations sup name
-      → DerivedAre s declarations e names found → DerivedAre s declarations e ((supertype, name) ∷ names) found
+      → DeclaresDerived s declarations e names found → DeclaresDerived s declarations e ((supertype, name) ∷ names) found
 
 -- The declaration of this number declares this entity. No supertype is listed twice, no attribute is declared twice, and
 -- no place is redeclared twice
-pub record EntityIs (s : Schema) (declarations : List EntityDeclaration) (e : ℕ) (x : EntityDeclaration) (found : Entity) : Type 0 where
+pub record DeclaresEntity (s : Schema) (declarations : List EntityDeclaration) (e : ℕ) (x : EntityDeclaration) (found : Entity) : Type 0 where
   pub name_is : found.name ≡ x.name
   pub abstract_is : found.is_abstract ≡ is_abstract_by x.constraint
   pub supertypes_are : AllZip (EntityNamed s) found.supertypes (names_of x.subtype_of)
-  pub attributes_are : AllZip (AttributeIs s) (own_explicit x.explicit) found.attributes
-  pub redeclared_are : AllZip (RedeclaredIs s e) (redeclared_explicit x.explicit) found.redeclared
-  pub derived_are : DerivedAre s declarations e (redeclared_names (derived_names x.derive)) found.derived
+  pub attributes_are : AllZip (DeclaresAttribute s) (own_explicit x.explicit) found.attributes
+  pub redeclared_are : AllZip (DeclaresRedeclared s e) (redeclared_explicit x.explicit) found.redeclared
+  pub derived_are : DeclaresDerived s declarations e (redeclared_names (derived_names x.derive)) found.derived
   pub nesting_small : Each (λ d. nesting d.type ≤ deepest_nesting) x.explicit
   pub supertypes_distinct : IsDistinct bytes_eq (names_of x.subtype_of)
   pub names_distinct : IsDistinct bytes_eq (own_names (flat_map (λ d. d.names) x.explicit) ++ own_names (derived_names x.derive))

@@ -7,7 +7,7 @@ use Rattle.p21_schemas.specs.TypeDeclaration.{TypeDeclaration, Body, enumeration
 use Rattle.p21_schemas.specs.Schema as schema
 use Rattle.p21_schemas.specs.Schema.{Schema, TypeUse, Member, entity_member, type_member, Kind, alias, items, choice, Defined, EntityNamed, TypeNamed}
 use Rattle.p21_schemas.specs.Select.{IsSelect}
-use Rattle.p21_schemas.specs.DeclaredType.{TypeIs, deepest_nesting}
+use Rattle.p21_schemas.specs.DeclaredType.{DenotesType, deepest_nesting}
 
 -- the member has this name
 abbrev pub MemberNamed : Schema → Member → List ℕ → Type 0
@@ -21,12 +21,12 @@ MayBeUnderlying s (schema.defined t) = ¬ IsSelect s t
 MayBeUnderlying s other = Unit {0}
 
 -- what the body of a type declaration declares; no item and no member is listed twice
-pub data KindIs (s : Schema) : Body → Kind → Type 0 where
-  is_alias : (written : WrittenType) (type : TypeUse) → TypeIs s written type → nesting written ≤ deepest_nesting → MayBeUnderlying s type → KindIs s (underlying written) (alias type)
-  is_items : (names : List (List ℕ)) → IsDistinct bytes_eq names → KindIs s (enumeration names) (items names)
-  is_choice : (names : List (List ℕ)) (members : List Member) → AllZip (MemberNamed s) members names → IsDistinct bytes_eq names → KindIs s (select names) (choice members)
+pub data DeclaresKind (s : Schema) : Body → Kind → Type 0 where
+  is_alias : (written : WrittenType) (type : TypeUse) → DenotesType s written type → nesting written ≤ deepest_nesting → MayBeUnderlying s type → DeclaresKind s (underlying written) (alias type)
+  is_items : (names : List (List ℕ)) → IsDistinct bytes_eq names → DeclaresKind s (enumeration names) (items names)
+  is_choice : (names : List (List ℕ)) (members : List Member) → AllZip (MemberNamed s) members names → IsDistinct bytes_eq names → DeclaresKind s (select names) (choice members)
 
 -- the declaration declares this type
-pub record DefinedIs (s : Schema) (x : TypeDeclaration) (found : Defined) : Type 0 where
+pub record DeclaresType (s : Schema) (x : TypeDeclaration) (found : Defined) : Type 0 where
   pub name_is : found.name ≡ x.name
-  pub kind_is : KindIs s x.body found.kind
+  pub kind_is : DeclaresKind s x.body found.kind

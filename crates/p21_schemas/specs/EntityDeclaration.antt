@@ -5,7 +5,7 @@ use Rattle.p21_schemas.specs.Express.{Lexeme}
 use Rattle.p21_schemas.specs.ReservedWord.{IsName, AreNames}
 use Rattle.p21_schemas.specs.WrittenType.{WrittenType, word, symbols, optional_word, type_lexemes, IsWrittenType}
 use Rattle.p21_schemas.specs.Run.{IsRun, is_word, is_symbol, none}
-use Rattle.p21_schemas.specs.Separated.{separated, names_lexemes}
+use Rattle.p21_schemas.specs.Separated.{comma_separated, names_lexemes}
 use Rattle.p21_schemas.specs.SupertypeConstraint.{SupertypeConstraint, constraint_lexemes, IsConstraint}
 
 -- a new attribute, or `SELF\entity.name`, which redeclares one of a supertype
@@ -45,7 +45,7 @@ attribute_lexemes (redeclared entity name) = word (codes "SELF") ++ symbols (cod
 
 -- attribute {`,` attribute} `:` [OPTIONAL] type `;`
 abbrev pub explicit_lexemes : ExplicitAttributes → List Lexeme
-explicit_lexemes x = separated attribute_lexemes x.names ++ symbols (codes ":") ++ optional_word x.optional (codes "OPTIONAL") ++ type_lexemes x.type ++ symbols (codes ";")
+explicit_lexemes x = comma_separated attribute_lexemes x.names ++ symbols (codes ":") ++ optional_word x.optional (codes "OPTIONAL") ++ type_lexemes x.type ++ symbols (codes ";")
 
 -- attribute `:` run `;`
 abbrev pub derived_lexemes : DerivedAttribute → List Lexeme

@@ -6,14 +6,14 @@ use Rattle.p21_schemas.specs.Schema.{Schema, Place, attributes_of}
 use Rattle.p21_schemas.specs.Supertype.{supertypes_of}
 
 -- each at its first occurrence only
-abbrev pub firsts : List ℕ → List ℕ
-firsts [] = []
-firsts (e ∷ es) = e ∷ filter (λ f. not (nat_eq e f)) (firsts es)
+abbrev pub first_occurrences : List ℕ → List ℕ
+first_occurrences [] = []
+first_occurrences (e ∷ es) = e ∷ filter (λ f. not (nat_eq e f)) (first_occurrences es)
 
 -- the orders of the supertypes as listed, then the entity itself, each entity once; with this many levels of supertypes
 abbrev pub order_within : Schema → ℕ → ℕ → List ℕ
 order_within s zero e = e ∷ []
-order_within s (suc levels) e = firsts (flat_map (order_within s levels) (supertypes_of s e) ++ e ∷ [])
+order_within s (suc levels) e = first_occurrences (flat_map (order_within s levels) (supertypes_of s e) ++ e ∷ [])
 
 -- where no supertypes come back, there are no more levels than entities
 abbrev pub order : Schema → ℕ → List ℕ

@@ -15,24 +15,24 @@ mark_bytes closing_mark = 42 ∷ 41 ∷ []
 mark_bytes (remark_byte byte) = byte ∷ []
 
 -- the first of the bytes, if there is one, is another
-abbrev pub HeadIsNot : ℕ → List ℕ → Type 0
-HeadIsNot byte [] = Unit {0}
-HeadIsNot byte (next ∷ bytes) = next ≢ byte
+abbrev pub DoesNotBeginWith : ℕ → List ℕ → Type 0
+DoesNotBeginWith byte [] = Unit {0}
+DoesNotBeginWith byte (next ∷ bytes) = next ≢ byte
 
 -- marks are taken from left to right, and no byte stands in two: where a mark can be taken, it is
 abbrev pub AreMarks : List Mark → Type 0
 AreMarks [] = Unit {0}
 AreMarks (opening_mark ∷ marks) = AreMarks marks
 AreMarks (closing_mark ∷ marks) = AreMarks marks
-AreMarks (remark_byte byte ∷ marks) = (byte ≡ 40 → HeadIsNot 42 (flat_map mark_bytes marks)) × (byte ≡ 42 → HeadIsNot 41 (flat_map mark_bytes marks)) × AreMarks marks
+AreMarks (remark_byte byte ∷ marks) = (byte ≡ 40 → DoesNotBeginWith 42 (flat_map mark_bytes marks)) × (byte ≡ 42 → DoesNotBeginWith 41 (flat_map mark_bytes marks)) × AreMarks marks
 
 -- within an open remark and `inner` open remarks in it, the last mark closes the outer remark, and no mark before it does
-abbrev pub ClosesLast : ℕ → List Mark → Type 0
-ClosesLast inner [] = ⊥
-ClosesLast inner (opening_mark ∷ marks) = ClosesLast (suc inner) marks
-ClosesLast zero (closing_mark ∷ marks) = marks ≡ []
-ClosesLast (suc inner) (closing_mark ∷ marks) = ClosesLast inner marks
-ClosesLast inner (remark_byte byte ∷ marks) = ClosesLast inner marks
+abbrev pub ClosesAtLastMark : ℕ → List Mark → Type 0
+ClosesAtLastMark inner [] = ⊥
+ClosesAtLastMark inner (opening_mark ∷ marks) = ClosesAtLastMark (suc inner) marks
+ClosesAtLastMark zero (closing_mark ∷ marks) = marks ≡ []
+ClosesAtLastMark (suc inner) (closing_mark ∷ marks) = ClosesAtLastMark inner marks
+ClosesAtLastMark inner (remark_byte byte ∷ marks) = ClosesAtLastMark inner marks
 
 -- a blank, an embedded remark behind its first `(*`, or a tail remark between `--` and the end of its line
 pub data Separator : Type 0 where
@@ -43,7 +43,7 @@ pub data Separator : Type 0 where
 -- 10 ends a line
 abbrev pub IsSeparator : Separator → Type 0
 IsSeparator (blank byte) = (byte ≤ 32) ⊎ (byte ≡ 127)
-IsSeparator (embedded_remark marks) = AreMarks marks × ClosesLast zero marks
+IsSeparator (embedded_remark marks) = AreMarks marks × ClosesAtLastMark zero marks
 IsSeparator (tail_remark line) = Each (λ byte. byte ≢ 10) line
 
 -- the bytes of a separator

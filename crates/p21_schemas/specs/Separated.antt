@@ -4,11 +4,11 @@ use Rattle.p21_schemas.specs.Express.{Lexeme}
 use Rattle.p21_schemas.specs.WrittenType.{word, symbols}
 
 -- separated by commas
-abbrev pub separated : {A : Type 0} → (A → List Lexeme) → List A → List Lexeme
-separated lexemes [] = []
-separated lexemes (x ∷ []) = lexemes x
-separated lexemes (x ∷ y ∷ xs) = lexemes x ++ symbols (codes ",") ++ separated lexemes (y ∷ xs)
+abbrev pub comma_separated : {A : Type 0} → (A → List Lexeme) → List A → List Lexeme
+comma_separated lexemes [] = []
+comma_separated lexemes (x ∷ []) = lexemes x
+comma_separated lexemes (x ∷ y ∷ xs) = lexemes x ++ symbols (codes ",") ++ comma_separated lexemes (y ∷ xs)
 
 -- `(` name {`,` name} `)`
 abbrev pub names_lexemes : List (List ℕ) → List Lexeme
-names_lexemes names = symbols (codes "(") ++ separated word names ++ symbols (codes ")")
+names_lexemes names = symbols (codes "(") ++ comma_separated word names ++ symbols (codes ")")

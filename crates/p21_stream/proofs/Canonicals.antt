@@ -12,10 +12,10 @@ use Rattle.p21_files.specs.SameFile.{SameFileMeaning}
 use Rattle.p21_schemas.specs.Schema.{Schema}
 use Rattle.p21_schemas.specs.WellFormed.{IsWellFormed}
 use Rattle.p21_stream.specs.Answers.{AreReadInOneWay, Compares, FailsToWrite, IsCanonicalOfRead, IsOnlyCanonicalFile, IsPartWritten, IsWritten}
-use Rattle.p21_stream.specs.Reading.{IsAcceptedRead, RefusesRead, write_failures}
-use Rattle.p21_stream_accepted.specs.Output.{Output, output_text}
-use Rattle.p21_stream_fault.specs.declared.fault.Fault.{Fault}
-use Rattle.p21_stream_fault.specs.declared.fault.Fault.TheVariants.{Token, Grammar, Check, SchemaName, SectionTwice, DuplicateName, CanonicalTooLong, Dangling, WrongTarget, NoMemory, Read, Write}
+use Rattle.p21_stream.specs.ReaderInput.{IsAcceptedInput, RefusesRead, write_failures}
+use Rattle.p21_stream_output.specs.Output.{Output, output_text}
+use Rattle.p21_stream_kept.specs.declared.fault.Fault.{Fault}
+use Rattle.p21_stream_kept.specs.declared.fault.Fault.TheVariants.{Token, Grammar, Check, SchemaName, SectionTwice, DuplicateName, CanonicalTooLong, Dangling, WrongTarget, NoMemory, Read, Write}
 use Rattle.p21_stream_io.specs.Transfer.{AppendsPartOf}
 
 pub only-canonical : (s : Schema) → IsWellFormed s → (limits : Limits) → AreLimits limits → (bytes text : List ℕ) → IsCanonicalFile s limits bytes text → IsOnlyCanonicalFile s limits bytes text
@@ -40,7 +40,7 @@ in-one_way s formed bytes = record {
 
 -- ---- of what a reader gave
 
-pub canonical-of_read : (s : Schema) → IsWellFormed s → (limits : Limits) → AreLimits limits → (old new : Option (List ℕ)) (output : Output) → IsAcceptedRead s limits old new output → IsCanonicalOfRead s limits old new (output_text output)
+pub canonical-of_read : (s : Schema) → IsWellFormed s → (limits : Limits) → AreLimits limits → (old new : Option (List ℕ)) (output : Output) → IsAcceptedInput s limits old new output → IsCanonicalOfRead s limits old new (output_text output)
 canonical-of_read s formed limits are old new output is = record {
   bytes = is.bytes;
   read = is.read;
@@ -48,12 +48,12 @@ canonical-of_read s formed limits are old new output is = record {
   in_one_way = in-one_way s formed is.bytes;
 }
 
-pub canonical-text : (s : Schema) → IsWellFormed s → (limits : Limits) → AreLimits limits → (old new : Option (List ℕ)) (output : Output) (text : List ℕ) → IsAcceptedRead s limits old new output → text ≡ output_text output → IsCanonicalOfRead s limits old new text
+pub canonical-text : (s : Schema) → IsWellFormed s → (limits : Limits) → AreLimits limits → (old new : Option (List ℕ)) (output : Output) (text : List ℕ) → IsAcceptedInput s limits old new output → text ≡ output_text output → IsCanonicalOfRead s limits old new text
 canonical-text s formed limits are old new output text is text_is = subst (IsCanonicalOfRead s limits old new) (sym text_is) (canonical-of_read s formed limits are old new output is)
 
 -- ---- written
 
-pub all-written : (s : Schema) → IsWellFormed s → (limits : Limits) → AreLimits limits → (old new writer_old writer_new : Option (List ℕ)) (output : Output) (size : ℕ) → IsAcceptedRead s limits old new output → Appends writer_old writer_new (output_text output) → size ≡ length (output_text output)
+pub all-written : (s : Schema) → IsWellFormed s → (limits : Limits) → AreLimits limits → (old new writer_old writer_new : Option (List ℕ)) (output : Output) (size : ℕ) → IsAcceptedInput s limits old new output → Appends writer_old writer_new (output_text output) → size ≡ length (output_text output)
     → IsWritten s limits old new writer_old writer_new size
 all-written s formed limits are old new writer_old writer_new output size is written size_is = record {
   text = output_text output;
@@ -62,7 +62,7 @@ all-written s formed limits are old new writer_old writer_new output size is wri
   size_is = size_is;
 }
 
-pub part-written : (s : Schema) → IsWellFormed s → (limits : Limits) → AreLimits limits → (old new writer_old writer_new : Option (List ℕ)) (output : Output) → IsAcceptedRead s limits old new output → AppendsPartOf writer_old writer_new (output_text output)
+pub part-written : (s : Schema) → IsWellFormed s → (limits : Limits) → AreLimits limits → (old new writer_old writer_new : Option (List ℕ)) (output : Output) → IsAcceptedInput s limits old new output → AppendsPartOf writer_old writer_new (output_text output)
     → IsPartWritten s limits old new writer_old writer_new
 part-written s formed limits are old new writer_old writer_new output is part = record { text = output_text output; canonical = canonical-of_read s formed limits are old new output is; part = part }
 
@@ -97,7 +97,7 @@ read-no_write s limits old new WrongTarget count refuses = refl
 
 -- ---- compared
 
-pub both-compared : (s : Schema) → IsWellFormed s → (limits : Limits) → AreLimits limits → (first_old first_new second_old second_new : Option (List ℕ)) (text : List ℕ) (output : Output) (same : Bool) → IsCanonicalOfRead s limits first_old first_new text → IsAcceptedRead s limits second_old second_new output
+pub both-compared : (s : Schema) → IsWellFormed s → (limits : Limits) → AreLimits limits → (first_old first_new second_old second_new : Option (List ℕ)) (text : List ℕ) (output : Output) (same : Bool) → IsCanonicalOfRead s limits first_old first_new text → IsAcceptedInput s limits second_old second_new output
     → IsTrue same ↔ (text ≡ output_text output) → Compares s limits first_old first_new second_old second_new same
 both-compared s formed limits are first_old first_new second_old second_new text output same first second is =
     let other : IsCanonicalOfRead s limits second_old second_new (output_text output) = canonical-of_read s formed limits are second_old second_new output second in

@@ -10,13 +10,13 @@ use Rattle.p21_schemas.specs.Schema.{Schema}
 use Rattle.p21_schemas.specs.WellFormed.{IsWellFormed}
 use Rattle.p21_stream.proofs.Canonicals.{in-one_way, only-canonical}
 use Rattle.p21_stream.specs.Claim.{Claim, IsFailure, IsOpen}
-use Rattle.p21_stream.specs.Reading.{IsRefused, RefusesRead}
-use Rattle.p21_stream_accepted.specs.Output.{output_text}
-use Rattle.p21_stream_fault.specs.declared.fault.Fault.{Fault}
-use Rattle.p21_stream_fault.specs.declared.fault.Fault.TheVariants.{Token, Grammar, Check, SchemaName, SectionTwice, DuplicateName, CanonicalTooLong, Dangling, WrongTarget, NoMemory, Read, Write}
-use Rattle.p21_stream_fault.specs.declared.refusal.Refusal.{Refusal}
-use Rattle.p21_stream_session.specs.Held.{SessionHeld, limits_of, schema_of}
-use Rattle.p21_stream_session.specs.Histories.{FeedGives, FinishGives, SessionHistory}
+use Rattle.p21_stream.specs.ReaderInput.{IsRefused, RefusesRead}
+use Rattle.p21_stream_output.specs.Output.{output_text}
+use Rattle.p21_stream_kept.specs.declared.fault.Fault.{Fault}
+use Rattle.p21_stream_kept.specs.declared.fault.Fault.TheVariants.{Token, Grammar, Check, SchemaName, SectionTwice, DuplicateName, CanonicalTooLong, Dangling, WrongTarget, NoMemory, Read, Write}
+use Rattle.p21_stream_kept.specs.declared.refusal.Refusal.{Refusal}
+use Rattle.p21_stream.specs.Held.{SessionHeld, limits_of, schema_of}
+use Rattle.p21_stream.specs.Histories.{FeedGives, FinishGives, SessionHistory}
 
 -- a fault that is no want of memory, by the fact that it tells then
 failure-or : (P : Type 0) (fault : Fault) → (fault ≢ NoMemory → P) → IsFailure fault ⊎ P

@@ -10,20 +10,20 @@ use Rattle.p21_basics.specs.Limits.{Limits}
 use Rattle.p21_files.proofs.Dead.{dead_further}
 use Rattle.p21_files.specs.Accepted.{IsAccepted, IsDead}
 use Rattle.p21_schemas.specs.Schema.{Schema}
-use Rattle.p21_stream.specs.Feeding.{FeedsOn, IsAlong, IsAlongWhole, RefusesOn, RefusesPiece, TakesAtMost, taken_all}
-use Rattle.p21_stream.specs.Reading.{ConsumesAtMost, IsAcceptedRead, IsOfBytes, IsRefused, RefusesRead}
-use Rattle.p21_stream_accepted.specs.Output.{Output}
-use Rattle.p21_stream_fault.specs.declared.fault.Fault.{Fault}
-use Rattle.p21_stream_fault.specs.declared.fault.Fault.TheVariants.{Token, Grammar, Check, SchemaName, SectionTwice, DuplicateName, CanonicalTooLong, Dangling, WrongTarget, NoMemory, Read, Write}
-use Rattle.p21_stream_fault.specs.declared.refusal.Refusal.{Refusal}
-use Rattle.p21_stream_front.specs.Front as front
-use Rattle.p21_stream_session.specs.Held.{SessionHeld, limits_of, schema_of}
-use Rattle.p21_stream_session.specs.Histories.{FeedGives, FinishGives, KeepsSchema, SessionHistory, Stands, nothing_taken}
+use Rattle.p21_stream.specs.Feeding.{FeedsMore, IsFedFrom, IsFedWhole, RefusesFedBytes, RefusesPiece, TakesAtMost, taken_history}
+use Rattle.p21_stream.specs.ReaderInput.{ConsumesAtMost, IsAcceptedInput, IsOfBytes, IsRefused, RefusesRead}
+use Rattle.p21_stream_output.specs.Output.{Output}
+use Rattle.p21_stream_kept.specs.declared.fault.Fault.{Fault}
+use Rattle.p21_stream_kept.specs.declared.fault.Fault.TheVariants.{Token, Grammar, Check, SchemaName, SectionTwice, DuplicateName, CanonicalTooLong, Dangling, WrongTarget, NoMemory, Read, Write}
+use Rattle.p21_stream_kept.specs.declared.refusal.Refusal.{Refusal}
+use Rattle.p21_stream.specs.StatementReader as front
+use Rattle.p21_stream.specs.Held.{SessionHeld, limits_of, schema_of}
+use Rattle.p21_stream.specs.Histories.{FeedGives, FinishGives, KeepsSchema, SessionHistory, Stands, nothing_taken}
 use Rattle.p21_tokens.specs.Histories as tokens
 
 -- ---- within the limit of a file
 
-live-short : (held : front.Held) (reading : front.Reading) → front.IsLive held reading → length reading.taken ≤ (front.limits_of held).1
+live-short : (held : front.Held) (reading : front.StatementHistory) → front.IsLive held reading → length reading.taken ≤ (front.limits_of held).1
 live-short held reading live = short live.answered where
   short : (live.history ≡ empty) ⊎ tokens.Answers held.lexer live.history → length reading.taken ≤ (front.limits_of held).1
   short (inl none) = let e : reading.taken ≡ [] = sym live.taken_are ∙ ap (λ h. h.taken) none in rw e (omega arith)
@@ -35,14 +35,14 @@ taken-short held history stands open_ =
     let live = (stands.1 open_).1 in
     subst (λ (most : ℕ). length history.taken ≤ most) (ap (λ p. p.1) live.limits_are) (live-short held.front _ live.reads)
 
--- ---- a piece more
+-- ---- one more piece
 
-pub along-more : (start old new : Option (List ℕ)) (before after : SessionHeld) (piece : List ℕ) (size count : ℕ) → Consumes old new piece → length piece ≡ count → FeedGives before piece (Ok tt) after → IsAlong start old before size → IsAlong start new after (size + count)
+pub along-more : (start old new : Option (List ℕ)) (before after : SessionHeld) (piece : List ℕ) (size count : ℕ) → Consumes old new piece → length piece ≡ count → FeedGives before piece (Ok tt) after → IsFedFrom start old before size → IsFedFrom start new after (size + count)
 along-more start old new before after piece size count more count_is gives along = record {
   bytes = along.bytes ++ piece;
   consumed = Consumes-trans start old new along.bytes piece along.consumed more;
   size_is = length-append along.bytes piece ∙ ap (λ (n : ℕ). n + length piece) along.size_is ∙ ap (λ (n : ℕ). size + n) count_is;
-  stands = (gives (taken_all along.bytes) along.stands).1;
+  stands = (gives (taken_history along.bytes) along.stands).1;
 }
 
 -- ---- refusals
@@ -75,14 +75,14 @@ dead-piece s limits taken piece count are dead =
     let later : Each IsByte (drop count piece) = Each-back IsByte (take count piece) (drop count piece) (subst (Each IsByte) (sym whole) are) in
     subst (IsDead s limits) (append_assoc taken (take count piece) (drop count piece) ∙ ap (λ (l : List ℕ). taken ++ l) whole) (dead_further s limits (taken ++ take count piece) (drop count piece) later dead)
 
--- nor is a text accepted whose front is dead
+-- nor is a text accepted whose prefix is dead
 pub dead-text : (s : Schema) (limits : Limits) (text : List ℕ) (count : ℕ) → ((i : ℕ) → Fits w8 (slice_index_or text i 0)) → IsDead s limits ([] ++ take count text) → ¬ IsAccepted s limits text
 dead-text s limits text count fits dead accepted = dead-piece s limits [] text count (each-byte text fits) dead [] tt (subst (IsAccepted s limits) (sym (append-nil text)) accepted)
 
 -- a piece with which nothing that is accepted goes on
 pub piece-refused : (before after : SessionHeld) (piece : List ℕ) (refusal : Refusal) → ((i : ℕ) → Fits w8 (slice_index_or piece i 0)) → IsOfBytes refusal.fault → FeedGives before piece (Err refusal) after → RefusesPiece before piece refusal.fault
 piece-refused before after piece refusal fits of gives old new more start size along =
-    let r = gives (taken_all along.bytes) along.stands refl in
+    let r = gives (taken_history along.bytes) along.stands refl in
     refused-by (schema_of before) (limits_of before) start new refusal.fault of (λ other. record {
       bytes = along.bytes ++ piece;
       consumed = Consumes-trans start old new along.bytes piece along.consumed more;
@@ -91,19 +91,19 @@ piece-refused before after piece refusal fits of gives old new more start size a
 
 -- ---- the end
 
-pub whole-refused : (old new : Option (List ℕ)) (session : SessionHeld) (refusal : Refusal) → IsAlongWhole old new session → IsOfBytes refusal.fault → FinishGives session (Err refusal) → RefusesRead (schema_of session) (limits_of session) old new refusal.fault
+pub whole-refused : (old new : Option (List ℕ)) (session : SessionHeld) (refusal : Refusal) → IsFedWhole old new session → IsOfBytes refusal.fault → FinishGives session (Err refusal) → RefusesRead (schema_of session) (limits_of session) old new refusal.fault
 whole-refused old new session refusal whole of gives =
     refused-by (schema_of session) (limits_of session) old new refusal.fault of (λ other. record {
       bytes = whole.bytes;
       consumed = whole.read.consumed;
-      refused = inr (whole.read.at_end, gives other (taken_all whole.bytes) whole.stands);
+      refused = inr (whole.read.at_end, gives other (taken_history whole.bytes) whole.stands);
     })
 
-pub whole-accepted : (old new : Option (List ℕ)) (session : SessionHeld) (output : Output) → IsAlongWhole old new session → FinishGives session (Ok output) → IsAcceptedRead (schema_of session) (limits_of session) old new output
+pub whole-accepted : (old new : Option (List ℕ)) (session : SessionHeld) (output : Output) → IsFedWhole old new session → FinishGives session (Ok output) → IsAcceptedInput (schema_of session) (limits_of session) old new output
 whole-accepted old new session output whole gives = record {
   bytes = whole.bytes;
   read = whole.read;
-  accepted = (gives (taken_all whole.bytes) whole.stands).1;
+  accepted = (gives (taken_history whole.bytes) whole.stands).1;
 }
 
 -- ---- the loop
@@ -111,7 +111,7 @@ whole-accepted old new session output whole gives = record {
 -- so much was fed, and so much may still come
 pub record InLoop (start now : Option (List ℕ)) (first session : SessionHeld) (most left : ℕ) : Type 0 where
   pub size : ℕ
-  pub along : IsAlong start now session size
+  pub along : IsFedFrom start now session size
   pub left_is : size + left ≡ most
   pub kept : KeepsSchema first session
 
@@ -123,15 +123,15 @@ loop-starts now session most stands = record {
   kept = (refl, refl);
 }
 
-pub loop-short : (start old new : Option (List ℕ)) (first before after : SessionHeld) (most left count : ℕ) → most ≡ (limits_of first).file_source → InLoop start old first before most left → KeepsSchema before after → FeedsOn old new before after count → count ≤ left
+pub loop-short : (start old new : Option (List ℕ)) (first before after : SessionHeld) (most left count : ℕ) → most ≡ (limits_of first).file_source → InLoop start old first before most left → KeepsSchema before after → FeedsMore old new before after count → count ≤ left
 loop-short start old new first before after most left count is in_loop keeps feeds =
     let along = feeds.along start in_loop.size in_loop.along in
-    let short : length along.bytes ≤ most = subst (λ (n : ℕ). length along.bytes ≤ n) (ap (λ (l : Limits). l.file_source) (keeps.1 ∙ in_loop.kept.1) ∙ sym is) (taken-short after (taken_all along.bytes) along.stands refl) in
+    let short : length along.bytes ≤ most = subst (λ (n : ℕ). length along.bytes ≤ n) (ap (λ (l : Limits). l.file_source) (keeps.1 ∙ in_loop.kept.1) ∙ sym is) (taken-short after (taken_history along.bytes) along.stands refl) in
     let size = along.size_is in
     let left_is = in_loop.left_is in
     omega arith
 
-pub loop-goes_on : (start old new : Option (List ℕ)) (first before after : SessionHeld) (most left count : ℕ) → count ≤ left → InLoop start old first before most left → KeepsSchema before after → FeedsOn old new before after count → InLoop start new first after most (left - count)
+pub loop-goes_on : (start old new : Option (List ℕ)) (first before after : SessionHeld) (most left count : ℕ) → count ≤ left → InLoop start old first before most left → KeepsSchema before after → FeedsMore old new before after count → InLoop start new first after most (left - count)
 loop-goes_on start old new first before after most left count short in_loop keeps feeds = record {
   size = in_loop.size + count;
   along = feeds.along start in_loop.size in_loop.along;
@@ -139,12 +139,12 @@ loop-goes_on start old new first before after most left count short in_loop keep
   kept = (keeps.0 ∙ in_loop.kept.0, keeps.1 ∙ in_loop.kept.1);
 }
 
-pub loop-whole : (start old new : Option (List ℕ)) (first before after : SessionHeld) (most left count : ℕ) → InLoop start old first before most left → FeedsOn old new before after count → count ≡ 0 → IsAlongWhole start new after
+pub loop-whole : (start old new : Option (List ℕ)) (first before after : SessionHeld) (most left count : ℕ) → InLoop start old first before most left → FeedsMore old new before after count → count ≡ 0 → IsFedWhole start new after
 loop-whole start old new first before after most left count in_loop feeds none =
     let along = feeds.along start in_loop.size in_loop.along in
     record { bytes = along.bytes; read = record { consumed = along.consumed; at_end = feeds.ended none }; stands = along.stands }
 
-pub loop-refused : (start old new : Option (List ℕ)) (first before : SessionHeld) (most left : ℕ) (fault : Fault) → InLoop start old first before most left → RefusesOn old new before fault → RefusesRead (schema_of first) (limits_of first) start new fault
+pub loop-refused : (start old new : Option (List ℕ)) (first before : SessionHeld) (most left : ℕ) (fault : Fault) → InLoop start old first before most left → RefusesFedBytes old new before fault → RefusesRead (schema_of first) (limits_of first) start new fault
 loop-refused start old new first before most left fault in_loop refuses =
     subst (λ (l : Limits). RefusesRead (schema_of first) l start new fault) in_loop.kept.1 (subst (λ (s : Schema). RefusesRead s (limits_of before) start new fault) in_loop.kept.0 (refuses start in_loop.size in_loop.along))
 

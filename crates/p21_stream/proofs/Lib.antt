@@ -1,3 +1,17 @@
+pub mod Seen
+pub mod Stepping
+pub mod Finishing
+pub mod Opening
+pub mod Quiet
+pub mod PassedOver
+pub mod Going
+pub mod Pieces
+pub mod Within
+pub mod PieceFeeding
+pub mod Ending
+pub mod Checking
+pub mod Instances
+pub mod Passed
 pub mod Canonicals
 pub mod Claiming
 pub mod Feeding

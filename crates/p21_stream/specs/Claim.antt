@@ -9,14 +9,14 @@ use Rattle.p21_claim.specs.CanonicalLaws.{MeanTheSame}
 use Rattle.p21_files.specs.Accepted.{IsAccepted}
 use Rattle.p21_schemas.specs.Schema.{Schema}
 use Rattle.p21_stream.specs.Answers.{AreReadInOneWay, Compares, IsOnlyCanonicalFile}
-use Rattle.p21_stream.specs.Reading.{RefusesRead}
-use Rattle.p21_stream_accepted.specs.Output.{Output, output_text}
-use Rattle.p21_stream_fault.specs.declared.fault.Fault.{Fault}
-use Rattle.p21_stream_fault.specs.declared.fault.Fault.TheVariants.{NoMemory, Read, Write}
-use Rattle.p21_stream_fault.specs.declared.refusal.Refusal.{Refusal}
-use Rattle.p21_stream_session.specs.Canonical.{IsCanonicalOutput}
-use Rattle.p21_stream_session.specs.Held.{SessionHeld, limits_of, schema_of}
-use Rattle.p21_stream_session.specs.Histories.{FeedGives, FinishGives, SessionHistory, Stands}
+use Rattle.p21_stream.specs.ReaderInput.{RefusesRead}
+use Rattle.p21_stream_output.specs.Output.{Output, output_text}
+use Rattle.p21_stream_kept.specs.declared.fault.Fault.{Fault}
+use Rattle.p21_stream_kept.specs.declared.fault.Fault.TheVariants.{NoMemory, Read, Write}
+use Rattle.p21_stream_kept.specs.declared.refusal.Refusal.{Refusal}
+use Rattle.p21_stream.specs.Canonical.{IsCanonicalOutput}
+use Rattle.p21_stream.specs.Held.{SessionHeld, limits_of, schema_of}
+use Rattle.p21_stream.specs.Histories.{FeedGives, FinishGives, SessionHistory, Stands}
 
 -- memory, the reader or the writer failed
 abbrev pub IsFailure : Fault → Type 0

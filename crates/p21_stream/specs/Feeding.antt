@@ -1,40 +1,40 @@
 -- A session that is fed what a reader gives.
 use Rattle.std.specs.Prelude.{Option, None, ◌≡◌, ◌≤◌, ◌+◌, ℕ, List, length}
 use Rattle.std.specs.Io.KnownBytes.{Consumes, IsAtEnd}
-use Rattle.p21_stream.specs.Reading.{IsReadWhole, RefusesRead}
-use Rattle.p21_stream_fault.specs.declared.fault.Fault.{Fault}
-use Rattle.p21_stream_session.specs.Held.{SessionHeld, limits_of, schema_of}
-use Rattle.p21_stream_session.specs.Histories.{SessionHistory, Stands}
+use Rattle.p21_stream.specs.ReaderInput.{IsReadWhole, RefusesRead}
+use Rattle.p21_stream_kept.specs.declared.fault.Fault.{Fault}
+use Rattle.p21_stream.specs.Held.{SessionHeld, limits_of, schema_of}
+use Rattle.p21_stream.specs.Histories.{SessionHistory, Stands}
 
 -- these bytes, of which none was refused
-abbrev pub taken_all : List ℕ → SessionHistory
-taken_all bytes = record { taken = bytes; refusal = None }
+abbrev pub taken_history : List ℕ → SessionHistory
+taken_history bytes = record { taken = bytes; refusal = None }
 
 -- the reader gave so many bytes, and the session stands for them
-pub record IsAlong (start now : Option (List ℕ)) (session : SessionHeld) (size : ℕ) : Type 0 where
+pub record IsFedFrom (start now : Option (List ℕ)) (session : SessionHeld) (size : ℕ) : Type 0 where
   pub bytes : List ℕ
   pub consumed : Consumes start now bytes
   pub size_is : length bytes ≡ size
-  pub stands : Stands session (taken_all bytes)
+  pub stands : Stands session (taken_history bytes)
 
 -- it gave all of its bytes
-pub record IsAlongWhole (start now : Option (List ℕ)) (session : SessionHeld) : Type 0 where
+pub record IsFedWhole (start now : Option (List ℕ)) (session : SessionHeld) : Type 0 where
   pub bytes : List ℕ
   pub read : IsReadWhole start now bytes
-  pub stands : Stands session (taken_all bytes)
+  pub stands : Stands session (taken_history bytes)
 
 -- so many bytes more, none at the end of the reader alone
-pub record FeedsOn (old new : Option (List ℕ)) (before after : SessionHeld) (count : ℕ) : Type 0 where
-  pub along : (start : Option (List ℕ)) (size : ℕ) → IsAlong start old before size → IsAlong start new after (size + count)
+pub record FeedsMore (old new : Option (List ℕ)) (before after : SessionHeld) (count : ℕ) : Type 0 where
+  pub along : (start : Option (List ℕ)) (size : ℕ) → IsFedFrom start old before size → IsFedFrom start new after (size + count)
   pub ended : count ≡ 0 → IsAtEnd new
 
 -- what a fault says of the bytes that the session stood for and the piece
-abbrev pub RefusesOn : Option (List ℕ) → Option (List ℕ) → SessionHeld → Fault → Type 0
-RefusesOn old new before fault = (start : Option (List ℕ)) (size : ℕ) → IsAlong start old before size → RefusesRead (schema_of before) (limits_of before) start new fault
+abbrev pub RefusesFedBytes : Option (List ℕ) → Option (List ℕ) → SessionHeld → Fault → Type 0
+RefusesFedBytes old new before fault = (start : Option (List ℕ)) (size : ℕ) → IsFedFrom start old before size → RefusesRead (schema_of before) (limits_of before) start new fault
 
 -- the same of the bytes of a piece, whichever reader gave them
 abbrev pub RefusesPiece : SessionHeld → List ℕ → Fault → Type 0
-RefusesPiece before piece fault = (old new : Option (List ℕ)) → Consumes old new piece → RefusesOn old new before fault
+RefusesPiece before piece fault = (old new : Option (List ℕ)) → Consumes old new piece → RefusesFedBytes old new before fault
 
 -- no more than so many bytes were taken
 abbrev pub TakesAtMost : ℕ → Option (List ℕ) → Option (List ℕ) → Type 0

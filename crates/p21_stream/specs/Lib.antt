@@ -1,9 +1,21 @@
--- What the calls on whole files answer, what they read and write, and what is claimed of them.
+-- Pieces and histories of a session; what the calls on whole files answer, what they read and write, and what is claimed of them.
+pub mod StatementReader
+pub mod PassingOver
+pub mod Session
+pub mod Laws
+pub mod Held
+pub mod Histories
+pub mod Pieces
+pub mod Bounds
+pub mod Checked
+pub mod Canonical
+pub mod Inside
+pub mod Passing
 pub mod Answers
 pub mod Claim
 pub mod Feeding
-pub mod Reading
--- What their clauses cite, for callers who name this crate alone
+pub mod ReaderInput
+-- What the clauses of its calls cite, for callers who name this crate alone
 pub use Rattle.p21_basics.specs as p21_basics
 pub use Rattle.p21_exchange.specs as p21_exchange
 pub use Rattle.p21_schemas.specs as p21_schemas
@@ -11,13 +23,13 @@ pub use Rattle.p21_files.specs as p21_files
 pub use Rattle.p21_claim.specs as p21_claim
 pub use Rattle.p21_values.specs as p21_values
 pub use Rattle.p21_tokens.specs as p21_tokens
-pub use Rattle.p21_grammar_machine.specs as p21_grammar_machine
+pub use Rattle.p21_grammar.specs as p21_grammar
 pub use Rattle.p21_express.specs as p21_express
 pub use Rattle.p21_express_outline.specs as p21_express_outline
+pub use Rattle.p21_express_graph.specs as p21_express_graph
 pub use Rattle.p21_express_tables.specs as p21_express_tables
 pub use Rattle.p21_mapping_values.specs as p21_mapping_values
-pub use Rattle.p21_stream_fault.specs as p21_stream_fault
+pub use Rattle.p21_stream_kept.specs as p21_stream_kept
 pub use Rattle.p21_stream_io.specs as p21_stream_io
 pub use Rattle.p21_stream_store.specs as p21_stream_store
-pub use Rattle.p21_stream_accepted.specs as p21_stream_accepted
-pub use Rattle.p21_stream_session.specs as p21_stream_session
+pub use Rattle.p21_stream_output.specs as p21_stream_output

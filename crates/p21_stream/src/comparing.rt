@@ -2,14 +2,14 @@
 ghost use Rattle.std.specs.Prelude.{◌≡◌, ◌≤◌, ◌+◌, IfErr, IfOk, OnOk};
 ghost use Rattle.p21_stream.specs.Answers.{Compares, FailsToCompare, IsCanonicalOfRead, first_failures, second_failures};
 ghost use Rattle.p21_stream.specs.Claim.{Claim};
-ghost use Rattle.p21_stream.specs.Reading.{ConsumesAtMost, RefusesRead, read_failures};
+ghost use Rattle.p21_stream.specs.ReaderInput.{ConsumesAtMost, RefusesRead, read_failures};
 
 use crate::claim::headline;
 use crate::read::{accept, read_file};
 use crate::text::text_of;
 use p21_express_tables::Schema;
-use p21_stream_fault::{Fault, Refusal};
 use p21_stream_io::Watched;
+use p21_stream_kept::{Fault, Refusal};
 use p21_values::{Limits, NoMemory};
 use std::alloc::Global;
 use std::io::Read;

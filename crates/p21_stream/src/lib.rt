@@ -1,23 +1,35 @@
-//! Whole files: read in pieces, accepted or refused, written in their canonical form, and compared.
+//! Whole files: read in pieces, accepted or refused, written in their canonical form, and compared. A session reads a file
+//! piece by piece: its statements are checked as they come, and what they leave is kept.
 #![tactic(auto)]
 
 mod claim;
 mod comparing;
+mod held;
+mod laws;
+mod passing;
+mod progress;
 mod read;
+mod session;
+mod shared;
+mod statement_reader;
 mod text;
 mod writing;
 
 pub use claim::headline;
 pub use comparing::{Which, same_meaning};
+pub use held::Held;
+pub use laws::session_laws;
 pub use p21_express::{Schema, SchemaFault, read_schema};
-pub use p21_grammar_machine::GrammarFault;
+pub use p21_grammar::GrammarFault;
 pub use p21_mapping_values::CheckFault;
-pub use p21_stream_accepted::Accepted;
-pub use p21_stream_fault::{At, Fault, Refusal};
 pub use p21_stream_io::{ReadFault, Watched, WriteFault};
-pub use p21_stream_session::{Held, Session};
+pub use p21_stream_kept::{At, Fault, Refusal};
+pub use p21_stream_output::Accepted;
 pub use p21_tokens::{Absent, TokenFault};
 pub use p21_values::{Limits, Name, NoMemory};
 pub use read::accept;
+pub use session::Session;
+pub use shared::SharedSession;
+pub use statement_reader::StatementReader;
 pub use text::canonical;
 pub use writing::rewrite;

@@ -1,15 +1,15 @@
 //! Reading a file to its end.
 ghost use Rattle.std.specs.Prelude.{◌≡◌, ◌≤◌, ◌+◌, ◌<◌, length, IfErr, IfOk, Ok, OnOk};
-ghost use Rattle.p21_stream.specs.Feeding.{FeedsOn, IsAlongWhole, RefusesOn, RefusesPiece, TakesAtMost};
-ghost use Rattle.p21_stream.specs.Reading.{ConsumesAtMost, IsAcceptedRead, IsOfBytes, RefusesRead, read_failures};
-ghost use Rattle.p21_stream_session.specs.Held.{limits_of, schema_of};
-ghost use Rattle.p21_stream_session.specs.Histories.{FeedGives, KeepsSchema, Stands, nothing_taken};
+ghost use Rattle.p21_stream.specs.Feeding.{FeedsMore, IsFedWhole, RefusesFedBytes, RefusesPiece, TakesAtMost};
+ghost use Rattle.p21_stream.specs.ReaderInput.{ConsumesAtMost, IsAcceptedInput, IsOfBytes, RefusesRead, read_failures};
+ghost use Rattle.p21_stream.specs.Held.{limits_of, schema_of};
+ghost use Rattle.p21_stream.specs.Histories.{FeedGives, KeepsSchema, Stands, nothing_taken};
 
+use crate::session::Session;
 use p21_express_tables::Schema;
-use p21_stream_accepted::Accepted;
-use p21_stream_fault::{At, Fault, Refusal};
 use p21_stream_io::{Watched, read_piece};
-use p21_stream_session::Session;
+use p21_stream_kept::{At, Fault, Refusal};
+use p21_stream_output::Accepted;
 use p21_values::Limits;
 use std::alloc::Global;
 use std::io::Read;
@@ -29,7 +29,7 @@ pub fn accept<R: Read>(
     reader: &mut Watched<R>,
 ) -> Result<Accepted, Refusal>
     ensures ok { IfOk result (λ accepted.
-        IsAcceptedRead schema.now limits (R.remaining reader.old.inner) (R.remaining reader.new.inner) accepted) }
+        IsAcceptedInput schema.now limits (R.remaining reader.old.inner) (R.remaining reader.new.inner) accepted) }
     ensures err { IfErr result (λ refusal.
         RefusesRead schema.now limits (R.remaining reader.old.inner) (R.remaining reader.new.inner) refusal.fault) }
     ensures consumed { ConsumesAtMost limits (R.remaining reader.old.inner) (R.remaining reader.new.inner) }
@@ -52,7 +52,7 @@ pub(crate) fn read_file<R: Read>(
     reader: &mut Watched<R>,
 ) -> Result<(Accepted, At), Refusal>
     ensures ok { IfOk result (λ answer.
-        IsAcceptedRead schema.now limits (R.remaining reader.old.inner) (R.remaining reader.new.inner) answer.0) }
+        IsAcceptedInput schema.now limits (R.remaining reader.old.inner) (R.remaining reader.new.inner) answer.0) }
     ensures err { IfErr result (λ refusal.
         RefusesRead schema.now limits (R.remaining reader.old.inner) (R.remaining reader.new.inner) refusal.fault) }
     ensures consumed { ConsumesAtMost limits (R.remaining reader.old.inner) (R.remaining reader.new.inner) }
@@ -81,7 +81,7 @@ fn feed_all<R: Read>(
 ) -> Result<(), Refusal>
     requires new { Stands session.old nothing_taken }
     requires most { most ≡ (limits_of session.old).file_source }
-    ensures ok { OnOk result (IsAlongWhole (R.remaining reader.old.inner) (R.remaining reader.new.inner) session.new) }
+    ensures ok { OnOk result (IsFedWhole (R.remaining reader.old.inner) (R.remaining reader.new.inner) session.new) }
     ensures err { IfErr result (λ refusal.
         RefusesRead (schema_of session.old) (limits_of session.old) (R.remaining reader.old.inner) (R.remaining reader.new.inner) refusal.fault) }
     ensures consumed { ConsumesAtMost (limits_of session.old) (R.remaining reader.old.inner) (R.remaining reader.new.inner) }
@@ -113,8 +113,8 @@ fn feed_piece<R: Read>(
     most: u64,
 ) -> Result<u64, Refusal>
     requires room { 0 < length piece.old }
-    ensures ok { IfOk result (FeedsOn (R.remaining reader.old.inner) (R.remaining reader.new.inner) session.old session.new) }
-    ensures err { IfErr result (λ refusal. RefusesOn (R.remaining reader.old.inner) (R.remaining reader.new.inner) session.old refusal.fault) }
+    ensures ok { IfOk result (FeedsMore (R.remaining reader.old.inner) (R.remaining reader.new.inner) session.old session.new) }
+    ensures err { IfErr result (λ refusal. RefusesFedBytes (R.remaining reader.old.inner) (R.remaining reader.new.inner) session.old refusal.fault) }
     ensures consumed { TakesAtMost (most + 1) (R.remaining reader.old.inner) (R.remaining reader.new.inner) }
 
     ensures schema { KeepsSchema session.old session.new }

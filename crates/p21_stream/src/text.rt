@@ -5,15 +5,15 @@ ghost use Rattle.p21_files.specs.Accepted.{IsAccepted};
 ghost use Rattle.p21_schemas.specs.WellFormed.{IsWellFormed};
 ghost use Rattle.p21_stream.specs.Answers.{AreReadInOneWay, IsOnlyCanonicalFile};
 ghost use Rattle.p21_stream.specs.Claim.{Claim};
-ghost use Rattle.p21_stream.specs.Reading.{IsOfBytes};
-ghost use Rattle.p21_stream_accepted.specs.Output.{output_text};
+ghost use Rattle.p21_stream.specs.ReaderInput.{IsOfBytes};
+ghost use Rattle.p21_stream_output.specs.Output.{output_text};
 
 use crate::claim::headline;
+use crate::session::Session;
 use p21_express_tables::Schema;
-use p21_stream_accepted::Accepted;
-use p21_stream_fault::{Fault, Refusal};
 use p21_stream_io::Watched;
-use p21_stream_session::Session;
+use p21_stream_kept::{Fault, Refusal};
+use p21_stream_output::Accepted;
 use p21_values::{Limits, NoMemory};
 use std::alloc::Global;
 

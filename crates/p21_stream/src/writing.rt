@@ -2,13 +2,13 @@
 ghost use Rattle.std.specs.Prelude.{◌≡◌, ◌≤◌, ◌+◌, IfErr, IfOk, OnOk};
 ghost use Rattle.p21_stream.specs.Answers.{IsWritten, FailsToWrite};
 ghost use Rattle.p21_stream.specs.Claim.{Claim};
-ghost use Rattle.p21_stream.specs.Reading.{ConsumesAtMost, read_failures, write_failures};
+ghost use Rattle.p21_stream.specs.ReaderInput.{ConsumesAtMost, read_failures, write_failures};
 
 use crate::claim::headline;
 use crate::read::read_file;
 use p21_express_tables::Schema;
-use p21_stream_fault::{Fault, Refusal};
 use p21_stream_io::Watched;
+use p21_stream_kept::{Fault, Refusal};
 use p21_values::Limits;
 use std::alloc::Global;
 use std::io::{Read, Write};

@@ -2,7 +2,7 @@
 ghost use Rattle.std.specs.Prelude.{◌≡◌, ◌+◌, ◌<◌, ◌≤◌, length, IfOk, OnErr, OnOk};
 ghost use Rattle.std.specs.Io.KnownBytes.{Appends, ReadConsumes};
 ghost use Rattle.p21_stream_io.specs.Transfer.{AppendsPartOf};
-ghost use Rattle.p21_stream_io.specs.Watch.{counted, moved_after};
+ghost use Rattle.p21_stream_io.specs.Watch.{one_call_more, moved_after};
 
 use crate::fault::{ReadFault, WriteFault};
 use crate::watched::Watched;
@@ -25,7 +25,7 @@ pub fn read_piece<R: Read>(
 
     ensures moved { reader.new.moved ≡ moved_after reader.old.moved result }
     ensures read { OnOk result (reader.new.failures ≡ reader.old.failures) }
-    ensures failed { OnErr result (reader.new.failures ≡ counted reader.old.failures) }
+    ensures failed { OnErr result (reader.new.failures ≡ one_call_more reader.old.failures) }
 {
     let room = at_most(piece.len(), most.saturating_add(1));
     let Ok(count) = reader.read(&mut piece[..room]) else {
@@ -57,7 +57,7 @@ pub fn write_whole<W: Write>(writer: &mut Watched<W>, bytes: &[u8]) -> Result<()
     ensures err { OnErr result (AppendsPartOf (W.contents writer.old.inner) (W.contents writer.new.inner) bytes.now) }
 
     ensures written { OnOk result (writer.new.failures ≡ writer.old.failures) }
-    ensures failed { OnErr result (writer.new.failures ≡ counted writer.old.failures) }
+    ensures failed { OnErr result (writer.new.failures ≡ one_call_more writer.old.failures) }
 {
     let mut rest = bytes;
     while !rest.is_empty() {

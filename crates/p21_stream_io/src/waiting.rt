@@ -2,7 +2,7 @@
 ghost use Rattle.std.specs.Prelude.{◌≡◌, ◌+◌, ◌≤◌, [], ◌++◌, length, OnErr, OnOk};
 ghost use Rattle.std.specs.Io.KnownBytes.{Appends};
 ghost use Rattle.p21_stream_io.specs.Transfer.{AppendsAllBut, AppendsPartOf};
-ghost use Rattle.p21_stream_io.specs.Watch.{counted};
+ghost use Rattle.p21_stream_io.specs.Watch.{one_call_more};
 
 use crate::fault::WriteFault;
 use crate::transfer::write_whole;
@@ -68,7 +68,7 @@ impl Waiting {
         ensures err { OnErr result (AppendsPartOf (W.contents writer.old.inner) (W.contents writer.new.inner) self.old) }
 
         ensures written { OnOk result (writer.new.failures ≡ writer.old.failures) }
-        ensures failed { OnErr result (writer.new.failures ≡ counted writer.old.failures) }
+        ensures failed { OnErr result (writer.new.failures ≡ one_call_more writer.old.failures) }
     {
         let flushed = write_whole(writer, &self.bytes[..self.used]);
         self.used = 0;
@@ -85,7 +85,7 @@ impl Waiting {
         ensures err { OnErr result (AppendsPartOf (W.contents writer.old.inner) (W.contents writer.new.inner) (self.old ++ bytes.now)) }
 
         ensures written { OnOk result (writer.new.failures ≡ writer.old.failures) }
-        ensures failed { OnErr result (writer.new.failures ≡ counted writer.old.failures) }
+        ensures failed { OnErr result (writer.new.failures ≡ one_call_more writer.old.failures) }
     {
         if bytes.len() <= self.room() {
             self.keep(bytes);

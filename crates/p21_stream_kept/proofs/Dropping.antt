@@ -5,10 +5,10 @@ use Rattle.std.specs.List.Retain.{IsFiltered, ReturnsInTurn}
 use Rattle.std.specs.Prelude.{Contains}
 use Rattle.p21_basics.proofs.Members.{Contains-first, Contains-later, Contains-mapped, Each-mapped, Each-member, Each-of_members, Each-weaker}
 use Rattle.p21_basics.specs.Limits.{Limits}
-use Rattle.p21_claim.specs.Ended.{Entry, Group, entries_in, kinds_in}
+use Rattle.p21_claim.specs.CompleteFile.{Entry, SectionEntries, entries_in, entity_sets_in}
 use Rattle.p21_claim_steps.proofs.Storing.{stored-serves}
 use Rattle.p21_claim_steps.specs.Keeping.{IsServedBy, Keeps, Kept}
-use Rattle.p21_claim_steps.specs.Stored.{Stored}
+use Rattle.p21_claim_steps.specs.Stored.{StoredEntry}
 use Rattle.p21_claim_steps.specs.Waiting.{Reference, references_in}
 use Rattle.p21_exchange.specs.Statement.{Statement}
 use Rattle.p21_files.specs.Reference.{IsServed}
@@ -47,7 +47,7 @@ module _ {X F : Type 0} (R : F → X → Bool → F → Type 0) (S : X → Type 
   leaves : (xs ys : List X) → IsFiltered R f xs ys → Leaves xs ys
   leaves xs ys k = subst (Leaves xs) (sym k.4) (told k.0 xs k.1 k.2 k.3)
 
-pub dropped : {F : Type 0} (R : F → held.Reference → Bool → F → Type 0) (s : Schema) (stored : List Stored) (f : F) → ((x : held.Reference) (b : Bool) (f' : F) → R f x b f' → (b ≡ false → IsServedBy s stored (need_view x.need)) × (f' ≡ f))
+pub dropped : {F : Type 0} (R : F → held.Reference → Bool → F → Type 0) (s : Schema) (stored : List StoredEntry) (f : F) → ((x : held.Reference) (b : Bool) (f' : F) → R f x b f' → (b ≡ false → IsServedBy s stored (need_view x.need)) × (f' ≡ f))
     → (xs ys : List held.Reference) → IsFiltered R f xs ys → DropsServed s stored (references_of xs) (references_of ys)
 dropped R s stored f h xs ys filtered =
     let old : List Reference = references_of xs in
@@ -74,10 +74,10 @@ none-dropped s old = record {
 
 keeps-dropped : (s : Schema) (limits : Limits) (given : List Statement) (kept : Kept) (waiting : List Reference) → DropsServed s kept.stored kept.waiting waiting → Keeps s limits given kept → Keeps s limits given (record kept { waiting = waiting })
 keeps-dropped s limits given kept waiting drops keeps =
-    let groups : List Group = keeps.groups in
+    let groups : List SectionEntries = keeps.groups in
     let entries : List Entry = entries_in groups in
     let N : Reference → Type 0 = Contains (references_in entries) in
-    let S : Reference → Type 0 = λ r. IsServed s (kinds_in entries) r.1 in
+    let S : Reference → Type 0 = λ r. IsServed s (entity_sets_in entries) r.1 in
     let moves : (r : Reference) → Contains kept.waiting r ⊎ S r → Contains waiting r ⊎ S r = λ r it. elim it [
       | inl among ↦ elim (Each-member (λ (q : Reference). Contains waiting q ⊎ IsServedBy s kept.stored q.1) kept.waiting r drops.others_served among) [
         | inl left ↦ inl left
@@ -87,7 +87,7 @@ keeps-dropped s limits given kept waiting drops keeps =
     ] in
     record {
       groups = groups;
-      grown = keeps.grown;
+      unrefused = keeps.unrefused;
       header_is = keeps.header_is;
       headings_are = keeps.headings_are;
       store = keeps.store;

@@ -14,37 +14,37 @@ use Rattle.p21_claim_steps.specs.Keeping.{Keeps, Kept}
 use Rattle.p21_exchange.specs.DataSection.{Heading}
 use Rattle.p21_exchange.specs.Statement.{Statement}
 use Rattle.p21_schemas.specs.Schema.{Schema}
-use Rattle.p21_stream_ending.specs.Ending.{HasNamesOnce, HasSize, IsEndOf, StandsIn}
-use Rattle.p21_stream_ending.specs.Parts.{AreEmpty, Begins}
-use Rattle.p21_stream_ending.specs.declared.parts.Part.{Part}
+use Rattle.p21_stream_output.specs.Ending.{HasNamesOnce, HasSize, IsFileOfKept, IsKeptIn}
+use Rattle.p21_stream_output.specs.NamedSections.{AreEmpty, HasHeading}
+use Rattle.p21_stream_output.specs.declared.named_sections.NamedSection.{NamedSection}
 use Rattle.p21_stream_kept.specs.Sections.{heading_in, headings_of}
-use Rattle.p21_stream_kept.specs.Taking.{IsOfFile}
+use Rattle.p21_stream_kept.specs.Taking.{IsKeptOfFile}
 use Rattle.p21_stream_kept.specs.declared.sections.Section.{Section}
-use Rattle.p21_stream_accepted.specs.Output.{Output}
-use Rattle.p21_stream_kinds.specs.Kinds.{Kind}
-use Rattle.p21_stream_store.specs.Kept as store
+use Rattle.p21_stream_output.specs.Output.{Output}
+use Rattle.p21_stream_store.specs.Memberships.{Membership}
+use Rattle.p21_stream_store.specs.StoredInstance as store
 
--- names differ
+-- no two sections that are kept have one name, nor two instances
 pub keeps-names_once : (s : Schema) (limits : Limits) (given : List Statement) (kept : Kept) → Keeps s limits given kept → HasNamesOnce kept
 keeps-names_once s limits given kept keeps = record {
-  sections = subst (λ (ns : List (List ℕ)). IsDistinct bytes_eq ns) (keeps-section_names s limits given kept keeps) keeps.grown.section_names_differ;
+  sections = subst (λ (ns : List (List ℕ)). IsDistinct bytes_eq ns) (keeps-section_names s limits given kept keeps) keeps.unrefused.section_names_differ;
   instances = keeps-names_differ s limits given kept keeps;
 }
 
--- a section more
-pub parts-more : (sections : List Section) (k : ℕ) (d : Section) (old new : List Part) (part : Part) → k < length sections → new ≡ old ++ part ∷ [] → AllZip Begins (headings_of (take k sections)) old → Begins (heading_in (get_or sections k d).part) part → AllZip Begins (headings_of (take (k + 1) sections)) new
+-- one more section
+pub parts-more : (sections : List Section) (k : ℕ) (d : Section) (old new : List NamedSection) (part : NamedSection) → k < length sections → new ≡ old ++ part ∷ [] → AllZip HasHeading (headings_of (take k sections)) old → HasHeading (heading_in (get_or sections k d).part) part → AllZip HasHeading (headings_of (take (k + 1) sections)) new
 parts-more sections k d old new part low is so_far begins =
-    let P : List Heading → Type 0 = λ hs. AllZip Begins hs new in
-    let Q : List Part → Type 0 = λ ps. AllZip Begins (headings_of (take k sections) ++ heading_in (get_or sections k d).part ∷ []) ps in
+    let P : List Heading → Type 0 = λ hs. AllZip HasHeading hs new in
+    let Q : List NamedSection → Type 0 = λ ps. AllZip HasHeading (headings_of (take k sections) ++ heading_in (get_or sections k d).part ∷ []) ps in
     subst P (sym (ap headings_of (take_more sections k d low) ∙ map-append (λ (x : Section). heading_in x.part) (take k sections) (get_or sections k d ∷ [])))
-    (subst Q (sym is) (all_zipped_more Begins (headings_of (take k sections)) old (heading_in (get_or sections k d).part) part so_far begins))
+    (subst Q (sym is) (all_zipped_more HasHeading (headings_of (take k sections)) old (heading_in (get_or sections k d).part) part so_far begins))
 
-pub empty-more : (old new : List Part) (part : Part) → new ≡ old ++ part ∷ [] → AreEmpty old → part.places ≡ [] → AreEmpty new
-empty-more old new part is so_far none = subst AreEmpty (sym is) (Each-append (λ (x : Part). x.places ≡ []) old (part ∷ []) so_far (none, tt))
+pub empty-more : (old new : List NamedSection) (part : NamedSection) → new ≡ old ++ part ∷ [] → AreEmpty old → part.instance_positions ≡ [] → AreEmpty new
+empty-more old new part is so_far none = subst AreEmpty (sym is) (Each-append (λ (x : NamedSection). x.instance_positions ≡ []) old (part ∷ []) so_far (none, tt))
 
 -- the file of what is kept of a whole file has as many bytes as are kept
-pub end-sized : (kept : Kept) (header : List ℕ) (parts : List Part) (kinds : List Kind) (instances : List store.Kept) → IsOfFile kept → StandsIn kept header parts kinds instances → HasSize header parts kinds instances (kept.bytes + kept.framing)
-end-sized kept header parts kinds instances is stands = record {
+pub end-sized : (kept : Kept) (header : List ℕ) (parts : List NamedSection) (memberships : List Membership) (instances : List store.StoredInstance) → IsKeptOfFile kept → IsKeptIn kept header parts memberships instances → HasSize header parts memberships instances (kept.bytes + kept.framing)
+end-sized kept header parts memberships instances is stands = record {
   kept = kept;
   stands = stands;
   once = keeps-names_once is.schema is.limits is.given kept is.keeps;
@@ -52,8 +52,8 @@ end-sized kept header parts kinds instances is stands = record {
 }
 
 -- what stands in these has this end
-pub end-is : {E : Type 0} (kept : Kept) (header : List ℕ) (parts : List Part) (kinds : List Kind) (instances : List store.Kept) (result : Result Output E) → StandsIn kept header parts kinds instances
-    → IfOk result (λ (file : Output). (k : Kept) → StandsIn k header parts kinds instances → HasNamesOnce k → IsEndOf k file) → IfOk result (λ (file : Output). (s : Schema) (limits : Limits) (given : List Statement) → Keeps s limits given kept → IsEndOf kept file)
-end-is kept header parts kinds instances result stands ends =
-    IfOk-weaker result (λ (file : Output). (k : Kept) → StandsIn k header parts kinds instances → HasNamesOnce k → IsEndOf k file) (λ (file : Output). (s : Schema) (limits : Limits) (given : List Statement) → Keeps s limits given kept → IsEndOf kept file)
+pub end-is : {E : Type 0} (kept : Kept) (header : List ℕ) (parts : List NamedSection) (memberships : List Membership) (instances : List store.StoredInstance) (result : Result Output E) → IsKeptIn kept header parts memberships instances
+    → IfOk result (λ (file : Output). (k : Kept) → IsKeptIn k header parts memberships instances → HasNamesOnce k → IsFileOfKept k file) → IfOk result (λ (file : Output). (s : Schema) (limits : Limits) (given : List Statement) → Keeps s limits given kept → IsFileOfKept kept file)
+end-is kept header parts memberships instances result stands ends =
+    IfOk-weaker result (λ (file : Output). (k : Kept) → IsKeptIn k header parts memberships instances → HasNamesOnce k → IsFileOfKept k file) (λ (file : Output). (s : Schema) (limits : Limits) (given : List Statement) → Keeps s limits given kept → IsFileOfKept kept file)
     (λ file each s limits given keeps. each kept stands (keeps-names_once s limits given kept keeps)) ends

@@ -4,11 +4,11 @@ use Rattle.std.specs.List.{AllByRecursion as Each}
 use Rattle.std.specs.List.Sorted.{IsPermutation}
 use Rattle.std.specs.Prelude.{Contains}
 use Rattle.p21_basics.specs.Limits.{Limits}
-use Rattle.p21_canon_record.proofs.Statements.{statement-instance}
-use Rattle.p21_canon_record.specs.Statement.{AppendsStatement}
-use Rattle.p21_claim.specs.Ended.{Entry}
+use Rattle.p21_canon.proofs.Statements.{statement-instance}
+use Rattle.p21_canon.specs.Statement.{AppendsStatement}
+use Rattle.p21_claim.specs.CompleteFile.{Entry}
 use Rattle.p21_claim_steps.specs.Keeping.{Kept}
-use Rattle.p21_claim_steps.specs.Stored.{Stored}
+use Rattle.p21_claim_steps.specs.Stored.{StoredEntry}
 use Rattle.p21_claim_steps.specs.Waiting.{Reference}
 use Rattle.p21_claim_values.proofs.CanonicalLaid.{laid-each_spelled}
 use Rattle.p21_claim_values.proofs.GraphicTexts.{lines-graphic}
@@ -18,7 +18,7 @@ use Rattle.p21_exchange.specs.Record.{Record, record_tokens}
 use Rattle.p21_exchange.specs.Statement.{Statement, instance, statement_tokens}
 use Rattle.p21_exchange.specs.Text.{IsGraphic}
 use Rattle.p21_exchange.specs.Token.{semicolon}
-use Rattle.p21_files.specs.Kept.{IsInstanceText}
+use Rattle.p21_files.specs.CanonicalTexts.{IsInstanceText}
 use Rattle.p21_files.specs.Meaning.{Typed}
 use Rattle.p21_files.specs.Reference.{Need}
 use Rattle.p21_express_types.specs.declared.number.EntityId.{EntityId}
@@ -26,11 +26,11 @@ use Rattle.p21_mapping.specs.Checked.{IsChecked, needs_view}
 use Rattle.p21_mapping_values.specs.TypedView.{ids_view}
 use Rattle.p21_mapping_values.specs.declared.need.Need as mapping
 use Rattle.p21_schemas.specs.Schema.{Schema}
-use Rattle.p21_stream_accepted.specs.Output.{IsNamed}
+use Rattle.p21_stream_output.specs.Output.{IsNamed}
 use Rattle.p21_stream_kept.proofs.Instances.{took-instance}
 use Rattle.p21_stream_kept.specs.Found.{HasFound}
 use Rattle.p21_stream_kept.specs.Served.{AddsWaiting}
-use Rattle.p21_stream_kept.specs.Steps.{HasRoom, StepGives}
+use Rattle.p21_stream_kept.specs.Steps.{FitsLimits, StepGives}
 
 pub found : (s : Schema) (n : ℕ) (r : Record) (m : Typed) (needs : List Need) → IsChecked s r m needs → (text : List ℕ) → AppendsStatement s n m [] text → HasFound s n r m.entities needs text
 found s n r m needs checked text (own, is, statement) =
@@ -49,7 +49,7 @@ found-named s n r entities needs text is =
     let spelled : Each IsSpelled (statement_tokens statement) = laid-each_spelled text (statement_tokens statement) is.printed.laid in
     ((tokens_text (record_tokens is.printed.canonical ++ (semicolon ∷ [])), is.printed.text_is), subst (Each IsGraphic) (sym is.printed.text_is) (lines-graphic statement spelled))
 
--- the same of the same lists
+-- the same is found, where the lists are the same
 pub found-same : (s : Schema) (n : ℕ) (r : Record) (es fs : List EntityId) (ns ms : List mapping.Need) (xs ys : List ℕ) → fs ≡ es → ms ≡ ns → ys ≡ xs → HasFound s n r (ids_view es) (needs_view ns) xs → HasFound s n r (ids_view fs) (needs_view ms) ys
 found-same s n r es fs ns ms xs ys same_entities same_needs same_text is =
     let E : List EntityId → Type 0 = λ a. HasFound s n r (ids_view a) (needs_view ns) xs in
@@ -60,9 +60,9 @@ found-same s n r es fs ns ms xs ys same_entities same_needs same_text is =
 -- ---- the step
 
 -- all of it is kept
-pub took-found : (s : Schema) (limits : Limits) (old new : Kept) (n : ℕ) (r : Record) (entities : List ℕ) (needs : List Need) (text : List ℕ) → HasFound s n r entities needs text → (Contains (map (λ (x : Stored). x.name) old.stored) n → ⊥)
+pub took-found : (s : Schema) (limits : Limits) (old new : Kept) (n : ℕ) (r : Record) (entities : List ℕ) (needs : List Need) (text : List ℕ) → HasFound s n r entities needs text → (Contains (map (λ (x : StoredEntry). x.name) old.stored) n → ⊥)
     → (waiting : List Reference) → AddsWaiting s old.stored n needs old.waiting waiting → (number : ℕ) → number + 1 ≡ length old.headings
-    → (stored : List Stored) → IsPermutation (record { name = n; section = number; entities = entities; text = text } ∷ old.stored) stored → HasRoom limits (old.bytes + old.framing) (length text)
+    → (stored : List StoredEntry) → IsPermutation (record { name = n; section = number; entities = entities; text = text } ∷ old.stored) stored → FitsLimits limits (old.bytes + old.framing) (length text)
     → new ≡ record old { stored = stored; waiting = waiting; references = old.references + length needs; bytes = old.bytes + length text; framing = old.framing + 1 } → StepGives s limits old (instance n r) (Ok tt) new
 took-found s limits old new n r entities needs text is none waiting adds number last stored permuted room same =
     let entry : Entry = record { name = n; record_ = r; meaning = is.meaning; needs = needs; text = text } in

@@ -8,7 +8,7 @@ use Rattle.p21_claim_steps.proofs.Holding.{references-counted, references-few}
 use Rattle.p21_claim_steps.proofs.Keeps.{keeps-section}
 use Rattle.p21_claim_steps.specs.Keeping.{Kept}
 use Rattle.p21_claim_values.proofs.RecordTheorems.{needs-are_references}
-use Rattle.p21_claim_values.specs.Needs.{MeansWith}
+use Rattle.p21_claim_values.specs.Needs.{MeansWithNeeds}
 use Rattle.p21_exchange.specs.Record.{Record}
 use Rattle.p21_exchange.specs.Statement.{instance}
 use Rattle.p21_files.specs.Held.{statement_references}
@@ -17,15 +17,15 @@ use Rattle.p21_files.specs.Reference.{Need, record_references}
 use Rattle.p21_schemas.specs.Schema.{Schema}
 use Rattle.p21_stream_kept.specs.Taking.{Follows}
 
--- it stands in a section
+-- the instance stands in a section
 pub follows-section : (s : Schema) (limits : Limits) (kept : Kept) (n : ℕ) (r : Record) → Follows s limits kept (instance n r) → 0 < length kept.headings
 follows-section s limits kept n r f = keeps-section s limits f.given kept f.keeps n r f.structure f.are_first
 
 -- 64 bits count the references with its own
-pub follows-few : (s : Schema) (limits : Limits) (kept : Kept) (n : ℕ) (r : Record) → Follows s limits kept (instance n r) → (meaning : Typed) (needs : List Need) → MeansWith s r meaning needs → kept.references + length needs < 2 ^ 64
+pub follows-few : (s : Schema) (limits : Limits) (kept : Kept) (n : ℕ) (r : Record) → Follows s limits kept (instance n r) → (meaning : Typed) (needs : List Need) → MeansWithNeeds s r meaning needs → kept.references + length needs < 2 ^ 64
 follows-few s limits kept n r f meaning needs means =
     let are = f.keeps.references_are in
-    let counted = references-counted s limits f.given f.keeps.groups f.keeps.grown in
+    let counted = references-counted s limits f.given f.keeps.groups f.keeps.unrefused in
     let targets = ap length (needs-are_references s r meaning needs means.needs_are) in
     let mapped = length-map needs (λ (need : Need). need.target) in
     let few = references-few (f.given ++ instance n r ∷ []) in

@@ -1,75 +1,75 @@
--- An instance more, by what is kept.
+-- One more instance, by what is kept.
 use Rattle.std.proofs.Common.{◌≡◌, ◌+◌, ◌⊎◌, ◌∙◌, ℕ, suc, List, [], ◌∷◌, ◌++◌, length, map, true, Option, Some, None, Ok, Err, refl, sym, ap, subst}
 use Rattle.std.specs.List.{AllByRecursion as Each}
 use Rattle.std.specs.List.Sorted.{IsPermutation}
 use Rattle.std.specs.Prelude.{◌≢◌, Contains, IfSome, IsNone, is_some}
 use Rattle.p21_basics.proofs.Members.{Contains-mapped, Contains-unmapped}
 use Rattle.p21_basics.specs.Limits.{Limits}
-use Rattle.p21_claim.specs.Ended.{Entry}
+use Rattle.p21_claim.specs.CompleteFile.{Entry}
 use Rattle.p21_claim.specs.Taken.{names_among}
 use Rattle.p21_claim_steps.proofs.Keeps.{keeps-by_instance, keeps-names}
-use Rattle.p21_claim_steps.specs.Grown.{IsFound}
+use Rattle.p21_claim_steps.specs.UnrefusedStatements.{IsFound}
 use Rattle.p21_claim_steps.specs.Keeping.{IsServedBy, Keeps, Kept, keep_instance}
 use Rattle.p21_claim_steps.specs.Offending.{broken, name_again}
 use Rattle.p21_claim_steps.specs.Stored as claim
-use Rattle.p21_claim_steps.specs.Stored.{Stored}
+use Rattle.p21_claim_steps.specs.Stored.{StoredEntry}
 use Rattle.p21_exchange.specs.Record.{Record}
 use Rattle.p21_exchange.specs.Statement.{instance}
 use Rattle.p21_files.specs.BrokenRule.{Breaks}
-use Rattle.p21_files.specs.Kept.{IsInstanceText}
+use Rattle.p21_files.specs.CanonicalTexts.{IsInstanceText}
 use Rattle.p21_files.specs.Reference.{Need}
 use Rattle.p21_schemas.specs.Schema.{Schema}
-use Rattle.p21_stream_fault.specs.Fault.{fault_number}
-use Rattle.p21_stream_fault.specs.declared.fault.Fault.{Fault}
-use Rattle.p21_stream_fault.specs.declared.fault.Fault.TheVariants.{CanonicalTooLong, DuplicateName, NoMemory}
+use Rattle.p21_stream_kept.specs.Fault.{fault_number}
+use Rattle.p21_stream_kept.specs.declared.fault.Fault.{Fault}
+use Rattle.p21_stream_kept.specs.declared.fault.Fault.TheVariants.{CanonicalTooLong, DuplicateName, NoMemory}
 use Rattle.p21_stream_kept.proofs.Stepping.{long}
 use Rattle.p21_stream_kept.specs.Inside.{stored_of, stored_with}
-use Rattle.p21_stream_kept.specs.Steps.{HasRoom, StepGives}
-use Rattle.p21_stream_kinds.specs.Kinds.{Kind}
-use Rattle.p21_stream_store.specs.Kept as store
-use Rattle.p21_stream_store.specs.Kept.{kept_names}
+use Rattle.p21_stream_kept.specs.Steps.{FitsLimits, StepGives}
+use Rattle.p21_stream_store.specs.Memberships.{Membership}
+use Rattle.p21_stream_store.specs.StoredInstance as store
+use Rattle.p21_stream_store.specs.StoredInstance.{instance_names}
 
 -- ---- names
 
-with-name : (kind : Option Kind) (x : store.Kept) → (stored_with kind x).name ≡ x.name
-with-name (Some kind) x = refl
+with-name : (membership : Option Membership) (x : store.StoredInstance) → (stored_with membership x).name ≡ x.name
+with-name (Some membership) x = refl
 with-name None x = refl
 
--- the names that are stored, whatever their kinds
-pub stored-names : (kinds : List Kind) (instances : List store.Kept) → map (λ (x : Stored). x.name) (stored_of kinds instances) ≡ kept_names instances
-stored-names kinds [] = refl
-stored-names kinds (x ∷ xs) =
-    ap (λ (n : ℕ). n ∷ map (λ (y : Stored). y.name) (stored_of kinds xs)) (with-name _ x) ∙ ap (λ (ns : List ℕ). x.name ∷ ns) (stored-names kinds xs)
+-- the names that are stored, whatever their memberships
+pub stored-names : (memberships : List Membership) (instances : List store.StoredInstance) → map (λ (x : StoredEntry). x.name) (stored_of memberships instances) ≡ instance_names instances
+stored-names memberships [] = refl
+stored-names memberships (x ∷ xs) =
+    ap (λ (n : ℕ). n ∷ map (λ (y : StoredEntry). y.name) (stored_of memberships xs)) (with-name _ x) ∙ ap (λ (ns : List ℕ). x.name ∷ ns) (stored-names memberships xs)
 
 -- what is found by a name has it; where nothing is found, none has it
-pub named-found : (instances : List store.Kept) (n : ℕ) (found : Option ℕ) → IfSome found (λ kind. (text : List ℕ) × Contains instances (record { name = n; kind = kind; text = text })) → is_some found ≡ true → Contains (kept_names instances) n
-named-found instances n (Some kind) (text, among) there = Contains-mapped (λ (y : store.Kept). y.name) instances (record { name = n; kind = kind; text = text }) among
+pub named-found : (instances : List store.StoredInstance) (n : ℕ) (found : Option ℕ) → IfSome found (λ membership. (text : List ℕ) × Contains instances (record { name = n; membership = membership; text = text })) → is_some found ≡ true → Contains (instance_names instances) n
+named-found instances n (Some membership) (text, among) there = Contains-mapped (λ (y : store.StoredInstance). y.name) instances (record { name = n; membership = membership; text = text }) among
 named-found instances n None among there = cc
 
-pub named-none : (instances : List store.Kept) (n : ℕ) (found : Option ℕ) → (IsNone found → Contains (kept_names instances) n → ⊥) → Contains (kept_names instances) n → is_some found ≡ true
-named-none instances n (Some kind) none among = refl
+pub named-none : (instances : List store.StoredInstance) (n : ℕ) (found : Option ℕ) → (IsNone found → Contains (instance_names instances) n → ⊥) → Contains (instance_names instances) n → is_some found ≡ true
+named-none instances n (Some membership) none among = refl
 named-none instances n None none among = absurd (none refl among)
 
 -- ---- steps
 
-pub took-instance : (s : Schema) (limits : Limits) (old new : Kept) (entry : Entry) → IsFound s limits entry → (Contains (map (λ (x : Stored). x.name) old.stored) entry.name → ⊥)
+pub took-instance : (s : Schema) (limits : Limits) (old new : Kept) (entry : Entry) → IsFound s limits entry → (Contains (map (λ (x : StoredEntry). x.name) old.stored) entry.name → ⊥)
     → (added : List Need) → Each (Contains entry.needs) added → Each (λ (need : Need). Contains added need ⊎ IsServedBy s old.stored need) entry.needs
-    → (number : ℕ) → suc number ≡ length old.headings → (stored : List Stored) → IsPermutation (claim.stored_of (number, entry) ∷ old.stored) stored
-    → HasRoom limits (old.bytes + old.framing) (length entry.text) → new ≡ keep_instance old entry added stored → StepGives s limits old (instance entry.name entry.record_) (Ok tt) new
+    → (number : ℕ) → suc number ≡ length old.headings → (stored : List StoredEntry) → IsPermutation (claim.stored_of (number, entry) ∷ old.stored) stored
+    → FitsLimits limits (old.bytes + old.framing) (length entry.text) → new ≡ keep_instance old entry added stored → StepGives s limits old (instance entry.name entry.record_) (Ok tt) new
 took-instance s limits old new entry found none added are_needs waits number last stored permuted room is given keeps =
     subst (λ (k : Kept). Keeps s limits (given ++ instance entry.name entry.record_ ∷ []) k) (sym is)
     (keeps-by_instance s limits given old keeps entry found none added are_needs waits number last stored permuted room.1)
 
 -- the instance of the name that is stored was given
-pub instance-again : (s : Schema) (limits : Limits) (old new : Kept) (n : ℕ) (record_ : Record) → Contains (map (λ (x : Stored). x.name) old.stored) n → StepGives s limits old (instance n record_) (Err DuplicateName) new
+pub instance-again : (s : Schema) (limits : Limits) (old new : Kept) (n : ℕ) (record_ : Record) → Contains (map (λ (x : StoredEntry). x.name) old.stored) n → StepGives s limits old (instance n record_) (Err DuplicateName) new
 instance-again s limits old new n record_ named other given keeps =
-    let (x, among, is) = Contains-unmapped (λ (y : Stored). y.name) old.stored n named in
+    let (x, among, is) = Contains-unmapped (λ (y : StoredEntry). y.name) old.stored n named in
     name_again n record_ (subst (λ (m : ℕ). Contains (names_among given) m) is (keeps-names s limits given old keeps x among))
 
 -- the record breaks the rule of the number
 pub instance-broken : (s : Schema) (limits : Limits) (old new : Kept) (n : ℕ) (record_ : Record) (fault : Fault) → (fault ≢ NoMemory → Breaks s record_ (fault_number fault)) → StepGives s limits old (instance n record_) (Err fault) new
 instance-broken s limits old new n record_ fault breaks other given keeps = broken n record_ (fault_number fault) (breaks other)
 
-pub refused-instance : (s : Schema) (limits : Limits) (old new : Kept) (n : ℕ) (record_ : Record) (text : List ℕ) → IsInstanceText s n record_ text → (HasRoom limits (old.bytes + old.framing) (length text) → ⊥)
+pub refused-instance : (s : Schema) (limits : Limits) (old new : Kept) (n : ℕ) (record_ : Record) (text : List ℕ) → IsInstanceText s n record_ text → (FitsLimits limits (old.bytes + old.framing) (length text) → ⊥)
     → StepGives s limits old (instance n record_) (Err CanonicalTooLong) new
 refused-instance s limits old new n record_ text is none other given keeps = long s limits given (old.bytes + old.framing) (instance n record_) text is none

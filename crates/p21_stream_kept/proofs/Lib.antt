@@ -1,7 +1,10 @@
+pub mod Sources
+mod Prefixes
+mod Lengths
 pub mod Stepping
 pub mod SectionNames
 pub mod Instances
-pub mod ByKind
+pub mod ByMembership
 pub mod Ended
 pub mod Unserved
 pub mod Finding

@@ -14,18 +14,18 @@ names_behind all x =
     ap section_names (map-append (λ (y : Section). heading_in y.part) all (x ∷ [])) ∙ flat_map-append heading_names (headings_of all) (heading_in x.part ∷ [])
     ∙ ap (λ (ns : List (List ℕ)). section_names (headings_of all) ++ ns) (append-nil (heading_names (heading_in x.part)))
 
--- no section
+-- there is no section
 pub has_none : (names : BTreeSet Text) (all : List Section) → all ≡ [] → names.keys ≡ [] → HasNames names all
 has_none names all no_section no_name = subst (λ (xs : List Section). HasTexts names (section_names (headings_of xs))) (sym no_section) (no_text names no_name)
 
--- a section without a name more
+-- one more section without a name
 pub has_unnamed : (names : BTreeSet Text) (all new : List Section) (x : Section) → new ≡ all ++ x ∷ [] → heading_names (heading_in x.part) ≡ [] → HasNames names all → HasNames names new
 has_unnamed names all new x is none has =
     let same : section_names (headings_of new) ≡ section_names (headings_of all) =
     ap (λ (xs : List Section). section_names (headings_of xs)) is ∙ names_behind all x ∙ ap (λ (ns : List (List ℕ)). section_names (headings_of all) ++ ns) none ∙ append-nil (section_names (headings_of all)) in
     subst (HasTexts names) (sym same) has
 
--- a section with a name more
+-- one more section with a name
 pub has_added : (names added : BTreeSet Text) (all new : List Section) (x : Section) (key : Text) → new ≡ all ++ x ∷ [] → heading_names (heading_in x.part) ≡ key.items ∷ [] → added.keys ≡ insert_key by_text names.keys key → HasNames names all → HasNames added new
 has_added names added all new x key is named keys has =
     let same : section_names (headings_of new) ≡ section_names (headings_of all) ++ key.items ∷ [] =

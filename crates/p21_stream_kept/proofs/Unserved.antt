@@ -8,7 +8,7 @@ use Rattle.p21_basics.proofs.Members.{Contains-first, Each-append, Each-weaker}
 use Rattle.p21_basics.specs.Limits.{Limits}
 use Rattle.p21_claim_steps.proofs.Keeps.{keeps-unserved}
 use Rattle.p21_claim_steps.specs.Keeping.{IsServedBy, IsServedByNone, Keeps, Kept}
-use Rattle.p21_claim_steps.specs.Stored.{Stored}
+use Rattle.p21_claim_steps.specs.Stored.{StoredEntry}
 use Rattle.p21_claim_steps.specs.Waiting.{Reference}
 use Rattle.p21_exchange.specs.Laying.{Laid}
 use Rattle.p21_exchange.specs.Statement.{Statement}
@@ -17,8 +17,8 @@ use Rattle.p21_files.specs.Accepted.{IsAccepted}
 use Rattle.p21_files.specs.Reference.{Need}
 use Rattle.p21_schemas.specs.Schema.{Schema}
 use Rattle.p21_schemas.specs.WellFormed.{IsWellFormed}
-use Rattle.p21_stream_fault.specs.declared.fault.Fault.{Fault}
-use Rattle.p21_stream_fault.specs.declared.fault.Fault.TheVariants.{Dangling, WrongTarget}
+use Rattle.p21_stream_kept.specs.declared.fault.Fault.{Fault}
+use Rattle.p21_stream_kept.specs.declared.fault.Fault.TheVariants.{Dangling, WrongTarget}
 use Rattle.p21_stream_kept.proofs.Instances.{stored-names}
 use Rattle.p21_stream_kept.specs.Inside.{reference_of, references_of, stored_of}
 use Rattle.p21_mapping.specs.Checked.{needs_view}
@@ -26,33 +26,33 @@ use Rattle.p21_mapping_values.specs.TypedView.{need_view}
 use Rattle.p21_mapping_values.specs.declared.need.Need as need
 use Rattle.p21_stream_kept.specs.declared.kept.Reference as held
 use Rattle.p21_stream_kept.specs.Served.{AddsWaiting, AnswersNeed, AnswersUnserved, IsFirstUnserved, RefusesNeed}
-use Rattle.p21_stream_kinds.specs.Kinds.{Kind}
-use Rattle.p21_stream_store.specs.Kept as store
-use Rattle.p21_stream_store.specs.Kept.{kept_names}
+use Rattle.p21_stream_store.specs.Memberships.{Membership}
+use Rattle.p21_stream_store.specs.StoredInstance as store
+use Rattle.p21_stream_store.specs.StoredInstance.{instance_names}
 
 -- ---- one need
 
 -- no instance has the name
-pub none-of_name : (s : Schema) (kinds : List Kind) (instances : List store.Kept) (need : Need) → (Contains (kept_names instances) need.target → ⊥) → RefusesNeed s (stored_of kinds instances) need Dangling
-none-of_name s kinds instances need none = λ among. none (subst (λ (names : List ℕ). Contains names need.target) (stored-names kinds instances) among)
+pub none-of_name : (s : Schema) (memberships : List Membership) (instances : List store.StoredInstance) (need : Need) → (Contains (instance_names instances) need.target → ⊥) → RefusesNeed s (stored_of memberships instances) need Dangling
+none-of_name s memberships instances need none = λ among. none (subst (λ (names : List ℕ). Contains names need.target) (stored-names memberships instances) among)
 
 -- what is not refused is served
-pub none-refused : (s : Schema) (stored : List Stored) (need : Need) (answer : Option Fault) → is_some answer ≡ false → AnswersNeed s stored need answer → IsServedBy s stored need
+pub none-refused : (s : Schema) (stored : List StoredEntry) (need : Need) (answer : Option Fault) → is_some answer ≡ false → AnswersNeed s stored need answer → IsServedBy s stored need
 none-refused s stored need None none served = served
 none-refused s stored need (Some fault) none refused = cc
 
 -- ---- needs that wait
 
--- one that is served
-pub waiting-served : (s : Schema) (stored : List Stored) (holder : ℕ) (need : Need) (old : List Reference) → IsServedBy s stored need → AddsWaiting s stored holder (need ∷ []) old old
+-- a need that is served adds no reference
+pub waiting-served : (s : Schema) (stored : List StoredEntry) (holder : ℕ) (need : Need) (old : List Reference) → IsServedBy s stored need → AddsWaiting s stored holder (need ∷ []) old old
 waiting-served s stored holder need old served = record { added = []; are_needs = tt; others_served = (inr served, tt); new_is = sym (append-nil old) }
 
--- one that waits
-pub waiting-one : (s : Schema) (stored : List Stored) (holder : ℕ) (need : Need) (old : List Reference) → AddsWaiting s stored holder (need ∷ []) old (old ++ (holder, need) ∷ [])
+-- a need that waits adds one reference
+pub waiting-one : (s : Schema) (stored : List StoredEntry) (holder : ℕ) (need : Need) (old : List Reference) → AddsWaiting s stored holder (need ∷ []) old (old ++ (holder, need) ∷ [])
 waiting-one s stored holder need old = record { added = need ∷ []; are_needs = (Contains-first need [], tt); others_served = (inl (Contains-first need []), tt); new_is = refl }
 
--- some and then others
-pub waiting-joined : (s : Schema) (stored : List Stored) (holder : ℕ) (first later : List Need) (old middle new : List Reference) → AddsWaiting s stored holder first old middle → AddsWaiting s stored holder later middle new → AddsWaiting s stored holder (first ++ later) old new
+-- the references that some needs add, and then later ones, are those that all of them add
+pub waiting-joined : (s : Schema) (stored : List StoredEntry) (holder : ℕ) (first later : List Need) (old middle new : List Reference) → AddsWaiting s stored holder first old middle → AddsWaiting s stored holder later middle new → AddsWaiting s stored holder (first ++ later) old new
 waiting-joined s stored holder first later old middle new a b =
     let added : List Need = a.added ++ b.added in
     let Waits : Need → Type 0 = λ x. Contains added x ⊎ IsServedBy s stored x in
@@ -70,7 +70,7 @@ waiting-joined s stored holder first later old middle new a b =
 
 -- ---- the first that none serves
 
-pub unserved-behind : (s : Schema) (stored : List Stored) (r : Reference) (rest : List Reference) → IsServedBy s stored r.1 → (result : Option (ℕ × Fault)) → AnswersUnserved s stored rest result → AnswersUnserved s stored (r ∷ rest) result
+pub unserved-behind : (s : Schema) (stored : List StoredEntry) (r : Reference) (rest : List Reference) → IsServedBy s stored r.1 → (result : Option (ℕ × Fault)) → AnswersUnserved s stored rest result → AnswersUnserved s stored (r ∷ rest) result
 unserved-behind s stored r rest served None each = (served, each)
 unserved-behind s stored r rest served (Some (holder, fault)) is = record {
   before = r ∷ is.before;
@@ -81,7 +81,7 @@ unserved-behind s stored r rest served (Some (holder, fault)) is = record {
   refused = is.refused;
 }
 
-pub unserved-here : (s : Schema) (stored : List Stored) (holder : ℕ) (need : Need) (rest : List Reference) (fault : Fault) → RefusesNeed s stored need fault → AnswersUnserved s stored ((holder, need) ∷ rest) (Some (holder, fault))
+pub unserved-here : (s : Schema) (stored : List StoredEntry) (holder : ℕ) (need : Need) (rest : List Reference) (fault : Fault) → RefusesNeed s stored need fault → AnswersUnserved s stored ((holder, need) ∷ rest) (Some (holder, fault))
 unserved-here s stored holder need rest fault refused = record {
   before = [];
   need = need;
@@ -91,7 +91,7 @@ unserved-here s stored holder need rest fault refused = record {
   refused = refused;
 }
 
-none-serves : (s : Schema) (stored : List Stored) (need : Need) (fault : Fault) → RefusesNeed s stored need fault → IsServedByNone s stored need
+none-serves : (s : Schema) (stored : List StoredEntry) (need : Need) (fault : Fault) → RefusesNeed s stored need fault → IsServedByNone s stored need
 none-serves s stored need Dangling none = inl none
 none-serves s stored need WrongTarget unfit = inr unfit
 none-serves s stored need other refused = absurd refused

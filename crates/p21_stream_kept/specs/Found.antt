@@ -1,23 +1,23 @@
 -- What is found of an instance.
 use Rattle.std.specs.Prelude.{◌≡◌, ◌≢◌, ℕ, List, Result, Ok, Err}
-use Rattle.p21_claim_values.specs.Needs.{MeansWith}
+use Rattle.p21_claim_values.specs.Needs.{MeansWithNeeds}
 use Rattle.p21_exchange.specs.Record.{Record}
 use Rattle.p21_files.specs.BrokenRule.{Breaks}
-use Rattle.p21_files.specs.Kept.{IsInstanceText}
+use Rattle.p21_files.specs.CanonicalTexts.{IsInstanceText}
 use Rattle.p21_files.specs.Meaning.{Typed}
 use Rattle.p21_files.specs.Reference.{Need}
 use Rattle.p21_mapping.specs.Checked.{needs_view}
 use Rattle.p21_mapping_values.specs.TypedView.{ids_view}
 use Rattle.p21_schemas.specs.Schema.{Schema}
-use Rattle.p21_stream_fault.specs.Fault.{fault_number}
-use Rattle.p21_stream_fault.specs.declared.fault.Fault.{Fault}
-use Rattle.p21_stream_fault.specs.declared.fault.Fault.TheVariants.{NoMemory}
+use Rattle.p21_stream_kept.specs.Fault.{fault_number}
+use Rattle.p21_stream_kept.specs.declared.fault.Fault.{Fault}
+use Rattle.p21_stream_kept.specs.declared.fault.Fault.TheVariants.{NoMemory}
 use Rattle.p21_stream_kept.specs.declared.found.Found.{Found}
 
 -- the record has a meaning of these entities and with these needs, and the instance has this canonical text
 pub record HasFound (s : Schema) (n : ℕ) (record_ : Record) (entities : List ℕ) (needs : List Need) (text : List ℕ) : Type 0 where
   pub meaning : Typed
-  pub meant : MeansWith s record_ meaning needs
+  pub meant : MeansWithNeeds s record_ meaning needs
   pub entities_are : meaning.entities ≡ entities
   pub printed : IsInstanceText s n record_ text
 

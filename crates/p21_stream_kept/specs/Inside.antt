@@ -5,8 +5,8 @@ use Rattle.p21_claim_steps.specs.Waiting as waiting
 use Rattle.p21_mapping_values.specs.TypedView.{need_view}
 use Rattle.p21_stream_kept.specs.declared.kept.Kept.TheInside.{Inside}
 use Rattle.p21_stream_kept.specs.declared.kept.Reference.{Reference}
-pub use Rattle.p21_stream_ending.specs.Ending.{AreNamed, stored_of, stored_with}
-pub use Rattle.p21_stream_ending.specs.Filing.{AreKinds, AreOfSections}
+pub use Rattle.p21_stream_output.specs.Ending.{AreNamed, stored_of, stored_with}
+pub use Rattle.p21_stream_output.specs.Filing.{HaveMemberships, AreOfSections}
 
 abbrev pub reference_of : Reference → waiting.Reference
 reference_of r = (r.holder, need_view r.need)
@@ -18,17 +18,17 @@ abbrev pub kept_of : Inside → Kept
 kept_of a = record {
   header = a.header.items;
   headings = a.sections;
-  stored = stored_of a.kinds a.instances;
+  stored = stored_of a.memberships a.instances;
   waiting = references_of a.waiting.items;
   references = a.references;
   bytes = a.bytes;
   framing = a.framing;
 }
 
--- each instance has the number of a kind, each kind is of a data section, each text begins with the name of its instance, and
--- 64 bits count the bytes of all lines
+-- each instance has the number of a membership, each membership is of a data section, each text begins with the name of its
+-- instance, and 64 bits count the bytes of all lines
 pub record IsWhole (a : Inside) : Type 0 where
-  pub kinds : AreKinds a.kinds a.instances
-  pub sections : AreOfSections (length a.sections) a.kinds
+  pub memberships : HaveMemberships a.memberships a.instances
+  pub sections : AreOfSections (length a.sections) a.memberships
   pub named : AreNamed a.instances
   pub counted : a.bytes + a.framing < 2 ^ 64

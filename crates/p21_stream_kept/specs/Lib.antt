@@ -1,3 +1,7 @@
+pub mod Fault
+pub mod Source
+pub mod Prefix
+pub mod Shape
 pub mod Found
 pub mod Sections
 pub mod Inside

@@ -1,4 +1,4 @@
--- Data sections as they are kept, with a set of their names.
+-- Data sections as they are stored, with a set of their names.
 use Rattle.std.specs.Prelude.{ℕ, List, [], ◌∷◌, map, Option, Some, None}
 use Rattle.std.specs.Prelude as std
 use Rattle.std.specs.BTreeSet.{BTreeSet}

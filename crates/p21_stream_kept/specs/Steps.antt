@@ -7,16 +7,16 @@ use Rattle.p21_exchange.specs.Record.{Record}
 use Rattle.p21_exchange.specs.Statement.{SectionLine, Statement, instance, section}
 use Rattle.p21_files.specs.Reference.{Need}
 use Rattle.p21_schemas.specs.Schema.{Schema}
-use Rattle.p21_stream_fault.specs.Fault.{fault_number}
-use Rattle.p21_stream_fault.specs.declared.fault.Fault.{Fault}
-use Rattle.p21_stream_fault.specs.declared.fault.Fault.TheVariants.{NoMemory}
+use Rattle.p21_stream_kept.specs.Fault.{fault_number}
+use Rattle.p21_stream_kept.specs.declared.fault.Fault.{Fault}
+use Rattle.p21_stream_kept.specs.declared.fault.Fault.TheVariants.{NoMemory}
 use Rattle.p21_stream_kept.specs.Found.{HasFound}
 
 -- a line of this size is within its limit, and with it the file within its own
-abbrev pub HasRoom : Limits → ℕ → ℕ → Type 0
-HasRoom limits so_far size = (size ≤ limits.record_canonical) × (so_far + (size + 1) ≤ limits.file_canonical)
+abbrev pub FitsLimits : Limits → ℕ → ℕ → Type 0
+FitsLimits limits so_far size = (size ≤ limits.record_canonical) × (so_far + (size + 1) ≤ limits.file_canonical)
 
--- what a statement gives, for all statements of which this is kept: it is kept too; or it is refused by its number
+-- what a statement gives, for all statements of which this is kept: the statement is kept too, or it is refused by its number
 abbrev pub StepGives : Schema → Limits → Kept → Statement → Result (Unit {0}) Fault → Kept → Type 0
 StepGives s limits old statement (Ok done) new = (given : List Statement) → Keeps s limits given old → Keeps s limits (given ++ statement ∷ []) new
 StepGives s limits old statement (Err fault) new = fault ≢ NoMemory → (given : List Statement) → Keeps s limits given old → Offends s limits given (old.bytes + old.framing) statement (fault_number fault)

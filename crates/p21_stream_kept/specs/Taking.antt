@@ -6,7 +6,7 @@ use Rattle.p21_claim_steps.specs.Keeping.{Keeps, Kept}
 use Rattle.p21_exchange.specs.Grammar.{IsFile}
 use Rattle.p21_exchange.specs.Record.{Record}
 use Rattle.p21_exchange.specs.Statement.{Statement, instance, statement_tokens}
-use Rattle.p21_exchange.specs.Structure.{AreFirst, Structure, statements}
+use Rattle.p21_exchange.specs.Structure.{AreFirstStatements, Structure, statements}
 use Rattle.p21_files.specs.Reference.{Need}
 use Rattle.p21_schemas.specs.Schema.{Schema}
 use Rattle.p21_stream_kept.specs.Found.{HasFound}
@@ -16,7 +16,7 @@ pub record Follows (s : Schema) (limits : Limits) (kept : Kept) (statement : Sta
   pub given : List Statement
   pub keeps : Keeps s limits given kept
   pub structure : Structure
-  pub are_first : AreFirst (given ++ statement ∷ []) structure
+  pub are_first : AreFirstStatements (given ++ statement ∷ []) structure
   pub few : length (flat_map statement_tokens (given ++ statement ∷ [])) < 2 ^ 64
 
 -- An instance of this name stands there, and this is found of it
@@ -26,7 +26,7 @@ pub record FollowsFound (s : Schema) (limits : Limits) (kept : Kept) (n : ℕ) (
   pub follows : Follows s limits kept (instance n record_)
 
 -- this is kept of the statements of a whole file
-pub record IsOfFile (kept : Kept) : Type 0 where
+pub record IsKeptOfFile (kept : Kept) : Type 0 where
   pub schema : Schema
   pub limits : Limits
   pub given : List Statement

@@ -1,14 +1,14 @@
 ghost use Rattle.std.specs.Prelude.{◌≡◌, [], IfErr, IfOk};
 ghost use Rattle.p21_grammar_tree.specs.View.{record_view};
-ghost use Rattle.p21_stream_fault.specs.Source.{IsOfBytes};
+ghost use Rattle.p21_stream_kept.specs.Source.{IsOfBytes};
 ghost use Rattle.p21_stream_kept.specs.Found.{FindsInstance};
 
-use p21_canon_record::write_record;
+use crate::fault::Fault;
+use p21_canon::write_record;
 use p21_express_tables::Schema;
 use p21_grammar_tree::Record;
-use p21_mapping::check_moved;
+use p21_mapping::check_owned_record;
 use p21_mapping_values::{Ids, Need, Typed};
-use p21_stream_fault::Fault;
 use p21_values::{Name, NoMemory};
 use std::alloc::Global;
 
@@ -26,7 +26,7 @@ pub(crate) struct Found {
 /// # Errors
 ///
 /// `Check`, `NoMemory`.
-pub(crate) fn found_of(
+pub(crate) fn find_instance(
     alloc: Global,
     schema: &Schema,
     name: Name,
@@ -35,7 +35,7 @@ pub(crate) fn found_of(
     ensures finds { FindsInstance schema.now name (record_view of) result }
     ensures kind { IfErr result (λ fault. IsOfBytes fault) }
 {
-    let (typed, needs) = match check_moved(alloc, schema, of) {
+    let (typed, needs) = match check_owned_record(alloc, schema, of) {
         Ok(checked) => checked,
         Err(fault) => return Err(Fault::from(fault)),
     };
@@ -53,7 +53,7 @@ pub(crate) fn found_of(
     })
 }
 
-/// A line of most instances has no more bytes.
+/// The line of most instances has no more bytes than these.
 const USUAL_LINE: usize = 120;
 
 /// A line without bytes, with room for a usual one.

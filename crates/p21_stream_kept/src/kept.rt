@@ -1,31 +1,31 @@
 ghost use Rattle.std.specs.Prelude.{◌≡◌, ◌≤◌, ◌↔◌, Contains, IfErr, IsTrue, OnErr, OnOk, map};
 ghost use Rattle.p21_claim_steps.specs.Keeping.{nothing_kept};
-ghost use Rattle.p21_claim_steps.specs.Stored.{Stored};
+ghost use Rattle.p21_claim_steps.specs.Stored.{StoredEntry};
 ghost use Rattle.p21_exchange.specs.Statement.{data_start, header, instance, section};
-ghost use Rattle.p21_grammar_machine.specs.Statements.{line_of};
+ghost use Rattle.p21_grammar.specs.Statements.{line_of};
 ghost use Rattle.p21_grammar_tree.specs.View.{items_of, part_view, record_view, views};
 ghost use Rattle.p21_mapping.specs.Checked.{needs_view};
 ghost use Rattle.p21_mapping_values.specs.TypedView.{ids_view};
-ghost use Rattle.p21_stream_fault.specs.Source.{IsOfBytes};
+ghost use Rattle.p21_stream_kept.specs.Source.{IsOfBytes};
 ghost use Rattle.p21_stream_kept.specs.Served.{AnswersUnserved, LeavesServed};
 ghost use Rattle.p21_stream_kept.specs.Steps.{FoundGives, StepGives, StepKeepsBound, TakesLine};
 ghost use Rattle.p21_stream_kept.specs.Taking.{Follows, FollowsFound};
 
-use crate::found::found_of;
-use crate::room::has_room;
+use crate::canonical_limits::fits_limits;
+use crate::fault::Fault;
+use crate::found::find_instance;
+use crate::schema_name::names_schema;
 use crate::sections::Sections;
-use crate::served::{drop_served, first_unserved, wait};
+use crate::served::{add_waiting, drop_served, first_unserved};
+use crate::shape::{heading, line_size, schema_text};
 use crate::stored::{has_instance, store};
-use p21_canon_header::write_header;
+use p21_canon::write_header;
 use p21_express_tables::Schema;
 use p21_express_types::EntityId;
-use p21_grammar_machine::Line;
+use p21_grammar::Line;
 use p21_grammar_tree::{Part, Record};
 use p21_mapping_values::Need;
-use p21_stream_fault::Fault;
-use p21_stream_header::{heading, line_size, names_schema, schema_text};
-use p21_stream_kinds::Kinds;
-use p21_stream_store::Instances;
+use p21_stream_store::{Instances, Memberships};
 use p21_values::{Canonical, Limits, Name, NoMemory, Text};
 use std::alloc::Global;
 use std::marker::Model;
@@ -38,11 +38,11 @@ pub struct Kept {
     // The canonical lines of the header records, each with its line feed.
     pub(crate) header: Vec<u8>,
     pub(crate) sections: Sections,
-    pub(crate) kinds: Kinds,
+    pub(crate) memberships: Memberships,
     pub(crate) instances: Instances,
     pub(crate) waiting: Vec<Reference>,
-    // So many references may wait before those that are served by then are dropped.
-    pub(crate) patience: usize,
+    // Once so many references have come, those that are served by then are dropped from the waiting ones.
+    pub(crate) patience: u64,
     // All references, those that don't wait among them.
     pub(crate) references: u64,
     // The bytes of the canonical lines of header records and instances, without line feeds.
@@ -58,8 +58,8 @@ pub struct Reference {
     pub need: Need,
 }
 
-/// So many references may wait in any file.
-const PATIENCE: usize = 4096;
+/// So many references may come, in any file, before the waiting ones are looked at again.
+const PATIENCE: u64 = 1024;
 
 impl Model for Kept {
     ghost use Rattle.p21_claim_steps.specs.Keeping.{Kept as Meant};
@@ -73,7 +73,7 @@ impl Model for Kept {
 }
 
 impl Kept {
-    /// Nothing taken. It takes no memory.
+    /// What is kept where nothing was taken. It takes no memory.
     pub fn new(alloc: Global) -> Kept
         ensures { result ≡ nothing_kept }
     {
@@ -81,7 +81,7 @@ impl Kept {
             alloc,
             header: Vec::new(alloc),
             sections: Sections::new(alloc),
-            kinds: Kinds::new(alloc),
+            memberships: Memberships::new(alloc),
             instances: Instances::new(alloc),
             waiting: Vec::new(alloc),
             patience: PATIENCE,
@@ -102,7 +102,7 @@ impl Kept {
         ensures kind { IfErr result (λ fault. IsOfBytes fault) }
     {
         let size = line_size(line);
-        if !has_room(limits, self.bytes, self.framing, size) {
+        if !fits_limits(limits, self.bytes, self.framing, size) {
             return Err(Fault::CanonicalTooLong);
         }
         let Ok(()) = self.sections.begin(line) else {
@@ -136,7 +136,7 @@ impl Kept {
             return Err(Fault::NoMemory);
         };
         let bytes = line.len() as u64;
-        if !has_room(limits, self.bytes, self.framing, bytes) {
+        if !fits_limits(limits, self.bytes, self.framing, bytes) {
             return Err(Fault::CanonicalTooLong);
         }
         let Ok(()) = self.sections.add(self.alloc, part) else {
@@ -162,7 +162,7 @@ impl Kept {
         let Ok(size) = append_record(part, &mut self.header) else {
             return Err(Fault::NoMemory);
         };
-        if !has_room(limits, self.bytes, self.framing, size) {
+        if !fits_limits(limits, self.bytes, self.framing, size) {
             return Err(Fault::CanonicalTooLong);
         }
         self.bytes += size;
@@ -191,7 +191,7 @@ impl Kept {
         if self.has_name(name) {
             return Err(Fault::DuplicateName);
         }
-        let found = match found_of(self.alloc, schema, name, of) {
+        let found = match find_instance(self.alloc, schema, name, of) {
             Ok(found) => found,
             Err(fault) => return Err(fault),
         };
@@ -231,9 +231,9 @@ impl Kept {
         self.keep_found(schema, limits, name, entities, line, needs)
     }
 
-    /// Whether an instance that is kept has this name.
+    /// Whether a stored instance has this name.
     fn has_name(&self, name: Name) -> bool
-        ensures { IsTrue result ↔ Contains (map (λ (x : Stored). x.name) self.now.stored) name }
+        ensures { IsTrue result ↔ Contains (map (λ (x : StoredEntry). x.name) self.now.stored) name }
     {
         has_instance(&self.instances, name)
     }
@@ -252,20 +252,20 @@ impl Kept {
         line: &[u8],
         needs: &[Need],
     ) -> Result<(), Fault>
-        requires another { Contains (map (λ (x : Stored). x.name) self.old.stored) name → ⊥ }
+        requires another { Contains (map (λ (x : StoredEntry). x.name) self.old.stored) name → ⊥ }
         requires found { FollowsFound schema.now limits self.old name (ids_view entities.now) (needs_view needs.now) line.now }
         ensures gives { FoundGives schema.now limits self.old name (ids_view entities.now) (needs_view needs.now) line.now result self.new }
         ensures bound { StepKeepsBound limits self.old self.new }
         ensures kind { IfErr result (λ fault. IsOfBytes fault) }
     {
         let size = line.len() as u64;
-        if !has_room(limits, self.bytes, self.framing, size) {
+        if !fits_limits(limits, self.bytes, self.framing, size) {
             return Err(Fault::CanonicalTooLong);
         }
         let section = self.sections.last();
-        let Ok(()) = wait(
+        let Ok(()) = add_waiting(
             schema,
-            &self.kinds,
+            &self.memberships,
             &self.instances,
             name,
             needs,
@@ -275,7 +275,7 @@ impl Kept {
         };
         let Ok(()) = store(
             self.alloc,
-            &mut self.kinds,
+            &mut self.memberships,
             &mut self.instances,
             name,
             section,
@@ -291,16 +291,22 @@ impl Kept {
         Ok(())
     }
 
-    /// Drops the references that are served by now, where many wait. Behind that twice as many as are left may wait, so that a
-    /// reference is looked at twice on average, and memory is for those alone that aren't served.
+    /// Drops the references that are served by now, where as many have come since the last time as were left then, and 1,024 at
+    /// least. So for each that comes at most two are looked at, and in between what was left grows twofold, or by 1,024.
     fn drop_served(&mut self, schema: &Schema)
         ensures { LeavesServed schema.now self.old self.new }
     {
-        if self.waiting.len() < self.patience {
+        let come = self.references;
+        if come < self.patience {
             return;
         }
-        drop_served(schema, &self.kinds, &self.instances, &mut self.waiting);
-        self.patience = PATIENCE.max(self.waiting.len().saturating_mul(2));
+        drop_served(
+            schema,
+            &self.memberships,
+            &self.instances,
+            &mut self.waiting,
+        );
+        self.patience = come.saturating_add(PATIENCE.max(self.waiting.len() as u64));
     }
 
     /// The bytes of the canonical lines of header records and instances, without line feeds.
@@ -322,7 +328,7 @@ impl Kept {
     pub fn first_unserved(&self, schema: &Schema) -> Option<(Name, Fault)>
         ensures { AnswersUnserved schema.now self.now.stored self.now.waiting result }
     {
-        first_unserved(schema, &self.kinds, &self.instances, &self.waiting)
+        first_unserved(schema, &self.memberships, &self.instances, &self.waiting)
     }
 }
 
@@ -331,7 +337,7 @@ ghost use Rattle.p21_exchange.specs.CanonicalText.{line, statement_text};
 ghost use Rattle.p21_exchange.specs.Header.{IsFileSchema};
 ghost use Rattle.p21_schemas.specs.SchemaName.{NamesSchema};
 
-/// Whether the text of a `FILE_SCHEMA` names the schema; any other record is as good.
+/// Whether the text of a `FILE_SCHEMA` names the schema; true of any other record.
 fn has_schema_name(part: &Part, name: &[u8]) -> bool
     ensures yes { IsTrue result → (chars : List ℕ) → IsFileSchema (part_view part.now) chars → NamesSchema chars name.now }
     ensures no { result ≡ false → (chars : List ℕ) × IsFileSchema (part_view part.now) chars × ¬ NamesSchema chars name.now }

@@ -1,12 +1,21 @@
-//! What a session keeps of the statements of a file that it has taken.
+//! What a session keeps of the statements of a file that it has taken, what it tests of header records, and why it refuses a
+//! file, and where.
 #![tactic(auto)]
 
+mod canonical_limits;
 mod end;
+mod fault;
 mod found;
 mod kept;
-mod room;
+mod refusal;
+mod schema_name;
 mod sections;
 mod served;
+mod shape;
 mod stored;
 
+pub use fault::Fault;
 pub use kept::{Kept, Reference};
+pub use refusal::{At, Refusal};
+pub use schema_name::names_schema;
+pub use shape::line_size;

@@ -2,13 +2,13 @@
 ghost use Rattle.std.specs.Prelude.{◌≡◌, ◌<◌, ◌≤◌, ◌+◌, ◌++◌, ◌∷◌, ◌↔◌, [], length, Contains, IfOk, IsTrue, OnOk, option_to_list};
 ghost use Rattle.p21_claim_steps.specs.Keeping.{headings_behind};
 ghost use Rattle.p21_exchange.specs.DataSection.{heading_names, section_names, heading_of};
-ghost use Rattle.p21_grammar_machine.specs.Statements.{line_of};
+ghost use Rattle.p21_grammar.specs.Statements.{line_of};
 ghost use Rattle.p21_grammar_tree.specs.View.{items_of, views};
 ghost use Rattle.p21_stream_kept.specs.Sections.{headings_of, names_in};
 
-use p21_grammar_machine::Line;
+use crate::shape::heading;
+use p21_grammar::Line;
 use p21_grammar_tree::Part;
-use p21_stream_header::heading;
 use p21_values::{NoMemory, Text};
 use std::alloc::Global;
 use std::collections::BTreeSet;
@@ -40,7 +40,7 @@ impl Model for Sections {
 }
 
 impl Sections {
-    /// No section. It takes no memory.
+    /// A list without sections. It takes no memory.
     pub fn new(alloc: Global) -> Sections
         ensures { result ≡ [] }
     {

@@ -1,8 +1,10 @@
 mod BlockLemmas
-mod KeptLemmas
+mod InstanceLemmas
 mod LateLemmas
-mod LineLemmas
+mod StoredTextLemmas
 mod NameLemmas
 mod NumberLemmas
+mod SeenLemmas
 mod TextLemmas
 pub mod OrderLemmas
+mod Interning

@@ -32,7 +32,7 @@ above_all xs last x rising is tested y (k, h, at) =
     let end : get_or xs (length xs - 1) 0 ≡ last = get_or_from_slice_get xs (length xs - 1) last 0 (sym is) in
     omega (arith, most, here, end, above, at)
 
--- another name has one among them that is not below it
+-- where a name is not above the last, one among them is not below it
 pub within_last : (xs : List ℕ) (last x : ℕ) → Some last ≡ slice_get xs (length xs - 1) → ltb last x ≡ false → (y : ℕ) × Contains xs y × (x ≤ y)
 within_last xs last x is tested =
     let below : x ≤ last = grind (arith, nat_tests) in
@@ -40,11 +40,11 @@ within_last xs last x is tested =
 
 -- ---- what a search finds
 
--- with one name those in front of it are below
+-- where the name at a position is below a name, so are those in front of it
 pub below_to : (xs : List ℕ) → IsStrictlyIncreasing xs → (x place : ℕ) → place < length xs → get_or xs place 0 < x → (i : ℕ) → i < place + 1 → get_or xs i 0 < x
 below_to xs rising x place within below i before = let most = never_fall xs rising i place (omega (arith, before)) within in omega (arith, most, below)
 
--- and those behind it are not
+-- where the name at a position is not below a name, those behind it are not either
 pub behind_from : (xs : List ℕ) → IsStrictlyIncreasing xs → (x place : ℕ) → x ≤ get_or xs place 0 → (i : ℕ) → place ≤ i → i < length xs → x ≤ get_or xs i 0
 behind_from xs rising x place above i behind within = let least = never_fall xs rising place i behind within in omega (arith, least, above)
 

@@ -23,7 +23,7 @@ run_taken first count zero h = refl
 run_taken first zero (suc k) h = absurd (omega (arith, h))
 run_taken first (suc count) (suc k) h = ap (λ (ns : List ℕ). first ∷ ns) (run_taken (first + 1) count k (omega (arith, h)))
 
--- ---- the last number away
+-- ---- the last number is taken away
 
 pub one_less_behind : (xs ys : List ℕ) → 0 < length ys → xs ++ take (length ys - 1) ys ≡ take (length (xs ++ ys) - 1) (xs ++ ys)
 one_less_behind [] ys h = refl

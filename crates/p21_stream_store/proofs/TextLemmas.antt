@@ -1,4 +1,4 @@
--- Texts one behind the other: where each starts and ends, and what a text more adds.
+-- Texts one behind the other: where each starts and ends, and what one more text adds.
 use Rattle.std.proofs.Common.{◌≡◌, ◌+◌, ◌-◌, ◌≤◌, ◌<◌, ℕ, zero, suc, List, [], ◌∷◌, ◌++◌, length, take, drop, get_or, Some, refl, sym, ap, ◌∙◌, arith, add-one}
 use Rattle.std.proofs.lemmas.List.{length-append, length-drop, length-take, take-append-le, drop-append-le, take_all}
 use Rattle.std.proofs.Math.Seq.{drop-append_seam, take-append_seam}
@@ -45,7 +45,7 @@ text_last (s ∷ []) bytes (suc i) h = absurd (omega (arith, h))
 text_last (s ∷ t ∷ more) bytes zero h = absurd (omega (arith, h))
 text_last (s ∷ t ∷ more) bytes (suc i) h = text_last (t ∷ more) bytes i (omega (arith, h))
 
--- a text more
+-- one more text
 pub texts_more : (starts bytes text : List ℕ) → AreStartsFrom starts (length bytes) → texts_of (starts ++ length bytes ∷ []) (bytes ++ text) ≡ texts_of starts bytes ++ text ∷ []
 texts_more [] bytes text a = ap (λ (x : List ℕ). x ∷ []) (drop-append_seam bytes text)
 texts_more (s ∷ []) bytes text a =
@@ -70,7 +70,7 @@ starts_more (s ∷ t ∷ more) bytes text a = (a.0, starts_more (t ∷ more) byt
 
 -- ---- as the code reads them
 
--- the rest of the bytes as a part of them
+-- the rest of the bytes as a range of them
 pub part_all : (bytes : List ℕ) (start : ℕ) → take (length bytes - start) (drop start bytes) ≡ drop start bytes
 part_all bytes start = take_all (length bytes - start) (drop start bytes) (simp length-drop (omega arith))
 
@@ -96,7 +96,7 @@ pub no_bytes : (starts bytes : List ℕ) → AreStarts starts bytes → length s
 no_bytes [] bytes a e = ap length a
 no_bytes (s ∷ more) bytes a e = absurd (omega (arith, e))
 
--- a text more, with its place among the starts
+-- one more text, with its position among the starts
 pub record IsMore (starts bytes text new_starts new_bytes : List ℕ) : Type 0 where
   pub start : ℕ
   pub start_is : start ≡ length bytes

@@ -1,6 +1,8 @@
--- What is kept of the instances that were taken.
+-- What is stored of the instances that were taken.
 pub mod Texts
 pub mod Blocks
 pub mod Instances
-pub mod Kept
-pub mod Places
+pub mod StoredInstance
+pub mod Positions
+pub mod Seen
+pub mod Memberships

@@ -1,7 +1,7 @@
 -- Texts one behind the other in bytes.
 use Rattle.std.specs.Prelude.{◌≡◌, ◌≤◌, ◌-◌, ℕ, List, [], ◌∷◌, length, take, drop}
 
--- the texts that start at these places of the bytes, each up to where the next one starts
+-- the texts that start at these positions of the bytes, each up to where the next one starts
 abbrev pub texts_of : List ℕ → List ℕ → List (List ℕ)
 texts_of [] bytes = []
 texts_of (start ∷ []) bytes = drop start bytes ∷ []

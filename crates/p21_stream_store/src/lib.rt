@@ -1,17 +1,20 @@
-//! What a session keeps of the instances that it has taken: their canonical lines, their sets of entities, and the
-//! references that wait for their targets.
+//! What a session stores of the instances that it has taken: their names, their canonical texts, and their memberships, each
+//! of which is the data section that an instance stands in and its set of entities.
 #![tactic(auto)]
 
 mod instances;
 mod late;
-mod lines;
+mod memberships;
 mod names;
 mod numbers;
 mod order;
 mod rows;
 mod runs;
+mod seen;
+mod stored_texts;
 mod texts;
 mod widths;
 
 pub use instances::Instances;
+pub use memberships::Memberships;
 pub use numbers::Numbers;

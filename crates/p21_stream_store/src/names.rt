@@ -18,9 +18,9 @@ pub fn is_above(names: &Numbers, name: u64) -> bool
     (names.get(count - 1) as u64) < name
 }
 
-/// The place of a name among rising names. One that came shortly before the last is found in a few steps, and at once where
+/// The position of a name among rising names. One that came shortly before the last is found in a few steps, and at once where
 /// the names between rise by like steps.
-pub fn place_in(names: &Numbers, name: u64) -> Option<usize>
+pub fn position_in(names: &Numbers, name: u64) -> Option<usize>
     requires rising { IsStrictlyIncreasing names.now }
     ensures some { IfSome result (λ place. slice_get names.now place ≡ Some name) }
     ensures none { IsNone result → Contains names.now name → ⊥ }
@@ -36,7 +36,7 @@ pub fn place_in(names: &Numbers, name: u64) -> Option<usize>
     None
 }
 
-/// Whether a name stands at a place.
+/// Whether a name stands at a position.
 fn is_at(names: &Numbers, name: u64, place: usize) -> bool
     ensures here { IsTrue result → slice_get names.now place ≡ Some name }
     ensures other { result ≡ false → slice_get names.now place ≡ Some name → ⊥ }
@@ -59,14 +59,14 @@ fn guess(names: &Numbers, name: u64) -> usize {
     (count - 1).saturating_sub(steps as usize)
 }
 
-/// The place of the first of rising names that isn't below a name; behind all places where each is below it. From a guess it
-/// is looked for from the end, in steps that grow twofold, and then by halves.
+/// The position of the first of rising names that isn't below a name; behind all positions where each is below it. From a guess
+/// it is looked for from the end, in steps that grow twofold, and then by halves.
 fn first_not_below(names: &Numbers, name: u64, guessed: usize) -> usize
     requires { IsStrictlyIncreasing names.now }
     ensures before { (i : ℕ) → i < result → get_or names.now i 0 < name }
     ensures behind { (i : ℕ) → result ≤ i → i < length names.now → name ≤ get_or names.now i 0 }
 {
-    let (mut low, mut high) = around(names, name, guessed);
+    let (mut low, mut high) = search_bounds(names, name, guessed);
     let mut step: usize = 1;
     while low < high {
         let middle = high - step.min((high - low).div_ceil(2));
@@ -80,9 +80,9 @@ fn first_not_below(names: &Numbers, name: u64, guessed: usize) -> usize
     low
 }
 
-/// Two places: rising names in front of the first are below a name, and those from the second on aren't. A guess is one of
+/// Two positions: rising names in front of the first are below a name, and those from the second on aren't. A guess is one of
 /// them, or next to it.
-fn around(names: &Numbers, name: u64, guessed: usize) -> (usize, usize)
+fn search_bounds(names: &Numbers, name: u64, guessed: usize) -> (usize, usize)
     requires { IsStrictlyIncreasing names.now }
     ensures order { result.0 ≤ result.1 }
     ensures within { result.1 ≤ length names.now }

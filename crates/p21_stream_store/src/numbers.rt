@@ -3,13 +3,13 @@ ghost use Rattle.std.specs.Prelude.{◌≡◌, ◌<◌, ◌≤◌, ◌-◌, ◌^
 
 use crate::rows::{Layer, Row};
 use crate::runs::Run;
-use crate::widths::Three;
+use crate::widths::ThreeBytes;
 use p21_values::NoMemory;
 use std::alloc::Global;
 use std::marker::Model;
 
 /// Numbers behind the run.
-type Behind = Layer<u8, Layer<u16, Layer<Three, Layer<u32, Vec<usize>>>>>;
+type Behind = Layer<u8, Layer<u16, Layer<ThreeBytes, Layer<u32, Vec<usize>>>>>;
 
 /// Numbers in their order. Those that rise by one from the first take no memory. Each behind them takes one byte up to the
 /// first that a byte doesn't hold; that one and those behind it take two, and so on over three and four to eight.
@@ -28,7 +28,7 @@ impl Model for Numbers {
 }
 
 impl Numbers {
-    /// No number. It takes no memory.
+    /// A list without numbers. It takes no memory.
     pub fn new(alloc: Global) -> Numbers
         ensures { result ≡ [] }
     {
@@ -38,14 +38,14 @@ impl Numbers {
         }
     }
 
-    /// How many numbers.
+    /// How many numbers there are.
     pub fn len(&self) -> usize
         ensures { result ≡ length self.now }
     {
         self.count()
     }
 
-    /// How many numbers, as `len` says, and that sums of such counts stay in 64 bits.
+    /// How many numbers there are, as `len` says, and that sums of such counts stay in 64 bits.
     pub(crate) fn count(&self) -> usize
         ensures len { result ≡ length self.now }
         ensures small { result < 2 ^ 63 }
@@ -53,7 +53,7 @@ impl Numbers {
         self.run.len() + self.behind.len()
     }
 
-    /// The number at a place.
+    /// The number at a position.
     pub fn get(&self, place: usize) -> usize
         requires { place < length self.now }
         ensures { slice_get self.now place ≡ Some result }

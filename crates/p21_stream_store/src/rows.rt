@@ -12,11 +12,11 @@ pub trait Row: Drop {
     // So many numbers it holds at most.
     ghost most: { ℕ };
 
-    /// No number. It takes no memory.
+    /// A list without numbers. It takes no memory.
     fn new(alloc: Global) -> Self
         ensures { numbers result ≡ [] };
 
-    /// How many numbers.
+    /// How many numbers there are.
     fn len(&self) -> usize
         requires { most < 2 ^ 64 }
         ensures len { result ≡ length (numbers self.now) }
@@ -27,7 +27,7 @@ pub trait Row: Drop {
         ensures none { result ≡ true → numbers self.now ≡ [] }
         ensures some { result ≡ false → 0 < length (numbers self.now) };
 
-    /// The number at a place.
+    /// The number at a position.
     fn get(&self, place: usize) -> usize
         requires { place < length (numbers self.now) }
         ensures { slice_get (numbers self.now) place ≡ Some result };

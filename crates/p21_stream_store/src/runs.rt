@@ -23,14 +23,14 @@ impl Model for Run {
 }
 
 impl Run {
-    /// No number.
+    /// A run without numbers.
     pub fn new() -> Run
         ensures { result ≡ [] }
     {
         Run { first: 0, count: 0 }
     }
 
-    /// How many numbers.
+    /// How many numbers there are.
     pub fn len(&self) -> usize
         ensures len { result ≡ length self.now }
         ensures small { result < 2 ^ 32 }
@@ -38,7 +38,7 @@ impl Run {
         self.count as usize
     }
 
-    /// The number at a place.
+    /// The number at a position.
     pub fn get(&self, place: usize) -> usize
         requires { place < length self.now }
         ensures { slice_get self.now place ≡ Some result }

@@ -46,7 +46,7 @@ fn start_of(texts: usize, used: usize, size: usize) -> Option<u16>
     Some(used as u16)
 }
 
-/// The text of a number among those that start at these places of the bytes.
+/// The text of a number among those that start at these positions of the bytes.
 fn text_at<'a>(starts: &[u16], bytes: &'a [u8], index: usize) -> &'a [u8]
     requires index { index < length starts.now }
     requires starts { AreStartsFrom starts.now (length bytes.now) }
@@ -80,7 +80,7 @@ impl Model for Block {
 }
 
 impl Block {
-    /// No text. It takes no memory.
+    /// A list without texts. It takes no memory.
     fn new(alloc: Global) -> Block
         ensures { result ≡ [] }
     {
@@ -90,7 +90,7 @@ impl Block {
         }
     }
 
-    /// How many texts.
+    /// How many texts there are.
     fn len(&self) -> usize
         ensures { result ≡ length self.now }
     {
@@ -130,13 +130,13 @@ impl Block {
 
 /// A block to which no more texts are added, and the number of its first text.
 #[derive(Drop)]
-struct Full {
+struct FullBlock {
     first: usize,
     block: Block,
 }
 
 /// The text of a number below `end`, which is the number behind these blocks.
-fn text_in(full: &[Full], index: usize, end: usize) -> &[u8]
+fn text_in(full: &[FullBlock], index: usize, end: usize) -> &[u8]
     requires firsts { AreFirsts 0 full.now end }
     requires index { index < end }
     ensures { slice_get (block_texts full.now) index ≡ Some result.now }
@@ -159,7 +159,7 @@ fn text_in(full: &[Full], index: usize, end: usize) -> &[u8]
 #[derive(Drop)]
 pub struct Texts {
     alloc: Global,
-    full: Vec<Full>,
+    full: Vec<FullBlock>,
     end: usize,
     last: Block,
 }
@@ -176,7 +176,7 @@ impl Model for Texts {
 }
 
 impl Texts {
-    /// No text. It takes no memory.
+    /// A list without texts. It takes no memory.
     pub fn new(alloc: Global) -> Texts
         ensures { result ≡ [] }
     {
@@ -222,7 +222,7 @@ impl Texts {
         }
         let size = self.last.len();
         self.last.close();
-        let full = Full {
+        let full = FullBlock {
             first: self.end,
             block: mem::replace(&mut self.last, block),
         };

@@ -1,7 +1,7 @@
-//! The widths in which numbers are kept.
+//! The widths in which numbers are stored.
 ghost use Rattle.std.specs.Prelude.{◌≡◌, ◌+◌, ◌*◌, ℕ, IfSome};
 
-/// A width in which numbers are kept.
+/// A width in which numbers are stored.
 pub trait Width: Copy {
     ghost value: { Self → ℕ };
 
@@ -52,20 +52,20 @@ impl Width for u32 {
 
 /// A number of 24 bits: its lowest byte first.
 #[derive(Clone, Copy)]
-pub struct Three {
+pub struct ThreeBytes {
     low: u8,
     middle: u8,
     high: u8,
 }
 
-impl Width for Three {
+impl Width for ThreeBytes {
     ghost value = { λ kept. kept.low + 256 * kept.middle + 65536 * kept.high };
 
-    fn of(number: usize) -> Option<Three> {
+    fn of(number: usize) -> Option<ThreeBytes> {
         if number >= 1 << 24 {
             return None;
         }
-        Some(Three {
+        Some(ThreeBytes {
             low: (number % 256) as u8,
             middle: (number / 256 % 256) as u8,
             high: (number / 65536) as u8,

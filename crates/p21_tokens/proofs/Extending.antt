@@ -5,11 +5,11 @@ use Rattle.std.specs.Option.{option_map}
 use Rattle.std.proofs.lemmas.List.{append_cancel_left, length-take-le, take_more}
 use Rattle.std.proofs.lemmas.Option.{slice_get-get_or}
 use Rattle.std.proofs.Math.Seq.{take-length}
-use Rattle.p21_basics.specs.History.{extended, seen_behind, first_refusal, IsOffered, empty}
+use Rattle.p21_basics.specs.History.{extended, seen_behind, first_refusal, IsOfferedFirst, empty}
 use Rattle.p21_exchange.specs.Laying.{Lexeme, Laid, tokens_in, open_bytes, count_behind, AreStatementsWithin}
-use Rattle.p21_exchange.specs.Pending.{Tail, nothing, unfinished, slash, open_comment, tail_size, LaidUpTo, IsTokenByte, BeginsNoSeparator}
+use Rattle.p21_exchange.specs.Pending.{Tail, nothing, unfinished, slash, open_comment, tail_size, LaidUpTo, IsTokenByte, BeginsWithNoSeparator}
 use Rattle.p21_exchange.specs.Token.{Token}
-use Rattle.p21_tokens_automaton.proofs.Complete.{all_of-after}
+use Rattle.p21_tokens_automaton.proofs.Complete.{all_tokens-after}
 use Rattle.p21_tokens_automaton.proofs.Sound.{TailIs, UpTo, FirstFits}
 use Rattle.p21_tokens_automaton.proofs.Fits.{ModeFits, StepFits}
 use Rattle.p21_tokens_automaton.proofs.TokenSound.{first-fits}
@@ -18,7 +18,7 @@ use Rattle.p21_tokens_automaton.proofs.Theorems.{laid_read, tail-is, tail-ends, 
 use Rattle.std.proofs.lemmas.Bool.{cond_both}
 use Rattle.std.proofs.lemmas.Bool.Decides.{nat_tests}
 use Rattle.p21_tokens_automaton.specs.Bytes.{is_blank, is_upper}
-use Rattle.p21_tokens_automaton.specs.Step.{advance, mark_action}
+use Rattle.p21_tokens_automaton.specs.Step.{advance, punctuation_action}
 use Rattle.p21_tokens_automaton.specs.declared.mode.Action.{Action}
 use Rattle.p21_tokens_automaton.specs.declared.mode.Action.TheVariants.{Pass, Keep, End, Refuse}
 use Rattle.p21_tokens_automaton.specs.declared.mode.Mode.{Mode}
@@ -28,14 +28,14 @@ use Rattle.p21_tokens_automaton.specs.declared.mode.WordMode.TheVariants as word
 use Rattle.p21_tokens_automaton.specs.declared.mode.Wrong.TheVariants as wrong
 use Rattle.p21_tokens_automaton.proofs.Once.{spells-means}
 use Rattle.p21_tokens_automaton.specs.Meaning.{MeanAll, Means, found_of}
-use Rattle.p21_tokens_automaton.specs.Reading.{State, start, Answer, open_at, after, Found, Sized, ended, closing, all_after, all_of, lex}
-use Rattle.p21_tokens.proofs.Stepping.{ended-waits, waits-count}
+use Rattle.p21_tokens_automaton.specs.Reading.{State, start, Answer, open_at, after, FoundToken, SizedToken, ended_token, tokens_at_end, with_last_tokens, all_tokens, lex}
+use Rattle.p21_tokens.proofs.Stepping.{ended_token-waits, waits-count}
 use Rattle.p21_tokens.proofs.Naming.{names-byte}
 use Rattle.p21_tokens.proofs.Following.{handed-laid, live-open, whole-read, tokens-append, mean-append, in-parts, open-append, within-append, after-append, after-nothing, live-laid, live-pending, live-within, live-few, live-first, live-at_once}
 use Rattle.p21_tokens.specs.Held.{Held, IsWithin, pending_of, state_of}
-use Rattle.p21_tokens.specs.Histories.{TokenHistory, call_of, refused_call, Stands, IsLive, IsHandedOver, GoesOn, AreDead, IsStatementFull, IsNoToken, EndsOutOfRange, NamesByte, IsOpen, IsPendingBehind, EndsAtOnce, TakesNoMore, Answers, Refuses, NextGives}
+use Rattle.p21_tokens.specs.Histories.{TokenHistory, call_of, refused_call, Stands, IsLive, IsHandedOver, BeginsWithSeen, AreDead, IsStatementFull, IsNoToken, EndsOutOfRange, NamesFaultAtByte, IsOpen, IsPendingBehind, EndsAtOnce, TakesNoMore, Answers, Refuses, NextGives}
 use Rattle.p21_tokens.specs.Fault.{IsOfForm, IsOfLimit}
-use Rattle.p21_tokens.specs.Steps.{rest_of, is_slash, is_token_byte, IsDeadAt, SameCounts, SameLimits, TakesRun, Gives, Hands, RefusesByte, EndsNone, IsFaultAt, IsInLimits, Scanned, ScansToken, gave, handed, Scans, RefusesAt}
+use Rattle.p21_tokens.specs.Steps.{rest_of, is_slash, is_token_byte, IsDeadAt, SameCounts, SameLimits, TakesRun, GivesToken, HandsOverToken, RefusesByte, EndsNoMeantToken, IsFaultAt, IsInLimits, Scanned, ScansToken, gave, handed, Scans, RefusesAt}
 use Rattle.p21_tokens.specs.Token.{meant, waits}
 use Rattle.p21_tokens.specs.declared.fault.TokenFault.{TokenFault}
 use Rattle.p21_tokens.specs.declared.fault.TokenFault.TheVariants as fault
@@ -63,24 +63,24 @@ stands-new v s f n r =
 -- ---- the byte that was seen
 
 -- what a caller offers goes on with the byte that was seen
-goes-front : (seen : Option ℕ) (piece : List ℕ) (count : ℕ) (rest : List ℕ) → IsOffered seen piece → 0 < count → 0 < length piece → GoesOn seen (take count piece ++ rest)
+goes-front : (seen : Option ℕ) (piece : List ℕ) (count : ℕ) (rest : List ℕ) → IsOfferedFirst seen piece → 0 < count → 0 < length piece → BeginsWithSeen seen (take count piece ++ rest)
 goes-front None piece count rest o l m = tt
 goes-front (Some x) [] count rest o l m = absurd (omega arith)
 goes-front (Some x) (b ∷ piece) zero rest o l m = absurd (omega arith)
 goes-front (Some x) (b ∷ piece) (suc count) rest o l m = o
 
-goes-byte : (seen : Option ℕ) (piece : List ℕ) (count byte : ℕ) (rest : List ℕ) → IsOffered seen piece → slice_get piece count ≡ Some byte → GoesOn seen (take count piece ++ byte ∷ rest)
+goes-byte : (seen : Option ℕ) (piece : List ℕ) (count byte : ℕ) (rest : List ℕ) → IsOfferedFirst seen piece → slice_get piece count ≡ Some byte → BeginsWithSeen seen (take count piece ++ byte ∷ rest)
 goes-byte None piece count byte rest o e = tt
 goes-byte (Some x) [] count byte rest o e = absurd cc
 goes-byte (Some x) (b ∷ piece) zero byte rest o e = let same : b ≡ byte = cc in sym same ∙ o
 goes-byte (Some x) (b ∷ piece) (suc count) byte rest o e = o
 
-goes-whole : (seen : Option ℕ) (bytes rest : List ℕ) → IsOffered seen bytes → GoesOn (seen_behind seen bytes None) rest → GoesOn seen (bytes ++ rest)
+goes-whole : (seen : Option ℕ) (bytes rest : List ℕ) → IsOfferedFirst seen bytes → BeginsWithSeen (seen_behind seen bytes None) rest → BeginsWithSeen seen (bytes ++ rest)
 goes-whole seen [] rest o g = g
 goes-whole None (b ∷ bytes) rest o g = tt
 goes-whole (Some x) (b ∷ bytes) rest o g = o
 
-offered-front : (seen : Option ℕ) (piece : List ℕ) (count : ℕ) → IsOffered seen piece → IsOffered seen (take count piece)
+offered-front : (seen : Option ℕ) (piece : List ℕ) (count : ℕ) → IsOfferedFirst seen piece → IsOfferedFirst seen (take count piece)
 offered-front None piece count o = tt
 offered-front (Some x) [] zero o = tt
 offered-front (Some x) [] (suc count) o = tt
@@ -105,7 +105,7 @@ same-state v w r =
 
 -- ---- bytes that gave no token
 
-live-none : (v w : Held) (h : TokenHistory) (bytes : List ℕ) → IsLive v h → IsOffered h.seen bytes → SameLimits v w → TakesRun v bytes w → IsLive w (record { taken = h.taken ++ bytes; seen = seen_behind h.seen bytes None; given = h.given ++ []; refusal = None })
+live-none : (v w : Held) (h : TokenHistory) (bytes : List ℕ) → IsLive v h → IsOfferedFirst h.seen bytes → SameLimits v w → TakesRun v bytes w → IsLive w (record { taken = h.taken ++ bytes; seen = seen_behind h.seen bytes None; given = h.given ++ []; refusal = None })
 live-none v w h bytes live o s r = record {
   founds = live.founds;
   lexemes = live.lexemes;
@@ -136,7 +136,7 @@ live-none v w h bytes live o s r = record {
 
 -- ---- a token
 
-live-gave : (v middle w : Held) (h : TokenHistory) (bytes front : List ℕ) (byte : ℕ) (token : Token) → IsLive v h → ((rest : List ℕ) → GoesOn h.seen (bytes ++ rest)) → SameLimits v middle → SameLimits middle w → TakesRun v front middle → Gives middle byte token w → bytes ≡ front ++ byte ∷ []
+live-gave : (v middle w : Held) (h : TokenHistory) (bytes front : List ℕ) (byte : ℕ) (token : Token) → IsLive v h → ((rest : List ℕ) → BeginsWithSeen h.seen (bytes ++ rest)) → SameLimits v middle → SameLimits middle w → TakesRun v front middle → GivesToken middle byte token w → bytes ≡ front ++ byte ∷ []
     → IsLive w (record { taken = h.taken ++ bytes; seen = None; given = h.given ++ token ∷ []; refusal = None })
 live-gave v middle w h bytes front byte token live goes s t r g e =
     let lexeme : Lexeme = record { token = token; size = g.found.size } in
@@ -162,10 +162,10 @@ live-gave v middle w h bytes front byte token live goes s t r g e =
       seen_is = inl refl;
     }
 
-live-handed : (v middle w : Held) (h : TokenHistory) (bytes : List ℕ) (byte : ℕ) (token : Token) → IsLive v h → ((rest : List ℕ) → GoesOn h.seen (bytes ++ byte ∷ rest)) → (0 < length bytes → GoesOn h.seen bytes) → SameLimits v middle → SameLimits middle w → TakesRun v bytes middle → Hands middle byte token w
+live-handed : (v middle w : Held) (h : TokenHistory) (bytes : List ℕ) (byte : ℕ) (token : Token) → IsLive v h → ((rest : List ℕ) → BeginsWithSeen h.seen (bytes ++ byte ∷ rest)) → (0 < length bytes → BeginsWithSeen h.seen bytes) → SameLimits v middle → SameLimits middle w → TakesRun v bytes middle → HandsOverToken middle byte token w
     → IsLive w (record { taken = h.taken ++ bytes; seen = Some byte; given = h.given ++ token ∷ []; refusal = None })
 live-handed v middle w h bytes byte token live goes all-on s t r g =
-    let found : Sized = record { found = g.found; size = middle.size } in
+    let found : SizedToken = record { found = g.found; size = middle.size } in
     let lexeme : Lexeme = record { token = token; size = middle.size } in
     let limit : w.statement_limit ≡ v.statement_limit = t.statement_limit ∙ s.statement_limit in
     let before_it : middle.statement ≡ open_bytes 0 live.lexemes = r.statement_is ∙ live.statement_is in
@@ -190,7 +190,7 @@ live-handed v middle w h bytes byte token live goes all-on s t r g =
       });
     }
   where
-    reads-on : (rest : List ℕ) → GoesOn (Some byte) rest → lex start ((h.taken ++ bytes) ++ rest) ≡ after (live.founds ++ record { found = g.found; size = middle.size } ∷ []) (rest_of w rest)
+    reads-on : (rest : List ℕ) → BeginsWithSeen (Some byte) rest → lex start ((h.taken ++ bytes) ++ rest) ≡ after (live.founds ++ record { found = g.found; size = middle.size } ∷ []) (rest_of w rest)
     reads-on [] on = absurd on
     reads-on (b ∷ rest) on =
         let same : b ≡ byte = on in
@@ -199,16 +199,16 @@ live-handed v middle w h bytes byte token live goes all-on s t r g =
         ∙ (ap (λ (a : Answer). after live.founds a) (r.rest_is (byte ∷ rest) ∙ g.rest_is rest) ∙ sym (after-append live.founds (record { found = g.found; size = middle.size } ∷ []) (rest_of w (byte ∷ rest))))))
 
     -- a reading of all the bytes taken
-    by_reads : GoesOn h.seen bytes → lex start (h.taken ++ bytes) ≡ record { given = live.founds; ending = open_at (state_of middle) }
+    by_reads : BeginsWithSeen h.seen bytes → lex start (h.taken ++ bytes) ≡ record { given = live.founds; ending = open_at (state_of middle) }
     by_reads on =
         live.reads bytes on ∙ (ap (λ (x : List ℕ). after live.founds (rest_of v x)) (sym (append-nil bytes)) ∙ (ap (λ (a : Answer). after live.founds a) (r.rest_is [] ∙ lex-nil (state_of middle)) ∙ after-nothing live.founds (state_of middle)))
 
     no-end : state_of middle ≡ start → ⊥
-    no-end q = let clash : (let o : Option Found = None in o) ≡ Some g.found = ap ended (sym q) ∙ g.ended_is in cc
+    no-end q = let clash : (let o : Option FoundToken = None in o) ≡ Some g.found = ap ended_token (sym q) ∙ g.ended_is in cc
 
     by_bytes : (xs : List ℕ) → xs ≡ bytes → lex start (h.taken ++ bytes) ≡ record { given = live.founds; ending = open_at (state_of middle) }
     by_bytes [] q = elim live.seen_is [
-      | inl e ↦ by_reads (subst (λ (o : Option ℕ). GoesOn o bytes) (sym e) tt)
+      | inl e ↦ by_reads (subst (λ (o : Option ℕ). BeginsWithSeen o bytes) (sym e) tt)
       | inr told ↦ absurd (no-end (sym (same-state v middle (subst (λ (x : List ℕ). TakesRun v x middle) (sym q) r)) ∙ told.start_is))
     ]
     by_bytes (b ∷ xs) q = by_reads (all-on (let l = ap length q in omega arith))
@@ -245,7 +245,7 @@ seen-none seen [] (b ∷ front) byte e = cc
 seen-none seen (b ∷ bytes) front byte e = refl
 
 -- what the lexer is live for behind a scan
-live-scanned : (v w : Held) (h : TokenHistory) (piece : List ℕ) (count : ℕ) (token : Option Token) → IsLive v h → h.refusal ≡ None → IsOffered h.seen piece → SameLimits v w → Scanned v piece count token w → IsLive w (extended h (call_of piece count token))
+live-scanned : (v w : Held) (h : TokenHistory) (piece : List ℕ) (count : ℕ) (token : Option Token) → IsLive v h → h.refusal ≡ None → IsOfferedFirst h.seen piece → SameLimits v w → Scanned v piece count token w → IsLive w (extended h (call_of piece count token))
 live-scanned v w h piece count None live alive o s r =
     let whole-piece : take count piece ≡ piece = ap (λ (k : ℕ). take k piece) r.0 ∙ take-length piece in
     let here = live-none v w h piece live o s r.1 in
@@ -257,13 +257,13 @@ live-scanned v w h piece count (Some token) live alive o s r = by_scan (take cou
     by_scan bytes q (gave middle front byte same run g e) =
         let long : 0 < length bytes = let l = ap length e in let k = length-append front (byte ∷ []) in omega arith in
         let filled = positive piece count (subst (λ (x : List ℕ). 0 < length x) q long) in
-        let here = live-gave v middle w h bytes front byte token live (λ rest. subst (λ (x : List ℕ). GoesOn h.seen (x ++ rest)) (sym q) (goes-front h.seen piece count rest o filled.0 filled.1)) same (limits-between v middle w same s) run g e in
+        let here = live-gave v middle w h bytes front byte token live (λ rest. subst (λ (x : List ℕ). BeginsWithSeen h.seen (x ++ rest)) (sym q) (goes-front h.seen piece count rest o filled.0 filled.1)) same (limits-between v middle w same s) run g e in
         subst (λ (x : TokenHistory). IsLive w x)
         (same-history _ _ _ _ _ _ _ _ (ap (λ (x : List ℕ). h.taken ++ x) q)
         (sym (ap (λ (x : Option ℕ). seen_behind h.seen (take count piece) x) (waits-cond token piece count false g.at_once) ∙ seen-none h.seen (take count piece) front byte (sym q ∙ e))) refl (sym (ap (λ (x : Option TokenFault). first_refusal x None) alive))) here
     by_scan bytes q (handed middle byte same run g e) =
-        let here = live-handed v middle w h bytes byte token live (λ rest. subst (λ (x : List ℕ). GoesOn h.seen (x ++ byte ∷ rest)) (sym q) (goes-byte h.seen piece count byte rest o e))
-        (λ long. let filled = positive piece count (subst (λ (x : List ℕ). 0 < length x) q long) in subst (λ (x : List ℕ). GoesOn h.seen x) (append-nil (take count piece) ∙ sym q) (goes-front h.seen piece count [] o filled.0 filled.1)) same (limits-between v middle w same s) run g in
+        let here = live-handed v middle w h bytes byte token live (λ rest. subst (λ (x : List ℕ). BeginsWithSeen h.seen (x ++ byte ∷ rest)) (sym q) (goes-byte h.seen piece count byte rest o e))
+        (λ long. let filled = positive piece count (subst (λ (x : List ℕ). 0 < length x) q long) in subst (λ (x : List ℕ). BeginsWithSeen h.seen x) (append-nil (take count piece) ∙ sym q) (goes-front h.seen piece count [] o filled.0 filled.1)) same (limits-between v middle w same s) run g in
         subst (λ (x : TokenHistory). IsLive w x)
         (same-history _ _ _ _ _ _ _ _ (ap (λ (x : List ℕ). h.taken ++ x) q)
         (sym (ap (λ (x : Option ℕ). seen_behind h.seen (take count piece) x) (waits-cond token piece count true g.waited ∙ e) ∙ seen-some h.seen (take count piece) byte)) refl (sym (ap (λ (x : Option TokenFault). first_refusal x None) alive))) here
@@ -274,7 +274,7 @@ stands-live v h s e = let alive = sym s.0 ∙ e in (alive, s.1 alive)
 
 -- ---- the last byte of a token that does not wait
 
-offered-part : (seen : Option ℕ) (front rest : List ℕ) → IsOffered seen (front ++ rest) → IsOffered seen front
+offered-part : (seen : Option ℕ) (front rest : List ℕ) → IsOfferedFirst seen (front ++ rest) → IsOfferedFirst seen front
 offered-part None front rest o = tt
 offered-part (Some x) [] rest o = tt
 offered-part (Some x) (b ∷ front) rest o = o
@@ -283,17 +283,17 @@ one-more : (tokens : List Token) (token : Token) → tokens ≡ tokens ++ token 
 one-more tokens token e = let l = ap length e in let k = length-append tokens (token ∷ []) in omega arith
 
 -- what the end leaves waits
-closing-waits : (s : State) (o : Option Found) → ended s ≡ o → (last : List Sized) (lexemes : List Lexeme) (token : Token) → closing o s.mode s.size ≡ Some last → MeanAll last lexemes → tokens_in lexemes ≡ token ∷ [] → waits token ≡ true
-closing-waits s (Some found) e last lexemes token q m t = by_list lexemes (subst (λ (x : List Sized). MeanAll x lexemes) (sym (some-list q)) m) t
+tokens_at_end-waits : (s : State) (o : Option FoundToken) → ended_token s ≡ o → (last : List SizedToken) (lexemes : List Lexeme) (token : Token) → tokens_at_end o s.mode s.size ≡ Some last → MeanAll last lexemes → tokens_in lexemes ≡ token ∷ [] → waits token ≡ true
+tokens_at_end-waits s (Some found) e last lexemes token q m t = by_list lexemes (subst (λ (x : List SizedToken). MeanAll x lexemes) (sym (some-list q)) m) t
   where
     some-list : Some (record { found = found; size = s.size } ∷ []) ≡ Some last → (record { found = found; size = s.size } ∷ []) ≡ last
     some-list q = cc
 
     by_list : (ls : List Lexeme) → MeanAll (record { found = found; size = s.size } ∷ []) ls → tokens_in ls ≡ token ∷ [] → waits token ≡ true
     by_list [] m t = absurd m
-    by_list (l ∷ []) m t = let same : l.token ≡ token = cc in ended-waits s.mode s.kept s.characters found e token (subst (λ (x : Token). Means found x) same m.0)
+    by_list (l ∷ []) m t = let same : l.token ≡ token = cc in ended_token-waits s.mode s.pending_bytes s.characters found e token (subst (λ (x : Token). Means found x) same m.0)
     by_list (l ∷ k ∷ ls) m t = absurd m.2
-closing-waits s None e last lexemes token q m t = by_mode s.mode q
+tokens_at_end-waits s None e last lexemes token q m t = by_mode s.mode q
   where
     by_list : (ls : List Lexeme) → MeanAll [] ls → tokens_in ls ≡ token ∷ [] → waits token ≡ true
     by_list [] m t = absurd cc
@@ -302,8 +302,8 @@ closing-waits s None e last lexemes token q m t = by_mode s.mode q
     some-list : Some [] ≡ Some last → [] ≡ last
     some-list q = cc
 
-    by_mode : (mode : Mode) → closing None mode s.size ≡ Some last → waits token ≡ true
-    by_mode Between q = by_list lexemes (subst (λ (x : List Sized). MeanAll x lexemes) (sym (some-list q)) m) t
+    by_mode : (mode : Mode) → tokens_at_end None mode s.size ≡ Some last → waits token ≡ true
+    by_mode Between q = by_list lexemes (subst (λ (x : List SizedToken). MeanAll x lexemes) (sym (some-list q)) m) t
     by_mode _ q = absurd cc
 
 -- what is given behind the bytes, and a token, are not laid in them where the token does not wait
@@ -316,17 +316,17 @@ live-unlaid v h token live waits_not laid = elim live.seen_is [
     by_end : h.seen ≡ None → ⊥
     by_end e =
         let found = laid_read laid.lexemes h.taken laid.laid in
-        at (closing (ended (state_of v)) v.mode v.size) refl found.0 (sym (ap all_of (whole-read v h live e)) ∙ found.1) found.2
+        at (tokens_at_end (ended_token (state_of v)) v.mode v.size) refl found.0 (sym (ap all_tokens (whole-read v h live e)) ∙ found.1) found.2
       where
-        at : (o : Option (List Sized)) → closing (ended (state_of v)) v.mode v.size ≡ o → (founds : List Sized) → all_after live.founds o ≡ Some founds → MeanAll founds laid.lexemes → ⊥
+        at : (o : Option (List SizedToken)) → tokens_at_end (ended_token (state_of v)) v.mode v.size ≡ o → (founds : List SizedToken) → with_last_tokens live.founds o ≡ Some founds → MeanAll founds laid.lexemes → ⊥
         at None q founds a m = cc
         at (Some last) q founds a m =
             let same : live.founds ++ last ≡ founds = cc in
-            let parts = in-parts live.founds last laid.lexemes (subst (λ (x : List Sized). MeanAll x laid.lexemes) (sym same) m) in
+            let parts = in-parts live.founds last laid.lexemes (subst (λ (x : List SizedToken). MeanAll x laid.lexemes) (sym same) m) in
             let front : tokens_in parts.front ≡ h.given = same-tokens live.founds parts.front live.lexemes parts.mean_front live.mean ∙ live.given_are in
             let all : h.given ++ tokens_in parts.behind ≡ h.given ++ token ∷ [] =
             ap (λ (x : List Token). x ++ tokens_in parts.behind) (sym front) ∙ (sym (tokens-append parts.front parts.behind) ∙ (sym (ap tokens_in parts.lexemes_are) ∙ laid.tokens_are)) in
-            let yes = closing-waits (state_of v) (ended (state_of v)) refl last parts.behind token q parts.mean_behind (append_cancel_left h.given (tokens_in parts.behind) (token ∷ []) all) in
+            let yes = tokens_at_end-waits (state_of v) (ended_token (state_of v)) refl last parts.behind token q parts.mean_behind (append_cancel_left h.given (tokens_in parts.behind) (token ∷ []) all) in
             let clash : true ≡ false = sym yes ∙ waits_not in cc
 
 pub next-takes_no_more : (v w : Held) (piece : List ℕ) (count : ℕ) (token : TokenRead) → v.refused ≡ None → Scans v piece (Ok (count, Some token)) w → TakesNoMore v piece (Ok (count, Some token))
@@ -337,7 +337,7 @@ next-takes_no_more v w piece count token r s h stands alive o waits_not = by_sca
 
     by_scan : ScansToken v (take count piece) (slice_get piece count) (meant token) w → EndsAtOnce (h.taken ++ take count piece) (h.given ++ meant token ∷ [])
     by_scan (gave middle front byte same run g e) =
-        let offered = offered-part h.seen front (byte ∷ []) (subst (IsOffered h.seen) e (offered-front h.seen piece count o)) in
+        let offered = offered-part h.seen front (byte ∷ []) (subst (IsOfferedFirst h.seen) e (offered-front h.seen piece count o)) in
         let here = live-none v middle h front live offered same run in
         record {
           front = h.taken ++ front;
@@ -372,7 +372,7 @@ next-answers v w piece answer r p f s h stands o =
 
 -- ---- a call that refused
 
-between-byte : (byte : ℕ) → is_token_byte Between (advance Between byte) ≡ true → BeginsNoSeparator (byte ∷ [])
+between-byte : (byte : ℕ) → is_token_byte Between (advance Between byte) ≡ true → BeginsWithNoSeparator (byte ∷ [])
 between-byte byte c =
     let no_blank = at (is_blank byte) refl in
     (no_blank.0, no_blank.1, λ e. let clash : false ≡ true = sym (ap (λ (b : ℕ). is_token_byte Between (advance Between b)) e) ∙ c in cc)
@@ -381,7 +381,7 @@ between-byte byte c =
     classes e = (grind (arith, nat_tests), λ q. grind (arith, nat_tests))
 
     at : (b : Bool) → is_blank byte ≡ b → (32 < byte) × (byte ≢ 127)
-    at true e = let clash : false ≡ true = sym (ap (λ (x : Bool). is_token_byte Between (cond x (Pass Between) (cond (is_digit byte) (Keep (Number number_mode.Whole)) (cond (is_upper byte) (Keep (Word word_mode.Keyword)) (mark_action byte))))) e) ∙ c in cc
+    at true e = let clash : false ≡ true = sym (ap (λ (x : Bool). is_token_byte Between (cond x (Pass Between) (cond (is_digit byte) (Keep (Number number_mode.Whole)) (cond (is_upper byte) (Keep (Word word_mode.Keyword)) (punctuation_action byte))))) e) ∙ c in cc
     at false e = classes e
 
 slash-byte : (byte : ℕ) → is_token_byte Slash (advance Slash byte) ≡ true → ⊥
@@ -424,7 +424,7 @@ gap-ends-none v (open_comment inside) byte t g q = elim t.0 [
 ]
 
 -- between tokens a byte that begins no separator counts
-between-counts : (byte : ℕ) (a : Action) → FirstFits byte a → BeginsNoSeparator (byte ∷ []) → is_token_byte Between a ≡ true
+between-counts : (byte : ℕ) (a : Action) → FirstFits byte a → BeginsWithNoSeparator (byte ∷ []) → is_token_byte Between a ≡ true
 between-counts byte (Pass n) f b = elim f [
   | inl x ↦ elim x.1 [ inl k ↦ absurd (omega (arith, b.0, k)) | inr k ↦ absurd (b.1 k) ]
   | inr x ↦ absurd (b.2 x.1)
@@ -439,16 +439,16 @@ gap-counts v slash byte t g c = absurd c
 gap-counts v (open_comment inside) byte t g c = absurd c
 
 -- within a token each byte counts
-no-slash : (m : Mode) (kept characters front : List ℕ) → ModeFits m kept characters front → (if is_slash m then false else true) ≡ true
-no-slash Slash kept characters front f = absurd f
-no-slash _ kept characters front f = refl
+no-slash : (m : Mode) (pending_bytes characters front : List ℕ) → ModeFits m pending_bytes characters front → (if is_slash m then false else true) ≡ true
+no-slash Slash pending_bytes characters front f = absurd f
+no-slash _ pending_bytes characters front f = refl
 
-open-counts : (m : Mode) (kept characters front : List ℕ) (byte : ℕ) (a : Action) → ModeFits m kept characters front → StepFits m kept characters front byte a → is_token_byte m a ≡ true
-open-counts m kept characters front byte (Pass n) f s = absurd s
-open-counts m kept characters front byte (Refuse w) f s = no-slash m kept characters front f
-open-counts m kept characters front byte _ f s = refl
+open-counts : (m : Mode) (pending_bytes characters front : List ℕ) (byte : ℕ) (a : Action) → ModeFits m pending_bytes characters front → StepFits m pending_bytes characters front byte a → is_token_byte m a ≡ true
+open-counts m pending_bytes characters front byte (Pass n) f s = absurd s
+open-counts m pending_bytes characters front byte (Refuse w) f s = no-slash m pending_bytes characters front f
+open-counts m pending_bytes characters front byte _ f s = refl
 
-module _ (v w : Held) (h : TokenHistory) (piece : List ℕ) (live : IsLive v h) (alive : h.refusal ≡ None) (o : IsOffered h.seen piece) (middle : Held) (count byte : ℕ) (found : slice_get piece count ≡ Some byte) (same : SameLimits v middle) (run : TakesRun v (take count piece) middle) where
+module _ (v w : Held) (h : TokenHistory) (piece : List ℕ) (live : IsLive v h) (alive : h.refusal ≡ None) (o : IsOfferedFirst h.seen piece) (middle : Held) (count byte : ℕ) (found : slice_get piece count ≡ Some byte) (same : SameLimits v middle) (run : TakesRun v (take count piece) middle) where
   -- the lexer in front of the refused byte
   front-live : IsLive middle (record { taken = h.taken ++ take count piece; seen = seen_behind h.seen (take count piece) None; given = h.given ++ []; refusal = None })
   front-live = live-none v middle h (take count piece) live (offered-front h.seen piece count o) same run
@@ -484,11 +484,11 @@ module _ (v w : Held) (h : TokenHistory) (piece : List ℕ) (live : IsLive v h) 
       append_assoc h.taken (take (count + 1) piece) rest ∙ ap (λ (x : List ℕ). h.taken ++ x) (ap (λ (x : List ℕ). x ++ rest) (take-one piece count byte found) ∙ append_assoc (take count piece) (byte ∷ []) rest) in
       let answer : lex start ((h.taken ++ take (count + 1) piece) ++ rest) ≡ after live.founds (rest_of middle (byte ∷ rest)) =
       ap (λ (x : List ℕ). lex start x) joined ∙ (live.reads (take count piece ++ byte ∷ rest) (goes-byte h.seen piece count byte rest o found) ∙ ap (λ (a : Answer). after live.founds a) (run.rest_is (byte ∷ rest))) in
-      let all = all_of-after live.founds (rest_of middle (byte ∷ rest)) read.0 (sym (ap all_of answer) ∙ read.1) in
-      let parts = in-parts live.founds all.0 laid.lexemes (subst (λ (x : List Sized). MeanAll x laid.lexemes) all.2 read.2) in
+      let all = all_tokens-after live.founds (rest_of middle (byte ∷ rest)) read.0 (sym (ap all_tokens answer) ∙ read.1) in
+      let parts = in-parts live.founds all.0 laid.lexemes (subst (λ (x : List SizedToken). MeanAll x laid.lexemes) all.2 read.2) in
       d rest all.0 parts.behind all.1 parts.mean_behind
 
-  ends-none : (x : TokenFault) → RefusesByte middle byte x → x ≢ fault.NoMemory → EndsNone middle byte
+  ends-none : (x : TokenFault) → RefusesByte middle byte x → x ≢ fault.NoMemory → EndsNoMeantToken middle byte
   ends-none fault.NoMemory r n = absurd (n refl)
   ends-none fault.FileTooLong r n = λ q. absurd (r.1 q)
   ends-none fault.RecordTooLong r n = λ q. absurd (r.2 q)
@@ -507,7 +507,7 @@ module _ (v w : Held) (h : TokenHistory) (piece : List ℕ) (live : IsLive v h) 
   ends-none fault.BadName r n = r.1
   ends-none (fault.LeftOut absent) r n = r.1
 
-  no-token : (tail : Tail) → TailIs (state_of middle) tail → EndsNone middle byte → IsNoToken tail byte
+  no-token : (tail : Tail) → TailIs (state_of middle) tail → EndsNoMeantToken middle byte → IsNoToken tail byte
   no-token nothing t n = tt
   no-token (unfinished bytes) t n = λ token s f. let e = tail-ends (state_of middle) bytes t token byte s f in n e.0 (found_of token bytes) token e.1 (spells-means token bytes s)
   no-token slash t n = tt
@@ -544,17 +544,17 @@ module _ (v w : Held) (h : TokenHistory) (piece : List ℕ) (live : IsLive v h) 
   ends-at slash t o = absurd o
   ends-at (open_comment inside) t o = absurd o
 
-  ended-at : (tail : Tail) → TailIs (state_of middle) tail → EndsNone middle byte → advance middle.mode byte ≡ End → EndsOutOfRange tail byte
-  ended-at (unfinished bytes) t n q = (subst (StepFits middle.mode middle.kept middle.characters bytes byte) q (steps-on (state_of middle) bytes byte t)).no_token (λ found token e m. n q found token e m)
-  ended-at nothing t n q = absurd (gap-ends-none middle nothing byte t tt q)
-  ended-at slash t n q = absurd (gap-ends-none middle slash byte t tt q)
-  ended-at (open_comment inside) t n q = absurd (gap-ends-none middle (open_comment inside) byte t tt q)
+  ended_token-at : (tail : Tail) → TailIs (state_of middle) tail → EndsNoMeantToken middle byte → advance middle.mode byte ≡ End → EndsOutOfRange tail byte
+  ended_token-at (unfinished bytes) t n q = (subst (StepFits middle.mode middle.pending_bytes middle.characters bytes byte) q (steps-on (state_of middle) bytes byte t)).no_token (λ found token e m. n q found token e m)
+  ended_token-at nothing t n q = absurd (gap-ends-none middle nothing byte t tt q)
+  ended_token-at slash t n q = absurd (gap-ends-none middle slash byte t tt q)
+  ended_token-at (open_comment inside) t n q = absurd (gap-ends-none middle (open_comment inside) byte t tt q)
 
-  not-ended : (tail : Tail) → TailIs (state_of middle) tail → EndsNone middle byte → ¬ EndsOutOfRange tail byte → advance middle.mode byte ≢ End
-  not-ended tail t n o q = o (ended-at tail t n q)
+  not-ended_token : (tail : Tail) → TailIs (state_of middle) tail → EndsNoMeantToken middle byte → ¬ EndsOutOfRange tail byte → advance middle.mode byte ≢ End
+  not-ended_token tail t n o q = o (ended_token-at tail t n q)
 
   counts : (tail : Tail) → TailIs (state_of middle) tail → IsTokenByte tail byte → is_token_byte middle.mode (advance middle.mode byte) ≡ true
-  counts (unfinished bytes) t c = open-counts middle.mode middle.kept middle.characters bytes byte (advance middle.mode byte) t.0 (steps-on (state_of middle) bytes byte t)
+  counts (unfinished bytes) t c = open-counts middle.mode middle.pending_bytes middle.characters bytes byte (advance middle.mode byte) t.0 (steps-on (state_of middle) bytes byte t)
   counts nothing t c = gap-counts middle nothing byte t tt c
   counts slash t c = gap-counts middle slash byte t tt c
   counts (open_comment inside) t c = gap-counts middle (open_comment inside) byte t tt c
@@ -583,12 +583,12 @@ module _ (v w : Held) (h : TokenHistory) (piece : List ℕ) (live : IsLive v h) 
   form-at fault.BadName r i = (r.2, r.3)
   form-at (fault.LeftOut absent) r i = (r.2, r.3)
 
-  names : (x : TokenFault) → RefusesByte middle byte x → IsOfForm x → NamesByte tail byte x
+  names : (x : TokenFault) → RefusesByte middle byte x → IsOfForm x → NamesFaultAtByte tail byte x
   names x r i =
-      names-byte middle before-it.0 byte x before-it.2 (ends-at before-it.0 before-it.2, ended-at before-it.0 before-it.2 (ends-none x r (λ q. subst IsOfForm q i))) (form-at x r i).1
+      names-byte middle before-it.0 byte x before-it.2 (ends-at before-it.0 before-it.2, ended_token-at before-it.0 before-it.2 (ends-none x r (λ q. subst IsOfForm q i))) (form-at x r i).1
 
   passes-none : (x : TokenFault) → RefusesByte middle byte x → IsOfForm x → ¬ EndsOutOfRange before-it.0 byte → (middle.file < middle.file_limit) × (is_token_byte middle.mode (advance middle.mode byte) ≡ true → pending_of middle < middle.statement_limit)
-  passes-none x r i o = (form-at x r i).0 (not-ended before-it.0 before-it.2 (ends-none x r (λ q. subst IsOfForm q i)) o)
+  passes-none x r i o = (form-at x r i).0 (not-ended_token before-it.0 before-it.2 (ends-none x r (λ q. subst IsOfForm q i)) o)
 
   file-first : (x : TokenFault) → RefusesByte middle byte x → IsOfForm x → ¬ EndsOutOfRange tail byte → length (h.taken ++ take count piece) < v.file_limit
   file-first x r i o = let f = (passes-none x r i o).0 in let a = front-live.file_is in let b = same.file_limit in omega arith

@@ -3,17 +3,17 @@ use Rattle.std.proofs.Common.{◌≡◌, ℕ, zero, suc, ◌<◌, true, List, []
 use Rattle.std.specs.List.{slice_get}
 use Rattle.std.proofs.lemmas.Bool.Decides.{nat_tests}
 use Rattle.p21_exchange.specs.Laying.{Lexeme, LaidAs, Laid}
-use Rattle.p21_exchange.specs.Pending.{Tail, nothing, unfinished, slash, open_comment, tail_bytes, BeginsNoSeparator}
+use Rattle.p21_exchange.specs.Pending.{Tail, nothing, unfinished, slash, open_comment, tail_bytes, BeginsWithNoSeparator}
 use Rattle.p21_exchange.specs.Separator.{blank, IsSeparator}
 use Rattle.p21_exchange.specs.Token.{Token}
 use Rattle.p21_tokens_automaton.proofs.Fits.{ModeFits}
-use Rattle.p21_tokens_automaton.proofs.Fronts.{ended-laid}
+use Rattle.p21_tokens_automaton.proofs.Prefixes.{ended_token-laid}
 use Rattle.p21_tokens_automaton.proofs.Gaps.{gap}
 use Rattle.p21_tokens_automaton.proofs.Sound.{LaidTo, TailIs, UpTo}
 use Rattle.p21_tokens_automaton.proofs.Theorems.{laid_read, laid-whole, laid-up-to, tail-is}
 use Rattle.p21_tokens_automaton.specs.Bytes.{is_blank}
 use Rattle.p21_tokens_automaton.specs.Meaning.{MeanAll}
-use Rattle.p21_tokens_automaton.specs.Reading.{State, start, Sized, ended_in, closing, all_after, all_of}
+use Rattle.p21_tokens_automaton.specs.Reading.{State, start, SizedToken, ended_token_in, tokens_at_end, with_last_tokens, all_tokens}
 use Rattle.p21_tokens_automaton.specs.declared.mode.Mode.{Mode}
 use Rattle.p21_tokens_automaton.specs.declared.mode.Mode.TheVariants.{Between, Slash, Comment, Star}
 use Rattle.p21_tokens.proofs.Extending.{stands-live}
@@ -21,7 +21,7 @@ use Rattle.p21_tokens.proofs.Naming.{names-end}
 use Rattle.p21_tokens.proofs.Following.{tokens-append, in-parts, live-laid, whole-read}
 use Rattle.p21_tokens.specs.Fault.{IsOfTheEnd}
 use Rattle.p21_tokens.specs.Held.{Held, pending_of, state_of}
-use Rattle.p21_tokens.specs.Histories.{TokenHistory, Stands, IsLive, NextGives, FinishGives, FinishNames, AreSeparators}
+use Rattle.p21_tokens.specs.Histories.{TokenHistory, Stands, IsLive, NextGives, FinishGives, FinishNamesFault, AreSeparators}
 use Rattle.p21_tokens.specs.Steps.{is_gap, AreBlank, IsFaultAtEnd, MayNotEnd, ReadsEnd, RefusesAt}
 use Rattle.p21_tokens.specs.Token.{meant}
 use Rattle.p21_tokens.specs.declared.fault.TokenFault.{TokenFault}
@@ -44,25 +44,25 @@ between-laid bytes ls e u m = by_tail u.0 u.1 u.2
       | inl q ↦ let clash : Between ≡ Comment = sym m ∙ mode-of e (gap Comment) q in absurd cc
       | inr q ↦ let clash : Between ≡ Star = sym m ∙ mode-of e (gap Star) q in absurd cc
     ]
-    by_tail (unfinished u) l t = absurd (subst (λ (k : Mode). ModeFits k e.kept e.characters u) m t.0)
+    by_tail (unfinished u) l t = absurd (subst (λ (k : Mode). ModeFits k e.pending_bytes e.characters u) m t.0)
 
-finish-dead : (v : Held) (h : TokenHistory) (live : IsLive v h) → h.seen ≡ None → MayNotEnd v.mode v.kept v.characters → (tokens : List Token) → Laid h.taken tokens → ⊥
+finish-dead : (v : Held) (h : TokenHistory) (live : IsLive v h) → h.seen ≡ None → MayNotEnd v.mode v.pending_bytes v.characters → (tokens : List Token) → Laid h.taken tokens → ⊥
 finish-dead v h live e n tokens laid =
     let found = laid_read laid.lexemes h.taken laid.laid in
-    at (closing (ended_in v.mode v.kept v.characters) v.mode v.size) refl found.0 (sym (ap all_of (whole-read v h live e)) ∙ found.1) found.2
+    at (tokens_at_end (ended_token_in v.mode v.pending_bytes v.characters) v.mode v.size) refl found.0 (sym (ap all_tokens (whole-read v h live e)) ∙ found.1) found.2
   where
-    at : (o : Option (List Sized)) → closing (ended_in v.mode v.kept v.characters) v.mode v.size ≡ o → (founds : List Sized) → all_after live.founds o ≡ Some founds → MeanAll founds laid.lexemes → ⊥
+    at : (o : Option (List SizedToken)) → tokens_at_end (ended_token_in v.mode v.pending_bytes v.characters) v.mode v.size ≡ o → (founds : List SizedToken) → with_last_tokens live.founds o ≡ Some founds → MeanAll founds laid.lexemes → ⊥
     at None q founds a m = cc
     at (Some last) q founds a m =
         let same : live.founds ++ last ≡ founds = cc in
-        let parts = in-parts live.founds last laid.lexemes (subst (λ (x : List Sized). MeanAll x laid.lexemes) (sym same) m) in
+        let parts = in-parts live.founds last laid.lexemes (subst (λ (x : List SizedToken). MeanAll x laid.lexemes) (sym same) m) in
         n v.size last parts.behind q parts.mean_behind
 
-finish-err : (v : Held) (x : TokenFault) → v.refused ≡ None → IsOfTheEnd x → MayNotEnd v.mode v.kept v.characters → FinishGives v (Err x)
+finish-err : (v : Held) (x : TokenFault) → v.refused ≡ None → IsOfTheEnd x → MayNotEnd v.mode v.pending_bytes v.characters → FinishGives v (Err x)
 finish-err v fault.NoMemory r f n = tt
 finish-err v _ r f n = λ h s e _. (f, finish-dead v h (stands-live v h s r).1 e n)
 
-pub finish-gives : (v : Held) (result : Result (Option TokenRead) TokenFault) → v.refused ≡ None → ReadsEnd v.mode v.kept v.characters result → FinishGives v result
+pub finish-gives : (v : Held) (result : Result (Option TokenRead) TokenFault) → v.refused ≡ None → ReadsEnd v.mode v.pending_bytes v.characters result → FinishGives v result
 finish-gives v (Ok None) r e = λ h s seen.
     let now = stands-live v h s r in
     let live = now.1 in
@@ -75,14 +75,14 @@ finish-gives v (Ok (Some token)) r e = λ h s seen.
       record {
         lexemes = live.lexemes ++ last ∷ [];
         tokens_are = tokens-append live.lexemes (last ∷ []) ∙ ap (λ (x : List Token). x ++ meant token ∷ []) live.given_are;
-        laid = ended-laid h.taken live.lexemes (state_of v) e.0 last (live-laid v h live) e.1 e.2 refl;
+        laid = ended_token-laid h.taken live.lexemes (state_of v) e.0 last (live-laid v h live) e.1 e.2 refl;
       },
     )
 finish-gives v (Err fault.NoMemory) r e = tt
 finish-gives v (Err x) r e = finish-err v x r e.0 e.1
 
 -- which fault it has
-finish-wrong : (v : Held) (x : TokenFault) → v.refused ≡ None → MayNotEnd v.mode v.kept v.characters → IsFaultAtEnd v.mode v.kept v.characters x → FinishNames v (Err x)
+finish-wrong : (v : Held) (x : TokenFault) → v.refused ≡ None → MayNotEnd v.mode v.pending_bytes v.characters → IsFaultAtEnd v.mode v.pending_bytes v.characters x → FinishNamesFault v (Err x)
 finish-wrong v fault.NoMemory r n named = tt
 finish-wrong v x r n named = λ h s seen alive.
     let live = (stands-live v h s r).1 in
@@ -95,7 +95,7 @@ finish-wrong v x r n named = λ h s seen alive.
       names = names-end v x n named u.0 u.2;
     }
 
-pub finish-names : (v : Held) (result : Result (Option TokenRead) TokenFault) → v.refused ≡ None → ReadsEnd v.mode v.kept v.characters result → FinishNames v result
+pub finish-names : (v : Held) (result : Result (Option TokenRead) TokenFault) → v.refused ≡ None → ReadsEnd v.mode v.pending_bytes v.characters result → FinishNamesFault v result
 finish-names v (Ok last) r e = tt
 finish-names v (Err fault.NoMemory) r e = tt
 finish-names v (Err x) r e = finish-wrong v x r e.1 e.2
@@ -113,7 +113,7 @@ pub finish-refused : (v : Held) (x : TokenFault) → v.refused ≡ Some x → Fi
 finish-refused v fault.NoMemory e = tt
 finish-refused v _ e = λ h s _ alive. absurd (refused-none v h _ e s alive)
 
-pub names-refused : (v : Held) (x : TokenFault) → v.refused ≡ Some x → FinishNames v (Err x)
+pub names-refused : (v : Held) (x : TokenFault) → v.refused ≡ Some x → FinishNamesFault v (Err x)
 names-refused v fault.NoMemory e = tt
 names-refused v _ e = λ h s _ alive. absurd (refused-none v h _ e s alive)
 
@@ -123,7 +123,7 @@ names-refused v _ e = λ h s _ alive. absurd (refused-none v h _ e s alive)
 gap-is : (v : Held) (h : TokenHistory) → Stands v h → v.refused ≡ None → pending_of v ≡ 0 → is_gap v.mode ≡ true
 gap-is v h s r p = let u = live-laid v h (stands-live v h s r).1 in by_tail u.0 u.2
   where
-    some-bytes : (u : List ℕ) → BeginsNoSeparator u → 0 < length u
+    some-bytes : (u : List ℕ) → BeginsWithNoSeparator u → 0 < length u
     some-bytes [] b = absurd b
     some-bytes (x ∷ u) b = omega arith
 

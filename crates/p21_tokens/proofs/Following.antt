@@ -4,15 +4,15 @@ use Rattle.p21_basics.specs.History.{looked_at}
 use Rattle.p21_exchange.specs.Laying.{Lexeme, LaidAs, tokens_in, open_bytes, count_behind, AreStatementsWithin}
 use Rattle.p21_exchange.specs.Pending.{nothing, tail_bytes, IsPending}
 use Rattle.p21_exchange.specs.Token.{Token, semicolon, IsWholeAtOnce}
-use Rattle.p21_tokens_automaton.proofs.Complete.{all_of-after}
+use Rattle.p21_tokens_automaton.proofs.Complete.{all_tokens-after}
 use Rattle.p21_tokens_automaton.proofs.Sound.{LaidTo, UpTo, read}
 use Rattle.p21_tokens_automaton.proofs.Steps.{lex-nil}
 use Rattle.p21_tokens_automaton.proofs.Theorems.{laid_read, read_laid, tail-is, laid-up-to, size-is, tokens-first}
-use Rattle.p21_tokens_automaton.proofs.Fronts.{ended-laid, laid-few, front-run}
+use Rattle.p21_tokens_automaton.proofs.Prefixes.{ended_token-laid, laid-few, front-run}
 use Rattle.p21_tokens_automaton.specs.Meaning.{MeanAll}
-use Rattle.p21_tokens_automaton.specs.Reading.{State, start, Answer, nothing_but, open_at, after, Sized, all_of, lex}
+use Rattle.p21_tokens_automaton.specs.Reading.{State, start, Answer, without_tokens, open_at, after, SizedToken, all_tokens, lex}
 use Rattle.p21_tokens.specs.Held.{Held, pending_of, state_of}
-use Rattle.p21_tokens.specs.Histories.{TokenHistory, IsLive, IsHandedOver, GoesOn, AreGivenFirst, AreGivenAtOnce, IsLaidWithin, IsOpen, IsPendingBehind}
+use Rattle.p21_tokens.specs.Histories.{TokenHistory, IsLive, IsHandedOver, BeginsWithSeen, AreGivenFirst, AreGivenAtOnce, IsLaidWithin, IsOpen, IsPendingBehind}
 use Rattle.p21_tokens.specs.Steps.{rest_of}
 
 -- ---- lists of tokens and what they were found as
@@ -21,21 +21,21 @@ pub tokens-append : (ls ms : List Lexeme) → tokens_in (ls ++ ms) ≡ tokens_in
 tokens-append [] ms = refl
 tokens-append (l ∷ ls) ms = ap (λ (ts : List Token). l.token ∷ ts) (tokens-append ls ms)
 
-pub mean-append : (fs gs : List Sized) (ls ms : List Lexeme) → MeanAll fs ls → MeanAll gs ms → MeanAll (fs ++ gs) (ls ++ ms)
+pub mean-append : (fs gs : List SizedToken) (ls ms : List Lexeme) → MeanAll fs ls → MeanAll gs ms → MeanAll (fs ++ gs) (ls ++ ms)
 mean-append [] gs [] ms p q = q
 mean-append [] gs (l ∷ ls) ms p q = absurd p
 mean-append (f ∷ fs) gs [] ms p q = absurd p
 mean-append (f ∷ fs) gs (l ∷ ls) ms p q = (p.0, p.1, mean-append fs gs ls ms p.2 q)
 
 -- the lexemes of what is found in two parts
-pub record InParts (fs gs : List Sized) (lexemes : List Lexeme) : Type 0 where
+pub record InParts (fs gs : List SizedToken) (lexemes : List Lexeme) : Type 0 where
   pub front : List Lexeme
   pub behind : List Lexeme
   pub lexemes_are : lexemes ≡ front ++ behind
   pub mean_front : MeanAll fs front
   pub mean_behind : MeanAll gs behind
 
-pub in-parts : (fs gs : List Sized) (ls : List Lexeme) → MeanAll (fs ++ gs) ls → InParts fs gs ls
+pub in-parts : (fs gs : List SizedToken) (ls : List Lexeme) → MeanAll (fs ++ gs) ls → InParts fs gs ls
 in-parts [] gs ls m = record { front = []; behind = ls; lexemes_are = refl; mean_front = tt; mean_behind = m }
 in-parts (f ∷ fs) gs [] m = absurd m
 in-parts (f ∷ fs) gs (l ∷ ls) m =
@@ -60,11 +60,11 @@ pub count-le : (token : Token) (size n : ℕ) → count_behind n (record { token
 count-le semicolon size n = omega arith
 count-le _ size n = omega arith
 
-pub after-append : (fs gs : List Sized) (a : Answer) → after (fs ++ gs) a ≡ after fs (after gs a)
-after-append fs gs a = let P : List Sized → Answer = λ xs. record { given = xs; ending = a.ending } in ap P (append_assoc fs gs a.given)
+pub after-append : (fs gs : List SizedToken) (a : Answer) → after (fs ++ gs) a ≡ after fs (after gs a)
+after-append fs gs a = let P : List SizedToken → Answer = λ xs. record { given = xs; ending = a.ending } in ap P (append_assoc fs gs a.given)
 
-pub after-nothing : (fs : List Sized) (e : State) → after fs (nothing_but (open_at e)) ≡ read fs e
-after-nothing fs e = ap (λ (xs : List Sized). read xs e) (append-nil fs)
+pub after-nothing : (fs : List SizedToken) (e : State) → after fs (without_tokens (open_at e)) ≡ read fs e
+after-nothing fs e = ap (λ (xs : List SizedToken). read xs e) (append-nil fs)
 
 length-tokens : (ls : List Lexeme) → length (tokens_in ls) ≡ length ls
 length-tokens [] = refl
@@ -92,21 +92,21 @@ module _ (v : Held) (h : TokenHistory) (live : IsLive v h) where
   -- where no byte was seen, all that was found is of the bytes taken
   pub whole-read : h.seen ≡ None → lex start h.taken ≡ read live.founds (state_of v)
   whole-read e =
-      ap (λ (x : List ℕ). lex start x) (sym (append-nil h.taken)) ∙ (live.reads [] (subst (λ (o : Option ℕ). GoesOn o []) (sym e) tt)
+      ap (λ (x : List ℕ). lex start x) (sym (append-nil h.taken)) ∙ (live.reads [] (subst (λ (o : Option ℕ). BeginsWithSeen o []) (sym e) tt)
       ∙ (ap (λ (a : Answer). after live.founds a) (lex-nil (state_of v)) ∙ after-nothing live.founds (state_of v)))
 
   -- the token handed over, behind those in front of it
   pub handed-laid : (told : IsHandedOver v h.taken live.founds) → LaidAs h.taken live.lexemes
   handed-laid told =
-      let last : Sized = record { found = told.last; size = told.state.size } in
-      at (in-parts told.front (last ∷ []) live.lexemes (subst (λ (x : List Sized). MeanAll x live.lexemes) told.founds_are live.mean))
+      let last : SizedToken = record { found = told.last; size = told.state.size } in
+      at (in-parts told.front (last ∷ []) live.lexemes (subst (λ (x : List SizedToken). MeanAll x live.lexemes) told.founds_are live.mean))
     where
       at : InParts told.front (record { found = told.last; size = told.state.size } ∷ []) live.lexemes → LaidAs h.taken live.lexemes
       at parts = subst (λ (x : List Lexeme). LaidAs h.taken x) (sym parts.lexemes_are) (one parts.behind parts.mean_behind)
         where
           one : (ls : List Lexeme) → MeanAll (record { found = told.last; size = told.state.size } ∷ []) ls → LaidAs h.taken (parts.front ++ ls)
           one [] m = absurd m
-          one (l ∷ []) m = ended-laid h.taken parts.front told.state told.last l (read_laid h.taken told.front parts.front told.state told.read parts.mean_front) told.ended_is m.0 m.1
+          one (l ∷ []) m = ended_token-laid h.taken parts.front told.state told.last l (read_laid h.taken told.front parts.front told.state told.read parts.mean_front) told.ended_is m.0 m.1
           one (l ∷ k ∷ ls) m = absurd m.2
 
   pub live-open : IsOpen h.taken
@@ -153,10 +153,10 @@ module _ (v : Held) (h : TokenHistory) (live : IsLive v h) where
       let same = ap length (sym live.given_are) ∙ length-tokens live.lexemes in
       omega arith
 
-  goes-on : (rest : List ℕ) → (more : List ℕ) × (looked_at h ++ rest ≡ h.taken ++ more) × GoesOn h.seen more
+  goes-on : (rest : List ℕ) → (more : List ℕ) × (looked_at h ++ rest ≡ h.taken ++ more) × BeginsWithSeen h.seen more
   goes-on rest = at h.seen
     where
-      at : (seen : Option ℕ) → (more : List ℕ) × ((h.taken ++ elim seen [ None ↦ [] | Some b ↦ b ∷ [] ]) ++ rest ≡ h.taken ++ more) × GoesOn seen more
+      at : (seen : Option ℕ) → (more : List ℕ) × ((h.taken ++ elim seen [ None ↦ [] | Some b ↦ b ∷ [] ]) ++ rest ≡ h.taken ++ more) × BeginsWithSeen seen more
       at None = (rest, ap (λ (x : List ℕ). x ++ rest) (append-nil h.taken), tt)
       at (Some b) = (b ∷ rest, append_assoc h.taken (b ∷ []) rest, refl)
 
@@ -164,15 +164,15 @@ module _ (v : Held) (h : TokenHistory) (live : IsLive v h) where
   live-first rest tokens laid =
       let on = goes-on rest in
       let found = laid_read laid.lexemes (looked_at h ++ rest) laid.laid in
-      let all = all_of-after live.founds (rest_of v on.0) found.0 (sym (ap all_of (ap (λ (x : List ℕ). lex start x) on.1 ∙ live.reads on.0 on.2)) ∙ found.1) in
-      let first = tokens-first live.founds all.0 live.lexemes laid.lexemes live.mean (subst (λ (x : List Sized). MeanAll x laid.lexemes) all.2 found.2) in
+      let all = all_tokens-after live.founds (rest_of v on.0) found.0 (sym (ap all_tokens (ap (λ (x : List ℕ). lex start x) on.1 ∙ live.reads on.0 on.2)) ∙ found.1) in
+      let first = tokens-first live.founds all.0 live.lexemes laid.lexemes live.mean (subst (λ (x : List SizedToken). MeanAll x laid.lexemes) all.2 found.2) in
       (first.0, sym laid.tokens_are ∙ (first.1 ∙ ap (λ (x : List Token). x ++ first.0) live.given_are))
 
   -- what is found of the bytes taken is of the tokens given
-  read-of : (answer : Answer) → lex start h.taken ≡ answer → (rest : List Sized) × (live.founds ≡ answer.given ++ rest)
+  read-of : (answer : Answer) → lex start h.taken ≡ answer → (rest : List SizedToken) × (live.founds ≡ answer.given ++ rest)
   read-of answer q = elim live.seen_is [
     | inl e ↦ ([], sym (append-nil answer.given ∙ ap (λ (x : Answer). x.given) (sym q ∙ whole-read e)))
-    | inr told ↦ (record { found = told.last; size = told.state.size } ∷ [], told.founds_are ∙ ap (λ (x : List Sized). x ++ record { found = told.last; size = told.state.size } ∷ []) (ap (λ (x : Answer). x.given) (sym told.read ∙ q)))
+    | inr told ↦ (record { found = told.last; size = told.state.size } ∷ [], told.founds_are ∙ ap (λ (x : List SizedToken). x ++ record { found = told.last; size = told.state.size } ∷ []) (ap (λ (x : Answer). x.given) (sym told.read ∙ q)))
   ]
 
   pub live-at_once : AreGivenAtOnce h
@@ -181,5 +181,5 @@ module _ (v : Held) (h : TokenHistory) (live : IsLive v h) where
       let run = front-run list.0 list.1 front rest (subst (λ (x : List Lexeme). LaidAs front x) list.2 laid.laid) (subst IsWholeAtOnce (sym list.3) whole) in
       let got = read-of (after run.0 (lex start rest)) (ap (λ (x : List ℕ). lex start x) q ∙ run.2) in
       let founds : live.founds ≡ run.0 ++ ((lex start rest).given ++ got.0) = got.1 ∙ append_assoc run.0 (lex start rest).given got.0 in
-      let first = tokens-first run.0 ((lex start rest).given ++ got.0) (list.0 ++ list.1 ∷ []) live.lexemes run.1 (subst (λ (x : List Sized). MeanAll x live.lexemes) founds live.mean) in
+      let first = tokens-first run.0 ((lex start rest).given ++ got.0) (list.0 ++ list.1 ∷ []) live.lexemes run.1 (subst (λ (x : List SizedToken). MeanAll x live.lexemes) founds live.mean) in
       (first.0, sym live.given_are ∙ (first.1 ∙ ap (λ (x : List Token). x ++ first.0) (ap tokens_in (sym list.2) ∙ laid.tokens_are)))

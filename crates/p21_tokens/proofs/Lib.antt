@@ -1,7 +1,7 @@
 pub mod Stepping
 pub mod Running
 pub mod Scanning
-pub mod Fronting
+pub mod LeadingTokens
 pub mod Following
 pub mod Naming
 pub mod Extending

@@ -2,21 +2,21 @@
 use Rattle.std.proofs.Common.{◌≡◌, ℕ, zero, suc, ◌+◌, ◌-◌, ◌^◌, ◌≤◌, ◌<◌, Bool, true, false, cond, List, [], ◌∷◌, ◌++◌, ◌⊎◌, inl, inr, length, length-append, length-drop, take, drop, refl, sym, ap, ◌∙◌, subst, append_assoc, append-nil, arith, take_all, Option, Some, None, Result, Ok, Err}
 use Rattle.std.specs.List.{slice_get, slice_range}
 use Rattle.std.proofs.lemmas.List.{take-append-drop}
-use Rattle.p21_basics.specs.History.{extended, seen_behind, first_refusal, looked_at, IsOffered}
+use Rattle.p21_basics.specs.History.{extended, seen_behind, first_refusal, looked_at, IsOfferedFirst}
 use Rattle.p21_exchange.specs.Laying.{Lexeme, Laid, LaidAs, HoldsScalar, open_bytes, count_behind, tokens_in}
 use Rattle.p21_basics.specs.Limits.{text_limit}
 use Rattle.p21_exchange.specs.Pending.{Tail, nothing, unfinished, slash, open_comment, tail_bytes, tail_size, LaidUpTo}
 use Rattle.p21_exchange.specs.Token.{Token, IsScalarToken, Spells, IsSpelled}
 use Rattle.p21_tokens_automaton.proofs.Theorems.{one-laying}
-use Rattle.p21_tokens.specs.Finding.{FindsScalar, FindsOnly}
+use Rattle.p21_tokens.specs.Finding.{FindsScalar, FindsOnlyScalar}
 use Rattle.p21_exchange.specs.Spelling.{spelling}
 use Rattle.p21_exchange.proofs.CanonicalSpellings.{spells-itself}
 use Rattle.p21_tokens_automaton.proofs.Spellings.{same-spelling}
-use Rattle.p21_tokens.specs.Parameter.{AreNoScalar, HoldsOthers, stand_first, are_all, EndsUnfinished, IsRefusedFor, at_byte, at_end, IsAnswer, IsRefusal}
+use Rattle.p21_tokens.specs.Parameter.{AreNoScalar, HoldsOtherTokens, stand_first, are_all, EndsUnfinished, IsRefusedFor, at_byte, at_end, IsAnswer, IsRefusal}
 use Rattle.p21_tokens.proofs.Extending.{stands-laid, take-one}
 use Rattle.p21_tokens.proofs.Following.{count-le}
 use Rattle.p21_tokens.specs.Held.{Held}
-use Rattle.p21_tokens.specs.Histories.{TokenHistory, call_of, Stands, GoesOn, AreDead, Answers, EndsWrong, NamesByte, RefusesAtByte, NextGives, FinishGives, FinishNames}
+use Rattle.p21_tokens.specs.Histories.{TokenHistory, call_of, Stands, BeginsWithSeen, AreDead, Answers, EndsWithFault, NamesFaultAtByte, RefusesAtByte, NextGives, FinishGives, FinishNamesFault}
 use Rattle.p21_tokens.specs.Token.{meant, meant_all, waits}
 use Rattle.p21_tokens.specs.declared.fault.TokenFault.{TokenFault}
 use Rattle.p21_tokens.specs.declared.fault.TokenFault.TheVariants as fault
@@ -27,42 +27,42 @@ IsFoundScalar None = Unit {0}
 IsFoundScalar (Some token) = IsScalarToken (meant token)
 
 -- the lexer has taken what stands in front of the rest of the text, and has given what was found
-pub record Kept (v : Held) (bytes rest : List ℕ) (found : Option TokenRead) : Type 0 where
+pub record PendingBytes (v : Held) (bytes rest : List ℕ) (found : Option TokenRead) : Type 0 where
   pub history : TokenHistory
   pub stands : Stands v history
   pub alive : history.refusal ≡ None
   pub all_is : history.taken ++ rest ≡ bytes
   pub given_is : history.given ≡ meant_all found
-  pub goes : GoesOn history.seen rest
+  pub goes : BeginsWithSeen history.seen rest
   pub scalar : IsFoundScalar found
   pub within : length bytes ≤ text_limit
   pub statement_limit : v.statement_limit ≡ 2 ^ 29
   pub file_limit : v.file_limit ≡ 2 ^ 36
 
-offered : (seen : Option ℕ) (rest : List ℕ) → GoesOn seen rest → IsOffered seen rest
+offered : (seen : Option ℕ) (rest : List ℕ) → BeginsWithSeen seen rest → IsOfferedFirst seen rest
 offered None rest g = tt
 offered (Some b) [] g = absurd g
 offered (Some b) (c ∷ rest) g = g
 
 -- ---- the byte that was seen
 
-goes-behind : (rest : List ℕ) (n : ℕ) → GoesOn (slice_get rest n) (drop n rest)
+goes-behind : (rest : List ℕ) (n : ℕ) → BeginsWithSeen (slice_get rest n) (drop n rest)
 goes-behind [] zero = tt
 goes-behind [] (suc n) = tt
 goes-behind (b ∷ rest) zero = refl
 goes-behind (b ∷ rest) (suc n) = goes-behind rest n
 
-goes-after : (seen looked : Option ℕ) (rest : List ℕ) (n : ℕ) → GoesOn seen rest → 0 < length rest → (looked ≡ slice_get rest n) ⊎ (looked ≡ None) → GoesOn (seen_behind seen (take n rest) looked) (drop n rest)
+goes-after : (seen looked : Option ℕ) (rest : List ℕ) (n : ℕ) → BeginsWithSeen seen rest → 0 < length rest → (looked ≡ slice_get rest n) ⊎ (looked ≡ None) → BeginsWithSeen (seen_behind seen (take n rest) looked) (drop n rest)
 goes-after seen looked [] n g l h = absurd (omega arith)
-goes-after seen looked (b ∷ rest) zero g l (inl e) = subst (λ (x : Option ℕ). GoesOn (seen_behind seen [] x) (b ∷ rest)) (sym e) refl
-goes-after seen looked (b ∷ rest) zero g l (inr e) = subst (λ (x : Option ℕ). GoesOn (seen_behind seen [] x) (b ∷ rest)) (sym e) g
-goes-after seen looked (b ∷ rest) (suc n) g l (inl e) = subst (λ (x : Option ℕ). GoesOn x (drop n rest)) (sym e) (goes-behind rest n)
-goes-after seen looked (b ∷ rest) (suc n) g l (inr e) = subst (λ (x : Option ℕ). GoesOn x (drop n rest)) (sym e) tt
+goes-after seen looked (b ∷ rest) zero g l (inl e) = subst (λ (x : Option ℕ). BeginsWithSeen (seen_behind seen [] x) (b ∷ rest)) (sym e) refl
+goes-after seen looked (b ∷ rest) zero g l (inr e) = subst (λ (x : Option ℕ). BeginsWithSeen (seen_behind seen [] x) (b ∷ rest)) (sym e) g
+goes-after seen looked (b ∷ rest) (suc n) g l (inl e) = subst (λ (x : Option ℕ). BeginsWithSeen x (drop n rest)) (sym e) (goes-behind rest n)
+goes-after seen looked (b ∷ rest) (suc n) g l (inr e) = subst (λ (x : Option ℕ). BeginsWithSeen x (drop n rest)) (sym e) tt
 
-looked-all : (h : TokenHistory) (rest : List ℕ) → GoesOn h.seen rest → (more : List ℕ) × (looked_at h ++ more ≡ h.taken ++ rest)
+looked-all : (h : TokenHistory) (rest : List ℕ) → BeginsWithSeen h.seen rest → (more : List ℕ) × (looked_at h ++ more ≡ h.taken ++ rest)
 looked-all h rest g = at h.seen rest g
   where
-    at : (seen : Option ℕ) (rest : List ℕ) → GoesOn seen rest → (more : List ℕ) × ((h.taken ++ elim seen [ None ↦ [] | Some b ↦ b ∷ [] ]) ++ more ≡ h.taken ++ rest)
+    at : (seen : Option ℕ) (rest : List ℕ) → BeginsWithSeen seen rest → (more : List ℕ) × ((h.taken ++ elim seen [ None ↦ [] | Some b ↦ b ∷ [] ]) ++ more ≡ h.taken ++ rest)
     at None rest g = (rest, ap (λ (x : List ℕ). x ++ rest) (append-nil h.taken))
     at (Some b) [] g = absurd g
     at (Some b) (c ∷ rest) g = (rest, append_assoc h.taken (b ∷ []) rest ∙ ap (λ (x : ℕ). h.taken ++ (x ∷ rest)) (sym g))
@@ -82,8 +82,8 @@ looked-is token rest n = at (waits token) refl
 
 -- ---- a call that answered
 
-pub kept-none : (v w : Held) (bytes rest : List ℕ) (found : Option TokenRead) (n : ℕ) → Kept v bytes rest found → 0 < length rest → NextGives v rest (Ok (n, None)) w → w.statement_limit ≡ v.statement_limit → w.file_limit ≡ v.file_limit → Kept w bytes (slice_range rest n (length rest)) found
-kept-none v w bytes rest found n k l g s f =
+pub pending_bytes-none : (v w : Held) (bytes rest : List ℕ) (found : Option TokenRead) (n : ℕ) → PendingBytes v bytes rest found → 0 < length rest → NextGives v rest (Ok (n, None)) w → w.statement_limit ≡ v.statement_limit → w.file_limit ≡ v.file_limit → PendingBytes w bytes (slice_range rest n (length rest)) found
+pending_bytes-none v w bytes rest found n k l g s f =
     let a = g k.history k.stands (offered k.history.seen rest k.goes) in
     let h = extended k.history (call_of rest n None) in
     record {
@@ -92,7 +92,7 @@ kept-none v w bytes rest found n k l g s f =
       alive = ap (λ (x : Option TokenFault). first_refusal x None) k.alive;
       all_is = ap (λ (x : List ℕ). h.taken ++ x) (back rest n) ∙ (taken-rest k.history.taken rest n ∙ k.all_is);
       given_is = append-nil k.history.given ∙ k.given_is;
-      goes = subst (λ (x : List ℕ). GoesOn h.seen x) (sym (back rest n)) (goes-after k.history.seen None rest n k.goes l (inr refl));
+      goes = subst (λ (x : List ℕ). BeginsWithSeen h.seen x) (sym (back rest n)) (goes-after k.history.seen None rest n k.goes l (inr refl));
       scalar = k.scalar;
       within = k.within;
       statement_limit = s ∙ k.statement_limit;
@@ -100,15 +100,15 @@ kept-none v w bytes rest found n k l g s f =
     }
 
 -- the history behind a call that gave a token
-module _ (v w : Held) (bytes rest : List ℕ) (found : Option TokenRead) (n : ℕ) (token : TokenRead) (k : Kept v bytes rest found) (l : 0 < length rest) (g : NextGives v rest (Ok (n, Some token)) w) where
+module _ (v w : Held) (bytes rest : List ℕ) (found : Option TokenRead) (n : ℕ) (token : TokenRead) (k : PendingBytes v bytes rest found) (l : 0 < length rest) (g : NextGives v rest (Ok (n, Some token)) w) where
   answers : Answers w (extended k.history (call_of rest n (Some (meant token))))
   answers = g k.history k.stands (offered k.history.seen rest k.goes)
 
-  goes-more : GoesOn (extended k.history (call_of rest n (Some (meant token)))).seen (drop n rest)
+  goes-more : BeginsWithSeen (extended k.history (call_of rest n (Some (meant token)))).seen (drop n rest)
   goes-more = goes-after k.history.seen (call_of rest n (Some (meant token))).seen rest n k.goes l (looked-is (meant token) rest n)
 
-  pub kept-some : found ≡ None → IsScalarToken (meant token) → w.statement_limit ≡ v.statement_limit → w.file_limit ≡ v.file_limit → Kept w bytes (slice_range rest n (length rest)) (Some token)
-  kept-some e scalar s f =
+  pub pending_bytes-some : found ≡ None → IsScalarToken (meant token) → w.statement_limit ≡ v.statement_limit → w.file_limit ≡ v.file_limit → PendingBytes w bytes (slice_range rest n (length rest)) (Some token)
+  pending_bytes-some e scalar s f =
       let h = extended k.history (call_of rest n (Some (meant token))) in
       record {
         history = h;
@@ -116,7 +116,7 @@ module _ (v w : Held) (bytes rest : List ℕ) (found : Option TokenRead) (n : �
         alive = ap (λ (x : Option TokenFault). first_refusal x None) k.alive;
         all_is = ap (λ (x : List ℕ). h.taken ++ x) (back rest n) ∙ (taken-rest k.history.taken rest n ∙ k.all_is);
         given_is = ap (λ (x : List Token). x ++ meant token ∷ []) (k.given_is ∙ ap meant_all e);
-        goes = subst (λ (x : List ℕ). GoesOn h.seen x) (sym (back rest n)) goes-more;
+        goes = subst (λ (x : List ℕ). BeginsWithSeen h.seen x) (sym (back rest n)) goes-more;
         scalar = scalar;
         within = k.within;
         statement_limit = s ∙ k.statement_limit;
@@ -136,7 +136,7 @@ module _ (v w : Held) (bytes rest : List ℕ) (found : Option TokenRead) (n : �
   given-are : (lexemes : List Lexeme) → tokens_in lexemes ≡ k.history.given ++ meant token ∷ [] → tokens_in lexemes ≡ meant_all found ++ meant token ∷ []
   given-are lexemes e = e ∙ ap (λ (x : List Token). x ++ meant token ∷ []) k.given_is
 
-  others : AreNoScalar (meant_all found ++ meant token ∷ []) → HoldsOthers bytes
+  others : AreNoScalar (meant_all found ++ meant token ∷ []) → HoldsOtherTokens bytes
   others more =
       let within = answers.laid_within in
       stand_first (k.history.taken ++ take n rest) (drop n rest) within.lexemes within.tail (sym (taken-rest k.history.taken rest n ∙ k.all_is)) within.laid (subst AreNoScalar (sym (given-are within.lexemes within.given_are)) more)
@@ -184,7 +184,7 @@ pending-few (x ∷ lexemes) bytes tail n l =
 divided : (rest : List ℕ) (n byte : ℕ) → slice_get rest n ≡ Some byte → take n rest ++ byte ∷ drop (n + 1) rest ≡ rest
 divided rest n byte e = sym (append_assoc (take n rest) (byte ∷ []) (drop (n + 1) rest)) ∙ (ap (λ (x : List ℕ). x ++ drop (n + 1) rest) (sym (take-one rest n byte e)) ∙ take-append-drop (n + 1) rest)
 
-pub finds-refused : (v w : Held) (bytes rest : List ℕ) (found : Option TokenRead) (x : TokenFault) → Kept v bytes rest found → NextGives v rest (Err x) w → FindsScalar bytes (Err x)
+pub finds-refused : (v w : Held) (bytes rest : List ℕ) (found : Option TokenRead) (x : TokenFault) → PendingBytes v bytes rest found → NextGives v rest (Err x) w → FindsScalar bytes (Err x)
 finds-refused v w bytes rest found x k g = at x (g k.history k.stands (offered k.history.seen rest k.goes) k.alive)
   where
     front : (n : ℕ) → length (k.history.taken ++ take n rest) ≤ text_limit
@@ -194,7 +194,7 @@ finds-refused v w bytes rest found x k g = at x (g k.history k.stands (offered k
     no-others None s a = a
     no-others (Some token) s a = a s
 
-    refused : (x : TokenFault) (r : RefusesAtByte v k.history rest x w) → NamesByte r.tail r.byte x → IsRefusedFor bytes x
+    refused : (x : TokenFault) (r : RefusesAtByte v k.history rest x w) → NamesFaultAtByte r.tail r.byte x → IsRefusedFor bytes x
     refused x r names =
         let front = k.history.taken ++ take r.count rest in
         let joined : front ++ r.byte ∷ drop (r.count + 1) rest ≡ bytes =
@@ -231,7 +231,7 @@ finds-refused v w bytes rest found x k g = at x (g k.history k.stands (offered k
 
 -- ---- the end of the text
 
-module _ (v : Held) (bytes rest : List ℕ) (found : Option TokenRead) (k : Kept v bytes rest found) (none : length rest ≡ 0) where
+module _ (v : Held) (bytes rest : List ℕ) (found : Option TokenRead) (k : PendingBytes v bytes rest found) (none : length rest ≡ 0) where
   empty-rest : rest ≡ []
   empty-rest = nil rest none
     where
@@ -240,9 +240,9 @@ module _ (v : Held) (bytes rest : List ℕ) (found : Option TokenRead) (k : Kept
       nil (x ∷ xs) e = absurd (omega arith)
 
   unseen : k.history.seen ≡ None
-  unseen = at k.history.seen (subst (λ (x : List ℕ). GoesOn k.history.seen x) empty-rest k.goes)
+  unseen = at k.history.seen (subst (λ (x : List ℕ). BeginsWithSeen k.history.seen x) empty-rest k.goes)
     where
-      at : (seen : Option ℕ) → GoesOn seen [] → seen ≡ None
+      at : (seen : Option ℕ) → BeginsWithSeen seen [] → seen ≡ None
       at None g = refl
       at (Some b) g = absurd g
 
@@ -265,11 +265,11 @@ module _ (v : Held) (bytes rest : List ℕ) (found : Option TokenRead) (k : Kept
         names = inl laid;
       }
 
-  wrong-end : (x : TokenFault) → EndsWrong k.history x → IsRefusedFor bytes x
+  wrong-end : (x : TokenFault) → EndsWithFault k.history x → IsRefusedFor bytes x
   wrong-end x w =
       at_end w.lexemes w.tail (subst (λ (y : List ℕ). LaidUpTo y w.lexemes w.tail) taken-all w.laid) (λ a. one-found found k.scalar (subst AreNoScalar (w.given_are ∙ k.given_is) a)) w.names
 
-  wrong-early : EndsWrong k.history fault.EndsEarly → ((tokens : List Token) → Laid bytes tokens → tokens ≡ []) → EndsUnfinished bytes
+  wrong-early : EndsWithFault k.history fault.EndsEarly → ((tokens : List Token) → Laid bytes tokens → tokens ≡ []) → EndsUnfinished bytes
   wrong-early w n = record {
     lexemes = w.lexemes;
     tail = w.tail;
@@ -282,7 +282,7 @@ module _ (v : Held) (bytes rest : List ℕ) (found : Option TokenRead) (k : Kept
   unlaid : (tokens : List Token) → (Laid k.history.taken tokens → ⊥) → Laid bytes tokens → ⊥
   unlaid tokens none-laid laid = none-laid (subst (λ (x : List ℕ). Laid x tokens) (sym taken-all) laid)
 
-  pub finds-end : (x : TokenFault) → FinishGives v (Err x) → FinishNames v (Err x) → FindsScalar bytes (Err x)
+  pub finds-end : (x : TokenFault) → FinishGives v (Err x) → FinishNamesFault v (Err x) → FindsScalar bytes (Err x)
   finds-end fault.NoMemory g w = (tt, λ n. absurd (n refl))
   finds-end fault.FileTooLong g w = absurd (g k.history k.stands unseen k.alive).0
   finds-end fault.RecordTooLong g w = absurd (g k.history k.stands unseen k.alive).0
@@ -298,22 +298,22 @@ module _ (v : Held) (bytes rest : List ℕ) (found : Option TokenRead) (k : Kept
       let laid = (g k.history k.stands unseen).1 in
       subst (λ (x : List Token). Laid bytes (x ++ meant_all last)) k.given_is (subst (λ (x : List ℕ). Laid x (k.history.given ++ meant_all last)) taken-all laid)
 
-pub finds-only : (bytes : List ℕ) (found last : Option TokenRead) (result : Result TokenRead TokenFault) → IsFoundScalar found → (Laid bytes [] → ((tokens : List Token) → Laid bytes tokens → tokens ≡ []) → EndsUnfinished bytes) → Laid bytes (meant_all found ++ meant_all last) → FindsOnly found last result → FindsScalar bytes result
-finds-only bytes None None (Err fault.EndsEarly) s early laid o = (early laid (λ tokens other. one-laying bytes tokens [] other laid), λ _ token held. let e = one-laying bytes [] (token ∷ []) laid held.1 in cc)
-finds-only bytes (Some first) None (Ok answer) s early laid o = subst (λ (x : Token). HoldsScalar bytes x) (sym o) (s, laid)
-finds-only bytes None (Some last) (Ok answer) s early laid o = subst (λ (x : Token). HoldsScalar bytes x) (sym o.0) (o.1, laid)
-finds-only bytes None (Some last) (Err fault.NotOneParameter) s early laid o = (
+pub finds-only_scalar : (bytes : List ℕ) (found last : Option TokenRead) (result : Result TokenRead TokenFault) → IsFoundScalar found → (Laid bytes [] → ((tokens : List Token) → Laid bytes tokens → tokens ≡ []) → EndsUnfinished bytes) → Laid bytes (meant_all found ++ meant_all last) → FindsOnlyScalar found last result → FindsScalar bytes result
+finds-only_scalar bytes None None (Err fault.EndsEarly) s early laid o = (early laid (λ tokens other. one-laying bytes tokens [] other laid), λ _ token held. let e = one-laying bytes [] (token ∷ []) laid held.1 in cc)
+finds-only_scalar bytes (Some first) None (Ok answer) s early laid o = subst (λ (x : Token). HoldsScalar bytes x) (sym o) (s, laid)
+finds-only_scalar bytes None (Some last) (Ok answer) s early laid o = subst (λ (x : Token). HoldsScalar bytes x) (sym o.0) (o.1, laid)
+finds-only_scalar bytes None (Some last) (Err fault.NotOneParameter) s early laid o = (
   are_all (meant last ∷ []) laid o,
   λ _ token held.
       let e = one-laying bytes (meant last ∷ []) (token ∷ []) laid held.1 in
       let same : meant last ≡ token = cc in
       o (subst IsScalarToken (sym same) held.0),
 )
-finds-only bytes (Some first) (Some last) (Err fault.NotOneParameter) s early laid o = (
+finds-only_scalar bytes (Some first) (Some last) (Err fault.NotOneParameter) s early laid o = (
   are_all (meant first ∷ meant last ∷ []) laid tt,
   λ _ token held. let e = one-laying bytes (meant first ∷ meant last ∷ []) (token ∷ []) laid held.1 in cc,
 )
-finds-only bytes _ _ _ s early laid o = absurd o
+finds-only_scalar bytes _ _ _ s early laid o = absurd o
 
 -- ---- the answer
 

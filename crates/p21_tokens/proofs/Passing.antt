@@ -6,19 +6,19 @@ use Rattle.p21_basics.specs.History.{extended, first_refusal, seen_behind}
 use Rattle.p21_exchange.specs.Laying.{Lexeme, LaidAs, Laid, tokens_in, open_bytes, count_behind, AreStatementsWithin}
 use Rattle.p21_exchange.specs.OpenNesting.{EndsWithSemicolon}
 use Rattle.p21_exchange.specs.Token.{Token, IsFollowed, IsWholeAtOnce}
-use Rattle.p21_tokens_automaton.proofs.Fronts.{laid-few, spelling-some}
+use Rattle.p21_tokens_automaton.proofs.Prefixes.{laid-few, spelling-some}
 use Rattle.p21_tokens_automaton.proofs.Gaps.{gap-run}
 use Rattle.p21_tokens_automaton.proofs.Once.{spells-means}
 use Rattle.p21_tokens_automaton.proofs.Steps.{lex-end}
 use Rattle.p21_tokens_automaton.proofs.Theorems.{readings, given-at-once}
 use Rattle.p21_tokens_automaton.specs.Meaning.{MeanAll, found_of}
-use Rattle.p21_tokens_automaton.specs.Reading.{State, start, Answer, before, after, Sized, lex}
+use Rattle.p21_tokens_automaton.specs.Reading.{State, start, Answer, before, after, SizedToken, lex}
 use Rattle.p21_tokens_automaton.specs.declared.mode.Mode.TheVariants.{Between}
 use Rattle.p21_tokens.proofs.Extending.{stands-live, answers-live}
 use Rattle.p21_tokens.proofs.Following.{tokens-append, mean-append, InParts, in-parts, open-append, within-append, count-le, after-append, laid-to-end, handed-laid, live-pending}
-use Rattle.p21_tokens.proofs.Stepping.{ended-waits, waits-count}
-use Rattle.p21_tokens.specs.Held.{Held, KeepsBySize, pending_of}
-use Rattle.p21_tokens.specs.Histories.{TokenHistory, IsLive, IsHandedOver, GoesOn, IsPendingBehind, Stands, Answers}
+use Rattle.p21_tokens.proofs.Stepping.{ended_token-waits, waits-count}
+use Rattle.p21_tokens.specs.Held.{Held, IsEmptyAtSizeZero, pending_of}
+use Rattle.p21_tokens.specs.Histories.{TokenHistory, IsLive, IsHandedOver, BeginsWithSeen, IsPendingBehind, Stands, Answers}
 use Rattle.p21_tokens.specs.Passing.{IsResting, IsAtRest, room_of, passing_call, GivesPassed}
 use Rattle.p21_tokens.specs.declared.fault.TokenFault.{TokenFault}
 
@@ -26,7 +26,7 @@ use Rattle.p21_tokens.specs.declared.fault.TokenFault.{TokenFault}
 
 -- the bytes are read as these, and nothing is open behind them
 record ReadsWhole (bytes : List ℕ) (lexemes : List Lexeme) : Type 0 where
-  founds : List Sized
+  founds : List SizedToken
   mean : MeanAll founds lexemes
   reads : (more : List ℕ) → lex start (bytes ++ more) ≡ after founds (lex start more)
 
@@ -71,13 +71,13 @@ reads-whole (x ∷ y ∷ lexemes) bytes l e = joined bytes x (y ∷ lexemes) l (
 -- ---- their sizes
 
 -- no token byte is open behind them
-open-ended : (n : ℕ) (x : Lexeme) (lexemes : List Lexeme) → EndsWithSemicolon (tokens_in (x ∷ lexemes)) → open_bytes n (x ∷ lexemes) ≡ 0
-open-ended n x [] e = ap (λ (t : Token). count_behind n (record { token = t; size = x.size })) e
-open-ended n x (y ∷ lexemes) e = open-ended (count_behind n x) y lexemes e
+open-ended_token : (n : ℕ) (x : Lexeme) (lexemes : List Lexeme) → EndsWithSemicolon (tokens_in (x ∷ lexemes)) → open_bytes n (x ∷ lexemes) ≡ 0
+open-ended_token n x [] e = ap (λ (t : Token). count_behind n (record { token = t; size = x.size })) e
+open-ended_token n x (y ∷ lexemes) e = open-ended_token (count_behind n x) y lexemes e
 
 none-open : (lexemes : List Lexeme) → EndsWithSemicolon (tokens_in lexemes) → open_bytes 0 lexemes ≡ 0
 none-open [] e = refl
-none-open (x ∷ lexemes) e = open-ended 0 x lexemes e
+none-open (x ∷ lexemes) e = open-ended_token 0 x lexemes e
 
 -- where all bytes are within the limit, each statement is
 laid-within : (limit n : ℕ) (lexemes : List Lexeme) (bytes : List ℕ) → LaidAs bytes lexemes → n + length bytes ≤ limit → AreStatementsWithin limit n lexemes
@@ -107,14 +107,14 @@ resting-unseen v h live is = elim live.seen_is [
     handed told = one parts.front parts.behind parts.lexemes_are parts.mean_behind
       where
         parts : InParts told.front (record { found = told.last; size = told.state.size } ∷ []) live.lexemes
-        parts = in-parts told.front (record { found = told.last; size = told.state.size } ∷ []) live.lexemes (subst (λ (x : List Sized). MeanAll x live.lexemes) told.founds_are live.mean)
+        parts = in-parts told.front (record { found = told.last; size = told.state.size } ∷ []) live.lexemes (subst (λ (x : List SizedToken). MeanAll x live.lexemes) told.founds_are live.mean)
 
         one : (front behind : List Lexeme) → live.lexemes ≡ front ++ behind → MeanAll (record { found = told.last; size = told.state.size } ∷ []) behind → ⊥
         one front [] q m = absurd m
         one front (x ∷ y ∷ behind) q m = absurd m.2
         one front (x ∷ []) q m =
             let some = last-some front x h.taken (subst (λ (ls : List Lexeme). LaidAs h.taken ls) q (handed-laid v h live told)) in
-            let counts = waits-count x.token x.size (open_bytes 0 front) (ended-waits told.state.mode told.state.kept told.state.characters told.last told.ended_is x.token m.0) in
+            let counts = waits-count x.token x.size (open_bytes 0 front) (ended_token-waits told.state.mode told.state.pending_bytes told.state.characters told.last told.ended_is x.token m.0) in
             let sum : 0 ≡ count_behind (open_bytes 0 front) x = sym is.statement_is ∙ (live.statement_is ∙ (ap (λ (ls : List Lexeme). open_bytes 0 ls) q ∙ open-append 0 front (x ∷ []))) in
             omega arith
 
@@ -122,10 +122,10 @@ none-is : (refused : Option TokenFault) → false ≡ is_some refused → refuse
 none-is None e = refl
 none-is (Some fault) e = absurd cc
 
-pub rests : (v : Held) → false ≡ is_some v.refused → v.mode ≡ Between → v.size ≡ 0 → nat_eq v.statement 0 ≡ true → KeepsBySize v.size v.kept v.characters → IsResting v
+pub rests : (v : Held) → false ≡ is_some v.refused → v.mode ≡ Between → v.size ≡ 0 → nat_eq v.statement 0 ≡ true → IsEmptyAtSizeZero v.size v.pending_bytes v.characters → IsResting v
 rests v none mode size statement keeps =
-    let kept = keeps size in
-    record { refused = none-is v.refused none; start_is = rw (mode, size, kept.0, kept.1) refl; statement_is = eqb-true v.statement 0 statement }
+    let pending_bytes = keeps size in
+    record { refused = none-is v.refused none; start_is = rw (mode, size, pending_bytes.0, pending_bytes.1) refl; statement_is = eqb-true v.statement 0 statement }
 
 resting-pending : (v : Held) → IsResting v → pending_of v ≡ 0
 resting-pending v is = let size = ap (λ (s : State). s.size) is.start_is in let statement = is.statement_is in omega arith
@@ -152,7 +152,7 @@ live-passed : (v : Held) (h : TokenHistory) (bytes : List ℕ) (tokens : List To
     → IsLive (passed v (length bytes)) (extended h (passing_call bytes tokens))
 live-passed v h bytes tokens live is laid ends room =
     let run = reads-whole laid.lexemes bytes laid.laid (subst EndsWithSemicolon (sym laid.tokens_are) ends) in
-    let closed : open_bytes 0 live.lexemes ≡ 0 = sym live.statement_is ∙ is.statement_is in
+    let closed_token : open_bytes 0 live.lexemes ≡ 0 = sym live.statement_is ∙ is.statement_is in
     let unseen = resting-unseen v h live is in
     record {
       founds = live.founds ++ run.founds;
@@ -161,12 +161,12 @@ live-passed v h bytes tokens live is laid ends room =
       given_are = tokens-append live.lexemes laid.lexemes ∙ (ap (λ (x : List Token). x ++ tokens_in laid.lexemes) live.given_are ∙ ap (λ (x : List Token). h.given ++ x) laid.tokens_are);
       file_is = let p = length-append h.taken bytes in omega (arith, live.file_is);
       statement_is =
-          is.statement_is ∙ sym (open-append 0 live.lexemes laid.lexemes ∙ (ap (λ (n : ℕ). open_bytes n laid.lexemes) closed ∙ none-open laid.lexemes (subst EndsWithSemicolon (sym laid.tokens_are) ends)));
+          is.statement_is ∙ sym (open-append 0 live.lexemes laid.lexemes ∙ (ap (λ (n : ℕ). open_bytes n laid.lexemes) closed_token ∙ none-open laid.lexemes (subst EndsWithSemicolon (sym laid.tokens_are) ends)));
       statements_within = within-append v.statement_limit 0 live.lexemes laid.lexemes live.statements_within
-          (subst (λ (n : ℕ). AreStatementsWithin v.statement_limit n laid.lexemes) (sym closed) (laid-within v.statement_limit 0 laid.lexemes bytes laid.laid (omega arith)));
+          (subst (λ (n : ℕ). AreStatementsWithin v.statement_limit n laid.lexemes) (sym closed_token) (laid-within v.statement_limit 0 laid.lexemes bytes laid.laid (omega arith)));
       reads = λ rest _.
           ap (λ (x : List ℕ). lex start x) (append_assoc h.taken bytes rest)
-          ∙ (live.reads (bytes ++ rest) (subst (λ (o : Option ℕ). GoesOn o (bytes ++ rest)) (sym unseen) tt)
+          ∙ (live.reads (bytes ++ rest) (subst (λ (o : Option ℕ). BeginsWithSeen o (bytes ++ rest)) (sym unseen) tt)
           ∙ (ap (λ (s : State). after live.founds (lex s (bytes ++ rest))) is.start_is
           ∙ (ap (λ (a : Answer). after live.founds a) (run.reads rest)
           ∙ (sym (after-append live.founds run.founds (lex start rest)) ∙ ap (λ (s : State). after (live.founds ++ run.founds) (lex s rest)) (sym is.start_is)))));

@@ -7,7 +7,7 @@ use Rattle.std.specs.Str.{chars, IsUtf8}
 use Rattle.p21_tokens_automaton.proofs.CharacterRuns.{run-characters}
 use Rattle.p21_tokens_automaton.proofs.Runs.{run-passes, run-keeps, run-puts, run-names}
 use Rattle.p21_tokens_automaton.specs.Reading.{lex}
-use Rattle.p21_tokens_automaton.specs.Run.{EachDoes, AreNameDigits, AreCharacterBytes}
+use Rattle.p21_tokens_automaton.specs.Run.{EachHasAction, AreNameDigits, AreCharacterBytes}
 use Rattle.p21_tokens_automaton.specs.Step.{advance}
 use Rattle.p21_tokens_automaton.specs.declared.mode.Action.{Action}
 use Rattle.p21_tokens_automaton.specs.declared.mode.Action.TheVariants.{Pass, Keep, Put, Refuse}
@@ -18,7 +18,7 @@ use Rattle.p21_tokens_automaton.specs.declared.mode.TextMode.TheVariants.{Inside
 use Rattle.p21_tokens_automaton.specs.declared.mode.Wrong.TheVariants as wrong
 use Rattle.p21_tokens.proofs.Stepping.{same-limits}
 use Rattle.p21_tokens.specs.Held.{Held, state_of}
-use Rattle.p21_tokens.specs.Steps.{is_gap, SameLimits, LacksMemory, Runs, with_characters, with_kept}
+use Rattle.p21_tokens.specs.Steps.{is_gap, SameLimits, LacksMemory, Runs, with_characters, with_pending_bytes}
 use Rattle.p21_tokens.specs.declared.fault.TokenFault.{TokenFault}
 
 -- ---- memory is asked for inside a token alone
@@ -49,7 +49,7 @@ puts-inside m b c e g = let f : is_gap m ≡ false = subst Leaves e (gap-leaves 
 
 -- ---- runs
 
-front : (m : Mode) (piece : List ℕ) (n count : ℕ) (does : ℕ → Action) → n ≤ count → EachDoes m piece count does → EachDoes m piece n does
+front : (m : Mode) (piece : List ℕ) (n count : ℕ) (does : ℕ → Action) → n ≤ count → EachHasAction m piece count does → EachHasAction m piece n does
 front m piece n count does h e = record { within = let w = e.within in omega arith; each = λ k l. e.each k (omega arith) }
 
 module _ (v : Held) (piece : List ℕ) (n count : ℕ) where
@@ -60,20 +60,20 @@ module _ (v : Held) (piece : List ℕ) (n count : ℕ) where
     record { file_is = f ∙ ap (λ k. v.file + k) (sym (length-take-le n piece h)); statement_is = t; rest_is = r; gap = λ g blank. m g },
   )
 
-  pub ran-passed : (w : Held) → n ≤ count → EachDoes v.mode piece count (λ b. Pass v.mode) → w ≡ record v { file = v.file + n } → Runs v piece (Ok n) w
+  pub ran-passed : (w : Held) → n ≤ count → EachHasAction v.mode piece count (λ b. Pass v.mode) → w ≡ record v { file = v.file + n } → Runs v piece (Ok n) w
   ran-passed w h e q = subst (λ (x : Held). Runs v piece (Ok n) x) (sym q)
       (ran _ (let k = e.within in omega arith) (same-limits v _ refl refl refl) refl refl (λ g. g) (λ rest. run-passes (state_of v) piece rest n (front v.mode piece n count _ h e)))
 
   within-run : count ≤ length piece → n ≤ length (take count piece) → n ≤ count
   within-run c h = omega (arith, length-take-le count piece c)
 
-  ran-kept : (w : Held) → n ≤ length (take count piece) → EachDoes v.mode piece count (λ b. Keep v.mode) → w ≡ record v { kept = v.kept ++ take n (take count piece); size = v.size + n; file = v.file + n } → Runs v piece (Ok n) w
-  ran-kept w h e q =
+  ran-pending_bytes : (w : Held) → n ≤ length (take count piece) → EachHasAction v.mode piece count (λ b. Keep v.mode) → w ≡ record v { pending_bytes = v.pending_bytes ++ take n (take count piece); size = v.size + n; file = v.file + n } → Runs v piece (Ok n) w
+  ran-pending_bytes w h e q =
       let k : n ≤ count = within-run e.within h in
-      subst (λ (x : Held). Runs v piece (Ok n) x) (sym (q ∙ ap (λ (x : List ℕ). record v { kept = v.kept ++ x; size = v.size + n; file = v.file + n }) (take-take n count piece k)))
+      subst (λ (x : Held). Runs v piece (Ok n) x) (sym (q ∙ ap (λ (x : List ℕ). record v { pending_bytes = v.pending_bytes ++ x; size = v.size + n; file = v.file + n }) (take-take n count piece k)))
       (ran _ (let l = e.within in omega arith) (same-limits v _ refl refl refl) refl refl (λ g. g) (λ rest. run-keeps (state_of v) piece rest n (front v.mode piece n count _ k e)))
 
-  ran-put : (w : Held) → n ≤ length (take count piece) → EachDoes v.mode piece count (λ b. Put v.mode b) → w ≡ record v { characters = v.characters ++ take n (take count piece); size = v.size + n; file = v.file + n } → Runs v piece (Ok n) w
+  ran-put : (w : Held) → n ≤ length (take count piece) → EachHasAction v.mode piece count (λ b. Put v.mode b) → w ≡ record v { characters = v.characters ++ take n (take count piece); size = v.size + n; file = v.file + n } → Runs v piece (Ok n) w
   ran-put w h e q =
       let k : n ≤ count = within-run e.within h in
       subst (λ (x : Held). Runs v piece (Ok n) x) (sym (q ∙ ap (λ (x : List ℕ). record v { characters = v.characters ++ x; size = v.size + n; file = v.file + n }) (take-take n count piece k)))
@@ -84,13 +84,13 @@ module _ (v : Held) (piece : List ℕ) (count : ℕ) (w : Held) where
   failed x (Ok k) e h n = absurd cc
   failed x (Err y) e h n = let f = h.0 in (cc, h.1, n, h.2)
 
-  pub ran-kept_or_failed : (r : Result ℕ TokenFault) → 0 < count → EachDoes v.mode piece count (λ b. Keep v.mode)
-      → IfOk r (λ n. n ≤ length (take count piece)) → IfOk r (λ n. w ≡ with_kept v v.mode (take n (take count piece)) n)
+  pub ran-kept_or_failed : (r : Result ℕ TokenFault) → 0 < count → EachHasAction v.mode piece count (λ b. Keep v.mode)
+      → IfOk r (λ n. n ≤ length (take count piece)) → IfOk r (λ n. w ≡ with_pending_bytes v v.mode (take n (take count piece)) n)
       → LacksMemory v r w → Runs v piece r w
-  ran-kept_or_failed (Ok n) z e l h g = ran-kept v piece n count w l e h
+  ran-kept_or_failed (Ok n) z e l h g = ran-pending_bytes v piece n count w l e h
   ran-kept_or_failed (Err x) z e l h g = failed x (Err x) refl g (keeps-inside v.mode (slice_index piece 0) (e.each 0 z))
 
-  pub ran-put_or_failed : (r : Result ℕ TokenFault) → 0 < count → EachDoes v.mode piece count (λ b. Put v.mode b)
+  pub ran-put_or_failed : (r : Result ℕ TokenFault) → 0 < count → EachHasAction v.mode piece count (λ b. Put v.mode b)
       → IfOk r (λ n. n ≤ length (take count piece)) → IfOk r (λ n. w ≡ with_characters v v.mode (take n (take count piece)) n)
       → LacksMemory v r w → Runs v piece r w
   ran-put_or_failed (Ok n) z e l h g = ran-put v piece n count w l e h

@@ -13,10 +13,10 @@ FindsScalar text (Ok token) = HoldsScalar text (meant token)
 FindsScalar text (Err fault) = RefusesText text fault × (fault ≢ NoMemory → HoldsNoScalar text)
 
 -- of two tokens, the one that is there and is a scalar
-abbrev pub FindsOnly : Option Token → Option Token → Result Token TokenFault → Type 0
-FindsOnly None None (Err EndsEarly) = Unit {0}
-FindsOnly (Some token) None (Ok answer) = meant answer ≡ meant token
-FindsOnly None (Some token) (Ok answer) = (meant answer ≡ meant token) × IsScalarToken (meant token)
-FindsOnly None (Some token) (Err NotOneParameter) = IsScalarToken (meant token) → ⊥
-FindsOnly (Some token) (Some other) (Err NotOneParameter) = Unit {0}
-FindsOnly found last result = ⊥
+abbrev pub FindsOnlyScalar : Option Token → Option Token → Result Token TokenFault → Type 0
+FindsOnlyScalar None None (Err EndsEarly) = Unit {0}
+FindsOnlyScalar (Some token) None (Ok answer) = meant answer ≡ meant token
+FindsOnlyScalar None (Some token) (Ok answer) = (meant answer ≡ meant token) × IsScalarToken (meant token)
+FindsOnlyScalar None (Some token) (Err NotOneParameter) = IsScalarToken (meant token) → ⊥
+FindsOnlyScalar (Some token) (Some other) (Err NotOneParameter) = Unit {0}
+FindsOnlyScalar found last result = ⊥

@@ -4,11 +4,11 @@ use Rattle.p21_tokens_automaton.specs.declared.mode.Mode.{Mode}
 use Rattle.p21_tokens_automaton.specs.Reading.{State}
 use Rattle.p21_tokens.specs.declared.fault.TokenFault.{TokenFault}
 
--- The mode, the kept bytes, the characters and the number of bytes of the open token; the token bytes of the open
+-- The mode, the pending bytes, the characters and the number of bytes of the open token; the token bytes of the open
 -- statement in front of it; the bytes of the file; their limits; and the refusal
 pub record Held : Type 0 where
   pub mode : Mode
-  pub kept : List ℕ
+  pub pending_bytes : List ℕ
   pub characters : List ℕ
   pub size : ℕ
   pub statement : ℕ
@@ -33,11 +33,11 @@ file_limit_of held = held.file_limit
 
 -- where the states stand
 abbrev pub state_of : Held → State
-state_of held = record { mode = held.mode; kept = held.kept; characters = held.characters; size = held.size }
+state_of held = record { mode = held.mode; pending_bytes = held.pending_bytes; characters = held.characters; size = held.size }
 
--- nothing is kept of no bytes
-abbrev pub KeepsBySize : ℕ → List ℕ → List ℕ → Type 0
-KeepsBySize size kept characters = size ≡ 0 → (kept ≡ []) × (characters ≡ [])
+-- nothing is pending of no bytes
+abbrev pub IsEmptyAtSizeZero : ℕ → List ℕ → List ℕ → Type 0
+IsEmptyAtSizeZero size pending_bytes characters = size ≡ 0 → (pending_bytes ≡ []) × (characters ≡ [])
 
 -- neither count is past its limit
 pub record IsWithin (held : Held) : Type 0 where

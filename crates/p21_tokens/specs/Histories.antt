@@ -2,14 +2,14 @@
 use Rattle.std.specs.Prelude.{◌≡◌, ◌≢◌, ◌↔◌, ℕ, ◌+◌, ◌≤◌, ◌<◌, ◌⊎◌, false, if◌then◌else◌, List, [], ◌∷◌, ◌++◌, length, take, slice_get, Option, Some, None, Result, Ok, Err}
 use Rattle.std.specs.Option.{option_map}
 use Rattle.std.specs.List.{AllByRecursion as Each}
-use Rattle.p21_basics.specs.History.{History, extended, looked_at, IsOffered}
+use Rattle.p21_basics.specs.History.{History, extended, looked_at, IsOfferedFirst}
 use Rattle.p21_exchange.specs.Laying.{Lexeme, Laid, tokens_in, open_bytes, AreStatementsWithin}
 use Rattle.p21_exchange.specs.Pending.{Tail, nothing, unfinished, slash, open_comment, tail_size, LaidUpTo, IsPending, IsTokenByte}
 use Rattle.p21_exchange.specs.Number.{Decimal, RealForm, SpellsReal}
 use Rattle.p21_exchange.specs.Separator.{blank, IsSeparator}
 use Rattle.p21_exchange.specs.Token.{Token, Spells, MayFollow, IsWholeAtOnce}
 use Rattle.p21_tokens_automaton.specs.Meaning.{IsOutOfRange, MeanAll}
-use Rattle.p21_tokens_automaton.specs.Reading.{State, start, nothing_but, open_at, Found, Sized, ended, after, lex}
+use Rattle.p21_tokens_automaton.specs.Reading.{State, start, without_tokens, open_at, FoundToken, SizedToken, ended_token, after, lex}
 use Rattle.p21_tokens_automaton.specs.Step.{advance}
 use Rattle.p21_tokens_automaton.specs.declared.mode.Mode.{Mode}
 use Rattle.p21_tokens_automaton.specs.declared.mode.Mode.TheVariants.{Between, Slash, Comment, Star}
@@ -97,19 +97,19 @@ IsOutOfRangeTail other = ⊥
 -- the mode in which the bytes of a tail end
 abbrev pub EndsInMode : Tail → Mode → Type 0
 EndsInMode nothing mode = mode ≡ Between
-EndsInMode (unfinished bytes) mode = (state : State) × (lex start bytes ≡ nothing_but (open_at state)) × (mode ≡ state.mode)
+EndsInMode (unfinished bytes) mode = (state : State) × (lex start bytes ≡ without_tokens (open_at state)) × (mode ≡ state.mode)
 EndsInMode slash mode = mode ≡ Slash
 EndsInMode (open_comment inside) mode = (mode ≡ Comment) ⊎ (mode ≡ Star)
 
 -- a fault of form is the one of what is wrong at the byte, and `NumberRange` exactly where a real out of range ends
-pub record NamesByte (tail : Tail) (byte : ℕ) (fault : TokenFault) : Type 0 where
+pub record NamesFaultAtByte (tail : Tail) (byte : ℕ) (fault : TokenFault) : Type 0 where
   pub mode : Mode
   pub ends_in : EndsInMode tail mode
   pub fault_is : fault ≡ form_fault mode (advance mode byte)
   pub out_of_range : (fault ≡ NumberRange) ↔ EndsOutOfRange tail byte
 
 -- the fault of bytes that may not end is the one of what is open, and `NumberRange` exactly where a real out of range ends
-pub record NamesEnd (tail : Tail) (fault : TokenFault) : Type 0 where
+pub record NamesFaultAtEnd (tail : Tail) (fault : TokenFault) : Type 0 where
   pub mode : Mode
   pub ends_in : EndsInMode tail mode
   pub fault_is : fault ≡ end_fault mode
@@ -118,30 +118,30 @@ pub record NamesEnd (tail : Tail) (fault : TokenFault) : Type 0 where
 -- ---- the relation
 
 -- a waiting token was given with the byte behind it, and its spelling is all that stands before that byte
-pub record IsHandedOver (held : Held) (taken : List ℕ) (founds : List Sized) : Type 0 where
+pub record IsHandedOver (held : Held) (taken : List ℕ) (founds : List SizedToken) : Type 0 where
   pub start_is : state_of held ≡ start
-  pub front : List Sized
+  pub front : List SizedToken
   pub state : State
-  pub last : Found
+  pub last : FoundToken
   pub founds_are : founds ≡ front ++ record { found = last; size = state.size } ∷ []
-  pub ended_is : ended state ≡ Some last
+  pub ended_is : ended_token state ≡ Some last
   pub read : lex start taken ≡ record { given = front; ending = open_at state }
 
 -- bytes that go on with the byte that was seen
-abbrev pub GoesOn : Option ℕ → List ℕ → Type 0
-GoesOn None rest = Unit {0}
-GoesOn (Some byte) [] = ⊥
-GoesOn (Some byte) (first ∷ rest) = first ≡ byte
+abbrev pub BeginsWithSeen : Option ℕ → List ℕ → Type 0
+BeginsWithSeen None rest = Unit {0}
+BeginsWithSeen (Some byte) [] = ⊥
+BeginsWithSeen (Some byte) (first ∷ rest) = first ≡ byte
 
 pub record IsLive (held : Held) (history : TokenHistory) : Type 0 where
-  pub founds : List Sized
+  pub founds : List SizedToken
   pub lexemes : List Lexeme
   pub mean : MeanAll founds lexemes
   pub given_are : tokens_in lexemes ≡ history.given
   pub file_is : held.file ≡ length history.taken
   pub statement_is : held.statement ≡ open_bytes 0 lexemes
   pub statements_within : AreStatementsWithin (record_limit_of held) 0 lexemes
-  pub reads : (rest : List ℕ) → GoesOn history.seen rest → lex start (history.taken ++ rest) ≡ after founds (rest_of held rest)
+  pub reads : (rest : List ℕ) → BeginsWithSeen history.seen rest → lex start (history.taken ++ rest) ≡ after founds (rest_of held rest)
   pub seen_is : (history.seen ≡ None) ⊎ IsHandedOver held history.taken founds
 
 -- what is held stands for a history: what it says is what `new`, `next` and `finish` say of it
@@ -172,7 +172,7 @@ Refuses held history piece count fault = elim (cause_of fault) [
 
 -- no byte is refused so far: the states lead to an open one
 pub record IsOpen (bytes : List ℕ) : Type 0 where
-  pub founds : List Sized
+  pub founds : List SizedToken
   pub state : State
   pub reads : lex start bytes ≡ record { given = founds; ending = open_at state }
 
@@ -197,14 +197,14 @@ pub record RefusesAtByte (old : Held) (history : TokenHistory) (piece : List ℕ
   pub range_first : IsOfLimit fault → ¬ EndsOutOfRange tail byte
   pub file_first : IsOfForm fault → ¬ EndsOutOfRange tail byte → length (history.taken ++ take count piece) < file_limit_of old
   pub statement_first : IsOfForm fault → ¬ EndsOutOfRange tail byte → IsTokenByte tail byte → open_bytes 0 lexemes + tail_size tail < record_limit_of old
-  pub names : IsOfForm fault → NamesByte tail byte fault
+  pub names : IsOfForm fault → NamesFaultAtByte tail byte fault
   pub stands : Stands new (extended history (refused_call piece count fault))
 
 -- what a call of `next` gives, for each history that the lexer stood for, where the caller offered first what was seen
 abbrev pub NextGives : Held → List ℕ → Result (ℕ × Option TokenRead) TokenFault → Held → Type 0
 NextGives old piece (Ok answer) new =
-    (history : TokenHistory) → Stands old history → IsOffered history.seen piece → Answers new (extended history (call_of piece answer.0 (option_map meant answer.1)))
-NextGives old piece (Err fault) new = (history : TokenHistory) → Stands old history → IsOffered history.seen piece → history.refusal ≡ None → RefusesAtByte old history piece fault new
+    (history : TokenHistory) → Stands old history → IsOfferedFirst history.seen piece → Answers new (extended history (call_of piece answer.0 (option_map meant answer.1)))
+NextGives old piece (Err fault) new = (history : TokenHistory) → Stands old history → IsOfferedFirst history.seen piece → history.refusal ≡ None → RefusesAtByte old history piece fault new
 
 -- a token of which no byte follows is given with its last byte: without that byte, the tokens given are not laid
 pub record EndsAtOnce (taken : List ℕ) (given : List Token) : Type 0 where
@@ -215,7 +215,7 @@ pub record EndsAtOnce (taken : List ℕ) (given : List Token) : Type 0 where
 
 abbrev pub TakesNoMore : Held → List ℕ → Result (ℕ × Option TokenRead) TokenFault → Type 0
 TakesNoMore old piece (Ok (count, Some token)) =
-    (history : TokenHistory) → Stands old history → history.refusal ≡ None → IsOffered history.seen piece → waits (meant token) ≡ false
+    (history : TokenHistory) → Stands old history → history.refusal ≡ None → IsOfferedFirst history.seen piece → waits (meant token) ≡ false
     → EndsAtOnce (history.taken ++ take count piece) (history.given ++ meant token ∷ [])
 TakesNoMore old piece other = Unit {0}
 
@@ -226,18 +226,18 @@ FinishGives held (Err NoMemory) = Unit {0}
 FinishGives held (Err fault) = (history : TokenHistory) → Stands held history → history.seen ≡ None → history.refusal ≡ None → IsOfTheEnd fault × IsUnlaid history.taken
 
 -- the tokens given are laid in the bytes, up to a tail in which these may not end
-pub record EndsWrong (history : TokenHistory) (fault : TokenFault) : Type 0 where
+pub record EndsWithFault (history : TokenHistory) (fault : TokenFault) : Type 0 where
   pub lexemes : List Lexeme
   pub tail : Tail
   pub laid : LaidUpTo history.taken lexemes tail
   pub given_are : tokens_in lexemes ≡ history.given
-  pub names : NamesEnd tail fault
+  pub names : NamesFaultAtEnd tail fault
 
 -- what is wrong where the end of the bytes is refused
-abbrev pub FinishNames : Held → Result (Option TokenRead) TokenFault → Type 0
-FinishNames held (Ok last) = Unit {0}
-FinishNames held (Err NoMemory) = Unit {0}
-FinishNames held (Err fault) = (history : TokenHistory) → Stands held history → history.seen ≡ None → history.refusal ≡ None → EndsWrong history fault
+abbrev pub FinishNamesFault : Held → Result (Option TokenRead) TokenFault → Type 0
+FinishNamesFault held (Ok last) = Unit {0}
+FinishNamesFault held (Err NoMemory) = Unit {0}
+FinishNamesFault held (Err fault) = (history : TokenHistory) → Stands held history → history.seen ≡ None → history.refusal ≡ None → EndsWithFault history fault
 
 -- bytes that stand between tokens by themselves
 abbrev pub AreSeparators : List ℕ → Type 0
@@ -248,9 +248,9 @@ abbrev pub NeedsNoMemory : Held → List ℕ → Result (ℕ × Option TokenRead
 NeedsNoMemory old piece result = (history : TokenHistory) → Stands old history → history.refusal ≡ None → pending_of old ≡ 0 → AreSeparators piece → result ≢ Err NoMemory
 
 -- so many bytes of the piece at most; all of them, where no token is given
-abbrev pub TakesOf : List ℕ → Result (ℕ × Option TokenRead) TokenFault → Type 0
-TakesOf piece (Ok answer) = (answer.0 ≤ length piece) × (answer.1 ≡ None → answer.0 ≡ length piece)
-TakesOf piece (Err fault) = Unit {0}
+abbrev pub TakesWithinPiece : List ℕ → Result (ℕ × Option TokenRead) TokenFault → Type 0
+TakesWithinPiece piece (Ok answer) = (answer.0 ≤ length piece) × (answer.1 ≡ None → answer.0 ≡ length piece)
+TakesWithinPiece piece (Err fault) = Unit {0}
 
 -- the limits of a lexer stay
 abbrev pub KeepsLimits : Held → Held → Type 0

@@ -5,7 +5,7 @@ pub mod Steps
 pub mod Histories
 pub mod Parameter
 pub mod Finding
-pub mod Front
+pub mod Prefix
 pub mod Passing
 -- What the clauses of its calls cite, for callers who name this crate alone
 pub use Rattle.p21_basics.specs as p21_basics

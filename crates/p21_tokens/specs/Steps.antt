@@ -10,7 +10,7 @@ use Rattle.p21_tokens_automaton.specs.declared.mode.Action.{Action}
 use Rattle.p21_tokens_automaton.specs.declared.mode.Action.TheVariants.{Pass, Close, End, Refuse}
 use Rattle.p21_tokens_automaton.specs.Bytes.{is_blank}
 use Rattle.p21_tokens_automaton.specs.Meaning.{Means, MeanAll}
-use Rattle.p21_tokens_automaton.specs.Reading.{start, Answer, Found, spelled, real, item, bits, Sized, ended, ended_in, closed, closing, before, all_of, lex}
+use Rattle.p21_tokens_automaton.specs.Reading.{start, Answer, FoundToken, spelled, real, item, bits, SizedToken, ended_token, ended_token_in, closed_token, tokens_at_end, before, all_tokens, lex}
 use Rattle.p21_tokens_automaton.specs.Step.{advance}
 use Rattle.p21_tokens.specs.Fault.{Cause, of_form, of_end, of_statement, of_file, of_parameter, of_memory, cause_of, fault_of, IsOfForm, IsOfTheEnd}
 use Rattle.p21_tokens.specs.Held.{Held, pending_of, state_of}
@@ -45,20 +45,20 @@ rest_of held bytes = lex (state_of held) bytes
 
 -- no tokens are laid in bytes that go on so
 abbrev pub IsDeadAt : Held → List ℕ → Type 0
-IsDeadAt held bytes = (rest : List ℕ) (founds : List Sized) (lexemes : List Lexeme) → all_of (rest_of held (bytes ++ rest)) ≡ Some founds → MeanAll founds lexemes → ⊥
+IsDeadAt held bytes = (rest : List ℕ) (founds : List SizedToken) (lexemes : List Lexeme) → all_tokens (rest_of held (bytes ++ rest)) ≡ Some founds → MeanAll founds lexemes → ⊥
 
 -- a refusal of form, only where what is found means no token; memory may run out
-abbrev pub MeansNone : Option Found → Cause → Type 0
-MeansNone None of_form = Unit {0}
-MeansNone (Some found) of_form = (token : meaning.Token) → Means found token → ⊥
-MeansNone found of_end = ⊥
-MeansNone found of_statement = ⊥
-MeansNone found of_file = ⊥
-MeansNone found of_parameter = ⊥
-MeansNone found of_memory = Unit {0}
+abbrev pub MeansNoToken : Option FoundToken → Cause → Type 0
+MeansNoToken None of_form = Unit {0}
+MeansNoToken (Some found) of_form = (token : meaning.Token) → Means found token → ⊥
+MeansNoToken found of_end = ⊥
+MeansNoToken found of_statement = ⊥
+MeansNoToken found of_file = ⊥
+MeansNoToken found of_parameter = ⊥
+MeansNoToken found of_memory = Unit {0}
 
 -- the fault of what is found and means no token, where only some of it can be so; `none` where nothing is found
-abbrev pub IsFaultOf : TokenFault → Option Found → TokenFault → Type 0
+abbrev pub IsFaultOf : TokenFault → Option FoundToken → TokenFault → Type 0
 IsFaultOf none None fault = fault ≡ none
 IsFaultOf none (Some (spelled real spelling)) fault = RealForm spelling → fault ≡ NumberRange
 IsFaultOf none (Some (spelled item spelling)) fault = fault ≡ none
@@ -66,29 +66,29 @@ IsFaultOf none (Some (spelled bits spelling)) fault = fault ≡ BadBinary
 IsFaultOf none (Some other) fault = Unit {0}
 
 -- what is found means the token; a refusal, memory apart, only where it means none
-abbrev pub ReadsFound : Option Found → Result Token TokenFault → Type 0
+abbrev pub ReadsFound : Option FoundToken → Result Token TokenFault → Type 0
 ReadsFound None (Ok token) = ⊥
 ReadsFound (Some found) (Ok token) = Means found (meant token)
-ReadsFound found (Err fault) = MeansNone found (cause_of fault) × (IsOfForm fault → IsFaultOf BadByte found fault)
+ReadsFound found (Err fault) = MeansNoToken found (cause_of fault) × (IsOfForm fault → IsFaultOf BadByte found fault)
 
 -- no token that means something is left, and the bytes do not end between tokens
 abbrev pub MayNotEnd : Mode → List ℕ → List ℕ → Type 0
-MayNotEnd mode kept characters = (size : ℕ) (founds : List Sized) (lexemes : List Lexeme) → closing (ended_in mode kept characters) mode size ≡ Some founds → MeanAll founds lexemes → ⊥
+MayNotEnd mode pending_bytes characters = (size : ℕ) (founds : List SizedToken) (lexemes : List Lexeme) → tokens_at_end (ended_token_in mode pending_bytes characters) mode size ≡ Some founds → MeanAll founds lexemes → ⊥
 
 -- the fault of bytes that end here
 abbrev pub IsFaultAtEnd : Mode → List ℕ → List ℕ → TokenFault → Type 0
-IsFaultAtEnd Slash kept characters fault = fault ≡ EndsEarly
-IsFaultAtEnd Comment kept characters fault = fault ≡ OpenComment
-IsFaultAtEnd Star kept characters fault = fault ≡ OpenComment
-IsFaultAtEnd (Text mode) kept characters fault = fault ≡ OpenString
-IsFaultAtEnd mode kept characters fault = IsFaultOf EndsEarly (ended_in mode kept characters) fault
+IsFaultAtEnd Slash pending_bytes characters fault = fault ≡ EndsEarly
+IsFaultAtEnd Comment pending_bytes characters fault = fault ≡ OpenComment
+IsFaultAtEnd Star pending_bytes characters fault = fault ≡ OpenComment
+IsFaultAtEnd (Text mode) pending_bytes characters fault = fault ≡ OpenString
+IsFaultAtEnd mode pending_bytes characters fault = IsFaultOf EndsEarly (ended_token_in mode pending_bytes characters) fault
 
 -- the token that the end of the bytes leaves
 abbrev pub ReadsEnd : Mode → List ℕ → List ℕ → Result (Option Token) TokenFault → Type 0
-ReadsEnd mode kept characters (Ok None) = mode ≡ Between
-ReadsEnd mode kept characters (Ok (Some token)) = (found : Found) × (ended_in mode kept characters ≡ Some found) × Means found (meant token)
-ReadsEnd mode kept characters (Err NoMemory) = Unit {0}
-ReadsEnd mode kept characters (Err fault) = IsOfTheEnd fault × MayNotEnd mode kept characters × IsFaultAtEnd mode kept characters fault
+ReadsEnd mode pending_bytes characters (Ok None) = mode ≡ Between
+ReadsEnd mode pending_bytes characters (Ok (Some token)) = (found : FoundToken) × (ended_token_in mode pending_bytes characters ≡ Some found) × Means found (meant token)
+ReadsEnd mode pending_bytes characters (Err NoMemory) = Unit {0}
+ReadsEnd mode pending_bytes characters (Err fault) = IsOfTheEnd fault × MayNotEnd mode pending_bytes characters × IsFaultAtEnd mode pending_bytes characters fault
 
 -- the limits and the refusal stay
 pub record SameLimits (old new : Held) : Type 0 where
@@ -105,9 +105,9 @@ pub record SameCounts (old new : Held) : Type 0 where
 abbrev pub LacksMemory : {Answer : Type 0} → Held → Result Answer TokenFault → Held → Type 0
 LacksMemory {Answer = Answer} old result new = OnErr result ((result ≡ Err NoMemory) × SameLimits old new × SameCounts old new)
 
--- what is held behind so many bytes of a token, with these kept
-abbrev pub with_kept : Held → Mode → List ℕ → ℕ → Held
-with_kept old mode bytes count = record old { mode = mode; kept = old.kept ++ bytes; size = old.size + count; file = old.file + count }
+-- what is held behind so many bytes of a token, with these pending
+abbrev pub with_pending_bytes : Held → Mode → List ℕ → ℕ → Held
+with_pending_bytes old mode bytes count = record old { mode = mode; pending_bytes = old.pending_bytes ++ bytes; size = old.size + count; file = old.file + count }
 
 -- what is held behind so many bytes of a string, with these characters known
 abbrev pub with_characters : Held → Mode → List ℕ → ℕ → Held
@@ -116,21 +116,21 @@ with_characters old mode characters count =
 
 -- what is held behind a token of which nothing is open any more
 abbrev pub behind_token : Held → ℕ → ℕ → Held
-behind_token old statement file = record old { mode = Between; kept = []; characters = []; size = 0; statement = statement; file = file }
+behind_token old statement file = record old { mode = Between; pending_bytes = []; characters = []; size = 0; statement = statement; file = file }
 
 -- a byte that is kept and ends the token
-abbrev pub Closes : Held → ℕ → Result Token TokenFault → Held → Type 0
-Closes old byte (Ok token) new = ReadsFound (closed old.mode (old.kept ++ byte ∷ [])) (Ok token) × (new ≡ behind_token old (old.statement + (old.size + 1)) (old.file + 1))
-Closes old byte (Err fault) new = ReadsFound (closed old.mode (old.kept ++ byte ∷ [])) (Err fault) × SameLimits old new × SameCounts old new
+abbrev pub ClosesToken : Held → ℕ → Result Token TokenFault → Held → Type 0
+ClosesToken old byte (Ok token) new = ReadsFound (closed_token old.mode (old.pending_bytes ++ byte ∷ [])) (Ok token) × (new ≡ behind_token old (old.statement + (old.size + 1)) (old.file + 1))
+ClosesToken old byte (Err fault) new = ReadsFound (closed_token old.mode (old.pending_bytes ++ byte ∷ [])) (Err fault) × SameLimits old new × SameCounts old new
 
 -- the token that a byte behind it ends
-abbrev pub Ends : Held → Result Token TokenFault → Held → Type 0
-Ends old (Ok token) new = ReadsFound (ended (state_of old)) (Ok token) × (new ≡ behind_token old (old.statement + old.size) old.file) × (pending_of old ≤ old.statement_limit)
-Ends old (Err fault) new = ReadsFound (ended (state_of old)) (Err fault) × SameLimits old new × SameCounts old new
+abbrev pub EndsToken : Held → Result Token TokenFault → Held → Type 0
+EndsToken old (Ok token) new = ReadsFound (ended_token (state_of old)) (Ok token) × (new ≡ behind_token old (old.statement + old.size) old.file) × (pending_of old ≤ old.statement_limit)
+EndsToken old (Err fault) new = ReadsFound (ended_token (state_of old)) (Err fault) × SameLimits old new × SameCounts old new
 
 -- the byte ends no token that means something
-abbrev pub EndsNone : Held → ℕ → Type 0
-EndsNone held byte = advance held.mode byte ≡ End → (found : Found) (token : meaning.Token) → ended (state_of held) ≡ Some found → Means found token → ⊥
+abbrev pub EndsNoMeantToken : Held → ℕ → Type 0
+EndsNoMeantToken held byte = advance held.mode byte ≡ End → (found : FoundToken) (token : meaning.Token) → ended_token (state_of held) ≡ Some found → Means found token → ⊥
 
 -- a byte that ends no token passes neither limit
 abbrev pub IsInLimits : Held → ℕ → Type 0
@@ -139,14 +139,14 @@ IsInLimits held byte = advance held.mode byte ≢ End → (held.file < held.file
 -- the fault of form of what a byte does, with what is known of the token that it ends
 abbrev pub IsFaultAt : Held → ℕ → Action → TokenFault → Type 0
 IsFaultAt held byte (Refuse wrong) fault = fault ≡ fault_of wrong
-IsFaultAt held byte End fault = IsFaultOf BadByte (ended (state_of held)) fault
-IsFaultAt held byte Close fault = IsFaultOf BadByte (closed held.mode (held.kept ++ byte ∷ [])) fault
+IsFaultAt held byte End fault = IsFaultOf BadByte (ended_token (state_of held)) fault
+IsFaultAt held byte Close fault = IsFaultOf BadByte (closed_token held.mode (held.pending_bytes ++ byte ∷ [])) fault
 IsFaultAt held byte other fault = fault ≡ BadByte
 
 -- why a byte is refused
 abbrev pub RefusesByte : Held → ℕ → TokenFault → Type 0
 RefusesByte held byte fault = elim (cause_of fault) [
-  | of_form ↦ IsDeadAt held (byte ∷ []) × EndsNone held byte × IsInLimits held byte × IsFaultAt held byte (advance held.mode byte) fault
+  | of_form ↦ IsDeadAt held (byte ∷ []) × EndsNoMeantToken held byte × IsInLimits held byte × IsFaultAt held byte (advance held.mode byte) fault
   | of_end ↦ ⊥
   | of_statement ↦ (held.statement_limit ≤ pending_of held) × (is_token_byte held.mode (advance held.mode byte) ≡ true) × (advance held.mode byte ≢ End) × (held.file < held.file_limit)
   | of_file ↦ (held.file_limit ≤ held.file) × (advance held.mode byte ≢ End)
@@ -162,8 +162,8 @@ pub record Takes (old : Held) (byte : ℕ) (new : Held) : Type 0 where
   pub gap : is_gap old.mode ≡ true → is_blank byte ≡ true → is_gap new.mode ≡ true
 
 -- a byte with which a token is given
-pub record Gives (old : Held) (byte : ℕ) (token : meaning.Token) (new : Held) : Type 0 where
-  pub found : Sized
+pub record GivesToken (old : Held) (byte : ℕ) (token : meaning.Token) (new : Held) : Type 0 where
+  pub found : SizedToken
   pub means : Means found.found token
   pub at_once : waits token ≡ false
   pub within : old.statement + found.size ≤ old.statement_limit
@@ -173,11 +173,11 @@ pub record Gives (old : Held) (byte : ℕ) (token : meaning.Token) (new : Held) 
   pub rest_is : (rest : List ℕ) → rest_of old (byte ∷ rest) ≡ before found (rest_of new rest)
 
 -- a byte that ends the token in front of it, and is not taken
-pub record Hands (old : Held) (byte : ℕ) (token : meaning.Token) (new : Held) : Type 0 where
-  pub found : Found
+pub record HandsOverToken (old : Held) (byte : ℕ) (token : meaning.Token) (new : Held) : Type 0 where
+  pub found : FoundToken
   pub means : Means found token
   pub waited : waits token ≡ true
-  pub ended_is : ended (state_of old) ≡ Some found
+  pub ended_is : ended_token (state_of old) ≡ Some found
   pub within : pending_of old ≤ old.statement_limit
   pub file_is : new.file ≡ old.file
   pub statement_is : new.statement ≡ old.statement + old.size
@@ -186,8 +186,8 @@ pub record Hands (old : Held) (byte : ℕ) (token : meaning.Token) (new : Held) 
 
 abbrev pub Steps : Held → ℕ → Result Outcome TokenFault → Held → Type 0
 Steps old byte (Ok Took) new = SameLimits old new × Takes old byte new
-Steps old byte (Ok (Gave token)) new = SameLimits old new × Gives old byte (meant token) new
-Steps old byte (Ok (Handed token)) new = SameLimits old new × Hands old byte (meant token) new
+Steps old byte (Ok (Gave token)) new = SameLimits old new × GivesToken old byte (meant token) new
+Steps old byte (Ok (Handed token)) new = SameLimits old new × HandsOverToken old byte (meant token) new
 Steps old byte (Err fault) new = SameLimits old new × RefusesByte old byte fault × SameCounts old new
 
 -- separator bytes, as a test
@@ -209,8 +209,8 @@ Runs old piece (Err fault) new = (fault ≡ NoMemory) × SameLimits old new × (
 
 -- bytes behind which a token was given with the last of them, or by the byte behind them
 pub data ScansToken (old : Held) (bytes : List ℕ) (behind : Option ℕ) (token : meaning.Token) (new : Held) : Type 0 where
-  gave : (middle : Held) (front : List ℕ) (byte : ℕ) → SameLimits old middle → TakesRun old front middle → Gives middle byte token new → bytes ≡ front ++ byte ∷ [] → ScansToken old bytes behind token new
-  handed : (middle : Held) (byte : ℕ) → SameLimits old middle → TakesRun old bytes middle → Hands middle byte token new → behind ≡ Some byte → ScansToken old bytes behind token new
+  gave : (middle : Held) (front : List ℕ) (byte : ℕ) → SameLimits old middle → TakesRun old front middle → GivesToken middle byte token new → bytes ≡ front ++ byte ∷ [] → ScansToken old bytes behind token new
+  handed : (middle : Held) (byte : ℕ) → SameLimits old middle → TakesRun old bytes middle → HandsOverToken middle byte token new → behind ≡ Some byte → ScansToken old bytes behind token new
 
 -- what a scan of a piece leaves: the piece taken whole, or the bytes up to a token, and the byte behind it where that was seen
 abbrev pub Scanned : Held → List ℕ → ℕ → Option meaning.Token → Held → Type 0

@@ -1,24 +1,26 @@
 ghost use Rattle.std.specs.Prelude.{◌≡◌, ◌≢◌, ◌+◌, ◌<◌, ◌≤◌, [], ◌∷◌, ◌++◌, length, take, true, false, Option, None, Some, OnOk, OnErr, IfOk, IfErr};
 ghost use Rattle.std.specs.Str.{IsUtf8, chars};
 ghost use Rattle.p21_exchange.specs.Laying.{count_behind};
-ghost use Rattle.p21_tokens_automaton.specs.Reading.{closed, ended, single_token, start};
+ghost use Rattle.p21_tokens_automaton.specs.Reading.{closed_token, ended_token, single_token, start};
 ghost use Rattle.p21_tokens_automaton.specs.declared.mode.Mode.TheVariants.{Between, Name};
 ghost use Rattle.p21_tokens_automaton.specs.declared.mode.NameMode.TheVariants.{Digits};
 ghost use Rattle.p21_tokens.specs.Fault.{IsOfTokens};
-ghost use Rattle.p21_tokens.specs.Front.{TakesFront};
+ghost use Rattle.p21_tokens.specs.Prefix.{TakesLeadingToken};
 ghost use Rattle.p21_tokens.specs.Held.{file_limit_of, pending_of, record_limit_of, refusal_of, state_of};
 ghost use Rattle.p21_tokens_automaton.specs.Step.{advance};
 ghost use Rattle.p21_basics.specs.History.{empty};
 ghost use Rattle.p21_tokens.specs.declared.fault.TokenFault.{TokenFault};
-ghost use Rattle.p21_tokens.specs.Histories.{FinishGives, FinishNames, IsPendingBehind, KeepsLimits, NeedsNoMemory, NextGives, RefusesAgain, Stands, TakesNoMore, TakesOf, TokenHistory};
-ghost use Rattle.p21_tokens.specs.Steps.{Closes, Ends, LacksMemory, Runs, Scans, Steps, Walks, behind_token, is_token_byte, with_characters, with_kept};
+ghost use Rattle.p21_tokens.specs.Histories.{FinishGives, FinishNamesFault, IsPendingBehind, KeepsLimits, NeedsNoMemory, NextGives, RefusesAgain, Stands, TakesNoMore, TakesWithinPiece, TokenHistory};
+ghost use Rattle.p21_tokens.specs.Steps.{ClosesToken, EndsToken, LacksMemory, Runs, Scans, Steps, Walks, behind_token, is_token_byte, with_characters, with_pending_bytes};
 ghost use Rattle.p21_tokens.specs.Token.{meant};
 
 mod passing;
 
 use crate::fault::{TokenFault, fault_of};
-use crate::front::front_token;
-use crate::reading::{marker_of, read_closed, read_end, read_ended, single_token};
+use crate::prefix::leading_token;
+use crate::read_token::{
+    marker_of, read_closed_token, read_ended_token, read_last_token, single_token,
+};
 use crate::step::{Outcome, is_token_byte};
 use crate::token::Token;
 use crate::within::{at_most, whole_characters};
@@ -36,7 +38,7 @@ pub struct Lexer {
     mode: Mode,
     // Of the open token: its bytes, where it is a number, a word or a binary; its characters, where it is a string; and
     // how many bytes of it are taken.
-    kept: Vec<u8>,
+    pending_bytes: Vec<u8>,
     text: Text,
     size: u64,
     // The token bytes behind the last `;`, without those of the open token.
@@ -53,13 +55,13 @@ pub struct Lexer {
 impl Model for Lexer {
     ghost use Rattle.std.specs.Prelude.{◌+◌, ◌≤◌};
     ghost use Rattle.p21_tokens.specs.Fault.{IsRefusalOfTokens};
-    ghost use Rattle.p21_tokens.specs.Held.{Held, KeepsBySize};
+    ghost use Rattle.p21_tokens.specs.Held.{Held, IsEmptyAtSizeZero};
 
     ghost Value = { Held };
 
     ghost view = { λ lexer. record {
       mode = lexer.mode;
-      kept = lexer.kept.items;
+      pending_bytes = lexer.pending_bytes.items;
       characters = lexer.text;
       size = lexer.size;
       statement = lexer.statement;
@@ -69,7 +71,7 @@ impl Model for Lexer {
       refused = lexer.refused;
     } };
 
-    ghost invariant = { λ lexer. (lexer.statement + lexer.size ≤ lexer.statement_limit) × (lexer.file ≤ lexer.file_limit) × KeepsBySize lexer.size lexer.kept.items lexer.text × IsRefusalOfTokens lexer.refused };
+    ghost invariant = { λ lexer. (lexer.statement + lexer.size ≤ lexer.statement_limit) × (lexer.file ≤ lexer.file_limit) × IsEmptyAtSizeZero lexer.size lexer.pending_bytes.items lexer.text × IsRefusalOfTokens lexer.refused };
 }
 
 impl Lexer {
@@ -82,7 +84,7 @@ impl Lexer {
         self.mode = mode;
     }
 
-    /// A byte of a token, of which nothing is kept.
+    /// A byte of a token, of which nothing is pending.
     fn skip(&mut self, mode: Mode)
         requires file { self.old.file < self.old.file_limit }
         requires statement { pending_of self.old < self.old.statement_limit }
@@ -93,14 +95,14 @@ impl Lexer {
         self.mode = mode;
     }
 
-    /// A byte of a token that is kept.
+    /// A byte of a token that becomes pending.
     fn keep(&mut self, mode: Mode, byte: u8) -> Result<(), TokenFault>
         requires file { self.old.file < self.old.file_limit }
         requires statement { pending_of self.old < self.old.statement_limit }
-        ensures ok { OnOk result (self.new ≡ with_kept self.old mode (byte ∷ []) 1) }
+        ensures ok { OnOk result (self.new ≡ with_pending_bytes self.old mode (byte ∷ []) 1) }
         ensures err { LacksMemory self.old result self.new }
     {
-        self.kept.push(byte)?;
+        self.pending_bytes.push(byte)?;
         self.file += 1;
         self.size += 1;
         self.mode = mode;
@@ -129,7 +131,7 @@ impl Lexer {
         ensures held { self.new ≡ behind_token self.old (count_behind self.old.statement (record { token = single_token single; size = 1 })) (self.old.file + 1) }
     {
         self.mode = Mode::Between;
-        self.kept.clear();
+        self.pending_bytes.clear();
         self.text = Text::new(self.alloc);
         self.file += 1;
         self.size = 0;
@@ -145,12 +147,12 @@ impl Lexer {
     fn close(&mut self, byte: u8) -> Result<Token, TokenFault>
         requires file { self.old.file < self.old.file_limit }
         requires statement { pending_of self.old < self.old.statement_limit }
-        ensures { Closes self.old byte result self.new }
+        ensures { ClosesToken self.old byte result self.new }
     {
-        self.kept.push(byte)?;
-        let token = read_closed(self.alloc, self.mode, &self.kept);
-        // Of a token of no bytes nothing may be kept.
-        self.kept.clear();
+        self.pending_bytes.push(byte)?;
+        let token = read_closed_token(self.alloc, self.mode, &self.pending_bytes);
+        // Of a token of no bytes nothing may be pending.
+        self.pending_bytes.clear();
         let token = token?;
         self.mode = Mode::Between;
         self.text = Text::new(self.alloc);
@@ -161,12 +163,12 @@ impl Lexer {
     }
 
     /// The token that a byte behind it ends.
-    fn hand(&mut self) -> Result<Token, TokenFault>
-        ensures { Ends self.old result self.new }
+    fn hand_token(&mut self) -> Result<Token, TokenFault>
+        ensures { EndsToken self.old result self.new }
     {
-        let token = read_ended(self.alloc, self.mode, &self.kept, &mut self.text)?;
+        let token = read_ended_token(self.alloc, self.mode, &self.pending_bytes, &mut self.text)?;
         self.mode = Mode::Between;
-        self.kept.clear();
+        self.pending_bytes.clear();
         self.text = Text::new(self.alloc);
         self.statement += self.size;
         self.size = 0;
@@ -203,20 +205,20 @@ impl Lexer {
                 Ok(token) => Ok(Outcome::Gave(token)),
                 Err(fault) => Err(fault),
             },
-            Action::Dash => self.dash(byte),
+            Action::Dash => self.take_dash(byte),
             Action::Refuse(wrong) => Err(fault_of(wrong)),
             Action::End => Err(TokenFault::BadByte),
         }
     }
 
     /// The `-` of the first or the last token of a file.
-    fn dash(&mut self, byte: u8) -> Result<Outcome, TokenFault>
+    fn take_dash(&mut self, byte: u8) -> Result<Outcome, TokenFault>
         requires action { advance self.old.mode byte ≡ Action.Dash }
         requires file { self.old.file < self.old.file_limit }
         requires statement { pending_of self.old < self.old.statement_limit }
         ensures { Steps self.old byte result self.new }
     {
-        let Some(mode) = marker_of(&self.kept) else {
+        let Some(mode) = marker_of(&self.pending_bytes) else {
             return Err(TokenFault::BadByte);
         };
         match self.keep(mode, byte) {
@@ -231,7 +233,7 @@ impl Lexer {
     {
         let action = advance(self.mode, byte);
         if let Action::End = action {
-            return match self.hand() {
+            return match self.hand_token() {
                 Ok(token) => Ok(Outcome::Handed(token)),
                 Err(fault) => Err(fault),
             };
@@ -266,14 +268,14 @@ impl Lexer {
         count
     }
 
-    /// Bytes of a token that are kept, as many as the limits allow.
+    /// Bytes of a token that become pending, as many as the limits allow.
     fn keep_run(&mut self, run: &[u8]) -> Result<usize, TokenFault>
         ensures within { IfOk result (λ count. count ≤ length run.now) }
-        ensures ok { IfOk result (λ count. self.new ≡ with_kept self.old self.old.mode (take count run.now) count) }
+        ensures ok { IfOk result (λ count. self.new ≡ with_pending_bytes self.old self.old.mode (take count run.now) count) }
         ensures err { LacksMemory self.old result self.new }
     {
         let run = &run[..at_most(run.len(), self.room())];
-        self.kept.extend_from_slice(run)?;
+        self.pending_bytes.extend_from_slice(run)?;
         self.file += run.len() as u64;
         self.size += run.len() as u64;
         Ok(run.len())
@@ -330,7 +332,7 @@ impl Lexer {
     {
         match run_of(self.mode, piece) {
             Run::Passed(count) => Ok(self.pass_run(count)),
-            Run::Kept(count) => {
+            Run::PendingBytes(count) => {
                 if count == 0 {
                     return Ok(0);
                 }
@@ -358,7 +360,7 @@ impl Lexer {
         }
     }
 
-    /// Whether nothing is kept of a token.
+    /// Whether nothing of a token is pending.
     fn is_at_start(&self) -> bool
         ensures { result ≡ true → state_of self.now ≡ start }
     {
@@ -369,13 +371,13 @@ impl Lexer {
     }
 
     /// Takes a token that stands whole at the front of bytes, if the limits allow it.
-    fn take_front(&mut self, bytes: &[u8]) -> Option<(usize, Token)>
-        ensures { TakesFront self.old bytes.now result self.new }
+    fn take_leading_token(&mut self, bytes: &[u8]) -> Option<(usize, Token)>
+        ensures { TakesLeadingToken self.old bytes.now result self.new }
     {
         if !self.is_at_start() {
             return None;
         }
-        let (count, token) = front_token(self.alloc, bytes)?;
+        let (count, token) = leading_token(self.alloc, bytes)?;
         let size = count as u64;
         if self.file_limit - self.file < size || self.statement_limit - self.statement < size {
             return None;
@@ -431,7 +433,7 @@ impl Lexer {
     {
         let mut taken = 0;
         while taken < piece.len() {
-            if let Some((count, token)) = self.take_front(&piece[taken..]) {
+            if let Some((count, token)) = self.take_leading_token(&piece[taken..]) {
                 return Ok((taken + count, Some(token)));
             }
             let blanks = self.take_blanks(&piece[taken..]);
@@ -457,7 +459,7 @@ impl Lexer {
         Lexer {
             alloc,
             mode: Mode::Between,
-            kept: Vec::new(alloc),
+            pending_bytes: Vec::new(alloc),
             text: Text::new(alloc),
             size: 0,
             statement: 0,
@@ -477,7 +479,7 @@ impl Lexer {
     /// The fault of the first byte that the limits or the standard refuse, or `NoMemory`; each later call answers the
     /// same.
     pub fn next(&mut self, piece: &[u8]) -> Result<(usize, Option<Token>), TokenFault>
-        ensures whole { TakesOf piece.now result }
+        ensures whole { TakesWithinPiece piece.now result }
         ensures history { NextGives self.old piece.now result self.new }
         ensures at_once { TakesNoMore self.old piece.now result }
         ensures again { RefusesAgain self.old result self.new }
@@ -510,7 +512,7 @@ impl Lexer {
     /// `EndsEarly` inside any other token or behind a lone `/`, `NoMemory`; the refusal of an earlier call.
     pub fn finish(self) -> Result<Option<Token>, TokenFault>
         ensures history { FinishGives self result }
-        ensures names { FinishNames self result }
+        ensures names { FinishNamesFault self result }
         ensures kind { IfErr result IsOfTokens }
         ensures again { (fault : TokenFault) → refusal_of self ≡ Some fault → result ≡ Err fault }
     {
@@ -518,7 +520,7 @@ impl Lexer {
             return Err(fault);
         }
         let mut text = self.text;
-        read_end(self.alloc, self.mode, &self.kept, &mut text)
+        read_last_token(self.alloc, self.mode, &self.pending_bytes, &mut text)
     }
 
     /// The token bytes behind the last `;`, with those of a token that isn't whole yet; a lone `/` doesn't count. After

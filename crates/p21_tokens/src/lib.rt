@@ -3,11 +3,11 @@
 #![tactic(auto)]
 
 mod fault;
-mod front;
 mod laying;
 mod lexer;
 mod param;
-mod reading;
+mod prefix;
+mod read_token;
 mod step;
 mod token;
 mod within;

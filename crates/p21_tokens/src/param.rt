@@ -1,7 +1,7 @@
 ghost use Rattle.std.specs.Prelude.{◌≡◌, ◌≤◌, ◌↔◌, ◌++◌, ◌∷◌, [], length, IsTrue, OnOk, IfOk, MatchResult};
 ghost use Rattle.p21_basics.specs.Limits.{text_limit};
 ghost use Rattle.p21_exchange.specs.Token.{IsScalarToken};
-ghost use Rattle.p21_tokens.specs.Finding.{FindsScalar, FindsOnly};
+ghost use Rattle.p21_tokens.specs.Finding.{FindsScalar, FindsOnlyScalar};
 ghost use Rattle.p21_tokens.specs.Parameter.{IsAnswer, IsRefusal};
 ghost use Rattle.p21_tokens.specs.Token.{meant};
 
@@ -65,12 +65,12 @@ fn one_scalar(alloc: Global, text: &[u8]) -> Result<Token, TokenFault>
         Ok(last) => last,
         Err(fault) => return Err(fault),
     };
-    only(found, last)
+    only_scalar(found, last)
 }
 
 /// The one of two tokens that is there, if it is a scalar.
-fn only(found: Option<Token>, last: Option<Token>) -> Result<Token, TokenFault>
-    ensures { FindsOnly found last result }
+fn only_scalar(found: Option<Token>, last: Option<Token>) -> Result<Token, TokenFault>
+    ensures { FindsOnlyScalar found last result }
 {
     match (found, last) {
         (None, None) => Err(TokenFault::EndsEarly),

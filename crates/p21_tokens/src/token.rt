@@ -3,7 +3,7 @@ ghost use Rattle.p21_exchange.specs.Spelling.{spelling};
 ghost use Rattle.p21_tokens.specs.Token.{meant};
 ghost use Rattle.p21_values.specs.Canonical.{Continues};
 
-use p21_values::{Bits, Canonical, Decimal, Name, NoMemory, Text, Whole, Word, or_restored};
+use p21_values::{Bits, Canonical, Decimal, Name, NoMemory, Text, Whole, Word, restore_on_failure};
 
 /// A token of an exchange structure (ISO 10303-21, tokens).
 #[derive(Debug, Drop)]
@@ -40,7 +40,7 @@ impl Token {
     {
         let before = out.len();
         let written = append(self, out);
-        or_restored(out, before, written)
+        restore_on_failure(out, before, written)
     }
 }
 

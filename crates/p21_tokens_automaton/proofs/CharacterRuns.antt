@@ -61,6 +61,6 @@ run-characters s bytes rest count h u =
     subst (λ (x : List ℕ). Runs Inside s.characters x Inside (s.characters ++ chars text)) is
     (characters-run (chars text) (scalars-chars text u) (subst EachCharacterByte (sym is) (each-taken bytes count (record { mode_is = refl; within = h.within; each = h.each }))) s.characters) in
     ap (λ (m : Mode). lex (record s { mode = m }) (text ++ rest)) h.mode_is
-    ∙ (run s.kept s.size rest
+    ∙ (run s.pending_bytes s.size rest
     ∙ (ap (λ (n : ℕ). lex (record s { mode = Text Inside; characters = s.characters ++ chars text; size = s.size + n }) rest) (length-take-le count bytes h.within)
     ∙ ap (λ (m : Mode). lex (record s { mode = m; characters = s.characters ++ chars text; size = s.size + count }) rest) (sym h.mode_is)))

@@ -7,7 +7,7 @@ use Rattle.p21_exchange.specs.Keyword.{IsKeyword}
 use Rattle.p21_exchange.specs.Number.{Sign, sign_bytes}
 use Rattle.p21_tokens_automaton.specs.Meaning.{Means, IsOutOfRange}
 use Rattle.p21_tokens_automaton.specs.Step.{marker_text}
-use Rattle.p21_tokens_automaton.specs.Reading.{Found, ended, closed, marker_of}
+use Rattle.p21_tokens_automaton.specs.Reading.{FoundToken, ended_token, closed_token, marker_of}
 use Rattle.p21_tokens_automaton.specs.declared.mode.Mode.{Mode}
 use Rattle.p21_tokens_automaton.specs.declared.mode.Mode.TheVariants.{Number, Word, Name, Binary, Text}
 use Rattle.p21_tokens_automaton.specs.declared.mode.NumberMode.{NumberMode}
@@ -74,32 +74,32 @@ NameFits (name_mode.Digits value) front =
 
 -- the bytes of an open token lead to this mode, these kept bytes and these characters
 abbrev pub ModeFits : Mode → List ℕ → List ℕ → List ℕ → Type 0
-ModeFits (Number mode) kept characters front = (kept ≡ front) × NumberFits mode front
-ModeFits (Word mode) kept characters front = (kept ≡ front) × WordFits mode front
-ModeFits (Name mode) kept characters front = NameFits mode front
-ModeFits (Binary mode) kept characters front = kept ≡ front
-ModeFits (Text mode) kept characters front = TextFits mode characters front
-ModeFits other kept characters front = ⊥
+ModeFits (Number mode) pending_bytes characters front = (pending_bytes ≡ front) × NumberFits mode front
+ModeFits (Word mode) pending_bytes characters front = (pending_bytes ≡ front) × WordFits mode front
+ModeFits (Name mode) pending_bytes characters front = NameFits mode front
+ModeFits (Binary mode) pending_bytes characters front = pending_bytes ≡ front
+ModeFits (Text mode) pending_bytes characters front = TextFits mode characters front
+ModeFits other pending_bytes characters front = ⊥
 
 -- the token of such a mode, if it has one, is spelled by these bytes
 abbrev pub EndFits : Mode → List ℕ → List ℕ → List ℕ → Type 0
-EndFits mode kept characters front =
-    (found : Found) (token : Token) → ended (record { mode = mode; kept = kept; characters = characters; size = length front }) ≡ Some found → Means found token → Spells token front
+EndFits mode pending_bytes characters front =
+    (found : FoundToken) (token : Token) → ended_token (record { mode = mode; pending_bytes = pending_bytes; characters = characters; size = length front }) ≡ Some found → Means found token → Spells token front
 
 -- the byte behind them may follow the token of such a mode; if there is no token, they are a real out of range
-pub record EndsBefore (mode : Mode) (kept characters front : List ℕ) (byte : ℕ) : Type 0 where
-  pub follows : (found : Found) (token : Token) → ended (record { mode = mode; kept = kept; characters = characters; size = length front }) ≡ Some found → Means found token → MayFollow token front byte
-  pub no_token : ((found : Found) (token : Token) → ended (record { mode = mode; kept = kept; characters = characters; size = length front }) ≡ Some found → Means found token → ⊥) → IsOutOfRange front byte
+pub record EndsBefore (mode : Mode) (pending_bytes characters front : List ℕ) (byte : ℕ) : Type 0 where
+  pub follows : (found : FoundToken) (token : Token) → ended_token (record { mode = mode; pending_bytes = pending_bytes; characters = characters; size = length front }) ≡ Some found → Means found token → MayFollow token front byte
+  pub no_token : ((found : FoundToken) (token : Token) → ended_token (record { mode = mode; pending_bytes = pending_bytes; characters = characters; size = length front }) ≡ Some found → Means found token → ⊥) → IsOutOfRange front byte
 
 -- what an action makes of them
 abbrev pub StepFits : Mode → List ℕ → List ℕ → List ℕ → ℕ → Action → Type 0
-StepFits mode kept characters front byte (Pass next) = ⊥
-StepFits mode kept characters front byte (Skip next) = ModeFits next kept characters (front ++ byte ∷ [])
-StepFits mode kept characters front byte (Keep next) = ModeFits next (kept ++ byte ∷ []) characters (front ++ byte ∷ [])
-StepFits mode kept characters front byte (Put next character) = ModeFits next kept (characters ++ character ∷ []) (front ++ byte ∷ [])
-StepFits mode kept characters front byte (Give one) = ⊥
-StepFits mode kept characters front byte Close =
-    (found : Found) (token : Token) → closed mode (kept ++ byte ∷ []) ≡ Some found → Means found token → Spells token (front ++ byte ∷ [])
-StepFits mode kept characters front byte End = EndsBefore mode kept characters front byte
-StepFits mode kept characters front byte Dash = (next : Mode) → marker_of kept ≡ Some next → ModeFits next (kept ++ byte ∷ []) characters (front ++ byte ∷ [])
-StepFits mode kept characters front byte (Refuse wrong) = Unit {0}
+StepFits mode pending_bytes characters front byte (Pass next) = ⊥
+StepFits mode pending_bytes characters front byte (Skip next) = ModeFits next pending_bytes characters (front ++ byte ∷ [])
+StepFits mode pending_bytes characters front byte (Keep next) = ModeFits next (pending_bytes ++ byte ∷ []) characters (front ++ byte ∷ [])
+StepFits mode pending_bytes characters front byte (Put next character) = ModeFits next pending_bytes (characters ++ character ∷ []) (front ++ byte ∷ [])
+StepFits mode pending_bytes characters front byte (Give one) = ⊥
+StepFits mode pending_bytes characters front byte Close =
+    (found : FoundToken) (token : Token) → closed_token mode (pending_bytes ++ byte ∷ []) ≡ Some found → Means found token → Spells token (front ++ byte ∷ [])
+StepFits mode pending_bytes characters front byte End = EndsBefore mode pending_bytes characters front byte
+StepFits mode pending_bytes characters front byte Dash = (next : Mode) → marker_of pending_bytes ≡ Some next → ModeFits next (pending_bytes ++ byte ∷ []) characters (front ++ byte ∷ [])
+StepFits mode pending_bytes characters front byte (Refuse wrong) = Unit {0}

@@ -3,7 +3,7 @@ use Rattle.std.proofs.Common.{◌≡◌, ℕ, ◌≤◌, List, [], ◌∷◌, �
 use Rattle.std.specs.List.{flat_map, AllByRecursion as Each}
 use Rattle.std.proofs.lemmas.Bool.{cases_eq}
 use Rattle.std.proofs.lemmas.Bool.Decides.{nat_tests}
-use Rattle.p21_exchange.specs.Separator.{Separator, blank, comment, EndsOnce, IsSeparator, separator_bytes, IsSeparatorText}
+use Rattle.p21_exchange.specs.Separator.{Separator, blank, comment, IsCommentText, IsSeparator, separator_bytes, IsSeparatorText}
 use Rattle.p21_tokens_automaton.proofs.Steps.{lex-pass}
 use Rattle.p21_tokens_automaton.specs.Step.{advance}
 use Rattle.p21_tokens_automaton.specs.Reading.{State, start, pass, lex}
@@ -25,7 +25,7 @@ advance-comment b h = search (rules, tests)
 advance-star-other : (b : ℕ) → (b ≡ 42 → ⊥) → (b ≡ 47 → ⊥) → advance Star b ≡ Pass Comment
 advance-star-other b h k = search (rules, tests)
 
-EndsOnce-tail : (b : ℕ) (inside : List ℕ) → EndsOnce (b ∷ inside) → EndsOnce inside
+EndsOnce-tail : (b : ℕ) (inside : List ℕ) → IsCommentText (b ∷ inside) → IsCommentText inside
 EndsOnce-tail b inside h x y e = h (b ∷ x) y (ap (λ s. b ∷ s) e)
 
 not-empty : (inside : List ℕ) → inside ++ (42 ∷ 47 ∷ []) ≡ [] → ⊥
@@ -34,17 +34,17 @@ not-empty (b ∷ inside) e = cc
 
 -- the bytes of a comment behind its mark lead back; behind a star too
 comment-ends : (inside rest : List ℕ)
-    → (EndsOnce inside → lex (gap Comment) (inside ++ 42 ∷ 47 ∷ rest) ≡ lex start rest) × (EndsOnce (42 ∷ inside) → lex (gap Star) (inside ++ 42 ∷ 47 ∷ rest) ≡ lex start rest)
+    → (IsCommentText inside → lex (gap Comment) (inside ++ 42 ∷ 47 ∷ rest) ≡ lex start rest) × (IsCommentText (42 ∷ inside) → lex (gap Star) (inside ++ 42 ∷ 47 ∷ rest) ≡ lex start rest)
 comment-ends [] rest =
     (λ _. lex-pass (gap Comment) Star 42 _ refl ∙ lex-pass (gap Star) Between 47 _ refl, λ _. lex-pass (gap Star) Star 42 _ refl ∙ lex-pass (gap Star) Between 47 _ refl)
 comment-ends (b ∷ inside) rest =
     let back = comment-ends inside rest in (
       λ h. elim (cases_eq b 42) [
-        | inl e ↦ (ap (λ c. lex (gap Comment) (c ∷ (inside ++ 42 ∷ 47 ∷ rest))) e ∙ lex-pass (gap Comment) Star 42 _ refl) ∙ back.1 (subst (λ c. EndsOnce (c ∷ inside)) e h)
+        | inl e ↦ (ap (λ c. lex (gap Comment) (c ∷ (inside ++ 42 ∷ 47 ∷ rest))) e ∙ lex-pass (gap Comment) Star 42 _ refl) ∙ back.1 (subst (λ c. IsCommentText (c ∷ inside)) e h)
         | inr n ↦ lex-pass (gap Comment) Comment b _ (advance-comment b n) ∙ back.0 (EndsOnce-tail b inside h)
       ],
       λ h. elim (cases_eq b 42) [
-        | inl e ↦ (ap (λ c. lex (gap Star) (c ∷ (inside ++ 42 ∷ 47 ∷ rest))) e ∙ lex-pass (gap Star) Star 42 _ refl) ∙ back.1 (subst (λ c. EndsOnce (c ∷ inside)) e (EndsOnce-tail 42 (b ∷ inside) h))
+        | inl e ↦ (ap (λ c. lex (gap Star) (c ∷ (inside ++ 42 ∷ 47 ∷ rest))) e ∙ lex-pass (gap Star) Star 42 _ refl) ∙ back.1 (subst (λ c. IsCommentText (c ∷ inside)) e (EndsOnce-tail 42 (b ∷ inside) h))
         | inr n ↦ elim (cases_eq b 47) [
           | inl e ↦ absurd (not-empty inside (h [] (inside ++ (42 ∷ 47 ∷ [])) (ap (λ c. 42 ∷ c ∷ (inside ++ (42 ∷ 47 ∷ []))) e)))
           | inr k ↦ lex-pass (gap Star) Comment b _ (advance-star-other b n k) ∙ back.0 (EndsOnce-tail b inside (EndsOnce-tail 42 (b ∷ inside) h))

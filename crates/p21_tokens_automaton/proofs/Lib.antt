@@ -22,4 +22,4 @@ pub mod Decoded
 pub mod Rows
 pub mod Theorems
 pub mod Spellings
-pub mod Fronts
+pub mod Prefixes

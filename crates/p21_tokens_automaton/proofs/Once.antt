@@ -9,36 +9,36 @@ use Rattle.p21_exchange.specs.Binary.{SpellsBits}
 use Rattle.p21_exchange.specs.Number.{Decimal, SpellsReal, SpellsWhole}
 use Rattle.p21_exchange.specs.Token.{Token, Spells}
 use Rattle.p21_exchange.specs.Token as token
-use Rattle.p21_tokens_automaton.specs.Meaning.{IsOfKind, Means, found_of}
-use Rattle.p21_tokens_automaton.specs.Reading.{Kind, keyword, user_keyword, whole, real, item, bits, Found, known, spelled}
+use Rattle.p21_tokens_automaton.specs.Meaning.{IsOfTokenClass, Means, found_of}
+use Rattle.p21_tokens_automaton.specs.Reading.{TokenClass, keyword, user_keyword, whole, real, item, bits, FoundToken, known, spelled}
 
 -- ---- the tokens of each kind
 
-keyword-parts : (t : Token) (spelling : List ℕ) → IsOfKind keyword t → Spells t spelling → (w : List ℕ) × (t ≡ token.keyword w) × (spelling ≡ w)
+keyword-parts : (t : Token) (spelling : List ℕ) → IsOfTokenClass keyword t → Spells t spelling → (w : List ℕ) × (t ≡ token.keyword w) × (spelling ≡ w)
 keyword-parts (token.keyword w) spelling k h = (w, refl, h.0)
 keyword-parts _ spelling k h = absurd k
 
-user_keyword-parts : (t : Token) (spelling : List ℕ) → IsOfKind user_keyword t → Spells t spelling → (w : List ℕ) × (t ≡ token.user_keyword w) × (spelling ≡ 33 ∷ w)
+user_keyword-parts : (t : Token) (spelling : List ℕ) → IsOfTokenClass user_keyword t → Spells t spelling → (w : List ℕ) × (t ≡ token.user_keyword w) × (spelling ≡ 33 ∷ w)
 user_keyword-parts (token.user_keyword w) spelling k h = (w, refl, h.0)
 user_keyword-parts _ spelling k h = absurd k
 
-item-parts : (t : Token) (spelling : List ℕ) → IsOfKind item t → Spells t spelling → (w : List ℕ) × (t ≡ token.item w) × (spelling ≡ 46 ∷ (w ++ (46 ∷ [])))
+item-parts : (t : Token) (spelling : List ℕ) → IsOfTokenClass item t → Spells t spelling → (w : List ℕ) × (t ≡ token.item w) × (spelling ≡ 46 ∷ (w ++ (46 ∷ [])))
 item-parts (token.item w) spelling k h = (w, refl, h.0)
 item-parts _ spelling k h = absurd k
 
-whole-parts : (t : Token) (spelling : List ℕ) → IsOfKind whole t → Spells t spelling → (z : ℤ) × (t ≡ token.whole z) × SpellsWhole spelling z
+whole-parts : (t : Token) (spelling : List ℕ) → IsOfTokenClass whole t → Spells t spelling → (z : ℤ) × (t ≡ token.whole z) × SpellsWhole spelling z
 whole-parts (token.whole z) spelling k h = (z, refl, h)
 whole-parts _ spelling k h = absurd k
 
-real-parts : (t : Token) (spelling : List ℕ) → IsOfKind real t → Spells t spelling → (d : Decimal) × (t ≡ token.real d) × SpellsReal spelling d
+real-parts : (t : Token) (spelling : List ℕ) → IsOfTokenClass real t → Spells t spelling → (d : Decimal) × (t ≡ token.real d) × SpellsReal spelling d
 real-parts (token.real d) spelling k h = (d, refl, h)
 real-parts _ spelling k h = absurd k
 
-bits-parts : (t : Token) (spelling : List ℕ) → IsOfKind bits t → Spells t spelling → (value : List Bool) × (t ≡ token.bits value) × SpellsBits spelling value
+bits-parts : (t : Token) (spelling : List ℕ) → IsOfTokenClass bits t → Spells t spelling → (value : List Bool) × (t ≡ token.bits value) × SpellsBits spelling value
 bits-parts (token.bits value) spelling k h = (value, refl, h)
 bits-parts _ spelling k h = absurd k
 
-kind-once : (kind : Kind) (spelling : List ℕ) (t u : Token) → IsOfKind kind t → Spells t spelling → IsOfKind kind u → Spells u spelling → t ≡ u
+kind-once : (kind : TokenClass) (spelling : List ℕ) (t u : Token) → IsOfTokenClass kind t → Spells t spelling → IsOfTokenClass kind u → Spells u spelling → t ≡ u
 kind-once keyword spelling t u k h l i =
     let a = keyword-parts t spelling k h in
     let b = keyword-parts u spelling l i in
@@ -64,7 +64,7 @@ kind-once bits spelling t u k h l i =
     let b = bits-parts u spelling l i in
     a.1 ∙ ap token.bits (bits_once spelling a.0 b.0 a.2 b.2) ∙ sym b.1
 
-pub means-once : (f : Found) (t u : Token) → Means f t → Means f u → t ≡ u
+pub means-once : (f : FoundToken) (t u : Token) → Means f t → Means f u → t ≡ u
 means-once (known v) t u p q = sym p ∙ q
 means-once (spelled kind spelling) t u p q = kind-once kind spelling t u p.0 p.1 q.0 q.1
 

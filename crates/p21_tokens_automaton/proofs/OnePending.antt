@@ -1,25 +1,25 @@
 -- The pending count of bytes is one, whatever laying it is counted by.
 use Rattle.std.proofs.Common.{◌≡◌, ℕ, ◌+◌, List, [], ◌∷◌, ◌++◌, length, refl, sym, ap, ◌∙◌, subst, append_assoc, append-nil, Some, inl, inr, arith}
 use Rattle.p21_exchange.specs.Laying.{Lexeme, count_behind, open_bytes}
-use Rattle.p21_exchange.specs.Pending.{Tail, nothing, unfinished, slash, open_comment, tail_bytes, tail_size, BeginsNoSeparator, IsTail, LaidUpTo, IsPending}
+use Rattle.p21_exchange.specs.Pending.{Tail, nothing, unfinished, slash, open_comment, tail_bytes, tail_size, BeginsWithNoSeparator, IsTail, LaidUpTo, IsPending}
 use Rattle.p21_exchange.specs.Separator.{blank, comment}
 use Rattle.p21_exchange.specs.Token.{Token, begin, finish, keyword, user_keyword, name, whole, real, text, item, bits, left, right, comma, semicolon, equals, dollar, star, Spells, IsFollowed, IsWholeAtOnce}
 use Rattle.p21_exchange.proofs.FirstBytes.{spelling_begins, no-spelling, slash-first}
 use Rattle.p21_exchange.proofs.OneGap.{HasNoSeparator, gap-one}
 use Rattle.p21_basics.proofs.Members.{head_is, tail_is}
 use Rattle.p21_tokens_automaton.specs.Meaning.{Means, found_of}
-use Rattle.p21_tokens_automaton.specs.Reading.{State, start, Answer, Found, nothing_but, open_at, before, Sized, ended, lex}
+use Rattle.p21_tokens_automaton.specs.Reading.{State, start, Answer, FoundToken, without_tokens, open_at, before, SizedToken, ended_token, lex}
 use Rattle.p21_tokens_automaton.proofs.Once.{means-once, spells-means}
 use Rattle.p21_tokens_automaton.proofs.Steps.{lex-nil, lex-end}
 use Rattle.p21_tokens_automaton.proofs.Theorems.{readings}
 
-pub begins-no_separator : (bytes : List ℕ) → BeginsNoSeparator bytes → HasNoSeparator bytes
+pub begins-no_separator : (bytes : List ℕ) → BeginsWithNoSeparator bytes → HasNoSeparator bytes
 begins-no_separator [] begins separator rest is same = begins
 begins-no_separator (byte ∷ bytes) begins (blank b) rest (inl low) same = let h : byte ≡ b = head_is byte b _ _ same in omega (arith, h, low, begins.0)
 begins-no_separator (byte ∷ bytes) begins (blank b) rest (inr delete) same = begins.1 (head_is byte b _ _ same ∙ delete)
 begins-no_separator (byte ∷ bytes) begins (comment inside) rest is same = begins.2 (head_is byte 47 _ _ same)
 
-pub begins-on : (bytes more : List ℕ) → BeginsNoSeparator bytes → BeginsNoSeparator (bytes ++ more)
+pub begins-on : (bytes more : List ℕ) → BeginsWithNoSeparator bytes → BeginsWithNoSeparator (bytes ++ more)
 begins-on [] more begins = absurd begins
 begins-on (byte ∷ bytes) more begins = begins
 
@@ -33,7 +33,7 @@ tail-begins slash is (blank b) rest (inr delete) same = let h : 47 ≡ b = head_
 tail-begins slash is (comment inside) rest separates same = let h : [] ≡ 42 ∷ ((inside ++ (42 ∷ 47 ∷ [])) ++ rest) = tail_is 47 47 _ _ same in cc
 tail-begins (open_comment inside) is (blank b) rest (inl low) same = let h : 47 ≡ b = head_is 47 b _ _ same in omega (arith, h, low)
 tail-begins (open_comment inside) is (blank b) rest (inr delete) same = let h : 47 ≡ b = head_is 47 b _ _ same in omega (arith, h, delete)
-tail-begins (open_comment inside) is (comment closed) rest separates same = is closed rest (tail_is 42 42 _ _ (tail_is 47 47 _ _ same) ∙ append_assoc closed (42 ∷ 47 ∷ []) rest)
+tail-begins (open_comment inside) is (comment closed_token) rest separates same = is closed_token rest (tail_is 42 42 _ _ (tail_is 47 47 _ _ same) ∙ append_assoc closed_token (42 ∷ 47 ∷ []) rest)
 
 -- two tokens at the front of the same bytes, each followed by what may follow it, are one
 pub record SameFront (t u : Token) (p q : List ℕ) : Type 0 where
@@ -41,15 +41,15 @@ pub record SameFront (t u : Token) (p q : List ℕ) : Type 0 where
   pub size : length p ≡ length q
 
 found-one : (t u : Token) (p q : List ℕ) → Spells t p → Spells u q → found_of t p ≡ found_of u q → t ≡ u
-found-one t u p q s r same = means-once (found_of u q) t u (subst (λ (f : Found). Means f t) same (spells-means t p s)) (spells-means u q r)
+found-one t u p q s r same = means-once (found_of u q) t u (subst (λ (f : FoundToken). Means f t) same (spells-means t p s)) (spells-means u q r)
 
-first-found : (x y : Sized) (a b : Answer) → before x a ≡ before y b → x ≡ y
+first-found : (x y : SizedToken) (a b : Answer) → before x a ≡ before y b → x ≡ y
 first-found x y a b same = let h : x ∷ a.given ≡ y ∷ b.given = ap (λ (z : Answer). z.given) same in cc
 
 -- what reading the bytes gives first: the token, or where it may go on a state that it waits in
 data Read (t : Token) (p rest : List ℕ) : Type 0 where
   given : (more : Answer) → lex start (p ++ rest) ≡ before (record { found = found_of t p; size = length p }) more → Read t p rest
-  waiting : (e : State) → rest ≡ [] → ended e ≡ Some (found_of t p) → e.size ≡ length p → lex start (p ++ rest) ≡ nothing_but (open_at e) → Read t p rest
+  waiting : (e : State) → rest ≡ [] → ended_token e ≡ Some (found_of t p) → e.size ≡ length p → lex start (p ++ rest) ≡ without_tokens (open_at e) → Read t p rest
 
 reads : (t : Token) (p rest : List ℕ) → Spells t p → IsFollowed t p rest → Read t p rest
 reads t p [] s followed = elim (readings t p s) [
@@ -67,18 +67,18 @@ front-one t u p q r w s z followed followed_ same = by (reads t p r s followed) 
     one : lex start (p ++ r) ≡ lex start (q ++ w)
     one = ap (λ (bytes : List ℕ). lex start bytes) same
 
-    not_waiting : (x : Sized) (a : Answer) (e : State) → before x a ≡ nothing_but (open_at e) → ⊥
+    not_waiting : (x : SizedToken) (a : Answer) (e : State) → before x a ≡ without_tokens (open_at e) → ⊥
     not_waiting x a e h = let k : x ∷ a.given ≡ [] = ap (λ (y : Answer). y.given) h in cc
 
     by : Read t p r → Read u q w → SameFront t u p q
     by (given a is) (given b is_) =
         let first = first-found _ _ a b (sym is ∙ one ∙ is_) in
-        record { token = found-one t u p q s z (ap (λ (x : Sized). x.found) first); size = ap (λ (x : Sized). x.size) first }
+        record { token = found-one t u p q s z (ap (λ (x : SizedToken). x.found) first); size = ap (λ (x : SizedToken). x.size) first }
     by (given a is) (waiting e empty ended_is size_is is_) = absurd (not_waiting _ a e (sym is ∙ one ∙ is_))
     by (waiting e empty ended_is size_is is) (given b is_) = absurd (not_waiting _ b e (sym is_ ∙ sym one ∙ is))
     by (waiting e empty ended_is size_is is) (waiting f empty_ ended_is_ size_is_ is_) =
         let state : e ≡ f = (let h : open_at e ≡ open_at f = ap (λ (a : Answer). a.ending) (sym is ∙ one ∙ is_) in cc) in
-        let found : found_of t p ≡ found_of u q = (let h : Some (found_of t p) ≡ Some (found_of u q) = sym ended_is ∙ ap (λ (x : State). ended x) state ∙ ended_is_ in cc) in
+        let found : found_of t p ≡ found_of u q = (let h : Some (found_of t p) ≡ Some (found_of u q) = sym ended_is ∙ ap (λ (x : State). ended_token x) state ∙ ended_is_ in cc) in
         record { token = found-one t u p q s z found; size = sym size_is ∙ ap (λ (x : State). x.size) state ∙ size_is_ }
 
 pub append-rest : (p q r w : List ℕ) → length p ≡ length q → p ++ r ≡ q ++ w → r ≡ w
@@ -116,7 +116,7 @@ pub none-pending : (lexemes : List Lexeme) (tail : Tail) (count : ℕ) → LaidU
 none-pending [] nothing count laid = omega arith
 none-pending [] slash count laid = omega arith
 none-pending [] (open_comment inside) count laid = omega arith
-none-pending [] (unfinished bytes) count (gap, is, separates, tail_is_) = absurd (subst BeginsNoSeparator (nothing-in gap bytes is) tail_is_.first)
+none-pending [] (unfinished bytes) count (gap, is, separates, tail_is_) = absurd (subst BeginsWithNoSeparator (nothing-in gap bytes is) tail_is_.first)
 none-pending (lexeme ∷ lexemes) tail count (gap, spelling, rest, is, separates, spells, size, followed, more) = absurd (no-spelling lexeme.token spelling rest spells (nothing-in gap (spelling ++ rest) is))
 
 -- a last token counts as much as one that is not known to be whole
@@ -134,12 +134,12 @@ last-counts l lexemes tail (unfinished bytes) spelling [] count spells size foll
 -- tails of the same bytes count the same
 tails-count : (tail other : Tail) → IsTail tail → IsTail other → tail_bytes tail ≡ tail_bytes other → tail_size tail ≡ tail_size other
 tails-count (unfinished a) (unfinished b) is is_ same = ap length same
-tails-count (unfinished a) nothing is is_ same = absurd (subst BeginsNoSeparator same is.first)
-tails-count (unfinished a) slash is is_ same = absurd ((subst BeginsNoSeparator same is.first).2 refl)
-tails-count (unfinished a) (open_comment inside) is is_ same = absurd ((subst BeginsNoSeparator same is.first).2 refl)
-tails-count nothing (unfinished b) is is_ same = absurd (subst BeginsNoSeparator (sym same) is_.first)
-tails-count slash (unfinished b) is is_ same = absurd ((subst BeginsNoSeparator (sym same) is_.first).2 refl)
-tails-count (open_comment inside) (unfinished b) is is_ same = absurd ((subst BeginsNoSeparator (sym same) is_.first).2 refl)
+tails-count (unfinished a) nothing is is_ same = absurd (subst BeginsWithNoSeparator same is.first)
+tails-count (unfinished a) slash is is_ same = absurd ((subst BeginsWithNoSeparator same is.first).2 refl)
+tails-count (unfinished a) (open_comment inside) is is_ same = absurd ((subst BeginsWithNoSeparator same is.first).2 refl)
+tails-count nothing (unfinished b) is is_ same = absurd (subst BeginsWithNoSeparator (sym same) is_.first)
+tails-count slash (unfinished b) is is_ same = absurd ((subst BeginsWithNoSeparator (sym same) is_.first).2 refl)
+tails-count (open_comment inside) (unfinished b) is is_ same = absurd ((subst BeginsWithNoSeparator (sym same) is_.first).2 refl)
 tails-count nothing nothing is is_ same = refl
 tails-count nothing slash is is_ same = refl
 tails-count nothing (open_comment inside) is is_ same = refl

@@ -4,7 +4,7 @@ use Rattle.std.proofs.lemmas.Bool.{cases_lt}
 use Rattle.std.proofs.lemmas.List.{take_more}
 use Rattle.p21_tokens_automaton.specs.Step.{advance}
 use Rattle.p21_tokens_automaton.specs.Reading.{State, lex}
-use Rattle.p21_tokens_automaton.specs.Run.{EachDoes, AreNameDigits, name_value}
+use Rattle.p21_tokens_automaton.specs.Run.{EachHasAction, AreNameDigits, name_value}
 use Rattle.p21_tokens_automaton.specs.declared.mode.Mode.{Mode}
 use Rattle.p21_tokens_automaton.specs.declared.mode.Mode.TheVariants.{Name}
 use Rattle.p21_tokens_automaton.specs.declared.mode.NameMode.TheVariants.{Digits}
@@ -13,28 +13,28 @@ use Rattle.p21_tokens_automaton.specs.declared.mode.Action.TheVariants.{Pass, Sk
 use Rattle.p21_tokens_automaton.proofs.Steps.{lex-pass, lex-skip, lex-keep, lex-put}
 use Rattle.p21_basics.specs.Digits.{is_digit}
 
-rest-does : (mode : Mode) (does : ℕ → Action) (b : ℕ) (bytes : List ℕ) (count : ℕ) → EachDoes mode (b ∷ bytes) (suc count) does → EachDoes mode bytes count does
+rest-does : (mode : Mode) (does : ℕ → Action) (b : ℕ) (bytes : List ℕ) (count : ℕ) → EachHasAction mode (b ∷ bytes) (suc count) does → EachHasAction mode bytes count does
 rest-does mode does b bytes count h = record { within = let w = h.within in omega arith; each = λ k l. h.each (suc k) (omega arith) }
 
 sized : (s : State) (a b : ℕ) (rest : List ℕ) → a ≡ b → lex (record s { size = a }) rest ≡ lex (record s { size = b }) rest
 sized s a b rest e = ap (λ (n : ℕ). lex (record s { size = n }) rest) e
 
-pub run-passes : (s : State) (bytes rest : List ℕ) (count : ℕ) → EachDoes s.mode bytes count (λ b. Pass s.mode) → lex s (take count bytes ++ rest) ≡ lex s rest
+pub run-passes : (s : State) (bytes rest : List ℕ) (count : ℕ) → EachHasAction s.mode bytes count (λ b. Pass s.mode) → lex s (take count bytes ++ rest) ≡ lex s rest
 run-passes s bytes rest zero h = refl
 run-passes s [] rest (suc count) h = refl
 run-passes s (b ∷ bytes) rest (suc count) h =
     lex-pass s s.mode b (take count bytes ++ rest) (h.each 0 (omega arith)) ∙ run-passes s bytes rest count (rest-does s.mode (λ x. Pass s.mode) b bytes count h)
 
-pub run-keeps : (s : State) (bytes rest : List ℕ) (count : ℕ) → EachDoes s.mode bytes count (λ b. Keep s.mode) → lex s (take count bytes ++ rest) ≡ lex (record s { kept = s.kept ++ take count bytes; size = s.size + count }) rest
-run-keeps s bytes rest zero h = ap (λ (k : List ℕ). lex (record s { kept = k }) rest) (sym (append-nil s.kept)) ∙ sized (record s { kept = s.kept ++ [] }) s.size (s.size + 0) rest (omega arith)
+pub run-keeps : (s : State) (bytes rest : List ℕ) (count : ℕ) → EachHasAction s.mode bytes count (λ b. Keep s.mode) → lex s (take count bytes ++ rest) ≡ lex (record s { pending_bytes = s.pending_bytes ++ take count bytes; size = s.size + count }) rest
+run-keeps s bytes rest zero h = ap (λ (k : List ℕ). lex (record s { pending_bytes = k }) rest) (sym (append-nil s.pending_bytes)) ∙ sized (record s { pending_bytes = s.pending_bytes ++ [] }) s.size (s.size + 0) rest (omega arith)
 run-keeps s [] rest (suc count) h = absurd (let w = h.within in omega arith)
 run-keeps s (b ∷ bytes) rest (suc count) h =
     lex-keep s s.mode b (take count bytes ++ rest) (h.each 0 (omega arith))
-    ∙ (run-keeps (record s { kept = s.kept ++ b ∷ []; size = s.size + 1 }) bytes rest count (rest-does s.mode (λ x. Keep s.mode) b bytes count h)
-    ∙ (ap (λ (k : List ℕ). lex (record s { kept = k; size = s.size + 1 + count }) rest) (append_assoc s.kept (b ∷ []) (take count bytes))
-    ∙ sized (record s { kept = s.kept ++ b ∷ take count bytes }) (s.size + 1 + count) (s.size + suc count) rest (omega arith)))
+    ∙ (run-keeps (record s { pending_bytes = s.pending_bytes ++ b ∷ []; size = s.size + 1 }) bytes rest count (rest-does s.mode (λ x. Keep s.mode) b bytes count h)
+    ∙ (ap (λ (k : List ℕ). lex (record s { pending_bytes = k; size = s.size + 1 + count }) rest) (append_assoc s.pending_bytes (b ∷ []) (take count bytes))
+    ∙ sized (record s { pending_bytes = s.pending_bytes ++ b ∷ take count bytes }) (s.size + 1 + count) (s.size + suc count) rest (omega arith)))
 
-pub run-puts : (s : State) (bytes rest : List ℕ) (count : ℕ) → EachDoes s.mode bytes count (λ b. Put s.mode b) → lex s (take count bytes ++ rest) ≡ lex (record s { characters = s.characters ++ take count bytes; size = s.size + count }) rest
+pub run-puts : (s : State) (bytes rest : List ℕ) (count : ℕ) → EachHasAction s.mode bytes count (λ b. Put s.mode b) → lex s (take count bytes ++ rest) ≡ lex (record s { characters = s.characters ++ take count bytes; size = s.size + count }) rest
 run-puts s bytes rest zero h = ap (λ (k : List ℕ). lex (record s { characters = k }) rest) (sym (append-nil s.characters)) ∙ sized (record s { characters = s.characters ++ [] }) s.size (s.size + 0) rest (omega arith)
 run-puts s [] rest (suc count) h = absurd (let w = h.within in omega arith)
 run-puts s (b ∷ bytes) rest (suc count) h =

@@ -4,13 +4,13 @@ use Rattle.std.proofs.lemmas.Bool.{cond_both, eqb-true, eqb-false}
 use Rattle.std.proofs.lemmas.Bool.Decides.{nat_tests}
 use Rattle.std.proofs.lemmas.Option.{same_Some}
 use Rattle.p21_exchange.specs.Token.{Token, item, bits, Spells, IsFollowed, MayFollow}
-use Rattle.p21_exchange.specs.Separator.{Separator, blank, comment, EndsOnce, IsSeparator, separator_bytes, IsSeparatorText}
+use Rattle.p21_exchange.specs.Separator.{Separator, blank, comment, IsCommentText, IsSeparator, separator_bytes, IsSeparatorText}
 use Rattle.p21_exchange.specs.Laying.{Lexeme}
-use Rattle.p21_exchange.specs.Pending.{Tail, nothing, unfinished, slash, open_comment, tail_bytes, BeginsNoSeparator}
+use Rattle.p21_exchange.specs.Pending.{Tail, nothing, unfinished, slash, open_comment, tail_bytes, BeginsWithNoSeparator}
 use Rattle.p21_tokens_automaton.specs.Meaning.{Means, MeanAll}
 use Rattle.p21_tokens_automaton.specs.Bytes.{is_blank}
 use Rattle.p21_tokens_automaton.specs.Step.{advance, between_action}
-use Rattle.p21_tokens_automaton.specs.Reading.{State, start, pass, skip, keep, put, Answer, nothing_but, open_at, stopped, Ending, before, Found, known, spelled, item as item_kind, bits as bits_kind, Sized, ended, closed, marker_of, given_first, dashed, single_token, first, act, lex}
+use Rattle.p21_tokens_automaton.specs.Reading.{State, start, pass, skip, keep, put, Answer, without_tokens, open_at, stopped, Ending, before, FoundToken, known, spelled, item as item_kind, bits as bits_kind, SizedToken, ended_token, closed_token, marker_of, given_first, continue_marker, single_token, first, act, lex}
 use Rattle.p21_tokens_automaton.specs.declared.mode.Mode.{Mode}
 use Rattle.p21_tokens_automaton.specs.declared.mode.Mode.TheVariants.{Between, Slash, Comment, Star, Number, Word, Name, Binary, Text}
 use Rattle.p21_tokens_automaton.specs.declared.mode.Single.{Single}
@@ -24,14 +24,14 @@ use Rattle.p21_tokens_automaton.proofs.Steps.{lex-nil, lex-byte, first-act}
 
 -- ---- what a reading up to the end of the bytes says
 
-abbrev pub read : List Sized → State → Answer
+abbrev pub read : List SizedToken → State → Answer
 read founds e = record { given = founds; ending = open_at e }
 
-pub before-read : (x : Sized) (a : Answer) (founds : List Sized) (e : State) → before x a ≡ read founds e → (more : List Sized) × (founds ≡ x ∷ more) × (a ≡ read more e)
+pub before-read : (x : SizedToken) (a : Answer) (founds : List SizedToken) (e : State) → before x a ≡ read founds e → (more : List SizedToken) × (founds ≡ x ∷ more) × (a ≡ read more e)
 before-read x a founds e r =
     (a.given, sym (ap (λ (y : Answer). y.given) r), let P : Ending → Answer = λ y. record { given = a.given; ending = y } in ap P (ap (λ (y : Answer). y.ending) r))
 
-pub not-read : (w : Wrong) (founds : List Sized) (e : State) → nothing_but (stopped w) ≡ read founds e → ⊥
+pub not-read : (w : Wrong) (founds : List SizedToken) (e : State) → without_tokens (stopped w) ≡ read founds e → ⊥
 not-read w founds e r = let p : stopped w ≡ open_at e = ap (λ (y : Answer). y.ending) r in cc
 
 pub cons-parts : {A : Type 0} (a b : A) (x y : List A) → a ∷ x ≡ b ∷ y → (a ≡ b) × (x ≡ y)
@@ -55,7 +55,7 @@ TailIs e nothing = e ≡ start
 TailIs e slash = e ≡ gap Slash
 TailIs e (open_comment inside) = ((e ≡ gap Comment) ⊎ (e ≡ gap Star)) × NoEnd inside
 TailIs e (unfinished bytes) =
-    ModeFits e.mode e.kept e.characters bytes × (e.size ≡ length bytes) × (lex start bytes ≡ nothing_but (open_at e)) × BeginsNoSeparator bytes
+    ModeFits e.mode e.pending_bytes e.characters bytes × (e.size ≡ length bytes) × (lex start bytes ≡ without_tokens (open_at e)) × BeginsWithNoSeparator bytes
 
 abbrev pub UpTo : List ℕ → List Lexeme → State → Type 0
 UpTo bytes lexemes e = (tail : Tail) × LaidTo bytes lexemes (tail_bytes tail) × TailIs e tail
@@ -83,17 +83,17 @@ up-to-token x ls spelling rest e s n f l = (l.0, ([], spelling, rest, refl, no-g
 -- the rest of a comment behind its mark
 abbrev CommentRest : List ℕ → List Lexeme → State → Type 0
 CommentRest bytes ls e =
-    ((inside rest : List ℕ) × (bytes ≡ inside ++ (42 ∷ 47 ∷ rest)) × EndsOnce inside × UpTo rest ls e)
+    ((inside rest : List ℕ) × (bytes ≡ inside ++ (42 ∷ 47 ∷ rest)) × IsCommentText inside × UpTo rest ls e)
     ⊎ ((ls ≡ []) × ((e ≡ gap Comment) ⊎ (e ≡ gap Star)) × NoEnd bytes)
 
-EndsOnce-nil : EndsOnce []
+EndsOnce-nil : IsCommentText []
 EndsOnce-nil [] y e = cc
 EndsOnce-nil (c ∷ []) y e = cc
 EndsOnce-nil (c ∷ d ∷ []) y e = cc
 EndsOnce-nil (c ∷ d ∷ e ∷ x) y h = cc
 
 -- a byte in front that makes no `*/`
-EndsOnce-cons : (c : ℕ) (inside : List ℕ) → EndsOnce inside → ((y : List ℕ) → c ≡ 42 → inside ++ (42 ∷ 47 ∷ []) ≡ 47 ∷ y → ⊥) → EndsOnce (c ∷ inside)
+EndsOnce-cons : (c : ℕ) (inside : List ℕ) → IsCommentText inside → ((y : List ℕ) → c ≡ 42 → inside ++ (42 ∷ 47 ∷ []) ≡ 47 ∷ y → ⊥) → IsCommentText (c ∷ inside)
 EndsOnce-cons c inside h n [] y e = let p = cons-parts c 42 (inside ++ (42 ∷ 47 ∷ [])) (47 ∷ y) e in absurd (n y p.0 p.1)
 EndsOnce-cons c inside h n (d ∷ x) y e = h x y (cons-parts c d (inside ++ (42 ∷ 47 ∷ [])) (x ++ (42 ∷ 47 ∷ y)) e).1
 
@@ -142,7 +142,7 @@ pub record Ended (front bytes : List ℕ) (ls : List Lexeme) (e : State) : Type 
 -- it does not end
 pub record Unended (front bytes : List ℕ) (ls : List Lexeme) (e : State) : Type 0 where
   pub none : ls ≡ []
-  pub fits : ModeFits e.mode e.kept e.characters (front ++ bytes)
+  pub fits : ModeFits e.mode e.pending_bytes e.characters (front ++ bytes)
   pub size_is : e.size ≡ length (front ++ bytes)
 
 abbrev TokenRest : List ℕ → List ℕ → List Lexeme → State → Type 0
@@ -165,9 +165,9 @@ shift front b bs ls e (inl i) =
     })
 shift front b bs ls e (inr i) =
     let same : (front ++ b ∷ []) ++ bs ≡ front ++ (b ∷ bs) = append_assoc front (b ∷ []) bs in
-    inr (record { none = i.none; fits = subst (λ x. ModeFits e.mode e.kept e.characters x) same i.fits; size_is = i.size_is ∙ ap length same })
+    inr (record { none = i.none; fits = subst (λ x. ModeFits e.mode e.pending_bytes e.characters x) same i.fits; size_is = i.size_is ∙ ap length same })
 
-no-separator-more : (front more : List ℕ) → BeginsNoSeparator front → BeginsNoSeparator (front ++ more)
+no-separator-more : (front more : List ℕ) → BeginsWithNoSeparator front → BeginsWithNoSeparator (front ++ more)
 no-separator-more [] more n = absurd n
 no-separator-more (b ∷ front) more n = n
 
@@ -178,9 +178,9 @@ RestAt Between s bytes ls e = s ≡ start → UpTo bytes ls e
 RestAt Slash s bytes ls e = s ≡ gap Slash → UpTo (47 ∷ bytes) ls e
 RestAt Comment s bytes ls e = s ≡ gap Comment → CommentRest bytes ls e
 RestAt Star s bytes ls e = s ≡ gap Star → CommentRest (42 ∷ bytes) ls e
-RestAt other s bytes ls e = (front : List ℕ) → BeginsNoSeparator front → ModeFits s.mode s.kept s.characters front → s.size ≡ length front → TokenRest front bytes ls e
+RestAt other s bytes ls e = (front : List ℕ) → BeginsWithNoSeparator front → ModeFits s.mode s.pending_bytes s.characters front → s.size ≡ length front → TokenRest front bytes ls e
 
-token-rest : (m : Mode) (s : State) (bytes : List ℕ) (ls : List Lexeme) (e : State) (front : List ℕ) → RestAt m s bytes ls e → ModeFits m s.kept s.characters front → BeginsNoSeparator front → ModeFits s.mode s.kept s.characters front → s.size ≡ length front → TokenRest front bytes ls e
+token-rest : (m : Mode) (s : State) (bytes : List ℕ) (ls : List Lexeme) (e : State) (front : List ℕ) → RestAt m s bytes ls e → ModeFits m s.pending_bytes s.characters front → BeginsWithNoSeparator front → ModeFits s.mode s.pending_bytes s.characters front → s.size ≡ length front → TokenRest front bytes ls e
 token-rest Between s bytes ls e front r f n g z = absurd f
 token-rest Slash s bytes ls e front r f n g z = absurd f
 token-rest Comment s bytes ls e front r f n g z = absurd f
@@ -192,7 +192,7 @@ token-rest (Binary m) s bytes ls e front r f n g z = r front n g z
 token-rest (Text m) s bytes ls e front r f n g z = r front n g z
 
 abbrev Sound : List ℕ → Type 0
-Sound bytes = (s : State) (founds : List Sized) (ls : List Lexeme) (e : State) → lex s bytes ≡ read founds e → MeanAll founds ls → RestAt s.mode s bytes ls e
+Sound bytes = (s : State) (founds : List SizedToken) (ls : List Lexeme) (e : State) → lex s bytes ≡ read founds e → MeanAll founds ls → RestAt s.mode s bytes ls e
 
 -- what a byte between tokens begins
 abbrev pub FirstFits : ℕ → Action → Type 0
@@ -213,19 +213,19 @@ single-followed single.Equals spelling (b ∷ rest) = tt
 single-followed single.Dollar spelling (b ∷ rest) = tt
 single-followed single.Star spelling (b ∷ rest) = tt
 
-closed-followed : (m : Mode) (kept : List ℕ) (f : Found) (t : Token) (spelling rest : List ℕ) → closed m kept ≡ Some f → Means f t → IsFollowed t spelling rest
-closed-followed m kept f t spelling [] e means = tt
-closed-followed (Word m) kept f t spelling (b ∷ rest) e means = by_item t (subst (λ (x : Found). Means x t) (sym (same_Some _ f e)) means)
+closed_token-followed : (m : Mode) (pending_bytes : List ℕ) (f : FoundToken) (t : Token) (spelling rest : List ℕ) → closed_token m pending_bytes ≡ Some f → Means f t → IsFollowed t spelling rest
+closed_token-followed m pending_bytes f t spelling [] e means = tt
+closed_token-followed (Word m) pending_bytes f t spelling (b ∷ rest) e means = by_item t (subst (λ (x : FoundToken). Means x t) (sym (same_Some _ f e)) means)
   where
-    by_item : (t : Token) → Means (spelled item_kind kept) t → IsFollowed t spelling (b ∷ rest)
+    by_item : (t : Token) → Means (spelled item_kind pending_bytes) t → IsFollowed t spelling (b ∷ rest)
     by_item (item word) h = tt
     by_item other h = absurd h.0
-closed-followed (Binary m) kept f t spelling (b ∷ rest) e means = by_bits t (subst (λ (x : Found). Means x t) (sym (same_Some _ f e)) means)
+closed_token-followed (Binary m) pending_bytes f t spelling (b ∷ rest) e means = by_bits t (subst (λ (x : FoundToken). Means x t) (sym (same_Some _ f e)) means)
   where
-    by_bits : (t : Token) → Means (spelled bits_kind kept) t → IsFollowed t spelling (b ∷ rest)
+    by_bits : (t : Token) → Means (spelled bits_kind pending_bytes) t → IsFollowed t spelling (b ∷ rest)
     by_bits (bits value) h = tt
     by_bits other h = absurd h.0
-closed-followed _ kept f t spelling (b ∷ rest) e means = cc
+closed_token-followed _ pending_bytes f t spelling (b ∷ rest) e means = cc
 
 -- a byte between tokens that opens one is no separator and no `/`
 abbrev Opens : Action → Type 0
@@ -233,7 +233,7 @@ Opens (Skip n) = Unit {0}
 Opens (Keep n) = Unit {0}
 Opens other = ⊥
 
-opens-first : (b : ℕ) → Opens (between_action b) → BeginsNoSeparator (b ∷ [])
+opens-first : (b : ℕ) → Opens (between_action b) → BeginsWithNoSeparator (b ∷ [])
 opens-first b o =
     let no_blank = blank-or b o in (no_blank.0, no_blank.1, λ e. subst (λ (c : ℕ). Opens (between_action c)) e o)
   where
@@ -243,7 +243,7 @@ opens-first b o =
     blank-or : (b : ℕ) → Opens (between_action b) → (32 < b) × (b ≢ 127)
     blank-or b = cond_both (is_blank b) _ _ (λ a. Opens a → (32 < b) × (b ≢ 127)) (λ e o. absurd o) (λ e o. no_blank b e)
 
-nil-means : (ls : List Lexeme) (founds : List Sized) → ls ≡ [] → MeanAll founds ls → founds ≡ []
+nil-means : (ls : List Lexeme) (founds : List SizedToken) → ls ≡ [] → MeanAll founds ls → founds ≡ []
 nil-means [] [] e m = refl
 nil-means [] (x ∷ founds) e m = absurd m
 nil-means (l ∷ ls) founds e m = cc
@@ -253,7 +253,7 @@ means-nil [] m = refl
 means-nil (l ∷ ls) m = absurd m
 
 -- a token found in front
-record FoundFirst (x : Sized) (more : List Sized) (ls : List Lexeme) : Type 0 where
+record FoundFirst (x : SizedToken) (more : List SizedToken) (ls : List Lexeme) : Type 0 where
   lexeme : Lexeme
   others : List Lexeme
   ls_are : ls ≡ lexeme ∷ others
@@ -261,28 +261,28 @@ record FoundFirst (x : Sized) (more : List Sized) (ls : List Lexeme) : Type 0 wh
   size_is : lexeme.size ≡ x.size
   rest : MeanAll more others
 
-found-first : (x : Sized) (more founds : List Sized) (ls : List Lexeme) → founds ≡ x ∷ more → MeanAll founds ls → FoundFirst x more ls
-found-first x more founds ls e m = at ls (subst (λ (y : List Sized). MeanAll y ls) e m)
+found-first : (x : SizedToken) (more founds : List SizedToken) (ls : List Lexeme) → founds ≡ x ∷ more → MeanAll founds ls → FoundFirst x more ls
+found-first x more founds ls e m = at ls (subst (λ (y : List SizedToken). MeanAll y ls) e m)
   where
     at : (ls : List Lexeme) → MeanAll (x ∷ more) ls → FoundFirst x more ls
     at [] m = absurd m
     at (l ∷ ls) m = record { lexeme = l; others = ls; ls_are = refl; means = m.0; size_is = m.1; rest = m.2 }
 
 module _ (first-fits : (b : ℕ) → FirstFits b (between_action b))
-    (mode-fits : (m : Mode) (b : ℕ) (kept characters front : List ℕ) → ModeFits m kept characters front → StepFits m kept characters front b (advance m b))
-    (mode-ends : (m : Mode) (kept characters front : List ℕ) → ModeFits m kept characters front → EndFits m kept characters front) where
+    (mode-fits : (m : Mode) (b : ℕ) (pending_bytes characters front : List ℕ) → ModeFits m pending_bytes characters front → StepFits m pending_bytes characters front b (advance m b))
+    (mode-ends : (m : Mode) (pending_bytes characters front : List ℕ) → ModeFits m pending_bytes characters front → EndFits m pending_bytes characters front) where
   module _ (b : ℕ) (bs : List ℕ) (sound : Sound bs) where
     -- a token that the byte opens
-    opened : (founds : List Sized) (ls : List Lexeme) (e : State) → lex start (b ∷ bs) ≡ read founds e → MeanAll founds ls → BeginsNoSeparator (b ∷ []) → TokenRest (b ∷ []) bs ls e → UpTo (b ∷ bs) ls e
+    opened : (founds : List SizedToken) (ls : List Lexeme) (e : State) → lex start (b ∷ bs) ≡ read founds e → MeanAll founds ls → BeginsWithNoSeparator (b ∷ []) → TokenRest (b ∷ []) bs ls e → UpTo (b ∷ bs) ls e
     opened founds ls e r m n (inl i) =
         subst (λ (x : List Lexeme). UpTo (b ∷ bs) x e) (sym i.ls_are)
         (subst (λ (x : List ℕ). UpTo x (i.lexeme ∷ i.others) e) (ap (λ (x : List ℕ). b ∷ x) (sym i.bytes_are))
         (up-to-token i.lexeme i.others (b ∷ i.more) i.rest e i.spells i.size_is i.followed i.laid))
     opened founds ls e r m n (inr i) =
         subst (λ (x : List Lexeme). UpTo (b ∷ bs) x e) (sym i.none)
-        (unfinished (b ∷ bs), ([], refl, no-gap), (i.fits, i.size_is, r ∙ ap (λ (x : List Sized). read x e) (nil-means ls founds i.none m), n))
+        (unfinished (b ∷ bs), ([], refl, no-gap), (i.fits, i.size_is, r ∙ ap (λ (x : List SizedToken). read x e) (nil-means ls founds i.none m), n))
 
-    between-step : (founds : List Sized) (ls : List Lexeme) (e : State) → lex start (b ∷ bs) ≡ read founds e → MeanAll founds ls → UpTo (b ∷ bs) ls e
+    between-step : (founds : List SizedToken) (ls : List Lexeme) (e : State) → lex start (b ∷ bs) ≡ read founds e → MeanAll founds ls → UpTo (b ∷ bs) ls e
     between-step founds ls e r m = at (between_action b) refl (first-fits b) (sym (lex-byte start b bs) ∙ r)
       where
         at : (a : Action) → between_action b ≡ a → FirstFits b a → act a start b (λ next. lex next bs) ≡ read founds e → UpTo (b ∷ bs) ls e
@@ -308,17 +308,17 @@ module _ (first-fits : (b : ℕ) → FirstFits b (between_action b))
         at End q f z = absurd f
         at Dash q f z = absurd f
 
-    slash-step : (founds : List Sized) (ls : List Lexeme) (e : State) → act (advance Slash b) (gap Slash) b (λ next. lex next bs) ≡ read founds e → MeanAll founds ls → UpTo (47 ∷ b ∷ bs) ls e
+    slash-step : (founds : List SizedToken) (ls : List Lexeme) (e : State) → act (advance Slash b) (gap Slash) b (λ next. lex next bs) ≡ read founds e → MeanAll founds ls → UpTo (47 ∷ b ∷ bs) ls e
     slash-step founds ls e r m = cond_both _ _ _ (λ a. act a (gap Slash) b (λ next. lex next bs) ≡ read founds e → UpTo (47 ∷ b ∷ bs) ls e)
         (λ q z. subst (λ (c : ℕ). UpTo (47 ∷ c ∷ bs) ls e) (sym (eqb-true b 42 q)) (comment-front bs ls e (sound (gap Comment) founds ls e z m refl)))
         (λ q z. absurd (not-read _ founds e z)) r
 
-    comment-step : (founds : List Sized) (ls : List Lexeme) (e : State) → act (advance Comment b) (gap Comment) b (λ next. lex next bs) ≡ read founds e → MeanAll founds ls → CommentRest (b ∷ bs) ls e
+    comment-step : (founds : List SizedToken) (ls : List Lexeme) (e : State) → act (advance Comment b) (gap Comment) b (λ next. lex next bs) ≡ read founds e → MeanAll founds ls → CommentRest (b ∷ bs) ls e
     comment-step founds ls e r m = cond_both _ _ _ (λ a. act a (gap Comment) b (λ next. lex next bs) ≡ read founds e → CommentRest (b ∷ bs) ls e)
         (λ q z. subst (λ (c : ℕ). CommentRest (c ∷ bs) ls e) (sym (eqb-true b 42 q)) (sound (gap Star) founds ls e z m refl))
         (λ q z. comment-byte b bs ls e (eqb-false b 42 q) (sound (gap Comment) founds ls e z m refl)) r
 
-    star-step : (founds : List Sized) (ls : List Lexeme) (e : State) → act (advance Star b) (gap Star) b (λ next. lex next bs) ≡ read founds e → MeanAll founds ls → CommentRest (42 ∷ b ∷ bs) ls e
+    star-step : (founds : List SizedToken) (ls : List Lexeme) (e : State) → act (advance Star b) (gap Star) b (λ next. lex next bs) ≡ read founds e → MeanAll founds ls → CommentRest (42 ∷ b ∷ bs) ls e
     star-step founds ls e r m =
         let P : Action → Type 0 = λ a. act a (gap Star) b (λ next. lex next bs) ≡ read founds e → CommentRest (42 ∷ b ∷ bs) ls e in
         cond_both _ _ _ P
@@ -328,19 +328,19 @@ module _ (first-fits : (b : ℕ) → FirstFits b (between_action b))
         (λ q z. star-byte b bs ls e (eqb-false b 47 f) (comment-byte b bs ls e (eqb-false b 42 q) (sound (gap Comment) founds ls e z m refl)))) r
 
     -- a byte of or behind a token
-    token-step : (s : State) (founds : List Sized) (ls : List Lexeme) (e : State) (front : List ℕ) → lex s (b ∷ bs) ≡ read founds e → MeanAll founds ls → BeginsNoSeparator front → ModeFits s.mode s.kept s.characters front → s.size ≡ length front → TokenRest front (b ∷ bs) ls e
-    token-step s founds ls e front r m n f z = at (advance s.mode b) (mode-fits s.mode b s.kept s.characters front f) (sym (lex-byte s b bs) ∙ r)
+    token-step : (s : State) (founds : List SizedToken) (ls : List Lexeme) (e : State) (front : List ℕ) → lex s (b ∷ bs) ≡ read founds e → MeanAll founds ls → BeginsWithNoSeparator front → ModeFits s.mode s.pending_bytes s.characters front → s.size ≡ length front → TokenRest front (b ∷ bs) ls e
+    token-step s founds ls e front r m n f z = at (advance s.mode b) (mode-fits s.mode b s.pending_bytes s.characters front f) (sym (lex-byte s b bs) ∙ r)
       where
-        more : BeginsNoSeparator (front ++ b ∷ [])
+        more : BeginsWithNoSeparator (front ++ b ∷ [])
         more = no-separator-more front (b ∷ []) n
 
         longer : s.size + 1 ≡ length (front ++ b ∷ [])
         longer = omega (arith, z, length-append front (b ∷ []))
 
-        goes : (next : State) → ModeFits next.mode next.kept next.characters (front ++ b ∷ []) → next.size ≡ s.size + 1 → lex next bs ≡ read founds e → TokenRest front (b ∷ bs) ls e
+        goes : (next : State) → ModeFits next.mode next.pending_bytes next.characters (front ++ b ∷ []) → next.size ≡ s.size + 1 → lex next bs ≡ read founds e → TokenRest front (b ∷ bs) ls e
         goes next g k q = shift front b bs ls e (token-rest next.mode next bs ls e (front ++ b ∷ []) (sound next founds ls e q m) g more g (k ∙ longer))
 
-        closes : (o : Option Found) → closed s.mode (s.kept ++ b ∷ []) ≡ o → ((found : Found) (token : Token) → closed s.mode (s.kept ++ b ∷ []) ≡ Some found → Means found token → Spells token (front ++ b ∷ [])) → given_first o (s.size + 1) (lex start bs) ≡ read founds e → TokenRest front (b ∷ bs) ls e
+        closes : (o : Option FoundToken) → closed_token s.mode (s.pending_bytes ++ b ∷ []) ≡ o → ((found : FoundToken) (token : Token) → closed_token s.mode (s.pending_bytes ++ b ∷ []) ≡ Some found → Means found token → Spells token (front ++ b ∷ [])) → given_first o (s.size + 1) (lex start bs) ≡ read founds e → TokenRest front (b ∷ bs) ls e
         closes None q g h = absurd (not-read _ founds e h)
         closes (Some x) q g h =
             let p = before-read (record { found = x; size = s.size + 1 }) (lex start bs) founds e h in
@@ -354,11 +354,11 @@ module _ (first-fits : (b : ℕ) → FirstFits b (between_action b))
               bytes_are = refl;
               spells = g x y.lexeme.token q y.means;
               size_is = y.size_is ∙ longer;
-              followed = closed-followed s.mode (s.kept ++ b ∷ []) x y.lexeme.token (front ++ b ∷ []) bs q y.means;
+              followed = closed_token-followed s.mode (s.pending_bytes ++ b ∷ []) x y.lexeme.token (front ++ b ∷ []) bs q y.means;
               laid = sound start p.0 y.others e p.2 y.rest refl;
             })
 
-        ends : (o : Option Found) → ended s ≡ o → ((found : Found) (token : Token) → ended s ≡ Some found → Means found token → MayFollow token front b) → given_first o s.size (first (advance Between b) b (λ next. lex next bs)) ≡ read founds e → TokenRest front (b ∷ bs) ls e
+        ends : (o : Option FoundToken) → ended_token s ≡ o → ((found : FoundToken) (token : Token) → ended_token s ≡ Some found → Means found token → MayFollow token front b) → given_first o s.size (first (advance Between b) b (λ next. lex next bs)) ≡ read founds e → TokenRest front (b ∷ bs) ls e
         ends None q g h = absurd (not-read _ founds e h)
         ends (Some x) q g h =
             let p = before-read (record { found = x; size = s.size }) (first (advance Between b) b (λ next. lex next bs)) founds e h in
@@ -371,25 +371,25 @@ module _ (first-fits : (b : ℕ) → FirstFits b (between_action b))
               rest = b ∷ bs;
               ls_are = y.ls_are;
               bytes_are = refl;
-              spells = subst (λ (c : List ℕ). Spells y.lexeme.token c) (sym same) (mode-ends s.mode s.kept s.characters front f x y.lexeme.token q y.means);
+              spells = subst (λ (c : List ℕ). Spells y.lexeme.token c) (sym same) (mode-ends s.mode s.pending_bytes s.characters front f x y.lexeme.token q y.means);
               size_is = y.size_is ∙ (z ∙ ap length (sym same));
               followed = subst (λ (c : List ℕ). MayFollow y.lexeme.token c b) (sym same) (g x y.lexeme.token q y.means);
               laid = between-step p.0 y.others e (lex-byte start b bs ∙ (sym (first-act (advance Between b) b (λ next. lex next bs)) ∙ p.2)) y.rest;
             })
 
-        dashes : (o : Option Mode) → marker_of s.kept ≡ o → ((next : Mode) → marker_of s.kept ≡ Some next → ModeFits next (s.kept ++ b ∷ []) s.characters (front ++ b ∷ [])) → dashed o s b (λ next. lex next bs) ≡ read founds e → TokenRest front (b ∷ bs) ls e
+        dashes : (o : Option Mode) → marker_of s.pending_bytes ≡ o → ((next : Mode) → marker_of s.pending_bytes ≡ Some next → ModeFits next (s.pending_bytes ++ b ∷ []) s.characters (front ++ b ∷ [])) → continue_marker o s b (λ next. lex next bs) ≡ read founds e → TokenRest front (b ∷ bs) ls e
         dashes None q g h = absurd (not-read _ founds e h)
         dashes (Some x) q g h = goes (keep s x b) (g x q) refl h
 
-        at : (a : Action) → StepFits s.mode s.kept s.characters front b a → act a s b (λ next. lex next bs) ≡ read founds e → TokenRest front (b ∷ bs) ls e
+        at : (a : Action) → StepFits s.mode s.pending_bytes s.characters front b a → act a s b (λ next. lex next bs) ≡ read founds e → TokenRest front (b ∷ bs) ls e
         at (Pass x) g h = absurd g
         at (Skip x) g h = goes (skip s x) g refl h
         at (Keep x) g h = goes (keep s x b) g refl h
         at (Put x c) g h = goes (put s x c) g refl h
         at (Give one) g h = absurd g
-        at Close g h = closes (closed s.mode (s.kept ++ b ∷ [])) refl g h
-        at End g h = ends (ended s) refl g.follows h
-        at Dash g h = dashes (marker_of s.kept) refl g h
+        at Close g h = closes (closed_token s.mode (s.pending_bytes ++ b ∷ [])) refl g h
+        at End g h = ends (ended_token s) refl g.follows h
+        at Dash g h = dashes (marker_of s.pending_bytes) refl g h
         at (Refuse w) g h = absurd (not-read w founds e h)
 
     step : Sound (b ∷ bs)
@@ -416,15 +416,15 @@ module _ (first-fits : (b : ℕ) → FirstFits b (between_action b))
       same = let p : open_at s ≡ open_at e = ap (λ (y : Answer). y.ending) (sym (lex-nil s) ∙ r) in cc
 
       none : ls ≡ []
-      none = means-nil ls (subst (λ (x : List Sized). MeanAll x ls) (sym (ap (λ (y : Answer). y.given) (sym (lex-nil s) ∙ r))) m)
+      none = means-nil ls (subst (λ (x : List SizedToken). MeanAll x ls) (sym (ap (λ (y : Answer). y.given) (sym (lex-nil s) ∙ r))) m)
 
       up-to : (tail : Tail) → TailIs e tail → UpTo (tail_bytes tail) ls e
       up-to tail t = subst (λ (x : List Lexeme). UpTo (tail_bytes tail) x e) (sym none) (tail, ([], refl, no-gap), t)
 
-      in-token : (front : List ℕ) → BeginsNoSeparator front → ModeFits s.mode s.kept s.characters front → s.size ≡ length front → TokenRest front [] ls e
+      in-token : (front : List ℕ) → BeginsWithNoSeparator front → ModeFits s.mode s.pending_bytes s.characters front → s.size ≡ length front → TokenRest front [] ls e
       in-token front n f z =
           let whole : front ≡ front ++ [] = sym (append-nil front) in
-          inr (record { none = none; fits = subst (λ (c : List ℕ). ModeFits e.mode e.kept e.characters c) whole (subst (λ (x : State). ModeFits x.mode x.kept x.characters front) same f); size_is = ap (λ (x : State). x.size) (sym same) ∙ (z ∙ ap length whole) })
+          inr (record { none = none; fits = subst (λ (c : List ℕ). ModeFits e.mode e.pending_bytes e.characters c) whole (subst (λ (x : State). ModeFits x.mode x.pending_bytes x.characters front) same f); size_is = ap (λ (x : State). x.size) (sym same) ∙ (z ∙ ap length whole) })
 
       at : (k : Mode) → s.mode ≡ k → RestAt k s [] ls e
       at Between p = λ q. up-to nothing (sym same ∙ q)
@@ -442,5 +442,5 @@ module _ (first-fits : (b : ℕ) → FirstFits b (between_action b))
   sound-all (b ∷ bs) = step b bs (sound-all bs)
 
   -- the tokens that are found are laid in the bytes, up to what the state says
-  pub read-laid : (bytes : List ℕ) (founds : List Sized) (ls : List Lexeme) (e : State) → lex start bytes ≡ read founds e → MeanAll founds ls → UpTo bytes ls e
+  pub read-laid : (bytes : List ℕ) (founds : List SizedToken) (ls : List Lexeme) (e : State) → lex start bytes ≡ read founds e → MeanAll founds ls → UpTo bytes ls e
   read-laid bytes founds ls e r m = sound-all bytes start founds ls e r m refl

@@ -9,7 +9,7 @@ use Rattle.std.proofs.lemmas.Bool.Decides.{nat_tests}
 use lib.Utf8.{scalar_cases}
 use Rattle.p21_basics.specs.Digits.{hex_digit, hex_digits}
 use Rattle.p21_exchange.specs.Text.{StringUnit, ignored, plain, doubled, high_codepoint, page, alphabet_a, arbitrary, extended2, extended4, IsApostropheOrBackslash, IsStringUnit, end_extended, unit_bytes, unit_characters, utf16_groups, Encodes}
-use Rattle.p21_tokens_automaton.specs.Step.{text_action, utf8_action, utf8_value, group2, low_group, put_scalar, group_value, long_value}
+use Rattle.p21_tokens_automaton.specs.Step.{text_action, utf8_action, utf8_value, group_action, low_group_action, put_scalar, group_value, long_value}
 use Rattle.p21_tokens_automaton.specs.Reading.{State, start, skip, lex}
 use Rattle.p21_tokens_automaton.specs.declared.mode.Mode.TheVariants.{Text}
 use Rattle.p21_tokens_automaton.specs.declared.mode.TextMode.{TextMode}
@@ -23,31 +23,31 @@ use Rattle.p21_tokens_automaton.proofs.Steps.{lex-skip, lex-put}
 
 -- inside a string, behind bytes that stand for these characters
 abbrev pub in_text : List ℕ → TextMode → List ℕ → ℕ → State
-in_text kept m characters size = record { mode = Text m; kept = kept; characters = characters; size = size }
+in_text pending_bytes m characters size = record { mode = Text m; pending_bytes = pending_bytes; characters = characters; size = size }
 
 -- from one state over these bytes to another
 abbrev pub Runs : TextMode → List ℕ → List ℕ → TextMode → List ℕ → Type 0
-Runs m characters bytes next after = (kept : List ℕ) (size : ℕ) (rest : List ℕ) → lex (in_text kept m characters size) (bytes ++ rest) ≡ lex (in_text kept next after (size + length bytes)) rest
+Runs m characters bytes next after = (pending_bytes : List ℕ) (size : ℕ) (rest : List ℕ) → lex (in_text pending_bytes m characters size) (bytes ++ rest) ≡ lex (in_text pending_bytes next after (size + length bytes)) rest
 
-resize : (kept : List ℕ) (m : TextMode) (characters rest : List ℕ) (size other : ℕ) → size ≡ other → lex (in_text kept m characters size) rest ≡ lex (in_text kept m characters other) rest
-resize kept m characters rest size other e = ap (λ n. lex (in_text kept m characters n) rest) e
+resize : (pending_bytes : List ℕ) (m : TextMode) (characters rest : List ℕ) (size other : ℕ) → size ≡ other → lex (in_text pending_bytes m characters size) rest ≡ lex (in_text pending_bytes m characters other) rest
+resize pending_bytes m characters rest size other e = ap (λ n. lex (in_text pending_bytes m characters n) rest) e
 
 pub runs-none : (m : TextMode) (characters : List ℕ) → Runs m characters [] m characters
-runs-none m characters kept size rest = resize kept m characters rest size (size + 0) (omega arith)
+runs-none m characters pending_bytes size rest = resize pending_bytes m characters rest size (size + 0) (omega arith)
 
 pub runs-join : (m n k : TextMode) (a b c xs ys : List ℕ) → Runs m a xs n b → Runs n b ys k c → Runs m a (xs ++ ys) k c
-runs-join m n k a b c xs ys h g kept size rest =
-    (ap (λ x. lex (in_text kept m a size) x) (append_assoc xs ys rest) ∙ h kept size (ys ++ rest))
-    ∙ (g kept (size + length xs) rest ∙ resize kept k c rest (size + length xs + length ys) (size + length (xs ++ ys)) (simp length-append (omega arith)))
+runs-join m n k a b c xs ys h g pending_bytes size rest =
+    (ap (λ x. lex (in_text pending_bytes m a size) x) (append_assoc xs ys rest) ∙ h pending_bytes size (ys ++ rest))
+    ∙ (g pending_bytes (size + length xs) rest ∙ resize pending_bytes k c rest (size + length xs + length ys) (size + length (xs ++ ys)) (simp length-append (omega arith)))
 
 -- a byte that gives no character, and one that gives one, in front
 runs-skip : (m n k : TextMode) (a c ys : List ℕ) (byte : ℕ) → text_action m byte ≡ Skip (Text n) → Runs n a ys k c → Runs m a (byte ∷ ys) k c
-runs-skip m n k a c ys byte e g kept size rest =
-    lex-skip (in_text kept m a size) (Text n) byte (ys ++ rest) e ∙ (g kept (size + 1) rest ∙ resize kept k c rest (size + 1 + length ys) (size + length (byte ∷ ys)) (omega arith))
+runs-skip m n k a c ys byte e g pending_bytes size rest =
+    lex-skip (in_text pending_bytes m a size) (Text n) byte (ys ++ rest) e ∙ (g pending_bytes (size + 1) rest ∙ resize pending_bytes k c rest (size + 1 + length ys) (size + length (byte ∷ ys)) (omega arith))
 
 runs-put : (m n k : TextMode) (a c ys : List ℕ) (byte character : ℕ) → text_action m byte ≡ Put (Text n) character → Runs n (a ++ character ∷ []) ys k c → Runs m a (byte ∷ ys) k c
-runs-put m n k a c ys byte character e g kept size rest =
-    lex-put (in_text kept m a size) (Text n) character byte (ys ++ rest) e ∙ (g kept (size + 1) rest ∙ resize kept k c rest (size + 1 + length ys) (size + length (byte ∷ ys)) (omega arith))
+runs-put m n k a c ys byte character e g pending_bytes size rest =
+    lex-put (in_text pending_bytes m a size) (Text n) character byte (ys ++ rest) e ∙ (g pending_bytes (size + 1) rest ∙ resize pending_bytes k c rest (size + 1 + length ys) (size + length (byte ∷ ys)) (omega arith))
 
 last-skip : (m n : TextMode) (a : List ℕ) (byte : ℕ) → text_action m byte ≡ Skip (Text n) → Runs m a (byte ∷ []) n a
 last-skip m n a byte e = runs-skip m n n a a [] byte e (runs-none n a)
@@ -153,49 +153,49 @@ more_low high count value digit h k m = rw (is_hex-hex_digit digit m, lt-ltb cou
 more4 : (count value digit : ℕ) → count < 7 → value < 16 ^ count → digit < 16 → text_action (text_mode.Extended4Digits count value) (hex_digit digit) ≡ Skip (Text (text_mode.Extended4Digits (count + 1) (value * 16 + digit)))
 more4 count value digit h k m = rw (is_hex-hex_digit digit m, lt-ltb count 7 h) (ap (λ v. Skip (Text (text_mode.Extended4Digits (count + 1) v))) (long_value-at count value digit (omega arith) k m))
 
-last2 : (value digit : ℕ) → value < 4096 → digit < 16 → text_action (text_mode.Extended2Digits 3 value) (hex_digit digit) ≡ group2 (value * 16 + digit)
-last2 value digit h k = rw (is_hex-hex_digit digit k) (ap group2 (group_value-at 3 value digit (lit≤ tt) h k))
+last2 : (value digit : ℕ) → value < 4096 → digit < 16 → text_action (text_mode.Extended2Digits 3 value) (hex_digit digit) ≡ group_action (value * 16 + digit)
+last2 value digit h k = rw (is_hex-hex_digit digit k) (ap group_action (group_value-at 3 value digit (lit≤ tt) h k))
 
-last_low : (high value digit : ℕ) → value < 4096 → digit < 16 → text_action (text_mode.LowDigits high 3 value) (hex_digit digit) ≡ low_group high (value * 16 + digit)
-last_low high value digit h k = rw (is_hex-hex_digit digit k) (ap (λ v. low_group high v) (group_value-at 3 value digit (lit≤ tt) h k))
+last_low : (high value digit : ℕ) → value < 4096 → digit < 16 → text_action (text_mode.LowDigits high 3 value) (hex_digit digit) ≡ low_group_action high (value * 16 + digit)
+last_low high value digit h k = rw (is_hex-hex_digit digit k) (ap (λ v. low_group_action high v) (group_value-at 3 value digit (lit≤ tt) h k))
 
 last4 : (value digit : ℕ) → value < 268435456 → digit < 16 → text_action (text_mode.Extended4Digits 7 value) (hex_digit digit) ≡ put_scalar text_mode.Extended4Next (value * 16 + digit)
 last4 value digit h k = rw (is_hex-hex_digit digit k) (ap (λ v. put_scalar text_mode.Extended4Next v) (long_value-at 7 value digit (lit≤ tt) h k))
 
 -- Whole groups
 
-group2-scalar : (c : ℕ) → IsScalar c → group2 c ≡ Put (Text text_mode.Extended2Next) c
-group2-scalar c h = rw (no_high c (scalar_cases c h), h) refl
+group_action-scalar : (c : ℕ) → IsScalar c → group_action c ≡ Put (Text text_mode.Extended2Next) c
+group_action-scalar c h = rw (no_high c (scalar_cases c h), h) refl
   where
     no_high : (c : ℕ) → (c < 55296) ⊎ ((57344 ≤ c) × (c < 1114112)) → (nat_le 0xD800 c && nat_le c 0xDBFF) ≡ false
     no_high c k = grind (arith, nat_tests)
 
-group2-high : (c : ℕ) → 0xD800 ≤ c → c ≤ 0xDBFF → group2 c ≡ Skip (Text (text_mode.LowFirst c))
-group2-high c h k = rw (le-leb 0xD800 c h, le-leb c 0xDBFF k) refl
+group_action-high : (c : ℕ) → 0xD800 ≤ c → c ≤ 0xDBFF → group_action c ≡ Skip (Text (text_mode.LowFirst c))
+group_action-high c h k = rw (le-leb 0xD800 c h, le-leb c 0xDBFF k) refl
 
-low_group-at : (high low c : ℕ) → 0xDC00 ≤ low → low ≤ 0xDFFF → 65536 + (high % 1024) * 1024 + low % 1024 ≡ c → IsScalar c → low_group high low ≡ Put (Text text_mode.Extended2Next) c
-low_group-at high low c h k e s = rw (le-leb 0xDC00 low h, le-leb low 0xDFFF k, e, s) refl
+low_group_action-at : (high low c : ℕ) → 0xDC00 ≤ low → low ≤ 0xDFFF → 65536 + (high % 1024) * 1024 + low % 1024 ≡ c → IsScalar c → low_group_action high low ≡ Put (Text text_mode.Extended2Next) c
+low_group_action-at high low c h k e s = rw (le-leb 0xDC00 low h, le-leb low 0xDFFF k, e, s) refl
 
 -- four digits from one state of groups on, ended by what the whole group does
-group2-run : (m next : TextMode) (a b : List ℕ) (c : ℕ) → Begins text_mode.Extended2Digits m → c < 65536
-    → ((digit : ℕ) → text_action (text_mode.Extended2Digits 3 (c / 16)) digit ≡ group2 c → Runs (text_mode.Extended2Digits 3 (c / 16)) a (digit ∷ []) next b)
+group_action-run : (m next : TextMode) (a b : List ℕ) (c : ℕ) → Begins text_mode.Extended2Digits m → c < 65536
+    → ((digit : ℕ) → text_action (text_mode.Extended2Digits 3 (c / 16)) digit ≡ group_action c → Runs (text_mode.Extended2Digits 3 (c / 16)) a (digit ∷ []) next b)
     → Runs m a (hex_digits 4 c) next b
-group2-run m next a b c begins small last =
+group_action-run m next a b c begins small last =
     let part : c / 16 < 4096 = omega arith in
     let same : c / 16 * 16 + c % 16 ≡ c = omega arith in
     runs-join m (text_mode.Extended2Digits 3 (c / 16)) next a a b (hex_digits 3 (c / 16)) (hex_digit (c % 16) ∷ [])
     (digits-run text_mode.Extended2Digits m 3 a begins more2 2 (c / 16) (lit< tt) part)
-    (last (hex_digit (c % 16)) (last2 (c / 16) (c % 16) part (omega arith) ∙ ap group2 same))
+    (last (hex_digit (c % 16)) (last2 (c / 16) (c % 16) part (omega arith) ∙ ap group_action same))
 
-low_group-run : (high : ℕ) (next : TextMode) (a b : List ℕ) (c : ℕ) → c < 65536
-    → ((digit : ℕ) → text_action (text_mode.LowDigits high 3 (c / 16)) digit ≡ low_group high c → Runs (text_mode.LowDigits high 3 (c / 16)) a (digit ∷ []) next b)
+low_group_action-run : (high : ℕ) (next : TextMode) (a b : List ℕ) (c : ℕ) → c < 65536
+    → ((digit : ℕ) → text_action (text_mode.LowDigits high 3 (c / 16)) digit ≡ low_group_action high c → Runs (text_mode.LowDigits high 3 (c / 16)) a (digit ∷ []) next b)
     → Runs (text_mode.LowFirst high) a (hex_digits 4 c) next b
-low_group-run high next a b c small last =
+low_group_action-run high next a b c small last =
     let part : c / 16 < 4096 = omega arith in
     let same : c / 16 * 16 + c % 16 ≡ c = omega arith in
     runs-join (text_mode.LowFirst high) (text_mode.LowDigits high 3 (c / 16)) next a a b (hex_digits 3 (c / 16)) (hex_digit (c % 16) ∷ [])
     (digits-run (text_mode.LowDigits high) (text_mode.LowFirst high) 3 a (low_first high) (more_low high) 2 (c / 16) (lit< tt) part)
-    (last (hex_digit (c % 16)) (last_low high (c / 16) (c % 16) part (omega arith) ∙ ap (λ v. low_group high v) same))
+    (last (hex_digit (c % 16)) (last_low high (c / 16) (c % 16) part (omega arith) ∙ ap (λ v. low_group_action high v) same))
 
 utf16-run : (m : TextMode) → Begins text_mode.Extended2Digits m → (c : ℕ) → IsScalar c → (a : List ℕ) → Runs m a (utf16_groups c) text_mode.Extended2Next (a ++ c ∷ [])
 utf16-run m begins c s a = elim (cases_lt c 65536) [ inl h ↦ one h | inr h ↦ pair h ]
@@ -203,8 +203,8 @@ utf16-run m begins c s a = elim (cases_lt c 65536) [ inl h ↦ one h | inr h ↦
     one : c < 65536 → Runs m a (utf16_groups c) text_mode.Extended2Next (a ++ c ∷ [])
     one h =
         subst (λ x. Runs m a x text_mode.Extended2Next (a ++ c ∷ [])) (sym (groups-one c h))
-        (group2-run m text_mode.Extended2Next a (a ++ c ∷ []) c begins h
-        (λ digit e. last-put (text_mode.Extended2Digits 3 (c / 16)) text_mode.Extended2Next a digit c (e ∙ group2-scalar c s)))
+        (group_action-run m text_mode.Extended2Next a (a ++ c ∷ []) c begins h
+        (λ digit e. last-put (text_mode.Extended2Digits 3 (c / 16)) text_mode.Extended2Next a digit c (e ∙ group_action-scalar c s)))
 
     pair : 65536 ≤ c → Runs m a (utf16_groups c) text_mode.Extended2Next (a ++ c ∷ [])
     pair h =
@@ -216,9 +216,9 @@ utf16-run m begins c s a = elim (cases_lt c 65536) [ inl h ↦ one h | inr h ↦
         let same : 65536 + (high % 1024) * 1024 + low % 1024 ≡ c = omega arith in
         subst (λ x. Runs m a x text_mode.Extended2Next (a ++ c ∷ [])) (sym (groups-pair c h))
         (runs-join m (text_mode.LowFirst high) text_mode.Extended2Next a a (a ++ c ∷ []) (hex_digits 4 high) (hex_digits 4 low)
-        (group2-run m (text_mode.LowFirst high) a a high begins (omega arith) (λ digit e. last-skip (text_mode.Extended2Digits 3 (high / 16)) (text_mode.LowFirst high) a digit (e ∙ group2-high high (omega arith) high_small)))
-        (low_group-run high text_mode.Extended2Next a (a ++ c ∷ []) low (omega arith)
-        (λ digit e. last-put (text_mode.LowDigits high 3 (low / 16)) text_mode.Extended2Next a digit c (e ∙ low_group-at high low c (omega arith) low_small same s))))
+        (group_action-run m (text_mode.LowFirst high) a a high begins (omega arith) (λ digit e. last-skip (text_mode.Extended2Digits 3 (high / 16)) (text_mode.LowFirst high) a digit (e ∙ group_action-high high (omega arith) high_small)))
+        (low_group_action-run high text_mode.Extended2Next a (a ++ c ∷ []) low (omega arith)
+        (λ digit e. last-put (text_mode.LowDigits high 3 (low / 16)) text_mode.Extended2Next a digit c (e ∙ low_group_action-at high low c (omega arith) low_small same s))))
 
 eight-run : (m : TextMode) → Begins text_mode.Extended4Digits m → (c : ℕ) → IsScalar c → (a : List ℕ) → Runs m a (hex_digits 8 c) text_mode.Extended4Next (a ++ c ∷ [])
 eight-run m begins c s a =
@@ -399,7 +399,7 @@ units-run (unit ∷ units) h a =
 
 -- what stands between the apostrophes is read up to the second one
 pub text-run : (inside value rest : List ℕ) → Encodes inside value
-    → lex (skip start (Text text_mode.Inside)) (inside ++ 39 ∷ rest) ≡ lex (record { mode = Text text_mode.Apostrophe; kept = []; characters = value; size = length inside + 2 }) rest
+    → lex (skip start (Text text_mode.Inside)) (inside ++ 39 ∷ rest) ≡ lex (record { mode = Text text_mode.Apostrophe; pending_bytes = []; characters = value; size = length inside + 2 }) rest
 text-run inside value rest e =
     let units : Runs text_mode.Inside [] inside text_mode.Inside value =
     subst (λ x. Runs text_mode.Inside [] x text_mode.Inside value) (sym e.bytes_are) (subst (λ x. Runs text_mode.Inside [] (flat_map unit_bytes e.units) text_mode.Inside x) (sym e.characters_are) (units-run e.units e.are_units [])) in

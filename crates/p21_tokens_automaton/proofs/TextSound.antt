@@ -12,7 +12,7 @@ use Rattle.p21_exchange.specs.Token.{text, Spells, MayFollow}
 use Rattle.p21_tokens_automaton.specs.Meaning.{Means}
 use Rattle.p21_tokens_automaton.specs.Reading.{known}
 use Rattle.p21_tokens_automaton.specs.Bytes.{is_hex, hex_value}
-use Rattle.p21_tokens_automaton.specs.Step.{text_action, inside_action, utf8_action, utf8_value, utf8_last_action, directive, backslash_action, page_action, hex_mark_action, arbitrary_action, arbitrary_second_action, put_scalar, group2, low_group, group_value, long_value, first2_action, digits2_action, low_first_action, low_digits_action, first4_action, digits4_action}
+use Rattle.p21_tokens_automaton.specs.Step.{text_action, inside_action, utf8_action, utf8_value, utf8_last_action, directive_action, backslash_action, page_action, hex_mark_action, arbitrary_action, arbitrary_second_action, put_scalar, group_action, low_group_action, group_value, long_value, first2_action, digits2_action, low_first_action, low_digits_action, first4_action, digits4_action}
 use Rattle.p21_tokens_automaton.specs.declared.mode.Mode.TheVariants.{Text}
 use Rattle.p21_tokens_automaton.specs.declared.mode.TextMode.{TextMode}
 use Rattle.p21_tokens_automaton.specs.declared.mode.TextMode.TheVariants as text_mode
@@ -130,30 +130,30 @@ in_end-end characters front s =
 
 -- What a byte makes of each state
 
-module _ (b : ℕ) (kept characters front : List ℕ) where
+module _ (b : ℕ) (pending_bytes characters front : List ℕ) where
   -- the byte that is wanted
   at : (expected : ℕ) (next : TextMode) → eqb b expected ≡ true → TextFits next characters (front ++ expected ∷ []) → TextFits next characters (front ++ b ∷ [])
   at expected next e h = subst (λ x. TextFits next characters (front ++ x ∷ [])) (sym (eqb-true b expected e)) h
 
-  directive-step : (m : TextMode) (expected : ℕ) (next : TextMode) → TextFits next characters (front ++ expected ∷ []) → StepFits (Text m) kept characters front b (directive expected next b)
-  directive-step m expected next h = cond_both _ _ _ (λ a. StepFits (Text m) kept characters front b a) (λ e. at expected next e h) (λ _. tt)
+  directive_action-step : (m : TextMode) (expected : ℕ) (next : TextMode) → TextFits next characters (front ++ expected ∷ []) → StepFits (Text m) pending_bytes characters front b (directive_action expected next b)
+  directive_action-step m expected next h = cond_both _ _ _ (λ a. StepFits (Text m) pending_bytes characters front b a) (λ e. at expected next e h) (λ _. tt)
 
   -- a byte that ends a unit which stands for no character
   silent : (unit : StringUnit) → unit_characters unit ≡ [] → IsStringUnit unit → (next : List ℕ) → InString characters (unit_bytes unit) next → InString characters [] next
   silent unit e h next s = subst (λ x. InString x [] next) (ap (λ x. characters ++ x) e ∙ append-nil characters) (in_string-unit characters next unit h s)
 
-  group2-step : (m : TextMode) (value : ℕ) → value < 65536 → InGroups 50 utf16_groups (hex_digits 4 value) characters (front ++ b ∷ []) → StepFits (Text m) kept characters front b (group2 value)
-  group2-step m value small g =
-      let P : Action → Type 0 = λ a. StepFits (Text m) kept characters front b a in
+  group_action-step : (m : TextMode) (value : ℕ) → value < 65536 → InGroups 50 utf16_groups (hex_digits 4 value) characters (front ++ b ∷ []) → StepFits (Text m) pending_bytes characters front b (group_action value)
+  group_action-step m value small g =
+      let P : Action → Type 0 = λ a. StepFits (Text m) pending_bytes characters front b a in
       cond_both _ _ _ P (λ e.
       let p = and_parts _ _ e in
       let fits : TextFits (text_mode.LowFirst value) characters (front ++ b ∷ []) = ((leb-true 0xD800 value p.0, leb-true value 0xDBFF p.1), g) in
       fits) (λ _.
       cond_both _ _ _ P (λ e. behind_group 50 utf16_groups characters (front ++ b ∷ []) value e (subst (λ x. InGroups 50 utf16_groups x characters (front ++ b ∷ [])) (sym (groups-one value small)) g)) (λ _. tt))
 
-  low_group-step : (m : TextMode) (high value : ℕ) → IsHighSurrogate high → InGroups 50 utf16_groups (hex_digits 4 high ++ hex_digits 4 value) characters (front ++ b ∷ []) → StepFits (Text m) kept characters front b (low_group high value)
-  low_group-step m high value h g =
-      let P : Action → Type 0 = λ a. StepFits (Text m) kept characters front b a in
+  low_group_action-step : (m : TextMode) (high value : ℕ) → IsHighSurrogate high → InGroups 50 utf16_groups (hex_digits 4 high ++ hex_digits 4 value) characters (front ++ b ∷ []) → StepFits (Text m) pending_bytes characters front b (low_group_action high value)
+  low_group_action-step m high value h g =
+      let P : Action → Type 0 = λ a. StepFits (Text m) pending_bytes characters front b a in
       let character = 65536 + (high % 1024) * 1024 + value % 1024 in
       cond_both _ _ _ P (λ e.
       let p = and_parts _ _ e in
@@ -189,49 +189,49 @@ module _ (b : ℕ) (kept characters front : List ℕ) where
   first-digit : (mark : ℕ) (group : ℕ → List ℕ) → is_hex b ≡ true → (tail : List ℕ) → InGroups mark group tail characters front → InGroups mark group (tail ++ hex_digits 1 (hex_value b)) characters (front ++ b ∷ [])
   first-digit mark group e tail g = subst (λ x. InGroups mark group (tail ++ x) characters (front ++ b ∷ [])) (one-digit b e) (in_groups-more mark group tail characters front b g)
 
-  first2-step : (m : TextMode) → InGroups 50 utf16_groups [] characters front → StepFits (Text m) kept characters front b (first2_action b)
-  first2-step m g = cond_both _ _ _ (λ a. StepFits (Text m) kept characters front b a) (λ e.
+  first2-step : (m : TextMode) → InGroups 50 utf16_groups [] characters front → StepFits (Text m) pending_bytes characters front b (first2_action b)
+  first2-step m g = cond_both _ _ _ (λ a. StepFits (Text m) pending_bytes characters front b a) (λ e.
       let fits : TextFits (text_mode.Extended2Digits 1 (hex_value b)) characters (front ++ b ∷ []) = ((lit≤ tt, hex_value-small b e), first-digit 50 utf16_groups e [] g) in
       fits) (λ _. tt)
 
-  digits2-step : (m : TextMode) (count value : ℕ) → IsPart 3 count value → InGroups 50 utf16_groups (hex_digits count value) characters front → StepFits (Text m) kept characters front b (digits2_action count value b)
+  digits2-step : (m : TextMode) (count value : ℕ) → IsPart 3 count value → InGroups 50 utf16_groups (hex_digits count value) characters front → StepFits (Text m) pending_bytes characters front b (digits2_action count value b)
   digits2-step m count value h g =
-      let P : Action → Type 0 = λ a. StepFits (Text m) kept characters front b a in
+      let P : Action → Type 0 = λ a. StepFits (Text m) pending_bytes characters front b a in
       cond_both _ _ _ P (λ e.
       cond_both _ _ _ P (λ f. subst (λ v. TextFits (text_mode.Extended2Digits (count + 1) v) characters (front ++ b ∷ [])) (group_value-is count value h) (part-more 50 utf16_groups 3 count value e (ltb-true count 3 f) h [] g))
       (λ f.
       let p = part-end 50 utf16_groups 3 count value e (ltb-false count 3 f) h [] g in
-      subst (λ v. P (group2 v)) (group_value-is count value h) (group2-step m (value * 16 + hex_value b) p.0 p.1))) (λ _. tt)
+      subst (λ v. P (group_action v)) (group_value-is count value h) (group_action-step m (value * 16 + hex_value b) p.0 p.1))) (λ _. tt)
 
-  low_first-step : (m : TextMode) (high : ℕ) → IsHighSurrogate high → InGroups 50 utf16_groups (hex_digits 4 high) characters front → StepFits (Text m) kept characters front b (low_first_action high b)
+  low_first-step : (m : TextMode) (high : ℕ) → IsHighSurrogate high → InGroups 50 utf16_groups (hex_digits 4 high) characters front → StepFits (Text m) pending_bytes characters front b (low_first_action high b)
   low_first-step m high h g =
-      let P : Action → Type 0 = λ a. StepFits (Text m) kept characters front b a in
+      let P : Action → Type 0 = λ a. StepFits (Text m) pending_bytes characters front b a in
       cond_both _ _ _ P (λ e.
       let fits : TextFits (text_mode.LowDigits high 1 (hex_value b)) characters (front ++ b ∷ []) = (h, (lit≤ tt, hex_value-small b e), first-digit 50 utf16_groups e (hex_digits 4 high) g) in
       fits) (λ _. cond_both (eqb b 92) (Refuse wrong.CodePoint) (Refuse wrong.Directive) P (λ _. tt) (λ _. tt))
 
-  low_digits-step : (m : TextMode) (high count value : ℕ) → IsHighSurrogate high → IsPart 3 count value → InGroups 50 utf16_groups (hex_digits 4 high ++ hex_digits count value) characters front → StepFits (Text m) kept characters front b (low_digits_action high count value b)
+  low_digits-step : (m : TextMode) (high count value : ℕ) → IsHighSurrogate high → IsPart 3 count value → InGroups 50 utf16_groups (hex_digits 4 high ++ hex_digits count value) characters front → StepFits (Text m) pending_bytes characters front b (low_digits_action high count value b)
   low_digits-step m high count value k h g =
-      let P : Action → Type 0 = λ a. StepFits (Text m) kept characters front b a in
+      let P : Action → Type 0 = λ a. StepFits (Text m) pending_bytes characters front b a in
       cond_both _ _ _ P (λ e.
       cond_both _ _ _ P (λ f.
       let p = part-more 50 utf16_groups 3 count value e (ltb-true count 3 f) h (hex_digits 4 high) g in
       subst (λ v. TextFits (text_mode.LowDigits high (count + 1) v) characters (front ++ b ∷ [])) (group_value-is count value h) (k, p.0, p.1))
       (λ f.
       let p = part-end 50 utf16_groups 3 count value e (ltb-false count 3 f) h (hex_digits 4 high) g in
-      subst (λ v. P (low_group high v)) (group_value-is count value h) (low_group-step m high (value * 16 + hex_value b) k p.1))) (λ _. tt)
+      subst (λ v. P (low_group_action high v)) (group_value-is count value h) (low_group_action-step m high (value * 16 + hex_value b) k p.1))) (λ _. tt)
 
-  first4-step : (m : TextMode) → InGroups 52 (hex_digits 8) [] characters front → StepFits (Text m) kept characters front b (first4_action b)
-  first4-step m g = cond_both _ _ _ (λ a. StepFits (Text m) kept characters front b a) (λ e.
+  first4-step : (m : TextMode) → InGroups 52 (hex_digits 8) [] characters front → StepFits (Text m) pending_bytes characters front b (first4_action b)
+  first4-step m g = cond_both _ _ _ (λ a. StepFits (Text m) pending_bytes characters front b a) (λ e.
       let fits : TextFits (text_mode.Extended4Digits 1 (hex_value b)) characters (front ++ b ∷ []) = ((lit≤ tt, hex_value-small b e), first-digit 52 (hex_digits 8) e [] g) in
       fits) (λ _. tt)
 
-  scalar4-step : (m : TextMode) (value : ℕ) → InGroups 52 (hex_digits 8) (hex_digits 8 value) characters (front ++ b ∷ []) → StepFits (Text m) kept characters front b (put_scalar text_mode.Extended4Next value)
-  scalar4-step m value g = cond_both _ _ _ (λ a. StepFits (Text m) kept characters front b a) (λ e. behind_group 52 (hex_digits 8) characters (front ++ b ∷ []) value e g) (λ _. tt)
+  scalar4-step : (m : TextMode) (value : ℕ) → InGroups 52 (hex_digits 8) (hex_digits 8 value) characters (front ++ b ∷ []) → StepFits (Text m) pending_bytes characters front b (put_scalar text_mode.Extended4Next value)
+  scalar4-step m value g = cond_both _ _ _ (λ a. StepFits (Text m) pending_bytes characters front b a) (λ e. behind_group 52 (hex_digits 8) characters (front ++ b ∷ []) value e g) (λ _. tt)
 
-  digits4-step : (m : TextMode) (count value : ℕ) → IsPart 7 count value → InGroups 52 (hex_digits 8) (hex_digits count value) characters front → StepFits (Text m) kept characters front b (digits4_action count value b)
+  digits4-step : (m : TextMode) (count value : ℕ) → IsPart 7 count value → InGroups 52 (hex_digits 8) (hex_digits count value) characters front → StepFits (Text m) pending_bytes characters front b (digits4_action count value b)
   digits4-step m count value h g =
-      let P : Action → Type 0 = λ a. StepFits (Text m) kept characters front b a in
+      let P : Action → Type 0 = λ a. StepFits (Text m) pending_bytes characters front b a in
       cond_both _ _ _ P (λ e.
       cond_both _ _ _ P (λ f. subst (λ v. TextFits (text_mode.Extended4Digits (count + 1) v) characters (front ++ b ∷ [])) (long_value-is count value h) (part-more 52 (hex_digits 8) 7 count value e (ltb-true count 7 f) h [] g))
       (λ f.
@@ -252,9 +252,9 @@ module _ (b : ℕ) (kept characters front : List ℕ) where
       let is_unit : IsStringUnit (plain b) = ((from, omega arith), no_apostrophe, no_backslash) in
       in_string-unit characters (front ++ b ∷ []) (plain b) is_unit (in_string-more characters [] front b s)
 
-  utf8-step : (m : TextMode) → InString characters [] front → StepFits (Text m) kept characters front b (utf8_action b)
+  utf8-step : (m : TextMode) → InString characters [] front → StepFits (Text m) pending_bytes characters front b (utf8_action b)
   utf8-step m s =
-      let P : Action → Type 0 = λ a. StepFits (Text m) kept characters front b a in
+      let P : Action → Type 0 = λ a. StepFits (Text m) pending_bytes characters front b a in
       let more : InString characters (b ∷ []) (front ++ b ∷ []) = in_string-more characters [] front b s in
       cond_both _ _ _ P (λ e.
       let p = and_parts _ _ e in
@@ -285,9 +285,9 @@ module _ (b : ℕ) (kept characters front : List ℕ) where
       let fits : TextFits (text_mode.Utf8Third 0x80 0xBF (b % 8)) characters (front ++ b ∷ []) = (b ∷ [], more, four-lead b (b % 8) 0x80 0xBF (omega arith) (omega arith) (lit≤ tt) (lit≤ tt) (omega arith)) in
       fits) (λ _. tt)))))))
 
-  inside-step : InString characters [] front → StepFits (Text text_mode.Inside) kept characters front b (inside_action b)
+  inside-step : InString characters [] front → StepFits (Text text_mode.Inside) pending_bytes characters front b (inside_action b)
   inside-step s =
-      let P : Action → Type 0 = λ a. StepFits (Text text_mode.Inside) kept characters front b a in
+      let P : Action → Type 0 = λ a. StepFits (Text text_mode.Inside) pending_bytes characters front b a in
       cond_both _ _ _ P (λ e. at 39 text_mode.Apostrophe e (in_string-more characters [] front 39 s)) (λ no_apostrophe.
       cond_both _ _ _ P (λ e. at 92 text_mode.Backslash e (in_string-more characters [] front 92 s)) (λ no_backslash.
       cond_both _ _ _ P (λ e. ignored-step e s) (λ e.
@@ -300,10 +300,10 @@ module _ (b : ℕ) (kept characters front : List ℕ) where
       subst (λ x. InString (characters ++ byte ∷ []) [] (front ++ x ∷ [])) (sym (eqb-true b byte e))
       (in_string-unit characters (front ++ byte ∷ []) (doubled byte) h (in_string-more characters (byte ∷ []) front byte s))
 
-  apostrophe-step : InString characters (39 ∷ []) front → StepFits (Text text_mode.Apostrophe) kept characters front b (text_action text_mode.Apostrophe b)
-  apostrophe-step s = cond_both _ _ _ (λ a. StepFits (Text text_mode.Apostrophe) kept characters front b a) (λ e. doubled-end 39 (inl refl) e s) (λ e. follows e)
+  apostrophe-step : InString characters (39 ∷ []) front → StepFits (Text text_mode.Apostrophe) pending_bytes characters front b (text_action text_mode.Apostrophe b)
+  apostrophe-step s = cond_both _ _ _ (λ a. StepFits (Text text_mode.Apostrophe) pending_bytes characters front b a) (λ e. doubled-end 39 (inl refl) e s) (λ e. follows e)
     where
-      follows : eqb b 39 ≡ false → StepFits (Text text_mode.Apostrophe) kept characters front b End
+      follows : eqb b 39 ≡ false → StepFits (Text text_mode.Apostrophe) pending_bytes characters front b End
       follows e = record {
         follows = λ found token is means.
             let known : Means (known (text characters)) token = subst (λ f. Means f token) (sym (same_Some (known (text characters)) found is)) means in
@@ -311,40 +311,40 @@ module _ (b : ℕ) (kept characters front : List ℕ) where
         no_token = λ none. absurd (none (known (text characters)) (text characters) refl refl);
       }
 
-  backslash-step : InString characters (92 ∷ []) front → StepFits (Text text_mode.Backslash) kept characters front b (backslash_action b)
+  backslash-step : InString characters (92 ∷ []) front → StepFits (Text text_mode.Backslash) pending_bytes characters front b (backslash_action b)
   backslash-step s =
-      let P : Action → Type 0 = λ a. StepFits (Text text_mode.Backslash) kept characters front b a in
+      let P : Action → Type 0 = λ a. StepFits (Text text_mode.Backslash) pending_bytes characters front b a in
       cond_both _ _ _ P (λ e. doubled-end 92 (inr refl) e s) (λ _.
       cond_both _ _ _ P (λ e. at 88 text_mode.HexMark e (in_string-more characters (92 ∷ []) front 88 s)) (λ _.
       cond_both _ _ _ P (λ e. at 83 text_mode.PageMark e (in_string-more characters (92 ∷ []) front 83 s)) (λ _.
       cond_both _ _ _ P (λ e. at 80 text_mode.AlphabetMark e (in_string-more characters (92 ∷ []) front 80 s)) (λ _. tt))))
 
-  page-step : InString characters (92 ∷ 83 ∷ 92 ∷ []) front → StepFits (Text text_mode.Page) kept characters front b (page_action b)
+  page-step : InString characters (92 ∷ 83 ∷ 92 ∷ []) front → StepFits (Text text_mode.Page) pending_bytes characters front b (page_action b)
   page-step s =
-      cond_both _ _ _ (λ a. StepFits (Text text_mode.Page) kept characters front b a) (λ e.
+      cond_both _ _ _ (λ a. StepFits (Text text_mode.Page) pending_bytes characters front b a) (λ e.
       let p = and_parts _ _ e in
       in_string-unit characters (front ++ b ∷ []) (page b) (leb-true 32 b p.0, leb-true b 126 p.1) (in_string-more characters (92 ∷ 83 ∷ 92 ∷ []) front b s)) (λ _. tt)
 
   alphabet-end : InString characters (92 ∷ 80 ∷ 65 ∷ []) front → InString characters [] (front ++ 92 ∷ [])
   alphabet-end s = silent alphabet_a refl tt (front ++ 92 ∷ []) (in_string-more characters (92 ∷ 80 ∷ 65 ∷ []) front 92 s)
 
-  hex_mark-step : InString characters (92 ∷ 88 ∷ []) front → StepFits (Text text_mode.HexMark) kept characters front b (hex_mark_action b)
+  hex_mark-step : InString characters (92 ∷ 88 ∷ []) front → StepFits (Text text_mode.HexMark) pending_bytes characters front b (hex_mark_action b)
   hex_mark-step s =
-      let P : Action → Type 0 = λ a. StepFits (Text text_mode.HexMark) kept characters front b a in
+      let P : Action → Type 0 = λ a. StepFits (Text text_mode.HexMark) pending_bytes characters front b a in
       cond_both _ _ _ P (λ e. at 50 text_mode.Extended2Mark e (in_string-more characters (92 ∷ 88 ∷ []) front 50 s)) (λ _.
       cond_both _ _ _ P (λ e. at 52 text_mode.Extended4Mark e (in_string-more characters (92 ∷ 88 ∷ []) front 52 s)) (λ _.
       cond_both _ _ _ P (λ e. at 92 text_mode.Arbitrary e (in_string-more characters (92 ∷ 88 ∷ []) front 92 s)) (λ _. tt)))
 
-  arbitrary-step : InString characters (92 ∷ 88 ∷ 92 ∷ []) front → StepFits (Text text_mode.Arbitrary) kept characters front b (arbitrary_action b)
+  arbitrary-step : InString characters (92 ∷ 88 ∷ 92 ∷ []) front → StepFits (Text text_mode.Arbitrary) pending_bytes characters front b (arbitrary_action b)
   arbitrary-step s =
-      cond_both _ _ _ (λ a. StepFits (Text text_mode.Arbitrary) kept characters front b a) (λ e.
+      cond_both _ _ _ (λ a. StepFits (Text text_mode.Arbitrary) pending_bytes characters front b a) (λ e.
       let fits : TextFits (text_mode.ArbitrarySecond (hex_value b)) characters (front ++ b ∷ []) =
       (hex_value-small b e, subst (λ x. InString characters (92 ∷ 88 ∷ 92 ∷ x ∷ []) (front ++ b ∷ [])) (hex_digit-hex_value b e) (in_string-more characters (92 ∷ 88 ∷ 92 ∷ []) front b s)) in
       fits) (λ _. tt)
 
-  arbitrary_second-step : (m : TextMode) (high : ℕ) → high < 16 → InString characters (92 ∷ 88 ∷ 92 ∷ hex_digit high ∷ []) front → StepFits (Text m) kept characters front b (arbitrary_second_action high b)
+  arbitrary_second-step : (m : TextMode) (high : ℕ) → high < 16 → InString characters (92 ∷ 88 ∷ 92 ∷ hex_digit high ∷ []) front → StepFits (Text m) pending_bytes characters front b (arbitrary_second_action high b)
   arbitrary_second-step m high h s =
-      cond_both _ _ _ (λ a. StepFits (Text m) kept characters front b a) (λ e.
+      cond_both _ _ _ (λ a. StepFits (Text m) pending_bytes characters front b a) (λ e.
       let low : hex_value b < 16 = hex_value-small b e in
       let character = high % 16 * 16 + hex_value b in
       let small : character < 256 = omega arith in
@@ -352,9 +352,9 @@ module _ (b : ℕ) (kept characters front : List ℕ) where
       in_string-unit characters (front ++ b ∷ []) (arbitrary character) small
       (subst (λ x. InString characters (92 ∷ 88 ∷ 92 ∷ x) (front ++ b ∷ [])) digits (in_string-more characters (92 ∷ 88 ∷ 92 ∷ hex_digit high ∷ []) front b s))) (λ _. tt)
 
-  utf8_last-step : (m : TextMode) (value : ℕ) (taken : List ℕ) → InString characters taken front → LeadsToLast value taken → StepFits (Text m) kept characters front b (utf8_last_action value b)
+  utf8_last-step : (m : TextMode) (value : ℕ) (taken : List ℕ) → InString characters taken front → LeadsToLast value taken → StepFits (Text m) pending_bytes characters front b (utf8_last_action value b)
   utf8_last-step m value taken s leads =
-      let P : Action → Type 0 = λ a. StepFits (Text m) kept characters front b a in
+      let P : Action → Type 0 = λ a. StepFits (Text m) pending_bytes characters front b a in
       let character = utf8_value value b in
       cond_both _ _ _ P (λ e.
       let p = and_parts _ _ e in
@@ -363,65 +363,65 @@ module _ (b : ℕ) (kept characters front : List ℕ) where
       (subst (λ x. InString characters x (front ++ b ∷ [])) (sym is.1) (in_string-more characters taken front b s))) (λ _. tt)) (λ _. tt)
 
   utf8_second-step : (low high value : ℕ) (taken : List ℕ) → InString characters taken front → LeadsToSecond low high value taken
-      → StepFits (Text (text_mode.Utf8Second low high value)) kept characters front b (text_action (text_mode.Utf8Second low high value) b)
+      → StepFits (Text (text_mode.Utf8Second low high value)) pending_bytes characters front b (text_action (text_mode.Utf8Second low high value) b)
   utf8_second-step low high value taken s leads =
-      cond_both _ _ _ (λ a. StepFits (Text (text_mode.Utf8Second low high value)) kept characters front b a) (λ e.
+      cond_both _ _ _ (λ a. StepFits (Text (text_mode.Utf8Second low high value)) pending_bytes characters front b a) (λ e.
       let p = and_parts _ _ e in
       let fits : TextFits (text_mode.Utf8Last (utf8_value value b)) characters (front ++ b ∷ []) = (taken ++ b ∷ [], in_string-more characters taken front b s, leads b (leb-true low b p.0) (leb-true b high p.1)) in
       fits) (λ _. tt)
 
   utf8_third-step : (low high value : ℕ) (taken : List ℕ) → InString characters taken front → LeadsToThird low high value taken
-      → StepFits (Text (text_mode.Utf8Third low high value)) kept characters front b (text_action (text_mode.Utf8Third low high value) b)
+      → StepFits (Text (text_mode.Utf8Third low high value)) pending_bytes characters front b (text_action (text_mode.Utf8Third low high value) b)
   utf8_third-step low high value taken s leads =
-      cond_both _ _ _ (λ a. StepFits (Text (text_mode.Utf8Third low high value)) kept characters front b a) (λ e.
+      cond_both _ _ _ (λ a. StepFits (Text (text_mode.Utf8Third low high value)) pending_bytes characters front b a) (λ e.
       let p = and_parts _ _ e in
       let fits : TextFits (text_mode.Utf8Second 0x80 0xBF (utf8_value value b)) characters (front ++ b ∷ []) = (taken ++ b ∷ [], in_string-more characters taken front b s, leads b (leb-true low b p.0) (leb-true b high p.1)) in
       fits) (λ _. tt)
 
-  extended2_next-step : BehindGroup 50 utf16_groups characters front → StepFits (Text text_mode.Extended2Next) kept characters front b (text_action text_mode.Extended2Next b)
+  extended2_next-step : BehindGroup 50 utf16_groups characters front → StepFits (Text text_mode.Extended2Next) pending_bytes characters front b (text_action text_mode.Extended2Next b)
   extended2_next-step g =
-      cond_both _ _ _ (λ a. StepFits (Text text_mode.Extended2Next) kept characters front b a)
+      cond_both _ _ _ (λ a. StepFits (Text text_mode.Extended2Next) pending_bytes characters front b a)
       (λ e. at 92 text_mode.EndBackslash e (in_end-begin 50 utf16_groups extended2 characters front (λ _. refl) (λ _. refl) (λ _ h k. (h, k)) g)) (λ _. first2-step text_mode.Extended2Next g.0)
 
-  extended4_next-step : BehindGroup 52 (hex_digits 8) characters front → StepFits (Text text_mode.Extended4Next) kept characters front b (text_action text_mode.Extended4Next b)
+  extended4_next-step : BehindGroup 52 (hex_digits 8) characters front → StepFits (Text text_mode.Extended4Next) pending_bytes characters front b (text_action text_mode.Extended4Next b)
   extended4_next-step g =
-      cond_both _ _ _ (λ a. StepFits (Text text_mode.Extended4Next) kept characters front b a)
+      cond_both _ _ _ (λ a. StepFits (Text text_mode.Extended4Next) pending_bytes characters front b a)
       (λ e. at 92 text_mode.EndBackslash e (in_end-begin 52 (hex_digits 8) extended4 characters front (λ _. refl) (λ _. refl) (λ _ h k. (h, k)) g)) (λ _. first4-step text_mode.Extended4Next g.0)
 
 -- what a byte inside a string makes of the bytes behind it
-pub text-fits : (m : TextMode) (b : ℕ) (kept characters front : List ℕ) → TextFits m characters front → StepFits (Text m) kept characters front b (text_action m b)
-text-fits text_mode.Inside b kept cs front h = inside-step b kept cs front h
-text-fits text_mode.Apostrophe b kept cs front h = apostrophe-step b kept cs front h
-text-fits text_mode.Backslash b kept cs front h = backslash-step b kept cs front h
-text-fits text_mode.PageMark b kept cs front h = directive-step b kept cs front text_mode.PageMark 92 text_mode.Page (in_string-more cs (92 ∷ 83 ∷ []) front 92 h)
-text-fits text_mode.Page b kept cs front h = page-step b kept cs front h
-text-fits text_mode.AlphabetMark b kept cs front h = directive-step b kept cs front text_mode.AlphabetMark 65 text_mode.Alphabet (in_string-more cs (92 ∷ 80 ∷ []) front 65 h)
-text-fits text_mode.Alphabet b kept cs front h = directive-step b kept cs front text_mode.Alphabet 92 text_mode.Inside (alphabet-end b kept cs front h)
-text-fits text_mode.HexMark b kept cs front h = hex_mark-step b kept cs front h
-text-fits text_mode.Arbitrary b kept cs front h = arbitrary-step b kept cs front h
-text-fits (text_mode.ArbitrarySecond high) b kept cs front h = arbitrary_second-step b kept cs front (text_mode.ArbitrarySecond high) high h.0 h.1
-text-fits text_mode.Extended2Mark b kept cs front h =
-    directive-step b kept cs front text_mode.Extended2Mark 92 text_mode.Extended2First (in_groups-begin 50 utf16_groups cs (front ++ 92 ∷ []) (in_string-more cs (92 ∷ 88 ∷ 50 ∷ []) front 92 h))
-text-fits text_mode.Extended2First b kept cs front h = first2-step b kept cs front text_mode.Extended2First h
-text-fits text_mode.Extended2Next b kept cs front h = extended2_next-step b kept cs front h
-text-fits (text_mode.Extended2Digits count value) b kept cs front h = digits2-step b kept cs front (text_mode.Extended2Digits count value) count value h.0 h.1
-text-fits (text_mode.LowFirst high) b kept cs front h = low_first-step b kept cs front (text_mode.LowFirst high) high h.0 h.1
-text-fits (text_mode.LowDigits high count value) b kept cs front h = low_digits-step b kept cs front (text_mode.LowDigits high count value) high count value h.0 h.1 h.2
-text-fits text_mode.Extended4Mark b kept cs front h =
-    directive-step b kept cs front text_mode.Extended4Mark 92 text_mode.Extended4First (in_groups-begin 52 (hex_digits 8) cs (front ++ 92 ∷ []) (in_string-more cs (92 ∷ 88 ∷ 52 ∷ []) front 92 h))
-text-fits text_mode.Extended4First b kept cs front h = first4-step b kept cs front text_mode.Extended4First h
-text-fits text_mode.Extended4Next b kept cs front h = extended4_next-step b kept cs front h
-text-fits (text_mode.Extended4Digits count value) b kept cs front h = digits4-step b kept cs front (text_mode.Extended4Digits count value) count value h.0 h.1
-text-fits text_mode.EndBackslash b kept cs front h = directive-step b kept cs front text_mode.EndBackslash 88 text_mode.EndMark (in_end-more 88 (48 ∷ 92 ∷ []) cs front h)
-text-fits text_mode.EndMark b kept cs front h = directive-step b kept cs front text_mode.EndMark 48 text_mode.EndZero (in_end-more 48 (92 ∷ []) cs front h)
-text-fits text_mode.EndZero b kept cs front h = directive-step b kept cs front text_mode.EndZero 92 text_mode.Inside (in_end-end cs (front ++ 92 ∷ []) (in_end-more 92 [] cs front h))
-text-fits (text_mode.Utf8Last value) b kept cs front h = utf8_last-step b kept cs front (text_mode.Utf8Last value) value h.0 h.1 h.2
-text-fits (text_mode.Utf8Second low high value) b kept cs front h = utf8_second-step b kept cs front low high value h.0 h.1 h.2
-text-fits (text_mode.Utf8Third low high value) b kept cs front h = utf8_third-step b kept cs front low high value h.0 h.1 h.2
+pub text-fits : (m : TextMode) (b : ℕ) (pending_bytes characters front : List ℕ) → TextFits m characters front → StepFits (Text m) pending_bytes characters front b (text_action m b)
+text-fits text_mode.Inside b pending_bytes cs front h = inside-step b pending_bytes cs front h
+text-fits text_mode.Apostrophe b pending_bytes cs front h = apostrophe-step b pending_bytes cs front h
+text-fits text_mode.Backslash b pending_bytes cs front h = backslash-step b pending_bytes cs front h
+text-fits text_mode.PageMark b pending_bytes cs front h = directive_action-step b pending_bytes cs front text_mode.PageMark 92 text_mode.Page (in_string-more cs (92 ∷ 83 ∷ []) front 92 h)
+text-fits text_mode.Page b pending_bytes cs front h = page-step b pending_bytes cs front h
+text-fits text_mode.AlphabetMark b pending_bytes cs front h = directive_action-step b pending_bytes cs front text_mode.AlphabetMark 65 text_mode.Alphabet (in_string-more cs (92 ∷ 80 ∷ []) front 65 h)
+text-fits text_mode.Alphabet b pending_bytes cs front h = directive_action-step b pending_bytes cs front text_mode.Alphabet 92 text_mode.Inside (alphabet-end b pending_bytes cs front h)
+text-fits text_mode.HexMark b pending_bytes cs front h = hex_mark-step b pending_bytes cs front h
+text-fits text_mode.Arbitrary b pending_bytes cs front h = arbitrary-step b pending_bytes cs front h
+text-fits (text_mode.ArbitrarySecond high) b pending_bytes cs front h = arbitrary_second-step b pending_bytes cs front (text_mode.ArbitrarySecond high) high h.0 h.1
+text-fits text_mode.Extended2Mark b pending_bytes cs front h =
+    directive_action-step b pending_bytes cs front text_mode.Extended2Mark 92 text_mode.Extended2First (in_groups-begin 50 utf16_groups cs (front ++ 92 ∷ []) (in_string-more cs (92 ∷ 88 ∷ 50 ∷ []) front 92 h))
+text-fits text_mode.Extended2First b pending_bytes cs front h = first2-step b pending_bytes cs front text_mode.Extended2First h
+text-fits text_mode.Extended2Next b pending_bytes cs front h = extended2_next-step b pending_bytes cs front h
+text-fits (text_mode.Extended2Digits count value) b pending_bytes cs front h = digits2-step b pending_bytes cs front (text_mode.Extended2Digits count value) count value h.0 h.1
+text-fits (text_mode.LowFirst high) b pending_bytes cs front h = low_first-step b pending_bytes cs front (text_mode.LowFirst high) high h.0 h.1
+text-fits (text_mode.LowDigits high count value) b pending_bytes cs front h = low_digits-step b pending_bytes cs front (text_mode.LowDigits high count value) high count value h.0 h.1 h.2
+text-fits text_mode.Extended4Mark b pending_bytes cs front h =
+    directive_action-step b pending_bytes cs front text_mode.Extended4Mark 92 text_mode.Extended4First (in_groups-begin 52 (hex_digits 8) cs (front ++ 92 ∷ []) (in_string-more cs (92 ∷ 88 ∷ 52 ∷ []) front 92 h))
+text-fits text_mode.Extended4First b pending_bytes cs front h = first4-step b pending_bytes cs front text_mode.Extended4First h
+text-fits text_mode.Extended4Next b pending_bytes cs front h = extended4_next-step b pending_bytes cs front h
+text-fits (text_mode.Extended4Digits count value) b pending_bytes cs front h = digits4-step b pending_bytes cs front (text_mode.Extended4Digits count value) count value h.0 h.1
+text-fits text_mode.EndBackslash b pending_bytes cs front h = directive_action-step b pending_bytes cs front text_mode.EndBackslash 88 text_mode.EndMark (in_end-more 88 (48 ∷ 92 ∷ []) cs front h)
+text-fits text_mode.EndMark b pending_bytes cs front h = directive_action-step b pending_bytes cs front text_mode.EndMark 48 text_mode.EndZero (in_end-more 48 (92 ∷ []) cs front h)
+text-fits text_mode.EndZero b pending_bytes cs front h = directive_action-step b pending_bytes cs front text_mode.EndZero 92 text_mode.Inside (in_end-end cs (front ++ 92 ∷ []) (in_end-more 92 [] cs front h))
+text-fits (text_mode.Utf8Last value) b pending_bytes cs front h = utf8_last-step b pending_bytes cs front (text_mode.Utf8Last value) value h.0 h.1 h.2
+text-fits (text_mode.Utf8Second low high value) b pending_bytes cs front h = utf8_second-step b pending_bytes cs front low high value h.0 h.1 h.2
+text-fits (text_mode.Utf8Third low high value) b pending_bytes cs front h = utf8_third-step b pending_bytes cs front low high value h.0 h.1 h.2
 
 -- a string that ends is spelled by its bytes
-pub text-ends : (m : TextMode) (kept characters front : List ℕ) → TextFits m characters front → EndFits (Text m) kept characters front
-text-ends text_mode.Apostrophe kept cs front h found token is means =
+pub text-ends : (m : TextMode) (pending_bytes characters front : List ℕ) → TextFits m characters front → EndFits (Text m) pending_bytes characters front
+text-ends text_mode.Apostrophe pending_bytes cs front h found token is means =
     let known : Means (known (text cs)) token = subst (λ f. Means f token) (sym (same_Some (known (text cs)) found is)) means in
     subst (λ t. Spells t front) known (record { inside = h.0; bytes_are = h.1; encodes = h.2 })
-text-ends other kept cs front h found token is means = absurd (none-some found is)
+text-ends other pending_bytes cs front h found token is means = absurd (none-some found is)

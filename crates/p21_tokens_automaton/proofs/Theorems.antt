@@ -5,7 +5,7 @@ use Rattle.p21_exchange.specs.Token.{Token, begin, finish, keyword, user_keyword
 use Rattle.p21_exchange.specs.Laying.{Lexeme, LaidAs, Laid, tokens_in}
 use Rattle.p21_exchange.specs.Pending.{Tail, nothing, unfinished, slash, open_comment, tail_bytes, tail_size, IsKnownWhole, IsTail, LaidUpTo}
 use Rattle.p21_tokens_automaton.specs.Meaning.{MeanAll, found_of}
-use Rattle.p21_tokens_automaton.specs.Reading.{State, start, skip, Answer, nothing_but, open_at, before, Sized, ended, all_of, lex}
+use Rattle.p21_tokens_automaton.specs.Reading.{State, start, skip, Answer, without_tokens, open_at, before, SizedToken, ended_token, all_tokens, lex}
 use Rattle.p21_tokens_automaton.specs.Step.{advance}
 use Rattle.p21_tokens_automaton.specs.declared.mode.Action.TheVariants.{End}
 use Rattle.p21_tokens_automaton.specs.declared.mode.Mode.TheVariants.{Text}
@@ -26,7 +26,7 @@ use Rattle.p21_tokens_automaton.proofs.Waits.{Waits, IsGiven}
 
 waits-text : (characters spelling : List ℕ) → Spells (text characters) spelling → Waits (text characters) spelling
 waits-text characters spelling s = record {
-  state = record { mode = Text text_mode.Apostrophe; kept = []; characters = characters; size = length s.inside + 2 };
+  state = record { mode = Text text_mode.Apostrophe; pending_bytes = []; characters = characters; size = length s.inside + 2 };
   reaches = λ rest.
       ap (λ (x : List ℕ). lex start (x ++ rest)) s.bytes_are ∙ (lex-skip start (Text text_mode.Inside) 39 ((s.inside ++ (39 ∷ [])) ++ rest) refl
       ∙ (ap (λ (x : List ℕ). lex (skip start (Text text_mode.Inside)) x) (append_assoc s.inside (39 ∷ []) rest) ∙ text-run s.inside characters rest s.encodes));
@@ -39,11 +39,11 @@ pub readings : (token : Token) (spelling : List ℕ) → Spells token spelling �
 readings = token-readings waits-text
 
 -- complete: the tokens laid in bytes are found
-pub laid_read : (lexemes : List Lexeme) (bytes : List ℕ) → LaidAs bytes lexemes → (founds : List Sized) × (all_of (lex start bytes) ≡ Some founds) × MeanAll founds lexemes
+pub laid_read : (lexemes : List Lexeme) (bytes : List ℕ) → LaidAs bytes lexemes → (founds : List SizedToken) × (all_tokens (lex start bytes) ≡ Some founds) × MeanAll founds lexemes
 laid_read = laid-read readings spells-means
 
 -- sound: the tokens found are laid in the bytes
-pub read_laid : (bytes : List ℕ) (founds : List Sized) (lexemes : List Lexeme) (e : State) → lex start bytes ≡ read founds e → MeanAll founds lexemes → UpTo bytes lexemes e
+pub read_laid : (bytes : List ℕ) (founds : List SizedToken) (lexemes : List Lexeme) (e : State) → lex start bytes ≡ read founds e → MeanAll founds lexemes → UpTo bytes lexemes e
 read_laid = read-laid first-fits (mode-fits text-fits) (mode-ends text-ends)
 
 -- ---- the tail
@@ -67,10 +67,10 @@ given-at-once (whole z) spelling s h = absurd h
 given-at-once (real d) spelling s h = absurd h
 given-at-once (text characters) spelling s h = absurd h
 
-not-given : (x : Sized) (a : Answer) (e : State) → before x a ≡ nothing_but (open_at e) → ⊥
+not-given : (x : SizedToken) (a : Answer) (e : State) → before x a ≡ without_tokens (open_at e) → ⊥
 not-given x a e r = let p : x ∷ a.given ≡ [] = ap (λ (y : Answer). y.given) r in cc
 
-gives : (token : Token) (spelling rest : List ℕ) (e : State) → Spells token spelling → IsKnownWhole token spelling rest → lex start (spelling ++ rest) ≡ nothing_but (open_at e) → ⊥
+gives : (token : Token) (spelling rest : List ℕ) (e : State) → Spells token spelling → IsKnownWhole token spelling rest → lex start (spelling ++ rest) ≡ without_tokens (open_at e) → ⊥
 gives token spelling [] e s k r = not-given _ _ e (sym ((given-at-once token spelling s k).run []) ∙ r)
 gives token spelling (b ∷ rest) e s k r = elim (readings token spelling s) [
   | inl w ↦ not-given _ _ e (sym (w.reaches (b ∷ rest) ∙ lex-end w.state (found_of token spelling) b rest (w.ends b k) w.ended_is) ∙ r)
@@ -86,16 +86,16 @@ tail-is e (unfinished bytes) t = record {
   not_whole = λ token spelling rest q s k. gives token spelling rest e s k (ap (λ (x : List ℕ). lex start x) (sym q) ∙ t.2);
 }
 
-pub same-open : (s e : State) → nothing_but (open_at s) ≡ nothing_but (open_at e) → s ≡ e
+pub same-open : (s e : State) → without_tokens (open_at s) ≡ without_tokens (open_at e) → s ≡ e
 same-open s e q = let p : open_at s ≡ open_at e = ap (λ (a : Answer). a.ending) q in cc
 
 same-waits : (e : State) (bytes : List ℕ) → TailIs e (unfinished bytes) → (token : Token) → (w : Waits token bytes) → w.state ≡ e
 same-waits e bytes t token w = same-open w.state e (sym (lex-nil w.state) ∙ (sym (w.reaches []) ∙ (ap (λ (x : List ℕ). lex start x) (append-nil bytes) ∙ t.2)))
 
 -- a byte that may follow the token which the tail spells ends it
-pub tail-ends : (e : State) (bytes : List ℕ) → TailIs e (unfinished bytes) → (token : Token) (byte : ℕ) → Spells token bytes → MayFollow token bytes byte → (advance e.mode byte ≡ End) × (ended e ≡ Some (found_of token bytes))
+pub tail-ends : (e : State) (bytes : List ℕ) → TailIs e (unfinished bytes) → (token : Token) (byte : ℕ) → Spells token bytes → MayFollow token bytes byte → (advance e.mode byte ≡ End) × (ended_token e ≡ Some (found_of token bytes))
 tail-ends e bytes t token byte s f = elim (readings token bytes s) [
-  | inl w ↦ subst (λ (x : State). (advance x.mode byte ≡ End) × (ended x ≡ Some (found_of token bytes))) (same-waits e bytes t token w) (w.ends byte f, w.ended_is)
+  | inl w ↦ subst (λ (x : State). (advance x.mode byte ≡ End) × (ended_token x ≡ Some (found_of token bytes))) (same-waits e bytes t token w) (w.ends byte f, w.ended_is)
   | inr g ↦ absurd (not-given _ _ e (sym (g.run []) ∙ (ap (λ (x : List ℕ). lex start x) (append-nil bytes) ∙ t.2)))
 ]
 
@@ -107,15 +107,15 @@ form-ends e bytes byte t form n m =
     subst (λ (x : State). advance x.mode byte ≡ End) (same-waits e bytes t (real d) w) (w.ends byte (n, m))
 
 -- the end of a real is found as one, in range or not
-pub form-found : (e : State) (bytes : List ℕ) → TailIs e (unfinished bytes) → RealForm bytes → ended e ≡ Some (found_of (real (record { significand = pos 0; exponent = pos 0 })) bytes)
+pub form-found : (e : State) (bytes : List ℕ) → TailIs e (unfinished bytes) → RealForm bytes → ended_token e ≡ Some (found_of (real (record { significand = pos 0; exponent = pos 0 })) bytes)
 form-found e bytes t form =
     let d : Decimal = record { significand = pos 0; exponent = pos 0 } in
     let w = waits-form d bytes form in
-    subst (λ (x : State). ended x ≡ Some (found_of (real d) bytes)) (same-waits e bytes t (real d) w) w.ended_is
+    subst (λ (x : State). ended_token x ≡ Some (found_of (real d) bytes)) (same-waits e bytes t (real d) w) w.ended_is
 
 -- what a byte does behind an unfinished token
-pub steps-on : (e : State) (bytes : List ℕ) (byte : ℕ) → TailIs e (unfinished bytes) → StepFits e.mode e.kept e.characters bytes byte (advance e.mode byte)
-steps-on e bytes byte t = mode-fits text-fits e.mode byte e.kept e.characters bytes t.0
+pub steps-on : (e : State) (bytes : List ℕ) (byte : ℕ) → TailIs e (unfinished bytes) → StepFits e.mode e.pending_bytes e.characters bytes byte (advance e.mode byte)
+steps-on e bytes byte t = mode-fits text-fits e.mode byte e.pending_bytes e.characters bytes t.0
 
 pub laid-up-to : (bytes : List ℕ) (lexemes : List Lexeme) (tail : Tail) → LaidTo bytes lexemes (tail_bytes tail) → IsTail tail → LaidUpTo bytes lexemes tail
 laid-up-to bytes [] tail l t = (l.0, l.1, l.2, t)
@@ -139,7 +139,7 @@ laid-last bytes tail (x ∷ lexemes) last l s n = (l.0, l.1, l.2, l.3, l.4, l.5,
 
 -- ---- one meaning
 
-pub same-tokens : (founds : List Sized) (ls ms : List Lexeme) → MeanAll founds ls → MeanAll founds ms → tokens_in ls ≡ tokens_in ms
+pub same-tokens : (founds : List SizedToken) (ls ms : List Lexeme) → MeanAll founds ls → MeanAll founds ms → tokens_in ls ≡ tokens_in ms
 same-tokens [] [] [] p q = refl
 same-tokens [] [] (m ∷ ms) p q = absurd q
 same-tokens [] (l ∷ ls) ms p q = absurd p
@@ -151,7 +151,7 @@ same-tokens (x ∷ founds) (l ∷ ls) (m ∷ ms) p q =
     ap (λ (t : Token). t ∷ tokens_in ls) first ∙ ap (λ (ts : List Token). m.token ∷ ts) rest
 
 -- the tokens of what is found in front come first
-pub tokens-first : (founds more : List Sized) (ls ms : List Lexeme) → MeanAll founds ls → MeanAll (founds ++ more) ms → (rest : List Token) × (tokens_in ms ≡ tokens_in ls ++ rest)
+pub tokens-first : (founds more : List SizedToken) (ls ms : List Lexeme) → MeanAll founds ls → MeanAll (founds ++ more) ms → (rest : List Token) × (tokens_in ms ≡ tokens_in ls ++ rest)
 tokens-first [] more [] ms p q = (tokens_in ms, refl)
 tokens-first [] more (l ∷ ls) ms p q = absurd p
 tokens-first (x ∷ founds) more [] ms p q = absurd p
@@ -167,4 +167,4 @@ one-laying bytes tokens others l m =
     let p = laid_read l.lexemes bytes l.laid in
     let q = laid_read m.lexemes bytes m.laid in
     let same : p.0 ≡ q.0 = let e : Some p.0 ≡ Some q.0 = sym p.1 ∙ q.1 in cc in
-    sym l.tokens_are ∙ same-tokens q.0 l.lexemes m.lexemes (subst (λ (x : List Sized). MeanAll x l.lexemes) same p.2) q.2 ∙ m.tokens_are
+    sym l.tokens_are ∙ same-tokens q.0 l.lexemes m.lexemes (subst (λ (x : List SizedToken). MeanAll x l.lexemes) same p.2) q.2 ∙ m.tokens_are

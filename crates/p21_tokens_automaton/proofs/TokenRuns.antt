@@ -13,8 +13,8 @@ use Rattle.p21_exchange.specs.Number.{Sign, none, plus, minus, sign_bytes, no_ex
 use Rattle.p21_exchange.specs.Token.{Token, Spells, MayFollow}
 use Rattle.p21_exchange.specs.Token as token
 use Rattle.p21_tokens_automaton.specs.Meaning.{found_of}
-use Rattle.p21_tokens_automaton.specs.Step.{advance, behind_digit, padded}
-use Rattle.p21_tokens_automaton.specs.Reading.{State, start, Answer, before, Found, known, spelled, item, bits, single_token, ended, closed, lex}
+use Rattle.p21_tokens_automaton.specs.Step.{advance, mode_behind_digit, has_zero_padding}
+use Rattle.p21_tokens_automaton.specs.Reading.{State, start, Answer, before, FoundToken, known, spelled, item, bits, single_token, ended_token, closed_token, lex}
 use Rattle.p21_tokens_automaton.specs.declared.mode.Mode.{Mode}
 use Rattle.p21_tokens_automaton.specs.declared.mode.Mode.TheVariants.{Between, Number, Word, Name, Binary}
 use Rattle.p21_tokens_automaton.specs.declared.mode.NumberMode.{NumberMode}
@@ -38,33 +38,33 @@ number_front xs ys = omega (arith, number_append xs ys, mul-le-mul_left (number_
 
 -- the state behind kept bytes
 abbrev behind : Mode → List ℕ → State
-behind mode front = record { mode = mode; kept = front; characters = []; size = length front }
+behind mode front = record { mode = mode; pending_bytes = front; characters = []; size = length front }
 
 -- from one mode these bytes are kept, and lead to another
-abbrev Goes : Mode → List ℕ → Mode → Type 0
-Goes m bytes n = (front rest : List ℕ) → lex (behind m front) (bytes ++ rest) ≡ lex (behind n (front ++ bytes)) rest
+abbrev Continuation : Mode → List ℕ → Mode → Type 0
+Continuation m bytes n = (front rest : List ℕ) → lex (behind m front) (bytes ++ rest) ≡ lex (behind n (front ++ bytes)) rest
 
-goes-nowhere : (m : Mode) → Goes m [] m
+goes-nowhere : (m : Mode) → Continuation m [] m
 goes-nowhere m front rest = ap (λ (x : List ℕ). lex (behind m x) rest) (sym (append-nil front))
 
-goes-byte : (m n : Mode) (b : ℕ) → advance m b ≡ Keep n → Goes m (b ∷ []) n
+goes-byte : (m n : Mode) (b : ℕ) → advance m b ≡ Keep n → Continuation m (b ∷ []) n
 goes-byte m n b e front rest =
-    let P : ℕ → Answer = λ k. lex (record { mode = n; kept = front ++ b ∷ []; characters = []; size = k }) rest in
+    let P : ℕ → Answer = λ k. lex (record { mode = n; pending_bytes = front ++ b ∷ []; characters = []; size = k }) rest in
     lex-keep (behind m front) n b rest e ∙ ap P (sym (length_push front b))
 
-goes-both : (m n o : Mode) (x y : List ℕ) → Goes m x n → Goes n y o → Goes m (x ++ y) o
+goes-both : (m n o : Mode) (x y : List ℕ) → Continuation m x n → Continuation n y o → Continuation m (x ++ y) o
 goes-both m n o x y p q front rest =
     ap (λ (z : List ℕ). lex (behind m front) z) (append_assoc x y rest)
     ∙ (p front (y ++ rest) ∙ (q (front ++ x) rest ∙ ap (λ (z : List ℕ). lex (behind o z) rest) (append_assoc front x y)))
 
-goes-on : (m n o : Mode) (b : ℕ) (bytes : List ℕ) → advance m b ≡ Keep n → Goes n bytes o → Goes m (b ∷ bytes) o
+goes-on : (m n o : Mode) (b : ℕ) (bytes : List ℕ) → advance m b ≡ Keep n → Continuation n bytes o → Continuation m (b ∷ bytes) o
 goes-on m n o b bytes e p = goes-both m n o (b ∷ []) bytes (goes-byte m n b e) p
 
-goes-round : (P : ℕ → Type 0) (m : Mode) → ((b : ℕ) → P b → advance m b ≡ Keep m) → (bytes : List ℕ) → Each P bytes → Goes m bytes m
+goes-round : (P : ℕ → Type 0) (m : Mode) → ((b : ℕ) → P b → advance m b ≡ Keep m) → (bytes : List ℕ) → Each P bytes → Continuation m bytes m
 goes-round P m stays [] h = goes-nowhere m
 goes-round P m stays (b ∷ bytes) h = goes-on m m m b bytes (stays b h.0) (goes-round P m stays bytes h.1)
 
-waits : (t : Token) (m : Mode) (spelling : List ℕ) → Goes Between spelling m → ended (behind m spelling) ≡ Some (found_of t spelling) → ((b : ℕ) → MayFollow t spelling b → advance m b ≡ End) → Waits t spelling
+waits : (t : Token) (m : Mode) (spelling : List ℕ) → Continuation Between spelling m → ended_token (behind m spelling) ≡ Some (found_of t spelling) → ((b : ℕ) → MayFollow t spelling b → advance m b ≡ End) → Waits t spelling
 waits t m spelling goes e ends = record { state = behind m spelling; reaches = goes []; ended_is = e; size_is = refl; ends = ends }
 
 -- ---- keywords
@@ -73,22 +73,22 @@ first-upper : (b : ℕ) → IsUpper b → advance Between b ≡ Keep (Word word.
 first-upper b (inl h) = grind (arith, nat_tests)
 first-upper b (inr e) = grind (arith, nat_tests)
 
-goes-keyword : (bytes : List ℕ) → IsKeyword bytes → Goes Between bytes (Word word.Keyword)
+goes-keyword : (bytes : List ℕ) → IsKeyword bytes → Continuation Between bytes (Word word.Keyword)
 goes-keyword [] h = absurd h
 goes-keyword (b ∷ bytes) h =
     goes-on Between (Word word.Keyword) (Word word.Keyword) b bytes (first-upper b h.0) (goes-round IsKeywordByte (Word word.Keyword) (λ c k. rw ((keyword_byte-decides c).1 k) refl) bytes h.1)
 
 pub waits-keyword : (w spelling : List ℕ) → Spells (token.keyword w) spelling → Waits (token.keyword w) spelling
 waits-keyword w spelling h =
-    waits (token.keyword w) (Word word.Keyword) spelling (subst (λ (x : List ℕ). Goes Between x (Word word.Keyword)) (sym h.0) (goes-keyword w h.1)) refl (λ b f. rw (false_from_not _ (keyword_byte-decides b) f.0, ne_eqb b 45 f.1) refl)
+    waits (token.keyword w) (Word word.Keyword) spelling (subst (λ (x : List ℕ). Continuation Between x (Word word.Keyword)) (sym h.0) (goes-keyword w h.1)) refl (λ b f. rw (false_from_not _ (keyword_byte-decides b) f.0, ne_eqb b 45 f.1) refl)
 
 pub waits-user_keyword : (w spelling : List ℕ) → Spells (token.user_keyword w) spelling → Waits (token.user_keyword w) spelling
 waits-user_keyword [] spelling h = absurd h.1
 waits-user_keyword (c ∷ w) spelling h =
     let m : Mode = Word word.UserKeyword in
-    let goes : Goes Between (33 ∷ c ∷ w) m =
+    let goes : Continuation Between (33 ∷ c ∷ w) m =
     goes-on Between (Word word.Exclamation) m 33 (c ∷ w) refl (goes-on (Word word.Exclamation) m m c w (rw ((upper-decides c).1 h.1.0) refl) (goes-round IsKeywordByte m (λ d k. rw ((keyword_byte-decides d).1 k) refl) w h.1.1)) in
-    waits (token.user_keyword (c ∷ w)) m spelling (subst (λ (x : List ℕ). Goes Between x m) (sym h.0) goes) refl (λ b f. rw (false_from_not _ (keyword_byte-decides b) f.0, ne_eqb b 45 f.1) refl)
+    waits (token.user_keyword (c ∷ w)) m spelling (subst (λ (x : List ℕ). Continuation Between x m) (sym h.0) goes) refl (λ b f. rw (false_from_not _ (keyword_byte-decides b) f.0, ne_eqb b 45 f.1) refl)
 
 -- ---- markers
 
@@ -116,7 +116,7 @@ single-run single.Dollar s h rest = rw h (lex-give start single.Dollar 36 rest r
 single-run single.Star s h rest = rw h (lex-give start single.Star 42 rest refl)
 
 -- bytes that are kept, and one that ends the token
-closes : (m : Mode) (front : List ℕ) (b : ℕ) (f : Found) → Goes Between front m → advance m b ≡ Close → closed m (front ++ b ∷ []) ≡ Some f → (spelling : List ℕ) → spelling ≡ front ++ b ∷ [] → (rest : List ℕ) → lex start (spelling ++ rest) ≡ before (record { found = f; size = length spelling }) (lex start rest)
+closes : (m : Mode) (front : List ℕ) (b : ℕ) (f : FoundToken) → Continuation Between front m → advance m b ≡ Close → closed_token m (front ++ b ∷ []) ≡ Some f → (spelling : List ℕ) → spelling ≡ front ++ b ∷ [] → (rest : List ℕ) → lex start (spelling ++ rest) ≡ before (record { found = f; size = length spelling }) (lex start rest)
 closes m front b f goes e c spelling s rest =
     let P : ℕ → Answer = λ k. before (record { found = f; size = k }) (lex start rest) in
     ap (λ (x : List ℕ). lex start (x ++ rest)) s
@@ -128,7 +128,7 @@ pub item-run : (w spelling : List ℕ) → Spells (token.item w) spelling → (r
 item-run [] spelling h rest = absurd h.1
 item-run (c ∷ w) spelling h rest =
     let m : Mode = Word word.Item in
-    let goes : Goes Between (46 ∷ c ∷ w) m =
+    let goes : Continuation Between (46 ∷ c ∷ w) m =
     goes-on Between (Word word.Point) m 46 (c ∷ w) refl (goes-on (Word word.Point) m m c w (rw ((upper-decides c).1 h.1.0) refl) (goes-round IsKeywordByte m (λ d k. rw ((keyword_byte-decides d).1 k) refl) w h.1.1)) in
     closes m (46 ∷ c ∷ w) 46 (spelled item spelling) goes refl (ap (λ (x : List ℕ). Some (spelled item x)) (sym h.0)) spelling h.0 rest
 
@@ -139,30 +139,30 @@ each-digit [] h = tt
 each-digit (b ∷ bytes) h = (h.0, each-digit bytes h.1)
 
 -- the modes behind a digit
-stays-behind_digit : (m : NumberMode) → behind_digit (behind_digit m) ≡ behind_digit m
-stays-behind_digit number.Sign = refl
-stays-behind_digit number.Whole = refl
-stays-behind_digit number.Fraction = refl
-stays-behind_digit number.Exponent = refl
-stays-behind_digit number.ExponentSign = refl
-stays-behind_digit number.ExponentDigits = refl
+stays-mode_behind_digit : (m : NumberMode) → mode_behind_digit (mode_behind_digit m) ≡ mode_behind_digit m
+stays-mode_behind_digit number.Sign = refl
+stays-mode_behind_digit number.Whole = refl
+stays-mode_behind_digit number.Fraction = refl
+stays-mode_behind_digit number.Exponent = refl
+stays-mode_behind_digit number.ExponentSign = refl
+stays-mode_behind_digit number.ExponentDigits = refl
 
-keeps-digit : (m : NumberMode) (b : ℕ) → IsDigit b → advance (Number m) b ≡ Keep (Number (behind_digit m))
+keeps-digit : (m : NumberMode) (b : ℕ) → IsDigit b → advance (Number m) b ≡ Keep (Number (mode_behind_digit m))
 keeps-digit m b h = rw ((digit-decides b).1 h) refl
 
-goes-digits : (m : NumberMode) → behind_digit m ≡ m → (bytes : List ℕ) → AllDigits bytes → Goes (Number m) bytes (Number m)
+goes-digits : (m : NumberMode) → mode_behind_digit m ≡ m → (bytes : List ℕ) → AllDigits bytes → Continuation (Number m) bytes (Number m)
 goes-digits m e bytes h = goes-round IsDigit (Number m) (λ b d. keeps-digit m b d ∙ ap (λ (n : NumberMode). Keep (Number n)) e) bytes (each-digit bytes h)
 
-goes-first_digits : (m : NumberMode) (bytes : List ℕ) → 0 < length bytes → AllDigits bytes → Goes (Number m) bytes (Number (behind_digit m))
+goes-first_digits : (m : NumberMode) (bytes : List ℕ) → 0 < length bytes → AllDigits bytes → Continuation (Number m) bytes (Number (mode_behind_digit m))
 goes-first_digits m [] some h = absurd (omega arith)
 goes-first_digits m (b ∷ bytes) some h =
-    goes-on (Number m) (Number (behind_digit m)) (Number (behind_digit m)) b bytes (keeps-digit m b h.0) (goes-digits (behind_digit m) (stays-behind_digit m) bytes h.1)
+    goes-on (Number m) (Number (mode_behind_digit m)) (Number (mode_behind_digit m)) b bytes (keeps-digit m b h.0) (goes-digits (mode_behind_digit m) (stays-mode_behind_digit m) bytes h.1)
 
 first-digit : (b : ℕ) → IsDigit b → advance Between b ≡ Keep (Number number.Whole)
 first-digit b h = grind (arith, nat_tests)
 
 -- a sign or none, and digits
-goes-whole : (s : Sign) (bytes : List ℕ) → 0 < length bytes → AllDigits bytes → Goes Between (sign_bytes s ++ bytes) (Number number.Whole)
+goes-whole : (s : Sign) (bytes : List ℕ) → 0 < length bytes → AllDigits bytes → Continuation Between (sign_bytes s ++ bytes) (Number number.Whole)
 goes-whole none [] some h = absurd (omega arith)
 goes-whole none (b ∷ bytes) some h = goes-on Between (Number number.Whole) (Number number.Whole) b bytes (first-digit b h.0) (goes-digits number.Whole refl bytes h.1)
 goes-whole plus bytes some h = goes-on Between (Number number.Sign) (Number number.Whole) 43 bytes refl (goes-first_digits number.Sign bytes some h)
@@ -171,7 +171,7 @@ goes-whole minus bytes some h = goes-on Between (Number number.Sign) (Number num
 pub waits-whole : (z : ℤ) (spelling : List ℕ) → Spells (token.whole z) spelling → Waits (token.whole z) spelling
 waits-whole z spelling h =
     waits (token.whole z) (Number number.Whole) spelling
-    (subst (λ (x : List ℕ). Goes Between x (Number number.Whole)) (sym h.bytes_are) (goes-whole h.sign h.digits h.some_digits h.are_digits))
+    (subst (λ (x : List ℕ). Continuation Between x (Number number.Whole)) (sym h.bytes_are) (goes-whole h.sign h.digits h.some_digits h.are_digits))
     refl
     (λ b f. rw (false_from_not _ (digit-decides b) f.0, ne_eqb b 46 f.1) refl)
 
@@ -180,26 +180,26 @@ abbrev behind_power : Exponent → NumberMode
 behind_power no_exponent = number.Fraction
 behind_power (exponent s digits) = number.ExponentDigits
 
-goes-exponent : (s : Sign) (bytes : List ℕ) → 0 < length bytes → AllDigits bytes → Goes (Number number.Exponent) (sign_bytes s ++ bytes) (Number number.ExponentDigits)
+goes-exponent : (s : Sign) (bytes : List ℕ) → 0 < length bytes → AllDigits bytes → Continuation (Number number.Exponent) (sign_bytes s ++ bytes) (Number number.ExponentDigits)
 goes-exponent none bytes some h = goes-first_digits number.Exponent bytes some h
 goes-exponent plus bytes some h = goes-on (Number number.Exponent) (Number number.ExponentSign) (Number number.ExponentDigits) 43 bytes refl (goes-first_digits number.ExponentSign bytes some h)
 goes-exponent minus bytes some h = goes-on (Number number.Exponent) (Number number.ExponentSign) (Number number.ExponentDigits) 45 bytes refl (goes-first_digits number.ExponentSign bytes some h)
 
-goes-power : (p : Exponent) → IsExponent p → Goes (Number number.Fraction) (exponent_bytes p) (Number (behind_power p))
+goes-power : (p : Exponent) → IsExponent p → Continuation (Number number.Fraction) (exponent_bytes p) (Number (behind_power p))
 goes-power no_exponent h = goes-nowhere (Number number.Fraction)
 goes-power (exponent s digits) h = goes-on (Number number.Fraction) (Number number.Exponent) (Number number.ExponentDigits) 69 (sign_bytes s ++ digits) refl (goes-exponent s digits h.0 h.1)
 
-goes-real : (bytes : List ℕ) (form : RealForm bytes) → Goes Between bytes (Number (behind_power form.power))
+goes-real : (bytes : List ℕ) (form : RealForm bytes) → Continuation Between bytes (Number (behind_power form.power))
 goes-real bytes form =
     let m : Mode = Number (behind_power form.power) in
     let tail = goes-both (Number number.Fraction) (Number number.Fraction) m form.fraction (exponent_bytes form.power) (goes-digits number.Fraction refl form.fraction form.are_fraction_digits) (goes-power form.power form.is_exponent) in
     let point = goes-on (Number number.Whole) (Number number.Fraction) m 46 (form.fraction ++ exponent_bytes form.power) refl tail in
     let all = goes-both Between (Number number.Whole) m (sign_bytes form.sign ++ form.whole) (46 ∷ (form.fraction ++ exponent_bytes form.power)) (goes-whole form.sign form.whole form.some_digits form.are_digits) point in
-    subst (λ (x : List ℕ). Goes Between x m) (append_assoc (sign_bytes form.sign) form.whole (46 ∷ (form.fraction ++ exponent_bytes form.power)) ∙ sym form.bytes_are) all
+    subst (λ (x : List ℕ). Continuation Between x m) (append_assoc (sign_bytes form.sign) form.whole (46 ∷ (form.fraction ++ exponent_bytes form.power)) ∙ sym form.bytes_are) all
 
-real-ended : (d : Decimal) (p : Exponent) (spelling : List ℕ) → ended (behind (Number (behind_power p)) spelling) ≡ Some (found_of (token.real d) spelling)
-real-ended d no_exponent spelling = refl
-real-ended d (exponent s digits) spelling = refl
+real-ended_token : (d : Decimal) (p : Exponent) (spelling : List ℕ) → ended_token (behind (Number (behind_power p)) spelling) ≡ Some (found_of (token.real d) spelling)
+real-ended_token d no_exponent spelling = refl
+real-ended_token d (exponent s digits) spelling = refl
 
 real-ends : (p : Exponent) (b : ℕ) → ¬ IsDigit b → (p ≡ no_exponent → b ≢ 69) → advance (Number (behind_power p)) b ≡ End
 real-ends no_exponent b n e = rw (false_from_not _ (digit-decides b) n, ne_eqb b 69 (e refl)) refl
@@ -208,7 +208,7 @@ real-ends (exponent s digits) b n e = rw (false_from_not _ (digit-decides b) n) 
 -- whether the number is in range or not
 pub waits-form : (d : Decimal) (spelling : List ℕ) → RealForm spelling → Waits (token.real d) spelling
 waits-form d spelling form =
-    waits (token.real d) (Number (behind_power form.power)) spelling (goes-real spelling form) (real-ended d form.power spelling) (λ b f. real-ends form.power b f.0 (λ e. f.1 (form, e)))
+    waits (token.real d) (Number (behind_power form.power)) spelling (goes-real spelling form) (real-ended_token d form.power spelling) (λ b f. real-ends form.power b f.0 (λ e. f.1 (form, e)))
 
 pub waits-real : (d : Decimal) (spelling : List ℕ) → Spells (token.real d) spelling → Waits (token.real d) spelling
 waits-real d spelling h = waits-form d spelling h.form
@@ -217,7 +217,7 @@ waits-real d spelling h = waits-form d spelling h.form
 
 -- the state behind `#` and digits, of which only their number is kept
 abbrev behind_digits : List ℕ → State
-behind_digits front = record { mode = Name (name.Digits (number_of front)); kept = []; characters = []; size = suc (length front) }
+behind_digits front = record { mode = Name (name.Digits (number_of front)); pending_bytes = []; characters = []; size = suc (length front) }
 
 -- one digit more
 pub number-more : (front : List ℕ) (b : ℕ) → number_of (front ++ b ∷ []) ≡ number_of front * 10 + (b - 48)
@@ -235,7 +235,7 @@ name-digits (b ∷ bytes) front h r rest =
     let joined : (front ++ b ∷ []) ++ bytes ≡ front ++ b ∷ bytes = append_assoc front (b ∷ []) bytes in
     let value = number-more front b in
     let small : number_of (front ++ b ∷ []) < 2 ^ 64 = lt_of_le_of_lt (number_front (front ++ b ∷ []) bytes) (subst (λ (x : List ℕ). number_of x < 2 ^ 64) (sym joined) r) in
-    let P : ℕ → ℕ → Answer = λ v k. lex (record { mode = Name (name.Digits v); kept = []; characters = []; size = k }) (bytes ++ rest) in
+    let P : ℕ → ℕ → Answer = λ v k. lex (record { mode = Name (name.Digits v); pending_bytes = []; characters = []; size = k }) (bytes ++ rest) in
     lex-skip (behind_digits front) (Name (name.Digits (number_of front * 10 + (b - 48)))) b (bytes ++ rest) (skips-digit (number_of front) b h.0 (subst (λ (v : ℕ). v < 2 ^ 64) value small))
     ∙ (ap₂ P (sym value) (let e = length_push front b in omega arith)
     ∙ (name-digits bytes (front ++ b ∷ []) h.1 (subst (λ (x : List ℕ). number_of x < 2 ^ 64) (sym joined) r) rest ∙ ap (λ (x : List ℕ). lex (behind_digits x) rest) joined))
@@ -243,8 +243,8 @@ name-digits (b ∷ bytes) front h r rest =
 name-run : (bytes : List ℕ) → 0 < length bytes → AllDigits bytes → number_of bytes < 2 ^ 64 → (rest : List ℕ) → lex start (35 ∷ (bytes ++ rest)) ≡ lex (behind_digits bytes) rest
 name-run [] some h r rest = absurd (omega arith)
 name-run (b ∷ bytes) some h r rest =
-    let P : ℕ → Answer = λ v. lex (record { mode = Name (name.Digits v); kept = []; characters = []; size = 2 }) (bytes ++ rest) in
-    let hash : State = record { mode = Name name.Hash; kept = []; characters = []; size = 1 } in
+    let P : ℕ → Answer = λ v. lex (record { mode = Name (name.Digits v); pending_bytes = []; characters = []; size = 2 }) (bytes ++ rest) in
+    let hash : State = record { mode = Name name.Hash; pending_bytes = []; characters = []; size = 1 } in
     lex-skip start (Name name.Hash) 35 (b ∷ (bytes ++ rest)) refl
     ∙ (lex-skip hash (Name (name.Digits (0 * 10 + (b - 48)))) b (bytes ++ rest) (skips-first_digit b h.0)
     ∙ (ap P (sym (number-more [] b)) ∙ name-digits bytes (b ∷ []) h.1 r rest))
@@ -278,7 +278,7 @@ further-bits : (a b : Bool) (x y : List Bool) → a ∷ x ≡ b ∷ y → x ≡ 
 further-bits a b x y e = cc
 
 -- the padding bits of the first hex digit are zero
-room-for_padding : (padding n : ℕ) (digits : List ℕ) (value : List Bool) → padding < 4 → n < 16 → flat_map four_bits (n ∷ digits) ≡ replicate padding false ++ value → padded padding n ≡ true
+room-for_padding : (padding n : ℕ) (digits : List ℕ) (value : List Bool) → padding < 4 → n < 16 → flat_map four_bits (n ∷ digits) ≡ replicate padding false ++ value → has_zero_padding padding n ≡ true
 room-for_padding zero n digits value p h e = lt-ltb n 16 h
 room-for_padding (suc zero) n digits value p h e = lt-ltb n 8 (low-half n h (first-bit _ _ _ _ e))
 room-for_padding (suc (suc zero)) n digits value p h e = lt-ltb n 4 (low-quarter n (low-half n h (first-bit _ _ _ _ e)) (first-bit _ _ _ _ (further-bits _ _ _ _ e)))
@@ -294,17 +294,17 @@ no-padding (suc padding) value e = cc
 keeps-hex : (n : ℕ) → n < 16 → advance (Binary binary.Hex) (hex_digit n) ≡ Keep (Binary binary.Hex)
 keeps-hex n h = rw ((hex_digit-is_hex n h).0) refl
 
-keeps-first_hex : (padding n : ℕ) → n < 16 → padded padding n ≡ true → advance (Binary (binary.Padding padding)) (hex_digit n) ≡ Keep (Binary binary.Hex)
+keeps-first_hex : (padding n : ℕ) → n < 16 → has_zero_padding padding n ≡ true → advance (Binary (binary.Padding padding)) (hex_digit n) ≡ Keep (Binary binary.Hex)
 keeps-first_hex padding n h e = let own = hex_digit-is_hex n h in rw (own.0, own.1, e) refl
 
 keeps-padding : (padding : ℕ) → padding < 4 → advance (Binary binary.Quote) (48 + padding) ≡ Keep (Binary (binary.Padding padding))
 keeps-padding padding h = grind (arith, nat_tests)
 
-goes-hex : (digits : List ℕ) → Each (λ n. n < 16) digits → Goes (Binary binary.Hex) (map hex_digit digits) (Binary binary.Hex)
+goes-hex : (digits : List ℕ) → Each (λ n. n < 16) digits → Continuation (Binary binary.Hex) (map hex_digit digits) (Binary binary.Hex)
 goes-hex [] h = goes-nowhere (Binary binary.Hex)
 goes-hex (n ∷ digits) h = goes-on (Binary binary.Hex) (Binary binary.Hex) (Binary binary.Hex) (hex_digit n) (map hex_digit digits) (keeps-hex n h.0) (goes-hex digits h.1)
 
-goes-quote : (padding : ℕ) → padding < 4 → (bytes : List ℕ) (m : Mode) → Goes (Binary (binary.Padding padding)) bytes m → Goes Between (34 ∷ (48 + padding) ∷ bytes) m
+goes-quote : (padding : ℕ) → padding < 4 → (bytes : List ℕ) (m : Mode) → Continuation (Binary (binary.Padding padding)) bytes m → Continuation Between (34 ∷ (48 + padding) ∷ bytes) m
 goes-quote padding h bytes m goes =
     goes-on Between (Binary binary.Quote) m 34 ((48 + padding) ∷ bytes) refl (goes-on (Binary binary.Quote) (Binary (binary.Padding padding)) m (48 + padding) bytes (keeps-padding padding h) goes)
 

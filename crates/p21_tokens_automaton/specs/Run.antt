@@ -11,7 +11,7 @@ use Rattle.p21_tokens_automaton.specs.declared.mode.Action.TheVariants.{Pass, Ke
 use Rattle.p21_tokens_automaton.specs.declared.run.Class.{Class}
 use Rattle.p21_tokens_automaton.specs.declared.run.Class.TheVariants.{Blank, Commented, Digit, KeywordByte, HexDigit, Plain, CharacterByte}
 use Rattle.p21_tokens_automaton.specs.declared.run.Run.{Run}
-use Rattle.p21_tokens_automaton.specs.declared.run.Run.TheVariants.{Passed, Kept, Characters, Named, Utf8}
+use Rattle.p21_tokens_automaton.specs.declared.run.Run.TheVariants.{Passed, PendingBytes, Characters, Named, Utf8}
 use Rattle.p21_basics.specs.Digits.{is_digit}
 
 -- the byte may be one of a character of a string in UTF-8
@@ -19,25 +19,25 @@ abbrev pub is_character_byte : ℕ → Bool
 is_character_byte byte = nat_le 32 byte && not (byte == 39) && not (byte == 92) && not (byte == 127)
 
 -- the bytes of a class, as a test
-abbrev pub is_of : Class → ℕ → Bool
-is_of Blank byte = is_blank byte
-is_of Commented byte = not (byte == 42)
-is_of Digit byte = is_digit byte
-is_of KeywordByte byte = is_keyword_byte byte
-is_of HexDigit byte = is_hex byte
-is_of CharacterByte byte = is_character_byte byte
-is_of Plain byte = nat_le 32 byte && nat_le byte 126 && not (byte == 39) && not (byte == 92)
+abbrev pub is_of_class : Class → ℕ → Bool
+is_of_class Blank byte = is_blank byte
+is_of_class Commented byte = not (byte == 42)
+is_of_class Digit byte = is_digit byte
+is_of_class KeywordByte byte = is_keyword_byte byte
+is_of_class HexDigit byte = is_hex byte
+is_of_class CharacterByte byte = is_character_byte byte
+is_of_class Plain byte = nat_le 32 byte && nat_le byte 126 && not (byte == 39) && not (byte == 92)
 
-abbrev pub is_other : Class → ℕ → Bool
-is_other of byte = not (is_of of byte)
+abbrev pub is_of_other_class : Class → ℕ → Bool
+is_of_other_class of byte = not (is_of_class of byte)
 
 -- so many bytes at the front are of the class
-pub record AreOf (of : Class) (bytes : List ℕ) (count : ℕ) : Type 0 where
+pub record AreOfClass (of : Class) (bytes : List ℕ) (count : ℕ) : Type 0 where
   pub within : count ≤ length bytes
-  pub each : (k : ℕ) → k < count → is_of of (slice_index bytes k) ≡ true
+  pub each : (k : ℕ) → k < count → is_of_class of (slice_index bytes k) ≡ true
 
 -- so many bytes at the front, each of which does this in this mode
-pub record EachDoes (mode : Mode) (bytes : List ℕ) (count : ℕ) (does : ℕ → Action) : Type 0 where
+pub record EachHasAction (mode : Mode) (bytes : List ℕ) (count : ℕ) (does : ℕ → Action) : Type 0 where
   pub within : count ≤ length bytes
   pub each : (k : ℕ) → k < count → advance mode (slice_index bytes k) ≡ does (slice_index bytes k)
 
@@ -62,8 +62,8 @@ pub record AreNameDigits (mode : Mode) (bytes : List ℕ) (count value : ℕ) : 
   pub fits : value < 2 ^ 64
 
 abbrev pub IsRun : Mode → List ℕ → Run → Type 0
-IsRun mode bytes (Passed count) = EachDoes mode bytes count (λ byte. Pass mode)
-IsRun mode bytes (Kept count) = EachDoes mode bytes count (λ byte. Keep mode)
-IsRun mode bytes (Characters count) = EachDoes mode bytes count (λ byte. Put mode byte)
+IsRun mode bytes (Passed count) = EachHasAction mode bytes count (λ byte. Pass mode)
+IsRun mode bytes (PendingBytes count) = EachHasAction mode bytes count (λ byte. Keep mode)
+IsRun mode bytes (Characters count) = EachHasAction mode bytes count (λ byte. Put mode byte)
 IsRun mode bytes (Named count value) = AreNameDigits mode bytes count value
 IsRun mode bytes (Utf8 count) = AreCharacterBytes mode bytes count

@@ -25,25 +25,25 @@ use Rattle.p21_tokens_automaton.specs.declared.mode.Action.TheVariants.{Pass, Sk
 use Rattle.p21_basics.specs.Digits.{is_digit}
 
 -- the part of a number that a digit belongs to
-abbrev pub behind_digit : NumberMode → NumberMode
-behind_digit number.Sign = number.Whole
-behind_digit number.Whole = number.Whole
-behind_digit number.Fraction = number.Fraction
-behind_digit number.Exponent = number.ExponentDigits
-behind_digit number.ExponentSign = number.ExponentDigits
-behind_digit number.ExponentDigits = number.ExponentDigits
+abbrev pub mode_behind_digit : NumberMode → NumberMode
+mode_behind_digit number.Sign = number.Whole
+mode_behind_digit number.Whole = number.Whole
+mode_behind_digit number.Fraction = number.Fraction
+mode_behind_digit number.Exponent = number.ExponentDigits
+mode_behind_digit number.ExponentSign = number.ExponentDigits
+mode_behind_digit number.ExponentDigits = number.ExponentDigits
 
 -- a byte that is no digit, inside a number
-abbrev pub no_digit : NumberMode → ℕ → Action
-no_digit number.Sign byte = Refuse wrong.Number
-no_digit number.Whole byte = if byte == 46 then Keep (Number number.Fraction) else End
-no_digit number.Fraction byte = if byte == 69 then Keep (Number number.Exponent) else End
-no_digit number.Exponent byte = if byte == 43 || byte == 45 then Keep (Number number.ExponentSign) else Refuse wrong.Number
-no_digit number.ExponentSign byte = Refuse wrong.Number
-no_digit number.ExponentDigits byte = End
+abbrev pub non_digit_action : NumberMode → ℕ → Action
+non_digit_action number.Sign byte = Refuse wrong.Number
+non_digit_action number.Whole byte = if byte == 46 then Keep (Number number.Fraction) else End
+non_digit_action number.Fraction byte = if byte == 69 then Keep (Number number.Exponent) else End
+non_digit_action number.Exponent byte = if byte == 43 || byte == 45 then Keep (Number number.ExponentSign) else Refuse wrong.Number
+non_digit_action number.ExponentSign byte = Refuse wrong.Number
+non_digit_action number.ExponentDigits byte = End
 
 abbrev pub number_action : NumberMode → ℕ → Action
-number_action mode byte = if is_digit byte then Keep (Number (behind_digit mode)) else no_digit mode byte
+number_action mode byte = if is_digit byte then Keep (Number (mode_behind_digit mode)) else non_digit_action mode byte
 
 abbrev pub marker_text : Marker → List ℕ
 marker_text Begin = codes "ISO-10303-21"
@@ -57,43 +57,43 @@ marker_action marker taken byte (Some expected) =
     else Refuse wrong.Byte
 
 -- the first keyword character behind a mark
-abbrev pub begin_word : WordMode → ℕ → Action
-begin_word mode byte = if is_upper byte then Keep (Word mode) else Refuse wrong.Byte
+abbrev pub begin_word_action : WordMode → ℕ → Action
+begin_word_action mode byte = if is_upper byte then Keep (Word mode) else Refuse wrong.Byte
 
 abbrev pub word_action : WordMode → ℕ → Action
 word_action word.Keyword byte =
     if is_keyword_byte byte then Keep (Word word.Keyword) else if byte == 45 then Dash else End
 word_action (word.Marker marker taken) byte = marker_action marker taken byte (slice_get (marker_text marker) taken)
 word_action (word.Marked marker) byte = if is_keyword_byte byte then Refuse wrong.Byte else End
-word_action word.Exclamation byte = begin_word word.UserKeyword byte
+word_action word.Exclamation byte = begin_word_action word.UserKeyword byte
 word_action word.UserKeyword byte =
     if is_keyword_byte byte then Keep (Word word.UserKeyword) else if byte == 45 then Refuse wrong.Byte else End
-word_action word.Point byte = begin_word word.Item byte
+word_action word.Point byte = begin_word_action word.Item byte
 word_action word.Item byte =
     if is_keyword_byte byte then Keep (Word word.Item) else if byte == 46 then Close else Refuse wrong.Byte
 
 -- a further digit of a name, if the number stays below 2 ^ 64
-abbrev pub name_digit : ℕ → ℕ → Action
-name_digit value digit =
+abbrev pub name_digit_action : ℕ → ℕ → Action
+name_digit_action value digit =
     if nat_lt (value * 10 + digit) (2 ^ 64) then Skip (Name (name.Digits (value * 10 + digit))) else Refuse wrong.NameRange
 
 abbrev pub name_action : NameMode → ℕ → Action
 name_action name.Hash byte =
-    if is_digit byte then name_digit 0 (byte - 48)
+    if is_digit byte then name_digit_action 0 (byte - 48)
     else if is_upper byte then Refuse (wrong.LeftOut ConstantName)
     else Refuse wrong.Name
-name_action (name.Digits value) byte = if is_digit byte then name_digit value (byte - 48) else End
+name_action (name.Digits value) byte = if is_digit byte then name_digit_action value (byte - 48) else End
 
 -- the first hex digit, whose padding bits are zero
-abbrev pub padded : ℕ → ℕ → Bool
-padded padding value =
+abbrev pub has_zero_padding : ℕ → ℕ → Bool
+has_zero_padding padding value =
     if padding == 0 then nat_lt value 16 else if padding == 1 then nat_lt value 8 else if padding == 2 then nat_lt value 4 else nat_lt value 2
 
 abbrev pub binary_action : BinaryMode → ℕ → Action
 binary_action binary.Quote byte =
     if nat_le 48 byte && nat_le byte 51 then Keep (Binary (binary.Padding (byte - 48))) else Refuse wrong.Binary
 binary_action (binary.Padding padding) byte =
-    if is_hex byte then (if padded padding (hex_value byte) then Keep (Binary binary.Hex) else Refuse wrong.Binary)
+    if is_hex byte then (if has_zero_padding padding (hex_value byte) then Keep (Binary binary.Hex) else Refuse wrong.Binary)
     else if byte == 34 && padding == 0 then Close
     else Refuse wrong.Binary
 binary_action binary.Hex byte =
@@ -104,12 +104,12 @@ abbrev pub put_scalar : TextMode → ℕ → Action
 put_scalar mode character = if scalar character then Put (Text mode) character else Refuse wrong.CodePoint
 
 -- a whole group of `\X2\`
-abbrev pub group2 : ℕ → Action
-group2 value = if nat_le 0xD800 value && nat_le value 0xDBFF then Skip (Text (text.LowFirst value)) else put_scalar text.Extended2Next value
+abbrev pub group_action : ℕ → Action
+group_action value = if nat_le 0xD800 value && nat_le value 0xDBFF then Skip (Text (text.LowFirst value)) else put_scalar text.Extended2Next value
 
 -- a whole group behind a high surrogate
-abbrev pub low_group : ℕ → ℕ → Action
-low_group high value =
+abbrev pub low_group_action : ℕ → ℕ → Action
+low_group_action high value =
     if nat_le 0xDC00 value && nat_le value 0xDFFF then put_scalar text.Extended2Next (65536 + (high % 1024) * 1024 + value % 1024)
     else Refuse wrong.CodePoint
 
@@ -143,8 +143,8 @@ inside_action byte =
     else utf8_action byte
 
 -- this byte goes on with a directive
-abbrev pub directive : ℕ → TextMode → ℕ → Action
-directive expected mode byte = if byte == expected then Skip (Text mode) else Refuse wrong.Directive
+abbrev pub directive_action : ℕ → TextMode → ℕ → Action
+directive_action expected mode byte = if byte == expected then Skip (Text mode) else Refuse wrong.Directive
 
 abbrev pub backslash_action : ℕ → Action
 backslash_action byte =
@@ -176,7 +176,7 @@ first2_action byte = if is_hex byte then Skip (Text (text.Extended2Digits 1 (hex
 
 abbrev pub digits2_action : ℕ → ℕ → ℕ → Action
 digits2_action count value byte =
-    if is_hex byte then (if nat_lt count 3 then Skip (Text (text.Extended2Digits (count + 1) (group_value value byte))) else group2 (group_value value byte))
+    if is_hex byte then (if nat_lt count 3 then Skip (Text (text.Extended2Digits (count + 1) (group_value value byte))) else group_action (group_value value byte))
     else Refuse wrong.Directive
 
 abbrev pub low_first_action : ℕ → ℕ → Action
@@ -187,7 +187,7 @@ low_first_action high byte =
 
 abbrev pub low_digits_action : ℕ → ℕ → ℕ → ℕ → Action
 low_digits_action high count value byte =
-    if is_hex byte then (if nat_lt count 3 then Skip (Text (text.LowDigits high (count + 1) (group_value value byte))) else low_group high (group_value value byte))
+    if is_hex byte then (if nat_lt count 3 then Skip (Text (text.LowDigits high (count + 1) (group_value value byte))) else low_group_action high (group_value value byte))
     else Refuse wrong.Directive
 
 abbrev pub first4_action : ℕ → Action
@@ -207,26 +207,26 @@ abbrev pub text_action : TextMode → ℕ → Action
 text_action text.Inside byte = inside_action byte
 text_action text.Apostrophe byte = if byte == 39 then Put (Text text.Inside) 39 else End
 text_action text.Backslash byte = backslash_action byte
-text_action text.PageMark byte = directive 92 text.Page byte
+text_action text.PageMark byte = directive_action 92 text.Page byte
 text_action text.Page byte = page_action byte
-text_action text.AlphabetMark byte = directive 65 text.Alphabet byte
-text_action text.Alphabet byte = directive 92 text.Inside byte
+text_action text.AlphabetMark byte = directive_action 65 text.Alphabet byte
+text_action text.Alphabet byte = directive_action 92 text.Inside byte
 text_action text.HexMark byte = hex_mark_action byte
 text_action text.Arbitrary byte = arbitrary_action byte
 text_action (text.ArbitrarySecond high) byte = arbitrary_second_action high byte
-text_action text.Extended2Mark byte = directive 92 text.Extended2First byte
+text_action text.Extended2Mark byte = directive_action 92 text.Extended2First byte
 text_action text.Extended2First byte = first2_action byte
 text_action text.Extended2Next byte = if byte == 92 then Skip (Text text.EndBackslash) else first2_action byte
 text_action (text.Extended2Digits count value) byte = digits2_action count value byte
 text_action (text.LowFirst high) byte = low_first_action high byte
 text_action (text.LowDigits high count value) byte = low_digits_action high count value byte
-text_action text.Extended4Mark byte = directive 92 text.Extended4First byte
+text_action text.Extended4Mark byte = directive_action 92 text.Extended4First byte
 text_action text.Extended4First byte = first4_action byte
 text_action text.Extended4Next byte = if byte == 92 then Skip (Text text.EndBackslash) else first4_action byte
 text_action (text.Extended4Digits count value) byte = digits4_action count value byte
-text_action text.EndBackslash byte = directive 88 text.EndMark byte
-text_action text.EndMark byte = directive 48 text.EndZero byte
-text_action text.EndZero byte = directive 92 text.Inside byte
+text_action text.EndBackslash byte = directive_action 88 text.EndMark byte
+text_action text.EndMark byte = directive_action 48 text.EndZero byte
+text_action text.EndZero byte = directive_action 92 text.Inside byte
 text_action (text.Utf8Last value) byte = utf8_last_action value byte
 text_action (text.Utf8Second low high value) byte =
     if nat_le low byte && nat_le byte high then Skip (Text (text.Utf8Last (utf8_value value byte))) else Refuse wrong.Utf8
@@ -234,8 +234,8 @@ text_action (text.Utf8Third low high value) byte =
     if nat_le low byte && nat_le byte high then Skip (Text (text.Utf8Second 0x80 0xBF (utf8_value value byte))) else Refuse wrong.Utf8
 
 -- a byte between tokens that is no separator, digit or letter
-abbrev pub mark_action : ℕ → Action
-mark_action byte =
+abbrev pub punctuation_action : ℕ → Action
+punctuation_action byte =
     if byte == 44 then Give single.Comma
     else if byte == 35 then Skip (Name name.Hash)
     else if byte == 40 then Give single.Left
@@ -261,7 +261,7 @@ between_action byte =
     if is_blank byte then Pass Between
     else if is_digit byte then Keep (Number number.Whole)
     else if is_upper byte then Keep (Word word.Keyword)
-    else mark_action byte
+    else punctuation_action byte
 
 abbrev pub advance : Mode → ℕ → Action
 advance Between byte = between_action byte

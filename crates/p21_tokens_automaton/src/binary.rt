@@ -1,5 +1,5 @@
 ghost use Rattle.std.specs.Prelude.{◌≡◌};
-ghost use Rattle.p21_tokens_automaton.specs.Step.{binary_action, padded};
+ghost use Rattle.p21_tokens_automaton.specs.Step.{binary_action, has_zero_padding};
 
 use crate::bytes::{hex_value, is_hex};
 use crate::mode::{Action, BinaryMode, Mode, Wrong};
@@ -43,7 +43,7 @@ pub(crate) fn binary_action(mode: BinaryMode, byte: u8) -> Action
 
 /// Whether so many of the highest of four bits are zero.
 fn is_padded(padding: u8, value: u8) -> bool
-    ensures { result ≡ padded padding value }
+    ensures { result ≡ has_zero_padding padding value }
 {
     match padding {
         0 => value < 16,

@@ -1,5 +1,5 @@
 ghost use Rattle.std.specs.Prelude.{◌≡◌};
-ghost use Rattle.p21_tokens_automaton.specs.Step.{between_action, mark_action};
+ghost use Rattle.p21_tokens_automaton.specs.Step.{between_action, punctuation_action};
 
 use crate::bytes::{is_blank, is_digit, is_upper};
 use crate::mode::{
@@ -17,13 +17,13 @@ pub(crate) fn between_action(byte: u8) -> Action
     } else if is_upper(byte) {
         Action::Keep(Mode::Word(WordMode::Keyword))
     } else {
-        mark_action(byte)
+        punctuation_action(byte)
     }
 }
 
 /// A byte between tokens that is no separator, digit or letter.
-fn mark_action(byte: u8) -> Action
-    ensures { result ≡ mark_action byte }
+fn punctuation_action(byte: u8) -> Action
+    ensures { result ≡ punctuation_action byte }
 {
     match byte {
         b',' => Action::Give(Single::Comma),

@@ -1,5 +1,5 @@
 ghost use Rattle.std.specs.Prelude.{◌≡◌};
-ghost use Rattle.p21_tokens_automaton.specs.Step.{name_action, name_digit};
+ghost use Rattle.p21_tokens_automaton.specs.Step.{name_action, name_digit_action};
 
 use crate::bytes::{is_digit, is_upper};
 use crate::mode::{Absent, Action, Mode, NameMode, Wrong};
@@ -11,7 +11,7 @@ pub(crate) fn name_action(mode: NameMode, byte: u8) -> Action
     match mode {
         NameMode::Hash => {
             if is_digit(byte) {
-                name_digit(0, byte - b'0')
+                name_digit_action(0, byte - b'0')
             } else if is_upper(byte) {
                 Action::Refuse(Wrong::LeftOut(Absent::ConstantName))
             } else {
@@ -20,7 +20,7 @@ pub(crate) fn name_action(mode: NameMode, byte: u8) -> Action
         }
         NameMode::Digits(value) => {
             if is_digit(byte) {
-                name_digit(value, byte - b'0')
+                name_digit_action(value, byte - b'0')
             } else {
                 Action::End
             }
@@ -29,8 +29,8 @@ pub(crate) fn name_action(mode: NameMode, byte: u8) -> Action
 }
 
 /// A further digit, if the number stays below 2^64.
-fn name_digit(value: u64, digit: u8) -> Action
-    ensures { result ≡ name_digit value digit }
+fn name_digit_action(value: u64, digit: u8) -> Action
+    ensures { result ≡ name_digit_action value digit }
 {
     match value.checked_mul(10) {
         None => Action::Refuse(Wrong::NameRange),

@@ -1,5 +1,5 @@
 ghost use Rattle.std.specs.Prelude.{◌≡◌};
-ghost use Rattle.p21_tokens_automaton.specs.Step.{number_action, behind_digit, no_digit};
+ghost use Rattle.p21_tokens_automaton.specs.Step.{number_action, mode_behind_digit, non_digit_action};
 
 use crate::bytes::is_digit;
 use crate::mode::{Action, Mode, NumberMode, Wrong};
@@ -9,15 +9,15 @@ pub(crate) fn number_action(mode: NumberMode, byte: u8) -> Action
     ensures { result ≡ number_action mode byte }
 {
     if is_digit(byte) {
-        Action::Keep(Mode::Number(behind_digit(mode)))
+        Action::Keep(Mode::Number(mode_behind_digit(mode)))
     } else {
-        no_digit(mode, byte)
+        non_digit_action(mode, byte)
     }
 }
 
 /// The part of the number that a digit belongs to.
-fn behind_digit(mode: NumberMode) -> NumberMode
-    ensures { result ≡ behind_digit mode }
+fn mode_behind_digit(mode: NumberMode) -> NumberMode
+    ensures { result ≡ mode_behind_digit mode }
 {
     match mode {
         NumberMode::Sign => NumberMode::Whole,
@@ -29,8 +29,8 @@ fn behind_digit(mode: NumberMode) -> NumberMode
     }
 }
 
-fn no_digit(mode: NumberMode, byte: u8) -> Action
-    ensures { result ≡ no_digit mode byte }
+fn non_digit_action(mode: NumberMode, byte: u8) -> Action
+    ensures { result ≡ non_digit_action mode byte }
 {
     match mode {
         NumberMode::Sign => Action::Refuse(Wrong::Number),

@@ -1,6 +1,6 @@
 ghost use Rattle.p21_basics.specs.Digits.{is_digit};
 ghost use Rattle.std.specs.Prelude.{◌≡◌, ◌^◌, ◌<◌, ◌≤◌, ◌⊎◌, false, length, slice_index};
-ghost use Rattle.p21_tokens_automaton.specs.Run.{IsRun, AreNameDigits, AreOf, EachDoes, is_of};
+ghost use Rattle.p21_tokens_automaton.specs.Run.{IsRun, AreNameDigits, AreOfClass, EachHasAction, is_of_class};
 ghost use Rattle.p21_tokens_automaton.specs.declared.mode.Action.TheVariants.{Keep, Pass, Put};
 ghost use Rattle.p21_tokens_automaton.specs.declared.mode.Mode.TheVariants.{Between, Name, Text, Word};
 ghost use Rattle.p21_tokens_automaton.specs.declared.mode.NameMode.TheVariants.{Digits};
@@ -10,15 +10,15 @@ ghost use Rattle.p21_tokens_automaton.specs.declared.run.Class.TheVariants.{Blan
 
 use crate::bytes::{is_blank, is_digit, is_hex, is_keyword_byte};
 use crate::mode::{BinaryMode, Mode, NameMode, NumberMode, TextMode, WordMode};
-use crate::wide::long_front;
+use crate::wide::long_prefix;
 
 /// How many bytes at the front leave the mode as it is, and what each of them does.
 #[derive(Clone, Copy, Debug, PartialEq, Eq)]
 pub enum Run {
     /// They stand between tokens.
     Passed(usize),
-    /// They belong to the token, and are kept.
-    Kept(usize),
+    /// They belong to the token, and are pending.
+    PendingBytes(usize),
     /// They are characters of a string.
     Characters(usize),
     /// They are characters of a string, if they are whole in UTF-8.
@@ -33,14 +33,20 @@ pub fn run_of(mode: Mode, bytes: &[u8]) -> Run
 {
     match mode {
         Mode::Between => Run::Passed(blanks(bytes)),
-        Mode::Comment => Run::Passed(long_front(Class::Commented, bytes)),
-        Mode::Number(NumberMode::Whole) => Run::Kept(short_front(Class::Digit, bytes)),
-        Mode::Number(NumberMode::Fraction) => Run::Kept(short_front(Class::Digit, bytes)),
-        Mode::Number(NumberMode::ExponentDigits) => Run::Kept(short_front(Class::Digit, bytes)),
-        Mode::Word(WordMode::Keyword) => Run::Kept(long_front(Class::KeywordByte, bytes)),
-        Mode::Word(WordMode::UserKeyword) => Run::Kept(long_front(Class::KeywordByte, bytes)),
-        Mode::Word(WordMode::Item) => Run::Kept(long_front(Class::KeywordByte, bytes)),
-        Mode::Binary(BinaryMode::Hex) => Run::Kept(long_front(Class::HexDigit, bytes)),
+        Mode::Comment => Run::Passed(long_prefix(Class::Commented, bytes)),
+        Mode::Number(NumberMode::Whole) => Run::PendingBytes(short_prefix(Class::Digit, bytes)),
+        Mode::Number(NumberMode::Fraction) => Run::PendingBytes(short_prefix(Class::Digit, bytes)),
+        Mode::Number(NumberMode::ExponentDigits) => Run::PendingBytes(short_prefix(
+            Class::Digit,
+            bytes,
+        )),
+        Mode::Word(WordMode::Keyword) => Run::PendingBytes(long_prefix(Class::KeywordByte, bytes)),
+        Mode::Word(WordMode::UserKeyword) => Run::PendingBytes(long_prefix(
+            Class::KeywordByte,
+            bytes,
+        )),
+        Mode::Word(WordMode::Item) => Run::PendingBytes(long_prefix(Class::KeywordByte, bytes)),
+        Mode::Binary(BinaryMode::Hex) => Run::PendingBytes(long_prefix(Class::HexDigit, bytes)),
         Mode::Name(NameMode::Digits(value)) => {
             let (count, value) = name_digits(value, bytes);
             Run::Named(count, value)
@@ -58,7 +64,7 @@ fn text_run(bytes: &[u8]) -> Run
     if plain > 0 {
         return Run::Characters(plain);
     }
-    Run::Utf8(long_front(Class::CharacterByte, bytes))
+    Run::Utf8(long_prefix(Class::CharacterByte, bytes))
 }
 
 /// Digits of an instance name at the front, behind those that stand for a number, as long as any digit more is in range:
@@ -80,8 +86,8 @@ pub fn name_digits(value: u64, bytes: &[u8]) -> (usize, u64)
 /// How many blanks stand at the front.
 #[inline]
 pub fn blanks(bytes: &[u8]) -> usize
-    ensures are { EachDoes Between bytes.now result (λ byte. Pass Between) }
-    ensures ends { result < length bytes.now → is_of Blank (slice_index bytes.now result) ≡ false }
+    ensures are { EachHasAction Between bytes.now result (λ byte. Pass Between) }
+    ensures ends { result < length bytes.now → is_of_class Blank (slice_index bytes.now result) ≡ false }
 {
     front(Class::Blank, bytes)
 }
@@ -89,19 +95,19 @@ pub fn blanks(bytes: &[u8]) -> usize
 /// How many bytes of a keyword stand at the front.
 #[inline]
 pub fn keyword_bytes(bytes: &[u8]) -> usize
-    ensures are { EachDoes (Word Keyword) bytes.now result (λ byte. Keep (Word Keyword)) }
-    ensures ends { result < length bytes.now → is_of KeywordByte (slice_index bytes.now result) ≡ false }
+    ensures are { EachHasAction (Word Keyword) bytes.now result (λ byte. Keep (Word Keyword)) }
+    ensures ends { result < length bytes.now → is_of_class KeywordByte (slice_index bytes.now result) ≡ false }
 {
-    long_front(Class::KeywordByte, bytes)
+    long_prefix(Class::KeywordByte, bytes)
 }
 
 /// How many bytes at the front are characters of a string, each of one byte.
 #[inline]
 pub fn plain_characters(bytes: &[u8]) -> usize
-    ensures are { EachDoes (Text Inside) bytes.now result (λ byte. Put (Text Inside) byte) }
-    ensures ends { result < length bytes.now → is_of Plain (slice_index bytes.now result) ≡ false }
+    ensures are { EachHasAction (Text Inside) bytes.now result (λ byte. Put (Text Inside) byte) }
+    ensures ends { result < length bytes.now → is_of_class Plain (slice_index bytes.now result) ≡ false }
 {
-    long_front(Class::Plain, bytes)
+    long_prefix(Class::Plain, bytes)
 }
 
 /// A number below it can take any digit more.
@@ -123,8 +129,8 @@ pub(crate) enum Class {
 }
 
 #[inline(always)]
-fn is_of(class: Class, byte: u8) -> bool
-    ensures { result ≡ is_of class byte }
+fn is_of_class(class: Class, byte: u8) -> bool
+    ensures { result ≡ is_of_class class byte }
 {
     match class {
         Class::Blank => is_blank(byte),
@@ -140,28 +146,28 @@ fn is_of(class: Class, byte: u8) -> bool
 /// How many bytes at the front are of the class, where there is often none.
 #[inline]
 fn front(class: Class, bytes: &[u8]) -> usize
-    ensures are { AreOf class bytes.now result }
-    ensures ends { result < length bytes.now → is_of class (slice_index bytes.now result) ≡ false }
+    ensures are { AreOfClass class bytes.now result }
+    ensures ends { result < length bytes.now → is_of_class class (slice_index bytes.now result) ≡ false }
 {
     match bytes.first() {
         None => 0,
         Some(byte) => {
-            if !is_of(class, *byte) {
+            if !is_of_class(class, *byte) {
                 return 0;
             }
-            long_front(class, bytes)
+            long_prefix(class, bytes)
         }
     }
 }
 
 /// How many bytes at the front are of the class, where there are often few.
 #[inline(always)]
-pub(crate) fn short_front(class: Class, bytes: &[u8]) -> usize
-    ensures are { AreOf class bytes.now result }
-    ensures ends { result < length bytes.now → is_of class (slice_index bytes.now result) ≡ false }
+pub(crate) fn short_prefix(class: Class, bytes: &[u8]) -> usize
+    ensures are { AreOfClass class bytes.now result }
+    ensures ends { result < length bytes.now → is_of_class class (slice_index bytes.now result) ≡ false }
 {
     let mut count = 0;
-    while count < bytes.len() && is_of(class, bytes[count]) {
+    while count < bytes.len() && is_of_class(class, bytes[count]) {
         count += 1;
     }
     count

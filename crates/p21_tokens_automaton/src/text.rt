@@ -1,6 +1,6 @@
 ghost use Rattle.std.specs.Prelude.{◌≡◌, ◌&&◌, nat_le, IsTrue};
 ghost use Rattle.p21_tokens_automaton.specs.Bytes.{is_hex};
-ghost use Rattle.p21_tokens_automaton.specs.Step.{text_action, inside_action, utf8_action, utf8_value, utf8_last_action, directive, backslash_action, page_action, hex_mark_action, arbitrary_action, arbitrary_second_action, put_scalar, first2_action, group_value, digits2_action, group2, low_first_action, low_digits_action, low_group, first4_action, digits4_action};
+ghost use Rattle.p21_tokens_automaton.specs.Step.{text_action, inside_action, utf8_action, utf8_value, utf8_last_action, directive_action, backslash_action, page_action, hex_mark_action, arbitrary_action, arbitrary_second_action, put_scalar, first2_action, group_value, digits2_action, group_action, low_first_action, low_digits_action, low_group_action, first4_action, digits4_action};
 
 use crate::bytes::{hex_value, is_hex};
 use crate::mode::{Action, Mode, TextMode, Wrong};
@@ -19,14 +19,14 @@ pub(crate) fn text_action(mode: TextMode, byte: u8) -> Action
             }
         }
         TextMode::Backslash => backslash_action(byte),
-        TextMode::PageMark => directive(b'\\', TextMode::Page, byte),
+        TextMode::PageMark => directive_action(b'\\', TextMode::Page, byte),
         TextMode::Page => page_action(byte),
-        TextMode::AlphabetMark => directive(b'A', TextMode::Alphabet, byte),
-        TextMode::Alphabet => directive(b'\\', TextMode::Inside, byte),
+        TextMode::AlphabetMark => directive_action(b'A', TextMode::Alphabet, byte),
+        TextMode::Alphabet => directive_action(b'\\', TextMode::Inside, byte),
         TextMode::HexMark => hex_mark_action(byte),
         TextMode::Arbitrary => arbitrary_action(byte),
         TextMode::ArbitrarySecond(high) => arbitrary_second_action(high, byte),
-        TextMode::Extended2Mark => directive(b'\\', TextMode::Extended2First, byte),
+        TextMode::Extended2Mark => directive_action(b'\\', TextMode::Extended2First, byte),
         TextMode::Extended2First => first2_action(byte),
         TextMode::Extended2Next => {
             if byte == b'\\' {
@@ -38,7 +38,7 @@ pub(crate) fn text_action(mode: TextMode, byte: u8) -> Action
         TextMode::Extended2Digits(count, value) => digits2_action(count, value, byte),
         TextMode::LowFirst(high) => low_first_action(high, byte),
         TextMode::LowDigits(high, count, value) => low_digits_action(high, count, value, byte),
-        TextMode::Extended4Mark => directive(b'\\', TextMode::Extended4First, byte),
+        TextMode::Extended4Mark => directive_action(b'\\', TextMode::Extended4First, byte),
         TextMode::Extended4First => first4_action(byte),
         TextMode::Extended4Next => {
             if byte == b'\\' {
@@ -48,9 +48,9 @@ pub(crate) fn text_action(mode: TextMode, byte: u8) -> Action
             }
         }
         TextMode::Extended4Digits(count, value) => digits4_action(count, value, byte),
-        TextMode::EndBackslash => directive(b'X', TextMode::EndMark, byte),
-        TextMode::EndMark => directive(b'0', TextMode::EndZero, byte),
-        TextMode::EndZero => directive(b'\\', TextMode::Inside, byte),
+        TextMode::EndBackslash => directive_action(b'X', TextMode::EndMark, byte),
+        TextMode::EndMark => directive_action(b'0', TextMode::EndZero, byte),
+        TextMode::EndZero => directive_action(b'\\', TextMode::Inside, byte),
         TextMode::Utf8Last(value) => utf8_last_action(value, byte),
         TextMode::Utf8Second(low, high, value) => {
             if low <= byte && byte <= high {
@@ -129,8 +129,8 @@ fn utf8_last_action(value: u32, byte: u8) -> Action
 }
 
 /// The byte that a directive goes on with.
-fn directive(expected: u8, mode: TextMode, byte: u8) -> Action
-    ensures { result ≡ directive expected mode byte }
+fn directive_action(expected: u8, mode: TextMode, byte: u8) -> Action
+    ensures { result ≡ directive_action expected mode byte }
 {
     if byte == expected {
         Action::Skip(Mode::Text(mode))
@@ -234,13 +234,13 @@ fn digits2_action(count: u8, value: u16, byte: u8) -> Action
     if count < 3 {
         Action::Skip(Mode::Text(TextMode::Extended2Digits(count + 1, value)))
     } else {
-        group2(value)
+        group_action(value)
     }
 }
 
 /// A whole group of `\X2\`.
-fn group2(value: u16) -> Action
-    ensures { result ≡ group2 value }
+fn group_action(value: u16) -> Action
+    ensures { result ≡ group_action value }
 {
     if 0xD800 <= value && value <= 0xDBFF {
         Action::Skip(Mode::Text(TextMode::LowFirst(value)))
@@ -272,7 +272,7 @@ fn low_digits_action(high: u16, count: u8, value: u16, byte: u8) -> Action
     if count < 3 {
         Action::Skip(Mode::Text(TextMode::LowDigits(high, count + 1, value)))
     } else {
-        low_group(high, value)
+        low_group_action(high, value)
     }
 }
 
@@ -284,8 +284,8 @@ fn is_low(value: u16) -> bool
 }
 
 /// A whole group behind a high surrogate.
-fn low_group(high: u16, value: u16) -> Action
-    ensures { result ≡ low_group high value }
+fn low_group_action(high: u16, value: u16) -> Action
+    ensures { result ≡ low_group_action high value }
 {
     if !is_low(value) {
         return Action::Refuse(Wrong::CodePoint);

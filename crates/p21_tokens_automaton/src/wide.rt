@@ -1,17 +1,17 @@
 //! Bytes of a class, tested 32 at a time.
 ghost use Rattle.std.specs.Prelude.{◌≡◌, ◌<◌, false, length, map, slice_index};
 ghost use Rattle.std.specs.Simd.Lanes.{mask_l};
-ghost use Rattle.p21_tokens_automaton.specs.Run.{AreOf, is_of, is_other};
+ghost use Rattle.p21_tokens_automaton.specs.Run.{AreOfClass, is_of_class, is_of_other_class};
 ghost use Rattle.p21_tokens_automaton.specs.declared.run.Class.TheVariants.{Blank, Commented, Digit, KeywordByte, HexDigit, Plain, CharacterByte};
 
-use crate::run::{Class, short_front};
+use crate::run::{Class, short_prefix};
 use std::simd::prelude::*;
 
 /// How many bytes at the front are of the class. Inlined, so that each class has a loop of its own.
 #[inline(always)]
-pub(crate) fn long_front(class: Class, bytes: &[u8]) -> usize
-    ensures are { AreOf class bytes.now result }
-    ensures ends { result < length bytes.now → is_of class (slice_index bytes.now result) ≡ false }
+pub(crate) fn long_prefix(class: Class, bytes: &[u8]) -> usize
+    ensures are { AreOfClass class bytes.now result }
+    ensures ends { result < length bytes.now → is_of_class class (slice_index bytes.now result) ≡ false }
 {
     let mut count = 0;
     while bytes.len() - count >= 32 {
@@ -21,13 +21,13 @@ pub(crate) fn long_front(class: Class, bytes: &[u8]) -> usize
         }
         count += 32;
     }
-    count + short_front(class, &bytes[count..])
+    count + short_prefix(class, &bytes[count..])
 }
 
 /// A bit for each byte that is not of the class, the lowest for the first.
 #[inline(always)]
 fn others(class: Class, bytes: u8x32) -> u64
-    ensures { result ≡ mask_l (map (is_other class) bytes) }
+    ensures { result ≡ mask_l (map (is_of_other_class class) bytes) }
 {
     match class {
         Class::Blank => no_blanks(bytes),
@@ -42,7 +42,7 @@ fn others(class: Class, bytes: u8x32) -> u64
 
 #[inline(always)]
 fn no_blanks(bytes: u8x32) -> u64
-    ensures { result ≡ mask_l (map (is_other Blank) bytes) }
+    ensures { result ≡ mask_l (map (is_of_other_class Blank) bytes) }
 {
     ((bytes - u8x32::splat(33)).simd_lt(u8x32::splat(94))
         | bytes.simd_ge(u8x32::splat(128))).to_bitmask()
@@ -50,14 +50,14 @@ fn no_blanks(bytes: u8x32) -> u64
 
 #[inline(always)]
 fn stars(bytes: u8x32) -> u64
-    ensures { result ≡ mask_l (map (is_other Commented) bytes) }
+    ensures { result ≡ mask_l (map (is_of_other_class Commented) bytes) }
 {
     bytes.simd_eq(u8x32::splat(b'*')).to_bitmask()
 }
 
 #[inline(always)]
 fn no_digits(bytes: u8x32) -> u64
-    ensures { result ≡ mask_l (map (is_other Digit) bytes) }
+    ensures { result ≡ mask_l (map (is_of_other_class Digit) bytes) }
 {
     (bytes - u8x32::splat(b'0'))
         .simd_ge(u8x32::splat(10))
@@ -66,7 +66,7 @@ fn no_digits(bytes: u8x32) -> u64
 
 #[inline(always)]
 fn no_keyword_bytes(bytes: u8x32) -> u64
-    ensures { result ≡ mask_l (map (is_other KeywordByte) bytes) }
+    ensures { result ≡ mask_l (map (is_of_other_class KeywordByte) bytes) }
 {
     (bytes.simd_lt(u8x32::splat(b'0'))
         | (bytes - u8x32::splat(58)).simd_lt(u8x32::splat(7))
@@ -76,7 +76,7 @@ fn no_keyword_bytes(bytes: u8x32) -> u64
 
 #[inline(always)]
 fn no_hex_digits(bytes: u8x32) -> u64
-    ensures { result ≡ mask_l (map (is_other HexDigit) bytes) }
+    ensures { result ≡ mask_l (map (is_of_other_class HexDigit) bytes) }
 {
     (bytes.simd_lt(u8x32::splat(b'0'))
         | (bytes - u8x32::splat(58)).simd_lt(u8x32::splat(7))
@@ -85,7 +85,7 @@ fn no_hex_digits(bytes: u8x32) -> u64
 
 #[inline(always)]
 fn no_plain_bytes(bytes: u8x32) -> u64
-    ensures { result ≡ mask_l (map (is_other Plain) bytes) }
+    ensures { result ≡ mask_l (map (is_of_other_class Plain) bytes) }
 {
     (bytes.simd_lt(u8x32::splat(b' '))
         | bytes.simd_ge(u8x32::splat(127))
@@ -95,7 +95,7 @@ fn no_plain_bytes(bytes: u8x32) -> u64
 
 #[inline(always)]
 fn no_character_bytes(bytes: u8x32) -> u64
-    ensures { result ≡ mask_l (map (is_other CharacterByte) bytes) }
+    ensures { result ≡ mask_l (map (is_of_other_class CharacterByte) bytes) }
 {
     (bytes.simd_lt(u8x32::splat(b' '))
         | bytes.simd_eq(u8x32::splat(b'\''))

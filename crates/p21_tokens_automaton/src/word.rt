@@ -26,7 +26,7 @@ pub(crate) fn word_action(mode: WordMode, byte: u8) -> Action
                 Action::End
             }
         }
-        WordMode::Exclamation => begin_word(WordMode::UserKeyword, byte),
+        WordMode::Exclamation => begin_word_action(WordMode::UserKeyword, byte),
         WordMode::UserKeyword => {
             if is_keyword_byte(byte) {
                 Action::Keep(Mode::Word(WordMode::UserKeyword))
@@ -36,7 +36,7 @@ pub(crate) fn word_action(mode: WordMode, byte: u8) -> Action
                 Action::End
             }
         }
-        WordMode::Point => begin_word(WordMode::Item, byte),
+        WordMode::Point => begin_word_action(WordMode::Item, byte),
         WordMode::Item => {
             if is_keyword_byte(byte) {
                 Action::Keep(Mode::Word(WordMode::Item))
@@ -50,8 +50,8 @@ pub(crate) fn word_action(mode: WordMode, byte: u8) -> Action
 }
 
 /// The first keyword character behind a mark.
-fn begin_word(mode: WordMode, byte: u8) -> Action
-    ensures { result ≡ begin_word mode byte }
+fn begin_word_action(mode: WordMode, byte: u8) -> Action
+    ensures { result ≡ begin_word_action mode byte }
 {
     if is_upper(byte) {
         Action::Keep(Mode::Word(mode))
@@ -60,7 +60,7 @@ fn begin_word(mode: WordMode, byte: u8) -> Action
     }
 }
 
-ghost use Rattle.p21_tokens_automaton.specs.Step.{begin_word};
+ghost use Rattle.p21_tokens_automaton.specs.Step.{begin_word_action};
 
 /// The bytes of the first or the last token of a file.
 fn marker_text(marker: Marker) -> &'static [u8]

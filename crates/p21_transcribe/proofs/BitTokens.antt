@@ -10,7 +10,7 @@ use Rattle.p21_exchange.specs.Binary.{SpellsBits}
 use Rattle.p21_exchange.specs.Token.{IsFollowed, bits}
 use Rattle.p21_values.specs.Bits.{bits_of_digits, hex_value, is_hex_digit}
 use Rattle.p21_transcribe.specs.Bits.{AreHexDigits, IsPadded}
-use Rattle.p21_transcribe.specs.Leaf.{IsCanonicalAtFront}
+use Rattle.p21_transcribe.specs.LeadingToken.{IsCanonicalLeadingToken}
 use Rattle.p21_values.proofs.BitsLemmas.{hex_values_back, small_padded}
 
 -- ---- hex digits
@@ -57,7 +57,7 @@ module _ (bytes inside digits rest : List ℕ) (padding count : ℕ) (is : bytes
   size : 4 * count - padding ≡ length (drop padding (bits_of_digits (take count digits)))
   size = omega (arith, length_spelled (take (count + 3) bytes) (drop padding (bits_of_digits (take count digits))) spells, length-map (take count digits) hex_value, length-take-le count digits run.within)
 
-  pub bits-at_front : (value : List Bool) × (4 * count - padding ≡ length value) × IsCanonicalAtFront bytes (count + 3) (bits value)
+  pub bits-at_front : (value : List Bool) × (4 * count - padding ≡ length value) × IsCanonicalLeadingToken bytes (count + 3) (bits value)
   bits-at_front = (
     drop padding (bits_of_digits (take count digits)),
     size,

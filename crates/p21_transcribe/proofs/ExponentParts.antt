@@ -9,9 +9,9 @@ use Rattle.p21_exchange.specs.Number.{is_minus, no_exponent, signed}
 use Rattle.p21_values.proofs.Readings.{exponent_front}
 use Rattle.p21_transcribe.proofs.Splits.{rest_is}
 use Rattle.p21_transcribe.specs.Numbers.{EndsReal}
-use Rattle.p21_transcribe.specs.Runs.{IsDigitRun, NotFirst}
+use Rattle.p21_transcribe.specs.Runs.{IsDigitRun, BeginsWithoutByte}
 
-pub no_exponent-ends : (bytes : List ℕ) → NoDigitFirst bytes → NotFirst 69 bytes → EndsReal bytes (pos 0) bytes
+pub no_exponent-ends : (bytes : List ℕ) → NoDigitFirst bytes → BeginsWithoutByte 69 bytes → EndsReal bytes (pos 0) bytes
 no_exponent-ends bytes h k = record {
   begins = record { exponent = no_exponent; bytes_are = refl; is_exponent = tt; is_short = tt; value_is = refl };
   small = omega arith;
@@ -20,7 +20,7 @@ no_exponent-ends bytes h k = record {
 }
 
 pub exponent-ends : (bytes written unsigned rest : List ℕ) (count : ℕ) (negative : Bool) (k : ℤ) → bytes ≡ 69 ∷ written → negative ≡ is_minus (first_sign written) → unsigned ≡ behind_sign written → IsDigitRun unsigned count → 0 < count → count ≤ 6
-    → rest ≡ take (length unsigned - count) (drop count unsigned) → NotFirst 69 rest → k ≡ signed negative (number (take count unsigned)) → nat_abs k < 10 ^ 6 → EndsReal bytes k rest
+    → rest ≡ take (length unsigned - count) (drop count unsigned) → BeginsWithoutByte 69 rest → k ≡ signed negative (number (take count unsigned)) → nat_abs k < 10 ^ 6 → EndsReal bytes k rest
 exponent-ends bytes written unsigned rest count negative k e minus is run some few r other value small =
     let behind : rest ≡ drop count unsigned = r ∙ rest_is unsigned count in
     let digits = take count unsigned in

@@ -3,10 +3,10 @@ use Rattle.std.proofs.Common.{◌≡◌, ℕ, zero, suc, ◌+◌, ◌/◌, ◌%�
 use Rattle.p21_basics.specs.Digits.{number}
 use Rattle.p21_exchange.specs.Spelling.{exponent_spelling}
 use Rattle.p21_values.proofs.StoredDecimals.{negative_exponent, positive_exponent}
-use Rattle.p21_values.specs.Digits.{WithoutFrontZeros}
+use Rattle.p21_values.specs.Digits.{WithoutLeadingZeros}
 
 -- a sign, and digits with no zero in front
-spelled : (z : ℤ) (negative : Bool) (ds : List ℕ) → WithoutFrontZeros ds ds → number ds ≡ nat_abs z → (z ≡ pos 0 → ⊥) → (negative ≡ true → z <ℤ pos 0) → (negative ≡ false → pos 0 ≤ℤ z) → exponent_spelling z ≡ 69 ∷ ((if negative then 45 ∷ [] else []) ++ ds)
+spelled : (z : ℤ) (negative : Bool) (ds : List ℕ) → WithoutLeadingZeros ds ds → number ds ≡ nat_abs z → (z ≡ pos 0 → ⊥) → (negative ≡ true → z <ℤ pos 0) → (negative ≡ false → pos 0 ≤ℤ z) → exponent_spelling z ≡ 69 ∷ ((if negative then 45 ∷ [] else []) ++ ds)
 spelled z true ds h e other below above = negative_exponent z ds ds h e other (below refl)
 spelled z false ds h e other below above = positive_exponent z ds ds h e other (above refl)
 

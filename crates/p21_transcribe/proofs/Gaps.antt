@@ -4,20 +4,20 @@ use Rattle.std.proofs.lemmas.List.{get_or-append-add, get_or-take, take_more, ta
 use Rattle.std.proofs.Math.Seq.{get_or-append_seam}
 use Rattle.p21_basics.proofs.Members.{head_is, tail_is}
 use Rattle.p21_exchange.proofs.OneGap.{HasNoSeparator, nothing-first}
-use Rattle.p21_exchange.specs.Separator.{EndsOnce, IsSeparator, Separator, blank, comment, separator_bytes}
-use Rattle.p21_transcribe.specs.Gaps.{BeginsComment, NoBlankFirst, PassesBlank, PassesSeparator, PassesSeparators}
+use Rattle.p21_exchange.specs.Separator.{IsCommentText, IsSeparator, Separator, blank, comment, separator_bytes}
+use Rattle.p21_transcribe.specs.Gaps.{BeginsComment, HasNoLeadingBlank, PassesBlank, PassesSeparator, PassesSeparators}
 
 -- ---- no separator
 
-pub no_blank_or_comment : (bytes : List ℕ) → NoBlankFirst bytes → ((inside rest : List ℕ) → EndsOnce inside → BeginsComment inside bytes rest → ⊥) → HasNoSeparator bytes
+pub no_blank_or_comment : (bytes : List ℕ) → HasNoLeadingBlank bytes → ((inside rest : List ℕ) → IsCommentText inside → BeginsComment inside bytes rest → ⊥) → HasNoSeparator bytes
 no_blank_or_comment [] no_blank none separator rest is same = nothing-first separator rest is same
 no_blank_or_comment (byte ∷ bytes) no_blank none (blank b) rest is same = no_blank (subst (λ (x : ℕ). IsSeparator (blank x)) (sym (head_is byte b _ _ same)) is)
 no_blank_or_comment (byte ∷ bytes) no_blank none (comment inside) rest is same = none inside rest is (same ∙ ap (λ (x : List ℕ). 47 ∷ 42 ∷ x) (append_assoc inside (42 ∷ 47 ∷ []) rest))
 
-pub not_ended : (bytes star text : List ℕ) → bytes ≡ 47 ∷ star → star ≡ 42 ∷ text → ((front rest : List ℕ) → text ≡ front ++ (42 ∷ 47 ∷ rest) → ⊥) → (inside rest : List ℕ) → EndsOnce inside → BeginsComment inside bytes rest → ⊥
+pub not_ended : (bytes star text : List ℕ) → bytes ≡ 47 ∷ star → star ≡ 42 ∷ text → ((front rest : List ℕ) → text ≡ front ++ (42 ∷ 47 ∷ rest) → ⊥) → (inside rest : List ℕ) → IsCommentText inside → BeginsComment inside bytes rest → ⊥
 not_ended bytes star text slash opened none inside rest once is = none inside rest (tail_is 42 42 _ _ (sym opened ∙ tail_is 47 47 _ _ (sym slash ∙ is)))
 
-pub comment_begins : (bytes star text rest : List ℕ) → bytes ≡ 47 ∷ star → star ≡ 42 ∷ text → (front : List ℕ) × EndsOnce front × (text ≡ front ++ (42 ∷ 47 ∷ rest)) → (inside : List ℕ) × EndsOnce inside × BeginsComment inside bytes rest
+pub comment_begins : (bytes star text rest : List ℕ) → bytes ≡ 47 ∷ star → star ≡ 42 ∷ text → (front : List ℕ) × IsCommentText front × (text ≡ front ++ (42 ∷ 47 ∷ rest)) → (inside : List ℕ) × IsCommentText inside × BeginsComment inside bytes rest
 comment_begins bytes star text rest slash opened (front, once, is) = (front, once, slash ∙ ap (λ (x : List ℕ). 47 ∷ x) (opened ∙ ap (λ (x : List ℕ). 42 ∷ x) is))
 
 -- ---- one separator, and more
@@ -25,7 +25,7 @@ comment_begins bytes star text rest slash opened (front, once, is) = (front, onc
 pub blank_passes : (bytes rest : List ℕ) → PassesBlank bytes rest → PassesSeparator bytes rest
 blank_passes bytes rest h = record { separator = blank h.byte; is = h.is; bytes_are = h.bytes_are }
 
-pub comment_passes : (bytes rest : List ℕ) → (inside : List ℕ) × EndsOnce inside × BeginsComment inside bytes rest → PassesSeparator bytes rest
+pub comment_passes : (bytes rest : List ℕ) → (inside : List ℕ) × IsCommentText inside × BeginsComment inside bytes rest → PassesSeparator bytes rest
 comment_passes bytes rest (inside, once, is) = record {
   separator = comment inside;
   is = once;
@@ -70,7 +70,7 @@ module _ (inside : List ℕ) (j : ℕ) (room : j + 1 < length inside) (star : ge
       ∙ (append_assoc (take j inside) (get_or inside j 0 ∷ []) (get_or inside (j + 1) 0 ∷ [])
       ∙ (ap (λ (x : ℕ). take j inside ++ x ∷ get_or inside (j + 1) 0 ∷ []) star ∙ ap (λ (x : ℕ). take j inside ++ 42 ∷ x ∷ []) slash)))
 
-  once : EndsOnce (take j inside)
+  once : IsCommentText (take j inside)
   once before [] same = refl
   once before (c ∷ after) same =
       let whole : take (j + 1 + 1) inside ≡ before ++ (42 ∷ 47 ∷ c ∷ after) = two ∙ same in
@@ -81,7 +81,7 @@ module _ (inside : List ℕ) (j : ℕ) (room : j + 1 < length inside) (star : ge
       (sym (get_or-take (j + 1 + 1) inside (length before) 0 (omega arith)) ∙ (ap (λ (x : List ℕ). get_or x (length before) 0) whole ∙ seam.0))
       (sym (get_or-take (j + 1 + 1) inside (length before + 1) 0 (omega arith)) ∙ (ap (λ (x : List ℕ). get_or x (length before + 1) 0) whole ∙ seam.1)))
 
-  pub end_found : (rest : List ℕ) → rest ≡ drop (j + 1 + 1) inside → (front : List ℕ) × EndsOnce front × (inside ≡ front ++ (42 ∷ 47 ∷ rest))
+  pub end_found : (rest : List ℕ) → rest ≡ drop (j + 1 + 1) inside → (front : List ℕ) × IsCommentText front × (inside ≡ front ++ (42 ∷ 47 ∷ rest))
   end_found rest is = (
     take j inside,
     once,
@@ -89,7 +89,7 @@ module _ (inside : List ℕ) (j : ℕ) (room : j + 1 < length inside) (star : ge
   )
 
 -- a star and a slash behind it are the first
-pub ends_at : (inside rest : List ℕ) (i : ℕ) → 0 < i → i < length inside → get_or inside (i - 1) 0 ≡ 42 → get_or inside i 0 ≡ 47 → HasNoEnd inside i → rest ≡ drop (i + 1) inside → (front : List ℕ) × EndsOnce front × (inside ≡ front ++ (42 ∷ 47 ∷ rest))
+pub ends_at : (inside rest : List ℕ) (i : ℕ) → 0 < i → i < length inside → get_or inside (i - 1) 0 ≡ 42 → get_or inside i 0 ≡ 47 → HasNoEnd inside i → rest ≡ drop (i + 1) inside → (front : List ℕ) × IsCommentText front × (inside ≡ front ++ (42 ∷ 47 ∷ rest))
 ends_at inside rest i some room star slash none is =
     let next : i ≡ i - 1 + 1 = omega arith in
     end_found inside (i - 1) (omega arith) star (subst (λ (k : ℕ). get_or inside k 0 ≡ 47) next slash) (subst (HasNoEnd inside) next none) rest (is ∙ ap (λ (k : ℕ). drop (k + 1) inside) next)

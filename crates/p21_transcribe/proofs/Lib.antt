@@ -6,7 +6,7 @@ pub mod Found
 pub mod Gaps
 pub mod ItemTokens
 pub mod KeywordTokens
-pub mod Leaves
+pub mod LeadingTokens
 pub mod NameTokens
 pub mod Parts
 pub mod RealTokens

@@ -5,7 +5,7 @@ use Rattle.p21_basics.proofs.PlainDigits.{ArePlain, number_below, plain_digits-n
 use Rattle.p21_basics.specs.Digits.{AllDigits, number}
 use Rattle.p21_exchange.proofs.Forms.{NoDigitFirst}
 use Rattle.p21_exchange.specs.Token.{IsFollowed, name}
-use Rattle.p21_transcribe.specs.Leaf.{IsCanonicalAtFront}
+use Rattle.p21_transcribe.specs.LeadingToken.{IsCanonicalLeadingToken}
 use Rattle.p21_transcribe.specs.Runs.{IsDigitRun}
 
 -- digits with no zero in front of another one
@@ -20,12 +20,12 @@ followed-name : (n : ℕ) (spelling rest : List ℕ) → NoDigitFirst rest → I
 followed-name n spelling [] h = tt
 followed-name n spelling (byte ∷ rest) h = h
 
-pub name-at_front : (bytes digits : List ℕ) (count : ℕ) → bytes ≡ 35 ∷ digits → IsDigitRun digits count → 0 < count → count ≤ 18 → (1 < count → get_or digits 0 0 ≢ 48) → IsCanonicalAtFront bytes (count + 1) (name (number (take count digits)))
+pub name-at_front : (bytes digits : List ℕ) (count : ℕ) → bytes ≡ 35 ∷ digits → IsDigitRun digits count → 0 < count → count ≤ 18 → (1 < count → get_or digits 0 0 ≢ 48) → IsCanonicalLeadingToken bytes (count + 1) (name (number (take count digits)))
 name-at_front bytes digits count e run some short first =
     let more : suc count ≡ count + 1 = omega arith in
     let value = number (take count digits) in
     let size : length (take count digits) ≡ count = length-take-le count digits run.within in
-    let own : IsCanonicalAtFront (35 ∷ digits) (suc count) (name value) = record {
+    let own : IsCanonicalLeadingToken (35 ∷ digits) (suc count) (name value) = record {
       stands = record {
         within = let w = run.within in omega arith;
         spells = record {
@@ -37,4 +37,4 @@ name-at_front bytes digits count e run some short first =
       };
       own = ap (λ (x : List ℕ). 35 ∷ x) (sym (plain_digits-number (take count digits) (plain-front digits count run.digits some run.within first)));
     } in
-    subst (λ (x : List ℕ). IsCanonicalAtFront x (count + 1) (name value)) (sym e) (subst (λ (k : ℕ). IsCanonicalAtFront (35 ∷ digits) k (name value)) more own)
+    subst (λ (x : List ℕ). IsCanonicalLeadingToken x (count + 1) (name value)) (sym e) (subst (λ (k : ℕ). IsCanonicalLeadingToken (35 ∷ digits) k (name value)) more own)

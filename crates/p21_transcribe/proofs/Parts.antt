@@ -1,15 +1,15 @@
 -- Bytes that are appended one part behind the other.
 use Rattle.std.proofs.Common.{◌≡◌, ℕ, Bool, true, false, List, [], ◌++◌, ap, sym, ◌∙◌, append_assoc, append-nil}
 use Rattle.p21_values.specs.Canonical.{Continues}
-use Rattle.p21_transcribe.specs.Appending.{AppendsIf, AppendsPart}
+use Rattle.p21_transcribe.specs.Appending.{AppendsAllOrNone, AppendsAllOrSome}
 
 -- a part that is known to be appended, and one that may be
-pub part_behind : (r : Bool) (front bytes text old middle new : List ℕ) → text ≡ front ++ bytes → middle ≡ old ++ front → AppendsIf r bytes middle new → AppendsPart r text old new
+pub part_behind : (r : Bool) (front bytes text old middle new : List ℕ) → text ≡ front ++ bytes → middle ≡ old ++ front → AppendsAllOrNone r bytes middle new → AppendsAllOrSome r text old new
 part_behind true front bytes text old middle new e is h =
     h ∙ (ap (λ (x : List ℕ). x ++ bytes) is ∙ (append_assoc old front bytes ∙ ap (λ (x : List ℕ). old ++ x) (sym e)))
 part_behind false front bytes text old middle new e is h = (front, h ∙ is)
 
-pub part_alone : (r : Bool) (bytes text old new : List ℕ) → text ≡ bytes → AppendsIf r bytes old new → AppendsPart r text old new
+pub part_alone : (r : Bool) (bytes text old new : List ℕ) → text ≡ bytes → AppendsAllOrNone r bytes old new → AppendsAllOrSome r text old new
 part_alone r bytes text old new e h = part_behind r [] bytes text old old new e (sym (append-nil old)) h
 
 -- ---- a text that goes on

@@ -15,20 +15,20 @@ use Rattle.p21_values.proofs.DigitRuns.{digits_parts}
 use Rattle.p21_values.proofs.Readings.{front_real}
 use Rattle.p21_values.proofs.Significands.{end_empty, end_kept}
 use Rattle.p21_values.proofs.StoredDecimals.{reads_digits, reads_zero, stored_of_digits, stored_spelling}
-use Rattle.p21_values.specs.Decimal.{KeepsRatio}
-use Rattle.p21_values.specs.Digits.{NoZeroFirst, WithoutEndZeros, WithoutFrontZeros}
-use Rattle.p21_values.specs.RealParts.{digits_ratio}
+use Rattle.p21_values.specs.Decimal.{ReducesRatio}
+use Rattle.p21_values.specs.Digits.{HasNoLeadingZero, WithoutTrailingZeros, WithoutLeadingZeros}
+use Rattle.p21_values.specs.RealComponents.{digits_ratio}
 use Rattle.p21_values.specs.Stored.{stored_decimal}
 use Rattle.p21_transcribe.proofs.Splits.{behind-count, rest_is, unsigned-front}
 use Rattle.p21_transcribe.proofs.WholeTokens.{number-zeros}
-use Rattle.p21_transcribe.specs.Appending.{AppendsIf, AppendsPart}
-use Rattle.p21_transcribe.specs.Leaf.{IsAtFront}
-use Rattle.p21_transcribe.specs.Numbers.{AppendsNormalised, AppendsNumber, AppendsPointed, EndsReal, signed_significand}
-use Rattle.p21_transcribe.specs.Runs.{AreDigits, AreFrontZeros, IsDigitRun, NotFirst}
+use Rattle.p21_transcribe.specs.Appending.{AppendsAllOrNone, AppendsAllOrSome}
+use Rattle.p21_transcribe.specs.LeadingToken.{IsLeadingToken}
+use Rattle.p21_transcribe.specs.Numbers.{AppendsNormalised, AppendsNumber, AppendsWithoutExponent, EndsReal, signed_significand}
+use Rattle.p21_transcribe.specs.Runs.{AreDigits, AreLeadingZeros, IsDigitRun, BeginsWithoutByte}
 
 -- ---- the digits behind the point, without the zeros at their end
 
-one_digit : (d : ℕ) → IsDigit d → d ≢ 48 → WithoutEndZeros (d ∷ []) (d ∷ [])
+one_digit : (d : ℕ) → IsDigit d → d ≢ 48 → WithoutTrailingZeros (d ∷ []) (d ∷ [])
 one_digit d digit other = record {
   front = refl;
   shorter = omega arith;
@@ -36,7 +36,7 @@ one_digit d digit other = record {
   same = omega arith;
 }
 
-pub pointed-kept : (d : ℕ) (others kept : List ℕ) → IsDigit d → d ≢ 48 → WithoutEndZeros others kept → WithoutEndZeros (d ∷ others) (d ∷ kept)
+pub pointed-kept : (d : ℕ) (others kept : List ℕ) → IsDigit d → d ≢ 48 → WithoutTrailingZeros others kept → WithoutTrailingZeros (d ∷ others) (d ∷ kept)
 pointed-kept d others [] digit other h = end_empty (d ∷ []) (d ∷ []) others [] refl h (one_digit d digit other)
 pointed-kept d others (k ∷ kept) digit other h = end_kept (d ∷ []) others (k ∷ kept) (omega arith) h
 
@@ -53,7 +53,7 @@ first-digit [] count some h = absurd (let w = h.within in omega arith)
 first-digit (b ∷ bytes) zero some h = absurd (omega arith)
 first-digit (b ∷ bytes) (suc count) some h = h.digits.0
 
-pub first-significant : (bytes : List ℕ) (count : ℕ) → 0 < count → AreDigits bytes count → NoZeroFirst bytes → get_or bytes 0 0 ≢ 48
+pub first-significant : (bytes : List ℕ) (count : ℕ) → 0 < count → AreDigits bytes count → HasNoLeadingZero bytes → get_or bytes 0 0 ≢ 48
 first-significant [] count some h first = absurd (let w = h.within in omega arith)
 first-significant (b ∷ bytes) count some h first = first
 
@@ -68,26 +68,26 @@ behind-text text more whole e = ap (λ (x : List ℕ). drop (length text) x) e �
 pub text-within : (text more whole : List ℕ) → whole ≡ text ++ more → length text ≤ length whole
 text-within text more whole e = omega (arith, ap (λ (x : List ℕ). length x) e, length-append text more)
 
-module _ (negative : Bool) (d : ℕ) (others old start long short : List ℕ) (digit : IsDigit d) (other : d ≢ 48) (start_is : start ≡ old ++ ((if negative then 45 ∷ [] else []) ++ d ∷ 46 ∷ [])) (long_is : long ≡ start ++ others) (front : take (length start) short ≡ take (length start) long) (zeros : WithoutEndZeros (drop (length start) long) (drop (length start) short)) where
-  pub pointed-part : AppendsPointed true negative (d ∷ others) old short
+module _ (negative : Bool) (d : ℕ) (others old start long short : List ℕ) (digit : IsDigit d) (other : d ≢ 48) (start_is : start ≡ old ++ ((if negative then 45 ∷ [] else []) ++ d ∷ 46 ∷ [])) (long_is : long ≡ start ++ others) (front : take (length start) short ≡ take (length start) long) (zeros : WithoutTrailingZeros (drop (length start) long) (drop (length start) short)) where
+  pub pointed-part : AppendsWithoutExponent true negative (d ∷ others) old short
   pointed-part =
       let kept = drop (length start) short in
       let mark : List ℕ = if negative then 45 ∷ [] else [] in (
         d ∷ kept,
-        pointed-kept d others kept digit other (subst (λ (x : List ℕ). WithoutEndZeros x kept) (behind-text start others long long_is) zeros),
+        pointed-kept d others kept digit other (subst (λ (x : List ℕ). WithoutTrailingZeros x kept) (behind-text start others long long_is) zeros),
         sym (take-append-drop (length start) short)
             ∙ (ap (λ (x : List ℕ). x ++ kept) (front ∙ (ap (λ (x : List ℕ). take (length start) x) long_is ∙ (take-append_seam start others ∙ start_is)))
             ∙ (append_assoc old (mark ++ d ∷ 46 ∷ []) kept ∙ ap (λ (x : List ℕ). old ++ x) (append_assoc mark (d ∷ 46 ∷ []) kept))),
       )
 
-pub normalised-part : (r negative : Bool) (digits : List ℕ) (k : ℤ) (old middle new : List ℕ) → IsExponentInRange k → AppendsPointed true negative digits old middle → AppendsPart r (exponent_spelling k) middle new → AppendsNormalised r negative digits k old new
+pub normalised-part : (r negative : Bool) (digits : List ℕ) (k : ℤ) (old middle new : List ℕ) → IsExponentInRange k → AppendsWithoutExponent true negative digits old middle → AppendsAllOrSome r (exponent_spelling k) middle new → AppendsNormalised r negative digits k old new
 normalised-part true negative digits k old middle new near (kept, zeros, is) h = (kept, zeros, near, h ∙ (ap (λ (x : List ℕ). x ++ exponent_spelling k) is ∙ append_assoc old (signed_significand negative kept) (exponent_spelling k)))
 normalised-part false negative digits k old middle new near (kept, zeros, is) (tail, h) = (signed_significand negative kept ++ tail, h ∙ (ap (λ (x : List ℕ). x ++ tail) is ∙ append_assoc old (signed_significand negative kept) tail))
 
 -- ---- zeros in front
 
 -- digits before and behind the point, of which so many are zeros at the front
-module _ (bytes : List ℕ) (count zeros : ℕ) (digits : AreDigits bytes count) (z : AreFrontZeros (take count bytes) zeros) where
+module _ (bytes : List ℕ) (count zeros : ℕ) (digits : AreDigits bytes count) (z : AreLeadingZeros (take count bytes) zeros) where
   within : zeros ≤ count
   within = let w = z.within in let l = length-take-le count bytes digits.within in omega arith
 
@@ -103,13 +103,13 @@ module _ (bytes : List ℕ) (count zeros : ℕ) (digits : AreDigits bytes count)
   pub kept_within : count - zeros ≤ length (drop zeros bytes)
   kept_within = let w = digits.within in omega (arith, length-drop zeros bytes)
 
-first_back : (xs : List ℕ) (n : ℕ) → 0 < n → NoZeroFirst (take n xs) → NoZeroFirst xs
+first_back : (xs : List ℕ) (n : ℕ) → 0 < n → HasNoLeadingZero (take n xs) → HasNoLeadingZero xs
 first_back [] n some h = tt
 first_back (x ∷ xs) zero some h = absurd (omega arith)
 first_back (x ∷ xs) (suc n) some h = h
 
 -- the digits from the first on that is no zero
-module _ (bytes tail : List ℕ) (count zeros : ℕ) (digits : AreDigits bytes count) (z : AreFrontZeros (take count bytes) zeros) (some : zeros < count) (is : tail ≡ take (length bytes - zeros) (drop zeros bytes)) where
+module _ (bytes tail : List ℕ) (count zeros : ℕ) (digits : AreDigits bytes count) (z : AreLeadingZeros (take count bytes) zeros) (some : zeros < count) (is : tail ≡ take (length bytes - zeros) (drop zeros bytes)) where
   tail_is : tail ≡ drop zeros bytes
   tail_is = is ∙ rest_is bytes zeros
 
@@ -119,19 +119,19 @@ module _ (bytes tail : List ℕ) (count zeros : ℕ) (digits : AreDigits bytes c
   pub tail_digits : AreDigits tail (count - zeros)
   tail_digits = subst (λ (x : List ℕ). AreDigits x (count - zeros)) (sym tail_is) (record { within = kept_within bytes count zeros digits z; digits = kept_digits bytes count zeros digits z })
 
-  pub tail_first : NoZeroFirst tail
-  tail_first = subst NoZeroFirst (sym tail_is) (first_back (drop zeros bytes) (count - zeros) (omega arith) (subst NoZeroFirst (kept_is bytes count zeros digits z) z.first))
+  pub tail_first : HasNoLeadingZero tail
+  tail_first = subst HasNoLeadingZero (sym tail_is) (first_back (drop zeros bytes) (count - zeros) (omega arith) (subst HasNoLeadingZero (kept_is bytes count zeros digits z) z.first))
 
-pub front_cut : (zeros : ℕ) (all kept : List ℕ) → all ≡ replicate zeros 48 ++ kept → AllDigits kept → NoZeroFirst kept → WithoutFrontZeros all kept
+pub front_cut : (zeros : ℕ) (all kept : List ℕ) → all ≡ replicate zeros 48 ++ kept → AllDigits kept → HasNoLeadingZero kept → WithoutLeadingZeros all kept
 front_cut zeros all kept e digits first = record { are_digits = digits; first = first; same = sym (ap number e ∙ number-zeros zeros kept) }
 
-first_of : (xs ys : List ℕ) → 0 < length xs → NoZeroFirst xs → NoZeroFirst (xs ++ ys)
+first_of : (xs ys : List ℕ) → 0 < length xs → HasNoLeadingZero xs → HasNoLeadingZero (xs ++ ys)
 first_of [] ys some h = absurd (omega arith)
 first_of (x ∷ xs) ys some h = h
 
 -- ---- the number that is written
 
-pub number_of_normalised : (r n : Bool) (whole fraction front : List ℕ) (written k : ℤ) (old new : List ℕ) → WithoutFrontZeros (whole ++ fraction) front → 0 < length front → k ≡ written +ℤ pos (length front - 1) -ℤ pos (length fraction)
+pub number_of_normalised : (r n : Bool) (whole fraction front : List ℕ) (written k : ℤ) (old new : List ℕ) → WithoutLeadingZeros (whole ++ fraction) front → 0 < length front → k ≡ written +ℤ pos (length front - 1) -ℤ pos (length fraction)
     → AppendsNormalised r n front k old new → AppendsNumber r (digits_ratio n whole fraction written) old new
 number_of_normalised false n whole fraction front written k old new f some exponents h = h
 number_of_normalised true n whole fraction front written k old new f some exponents (kept, e, near, is) = (
@@ -140,7 +140,7 @@ number_of_normalised true n whole fraction front written k old new f some expone
   is ∙ ap (λ (x : List ℕ). old ++ x) (sym (stored_spelling n kept k (stored_of_digits n (whole ++ fraction) front kept k f some e near))),
 )
 
-module _ (n : Bool) (w f : List ℕ) (cw cf zw : ℕ) (written k : ℤ) (old new : List ℕ) (r : Bool) (wd : AreDigits w cw) (fd : AreDigits f cf) (z : AreFrontZeros (take cw w) zw) where
+module _ (n : Bool) (w f : List ℕ) (cw cf zw : ℕ) (written k : ℤ) (old new : List ℕ) (r : Bool) (wd : AreDigits w cw) (fd : AreDigits f cf) (z : AreLeadingZeros (take cw w) zw) where
   -- the first digit other than zero stands before the point
   pub with_whole : (tail : List ℕ) → tail ≡ take (length w - zw) (drop zw w) → zw < cw → k ≡ written +ℤ pos (cw - zw - 1) → AppendsNormalised r n (take (cw - zw) tail ++ take cf f) k old new → AppendsNumber r (digits_ratio n (take cw w) (take cf f) written) old new
   with_whole tail is some e h =
@@ -150,10 +150,10 @@ module _ (n : Bool) (w f : List ℕ) (cw cf zw : ℕ) (written k : ℤ) (old new
       let both = length-append kept (take cf f) in
       let all : take cw w ++ take cf f ≡ replicate zw 48 ++ (kept ++ take cf f) = ap (λ (x : List ℕ). x ++ take cf f) (split_zeros w cw zw wd z) ∙ append_assoc (replicate zw 48) kept (take cf f) in
       number_of_normalised r n (take cw w) (take cf f) (kept ++ take cf f) written k old new
-      (front_cut zw _ _ all (digits_append kept (take cf f) (kept_digits w cw zw wd z) fd.digits) (first_of kept (take cf f) (omega arith) (subst NoZeroFirst (kept_is w cw zw wd z) z.first)))
+      (front_cut zw _ _ all (digits_append kept (take cf f) (kept_digits w cw zw wd z) fd.digits) (first_of kept (take cf f) (omega arith) (subst HasNoLeadingZero (kept_is w cw zw wd z) z.first)))
       (omega arith) (omega (arith, ints, e)) (subst (λ (x : List ℕ). AppendsNormalised r n (x ++ take cf f) k old new) (tail_take w tail cw zw wd z some is) h)
 
-  module _ (zf : ℕ) (none : cw ≤ zw) (y : AreFrontZeros (take cf f) zf) where
+  module _ (zf : ℕ) (none : cw ≤ zw) (y : AreLeadingZeros (take cf f) zf) where
     whole_zeros : take cw w ≡ replicate zw 48
     whole_zeros = split_zeros w cw zw wd z ∙ (ap (λ (m : ℕ). replicate zw 48 ++ take m (drop zw w)) (let m : cw - zw ≡ 0 = omega arith in m) ∙ append-nil (replicate zw 48))
 
@@ -163,7 +163,7 @@ module _ (n : Bool) (w f : List ℕ) (cw cf zw : ℕ) (written k : ℤ) (old new
         let kept = take (cf - zf) (drop zf f) in
         let size : length kept ≡ cf - zf = length-take-le (cf - zf) (drop zf f) (kept_within f cf zf fd y) in
         let places : length (take cf f) ≡ cf = length-take-le cf f fd.within in
-        let inner = front_cut zf (take cf f) kept (split_zeros f cf zf fd y) (kept_digits f cf zf fd y) (subst NoZeroFirst (kept_is f cf zf fd y) y.first) in
+        let inner = front_cut zf (take cf f) kept (split_zeros f cf zf fd y) (kept_digits f cf zf fd y) (subst HasNoLeadingZero (kept_is f cf zf fd y) y.first) in
         number_of_normalised r n (take cw w) (take cf f) kept written k old new
         (record {
           are_digits = inner.are_digits;
@@ -173,7 +173,7 @@ module _ (n : Bool) (w f : List ℕ) (cw cf zw : ℕ) (written k : ℤ) (old new
         (omega arith) (omega (arith, ints, e)) (subst (λ (x : List ℕ). AppendsNormalised r n x k old new) (ap (λ (x : List ℕ). x ++ []) (tail_take f tail cf zf fd y some is) ∙ append-nil kept) h)
 
     -- all digits are zeros
-    pub with_zeros : (t : Bool) → cf ≤ zf → AppendsIf t (48 ∷ 46 ∷ []) old new → AppendsNumber t (digits_ratio n (take cw w) (take cf f) written) old new
+    pub with_zeros : (t : Bool) → cf ≤ zf → AppendsAllOrNone t (48 ∷ 46 ∷ []) old new → AppendsNumber t (digits_ratio n (take cw w) (take cf f) written) old new
     with_zeros false all is = ([], is ∙ sym (append-nil old))
     with_zeros true all is =
         let fraction_zeros : take cf f ≡ replicate zf 48 ++ [] = split_zeros f cf zf fd y ∙ ap (λ (m : ℕ). replicate zf 48 ++ take m (drop zf f)) (let m : cf - zf ≡ 0 = omega arith in m) in (
@@ -187,7 +187,7 @@ module _ (n : Bool) (w f : List ℕ) (cw cf zw : ℕ) (written k : ℤ) (old new
 further : (bytes a r b t : List ℕ) → bytes ≡ a ++ r → r ≡ b ++ t → bytes ≡ (a ++ b) ++ t
 further bytes a r b t e f = e ∙ (ap (λ (x : List ℕ). a ++ x) f ∙ sym (append_assoc a b t))
 
-followed-real : (d : Decimal) (spelling rest : List ℕ) → NoDigitFirst rest → NotFirst 69 rest → IsFollowed (real d) spelling rest
+followed-real : (d : Decimal) (spelling rest : List ℕ) → NoDigitFirst rest → BeginsWithoutByte 69 rest → IsFollowed (real d) spelling rest
 followed-real d spelling [] h k = tt
 followed-real d spelling (byte ∷ rest) h k = (h, λ _. k)
 
@@ -196,12 +196,12 @@ module _ (bytes unsigned decimals rest : List ℕ) (count places : ℕ) (negativ
   behind =
       let start = unsigned-front bytes unsigned count is in
       let x = end.begins in
-      let pointed = further bytes start.0 (drop count unsigned) (46 ∷ []) decimals start.1 point in
-      let decimal = further bytes (start.0 ++ 46 ∷ []) decimals (take places decimals) (drop places decimals) pointed (sym (take-append-drop places decimals)) in
+      let digits_with_point = further bytes start.0 (drop count unsigned) (46 ∷ []) decimals start.1 point in
+      let decimal = further bytes (start.0 ++ 46 ∷ []) decimals (take places decimals) (drop places decimals) digits_with_point (sym (take-append-drop places decimals)) in
       let all = further bytes ((start.0 ++ 46 ∷ []) ++ take places decimals) (drop places decimals) (exponent_bytes x.exponent) rest decimal x.bytes_are in
       behind-count bytes (((start.0 ++ 46 ∷ []) ++ take places decimals) ++ exponent_bytes x.exponent) rest all
 
-  pub real-at_front : KeepsRatio (digits_ratio negative (take count unsigned) (take places decimals) k) (Ok d) → IsAtFront bytes (length bytes - length rest) (real d)
+  pub real-at_front : ReducesRatio (digits_ratio negative (take count unsigned) (take places decimals) k) (Ok d) → IsLeadingToken bytes (length bytes - length rest) (real d)
   real-at_front keeps = record {
     within = omega arith;
     spells = front_real bytes (take count unsigned) (drop count unsigned) (sym is ∙ sym (take-append-drop count unsigned)) (omega (arith, length-take-le count unsigned whole.within)) whole.digits negative decimals (take places decimals) (drop places decimals) rest k d minus point (sym (take-append-drop places decimals)) fraction.digits end.begins keeps;
@@ -209,5 +209,5 @@ module _ (bytes unsigned decimals rest : List ℕ) (count places : ℕ) (negativ
   }
 
 -- a whole number, and the real of the same ratio
-pub whole_number : (z : ℤ) (d : Decimal) → KeepsRatio (whole_ratio z) (Ok d) → IsReduced d × IsInRange (ratio_of d) × SameRatio (ratio_of d) (whole_ratio z)
+pub whole_number : (z : ℤ) (d : Decimal) → ReducesRatio (whole_ratio z) (Ok d) → IsReduced d × IsInRange (ratio_of d) × SameRatio (ratio_of d) (whole_ratio z)
 whole_number z d keeps = (keeps.0, in_range_of_same (whole_ratio z) (ratio_of d) (omega arith) (ratio-positive d) keeps.2 keeps.1, sym keeps.2)

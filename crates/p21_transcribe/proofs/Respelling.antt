@@ -23,8 +23,8 @@ use Rattle.p21_tokens_automaton.specs.declared.mode.TextMode.TheVariants.{Inside
 use Rattle.p21_transcribe.proofs.Splits.{rest_is}
 use Rattle.p21_transcribe.proofs.TextTokens.{characters-encoded, size-within, text-stands}
 use Rattle.p21_transcribe.specs.Characters.{AreCharacters}
-use Rattle.p21_transcribe.specs.Leaf.{Transcribes}
-use Rattle.p21_transcribe.specs.Respelling.{AreGroups, IsGroup, Respells, RespellsAll}
+use Rattle.p21_transcribe.specs.LeadingToken.{Transcribes}
+use Rattle.p21_transcribe.specs.Respelling.{AreGroups, BeginsWithGroup, Respells, RespellsAll}
 
 both : {A : Type 0} (P : A → Type 0) (xs ys : List A) → Each P xs → Each P ys → Each P (xs ++ ys)
 both P [] ys p q = q
@@ -64,10 +64,10 @@ more-respelled bytes count size more many old middle new a b =
     further Encodes encodes-both bytes count size more many old middle new a (subst (λ (x : List ℕ). Respells Encodes x more many middle new) (rest_is bytes count) b)
 
 -- one group more
-pub more-groups : (bytes : List ℕ) (count size character : ℕ) (old middle new : List ℕ) → Respells AreGroups bytes count size old middle → IsGroup (take (length bytes - count) (drop count bytes)) character → new ≡ middle ++ character_spelling character
+pub more-groups : (bytes : List ℕ) (count size character : ℕ) (old middle new : List ℕ) → Respells AreGroups bytes count size old middle → BeginsWithGroup (take (length bytes - count) (drop count bytes)) character → new ≡ middle ++ character_spelling character
     → Respells AreGroups bytes (count + 4) (size + 1) old new
 more-groups bytes count size character old middle new a group e =
-    let g = subst (λ (x : List ℕ). IsGroup x character) (rest_is bytes count) group in
+    let g = subst (λ (x : List ℕ). BeginsWithGroup x character) (rest_is bytes count) group in
     further AreGroups groups-both bytes count size 4 1 old middle new a (record {
       characters = character ∷ [];
       size_is = refl;

@@ -13,7 +13,7 @@ use Rattle.p21_exchange.proofs.Texts.{text_spells}
 use Rattle.p21_exchange.specs.Spelling.{character_spelling}
 use Rattle.p21_exchange.specs.Text.{IsApostropheOrBackslash, end_extended, Encodes}
 use Rattle.p21_exchange.specs.Token.{IsFollowed, text}
-use Rattle.p21_tokens_automaton.specs.Run.{EachDoes}
+use Rattle.p21_tokens_automaton.specs.Run.{EachHasAction}
 use Rattle.p21_tokens_automaton.specs.Step.{advance, inside_action, utf8_action}
 use Rattle.p21_tokens_automaton.specs.declared.mode.Action.TheVariants.{Put, Refuse, Skip}
 use Rattle.p21_tokens_automaton.specs.declared.mode.Mode.{Mode}
@@ -22,8 +22,8 @@ use Rattle.p21_tokens_automaton.specs.declared.mode.TextMode.TheVariants.{Inside
 use Rattle.p21_tokens_automaton.specs.declared.mode.Wrong.TheVariants as wrong
 use Rattle.p21_transcribe.proofs.Splits.{rest_is}
 use Rattle.p21_transcribe.specs.Characters.{AreCharacters, EndsText, IsDoubled, IsExtendedCharacter, IsExtendedDirective}
-use Rattle.p21_transcribe.specs.Leaf.{IsAtFront, IsCanonicalAtFront}
-use Rattle.p21_transcribe.specs.Runs.{NotFirst}
+use Rattle.p21_transcribe.specs.LeadingToken.{IsLeadingToken, IsCanonicalLeadingToken}
+use Rattle.p21_transcribe.specs.Runs.{BeginsWithoutByte}
 use Rattle.p21_basics.proofs.Members.{Each-append}
 
 pub no_characters : (bytes : List ℕ) → AreCharacters bytes 0 0
@@ -99,7 +99,7 @@ plain-byte b = quote (eqb b 39) (eqb b 92) (nat_lt b 32 || eqb b 127) (nat_lt b 
         (itself b low high (grind (arith, nat_tests)) (grind (arith, nat_tests)), low_scalar b (omega arith))
     quote false false false false e f g h k = absurd (none-by_utf8 b b (rw (e, f, g, h) at k))
 
-pub plain-characters : (bytes : List ℕ) (count : ℕ) → EachDoes (Text Inside) bytes count (λ byte. Put (Text Inside) byte) → AreCharacters bytes count count
+pub plain-characters : (bytes : List ℕ) (count : ℕ) → EachHasAction (Text Inside) bytes count (λ byte. Put (Text Inside) byte) → AreCharacters bytes count count
 plain-characters bytes zero h = no_characters bytes
 plain-characters [] (suc count) h = absurd (let w = h.within in omega arith)
 plain-characters (b ∷ bytes) (suc count) h =
@@ -143,7 +143,7 @@ extended bytes character d h = one_character bytes 12 character h.scalar d.withi
 
 -- ---- the whole string
 
-followed-text : (characters spelling rest : List ℕ) → NotFirst 39 rest → IsFollowed (text characters) spelling rest
+followed-text : (characters spelling rest : List ℕ) → BeginsWithoutByte 39 rest → IsFollowed (text characters) spelling rest
 followed-text characters spelling [] h = tt
 followed-text characters spelling (byte ∷ rest) h = h
 
@@ -158,11 +158,11 @@ module _ (inside characters : List ℕ) (count : ℕ) (ends : EndsText (drop cou
   behind : drop (count + 2) (39 ∷ inside) ≡ ends.behind
   behind = ap (λ (n : ℕ). drop n (39 ∷ inside)) whole ∙ (sym (drop-drop 1 count inside) ∙ ap (λ (x : List ℕ). drop 1 x) ends.bytes_are)
 
-  pub text-stands : Encodes (take count inside) characters → IsAtFront (39 ∷ inside) (count + 2) (text characters)
+  pub text-stands : Encodes (take count inside) characters → IsLeadingToken (39 ∷ inside) (count + 2) (text characters)
   text-stands encodes = record {
     within = let l = ap (λ (x : List ℕ). length x) ends.bytes_are in omega (arith, length-drop count inside);
     spells = record { inside = take count inside; bytes_are = closed; encodes = encodes };
-    followed = followed-text characters (take (count + 2) (39 ∷ inside)) (drop (count + 2) (39 ∷ inside)) (subst (NotFirst 39) (sym behind) ends.no_other);
+    followed = followed-text characters (take (count + 2) (39 ∷ inside)) (drop (count + 2) (39 ∷ inside)) (subst (BeginsWithoutByte 39) (sym behind) ends.no_other);
   }
 
 canonical-encodes : (cs : List ℕ) → Each IsScalar cs → Encodes (flat_map character_spelling cs) cs
@@ -177,11 +177,11 @@ module _ (bytes inside : List ℕ) (count size : ℕ) (is : bytes ≡ 39 ∷ ins
   end : EndsText (drop count inside)
   end = subst EndsText (rest_is inside count) ends
 
-  own : IsCanonicalAtFront (39 ∷ inside) (count + 2) (text a.characters)
+  own : IsCanonicalLeadingToken (39 ∷ inside) (count + 2) (text a.characters)
   own = record {
     stands = text-stands inside a.characters count end (characters-encoded inside count size a);
     own = closed inside a.characters count end ∙ ap (λ (x : List ℕ). 39 ∷ (x ++ 39 ∷ [])) a.bytes_are;
   }
 
-  pub text-at_front : (characters : List ℕ) × (size ≡ length characters) × IsCanonicalAtFront bytes (count + 2) (text characters)
-  text-at_front = (a.characters, a.size_is, subst (λ (x : List ℕ). IsCanonicalAtFront x (count + 2) (text a.characters)) (sym is) own)
+  pub text-at_front : (characters : List ℕ) × (size ≡ length characters) × IsCanonicalLeadingToken bytes (count + 2) (text characters)
+  text-at_front = (a.characters, a.size_is, subst (λ (x : List ℕ). IsCanonicalLeadingToken x (count + 2) (text a.characters)) (sym is) own)

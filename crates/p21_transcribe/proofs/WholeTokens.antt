@@ -10,11 +10,11 @@ use Rattle.p21_exchange.specs.Spelling.{whole_spelling}
 use Rattle.p21_exchange.specs.Token.{IsFollowed, whole}
 use Rattle.p21_values.proofs.DigitRuns.{digits_parts}
 use Rattle.p21_values.proofs.Readings.{front_whole}
-use Rattle.p21_values.specs.Digits.{NoZeroFirst}
+use Rattle.p21_values.specs.Digits.{HasNoLeadingZero}
 use Rattle.p21_transcribe.proofs.NameTokens.{plain-front}
 use Rattle.p21_transcribe.proofs.Splits.{behind-count, rest_is, unsigned-front}
-use Rattle.p21_transcribe.specs.Leaf.{IsAtFront}
-use Rattle.p21_transcribe.specs.Runs.{AreFrontZeros, IsDigitRun, NotFirst}
+use Rattle.p21_transcribe.specs.LeadingToken.{IsLeadingToken}
+use Rattle.p21_transcribe.specs.Runs.{AreLeadingZeros, IsDigitRun, BeginsWithoutByte}
 
 -- ---- zeros in front
 
@@ -22,12 +22,12 @@ pub number-zeros : (n : ℕ) (xs : List ℕ) → number (replicate n 48 ++ xs) �
 number-zeros zero xs = refl
 number-zeros (suc n) xs = omega (arith, number-zeros n xs, zero-mul (10 ^ length (replicate n 48 ++ xs)))
 
-no_zero-first : (xs : List ℕ) → NoZeroFirst xs → 0 < length xs → get_or xs 0 0 ≢ 48
+no_zero-first : (xs : List ℕ) → HasNoLeadingZero xs → 0 < length xs → get_or xs 0 0 ≢ 48
 no_zero-first [] h some = absurd (omega arith)
 no_zero-first (x ∷ xs) h some = h
 
 -- the first so many bytes are digits, of which all but the last were looked at for zeros
-module _ (bytes : List ℕ) (count zeros : ℕ) (some : 0 < count) (within : count ≤ length bytes) (digits : AllDigits (take count bytes)) (z : AreFrontZeros (take (count - 1) bytes) zeros) where
+module _ (bytes : List ℕ) (count zeros : ℕ) (some : 0 < count) (within : count ≤ length bytes) (digits : AllDigits (take count bytes)) (z : AreLeadingZeros (take (count - 1) bytes) zeros) where
   short : zeros ≤ count - 1
   short = let w = z.within in let l = length-take-le (count - 1) bytes (omega arith) in omega arith
 
@@ -84,7 +84,7 @@ negative-spelling ds p e = below (number ds) refl (plain-positive ds p e)
     below zero e k = absurd (omega arith)
     below (suc n) e k = ap (λ (x : List ℕ). 45 ∷ x) (ap plain_digits (sym e) ∙ plain_digits-number ds p)
 
-module _ (bytes plain : List ℕ) (count zeros : ℕ) (some : 0 < count) (within : count ≤ length bytes) (digits : AllDigits (take count bytes)) (z : AreFrontZeros (take (count - 1) bytes) zeros) (is : plain ≡ take (length bytes - zeros) (drop zeros bytes)) where
+module _ (bytes plain : List ℕ) (count zeros : ℕ) (some : 0 < count) (within : count ≤ length bytes) (digits : AllDigits (take count bytes)) (z : AreLeadingZeros (take (count - 1) bytes) zeros) (is : plain ≡ take (length bytes - zeros) (drop zeros bytes)) where
   abbrev kept : List ℕ
   kept = take (count - zeros) (drop zeros bytes)
 
@@ -113,12 +113,12 @@ module _ (bytes plain : List ℕ) (count zeros : ℕ) (some : 0 < count) (within
 
 -- ---- the token
 
-followed-whole : (z : ℤ) (spelling rest : List ℕ) → NoDigitFirst rest → NotFirst 46 rest → IsFollowed (whole z) spelling rest
+followed-whole : (z : ℤ) (spelling rest : List ℕ) → NoDigitFirst rest → BeginsWithoutByte 46 rest → IsFollowed (whole z) spelling rest
 followed-whole z spelling [] h k = tt
 followed-whole z spelling (byte ∷ rest) h k = (h, k)
 
-pub whole-at_front : (bytes unsigned rest : List ℕ) (count : ℕ) (negative : Bool) → negative ≡ is_minus (first_sign bytes) → unsigned ≡ behind_sign bytes → IsDigitRun unsigned count → 0 < count → rest ≡ take (length unsigned - count) (drop count unsigned) → NotFirst 46 rest
-    → IsAtFront bytes (length bytes - length rest) (whole (signed negative (number (take count unsigned))))
+pub whole-at_front : (bytes unsigned rest : List ℕ) (count : ℕ) (negative : Bool) → negative ≡ is_minus (first_sign bytes) → unsigned ≡ behind_sign bytes → IsDigitRun unsigned count → 0 < count → rest ≡ take (length unsigned - count) (drop count unsigned) → BeginsWithoutByte 46 rest
+    → IsLeadingToken bytes (length bytes - length rest) (whole (signed negative (number (take count unsigned))))
 whole-at_front bytes unsigned rest count negative n e run some r point =
     let value : ℤ = signed negative (number (take count unsigned)) in
     let behind : rest ≡ drop count unsigned = r ∙ rest_is unsigned count in

@@ -5,7 +5,7 @@ use Rattle.std.specs.List.{flat_map, AllByRecursion as Each}
 use Rattle.p21_basics.specs.Digits.{hex_digits}
 use Rattle.p21_exchange.specs.Spelling.{character_spelling}
 use Rattle.p21_exchange.specs.Text.{IsApostropheOrBackslash, end_extended}
-use Rattle.p21_transcribe.specs.Runs.{NotFirst}
+use Rattle.p21_transcribe.specs.Runs.{BeginsWithoutByte}
 
 -- so many bytes at the front are so many characters, each in its canonical spelling
 pub record AreCharacters (bytes : List ℕ) (count size : ℕ) : Type 0 where
@@ -19,7 +19,7 @@ pub record AreCharacters (bytes : List ℕ) (count size : ℕ) : Type 0 where
 pub record EndsText (bytes : List ℕ) : Type 0 where
   pub behind : List ℕ
   pub bytes_are : bytes ≡ 39 ∷ behind
-  pub no_other : NotFirst 39 behind
+  pub no_other : BeginsWithoutByte 39 behind
 
 -- a character with four hex digits that isn't written as itself
 pub record IsExtendedCharacter (character : ℕ) : Type 0 where

@@ -23,9 +23,9 @@ pub record PassesBlank (bytes rest : List ℕ) : Type 0 where
   pub bytes_are : bytes ≡ byte ∷ rest
 
 -- the bytes do not begin with a blank
-abbrev pub NoBlankFirst : List ℕ → Type 0
-NoBlankFirst [] = Unit {0}
-NoBlankFirst (byte ∷ bytes) = IsSeparator (blank byte) → ⊥
+abbrev pub HasNoLeadingBlank : List ℕ → Type 0
+HasNoLeadingBlank [] = Unit {0}
+HasNoLeadingBlank (byte ∷ bytes) = IsSeparator (blank byte) → ⊥
 
 -- a comment with this inside stands at the front
 abbrev pub BeginsComment : List ℕ → List ℕ → List ℕ → Type 0

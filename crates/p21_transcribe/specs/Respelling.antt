@@ -25,7 +25,7 @@ abbrev pub AreGroups : List ℕ → List ℕ → Type 0
 AreGroups bytes characters = Each IsScalar characters × (bytes ≡ flat_map utf16_groups characters)
 
 -- one group stands at the front, and is this character
-pub record IsGroup (bytes : List ℕ) (character : ℕ) : Type 0 where
+pub record BeginsWithGroup (bytes : List ℕ) (character : ℕ) : Type 0 where
   pub within : 4 ≤ length bytes
   pub bytes_are : take 4 bytes ≡ utf16_groups character
   pub scalar : IsScalar character

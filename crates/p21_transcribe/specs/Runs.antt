@@ -2,7 +2,7 @@
 use Rattle.std.specs.Prelude.{◌≡◌, ℕ, ◌≢◌, ◌≤◌, List, [], ◌∷◌, length, replicate, take, drop}
 use Rattle.p21_basics.specs.Digits.{AllDigits}
 use Rattle.p21_exchange.proofs.Forms.{NoDigitFirst}
-use Rattle.p21_values.specs.Digits.{NoZeroFirst}
+use Rattle.p21_values.specs.Digits.{HasNoLeadingZero}
 
 -- so many bytes at the front are digits, and no more of them stand there
 pub record IsDigitRun (bytes : List ℕ) (count : ℕ) : Type 0 where
@@ -16,12 +16,12 @@ pub record AreDigits (bytes : List ℕ) (count : ℕ) : Type 0 where
   pub digits : AllDigits (take count bytes)
 
 -- so many zeros stand at the front, and no more of them
-pub record AreFrontZeros (bytes : List ℕ) (count : ℕ) : Type 0 where
+pub record AreLeadingZeros (bytes : List ℕ) (count : ℕ) : Type 0 where
   pub within : count ≤ length bytes
   pub zeros : take count bytes ≡ replicate count 48
-  pub first : NoZeroFirst (drop count bytes)
+  pub first : HasNoLeadingZero (drop count bytes)
 
 -- the bytes do not begin with this one
-abbrev pub NotFirst : ℕ → List ℕ → Type 0
-NotFirst first [] = Unit {0}
-NotFirst first (byte ∷ bytes) = byte ≢ first
+abbrev pub BeginsWithoutByte : ℕ → List ℕ → Type 0
+BeginsWithoutByte first [] = Unit {0}
+BeginsWithoutByte first (byte ∷ bytes) = byte ≢ first

@@ -2,7 +2,7 @@
 ghost use Rattle.std.specs.Prelude.{◌≡◌, ◌<◌, ◌≤◌, Bool, List, All, IsTrue, false, length, replicate, take, IfNone, IfSome, ◌∷◌, ◌+◌};
 ghost use Rattle.p21_exchange.specs.Token.{bits};
 ghost use Rattle.p21_transcribe.specs.Bits.{AreHexDigits, IsPadded};
-ghost use Rattle.p21_transcribe.specs.Leaf.{IsCanonicalAtFront, Transcribes};
+ghost use Rattle.p21_transcribe.specs.LeadingToken.{IsCanonicalLeadingToken, Transcribes};
 ghost use Rattle.p21_values.specs.Bits.{hex_value, is_hex_digit};
 
 use crate::digits::behind;
@@ -17,15 +17,15 @@ pub fn append_bits(bytes: &[u8], draft: &mut Draft) -> Option<(usize, usize)>
     ensures some { IfSome result (λ front. (value : List Bool) × (front.1 ≡ length value) × Transcribes bytes.now front.0 (bits value) draft.old draft.new) }
     ensures none { IfNone result (draft.new ≡ draft.old) }
 {
-    let (count, size) = front_bits(bytes)?;
-    if !draft.append_front(bytes, count) {
+    let (count, size) = leading_bits(bytes)?;
+    if !draft.append_prefix(bytes, count) {
         return None;
     }
     Some((count, size))
 }
 
-fn front_bits(bytes: &[u8]) -> Option<(usize, usize)>
-    ensures { IfSome result (λ front. (value : List Bool) × (front.1 ≡ length value) × IsCanonicalAtFront bytes.now front.0 (bits value)) }
+fn leading_bits(bytes: &[u8]) -> Option<(usize, usize)>
+    ensures { IfSome result (λ front. (value : List Bool) × (front.1 ≡ length value) × IsCanonicalLeadingToken bytes.now front.0 (bits value)) }
 {
     let inside = behind(b'"', bytes)?;
     let (padding, digits) = split_padding(inside)?;

@@ -3,13 +3,13 @@ ghost use Rattle.std.specs.Prelude.{◌≡◌, ◌%◌, ◌∷◌, ◌++◌};
 ghost use Rattle.p21_basics.specs.Digits.{hex_digit, hex_digits};
 ghost use Rattle.p21_exchange.specs.Spelling.{character_spelling};
 ghost use Rattle.p21_exchange.specs.Text.{end_extended};
-ghost use Rattle.p21_transcribe.specs.Appending.{AppendsIf};
+ghost use Rattle.p21_transcribe.specs.Appending.{AppendsAllOrNone};
 
 use crate::draft::Draft;
 
 /// Appends the canonical spelling of a character; says whether there was room.
 pub(crate) fn append_character(character: char, draft: &mut Draft) -> bool
-    ensures { AppendsIf result (character_spelling character) draft.old draft.new }
+    ensures { AppendsAllOrNone result (character_spelling character) draft.old draft.new }
 {
     let code = u32::from(character);
     match character {

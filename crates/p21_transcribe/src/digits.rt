@@ -4,8 +4,8 @@ ghost use Rattle.std.specs.Simd.Lanes.{mask_l};
 ghost use Rattle.p21_basics.specs.Digits.{AllDigits, number, is_digit};
 ghost use Rattle.p21_exchange.proofs.Forms.{behind_sign, first_sign};
 ghost use Rattle.p21_exchange.specs.Number.{is_minus};
-ghost use Rattle.p21_values.specs.Digits.{WithoutEndZeros};
-ghost use Rattle.p21_transcribe.specs.Runs.{AreFrontZeros, IsDigitRun, NotFirst};
+ghost use Rattle.p21_values.specs.Digits.{WithoutTrailingZeros};
+ghost use Rattle.p21_transcribe.specs.Runs.{AreLeadingZeros, IsDigitRun, BeginsWithoutByte};
 
 use std::simd::prelude::*;
 
@@ -65,8 +65,8 @@ fn long_run(bytes: &[u8]) -> usize
 /// How many zeros stand at the front.
 #[inline(always)]
 #[tactic(auto, using(crate::proofs::Zeros::zeros_more, crate::proofs::Zeros::zeros_ended, crate::proofs::Zeros::zeros_whole))]
-pub(crate) fn front_zeros(bytes: &[u8]) -> usize
-    ensures { AreFrontZeros bytes.now result }
+pub(crate) fn leading_zeros(bytes: &[u8]) -> usize
+    ensures { AreLeadingZeros bytes.now result }
 {
     for (i, byte) in bytes.iter().enumerate() {
         if *byte != b'0' {
@@ -78,10 +78,10 @@ pub(crate) fn front_zeros(bytes: &[u8]) -> usize
 
 /// How many of the digits stay without the zeros at the end.
 #[inline(always)]
-pub(crate) fn without_end_zeros(digits: &[u8]) -> usize
+pub(crate) fn without_trailing_zeros(digits: &[u8]) -> usize
     requires { AllDigits digits.now }
     ensures within { result ≤ length digits.now }
-    ensures kept { WithoutEndZeros digits.now (take result digits.now) }
+    ensures kept { WithoutTrailingZeros digits.now (take result digits.now) }
 {
     let mut kept = digits.len();
     while kept > 0 && digits[kept - 1] == b'0' {
@@ -106,7 +106,7 @@ pub(crate) fn split_sign(bytes: &[u8]) -> (bool, &[u8])
 /// What stands behind the first byte, where that is the one asked for.
 #[inline(always)]
 pub(crate) fn behind(first: u8, bytes: &[u8]) -> Option<&[u8]>
-    ensures none { IfNone result (NotFirst first bytes.now) }
+    ensures none { IfNone result (BeginsWithoutByte first bytes.now) }
     ensures some { IfSome result (λ rest. bytes.now ≡ first ∷ rest.now) }
 {
     let (byte, rest) = bytes.split_first()?;
@@ -116,7 +116,7 @@ pub(crate) fn behind(first: u8, bytes: &[u8]) -> Option<&[u8]>
 /// Whether this byte stands first.
 #[inline(always)]
 pub(crate) fn begins_with(first: u8, bytes: &[u8]) -> bool
-    ensures { result ≡ false → NotFirst first bytes.now }
+    ensures { result ≡ false → BeginsWithoutByte first bytes.now }
 {
     behind(first, bytes).is_some()
 }

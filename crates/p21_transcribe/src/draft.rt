@@ -1,10 +1,10 @@
 //! The text that is written of some statements.
 ghost use Rattle.std.specs.Prelude.{◌≡◌, ℕ, ◌+◌, ◌≤◌, [], ◌∷◌, ◌++◌, length, drop, take, slice_range};
 ghost use Rattle.p21_basics.specs.Digits.{AllDigits};
-ghost use Rattle.p21_values.specs.Digits.{WithoutEndZeros};
-ghost use Rattle.p21_transcribe.specs.Appending.{AppendsIf};
+ghost use Rattle.p21_values.specs.Digits.{WithoutTrailingZeros};
+ghost use Rattle.p21_transcribe.specs.Appending.{AppendsAllOrNone};
 
-use crate::digits::without_end_zeros;
+use crate::digits::without_trailing_zeros;
 use p21_values::NoMemory;
 use std::alloc::Global;
 use std::marker::Model;
@@ -85,16 +85,16 @@ impl Draft {
         requires within { from ≤ length self.old }
         requires digits { AllDigits (drop from self.old) }
         ensures front { take from self.new ≡ take from self.old }
-        ensures behind { WithoutEndZeros (drop from self.old) (drop from self.new) }
+        ensures behind { WithoutTrailingZeros (drop from self.old) (drop from self.new) }
     {
-        let kept = without_end_zeros(&self.room[from..self.used]);
+        let kept = without_trailing_zeros(&self.room[from..self.used]);
         self.used = from + kept;
     }
 
     /// Appends a byte; says whether there was room.
     #[inline(always)]
     pub fn put(&mut self, byte: u8) -> bool
-        ensures { AppendsIf result (byte ∷ []) self.old self.new }
+        ensures { AppendsAllOrNone result (byte ∷ []) self.old self.new }
     {
         let used = self.used;
         if used >= self.room.len() {
@@ -108,7 +108,7 @@ impl Draft {
     /// Appends bytes; says whether there was room.
     #[inline(never)]
     pub fn append(&mut self, bytes: &[u8]) -> bool
-        ensures { AppendsIf result bytes.now self.old self.new }
+        ensures { AppendsAllOrNone result bytes.now self.old self.new }
     {
         let used = self.used;
         if self.room.len() - used < bytes.len() {
@@ -122,9 +122,9 @@ impl Draft {
 
     /// Appends so many of the bytes; says whether there was room.
     #[inline(always)]
-    pub fn append_front(&mut self, bytes: &[u8], count: usize) -> bool
+    pub fn append_prefix(&mut self, bytes: &[u8], count: usize) -> bool
         requires { count ≤ length bytes.now }
-        ensures { AppendsIf result (take count bytes.now) self.old self.new }
+        ensures { AppendsAllOrNone result (take count bytes.now) self.old self.new }
     {
         let used = self.used;
         if count > WIDE || bytes.len() < WIDE || self.room.len() - used < WIDE {

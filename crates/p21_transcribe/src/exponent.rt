@@ -4,7 +4,7 @@ ghost use Rattle.p21_basics.specs.Digits.{AllDigits, number};
 ghost use Rattle.p21_exchange.proofs.Forms.{NoDigitFirst};
 ghost use Rattle.p21_exchange.specs.Number.{signed};
 ghost use Rattle.p21_exchange.specs.Spelling.{exponent_spelling};
-ghost use Rattle.p21_transcribe.specs.Appending.{AppendsIf, AppendsPart};
+ghost use Rattle.p21_transcribe.specs.Appending.{AppendsAllOrNone, AppendsAllOrSome};
 ghost use Rattle.p21_transcribe.specs.Numbers.{EndsReal};
 
 use crate::digits::{begins_with, behind, digit_run, number_of, split_sign};
@@ -63,7 +63,7 @@ fn signed_number(negative: bool, value: u32) -> i32
 /// Appends a minus, or nothing; says whether there was room.
 #[inline(always)]
 pub(crate) fn append_minus(negative: bool, draft: &mut Draft) -> bool
-    ensures { AppendsIf result (if negative then 45 ∷ [] else []) draft.old draft.new }
+    ensures { AppendsAllOrNone result (if negative then 45 ∷ [] else []) draft.old draft.new }
 {
     if !negative {
         return true;
@@ -74,7 +74,7 @@ pub(crate) fn append_minus(negative: bool, draft: &mut Draft) -> bool
 /// Appends an exponent of at most two digits, or a part of it; says whether it is whole. For 0 nothing is written.
 pub(crate) fn append_exponent(exponent: i32, draft: &mut Draft) -> bool
     requires { nat_abs exponent < 100 }
-    ensures { AppendsPart result (exponent_spelling exponent) draft.old draft.new }
+    ensures { AppendsAllOrSome result (exponent_spelling exponent) draft.old draft.new }
 {
     if exponent == 0 {
         return true;

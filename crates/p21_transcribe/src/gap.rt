@@ -1,8 +1,8 @@
 //! What separates tokens (ISO 10303-21, clause 5: token separators).
 ghost use Rattle.std.specs.Prelude.{◌≡◌, ◌↔◌, ◌++◌, ◌∷◌, ◌<◌, ℕ, List, false, length, IfNone, IfSome, IsTrue};
 ghost use Rattle.p21_exchange.proofs.OneGap.{HasNoSeparator};
-ghost use Rattle.p21_exchange.specs.Separator.{EndsOnce, IsSeparator, blank};
-ghost use Rattle.p21_transcribe.specs.Gaps.{BeginsComment, NoBlankFirst, PassesBlank, PassesSeparator, PassesSeparators};
+ghost use Rattle.p21_exchange.specs.Separator.{IsCommentText, IsSeparator, blank};
+ghost use Rattle.p21_transcribe.specs.Gaps.{BeginsComment, HasNoLeadingBlank, PassesBlank, PassesSeparator, PassesSeparators};
 
 use crate::digits::behind;
 
@@ -69,7 +69,7 @@ fn behind_separator(bytes: &[u8]) -> Option<&[u8]>
 /// What stands behind the blank at the front.
 #[inline(always)]
 fn behind_blank(bytes: &[u8]) -> Option<&[u8]>
-    ensures none { IfNone result (NoBlankFirst bytes.now) }
+    ensures none { IfNone result (HasNoLeadingBlank bytes.now) }
     ensures some { IfSome result (λ rest. PassesBlank bytes.now rest.now) }
 {
     let (byte, rest) = bytes.split_first()?;
@@ -78,8 +78,8 @@ fn behind_blank(bytes: &[u8]) -> Option<&[u8]>
 
 /// What stands behind the comment at the front.
 fn behind_comment(bytes: &[u8]) -> Option<&[u8]>
-    ensures none { IfNone result ((inside rest : List ℕ) → EndsOnce inside → BeginsComment inside bytes.now rest → ⊥) }
-    ensures some { IfSome result (λ rest. (inside : List ℕ) × EndsOnce inside × BeginsComment inside bytes.now rest.now) }
+    ensures none { IfNone result ((inside rest : List ℕ) → IsCommentText inside → BeginsComment inside bytes.now rest → ⊥) }
+    ensures some { IfSome result (λ rest. (inside : List ℕ) × IsCommentText inside × BeginsComment inside bytes.now rest.now) }
 {
     let star = behind(b'/', bytes)?;
     let inside = behind(b'*', star)?;
@@ -89,7 +89,7 @@ fn behind_comment(bytes: &[u8]) -> Option<&[u8]>
 /// What stands behind the first `*/`.
 fn behind_end(inside: &[u8]) -> Option<&[u8]>
     ensures none { IfNone result ((front rest : List ℕ) → inside.now ≡ front ++ (42 ∷ 47 ∷ rest) → ⊥) }
-    ensures some { IfSome result (λ rest. (front : List ℕ) × EndsOnce front × (inside.now ≡ front ++ (42 ∷ 47 ∷ rest.now))) }
+    ensures some { IfSome result (λ rest. (front : List ℕ) × IsCommentText front × (inside.now ≡ front ++ (42 ∷ 47 ∷ rest.now))) }
 {
     for i in 1..inside.len() {
         if inside[i - 1] == b'*' && inside[i] == b'/' {

@@ -2,7 +2,7 @@
 //! string).
 ghost use Rattle.std.specs.Prelude.{IfNone, IfSome};
 ghost use Rattle.p21_exchange.specs.Text.{Encodes};
-ghost use Rattle.p21_transcribe.specs.Respelling.{AreGroups, IsGroup, Respells};
+ghost use Rattle.p21_transcribe.specs.Respelling.{AreGroups, BeginsWithGroup, Respells};
 ghost use Rattle.p21_values.specs.Canonical.{Continues};
 
 use crate::character::append_character;
@@ -47,7 +47,7 @@ fn append_groups(groups: &[u8], draft: &mut Draft) -> Option<(usize, usize)>
 
 /// The character of the group at the front, unless it is a surrogate.
 fn group_character(rest: &[u8]) -> Option<char>
-    ensures { IfSome result (λ character. IsGroup rest.now character) }
+    ensures { IfSome result (λ character. BeginsWithGroup rest.now character) }
 {
     let (digits, _others) = rest.split_first_chunk::<4>()?;
     char::from_u32(four_digits(digits)?)

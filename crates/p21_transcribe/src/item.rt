@@ -3,7 +3,7 @@ ghost use Rattle.std.specs.Prelude.{◌≡◌, ℕ, ◌+◌, List, length, Conta
 ghost use Rattle.p21_exchange.specs.Keyword.{IsUpper};
 ghost use Rattle.p21_exchange.specs.Token.{item};
 ghost use Rattle.p21_files.specs.Fits.{boolean_items, logical_items};
-ghost use Rattle.p21_transcribe.specs.Leaf.{IsCanonicalAtFront, Transcribes};
+ghost use Rattle.p21_transcribe.specs.LeadingToken.{IsCanonicalLeadingToken, Transcribes};
 
 use crate::digits::behind;
 use crate::draft::Draft;
@@ -15,9 +15,9 @@ pub fn append_item(bytes: &[u8], words: &[Word], draft: &mut Draft) -> Option<us
     ensures some { IfSome result (λ count. (word : List ℕ) × Contains words.now word × Transcribes bytes.now count (item word) draft.old draft.new) }
     ensures none { IfNone result (draft.new ≡ draft.old) }
 {
-    let word = front_item(bytes)?;
+    let word = leading_item(bytes)?;
     let count = word.len() + 2;
-    if !has_word(words, word) || !draft.append_front(bytes, count) {
+    if !has_word(words, word) || !draft.append_prefix(bytes, count) {
         return None;
     }
     Some(count)
@@ -31,7 +31,7 @@ pub fn append_logical(bytes: &[u8], unknown: bool, draft: &mut Draft) -> Option<
     let [b'.', letter, b'.', ..] = bytes else {
         return None;
     };
-    if !is_truth_value(*letter, unknown) || !draft.append_front(bytes, 3) {
+    if !is_truth_value(*letter, unknown) || !draft.append_prefix(bytes, 3) {
         return None;
     }
     Some(3)
@@ -51,8 +51,8 @@ fn is_truth_value(letter: u8, unknown: bool) -> bool
 
 /// The word of the item at the front.
 #[inline(always)]
-fn front_item(bytes: &[u8]) -> Option<&[u8]>
-    ensures { IfSome result (λ word. IsCanonicalAtFront bytes.now (length word.now + 2) (item word.now)) }
+fn leading_item(bytes: &[u8]) -> Option<&[u8]>
+    ensures { IfSome result (λ word. IsCanonicalLeadingToken bytes.now (length word.now + 2) (item word.now)) }
 {
     let inside = behind(b'.', bytes)?;
     let count = keyword_bytes(inside);

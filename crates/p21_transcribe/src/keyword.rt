@@ -1,7 +1,7 @@
 //! Keywords (ISO 10303-21, clause 6: tokens, keyword).
 ghost use Rattle.std.specs.Prelude.{◌≡◌, length, IfNone, IfSome};
 ghost use Rattle.p21_exchange.specs.Token.{keyword};
-ghost use Rattle.p21_transcribe.specs.Leaf.{IsCanonicalAtFront, Transcribes};
+ghost use Rattle.p21_transcribe.specs.LeadingToken.{IsCanonicalLeadingToken, Transcribes};
 
 use crate::digits::begins_with;
 use crate::draft::Draft;
@@ -14,8 +14,8 @@ pub fn append_keyword<'a>(bytes: &'a [u8], draft: &mut Draft) -> Option<&'a [u8]
     ensures some { IfSome result (λ word. Transcribes bytes.now (length word.now) (keyword word.now) draft.old draft.new) }
     ensures none { IfNone result (draft.new ≡ draft.old) }
 {
-    let word = front_keyword(bytes)?;
-    if !draft.append_front(bytes, word.len()) {
+    let word = leading_keyword(bytes)?;
+    if !draft.append_prefix(bytes, word.len()) {
         return None;
     }
     Some(word)
@@ -23,8 +23,8 @@ pub fn append_keyword<'a>(bytes: &'a [u8], draft: &mut Draft) -> Option<&'a [u8]
 
 /// The word of the keyword at the front.
 #[inline(always)]
-pub fn front_keyword(bytes: &[u8]) -> Option<&[u8]>
-    ensures { IfSome result (λ word. IsCanonicalAtFront bytes.now (length word.now) (keyword word.now)) }
+pub fn leading_keyword(bytes: &[u8]) -> Option<&[u8]>
+    ensures { IfSome result (λ word. IsCanonicalLeadingToken bytes.now (length word.now) (keyword word.now)) }
 {
     let (first, _rest) = bytes.split_first()?;
     if !is_upper(*first) {

@@ -14,14 +14,14 @@ mod keyword;
 mod name;
 mod number;
 mod real;
-mod respelled;
+mod respelled_text;
 mod text;
 
 pub use bits::append_bits;
 pub use draft::Draft;
 pub use gap::behind_separators;
 pub use item::{append_item, append_logical};
-pub use keyword::{append_keyword, front_keyword};
+pub use keyword::{append_keyword, leading_keyword};
 pub use name::append_name;
 pub use number::append_whole;
 pub use real::append_real;

@@ -1,7 +1,7 @@
 //! Names of instances (ISO 10303-21, clause 6: tokens, entity instance name).
 ghost use Rattle.std.specs.Prelude.{◌≡◌, IfNone, IfSome};
 ghost use Rattle.p21_exchange.specs.Token.{name};
-ghost use Rattle.p21_transcribe.specs.Leaf.{IsCanonicalAtFront, Transcribes};
+ghost use Rattle.p21_transcribe.specs.LeadingToken.{IsCanonicalLeadingToken, Transcribes};
 
 use crate::digits::{behind, digit_run, number_of};
 use crate::draft::Draft;
@@ -16,16 +16,16 @@ pub fn append_name(bytes: &[u8], draft: &mut Draft) -> Option<(usize, u64)>
     ensures some { IfSome result (λ front. Transcribes bytes.now front.0 (name front.1) draft.old draft.new) }
     ensures none { IfNone result (draft.new ≡ draft.old) }
 {
-    let (count, number) = front_name(bytes)?;
-    if !draft.append_front(bytes, count) {
+    let (count, number) = leading_name(bytes)?;
+    if !draft.append_prefix(bytes, count) {
         return None;
     }
     Some((count, number))
 }
 
 #[inline(always)]
-fn front_name(bytes: &[u8]) -> Option<(usize, u64)>
-    ensures { IfSome result (λ front. IsCanonicalAtFront bytes.now front.0 (name front.1)) }
+fn leading_name(bytes: &[u8]) -> Option<(usize, u64)>
+    ensures { IfSome result (λ front. IsCanonicalLeadingToken bytes.now front.0 (name front.1)) }
 {
     let digits = behind(b'#', bytes)?;
     let count = digit_run(digits);

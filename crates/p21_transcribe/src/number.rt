@@ -5,10 +5,10 @@ ghost use Rattle.p21_exchange.specs.Number.{signed};
 ghost use Rattle.p21_exchange.specs.Spelling.{whole_spelling};
 ghost use Rattle.p21_exchange.specs.Token.{whole};
 ghost use Rattle.p21_values.specs.Canonical.{Continues};
-ghost use Rattle.p21_transcribe.specs.Appending.{AppendsPart};
-ghost use Rattle.p21_transcribe.specs.Leaf.{Transcribes};
+ghost use Rattle.p21_transcribe.specs.Appending.{AppendsAllOrSome};
+ghost use Rattle.p21_transcribe.specs.LeadingToken.{Transcribes};
 
-use crate::digits::{begins_with, digit_run, front_zeros, split_sign};
+use crate::digits::{begins_with, digit_run, leading_zeros, split_sign};
 use crate::draft::Draft;
 
 /// Appends the whole number at the front: how many bytes it has.
@@ -34,15 +34,15 @@ fn append_digits(negative: bool, bytes: &[u8], count: usize, draft: &mut Draft) 
     requires some { 0 < count }
     requires within { count ≤ length bytes.now }
     requires digits { AllDigits (take count bytes.now) }
-    ensures { AppendsPart result (whole_spelling (signed negative (number (take count bytes.now)))) draft.old draft.new }
+    ensures { AppendsAllOrSome result (whole_spelling (signed negative (number (take count bytes.now)))) draft.old draft.new }
 {
-    let zeros = front_zeros(&bytes[..count - 1]);
+    let zeros = leading_zeros(&bytes[..count - 1]);
     let plain = &bytes[zeros..];
     if !negative || plain[0] == b'0' {
-        return draft.append_front(plain, count - zeros);
+        return draft.append_prefix(plain, count - zeros);
     }
     if !draft.put(b'-') {
         return false;
     }
-    draft.append_front(plain, count - zeros)
+    draft.append_prefix(plain, count - zeros)
 }

@@ -1,13 +1,13 @@
 //! Reals, and whole numbers where a NUMBER may stand (ISO 10303-21, clause 6: tokens, real and integer).
 ghost use Rattle.std.specs.Prelude.{ℕ, ◌^◌, ◌<◌, ◌≤◌, ◌++◌, length, nat_abs, take, IfNone, IfSome};
 ghost use Rattle.p21_values.specs.Canonical.{Continues};
-ghost use Rattle.p21_values.specs.Digits.{NoZeroFirst};
-ghost use Rattle.p21_values.specs.RealParts.{digits_ratio};
-ghost use Rattle.p21_transcribe.specs.Appending.{AppendsIf};
-ghost use Rattle.p21_transcribe.specs.Numbers.{AppendsNormalised, AppendsNumber, AppendsPointed, TranscribesNumber};
+ghost use Rattle.p21_values.specs.Digits.{HasNoLeadingZero};
+ghost use Rattle.p21_values.specs.RealComponents.{digits_ratio};
+ghost use Rattle.p21_transcribe.specs.Appending.{AppendsAllOrNone};
+ghost use Rattle.p21_transcribe.specs.Numbers.{AppendsNormalised, AppendsNumber, AppendsWithoutExponent, TranscribesNumber};
 ghost use Rattle.p21_transcribe.specs.Runs.{AreDigits};
 
-use crate::digits::{behind, digit_run, front_zeros, split_sign};
+use crate::digits::{behind, digit_run, leading_zeros, split_sign};
 use crate::draft::Draft;
 use crate::exponent::{append_exponent, append_minus, split_exponent};
 
@@ -77,7 +77,7 @@ fn append_decimal(
     requires small { nat_abs exponent < 10 ^ 6 }
     ensures { AppendsNumber result (digits_ratio negative (take whole.entry.count whole.entry.bytes.now) (take fraction.entry.count fraction.entry.bytes.now) exponent) draft.old draft.new }
 {
-    let zeros = front_zeros(&whole.bytes[..whole.count]);
+    let zeros = leading_zeros(&whole.bytes[..whole.count]);
     if zeros < whole.count {
         let first = Digits {
             bytes: &whole.bytes[zeros..],
@@ -86,7 +86,7 @@ fn append_decimal(
         let places = (first.count - 1) as i32;
         return append_normalised(negative, first, fraction, exponent + places, draft);
     }
-    let zeros = front_zeros(&fraction.bytes[..fraction.count]);
+    let zeros = leading_zeros(&fraction.bytes[..fraction.count]);
     if zeros < fraction.count {
         let first = Digits {
             bytes: &fraction.bytes[zeros..],
@@ -115,7 +115,7 @@ fn append_normalised(
     requires some { 0 < first.count }
     requires first { AreDigits first.bytes.now first.count }
     requires others { AreDigits others.bytes.now others.count }
-    requires no_zero { NoZeroFirst first.bytes.now }
+    requires no_zero { HasNoLeadingZero first.bytes.now }
     ensures { AppendsNormalised result negative (take first.entry.count first.entry.bytes.now ++ take others.entry.count others.entry.bytes.now) exponent draft.old draft.new }
 {
     if exponent < -99 || exponent > 99 {
@@ -133,8 +133,8 @@ fn append_pointed(negative: bool, first: Digits<'_>, others: Digits<'_>, draft: 
     requires some { 0 < first.count }
     requires first { AreDigits first.bytes.now first.count }
     requires others { AreDigits others.bytes.now others.count }
-    requires no_zero { NoZeroFirst first.bytes.now }
-    ensures { AppendsPointed result negative (take first.entry.count first.entry.bytes.now ++ take others.entry.count others.entry.bytes.now) draft.old draft.new }
+    requires no_zero { HasNoLeadingZero first.bytes.now }
+    ensures { AppendsWithoutExponent result negative (take first.entry.count first.entry.bytes.now ++ take others.entry.count others.entry.bytes.now) draft.old draft.new }
 {
     if !append_minus(negative, draft) {
         return false;
@@ -146,7 +146,7 @@ fn append_pointed(negative: bool, first: Digits<'_>, others: Digits<'_>, draft: 
         return false;
     }
     let start = draft.len();
-    if !draft.append_front(&first.bytes[1..], first.count - 1) {
+    if !draft.append_prefix(&first.bytes[1..], first.count - 1) {
         return false;
     }
     if !append_some(others, draft) {
@@ -160,10 +160,10 @@ fn append_pointed(negative: bool, first: Digits<'_>, others: Digits<'_>, draft: 
 #[inline(always)]
 fn append_some(digits: Digits<'_>, draft: &mut Draft) -> bool
     requires { digits.count ≤ length digits.bytes.now }
-    ensures { AppendsIf result (take digits.entry.count digits.entry.bytes.now) draft.old draft.new }
+    ensures { AppendsAllOrNone result (take digits.entry.count digits.entry.bytes.now) draft.old draft.new }
 {
     if digits.count == 0 {
         return true;
     }
-    draft.append_front(digits.bytes, digits.count)
+    draft.append_prefix(digits.bytes, digits.count)
 }

@@ -4,11 +4,11 @@ ghost use Rattle.p21_basics.specs.Digits.{hex_digit, hex_digits};
 ghost use Rattle.p21_exchange.specs.Text.{IsApostropheOrBackslash};
 ghost use Rattle.p21_exchange.specs.Token.{text};
 ghost use Rattle.p21_transcribe.specs.Characters.{AreCharacters, EndsText, IsDoubled, IsExtendedCharacter, IsExtendedDirective};
-ghost use Rattle.p21_transcribe.specs.Leaf.{IsCanonicalAtFront, Transcribes};
+ghost use Rattle.p21_transcribe.specs.LeadingToken.{IsCanonicalLeadingToken, Transcribes};
 
 use crate::digits::behind;
 use crate::draft::Draft;
-use crate::respelled::append_respelled;
+use crate::respelled_text::append_respelled;
 use p21_tokens_automaton::plain_characters;
 
 /// Appends the string at the front: how many bytes it has, and how many characters. Where each character stands in its
@@ -18,9 +18,9 @@ pub fn append_text(bytes: &[u8], draft: &mut Draft) -> Option<(usize, usize)>
     ensures some { IfSome result (λ front. (characters : List ℕ) × (front.1 ≡ length characters) × Transcribes bytes.now front.0 (text characters) draft.old draft.new) }
     ensures none { IfNone result (draft.new ≡ draft.old) }
 {
-    match front_text(bytes) {
+    match leading_text(bytes) {
         Some((count, characters)) => {
-            if !draft.append_front(bytes, count) {
+            if !draft.append_prefix(bytes, count) {
                 return None;
             }
             Some((count, characters))
@@ -30,8 +30,8 @@ pub fn append_text(bytes: &[u8], draft: &mut Draft) -> Option<(usize, usize)>
 }
 
 #[inline(always)]
-fn front_text(bytes: &[u8]) -> Option<(usize, usize)>
-    ensures { IfSome result (λ front. (characters : List ℕ) × (front.1 ≡ length characters) × IsCanonicalAtFront bytes.now front.0 (text characters)) }
+fn leading_text(bytes: &[u8]) -> Option<(usize, usize)>
+    ensures { IfSome result (λ front. (characters : List ℕ) × (front.1 ≡ length characters) × IsCanonicalLeadingToken bytes.now front.0 (text characters)) }
 {
     let inside = behind(b'\'', bytes)?;
     let (count, characters) = inside_text(inside);

@@ -6,16 +6,16 @@ use Rattle.std.specs.List.{flat_map}
 use Rattle.std.proofs.lemmas.List.Elements.{Contains-append_cases}
 use Rattle.std.proofs.lemmas.Option.{slice_get_within}
 use Rattle.p21_basics.proofs.Members.{AllZip-member, Contains-cases, Contains-none, Each-append, Each-at}
-use Rattle.p21_claim_values.specs.Needs.{FitsAtWith}
+use Rattle.p21_claim_values.specs.Needs.{FitsAtWithNeeds}
 use Rattle.p21_exchange.specs.Parameter.{Params, more_tokens, params_tokens}
 use Rattle.p21_exchange.specs.Record.{part_tokens}
 use Rattle.p21_exchange.specs.Token as token
 use Rattle.p21_exchange.specs.Token.{Token}
-use Rattle.p21_express_tables.proofs.Lookups.{own-places-are, places-more}
-use Rattle.p21_express_tables.proofs.Resolving.{stored-is}
-use Rattle.p21_express_tables.specs.Lookups.{AreEntities, places_from}
-use Rattle.p21_express_tables.specs.Orders.{numbers}
-use Rattle.p21_express_tables.specs.Resolved.{HoldsTogether, IsEntity}
+use Rattle.p21_express_graph.proofs.Lookups.{own-places-are, places-more}
+use Rattle.p21_express_graph.proofs.Resolving.{stored-is}
+use Rattle.p21_express_graph.specs.Lookups.{AreEntities, places_from}
+use Rattle.p21_express_graph.specs.Orders.{numbers}
+use Rattle.p21_express_graph.specs.Resolved.{HoldsTogether, IsEntity}
 use Rattle.p21_express_types.specs.declared.number.EntityId.{EntityId}
 use Rattle.p21_files.specs.Reference as meant
 use Rattle.p21_files.specs.ValueText.{value_text, with_commas, with_commas_between}
@@ -25,13 +25,13 @@ use Rattle.p21_schemas.specs.Order.{own_places}
 use Rattle.p21_schemas.specs.PlaceType.{PlaceType, TypeAt, derived_place, stored_place, two_redeclarations}
 use Rattle.p21_schemas.specs.Schema.{AreRisingByName, EntityNamed, Place, Schema, attributes_of}
 use Rattle.p21_transcribe.specs.Gaps.{PassesSeparators}
-use Rattle.p21_transcribe_instance.proofs.Laid.{takes-join, takes-mark}
+use Rattle.p21_transcribe_instance.proofs.LaidRuns.{takes-join, takes-mark}
 use Rattle.p21_transcribe_instance.proofs.Stepping.{GoOn, first-places, next-places, none-places}
-use Rattle.p21_transcribe_instance.specs.Records.{IsOwned, Owned, TakesAt, TakesNumbered, TakesParts, TakesRecord, needs_in, owned_text, owned_texts, owners_at, part_of, parts_at}
-use Rattle.p21_transcribe_instance.specs.Taking.{Takes, TakesEntity, TakesMark, TakesPlaces, needs_at, params_at, texts_at}
-use Rattle.p21_transcribe_instance.specs.Usual.{AreUsual, IsNumbered, IsUsual}
-use Rattle.p21_transcribe_values.proofs.Laid.{laid-join, param-behind}
-use Rattle.p21_transcribe_values.specs.Taken.{IsKnownAt, KeepsNeeds, LaidBefore, TakesWithNeeds}
+use Rattle.p21_transcribe_instance.specs.Records.{IsOwnRecord, OwnRecord, TakesAtPlace, TakesNumbered, TakesParts, TakesRecord, needs_in, own_record_text, own_record_texts, owners_at, part_of, parts_at}
+use Rattle.p21_transcribe_instance.specs.TakenParameters.{TakesTokens, TakesEntity, TakesDelimiter, TakesPlaces, needs_at, params_at, texts_at}
+use Rattle.p21_transcribe_instance.specs.ExternalSet.{AreExternalSets, IsNumberedSet, IsExternalSet}
+use Rattle.p21_transcribe_instance.proofs.Laid.{laid-join, param-behind}
+use Rattle.p21_transcribe_instance.specs.TakenValues.{IsKnownAt, KeepsNeeds, LaidBefore, TakesWithNeeds}
 use Rattle.p21_schemas.specs.Supertype.{IsLeaf, LeavesAmong, leaf_next, no_more, other_next}
 use Rattle.p21_values.specs.Canonical.{Continues}
 
@@ -48,15 +48,15 @@ no-parts s entities bytes old needs = record {
 }
 
 -- the simple record of one entity
-pub one-part : (s : Schema) (entities : List ℕ) (e : ℕ) (bytes keyed inside behind rest old worded opened between new : List ℕ) (before after : List Need) → TakesEntity s e bytes keyed old worded → TakesMark 40 keyed inside worded opened
-    → TakesPlaces s entities params_tokens with_commas_between (own_places s e) inside behind opened between before after → TakesMark 41 behind rest between new → TakesParts s entities (e ∷ []) bytes rest old new before after
+pub one-part : (s : Schema) (entities : List ℕ) (e : ℕ) (bytes keyed inside behind rest old worded opened between new : List ℕ) (before after : List Need) → TakesEntity s e bytes keyed old worded → TakesDelimiter 40 keyed inside worded opened
+    → TakesPlaces s entities params_tokens with_commas_between (own_places s e) inside behind opened between before after → TakesDelimiter 41 behind rest between new → TakesParts s entities (e ∷ []) bytes rest old new before after
 one-part s entities e bytes keyed inside behind rest old worded opened between new before after (word, named, key) left places right =
-    let o : Owned = record { owner = e; word = word; placed = places.placed } in
+    let o : OwnRecord = record { owner = e; word = word; placed = places.placed } in
     let ts : List Token = params_tokens (params_at places.placed) in
     let t : List ℕ = with_commas_between (texts_at s places.placed) in
-    let opening : Takes (token.left ∷ []) (40 ∷ []) keyed inside worded opened = takes-mark 40 token.left keyed inside worded opened refl (λ byte. tt) left in
-    let params : Takes ts t inside behind opened between = record { laid = places.laid; appended = places.text_is } in
-    let closing : Takes (token.right ∷ []) (41 ∷ []) behind rest between new = takes-mark 41 token.right behind rest between new refl (λ byte. tt) right in
+    let opening : TakesTokens (token.left ∷ []) (40 ∷ []) keyed inside worded opened = takes-mark 40 token.left keyed inside worded opened refl (λ byte. tt) left in
+    let params : TakesTokens ts t inside behind opened between = record { laid = places.laid; appended = places.text_is } in
+    let closing : TakesTokens (token.right ∷ []) (41 ∷ []) behind rest between new = takes-mark 41 token.right behind rest between new refl (λ byte. tt) right in
     let closed = takes-join ts (token.right ∷ []) t (41 ∷ []) inside behind rest opened between new params closing in
     let listed = takes-join (token.left ∷ []) (ts ++ (token.right ∷ [])) (40 ∷ []) (t ++ (41 ∷ [])) keyed inside rest worded opened new opening closed in
     let all = takes-join (token.keyword word ∷ []) (token.left ∷ (ts ++ (token.right ∷ []))) word (40 ∷ (t ++ (41 ∷ []))) bytes keyed rest old worded new key listed in
@@ -68,7 +68,7 @@ one-part s entities e bytes keyed inside behind rest old worded opened between n
       needs_are = places.needs_are;
       added_are = append-nil (needs_at places.placed) ∙ places.added_are;
       laid = subst (λ (xs : List Token). LaidBefore bytes xs rest) (sym (append-nil (part_tokens (part_of o)))) all.laid;
-      text_is = all.appended ∙ ap (λ (x : List ℕ). old ++ x) (sym (append-nil (owned_text s o)));
+      text_is = all.appended ∙ ap (λ (x : List ℕ). old ++ x) (sym (append-nil (own_record_text s o)));
     }
 
 -- and others behind it
@@ -79,15 +79,15 @@ join-parts s entities es fs bytes middle rest old between new before among after
     ap (flat_map part_tokens) (map-append part_of first.owned second.owned) ∙ flat_map-append part_tokens (parts_at first.owned) (parts_at second.owned) in
     record {
       owned = first.owned ++ second.owned;
-      each = Each-append (IsOwned s entities) first.owned second.owned first.each second.each;
-      owners_are = map-append (λ (o : Owned). o.owner) first.owned second.owned ∙ ap (λ (xs : List ℕ). xs ++ owners_at second.owned) first.owners_are ∙ ap (λ (xs : List ℕ). es ++ xs) second.owners_are;
+      each = Each-append (IsOwnRecord s entities) first.owned second.owned first.each second.each;
+      owners_are = map-append (λ (o : OwnRecord). o.owner) first.owned second.owned ∙ ap (λ (xs : List ℕ). xs ++ owners_at second.owned) first.owners_are ∙ ap (λ (xs : List ℕ). es ++ xs) second.owners_are;
       added = first.added ++ second.added;
       needs_are = second.needs_are ∙ ap (λ (ns : List Need). ns ++ second.added) first.needs_are ∙ append_assoc before first.added second.added;
-      added_are = flat_map-append (λ (o : Owned). needs_at o.placed) first.owned second.owned ∙ ap (λ (ns : List meant.Need). ns ++ needs_in second.owned) first.added_are ∙ ap (λ (ns : List meant.Need). map need_view first.added ++ ns) second.added_are
+      added_are = flat_map-append (λ (o : OwnRecord). needs_at o.placed) first.owned second.owned ∙ ap (λ (ns : List meant.Need). ns ++ needs_in second.owned) first.added_are ∙ ap (λ (ns : List meant.Need). map need_view first.added ++ ns) second.added_are
           ∙ sym (map-append need_view first.added second.added);
       laid = subst (λ (ts : List Token). LaidBefore bytes ts rest) (sym tokens) (laid-join bytes middle rest (flat_map part_tokens (parts_at first.owned)) (flat_map part_tokens (parts_at second.owned)) first.laid second.laid);
-      text_is = second.text_is ∙ ap (λ (x : List ℕ). x ++ owned_texts s second.owned) first.text_is ∙ append_assoc old (owned_texts s first.owned) (owned_texts s second.owned)
-          ∙ ap (λ (x : List ℕ). old ++ x) (sym (flat_map-append (owned_text s) first.owned second.owned));
+      text_is = second.text_is ∙ ap (λ (x : List ℕ). x ++ own_record_texts s second.owned) first.text_is ∙ append_assoc old (own_record_texts s first.owned) (own_record_texts s second.owned)
+          ∙ ap (λ (x : List ℕ). old ++ x) (sym (flat_map-append (own_record_text s) first.owned second.owned));
     }
 
 -- ---- what is appended and added
@@ -96,11 +96,11 @@ pub places-go_on : (s : Schema) (entities : List ℕ) (tokens_of : Params → Li
     → TakesPlaces s entities tokens_of text_of places bytes rest old new before after → GoOn old new before after
 places-go_on s entities tokens_of text_of places bytes rest old new before after h = ((text_of (texts_at s h.placed), h.text_is), (h.added, h.needs_are))
 
-pub at-goes_on : (s : Schema) (entities : List ℕ) (place : Place) (bytes rest old new : List ℕ) (before after : List Need) → TakesAt s entities place bytes rest old new before after → GoOn old new before after
+pub at-goes_on : (s : Schema) (entities : List ℕ) (place : Place) (bytes rest old new : List ℕ) (before after : List Need) → TakesAtPlace s entities place bytes rest old new before after → GoOn old new before after
 at-goes_on s entities place bytes rest old new before after (at, type_at, h) = ((value_text s h.takes.value, h.takes.text_is), (h.added, h.needs_are))
 
 pub parts-go_on : (s : Schema) (entities owners bytes rest old new : List ℕ) (before after : List Need) → TakesParts s entities owners bytes rest old new before after → GoOn old new before after
-parts-go_on s entities owners bytes rest old new before after h = ((owned_texts s h.owned, h.text_is), (h.added, h.needs_are))
+parts-go_on s entities owners bytes rest old new before after h = ((own_record_texts s h.owned, h.text_is), (h.added, h.needs_are))
 
 -- ---- values
 
@@ -111,8 +111,8 @@ known-at s holds entities place (stored_place optional type) is = stored-is s ho
 known-at s holds entities place two_redeclarations is = tt
 
 -- a value behind separators
-pub at-behind : (s : Schema) (entities : List ℕ) (place : Place) (at : PlaceType) (bytes front rest old new : List ℕ) (before after : List Need) → TypeAt s entities place at → PassesSeparators bytes front → TakesWithNeeds s (FitsAtWith s at) 64 front rest old new before after
-    → TakesAt s entities place bytes rest old new before after
+pub at-behind : (s : Schema) (entities : List ℕ) (place : Place) (at : PlaceType) (bytes front rest old new : List ℕ) (before after : List Need) → TypeAt s entities place at → PassesSeparators bytes front → TakesWithNeeds s (FitsAtWithNeeds s at) 64 front rest old new before after
+    → TakesAtPlace s entities place bytes rest old new before after
 at-behind s entities place at bytes front rest old new before after type_at passes h = (
   at,
   type_at,
@@ -128,7 +128,7 @@ pub own-none : (s : Schema) (entities : List ℕ) (e count : ℕ) (bytes old : L
 own-none s entities e count bytes old needs is none = none-places s entities params_tokens with_commas_between (own_places s e) bytes old needs refl refl (sym (own-places-are s e) ∙ ap (places_from e 0) (sym is ∙ none))
 
 -- the first attribute and the others
-pub own-first : (s : Schema) (entities : List ℕ) (e count : ℕ) (bytes middle rest old between new : List ℕ) (before among after : List Need) → count ≡ length (attributes_of s e) → 1 ≤ count → TakesAt s entities (record { entity = e; index = 0 }) bytes middle old between before among
+pub own-first : (s : Schema) (entities : List ℕ) (e count : ℕ) (bytes middle rest old between new : List ℕ) (before among after : List Need) → count ≡ length (attributes_of s e) → 1 ≤ count → TakesAtPlace s entities (record { entity = e; index = 0 }) bytes middle old between before among
     → TakesPlaces s entities more_tokens with_commas (places_from e 1 (count - 1)) middle rest between new among after → TakesPlaces s entities params_tokens with_commas_between (own_places s e) bytes rest old new before after
 own-first s entities e count bytes middle rest old between new before among after is some (at, type_at, h) more =
     let size : suc (count - 1) ≡ length (attributes_of s e) = omega (arith, is, some) in
@@ -137,7 +137,7 @@ own-first s entities e count bytes middle rest old between new before among afte
 
 -- the attributes so far and the next
 pub own-next : (s : Schema) (entities : List ℕ) (e index : ℕ) (bytes middle behind rest old between comma new : List ℕ) (before among after : List Need) → 1 ≤ index → TakesPlaces s entities more_tokens with_commas (places_from e 1 (index - 1)) bytes middle old between before among
-    → TakesMark 44 middle behind between comma → TakesAt s entities (record { entity = e; index = index }) behind rest comma new among after → TakesPlaces s entities more_tokens with_commas (places_from e 1 (index + 1 - 1)) bytes rest old new before after
+    → TakesDelimiter 44 middle behind between comma → TakesAtPlace s entities (record { entity = e; index = index }) behind rest comma new among after → TakesPlaces s entities more_tokens with_commas (places_from e 1 (index + 1 - 1)) bytes rest old new before after
 own-next s entities e index bytes middle behind rest old between comma new before among after some front mark (at, type_at, h) =
     let next : 1 + (index - 1) ≡ index = omega (arith, some) in
     let more : (index - 1) + 1 ≡ index + 1 - 1 = omega (arith, some) in
@@ -146,15 +146,15 @@ own-next s entities e index bytes middle behind rest old between comma new befor
     subst (λ (ps : List Place). TakesPlaces s entities more_tokens with_commas ps bytes rest old new before after) places
     (next-places s entities (record { entity = e; index = index }) at (places_from e 1 (index - 1)) bytes middle behind rest old between comma new before among after type_at front mark h)
 
--- ---- usual sets
+-- ---- sets of external mapping
 
 -- the entities of a set that rises are those of the schema
 pub rising-known : (s : Schema) (entities : List ℕ) → AreRisingByName s entities → AreEntities s entities
 rising-known s entities (names, named, rise) e among = let (name, at, (x, is, same)) = AllZip-member (EntityNamed s) entities names e named among in slice_get_within s.entities e x is
 
 -- the one of a number
-pub usual-at : (s : Schema) (sets : List (List ℕ)) (at : ℕ) (entities : List ℕ) → AreUsual s sets → IsNumbered sets at entities → IsUsual s entities
-usual-at s sets at entities are numbered = Each-at (IsUsual s) sets at entities are numbered
+pub usual-at : (s : Schema) (sets : List (List ℕ)) (at : ℕ) (entities : List ℕ) → AreExternalSets s sets → IsNumberedSet sets at entities → IsExternalSet s entities
+usual-at s sets at entities are numbered = Each-at (IsExternalSet s) sets at entities are numbered
 
 -- ---- one simple record more
 
@@ -193,9 +193,9 @@ known-more s es x are is e among = elim (Contains-append_cases (numbers es) (x.0
 
 -- ---- the whole record
 
-pub record-taken : (s : Schema) (entities bytes middle rest old between new : List ℕ) (before after : List Need) → TakesParts s entities entities bytes middle old between before after → Takes (token.right ∷ token.semicolon ∷ []) (41 ∷ 59 ∷ []) middle rest between new
+pub record-taken : (s : Schema) (entities bytes middle rest old between new : List ℕ) (before after : List Need) → TakesParts s entities entities bytes middle old between before after → TakesTokens (token.right ∷ token.semicolon ∷ []) (41 ∷ 59 ∷ []) middle rest between new
     → TakesRecord s entities bytes rest old new before after
 record-taken s entities bytes middle rest old between new before after parts end = record { middle = middle; between = between; parts = parts; end = end }
 
-pub numbered-taken : (s : Schema) (sets : List (List ℕ)) (at : ℕ) (entities bytes rest old new : List ℕ) (before after : List Need) → IsNumbered sets at entities → IsUsual s entities → TakesRecord s entities bytes rest old new before after → TakesNumbered s sets at bytes rest old new before after
+pub numbered-taken : (s : Schema) (sets : List (List ℕ)) (at : ℕ) (entities bytes rest old new : List ℕ) (before after : List Need) → IsNumberedSet sets at entities → IsExternalSet s entities → TakesRecord s entities bytes rest old new before after → TakesNumbered s sets at bytes rest old new before after
 numbered-taken s sets at entities bytes rest old new before after numbered usual takes = record { entities = entities; numbered = numbered; usual = usual; takes = takes }

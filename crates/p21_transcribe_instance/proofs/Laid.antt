@@ -1,56 +1,77 @@
--- Tokens at the front, one behind the other.
-use Rattle.std.proofs.Common.{◌≡◌, ◌∙◌, ℕ, List, [], ◌∷◌, ◌++◌, drop, length, take, refl, ap, sym, subst, append_assoc}
+-- Tokens at the front of bytes.
+use Rattle.std.proofs.Common.{◌≡◌, ◌∙◌, ℕ, ◌≤◌, List, [], ◌∷◌, ◌++◌, length, take, drop, refl, ap, sym, subst, arith, append_assoc, length-append}
+use Rattle.std.proofs.lemmas.Grind.{flat_map-append}
 use Rattle.std.proofs.lemmas.List.{take-append-drop}
-use Rattle.std.specs.List.{AllByRecursion as Each}
-use Rattle.p21_claim_values.specs.Written.{IsSpelled}
-use Rattle.p21_exchange.specs.Spelling.{name_spelling, spelling}
+use Rattle.std.specs.List.{flat_map}
+use Rattle.p21_basics.proofs.Members.{Each-append}
+use Rattle.p21_exchange.specs.Parameter.{Param, dollar, star, whole, real, text, name, item, bits, list, typed, key_token, param_tokens, params_tokens}
+use Rattle.p21_exchange.specs.Separator.{IsSeparator, IsSeparatorText, separator_bytes}
 use Rattle.p21_exchange.specs.Token as token
-use Rattle.p21_exchange.specs.Token.{Token, MayFollow, Spells}
-use Rattle.p21_schemas.specs.Schema.{EntityNamed, Schema}
+use Rattle.p21_exchange.specs.Token.{Token, IsFollowed, MayFollow, Spells}
 use Rattle.p21_transcribe.specs.Gaps.{PassesSeparators}
-use Rattle.p21_transcribe.specs.Leaf.{Transcribes}
-use Rattle.p21_transcribe_instance.specs.Taking.{Takes, TakesEntity, TakesMark}
-use Rattle.p21_transcribe_values.proofs.Laid.{laid-join, laid-next}
-use Rattle.p21_transcribe_values.specs.Taken.{LaidBefore}
+use Rattle.p21_transcribe.specs.LeadingToken.{IsLeadingToken}
+use Rattle.p21_transcribe_instance.specs.TakenValues.{LaidBefore, PassesDelimiter}
 
--- tokens that are laid have spellings
-pub laid-spelled : (bytes rest : List ℕ) (tokens : List Token) → LaidBefore bytes tokens rest → Each IsSpelled tokens
-laid-spelled bytes rest [] laid = tt
-laid-spelled bytes rest (x ∷ xs) (gap, spelled, behind, is, is_gap, spells, followed, more) = ((spelled, spells), laid-spelled behind rest xs more)
+-- a token that any byte may follow
+followed-any : (one : Token) (spelling rest : List ℕ) → ((byte : ℕ) → MayFollow one spelling byte) → IsFollowed one spelling rest
+followed-any one spelling [] any = tt
+followed-any one spelling (byte ∷ rest) any = any byte
 
--- ---- texts appended
+pub laid-one : (bytes : List ℕ) (count : ℕ) (one : Token) → IsLeadingToken bytes count one → LaidBefore bytes (one ∷ []) (drop count bytes)
+laid-one bytes count one h = ([], take count bytes, drop count bytes, sym (take-append-drop count bytes), ([], tt, refl), h.spells, h.followed, refl)
 
-pub takes-join : (xs ys : List Token) (t u bytes middle rest old between new : List ℕ) → Takes xs t bytes middle old between → Takes ys u middle rest between new → Takes (xs ++ ys) (t ++ u) bytes rest old new
-takes-join xs ys t u bytes middle rest old between new first second = record {
-  laid = laid-join bytes middle rest xs ys first.laid second.laid;
-  appended = second.appended ∙ ap (λ (x : List ℕ). x ++ u) first.appended ∙ append_assoc old t u;
-}
+-- a token of one byte
+pub laid-mark : (mark : ℕ) (one : Token) (bytes rest : List ℕ) → Spells one (mark ∷ []) → ((byte : ℕ) → MayFollow one (mark ∷ []) byte) → bytes ≡ mark ∷ rest → LaidBefore bytes (one ∷ []) rest
+laid-mark mark one bytes rest spells any e = ([], mark ∷ [], rest, e, ([], tt, refl), spells, followed-any one (mark ∷ []) rest any, refl)
 
-pub takes-mark : (mark : ℕ) (one : Token) (bytes rest old new : List ℕ) → Spells one (mark ∷ []) → ((byte : ℕ) → MayFollow one (mark ∷ []) byte) → TakesMark mark bytes rest old new → Takes (one ∷ []) (mark ∷ []) bytes rest old new
-takes-mark mark one bytes rest old new spells any h = record {
-  laid = laid-next mark one bytes rest spells any (h.passes.gap, h.passes.bytes_are, h.passes.is_gap);
-  appended = h.appended;
-}
+-- a token of one byte, behind separators
+pub laid-next : (mark : ℕ) (one : Token) (bytes rest : List ℕ) → Spells one (mark ∷ []) → ((byte : ℕ) → MayFollow one (mark ∷ []) byte) → PassesDelimiter mark bytes rest → LaidBefore bytes (one ∷ []) rest
+laid-next mark one bytes rest spells any (gap, e, separates) = (gap, mark ∷ [], rest, e, separates, spells, followed-any one (mark ∷ []) rest any, refl)
 
-pub takes-leaf : (bytes front rest : List ℕ) (count : ℕ) (one : Token) (old new : List ℕ) → PassesSeparators bytes front → rest ≡ drop count front → Transcribes front count one old new → Takes (one ∷ []) (spelling one) bytes rest old new
-takes-leaf bytes front rest count one old new passes is h = record {
-  laid = (passes.gap, take count front, drop count front, passes.bytes_are ∙ ap (λ (x : List ℕ). passes.gap ++ x) (sym (take-append-drop count front)), passes.is_gap, h.stands.spells, h.stands.followed, sym is);
-  appended = h.appended;
-}
+-- a byte that stands behind separators
+pub mark-passed : (mark : ℕ) (bytes inside rest old new : List ℕ) → PassesSeparators bytes inside → (inside ≡ mark ∷ rest) × (new ≡ old ++ mark ∷ []) → PassesDelimiter mark bytes rest × (new ≡ old ++ mark ∷ [])
+mark-passed mark bytes inside rest old new passes (first, is) = ((passes.gap, passes.bytes_are ∙ ap (λ (x : List ℕ). passes.gap ++ x) first, passes.is_gap), is)
 
-pub mark-behind : (mark : ℕ) (bytes front rest old new : List ℕ) → PassesSeparators bytes front → (front ≡ mark ∷ rest) × (new ≡ old ++ mark ∷ []) → TakesMark mark bytes rest old new
-mark-behind mark bytes front rest old new passes (is, appended) = record { passes = subst (PassesSeparators bytes) is passes; appended = appended }
+-- tokens behind others
+pub laid-join : (bytes middle rest : List ℕ) (ts us : List Token) → LaidBefore bytes ts middle → LaidBefore middle us rest → LaidBefore bytes (ts ++ us) rest
+laid-join bytes middle rest [] us e more = subst (λ (x : List ℕ). LaidBefore x us rest) (sym e) more
+laid-join bytes middle rest (t ∷ ts) us (gap, spelling, behind, e, separates, spells, followed, laid) more = (gap, spelling, behind, e, separates, spells, followed, laid-join behind middle rest ts us laid more)
 
--- ---- the parts of an instance
+-- tokens in parentheses
+pub laid-enclosed : (bytes inside behind rest : List ℕ) (ts : List Token) → PassesDelimiter 40 bytes inside → LaidBefore inside ts behind → PassesDelimiter 41 behind rest → LaidBefore bytes (token.left ∷ (ts ++ (token.right ∷ []))) rest
+laid-enclosed bytes inside behind rest ts opening laid close =
+    laid-join bytes inside rest (token.left ∷ []) (ts ++ (token.right ∷ [])) (laid-next 40 token.left bytes inside refl (λ byte. tt) opening)
+    (laid-join inside behind rest ts (token.right ∷ []) laid (laid-next 41 token.right behind rest refl (λ byte. tt) close))
 
-pub head-taken : (bytes front behind rest : List ℕ) (count n : ℕ) (old middle new : List ℕ) → PassesSeparators bytes front → behind ≡ drop count front → Transcribes front count (token.name n) old middle → TakesMark 61 behind rest middle new
-    → Takes (token.name n ∷ token.equals ∷ []) (name_spelling n ++ 61 ∷ []) bytes rest old new
-head-taken bytes front behind rest count n old middle new passes is leaf mark =
-    takes-join (token.name n ∷ []) (token.equals ∷ []) (name_spelling n) (61 ∷ []) bytes behind rest old middle new (takes-leaf bytes front behind count (token.name n) old middle passes is leaf) (takes-mark 61 token.equals behind rest middle new refl (λ byte. tt) mark)
+-- tokens leave no more bytes
+pub laid-shorter : (bytes rest : List ℕ) (ts : List Token) → LaidBefore bytes ts rest → length rest ≤ length bytes
+laid-shorter bytes rest [] e = omega (arith, ap length e)
+laid-shorter bytes rest (t ∷ ts) (gap, spelling, behind, e, separates, spells, followed, laid) = omega (arith, ap length e, length-append gap (spelling ++ behind), length-append spelling behind, laid-shorter behind rest ts laid)
 
-pub entity-taken : (s : Schema) (e : ℕ) (word bytes front rest old new : List ℕ) → PassesSeparators bytes front → rest ≡ drop (length word) front → Transcribes front (length word) (token.keyword word) old new → EntityNamed s e word → TakesEntity s e bytes rest old new
-entity-taken s e word bytes front rest old new passes is leaf named = (word, named, takes-leaf bytes front rest (length word) (token.keyword word) old new passes is leaf)
+-- ---- tokens behind separators
 
-pub end-taken : (bytes closed rest old middle new : List ℕ) → TakesMark 41 bytes closed old middle → TakesMark 59 closed rest middle new → Takes (token.right ∷ token.semicolon ∷ []) (41 ∷ 59 ∷ []) bytes rest old new
-end-taken bytes closed rest old middle new first second =
-    takes-join (token.right ∷ []) (token.semicolon ∷ []) (41 ∷ []) (59 ∷ []) bytes closed rest old middle new (takes-mark 41 token.right bytes closed old middle refl (λ byte. tt) first) (takes-mark 59 token.semicolon closed rest middle new refl (λ byte. tt) second)
+separated : (gap other : List ℕ) → IsSeparatorText gap → IsSeparatorText other → IsSeparatorText (gap ++ other)
+separated gap other (ss, each, is) (ts, more, same) =
+    (ss ++ ts, Each-append IsSeparator ss ts each more, ap (λ (l : List ℕ). l ++ other) is ∙ (ap (λ (l : List ℕ). flat_map separator_bytes ss ++ l) same ∙ sym (flat_map-append separator_bytes ss ts)))
+
+laid-behind : (bytes middle rest : List ℕ) (t : Token) (ts : List Token) → PassesSeparators bytes middle → LaidBefore middle (t ∷ ts) rest → LaidBefore bytes (t ∷ ts) rest
+laid-behind bytes middle rest t ts passes (gap, spelling, behind, e, separates, spells, followed, laid) =
+    (passes.gap ++ gap, spelling, behind, passes.bytes_are ∙ (ap (λ (x : List ℕ). passes.gap ++ x) e ∙ sym (append_assoc passes.gap gap (spelling ++ behind))), separated passes.gap gap passes.is_gap separates, spells, followed, laid)
+
+-- a parameter has a first token
+first-token : (p : Param) → (t : Token) × (ts : List Token) × (param_tokens p ≡ t ∷ ts)
+first-token dollar = (token.dollar, [], refl)
+first-token star = (token.star, [], refl)
+first-token (whole z) = (token.whole z, [], refl)
+first-token (real d) = (token.real d, [], refl)
+first-token (text chars) = (token.text chars, [], refl)
+first-token (name n) = (token.name n, [], refl)
+first-token (item word) = (token.item word, [], refl)
+first-token (bits bs) = (token.bits bs, [], refl)
+first-token (list ps) = (token.left, params_tokens ps ++ (token.right ∷ []), refl)
+first-token (typed key p) = (key_token key, token.left ∷ (param_tokens p ++ (token.right ∷ [])), refl)
+
+pub param-behind : (bytes middle rest : List ℕ) (p : Param) → PassesSeparators bytes middle → LaidBefore middle (param_tokens p) rest → LaidBefore bytes (param_tokens p) rest
+param-behind bytes middle rest p passes laid =
+    let (t, ts, is) = first-token p in
+    subst (λ (x : List Token). LaidBefore bytes x rest) (sym is) (laid-behind bytes middle rest t ts passes (subst (λ (x : List Token). LaidBefore middle x rest) is laid))

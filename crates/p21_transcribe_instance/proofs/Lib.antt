@@ -1,5 +1,14 @@
-pub mod Joining
+pub mod Steps
+pub mod Words
+pub mod ArrangedElements
+pub mod Distinct
+pub mod Elements
 pub mod Laid
+pub mod Scalars
+pub mod Typed
+pub mod Values
+pub mod Joining
+pub mod LaidRuns
 pub mod Meaning
 pub mod Plain
 pub mod Rows

@@ -11,7 +11,7 @@ use Rattle.p21_claim_values.proofs.Needs.{AreServed, needs-can_be_served, served
 use Rattle.p21_claim_values.proofs.OfType.{AreWritten}
 use Rattle.p21_claim_values.proofs.Printing.{canonical-same_typed, canonical_typed, means-with, part-plain, part-said}
 use Rattle.p21_claim_values.proofs.RecordOnce.{part-written}
-use Rattle.p21_claim_values.specs.Needs.{FitPlacesWith, MeansWith, RecordNeeds}
+use Rattle.p21_claim_values.specs.Needs.{FitPlacesWithNeeds, MeansWithNeeds, AreNeedsOfRecord}
 use Rattle.p21_claim_values.specs.Written.{IsSpelled, IsWrittenStatement}
 use Rattle.p21_exchange.specs.CanonicalText.{statement_text}
 use Rattle.p21_exchange.specs.Grammar.{IsDataRecord}
@@ -23,41 +23,41 @@ use Rattle.p21_exchange.specs.Spelling.{name_spelling}
 use Rattle.p21_exchange.specs.Statement.{instance, statement_tokens}
 use Rattle.p21_exchange.specs.Token as token
 use Rattle.p21_exchange.specs.Token.{Token}
-use Rattle.p21_express_tables.proofs.OrderTables.{order-tells}
-use Rattle.p21_express_tables.specs.Resolved.{HoldsTogether, IsEntity}
-use Rattle.p21_express_tables.specs.Rising.{HaveSame, IsOwnRising}
+use Rattle.p21_express_graph.proofs.OrderTables.{order-tells}
+use Rattle.p21_express_graph.specs.Resolved.{HoldsTogether, IsEntity}
+use Rattle.p21_express_graph.specs.Rising.{HaveSame, IsOwnRising}
 use Rattle.p21_files.proofs.SameFiles.{SameTyped-symmetric}
 use Rattle.p21_files.specs.CanonicalRecord.{AreCanonicalAt}
-use Rattle.p21_files.specs.Kept.{IsInstanceText}
+use Rattle.p21_files.specs.CanonicalTexts.{IsInstanceText}
 use Rattle.p21_files.specs.Meaning.{FitPlaces, NamesEntity, RecordMeans, Typed}
-use Rattle.p21_files.specs.Reference.{Kinds, Need}
-use Rattle.p21_mapping_sets.proofs.OwnSets.{own-passes, type-same}
-use Rattle.p21_mapping_sets.proofs.Shapes.{simple-no_leaf}
+use Rattle.p21_files.specs.Reference.{EntitySets, Need}
+use Rattle.p21_mapping.proofs.OwnSets.{own-passes, type-same}
+use Rattle.p21_mapping.proofs.Shapes.{simple-no_leaf}
 use Rattle.p21_mapping_values.specs.declared.need.Need as code
 use Rattle.p21_schemas.proofs.OrderedOnce.{order-distinct}
 use Rattle.p21_schemas.specs.Order.{order, places}
 use Rattle.p21_schemas.specs.Schema.{EntityNamed, Place, Schema}
 use Rattle.p21_schemas.specs.Supertype.{IsA}
 use Rattle.p21_schemas.specs.WellFormed.{IsWellFormed}
-use Rattle.p21_transcribe_instance.proofs.Laid.{laid-spelled, takes-join}
+use Rattle.p21_transcribe_instance.proofs.LaidRuns.{laid-spelled, takes-join}
 use Rattle.p21_transcribe_instance.proofs.Plain.{placed-plain}
 use Rattle.p21_transcribe_instance.proofs.Rows.{HasMeaning, has-meaning}
 use Rattle.p21_transcribe_instance.proofs.Texts.{AreMeant, canonical-fit, canonical-spelled, canonical-stand, canonical_at, line-is}
 use Rattle.p21_transcribe_instance.specs.Instance.{TakesInstance}
-use Rattle.p21_transcribe_instance.specs.Taking.{IsPlaced, Placed, Takes, TakesEntity, TakesSteps, body_text, body_tokens, needs_at, params_at, places_at, texts_at}
-use Rattle.p21_transcribe_plan.specs.Steps.{AreStepsAt, MayStandAlone}
-use Rattle.p21_transcribe_plan.specs.declared.step.Step.{Step}
-use Rattle.p21_transcribe_values.specs.Taken.{LaidBefore}
+use Rattle.p21_transcribe_instance.specs.TakenParameters.{IsPlacedParameter, PlacedParameter, TakesTokens, TakesEntity, TakesSteps, body_text, body_tokens, needs_at, params_at, places_at, texts_at}
+use Rattle.p21_transcribe_instance.specs.Steps.{AreStepsAt, MayStandAlone}
+use Rattle.p21_transcribe_instance.specs.declared.step.Step.{Step}
+use Rattle.p21_transcribe_instance.specs.TakenValues.{LaidBefore}
 
-pub fit-with : (s : Schema) (m : Typed) (ps : List Placed) → Each (IsPlaced s m.entities) ps → AreMeant m ps → FitPlacesWith s m (places_at ps) (params_at ps) (needs_at ps)
+pub fit-with : (s : Schema) (m : Typed) (ps : List PlacedParameter) → Each (IsPlacedParameter s m.entities) ps → AreMeant m ps → FitPlacesWithNeeds s m (places_at ps) (params_at ps) (needs_at ps)
 fit-with s m [] each has = refl
 fit-with s m (p ∷ ps) each has = (p.needs, needs_at ps, refl, (each.0.at, p.value, each.0.type_at, each.0.fits, has.0), fit-with s m ps each.1 has.1)
 
-pub all-shallow : (s : Schema) (entities : List ℕ) (ps : List Placed) → Each (IsPlaced s entities) ps → IsShallow (params_at ps)
+pub all-shallow : (s : Schema) (entities : List ℕ) (ps : List PlacedParameter) → Each (IsPlacedParameter s entities) ps → IsShallow (params_at ps)
 all-shallow s entities [] each = omega arith
 all-shallow s entities (p ∷ ps) each = let first = each.0.shallow in let more = all-shallow s entities ps each.1 in omega (arith, first, more)
 
-module _ (s : Schema) (formed : IsWellFormed s) (holds : HoldsTogether s) (e : ℕ) (is : IsEntity s e) (may : MayStandAlone s e) (word : List ℕ) (named : EntityNamed s e word) (ps : List Placed) (placed : Each (IsPlaced s (order s e)) ps) (at_places : places_at ps ≡ places s e) (set : List ℕ) (set-is : IsOwnRising s e set) where
+module _ (s : Schema) (formed : IsWellFormed s) (holds : HoldsTogether s) (e : ℕ) (is : IsEntity s e) (may : MayStandAlone s e) (word : List ℕ) (named : EntityNamed s e word) (ps : List PlacedParameter) (placed : Each (IsPlacedParameter s (order s e)) ps) (at_places : places_at ps ≡ places s e) (set : List ℕ) (set-is : IsOwnRising s e set) where
   same : HaveSame (order s e) set
   same = set-is.0
 
@@ -67,8 +67,8 @@ module _ (s : Schema) (formed : IsWellFormed s) (holds : HoldsTogether s) (e : �
   abbrev meant : Typed
   meant = record { entities = set; values = values.values }
 
-  in_set : Each (IsPlaced s set) ps
-  in_set = Each-weaker (IsPlaced s (order s e)) (IsPlaced s set) (λ p here. record { at = here.at; type_at = type-same s (order s e) set same p.place here.at here.type_at; fits = here.fits; shallow = here.shallow }) ps placed
+  in_set : Each (IsPlacedParameter s set) ps
+  in_set = Each-weaker (IsPlacedParameter s (order s e)) (IsPlacedParameter s set) (λ p here. record { at = here.at; type_at = type-same s (order s e) set same p.place here.at here.type_at; fits = here.fits; shallow = here.shallow }) ps placed
 
   abbrev own : Part
   own = record { key = key_of word; params = params_at ps }
@@ -79,13 +79,13 @@ module _ (s : Schema) (formed : IsWellFormed s) (holds : HoldsTogether s) (e : �
   closure : (f : ℕ) → Contains set f ↔ IsA s e f
   closure f = (λ among. (order-tells s holds e f).0 ((same f).1 among), λ up. (same f).0 ((order-tells s holds e f).1 up))
 
-  fit : FitPlacesWith s meant (places s e) (params_at ps) (needs_at ps)
-  fit = subst (λ (xs : List Place). FitPlacesWith s meant xs (params_at ps) (needs_at ps)) at_places (fit-with s meant ps in_set values.each)
+  fit : FitPlacesWithNeeds s meant (places s e) (params_at ps) (needs_at ps)
+  fit = subst (λ (xs : List Place). FitPlacesWithNeeds s meant xs (params_at ps) (needs_at ps)) at_places (fit-with s meant ps in_set values.each)
 
-  needs-are : RecordNeeds s (simple own) meant (needs_at ps)
+  needs-are : AreNeedsOfRecord s (simple own) meant (needs_at ps)
   needs-are = (e, names, fit)
 
-  served : (kinds : Kinds) × AreServed s kinds (needs_at ps)
+  served : (kinds : EntitySets) × AreServed s kinds (needs_at ps)
   served = needs-can_be_served s (simple own) meant (needs_at ps) needs-are
 
   record-means : RecordMeans s served.0 (simple own) meant
@@ -100,7 +100,7 @@ module _ (s : Schema) (formed : IsWellFormed s) (holds : HoldsTogether s) (e : �
         means = record { entity = e; named = names; closure = closure; fit = served-places s served.0 meant (places s e) (params_at ps) (needs_at ps) fit served.1 };
       }
 
-  means-so : MeansWith s (simple own) meant (needs_at ps)
+  means-so : MeansWithNeeds s (simple own) meant (needs_at ps)
   means-so = record { kinds = served.0; means = record-means; needs_are = needs-are }
 
   data-record : IsDataRecord (simple own)
@@ -147,12 +147,12 @@ entity-is s e word (x, at, is) = slice_get_within s.entities e x at
 
 -- the parts of an instance one behind the other
 pub instance-taken : (s : Schema) → IsWellFormed s → HoldsTogether s → (n e : ℕ) (entities : List ℕ) → IsOwnRising s e entities → MayStandAlone s e → (steps : List Step) → AreStepsAt s (order s e) (places s e) steps → (bytes keyed behind rest old headed worded new : List ℕ) (before after : List code.Need)
-    → Takes (token.name n ∷ token.equals ∷ []) (name_spelling n ++ 61 ∷ []) bytes keyed old headed → TakesEntity s e keyed behind headed worded → TakesSteps s body_tokens body_text steps behind rest worded new before after → TakesInstance s n entities bytes rest old new before after
+    → TakesTokens (token.name n ∷ token.equals ∷ []) (name_spelling n ++ 61 ∷ []) bytes keyed old headed → TakesEntity s e keyed behind headed worded → TakesSteps s body_tokens body_text steps behind rest worded new before after → TakesInstance s n entities bytes rest old new before after
 instance-taken s formed holds n e entities rising may steps are bytes keyed behind rest old headed worded new before after head (word, named, key) takes =
     let h = takes (order s e) (places s e) are in
-    let ps : List Placed = h.placed in
+    let ps : List PlacedParameter = h.placed in
     let part : Part = record { key = key_of word; params = params_at ps } in
-    let body : Takes (body_tokens (params_at ps)) (body_text (texts_at s ps)) behind rest worded new = record { laid = h.laid; appended = h.text_is } in
+    let body : TakesTokens (body_tokens (params_at ps)) (body_text (texts_at s ps)) behind rest worded new = record { laid = h.laid; appended = h.text_is } in
     let keyword_body = takes-join (token.keyword word ∷ []) (body_tokens (params_at ps)) word (body_text (texts_at s ps)) keyed behind rest headed worded new key body in
     let all = takes-join (token.name n ∷ token.equals ∷ []) (token.keyword word ∷ body_tokens (params_at ps)) (name_spelling n ++ 61 ∷ []) (word ++ body_text (texts_at s ps)) bytes keyed rest old headed new head keyword_body in
     let tokens : token.name n ∷ token.equals ∷ token.keyword word ∷ body_tokens (params_at ps) ≡ statement_tokens (instance n (simple part)) =
@@ -168,7 +168,7 @@ instance-taken s formed holds n e entities rising may steps are bytes keyed behi
       set_is = refl;
       added = h.added;
       needs_are = h.needs_are;
-      means = subst (λ (ns : List Need). MeansWith s (simple part) (meant s formed holds e is may word named ps h.each h.places_are entities rising) ns) h.added_are (means-so s formed holds e is may word named ps h.each h.places_are entities rising);
+      means = subst (λ (ns : List Need). MeansWithNeeds s (simple part) (meant s formed holds e is may word named ps h.each h.places_are entities rising) ns) h.added_are (means-so s formed holds e is may word named ps h.each h.places_are entities rising);
       text = text;
       text_is = text-is s formed holds e is may word named ps h.each h.places_are entities rising n (laid-spelled bytes rest (statement_tokens (instance n (simple part))) laid) text (line-is s n word ps);
       appended = all.appended;

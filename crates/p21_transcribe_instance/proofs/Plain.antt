@@ -3,7 +3,7 @@ use Rattle.std.proofs.Common.{ℕ, Bool, true, false, List, [], ◌∷◌}
 use Rattle.std.specs.List.{AllByRecursion as Each}
 use Rattle.p21_basics.proofs.Members.{Each-append}
 use Rattle.p21_claim_values.proofs.Printing.{ArePlain, IsPlain, part-plain}
-use Rattle.p21_claim_values.specs.Needs.{FitsAtWith, FitsWith, FitEachWith, with_whole, with_real, with_number, with_whole_number, with_boolean, with_logical, with_text, with_binary, with_instance, with_underlying, with_item, with_chosen_instance, with_chosen_type, with_array, with_list, with_set, with_bag, with_none, with_next, with_empty, with_star, with_dollar, with_fit}
+use Rattle.p21_claim_values.specs.Needs.{FitsAtWithNeeds, FitsWithNeeds, FitEachWithNeeds, with_whole, with_real, with_number, with_whole_number, with_boolean, with_logical, with_text, with_binary, with_instance, with_underlying, with_item, with_chosen_instance, with_chosen_type, with_array, with_list, with_set, with_bag, with_none, with_next, with_empty, with_star, with_dollar, with_fit}
 use Rattle.p21_exchange.specs.Grammar.{IsNoUserKeyword}
 use Rattle.p21_exchange.specs.Parameter as parameter
 use Rattle.p21_exchange.specs.Parameter.{Param, Params, key_of, param_tokens}
@@ -13,13 +13,13 @@ use Rattle.p21_files.specs.Value.{Value, Values}
 use Rattle.p21_schemas.specs.PlaceType.{PlaceType}
 use Rattle.p21_schemas.specs.Schema as schema
 use Rattle.p21_schemas.specs.Schema.{Schema, TypeUse}
-use Rattle.p21_transcribe_instance.specs.Taking.{IsPlaced, Placed, params_at}
+use Rattle.p21_transcribe_instance.specs.TakenParameters.{IsPlacedParameter, PlacedParameter, params_at}
 
 list-plain : (ps : Params) → ArePlain ps → IsPlain (parameter.list ps)
 list-plain ps plain = (part-plain (record { key = key_of []; params = ps }) tt plain).1
 
 mutual
-  fits-plain : (s : Schema) (type : TypeUse) (p : Param) (v : Value) (needs : List Need) → FitsWith s type p v needs → IsPlain p
+  fits-plain : (s : Schema) (type : TypeUse) (p : Param) (v : Value) (needs : List Need) → FitsWithNeeds s type p v needs → IsPlain p
   fits-plain s type p v needs (with_whole _) = (tt, tt)
   fits-plain s type p v needs (with_real _) = (tt, tt)
   fits-plain s type p v needs (with_number _) = (tt, tt)
@@ -38,16 +38,16 @@ mutual
   fits-plain s type p v needs (with_set _ _ element ps vs _ each _ _) = list-plain ps (each-plain s false element ps vs needs each)
   fits-plain s type p v needs (with_bag _ _ element ps vs _ each _) = list-plain ps (each-plain s false element ps vs needs each)
 
-  each-plain : (s : Schema) (optional : Bool) (type : TypeUse) (ps : Params) (vs : Values) (needs : List Need) → FitEachWith s optional type ps vs needs → ArePlain ps
+  each-plain : (s : Schema) (optional : Bool) (type : TypeUse) (ps : Params) (vs : Values) (needs : List Need) → FitEachWithNeeds s optional type ps vs needs → ArePlain ps
   each-plain s optional type ps vs needs (with_none _ _) = tt
   each-plain s optional type ps vs needs (with_next _ _ p v ps_ vs_ first more fit each) = (fits-plain s type p v first fit, each-plain s optional type ps_ vs_ more each)
   each-plain s optional type ps vs needs (with_empty _ ps_ vs_ _ each) = ((tt, tt), each-plain s true type ps_ vs_ needs each)
 
-at-plain : (s : Schema) (at : PlaceType) (p : Param) (v : Value) (needs : List Need) → FitsAtWith s at p v needs → IsPlain p
+at-plain : (s : Schema) (at : PlaceType) (p : Param) (v : Value) (needs : List Need) → FitsAtWithNeeds s at p v needs → IsPlain p
 at-plain s at p v needs with_star = (tt, tt)
 at-plain s at p v needs (with_dollar _) = (tt, tt)
 at-plain s at p v needs (with_fit _ type _ _ _ fit) = fits-plain s type p v needs fit
 
-pub placed-plain : (s : Schema) (entities : List ℕ) (ps : List Placed) → Each (IsPlaced s entities) ps → ArePlain (params_at ps)
+pub placed-plain : (s : Schema) (entities : List ℕ) (ps : List PlacedParameter) → Each (IsPlacedParameter s entities) ps → ArePlain (params_at ps)
 placed-plain s entities [] each = tt
 placed-plain s entities (p ∷ ps) each = (at-plain s each.0.at p.parameter p.value p.needs each.0.fits, placed-plain s entities ps each.1)

@@ -3,7 +3,7 @@ use Rattle.std.proofs.Common.{◌≡◌, ◌∙◌, ℕ, zero, suc, ◌+◌, ◌
 use Rattle.std.proofs.lemmas.Grind.{flat_map-append}
 use Rattle.std.proofs.lemmas.List.{append-nil, map-append, take_more}
 use Rattle.p21_basics.proofs.Members.{Each-append}
-use Rattle.p21_claim_values.specs.Needs.{FitsAtWith}
+use Rattle.p21_claim_values.specs.Needs.{FitsAtWithNeeds}
 use Rattle.p21_exchange.specs.Parameter.{Params, no_params, more_tokens, param_tokens, params_tokens}
 use Rattle.p21_exchange.specs.Spelling.{spelling}
 use Rattle.p21_exchange.specs.Token as token
@@ -16,18 +16,18 @@ use Rattle.p21_schemas.specs.Order.{order, places}
 use Rattle.p21_schemas.specs.PlaceType.{PlaceType, TypeAt}
 use Rattle.p21_schemas.specs.Schema.{Place, Schema}
 use Rattle.p21_transcribe.specs.Gaps.{PassesSeparators}
-use Rattle.p21_transcribe.specs.Leaf.{Transcribes}
-use Rattle.p21_transcribe_instance.proofs.Laid.{takes-join, takes-mark}
-use Rattle.p21_transcribe_instance.specs.Taking.{AreStepsIn, IsPlaced, Placed, Takes, TakesEntity, TakesMark, TakesPlaces, TakesSteps, body_text, body_tokens, needs_at, params_at, texts_at}
-use Rattle.p21_transcribe_plan.specs.Steps.{AreStepsAt, IsStepAt, IsStepIn, Says}
-use Rattle.p21_transcribe_plan.specs.declared.step.Step.{Step}
-use Rattle.p21_transcribe_values.proofs.Laid.{laid-join, param-behind}
-use Rattle.p21_transcribe_values.specs.Taken.{KeepsNeeds, LaidBefore, TakesWithNeeds}
+use Rattle.p21_transcribe.specs.LeadingToken.{Transcribes}
+use Rattle.p21_transcribe_instance.proofs.LaidRuns.{takes-join, takes-mark}
+use Rattle.p21_transcribe_instance.specs.TakenParameters.{AreStepsIn, IsPlacedParameter, PlacedParameter, TakesTokens, TakesEntity, TakesDelimiter, TakesPlaces, TakesSteps, body_text, body_tokens, needs_at, params_at, texts_at}
+use Rattle.p21_transcribe_instance.specs.Steps.{AreStepsAt, IsStepAt, IsStepForSome, IsStepFor}
+use Rattle.p21_transcribe_instance.specs.declared.step.Step.{Step}
+use Rattle.p21_transcribe_instance.proofs.Laid.{laid-join, param-behind}
+use Rattle.p21_transcribe_instance.specs.TakenValues.{KeepsNeeds, LaidBefore, TakesWithNeeds}
 use Rattle.p21_values.specs.Canonical.{Continues}
 
 -- ---- steps
 
-pub first-in : (s : Schema) (step : Step) (steps : List Step) → AreStepsIn s (step ∷ steps) → IsStepIn s step
+pub first-in : (s : Schema) (step : Step) (steps : List Step) → AreStepsIn s (step ∷ steps) → IsStepForSome s step
 first-in s step steps (entities, [], are) = absurd are
 first-in s step steps (entities, (place ∷ places), are) = let (at, type_at, says) = are.0 in (at, says)
 
@@ -35,9 +35,9 @@ pub others-in : (s : Schema) (step : Step) (steps : List Step) → AreStepsIn s 
 others-in s step steps (entities, [], are) = absurd are
 others-in s step steps (entities, (place ∷ places), are) = (entities, places, are.1)
 
-pub each-in : (s : Schema) (steps : List Step) (k : ℕ) (x : Step) → x ≡ get_or steps k x → k < length steps → AreStepsIn s steps → IsStepIn s x
+pub each-in : (s : Schema) (steps : List Step) (k : ℕ) (x : Step) → x ≡ get_or steps k x → k < length steps → AreStepsIn s steps → IsStepForSome s x
 each-in s [] k x is below are = absurd (omega (arith, below))
-each-in s (step ∷ steps) zero x is below are = subst (IsStepIn s) (sym is) (first-in s step steps are)
+each-in s (step ∷ steps) zero x is below are = subst (IsStepForSome s) (sym is) (first-in s step steps are)
 each-in s (step ∷ steps) (suc k) x is below are = each-in s steps k x is (omega (arith, below)) (others-in s step steps are)
 
 pub row-in : (s : Schema) (e : ℕ) (steps : List Step) → AreStepsAt s (order s e) (places s e) steps → AreStepsIn s steps
@@ -83,7 +83,7 @@ no-steps s tokens_of text_of steps bytes old needs no_tokens no_text none entiti
     no_places (x ∷ xs) ps none_ are_ = absurd (omega (arith, none_))
 
 -- one and then others
-pub first-places : (s : Schema) (entities : List ℕ) (place : Place) (at : PlaceType) (places : List Place) (bytes middle rest old between new : List ℕ) (before among after : List Need) → TypeAt s entities place at → TakesWithNeeds s (FitsAtWith s at) 64 bytes middle old between before among
+pub first-places : (s : Schema) (entities : List ℕ) (place : Place) (at : PlaceType) (places : List Place) (bytes middle rest old between new : List ℕ) (before among after : List Need) → TypeAt s entities place at → TakesWithNeeds s (FitsAtWithNeeds s at) 64 bytes middle old between before among
     → TakesPlaces s entities more_tokens with_commas places middle rest between new among after → TakesPlaces s entities params_tokens with_commas_between (place ∷ places) bytes rest old new before after
 first-places s entities place at places bytes middle rest old between new before among after type_at h more = record {
   placed = record { place = place; parameter = h.takes.parameter; value = h.takes.value; needs = map need_view h.added } ∷ more.placed;
@@ -96,7 +96,7 @@ first-places s entities place at places bytes middle rest old between new before
   text_is = more.text_is ∙ ap (λ (x : List ℕ). x ++ with_commas (texts_at s more.placed)) h.takes.text_is ∙ append_assoc old (value_text s h.takes.value) (with_commas (texts_at s more.placed));
 }
 
-more_tokens-push : (ps : List Placed) (p : Placed) → more_tokens (params_at (ps ++ p ∷ [])) ≡ more_tokens (params_at ps) ++ (token.comma ∷ param_tokens p.parameter)
+more_tokens-push : (ps : List PlacedParameter) (p : PlacedParameter) → more_tokens (params_at (ps ++ p ∷ [])) ≡ more_tokens (params_at ps) ++ (token.comma ∷ param_tokens p.parameter)
 more_tokens-push [] p = ap (λ (ts : List Token). token.comma ∷ ts) (append-nil (param_tokens p.parameter))
 more_tokens-push (x ∷ ps) p =
     ap (λ (ts : List Token). token.comma ∷ (param_tokens x.parameter ++ ts)) (more_tokens-push ps p) ∙ ap (λ (ts : List Token). token.comma ∷ ts) (sym (append_assoc (param_tokens x.parameter) (more_tokens (params_at ps)) (token.comma ∷ param_tokens p.parameter)))
@@ -107,33 +107,33 @@ with_commas-push (u ∷ ts) t = ap (λ (x : List ℕ). 44 ∷ (u ++ x)) (with_co
 
 -- others and then one more, behind a comma
 pub next-places : (s : Schema) (entities : List ℕ) (place : Place) (at : PlaceType) (places : List Place) (bytes middle behind rest old between comma new : List ℕ) (before among after : List Need) → TypeAt s entities place at
-    → TakesPlaces s entities more_tokens with_commas places bytes middle old between before among → TakesMark 44 middle behind between comma → TakesWithNeeds s (FitsAtWith s at) 64 behind rest comma new among after
+    → TakesPlaces s entities more_tokens with_commas places bytes middle old between before among → TakesDelimiter 44 middle behind between comma → TakesWithNeeds s (FitsAtWithNeeds s at) 64 behind rest comma new among after
     → TakesPlaces s entities more_tokens with_commas (places ++ place ∷ []) bytes rest old new before after
 next-places s entities place at places bytes middle behind rest old between comma new before among after type_at front mark h =
-    let p : Placed = record { place = place; parameter = h.takes.parameter; value = h.takes.value; needs = map need_view h.added } in
-    let marked : Takes (token.comma ∷ []) (44 ∷ []) middle behind between comma = takes-mark 44 token.comma middle behind between comma refl (λ byte. tt) mark in
-    let valued : Takes (param_tokens h.takes.parameter) (value_text s h.takes.value) behind rest comma new = record { laid = h.takes.laid; appended = h.takes.text_is } in
-    let joined : Takes (token.comma ∷ param_tokens h.takes.parameter) (44 ∷ value_text s h.takes.value) middle rest between new =
+    let p : PlacedParameter = record { place = place; parameter = h.takes.parameter; value = h.takes.value; needs = map need_view h.added } in
+    let marked : TakesTokens (token.comma ∷ []) (44 ∷ []) middle behind between comma = takes-mark 44 token.comma middle behind between comma refl (λ byte. tt) mark in
+    let valued : TakesTokens (param_tokens h.takes.parameter) (value_text s h.takes.value) behind rest comma new = record { laid = h.takes.laid; appended = h.takes.text_is } in
+    let joined : TakesTokens (token.comma ∷ param_tokens h.takes.parameter) (44 ∷ value_text s h.takes.value) middle rest between new =
     takes-join (token.comma ∷ []) (param_tokens h.takes.parameter) (44 ∷ []) (value_text s h.takes.value) middle behind rest between comma new marked valued in
-    let opened : Takes (more_tokens (params_at front.placed)) (with_commas (texts_at s front.placed)) bytes middle old between = record { laid = front.laid; appended = front.text_is } in
+    let opened : TakesTokens (more_tokens (params_at front.placed)) (with_commas (texts_at s front.placed)) bytes middle old between = record { laid = front.laid; appended = front.text_is } in
     let all = takes-join (more_tokens (params_at front.placed)) (token.comma ∷ param_tokens h.takes.parameter) (with_commas (texts_at s front.placed)) (44 ∷ value_text s h.takes.value) bytes middle rest old between new opened joined in
     record {
       placed = front.placed ++ p ∷ [];
-      each = Each-append (IsPlaced s entities) front.placed (p ∷ []) front.each (record { at = at; type_at = type_at; fits = h.takes.fits; shallow = h.takes.shallow }, tt);
-      places_are = map-append (λ (x : Placed). x.place) front.placed (p ∷ []) ∙ ap (λ (ps : List Place). ps ++ place ∷ []) front.places_are;
+      each = Each-append (IsPlacedParameter s entities) front.placed (p ∷ []) front.each (record { at = at; type_at = type_at; fits = h.takes.fits; shallow = h.takes.shallow }, tt);
+      places_are = map-append (λ (x : PlacedParameter). x.place) front.placed (p ∷ []) ∙ ap (λ (ps : List Place). ps ++ place ∷ []) front.places_are;
       added = front.added ++ h.added;
       needs_are = h.needs_are ∙ ap (λ (ns : List Need). ns ++ h.added) front.needs_are ∙ append_assoc before front.added h.added;
-      added_are = flat_map-append (λ (x : Placed). x.needs) front.placed (p ∷ []) ∙ ap (λ (ns : List meant.Need). needs_at front.placed ++ ns) (append-nil (map need_view h.added))
+      added_are = flat_map-append (λ (x : PlacedParameter). x.needs) front.placed (p ∷ []) ∙ ap (λ (ns : List meant.Need). needs_at front.placed ++ ns) (append-nil (map need_view h.added))
           ∙ ap (λ (ns : List meant.Need). ns ++ map need_view h.added) front.added_are ∙ sym (map-append need_view front.added h.added);
       laid = subst (λ (ts : List Token). LaidBefore bytes ts rest) (sym (more_tokens-push front.placed p)) all.laid;
-      text_is = all.appended ∙ ap (λ (x : List ℕ). old ++ x) (sym (with_commas-push (texts_at s front.placed) (value_text s h.takes.value)) ∙ ap with_commas (sym (map-append (λ (x : Placed). value_text s x.value) front.placed (p ∷ []))));
+      text_is = all.appended ∙ ap (λ (x : List ℕ). old ++ x) (sym (with_commas-push (texts_at s front.placed) (value_text s h.takes.value)) ∙ ap with_commas (sym (map-append (λ (x : PlacedParameter). value_text s x.value) front.placed (p ∷ []))));
     }
 
 -- ---- steps one behind the other
 
 -- the value of a step
 abbrev pub TakesStep : Schema → Step → List ℕ → List ℕ → List ℕ → List ℕ → List Need → List Need → Type 0
-TakesStep s step bytes rest old new before after = (at : PlaceType) → Says s at step → TakesWithNeeds s (FitsAtWith s at) 64 bytes rest old new before after
+TakesStep s step bytes rest old new before after = (at : PlaceType) → IsStepFor s at step → TakesWithNeeds s (FitsAtWithNeeds s at) 64 bytes rest old new before after
 
 -- behind separators
 pub step-behind : (s : Schema) (step : Step) (bytes front rest old new : List ℕ) (before after : List Need) → PassesSeparators bytes front → TakesStep s step front rest old new before after → TakesStep s step bytes rest old new before after
@@ -154,7 +154,7 @@ first-steps s all step steps bytes middle rest old between new before among afte
     by (place ∷ ps) ((at, type_at, says), rest_are) = first-places s entities place at ps bytes middle rest old between new before among after type_at (takes at says) (more entities ps rest_are)
 
 pub next-steps : (s : Schema) (all steps : List Step) (step : Step) (bytes middle behind rest old between comma new : List ℕ) (before among after : List Need) → all ≡ steps ++ step ∷ [] → TakesSteps s more_tokens with_commas steps bytes middle old between before among
-    → TakesMark 44 middle behind between comma → TakesStep s step behind rest comma new among after → TakesSteps s more_tokens with_commas all bytes rest old new before after
+    → TakesDelimiter 44 middle behind between comma → TakesStep s step behind rest comma new among after → TakesSteps s more_tokens with_commas all bytes rest old new before after
 next-steps s all steps step bytes middle behind rest old between comma new before among after is front mark takes entities places are =
     let last = has-last s entities places steps step (subst (AreStepsAt s entities places) is are) in
     let (at, type_at, says) = last.last_is in
@@ -162,14 +162,14 @@ next-steps s all steps step bytes middle behind rest old between comma new befor
     (next-places s entities last.last at last.front bytes middle behind rest old between comma new before among after type_at (front entities last.front last.steps_are) mark (takes at says))
 
 -- in their parentheses
-pub enclosed : (s : Schema) (steps : List Step) (bytes inside behind rest old opened between new : List ℕ) (before after : List Need) → TakesMark 40 bytes inside old opened → TakesSteps s params_tokens with_commas_between steps inside behind opened between before after
-    → Takes (token.right ∷ token.semicolon ∷ []) (41 ∷ 59 ∷ []) behind rest between new → TakesSteps s body_tokens body_text steps bytes rest old new before after
+pub enclosed : (s : Schema) (steps : List Step) (bytes inside behind rest old opened between new : List ℕ) (before after : List Need) → TakesDelimiter 40 bytes inside old opened → TakesSteps s params_tokens with_commas_between steps inside behind opened between before after
+    → TakesTokens (token.right ∷ token.semicolon ∷ []) (41 ∷ 59 ∷ []) behind rest between new → TakesSteps s body_tokens body_text steps bytes rest old new before after
 enclosed s steps bytes inside behind rest old opened between new before after mark takes ended entities places are =
     let h = takes entities places are in
     let ts : List Token = params_tokens (params_at h.placed) in
     let t : List ℕ = with_commas_between (texts_at s h.placed) in
-    let open_ : Takes (token.left ∷ []) (40 ∷ []) bytes inside old opened = takes-mark 40 token.left bytes inside old opened refl (λ byte. tt) mark in
-    let params : Takes ts t inside behind opened between = record { laid = h.laid; appended = h.text_is } in
+    let open_ : TakesTokens (token.left ∷ []) (40 ∷ []) bytes inside old opened = takes-mark 40 token.left bytes inside old opened refl (λ byte. tt) mark in
+    let params : TakesTokens ts t inside behind opened between = record { laid = h.laid; appended = h.text_is } in
     let closed = takes-join ts (token.right ∷ token.semicolon ∷ []) t (41 ∷ 59 ∷ []) inside behind rest opened between new params ended in
     let all = takes-join (token.left ∷ []) (ts ++ (token.right ∷ token.semicolon ∷ [])) (40 ∷ []) (t ++ (41 ∷ 59 ∷ [])) bytes inside rest old opened new open_ closed in
     record { placed = h.placed; each = h.each; places_are = h.places_are; added = h.added; needs_are = h.needs_are; added_are = h.added_are; laid = all.laid; text_is = all.appended }
@@ -186,22 +186,22 @@ needs-join before among after (x, is) (y, is_) = (x ++ y, is_ ∙ ap (λ (ns : L
 abbrev pub GoOn : List ℕ → List ℕ → List Need → List Need → Type 0
 GoOn old new before after = Continues old new × KeepsNeeds before after
 
-pub step-goes_on : (s : Schema) (step : Step) (bytes rest old new : List ℕ) (before after : List Need) → IsStepIn s step → TakesStep s step bytes rest old new before after → GoOn old new before after
+pub step-goes_on : (s : Schema) (step : Step) (bytes rest old new : List ℕ) (before after : List Need) → IsStepForSome s step → TakesStep s step bytes rest old new before after → GoOn old new before after
 step-goes_on s step bytes rest old new before after (at, says) takes = let h = takes at says in ((value_text s h.takes.value, h.takes.text_is), (h.added, h.needs_are))
 
 pub steps-go_on : (s : Schema) (tokens_of : Params → List Token) (text_of : List (List ℕ) → List ℕ) (steps : List Step) (bytes rest old new : List ℕ) (before after : List Need) → AreStepsIn s steps → TakesSteps s tokens_of text_of steps bytes rest old new before after → GoOn old new before after
 steps-go_on s tokens_of text_of steps bytes rest old new before after (entities, places_, are) takes = let h = takes entities places_ are in ((text_of (texts_at s h.placed), h.text_is), (h.added, h.needs_are))
 
-pub mark-goes_on : (mark : ℕ) (bytes rest old new : List ℕ) → TakesMark mark bytes rest old new → Continues old new
+pub mark-goes_on : (mark : ℕ) (bytes rest old new : List ℕ) → TakesDelimiter mark bytes rest old new → Continues old new
 mark-goes_on mark bytes rest old new h = (mark ∷ [], h.appended)
 
-pub takes-goes_on : (tokens : List Token) (text bytes rest old new : List ℕ) → Takes tokens text bytes rest old new → Continues old new
+pub takes-goes_on : (tokens : List Token) (text bytes rest old new : List ℕ) → TakesTokens tokens text bytes rest old new → Continues old new
 takes-goes_on tokens text bytes rest old new h = (text, h.appended)
 
 -- ---- one step more
 
 pub next-step : (s : Schema) (steps : List Step) (k : ℕ) (step : Step) (bytes middle behind rest old between comma new : List ℕ) (before among after : List Need) → step ≡ get_or steps k step → k < length steps → TakesSteps s more_tokens with_commas (take k steps) bytes middle old between before among
-    → TakesMark 44 middle behind between comma → TakesStep s step behind rest comma new among after → TakesSteps s more_tokens with_commas (take (k + 1) steps) bytes rest old new before after
+    → TakesDelimiter 44 middle behind between comma → TakesStep s step behind rest comma new among after → TakesSteps s more_tokens with_commas (take (k + 1) steps) bytes rest old new before after
 next-step s steps k step bytes middle behind rest old between comma new before among after is below front mark takes =
     next-steps s (take (k + 1) steps) (take k steps) step bytes middle behind rest old between comma new before among after (take_more steps k step below ∙ ap (λ (x : Step). take k steps ++ x ∷ []) (sym is)) front mark takes
 

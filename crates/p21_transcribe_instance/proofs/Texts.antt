@@ -19,23 +19,23 @@ use Rattle.p21_exchange.specs.Token.{Token}
 use Rattle.p21_files.specs.CanonicalRecord.{AreCanonicalAt}
 use Rattle.p21_files.specs.Fits.{FitsAt, star, dollar, fits}
 use Rattle.p21_files.specs.Meaning.{FitPlaces, HasValueAt, Typed}
-use Rattle.p21_files.specs.Reference.{Kinds, IsServed}
+use Rattle.p21_files.specs.Reference.{EntitySets, IsServed}
 use Rattle.p21_files.specs.Value.{Value}
 use Rattle.p21_files.specs.ValueText.{value_text, with_commas_between}
 use Rattle.p21_schemas.specs.PlaceType.{PlaceType}
 use Rattle.p21_schemas.specs.Schema.{Schema}
-use Rattle.p21_transcribe_instance.specs.Taking.{IsPlaced, Placed, body_text, needs_at, params_at, places_at, texts_at}
+use Rattle.p21_transcribe_instance.specs.TakenParameters.{IsPlacedParameter, PlacedParameter, body_text, needs_at, params_at, places_at, texts_at}
 
 -- the canonical parameters of the values
-abbrev pub canonical_at : Schema → List Placed → Params
+abbrev pub canonical_at : Schema → List PlacedParameter → Params
 canonical_at s [] = no_params
 canonical_at s (p ∷ ps) = param (canonical_param s p.value) (canonical_at s ps)
 
 -- each value is the one that the meaning has at its place
-abbrev pub AreMeant : Typed → List Placed → Type 0
-AreMeant m ps = Each (λ (p : Placed). HasValueAt m p.place p.value) ps
+abbrev pub AreMeant : Typed → List PlacedParameter → Type 0
+AreMeant m ps = Each (λ (p : PlacedParameter). HasValueAt m p.place p.value) ps
 
-pub canonical-fit : (s : Schema) (kinds : Kinds) (m : Typed) (ps : List Placed) → Each (IsPlaced s m.entities) ps → AreMeant m ps → AreServed s kinds (needs_at ps) → FitPlaces s kinds (canonical_typed s m) (places_at ps) (canonical_at s ps)
+pub canonical-fit : (s : Schema) (kinds : EntitySets) (m : Typed) (ps : List PlacedParameter) → Each (IsPlacedParameter s m.entities) ps → AreMeant m ps → AreServed s kinds (needs_at ps) → FitPlaces s kinds (canonical_typed s m) (places_at ps) (canonical_at s ps)
 canonical-fit s kinds m [] each has served = tt
 canonical-fit s kinds m (p ∷ ps) each has served =
     let fit : FitsAt s kinds each.0.at p.parameter p.value = served-at s kinds each.0.at p.parameter p.value p.needs each.0.fits (Each-front (IsServed s kinds) p.needs (needs_at ps) served) in (
@@ -43,18 +43,18 @@ canonical-fit s kinds m (p ∷ ps) each has served =
       canonical-fit s kinds m ps each.1 has.1 (Each-back (IsServed s kinds) p.needs (needs_at ps) served),
     )
 
-pub canonical-stand : (s : Schema) (m : Typed) (ps : List Placed) → AreMeant m ps → AreCanonicalAt (canonical_typed s m) (places_at ps) (canonical_at s ps)
+pub canonical-stand : (s : Schema) (m : Typed) (ps : List PlacedParameter) → AreMeant m ps → AreCanonicalAt (canonical_typed s m) (places_at ps) (canonical_at s ps)
 canonical-stand s m [] has = tt
 canonical-stand s m (p ∷ ps) has = ((canonical_value s p.value, has-canonical_value s m p.place p.value has.0, canonical-is s p.value), canonical-stand s m ps has.1)
 
 -- ---- spellings
 
-at-written : (s : Schema) (kinds : Kinds) (at : PlaceType) (p : Param) (v : Value) → FitsAt s kinds at p v → IsWritten p → IsWritten (canonical_param s v)
+at-written : (s : Schema) (kinds : EntitySets) (at : PlaceType) (p : Param) (v : Value) → FitsAt s kinds at p v → IsWritten p → IsWritten (canonical_param s v)
 at-written s kinds at p v star written = written
 at-written s kinds at p v (dollar type) written = written
 at-written s kinds at p v (fits optional type _ _ fit) written = canonical-written s type v (fits-of s kinds type p v fit written)
 
-pub canonical-spelled : (s : Schema) (kinds : Kinds) (entities : List ℕ) (ps : List Placed) → Each (IsPlaced s entities) ps → AreServed s kinds (needs_at ps) → AreWritten (params_at ps) → AreWritten (canonical_at s ps)
+pub canonical-spelled : (s : Schema) (kinds : EntitySets) (entities : List ℕ) (ps : List PlacedParameter) → Each (IsPlacedParameter s entities) ps → AreServed s kinds (needs_at ps) → AreWritten (params_at ps) → AreWritten (canonical_at s ps)
 canonical-spelled s kinds entities [] each served written = tt
 canonical-spelled s kinds entities (p ∷ ps) each served written =
     let fit : FitsAt s kinds each.0.at p.parameter p.value = served-at s kinds each.0.at p.parameter p.value p.needs each.0.fits (Each-front (IsServed s kinds) p.needs (needs_at ps) served) in
@@ -62,12 +62,12 @@ canonical-spelled s kinds entities (p ∷ ps) each served written =
 
 -- ---- texts
 
-pub texts-are : (s : Schema) (ps : List Placed) → param_texts (canonical_at s ps) ≡ texts_at s ps
+pub texts-are : (s : Schema) (ps : List PlacedParameter) → param_texts (canonical_at s ps) ≡ texts_at s ps
 texts-are s [] = refl
 texts-are s (p ∷ ps) = ap (λ (x : List ℕ). x ∷ param_texts (canonical_at s ps)) (sym (value_text-is s p.value)) ∙ ap (λ (xs : List (List ℕ)). value_text s p.value ∷ xs) (texts-are s ps)
 
 -- the name, `=`, the keyword, the values in parentheses and `;`
-pub line-is : (s : Schema) (n : ℕ) (word : List ℕ) (ps : List Placed) → (name_spelling n ++ 61 ∷ []) ++ (word ++ body_text (texts_at s ps)) ≡ statement_text (instance n (simple (record { key = key_of word; params = canonical_at s ps })))
+pub line-is : (s : Schema) (n : ℕ) (word : List ℕ) (ps : List PlacedParameter) → (name_spelling n ++ 61 ∷ []) ++ (word ++ body_text (texts_at s ps)) ≡ statement_text (instance n (simple (record { key = key_of word; params = canonical_at s ps })))
 line-is s n word ps =
     let inside : List Token = params_tokens (canonical_at s ps) ++ (token.right ∷ []) in
     let text : List ℕ = with_commas_between (texts_at s ps) in

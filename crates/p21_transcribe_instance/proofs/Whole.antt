@@ -1,4 +1,4 @@
--- An instance whose simple records are those of a usual set means something, and has a canonical text.
+-- An instance whose simple records are those of a set of external mapping means something, and has a canonical text.
 use Rattle.std.proofs.Common.{◌≡◌, ◌∙◌, ℕ, zero, suc, ◌+◌, ◌<◌, false, List, [], ◌∷◌, ◌++◌, length, map, Contains, refl, ap, sym, subst, arith, append_assoc}
 use Rattle.std.proofs.lemmas.List.{length-map, map-append}
 use Rattle.std.specs.Cmp.Lexicographic.{slice_cmp}
@@ -14,7 +14,7 @@ use Rattle.p21_claim_values.proofs.ParamTexts.{list-is, tokens_text-append}
 use Rattle.p21_claim_values.proofs.Printing.{canonical-same_typed, canonical_typed, means-with, part-plain, part-said}
 use Rattle.p21_claim_values.proofs.RecordOnce.{part-written, words}
 use Rattle.p21_claim_values.proofs.Sorting.{below-not_back}
-use Rattle.p21_claim_values.specs.Needs.{FitPlacesWith, MeansWith, PartsNeed}
+use Rattle.p21_claim_values.specs.Needs.{FitPlacesWithNeeds, MeansWithNeeds, AreNeedsOfParts}
 use Rattle.p21_claim_values.specs.Written.{IsSpelled, IsWrittenStatement}
 use Rattle.p21_exchange.specs.CanonicalText.{statement_text, tokens_text}
 use Rattle.p21_exchange.specs.Grammar.{IsDataRecord, IsNoUserKeyword, IsShallowPart}
@@ -27,61 +27,61 @@ use Rattle.p21_exchange.specs.Token as token
 use Rattle.p21_exchange.specs.Token.{Token}
 use Rattle.p21_files.proofs.OneMeaning.{EntityNamed-one}
 use Rattle.p21_files.proofs.SameFiles.{SameTyped-symmetric}
-use Rattle.p21_files.specs.CanonicalRecord.{AreCanonicalAt, AreRising, HasOneLeaf, IsCanonicalPart}
-use Rattle.p21_files.specs.Kept.{IsInstanceText}
+use Rattle.p21_files.specs.CanonicalRecord.{AreCanonicalAt, AreTextsRising, HasOneLeaf, IsCanonicalPart}
+use Rattle.p21_files.specs.CanonicalTexts.{IsInstanceText}
 use Rattle.p21_files.specs.Meaning.{FitPlaces, HasValueAt, MeansExternal, PartMeans, RecordMeans, Typed}
-use Rattle.p21_files.specs.Reference.{IsServed, Kinds, Need}
+use Rattle.p21_files.specs.Reference.{IsServed, EntitySets, Need}
 use Rattle.p21_files.specs.Sorting.{is_below}
 use Rattle.p21_files.specs.ValueText.{with_commas_between}
 use Rattle.p21_mapping_values.specs.declared.need.Need as code
 use Rattle.p21_schemas.specs.Order.{own_places}
 use Rattle.p21_schemas.specs.Schema.{EntityNamed, Place, Schema}
-use Rattle.p21_transcribe_instance.proofs.Laid.{laid-spelled, takes-join, takes-mark}
+use Rattle.p21_transcribe_instance.proofs.LaidRuns.{laid-spelled, takes-join, takes-mark}
 use Rattle.p21_transcribe_instance.proofs.Meaning.{all-shallow, fit-with}
 use Rattle.p21_transcribe_instance.proofs.Plain.{placed-plain}
 use Rattle.p21_transcribe_instance.proofs.Rows.{HasMeaning, has-meaning}
 use Rattle.p21_transcribe_instance.proofs.Texts.{AreMeant, canonical-fit, canonical-spelled, canonical-stand, canonical_at, texts-are}
 use Rattle.p21_transcribe_instance.specs.Instance.{TakesInstance}
-use Rattle.p21_transcribe_instance.specs.Records.{IsOwned, Owned, TakesRecord, needs_in, owned_text, owned_texts, owners_at, part_of, parts_at}
-use Rattle.p21_transcribe_instance.specs.Taking.{Placed, Takes, TakesMark, needs_at, params_at, places_at}
-use Rattle.p21_transcribe_instance.specs.Usual.{IsUsual}
-use Rattle.p21_transcribe_values.specs.Taken.{LaidBefore}
+use Rattle.p21_transcribe_instance.specs.Records.{IsOwnRecord, OwnRecord, TakesRecord, needs_in, own_record_text, own_record_texts, owners_at, part_of, parts_at}
+use Rattle.p21_transcribe_instance.specs.TakenParameters.{PlacedParameter, TakesTokens, TakesDelimiter, needs_at, params_at, places_at}
+use Rattle.p21_transcribe_instance.specs.ExternalSet.{IsExternalSet}
+use Rattle.p21_transcribe_instance.specs.TakenValues.{LaidBefore}
 
 -- ---- the places of all simple records
 
-abbrev placed_in : List Owned → List Placed
-placed_in os = flat_map (λ (o : Owned). o.placed) os
+abbrev placed_in : List OwnRecord → List PlacedParameter
+placed_in os = flat_map (λ (o : OwnRecord). o.placed) os
 
-all-places : (s : Schema) (entities : List ℕ) (os : List Owned) → Each (IsOwned s entities) os → places_at (placed_in os) ≡ flat_map (own_places s) (owners_at os)
+all-places : (s : Schema) (entities : List ℕ) (os : List OwnRecord) → Each (IsOwnRecord s entities) os → places_at (placed_in os) ≡ flat_map (own_places s) (owners_at os)
 all-places s entities [] each = refl
 all-places s entities (o ∷ os) each =
-    map-append (λ (p : Placed). p.place) o.placed (placed_in os) ∙ ap (λ (xs : List Place). xs ++ places_at (placed_in os)) each.0.places_are ∙ ap (λ (xs : List Place). own_places s o.owner ++ xs) (all-places s entities os each.1)
+    map-append (λ (p : PlacedParameter). p.place) o.placed (placed_in os) ∙ ap (λ (xs : List Place). xs ++ places_at (placed_in os)) each.0.places_are ∙ ap (λ (xs : List Place). own_places s o.owner ++ xs) (all-places s entities os each.1)
 
-some-parts : (os : List Owned) (e : ℕ) → Contains (owners_at os) e → 0 < length (parts_at os)
+some-parts : (os : List OwnRecord) (e : ℕ) → Contains (owners_at os) e → 0 < length (parts_at os)
 some-parts [] e (k, below, is) = absurd (omega (arith, below))
 some-parts (o ∷ os) e among = omega arith
 
 -- ---- each simple record by itself
 
 module _ (s : Schema) (entities : List ℕ) where
-  parts-plain : (os : List Owned) → Each (IsOwned s entities) os → Each IsNoUserKeyword (flat_map part_tokens (parts_at os))
+  parts-plain : (os : List OwnRecord) → Each (IsOwnRecord s entities) os → Each IsNoUserKeyword (flat_map part_tokens (parts_at os))
   parts-plain [] each = tt
   parts-plain (o ∷ os) each = Each-append IsNoUserKeyword (part_tokens (part_of o)) (flat_map part_tokens (parts_at os)) (part-plain (part_of o) tt (placed-plain s entities o.placed each.0.each)) (parts-plain os each.1)
 
-  parts-shallow : (os : List Owned) → Each (IsOwned s entities) os → Each IsShallowPart (parts_at os)
+  parts-shallow : (os : List OwnRecord) → Each (IsOwnRecord s entities) os → Each IsShallowPart (parts_at os)
   parts-shallow [] each = tt
   parts-shallow (o ∷ os) each = (all-shallow s entities o.placed each.0.each, parts-shallow os each.1)
 
 module _ (s : Schema) (m : Typed) where
-  own-fit : (o : Owned) → IsOwned s m.entities o → AreMeant m o.placed → FitPlacesWith s m (own_places s o.owner) (params_at o.placed) (needs_at o.placed)
-  own-fit o is has = subst (λ (xs : List Place). FitPlacesWith s m xs (params_at o.placed) (needs_at o.placed)) is.places_are (fit-with s m o.placed is.each has)
+  own-fit : (o : OwnRecord) → IsOwnRecord s m.entities o → AreMeant m o.placed → FitPlacesWithNeeds s m (own_places s o.owner) (params_at o.placed) (needs_at o.placed)
+  own-fit o is has = subst (λ (xs : List Place). FitPlacesWithNeeds s m xs (params_at o.placed) (needs_at o.placed)) is.places_are (fit-with s m o.placed is.each has)
 
-  parts-need : (os : List Owned) → Each (IsOwned s m.entities) os → Each (λ (o : Owned). AreMeant m o.placed) os → PartsNeed s m (parts_at os) (needs_in os)
+  parts-need : (os : List OwnRecord) → Each (IsOwnRecord s m.entities) os → Each (λ (o : OwnRecord). AreMeant m o.placed) os → AreNeedsOfParts s m (parts_at os) (needs_in os)
   parts-need [] each has = refl
   parts-need (o ∷ os) each has = (needs_at o.placed, needs_in os, refl, (o.owner, (o.word, each.0.named, refl), own-fit o each.0 has.0), parts-need os each.1 has.1)
 
-  module _ (kinds : Kinds) where
-    parts-mean : (os : List Owned) → Each (IsOwned s m.entities) os → Each (λ (o : Owned). AreMeant m o.placed) os → AreServed s kinds (needs_in os) → AllZip (PartMeans s kinds m) (parts_at os) (owners_at os)
+  module _ (kinds : EntitySets) where
+    parts-mean : (os : List OwnRecord) → Each (IsOwnRecord s m.entities) os → Each (λ (o : OwnRecord). AreMeant m o.placed) os → AreServed s kinds (needs_in os) → AllZip (PartMeans s kinds m) (parts_at os) (owners_at os)
     parts-mean [] each has served = tt
     parts-mean (o ∷ os) each has served = (
       ((o.word, each.0.named, refl), served-places s kinds m (own_places s o.owner) (params_at o.placed) (needs_at o.placed) (own-fit o each.0 has.0) (Each-front (IsServed s kinds) (needs_at o.placed) (needs_in os) served)),
@@ -90,22 +90,22 @@ module _ (s : Schema) (m : Typed) where
 
 -- ---- the canonical simple records
 
-abbrev canonical_part : Schema → Owned → Part
+abbrev canonical_part : Schema → OwnRecord → Part
 canonical_part s o = record { key = key_of o.word; params = canonical_at s o.placed }
 
-abbrev canonical_parts : Schema → List Owned → List Part
+abbrev canonical_parts : Schema → List OwnRecord → List Part
 canonical_parts s os = map (canonical_part s) os
 
 module _ (s : Schema) (m : Typed) where
-  canonical-stands : (os : List Owned) → Each (IsOwned s m.entities) os → Each (λ (o : Owned). AreMeant m o.placed) os → Each (IsCanonicalPart s (canonical_typed s m)) (canonical_parts s os)
+  canonical-stands : (os : List OwnRecord) → Each (IsOwnRecord s m.entities) os → Each (λ (o : OwnRecord). AreMeant m o.placed) os → Each (IsCanonicalPart s (canonical_typed s m)) (canonical_parts s os)
   canonical-stands [] each has = tt
   canonical-stands (o ∷ os) each has = (
     (o.owner, (o.word, each.0.named, refl), subst (λ (xs : List Place). AreCanonicalAt (canonical_typed s m) xs (canonical_at s o.placed)) each.0.places_are (canonical-stand s m o.placed has.0)),
     canonical-stands os each.1 has.1,
   )
 
-  module _ (kinds : Kinds) where
-    canonical-mean : (os : List Owned) → Each (IsOwned s m.entities) os → Each (λ (o : Owned). AreMeant m o.placed) os → AreServed s kinds (needs_in os) → AllZip (PartMeans s kinds (canonical_typed s m)) (canonical_parts s os) (owners_at os)
+  module _ (kinds : EntitySets) where
+    canonical-mean : (os : List OwnRecord) → Each (IsOwnRecord s m.entities) os → Each (λ (o : OwnRecord). AreMeant m o.placed) os → AreServed s kinds (needs_in os) → AllZip (PartMeans s kinds (canonical_typed s m)) (canonical_parts s os) (owners_at os)
     canonical-mean [] each has served = tt
     canonical-mean (o ∷ os) each has served = (
       (
@@ -115,7 +115,7 @@ module _ (s : Schema) (m : Typed) where
       canonical-mean os each.1 has.1 (Each-back (IsServed s kinds) (needs_at o.placed) (needs_in os) served),
     )
 
-    canonical-said : (os : List Owned) (rest : List Token) → Each (IsOwned s m.entities) os → AreServed s kinds (needs_in os) → Each IsSpelled (flat_map part_tokens (parts_at os) ++ rest) → Each IsSpelled (flat_map part_tokens (canonical_parts s os))
+    canonical-said : (os : List OwnRecord) (rest : List Token) → Each (IsOwnRecord s m.entities) os → AreServed s kinds (needs_in os) → Each IsSpelled (flat_map part_tokens (parts_at os) ++ rest) → Each IsSpelled (flat_map part_tokens (canonical_parts s os))
     canonical-said [] rest each served spelled = tt
     canonical-said (o ∷ os) rest each served spelled =
         let behind : List Token = flat_map part_tokens (parts_at os) ++ rest in
@@ -126,7 +126,7 @@ module _ (s : Schema) (m : Typed) where
         (canonical-said os rest each.1 (Each-back (IsServed s kinds) (needs_at o.placed) (needs_in os) served) (Each-back IsSpelled (part_tokens (part_of o)) behind whole))
 
 -- their keywords are the names of their entities
-words-are : (s : Schema) (entities : List ℕ) (os : List Owned) (names : List (List ℕ)) → Each (IsOwned s entities) os → AllZip (EntityNamed s) (owners_at os) names → words (canonical_parts s os) ≡ names
+words-are : (s : Schema) (entities : List ℕ) (os : List OwnRecord) (names : List (List ℕ)) → Each (IsOwnRecord s entities) os → AllZip (EntityNamed s) (owners_at os) names → words (canonical_parts s os) ≡ names
 words-are s entities [] [] each named = refl
 words-are s entities [] (n ∷ names) each named = absurd named
 words-are s entities (o ∷ os) [] each named = absurd named
@@ -134,7 +134,7 @@ words-are s entities (o ∷ os) (n ∷ names) each named =
     ap (λ (w : List ℕ). w ∷ words (canonical_parts s os)) (EntityNamed-one s o.owner o.word n each.0.named named.0) ∙ ap (λ (ws : List (List ℕ)). n ∷ ws) (words-are s entities os names each.1 named.1)
 
 -- keywords that rise are in order
-strict-rises : (xs : List (List ℕ)) → IsStrictlySortedBy (slice_cmp nat_cmp) xs → AreRising xs
+strict-rises : (xs : List (List ℕ)) → IsStrictlySortedBy (slice_cmp nat_cmp) xs → AreTextsRising xs
 unfolding IsStrictlySortedBy
 strict-rises [] rise k d low high = absurd (omega (arith, high))
 strict-rises (x ∷ []) rise k d low high = absurd (omega (arith, high))
@@ -146,27 +146,27 @@ strict-rises (x ∷ y ∷ ys) rise (suc k) d low high =
 
 -- ---- texts
 
-part-text : (s : Schema) (o : Owned) → tokens_text (part_tokens (canonical_part s o)) ≡ owned_text s o
+part-text : (s : Schema) (o : OwnRecord) → tokens_text (part_tokens (canonical_part s o)) ≡ own_record_text s o
 part-text s o = ap (λ (x : List ℕ). o.word ++ x) (list-is (canonical_at s o.placed)) ∙ ap (λ (xs : List (List ℕ)). o.word ++ (40 ∷ (with_commas_between xs ++ (41 ∷ [])))) (texts-are s o.placed)
 
-parts-text : (s : Schema) (os : List Owned) → tokens_text (flat_map part_tokens (canonical_parts s os)) ≡ owned_texts s os
+parts-text : (s : Schema) (os : List OwnRecord) → tokens_text (flat_map part_tokens (canonical_parts s os)) ≡ own_record_texts s os
 parts-text s [] = refl
 parts-text s (o ∷ os) =
-    tokens_text-append (part_tokens (canonical_part s o)) (flat_map part_tokens (canonical_parts s os)) ∙ ap (λ (x : List ℕ). x ++ tokens_text (flat_map part_tokens (canonical_parts s os))) (part-text s o) ∙ ap (λ (x : List ℕ). owned_text s o ++ x) (parts-text s os)
+    tokens_text-append (part_tokens (canonical_part s o)) (flat_map part_tokens (canonical_parts s os)) ∙ ap (λ (x : List ℕ). x ++ tokens_text (flat_map part_tokens (canonical_parts s os))) (part-text s o) ∙ ap (λ (x : List ℕ). own_record_text s o ++ x) (parts-text s os)
 
 -- the name, `=`, the simple records in parentheses and `;`
-line-is : (s : Schema) (n : ℕ) (os : List Owned) → (name_spelling n ++ 61 ∷ []) ++ (40 ∷ (owned_texts s os ++ (41 ∷ 59 ∷ []))) ≡ statement_text (instance n (complex (canonical_parts s os)))
+line-is : (s : Schema) (n : ℕ) (os : List OwnRecord) → (name_spelling n ++ 61 ∷ []) ++ (40 ∷ (own_record_texts s os ++ (41 ∷ 59 ∷ []))) ≡ statement_text (instance n (complex (canonical_parts s os)))
 line-is s n os =
     let parts : List Token = flat_map part_tokens (canonical_parts s os) in
     let inside : List Token = parts ++ (token.right ∷ []) in
-    let closed : tokens_text inside ≡ owned_texts s os ++ (41 ∷ []) = tokens_text-append parts (token.right ∷ []) ∙ ap (λ (x : List ℕ). x ++ (41 ∷ [])) (parts-text s os) in
-    let ended : tokens_text (inside ++ (token.semicolon ∷ [])) ≡ owned_texts s os ++ (41 ∷ 59 ∷ []) =
-    tokens_text-append inside (token.semicolon ∷ []) ∙ ap (λ (x : List ℕ). x ++ (59 ∷ [])) closed ∙ append_assoc (owned_texts s os) (41 ∷ []) (59 ∷ []) in
-    append_assoc (name_spelling n) (61 ∷ []) (40 ∷ (owned_texts s os ++ (41 ∷ 59 ∷ []))) ∙ ap (λ (x : List ℕ). name_spelling n ++ (61 ∷ (40 ∷ x))) (sym ended)
+    let closed : tokens_text inside ≡ own_record_texts s os ++ (41 ∷ []) = tokens_text-append parts (token.right ∷ []) ∙ ap (λ (x : List ℕ). x ++ (41 ∷ [])) (parts-text s os) in
+    let ended : tokens_text (inside ++ (token.semicolon ∷ [])) ≡ own_record_texts s os ++ (41 ∷ 59 ∷ []) =
+    tokens_text-append inside (token.semicolon ∷ []) ∙ ap (λ (x : List ℕ). x ++ (59 ∷ [])) closed ∙ append_assoc (own_record_texts s os) (41 ∷ []) (59 ∷ []) in
+    append_assoc (name_spelling n) (61 ∷ []) (40 ∷ (own_record_texts s os ++ (41 ∷ 59 ∷ []))) ∙ ap (λ (x : List ℕ). name_spelling n ++ (61 ∷ (40 ∷ x))) (sym ended)
 
 -- ---- the whole
 
-module _ (s : Schema) (entities : List ℕ) (usual : IsUsual s entities) (os : List Owned) (each : Each (IsOwned s entities) os) (owners_are : owners_at os ≡ entities) where
+module _ (s : Schema) (entities : List ℕ) (usual : IsExternalSet s entities) (os : List OwnRecord) (each : Each (IsOwnRecord s entities) os) (owners_are : owners_at os ≡ entities) where
   none_one : HasOneLeaf s entities → ⊥
   none_one one = let (e, f, differ, leaf, other) = usual.several_leaves in differ (one.2 e leaf ∙ sym (one.2 f other))
 
@@ -176,16 +176,16 @@ module _ (s : Schema) (entities : List ℕ) (usual : IsUsual s entities) (os : L
   abbrev meant : Typed
   meant = record { entities = entities; values = values.values }
 
-  has : Each (λ (o : Owned). AreMeant meant o.placed) os
-  has = Each-apart (λ (p : Placed). HasValueAt meant p.place p.value) (λ (o : Owned). o.placed) os values.each
+  has : Each (λ (o : OwnRecord). AreMeant meant o.placed) os
+  has = Each-apart (λ (p : PlacedParameter). HasValueAt meant p.place p.value) (λ (o : OwnRecord). o.placed) os values.each
 
   some : 0 < length (parts_at os)
   some = let (e, f, differ, leaf, other) = usual.several_leaves in some-parts os e (subst (λ (xs : List ℕ). Contains xs e) (sym owners_are) leaf.0)
 
-  need : PartsNeed s meant (parts_at os) (needs_in os)
+  need : AreNeedsOfParts s meant (parts_at os) (needs_in os)
   need = parts-need s meant os each has
 
-  served : (kinds : Kinds) × AreServed s kinds (needs_in os)
+  served : (kinds : EntitySets) × AreServed s kinds (needs_in os)
   served = needs-can_be_served s (complex (parts_at os)) meant (needs_in os) need
 
   by-mapping : (m : Typed) → m.entities ≡ entities → (parts : List Part) → 0 < length parts → AllZip (PartMeans s served.0 m) parts (owners_at os) → MeansExternal s served.0 parts m
@@ -208,7 +208,7 @@ module _ (s : Schema) (entities : List ℕ) (usual : IsUsual s entities) (os : L
     means = by-mapping meant refl (parts_at os) some (parts-mean s meant served.0 os each has served.1);
   }
 
-  means-so : MeansWith s (complex (parts_at os)) meant (needs_in os)
+  means-so : MeansWithNeeds s (complex (parts_at os)) meant (needs_in os)
   means-so = record { kinds = served.0; means = record-means; needs_are = need }
 
   data-record : IsDataRecord (complex (parts_at os))
@@ -223,10 +223,10 @@ module _ (s : Schema) (entities : List ℕ) (usual : IsUsual s entities) (os : L
   some-canonical : 0 < length (canonical_parts s os)
   some-canonical = let count = length-map os part_of in let count_ = length-map os (canonical_part s) in omega (arith, some, count, count_)
 
-  keywords : AreRising (words (canonical_parts s os))
+  keywords : AreTextsRising (words (canonical_parts s os))
   keywords =
       let (names, named, rise) = usual.rising in
-      subst AreRising (sym (words-are s entities os names each (subst (λ (xs : List ℕ). AllZip (EntityNamed s) xs names) (sym owners_are) named))) (strict-rises names rise)
+      subst AreTextsRising (sym (words-are s entities os names each (subst (λ (xs : List ℕ). AllZip (EntityNamed s) xs names) (sym owners_are) named))) (strict-rises names rise)
 
   module _ (n : ℕ) (spelled : IsWrittenStatement (instance n (complex (parts_at os)))) where
     written : IsWrittenStatement (instance n (complex (canonical_parts s os)))
@@ -253,15 +253,15 @@ module _ (s : Schema) (entities : List ℕ) (usual : IsUsual s entities) (os : L
 -- ---- what is taken
 
 -- the parts of an instance one behind the other
-pub external-taken : (s : Schema) (entities : List ℕ) → IsUsual s entities → (n : ℕ) (bytes keyed inside rest old headed opened new : List ℕ) (before after : List code.Need)
-    → Takes (token.name n ∷ token.equals ∷ []) (name_spelling n ++ 61 ∷ []) bytes keyed old headed → TakesMark 40 keyed inside headed opened → TakesRecord s entities inside rest opened new before after → TakesInstance s n entities bytes rest old new before after
+pub external-taken : (s : Schema) (entities : List ℕ) → IsExternalSet s entities → (n : ℕ) (bytes keyed inside rest old headed opened new : List ℕ) (before after : List code.Need)
+    → TakesTokens (token.name n ∷ token.equals ∷ []) (name_spelling n ++ 61 ∷ []) bytes keyed old headed → TakesDelimiter 40 keyed inside headed opened → TakesRecord s entities inside rest opened new before after → TakesInstance s n entities bytes rest old new before after
 external-taken s entities usual n bytes keyed inside rest old headed opened new before after head mark h =
-    let os : List Owned = h.parts.owned in
+    let os : List OwnRecord = h.parts.owned in
     let parts : List Part = parts_at os in
     let ts : List Token = flat_map part_tokens parts in
-    let t : List ℕ = owned_texts s os in
-    let left : Takes (token.left ∷ []) (40 ∷ []) keyed inside headed opened = takes-mark 40 token.left keyed inside headed opened refl (λ byte. tt) mark in
-    let own : Takes ts t inside h.middle opened h.between = record { laid = h.parts.laid; appended = h.parts.text_is } in
+    let t : List ℕ = own_record_texts s os in
+    let left : TakesTokens (token.left ∷ []) (40 ∷ []) keyed inside headed opened = takes-mark 40 token.left keyed inside headed opened refl (λ byte. tt) mark in
+    let own : TakesTokens ts t inside h.middle opened h.between = record { laid = h.parts.laid; appended = h.parts.text_is } in
     let closed = takes-join ts (token.right ∷ token.semicolon ∷ []) t (41 ∷ 59 ∷ []) inside h.middle rest opened h.between new own h.end in
     let listed = takes-join (token.left ∷ []) (ts ++ (token.right ∷ token.semicolon ∷ [])) (40 ∷ []) (t ++ (41 ∷ 59 ∷ [])) keyed inside rest headed opened new left closed in
     let all = takes-join (token.name n ∷ token.equals ∷ []) (token.left ∷ (ts ++ (token.right ∷ token.semicolon ∷ []))) (name_spelling n ++ 61 ∷ []) (40 ∷ (t ++ (41 ∷ 59 ∷ []))) bytes keyed rest old headed new head listed in
@@ -277,7 +277,7 @@ external-taken s entities usual n bytes keyed inside rest old headed opened new 
       set_is = refl;
       added = h.parts.added;
       needs_are = h.parts.needs_are;
-      means = subst (λ (ns : List Need). MeansWith s (complex parts) (meant s entities usual os h.parts.each h.parts.owners_are) ns) h.parts.added_are (means-so s entities usual os h.parts.each h.parts.owners_are);
+      means = subst (λ (ns : List Need). MeansWithNeeds s (complex parts) (meant s entities usual os h.parts.each h.parts.owners_are) ns) h.parts.added_are (means-so s entities usual os h.parts.each h.parts.owners_are);
       text = text;
       text_is = text-is s entities usual os h.parts.each h.parts.owners_are n (laid-spelled bytes rest (statement_tokens (instance n (complex parts))) laid) text (line-is s n os);
       appended = all.appended;

@@ -1,15 +1,15 @@
 -- Instances that are taken straight from their bytes.
 use Rattle.std.specs.Prelude.{◌≡◌, ℕ, List, ◌++◌, map}
-use Rattle.p21_claim_values.specs.Needs.{MeansWith}
+use Rattle.p21_claim_values.specs.Needs.{MeansWithNeeds}
 use Rattle.p21_exchange.specs.Grammar.{IsDataRecord}
 use Rattle.p21_exchange.specs.Record.{Record}
 use Rattle.p21_exchange.specs.Statement.{instance, statement_tokens}
-use Rattle.p21_files.specs.Kept.{IsInstanceText}
+use Rattle.p21_files.specs.CanonicalTexts.{IsInstanceText}
 use Rattle.p21_files.specs.Meaning.{Typed}
 use Rattle.p21_mapping_values.specs.declared.need.Need.{Need}
 use Rattle.p21_mapping_values.specs.TypedView.{need_view}
 use Rattle.p21_schemas.specs.Schema.{Schema}
-use Rattle.p21_transcribe_values.specs.Taken.{LaidBefore}
+use Rattle.p21_transcribe_instance.specs.TakenValues.{LaidBefore}
 
 -- The statement of an instance of this name is laid at the front, with the rest behind it. Its record may stand in a data
 -- section, and means something, whose set are these entities, with the needs that are added to those before. Its canonical
@@ -22,7 +22,7 @@ pub record TakesInstance (s : Schema) (n : ℕ) (entities bytes rest old new : L
   pub set_is : meaning.entities ≡ entities
   pub added : List Need
   pub needs_are : after ≡ before ++ added
-  pub means : MeansWith s record_ meaning (map need_view added)
+  pub means : MeansWithNeeds s record_ meaning (map need_view added)
   pub text : List ℕ
   pub text_is : IsInstanceText s n record_ text
   pub appended : new ≡ old ++ text

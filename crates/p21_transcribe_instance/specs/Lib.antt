@@ -1,5 +1,10 @@
+pub mod Prepared
+pub mod Steps
+pub mod ArrangedElements
+pub mod Elements
+pub mod TakenValues
 pub mod Instance
-pub mod Numbered
+pub mod NumberedInstance
 pub mod Records
-pub mod Taking
-pub mod Usual
+pub mod TakenParameters
+pub mod ExternalSet

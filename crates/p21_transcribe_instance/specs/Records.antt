@@ -1,7 +1,7 @@
 -- The simple records of an instance of external mapping that is taken straight from its bytes.
 use Rattle.std.specs.Prelude.{◌≡◌, ℕ, List, [], ◌∷◌, ◌++◌, map}
 use Rattle.std.specs.List.{AllByRecursion as Each, flat_map}
-use Rattle.p21_claim_values.specs.Needs.{FitsAtWith}
+use Rattle.p21_claim_values.specs.Needs.{FitsAtWithNeeds}
 use Rattle.p21_exchange.specs.Parameter.{key_of}
 use Rattle.p21_exchange.specs.Record.{Part, part_tokens}
 use Rattle.p21_exchange.specs.Token.{right, semicolon}
@@ -12,67 +12,67 @@ use Rattle.p21_mapping_values.specs.TypedView.{need_view}
 use Rattle.p21_schemas.specs.Order.{own_places}
 use Rattle.p21_schemas.specs.PlaceType.{PlaceType, TypeAt}
 use Rattle.p21_schemas.specs.Schema.{EntityNamed, Place, Schema}
-use Rattle.p21_transcribe_instance.specs.Taking.{IsPlaced, Placed, Takes, needs_at, params_at, places_at, texts_at}
-use Rattle.p21_transcribe_instance.specs.Usual.{IsNumbered, IsUsual}
-use Rattle.p21_transcribe_values.specs.Taken.{LaidBefore, TakesWithNeeds}
+use Rattle.p21_transcribe_instance.specs.TakenParameters.{IsPlacedParameter, PlacedParameter, TakesTokens, needs_at, params_at, places_at, texts_at}
+use Rattle.p21_transcribe_instance.specs.ExternalSet.{IsNumberedSet, IsExternalSet}
+use Rattle.p21_transcribe_instance.specs.TakenValues.{LaidBefore, TakesWithNeeds}
 
 -- a parameter that fits the place in an instance with this set is laid at the front, with the rest behind it
-abbrev pub TakesAt : Schema → List ℕ → Place → List ℕ → List ℕ → List ℕ → List ℕ → List Need → List Need → Type 0
-TakesAt s entities place bytes rest old new before after = (at : PlaceType) × TypeAt s entities place at × TakesWithNeeds s (FitsAtWith s at) 64 bytes rest old new before after
+abbrev pub TakesAtPlace : Schema → List ℕ → Place → List ℕ → List ℕ → List ℕ → List ℕ → List Need → List Need → Type 0
+TakesAtPlace s entities place bytes rest old new before after = (at : PlaceType) × TypeAt s entities place at × TakesWithNeeds s (FitsAtWithNeeds s at) 64 bytes rest old new before after
 
 -- the simple record of an entity: its keyword, and parameters at the places that the entity declares itself
-pub record Owned : Type 0 where
+pub record OwnRecord : Type 0 where
   pub owner : ℕ
   pub word : List ℕ
-  pub placed : List Placed
+  pub placed : List PlacedParameter
 
 -- it is so in an instance with this set
-pub record IsOwned (s : Schema) (entities : List ℕ) (o : Owned) : Type 0 where
+pub record IsOwnRecord (s : Schema) (entities : List ℕ) (o : OwnRecord) : Type 0 where
   pub named : EntityNamed s o.owner o.word
   pub places_are : places_at o.placed ≡ own_places s o.owner
-  pub each : Each (IsPlaced s entities) o.placed
+  pub each : Each (IsPlacedParameter s entities) o.placed
 
-abbrev pub part_of : Owned → Part
+abbrev pub part_of : OwnRecord → Part
 part_of o = record { key = key_of o.word; params = params_at o.placed }
 
-abbrev pub parts_at : List Owned → List Part
+abbrev pub parts_at : List OwnRecord → List Part
 parts_at os = map part_of os
 
-abbrev pub owners_at : List Owned → List ℕ
-owners_at os = map (λ (o : Owned). o.owner) os
+abbrev pub owners_at : List OwnRecord → List ℕ
+owners_at os = map (λ (o : OwnRecord). o.owner) os
 
-abbrev pub needs_in : List Owned → List meant.Need
-needs_in os = flat_map (λ (o : Owned). needs_at o.placed) os
+abbrev pub needs_in : List OwnRecord → List meant.Need
+needs_in os = flat_map (λ (o : OwnRecord). needs_at o.placed) os
 
 -- its canonical text
-abbrev pub owned_text : Schema → Owned → List ℕ
-owned_text s o = o.word ++ (40 ∷ (with_commas_between (texts_at s o.placed) ++ 41 ∷ []))
+abbrev pub own_record_text : Schema → OwnRecord → List ℕ
+own_record_text s o = o.word ++ (40 ∷ (with_commas_between (texts_at s o.placed) ++ 41 ∷ []))
 
-abbrev pub owned_texts : Schema → List Owned → List ℕ
-owned_texts s os = flat_map (owned_text s) os
+abbrev pub own_record_texts : Schema → List OwnRecord → List ℕ
+own_record_texts s os = flat_map (own_record_text s) os
 
 -- Simple records of these entities are laid at the front, and their canonical texts are appended. What they need is added to
 -- the needs before, in their order
 pub record TakesParts (s : Schema) (entities owners bytes rest old new : List ℕ) (before after : List Need) : Type 0 where
-  pub owned : List Owned
-  pub each : Each (IsOwned s entities) owned
+  pub owned : List OwnRecord
+  pub each : Each (IsOwnRecord s entities) owned
   pub owners_are : owners_at owned ≡ owners
   pub added : List Need
   pub needs_are : after ≡ before ++ added
   pub added_are : needs_in owned ≡ map need_view added
   pub laid : LaidBefore bytes (flat_map part_tokens (parts_at owned)) rest
-  pub text_is : new ≡ old ++ owned_texts s owned
+  pub text_is : new ≡ old ++ own_record_texts s owned
 
 -- those of all entities of the set, and the end of the statement behind them
 pub record TakesRecord (s : Schema) (entities bytes rest old new : List ℕ) (before after : List Need) : Type 0 where
   pub middle : List ℕ
   pub between : List ℕ
   pub parts : TakesParts s entities entities bytes middle old between before after
-  pub end : Takes (right ∷ semicolon ∷ []) (41 ∷ 59 ∷ []) middle rest between new
+  pub end : TakesTokens (right ∷ semicolon ∷ []) (41 ∷ 59 ∷ []) middle rest between new
 
--- the same with a usual set, which has this number among others
+-- the same with a set of external mapping, which has this number among others
 pub record TakesNumbered (s : Schema) (sets : List (List ℕ)) (at : ℕ) (bytes rest old new : List ℕ) (before after : List Need) : Type 0 where
   pub entities : List ℕ
-  pub numbered : IsNumbered sets at entities
-  pub usual : IsUsual s entities
+  pub numbered : IsNumberedSet sets at entities
+  pub usual : IsExternalSet s entities
   pub takes : TakesRecord s entities bytes rest old new before after

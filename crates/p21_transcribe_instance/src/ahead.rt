@@ -1,12 +1,12 @@
 //! The entities of an instance of external mapping, read ahead of its values.
 ghost use Rattle.std.specs.Prelude.{◌<◌, ◌≤◌, length, IfSome};
-ghost use Rattle.p21_express_tables.specs.Lookups.{AreEntities};
-ghost use Rattle.p21_express_tables.specs.Orders.{numbers};
-ghost use Rattle.p21_express_tables.specs.Resolved.{IsEntity};
+ghost use Rattle.p21_express_graph.specs.Lookups.{AreEntities};
+ghost use Rattle.p21_express_graph.specs.Orders.{numbers};
+ghost use Rattle.p21_express_graph.specs.Resolved.{IsEntity};
 
 use p21_express_tables::Schema;
 use p21_express_types::EntityId;
-use p21_transcribe::{behind_separators, front_keyword};
+use p21_transcribe::{behind_separators, leading_keyword};
 use p21_values::NoMemory;
 use std::alloc::Global;
 
@@ -47,7 +47,7 @@ fn entity_ahead<'a>(schema: &Schema, bytes: &'a [u8]) -> Option<(EntityId, &'a [
     ensures shorter { IfSome result (λ found. length found.1.now < length bytes.now) }
 {
     let front = behind_separators(bytes);
-    let word = front_keyword(front)?;
+    let word = leading_keyword(front)?;
     let entity = schema.entity(word)?;
     let behind = behind_parameters(&front[word.len()..])?;
     Some((entity, behind))

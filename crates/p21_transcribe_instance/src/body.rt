@@ -1,16 +1,16 @@
 //! The parameters of an instance in their parentheses, and the end of its statement (ISO 10303-21, data sections).
 ghost use Rattle.std.specs.Prelude.{[], ◌∷◌, IfNone, IfSome};
 ghost use Rattle.p21_exchange.specs.Token.{right, semicolon};
-ghost use Rattle.p21_transcribe_instance.specs.Taking.{AreStepsIn, Takes, TakesSteps, body_text, body_tokens};
-ghost use Rattle.p21_transcribe_values.specs.Taken.{KeepsNeeds};
+ghost use Rattle.p21_transcribe_instance.specs.TakenParameters.{AreStepsIn, TakesTokens, TakesSteps, body_text, body_tokens};
+ghost use Rattle.p21_transcribe_instance.specs.TakenValues.{KeepsNeeds};
 ghost use Rattle.p21_values.specs.Canonical.{Continues};
 
-use crate::mark::append_mark;
 use crate::places::append_places;
+use crate::separated_delimiter::append_delimiter;
+use crate::step::Step;
 use p21_express_tables::Schema;
 use p21_mapping_values::Need;
 use p21_transcribe::Draft;
-use p21_transcribe_plan::Step;
 
 /// Appends the parameters at the front in their parentheses, by what may stand at their attributes, and the `;` behind them,
 /// and adds their references: what stands behind the `;`.
@@ -26,7 +26,7 @@ pub(crate) fn append_body<'a>(
     ensures draft { IfNone result (Continues draft.old draft.new) }
     ensures needs { IfNone result (KeepsNeeds needs.old.items needs.new.items) }
 {
-    let inside = append_mark(b'(', bytes, draft)?;
+    let inside = append_delimiter(b'(', bytes, draft)?;
     let behind = append_places(schema, steps, inside, draft, needs)?;
     append_end(behind, draft)
 }
@@ -34,10 +34,10 @@ pub(crate) fn append_body<'a>(
 /// Appends `)` and `;`: what stands behind them.
 #[inline(always)]
 pub(crate) fn append_end<'a>(bytes: &'a [u8], draft: &mut Draft) -> Option<&'a [u8]>
-    ensures some { IfSome result (λ rest. Takes (right ∷ semicolon ∷ []) (41 ∷ 59 ∷ []) bytes.now rest.now draft.old draft.new) }
+    ensures some { IfSome result (λ rest. TakesTokens (right ∷ semicolon ∷ []) (41 ∷ 59 ∷ []) bytes.now rest.now draft.old draft.new) }
     ensures none { IfNone result (Continues draft.old draft.new) }
 {
-    let closed = append_mark(b')', bytes, draft)?;
-    let rest = append_mark(b';', closed, draft)?;
+    let closed = append_delimiter(b')', bytes, draft)?;
+    let rest = append_delimiter(b';', closed, draft)?;
     Some(rest)
 }

@@ -1,18 +1,18 @@
 //! The statement of an instance of external mapping (ISO 10303-21, data sections; mapping of EXPRESS entity data types:
 //! external mapping).
 ghost use Rattle.std.specs.Prelude.{◌≡◌, IfNone, IfSome};
-ghost use Rattle.p21_transcribe_instance.specs.Numbered.{TakesNumberedInstance};
+ghost use Rattle.p21_transcribe_instance.specs.NumberedInstance.{TakesNumberedInstance};
 ghost use Rattle.p21_transcribe_instance.specs.Records.{TakesNumbered};
-ghost use Rattle.p21_transcribe_instance.specs.Usual.{AreUsual};
-ghost use Rattle.p21_transcribe_values.specs.Taken.{KeepsNeeds};
+ghost use Rattle.p21_transcribe_instance.specs.ExternalSet.{AreExternalSets};
+ghost use Rattle.p21_transcribe_instance.specs.TakenValues.{KeepsNeeds};
 ghost use Rattle.p21_values.specs.Canonical.{Continues};
 
 use crate::ahead::entities_ahead;
+use crate::external_set::is_external_set;
 use crate::head::append_head;
-use crate::mark::append_mark;
 use crate::parts::append_record;
+use crate::separated_delimiter::append_delimiter;
 use crate::sets::Sets;
-use crate::usual::is_usual;
 use p21_express_tables::Schema;
 use p21_mapping_values::Need;
 use p21_transcribe::Draft;
@@ -37,15 +37,15 @@ pub fn append_external<'a>(
     draft: &mut Draft,
     needs: &mut Vec<Need>,
 ) -> Option<External<'a>>
-    requires { AreUsual schema.now sets.old }
+    requires { AreExternalSets schema.now sets.old }
     ensures some { IfSome result (λ found. TakesNumberedInstance schema.now found.name sets.new found.set bytes.now found.rest.now draft.old draft.new needs.old.items needs.new.items) }
     ensures draft { IfNone result (Continues draft.old draft.new) }
     ensures needs { IfNone result (KeepsNeeds needs.old.items needs.new.items) }
-    ensures sets { AreUsual schema.now sets.new }
+    ensures sets { AreExternalSets schema.now sets.new }
 {
     let (number, behind) = append_head(bytes, draft)?;
-    let inside = append_mark(b'(', behind, draft)?;
-    let (set, rest) = append_any(schema, sets, inside, draft, needs)?;
+    let inside = append_delimiter(b'(', behind, draft)?;
+    let (set, rest) = append_records(schema, sets, inside, draft, needs)?;
     Some(External {
         name: Name(number),
         set,
@@ -55,34 +55,34 @@ pub fn append_external<'a>(
 
 /// Appends the simple records of an instance, by the set that was taken last, else by that which their keywords name: the
 /// number of the set, and what stands behind the `;`.
-fn append_any<'a>(
+fn append_records<'a>(
     schema: &Schema,
     sets: &mut Sets,
     bytes: &'a [u8],
     draft: &mut Draft,
     needs: &mut Vec<Need>,
 ) -> Option<(usize, &'a [u8])>
-    requires { AreUsual schema.now sets.old }
+    requires { AreExternalSets schema.now sets.old }
     ensures some { IfSome result (λ found. TakesNumbered schema.now sets.new found.0 bytes.now found.1.now draft.old draft.new needs.old.items needs.new.items) }
     ensures draft { IfNone result (Continues draft.old draft.new) }
     ensures needs { IfNone result (KeepsNeeds needs.old.items needs.new.items) }
-    ensures sets { AreUsual schema.now sets.new }
+    ensures sets { AreExternalSets schema.now sets.new }
 {
-    match append_last(schema, sets, bytes, draft, needs) {
+    match append_by_last_set(schema, sets, bytes, draft, needs) {
         Some(found) => Some(found),
-        None => append_ahead(schema, sets, bytes, draft, needs),
+        None => append_by_keywords(schema, sets, bytes, draft, needs),
     }
 }
 
 /// The same by the set that was taken last. None where the simple records aren't taken so; then nothing is appended.
-fn append_last<'a>(
+fn append_by_last_set<'a>(
     schema: &Schema,
     sets: &Sets,
     bytes: &'a [u8],
     draft: &mut Draft,
     needs: &mut Vec<Need>,
 ) -> Option<(usize, &'a [u8])>
-    requires { AreUsual schema.now sets.now }
+    requires { AreExternalSets schema.now sets.now }
     ensures some { IfSome result (λ found. TakesNumbered schema.now sets.now found.0 bytes.now found.1.now draft.old draft.new needs.old.items needs.new.items) }
     ensures draft { IfNone result (draft.new ≡ draft.old) }
     ensures needs { IfNone result (needs.new.items ≡ needs.old.items) }
@@ -90,7 +90,7 @@ fn append_last<'a>(
     let start = draft.len();
     let before = needs.len();
     let last = sets.last();
-    match append_of(schema, sets, last, bytes, draft, needs) {
+    match append_by_set(schema, sets, last, bytes, draft, needs) {
         Some(rest) => Some((last, rest)),
         None => {
             draft.cut(start);
@@ -101,27 +101,27 @@ fn append_last<'a>(
 }
 
 /// The same by the set that the keywords name.
-fn append_ahead<'a>(
+fn append_by_keywords<'a>(
     schema: &Schema,
     sets: &mut Sets,
     bytes: &'a [u8],
     draft: &mut Draft,
     needs: &mut Vec<Need>,
 ) -> Option<(usize, &'a [u8])>
-    requires { AreUsual schema.now sets.old }
+    requires { AreExternalSets schema.now sets.old }
     ensures some { IfSome result (λ found. TakesNumbered schema.now sets.new found.0 bytes.now found.1.now draft.old draft.new needs.old.items needs.new.items) }
     ensures draft { IfNone result (Continues draft.old draft.new) }
     ensures needs { IfNone result (KeepsNeeds needs.old.items needs.new.items) }
-    ensures sets { AreUsual schema.now sets.new }
+    ensures sets { AreExternalSets schema.now sets.new }
 {
     let at = set_ahead(*needs.allocator(), schema, sets, bytes)?;
     sets.take(at);
-    let rest = append_of(schema, sets, at, bytes, draft, needs)?;
+    let rest = append_by_set(schema, sets, at, bytes, draft, needs)?;
     Some((at, rest))
 }
 
 /// Appends the simple records of an instance by the set of a number, where there is one.
-fn append_of<'a>(
+fn append_by_set<'a>(
     schema: &Schema,
     sets: &Sets,
     at: usize,
@@ -129,7 +129,7 @@ fn append_of<'a>(
     draft: &mut Draft,
     needs: &mut Vec<Need>,
 ) -> Option<&'a [u8]>
-    requires { AreUsual schema.now sets.now }
+    requires { AreExternalSets schema.now sets.now }
     ensures some { IfSome result (λ rest. TakesNumbered schema.now sets.now at bytes.now rest.now draft.old draft.new needs.old.items needs.new.items) }
     ensures draft { IfNone result (Continues draft.old draft.new) }
     ensures needs { IfNone result (KeepsNeeds needs.old.items needs.new.items) }
@@ -139,17 +139,17 @@ fn append_of<'a>(
 }
 
 /// The number of the set of the instance whose simple records stand at the front. Where it isn't kept yet, it is looked at and
-/// kept. None where it isn't usual, or was taken last.
+/// kept. None where it isn't one of external mapping, or was taken last.
 #[inline(never)]
 fn set_ahead(alloc: Global, schema: &Schema, sets: &mut Sets, bytes: &[u8]) -> Option<usize>
-    requires { AreUsual schema.now sets.old }
-    ensures { AreUsual schema.now sets.new }
+    requires { AreExternalSets schema.now sets.old }
+    ensures { AreExternalSets schema.now sets.new }
 {
     let listed = entities_ahead(alloc, schema, bytes)?;
     if let Some(at) = sets.find(&listed) {
         return if at == sets.last() { None } else { Some(at) };
     }
-    if !is_usual(alloc, schema, &listed) {
+    if !is_external_set(alloc, schema, &listed) {
         return None;
     }
     sets.keep(listed)

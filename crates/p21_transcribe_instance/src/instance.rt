@@ -1,19 +1,19 @@
 //! The statement of an instance (ISO 10303-21, data sections; mapping of EXPRESS entity data types: internal mapping).
 ghost use Rattle.std.specs.Prelude.{ℕ, IfNone, IfSome, List};
-ghost use Rattle.p21_express_tables.specs.Resolved.{IsEntity};
-ghost use Rattle.p21_express_tables.specs.Rising.{IsOwnRising};
+ghost use Rattle.p21_express_graph.specs.Resolved.{IsEntity};
+ghost use Rattle.p21_express_graph.specs.Rising.{IsOwnRising};
 ghost use Rattle.p21_transcribe_instance.specs.Instance.{TakesInstance};
-ghost use Rattle.p21_transcribe_plan.specs.Steps.{IsPlanOf};
-ghost use Rattle.p21_transcribe_values.specs.Taken.{KeepsNeeds};
+ghost use Rattle.p21_transcribe_instance.specs.Steps.{IsPlanOf};
+ghost use Rattle.p21_transcribe_instance.specs.TakenValues.{KeepsNeeds};
 ghost use Rattle.p21_values.specs.Canonical.{Continues};
 
 use crate::body::append_body;
 use crate::head::{append_entity, append_head};
+use crate::plan::Plan;
 use p21_express_tables::Schema;
 use p21_express_types::EntityId;
 use p21_mapping_values::Need;
 use p21_transcribe::Draft;
-use p21_transcribe_plan::Plan;
 use p21_values::Name;
 
 /// An instance that was taken: its name, the entity whose closure its set is, and what stands behind its `;`.

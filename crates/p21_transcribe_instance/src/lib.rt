@@ -1,20 +1,38 @@
-//! Instances of internal and of external mapping taken straight from their bytes to their canonical lines and their
-//! references, with no token, no tree and no value made of them (ISO 10303-21, mapping of EXPRESS entity data types). Only what
-//! is usual is taken; all else is left to those who read it token by token.
+//! Usual instances of internal and of external mapping taken straight from their bytes to their canonical lines and their
+//! references, with no token, no tree and no value made of them (ISO 10303-21, mapping of EXPRESS entity data types): what is
+//! kept of a schema for that, the values of attributes, and the whole instance. All else is left to those who read it token
+//! by token.
 #![tactic(auto)]
 
+mod aggregate;
 mod ahead;
+mod bare;
 mod body;
+mod choice;
+mod delimiter;
 mod external;
+mod external_set;
+mod guess;
 mod head;
 mod instance;
-mod mark;
-mod own;
+mod length;
+mod order;
+mod own_parameters;
 mod parts;
 mod places;
+mod plan;
+mod reference;
+mod row;
+mod same;
+mod scalar;
+mod separated_delimiter;
 mod sets;
-mod usual;
+mod step;
+mod type_copy;
+mod value;
+mod width;
 
 pub use external::{External, append_external};
 pub use instance::{Instance, append_instance};
+pub use plan::Plan;
 pub use sets::Sets;

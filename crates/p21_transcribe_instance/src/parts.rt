@@ -1,17 +1,17 @@
 //! The simple records of an instance of external mapping (ISO 10303-21, mapping of EXPRESS entity data types: external
 //! mapping).
 ghost use Rattle.std.specs.Prelude.{◌≡◌, [], ◌∷◌, IfNone, IfSome, IsTrue};
-ghost use Rattle.p21_express_tables.specs.Lookups.{AreEntities};
-ghost use Rattle.p21_express_tables.specs.Orders.{numbers};
-ghost use Rattle.p21_express_tables.specs.Resolved.{IsEntity};
+ghost use Rattle.p21_express_graph.specs.Lookups.{AreEntities};
+ghost use Rattle.p21_express_graph.specs.Orders.{numbers};
+ghost use Rattle.p21_express_graph.specs.Resolved.{IsEntity};
 ghost use Rattle.p21_transcribe_instance.specs.Records.{TakesParts, TakesRecord};
-ghost use Rattle.p21_transcribe_instance.specs.Taking.{TakesEntity};
-ghost use Rattle.p21_transcribe_values.specs.Taken.{KeepsNeeds};
+ghost use Rattle.p21_transcribe_instance.specs.TakenParameters.{TakesEntity};
+ghost use Rattle.p21_transcribe_instance.specs.TakenValues.{KeepsNeeds};
 ghost use Rattle.p21_values.specs.Canonical.{Continues};
 
 use crate::body::append_end;
-use crate::mark::append_mark;
-use crate::own::append_own;
+use crate::own_parameters::append_own_parameters;
+use crate::separated_delimiter::append_delimiter;
 use p21_express_tables::Schema;
 use p21_express_types::EntityId;
 use p21_mapping_values::Need;
@@ -71,9 +71,9 @@ fn append_part<'a>(
     ensures needs { IfNone result (KeepsNeeds needs.old.items needs.new.items) }
 {
     let keyed = append_name_of(schema, owner, bytes, draft)?;
-    let inside = append_mark(b'(', keyed, draft)?;
-    let behind = append_own(schema, set, owner, inside, draft, needs)?;
-    let rest = append_mark(b')', behind, draft)?;
+    let inside = append_delimiter(b'(', keyed, draft)?;
+    let behind = append_own_parameters(schema, set, owner, inside, draft, needs)?;
+    let rest = append_delimiter(b')', behind, draft)?;
     Some(rest)
 }
 

@@ -1,21 +1,21 @@
 //! The parameters of an instance, at the attributes of its entity in their order (ISO 10303-21, mapping of EXPRESS entity
 //! data types: internal mapping).
 ghost use Rattle.std.specs.Prelude.{IfNone, IfSome};
-ghost use Rattle.p21_claim_values.specs.Needs.{FitsAtWith};
+ghost use Rattle.p21_claim_values.specs.Needs.{FitsAtWithNeeds};
 ghost use Rattle.p21_exchange.specs.Parameter.{more_tokens, params_tokens};
 ghost use Rattle.p21_files.specs.ValueText.{with_commas, with_commas_between};
 ghost use Rattle.p21_schemas.specs.PlaceType.{PlaceType};
-ghost use Rattle.p21_transcribe_instance.specs.Taking.{AreStepsIn, TakesSteps};
-ghost use Rattle.p21_transcribe_plan.specs.Steps.{IsStepIn, Says};
-ghost use Rattle.p21_transcribe_values.specs.Taken.{KeepsNeeds, TakesWithNeeds};
+ghost use Rattle.p21_transcribe_instance.specs.TakenParameters.{AreStepsIn, TakesSteps};
+ghost use Rattle.p21_transcribe_instance.specs.Steps.{IsStepForSome, IsStepFor};
+ghost use Rattle.p21_transcribe_instance.specs.TakenValues.{KeepsNeeds, TakesWithNeeds};
 ghost use Rattle.p21_values.specs.Canonical.{Continues};
 
-use crate::mark::append_mark;
+use crate::separated_delimiter::append_delimiter;
+use crate::step::Step;
+use crate::value::append_value;
 use p21_express_tables::Schema;
 use p21_mapping_values::Need;
 use p21_transcribe::{Draft, behind_separators};
-use p21_transcribe_plan::Step;
-use p21_transcribe_values::append_value;
 
 /// Appends the values at the front by what may stand at their attributes, with a comma between each two, and adds their
 /// references: what stands behind them.
@@ -53,7 +53,7 @@ fn append_others<'a>(
 {
     let mut rest = bytes;
     for step in steps {
-        let behind = append_mark(b',', rest, draft)?;
+        let behind = append_delimiter(b',', rest, draft)?;
         rest = append_place(schema, step, behind, draft, needs)?;
     }
     Some(rest)
@@ -68,8 +68,8 @@ fn append_place<'a>(
     draft: &mut Draft,
     needs: &mut Vec<Need>,
 ) -> Option<&'a [u8]>
-    requires { IsStepIn schema.now step.now }
-    ensures some { IfSome result (λ rest. (at : PlaceType) → Says schema.now at step.now → TakesWithNeeds schema.now (FitsAtWith schema.now at) 64 bytes.now rest.now draft.old draft.new needs.old.items needs.new.items) }
+    requires { IsStepForSome schema.now step.now }
+    ensures some { IfSome result (λ rest. (at : PlaceType) → IsStepFor schema.now at step.now → TakesWithNeeds schema.now (FitsAtWithNeeds schema.now at) 64 bytes.now rest.now draft.old draft.new needs.old.items needs.new.items) }
     ensures draft { IfNone result (Continues draft.old draft.new) }
     ensures needs { IfNone result (KeepsNeeds needs.old.items needs.new.items) }
 {

@@ -1,9 +1,9 @@
 //! Sets of entities that instances of external mapping had (ISO 10303-21, mapping of EXPRESS entity data types: external
 //! mapping).
 ghost use Rattle.std.specs.Prelude.{◌≡◌, [], List, ℕ, Some, slice_get, IfSome, IsTrue};
-ghost use Rattle.p21_express_tables.specs.Orders.{numbers};
+ghost use Rattle.p21_express_graph.specs.Orders.{numbers};
 ghost use Rattle.p21_schemas.specs.Schema.{Schema as Meant};
-ghost use Rattle.p21_transcribe_instance.specs.Usual.{AreUsual, IsUsual};
+ghost use Rattle.p21_transcribe_instance.specs.ExternalSet.{AreExternalSets, IsExternalSet};
 
 use p21_express_types::EntityId;
 use p21_values::NoMemory;
@@ -13,7 +13,7 @@ use std::marker::Model;
 /// So many sets are kept at most.
 const MOST: usize = 16;
 
-/// Sets of entities that were found to be usual, so that none is looked at again for each of its instances.
+/// Sets of entities that were found to be ones of external mapping, so that none is looked at again for each of its instances.
 #[derive(Drop)]
 pub struct Sets {
     all: Vec<Vec<EntityId>>,
@@ -23,11 +23,11 @@ pub struct Sets {
 
 impl Model for Sets {
     ghost use Rattle.std.specs.Prelude.{List, ℕ};
-    ghost use Rattle.p21_express_tables.specs.Orders.{tabled};
+    ghost use Rattle.p21_express_graph.specs.Orders.{number_lists};
 
     ghost Value = { List (List ℕ) };
 
-    ghost view = { λ sets. tabled sets.all.items };
+    ghost view = { λ sets. number_lists sets.all.items };
 }
 
 impl Sets {
@@ -75,7 +75,7 @@ impl Sets {
 
     /// Keeps a set, and answers its number. Where many are kept, those are given up first. None where memory runs out.
     pub(crate) fn keep(&mut self, set: Vec<EntityId>) -> Option<usize>
-        ensures { (s : Meant) → AreUsual s self.old → IsUsual s (numbers set.items) → AreUsual s self.new }
+        ensures { (s : Meant) → AreExternalSets s self.old → IsExternalSet s (numbers set.items) → AreExternalSets s self.new }
     {
         self.make_room();
         let at = self.all.len();
@@ -87,7 +87,7 @@ impl Sets {
 
     /// Gives up the sets, where many are kept.
     fn make_room(&mut self)
-        ensures { (s : Meant) → AreUsual s self.old → AreUsual s self.new }
+        ensures { (s : Meant) → AreExternalSets s self.old → AreExternalSets s self.new }
     {
         if self.all.len() >= MOST {
             self.all.clear();
@@ -96,7 +96,7 @@ impl Sets {
 
     /// Keeps a set behind the others.
     fn push(&mut self, set: Vec<EntityId>) -> Result<(), NoMemory>
-        ensures { (s : Meant) → AreUsual s self.old → IsUsual s (numbers set.items) → AreUsual s self.new }
+        ensures { (s : Meant) → AreExternalSets s self.old → IsExternalSet s (numbers set.items) → AreExternalSets s self.new }
     {
         self.all.push(set)?;
         Ok(())

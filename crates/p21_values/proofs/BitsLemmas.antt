@@ -13,7 +13,7 @@ use Rattle.p21_basics.proofs.Members.{head_is, tail_is}
 use Rattle.p21_exchange.specs.Binary.{has_bit, four_bits, SpellsBits}
 use Rattle.p21_basics.specs.Digits.{hex_digit}
 use Rattle.p21_exchange.specs.Spelling.{bits_spelling}
-use Rattle.p21_values.specs.Bits.{token_of, is_hex_digit, hex_value, bits_of_digits, bits_of}
+use Rattle.p21_values.specs.Bits.{binary_token, is_hex_digit, hex_value, bits_of_digits, bits_of}
 
 hex_back : (c : ℕ) → IsTrue (is_hex_digit c) → (hex_value c < 16) × (hex_digit (hex_value c) ≡ c)
 hex_back c h = (grind (arith, nat_tests), grind (arith, nat_tests))
@@ -69,14 +69,14 @@ padded_digits p first value rest digits h hex v e =
       λ t. let l = padded_small p (hex_value first) long h (hex_back first hex).0 t in grind (arith, nat_tests),
     )
 
-bits_of-token : (p : ℕ) (digits : List ℕ) → bits_of (token_of p digits) ≡ drop p (bits_of_digits digits)
+bits_of-token : (p : ℕ) (digits : List ℕ) → bits_of (binary_token p digits) ≡ drop p (bits_of_digits digits)
 bits_of-token p digits =
     let front : take (length (digits ++ (34 ∷ [])) - 1) (digits ++ (34 ∷ [])) ≡ digits = take_at digits (34 ∷ []) (length (digits ++ (34 ∷ [])) - 1) (omega (arith, length-append digits (34 ∷ []))) in
     let back : 48 + p - 48 ≡ p = omega arith in
     rw (front, back) refl
 
 -- the parts of a token that spells bits
-spelled_parts : (p : ℕ) (digits : List ℕ) (value : List Bool) → SpellsBits (token_of p digits) value
+spelled_parts : (p : ℕ) (digits : List ℕ) (value : List Bool) → SpellsBits (binary_token p digits) value
     → All (λ c. IsTrue (is_hex_digit c)) digits × (take p (bits_of_digits digits) ≡ replicate p false)
 spelled_parts p digits value s =
     let rest = tail_is 34 34 _ _ s.bytes_are in
@@ -91,7 +91,7 @@ spelled_parts p digits value s =
     )
 
 parts_spell : (p : ℕ) (digits : List ℕ) → p < 4 → All (λ c. IsTrue (is_hex_digit c)) digits → take p (bits_of_digits digits) ≡ replicate p false
-    → SpellsBits (token_of p digits) (bits_of (token_of p digits))
+    → SpellsBits (binary_token p digits) (bits_of (binary_token p digits))
 parts_spell p digits h hex e =
     let own = hex_values_back digits hex in
     record {
@@ -99,7 +99,7 @@ parts_spell p digits h hex e =
       hex_values = map hex_value digits;
       padding_is = h;
       are_hex_values = own.0;
-      bytes_are = ap (λ (ds : List ℕ). token_of p ds) (sym own.1);
+      bytes_are = ap (λ (ds : List ℕ). binary_token p ds) (sym own.1);
       value_is = sym (take-append-drop p (bits_of_digits digits)) ∙ ap (λ (bs : List Bool). bs ++ drop p (bits_of_digits digits)) e ∙ ap (λ (bs : List Bool). replicate p false ++ bs) (sym (bits_of-token p digits));
     }
 
@@ -110,9 +110,9 @@ bits_of-spelled bytes value s =
     ap bits_of s.bytes_are ∙ bits_of-token s.padding (map hex_digit s.hex_values) ∙ ap (drop s.padding) bits ∙ drop_at (replicate s.padding false) value s.padding (length-replicate s.padding false)
 
 -- a token with these parts spells bits exactly if its digits are hex digits that are padded
-pub parts_decide : (bytes : List ℕ) (p : ℕ) (digits : List ℕ) → bytes ≡ token_of p digits → p < 4
+pub parts_decide : (bytes : List ℕ) (p : ℕ) (digits : List ℕ) → bytes ≡ binary_token p digits → p < 4
     → (All (λ c. IsTrue (is_hex_digit c)) digits × (take p (bits_of_digits digits) ≡ replicate p false)) ↔ SpellsBits bytes (bits_of bytes)
-parts_decide bytes p digits e h = rw e (λ (hex, padding). parts_spell p digits h hex padding, spelled_parts p digits (bits_of (token_of p digits)))
+parts_decide bytes p digits e h = rw e (λ (hex, padding). parts_spell p digits h hex padding, spelled_parts p digits (bits_of (binary_token p digits)))
 
 pub length_token : (bytes : List ℕ) (value : List Bool) (d : ℕ) (s : SpellsBits bytes value) → (length bytes ≡ length s.hex_values + 3) × (get_or bytes 1 d ≡ 48 + s.padding)
 length_token bytes value d s = (

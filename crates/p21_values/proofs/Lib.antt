@@ -8,4 +8,4 @@ pub mod Significands
 pub mod StoredDecimals
 pub mod StoredWholes
 pub mod Added
-pub mod KeptLemmas
+pub mod ByteStorageLemmas

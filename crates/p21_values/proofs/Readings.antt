@@ -4,17 +4,17 @@ use Rattle.std.proofs.Math.Seq.{take-append_seam}
 use Rattle.std.proofs.lemmas.Bool.{cond_both, eqb-true}
 use Rattle.std.proofs.lemmas.List.{append-nil}
 use Rattle.p21_basics.specs.Digits.{AllDigits, number}
-use Rattle.p21_exchange.specs.Number.{Decimal, Exponent, IsInRange, IsShort, RealForm, SpellsReal, SpellsWhole, exponent, exponent_bytes, exponent_value, is_minus, minus, no_exponent, none, plus, real_ratio, sign_bytes, signed}
+use Rattle.p21_exchange.specs.Number.{Decimal, Exponent, IsInRange, IsShortExponent, RealForm, SpellsReal, SpellsWhole, exponent, exponent_bytes, exponent_value, is_minus, minus, no_exponent, none, plus, real_ratio, sign_bytes, signed}
 use Rattle.p21_exchange.proofs.Forms.{NoDigitFirst, NoSignFirst, behind_sign, first_sign, first_sign_bytes, no_digit_exponent, no_sign_first, same_form, sign_once, split_once}
 use Rattle.p21_exchange.proofs.RealSpellings.{form_ratio_once}
 use Rattle.p21_values.specs.declared.fault.ValueFault.{ValueFault}
 use Rattle.p21_values.specs.declared.fault.ValueFault.TheVariants.{BadBinary, BadName, BadNumber, BadWord, NameRange, NoMemory, NumberRange}
-use Rattle.p21_values.specs.Decimal.{KeepsRatio, ReadsReal}
-use Rattle.p21_values.specs.RealParts.{BeginsExponent, BeginsReal, HasExponentForm, ReadsExponent, SplitsReal, digits_ratio}
-use Rattle.p21_values.specs.Digits.{SignedDigits}
+use Rattle.p21_values.specs.Decimal.{ReducesRatio, ReadsReal}
+use Rattle.p21_values.specs.RealComponents.{BeginsExponent, BeginsReal, HasExponentForm, ReadsExponent, SplitsReal, digits_ratio}
+use Rattle.p21_values.specs.Digits.{AreSignedDigits}
 
 -- what stands behind the sign are the digits and nothing else
-pub signed_digits_once : (bytes digits rest : List ℕ) → behind_sign bytes ≡ digits ++ rest → AllDigits digits → NoDigitFirst rest → (n : Bool) (ds : List ℕ) → SignedDigits bytes n ds → (ds ≡ digits) × ([] ≡ rest)
+pub signed_digits_once : (bytes digits rest : List ℕ) → behind_sign bytes ≡ digits ++ rest → AllDigits digits → NoDigitFirst rest → (n : Bool) (ds : List ℕ) → AreSignedDigits bytes n ds → (ds ≡ digits) × ([] ≡ rest)
 signed_digits_once bytes digits rest e p q n ds s =
     let first : NoSignFirst ds = rw append-nil at (no_sign_first ds [] s.some_digits s.are_digits) in
     let again = (first_sign_bytes s.sign ds first).1 in
@@ -22,14 +22,14 @@ signed_digits_once bytes digits rest e p q n ds s =
 
 -- ---- the exponent
 
-pub no_exponent_form : (bytes rest : List ℕ) → bytes ≡ 69 ∷ rest → ((n : Bool) (ds : List ℕ) → SignedDigits rest n ds → ⊥) → (x : Exponent) → HasExponentForm bytes x → ⊥
+pub no_exponent_form : (bytes rest : List ℕ) → bytes ≡ 69 ∷ rest → ((n : Bool) (ds : List ℕ) → AreSignedDigits rest n ds → ⊥) → (x : Exponent) → HasExponentForm bytes x → ⊥
 no_exponent_form bytes rest e none_left no_exponent form = let clash : 69 ∷ rest ≡ [] = sym e ∙ form.bytes_are in cc
 no_exponent_form bytes rest e none_left (exponent sign digits) form =
     let same : 69 ∷ rest ≡ 69 ∷ (sign_bytes sign ++ digits) = sym e ∙ form.bytes_are in
     let tail : rest ≡ sign_bytes sign ++ digits = cc in
     none_left (is_minus sign) digits (record { sign = sign; bytes_are = tail; negative_is = refl; some_digits = form.is_exponent.0; are_digits = form.is_exponent.1 })
 
-pub exponent_form : (bytes rest : List ℕ) (n : Bool) (ds : List ℕ) → bytes ≡ 69 ∷ rest → (s : SignedDigits rest n ds) → HasExponentForm bytes (exponent s.sign ds)
+pub exponent_form : (bytes rest : List ℕ) (n : Bool) (ds : List ℕ) → bytes ≡ 69 ∷ rest → (s : AreSignedDigits rest n ds) → HasExponentForm bytes (exponent s.sign ds)
 exponent_form bytes rest n ds e s = record { bytes_are = e ∙ ap (λ (xs : List ℕ). 69 ∷ xs) s.bytes_are; is_exponent = (s.some_digits, s.are_digits) }
 
 -- ---- the parts of a real
@@ -88,14 +88,14 @@ reads_exponent_fault bytes negative whole fraction behind s BadNumber h =
     λ f. h f.power (record { bytes_are = behind_once bytes _ _ _ _ _ _ _ _ s (form_splits bytes f); is_exponent = f.is_exponent })
 reads_exponent_fault bytes negative whole fraction behind s NumberRange (x, form, long) =
     let own = form_of bytes negative whole fraction behind s x form in
-    (own, λ value spelled. long (subst IsShort (same_form bytes spelled.form own).power spelled.is_short))
+    (own, λ value spelled. long (subst IsShortExponent (same_form bytes spelled.form own).power spelled.is_short))
 reads_exponent_fault bytes negative whole fraction behind s BadBinary h = absurd h
 reads_exponent_fault bytes negative whole fraction behind s NameRange h = absurd h
 reads_exponent_fault bytes negative whole fraction behind s BadName h = absurd h
 reads_exponent_fault bytes negative whole fraction behind s BadWord h = absurd h
 reads_exponent_fault bytes negative whole fraction behind s NoMemory h = absurd h
 
-real_of_ratio : (bytes : List ℕ) (f : RealForm bytes) (r : Result Decimal ValueFault) → IsShort f.power → KeepsRatio (real_ratio f) r → ReadsReal bytes r
+real_of_ratio : (bytes : List ℕ) (f : RealForm bytes) (r : Result Decimal ValueFault) → IsShortExponent f.power → ReducesRatio (real_ratio f) r → ReadsReal bytes r
 real_of_ratio bytes f (Ok value) short (reduced, in_range, same) = record { form = f; is_short = short; in_range = in_range; is_reduced = reduced; same = same }
 real_of_ratio bytes f (Err NoMemory) short h = tt
 real_of_ratio bytes f (Err NumberRange) short h = (f, λ value spelled. h (subst IsInRange (form_ratio_once bytes spelled.form f) spelled.in_range))
@@ -106,11 +106,11 @@ real_of_ratio bytes f (Err BadName) short h = absurd h
 real_of_ratio bytes f (Err BadWord) short h = absurd h
 
 -- the number of the parts is that of the real
-pub reads_parts : (bytes : List ℕ) (negative : Bool) (whole fraction behind : List ℕ) (k : ℤ) (r : Result Decimal ValueFault) → SplitsReal bytes negative whole fraction behind → ReadsExponent behind (Ok k) → KeepsRatio (digits_ratio negative whole fraction k) r → ReadsReal bytes r
+pub reads_parts : (bytes : List ℕ) (negative : Bool) (whole fraction behind : List ℕ) (k : ℤ) (r : Result Decimal ValueFault) → SplitsReal bytes negative whole fraction behind → ReadsExponent behind (Ok k) → ReducesRatio (digits_ratio negative whole fraction k) r → ReadsReal bytes r
 unfolding form_of
 reads_parts bytes negative whole fraction behind k r s (x, form, short, value) h =
     real_of_ratio bytes (form_of bytes negative whole fraction behind s x form) r short (
-    subst (λ (b : Bool). KeepsRatio (digits_ratio b whole fraction (exponent_value x)) r) s.negative_is (subst (λ (z : ℤ). KeepsRatio (digits_ratio negative whole fraction z) r) value h))
+    subst (λ (b : Bool). ReducesRatio (digits_ratio b whole fraction (exponent_value x)) r) s.negative_is (subst (λ (z : ℤ). ReducesRatio (digits_ratio negative whole fraction z) r) value h))
 
 -- ---- a number at the front
 
@@ -146,7 +146,7 @@ module _ (bytes whole rest : List ℕ) (unsigned : behind_sign bytes ≡ whole +
   }
 
   -- the number of the parts is that of the bytes up to what stands behind
-  pub front_real : (negative : Bool) (decimals fraction behind tail : List ℕ) (k : ℤ) (value : Decimal) → negative ≡ is_minus (first_sign bytes) → rest ≡ 46 ∷ decimals → decimals ≡ fraction ++ behind → AllDigits fraction → BeginsExponent behind k tail → KeepsRatio (digits_ratio negative whole fraction k) (Ok value)
+  pub front_real : (negative : Bool) (decimals fraction behind tail : List ℕ) (k : ℤ) (value : Decimal) → negative ≡ is_minus (first_sign bytes) → rest ≡ 46 ∷ decimals → decimals ≡ fraction ++ behind → AllDigits fraction → BeginsExponent behind k tail → ReducesRatio (digits_ratio negative whole fraction k) (Ok value)
       → SpellsReal (take (length bytes - length tail) bytes) value
   front_real negative decimals fraction behind tail k value n e f are x h =
       reads_parts _ negative whole fraction (exponent_bytes x.exponent) k (Ok value) splits (x.exponent, record { bytes_are = refl; is_exponent = x.is_exponent }, x.is_short, x.value_is) h

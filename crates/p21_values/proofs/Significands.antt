@@ -5,12 +5,12 @@ use Rattle.std.proofs.Math.Nat.{pow-succ', zero-mul}
 use Rattle.std.proofs.Math.Seq.{take-append-add}
 use Rattle.p21_basics.specs.Digits.{AllDigits, number}
 use Rattle.p21_basics.proofs.PlainDigits.{digits_append, number_append}
-use Rattle.p21_values.specs.Digits.{NoZeroFirst, WithoutEndZeros, WithoutFrontZeros}
+use Rattle.p21_values.specs.Digits.{HasNoLeadingZero, WithoutTrailingZeros, WithoutLeadingZeros}
 use Rattle.p21_values.proofs.DigitRuns.{digits_parts}
 
 -- ---- in front
 
-pub front_empty : (w v f g : List ℕ) → length v ≡ 0 → WithoutFrontZeros w v → WithoutFrontZeros f g → WithoutFrontZeros (w ++ f) (v ++ g)
+pub front_empty : (w v f g : List ℕ) → length v ≡ 0 → WithoutLeadingZeros w v → WithoutLeadingZeros f g → WithoutLeadingZeros (w ++ f) (v ++ g)
 front_empty w (d ∷ v) f g empty whole fraction = absurd (omega arith)
 front_empty w [] f g empty whole fraction =
     let none : number w ≡ 0 = sym whole.same in
@@ -20,11 +20,11 @@ front_empty w [] f g empty whole fraction =
       same = fraction.same ∙ sym (number_append w f ∙ (omega (arith, ap (λ (n : ℕ). n * 10 ^ length f) none, zero-mul (10 ^ length f))));
     }
 
-first_kept : (v f : List ℕ) → 0 < length v → NoZeroFirst v → NoZeroFirst (v ++ f)
+first_kept : (v f : List ℕ) → 0 < length v → HasNoLeadingZero v → HasNoLeadingZero (v ++ f)
 first_kept [] f some first = absurd (omega arith)
 first_kept (d ∷ v) f some first = first
 
-pub front_kept : (w v f : List ℕ) → 0 < length v → AllDigits f → WithoutFrontZeros w v → WithoutFrontZeros (w ++ f) (v ++ f)
+pub front_kept : (w v f : List ℕ) → 0 < length v → AllDigits f → WithoutLeadingZeros w v → WithoutLeadingZeros (w ++ f) (v ++ f)
 front_kept w v f some digits whole =
     record {
       are_digits = digits_append v f whole.are_digits digits;
@@ -37,10 +37,10 @@ front_kept w v f some digits whole =
 regroup : (n x y : ℕ) → n * x * y ≡ n * (x * y)
 regroup n x y = grind arith
 
-pub end_empty : (w v f g : List ℕ) → length g ≡ 0 → WithoutEndZeros f g → WithoutEndZeros w v → WithoutEndZeros (w ++ f) (v ++ g)
+pub end_empty : (w v f g : List ℕ) → length g ≡ 0 → WithoutTrailingZeros f g → WithoutTrailingZeros w v → WithoutTrailingZeros (w ++ f) (v ++ g)
 end_empty w v f (d ∷ g) empty fraction whole = absurd (omega arith)
 end_empty w v f [] empty fraction whole =
-    subst (WithoutEndZeros (w ++ f)) (sym (append-nil v)) (
+    subst (WithoutTrailingZeros (w ++ f)) (sym (append-nil v)) (
     let none : number f ≡ 0 = fraction.same ∙ zero-mul (10 ^ (length f - 0)) in
     let lengths = length-append w f in
     record {
@@ -55,7 +55,7 @@ end_empty w v f [] empty fraction whole =
 regroup_sum : (n x m y : ℕ) → n * (x * y) + m * y ≡ (n * x + m) * y
 regroup_sum n x m y = grind arith
 
-pub end_kept : (w f g : List ℕ) → 0 < length g → WithoutEndZeros f g → WithoutEndZeros (w ++ f) (w ++ g)
+pub end_kept : (w f g : List ℕ) → 0 < length g → WithoutTrailingZeros f g → WithoutTrailingZeros (w ++ f) (w ++ g)
 end_kept w f g some fraction =
     let short = length-append w g in
     let long = length-append w f in
@@ -79,14 +79,14 @@ end_kept w f g some fraction =
 take_digits : (k : ℕ) (xs : List ℕ) → AllDigits xs → AllDigits (take k xs)
 take_digits k xs p = (digits_parts (take k xs) (drop k xs) (subst AllDigits (sym (take-append-drop k xs)) p)).0
 
-take_first : (k : ℕ) (xs : List ℕ) → NoZeroFirst xs → NoZeroFirst (take k xs)
+take_first : (k : ℕ) (xs : List ℕ) → HasNoLeadingZero xs → HasNoLeadingZero (take k xs)
 take_first zero xs p = tt
 take_first (suc k) [] p = tt
 take_first (suc k) (x ∷ xs) p = p
 
 -- what is left without the zeros at the end are digits, of which the first is no zero
-pub kept_digits : (xs ys : List ℕ) → WithoutEndZeros xs ys → AllDigits xs → AllDigits ys
+pub kept_digits : (xs ys : List ℕ) → WithoutTrailingZeros xs ys → AllDigits xs → AllDigits ys
 kept_digits xs ys h p = rw h.front (take_digits (length ys) xs p)
 
-pub kept_first : (xs ys : List ℕ) → WithoutEndZeros xs ys → NoZeroFirst xs → NoZeroFirst ys
+pub kept_first : (xs ys : List ℕ) → WithoutTrailingZeros xs ys → HasNoLeadingZero xs → HasNoLeadingZero ys
 kept_first xs ys h p = rw h.front (take_first (length ys) xs p)

@@ -13,24 +13,24 @@ use mathlib.Core.Bool.{beq, not}
 use borrow.Author.Differences.{up, down}
 use Rattle.p21_basics.specs.Digits.{AllDigits, number, plain_digits}
 use Rattle.p21_exchange.specs.Number.{Decimal, HasNormalisedExponent, IsExponentInRange, IsInRange, IsReduced, Ratio, SameRatio, ratio_of, scaled, signed, whole_ratio}
-use Rattle.p21_exchange.specs.Spelling.{exponent_spelling, minus_bytes, normalised_exponent, pointed, real_spelling}
+use Rattle.p21_exchange.specs.Spelling.{exponent_spelling, minus_bytes, normalised_exponent, digits_with_point, real_spelling}
 use Rattle.p21_exchange.proofs.Exponents.{exponent_of_same, has_exponent, in_range_by, in_range_of_same, zero_has_no_exponent}
 use Rattle.p21_basics.proofs.PlainDigits.{plain_high, plain_low}
 use Rattle.p21_exchange.proofs.Ratios.{ratio-positive, same_scaled, same_zero}
 use Rattle.p21_exchange.proofs.ReducedDecimals.{reduced_once, same_decimal}
 use Rattle.p21_exchange.proofs.SignedNumbers.{abs_signed, signed-times, signed-zero, signed_once}
-use Rattle.p21_values.specs.Decimal.{IsDecimal, KeepsRatio, decimal_eq}
-use Rattle.p21_values.specs.RealParts.{digits_ratio}
+use Rattle.p21_values.specs.Decimal.{IsDecimal, ReducesRatio, decimal_eq}
+use Rattle.p21_values.specs.RealComponents.{digits_ratio}
 use Rattle.p21_values.specs.Stored.{IsStoredDecimal, significand_spelling, stored_decimal}
 use Rattle.p21_values.specs.declared.fault.ValueFault.{ValueFault}
-use Rattle.p21_values.specs.Digits.{NoZeroFirst, WithoutEndZeros, WithoutFrontZeros}
+use Rattle.p21_values.specs.Digits.{HasNoLeadingZero, WithoutTrailingZeros, WithoutLeadingZeros}
 use Rattle.p21_values.proofs.Significands.{kept_digits, kept_first}
 use Rattle.p21_values.proofs.SignificantDigits.{significant_once, significant_plain, significant_positive, significant_spelling}
 
 -- ---- what is stored is a reduced number in range
 
 -- the exponent that is stored is the normalised one
-stored_exponent : (n : Bool) (ds : List ℕ) (k : ℤ) → AllDigits ds → NoZeroFirst ds → 0 < length ds → HasNormalisedExponent (ratio_of (stored_decimal n ds k)) k
+stored_exponent : (n : Bool) (ds : List ℕ) (k : ℤ) → AllDigits ds → HasNoLeadingZero ds → 0 < length ds → HasNormalisedExponent (ratio_of (stored_decimal n ds k)) k
 stored_exponent n ds k digits first some =
     let plain = significant_plain ds digits first some in
     let positive = significant_positive ds digits first some in
@@ -64,7 +64,7 @@ minus_positive n ds k s e = significant_positive ds s.are_digits s.first (s.minu
 joined : (a x b y c z : List ℕ) → a ≡ x → b ≡ y → c ≡ z → a ++ (b ++ c) ≡ (x ++ y) ++ z
 joined a x b y c z p q r = rw (p, q, r) (sym (append_assoc x y z))
 
-digits_back : (n : Bool) (ds : List ℕ) → AllDigits ds → NoZeroFirst ds → 0 < length ds → plain_digits (nat_abs (signed n (number ds))) ≡ ds
+digits_back : (n : Bool) (ds : List ℕ) → AllDigits ds → HasNoLeadingZero ds → 0 < length ds → plain_digits (nat_abs (signed n (number ds))) ≡ ds
 digits_back n ds digits first some = ap plain_digits (abs_signed n (number ds)) ∙ significant_spelling ds digits first some
 
 pub stored_spelling : (n : Bool) (ds : List ℕ) (k : ℤ) → IsStoredDecimal n ds k → real_spelling (stored_decimal n ds k) ≡ (cond n (45 ∷ []) [] ++ significand_spelling ds) ++ exponent_spelling k
@@ -75,7 +75,7 @@ stored_spelling false [] k s =
 stored_spelling n (d ∷ ds) k s =
     let back = digits_back n (d ∷ ds) s.are_digits s.first (omega arith) in
     let exponents : normalised_exponent (stored_decimal n (d ∷ ds) k) ≡ k = omega (arith, ints, ap length back) in
-    joined _ _ _ _ _ _ (minus_is n (number (d ∷ ds)) (minus_positive n (d ∷ ds) k s)) (ap pointed back) (ap exponent_spelling exponents)
+    joined _ _ _ _ _ _ (minus_is n (number (d ∷ ds)) (minus_positive n (d ∷ ds) k s)) (ap digits_with_point back) (ap exponent_spelling exponents)
 
 -- ---- equality
 
@@ -139,7 +139,7 @@ same_ratio n all ds t p written k numbers some exponents =
     let last = k -ℤ pos (length ds - 1) in
     same_scaled n (number all) (number ds) t (up written) (p + down written) (up last) (down last) numbers (omega (arith, ints, exponents))
 
-pub reads_zero : (n : Bool) (whole fraction : List ℕ) (written : ℤ) → number (whole ++ fraction) ≡ 0 → KeepsRatio (digits_ratio n whole fraction written) (Ok (stored_decimal false [] (pos 0)))
+pub reads_zero : (n : Bool) (whole fraction : List ℕ) (written : ℤ) → number (whole ++ fraction) ≡ 0 → ReducesRatio (digits_ratio n whole fraction written) (Ok (stored_decimal false [] (pos 0)))
 reads_zero n whole fraction written none_left =
     let is_zero : signed n (number (whole ++ fraction)) ≡ pos 0 = ap (signed n) none_left ∙ signed-zero n in (
       λ multiple. (refl, omega (arith, ints)),
@@ -147,25 +147,25 @@ reads_zero n whole fraction written none_left =
       subst (λ (z : ℤ). SameRatio (scaled z (up written) (length fraction + down written)) (ratio_of (stored_decimal false [] (pos 0)))) (sym is_zero) (same_zero (up written) (length fraction + down written) 0 0),
     )
 
-reads_stored : (n : Bool) (whole fraction ds : List ℕ) (t : ℕ) (written k : ℤ) → IsStoredDecimal n ds k → 0 < length ds → number (whole ++ fraction) ≡ number ds * 10 ^ t → k ≡ written +ℤ pos (length ds + t - 1) -ℤ pos (length fraction) → KeepsRatio (digits_ratio n whole fraction written) (Ok (stored_decimal n ds k))
+reads_stored : (n : Bool) (whole fraction ds : List ℕ) (t : ℕ) (written k : ℤ) → IsStoredDecimal n ds k → 0 < length ds → number (whole ++ fraction) ≡ number ds * 10 ^ t → k ≡ written +ℤ pos (length ds + t - 1) -ℤ pos (length fraction) → ReducesRatio (digits_ratio n whole fraction written) (Ok (stored_decimal n ds k))
 reads_stored n whole fraction ds t written k s some numbers exponents =
     let value = stored_decimal n ds k in
     let ratio = digits_ratio n whole fraction written in
     let same = same_ratio n (whole ++ fraction) ds t (length fraction) written k numbers some exponents in
     (stored_reduced n ds k s, in_range_of_same (ratio_of value) ratio (ratio-positive value) (one-le-pow (length fraction + down written) 10 (omega arith)) (sym same) (stored_in_range n ds k s), same)
 
-pub reads_far : (n : Bool) (whole fraction ds : List ℕ) (written k : ℤ) → AllDigits ds → NoZeroFirst ds → 0 < length ds → number (whole ++ fraction) ≡ number ds → k ≡ written +ℤ pos (length ds - 1) -ℤ pos (length fraction) → (IsExponentInRange k → ⊥) → IsInRange (digits_ratio n whole fraction written) → ⊥
+pub reads_far : (n : Bool) (whole fraction ds : List ℕ) (written k : ℤ) → AllDigits ds → HasNoLeadingZero ds → 0 < length ds → number (whole ++ fraction) ≡ number ds → k ≡ written +ℤ pos (length ds - 1) -ℤ pos (length fraction) → (IsExponentInRange k → ⊥) → IsInRange (digits_ratio n whole fraction written) → ⊥
 reads_far n whole fraction ds written k digits first some numbers exponents far in_range =
     let value = stored_decimal n ds k in
     let ratio = digits_ratio n whole fraction written in
     let same = same_ratio n (whole ++ fraction) ds 0 (length fraction) written k (omega (arith, numbers)) some (omega (arith, ints, exponents)) in
     far (in_range k (exponent_of_same (ratio_of value) ratio k (ratio-positive value) (one-le-pow (length fraction + down written) 10 (omega arith)) (sym same) (stored_exponent n ds k digits first some)))
 
-kept_some : (all front ds : List ℕ) → WithoutFrontZeros all front → 0 < length front → WithoutEndZeros front ds → 0 < length ds
+kept_some : (all front ds : List ℕ) → WithoutLeadingZeros all front → 0 < length front → WithoutTrailingZeros front ds → 0 < length ds
 kept_some all front [] f some e = absurd (omega (arith, significant_positive front f.are_digits f.first some, e.same, zero-mul (10 ^ (length front - 0))))
 kept_some all front (d ∷ ds) f some e = omega arith
 
-pub stored_of_digits : (n : Bool) (all front ds : List ℕ) (k : ℤ) → WithoutFrontZeros all front → 0 < length front → WithoutEndZeros front ds → IsExponentInRange k → IsStoredDecimal n ds k
+pub stored_of_digits : (n : Bool) (all front ds : List ℕ) (k : ℤ) → WithoutLeadingZeros all front → 0 < length front → WithoutTrailingZeros front ds → IsExponentInRange k → IsStoredDecimal n ds k
 stored_of_digits n all front ds k f some e near =
     let kept = kept_some all front ds f some e in
     record {
@@ -177,7 +177,7 @@ stored_of_digits n all front ds k f some e near =
       in_range = near;
     }
 
-pub reads_digits : (n : Bool) (whole fraction front ds : List ℕ) (written k : ℤ) → WithoutFrontZeros (whole ++ fraction) front → 0 < length front → WithoutEndZeros front ds → k ≡ written +ℤ pos (length front - 1) -ℤ pos (length fraction) → IsExponentInRange k → KeepsRatio (digits_ratio n whole fraction written) (Ok (stored_decimal n ds k))
+pub reads_digits : (n : Bool) (whole fraction front ds : List ℕ) (written k : ℤ) → WithoutLeadingZeros (whole ++ fraction) front → 0 < length front → WithoutTrailingZeros front ds → k ≡ written +ℤ pos (length front - 1) -ℤ pos (length fraction) → IsExponentInRange k → ReducesRatio (digits_ratio n whole fraction written) (Ok (stored_decimal n ds k))
 reads_digits n whole fraction front ds written k f some e exponents near =
     reads_stored n whole fraction ds (length front - length ds) written k (stored_of_digits n (whole ++ fraction) front ds k f some e near) (kept_some (whole ++ fraction) front ds f some e) (sym f.same ∙ e.same) (omega (arith, ints, exponents, e.shorter))
 
@@ -187,24 +187,24 @@ digits_of_whole n ds =
     let once : signed n (number ds) *ℤ pos 1 ≡ signed n (number ds) = signed-times n (number ds) 1 ∙ ap (signed n) (omega arith) in
     rw append-nil (ap (λ (z : ℤ). let r : Ratio = record { numerator = z; denominator = 1 } in r) once)
 
-pub reads_whole : (n : Bool) (ds : List ℕ) (z : ℤ) (r : Result Decimal ValueFault) → signed n (number ds) ≡ z → KeepsRatio (digits_ratio n ds [] (pos 0)) r → KeepsRatio (whole_ratio z) r
-reads_whole n ds z r e h = subst (λ (x : Ratio). KeepsRatio x r) (digits_of_whole n ds ∙ ap whole_ratio e) h
+pub reads_whole : (n : Bool) (ds : List ℕ) (z : ℤ) (r : Result Decimal ValueFault) → signed n (number ds) ≡ z → ReducesRatio (digits_ratio n ds [] (pos 0)) r → ReducesRatio (whole_ratio z) r
+reads_whole n ds z r e h = subst (λ (x : Ratio). ReducesRatio x r) (digits_of_whole n ds ∙ ap whole_ratio e) h
 
 -- ---- the exponent that is written
 
-exponent_digits : (ds : List ℕ) (m : ℕ) → AllDigits ds → NoZeroFirst ds → number ds ≡ suc m → plain_digits (suc m) ≡ ds
+exponent_digits : (ds : List ℕ) (m : ℕ) → AllDigits ds → HasNoLeadingZero ds → number ds ≡ suc m → plain_digits (suc m) ≡ ds
 exponent_digits [] m digits first e = absurd (omega (arith, e))
 exponent_digits (d ∷ ds) m digits first e = ap plain_digits (sym e) ∙ significant_spelling (d ∷ ds) digits first (omega arith)
 
-written_digits : (z : ℤ) (ds : List ℕ) → AllDigits ds → NoZeroFirst ds → number ds ≡ nat_abs z → (z ≡ pos 0 → ⊥) → exponent_spelling z ≡ 69 ∷ (minus_bytes z ++ ds)
+written_digits : (z : ℤ) (ds : List ℕ) → AllDigits ds → HasNoLeadingZero ds → number ds ≡ nat_abs z → (z ≡ pos 0 → ⊥) → exponent_spelling z ≡ 69 ∷ (minus_bytes z ++ ds)
 written_digits (pos zero) ds digits first e other = absurd (other refl)
 written_digits (pos (suc m)) ds digits first e other = ap (λ (xs : List ℕ). 69 ∷ xs) (exponent_digits ds m digits first e)
 written_digits (negsuc m) ds digits first e other = ap (λ (xs : List ℕ). 69 ∷ 45 ∷ xs) (exponent_digits ds m digits first e)
 
-pub positive_exponent : (z : ℤ) (all ds : List ℕ) → WithoutFrontZeros all ds → number all ≡ nat_abs z → (z ≡ pos 0 → ⊥) → pos 0 ≤ℤ z → exponent_spelling z ≡ 69 ∷ ds
+pub positive_exponent : (z : ℤ) (all ds : List ℕ) → WithoutLeadingZeros all ds → number all ≡ nat_abs z → (z ≡ pos 0 → ⊥) → pos 0 ≤ℤ z → exponent_spelling z ≡ 69 ∷ ds
 positive_exponent (pos m) all ds f e other sign = written_digits (pos m) ds f.are_digits f.first (f.same ∙ e) other
 positive_exponent (negsuc m) all ds f e other sign = absurd (omega (arith, ints, sign))
 
-pub negative_exponent : (z : ℤ) (all ds : List ℕ) → WithoutFrontZeros all ds → number all ≡ nat_abs z → (z ≡ pos 0 → ⊥) → z <ℤ pos 0 → exponent_spelling z ≡ 69 ∷ 45 ∷ ds
+pub negative_exponent : (z : ℤ) (all ds : List ℕ) → WithoutLeadingZeros all ds → number all ≡ nat_abs z → (z ≡ pos 0 → ⊥) → z <ℤ pos 0 → exponent_spelling z ≡ 69 ∷ 45 ∷ ds
 negative_exponent (pos m) all ds f e other sign = absurd (omega (arith, ints, sign))
 negative_exponent (negsuc m) all ds f e other sign = written_digits (negsuc m) ds f.are_digits f.first (f.same ∙ e) other

@@ -4,8 +4,8 @@ use Rattle.std.specs.List.{flat_map}
 use Rattle.p21_exchange.specs.Binary.{four_bits}
 
 -- between quotes, the digit that counts the padding, and the hex digits
-abbrev pub token_of : ℕ → List ℕ → List ℕ
-token_of padding digits = 34 ∷ (48 + padding) ∷ (digits ++ (34 ∷ []))
+abbrev pub binary_token : ℕ → List ℕ → List ℕ
+binary_token padding digits = 34 ∷ (48 + padding) ∷ (digits ++ (34 ∷ []))
 
 -- `0` to `9` and `A` to `F`
 abbrev pub is_hex_digit : ℕ → Bool

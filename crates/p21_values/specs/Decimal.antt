@@ -23,8 +23,8 @@ ReadsReal bytes (Err NumberRange) = RealForm bytes × ((value : Decimal) → Spe
 ReadsReal bytes (Err fault) = ⊥
 
 -- the reduced number of the ratio, which is in range; else it is not
-abbrev pub KeepsRatio : Ratio → Result Decimal ValueFault → Type 0
-KeepsRatio ratio (Ok value) = IsReduced value × IsInRange ratio × SameRatio ratio (ratio_of value)
-KeepsRatio ratio (Err NoMemory) = Unit {0}
-KeepsRatio ratio (Err NumberRange) = IsInRange ratio → ⊥
-KeepsRatio ratio (Err fault) = ⊥
+abbrev pub ReducesRatio : Ratio → Result Decimal ValueFault → Type 0
+ReducesRatio ratio (Ok value) = IsReduced value × IsInRange ratio × SameRatio ratio (ratio_of value)
+ReducesRatio ratio (Err NoMemory) = Unit {0}
+ReducesRatio ratio (Err NumberRange) = IsInRange ratio → ⊥
+ReducesRatio ratio (Err fault) = ⊥

@@ -4,11 +4,11 @@ pub mod Fault
 pub mod Name
 pub mod Digits
 pub mod Decimal
-pub mod RealParts
-pub mod Kept
+pub mod RealComponents
+pub mod ByteStorage
 pub mod Stored
 pub mod Word
-pub mod Front
+pub mod Prefix
 -- What the clauses of its calls cite, for callers who name this crate alone
 pub use Rattle.p21_basics.specs as p21_basics
 pub use Rattle.p21_exchange.specs as p21_exchange

@@ -2,12 +2,12 @@
 use Rattle.std.specs.Prelude.{◌≡◌, ℕ, ◌-◌, ◌<◌, ◌%◌, ℤ, pos, ◌-ℤ◌, Bool, true, List, [], ◌∷◌, length}
 use Rattle.p21_basics.specs.Digits.{AllDigits, number}
 use Rattle.p21_exchange.specs.Number.{Decimal, IsExponentInRange, signed}
-use Rattle.p21_exchange.specs.Spelling.{pointed}
-use Rattle.p21_values.specs.Digits.{NoZeroFirst}
+use Rattle.p21_exchange.specs.Spelling.{digits_with_point}
+use Rattle.p21_values.specs.Digits.{HasNoLeadingZero}
 
 pub record IsStoredWhole (negative : Bool) (digits : List ℕ) : Type 0 where
   pub are_digits : AllDigits digits
-  pub first : NoZeroFirst digits
+  pub first : HasNoLeadingZero digits
   pub minus : negative ≡ true → 0 < length digits
 
 -- digits of which the first stands before the point, and the exponent of that form
@@ -17,7 +17,7 @@ stored_decimal negative digits exponent = record { significand = signed negative
 -- no zero at either end: zero has no digits, no sign and the exponent 0
 pub record IsStoredDecimal (negative : Bool) (digits : List ℕ) (exponent : ℤ) : Type 0 where
   pub are_digits : AllDigits digits
-  pub first : NoZeroFirst digits
+  pub first : HasNoLeadingZero digits
   pub last : number digits % 10 ≡ 0 → digits ≡ []
   pub minus : negative ≡ true → 0 < length digits
   pub zero : digits ≡ [] → exponent ≡ pos 0
@@ -25,5 +25,5 @@ pub record IsStoredDecimal (negative : Bool) (digits : List ℕ) (exponent : ℤ
 
 -- the stored digits, the first before the point
 abbrev pub significand_spelling : List ℕ → List ℕ
-significand_spelling [] = pointed (48 ∷ [])
-significand_spelling (digit ∷ digits) = pointed (digit ∷ digits)
+significand_spelling [] = digits_with_point (48 ∷ [])
+significand_spelling (digit ∷ digits) = digits_with_point (digit ∷ digits)

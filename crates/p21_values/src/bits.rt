@@ -1,6 +1,6 @@
 ghost use Rattle.std.specs.Prelude.{◌≡◌, ℕ, ◌<◌, ◌↔◌, false, List, take, replicate, All, IsTrue, IfNone, IfSome};
 ghost use Rattle.p21_exchange.specs.Binary.{SpellsBits};
-ghost use Rattle.p21_values.specs.Bits.{token_of, is_hex_digit, hex_value, bits_of_digits, bits_of};
+ghost use Rattle.p21_values.specs.Bits.{binary_token, is_hex_digit, hex_value, bits_of_digits, bits_of};
 
 use crate::bytes::Bytes;
 use crate::canonical::Canonical;
@@ -69,9 +69,9 @@ fn is_binary(bytes: &[u8]) -> bool
 
 /// How many bits are padding, and the hex digits.
 fn split_token(bytes: &[u8]) -> Option<(u8, &[u8])>
-    ensures none { IfNone result ((padding : ℕ) (digits : List ℕ) → padding < 4 → bytes.now ≡ token_of padding digits → ⊥) }
+    ensures none { IfNone result ((padding : ℕ) (digits : List ℕ) → padding < 4 → bytes.now ≡ binary_token padding digits → ⊥) }
     ensures padding { IfSome result (λ parts. parts.0 < 4) }
-    ensures parts { IfSome result (λ parts. bytes.now ≡ token_of parts.0 parts.1.now) }
+    ensures parts { IfSome result (λ parts. bytes.now ≡ binary_token parts.0 parts.1.now) }
 {
     let (open, rest) = bytes.split_first()?;
     let (padding, rest) = rest.split_first()?;

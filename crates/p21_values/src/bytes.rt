@@ -10,7 +10,7 @@ use std::ops::DerefSlice;
 const SHORT: usize = 24;
 
 #[derive(Drop)]
-enum Kept {
+enum ByteStorage {
     // Their count, in so many bytes that the others are aligned: then they are copied as words.
     Short(u32, [u8; SHORT]),
     Long(Vec<u8>),
@@ -19,18 +19,18 @@ enum Kept {
 /// Bytes that don't change.
 #[derive(Drop)]
 pub(crate) struct Bytes {
-    kept: Kept,
+    kept: ByteStorage,
 }
 
 impl Model for Bytes {
     ghost use Rattle.std.specs.Prelude.{ℕ, List};
-    ghost use Rattle.p21_values.specs.Kept.{IsKept, kept_bytes};
+    ghost use Rattle.p21_values.specs.ByteStorage.{FitsStorage, stored_bytes};
 
     ghost Value = { List ℕ };
 
-    ghost view = { λ bytes. kept_bytes bytes.kept };
+    ghost view = { λ bytes. stored_bytes bytes.kept };
 
-    ghost invariant = { λ bytes. IsKept bytes.kept };
+    ghost invariant = { λ bytes. FitsStorage bytes.kept };
 }
 
 impl Bytes {
@@ -38,7 +38,7 @@ impl Bytes {
         ensures { result ≡ [] }
     {
         Bytes {
-            kept: Kept::Short(0, [0; SHORT]),
+            kept: ByteStorage::Short(0, [0; SHORT]),
         }
     }
 
@@ -49,7 +49,7 @@ impl Bytes {
     }
 
     /// The bytes of both lists, one behind the other.
-    #[tactic(auto, using(crate::proofs::KeptLemmas::both_copied))]
+    #[tactic(auto, using(crate::proofs::ByteStorageLemmas::both_copied))]
     pub(crate) fn of_both(alloc: Global, front: &[u8], behind: &[u8]) -> Result<Bytes, AllocError>
         ensures { IfOk result (λ kept. kept ≡ front.now ++ behind.now) }
     {
@@ -61,7 +61,7 @@ impl Bytes {
         bytes[..front.len()].copy_from_slice(front);
         bytes[front.len()..count].copy_from_slice(behind);
         Ok(Bytes {
-            kept: Kept::Short(count as u32, bytes),
+            kept: ByteStorage::Short(count as u32, bytes),
         })
     }
 
@@ -77,7 +77,7 @@ impl Bytes {
         let mut place = [0; SHORT];
         place.copy_from_slice(&bytes[..SHORT]);
         Ok(Bytes {
-            kept: Kept::Short(count as u32, place),
+            kept: ByteStorage::Short(count as u32, place),
         })
     }
 
@@ -97,7 +97,7 @@ fn long(alloc: Global, front: &[u8], behind: &[u8]) -> Result<Bytes, AllocError>
     bytes.extend_from_slice(front)?;
     bytes.extend_from_slice(behind)?;
     Ok(Bytes {
-        kept: Kept::Long(bytes),
+        kept: ByteStorage::Long(bytes),
     })
 }
 
@@ -110,8 +110,8 @@ impl DerefSlice for Bytes {
 
     fn deref(&self) -> &[u8] {
         match &self.kept {
-            Kept::Short(count, bytes) => &bytes[..*count as usize],
-            Kept::Long(bytes) => bytes.as_slice(),
+            ByteStorage::Short(count, bytes) => &bytes[..*count as usize],
+            ByteStorage::Long(bytes) => bytes.as_slice(),
         }
     }
 }

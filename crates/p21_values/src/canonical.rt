@@ -31,7 +31,7 @@ pub trait Canonical {
 
 /// Answers whether all was written, and leaves only the first bytes where memory ran out on the way. It takes no
 /// memory.
-pub fn or_restored(
+pub fn restore_on_failure(
     out: &mut Vec<u8>,
     before: usize,
     written: Result<(), NoMemory>,

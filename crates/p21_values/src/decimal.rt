@@ -3,16 +3,16 @@ ghost use Rattle.p21_basics.specs.Digits.{AllDigits, number};
 ghost use Rattle.p21_exchange.specs.Number.{IsExponentInRange, RealForm, signed, whole_ratio};
 ghost use Rattle.p21_exchange.specs.Spelling.{exponent_spelling, real_spelling};
 ghost use Rattle.p21_values.specs.Canonical.{Continues};
-ghost use Rattle.p21_values.specs.Decimal.{IsDecimal, KeepsRatio, ReadsReal};
-ghost use Rattle.p21_values.specs.RealParts.{BeginsExponent, BeginsReal, ReadsExponent, SplitsReal, digits_ratio};
+ghost use Rattle.p21_values.specs.Decimal.{IsDecimal, ReducesRatio, ReadsReal};
+ghost use Rattle.p21_values.specs.RealComponents.{BeginsExponent, BeginsReal, ReadsExponent, SplitsReal, digits_ratio};
 ghost use Rattle.p21_values.specs.Stored.{significand_spelling};
-ghost use Rattle.p21_values.specs.Digits.{WithoutEndZeros, WithoutFrontZeros};
+ghost use Rattle.p21_values.specs.Digits.{WithoutTrailingZeros, WithoutLeadingZeros};
 
 use crate::bytes::Bytes;
-use crate::canonical::{Canonical, or_restored};
+use crate::canonical::{Canonical, restore_on_failure};
 use crate::digits::{
-    behind, short_number, split_digits, split_integer, split_sign, without_end_zeros,
-    without_front_zeros,
+    behind, short_number, split_digits, split_integer, split_sign, without_leading_zeros,
+    without_trailing_zeros,
 };
 use crate::fault::{NoMemory, ValueFault};
 use crate::whole::Whole;
@@ -72,7 +72,7 @@ impl Decimal {
     ///
     /// `NumberRange` where the exponent of the form with one digit before the point is over 9999, `NoMemory`.
     pub fn of_whole(alloc: Global, whole: &Whole) -> Result<Decimal, ValueFault>
-        ensures { KeepsRatio (whole_ratio whole.now) result }
+        ensures { ReducesRatio (whole_ratio whole.now) result }
     {
         let (negative, digits) = whole.parts();
         let digits = Digits {
@@ -98,10 +98,10 @@ impl Decimal {
         exponent: i32,
     ) -> Result<Decimal, ValueFault>
         requires { AllDigits (digits.whole.now ++ digits.fraction.now) }
-        ensures { KeepsRatio (digits_ratio negative digits.entry.whole.now digits.entry.fraction.now exponent) result }
+        ensures { ReducesRatio (digits_ratio negative digits.entry.whole.now digits.entry.fraction.now exponent) result }
     {
         let places = digits.fraction.len();
-        let significant = digits.without_front_zeros();
+        let significant = digits.without_leading_zeros();
         let count = significant.len();
         if count == 0 {
             return Ok(Decimal {
@@ -113,7 +113,7 @@ impl Decimal {
         let Some(exponent) = normalised_exponent(exponent, count, places) else {
             return Err(ValueFault::NumberRange);
         };
-        let digits = significant.without_end_zeros().to_bytes(alloc)?;
+        let digits = significant.without_trailing_zeros().to_bytes(alloc)?;
         Ok(Decimal {
             negative,
             exponent,
@@ -124,13 +124,13 @@ impl Decimal {
 
 impl<'a> Digits<'a> {
     // Without the zeros in front of all: no digits for the number zero.
-    fn without_front_zeros(self) -> Digits<'a>
+    fn without_leading_zeros(self) -> Digits<'a>
         requires { AllDigits (self.whole.now ++ self.fraction.now) }
-        ensures { WithoutFrontZeros (self.entry.whole.now ++ self.entry.fraction.now) (result.whole.now ++ result.fraction.now) }
+        ensures { WithoutLeadingZeros (self.entry.whole.now ++ self.entry.fraction.now) (result.whole.now ++ result.fraction.now) }
     {
-        let whole = without_front_zeros(self.whole);
+        let whole = without_leading_zeros(self.whole);
         let fraction = if whole.is_empty() {
-            without_front_zeros(self.fraction)
+            without_leading_zeros(self.fraction)
         } else {
             self.fraction
         };
@@ -138,13 +138,13 @@ impl<'a> Digits<'a> {
     }
 
     // Without the zeros behind all.
-    fn without_end_zeros(self) -> Digits<'a>
+    fn without_trailing_zeros(self) -> Digits<'a>
         requires { AllDigits (self.whole.now ++ self.fraction.now) }
-        ensures { WithoutEndZeros (self.entry.whole.now ++ self.entry.fraction.now) (result.whole.now ++ result.fraction.now) }
+        ensures { WithoutTrailingZeros (self.entry.whole.now ++ self.entry.fraction.now) (result.whole.now ++ result.fraction.now) }
     {
-        let fraction = without_end_zeros(self.fraction);
+        let fraction = without_trailing_zeros(self.fraction);
         let whole = if fraction.is_empty() {
-            without_end_zeros(self.whole)
+            without_trailing_zeros(self.whole)
         } else {
             self.whole
         };
@@ -221,7 +221,7 @@ fn short_exponent(negative: bool, digits: &[u8]) -> Option<i32>
     ensures short { IfSome result (λ value. number digits.now < 10 ^ 9) }
     ensures some { IfSome result (λ value. value ≡ signed negative (number digits.now)) }
 {
-    let significant = without_front_zeros(digits);
+    let significant = without_leading_zeros(digits);
     if significant.len() > 9 {
         return None;
     }
@@ -298,7 +298,7 @@ impl Canonical for Decimal {
     fn write_canonical(&self, out: &mut Vec<u8>) -> Result<(), NoMemory> {
         let before = out.len();
         let written = append(self, out);
-        or_restored(out, before, written)
+        restore_on_failure(out, before, written)
     }
 }
 
@@ -343,7 +343,7 @@ fn append_exponent(exponent: i16, out: &mut Vec<u8>) -> Result<(), NoMemory>
         out.push(b'-')?;
     }
     let digits = four_digits(exponent.unsigned_abs());
-    out.extend_from_slice(without_front_zeros(&digits))?;
+    out.extend_from_slice(without_leading_zeros(&digits))?;
     Ok(())
 }
 

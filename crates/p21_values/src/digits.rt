@@ -2,7 +2,7 @@ ghost use Rattle.std.specs.Prelude.{◌≡◌, ℕ, ◌^◌, ◌<◌, ◌≤◌,
 ghost use Rattle.p21_basics.specs.Digits.{AllDigits, number};
 ghost use Rattle.p21_exchange.specs.Number.{is_minus};
 ghost use Rattle.p21_exchange.proofs.Forms.{NoDigitFirst, behind_sign, first_sign};
-ghost use Rattle.p21_values.specs.Digits.{SignedDigits, WithoutEndZeros, WithoutFrontZeros};
+ghost use Rattle.p21_values.specs.Digits.{AreSignedDigits, WithoutTrailingZeros, WithoutLeadingZeros};
 
 /// Whether a minus stands first, and what stands behind the sign: all the bytes where there is none.
 pub(crate) fn split_sign(bytes: &[u8]) -> (bool, &[u8])
@@ -33,8 +33,8 @@ pub(crate) fn split_digits(bytes: &[u8]) -> (&[u8], &[u8])
 
 /// Whether a minus stands first, and the digits, where the bytes are a sign or none and digits.
 pub(crate) fn split_integer(bytes: &[u8]) -> Option<(bool, &[u8])>
-    ensures none { IfNone result ((negative : Bool) (digits : List ℕ) → SignedDigits bytes.now negative digits → ⊥) }
-    ensures some { IfSome result (λ parts. SignedDigits bytes.now parts.0 parts.1.now) }
+    ensures none { IfNone result ((negative : Bool) (digits : List ℕ) → AreSignedDigits bytes.now negative digits → ⊥) }
+    ensures some { IfSome result (λ parts. AreSignedDigits bytes.now parts.0 parts.1.now) }
 {
     let (negative, unsigned) = split_sign(bytes);
     let (digits, behind) = split_digits(unsigned);
@@ -48,9 +48,9 @@ pub(crate) fn split_integer(bytes: &[u8]) -> Option<(bool, &[u8])>
 }
 
 /// The digits without the zeros in front: none for the number zero.
-pub(crate) fn without_front_zeros(digits: &[u8]) -> &[u8]
+pub(crate) fn without_leading_zeros(digits: &[u8]) -> &[u8]
     requires { AllDigits digits.now }
-    ensures { WithoutFrontZeros digits.now result.now }
+    ensures { WithoutLeadingZeros digits.now result.now }
 {
     let mut rest = digits;
     while !rest.is_empty() && rest[0] == b'0' {
@@ -60,9 +60,9 @@ pub(crate) fn without_front_zeros(digits: &[u8]) -> &[u8]
 }
 
 /// The digits without the zeros at the end.
-pub(crate) fn without_end_zeros(digits: &[u8]) -> &[u8]
+pub(crate) fn without_trailing_zeros(digits: &[u8]) -> &[u8]
     requires { AllDigits digits.now }
-    ensures { WithoutEndZeros digits.now result.now }
+    ensures { WithoutTrailingZeros digits.now result.now }
 {
     let mut kept = digits.len();
     while kept > 0 && digits[kept - 1] == b'0' {

@@ -7,7 +7,7 @@ ghost use Rattle.p21_exchange.specs.Spelling.{character_spelling, text_spelling}
 ghost use Rattle.p21_exchange.specs.Text.{end_extended};
 ghost use Rattle.p21_values.specs.Canonical.{Continues};
 
-use crate::canonical::{Canonical, or_restored};
+use crate::canonical::{Canonical, restore_on_failure};
 use crate::fault::NoMemory;
 use std::alloc::Global;
 use std::marker::Model;
@@ -148,7 +148,7 @@ impl Canonical for Text {
     fn write_canonical(&self, out: &mut Vec<u8>) -> Result<(), NoMemory> {
         let before = out.len();
         let written = append(&self.characters, out);
-        or_restored(out, before, written)
+        restore_on_failure(out, before, written)
     }
 }
 

@@ -7,8 +7,8 @@ ghost use Rattle.p21_values.specs.declared.fault.ValueFault.TheVariants.{BadNumb
 ghost use Rattle.p21_values.specs.Fault.{Reads};
 
 use crate::bytes::Bytes;
-use crate::canonical::{Canonical, or_restored};
-use crate::digits::{split_integer, without_front_zeros};
+use crate::canonical::{Canonical, restore_on_failure};
+use crate::digits::{split_integer, without_leading_zeros};
 use crate::fault::{NoMemory, ValueFault};
 use std::alloc::{AllocError, Global};
 use std::marker::Model;
@@ -59,7 +59,7 @@ impl Whole {
         requires { AllDigits digits.now }
         ensures { IfOk result (λ whole. whole ≡ signed negative (number digits.now)) }
     {
-        let significant = without_front_zeros(digits);
+        let significant = without_leading_zeros(digits);
         Ok(Whole {
             negative: negative && !significant.is_empty(),
             digits: Bytes::of(alloc, significant)?,
@@ -122,7 +122,7 @@ impl Canonical for Whole {
     fn write_canonical(&self, out: &mut Vec<u8>) -> Result<(), NoMemory> {
         let before = out.len();
         let written = append(self, out);
-        or_restored(out, before, written)
+        restore_on_failure(out, before, written)
     }
 }
 

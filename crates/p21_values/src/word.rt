@@ -51,7 +51,7 @@ impl Word {
     ///
     /// `NoMemory`.
     #[inline(always)]
-    pub fn of_front(alloc: Global, bytes: &[u8], count: usize) -> Result<Word, NoMemory>
+    pub fn of_prefix(alloc: Global, bytes: &[u8], count: usize) -> Result<Word, NoMemory>
         requires within { count ≤ length bytes.now }
         requires keyword { IsKeyword (take count bytes.now) }
         ensures { IfOk result (λ word. word ≡ take count bytes.now) }

@@ -1,7 +1,7 @@
 -- The laws, from the theorems.
 use Rattle.p21_claim.proofs.size_laws.Goals as goal
 use Rattle.p21_claim.proofs.Dead.{long-section_line, long-header, long-instance}
-use Rattle.p21_claim.proofs.Fronts.{long-source, long-statement, long-lexemes}
+use Rattle.p21_claim.proofs.TokenPrefixes.{long-source, long-statement, long-lexemes}
 use Rattle.p21_claim.proofs.LongStatements.{full-statement}
 use Rattle.p21_claim.proofs.LongFiles.{narrow, long-file}
 

@@ -1,5 +1,5 @@
 use Rattle.std.proofs.Common.{◌≡◌, ◌↔◌, ℕ, IsTrue, List, Some, refl, subst, ◌∙◌}
-use Rattle.p21_stream_accepted.specs.Output.{output_text}
+use Rattle.p21_stream_output.specs.Output.{output_text}
 use Rattle.p21_c.proofs.Answering.{compared, first-refused, second-refused}
 use Rattle.p21_c.proofs.files.compare_under.Goals as goal
 

@@ -1,7 +1,7 @@
 use Rattle.p21_schemas.specs.Declared.{HasNoCircle, HasSupertype, Renames, HasSelect}
-use Rattle.p21_express_resolve.specs.DeclaredBy.{RenamesNoSelect}
+use Rattle.p21_express_outline.specs.DeclaredBy.{RenamesNoSelect}
 use Rattle.p21_express_syntax.specs.Views.{schema_view}
-use Rattle.p21_express_tables.specs.Parts.{schema_of}
+use Rattle.p21_express_graph.specs.SchemaContents.{schema_of}
 use Rattle.p21_express.proofs.Outlines.{few-of, outline-refused, test-refused, few-entities, few-types, outline-entities, outline-types, supertypes-refused, renaming-refused, no_select-refused, selects-refused}
 use Rattle.p21_express.proofs.Holding.{outline-members}
 use Rattle.p21_express.proofs.checked.checked_outline.Goals as goal

@@ -1,8 +1,8 @@
 use Rattle.std.proofs.Common.{◌≡◌, length, map, take}
 use Rattle.std.specs.List.{AllZip, enumerate_from}
-use Rattle.p21_express_tables.specs.Redeclaring.{redeclaring}
+use Rattle.p21_express_graph.specs.Redeclaring.{redeclaring}
 use Rattle.p21_express_outline.specs.Known.{names_of}
-use Rattle.p21_express_resolve.specs.Redeclarations.{RedeclarationsAre}
+use Rattle.p21_express_outline.specs.Redeclarations.{RedeclarationsAre}
 use Rattle.p21_express_syntax.specs.Views.{entity_view}
 use Rattle.p21_express.proofs.redeclaring.all_redeclarations.Given as goal
 

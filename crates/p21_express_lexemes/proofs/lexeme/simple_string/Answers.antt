@@ -1,6 +1,6 @@
 use Rattle.std.proofs.Common.{ap, refl}
 use Rattle.p21_schemas.specs.Express.{simple_string}
-use Rattle.p21_express_lexemes.specs.Reading.{simple_of}
+use Rattle.p21_express_lexemes.specs.FirstLexeme.{simple_of}
 use Rattle.p21_express_lexemes.proofs.lexeme.simple_string.Goals as goal
 
 pub returns-in-Some : goal.returns-in-Some

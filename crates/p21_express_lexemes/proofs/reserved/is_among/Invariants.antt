@@ -1,9 +1,9 @@
 use Rattle.std.proofs.Common.{◌≡◌, map, drop}
 use Rattle.p21_schemas.specs.Express.{upper}
 use Rattle.p21_express_lexemes.specs.Words.{is_among}
-use Rattle.p21_express_lexemes.specs.Words.{seen_all}
+use Rattle.p21_express_lexemes.specs.Words.{all_bytes_seen}
 use Rattle.p21_express_lexemes.proofs.reserved.is_among.Given as goal
 
 -- it is one of the words if it is one of those left
 abbrev pub invariant-loop-word : goal.invariant-loop-word
-invariant-loop-word l = is_among (seen_all l.words) (map upper l.name) ≡ is_among (seen_all (drop l.word-index l.words)) (map upper l.name)
+invariant-loop-word l = is_among (all_bytes_seen l.words) (map upper l.name) ≡ is_among (all_bytes_seen (drop l.word-index l.words)) (map upper l.name)

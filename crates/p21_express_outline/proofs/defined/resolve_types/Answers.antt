@@ -1,8 +1,8 @@
 use Rattle.std.proofs.Common.{arith}
 use Rattle.p21_express_outline.specs.Known.{names_of}
-use Rattle.p21_express_resolve.specs.Outline.{TypeOutline}
+use Rattle.p21_express_outline.specs.Outline.{TypeOutline}
 use Rattle.p21_express_syntax.specs.Views.{defined_view}
-use Rattle.p21_express_tables.specs.Parts.{defined}
+use Rattle.p21_express_graph.specs.SchemaContents.{defined}
 use Rattle.p21_express_outline.proofs.Finding.{each-refused_mapped, each-whole, zip-more}
 use Rattle.p21_express_outline.proofs.defined.resolve_types.Goals as goal
 

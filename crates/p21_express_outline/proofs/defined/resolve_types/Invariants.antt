@@ -1,9 +1,9 @@
 use Rattle.std.proofs.Common.{map, take}
 use Rattle.std.specs.List.{AllZip}
 use Rattle.p21_express_outline.specs.Known.{names_of}
-use Rattle.p21_express_resolve.specs.Outline.{TypeOutline}
+use Rattle.p21_express_outline.specs.Outline.{TypeOutline}
 use Rattle.p21_express_syntax.specs.Views.{defined_view}
-use Rattle.p21_express_tables.specs.Parts.{defined}
+use Rattle.p21_express_graph.specs.SchemaContents.{defined}
 use Rattle.p21_express_outline.proofs.defined.resolve_types.Given as goal
 
 -- those so far are found

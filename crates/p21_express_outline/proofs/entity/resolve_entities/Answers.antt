@@ -2,7 +2,7 @@ use Rattle.std.proofs.Common.{arith}
 use Rattle.p21_express_outline.specs.Entities.{EntityFound}
 use Rattle.p21_express_outline.specs.Known.{names_of}
 use Rattle.p21_express_syntax.specs.Views.{entity_view}
-use Rattle.p21_express_tables.specs.Parts.{entity}
+use Rattle.p21_express_graph.specs.SchemaContents.{entity}
 use Rattle.p21_express_outline.proofs.Finding.{each-refused_mapped, each-whole, zip-more}
 use Rattle.p21_express_outline.proofs.entity.resolve_entities.Goals as goal
 

@@ -3,7 +3,7 @@ use Rattle.std.specs.List.{AllZip}
 use Rattle.p21_express_outline.specs.Entities.{EntityFound}
 use Rattle.p21_express_outline.specs.Known.{names_of}
 use Rattle.p21_express_syntax.specs.Views.{entity_view}
-use Rattle.p21_express_tables.specs.Parts.{entity}
+use Rattle.p21_express_graph.specs.SchemaContents.{entity}
 use Rattle.p21_express_outline.proofs.entity.resolve_entities.Given as goal
 
 -- those so far are found

@@ -3,9 +3,9 @@ use Rattle.std.specs.List.{AllZip}
 use Rattle.std.proofs.Common.{ap}
 use Rattle.p21_express_outline.specs.Entities.{EntityFound}
 use Rattle.p21_express_outline.specs.Known.{names_of}
-use Rattle.p21_express_resolve.specs.Outline.{IsNamed}
+use Rattle.p21_express_outline.specs.Outline.{IsNamed}
 use Rattle.p21_express_syntax.specs.Views.{entity_view}
-use Rattle.p21_express_tables.specs.Parts.{entity, redeclared}
+use Rattle.p21_express_graph.specs.SchemaContents.{entity, redeclared}
 use Rattle.p21_express_types.specs.Meaning.{place}
 use Rattle.p21_express_outline.proofs.Finding.{find-refused}
 use Rattle.p21_express_outline.proofs.entity.resolve_entity.Goals as goal

@@ -1,5 +1,5 @@
 use Rattle.p21_express_outline.specs.Known.{names_of}
-use Rattle.p21_express_resolve.specs.Outline.{IsNamed}
+use Rattle.p21_express_outline.specs.Outline.{IsNamed}
 use Rattle.p21_express_outline.proofs.Finding.{each-refused, zip-more}
 use Rattle.p21_express_outline.proofs.lists.entities_named.Goals as goal
 

@@ -1,7 +1,7 @@
 use Rattle.std.proofs.Common.{map, take}
 use Rattle.std.specs.List.{AllZip}
 use Rattle.p21_express_outline.specs.Known.{names_of}
-use Rattle.p21_express_resolve.specs.Outline.{IsNamed}
+use Rattle.p21_express_outline.specs.Outline.{IsNamed}
 use Rattle.p21_express_outline.proofs.lists.entities_named.Given as goal
 
 -- those so far are found

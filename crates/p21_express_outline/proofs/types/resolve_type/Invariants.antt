@@ -1,7 +1,7 @@
 use Rattle.std.proofs.Common.{◌≡◌, ◌≤◌, length, drop}
 use Rattle.p21_schemas.specs.Schema.{TypeUse}
 use Rattle.p21_express_outline.specs.Known.{names_of}
-use Rattle.p21_express_resolve.specs.Outline.{SimpleIs, aggregates_of}
+use Rattle.p21_express_outline.specs.Outline.{SimpleIs, aggregates_of}
 use Rattle.p21_express_types.specs.Meaning.{type_use}
 use Rattle.p21_express_outline.proofs.types.resolve_type.Given as goal
 

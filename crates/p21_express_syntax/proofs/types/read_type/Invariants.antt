@@ -1,5 +1,5 @@
 use Rattle.std.proofs.Common.{◌≡◌, ◌-◌, ◌≤◌, length}
-use Rattle.p21_express_syntax.specs.Reading.{type_of}
+use Rattle.p21_express_syntax.specs.DataTypes.{type_of}
 use Rattle.p21_express_syntax.proofs.Nesting.{within}
 use Rattle.p21_express_syntax.proofs.types.read_type.Given as goal
 

@@ -4,19 +4,19 @@ use Rattle.std.proofs.lemmas.List.Elements.{Contains-get_or}
 use Rattle.p21_basics.proofs.Members.{Each-member}
 use Rattle.p21_schemas.specs.Schema.{Place}
 use Rattle.p21_express_types.specs.Meaning.{place}
-use Rattle.p21_express_tables.specs.Decided.{IsDecided, places_of}
+use Rattle.p21_express_graph.proofs.Lookups.{unnumbered, up-to}
+use Rattle.p21_express_tables.specs.DecidedPlaces.{IsDecided, places_of}
 use Rattle.p21_express_tables.specs.Decisions.{IsDecision}
-use Rattle.p21_express_tables.specs.declared.decided.Decided.{Decided}
+use Rattle.p21_express_tables.specs.declared.decided.DecidedPlace.{DecidedPlace}
 use Rattle.p21_express_tables.specs.declared.place_types.Decision.TheVariants.{Declared}
 use Rattle.p21_express_tables.proofs.decided.decision_at.Goals as goal
-use Rattle.p21_express_tables.proofs.Lookups.{unnumbered, up-to}
 
-abbrev first : Decided
+abbrev first : DecidedPlace
 first = record { place = record { entity = record { 0 = 0 }; index = 0 }; decision = Declared }
 
 pub returns-then-is_same : goal.returns-then-is_same
 returns-then-is_same c s entities are =
-    let known : Decided = get_or c.args.decided.now c.loop-known.known-index first in
+    let known : DecidedPlace = get_or c.args.decided.now c.loop-known.known-index first in
     let P : Place → Type 0 = λ p. IsDecision s entities p known.decision in
     subst P (c.is_same.ensures.0 c.if-is_same.true) (Each-member (IsDecided s entities) c.args.decided.now known are.each (Contains-get_or c.args.decided.now c.loop-known.known-index first c.loop-known-test.true))
 

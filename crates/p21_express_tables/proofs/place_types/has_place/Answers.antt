@@ -1,8 +1,8 @@
 use Rattle.std.specs.Prelude.{◌≡◌, true, false}
 use Rattle.std.proofs.Common.{arith}
 use Rattle.p21_express_types.specs.Meaning.{place}
+use Rattle.p21_express_graph.proofs.Lookups.{unnumbered}
 use Rattle.p21_express_tables.proofs.place_types.has_place.Goals as goal
-use Rattle.p21_express_tables.proofs.Lookups.{unnumbered}
 
 pub returns : goal.returns
 returns c = (

@@ -5,10 +5,10 @@ use Rattle.std.proofs.lemmas.Option.{slice_get-map, slice_get_read, slice_get_wi
 use Rattle.p21_basics.proofs.Members.{Contains-at}
 use Rattle.p21_schemas.specs.Schema.{Redeclared}
 use Rattle.p21_express_types.specs.Meaning.{place}
-use Rattle.p21_express_tables.specs.Parts.{redeclared}
+use Rattle.p21_express_graph.specs.SchemaContents.{redeclared}
+use Rattle.p21_express_graph.proofs.Gatherings.{mapped-length}
+use Rattle.p21_express_graph.proofs.Lookups.{up-to, list-at}
 use Rattle.p21_express_tables.proofs.place_types.redeclaration_among.Goals as goal
-use Rattle.p21_express_tables.proofs.Gatherings.{mapped-length}
-use Rattle.p21_express_tables.proofs.Lookups.{up-to, list-at}
 
 pub returns-then-is_same : goal.returns-then-is_same
 returns-then-is_same c = (

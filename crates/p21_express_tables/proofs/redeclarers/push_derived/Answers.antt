@@ -2,9 +2,10 @@ use Rattle.std.specs.Prelude.{◌++◌, map, refl}
 use Rattle.std.proofs.Common.{ap, ◌∙◌, get_or}
 use Rattle.std.proofs.lemmas.List.{take_all}
 use Rattle.p21_express_types.specs.Meaning.{place}
-use Rattle.p21_express_tables.specs.Orders.{numbers}
+use Rattle.p21_express_graph.specs.Orders.{numbers}
+use Rattle.p21_express_graph.proofs.Gatherings.{map-map}
 use Rattle.p21_express_tables.proofs.redeclarers.push_derived.Goals as goal
-use Rattle.p21_express_tables.proofs.Owners.{map-map, none-pushed, owner-more}
+use Rattle.p21_express_tables.proofs.Owners.{none-pushed, owner-more}
 
 pub loop-place-init : goal.loop-place-init
 loop-place-init c = none-pushed (numbers c.args.owners.now.items)

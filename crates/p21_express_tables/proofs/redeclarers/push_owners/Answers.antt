@@ -1,8 +1,8 @@
 use Rattle.std.specs.Prelude.{◌++◌, map}
 use Rattle.std.proofs.Common.{ap, ◌∙◌, append_assoc}
 use Rattle.p21_express_types.specs.Meaning.{place}
-use Rattle.p21_express_tables.specs.Orders.{numbers}
-use Rattle.p21_express_tables.specs.Parts.{redeclared}
+use Rattle.p21_express_graph.specs.Orders.{numbers}
+use Rattle.p21_express_graph.specs.SchemaContents.{redeclared}
 use Rattle.p21_express_tables.proofs.redeclarers.push_owners.Goals as goal
 
 pub returns : goal.returns

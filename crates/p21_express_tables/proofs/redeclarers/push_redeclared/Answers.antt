@@ -1,10 +1,11 @@
 use Rattle.std.specs.Prelude.{◌++◌, map}
 use Rattle.std.proofs.Common.{ap, ◌∙◌}
 use Rattle.std.proofs.lemmas.List.{take_all}
-use Rattle.p21_express_tables.specs.Orders.{numbers}
-use Rattle.p21_express_tables.specs.Parts.{redeclared}
+use Rattle.p21_express_graph.specs.Orders.{numbers}
+use Rattle.p21_express_graph.specs.SchemaContents.{redeclared}
+use Rattle.p21_express_graph.proofs.Gatherings.{map-map}
 use Rattle.p21_express_tables.proofs.redeclarers.push_redeclared.Goals as goal
-use Rattle.p21_express_tables.proofs.Owners.{map-map, none-pushed, owner-more}
+use Rattle.p21_express_tables.proofs.Owners.{none-pushed, owner-more}
 
 pub loop-other-init : goal.loop-other-init
 loop-other-init c = none-pushed (numbers c.args.owners.now.items)

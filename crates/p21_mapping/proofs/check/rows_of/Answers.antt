@@ -1,17 +1,17 @@
 use Rattle.std.specs.Prelude.{◌<◌, List, [], length, MatchResult}
 use Rattle.std.proofs.Common.{arith, ap, sym, ◌∙◌, subst}
 use Rattle.p21_exchange.specs.Record.{complex}
-use Rattle.p21_express_tables.specs.Orders.{numbers}
+use Rattle.p21_express_graph.specs.Orders.{numbers}
 use Rattle.p21_grammar_tree.specs.declared.record.Part.{Part}
 use Rattle.p21_grammar_tree.specs.declared.record.Record.{Record}
 use Rattle.p21_grammar_tree.specs.View.{part_view, part_views, record_view}
 use Rattle.p21_mapping.proofs.Here.{part-params}
 use Rattle.p21_mapping.proofs.Refused.{rising-within, listed-within, listed-decided, simple-long, simple-rows, complex-rows}
-use Rattle.p21_mapping.specs.Arranged.{HasRows}
-use Rattle.p21_mapping_fit.specs.Outcome.{needs_view}
+use Rattle.p21_mapping.specs.ArrangedRows.{HasRows}
+use Rattle.p21_mapping.specs.Outcome.{needs_view}
 use Rattle.p21_mapping.specs.Rows.{RefusesPart, TakesParts, param_views}
-use Rattle.p21_mapping_sets.proofs.Shapes.{part-length, views-length}
-use Rattle.p21_mapping_sets.specs.Shape.{HasCounts, HasShape, Refuses}
+use Rattle.p21_mapping.proofs.Shapes.{part-length, views-length}
+use Rattle.p21_mapping.specs.Shape.{HasCounts, HasShape, Refuses}
 use Rattle.p21_mapping_values.specs.TypedView.{rows_view}
 use Rattle.p21_mapping.proofs.check.rows_of.Goals as goal
 

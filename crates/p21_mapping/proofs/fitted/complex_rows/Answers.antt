@@ -5,16 +5,16 @@ use Rattle.std.specs.List.{zip}
 use Rattle.p21_basics.proofs.Members.{Each-member}
 use Rattle.p21_exchange.specs.Parameter.{Param, listed}
 use Rattle.p21_exchange.specs.Record.{complex}
-use Rattle.p21_express_tables.proofs.Gatherings.{numbered-at}
-use Rattle.p21_express_tables.specs.Orders.{numbers}
+use Rattle.p21_express_graph.proofs.Gatherings.{numbered-at}
+use Rattle.p21_express_graph.specs.Orders.{numbers}
 use Rattle.p21_files.specs.Meaning.{HasPlaceTypes}
 use Rattle.p21_files.specs.RecordPlaces.{HasPart}
 use Rattle.p21_grammar_tree.specs.View.{part_view, part_views}
 use Rattle.p21_mapping.proofs.Here.{param_views-length, part-params}
 use Rattle.p21_mapping.proofs.Taking.{parts-begin, parts-more, parts-room, parts-next, parts-end, row-whole}
-use Rattle.p21_mapping_fit.specs.Outcome.{needs_view}
+use Rattle.p21_mapping.specs.Outcome.{needs_view}
 use Rattle.p21_mapping.specs.Rows.{BreaksAmong, TakesRow, param_views}
-use Rattle.p21_mapping_sets.proofs.Shapes.{named-within, own-count, views-length}
+use Rattle.p21_mapping.proofs.Shapes.{named-within, own-count, views-length}
 use Rattle.p21_mapping_values.specs.Fault.{fault_number}
 use Rattle.p21_mapping_values.specs.TypedView.{rows_view}
 use Rattle.p21_mapping_values.specs.View.{list_of, view}

@@ -1,8 +1,8 @@
 use Rattle.std.proofs.Common.{take}
 use Rattle.std.specs.Vec.Iter.{into_iter_items}
-use Rattle.p21_express_tables.specs.Orders.{numbers}
+use Rattle.p21_express_graph.specs.Orders.{numbers}
 use Rattle.p21_grammar_tree.specs.View.{part_views}
-use Rattle.p21_mapping_fit.specs.Outcome.{needs_view}
+use Rattle.p21_mapping.specs.Outcome.{needs_view}
 use Rattle.p21_mapping.specs.Rows.{TakesParts}
 use Rattle.p21_mapping_values.specs.TypedView.{rows_view}
 use Rattle.p21_mapping.proofs.fitted.complex_rows.Given as goal

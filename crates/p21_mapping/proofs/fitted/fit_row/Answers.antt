@@ -3,11 +3,11 @@ use Rattle.std.proofs.Common.{arith, ap, sym, ◌∙◌}
 use Rattle.std.proofs.lemmas.List.{map-append}
 use Rattle.std.specs.Vec.Iter.{into_iter_items}
 use Rattle.p21_basics.proofs.Members.{Each-member}
-use Rattle.p21_express_tables.specs.Orders.{numbers}
+use Rattle.p21_express_graph.specs.Orders.{numbers}
 use Rattle.p21_grammar_tree.specs.View.{view as tree}
 use Rattle.p21_mapping.proofs.Here.{row-room}
 use Rattle.p21_mapping.proofs.RowLists.{row-begins, row-more, row-ends, row-next}
-use Rattle.p21_mapping_fit.specs.Outcome.{needs_view}
+use Rattle.p21_mapping.specs.Outcome.{needs_view}
 use Rattle.p21_mapping.specs.Rows.{param_views}
 use Rattle.p21_mapping_values.specs.View.{view}
 use Rattle.p21_schemas.specs.Order.{own_places}

@@ -1,7 +1,7 @@
 use Rattle.std.proofs.Common.{map}
 use Rattle.std.specs.Vec.Iter.{into_iter_items}
-use Rattle.p21_express_tables.specs.Orders.{numbers}
-use Rattle.p21_mapping_fit.specs.Outcome.{needs_view}
+use Rattle.p21_express_graph.specs.Orders.{numbers}
+use Rattle.p21_mapping.specs.Outcome.{needs_view}
 use Rattle.p21_mapping.specs.Rows.{RowSoFar, param_views}
 use Rattle.p21_mapping_values.specs.View.{view}
 use Rattle.p21_mapping.proofs.fitted.fit_row.Given as goal

@@ -1,12 +1,12 @@
 use Rattle.std.proofs.Common.{arith, ◌∙◌}
 use Rattle.std.specs.Vec.Iter.{into_iter_items}
 use Rattle.p21_basics.proofs.Members.{Each-member}
-use Rattle.p21_express_tables.proofs.Gatherings.{numbered-at}
-use Rattle.p21_express_tables.specs.Orders.{numbers}
+use Rattle.p21_express_graph.proofs.Gatherings.{numbered-at}
+use Rattle.p21_express_graph.specs.Orders.{numbers}
 use Rattle.p21_files.specs.Meaning.{HasPlaceTypes}
 use Rattle.p21_mapping.proofs.Here.{param_views-length}
 use Rattle.p21_mapping.proofs.Taking.{rows-begin, rows-more, rows-enough, rows-end, rows-break}
-use Rattle.p21_mapping_fit.specs.Outcome.{needs_view}
+use Rattle.p21_mapping.specs.Outcome.{needs_view}
 use Rattle.p21_mapping.specs.Rows.{param_views}
 use Rattle.p21_mapping_values.specs.Fault.{fault_number}
 use Rattle.p21_mapping_values.specs.TypedView.{rows_view}

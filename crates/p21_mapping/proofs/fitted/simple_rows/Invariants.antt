@@ -1,7 +1,7 @@
 use Rattle.std.proofs.Common.{take}
 use Rattle.std.specs.Vec.Iter.{into_iter_items}
-use Rattle.p21_express_tables.specs.Orders.{numbers}
-use Rattle.p21_mapping_fit.specs.Outcome.{needs_view}
+use Rattle.p21_express_graph.specs.Orders.{numbers}
+use Rattle.p21_mapping.specs.Outcome.{needs_view}
 use Rattle.p21_mapping.specs.Rows.{TakesRows, param_views}
 use Rattle.p21_mapping_values.specs.TypedView.{rows_view}
 use Rattle.p21_mapping.proofs.fitted.simple_rows.Given as goal

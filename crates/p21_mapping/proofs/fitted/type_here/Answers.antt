@@ -1,14 +1,14 @@
 use Rattle.std.specs.Prelude.{Option}
 use Rattle.std.proofs.Common.{subst}
-use Rattle.p21_express_tables.specs.Orders.{numbers}
+use Rattle.p21_express_graph.specs.Orders.{numbers}
 use Rattle.p21_express_types.specs.declared.number.EntityId.{EntityId}
 use Rattle.p21_express_types.specs.Meaning.{place, place_type}
 use Rattle.p21_mapping.proofs.fitted.type_here.Goals as goal
-use Rattle.p21_mapping_sets.proofs.OwnSets.{type-same}
-use Rattle.p21_mapping_sets.specs.Shape.{IsOwn}
+use Rattle.p21_mapping.proofs.OwnSets.{type-same}
+use Rattle.p21_mapping.specs.Shape.{IsOwnClosure}
 use Rattle.p21_schemas.specs.Order.{order}
 
 pub returns-in-Some : goal.returns-in-Some
 returns-in-Some c =
-    let P : Option EntityId → Type 0 = λ own. IsOwn c.args.schema.now own (numbers c.args.entities.now) in
+    let P : Option EntityId → Type 0 = λ own. IsOwnClosure c.args.schema.now own (numbers c.args.entities.now) in
     type-same c.args.schema.now (order c.args.schema.now c.in-Some.entity.0) (numbers c.args.entities.now) (subst P c.in-Some.is c.requires.own).1 (place c.args.place) (place_type c.own_type.result) c.own_type.ensures

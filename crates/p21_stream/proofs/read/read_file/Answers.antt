@@ -2,7 +2,7 @@ use Rattle.std.proofs.Common.{subst}
 use Rattle.p21_basics.specs.Limits.{Limits}
 use Rattle.p21_schemas.specs.Schema.{Schema}
 use Rattle.p21_stream.proofs.Feeding.{under, whole-refused}
-use Rattle.p21_stream.specs.Reading.{ConsumesAtMost, RefusesRead}
+use Rattle.p21_stream.specs.ReaderInput.{ConsumesAtMost, RefusesRead}
 use Rattle.p21_stream.proofs.read.read_file.Goals as goal
 
 pub returns-in-Err-finish-clause-err : goal.returns-in-Err-finish-clause-err

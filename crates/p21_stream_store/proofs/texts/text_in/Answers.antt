@@ -1,6 +1,6 @@
 use Rattle.std.proofs.Common.{ap, arith, ◌∙◌}
 use Rattle.p21_stream_store.proofs.BlockLemmas.{first_at-read, found, search_starts}
-use Rattle.p21_stream_store.specs.declared.texts.Full.{Full}
+use Rattle.p21_stream_store.specs.declared.texts.FullBlock.{FullBlock}
 use Rattle.p21_stream_store.proofs.texts.text_in.Goals as goal
 
 pub loop-high-init : goal.loop-high-init
@@ -9,13 +9,13 @@ loop-high-init c = search_starts _ _ _ c.requires.firsts c.requires.index
 pub loop-high-preserved-then-full-middle : goal.loop-high-preserved-then-full-middle
 loop-high-preserved-then-full-middle c =
     let first = first_at-read c.args.full.now c.args.end _ c.index-full-middle.result (omega arith) c.index-full-middle.is in
-    let same = ap (λ (f : Full). f.first) c.index-full-middle.is in
+    let same = ap (λ (f : FullBlock). f.first) c.index-full-middle.is in
     (omega arith, omega arith, omega (arith, first, same), c.loop-high.invariant.3)
 
 pub loop-high-preserved : goal.loop-high-preserved
 loop-high-preserved c =
     let first = first_at-read c.args.full.now c.args.end _ c.index-full-middle.result (omega arith) c.index-full-middle.is in
-    let same = ap (λ (f : Full). f.first) c.index-full-middle.is in
+    let same = ap (λ (f : FullBlock). f.first) c.index-full-middle.is in
     (omega arith, omega arith, c.loop-high.invariant.2, omega (arith, first, same))
 
 pub overflow_sub-index : goal.overflow_sub-index

@@ -1,10 +1,10 @@
 use Rattle.std.proofs.Common.{◌+◌, length, Some, None}
-use Rattle.p21_tokens.proofs.OneScalar.{Kept}
+use Rattle.p21_tokens.proofs.OneScalar.{PendingBytes}
 use Rattle.p21_tokens.proofs.param.one_scalar.Given as goal
 
 -- the lexer has taken what stands in front of the rest
 abbrev pub invariant-loop-rest : goal.invariant-loop-rest
-invariant-loop-rest l = Kept l.lexer l.text l.rest l.found
+invariant-loop-rest l = PendingBytes l.lexer l.text l.rest l.found
 
 -- a call takes bytes, or gives the first token
 abbrev pub decreases-loop-rest : goal.decreases-loop-rest

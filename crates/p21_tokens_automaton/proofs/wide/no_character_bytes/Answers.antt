@@ -1,6 +1,6 @@
 use Rattle.std.proofs.Common.{bit_or, arith}
 use Rattle.std.proofs.lemmas.Simd.{zip2_of_maps, splat_is_map}
-use Rattle.p21_tokens_automaton.specs.Run.{is_other}
+use Rattle.p21_tokens_automaton.specs.Run.{is_of_other_class}
 use Rattle.p21_tokens_automaton.specs.declared.run.Class.TheVariants.{CharacterByte}
 use Rattle.p21_tokens_automaton.proofs.Lanes.{equal, below, itself, mask-tests}
 use Rattle.p21_tokens_automaton.proofs.wide.no_character_bytes.Goals as goal
@@ -9,7 +9,7 @@ pub returns : goal.returns
 returns c =
     let v = c.args.bytes in
     let long = c.fits-bytes.0 in
-    mask-tests _ (is_other CharacterByte) v _ (omega arith) c.fits-bytes.1
+    mask-tests _ (is_of_other_class CharacterByte) v _ (omega arith) c.fits-bytes.1
     (zip2_of_maps bit_or _ _ v
     (zip2_of_maps bit_or _ _ v
     (zip2_of_maps bit_or _ _ v

@@ -1,6 +1,6 @@
 use Rattle.std.proofs.Common.{arith}
 use Rattle.std.proofs.lemmas.Simd.{zip2_of_maps, splat_is_map}
-use Rattle.p21_tokens_automaton.specs.Run.{is_other}
+use Rattle.p21_tokens_automaton.specs.Run.{is_of_other_class}
 use Rattle.p21_tokens_automaton.specs.declared.run.Class.TheVariants.{Commented}
 use Rattle.p21_tokens_automaton.proofs.Lanes.{equal, itself, mask-tests}
 use Rattle.p21_tokens_automaton.proofs.wide.stars.Goals as goal
@@ -9,4 +9,4 @@ pub returns : goal.returns
 returns c =
     let v = c.args.bytes in
     let long = c.fits-bytes.0 in
-    mask-tests _ (is_other Commented) v _ (omega arith) c.fits-bytes.1 (zip2_of_maps equal _ _ v (itself v) (splat_is_map v 32 42 long)) tt
+    mask-tests _ (is_of_other_class Commented) v _ (omega arith) c.fits-bytes.1 (zip2_of_maps equal _ _ v (itself v) (splat_is_map v 32 42 long)) tt

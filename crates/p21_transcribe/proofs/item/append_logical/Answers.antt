@@ -1,6 +1,6 @@
 use Rattle.std.proofs.Common.{[], ◌∷◌, get_or, refl, arith}
 use Rattle.p21_transcribe.proofs.ItemTokens.{letter-between}
-use Rattle.p21_transcribe.proofs.Leaves.{copied}
+use Rattle.p21_transcribe.proofs.LeadingTokens.{copied}
 use Rattle.p21_transcribe.proofs.item.append_logical.Goals as goal
 
 pub returns-clause-some : goal.returns-clause-some
@@ -10,5 +10,5 @@ returns-clause-some c =
     let known = c.if-not-is_truth_value.ensures {u = tt} in (
       letter ∷ [],
       known.word refl,
-      copied bytes 3 _ c.args.draft.now c.append_front.new.self (letter-between bytes letter (omega arith) (omega arith) refl (omega arith) (known.upper refl)) (c.if-not-append_front.ensures {u = tt}),
+      copied bytes 3 _ c.args.draft.now c.append_prefix.new.self (letter-between bytes letter (omega arith) (omega arith) refl (omega arith) (known.upper refl)) (c.if-not-append_prefix.ensures {u = tt}),
     )

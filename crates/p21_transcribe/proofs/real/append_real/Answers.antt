@@ -5,7 +5,7 @@ use Rattle.p21_basics.specs.Digits.{number}
 use Rattle.p21_exchange.proofs.Forms.{NoDigitFirst}
 use Rattle.p21_exchange.specs.Number.{signed}
 use Rattle.p21_values.proofs.StoredDecimals.{reads_whole}
-use Rattle.p21_values.specs.RealParts.{digits_ratio}
+use Rattle.p21_values.specs.RealComponents.{digits_ratio}
 use Rattle.p21_transcribe.proofs.RealTokens.{real-at_front, whole_number}
 use Rattle.p21_transcribe.proofs.Splits.{rest_is}
 use Rattle.p21_transcribe.proofs.WholeTokens.{whole-at_front}

@@ -1,5 +1,5 @@
 use Rattle.p21_transcribe.proofs.Parts.{stays-behind}
-use Rattle.p21_transcribe_instance.proofs.Laid.{end-taken}
+use Rattle.p21_transcribe_instance.proofs.LaidRuns.{end-taken}
 use Rattle.p21_transcribe_instance.proofs.Stepping.{mark-goes_on, none_from}
 use Rattle.p21_transcribe_instance.proofs.body.append_end.Goals as goal
 

@@ -2,7 +2,7 @@ use Rattle.std.proofs.Common.{refl}
 use Rattle.p21_transcribe.proofs.Parts.{stays-behind}
 use Rattle.p21_transcribe_instance.proofs.Stepping.{continues-join, mark-goes_on, none_from, takes-goes_on}
 use Rattle.p21_transcribe_instance.proofs.Whole.{external-taken}
-use Rattle.p21_transcribe_values.proofs.Values.{needs-same}
+use Rattle.p21_transcribe_instance.proofs.Values.{needs-same}
 use Rattle.p21_transcribe_instance.proofs.external.append_external.Goals as goal
 
 pub returns-clause-some : goal.returns-clause-some

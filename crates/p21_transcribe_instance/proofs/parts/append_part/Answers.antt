@@ -1,4 +1,4 @@
-use Rattle.p21_express_tables.specs.Orders.{numbers}
+use Rattle.p21_express_graph.specs.Orders.{numbers}
 use Rattle.p21_transcribe.proofs.Parts.{stays-behind}
 use Rattle.p21_transcribe_instance.proofs.Joining.{one-part, places-go_on}
 use Rattle.p21_transcribe_instance.proofs.Stepping.{continues-join, entity-goes_on, mark-goes_on, none_from}

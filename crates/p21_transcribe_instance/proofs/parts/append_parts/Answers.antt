@@ -1,13 +1,13 @@
 use Rattle.std.proofs.Common.{List, arith, refl, subst}
 use Rattle.std.proofs.lemmas.List.{take_all}
-use Rattle.p21_express_tables.proofs.Gatherings.{numbered-at}
-use Rattle.p21_express_tables.specs.Orders.{numbers}
+use Rattle.p21_express_graph.proofs.Gatherings.{numbered-at}
+use Rattle.p21_express_graph.specs.Orders.{numbers}
 use Rattle.p21_express_types.specs.declared.number.EntityId.{EntityId}
 use Rattle.p21_transcribe.proofs.Parts.{stays}
 use Rattle.p21_transcribe_instance.proofs.Joining.{next-part, no-parts, parts-go_on}
 use Rattle.p21_transcribe_instance.proofs.Stepping.{continues-join, needs-join, none_from}
 use Rattle.p21_transcribe_instance.specs.Records.{TakesParts}
-use Rattle.p21_transcribe_values.proofs.Values.{needs-same}
+use Rattle.p21_transcribe_instance.proofs.Values.{needs-same}
 use Rattle.p21_transcribe_instance.proofs.parts.append_parts.Goals as goal
 
 pub loop-owner-init : goal.loop-owner-init

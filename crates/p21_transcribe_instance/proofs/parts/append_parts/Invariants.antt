@@ -1,7 +1,7 @@
 use Rattle.std.proofs.Common.{take}
-use Rattle.p21_express_tables.specs.Orders.{numbers}
+use Rattle.p21_express_graph.specs.Orders.{numbers}
 use Rattle.p21_transcribe_instance.specs.Records.{TakesParts}
-use Rattle.p21_transcribe_values.specs.Taken.{KeepsNeeds}
+use Rattle.p21_transcribe_instance.specs.TakenValues.{KeepsNeeds}
 use Rattle.p21_values.specs.Canonical.{Continues}
 use Rattle.p21_transcribe_instance.proofs.parts.append_parts.Given as goal
 

@@ -1,4 +1,4 @@
-use Rattle.p21_express_tables.specs.Orders.{numbers}
+use Rattle.p21_express_graph.specs.Orders.{numbers}
 use Rattle.p21_transcribe.proofs.Found.{none_to, some_to}
 use Rattle.p21_transcribe_instance.proofs.Joining.{parts-go_on, record-taken}
 use Rattle.p21_transcribe_instance.proofs.Stepping.{continues-join, none_from}

@@ -1,8 +1,8 @@
 use Rattle.std.proofs.Common.{take}
 use Rattle.p21_exchange.specs.Parameter.{more_tokens}
 use Rattle.p21_files.specs.ValueText.{with_commas}
-use Rattle.p21_transcribe_instance.specs.Taking.{TakesSteps}
-use Rattle.p21_transcribe_values.specs.Taken.{KeepsNeeds}
+use Rattle.p21_transcribe_instance.specs.TakenParameters.{TakesSteps}
+use Rattle.p21_transcribe_instance.specs.TakenValues.{KeepsNeeds}
 use Rattle.p21_values.specs.Canonical.{Continues}
 use Rattle.p21_transcribe_instance.proofs.places.append_others.Given as goal
 

@@ -3,7 +3,7 @@ use Rattle.p21_exchange.specs.Parameter.{params_tokens}
 use Rattle.p21_files.specs.ValueText.{with_commas_between}
 use Rattle.p21_transcribe.proofs.Found.{none_to, some_to}
 use Rattle.p21_transcribe_instance.proofs.Stepping.{continues-join, first-in, first-steps, needs-join, no-steps, others-in, step-goes_on}
-use Rattle.p21_transcribe_instance.specs.Taking.{AreStepsIn}
+use Rattle.p21_transcribe_instance.specs.TakenParameters.{AreStepsIn}
 use Rattle.p21_transcribe_instance.proofs.places.append_places.Goals as goal
 
 pub returns-in_default-clause-some : goal.returns-in_default-clause-some

@@ -1,5 +1,5 @@
 use Rattle.std.proofs.Common.{◌≡◌, take}
-use Rattle.p21_express_tables.specs.Orders.{numbers}
+use Rattle.p21_express_graph.specs.Orders.{numbers}
 use Rattle.p21_transcribe_instance.proofs.sets.are_same.Given as goal
 
 -- those so far are the same

@@ -10,7 +10,7 @@ use Rattle.p21_values.proofs.decimal.append_exponent.Goals.{then-exponent-lt0+in
 pub returns-clause-ok : goal.returns-clause-ok
 returns-clause-ok c =
     let z = c.args.exponent in
-    let kept = c.without_front_zeros.ensures in
+    let kept = c.without_leading_zeros.ensures in
     let back : to_z w16 (of_z w16 z) ≡ z = omega (arith, ints) in
     let value : number c.four_digits-digits.result ≡ nat_abs z = c.four_digits-digits.ensures.value ∙ c.unsigned_abs.ensures.value ∙ ap nat_abs back in
     let other : z ≡ pos 0 → ⊥ = λ e. c.if-exponent-eq0.false (ap (of_z w16) e) in

@@ -1,10 +1,10 @@
 use Rattle.std.specs.Prelude.{ℕ, List, ◌↔◌, ◌⊎◌, Contains, take}
 use Rattle.std.proofs.Common.{arith, ap, sym, subst, get_or}
 use Rattle.std.proofs.lemmas.List.{take_all}
-use Rattle.p21_express_tables.specs.Orders.{numbers}
+use Rattle.p21_express_graph.specs.Orders.{numbers}
+use Rattle.p21_express_graph.proofs.Gatherings.{numbered-at}
+use Rattle.p21_express_graph.proofs.Lookups.{numbers-more}
 use Rattle.p21_express_tables.proofs.Ascents.{found-more, goes-on}
-use Rattle.p21_express_tables.proofs.Gatherings.{numbered-at}
-use Rattle.p21_express_tables.proofs.Lookups.{numbers-more}
 use Rattle.p21_express_tables.proofs.ascent.Ascent.add.Goals as goal
 
 pub add_one-requires-clause-within : goal.add_one-requires-clause-within

@@ -1,4 +1,4 @@
-use Rattle.p21_express_tables.specs.Orders.{numbers}
+use Rattle.p21_express_graph.specs.Orders.{numbers}
 use Rattle.p21_express_tables.proofs.Above.{above-risen}
 use Rattle.p21_express_tables.proofs.Ascents.{are-above, next-all}
 use Rattle.p21_express_tables.proofs.schema.Schema.all_above.Goals as goal
@@ -9,6 +9,6 @@ returns-clause-above c =
     let es = numbers c.args.entities.now in
     let next = c.find_next.new.ascent.above.items in
     let found = c.find_rest.new.ascent.above.items in
-    above-risen s es found c.risen.result.items
+    above-risen s es found c.rising_numbers.result.items
     (are-above s c.holds_together.ensures.supertypes_end es next found (next-all s c.in_ok-ascent.ascent.above.items next es c.in_ok-ascent.ensures.empty c.in_ok-find_next.ensures.found) c.in_ok-find_rest.ensures.kept c.in_ok-find_rest.ensures.within c.in_ok-find_rest.ensures.closed)
-    c.risen.ensures.same
+    c.rising_numbers.ensures.same

@@ -1,6 +1,6 @@
 use Rattle.std.specs.Prelude.{refl}
 use Rattle.p21_express_types.specs.Meaning.{type_use}
-use Rattle.p21_express_tables.specs.Base.{at_itself}
+use Rattle.p21_express_graph.specs.DirectRenaming.{at_itself}
 use Rattle.p21_express_tables.proofs.schema.Schema.base.Goals as goal
 
 pub returns-in-None : goal.returns-in-None

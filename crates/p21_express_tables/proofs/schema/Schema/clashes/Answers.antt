@@ -1,11 +1,11 @@
 use Rattle.std.specs.Prelude.{◌≡◌, ℕ, List, Contains, Some, true, false, refl}
 use Rattle.std.proofs.Common.{arith, sym, ◌∙◌, subst, get_or}
 use Rattle.p21_basics.proofs.Members.{Contains-at, Contains-found}
+use Rattle.p21_express_graph.specs.Orders.{numbers}
+use Rattle.p21_express_graph.proofs.Gatherings.{numbered-at}
+use Rattle.p21_express_graph.proofs.Lookups.{each-number, up-to}
 use Rattle.p21_express_tables.specs.OneOf.{ClashesWith}
-use Rattle.p21_express_tables.specs.Orders.{numbers}
 use Rattle.p21_express_tables.proofs.schema.Schema.clashes.Goals as goal
-use Rattle.p21_express_tables.proofs.Gatherings.{numbered-at}
-use Rattle.p21_express_tables.proofs.Lookups.{each-number, up-to}
 
 pub returns-then-clashes_with : goal.returns-then-clashes_with
 returns-then-clashes_with c = (

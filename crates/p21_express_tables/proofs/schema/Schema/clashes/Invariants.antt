@@ -1,6 +1,6 @@
 use Rattle.std.proofs.Common.{ℕ, ◌<◌, slice_index_or}
+use Rattle.p21_express_graph.specs.Orders.{numbers}
 use Rattle.p21_express_tables.specs.OneOf.{ClashesWith}
-use Rattle.p21_express_tables.specs.Orders.{numbers}
 use Rattle.p21_express_tables.proofs.schema.Schema.clashes.Given as goal
 
 abbrev pub invariant-loop-entity : goal.invariant-loop-entity

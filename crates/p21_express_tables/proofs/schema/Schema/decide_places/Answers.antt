@@ -5,11 +5,11 @@ use Rattle.p21_schemas.specs.Schema.{attributes_of}
 use Rattle.p21_express_types.specs.Meaning.{place}
 use Rattle.p21_express_types.specs.declared.number.EntityId.{EntityId}
 use Rattle.p21_express_types.specs.declared.number.Place.{Place}
+use Rattle.p21_express_graph.specs.Orders.{numbers}
+use Rattle.p21_express_graph.proofs.Resolving.{own-entities}
 use Rattle.p21_express_tables.specs.Decisions.{IsDecision}
-use Rattle.p21_express_tables.specs.Orders.{numbers}
 use Rattle.p21_express_tables.proofs.schema.Schema.decide_places.Goals as goal
 use Rattle.p21_express_tables.proofs.Deciding.{adds-all, adds-more, adds-none, decision-among}
-use Rattle.p21_express_tables.proofs.OwnSets.{own-entities}
 
 pub loop-index-init : goal.loop-index-init
 loop-index-init c = adds-none c.args.self.now (order c.args.self.now c.args.entity.0) c.args.owner.0 c.args.decided.now.items

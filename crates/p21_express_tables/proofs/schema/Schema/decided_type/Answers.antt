@@ -1,7 +1,7 @@
 use Rattle.std.proofs.Common.{◌≡◌, ap, subst, inl}
 use Rattle.p21_express_types.specs.Meaning.{place}
+use Rattle.p21_express_graph.specs.SchemaContents.{redeclared}
 use Rattle.p21_express_tables.specs.Decisions.{IsDecision}
-use Rattle.p21_express_tables.specs.Parts.{redeclared}
 use Rattle.p21_express_tables.specs.declared.place_types.Decision.{Decision}
 use Rattle.p21_express_tables.proofs.schema.Schema.decided_type.Goals as goal
 use Rattle.p21_express_tables.proofs.Decisions.{redeclared-one}

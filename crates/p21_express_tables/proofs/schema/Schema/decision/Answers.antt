@@ -2,7 +2,7 @@ use Rattle.std.specs.Prelude.{◌≡◌, ℕ, length, refl}
 use Rattle.std.proofs.Common.{arith, sym, ◌∙◌}
 use Rattle.std.proofs.lemmas.Bool.{eqb-true}
 use Rattle.p21_express_types.specs.Meaning.{place}
-use Rattle.p21_express_tables.specs.Orders.{numbers}
+use Rattle.p21_express_graph.specs.Orders.{numbers}
 use Rattle.p21_express_tables.specs.Redeclarers.{RedeclaresPlace}
 use Rattle.p21_express_tables.proofs.schema.Schema.decision.Goals as goal
 use Rattle.p21_express_tables.proofs.Owners.{none-derives, none-redeclares}

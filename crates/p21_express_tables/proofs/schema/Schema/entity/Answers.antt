@@ -1,7 +1,7 @@
 use Rattle.std.specs.Prelude.{◌<◌, ◌^◌}
 use Rattle.std.proofs.Common.{rules}
+use Rattle.p21_express_graph.proofs.Naming.{named, unnamed, entity-fits}
 use Rattle.p21_express_tables.proofs.schema.Schema.entity.Goals as goal
-use Rattle.p21_express_tables.proofs.Naming.{named, unnamed, entity-fits}
 
 pub returns-in-None : goal.returns-in-None
 returns-in-None c = rw (← c.self.view_is) (unnamed (λ x. x.name) _ c.args.name.now (rw (← c.self.invariant.1.entities_are) c.in-None.ensures))

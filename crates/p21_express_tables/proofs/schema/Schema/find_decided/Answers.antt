@@ -3,12 +3,12 @@ use Rattle.std.proofs.Common.{sym, subst, get_or}
 use Rattle.std.proofs.lemmas.List.{take_all, take_more}
 use Rattle.std.proofs.lemmas.List.Elements.{Contains-get_or}
 use Rattle.p21_schemas.specs.Order.{order}
-use Rattle.p21_express_tables.specs.declared.decided.Decided.{Decided}
+use Rattle.p21_express_tables.specs.declared.decided.DecidedPlace.{DecidedPlace}
 use Rattle.p21_express_tables.proofs.schema.Schema.find_decided.Goals as goal
 use Rattle.p21_express_tables.proofs.Deciding.{AreDecidedOf, decided-more, decided-none}
 
 pub loop-owner-init : goal.loop-owner-init
-loop-owner-init c = let P : List Decided → Type 0 = λ ds. AreDecidedOf c.args.self.now (order c.args.self.now c.args.entity.0) [] ds in subst P (sym c.new-decided.ensures.items) (decided-none c.args.self.now (order c.args.self.now c.args.entity.0))
+loop-owner-init c = let P : List DecidedPlace → Type 0 = λ ds. AreDecidedOf c.args.self.now (order c.args.self.now c.args.entity.0) [] ds in subst P (sym c.new-decided.ensures.items) (decided-none c.args.self.now (order c.args.self.now c.args.entity.0))
 
 pub decide_places-requires-clause-owner : goal.decide_places-requires-clause-owner
 decide_places-requires-clause-owner c =

@@ -1,11 +1,11 @@
 use Rattle.std.specs.Prelude.{ℕ, List, ◌↔◌, ◌⊎◌, Contains, take}
 use Rattle.std.proofs.Common.{arith, ap, sym, subst, get_or}
 use Rattle.std.proofs.lemmas.List.{take_all}
-use Rattle.p21_express_tables.specs.Orders.{numbers}
+use Rattle.p21_express_graph.specs.Orders.{numbers}
+use Rattle.p21_express_graph.proofs.Gatherings.{numbered-at}
+use Rattle.p21_express_graph.proofs.Lookups.{numbers-more}
+use Rattle.p21_express_graph.proofs.OrderTables.{are-entities}
 use Rattle.p21_express_tables.proofs.Ascents.{HasBelow, goes-on, next-more}
-use Rattle.p21_express_tables.proofs.Gatherings.{numbered-at}
-use Rattle.p21_express_tables.proofs.Lookups.{numbers-more}
-use Rattle.p21_express_tables.proofs.OrderTables.{are-entities}
 use Rattle.p21_express_tables.proofs.schema.Schema.find_next.Goals as goal
 
 pub supertypes-requires : goal.supertypes-requires

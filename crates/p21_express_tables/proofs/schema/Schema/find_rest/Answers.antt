@@ -2,8 +2,8 @@ use Rattle.std.specs.Prelude.{◌≡◌, ◌↔◌, ◌⊎◌, ◌<◌, ℕ, Lis
 use Rattle.std.proofs.Common.{arith, subst}
 use Rattle.std.proofs.lemmas.Option.{slice_get_read}
 use Rattle.p21_basics.proofs.Members.{Contains-found}
+use Rattle.p21_express_graph.proofs.OrderTables.{are-entities}
 use Rattle.p21_express_tables.proofs.Ascents.{found-kept, found-many, found-within, goes-on, stays, up-all, up-more, up-none}
-use Rattle.p21_express_tables.proofs.OrderTables.{are-entities}
 use Rattle.p21_express_tables.proofs.schema.Schema.find_rest.Goals as goal
 
 pub loop-at-init : goal.loop-at-init

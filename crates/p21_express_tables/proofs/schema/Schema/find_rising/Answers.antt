@@ -2,8 +2,8 @@ use Rattle.std.specs.Prelude.{List, ℕ, nat_eq}
 use Rattle.std.specs.List.{IsDistinct}
 use Rattle.std.proofs.Common.{sym, subst}
 use Rattle.p21_schemas.proofs.OrderedOnce.{order-distinct}
-use Rattle.p21_express_tables.proofs.OwnSets.{own-entities}
-use Rattle.p21_express_tables.proofs.RisingNames.{own-rising}
+use Rattle.p21_express_graph.proofs.Resolving.{own-entities}
+use Rattle.p21_express_graph.proofs.RisingNames.{own-rising}
 use Rattle.p21_express_tables.proofs.schema.Schema.find_rising.Goals as goal
 
 pub rising-requires-clause-entities : goal.rising-requires-clause-entities

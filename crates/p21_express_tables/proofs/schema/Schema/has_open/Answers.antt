@@ -7,25 +7,25 @@ use Rattle.p21_schemas.specs.PlaceType.{TypeAt, two_redeclarations}
 use Rattle.p21_schemas.specs.Schema.{Place}
 use Rattle.p21_schemas.specs.Supertype.{IsA}
 use Rattle.p21_express_types.specs.Meaning.{place}
-use Rattle.p21_express_tables.specs.Decided.{IsDecided}
+use Rattle.p21_express_graph.specs.Resolved.{IsPlace}
+use Rattle.p21_express_graph.proofs.Lookups.{each-number, up-to}
+use Rattle.p21_express_tables.specs.DecidedPlaces.{IsDecided}
 use Rattle.p21_express_tables.specs.Decisions.{IsDecision}
-use Rattle.p21_express_tables.specs.Resolved.{IsPlace}
-use Rattle.p21_express_tables.specs.declared.decided.Decided.{Decided}
+use Rattle.p21_express_tables.specs.declared.decided.DecidedPlace.{DecidedPlace}
 use Rattle.p21_express_tables.specs.declared.place_types.Decision.{Decision}
 use Rattle.p21_express_tables.specs.declared.place_types.Decision.TheVariants.{Declared, Two}
 use Rattle.p21_express_tables.proofs.schema.Schema.has_open.Goals as goal
 use Rattle.p21_express_tables.proofs.Decisions.{open-decided}
-use Rattle.p21_express_tables.proofs.Lookups.{each-number, up-to}
 use Rattle.p21_express_tables.proofs.OwnSets.{place-among, place-of, redeclared-place}
 
-abbrev first : Decided
+abbrev first : DecidedPlace
 first = record { place = record { entity = record { 0 = 0 }; index = 0 }; decision = Declared }
 
 pub returns-then-is_open : goal.returns-then-is_open
 returns-then-is_open c =
     let s = c.args.self.now in
     let e : ℕ = c.args.entity.0 in
-    let known : Decided = get_or c.args.decided.now c.loop-known.known-index first in
+    let known : DecidedPlace = get_or c.args.decided.now c.loop-known.known-index first in
     let p : Place = place known.place in
     let (up, two) = c.is_open.ensures.0 c.if-is_open.true in
     let P : Decision → Type 0 = λ d. IsDecision s (order s e) p d in

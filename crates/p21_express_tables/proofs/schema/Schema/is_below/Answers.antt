@@ -2,11 +2,11 @@ use Rattle.std.specs.Prelude.{◌≡◌, ℕ, true, false, refl}
 use Rattle.std.proofs.Common.{arith, sym, ◌∙◌, get_or}
 use Rattle.p21_schemas.specs.Supertype.{IsA}
 use Rattle.p21_express_types.specs.Meaning.{place}
+use Rattle.p21_express_graph.proofs.Gatherings.{numbered-at}
+use Rattle.p21_express_graph.proofs.Lookups.{each-number, up-to}
 use Rattle.p21_express_tables.specs.Decisions.{IsRedeclarer}
 use Rattle.p21_express_tables.proofs.schema.Schema.is_below.Goals as goal
 use Rattle.p21_express_tables.proofs.schema.Schema.is_below.Goals.{else-redeclares-via-then-redeclares+else-not-is_a, else-redeclares-via-else-redeclares}
-use Rattle.p21_express_tables.proofs.Gatherings.{numbered-at}
-use Rattle.p21_express_tables.proofs.Lookups.{each-number, up-to}
 
 pub redeclares-requires : goal.redeclares-requires
 redeclares-requires c = c.requires.entities (get_or c.args.entities.now c.loop-other.other-index record { 0 = 0 }).0 (numbered-at (λ e. e.0) c.args.entities.now c.loop-other.other-index record { 0 = 0 } c.loop-other-test.true)

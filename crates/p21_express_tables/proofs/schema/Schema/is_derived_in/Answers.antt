@@ -1,10 +1,10 @@
 use Rattle.std.specs.Prelude.{◌≡◌, ℕ, true, false}
 use Rattle.std.proofs.Common.{arith, sym, ◌∙◌, subst, get_or}
 use Rattle.p21_express_types.specs.Meaning.{place}
-use Rattle.p21_express_tables.specs.Lookups.{DerivesPlace}
+use Rattle.p21_express_graph.specs.Lookups.{DerivesPlace}
+use Rattle.p21_express_graph.proofs.Gatherings.{numbered-at}
+use Rattle.p21_express_graph.proofs.Lookups.{unnumbered, up-to}
 use Rattle.p21_express_tables.proofs.schema.Schema.is_derived_in.Goals as goal
-use Rattle.p21_express_tables.proofs.Gatherings.{numbered-at}
-use Rattle.p21_express_tables.proofs.Lookups.{unnumbered, up-to}
 
 pub derives-requires : goal.derives-requires
 derives-requires c = c.requires (get_or c.args.entities.now c.loop-entity.entity-index record { 0 = 0 }).0 (numbered-at (λ e. e.0) c.args.entities.now c.loop-entity.entity-index record { 0 = 0 } c.loop-entity-test.true)

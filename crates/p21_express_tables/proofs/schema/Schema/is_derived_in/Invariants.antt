@@ -1,6 +1,6 @@
 use Rattle.std.proofs.Common.{ℕ, ◌<◌, slice_index_or}
 use Rattle.p21_express_types.specs.Meaning.{place}
-use Rattle.p21_express_tables.specs.Lookups.{DerivesPlace}
+use Rattle.p21_express_graph.specs.Lookups.{DerivesPlace}
 use Rattle.p21_express_tables.proofs.schema.Schema.is_derived_in.Given as goal
 
 abbrev pub invariant-loop-entity : goal.invariant-loop-entity

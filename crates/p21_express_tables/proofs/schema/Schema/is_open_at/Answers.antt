@@ -4,9 +4,10 @@ use Rattle.p21_schemas.specs.Order.{order}
 use Rattle.p21_schemas.specs.PlaceType.{TypeAt}
 use Rattle.p21_express_types.specs.Meaning.{place, place_type}
 use Rattle.p21_express_types.specs.declared.place_type.PlaceType.{PlaceType}
-use Rattle.p21_express_tables.specs.Orders.{numbers}
+use Rattle.p21_express_graph.specs.Orders.{numbers}
+use Rattle.p21_express_graph.proofs.Resolving.{own-entities}
 use Rattle.p21_express_tables.proofs.schema.Schema.is_open_at.Goals as goal
-use Rattle.p21_express_tables.proofs.OwnSets.{own-entities, place-among, place-of, two-only}
+use Rattle.p21_express_tables.proofs.OwnSets.{place-among, place-of, two-only}
 
 pub returns-then-not-is_a : goal.returns-then-not-is_a
 returns-then-not-is_a c = (

@@ -2,12 +2,12 @@ use Rattle.std.specs.Prelude.{◌≡◌, ◌+◌, ℕ, List, [], Contains, take,
 use Rattle.std.proofs.Common.{ap, sym, ◌∙◌, subst, get_or}
 use Rattle.p21_express_types.specs.declared.number.EntityId.{EntityId}
 use Rattle.p21_schemas.specs.Supertype.{LeavesAmong, no_more}
-use Rattle.p21_express_tables.specs.Orders.{numbers}
+use Rattle.p21_express_graph.specs.Orders.{numbers}
+use Rattle.p21_express_graph.proofs.Gatherings.{numbered-at}
+use Rattle.p21_express_graph.proofs.Lookups.{leaves-then, leaves-else}
 use Rattle.p21_express_tables.proofs.schema.Schema.leaves.Goals as goal
 use Rattle.p21_express_tables.proofs.schema.Schema.leaves.Goals.{then-not-is_among+in_ok-push, else-not-is_among}
 use Rattle.p21_express_tables.proofs.Above.{leaf-of, no-leaf}
-use Rattle.p21_express_tables.proofs.Gatherings.{numbered-at}
-use Rattle.p21_express_tables.proofs.Lookups.{leaves-then, leaves-else}
 
 pub loop-entity-init : goal.loop-entity-init
 loop-entity-init c = let P : List EntityId → Type 0 = λ xs. LeavesAmong c.args.self.now (numbers c.args.entities.now) [] (numbers xs) in subst P (sym c.new-leaves.ensures.items) no_more

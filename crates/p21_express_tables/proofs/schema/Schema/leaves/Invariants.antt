@@ -1,6 +1,6 @@
 use Rattle.std.proofs.Common.{take}
 use Rattle.p21_schemas.specs.Supertype.{LeavesAmong}
-use Rattle.p21_express_tables.specs.Orders.{numbers}
+use Rattle.p21_express_graph.specs.Orders.{numbers}
 use Rattle.p21_express_tables.proofs.schema.Schema.leaves.Given as goal
 
 abbrev pub invariant-loop-entity : goal.invariant-loop-entity

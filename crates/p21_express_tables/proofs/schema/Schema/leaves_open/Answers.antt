@@ -2,14 +2,15 @@ use Rattle.std.specs.Prelude.{◌≡◌, ℕ, List, Some, map, Contains, true, f
 use Rattle.std.proofs.Common.{arith, sym, ◌∙◌, subst, get_or}
 use Rattle.p21_schemas.specs.PlaceType.{Redeclares}
 use Rattle.p21_schemas.specs.Schema.{Redeclared, Place, Entity}
-use Rattle.p21_express_tables.specs.Orders.{numbers}
+use Rattle.p21_express_graph.specs.Orders.{numbers}
+use Rattle.p21_express_graph.specs.SchemaContents.{redeclared, entity}
+use Rattle.p21_express_graph.specs.declared.schema_contents.Redeclared.{Redeclared as Declared}
+use Rattle.p21_express_graph.proofs.Gatherings.{numbered-at}
+use Rattle.p21_express_graph.proofs.Lookups.{up-to, each-number}
+use Rattle.p21_express_graph.proofs.Resolving.{own-entities}
 use Rattle.p21_express_tables.specs.OwnSets.{IsOpenAt}
-use Rattle.p21_express_tables.specs.Parts.{redeclared, entity}
-use Rattle.p21_express_tables.specs.declared.parts.Redeclared.{Redeclared as Declared}
 use Rattle.p21_express_tables.proofs.schema.Schema.leaves_open.Goals as goal
-use Rattle.p21_express_tables.proofs.Gatherings.{numbered-at}
-use Rattle.p21_express_tables.proofs.Lookups.{up-to, each-number}
-use Rattle.p21_express_tables.proofs.OwnSets.{own-entities, redeclared-place}
+use Rattle.p21_express_tables.proofs.OwnSets.{redeclared-place}
 
 pub entity_at-requires : goal.entity_at-requires
 entity_at-requires c =

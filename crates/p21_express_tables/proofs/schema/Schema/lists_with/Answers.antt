@@ -3,12 +3,12 @@ use Rattle.std.proofs.Common.{arith, ap, sym, ◌∙◌, subst, inl, inr}
 use Rattle.std.proofs.lemmas.Bool.{cases_lt}
 use Rattle.std.specs.List.Sorted.{IsStrictlyIncreasing}
 use Rattle.p21_schemas.specs.Schema.{Schema}
+use Rattle.p21_express_graph.specs.SettledOrder.{lists_of, nexts_of}
+use Rattle.p21_express_graph.proofs.Gatherings.{mapped-length}
+use Rattle.p21_express_graph.proofs.Inverting.{nothing-past}
+use Rattle.p21_express_graph.proofs.Walks.{nexts_at}
 use Rattle.p21_express_tables.specs.OneOf.{AreListedIn, IsListedIn}
-use Rattle.p21_express_tables.specs.Settled.{lists_of, nexts_of}
 use Rattle.p21_express_tables.proofs.schema.Schema.lists_with.Goals as goal
-use Rattle.p21_express_tables.proofs.Gatherings.{mapped-length}
-use Rattle.p21_express_tables.proofs.Inverting.{nothing-past}
-use Rattle.p21_express_tables.proofs.Walks.{nexts_at}
 
 pub returns-in-Some-clause-each : goal.returns-in-Some-clause-each
 returns-in-Some-clause-each c k =

@@ -3,11 +3,11 @@ use Rattle.std.proofs.Common.{sym, ◌∙◌, subst, get_or}
 use Rattle.std.proofs.lemmas.List.{take_all}
 use Rattle.p21_express_types.specs.Meaning.{place}
 use Rattle.p21_express_types.specs.declared.number.EntityId.{EntityId}
-use Rattle.p21_express_tables.specs.Orders.{numbers}
+use Rattle.p21_express_graph.specs.Orders.{numbers}
 use Rattle.p21_basics.proofs.Members.{Contains-none}
+use Rattle.p21_express_graph.proofs.Gatherings.{numbered-at}
+use Rattle.p21_express_graph.proofs.Lookups.{numbers-more}
 use Rattle.p21_express_tables.proofs.Decisions.{IsLowestSeen, lower-seen, other-seen, seen-all}
-use Rattle.p21_express_tables.proofs.Gatherings.{numbered-at}
-use Rattle.p21_express_tables.proofs.Lookups.{numbers-more}
 use Rattle.p21_express_tables.proofs.schema.Schema.lowest.Goals as goal
 use Rattle.p21_express_tables.proofs.schema.Schema.lowest.Goals.{then-redeclares_below, else-redeclares_below}
 

@@ -3,9 +3,9 @@ use Rattle.p21_schemas.specs.Schema.{entity_member, type_member}
 use Rattle.p21_schemas.specs.Select.{Offers}
 use Rattle.p21_express_types.specs.Meaning.{member}
 use Rattle.p21_express_types.specs.declared.kind.Member.{Member}
-use Rattle.p21_express_tables.specs.Parts.{schema_of}
+use Rattle.p21_express_graph.specs.SchemaContents.{schema_of}
+use Rattle.p21_express_graph.proofs.Offering.{offered-list, offered-rises}
 use Rattle.p21_express_tables.proofs.schema.Schema.offers.Goals as goal
-use Rattle.p21_express_tables.proofs.Offering.{offered-list, offered-rises}
 
 pub is_among-requires : goal.is_among-requires
 is_among-requires c = offered-rises (λ v. v.items) (schema_of c.self.inside.parts) c.args.self.now entity_member c.self.inside.offered.entities.items c.args.of.0 c.index.result.now c.deref.result.now c.self.view_is c.self.invariant.2.entities_offered c.requires c.index.ensures c.deref.ensures.value

@@ -4,12 +4,12 @@ use Rattle.std.proofs.lemmas.List.Elements.{Contains-get_or}
 use Rattle.std.proofs.lemmas.Option.{slice_get_within}
 use Rattle.p21_basics.proofs.Members.{Contains-at, Contains-mapped}
 use Rattle.p21_schemas.specs.Schema.{Redeclared}
+use Rattle.p21_express_graph.specs.SchemaContents.{redeclared}
+use Rattle.p21_express_graph.specs.declared.schema_contents.Redeclared.{Redeclared as Declared}
+use Rattle.p21_express_graph.proofs.Gatherings.{mapped-length}
+use Rattle.p21_express_graph.proofs.Lookups.{up-to, list-at}
 use Rattle.p21_express_tables.specs.OwnSets.{IsOpenAt}
-use Rattle.p21_express_tables.specs.Parts.{redeclared}
-use Rattle.p21_express_tables.specs.declared.parts.Redeclared.{Redeclared as Declared}
 use Rattle.p21_express_tables.proofs.schema.Schema.opens_among.Goals as goal
-use Rattle.p21_express_tables.proofs.Gatherings.{mapped-length}
-use Rattle.p21_express_tables.proofs.Lookups.{up-to, list-at}
 
 pub is_open_at-requires-clause-place : goal.is_open_at-requires-clause-place
 is_open_at-requires-clause-place c =

@@ -1,7 +1,7 @@
 use Rattle.std.proofs.Common.{ℕ, ◌≡◌, ◌<◌, map, slice_get, Some}
 use Rattle.p21_schemas.specs.Schema.{Redeclared}
+use Rattle.p21_express_graph.specs.SchemaContents.{redeclared}
 use Rattle.p21_express_tables.specs.OwnSets.{IsOpenAt}
-use Rattle.p21_express_tables.specs.Parts.{redeclared}
 use Rattle.p21_express_tables.proofs.schema.Schema.opens_among.Given as goal
 
 abbrev pub invariant-loop-other : goal.invariant-loop-other

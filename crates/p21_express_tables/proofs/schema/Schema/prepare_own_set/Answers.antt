@@ -3,17 +3,17 @@ use Rattle.std.proofs.Common.{sym, subst, ◌∙◌}
 use Rattle.p21_schemas.specs.OneOf.{Clashes}
 use Rattle.p21_schemas.specs.Order.{order}
 use Rattle.p21_schemas.specs.Schema.{Schema}
-use Rattle.p21_express_tables.specs.Decided.{AreDecided}
+use Rattle.p21_express_graph.specs.SchemaContents.{schema_of}
+use Rattle.p21_express_tables.specs.DecidedPlaces.{AreDecided}
 use Rattle.p21_express_tables.specs.OwnSets.{AreOwnSets, IsOwnSet}
-use Rattle.p21_express_tables.specs.Parts.{schema_of}
-use Rattle.p21_express_tables.specs.declared.decided.Decided.{Decided}
+use Rattle.p21_express_tables.specs.declared.decided.DecidedPlace.{DecidedPlace}
 use Rattle.p21_express_tables.specs.declared.own_sets.OwnSet.{OwnSet}
 use Rattle.p21_express_tables.proofs.schema.Schema.prepare_own_set.Goals as goal
 use Rattle.p21_express_tables.proofs.OwnSets.{own-more, with-own}
 
 pub has_open-requires-clause-decided : goal.has_open-requires-clause-decided
 has_open-requires-clause-decided c =
-    let P : List Decided → Type 0 = λ ds. AreDecided c.args.self.now (order c.args.self.now c.len-number.result) ds in
+    let P : List DecidedPlace → Type 0 = λ ds. AreDecided c.args.self.now (order c.args.self.now c.len-number.result) ds in
     subst P (sym c.deref.ensures.value) c.in_ok-decided.ensures
 
 pub own_faults_with-requires-clause-clash : goal.own_faults_with-requires-clause-clash

@@ -2,9 +2,9 @@ use Rattle.std.specs.Prelude.{◌≡◌, ◌++◌, length, map, refl}
 use Rattle.std.proofs.Common.{arith, ap, ◌∙◌}
 use Rattle.p21_express_types.specs.Meaning.{place}
 use Rattle.p21_schemas.specs.Schema.{attributes_of}
-use Rattle.p21_express_tables.specs.Lookups.{places_from}
+use Rattle.p21_express_graph.specs.Lookups.{places_from}
+use Rattle.p21_express_graph.proofs.Lookups.{place-more, own-places-are}
 use Rattle.p21_express_tables.proofs.schema.Schema.push_own_places.Goals as goal
-use Rattle.p21_express_tables.proofs.Lookups.{place-more, own-places-are}
 
 pub loop-index-preserved : goal.loop-index-preserved
 loop-index-preserved c = place-more place c.loop-index.found.items c.push.new.self.items record { entity = c.args.entity; index = c.loop-index.index } (map place c.args.found.now.items) c.args.entity.0 c.loop-index.index c.in_ok-push.ensures.items refl c.loop-index.invariant

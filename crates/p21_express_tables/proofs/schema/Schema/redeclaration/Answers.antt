@@ -1,9 +1,9 @@
 use Rattle.std.specs.Prelude.{◌≡◌, List, Some, map, slice_get, Contains}
 use Rattle.std.proofs.Common.{ap, sym, ◌∙◌, subst}
 use Rattle.p21_schemas.specs.Schema.{Redeclared}
-use Rattle.p21_express_tables.specs.Parts.{redeclared, entity}
+use Rattle.p21_express_graph.specs.SchemaContents.{redeclared, entity}
+use Rattle.p21_express_graph.proofs.Lookups.{map-option}
 use Rattle.p21_express_tables.proofs.schema.Schema.redeclaration.Goals as goal
-use Rattle.p21_express_tables.proofs.Lookups.{map-option}
 
 pub returns : goal.returns
 returns c =

@@ -3,15 +3,15 @@ use Rattle.std.specs.List.{flat_map}
 use Rattle.std.proofs.Common.{ap, sym, ◌∙◌, get_or}
 use Rattle.std.proofs.lemmas.List.{take_all}
 use Rattle.p21_schemas.specs.Order.{order}
-use Rattle.p21_express_tables.specs.Orders.{numbers}
-use Rattle.p21_express_tables.specs.Parts.{entity}
+use Rattle.p21_express_graph.specs.Orders.{numbers}
+use Rattle.p21_express_graph.specs.SchemaContents.{entity}
+use Rattle.p21_express_graph.specs.SettledOrder.{nexts_of}
+use Rattle.p21_express_graph.proofs.Gatherings.{numbered-at}
+use Rattle.p21_express_graph.proofs.Resolving.{own-entities}
 use Rattle.p21_express_tables.specs.Redeclarers.{owners_of}
-use Rattle.p21_express_tables.specs.Settled.{nexts_of}
 use Rattle.p21_express_tables.proofs.schema.Schema.redeclared_owners.Goals as goal
 use Rattle.p21_express_tables.proofs.Deciding.{have-owners, owners-more}
-use Rattle.p21_express_tables.proofs.Gatherings.{numbered-at}
 use Rattle.p21_express_tables.proofs.Owners.{owner_lists, owners-at}
-use Rattle.p21_express_tables.proofs.OwnSets.{own-entities}
 
 pub loop-other-init : goal.loop-other-init
 loop-other-init c = ap numbers c.new-owners.ensures.items
@@ -39,4 +39,4 @@ returns c =
     ∙ c.loop-other.invariant
     ∙ ap (λ es. flat_map (nexts_of (owner_lists s)) (numbers es)) (take_all c.loop-other.other-index all c.loop-other-test.false)
     ∙ ap (flat_map (nexts_of (owner_lists s))) c.order_of-other-items.ensures in
-    have-owners s c.holds_together.ensures (order s c.args.entity.0) owners c.risen.result.items are c.risen.ensures.same
+    have-owners s c.holds_together.ensures (order s c.args.entity.0) owners c.rising_numbers.result.items are c.rising_numbers.ensures.same

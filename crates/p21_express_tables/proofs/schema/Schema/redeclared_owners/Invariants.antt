@@ -1,7 +1,7 @@
 use Rattle.std.proofs.Common.{◌≡◌, take}
 use Rattle.std.specs.List.{flat_map}
-use Rattle.p21_express_tables.specs.Orders.{numbers}
-use Rattle.p21_express_tables.specs.Settled.{nexts_of}
+use Rattle.p21_express_graph.specs.Orders.{numbers}
+use Rattle.p21_express_graph.specs.SettledOrder.{nexts_of}
 use Rattle.p21_express_tables.proofs.Owners.{owner_lists}
 use Rattle.p21_express_tables.proofs.schema.Schema.redeclared_owners.Given as goal
 

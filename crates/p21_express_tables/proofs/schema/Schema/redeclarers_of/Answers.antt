@@ -2,12 +2,12 @@ use Rattle.std.specs.Prelude.{◌≡◌, ◌≤◌, ℕ, List, [], length, Conta
 use Rattle.std.proofs.Common.{arith, ap, sym, ◌∙◌, subst, inl, inr}
 use Rattle.std.proofs.lemmas.Bool.{cases_lt}
 use Rattle.p21_schemas.specs.Schema.{Schema}
+use Rattle.p21_express_graph.specs.SettledOrder.{lists_of, nexts_of}
+use Rattle.p21_express_graph.proofs.Gatherings.{mapped-length}
+use Rattle.p21_express_graph.proofs.Inverting.{nothing-past}
+use Rattle.p21_express_graph.proofs.Walks.{nexts_at}
 use Rattle.p21_express_tables.specs.Redeclarers.{AreRedeclarers}
-use Rattle.p21_express_tables.specs.Settled.{lists_of, nexts_of}
 use Rattle.p21_express_tables.proofs.schema.Schema.redeclarers_of.Goals as goal
-use Rattle.p21_express_tables.proofs.Gatherings.{mapped-length}
-use Rattle.p21_express_tables.proofs.Inverting.{nothing-past}
-use Rattle.p21_express_tables.proofs.Walks.{nexts_at}
 
 pub returns-in-Some-clause-all : goal.returns-in-Some-clause-all
 returns-in-Some-clause-all c e place owner is =

@@ -3,7 +3,7 @@ use Rattle.std.proofs.Common.{arith, ap, sym, ◌∙◌, subst, get_or}
 use Rattle.std.proofs.lemmas.List.{map-append, take_all, take_more}
 use Rattle.std.proofs.lemmas.List.Elements.{Contains-get_or}
 use Rattle.p21_express_types.specs.declared.number.EntityId.{EntityId}
-use Rattle.p21_express_tables.specs.Orders.{numbers}
+use Rattle.p21_express_graph.specs.Orders.{numbers}
 use Rattle.p21_express_tables.proofs.schema.Schema.redeclaring.Goals as goal
 use Rattle.p21_express_tables.proofs.schema.Schema.redeclaring.Goals.{then-is_a+in_ok-push, else-is_a}
 use Rattle.p21_express_tables.proofs.Deciding.{AreSupertypes, are-redeclaring, supertypes-more, supertypes-none, supertypes-other}

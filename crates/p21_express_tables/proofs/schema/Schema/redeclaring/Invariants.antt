@@ -1,5 +1,5 @@
 use Rattle.std.proofs.Common.{take}
-use Rattle.p21_express_tables.specs.Orders.{numbers}
+use Rattle.p21_express_graph.specs.Orders.{numbers}
 use Rattle.p21_express_tables.proofs.Deciding.{AreSupertypes}
 use Rattle.p21_express_tables.proofs.schema.Schema.redeclaring.Given as goal
 

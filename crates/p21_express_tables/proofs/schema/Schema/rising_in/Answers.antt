@@ -2,9 +2,9 @@ use Rattle.std.specs.Prelude.{◌≡◌, List, Option, IfOk, IfSome, Vec}
 use Rattle.std.proofs.Common.{subst}
 use Rattle.std.specs.declared.alloc.Global.{Global}
 use Rattle.p21_express_types.specs.declared.number.EntityId.{EntityId}
-use Rattle.p21_express_tables.specs.Orders.{numbers}
-use Rattle.p21_express_tables.specs.Rising.{IsOwnRising}
-use Rattle.p21_express_tables.proofs.RisingNames.{copied-rising}
+use Rattle.p21_express_graph.specs.Orders.{numbers}
+use Rattle.p21_express_graph.specs.Rising.{IsOwnRising}
+use Rattle.p21_express_graph.proofs.RisingNames.{copied-rising}
 use Rattle.p21_express_tables.proofs.schema.Schema.rising_in.Goals as goal
 
 pub returns-in-Some : goal.returns-in-Some

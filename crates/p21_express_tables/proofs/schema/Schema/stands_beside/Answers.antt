@@ -5,7 +5,7 @@ use Rattle.std.proofs.Common.{sym, subst, get_or}
 use Rattle.std.proofs.lemmas.List.{take_all, take_more}
 use Rattle.std.proofs.lemmas.List.Elements.{Contains-get_or}
 use Rattle.p21_express_tables.proofs.schema.Schema.stands_beside.Goals as goal
-use Rattle.p21_express_tables.proofs.Noted.{IsNoted, clash-found, held-more, none-more, noted-next, noted-none}
+use Rattle.p21_express_tables.proofs.Noted.{IsNoted, clash-found, noted_more, none-more, noted-next, noted-none}
 use Rattle.p21_basics.proofs.Members.{Contains-none}
 
 pub loop-number-init : goal.loop-number-init
@@ -40,4 +40,4 @@ returns c seen held =
     let whole = take_all c.loop-number.number-index lists c.loop-number-test.false in
     let P : List ℕ → Type 0 = λ ls. IsNoted e ls old (get nat_cmp c.loop-number.holders) in
     let Q : List ℕ → Type 0 = λ ls. (j : ℕ) → Contains ls j → (other : ℕ) → old j ≡ Some other → other ≡ e in
-    held-more c.args.self.now seen e lists c.lists_with-number-items.ensures.each old held (get nat_cmp c.loop-number.holders) (subst P whole c.loop-number.invariant.0) (subst Q whole c.loop-number.invariant.1)
+    noted_more c.args.self.now seen e lists c.lists_with-number-items.ensures.each old held (get nat_cmp c.loop-number.holders) (subst P whole c.loop-number.invariant.0) (subst Q whole c.loop-number.invariant.1)

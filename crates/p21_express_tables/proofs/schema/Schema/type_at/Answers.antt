@@ -1,4 +1,4 @@
-use Rattle.p21_express_tables.specs.Orders.{numbers}
+use Rattle.p21_express_graph.specs.Orders.{numbers}
 use Rattle.p21_express_tables.proofs.schema.Schema.type_at.Goals as goal
 
 pub decided_type-requires-clause-decided : goal.decided_type-requires-clause-decided

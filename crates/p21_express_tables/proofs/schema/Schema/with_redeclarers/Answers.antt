@@ -1,16 +1,16 @@
 use Rattle.std.specs.Prelude.{◌≡◌, List, length, map}
 use Rattle.std.proofs.Common.{arith, ap, sym, ◌∙◌, subst}
 use Rattle.p21_schemas.specs.Schema.{Schema}
-use Rattle.p21_express_tables.specs.Parts.{entity, schema_of}
-use Rattle.p21_express_tables.specs.Redeclaring.{redeclaring, redeclaring_schema}
-use Rattle.p21_express_tables.specs.Resolved.{HoldsTogether}
-use Rattle.p21_express_tables.proofs.Gatherings.{mapped-length}
-use Rattle.p21_express_tables.proofs.KeptTables.{redeclaring-prepared}
+use Rattle.p21_express_graph.specs.SchemaContents.{entity, schema_of}
+use Rattle.p21_express_graph.specs.Redeclaring.{redeclaring, redeclaring_schema}
+use Rattle.p21_express_graph.specs.Resolved.{HoldsTogether}
+use Rattle.p21_express_graph.proofs.Gatherings.{mapped-length}
+use Rattle.p21_express_tables.proofs.UnchangedTables.{redeclaring-prepared}
 use Rattle.p21_express_tables.proofs.OwnSets.{none-own}
 use Rattle.p21_express_tables.proofs.schema.Schema.with_redeclarers.Goals as goal
 
-pub parts_with-requires-clause-each : goal.parts_with-requires-clause-each
-parts_with-requires-clause-each c = sym (mapped-length entity c.self.inside.parts.entities.items) ∙ ap (λ s. length s.entities) c.self.view_is ∙ c.requires.each
+pub contents_with-requires-clause-each : goal.contents_with-requires-clause-each
+contents_with-requires-clause-each c = sym (mapped-length entity c.self.inside.parts.entities.items) ∙ ap (λ s. length s.entities) c.self.view_is ∙ c.requires.each
 
 pub all_redeclarers-requires : goal.all_redeclarers-requires
 all_redeclarers-requires c = subst HoldsTogether (sym (c.in_ok-whole.ensures.value ∙ ap (λ s. redeclaring_schema s (map redeclaring c.args.found.items)) c.self.view_is)) c.requires.whole

@@ -2,17 +2,17 @@ use Rattle.std.specs.Prelude.{List, Vec, Contains}
 use Rattle.std.proofs.Common.{arith, subst}
 use Rattle.std.specs.declared.alloc.Global.{Global}
 use Rattle.p21_express_types.specs.declared.number.EntityId.{EntityId}
-use Rattle.p21_express_tables.specs.Indexes.{AreIndexes}
-use Rattle.p21_express_tables.specs.Orders.{tabled}
-use Rattle.p21_express_tables.specs.Parts.{entity, schema_of}
-use Rattle.p21_express_tables.specs.Settled.{nexts_of}
-use Rattle.p21_express_tables.proofs.Gatherings.{mapped-length}
+use Rattle.p21_express_graph.specs.Indexes.{AreIndexes}
+use Rattle.p21_express_graph.specs.Orders.{number_lists}
+use Rattle.p21_express_graph.specs.SchemaContents.{entity, schema_of}
+use Rattle.p21_express_graph.specs.SettledOrder.{nexts_of}
+use Rattle.p21_express_graph.proofs.Gatherings.{mapped-length}
 use Rattle.p21_express_tables.proofs.OwnSets.{none-own}
 use Rattle.p21_express_tables.proofs.schema.Schema.without_own_sets.Goals as goal
 
 pub indexes_of-requires : goal.indexes_of-requires
 indexes_of-requires c r e among =
-    let P : List (Vec EntityId Global) → Type 0 = λ runs. Contains (nexts_of (tabled runs) r) e in
+    let P : List (Vec EntityId Global) → Type 0 = λ runs. Contains (nexts_of (number_lists runs) r) e in
     let below = c.in_ok-orders.ensures.below r e (subst P c.deref.ensures.value among) in
     omega (arith, below, c.len.ensures, mapped-length entity c.args.parts.entities.items, c.args.parts.entities.ok.0)
 
@@ -21,9 +21,9 @@ invariant_of-result c = (
   c.requires.holds_together,
   c.requires.named,
   record {
-    fronts_are = c.in_ok-orders.ensures.fronts;
+    prefixes_are = c.in_ok-orders.ensures.prefixes;
     orders_are = c.in_ok-orders.ensures.orders;
-    indexes_are = let P : List (Vec EntityId Global) → Type 0 = λ runs. AreIndexes (tabled runs) c.in_ok-indexes.indexes.items in subst P c.deref.ensures.value c.in_ok-indexes.ensures;
+    indexes_are = let P : List (Vec EntityId Global) → Type 0 = λ runs. AreIndexes (number_lists runs) c.in_ok-indexes.indexes.items in subst P c.deref.ensures.value c.in_ok-indexes.ensures;
     listed_are = c.in_ok-listed_in.ensures;
     redeclarers_are = c.in_ok-redeclarers.ensures;
     ends_are = c.in_ok-ends.ensures;

@@ -1,6 +1,6 @@
 use Rattle.p21_grammar.proofs.Holding.{new-stands}
-use Rattle.p21_grammar_machine.specs.Machine.{spot_of}
+use Rattle.p21_grammar.specs.Machine.{spot_of}
 use Rattle.p21_grammar.proofs.parser.Parser.new.Goals as goal
 
 pub returns-clause-stands : goal.returns-clause-stands
-returns-clause-stands c = new-stands c.new.result.place (spot_of c.new.result) c.new.ensures.place c.new.ensures.spot
+returns-clause-stands c = new-stands c.new.result.stage (spot_of c.new.result) c.new.ensures.stage c.new.ensures.spot

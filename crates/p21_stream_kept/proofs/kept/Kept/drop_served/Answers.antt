@@ -6,8 +6,8 @@ use Rattle.p21_stream_kept.specs.Inside.{kept_of, references_of}
 use Rattle.p21_stream_kept.specs.Served.{LeavesServed}
 use Rattle.p21_stream_kept.proofs.kept.Kept.drop_served.Goals as goal
 
-pub returns-then-len-self : goal.returns-then-len-self
-returns-then-len-self c = none-dropped c.args.schema.now c.args.self.now
+pub returns-then-come-self : goal.returns-then-come-self
+returns-then-come-self c = none-dropped c.args.schema.now c.args.self.now
 
 pub returns : goal.returns
 returns c =

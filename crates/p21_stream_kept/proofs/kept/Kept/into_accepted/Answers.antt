@@ -3,27 +3,27 @@ use Rattle.std.proofs.lemmas.Slice.Zip.{AllZip-long}
 use Rattle.std.specs.List.{AllZip}
 use Rattle.p21_claim_steps.specs.Keeping.{Kept}
 use Rattle.p21_exchange.specs.DataSection.{Heading}
-use Rattle.p21_stream_ending.specs.Ending.{StandsIn}
-use Rattle.p21_stream_ending.specs.Parts.{Begins}
+use Rattle.p21_stream_output.specs.Ending.{IsKeptIn}
+use Rattle.p21_stream_output.specs.NamedSections.{HasHeading}
 use Rattle.p21_stream_kept.specs.Inside.{AreOfSections, kept_of}
-use Rattle.p21_stream_kept.specs.Taking.{IsOfFile}
+use Rattle.p21_stream_kept.specs.Taking.{IsKeptOfFile}
 use Rattle.p21_stream_kept.proofs.Ended.{end-is, end-sized}
 use Rattle.p21_stream_kept.proofs.kept.Kept.into_accepted.Goals as goal
 
-pub accepted-requires-clause-sections : goal.accepted-requires-clause-sections
-accepted-requires-clause-sections c =
-    let begins = subst (λ (hs : List Heading). AllZip Begins hs c.in_ok-parts.parts.items) c.items.ensures c.in_ok-parts.ensures.begin in
-    let same : length c.self.inside.sections ≡ length c.in_ok-parts.parts.items = sym (AllZip-long Begins c.self.inside.sections c.in_ok-parts.parts.items begins) in
-    subst (λ (many : ℕ). AreOfSections many c.self.inside.kinds) same c.self.invariant.sections
+pub accepted_file-requires-clause-sections : goal.accepted_file-requires-clause-sections
+accepted_file-requires-clause-sections c =
+    let begins = subst (λ (hs : List Heading). AllZip HasHeading hs c.in_ok-parts.parts.items) c.items.ensures c.in_ok-parts.ensures.begin in
+    let same : length c.self.inside.sections ≡ length c.in_ok-parts.parts.items = sym (AllZip-long HasHeading c.self.inside.sections c.in_ok-parts.parts.items begins) in
+    subst (λ (many : ℕ). AreOfSections many c.self.inside.memberships) same c.self.invariant.sections
 
-pub accepted-requires-clause-size : goal.accepted-requires-clause-size
-accepted-requires-clause-size c =
-    let begins = subst (λ (hs : List Heading). AllZip Begins hs c.in_ok-parts.parts.items) c.items.ensures c.in_ok-parts.ensures.begin in
-    end-sized (kept_of c.self.inside) c.self.inside.header.items c.in_ok-parts.parts.items c.self.inside.kinds c.self.inside.instances (subst IsOfFile (sym c.self.view_is) c.requires) (record { header_is = refl; begins = begins; stored_is = refl })
+pub accepted_file-requires-clause-size : goal.accepted_file-requires-clause-size
+accepted_file-requires-clause-size c =
+    let begins = subst (λ (hs : List Heading). AllZip HasHeading hs c.in_ok-parts.parts.items) c.items.ensures c.in_ok-parts.ensures.begin in
+    end-sized (kept_of c.self.inside) c.self.inside.header.items c.in_ok-parts.parts.items c.self.inside.memberships c.self.inside.instances (subst IsKeptOfFile (sym c.self.view_is) c.requires) (record { header_is = refl; begins = begins; stored_is = refl })
 
 pub returns : goal.returns
 returns c =
-    let begins = subst (λ (hs : List Heading). AllZip Begins hs c.in_ok-parts.parts.items) c.items.ensures c.in_ok-parts.ensures.begin in
+    let begins = subst (λ (hs : List Heading). AllZip HasHeading hs c.in_ok-parts.parts.items) c.items.ensures c.in_ok-parts.ensures.begin in
     let stands =
-    subst (λ (k : Kept). StandsIn k c.self.inside.header.items c.in_ok-parts.parts.items c.self.inside.kinds c.self.inside.instances) c.self.view_is (record { header_is = refl; begins = begins; stored_is = refl }) in
-    end-is c.args.self c.self.inside.header.items c.in_ok-parts.parts.items c.self.inside.kinds c.self.inside.instances c.accepted.result stands c.accepted.ensures
+    subst (λ (k : Kept). IsKeptIn k c.self.inside.header.items c.in_ok-parts.parts.items c.self.inside.memberships c.self.inside.instances) c.self.view_is (record { header_is = refl; begins = begins; stored_is = refl }) in
+    end-is c.args.self c.self.inside.header.items c.in_ok-parts.parts.items c.self.inside.memberships c.self.inside.instances c.accepted_file.result stands c.accepted_file.ensures

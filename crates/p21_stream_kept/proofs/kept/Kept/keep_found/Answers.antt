@@ -3,12 +3,12 @@ use Rattle.std.proofs.lemmas.List.{length-map}
 use Rattle.std.specs.List.Sorted.{IsPermutation}
 use Rattle.std.specs.Prelude.{Contains}
 use Rattle.p21_claim_steps.specs.Keeping.{Kept}
-use Rattle.p21_claim_steps.specs.Stored.{Stored}
+use Rattle.p21_claim_steps.specs.Stored.{StoredEntry}
 use Rattle.p21_claim_steps.specs.Waiting.{Reference}
 use Rattle.p21_exchange.specs.Statement.{instance}
 use Rattle.p21_mapping.specs.Checked.{needs_view}
 use Rattle.p21_mapping_values.specs.TypedView.{ids_view, need_view}
-use Rattle.p21_stream_fault.specs.declared.fault.Fault.TheVariants.{CanonicalTooLong}
+use Rattle.p21_stream_kept.specs.declared.fault.Fault.TheVariants.{CanonicalTooLong}
 use Rattle.p21_stream_kept.proofs.Dropping.{took-dropped}
 use Rattle.p21_stream_kept.proofs.Finding.{found-named, took-found}
 use Rattle.p21_stream_kept.proofs.Following.{follows-few, follows-section}
@@ -20,12 +20,12 @@ use Rattle.p21_stream_kept.proofs.kept.Kept.keep_found.Goals as goal
 pub invariant_of-self-in_default-store : goal.invariant_of-self-in_default-store
 invariant_of-self-in_default-store c =
     let last : c.last-section.result + 1 ≡ length c.self.inside.sections = c.last-section.ensures in
-    record { kinds = c.store.ensures.kinds; sections = c.store.ensures.sections (length c.self.inside.sections) (omega (arith, last)) c.self.invariant.sections; named = c.store.ensures.named; counted = c.self.invariant.counted }
+    record { memberships = c.store.ensures.memberships; sections = c.store.ensures.sections (length c.self.inside.sections) (omega (arith, last)) c.self.invariant.sections; named = c.store.ensures.named; counted = c.self.invariant.counted }
 
 pub invariant_of-self-2 : goal.invariant_of-self-2
 invariant_of-self-2 c =
     let last : c.last-section.result + 1 ≡ length c.self.inside.sections = c.last-section.ensures in
-    record { kinds = c.store.ensures.kinds; sections = c.store.ensures.sections (length c.self.inside.sections) (omega (arith, last)) c.self.invariant.sections; named = c.store.ensures.named; counted = let fits = c.has_room.ensures.fits c.if-not-has_room.false in omega (arith, fits) }
+    record { memberships = c.store.ensures.memberships; sections = c.store.ensures.sections (length c.self.inside.sections) (omega (arith, last)) c.self.invariant.sections; named = c.store.ensures.named; counted = let fits = c.fits_limits.ensures.fits c.if-not-fits_limits.false in omega (arith, fits) }
 
 pub last-section-requires : goal.last-section-requires
 last-section-requires c = subst (λ (k : Kept). 0 < length k.headings) (sym c.self.view_is) (follows-section c.args.schema.now c.args.limits c.args.self.now c.args.name c.requires.found.record_ c.requires.found.follows)
@@ -33,7 +33,7 @@ last-section-requires c = subst (λ (k : Kept). 0 < length k.headings) (sym c.se
 pub store-requires-clause-another : goal.store-requires-clause-another
 store-requires-clause-another c =
     let P : List ℕ → Type 0 = λ names. Contains names c.args.name in
-    λ among. c.requires.another (subst (λ (k : Kept). P (map (λ (x : Stored). x.name) k.stored)) c.self.view_is (subst P (sym (stored-names c.self.inside.kinds c.self.inside.instances)) among))
+    λ among. c.requires.another (subst (λ (k : Kept). P (map (λ (x : StoredEntry). x.name) k.stored)) c.self.view_is (subst P (sym (stored-names c.self.inside.memberships c.self.inside.instances)) among))
 
 pub store-requires-clause-line : goal.store-requires-clause-line
 store-requires-clause-line c = found-named c.args.schema.now c.args.name c.requires.found.record_ (ids_view c.args.entities.now) (needs_view c.args.needs.now) c.args.line.now c.requires.found.found
@@ -46,13 +46,13 @@ overflow_add-self c =
     let same = ap (λ (k : Kept). k.references) c.self.view_is in
     omega (arith, needs, few, same)
 
-pub returns-then-not-has_room-clause-gives : goal.returns-then-not-has_room-clause-gives
-returns-then-not-has_room-clause-gives c =
+pub returns-then-not-fits_limits-clause-gives : goal.returns-then-not-fits_limits-clause-gives
+returns-then-not-fits_limits-clause-gives c =
     let old : Kept = kept_of c.self.inside in
     let F : Kept → Type 0 = λ k. FoundGives c.args.schema.now c.args.limits k c.args.name (ids_view c.args.entities.now) (needs_view c.args.needs.now) c.args.line.now (Err CanonicalTooLong) k in
     subst F c.self.view_is (λ record_ is. refused-instance c.args.schema.now c.args.limits old old c.args.name record_ c.args.line.now is.printed (λ room.
-    let passes : c.has_room.result ≡ true = c.has_room.ensures.decides.1 room in
-    let fails = c.if-not-has_room.true in
+    let passes : c.fits_limits.result ≡ true = c.fits_limits.ensures.decides.1 room in
+    let fails = c.if-not-fits_limits.true in
     cc))
 
 pub returns-clause-gives : goal.returns-clause-gives
@@ -62,11 +62,11 @@ returns-clause-gives c =
     let entities = ids_view c.args.entities.now in
     let needs = needs_view c.args.needs.now in
     let line = c.args.line.now in
-    let stored : List Stored = stored_of c.store.new.kinds c.store.new.instances in
-    let waiting : List Reference = references_of c.wait.new.waiting.items in
+    let stored : List StoredEntry = stored_of c.store.new.memberships c.store.new.instances in
+    let waiting : List Reference = references_of c.add_waiting.new.waiting.items in
     let counted = ap (λ n. old.references + n) (sym (length-map c.args.needs.now need_view)) in
     let kept : Kept = record old { stored = stored; waiting = waiting; references = old.references + length c.args.needs.now; bytes = old.bytes + length line; framing = old.framing + 1 } in
-    let N : Kept → Type 0 = λ k. Contains (map (λ (x : Stored). x.name) k.stored) c.args.name → ⊥ in
+    let N : Kept → Type 0 = λ k. Contains (map (λ (x : StoredEntry). x.name) k.stored) c.args.name → ⊥ in
     let none : N old = subst N (sym c.self.view_is) c.requires.another in
     let permuted : IsPermutation (record { name = c.args.name; section = c.last-section.result; entities = entities; text = line } ∷ old.stored) stored = c.in-Ok-store.ensures.ok in
     let last : c.last-section.result + 1 ≡ length old.headings = c.last-section.ensures in
@@ -74,5 +74,5 @@ returns-clause-gives c =
     let F : Kept → Type 0 = λ k. FoundGives s c.args.limits k c.args.name entities needs line (Ok tt) new in
     subst F c.self.view_is (λ record_ is.
     took-dropped s c.args.limits old kept new (instance c.args.name record_) c.drop_served.ensures
-    (took-found s c.args.limits old kept c.args.name record_ entities needs line is none waiting c.in-Ok.ensures c.last-section.result last stored permuted (c.has_room.ensures.decides.0 c.if-not-has_room.false)
+    (took-found s c.args.limits old kept c.args.name record_ entities needs line is none waiting c.in-Ok.ensures c.last-section.result last stored permuted (c.fits_limits.ensures.decides.0 c.if-not-fits_limits.false)
     (λ i. record old { stored = stored; waiting = waiting; references = counted i; bytes = old.bytes + length line; framing = old.framing + 1 })))

@@ -3,10 +3,10 @@ use Rattle.p21_claim_steps.specs.Keeping.{Kept}
 use Rattle.p21_exchange.specs.Statement.{header}
 use Rattle.p21_grammar_tree.specs.View.{part_view}
 use Rattle.p21_schemas.specs.SchemaName.{NamesSchema}
-use Rattle.p21_stream_fault.specs.declared.fault.Fault.TheVariants.{CanonicalTooLong}
+use Rattle.p21_stream_kept.specs.declared.fault.Fault.TheVariants.{CanonicalTooLong}
 use Rattle.p21_stream_kept.proofs.Stepping.{other-header, refused-header, took-header}
 use Rattle.p21_stream_kept.specs.Inside.{kept_of}
-use Rattle.p21_stream_kept.specs.Steps.{HasRoom, StepGives}
+use Rattle.p21_stream_kept.specs.Steps.{FitsLimits, StepGives}
 use Rattle.p21_stream_kept.proofs.kept.Kept.take_header.Goals as goal
 
 pub returns-then-not-has_schema_name-clause-gives : goal.returns-then-not-has_schema_name-clause-gives
@@ -15,13 +15,13 @@ returns-then-not-has_schema_name-clause-gives c =
     other-header c.args.schema.now c.args.limits c.args.self.now c.args.self.now (part_view c.args.part.now) chars is
     (λ names. none (subst (λ n. NamesSchema chars n) (sym c.name.ensures) names))
 
-pub returns-then-not-has_room-clause-gives : goal.returns-then-not-has_room-clause-gives
-returns-then-not-has_room-clause-gives c =
+pub returns-then-not-fits_limits-clause-gives : goal.returns-then-not-fits_limits-clause-gives
+returns-then-not-fits_limits-clause-gives c =
     let old : Kept = kept_of c.self.inside in
     subst (λ (k : Kept). StepGives c.args.schema.now c.args.limits k (header (part_view c.args.part.now)) (Err CanonicalTooLong) k) c.self.view_is
     (refused-header c.args.schema.now c.args.limits old old (part_view c.args.part.now) (λ room.
-    let passes : c.has_room.result ≡ true = c.has_room.ensures.decides.1 (subst (λ n. HasRoom c.args.limits (old.bytes + old.framing) n) (sym c.in-Ok.ensures.size) room) in
-    let fails = c.if-not-has_room.true in
+    let passes : c.fits_limits.result ≡ true = c.fits_limits.ensures.decides.1 (subst (λ n. FitsLimits c.args.limits (old.bytes + old.framing) n) (sym c.in-Ok.ensures.size) room) in
+    let fails = c.if-not-fits_limits.true in
     cc))
 
 pub returns-clause-gives : goal.returns-clause-gives
@@ -32,6 +32,6 @@ returns-clause-gives c =
     let new : Kept = record old { header = c.append_record.new.out.items; bytes = old.bytes + c.in-Ok.size; framing = old.framing + 1 } in
     subst (λ (k : Kept). StepGives c.args.schema.now c.args.limits k (header (part_view c.args.part.now)) (Ok tt) new) c.self.view_is
     (took-header c.args.schema.now c.args.limits old new (part_view c.args.part.now)
-    (subst (λ n. HasRoom c.args.limits (old.bytes + old.framing) n) c.in-Ok.ensures.size (c.has_room.ensures.decides.0 c.if-not-has_room.false))
+    (subst (λ n. FitsLimits c.args.limits (old.bytes + old.framing) n) c.in-Ok.ensures.size (c.fits_limits.ensures.decides.0 c.if-not-fits_limits.false))
     (λ chars is. subst (λ n. NamesSchema chars n) c.name.ensures (c.has_schema_name.ensures.yes c.if-not-has_schema_name.false chars is))
     (λ i. record old { header = lines i; bytes = bytes i; framing = old.framing + 1 }))

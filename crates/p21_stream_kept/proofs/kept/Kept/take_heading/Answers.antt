@@ -5,10 +5,10 @@ use Rattle.p21_exchange.specs.DataSection.{Heading, heading_of}
 use Rattle.p21_exchange.specs.Statement.{data_start, section}
 use Rattle.p21_grammar_tree.specs.View.{items_of, views}
 use Rattle.p21_schemas.specs.SchemaName.{NamesSchema}
-use Rattle.p21_stream_fault.specs.declared.fault.Fault.TheVariants.{CanonicalTooLong, SchemaName, SectionTwice}
+use Rattle.p21_stream_kept.specs.declared.fault.Fault.TheVariants.{CanonicalTooLong, SchemaName, SectionTwice}
 use Rattle.p21_stream_kept.proofs.Stepping.{heading-again, other-heading, refused-heading, took-heading}
 use Rattle.p21_stream_kept.specs.Inside.{kept_of}
-use Rattle.p21_stream_kept.specs.Steps.{HasRoom, StepGives}
+use Rattle.p21_stream_kept.specs.Steps.{FitsLimits, StepGives}
 use Rattle.p21_stream_kept.proofs.kept.Kept.take_heading.Goals as goal
 
 pub returns-then-not-names_schema-clause-gives : goal.returns-then-not-names_schema-clause-gives
@@ -31,8 +31,8 @@ returns-then-has_name-clause-gives c =
     (heading-again c.args.schema.now c.args.limits old old c.in-Some.name.now c.in-Some.text.now
     (c.has_name.ensures.0 c.if-has_name.true)))
 
-pub returns-then-not-has_room-clause-gives : goal.returns-then-not-has_room-clause-gives
-returns-then-not-has_room-clause-gives c =
+pub returns-then-not-fits_limits-clause-gives : goal.returns-then-not-fits_limits-clause-gives
+returns-then-not-fits_limits-clause-gives c =
     let old : Kept = kept_of c.self.inside in
     let P : Heading → Type 0 = λ h. StepGives c.args.schema.now c.args.limits old (section (data_start h)) (Err CanonicalTooLong) old in
     subst (λ (k : Kept). StepGives c.args.schema.now c.args.limits k (section (data_start (heading_of (views (items_of c.args.part.params))))) (Err CanonicalTooLong) k) c.self.view_is
@@ -40,8 +40,8 @@ returns-then-not-has_room-clause-gives c =
     (refused-heading c.args.schema.now c.args.limits old old c.in-Some.name.now c.in-Some.text.now (λ room.
     let same : vec_len c.in-Ok.line ≡ length c.in-Ok.line.items = omega (arith, c.in-Ok.line.ok.0) in
     let size = c.len-bytes.ensures ∙ same ∙ ap length c.in-Ok.ensures in
-    let passes : c.has_room.result ≡ true = c.has_room.ensures.decides.1 (subst (λ n. HasRoom c.args.limits (old.bytes + old.framing) n) (sym size) room) in
-    let fails = c.if-not-has_room.true in
+    let passes : c.fits_limits.result ≡ true = c.fits_limits.ensures.decides.1 (subst (λ n. FitsLimits c.args.limits (old.bytes + old.framing) n) (sym size) room) in
+    let fails = c.if-not-fits_limits.true in
     cc)))
 
 pub returns-clause-gives : goal.returns-clause-gives
@@ -61,5 +61,5 @@ returns-clause-gives c =
     let passes : c.has_name.result ≡ true = c.has_name.ensures.1 had in
     let fails = c.if-has_name.false in
     cc)
-    (subst (λ n. HasRoom c.args.limits (old.bytes + old.framing) n) size (c.has_room.ensures.decides.0 c.if-not-has_room.false))
+    (subst (λ n. FitsLimits c.args.limits (old.bytes + old.framing) n) size (c.fits_limits.ensures.decides.0 c.if-not-fits_limits.false))
     (λ i. record old { headings = headings i; framing = framing i })))

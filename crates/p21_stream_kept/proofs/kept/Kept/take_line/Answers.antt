@@ -1,21 +1,21 @@
 use Rattle.std.proofs.Common.{◌≡◌, ◌+◌, true, ap, subst, sym, Ok, Err}
 use Rattle.p21_claim_steps.specs.Keeping.{Kept}
 use Rattle.p21_exchange.specs.Statement.{section}
-use Rattle.p21_grammar_machine.specs.Statements.{line_of}
-use Rattle.p21_stream_fault.specs.declared.fault.Fault.TheVariants.{CanonicalTooLong}
+use Rattle.p21_grammar.specs.Statements.{line_of}
+use Rattle.p21_stream_kept.specs.declared.fault.Fault.TheVariants.{CanonicalTooLong}
 use Rattle.p21_stream_kept.proofs.Stepping.{refused-line, took-line}
 use Rattle.p21_stream_kept.specs.Inside.{kept_of}
-use Rattle.p21_stream_kept.specs.Steps.{HasRoom, StepGives}
+use Rattle.p21_stream_kept.specs.Steps.{FitsLimits, StepGives}
 use Rattle.p21_stream_kept.proofs.kept.Kept.take_line.Goals as goal
 
-pub returns-then-not-has_room-clause-gives : goal.returns-then-not-has_room-clause-gives
-returns-then-not-has_room-clause-gives c = λ s.
+pub returns-then-not-fits_limits-clause-gives : goal.returns-then-not-fits_limits-clause-gives
+returns-then-not-fits_limits-clause-gives c = λ s.
     let old : Kept = kept_of c.self.inside in
     subst (λ (k : Kept). StepGives s c.args.limits k (section (line_of c.args.line)) (Err CanonicalTooLong) k) c.self.view_is
     (refused-line c.args.limits old old c.args.line
     (λ room.
-    let passes : c.has_room.result ≡ true = c.has_room.ensures.decides.1 (subst (λ n. HasRoom c.args.limits (old.bytes + old.framing) n) (sym c.line_size-size.ensures) room) in
-    let fails = c.if-not-has_room.true in
+    let passes : c.fits_limits.result ≡ true = c.fits_limits.ensures.decides.1 (subst (λ n. FitsLimits c.args.limits (old.bytes + old.framing) n) (sym c.line_size-size.ensures) room) in
+    let fails = c.if-not-fits_limits.true in
     cc)
     s)
 
@@ -27,6 +27,6 @@ returns-clause-gives c = λ s.
     let new : Kept = record old { headings = c.begin.new.self; framing = old.framing + (c.line_size-size.result + 1) } in
     subst (λ (k : Kept). StepGives s c.args.limits k (section (line_of c.args.line)) (Ok tt) new) c.self.view_is
     (took-line c.args.limits old new c.args.line
-    (subst (λ n. HasRoom c.args.limits (old.bytes + old.framing) n) c.line_size-size.ensures (c.has_room.ensures.decides.0 c.if-not-has_room.false))
+    (subst (λ n. FitsLimits c.args.limits (old.bytes + old.framing) n) c.line_size-size.ensures (c.fits_limits.ensures.decides.0 c.if-not-fits_limits.false))
     (λ i. record old { headings = headings i; framing = framing i })
     s)

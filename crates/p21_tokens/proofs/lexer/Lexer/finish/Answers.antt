@@ -9,15 +9,15 @@ returns-in-Some-clause-history c = finish-refused c.args.self c.in-Some.fault (a
 
 pub returns-clause-history : goal.returns-clause-history
 returns-clause-history c =
-    let kept = subst (λ (x : List ℕ). ReadsEnd c.self.inside.mode x c.self.inside.text c.read_end.result) c.deref.ensures.value c.read_end.ensures in
+    let pending_bytes = subst (λ (x : List ℕ). ReadsEnd c.self.inside.mode x c.self.inside.text c.read_last_token.result) c.deref.ensures.value c.read_last_token.ensures in
     finish-gives c.args.self _ (ap (λ (h : Held). h.refused) (sym c.self.view_is) ∙ c.in_default.is)
-    (subst (λ (h : Held). ReadsEnd h.mode h.kept h.characters c.read_end.result) c.self.view_is kept)
+    (subst (λ (h : Held). ReadsEnd h.mode h.pending_bytes h.characters c.read_last_token.result) c.self.view_is pending_bytes)
 
 pub returns-in-Some-clause-names : goal.returns-in-Some-clause-names
 returns-in-Some-clause-names c = names-refused c.args.self c.in-Some.fault (ap (λ (h : Held). h.refused) (sym c.self.view_is) ∙ c.in-Some.is)
 
 pub returns-clause-names : goal.returns-clause-names
 returns-clause-names c =
-    let kept = subst (λ (x : List ℕ). ReadsEnd c.self.inside.mode x c.self.inside.text c.read_end.result) c.deref.ensures.value c.read_end.ensures in
+    let pending_bytes = subst (λ (x : List ℕ). ReadsEnd c.self.inside.mode x c.self.inside.text c.read_last_token.result) c.deref.ensures.value c.read_last_token.ensures in
     finish-names c.args.self _ (ap (λ (h : Held). h.refused) (sym c.self.view_is) ∙ c.in_default.is)
-    (subst (λ (h : Held). ReadsEnd h.mode h.kept h.characters c.read_end.result) c.self.view_is kept)
+    (subst (λ (h : Held). ReadsEnd h.mode h.pending_bytes h.characters c.read_last_token.result) c.self.view_is pending_bytes)

@@ -1,7 +1,7 @@
 use Rattle.std.proofs.Common.{ap, subst, sym, ◌∙◌}
 use Rattle.p21_tokens.specs.Steps.{is_token_byte, RefusesByte}
 use Rattle.p21_tokens.specs.declared.fault.TokenFault.{TokenFault}
-use Rattle.p21_tokens.proofs.Stepping.{took-pass, took-skip, took-keep, took-put, gave-one, gave-closed, refused-closed, refused-byte, same-counts_itself, same-limits_itself}
+use Rattle.p21_tokens.proofs.Stepping.{took-pass, took-skip, took-keep, took-put, gave-one, gave-closed_token, refused-closed_token, refused-byte, same-counts_itself, same-limits_itself}
 use Rattle.p21_tokens.proofs.lexer.Lexer.take.Goals as goal
 
 pub returns-in-Pass : goal.returns-in-Pass
@@ -21,11 +21,11 @@ returns-in-Give c =
     gave-one _ _ _ _ _ (sym c.requires.action ∙ c.in-Give.is) (c.requires.statement (ap (is_token_byte c.args.self.now.mode) c.in-Give.is)) c.give.ensures.token c.give.ensures.held
 
 pub returns-in-Ok-close : goal.returns-in-Ok-close
-returns-in-Ok-close c = gave-closed _ _ _ _ (sym c.requires.action ∙ c.in-Close.is) (c.requires.statement (ap (is_token_byte c.args.self.now.mode) c.in-Close.is)) (c.in-Ok-close.ensures {u = tt})
+returns-in-Ok-close c = gave-closed_token _ _ _ _ (sym c.requires.action ∙ c.in-Close.is) (c.requires.statement (ap (is_token_byte c.args.self.now.mode) c.in-Close.is)) (c.in-Ok-close.ensures {u = tt})
 
 pub returns-in-Err-close : goal.returns-in-Err-close
 returns-in-Err-close c =
-    refused-closed _ _ _ _ (sym c.requires.action ∙ c.in-Close.is) (λ _. (c.requires.file, λ q. c.requires.statement (ap (is_token_byte c.args.self.now.mode) c.requires.action ∙ q)))
+    refused-closed_token _ _ _ _ (sym c.requires.action ∙ c.in-Close.is) (λ _. (c.requires.file, λ q. c.requires.statement (ap (is_token_byte c.args.self.now.mode) c.requires.action ∙ q)))
     (c.in-Err-close.ensures {u = tt})
 
 pub returns-in-Refuse : goal.returns-in-Refuse

@@ -1,8 +1,0 @@
-use Rattle.p21_canon_tokens.proofs.WrittenParams.{on_more}
-use Rattle.p21_claim_values.proofs.CanonicalLaid.{statement_laid}
-use Rattle.p21_exchange.specs.Statement.{header}
-use Rattle.p21_grammar_tree.specs.View.{part_view}
-use Rattle.p21_canon_header.proofs.write_header.Goals as goal
-
-pub returns-else-is_err-clause-laid : goal.returns-else-is_err-clause-laid
-returns-else-is_err-clause-laid c = on_more _ _ _ (statement_laid (header (part_view c.args.part.now))) c.append_statement-written.ensures.written

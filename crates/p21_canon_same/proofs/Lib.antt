@@ -1,3 +1,0 @@
-pub mod Shapes
-pub mod Rows
-pub mod Pairing

@@ -1,2 +1,0 @@
-pub mod SpelledScalars
-pub mod WrittenParams

@@ -1,2 +1,0 @@
--- What stands between parameters.
-pub mod Row

@@ -1,0 +1,71 @@
+-- What `p21 same` says of two files.
+use Rattle.std.specs.Io.KnownBytes.{Keeps}
+use Rattle.std.proofs.Common.{◌≡◌, ℕ, Bool, List, Option, inl, inr, subst, sym, string_bytes}
+use Rattle.std.proofs.KnownBytes.{Keeps-refl}
+use Rattle.p21_basics.specs.Limits.{Limits, usual}
+use Rattle.p21_commands.specs.Failures.{Failures}
+use Rattle.p21_commands.specs.Fault.{Reports}
+use Rattle.p21_commands.specs.Status.{refused}
+use Rattle.p21_commands.specs.Transfer.{AppendsPartOf}
+use Rattle.p21_commands.specs.declared.fault.CommandFault.{CommandFault}
+use Rattle.p21_commands.specs.declared.fault.CommandFault.TheVariants.{Refused, NoMemory, Read, Write}
+use Rattle.p21_commands.specs.Files.{IsFileRefused}
+use Rattle.p21_commands.specs.Refusals.{IsFaultOf}
+use Rattle.p21_commands.specs.Same.{IsAnswered, IsCompared, IsRefused, read_of, same_answer_line, word_of}
+use Rattle.p21_commands.proofs.FileFailing.{file-refused, not-written, refused-of}
+use Rattle.p21_commands.specs.Command.{FailsBy}
+use Rattle.p21_commands.specs.Load.{DeclaresRead}
+use Rattle.p21_schemas.specs.Schema.{Schema}
+use Rattle.p21_stream.specs.Answers.{Compares, FailsToCompare}
+use Rattle.p21_stream.specs.declared.comparing.Which.{Which}
+use Rattle.p21_stream.specs.declared.comparing.Which.TheVariants.{First, Second}
+use Rattle.p21_stream_kept.specs.declared.refusal.Refusal.{Refusal}
+
+which-fails : (schema first_old first_new second_old second_new output : Option (List ℕ)) (s : Schema) (which : Which) (refusal : Refusal) (fault : CommandFault) (word : List ℕ)
+    → DeclaresRead schema s → word ≡ word_of which → IsFaultOf word refusal fault → FailsToCompare s usual first_old first_new second_old second_new which refusal.fault
+    → FailsBy (IsAnswered (read_of schema first_old first_new second_old second_new)) (IsRefused (read_of schema first_old first_new second_old second_new)) output output fault
+which-fails schema first_old first_new second_old second_new output s First refusal (Refused line) word declares named is fails =
+    let of_first : IsFaultOf (word_of First) refusal (Refused line) = subst (λ w. IsFaultOf w refusal (Refused line)) named is in
+    (inr (inl (file-refused (word_of First) schema first_old first_new s refusal (string_bytes line) declares of_first fails.0, fails.1)), Keeps-refl output)
+which-fails schema first_old first_new second_old second_new output s Second refusal (Refused line) word declares named is fails =
+    let of_second : IsFaultOf (word_of Second) refusal (Refused line) = subst (λ w. IsFaultOf w refusal (Refused line)) named is in
+    let second : IsFileRefused (word_of Second) schema second_old second_new (string_bytes line) = record {
+      declared = s;
+      declares = declares;
+      refusal = refusal;
+      of_file = of_second.0;
+      refused = refused-of s second_old second_new refusal.fault of_second.0 fails.1;
+      refuses = fails.1;
+      line_is = of_second.1;
+    } in
+    (inr (inr (record { second = second; first_text = fails.0.0; first = fails.0.1 })), Keeps-refl output)
+which-fails schema first_old first_new second_old second_new output s which refusal NoMemory word declares named is fails = Keeps-refl output
+which-fails schema first_old first_new second_old second_new output s which refusal Read word declares named is fails = Keeps-refl output
+which-fails schema first_old first_new second_old second_new output s First refusal Write word declares named is fails = absurd (not-written s usual first_old first_new refusal.fault is fails.0)
+which-fails schema first_old first_new second_old second_new output s Second refusal Write word declares named is fails = absurd (not-written s usual second_old second_new refusal.fault is fails.1)
+
+pub comparing-fails : (schema first_old first_new second_old second_new output : Option (List ℕ)) (s : Schema) (limits : Limits) (which : Which) (refusal : Refusal) (fault : CommandFault) (word : List ℕ)
+    → limits ≡ usual → DeclaresRead schema s → word ≡ word_of which → IsFaultOf word refusal fault → FailsToCompare s limits first_old first_new second_old second_new which refusal.fault
+    → FailsBy (IsAnswered (read_of schema first_old first_new second_old second_new)) (IsRefused (read_of schema first_old first_new second_old second_new)) output output fault
+comparing-fails schema first_old first_new second_old second_new output s limits which refusal fault word is_usual declares named is fails =
+    which-fails schema first_old first_new second_old second_new output s which refusal fault word declares named is
+    (subst (λ l. FailsToCompare s l first_old first_new second_old second_new which refusal.fault) is_usual fails)
+
+-- the answer is written, or only its beginning
+pub compared : (schema first_old first_new second_old second_new : Option (List ℕ)) (s : Schema) (limits : Limits) (same : Bool) (line : List ℕ)
+    → limits ≡ usual → DeclaresRead schema s → Compares s limits first_old first_new second_old second_new same → line ≡ same_answer_line same → IsCompared (read_of schema first_old first_new second_old second_new) same line
+compared schema first_old first_new second_old second_new s limits same line is_usual declares compares is =
+    record { declared = s; declares = declares; compares = subst (λ l. Compares s l first_old first_new second_old second_new same) is_usual compares; line_is = is }
+
+-- a write fault leaves a part of the answer
+pub answer-fails : (IsAnswer IsRefusal : List ℕ → Type 0) (old new : Option (List ℕ)) (line : List ℕ) (fault : CommandFault) → IsAnswer line → AppendsPartOf old new line → fault ≡ Write → FailsBy IsAnswer IsRefusal old new fault
+answer-fails IsAnswer IsRefusal old new line fault is part same = subst (FailsBy IsAnswer IsRefusal old new) (sym same) (record { line = line; is_line = is; part = part })
+
+-- a refusal that is written leaves the output as it was
+pub refusal-kept : (IsAnswer IsRefusal : List ℕ → Type 0) (output_old output_new faults_old faults_new : Option (List ℕ)) (faults : Failures) (fault : CommandFault) (status : ℕ) → FailsBy IsAnswer IsRefusal output_old output_new fault
+    → Reports fault status faults_old faults_new faults → status ≡ refused → Keeps output_old output_new
+refusal-kept IsAnswer IsRefusal output_old output_new faults_old faults_new faults (Refused line) status f r e = f.1
+refusal-kept IsAnswer IsRefusal output_old output_new faults_old faults_new faults NoMemory status f r e = f
+refusal-kept IsAnswer IsRefusal output_old output_new faults_old faults_new faults Read status f r e = f
+refusal-kept IsAnswer IsRefusal output_old output_new faults_old faults_new faults Write status f (inl r) e = cc (r.0, e)
+refusal-kept IsAnswer IsRefusal output_old output_new faults_old faults_new faults Write status f (inr r) e = cc (r.0, e)

@@ -1,0 +1,59 @@
+-- What a command says where its file is refused.
+use Rattle.std.proofs.Common.{◌≡◌, ℕ, List, [], Option, inr, subst, string_bytes}
+use Rattle.p21_basics.specs.Limits.{Limits, usual}
+use Rattle.p21_commands.specs.declared.fault.CommandFault.{CommandFault}
+use Rattle.p21_commands.specs.declared.fault.CommandFault.TheVariants.{Refused, NoMemory, Read, Write}
+use Rattle.p21_commands.specs.Files.{IsFileRefused, RefusesUnder}
+use Rattle.p21_commands.specs.Refusals.{IsFaultOf, IsNoDevice, IsOfFile, refusal_line}
+use Rattle.p21_commands.specs.Load.{DeclaresRead}
+use Rattle.p21_schemas.specs.Schema.{Schema}
+use Rattle.p21_stream.specs.ReaderInput.{IsRefused, RefusesRead}
+use Rattle.p21_stream_kept.specs.declared.fault.Fault.{Fault}
+use Rattle.p21_stream_kept.specs.declared.fault.Fault.TheVariants as file
+use Rattle.p21_stream_kept.specs.declared.refusal.Refusal.{Refusal}
+
+pub of-no_device : (fault : Fault) → IsOfFile fault → IsNoDevice fault
+of-no_device file.NoMemory of = absurd of
+of-no_device file.Read of = absurd of
+of-no_device file.Write of = absurd of
+of-no_device fault of = tt
+
+-- the file is refused, where the fault is of it
+pub refused-of : (s : Schema) (old new : Option (List ℕ)) (fault : Fault) → IsOfFile fault → RefusesRead s usual old new fault → IsRefused s usual old new
+refused-of s old new file.NoMemory of refuses = absurd of
+refused-of s old new file.Read of refuses = absurd of
+refused-of s old new file.Write of refuses = absurd of
+refused-of s old new (file.Token fault) of refuses = refuses.1
+refused-of s old new (file.Grammar fault) of refuses = refuses
+refused-of s old new (file.Check fault) of refuses = refuses
+refused-of s old new file.SchemaName of refuses = refuses
+refused-of s old new file.SectionTwice of refuses = refuses
+refused-of s old new file.DuplicateName of refuses = refuses
+refused-of s old new file.CanonicalTooLong of refuses = refuses
+refused-of s old new file.Dangling of refuses = refuses
+refused-of s old new file.WrongTarget of refuses = refuses
+
+pub file-refused : (word : List ℕ) (schema old new : Option (List ℕ)) (s : Schema) (refusal : Refusal) (line : List ℕ) → DeclaresRead schema s → IsOfFile refusal.fault × (line ≡ refusal_line word refusal) → RefusesRead s usual old new refusal.fault → IsFileRefused word schema old new line
+file-refused word schema old new s refusal line declares names refuses = record {
+  declared = s;
+  declares = declares;
+  refusal = refusal;
+  of_file = names.0;
+  refused = refused-of s old new refusal.fault names.0 refuses;
+  refuses = refuses;
+  line_is = names.1;
+}
+
+-- a writer is no file that is read
+pub not-written : (s : Schema) (limits : Limits) (old new : Option (List ℕ)) (fault : Fault) → fault ≡ file.Write → RefusesRead s limits old new fault → ⊥
+not-written s limits old new fault is refuses = subst (RefusesRead s limits old new) is refuses
+
+read-fails : (schema old new : Option (List ℕ)) (s : Schema) (refusal : Refusal) (fault : CommandFault) → DeclaresRead schema s → IsFaultOf [] refusal fault → RefusesRead s usual old new refusal.fault → RefusesUnder schema old new fault
+read-fails schema old new s refusal (Refused line) declares is refuses = inr (file-refused [] schema old new s refusal (string_bytes line) declares is refuses)
+read-fails schema old new s refusal NoMemory declares is refuses = tt
+read-fails schema old new s refusal Read declares is refuses = tt
+read-fails schema old new s refusal Write declares is refuses = not-written s usual old new refusal.fault is refuses
+
+-- what a command answers to a refusal of its file
+pub file-fails : (schema old new : Option (List ℕ)) (s : Schema) (limits : Limits) (refusal : Refusal) (fault : CommandFault) → limits ≡ usual → DeclaresRead schema s → IsFaultOf [] refusal fault → RefusesRead s limits old new refusal.fault → RefusesUnder schema old new fault
+file-fails schema old new s limits refusal fault is_usual declares is refuses = read-fails schema old new s refusal fault declares is (subst (λ l. RefusesRead s l old new refusal.fault) is_usual refuses)

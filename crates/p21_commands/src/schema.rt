@@ -1,0 +1,85 @@
+//! The command `schema`.
+ghost use Rattle.std.specs.Prelude.{◌≡◌, ◌≢◌, ◌⊎◌, [], ◌∷◌, IfErr, IfOk, OnOk};
+ghost use Rattle.std.specs.Io.KnownBytes.{Keeps};
+ghost use Rattle.p21_commands.specs.Command.{Fails, FailsBy};
+ghost use Rattle.p21_commands.specs.Failures.{FailedBy, NoneFailed, failures_of};
+ghost use Rattle.p21_commands.specs.Status.{done, failed, refused};
+ghost use Rattle.p21_commands.specs.Transfer.{ConsumesAtMost, Writes};
+ghost use Rattle.p21_commands.specs.Load.{IsRefused, RefusesRead};
+ghost use Rattle.p21_commands.specs.Print.{IsPrinted};
+
+use crate::fault::{CommandFault, report};
+use crate::load::load_schema;
+use crate::print::schema_text;
+use crate::status::DONE;
+use crate::transfer::write_whole;
+use p21_stream_io::Watched;
+use std::alloc::Global;
+use std::io::{Read, Write};
+
+/// Writes to `output` the name of the schema whose text `reader` holds, and a line for each of its entities; or to `faults`
+/// one line that says why there is none. Answers the exit status.
+pub fn schema_command<S: Read, W: Write, F: Write>(
+    alloc: Global,
+    reader: &mut Watched<S>,
+    output: &mut Watched<W>,
+    faults: &mut Watched<F>,
+) -> u8
+    ensures status { (result ≡ done) ⊎ (result ≡ refused) ⊎ (result ≡ failed) }
+    ensures consumed { ConsumesAtMost (S.remaining reader.old.inner) (S.remaining reader.new.inner) }
+
+    ensures answered { result ≡ done
+        → Writes (IsPrinted (S.remaining reader.old.inner)) (W.contents output.old.inner) (W.contents output.new.inner) }
+    ensures silent { result ≡ done → Keeps (F.contents faults.old.inner) (F.contents faults.new.inner) }
+
+    ensures refused { result ≡ refused
+        → Writes (IsRefused (S.remaining reader.old.inner)) (F.contents faults.old.inner) (F.contents faults.new.inner) }
+    ensures unwritten { result ≡ refused → Keeps (W.contents output.old.inner) (W.contents output.new.inner) }
+
+    ensures failed { result ≡ failed
+        → Fails (IsPrinted (S.remaining reader.old.inner)) (IsRefused (S.remaining reader.old.inner))
+        (W.contents output.old.inner) (W.contents output.new.inner) (F.contents faults.old.inner) (F.contents faults.new.inner)
+        (failures_of reader.old reader.new ∷ []) (failures_of output.old output.new) (failures_of faults.old faults.new) }
+    ensures unfailed { result ≢ failed
+        → NoneFailed (failures_of reader.old reader.new ∷ failures_of output.old output.new ∷ failures_of faults.old faults.new ∷ []) }
+{
+    match write_schema(alloc, reader, output) {
+        Ok(()) => DONE,
+        Err(fault) => report(&fault, faults),
+    }
+}
+
+/// Writes the text of the schema that `reader` holds.
+fn write_schema<S: Read, W: Write>(
+    alloc: Global,
+    reader: &mut Watched<S>,
+    output: &mut Watched<W>,
+) -> Result<(), CommandFault>
+    ensures consumed { ConsumesAtMost (S.remaining reader.old.inner) (S.remaining reader.new.inner) }
+    ensures ok { OnOk result
+        (Writes (IsPrinted (S.remaining reader.old.inner)) (W.contents output.old.inner) (W.contents output.new.inner)) }
+    ensures err { IfErr result (FailsBy (IsPrinted (S.remaining reader.old.inner)) (IsRefused (S.remaining reader.old.inner))
+        (W.contents output.old.inner) (W.contents output.new.inner)) }
+
+    ensures unfailed { OnOk result (NoneFailed (failures_of reader.old reader.new ∷ failures_of output.old output.new ∷ [])) }
+    ensures failed { IfErr result (FailedBy (failures_of reader.old reader.new ∷ []) (failures_of output.old output.new ∷ [])) }
+{
+    let text = load_text(alloc, reader)?;
+    write_whole(output, &text)
+}
+
+/// The text that is printed of the schema that `reader` holds.
+fn load_text<S: Read>(alloc: Global, reader: &mut Watched<S>) -> Result<Vec<u8>, CommandFault>
+    ensures consumed { ConsumesAtMost (S.remaining reader.old.inner) (S.remaining reader.new.inner) }
+    ensures ok { IfOk result (λ text. IsPrinted (S.remaining reader.old.inner) text.items) }
+    ensures err { IfErr result (RefusesRead (S.remaining reader.old.inner)) }
+
+    ensures read { OnOk result (reader.new.failures ≡ reader.old.failures) }
+    ensures failed { IfErr result (FailedBy (failures_of reader.old reader.new ∷ []) []) }
+{
+    let schema = load_schema(alloc, reader)?;
+    match schema_text(alloc, &schema) {
+        Ok(text) => Ok(text),
+        Err(_no_memory) => Err(CommandFault::NoMemory),
+    }
+}

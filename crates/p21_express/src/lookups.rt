@@ -1,0 +1,146 @@
+ghost use Rattle.std.specs.Prelude.{◌≡◌, ◌≢◌, ◌↔◌, ℕ, IsTrue, MatchOption};
+ghost use Rattle.p21_schemas.specs.Redeclaration.{IsOwnPlace, IsPlaceOf, IsProperSupertype};
+ghost use Rattle.p21_schemas.specs.Schema as pure;
+ghost use Rattle.p21_express.specs.RedeclarationTarget.{IsTargetIn, IsTargetOf};
+ghost use Rattle.p21_express_graph.specs.Resolved.{IsEntity};
+ghost use Rattle.p21_express_types.specs.Meaning.{place as place_of};
+
+use p21_express_tables::Schema;
+use p21_express_types::{EntityId, Place};
+
+/// What `SELF\supertype.name` stands for in an entity (ISO 10303-11, Attribute redeclaration).
+#[derive(Clone, Copy, Debug, Drop)]
+pub(crate) enum RedeclarationTarget {
+    /// The place that it redeclares.
+    Place(Place),
+    /// This proper supertype, which has no place of the name.
+    Missing(EntityId),
+    /// No proper supertype, or one with several places of the name and none of its own.
+    Unclear,
+}
+
+/// The proper supertype of this name, in upper case.
+fn proper_supertype(schema: &Schema, entity: EntityId, name: &[u8]) -> Option<EntityId>
+    requires { IsEntity schema.now entity.0 }
+    ensures { MatchOption result ((sup : ℕ) → IsProperSupertype schema.now entity.0 sup name.now → ⊥) (λ sup. IsProperSupertype schema.now entity.0 sup.0 name.now) }
+{
+    schema.well_formed();
+    match schema.entity(name) {
+        Some(sup) => {
+            if sup.0 == entity.0 {
+                return None;
+            }
+            if schema.is_a(entity, sup) {
+                Some(sup)
+            } else {
+                None
+            }
+        }
+        None => None,
+    }
+}
+
+/// The place of this name, in upper case, that the entity declares itself.
+fn own_place(schema: &Schema, entity: EntityId, name: &[u8]) -> Option<Place>
+    requires { IsEntity schema.now entity.0 }
+    ensures { MatchOption result ((place : pure.Place) → IsOwnPlace schema.now entity.0 name.now place → ⊥) (λ place. IsOwnPlace schema.now entity.0 name.now (place_of place)) }
+{
+    let count = schema.attribute_count(entity);
+    for index in 0..count {
+        let place = Place { entity, index };
+        if schema.place_name(place) == name {
+            return Some(place);
+        }
+    }
+    None
+}
+
+/// The first place of this name in the order of the entity.
+fn first_place(schema: &Schema, entity: EntityId, name: &[u8]) -> Option<Place>
+    requires { IsEntity schema.now entity.0 }
+    ensures { MatchOption result ((place : pure.Place) → IsPlaceOf schema.now entity.0 name.now place → ⊥) (λ place. IsPlaceOf schema.now entity.0 name.now (place_of place)) }
+{
+    schema.holds_together();
+    for owner in schema.order_of(entity) {
+        match own_place(schema, *owner, name) {
+            Some(place) => return Some(place),
+            None => {}
+        }
+    }
+    None
+}
+
+/// Whether the entity declares another place of this name itself.
+fn has_other_own(schema: &Schema, entity: EntityId, name: &[u8], first: Place) -> bool
+    requires { IsEntity schema.now entity.0 }
+    ensures { IsTrue result ↔ ((place : pure.Place) × IsOwnPlace schema.now entity.0 name.now place × (place ≢ place_of first)) }
+{
+    let count = schema.attribute_count(entity);
+    for index in 0..count {
+        let place = Place { entity, index };
+        if schema.place_name(place) == name && !is_same(place, first) {
+            return true;
+        }
+    }
+    false
+}
+
+/// Whether there is another place of this name in the order of the entity.
+fn has_other(schema: &Schema, entity: EntityId, name: &[u8], first: Place) -> bool
+    requires { IsEntity schema.now entity.0 }
+    ensures { IsTrue result ↔ ((place : pure.Place) × IsPlaceOf schema.now entity.0 name.now place × (place ≢ place_of first)) }
+{
+    schema.holds_together();
+    for owner in schema.order_of(entity) {
+        if has_other_own(schema, *owner, name, first) {
+            return true;
+        }
+    }
+    false
+}
+
+/// Whether two places are one.
+pub(crate) fn is_same(place: Place, other: Place) -> bool
+    ensures { IsTrue result ↔ (place_of place ≡ place_of other) }
+{
+    place.entity.0 == other.entity.0 && place.index == other.index
+}
+
+/// The place of this name that the entity declares itself, else the only one in its order.
+fn place_in(schema: &Schema, entity: EntityId, name: &[u8]) -> RedeclarationTarget
+    requires { IsEntity schema.now entity.0 }
+    ensures { IsTargetIn schema.now entity.0 name.now result }
+{
+    match own_place(schema, entity, name) {
+        Some(own) => return RedeclarationTarget::Place(own),
+        None => {}
+    }
+    match first_place(schema, entity, name) {
+        Some(first) => {
+            if has_other(schema, entity, name, first) {
+                RedeclarationTarget::Unclear
+            } else {
+                RedeclarationTarget::Place(first)
+            }
+        }
+        None => RedeclarationTarget::Missing(entity),
+    }
+}
+
+/// What `SELF\supertype.name` stands for in an entity, with both names in upper case: the place that the proper supertype
+/// declares itself, else the only one of this name in its order.
+pub(crate) fn redeclared_place(
+    schema: &Schema,
+    entity: EntityId,
+    supertype: &[u8],
+    name: &[u8],
+) -> RedeclarationTarget
+    requires { IsEntity schema.now entity.0 }
+    ensures { IsTargetOf schema.now entity.0 supertype.now name.now result }
+{
+    schema.well_formed();
+    match proper_supertype(schema, entity, supertype) {
+        Some(sup) => place_in(schema, sup, name),
+        None => RedeclarationTarget::Unclear,
+    }
+}

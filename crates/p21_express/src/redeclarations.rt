@@ -1,0 +1,45 @@
+ghost use Rattle.std.specs.Prelude.{map};
+ghost use Rattle.p21_express_outline.specs.Known.{AreFew, names_of};
+ghost use Rattle.p21_express.specs.Found.{HasDistinctAttributes, RedeclarationsFound};
+ghost use Rattle.p21_express_syntax.specs.Views.{entity_view};
+ghost use Rattle.p21_express_graph.specs.Resolved.{IsEntity};
+
+use crate::derived::derived_of;
+use crate::distinct::check_places;
+use crate::redeclared::redeclared_of;
+use p21_express_graph::Redeclarations;
+use p21_express_outline::{KnownNames, SchemaFault};
+use p21_express_syntax::Entity;
+use p21_express_tables::Schema;
+use p21_express_types::EntityId;
+use std::alloc::Global;
+
+/// What an entity redeclares (ISO 10303-11, Attribute redeclaration). `own` is its declaration, one of those of all
+/// entities.
+///
+/// # Errors
+///
+/// `RedeclaredPlace` for a redeclaration that stands for no place or for several, `UnknownName` for a type that isn't
+/// declared, `Duplicate` for a place that is redeclared twice, `NoMemory`.
+pub(crate) fn redeclarations_of(
+    alloc: Global,
+    schema: &Schema,
+    known: &KnownNames,
+    declared: &[Entity],
+    entity: EntityId,
+    own: &Entity,
+) -> Result<Redeclarations, SchemaFault>
+    requires few { AreFew known.now }
+    requires entity { IsEntity schema.now entity.0 }
+    requires attributes_distinct { HasDistinctAttributes schema.now }
+    ensures { RedeclarationsFound schema.now (names_of known.now) (map entity_view declared.now) entity.0 (entity_view own.now) result }
+{
+    schema.well_formed();
+    let redeclared = redeclared_of(alloc, schema, known, entity, &own.explicit)?;
+    let derived = derived_of(alloc, schema, entity, declared, &own.derived)?;
+    check_places(alloc, &redeclared, &derived)?;
+    Ok(Redeclarations {
+        redeclared,
+        derived,
+    })
+}

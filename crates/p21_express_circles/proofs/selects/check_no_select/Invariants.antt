@@ -1,9 +1,0 @@
-use Rattle.std.proofs.Common.{ℕ, ◌<◌}
-use Rattle.p21_schemas.specs.Declared.{Renames}
-use Rattle.p21_schemas.specs.Select.{IsSelect}
-use Rattle.p21_express_tables.specs.Parts.{schema_of}
-use Rattle.p21_express_circles.proofs.selects.check_no_select.Given as goal
-
--- none of those so far renames a select
-abbrev pub invariant-loop-defined : goal.invariant-loop-defined
-invariant-loop-defined l = (t : ℕ) → t < l.defined-index → (u : ℕ) → Renames (schema_of l.parts) t u → IsSelect (schema_of l.parts) u → ⊥

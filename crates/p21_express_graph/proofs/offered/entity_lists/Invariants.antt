@@ -1,0 +1,8 @@
+use Rattle.std.proofs.Common.{◌≡◌, map, take}
+use Rattle.p21_express_types.specs.Meaning.{kind}
+use Rattle.p21_express_graph.specs.Offered.{members_of, entity_numbers}
+use Rattle.p21_express_graph.specs.SettledOrder.{lists_of}
+use Rattle.p21_express_graph.proofs.offered.entity_lists.Given as goal
+
+abbrev pub invariant-loop-defined : goal.invariant-loop-defined
+invariant-loop-defined l = lists_of l.lists.items ≡ map (λ x. entity_numbers (members_of (kind x.kind))) (take l.defined-index l.types)

@@ -1,0 +1,58 @@
+use crate::names::Names;
+use p21_express_types::{EntityId, Place, TypeKind, TypeUse};
+use p21_values::Word;
+
+/// An explicit attribute (ISO 10303-11, Explicit attribute).
+#[derive(Debug, Drop)]
+pub struct Attribute {
+    pub name: Word,
+    pub optional: bool,
+    pub type_use: TypeUse,
+}
+
+/// A place that is redeclared as an explicit attribute (ISO 10303-11, Attribute redeclaration).
+#[derive(Debug, Drop)]
+pub struct Redeclared {
+    pub place: Place,
+    pub optional: bool,
+    pub type_use: TypeUse,
+}
+
+/// An entity: its direct supertypes as listed, its own explicit attributes, and the places that it redeclares as explicit
+/// and as derived attributes (ISO 10303-11, Entity declaration).
+#[derive(Debug, Drop)]
+pub struct Entity {
+    pub name: Word,
+    pub is_abstract: bool,
+    pub supertypes: Vec<EntityId>,
+    pub attributes: Vec<Attribute>,
+    pub redeclared: Vec<Redeclared>,
+    pub derived: Vec<Place>,
+}
+
+/// What an entity redeclares, as explicit and as derived attributes.
+#[derive(Drop)]
+pub struct Redeclarations {
+    pub redeclared: Vec<Redeclared>,
+    pub derived: Vec<Place>,
+}
+
+/// A declared type (ISO 10303-11, Type declaration).
+#[derive(Debug, Drop)]
+pub struct Defined {
+    pub name: Word,
+    pub kind: TypeKind,
+}
+
+/// What a schema declares, with all names resolved: its name, its entities and types in the order of their declarations,
+/// and for each ONEOF list the entities of which an instance is one at most. The names of the entities and of the types
+/// stand in their order.
+#[derive(Drop)]
+pub struct SchemaContents {
+    pub name: Word,
+    pub entity_names: Names,
+    pub entities: Vec<Entity>,
+    pub type_names: Names,
+    pub types: Vec<Defined>,
+    pub one_of_lists: Vec<Vec<EntityId>>,
+}

@@ -1,5 +1,0 @@
-pub mod Deriving
-pub mod Explicit
-pub mod Keys
-pub mod Places
-pub mod Redeclaring

@@ -1,4 +1,0 @@
-pub mod Derived
-pub mod Explicit
-pub mod Found
-pub mod Sought

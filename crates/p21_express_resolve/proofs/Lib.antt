@@ -1,9 +1,0 @@
-pub mod Zips
-pub mod Names
-pub mod KeptTypes
-pub mod KeptEntities
-pub mod KeptKinds
-pub mod KeptSchemas
-pub mod Agreeing
-pub mod OneOutline
-pub mod OneSchema

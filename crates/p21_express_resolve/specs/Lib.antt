@@ -1,4 +1,0 @@
-pub mod Bare
-pub mod DeclaredBy
-pub mod Outline
-pub mod Redeclarations

@@ -1,6 +1,0 @@
-ghost use Rattle.p21_express_resolve.specs.DeclaredBy.{OneSchemaDeclared};
-
-/// A text declares one schema at most (ISO 10303-11, Schema declaration). It does nothing.
-pub fn one_schema()
-    ensures { OneSchemaDeclared }
-{}

@@ -1,0 +1,131 @@
+-- What is prepared without regard to redeclarations stays right once the entities redeclare something.
+use Rattle.std.specs.Prelude.{◌≡◌, ◌↔◌, ℕ, zero, suc, List, [], ◌∷◌, ◌++◌, Some, length, map, slice_get, Contains, refl}
+use Rattle.std.specs.List.{AllZip, flat_map}
+use Rattle.std.specs.Option.{option_map}
+use Rattle.std.proofs.Common.{arith, ap, sym, ◌∙◌, subst}
+use Rattle.std.proofs.lemmas.Option.{slice_get-map}
+use Rattle.p21_schemas.specs.Order.{order, order_within, first_occurrences}
+use Rattle.p21_schemas.specs.Schema.{Schema, Entity, TypeUse, Member, entity_member, type_member, EntityNamed, kind_of}
+use Rattle.p21_schemas.specs.Select.{IsNoSelect, Offers, offered, offered_within}
+use Rattle.p21_schemas.specs.Supertype.{supertypes_of}
+use Rattle.p21_express_graph.specs.DirectRenaming.{ComesTo, at_itself, through, AreEnds}
+use Rattle.p21_express_graph.specs.Prefixes.{lists_in}
+use Rattle.p21_express_graph.specs.Offered.{AreOffered}
+use Rattle.p21_express_graph.specs.Orders.{AreOrders, numbers, supertype_lists}
+use Rattle.p21_express_graph.specs.Ranking.{IsRanking}
+use Rattle.p21_express_graph.specs.Redeclaring.{redeclaring_each, redeclaring_schema}
+use Rattle.p21_express_graph.specs.SettledOrder.{nexts_of}
+use Rattle.p21_express_graph.specs.declared.prefixes.PrefixLists.{PrefixLists}
+use Rattle.p21_express_graph.specs.declared.indexes.Index.{Index}
+use Rattle.p21_express_graph.specs.declared.offered.Offered.{Offered}
+use Rattle.p21_express_graph.specs.declared.ranking.Ranking.{Ranking}
+use Rattle.p21_express_graph.proofs.SameEntities.{each-same}
+use Rattle.p21_express_graph.proofs.Gatherings.{mapped-length}
+use Rattle.p21_express_graph.proofs.Naming.{named}
+use Rattle.p21_express_graph.proofs.OrderTables.{supertypes-listed}
+use Rattle.p21_express_tables.specs.OwnSets.{AreOwnSets}
+use Rattle.p21_express_tables.specs.Prepared.{IsPrepared}
+use Rattle.p21_express_tables.specs.Redeclarers.{AreRedeclarers}
+use Rattle.p21_express_tables.specs.declared.own_sets.OwnSet.{OwnSet}
+
+-- ---- entities
+
+each-count : (xs ys : List Entity) → length xs ≡ length ys → length (redeclaring_each xs ys) ≡ length xs
+each-count xs ys long = sym (mapped-length (λ x. x.name) (redeclaring_each xs ys)) ∙ ap length (each-same (λ x. x.name) (λ x y. refl) xs ys long) ∙ mapped-length (λ x. x.name) xs
+
+-- ---- tables of entities, by supertypes and names alone
+
+flat_map-same : (g h : ℕ → List ℕ) (xs : List ℕ) → ((x : ℕ) → g x ≡ h x) → flat_map g xs ≡ flat_map h xs
+flat_map-same g h [] same = refl
+flat_map-same g h (x ∷ xs) same = ap (λ ys. ys ++ flat_map g xs) (same x) ∙ ap (λ ys. h x ++ ys) (flat_map-same g h xs same)
+
+module _ (s t : Schema) (count : length t.entities ≡ length s.entities) where
+  module _ (same : supertype_lists t ≡ supertype_lists s) where
+    supertypes-same : (e : ℕ) → supertypes_of t e ≡ supertypes_of s e
+    supertypes-same e = sym (supertypes-listed t e) ∙ ap (λ lists. nexts_of lists e) same ∙ supertypes-listed s e
+
+    order_within-same : (n e : ℕ) → order_within t n e ≡ order_within s n e
+    order_within-same zero e = refl
+    order_within-same (suc n) e =
+        ap (λ es. first_occurrences (flat_map (order_within t n) es ++ e ∷ [])) (supertypes-same e)
+        ∙ ap (λ es. first_occurrences (es ++ e ∷ [])) (flat_map-same (order_within t n) (order_within s n) (supertypes_of s e) (order_within-same n))
+
+    order-same : (e : ℕ) → order t e ≡ order s e
+    order-same e = ap (λ n. order_within t n e) count ∙ order_within-same (length s.entities) e
+
+    orders-same : {lists : List (List ℕ)} → AreOrders s lists → AreOrders t lists
+    orders-same are = record {
+      size = are.size ∙ sym count;
+      each = λ e below. are.each e (omega (arith, below, count)) ∙ ap Some (sym (order-same e));
+    }
+
+  module _ (same : map (λ x. x.name) t.entities ≡ map (λ x. x.name) s.entities) where
+    named-same : (e : ℕ) (name : List ℕ) → EntityNamed s e name → EntityNamed t e name
+    named-same e name (x, at, is) =
+        named (λ y. y.name) t.entities e name (ap (λ names. slice_get names e) same ∙ slice_get-map (λ y. y.name) s.entities e ∙ ap (option_map (λ y. y.name)) at ∙ ap Some is)
+
+    all-named : (es : List ℕ) (names : List (List ℕ)) → AllZip (EntityNamed s) es names → AllZip (EntityNamed t) es names
+    all-named [] [] all = tt
+    all-named [] (name ∷ names) all = absurd all
+    all-named (e ∷ es) [] all = absurd all
+    all-named (e ∷ es) (name ∷ names) all = (named-same e name all.0, all-named es names all.1)
+
+    ranking-same : {rising ranks : List ℕ} → IsRanking s rising ranks → IsRanking t rising ranks
+    ranking-same is = record {
+      names_rise = (is.names_rise.0, all-named _ is.names_rise.0 is.names_rise.1, is.names_rise.2);
+      size = is.size ∙ sym count;
+      each = λ e below. is.each e (omega (arith, below, count));
+    }
+
+-- ---- tables of types
+
+module _ (s t : Schema) (same : (x : ℕ) → kind_of s x ≡ kind_of t x) where
+  comes-same : (a b : TypeUse) → ComesTo s a b → ComesTo t a b
+  comes-same _ _ (at_itself type) = at_itself type
+  comes-same _ _ (through x type last is comes) = through x type last (sym (same x) ∙ is) (comes-same type last comes)
+
+  no_select-same : (m : Member) → IsNoSelect s m → IsNoSelect t m
+  no_select-same (entity_member e) none = tt
+  no_select-same (type_member x) none = λ (members, is). none (members, same x ∙ is)
+
+  offers-same : (x : ℕ) (m : Member) → Offers s x m → Offers t x m
+  offers-same x m (offered _ members _ is among none) = offered x members m (sym (same x) ∙ is) among (no_select-same m none)
+  offers-same x m (offered_within _ u members _ is among offers) = offered_within x u members m (sym (same x) ∙ is) among (offers-same u m offers)
+
+  ends-same : {ends : List ℕ} → length t.types ≡ length s.types → AreEnds s ends → AreEnds t ends
+  ends-same count are = record {
+    size = are.size ∙ sym count;
+    each = λ x below.
+        let end = are.each x (omega (arith, below, count)) in
+        record { comes = comes-same _ _ end.comes; is_type = omega (arith, end.is_type, count); no_more = λ type is. end.no_more type (same _ ∙ is) };
+  }
+
+offered-same : (s t : Schema) → ((x : ℕ) → kind_of s x ≡ kind_of t x) → length t.types ≡ length s.types → (member : ℕ → Member) {lists : List (List ℕ)} → AreOffered s member lists → AreOffered t member lists
+offered-same s t same count member are = record {
+  size = are.size ∙ sym count;
+  each = λ x below y.
+      let is = are.each x (omega (arith, below, count)) y in
+      (λ among. offers-same s t same x (member y) (is.0 among), λ offers. is.1 (offers-same t s (λ z. sym (same z)) x (member y) offers));
+  rising = are.rising;
+}
+
+-- ---- all tables
+
+pub redeclaring-prepared : (s t : Schema) (ys : List Entity) → length s.entities ≡ length ys → t ≡ redeclaring_schema s ys → {orders : PrefixLists} {indexes : List Index} {listed_in before after : List (List ℕ)} {ends : List ℕ} {all : Offered} {ranking : Ranking} {own sets : List OwnSet}
+    → IsPrepared s orders indexes listed_in before ends all ranking own → AreRedeclarers t after → AreOwnSets t sets → IsPrepared t orders indexes listed_in after ends all ranking sets
+redeclaring-prepared s t ys long same {orders} {indexes} {listed_in} {before} {after} {ends} {all} {ranking} {own} {sets} is redeclarers own_sets =
+    let whole : Schema = redeclaring_schema s ys in
+    let count : length whole.entities ≡ length s.entities = each-count s.entities ys long in
+    let P : Schema → Type 0 = λ z. AreRedeclarers z after → AreOwnSets z sets → IsPrepared z orders indexes listed_in after ends all ranking sets in
+    subst P (sym same) (λ redeclarers_ own_. record {
+      prefixes_are = is.prefixes_are;
+      orders_are = orders-same s whole count (each-same (λ x. x.supertypes) (λ x y. refl) s.entities ys long) is.orders_are;
+      indexes_are = is.indexes_are;
+      listed_are = record { each = is.listed_are.each; rising = is.listed_are.rising };
+      redeclarers_are = redeclarers_;
+      ends_are = ends-same s whole (λ x. refl) refl is.ends_are;
+      entities_offered = offered-same s whole (λ x. refl) refl entity_member is.entities_offered;
+      types_offered = offered-same s whole (λ x. refl) refl type_member is.types_offered;
+      ranking_is = ranking-same s whole count (each-same (λ x. x.name) (λ x y. refl) s.entities ys long) is.ranking_is;
+      own_are = own_;
+    }) redeclarers own_sets

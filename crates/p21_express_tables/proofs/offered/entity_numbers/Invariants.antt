@@ -1,7 +1,0 @@
-use Rattle.std.proofs.Common.{◌≡◌, map, take}
-use Rattle.p21_express_types.specs.Meaning.{member}
-use Rattle.p21_express_tables.specs.Offered.{entity_numbers}
-use Rattle.p21_express_tables.proofs.offered.entity_numbers.Given as goal
-
-abbrev pub invariant-loop-member : goal.invariant-loop-member
-invariant-loop-member l = l.found.items ≡ entity_numbers (map member (take l.member-index l.members))

@@ -1,8 +1,0 @@
-use Rattle.std.proofs.Common.{◌≡◌, map, take}
-use Rattle.p21_express_types.specs.Meaning.{kind}
-use Rattle.p21_express_tables.specs.Offered.{members_of, type_numbers}
-use Rattle.p21_express_tables.specs.Settled.{lists_of}
-use Rattle.p21_express_tables.proofs.offered.type_lists.Given as goal
-
-abbrev pub invariant-loop-defined : goal.invariant-loop-defined
-invariant-loop-defined l = lists_of l.lists.items ≡ map (λ x. type_numbers (members_of (kind x.kind))) (take l.defined-index l.types)

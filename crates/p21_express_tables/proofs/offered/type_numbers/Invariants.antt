@@ -1,7 +1,0 @@
-use Rattle.std.proofs.Common.{◌≡◌, map, take}
-use Rattle.p21_express_types.specs.Meaning.{member}
-use Rattle.p21_express_tables.specs.Offered.{type_numbers}
-use Rattle.p21_express_tables.proofs.offered.type_numbers.Given as goal
-
-abbrev pub invariant-loop-member : goal.invariant-loop-member
-invariant-loop-member l = l.found.items ≡ type_numbers (map member (take l.member-index l.members))

@@ -1,0 +1,148 @@
+-- The canonical text of an instance, and what is kept of it.
+use Rattle.std.proofs.Common.{◌≡◌, ℕ, pos, negsuc, List, [], ◌∷◌, refl, sym, subst, arith, lit<, lit≤, inl, inr}
+use lib.Signed.{le_z_yes}
+use Rattle.std.specs.Prelude.{codes}
+use Rattle.std.specs.List.{AllByRecursion as Each}
+use Rattle.p21_files.specs.CanonicalRecord.{HasOneLeaf, IsCanonicalRecord}
+use Rattle.p21_exchange.specs.CanonicalText.{statement_text}
+use Rattle.p21_basics.specs.Digits.{IsDigit}
+use Rattle.p21_files.specs.CanonicalTexts.{IsInstanceText, HaveCanonicalSize}
+use Rattle.p21_exchange.specs.Laying.{Lexeme, LaidAs, tokens_in}
+use Rattle.p21_exchange.specs.Name.{SpellsName}
+use Rattle.p21_exchange.specs.Number.{none, no_exponent, Decimal, IsReduced, RealForm, SpellsReal, real_ratio}
+use Rattle.p21_exchange.specs.Parameter.{dollar, real, no_params, param, key_of}
+use Rattle.p21_exchange.specs.Record.{Record, simple}
+use Rattle.p21_exchange.specs.Statement.{instance, statement_tokens}
+use Rattle.p21_schemas.specs.Supertype.{IsA}
+use Rattle.p21_exchange.specs.Token as token
+use Rattle.p21_exchange.specs.Token.{Token, name, equals, keyword, MayFollow, Spells}
+use Rattle.p21_files.specs.Value as value
+use Rattle.p21_exchange.proofs.CanonicalLaying.{Laying, put, put_left, put_right, put_comma, put_semicolon, no_dash_left}
+use Rattle.p21_exchange.proofs.Exponents.{in_range_by}
+use Rattle.p21_exchange.proofs.Laying.{keyword_by, left_ends_words}
+use Rattle.p21_files.proofs.MeaningExamples.{point_record, point_set, point_values, point_meaning, point-is, point-means}
+use Rattle.p21_basics.proofs.Members.{Each-member}
+use Rattle.p21_schemas.proofs.OrderExamples.{demo-is_a}
+use Rattle.p21_files.proofs.SameFiles.{SameTyped-reflexive}
+use Rattle.p21_schemas.proofs.TestSchemas.{demo, point}
+use Rattle.p21_exchange.proofs.Names.{name_spells}
+
+abbrev pub one : Decimal
+one = record { significand = pos 1; exponent = pos 0 }
+
+abbrev one-form : RealForm (codes "1.")
+one-form =
+    record {
+      sign = none;
+      whole = codes "1";
+      fraction = [];
+      power = no_exponent;
+      bytes_are = refl;
+      some_digits = lit< tt;
+      are_digits = ((lit≤ tt, lit≤ tt), tt);
+      are_fraction_digits = tt;
+      is_exponent = tt;
+    }
+
+pub one-spelled : SpellsReal (codes "1.") one
+one-spelled =
+    record {
+      form = one-form;
+      is_short = tt;
+      in_range = in_range_by (real_ratio one-form) (pos 0) (lit< tt) (record { low = lit≤ tt; high = lit< tt }) (le_z_yes tt, le_z_yes tt);
+      is_reduced = λ e. cc;
+      same = refl;
+    }
+
+pub two-spelled : SpellsName (codes "#2") 2
+two-spelled = name_spells 2 (lit< tt)
+
+pub equals_ends_digits : IsDigit 61 → ⊥
+equals_ends_digits digit = omega (arith, digit)
+
+pub comma_ends_one : MayFollow (token.real one) (codes "1.") 44
+comma_ends_one = (λ digit. omega (arith, digit), λ h e. omega (arith, e))
+
+pub right_ends_one : MayFollow (token.real one) (codes "1.") 41
+right_ends_one = (λ digit. omega (arith, digit), λ h e. omega (arith, e))
+
+-- `#2=POINT($,1.,1.);`
+abbrev laying : Laying
+laying =
+    put (name 2) (codes "#2") two-spelled
+    (put equals (codes "=") refl
+    (put (keyword (codes "POINT")) (codes "POINT") (refl, keyword_by (codes "POINT") tt)
+    (put_left (put token.dollar (codes "$") refl
+    (put_comma (put (token.real one) (codes "1.") one-spelled
+    (put_comma (put (token.real one) (codes "1.") one-spelled (put_right (put_semicolon (record { bytes = []; lexemes = []; laid = ([], tt, refl) }))) right_ends_one)) comma_ends_one)) tt))
+    (left_ends_words, no_dash_left)) tt)
+    equals_ends_digits
+
+pub point-leaf : HasOneLeaf demo point_set
+point-leaf = (
+  1,
+  ((0, omega arith, refl), λ f among below. Each-member (λ g. IsA demo g 1 → g ≡ 1) point_set f (λ h. refl, (λ h. elim (demo-is_a 0 1 (omega arith) h) [ inl e ↦ absurd (omega (arith, e)) | inr e ↦ absurd (omega (arith, e)) ], tt)) among below),
+  λ f leaf. sym (leaf.1 1 (0, omega arith, refl) (point-is f leaf.0)),
+)
+
+pub point-canonical : IsCanonicalRecord demo point_record point_meaning
+point-canonical = record {
+  form = point-leaf;
+  params = (
+    1,
+    (codes "POINT", (point, refl, refl), refl),
+    (
+      (value.missing, (value.value value.missing value.no_values, (1, omega arith, refl), refl), tt),
+      ((value.real one, (point_values, (0, omega arith, refl), refl), tt), ((value.real one, (point_values, (0, omega arith, refl), refl), tt), tt)),
+    ),
+  );
+}
+
+-- of a point with no label and the coordinates 1 and 1 this is the canonical text, of 18 bytes
+point_text : IsInstanceText demo 2 point_record (codes "#2=POINT($,1.,1.);")
+point_text = record {
+  kinds = [];
+  meaning = point_meaning;
+  means = point-means [];
+  canonical = point_record;
+  canonical_meaning = point_meaning;
+  canonical_means = point-means [];
+  same = SameTyped-reflexive point_meaning;
+  is_canonical = point-canonical;
+  text_is = refl;
+  laid = record { lexemes = laying.lexemes; tokens_are = refl; laid = laying.laid };
+}
+
+point_kept : HaveCanonicalSize demo (instance 2 point_record ∷ []) 18
+point_kept = (codes "#2=POINT($,1.,1.);", 0, refl, point_text, refl)
+
+-- a real in a text is reduced
+abbrev IsReducedToken : Token → Type 0
+IsReducedToken (token.real d) = IsReduced d
+IsReducedToken other = Unit {0}
+
+laid-reduced : (lexemes : List Lexeme) (bytes : List ℕ) → LaidAs bytes lexemes → Each IsReducedToken (tokens_in lexemes)
+laid-reduced [] bytes laid = tt
+laid-reduced (lexeme ∷ lexemes) bytes (gap, spelling, rest, is, separates, spells, size, followed, laid) = (by lexeme.token spelling spells, laid-reduced lexemes rest laid)
+  where
+    by : (t : Token) (spelling : List ℕ) → Spells t spelling → IsReducedToken t
+    by (token.real d) spelling spells = spells.is_reduced
+    by other spelling spells = tt
+
+-- so ten tenths, which would be spelled `1.0`, are in no canonical text
+abbrev tenths : Decimal
+tenths = record { significand = pos 10; exponent = negsuc 0 }
+
+abbrev tenths_record : Record
+tenths_record = simple (record { key = key_of (codes "POINT"); params = param dollar (param (real tenths) (param (real one) no_params)) })
+
+tenths_spelled : statement_text (instance 2 tenths_record) ≡ codes "#2=POINT($,1.0,1.);"
+tenths_spelled = refl
+
+tenths_in_no_text : (text : List ℕ) (x : IsInstanceText demo 2 point_record text) → x.canonical ≡ tenths_record → ⊥
+tenths_in_no_text text x same =
+    let tokens : Each IsReducedToken (statement_tokens (instance 2 x.canonical)) = subst (λ (ts : List Token). Each IsReducedToken ts) x.laid.tokens_are (laid-reduced x.laid.lexemes text x.laid.laid) in
+    let P : Record → Type 0 = λ r. Each IsReducedToken (statement_tokens (instance 2 r)) in
+    let reduced : Each IsReducedToken (statement_tokens (instance 2 tenths_record)) = subst P same tokens in
+    let nought : pos 10 ≡ pos 0 = (reduced.1.1.1.1.1.1.0 refl).0 in
+    cc

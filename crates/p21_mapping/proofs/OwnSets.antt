@@ -1,0 +1,79 @@
+-- What holds of the closure of an entity holds of each list with the same members.
+use Rattle.std.specs.Prelude.{ℕ, List}
+use Rattle.std.proofs.Common.{inl, inr}
+use Rattle.p21_basics.proofs.Members.{Contains-flat_map, Contains-one_of, Each-of_members}
+use Rattle.p21_exchange.specs.Record.{Part, simple}
+use Rattle.p21_express_tables.specs.OwnSets.{LeavesOpen}
+use Rattle.p21_express_graph.specs.Resolved.{HoldsTogether}
+use Rattle.p21_files.specs.Meaning.{HasPlaceTypes, NamesEntity}
+use Rattle.p21_files.specs.RecordPlaces.{IsEntitySetOf}
+use Rattle.p21_mapping.proofs.Shapes.{leaf-breaks, set-refuses, simple-leaf, simple-set}
+use Rattle.p21_express_graph.specs.Rising.{HaveSame}
+use Rattle.p21_mapping.specs.Shape.{HasOpenPlace, PassesOwnSet, PassesSet, Refuses, RefusesOwnSet}
+use Rattle.p21_mapping_values.specs.declared.fault.CheckFault.{CheckFault}
+use Rattle.p21_mapping_values.specs.declared.fault.CheckFault.TheVariants.{Abstract, OneOf, TwoRedeclarations}
+use Rattle.p21_schemas.specs.OneOf.{Clashes}
+use Rattle.p21_schemas.specs.Order.{order, own_places}
+use Rattle.p21_schemas.specs.PlaceType.{PlaceType, TypeAt, derived_place, stored_place, two_redeclarations, IsDerivedIn, IsRedeclared, Decides}
+use Rattle.p21_schemas.specs.Schema.{Schema, Place, Redeclared}
+use Rattle.p21_schemas.specs.WellFormed.{HasDistinctEntities}
+
+pub same-itself : (es : List ℕ) → HaveSame es es
+same-itself es f = (λ among. among, λ among. among)
+
+pub same-turned : (es fs : List ℕ) → HaveSame es fs → HaveSame fs es
+same-turned es fs same f = ((same f).1, (same f).0)
+
+clashes-same : (s : Schema) (es fs : List ℕ) → HaveSame es fs → Clashes s es → Clashes s fs
+clashes-same s es fs same (listed, is, (e, f, e_listed, f_listed, differ, e_among, f_among)) = (listed, is, (e, f, e_listed, f_listed, differ, (same e).0 e_among, (same f).0 f_among))
+
+module _ (s : Schema) (es fs : List ℕ) (same : HaveSame es fs) (place : Place) where
+  derived-there : IsDerivedIn s es place → IsDerivedIn s fs place
+  derived-there (e, x, among, at, derives) = (e, x, (same e).0 among, at, derives)
+
+  derived-here : IsDerivedIn s fs place → IsDerivedIn s es place
+  derived-here (e, x, among, at, derives) = (e, x, (same e).1 among, at, derives)
+
+  redeclared-there : IsRedeclared s es place → IsRedeclared s fs place
+  redeclared-there (e, r, (among, redeclares, is)) = (e, r, ((same e).0 among, redeclares, is))
+
+  redeclared-here : IsRedeclared s fs place → IsRedeclared s es place
+  redeclared-here (e, r, (among, redeclares, is)) = (e, r, ((same e).1 among, redeclares, is))
+
+  decides-there : (r : Redeclared) → Decides s es place r → Decides s fs place r
+  decides-there r (e, (among, redeclares, is), below) = (e, ((same e).0 among, redeclares, is), λ f other (f_among, f_redeclares, f_is). below f other ((same f).1 f_among, f_redeclares, f_is))
+
+  decides-here : (r : Redeclared) → Decides s fs place r → Decides s es place r
+  decides-here r (e, (among, redeclares, is), below) = (e, ((same e).1 among, redeclares, is), λ f other (f_among, f_redeclares, f_is). below f other ((same f).0 f_among, f_redeclares, f_is))
+
+  -- the type at a place depends on the members alone
+  pub type-same : (at : PlaceType) → TypeAt s es place at → TypeAt s fs place at
+  type-same derived_place is = derived-there is
+  type-same (stored_place optional type) (stored, inl (r, decides, is_optional, is_type)) = (λ derived. stored (derived-here derived), inl (r, decides-there r decides, is_optional, is_type))
+  type-same (stored_place optional type) (stored, inr (none, declared)) = (λ derived. stored (derived-here derived), inr (λ redeclared. none (redeclared-here redeclared), declared))
+  type-same two_redeclarations (stored, some, none) = (λ derived. stored (derived-here derived), redeclared-there some, λ r decides. none r (decides-here r decides))
+
+module _ (s : Schema) (e : ℕ) where
+  open-place : LeavesOpen s e → HasOpenPlace s (order s e)
+  open-place (place, (among, two)) = let (f, in_order, own) = Contains-one_of (own_places s) (order s e) place among in (f, in_order, (place, own, two))
+
+  -- the closure of an entity passes as a set
+  pub own-passes : (entities : List ℕ) → HaveSame (order s e) entities → PassesOwnSet s e → PassesSet s entities
+  own-passes entities same (_, no_clash, no_open) = (
+    λ clashes. no_clash (clashes-same s entities (order s e) (same-turned (order s e) entities same) clashes),
+    Each-of_members (HasPlaceTypes s entities) entities (λ f among. Each-of_members (λ place. ¬ TypeAt s entities place two_redeclarations) (own_places s f) (λ place own two.
+        no_open (place, (Contains-flat_map (own_places s) (order s e) f place ((same f).1 among) own, type-same s entities (order s e) (same-turned (order s e) entities same) place two_redeclarations two)))),
+  )
+
+  -- what is wrong with the closure of an entity is wrong with a record of internal form that names it
+  pub own-refuses : HoldsTogether s → HasDistinctEntities s → (part : Part) → NamesEntity s part.key e → (fault : CheckFault) → RefusesOwnSet s e fault → Refuses s (simple part) fault
+  own-refuses holds distinct part named fault refuses = by fault refuses
+    where
+      set_is : IsEntitySetOf s (simple part) (order s e)
+      set_is = simple-set s holds distinct part e (order s e) named (same-itself (order s e))
+
+      by : (fault : CheckFault) → RefusesOwnSet s e fault → Refuses s (simple part) fault
+      by Abstract is _ = leaf-breaks s (simple part) (order s e) set_is (simple-leaf s holds e (order s e) (same-itself (order s e)) is)
+      by OneOf clashes other = set-refuses s (simple part) (order s e) set_is OneOf clashes other
+      by TwoRedeclarations open_ other = set-refuses s (simple part) (order s e) set_is TwoRedeclarations (open-place open_) other
+      by other none _ = absurd none

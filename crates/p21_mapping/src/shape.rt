@@ -1,0 +1,176 @@
+ghost use Rattle.std.specs.Prelude.{ℕ, Contains, MatchBool, MatchResult, IfOk};
+ghost use Rattle.p21_exchange.specs.Record.{simple, complex};
+ghost use Rattle.p21_express_graph.specs.Lookups.{AreEntities};
+ghost use Rattle.p21_express_graph.specs.Orders.{numbers};
+ghost use Rattle.p21_express_graph.specs.Resolved.{IsEntity};
+ghost use Rattle.p21_grammar_tree.specs.View.{part_view, part_views, record_view};
+ghost use Rattle.p21_schemas.specs.Schema.{IsAbstract};
+ghost use Rattle.p21_schemas.specs.WellFormed.{IsWellFormed};
+ghost use Rattle.p21_mapping.specs.Shape.{AreMembers, HasSomeAbstractLeaf, HasNoAbstractLeaf, HasShape, IsOwnClosure, PassesOwnSet, PassesSet, Refuses, RefusesMembers, RefusesOwnSet, RefusesSet};
+
+use crate::key::{named, named_entities};
+use crate::members::{has_twice, is_closed};
+use crate::places::{has_count, has_open_place, have_counts};
+use crate::positions::Positions;
+use p21_express_tables::Schema;
+use p21_express_types::EntityId;
+use p21_grammar_tree::{Part, Record};
+use p21_mapping_values::CheckFault;
+use p21_values::NoMemory;
+use std::alloc::Global;
+
+/// The entities of a record: in internal form the one that its keyword names; those whose places its parameters stand at, in
+/// their order; and its set, rising by keyword.
+#[derive(Debug, Drop)]
+pub struct Shape {
+    pub own: Option<EntityId>,
+    pub listed: Vec<EntityId>,
+    pub entities: Vec<EntityId>,
+}
+
+/// The entities of a record, where nothing is wrong with them, nor with the numbers of its parameters.
+///
+/// # Errors
+///
+/// In this order: `UnknownEntity`, `PartTwice`, `PartMissing`, `Abstract`, `OneOf`, `TwoRedeclarations`, `Count`.
+/// `NoMemory`.
+pub(crate) fn shape_of(alloc: Global, schema: &Schema, of: &Record) -> Result<Shape, CheckFault>
+    requires { IsWellFormed schema.now }
+    ensures { MatchResult result (λ shape. HasShape schema.now (record_view of.now) (numbers shape.listed.items) (numbers shape.entities.items) × IsOwnClosure schema.now shape.own (numbers shape.entities.items)) (Refuses schema.now (record_view of.now)) }
+{
+    match of {
+        Record::Simple(part) => simple_shape(schema, part),
+        Record::Complex(parts) => complex_shape(alloc, schema, parts.items()),
+    }
+}
+
+fn simple_shape(schema: &Schema, part: &Part) -> Result<Shape, CheckFault>
+    requires { IsWellFormed schema.now }
+    ensures { MatchResult result (λ shape. HasShape schema.now (simple (part_view part.now)) (numbers shape.listed.items) (numbers shape.entities.items) × IsOwnClosure schema.now shape.own (numbers shape.entities.items)) (Refuses schema.now (simple (part_view part.now))) }
+{
+    let Some(entity) = named(schema, &part.key) else {
+        return Err(CheckFault::UnknownEntity);
+    };
+    schema.holds_together();
+    match check_own_set(schema, entity) {
+        Ok(()) => {}
+        Err(fault) => return Err(fault),
+    }
+    let listed = schema.order(entity)?;
+    if !has_count(schema, &listed, part.params.items().len()) {
+        return Err(CheckFault::Count);
+    }
+    let entities = schema.own_rising(entity)?;
+    Ok(Shape {
+        own: Some(entity),
+        listed,
+        entities,
+    })
+}
+
+/// The entity isn't abstract, no two entities of its closure are of one ONEOF list, and no place of that is open.
+fn check_own_set(schema: &Schema, entity: EntityId) -> Result<(), CheckFault>
+    requires { IsEntity schema.now entity.0 }
+    ensures { MatchResult result (λ _. PassesOwnSet schema.now entity.0) (RefusesOwnSet schema.now entity.0) }
+{
+    let faults = schema.own_faults(entity);
+    if faults.is_abstract {
+        return Err(CheckFault::Abstract);
+    }
+    if faults.clashes {
+        return Err(CheckFault::OneOf);
+    }
+    if faults.leaves_open {
+        return Err(CheckFault::TwoRedeclarations);
+    }
+    Ok(())
+}
+
+fn complex_shape(alloc: Global, schema: &Schema, parts: &[Part]) -> Result<Shape, CheckFault>
+    requires { IsWellFormed schema.now }
+    ensures { MatchResult result (λ shape. HasShape schema.now (complex (part_views parts.now)) (numbers shape.listed.items) (numbers shape.entities.items) × IsOwnClosure schema.now shape.own (numbers shape.entities.items)) (Refuses schema.now (complex (part_views parts.now))) }
+{
+    let listed = named_entities(alloc, schema, parts)?;
+    check_members(alloc, schema, &listed)?;
+    let entities = schema.rising(&listed)?;
+    let found = has_abstract_leaf(schema, &entities)?;
+    if found {
+        return Err(CheckFault::Abstract);
+    }
+    match check_set(schema, &entities) {
+        Ok(()) => {}
+        Err(fault) => return Err(fault),
+    }
+    if !have_counts(schema, &listed, parts) {
+        return Err(CheckFault::Count);
+    }
+    Ok(Shape {
+        own: None,
+        listed,
+        entities,
+    })
+}
+
+/// Checks that no entity stands twice, and that all supertypes are there.
+///
+/// # Errors
+///
+/// In this order: `PartTwice`, `PartMissing`. `NoMemory`.
+pub fn check_members(alloc: Global, schema: &Schema, listed: &[EntityId]) -> Result<(), CheckFault>
+    requires { AreEntities schema.now (numbers listed.now) }
+    ensures { MatchResult result (λ _. AreMembers schema.now (numbers listed.now)) (RefusesMembers schema.now (numbers listed.now)) }
+{
+    let positions = Positions::of(alloc, listed)?;
+    if has_twice(&positions) {
+        return Err(CheckFault::PartTwice);
+    }
+    if !is_closed(schema, &positions) {
+        return Err(CheckFault::PartMissing);
+    }
+    Ok(())
+}
+
+/// Checks that no two entities of the set are of one ONEOF list, and that no place of it is open.
+///
+/// # Errors
+///
+/// In this order: `OneOf`, `TwoRedeclarations`. `NoMemory`.
+pub fn check_set(schema: &Schema, entities: &[EntityId]) -> Result<(), CheckFault>
+    requires { AreEntities schema.now (numbers entities.now) }
+    ensures { MatchResult result (λ _. PassesSet schema.now (numbers entities.now)) (RefusesSet schema.now (numbers entities.now)) }
+{
+    let clashes = schema.find_clash(entities)?;
+    if clashes {
+        return Err(CheckFault::OneOf);
+    }
+    if has_open_place(schema, entities) {
+        return Err(CheckFault::TwoRedeclarations);
+    }
+    Ok(())
+}
+
+/// Whether a leaf of the set is abstract.
+///
+/// # Errors
+///
+/// `NoMemory`.
+pub fn has_abstract_leaf(schema: &Schema, entities: &[EntityId]) -> Result<bool, NoMemory>
+    requires { AreEntities schema.now (numbers entities.now) }
+    ensures { IfOk result (λ found. MatchBool found (HasSomeAbstractLeaf schema.now (numbers entities.now)) (HasNoAbstractLeaf schema.now (numbers entities.now))) }
+{
+    let leaves = schema.leaves(entities)?;
+    Ok(has_abstract(schema, &leaves))
+}
+
+/// Whether one of the entities is abstract.
+fn has_abstract(schema: &Schema, entities: &[EntityId]) -> bool
+    requires { AreEntities schema.now (numbers entities.now) }
+    ensures { MatchBool result ((e : ℕ) × Contains (numbers entities.now) e × IsAbstract schema.now e) ((e : ℕ) → Contains (numbers entities.now) e → IsAbstract schema.now e → ⊥) }
+{
+    for entity in entities {
+        if schema.is_abstract(*entity) {
+            return true;
+        }
+    }
+    false
+}

@@ -1,4 +1,0 @@
-pub mod Aggregate
-pub mod Outcome
-pub mod Choosing
-pub mod Present

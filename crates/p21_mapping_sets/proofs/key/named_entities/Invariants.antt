@@ -1,8 +1,0 @@
-use Rattle.std.proofs.Common.{take}
-use Rattle.p21_express_tables.specs.Orders.{numbers}
-use Rattle.p21_grammar_tree.specs.View.{part_views}
-use Rattle.p21_mapping_sets.specs.Shape.{AreNamed}
-use Rattle.p21_mapping_sets.proofs.key.named_entities.Given as goal
-
-abbrev pub invariant-loop-part : goal.invariant-loop-part
-invariant-loop-part l = AreNamed l.schema (part_views (take l.part-index l.parts)) (numbers l.listed.items)

@@ -1,8 +1,0 @@
-use Rattle.std.proofs.Common.{◌≡◌, ◌+◌, length, take}
-use Rattle.std.specs.List.{flat_map}
-use Rattle.p21_express_tables.specs.Orders.{numbers}
-use Rattle.p21_schemas.specs.Order.{own_places}
-use Rattle.p21_mapping_sets.proofs.places.has_count.Given as goal
-
-abbrev pub invariant-loop-owner : goal.invariant-loop-owner
-invariant-loop-owner l = l.rest + length (flat_map (own_places l.schema) (numbers (take l.owner-index l.listed))) ≡ l.params

@@ -1,6 +1,0 @@
-use Rattle.std.proofs.Common.{ℕ, ◌<◌, slice_index_or}
-use Rattle.p21_schemas.specs.Schema.{IsAbstract}
-use Rattle.p21_mapping_sets.proofs.shape.has_abstract.Given as goal
-
-abbrev pub invariant-loop-entity : goal.invariant-loop-entity
-invariant-loop-entity l = (k : ℕ) → k < l.entity-index → IsAbstract l.schema (slice_index_or l.entities k record { 0 = 0 }).0 → ⊥

@@ -1,0 +1,52 @@
+-- Lists, typed parameters and records whose tokens have spellings.
+use Rattle.std.proofs.Common.{◌≡◌, ℕ, Bool, true, false, List, [], ◌∷◌, ◌++◌, codes, refl, subst, sym, Result, Ok, Err}
+use Rattle.std.specs.List.{AllByRecursion as Each}
+use Rattle.std.specs.Result.{OnOk}
+use Rattle.p21_basics.proofs.Members.{Each-append}
+use Rattle.p21_claim_values.proofs.OfType.{AreWritten}
+use Rattle.p21_claim_values.specs.Written.{IsSpelled, IsWritten, IsWrittenStatement}
+use Rattle.p21_exchange.specs.Keyword.{IsKeyword}
+use Rattle.p21_exchange.specs.Parameter.{Key, Param, Params, no_params, param, list, typed, key_token, param_tokens, params_tokens, more_tokens}
+use Rattle.p21_exchange.specs.Record.{Part}
+use Rattle.p21_exchange.specs.Statement.{header}
+use Rattle.p21_exchange.specs.Token as token
+use Rattle.p21_mapping_values.proofs.SpelledScalars.{keyword-spelled, user_keyword-spelled}
+
+-- what holds anyhow
+pub on_any : {T E : Type 0} (r : Result T E) (P : Type 0) → P → OnOk r P
+on_any (Ok value) P holds = holds
+on_any (Err fault) P holds = tt
+
+-- what follows from it
+pub on_more : {T E : Type 0} (r : Result T E) (P Q : Type 0) → (P → Q) → OnOk r P → OnOk r Q
+on_more (Ok value) P Q more holds = more holds
+on_more (Err fault) P Q more holds = tt
+
+-- a parameter of one token
+pub scalar-said : {T E : Type 0} (r : Result T E) (p q : Param) → p ≡ q → IsWritten q → OnOk r (IsWritten p)
+scalar-said r p q is written = on_any r (IsWritten p) (subst IsWritten (sym is) written)
+
+pub more-said : (ps : Params) → AreWritten ps → Each IsSpelled (more_tokens ps)
+more-said no_params written = tt
+more-said (param p ps) written = ((codes ",", refl), Each-append IsSpelled (param_tokens p) (more_tokens ps) written.0 (more-said ps written.1))
+
+pub params-said : (ps : Params) → AreWritten ps → Each IsSpelled (params_tokens ps)
+params-said no_params written = tt
+params-said (param p ps) written = Each-append IsSpelled (param_tokens p) (more_tokens ps) written.0 (more-said ps written.1)
+
+pub list-said : (ps : Params) → AreWritten ps → IsWritten (list ps)
+list-said ps written = ((codes "(", refl), Each-append IsSpelled (params_tokens ps) (token.right ∷ []) (params-said ps written) ((codes ")", refl), tt))
+
+pub typed-said : (key : Key) (p : Param) → IsSpelled (key_token key) → IsWritten p → IsWritten (typed key p)
+typed-said key p spelled written = (spelled, ((codes "(", refl), Each-append IsSpelled (param_tokens p) (token.right ∷ []) written ((codes ")", refl), tt)))
+
+pub key-said : (key : Key) → IsKeyword key.word → IsSpelled (key_token key)
+key-said key is = by_user key.user
+  where
+    by_user : (user : Bool) → IsSpelled (elim user [ true ↦ token.user_keyword key.word | false ↦ token.keyword key.word ])
+    by_user true = user_keyword-spelled key.word is
+    by_user false = keyword-spelled key.word is
+
+-- a keyword, and parameters in parentheses
+pub header-said : (part : Part) → IsSpelled (key_token part.key) → IsWritten (list part.params) → IsWrittenStatement (header part)
+header-said part key written = (key, Each-append IsSpelled (param_tokens (list part.params)) (token.semicolon ∷ []) written ((codes ";", refl), tt))

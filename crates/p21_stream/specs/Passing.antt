@@ -1,0 +1,33 @@
+-- Instances that are taken straight from their bytes.
+use Rattle.std.specs.Prelude.{◌≡◌, ℕ, List, [], ◌∷◌, Option, Some, None, Result, Ok, Err}
+use Rattle.p21_basics.specs.Limits.{Limits}
+use Rattle.p21_claim_steps.specs.Keeping.{Kept}
+use Rattle.p21_exchange.specs.Record.{Record}
+use Rattle.p21_express_graph.specs.Rising.{IsOwnRising}
+use Rattle.p21_files.specs.Reference.{Need}
+use Rattle.p21_schemas.specs.Schema.{Schema}
+use Rattle.p21_stream_kept.specs.declared.refusal.Refusal.{Refusal}
+use Rattle.p21_stream.specs.StatementReader as front
+use Rattle.p21_stream.specs.PassingOver.{AreInstances}
+use Rattle.p21_stream_kept.specs.Found.{HasFound}
+use Rattle.p21_transcribe_instance.specs.ExternalSet.{IsNumberedSet}
+use Rattle.p21_stream.specs.declared.passing.Set.{Set}
+use Rattle.p21_stream.specs.declared.passing.Set.TheVariants.{Numbered, Own}
+use Rattle.p21_stream.specs.Pieces.{StepGives}
+
+-- The bytes are an instance of this name, whose set are these entities; this is its canonical text, and these are its needs
+pub record IsFoundIn (s : Schema) (n : ℕ) (entities bytes text : List ℕ) (needs : List Need) : Type 0 where
+  pub record_ : Record
+  pub are : AreInstances bytes ((n, record_) ∷ [])
+  pub found : HasFound s n record_ entities needs text
+
+-- the entities of a set of an instance, where sets are stored by number
+abbrev pub HasEntities : Schema → List (List ℕ) → Set → List ℕ → Type 0
+HasEntities s sets (Own e) entities = IsOwnRising s e.0 entities
+HasEntities s sets (Numbered at) entities = IsNumberedSet sets at entities
+
+-- what an instance gives that is taken so: as much as its tokens do; where it isn't, all is as before
+abbrev pub PassGives : Schema → Limits → front.Held → Kept → List ℕ → Result (Option ℕ) Refusal → front.Held → Kept → Type 0
+PassGives s limits held kept piece (Ok None) next after = (next ≡ held) × (after ≡ kept)
+PassGives s limits held kept piece (Ok (Some count)) next after = StepGives s limits held kept piece (Ok (Some count)) next after
+PassGives s limits held kept piece (Err refusal) next after = StepGives s limits held kept piece (Err refusal) next after

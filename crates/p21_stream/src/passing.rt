@@ -1,0 +1,182 @@
+//! Instances that stand whole at the beginning of a piece, taken straight from their bytes (ISO 10303-21, data sections).
+ghost use Rattle.std.specs.Prelude.{◌≡◌, ◌≤◌, ℕ, List, [], length, take, IfErr, IfSome};
+ghost use Rattle.p21_mapping_values.specs.TypedView.{ids_view};
+ghost use Rattle.p21_schemas.specs.Schema.{Schema as Meant};
+ghost use Rattle.p21_mapping.specs.Checked.{needs_view};
+ghost use Rattle.p21_stream_kept.specs.Source.{IsOfBytes};
+ghost use Rattle.p21_stream.specs.StatementReader.{limits_of};
+ghost use Rattle.p21_stream_kept.specs.Steps.{StepKeepsBound};
+ghost use Rattle.p21_stream.specs.Passing.{HasEntities, IsFoundIn, PassGives};
+ghost use Rattle.p21_stream.specs.Pieces.{EndsNoToken, IsUnderWay, NeedsNoMemory, TakesWithinPiece};
+ghost use Rattle.p21_transcribe_instance.specs.Steps.{IsPlanOf};
+ghost use Rattle.p21_transcribe_instance.specs.ExternalSet.{AreExternalSets};
+
+use crate::progress::{Progress, refused};
+use p21_express_tables::Schema;
+use p21_express_types::EntityId;
+use p21_mapping_values::Need;
+use p21_stream_kept::Refusal;
+use p21_transcribe::Draft;
+use p21_transcribe_instance::{Plan, Sets, append_external, append_instance};
+use p21_values::{Limits, Name};
+
+/// The most bytes of a canonical line that is made so.
+const ROOM: usize = 16_384;
+
+/// An instance that was found: its name, its set, and how many bytes it has with the separators before it.
+#[derive(Clone, Copy)]
+pub(crate) struct Passing {
+    pub(crate) name: Name,
+    pub(crate) set: Set,
+    pub(crate) count: usize,
+}
+
+/// The set of an instance that was found.
+#[derive(Clone, Copy)]
+pub(crate) enum Set {
+    /// Of internal mapping: the closure of this entity.
+    Own(EntityId),
+    /// Of external mapping: the set of this number among those that are stored.
+    Numbered(usize),
+}
+
+impl Progress {
+    /// Takes the instance at the beginning of a piece straight from its bytes, and says how many these are. Where it isn't
+    /// taken so, as much is read and kept as before.
+    ///
+    /// # Errors
+    ///
+    /// The refusal of its statement.
+    pub(crate) fn pass(
+        &mut self,
+        schema: &Schema,
+        limits: Limits,
+        piece: &[u8],
+    ) -> Result<Option<usize>, Refusal>
+        requires way { IsUnderWay schema.now limits self.old.front self.old.kept piece.now }
+        requires plan { IsPlanOf schema.now self.old.plan }
+        requires sets { AreExternalSets schema.now self.old.sets }
+        ensures takes { TakesWithinPiece piece.now result }
+        ensures gives { PassGives schema.now limits self.old.front self.old.kept piece.now result self.new.front self.new.kept }
+        ensures no_memory { NeedsNoMemory schema.now limits self.old.front self.old.kept piece.now result }
+        ensures kind { IfErr result (λ refusal. IsOfBytes refusal.fault) }
+        ensures no_token { EndsNoToken schema.now limits self.old.front self.old.kept piece.now result }
+        ensures bound { StepKeepsBound limits self.old.kept self.new.kept }
+        ensures limits { limits_of self.new.front ≡ limits_of self.old.front }
+        ensures refused { self.new.refused ≡ self.old.refused }
+        ensures plan { IsPlanOf schema.now self.new.plan }
+        ensures sets { AreExternalSets schema.now self.new.sets }
+    {
+        schema.well_formed();
+        if !self.front.is_between_instances() {
+            return Ok(None);
+        }
+        let Some(found) = find(
+            schema,
+            &mut self.plan,
+            &mut self.sets,
+            piece,
+            &mut self.draft,
+            &mut self.needs,
+        ) else {
+            return Ok(None);
+        };
+        let Some(entities) = entities_of(found.set, &self.plan, &self.sets) else {
+            return Ok(None);
+        };
+        if !self.front.pass_over(found.count) {
+            return Ok(None);
+        }
+        let line = self.draft.between(0, self.draft.len());
+        match self
+            .kept
+            .take_found(schema, limits, found.name, entities, line, &self.needs)
+        {
+            Ok(()) => {
+                self.statement = self.statement.saturating_add(1);
+                Ok(Some(found.count))
+            }
+            Err(fault) => Err(refused(fault, Some(found.name), self.statement)),
+        }
+    }
+}
+
+/// Finds the instance at the beginning of a piece, where it stands there whole and is usual. Its canonical line is the text
+/// then, and its references are the needs. Want of memory counts as none.
+pub(crate) fn find(
+    schema: &Schema,
+    plan: &mut Plan,
+    sets: &mut Sets,
+    piece: &[u8],
+    draft: &mut Draft,
+    needs: &mut Vec<Need>,
+) -> Option<Passing>
+    requires plan { IsPlanOf schema.now plan.old }
+    requires sets { AreExternalSets schema.now sets.old }
+    ensures found { IfSome result (λ found. (entities : List ℕ) × HasEntities schema.now sets.new found.set entities × IsFoundIn schema.now found.name entities (take found.count piece.now) draft.new (needs_view needs.new.items)) }
+    ensures within { IfSome result (λ found. found.count ≤ length piece.now) }
+    ensures plan { IsPlanOf schema.now plan.new }
+    ensures sets { AreExternalSets schema.now sets.new }
+{
+    let Ok(()) = draft.make_room(ROOM) else {
+        return None;
+    };
+    forget(draft, needs);
+    match append_instance(schema, plan, piece, draft, needs) {
+        Some(instance) => Some(Passing {
+            name: instance.name,
+            set: Set::Own(instance.entity),
+            count: piece.len() - instance.rest.len(),
+        }),
+        None => find_external(schema, sets, piece, draft, needs),
+    }
+}
+
+/// Finds, in the same way, an instance of external mapping.
+#[inline(never)]
+fn find_external(
+    schema: &Schema,
+    sets: &mut Sets,
+    piece: &[u8],
+    draft: &mut Draft,
+    needs: &mut Vec<Need>,
+) -> Option<Passing>
+    requires { AreExternalSets schema.now sets.old }
+    ensures found { IfSome result (λ found. (entities : List ℕ) × HasEntities schema.now sets.new found.set entities × IsFoundIn schema.now found.name entities (take found.count piece.now) draft.new (needs_view needs.new.items)) }
+    ensures within { IfSome result (λ found. found.count ≤ length piece.now) }
+    ensures sets { AreExternalSets schema.now sets.new }
+{
+    forget(draft, needs);
+    let Some(instance) = append_external(schema, sets, piece, draft, needs) else {
+        return None;
+    };
+    Some(Passing {
+        name: instance.name,
+        set: Set::Numbered(instance.set),
+        count: piece.len() - instance.rest.len(),
+    })
+}
+
+/// Gives up what an instance left in the line and the references.
+#[inline(always)]
+fn forget(draft: &mut Draft, needs: &mut Vec<Need>)
+    ensures draft { draft.new ≡ [] }
+    ensures needs { needs.new.items ≡ [] }
+{
+    draft.cut(0);
+    needs.clear();
+}
+
+/// The entities of a set, rising by name.
+#[inline(always)]
+fn entities_of<'a>(set: Set, plan: &'a Plan, sets: &'a Sets) -> Option<&'a [EntityId]>
+    ensures { (s : Meant) → IsPlanOf s plan.now → IfSome result (λ entities. HasEntities s sets.now set (ids_view entities.now)) }
+{
+    match set {
+        Set::Own(entity) => {
+            let row = plan.row(entity)?;
+            Some(&row.entities)
+        }
+        Set::Numbered(at) => sets.get(at),
+    }
+}

@@ -1,0 +1,332 @@
+ghost use Rattle.std.specs.Prelude.{◌≡◌, ◌<◌, ◌^◌, [], IfErr, None, Some, Err};
+ghost use Rattle.p21_basics.specs.Limits.{Limits as MeantLimits};
+ghost use Rattle.p21_claim_steps.specs.Keeping.{nothing_kept};
+ghost use Rattle.p21_grammar.specs.Statements.{statement_of};
+ghost use Rattle.p21_schemas.specs.Schema.{Schema as Meant};
+ghost use Rattle.p21_stream.specs.StatementReader.{IsLive, limits_of, nothing_read};
+ghost use Rattle.p21_stream_kept.specs.Source.{IsOfBytes};
+ghost use Rattle.p21_stream_kept.specs.declared.refusal.Refusal.{Refusal};
+ghost use Rattle.p21_stream_kept.specs.Steps as kept_steps;
+ghost use Rattle.p21_stream_kept.specs.Steps.{StepKeepsBound};
+ghost use Rattle.p21_stream_kept.specs.Taking.{Follows};
+ghost use Rattle.p21_stream.specs.Bounds.{IsBounded};
+ghost use Rattle.p21_stream.specs.Histories.{FeedChecks, FeedGives, FeedNeedsNoMemory, FinishGives, RefusesAgain, RefusesAtEnd};
+ghost use Rattle.p21_stream.specs.Inside.{held_in};
+ghost use Rattle.p21_stream.specs.Pieces.{EndGives, EndsNoToken, IsBetweenPieces, IsUnderWay, NeedsNoMemory, ReadGives, StepGives, TakesWithinPiece};
+ghost use Rattle.p21_transcribe_instance.specs.ExternalSet.{AreExternalSets};
+ghost use Rattle.p21_transcribe_instance.specs.Steps.{IsPlanOf};
+
+use crate::statement_reader::StatementReader;
+use p21_express_tables::Schema;
+use p21_grammar::Event;
+use p21_mapping_values::Need;
+use p21_stream_kept::{At, Fault, Kept, Refusal};
+use p21_stream_output::Accepted;
+use p21_transcribe::Draft;
+use p21_transcribe_instance::{Plan, Sets};
+use p21_values::{Limits, Name};
+use std::alloc::Global;
+
+/// How far a file is read.
+#[derive(Drop)]
+pub(crate) struct Progress {
+    alloc: Global,
+    // The statement reader, and what is kept of those that it gave.
+    pub front: StatementReader,
+    pub kept: Kept,
+    // The line and the references of an instance that is taken straight from its bytes.
+    pub draft: Draft,
+    pub needs: Vec<Need>,
+    // What instances that are taken so need of the schema.
+    pub plan: Plan,
+    // The sets of instances of external mapping that are taken so.
+    pub sets: Sets,
+    // The number of the open statement, counted from 1.
+    pub statement: u64,
+    // The refusal that was answered, and is answered again.
+    pub refused: Option<Refusal>,
+}
+
+impl Progress {
+    /// The progress of a file of which nothing is read. It takes no memory.
+    pub(crate) fn new(alloc: Global, limits: Limits) -> Progress
+        ensures live { IsLive result.front nothing_read }
+        ensures limits { limits_of result.front ≡ (limits.record_source, limits.file_source) }
+        ensures kept { result.kept ≡ nothing_kept }
+        ensures refused { result.refused ≡ None }
+        ensures counted { limits.file_source < 2 ^ 64 }
+        ensures plan { (s : Meant) → IsPlanOf s result.plan }
+        ensures sets { result.sets ≡ [] }
+    {
+        // Looked at, so that the proof knows that it is a number of 64 bits.
+        let _most = limits.file_source();
+        Progress {
+            alloc,
+            front: StatementReader::new(alloc, limits),
+            kept: Kept::new(alloc),
+            draft: Draft::new(alloc),
+            needs: Vec::new(alloc),
+            plan: Plan::new(alloc),
+            sets: Sets::new(alloc),
+            statement: 1,
+            refused: None,
+        }
+    }
+
+    /// Takes a piece. Where it is refused, what is kept is given up, and each later call answers the same.
+    ///
+    /// # Errors
+    ///
+    /// The first refusal, in the order of the bytes.
+    pub(crate) fn feed(
+        &mut self,
+        schema: &Schema,
+        limits: Limits,
+        piece: &[u8],
+    ) -> Result<(), Refusal>
+        requires bounded { IsBounded (held_in schema.now limits self.old) }
+        requires plan { IsPlanOf schema.now self.old.plan }
+        requires sets { AreExternalSets schema.now self.old.sets }
+        ensures gives { FeedGives (held_in schema.now limits self.old) piece.now result (held_in schema.now limits self.new) }
+        ensures checks { FeedChecks (held_in schema.now limits self.old) piece.now result }
+        ensures no_memory { FeedNeedsNoMemory (held_in schema.now limits self.old) piece.now result }
+        ensures again { RefusesAgain (held_in schema.now limits self.old) result (held_in schema.now limits self.new) }
+        ensures refused { IfErr result (λ refusal. self.new.refused ≡ Some refusal) }
+        ensures kind { IfErr result (λ refusal. IsOfBytes refusal.fault) }
+        ensures bounded { IsBounded (held_in schema.now limits self.new) }
+        ensures plan { IsPlanOf schema.now self.new.plan }
+        ensures sets { AreExternalSets schema.now self.new.sets }
+    {
+        if let Some(refusal) = self.refused {
+            return Err(refusal);
+        }
+        match self.read(schema, limits, piece) {
+            Ok(()) => Ok(()),
+            Err(refusal) => {
+                self.kept = Kept::new(self.alloc);
+                self.refused = Some(refusal);
+                self.answered()
+            }
+        }
+    }
+
+    /// The end of the bytes.
+    ///
+    /// # Errors
+    ///
+    /// The refusal of an earlier call; else those of `end`.
+    pub(crate) fn finish(self, schema: &Schema) -> Result<Accepted, Refusal>
+        requires { (limits : MeantLimits) × IsBounded (held_in schema.now limits self) }
+        ensures gives { (limits : MeantLimits) → FinishGives (held_in schema.now limits self) result }
+        ensures again { (limits : MeantLimits) → RefusesAtEnd (held_in schema.now limits self) result }
+        ensures kind { (limits : MeantLimits) → IsBounded (held_in schema.now limits self) → IfErr result (λ refusal. IsOfBytes refusal.fault) }
+    {
+        let Progress {
+            front,
+            kept,
+            statement,
+            refused,
+            ..
+        } = self;
+        if let Some(refusal) = refused {
+            return Err(refusal);
+        }
+        end(front, kept, statement, schema)
+    }
+
+    /// The refusal that was answered, if there is one.
+    fn answered(&self) -> Result<(), Refusal>
+        ensures { (refusal : Refusal) → self.now.refused ≡ Some refusal → result ≡ Err refusal }
+    {
+        match self.refused {
+            Some(refusal) => Err(refusal),
+            None => Ok(()),
+        }
+    }
+
+    /// Reads a piece whole.
+    ///
+    /// # Errors
+    ///
+    /// The refusal of its first byte, token or statement that is refused.
+    fn read(&mut self, schema: &Schema, limits: Limits, piece: &[u8]) -> Result<(), Refusal>
+        requires way { IsUnderWay schema.now limits self.old.front self.old.kept piece.now }
+        requires plan { IsPlanOf schema.now self.old.plan }
+        requires sets { AreExternalSets schema.now self.old.sets }
+        ensures gives { ReadGives schema.now limits self.old.front self.old.kept piece.now result self.new.front self.new.kept }
+        ensures no_memory { NeedsNoMemory schema.now limits self.old.front self.old.kept piece.now result }
+        ensures kind { IfErr result (λ refusal. IsOfBytes refusal.fault) }
+        ensures bound { StepKeepsBound limits self.old.kept self.new.kept }
+        ensures limits { limits_of self.new.front ≡ limits_of self.old.front }
+        ensures refused { self.new.refused ≡ self.old.refused }
+        ensures plan { IsPlanOf schema.now self.new.plan }
+        ensures sets { AreExternalSets schema.now self.new.sets }
+    {
+        let mut rest = piece;
+        // Each round takes a token or more, and a file has no more tokens than bytes.
+        let mut rounds: u64 = 0;
+        loop {
+            let taken = match self.advance(schema, limits, rest) {
+                Ok(taken) => taken,
+                Err(refusal) => return Err(refusal),
+            };
+            let Some(count) = taken else {
+                return Ok(());
+            };
+            rest = &rest[count..];
+            rounds += 1;
+        }
+    }
+
+    /// Reads the bytes of a whole instance or of one token, or the rest of a piece in which none is whole; says how many bytes
+    /// where it was an instance or a token.
+    ///
+    /// # Errors
+    ///
+    /// The refusal of a byte, of the token, or of the statement that ends.
+    fn advance(
+        &mut self,
+        schema: &Schema,
+        limits: Limits,
+        piece: &[u8],
+    ) -> Result<Option<usize>, Refusal>
+        requires way { IsUnderWay schema.now limits self.old.front self.old.kept piece.now }
+        requires plan { IsPlanOf schema.now self.old.plan }
+        requires sets { AreExternalSets schema.now self.old.sets }
+        ensures takes { TakesWithinPiece piece.now result }
+        ensures gives { StepGives schema.now limits self.old.front self.old.kept piece.now result self.new.front self.new.kept }
+        ensures no_memory { NeedsNoMemory schema.now limits self.old.front self.old.kept piece.now result }
+        ensures kind { IfErr result (λ refusal. IsOfBytes refusal.fault) }
+        ensures no_token { EndsNoToken schema.now limits self.old.front self.old.kept piece.now result }
+        ensures bound { StepKeepsBound limits self.old.kept self.new.kept }
+        ensures limits { limits_of self.new.front ≡ limits_of self.old.front }
+        ensures refused { self.new.refused ≡ self.old.refused }
+        ensures plan { IsPlanOf schema.now self.new.plan }
+        ensures sets { AreExternalSets schema.now self.new.sets }
+    {
+        let passed = match self.pass(schema, limits, piece) {
+            Ok(passed) => passed,
+            Err(refusal) => return Err(refusal),
+        };
+        if let Some(count) = passed {
+            return Ok(Some(count));
+        }
+        self.step(schema, limits, piece)
+    }
+
+    /// Reads the bytes of one token, or the rest of a piece in which none is whole; says how many bytes where it was a
+    /// token.
+    ///
+    /// # Errors
+    ///
+    /// The refusal of a byte, of the token, or of the statement that it ends.
+    fn step(
+        &mut self,
+        schema: &Schema,
+        limits: Limits,
+        piece: &[u8],
+    ) -> Result<Option<usize>, Refusal>
+        requires { IsUnderWay schema.now limits self.old.front self.old.kept piece.now }
+        ensures takes { TakesWithinPiece piece.now result }
+        ensures gives { StepGives schema.now limits self.old.front self.old.kept piece.now result self.new.front self.new.kept }
+        ensures no_memory { NeedsNoMemory schema.now limits self.old.front self.old.kept piece.now result }
+        ensures kind { IfErr result (λ refusal. IsOfBytes refusal.fault) }
+        ensures no_token { EndsNoToken schema.now limits self.old.front self.old.kept piece.now result }
+        ensures bound { StepKeepsBound limits self.old.kept self.new.kept }
+        ensures limits { limits_of self.new.front ≡ limits_of self.old.front }
+        ensures refused { self.new.refused ≡ self.old.refused }
+        ensures sets { self.new.sets ≡ self.old.sets }
+        ensures plan { self.new.plan ≡ self.old.plan }
+    {
+        schema.well_formed();
+        let answer = match self.front.step(piece) {
+            Ok(answer) => answer,
+            Err(fault) => return Err(refused(fault, None, self.statement)),
+        };
+        let Some((count, event)) = answer else {
+            return Ok(None);
+        };
+        let Some(event) = event else {
+            return Ok(Some(count));
+        };
+        let name = name_of(&event);
+        match take(&mut self.kept, schema, limits, event) {
+            Ok(()) => {
+                self.statement = self.statement.saturating_add(1);
+                Ok(Some(count))
+            }
+            Err(fault) => Err(refused(fault, name, self.statement)),
+        }
+    }
+}
+
+/// Takes a statement.
+fn take(kept: &mut Kept, schema: &Schema, limits: Limits, event: Event) -> Result<(), Fault>
+    requires { Follows schema.now limits kept.old (statement_of event) }
+    ensures gives { kept_steps.StepGives schema.now limits kept.old (statement_of event) result kept.new }
+    ensures kind { IfErr result (λ fault. IsOfBytes fault) }
+    ensures bound { StepKeepsBound limits kept.old kept.new }
+{
+    match event {
+        Event::Section(line) => kept.take_line(limits, line),
+        Event::Named(part) => kept.take_heading(schema, limits, part),
+        Event::Header(part) => kept.take_header(schema, limits, &part),
+        Event::Instance(name, record) => kept.take_instance(schema, limits, name, record),
+    }
+}
+
+/// The end of the bytes, where no call was refused.
+///
+/// # Errors
+///
+/// That of the reader; then the first reference in the file that no instance serves; `NoMemory`.
+fn end(
+    front: StatementReader,
+    kept: Kept,
+    statement: u64,
+    schema: &Schema,
+) -> Result<Accepted, Refusal>
+    requires { IsBetweenPieces schema.now front kept }
+    ensures gives { EndGives schema.now front kept result }
+    ensures kind { IfErr result (λ refusal. IsOfBytes refusal.fault) }
+{
+    schema.well_formed();
+    match front.finish() {
+        Ok(()) => {}
+        Err(fault) => return Err(refused(fault, None, statement)),
+    }
+    if let Some(found) = kept.first_unserved(schema) {
+        return Err(unserved(found, statement));
+    }
+    let Ok(accepted) = kept.into_accepted() else {
+        return Err(refused(Fault::NoMemory, None, statement));
+    };
+    Ok(accepted)
+}
+
+/// The refusal of a reference, by the instance that has it.
+fn unserved(found: (Name, Fault), statement: u64) -> Refusal
+    ensures { result.fault ≡ found.1 }
+{
+    let (holder, fault) = found;
+    refused(fault, Some(holder), statement)
+}
+
+/// The name of an instance.
+fn name_of(event: &Event) -> Option<Name> {
+    match event {
+        Event::Instance(name, _) => Some(*name),
+        _ => None,
+    }
+}
+
+/// A refusal of the open statement, or of an instance.
+pub(crate) fn refused(fault: Fault, name: Option<Name>, statement: u64) -> Refusal
+    ensures { result.fault ≡ fault }
+{
+    let at = match name {
+        Some(name) => At::of(fault, name, statement),
+        None => At::Statement(statement),
+    };
+    Refusal { fault, at }
+}

@@ -1,0 +1,93 @@
+ghost use Rattle.std.specs.Prelude.{◌≡◌, IfErr, Some};
+ghost use Rattle.p21_stream_kept.specs.Source.{IsOfBytes};
+ghost use Rattle.p21_stream.specs.Held.{limits_of, refusal_of, schema_of};
+ghost use Rattle.p21_stream.specs.Histories.{FeedChecks, FeedGives, FeedNeedsNoMemory, FinishGives, KeepsSchema, RefusesAgain, RefusesAtEnd, Stands, nothing_taken};
+ghost use Rattle.std.specs.Arc.{arc_value};
+
+use crate::progress::Progress;
+use p21_express_tables::Schema;
+use p21_stream_kept::Refusal;
+use p21_stream_output::Accepted;
+use p21_values::Limits;
+use std::alloc::Global;
+use std::marker::Model;
+use std::sync::Arc;
+
+/// A session that owns its schema together with others and borrows nothing, for a caller that keeps it where no borrow
+/// lives long enough.
+#[derive(Drop)]
+pub struct SharedSession {
+    schema: Arc<Schema, Global>,
+    limits: Limits,
+    progress: Progress,
+}
+
+impl Model for SharedSession {
+    ghost use Rattle.p21_stream.specs.Held.{SessionHeld, held_code};
+
+    ghost Value = { SessionHeld };
+
+    ghost coded = { held_code };
+
+    ghost use Rattle.p21_stream.specs.Bounds.{IsBounded};
+    ghost use Rattle.p21_stream.specs.Inside.{held_in};
+    ghost use Rattle.p21_transcribe_instance.specs.ExternalSet.{AreExternalSets};
+    ghost use Rattle.p21_transcribe_instance.specs.Steps.{IsPlanOf};
+    ghost use Rattle.std.specs.Arc.{arc_value};
+
+    ghost view = { λ a. held_in (arc_value a.schema) a.limits a.progress };
+
+    ghost invariant = { λ a. IsBounded (held_in (arc_value a.schema) a.limits a.progress) × IsPlanOf (arc_value a.schema) a.progress.plan × AreExternalSets (arc_value a.schema) a.progress.sets };
+}
+
+impl SharedSession {
+    /// A session that has taken nothing. It takes no memory.
+    pub fn new(alloc: Global, schema: Arc<Schema, Global>, limits: Limits) -> SharedSession
+        ensures stands { Stands result nothing_taken }
+        ensures schema { schema_of result ≡ arc_value schema }
+        ensures limits { limits_of result ≡ limits }
+    {
+        SharedSession {
+            schema,
+            limits,
+            progress: Progress::new(alloc, limits),
+        }
+    }
+
+    /// Takes a piece. Where it is refused, the rest of it isn't read, and each later call answers the same.
+    ///
+    /// # Errors
+    ///
+    /// The first refusal, in the order of the bytes. What is kept is given up with it.
+    pub fn feed(&mut self, piece: &[u8]) -> Result<(), Refusal>
+        ensures gives { FeedGives self.old piece.now result self.new }
+        ensures checks { FeedChecks self.old piece.now result }
+        ensures no_memory { FeedNeedsNoMemory self.old piece.now result }
+        ensures again { RefusesAgain self.old result self.new }
+        ensures refused { IfErr result (λ refusal. refusal_of self.new ≡ Some refusal) }
+        ensures kind { IfErr result (λ refusal. IsOfBytes refusal.fault) }
+        ensures schema { KeepsSchema self.old self.new }
+    {
+        let limits = self.limits;
+        self.progress.feed(&self.schema, limits, piece)
+    }
+
+    /// The end of the file. It takes memory for the order of the instances, and gives up what only the check needs.
+    ///
+    /// # Errors
+    ///
+    /// The refusal of an earlier call; else `EndsEarly` or another fault of the end; then that of the first reference, in the
+    /// order of the file, to no instance or to one that isn't of the type; `NoMemory`.
+    pub fn finish(self) -> Result<Accepted, Refusal>
+        ensures gives { FinishGives self result }
+        ensures again { RefusesAtEnd self result }
+        ensures kind { IfErr result (λ refusal. IsOfBytes refusal.fault) }
+    {
+        let SharedSession {
+            schema,
+            limits: _,
+            progress,
+        } = self;
+        progress.finish(&schema)
+    }
+}

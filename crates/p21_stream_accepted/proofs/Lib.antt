@@ -1,3 +1,0 @@
-pub mod Comparing
-pub mod Lines
-pub mod Putting

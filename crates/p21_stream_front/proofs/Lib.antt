@@ -1,6 +1,0 @@
-pub mod Seen
-pub mod Stepping
-pub mod Finishing
-pub mod Opening
-pub mod Quiet
-pub mod Passing

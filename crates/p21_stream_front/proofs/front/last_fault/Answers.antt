@@ -1,7 +1,0 @@
-use Rattle.std.proofs.Common.{subst, sym}
-use Rattle.p21_stream_fault.proofs.Sources.{grammar-of_bytes}
-use Rattle.p21_stream_fault.specs.Source.{IsOfBytes}
-use Rattle.p21_stream_front.proofs.front.last_fault.Goals as goal
-
-pub returns : goal.returns
-returns c = subst IsOfBytes (sym c.from.ensures) (grammar-of_bytes c.in-Err.fault)

@@ -1,6 +1,0 @@
-use Rattle.std.proofs.Common.{◌<◌, ℕ, get_or}
-use Rattle.p21_schemas.specs.Express.{IsIdentifierByte}
-use Rattle.p21_stream_header.proofs.schema_name.prefix_length.Given as goal
-
-abbrev pub invariant-loop-place : goal.invariant-loop-place
-invariant-loop-place l = (k : ℕ) → k < l.place → IsIdentifierByte (get_or l.text k 0)

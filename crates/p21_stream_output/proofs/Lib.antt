@@ -1,0 +1,13 @@
+pub mod Comparing
+pub mod Lines
+pub mod Putting
+pub mod Sorting
+pub mod Rows
+pub mod OutputLemmas
+pub mod SectionLines
+pub mod Headings
+pub mod Blocks
+pub mod StoredPositions
+pub mod Zipped
+pub mod Whole
+pub mod Written

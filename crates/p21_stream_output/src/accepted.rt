@@ -1,0 +1,111 @@
+ghost use Rattle.std.specs.Prelude.{◌≡◌, ◌↔◌, ℕ, length, Contains, IfSome, IsNone, IsTrue, OnErr, OnOk};
+ghost use Rattle.std.specs.Io.KnownBytes.{Appends};
+ghost use Rattle.p21_stream_output.specs.Output.{HasLines, IsLineOf, output_text};
+ghost use Rattle.p21_stream_output.specs.Stored.{HavePositions, output_of};
+ghost use Rattle.p21_stream_io.specs.Transfer.{AppendsPartOf};
+ghost use Rattle.p21_stream_io.specs.Watch.{one_call_more};
+ghost use Rattle.p21_stream_store.specs.StoredInstance.{StoredInstance, instance_names};
+
+use crate::compare::is_file;
+use crate::output::write_file;
+use p21_stream_io::{Watched, WriteFault};
+use p21_stream_store::{Instances, Numbers};
+use p21_values::Name;
+use std::io::Write;
+use std::marker::Model;
+
+/// A data section: its canonical `DATA` with its `;`, and the positions of its instances in the order in which they are
+/// written.
+#[derive(Drop)]
+pub struct Section {
+    pub line: Vec<u8>,
+    pub instance_positions: Numbers,
+}
+
+/// An accepted file in its canonical form.
+#[derive(Drop)]
+pub struct Accepted {
+    header: Vec<u8>,
+    sections: Vec<Section>,
+    instances: Instances,
+    len: u64,
+}
+
+impl Model for Accepted {
+    ghost use Rattle.std.specs.Prelude.{◌≡◌, length};
+    ghost use Rattle.p21_stream_output.specs.Output.{HasLines, Output, output_text};
+    ghost use Rattle.p21_stream_output.specs.Stored.{HavePositions, output_of};
+
+    ghost Value = { Output };
+
+    ghost view = { λ a. output_of a.header.items a.sections.items a.instances };
+
+    ghost invariant = { λ a. HavePositions a.instances a.sections.items × (a.len ≡ length (output_text (output_of a.header.items a.sections.items a.instances))) × HasLines (output_of a.header.items a.sections.items a.instances) };
+}
+
+impl Accepted {
+    /// The canonical lines of the header records, each with its line feed; the data sections in the order in which they
+    /// are written; the instances; and the bytes of the canonical file. It takes no memory.
+    pub fn new(header: Vec<u8>, sections: Vec<Section>, instances: Instances, len: u64) -> Accepted
+        requires placed { HavePositions instances sections.items }
+        requires len { len ≡ length (output_text (output_of header.items sections.items instances)) }
+        requires lines { HasLines (output_of header.items sections.items instances) }
+        ensures { result ≡ output_of header.items sections.items instances }
+    {
+        Accepted {
+            header,
+            sections,
+            instances,
+            len,
+        }
+    }
+
+    /// How many instances the file has. It takes no memory.
+    pub fn count(&self) -> u64
+        ensures { result ≡ length self.now.kept }
+    {
+        self.instances.len() as u64
+    }
+
+    /// The bytes of the canonical file. It takes no memory.
+    pub fn len(&self) -> u64
+        ensures { result ≡ length (output_text self.now) }
+    {
+        self.len
+    }
+
+    /// The line of an instance in the canonical file, without its line feed, if there is one of this name. It takes no memory.
+    pub fn line(&self, name: Name) -> Option<&[u8]>
+        ensures some { IfSome result (λ text. (membership : ℕ) × Contains self.now.kept (record { name = name; membership = membership; text = text.now })) }
+        ensures line { IfSome result (λ text. IsLineOf name text.now (output_text self.now)) }
+        ensures none { IsNone result → Contains (instance_names self.now.kept) name → ⊥ }
+    {
+        match self.instances.find(name.0) {
+            Some((_, text)) => Some(text),
+            None => None,
+        }
+    }
+
+    /// Writes the canonical file, and nothing else. What was written is the beginning of it, also where a write fails; no
+    /// byte stands in a buffer afterwards. It takes no memory.
+    ///
+    /// # Errors
+    ///
+    /// `WriteFault` where a write answers an error, whatever its kind, or takes none of some bytes.
+    pub fn write_to<W: Write>(&self, writer: &mut Watched<W>) -> Result<(), WriteFault>
+        ensures ok { OnOk result (Appends (W.contents writer.old.inner) (W.contents writer.new.inner) (output_text self.now)) }
+        ensures err { OnErr result (AppendsPartOf (W.contents writer.old.inner) (W.contents writer.new.inner) (output_text self.now)) }
+
+        ensures written { OnOk result (writer.new.failures ≡ writer.old.failures) }
+        ensures failed { OnErr result (writer.new.failures ≡ one_call_more writer.old.failures) }
+    {
+        write_file(writer, &self.header, &self.sections, &self.instances)
+    }
+
+    /// Whether a text is the canonical file. It takes no memory.
+    pub fn is_text(&self, text: &[u8]) -> bool
+        ensures { IsTrue result ↔ (text.now ≡ output_text self.now) }
+    {
+        is_file(text, &self.header, &self.sections, &self.instances)
+    }
+}

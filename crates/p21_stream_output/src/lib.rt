@@ -1,0 +1,14 @@
+//! An accepted file: how it is made of what a session keeps, its canonical lines in their order, how they are written, and
+//! whether a text is theirs.
+#![tactic(auto)]
+
+mod accepted;
+mod compare;
+mod ending;
+mod filing;
+mod named_sections;
+mod output;
+
+pub use accepted::Accepted;
+pub use ending::accepted_file;
+pub use named_sections::NamedSection;

@@ -1,0 +1,180 @@
+//! Lines on their way to a writer.
+ghost use Rattle.std.specs.Prelude.{◌≡◌, ◌++◌, map, OnErr, OnOk};
+ghost use Rattle.std.specs.Io.KnownBytes.{Appends};
+ghost use Rattle.p21_stream_output.specs.Output.{header_text, line_of, lines_of, output_text, section_text, sections_text};
+ghost use Rattle.p21_stream_output.specs.Stored.{HavePositions, ArePositions, output_of, texts_at, written_section};
+ghost use Rattle.p21_stream_io.specs.Transfer.{AppendsAllBut, AppendsPartOf};
+ghost use Rattle.p21_stream_io.specs.Watch.{one_call_more};
+
+use crate::accepted::Section;
+use p21_stream_io::{Waiting, Watched, WriteFault};
+use p21_stream_store::{Instances, Numbers};
+use std::io::Write;
+
+/// Puts a text and a line feed behind the bytes that wait.
+pub(crate) fn put_line<W: Write>(
+    waiting: &mut Waiting,
+    writer: &mut Watched<W>,
+    text: &[u8],
+) -> Result<(), WriteFault>
+    ensures ok { OnOk result (AppendsAllBut (W.contents writer.old.inner) (W.contents writer.new.inner) (waiting.old ++ line_of text.now) waiting.new) }
+    ensures err { OnErr result (AppendsPartOf (W.contents writer.old.inner) (W.contents writer.new.inner) (waiting.old ++ line_of text.now)) }
+
+    ensures written { OnOk result (writer.new.failures ≡ writer.old.failures) }
+    ensures failed { OnErr result (writer.new.failures ≡ one_call_more writer.old.failures) }
+{
+    let Ok(()) = waiting.put(writer, text) else {
+        return Err(WriteFault);
+    };
+    let Ok(()) = waiting.put(writer, b"\n") else {
+        return Err(WriteFault);
+    };
+    Ok(())
+}
+
+/// Puts the lines of instances.
+fn put_lines<W: Write>(
+    waiting: &mut Waiting,
+    writer: &mut Watched<W>,
+    instances: &Instances,
+    instance_positions: &Numbers,
+) -> Result<(), WriteFault>
+    requires { ArePositions instances.now instance_positions.now }
+    ensures ok { OnOk result (AppendsAllBut (W.contents writer.old.inner) (W.contents writer.new.inner) (waiting.old ++ lines_of (texts_at instances.now instance_positions.now)) waiting.new) }
+    ensures err { OnErr result (AppendsPartOf (W.contents writer.old.inner) (W.contents writer.new.inner) (waiting.old ++ lines_of (texts_at instances.now instance_positions.now))) }
+
+    ensures written { OnOk result (writer.new.failures ≡ writer.old.failures) }
+    ensures failed { OnErr result (writer.new.failures ≡ one_call_more writer.old.failures) }
+{
+    for index in 0..instance_positions.len() {
+        let place = instance_positions.get(index);
+        let (_, _, text) = instances.get(place);
+        let Ok(()) = put_line(waiting, writer, text) else {
+            return Err(WriteFault);
+        };
+    }
+    Ok(())
+}
+
+/// Puts a data section.
+fn put_section<W: Write>(
+    waiting: &mut Waiting,
+    writer: &mut Watched<W>,
+    instances: &Instances,
+    section: &Section,
+) -> Result<(), WriteFault>
+    requires { ArePositions instances.now section.now.instance_positions }
+    ensures ok { OnOk result (AppendsAllBut (W.contents writer.old.inner) (W.contents writer.new.inner) (waiting.old ++ section_text (written_section instances.now section.now)) waiting.new) }
+    ensures err { OnErr result (AppendsPartOf (W.contents writer.old.inner) (W.contents writer.new.inner) (waiting.old ++ section_text (written_section instances.now section.now))) }
+
+    ensures written { OnOk result (writer.new.failures ≡ writer.old.failures) }
+    ensures failed { OnErr result (writer.new.failures ≡ one_call_more writer.old.failures) }
+{
+    let Ok(()) = put_line(waiting, writer, &section.line) else {
+        return Err(WriteFault);
+    };
+    let Ok(()) = put_lines(waiting, writer, instances, &section.instance_positions) else {
+        return Err(WriteFault);
+    };
+    let Ok(()) = put_line(waiting, writer, b"ENDSEC;") else {
+        return Err(WriteFault);
+    };
+    Ok(())
+}
+
+/// Puts the data sections.
+fn put_sections<W: Write>(
+    waiting: &mut Waiting,
+    writer: &mut Watched<W>,
+    instances: &Instances,
+    sections: &[Section],
+) -> Result<(), WriteFault>
+    requires { HavePositions instances.now sections.now }
+    ensures ok { OnOk result (AppendsAllBut (W.contents writer.old.inner) (W.contents writer.new.inner) (waiting.old ++ sections_text (map (written_section instances.now) sections.now)) waiting.new) }
+    ensures err { OnErr result (AppendsPartOf (W.contents writer.old.inner) (W.contents writer.new.inner) (waiting.old ++ sections_text (map (written_section instances.now) sections.now))) }
+
+    ensures written { OnOk result (writer.new.failures ≡ writer.old.failures) }
+    ensures failed { OnErr result (writer.new.failures ≡ one_call_more writer.old.failures) }
+{
+    for section in sections {
+        let Ok(()) = put_section(waiting, writer, instances, section) else {
+            return Err(WriteFault);
+        };
+    }
+    Ok(())
+}
+
+/// Puts the lines of the header section.
+fn put_header<W: Write>(
+    waiting: &mut Waiting,
+    writer: &mut Watched<W>,
+    header: &[u8],
+) -> Result<(), WriteFault>
+    ensures ok { OnOk result (AppendsAllBut (W.contents writer.old.inner) (W.contents writer.new.inner) (waiting.old ++ header_text header.now) waiting.new) }
+    ensures err { OnErr result (AppendsPartOf (W.contents writer.old.inner) (W.contents writer.new.inner) (waiting.old ++ header_text header.now)) }
+
+    ensures written { OnOk result (writer.new.failures ≡ writer.old.failures) }
+    ensures failed { OnErr result (writer.new.failures ≡ one_call_more writer.old.failures) }
+{
+    let Ok(()) = waiting.put(writer, b"ISO-10303-21;\nHEADER;\n") else {
+        return Err(WriteFault);
+    };
+    let Ok(()) = waiting.put(writer, header) else {
+        return Err(WriteFault);
+    };
+    let Ok(()) = put_line(waiting, writer, b"ENDSEC;") else {
+        return Err(WriteFault);
+    };
+    Ok(())
+}
+
+/// Puts a whole file.
+fn put_file<W: Write>(
+    waiting: &mut Waiting,
+    writer: &mut Watched<W>,
+    header: &[u8],
+    sections: &[Section],
+    instances: &Instances,
+) -> Result<(), WriteFault>
+    requires { HavePositions instances.now sections.now }
+    ensures ok { OnOk result (AppendsAllBut (W.contents writer.old.inner) (W.contents writer.new.inner) (waiting.old ++ output_text (output_of header.now sections.now instances.now)) waiting.new) }
+    ensures err { OnErr result (AppendsPartOf (W.contents writer.old.inner) (W.contents writer.new.inner) (waiting.old ++ output_text (output_of header.now sections.now instances.now))) }
+
+    ensures written { OnOk result (writer.new.failures ≡ writer.old.failures) }
+    ensures failed { OnErr result (writer.new.failures ≡ one_call_more writer.old.failures) }
+{
+    let Ok(()) = put_header(waiting, writer, header) else {
+        return Err(WriteFault);
+    };
+    let Ok(()) = put_sections(waiting, writer, instances, sections) else {
+        return Err(WriteFault);
+    };
+    let Ok(()) = put_line(waiting, writer, b"END-ISO-10303-21;") else {
+        return Err(WriteFault);
+    };
+    Ok(())
+}
+
+/// Writes a whole file. No byte stands in a buffer afterwards.
+pub(crate) fn write_file<W: Write>(
+    writer: &mut Watched<W>,
+    header: &[u8],
+    sections: &[Section],
+    instances: &Instances,
+) -> Result<(), WriteFault>
+    requires { HavePositions instances.now sections.now }
+    ensures ok { OnOk result (Appends (W.contents writer.old.inner) (W.contents writer.new.inner) (output_text (output_of header.now sections.now instances.now))) }
+    ensures err { OnErr result (AppendsPartOf (W.contents writer.old.inner) (W.contents writer.new.inner) (output_text (output_of header.now sections.now instances.now))) }
+
+    ensures written { OnOk result (writer.new.failures ≡ writer.old.failures) }
+    ensures failed { OnErr result (writer.new.failures ≡ one_call_more writer.old.failures) }
+{
+    let mut waiting = Waiting::new();
+    let Ok(()) = put_file(&mut waiting, writer, header, sections, instances) else {
+        return Err(WriteFault);
+    };
+    let Ok(()) = waiting.flush(writer) else {
+        return Err(WriteFault);
+    };
+    Ok(())
+}

@@ -1,0 +1,64 @@
+//! Which names have come, a bit for each.
+ghost use Rattle.std.specs.Prelude.{◌≡◌, ◌≢◌, ◌<◌, ◌^◌, ℕ, length, slice_index_or, OnOk, false};
+ghost use Rattle.std.specs.Int.{bit_at};
+ghost use Rattle.p21_stream_store.specs.Seen.{MayHaveCome};
+
+use p21_values::NoMemory;
+
+/// Names below this have a bit, so that the bits take a megabyte at most.
+const MOST: u64 = 8_388_608;
+/// So many bits stand in one word.
+const WORD: u64 = 64;
+
+/// Whether a name may have come: it has no bit, or its bit is set.
+pub fn may_have_come(words: &[u64], name: u64) -> bool
+    ensures { result ≡ false → MayHaveCome words.now name → ⊥ }
+{
+    if name >= MOST {
+        return true;
+    }
+    let index = (name / WORD) as usize;
+    if index >= words.len() {
+        return false;
+    }
+    (words[index] >> (name % WORD)) & 1 == 1
+}
+
+/// Sets the bit of a name, if it has one. All others stay.
+pub fn note(words: &mut Vec<u64>, name: u64) -> Result<(), NoMemory>
+    ensures noted { OnOk result (MayHaveCome words.new.items name) }
+    ensures others { (other : ℕ) → MayHaveCome words.old.items other → MayHaveCome words.new.items other }
+{
+    if name >= MOST {
+        return Ok(());
+    }
+    let index = (name / WORD) as usize;
+    let Ok(()) = make_word(words, index) else {
+        return Err(NoMemory);
+    };
+    set_bit(words, index, name % WORD);
+    Ok(())
+}
+
+/// Makes a word of this number, and those in front of it, where there is none yet. No bit changes.
+fn make_word(words: &mut Vec<u64>, index: usize) -> Result<(), NoMemory>
+    requires { index < 2 ^ 32 }
+    ensures made { OnOk result (index < length words.new.items) }
+    ensures same { (other : ℕ) → slice_index_or words.new.items other 0 ≡ slice_index_or words.old.items other 0 }
+{
+    if index >= words.len() && words.resize(index + 1, 0).is_err() {
+        return Err(NoMemory);
+    }
+    Ok(())
+}
+
+/// Sets a bit of a word.
+fn set_bit(words: &mut Vec<u64>, index: usize, bit: u64)
+    requires word { index < length words.old.items }
+    requires bit { bit < 64 }
+    ensures set { bit_at (slice_index_or words.new.items index 0) bit ≡ 1 }
+    ensures bits { (other : ℕ) → bit_at (slice_index_or words.old.items index 0) other ≡ 1 → bit_at (slice_index_or words.new.items index 0) other ≡ 1 }
+    ensures words { (other : ℕ) → other ≢ index → slice_index_or words.new.items other 0 ≡ slice_index_or words.old.items other 0 }
+{
+    words[index] |= 1 << bit;
+}

@@ -1,0 +1,276 @@
+-- Tokens that stand whole at the front of bytes.
+use Rattle.std.proofs.Common.{◌≡◌, ℤ, Bool, false, ◌==◌, if◌then◌else◌, inl, ◌≢◌, ℕ, zero, suc, ◌+◌, ◌-◌, ◌*◌, ◌^◌, ◌≤◌, ◌<◌, true, lt-ltb, append_assoc, List, [], ◌∷◌, ◌++◌, length, length-drop, get_or, take, drop, refl, sym, ap, ◌∙◌, subst, arith, append-nil, Some, Ok}
+use Rattle.std.specs.List.{slice_range}
+use Rattle.std.proofs.lemmas.Bool.{ne_eqb}
+use Rattle.std.proofs.lemmas.Bool.Decides.{nat_tests}
+use Rattle.std.proofs.lemmas.List.{length-take-le, take_more, get_or-drop}
+use Rattle.std.proofs.lemmas.Option.{slice_get_within, slice_get-get_or}
+use Rattle.std.proofs.Math.Seq.{take-add}
+use Rattle.p21_exchange.specs.Laying.{count_behind}
+use Rattle.p21_exchange.specs.Token as meaning
+use Rattle.p21_basics.specs.Digits.{IsDigit, is_digit}
+use Rattle.std.specs.List.{AllByRecursion as Each}
+use Rattle.p21_exchange.specs.Keyword.{IsUpper, IsKeywordByte, IsKeyword}
+use Rattle.p21_exchange.specs.Number as number
+use Rattle.p21_exchange.specs.Number.{SpellsReal, SpellsWhole}
+use Rattle.p21_exchange.specs.Token.{Spells, MayFollow}
+use Rattle.p21_tokens_automaton.proofs.Once.{spells-means}
+use Rattle.p21_tokens_automaton.proofs.Classes.{digit-decides, keyword_byte-decides, false_from_not}
+use Rattle.p21_tokens_automaton.proofs.Runs.{run-names, run-puts}
+use Rattle.p21_tokens_automaton.proofs.Steps.{lex-nil, lex-pass, lex-skip, lex-give, lex-end}
+use Rattle.p21_tokens_automaton.proofs.TokenRuns.{waits-keyword, waits-whole, waits-real}
+use Rattle.p21_tokens_automaton.proofs.Waits.{Waits}
+use Rattle.p21_tokens_automaton.specs.Bytes.{is_blank, is_keyword_byte}
+use Rattle.p21_tokens_automaton.specs.Meaning.{found_of}
+use Rattle.p21_tokens_automaton.specs.Reading.{known, State, start, before, FoundToken, single_token, ended_token, lex}
+use Rattle.p21_tokens_automaton.specs.Step.{advance}
+use Rattle.p21_tokens_automaton.specs.Run.{AreNameDigits, EachHasAction}
+use Rattle.p21_tokens_automaton.specs.declared.mode.Mode.TheVariants.{Between, Name, Text, Word}
+use Rattle.p21_tokens_automaton.specs.declared.mode.NameMode.TheVariants as name_mode
+use Rattle.p21_tokens_automaton.specs.declared.mode.NameMode.TheVariants.{Digits}
+use Rattle.p21_tokens_automaton.specs.declared.mode.TextMode.TheVariants.{Inside, Apostrophe}
+use Rattle.p21_tokens_automaton.specs.declared.mode.Single.{Single}
+use Rattle.p21_tokens_automaton.specs.declared.mode.Action.TheVariants.{Pass, Give, Keep, Dash, End}
+use Rattle.p21_tokens_automaton.specs.declared.mode.WordMode.TheVariants.{Keyword}
+use Rattle.p21_tokens.specs.Prefix.{ReachesWaitingToken, ReachesToken, single, leads, ArePlain, TakesLeadingToken}
+use Rattle.p21_tokens.specs.Held.{Held, pending_of, state_of}
+use Rattle.p21_tokens.specs.Steps.{AreBlank, TakesRun, GivesToken, HandsOverToken, Steps, Scans, handed}
+use Rattle.p21_tokens.specs.declared.step.Outcome.TheVariants.{Gave}
+use Rattle.p21_tokens.specs.Token.{meant, waits}
+use Rattle.p21_tokens.specs.declared.token.Token.{Token}
+use Rattle.p21_tokens.proofs.Scanning.{Along, behind-those, byte-behind, run-join, along-gave}
+use Rattle.p21_tokens.proofs.Stepping.{ended_token-waits, single-at_once, waits-count}
+use Rattle.p21_tokens_automaton.proofs.Theorems.{same-open}
+
+-- separators alone lead nowhere
+blank-reads : (bytes : List ℕ) → AreBlank bytes → lex start bytes ≡ lex start []
+blank-reads [] k = refl
+blank-reads (b ∷ bytes) k = lex-pass start Between b bytes (passes b k.0) ∙ blank-reads bytes k.1
+  where
+    passes : (b : ℕ) → is_blank b ≡ true → advance Between b ≡ Pass Between
+    passes b e = rw e refl
+
+no-blanks : (bytes : List ℕ) (state : State) (found : FoundToken) → ((rest : List ℕ) → lex start (bytes ++ rest) ≡ lex state rest) → ended_token state ≡ Some found → AreBlank bytes → ⊥
+no-blanks bytes state found reaches e k =
+    let reads : lex start bytes ≡ lex state [] = ap (λ (x : List ℕ). lex start x) (sym (append-nil bytes)) ∙ reaches [] in
+    let same : start ≡ state = same-open start state (sym (lex-nil start) ∙ (sym (blank-reads bytes k) ∙ (reads ∙ lex-nil state))) in
+    let none : ended_token start ≡ Some found = ap ended_token same ∙ e in
+    cc
+
+-- what is held inside such a token
+abbrev within_token : Held → State → ℕ → Held
+within_token v s count = record v { mode = s.mode; pending_bytes = s.pending_bytes; characters = s.characters; size = s.size; file = v.file + count }
+
+-- what is held behind a token
+abbrev behind : Held → meaning.Token → ℕ → Held
+behind v token count = record v { statement = count_behind v.statement (record { token = token; size = count }); file = v.file + count }
+
+module _ (v : Held) (bytes : List ℕ) (count : ℕ) (token : meaning.Token) (is_start : state_of v ≡ start) (f : ReachesWaitingToken bytes count token) where
+  within : count ≤ length bytes
+  within = let l = slice_get_within bytes count f.byte f.behind in omega arith
+
+  front-run : TakesRun v (take count bytes) (within_token v f.state count)
+  front-run = record {
+    file_is = ap (λ (k : ℕ). v.file + k) (sym (length-take-le count bytes within));
+    statement_is = refl;
+    rest_is = λ rest. ap (λ (s : State). lex s (take count bytes ++ rest)) is_start ∙ f.reaches rest;
+    gap = λ g k. absurd (no-blanks (take count bytes) f.state f.found f.reaches f.ended_is k);
+  }
+
+  waited : waits token ≡ true
+  waited = ended_token-waits f.state.mode f.state.pending_bytes f.state.characters f.found f.ended_is token f.means
+
+  front-hands : pending_of v + count ≤ v.statement_limit → HandsOverToken (within_token v f.state count) f.byte token (behind v token count)
+  front-hands l = record {
+    found = f.found;
+    means = f.means;
+    waited = waited;
+    ended_is = f.ended_is;
+    within = let e = f.size_is in omega arith;
+    file_is = refl;
+    statement_is = waits-count token count v.statement waited ∙ let e = f.size_is in omega arith;
+    start_is = is_start;
+    rest_is = λ rest. lex-end f.state f.found f.byte rest f.ends f.ended_is ∙ ap (λ (s : State). before (record { found = f.found; size = f.state.size }) (lex s (f.byte ∷ rest))) (sym is_start);
+  }
+
+-- a byte that is a token
+single-gives : (v : Held) (byte : ℕ) (one : Single) (token : meaning.Token) → state_of v ≡ start → advance Between byte ≡ Give one → token ≡ single_token one → pending_of v + 1 ≤ v.statement_limit → GivesToken v byte token (behind v token 1)
+single-gives v byte one token is_start g e l = record {
+  found = record { found = known (single_token one); size = 1 };
+  means = sym e;
+  at_once = ap waits e ∙ single-at_once one;
+  within = omega arith;
+  file_is = refl;
+  statement_is = refl;
+  start_is = is_start;
+  rest_is = λ rest.
+      ap (λ (x : State). lex x (byte ∷ rest)) is_start
+      ∙ (lex-give start one byte rest g ∙ ap (λ (x : State). before (record { found = known (single_token one); size = 1 }) (lex x rest)) (sym is_start));
+}
+
+module _ (v w u : Held) (piece : List ℕ) (n : ℕ) (a : Along v w piece n) where
+  -- the byte of the piece that is the first of what is left of it
+  first-byte : (byte : ℕ) (rest : List ℕ) → drop n piece ≡ byte ∷ rest → (n < length piece) × (byte ≡ get_or piece n 0)
+  first-byte byte rest e =
+      let l = ap (λ (x : List ℕ). length x) e in
+      let m = length-drop n piece in
+      let same : n + 0 ≡ n = omega arith in
+      (omega arith, sym (ap (λ (x : List ℕ). get_or x 0 0) e) ∙ (get_or-drop n piece 0 0 ∙ ap (λ (k : ℕ). get_or piece k 0) same))
+
+  -- a token at the front of what is left of a piece
+  pub along-front : (count : ℕ) (t : Token) → TakesLeadingToken w (slice_range piece n (length piece)) (Some (count, t)) u → Scans v piece (Ok (n + count, Some t)) u
+  along-front count t h = at (subst (λ (x : List ℕ). ReachesToken x count (meant t)) (behind-those piece n a.within) h.1)
+    where
+      at : ReachesToken (drop n piece) count (meant t) → Scans v piece (Ok (n + count, Some t)) u
+      at (leads f) =
+          let middle = within_token w f.state count in
+          let room : n + count ≤ length piece = let short = slice_get_within (drop n piece) count f.byte f.behind in let l = length-drop n piece in let k = a.within in omega arith in
+          subst (λ (x : Held). Scans v piece (Ok (n + count, Some t)) x) (sym h.3) (
+            record { statement_limit = a.same.statement_limit; file_limit = a.same.file_limit; refused = a.same.refused },
+            (
+              room,
+              handed middle f.byte (record { statement_limit = a.same.statement_limit; file_limit = a.same.file_limit; refused = a.same.refused })
+                  (subst (λ (x : List ℕ). TakesRun v x middle) (sym (take-add n count piece)) (run-join v w middle (take n piece) (take count (drop n piece)) a.run (front-run w (drop n piece) count (meant t) h.0 f)))
+                  (front-hands w (drop n piece) count (meant t) h.0 f h.2)
+                  (byte-behind piece n count f.byte f.behind),
+            ),
+          )
+      at (single byte rest which e one g s) =
+          let first = first-byte byte rest e in
+          let held : u ≡ behind w (meant t) 1 = h.3 ∙ ap (λ (k : ℕ). behind w (meant t) k) one in
+          let gives : Steps w byte (Ok (Gave t)) (behind w (meant t) 1) = (record { statement_limit = refl; file_limit = refl; refused = refl }, single-gives w byte which (meant t) h.0 g s (subst (λ (k : ℕ). pending_of w + k ≤ w.statement_limit) one h.2)) in
+          subst (λ (k : ℕ). Scans v piece (Ok (n + k, Some t)) u) (sym one) (along-gave v w u piece n byte first.0 first.1 a t (subst (λ (x : Held). Steps w byte (Ok (Gave t)) x) (sym held) gives))
+
+-- where there is none, nothing changes
+pub along-no_front : (v w u : Held) (piece : List ℕ) (n : ℕ) → Along v w piece n → u ≡ w → Along v u piece n
+along-no_front v w u piece n a e = subst (λ (x : Held). Along v x piece n) (sym e) a
+
+-- ---- keywords
+
+pending_bytes-byte : (b : ℕ) → advance (Word Keyword) b ≡ Keep (Word Keyword) → IsKeywordByte b
+pending_bytes-byte b e = at (is_keyword_byte b) refl
+  where
+    at : (t : Bool) → is_keyword_byte b ≡ t → IsKeywordByte b
+    at true k = (keyword_byte-decides b).0 k
+    at false k = absurd (other (b == 45) (rw k at e))
+      where
+        other : (take_dash : Bool) → (if take_dash then Dash else End) ≡ Keep (Word Keyword) → ⊥
+        other true f = cc
+        other false f = cc
+
+keyword_bytes-are : (bytes : List ℕ) (count : ℕ) → EachHasAction (Word Keyword) bytes count (λ byte. Keep (Word Keyword)) → Each IsKeywordByte (take count bytes)
+keyword_bytes-are bytes zero h = tt
+keyword_bytes-are [] (suc count) h = tt
+keyword_bytes-are (b ∷ bytes) (suc count) h = (pending_bytes-byte b (h.each 0 (omega arith)), keyword_bytes-are bytes count (record { within = let w = h.within in omega arith; each = λ k l. h.each (suc k) (omega arith) }))
+
+pub keyword-is : (bytes : List ℕ) (count : ℕ) → IsUpper (get_or bytes 0 0) → EachHasAction (Word Keyword) bytes count (λ byte. Keep (Word Keyword)) → (count < length bytes → is_keyword_byte (get_or bytes count 0) ≡ false) → IsKeyword (take count bytes)
+keyword-is [] count u h ends = absurd (omega (arith, u))
+keyword-is (b ∷ bytes) zero u h ends = absurd (let n = ends (omega arith) in let y = (keyword_byte-decides b).1 (inl u) in cc)
+keyword-is (b ∷ bytes) (suc count) u h ends = (u, (keyword_bytes-are (b ∷ bytes) (suc count) h).1)
+
+-- ---- which tokens stand there
+
+module _ (bytes : List ℕ) (count byte : ℕ) (found : (count < length bytes) × ((d : ℕ) → byte ≡ get_or bytes count d)) where
+  waits-leads : (t : meaning.Token) → Spells t (take count bytes) → Waits t (take count bytes) → MayFollow t (take count bytes) byte → ReachesWaitingToken bytes count t
+  waits-leads t s w m =
+      let l = found.0 in
+      record {
+        byte = byte;
+        behind = slice_get-get_or bytes count 0 found.0 ∙ ap (λ (b : ℕ). Some b) (sym (found.1 0));
+        state = w.state;
+        reaches = w.reaches;
+        size_is = w.size_is ∙ length-take-le count bytes (omega arith);
+        found = found_of t (take count bytes);
+        ended_is = w.ended_is;
+        means = spells-means t (take count bytes) s;
+        ends = w.ends byte m;
+      }
+
+  pub leads_whole : (z : ℤ) → SpellsWhole (take count bytes) z → ¬ IsDigit byte → byte ≢ 46 → ReachesWaitingToken bytes count (meaning.whole z)
+  leads_whole z s d p = waits-leads (meaning.whole z) s (waits-whole z (take count bytes) s) (d, p)
+
+  pub leads_real : (z : number.Decimal) → SpellsReal (take count bytes) z → ¬ IsDigit byte → byte ≢ 69 → ReachesWaitingToken bytes count (meaning.real z)
+  leads_real z s d e = waits-leads (meaning.real z) s (waits-real z (take count bytes) s) (d, λ _. e)
+
+  pub leads_keyword : IsUpper (get_or bytes 0 0) → EachHasAction (Word Keyword) bytes count (λ b. Keep (Word Keyword)) → (count < length bytes → is_keyword_byte (get_or bytes count 0) ≡ false) → byte ≢ 45 → ReachesWaitingToken bytes count (meaning.keyword (take count bytes))
+  leads_keyword u h ends d = waits-leads (meaning.keyword (take count bytes)) spells (waits-keyword (take count bytes) (take count bytes) spells) (other, d)
+    where
+      spells : Spells (meaning.keyword (take count bytes)) (take count bytes)
+      spells = (refl, keyword-is bytes count u h ends)
+
+      other : ¬ IsKeywordByte byte
+      other k = let y = (keyword_byte-decides byte).1 k in let n = ends found.0 in let same = found.1 0 in cc
+
+-- ---- instance names
+
+abbrev hash : State
+hash = record { mode = Name name_mode.Hash; pending_bytes = []; characters = []; size = 1 }
+
+-- behind `#` a digit does what it does behind zero
+hash-is_zero : (b : ℕ) (bytes : List ℕ) → is_digit b ≡ true → lex hash (b ∷ bytes) ≡ lex (record hash { mode = Name (Digits 0) }) (b ∷ bytes)
+hash-is_zero b bytes d =
+    let small : 0 * 10 + (b - 48) < 2 ^ 64 = digit-small b d in
+    lex-skip hash (Name (Digits (0 * 10 + (b - 48)))) b bytes (rw (d, lt-ltb (0 * 10 + (b - 48)) (2 ^ 64) small) refl)
+    ∙ sym (lex-skip (record hash { mode = Name (Digits 0) }) (Name (Digits (0 * 10 + (b - 48)))) b bytes (rw (d, lt-ltb (0 * 10 + (b - 48)) (2 ^ 64) small) refl))
+  where
+    digit-small : (b : ℕ) → is_digit b ≡ true → 0 * 10 + (b - 48) < 2 ^ 64
+    digit-small b d = grind (arith, nat_tests)
+
+name-reaches : (digits rest : List ℕ) (count value : ℕ) → 0 < count → AreNameDigits (Name (Digits 0)) digits count value → lex start (35 ∷ (take count digits ++ rest)) ≡ lex (record hash { mode = Name (Digits value); size = 1 + count }) rest
+name-reaches digits rest zero value z h = absurd (omega arith)
+name-reaches [] rest (suc count) value z h = absurd (let w = h.within in omega arith)
+name-reaches (b ∷ digits) rest (suc count) value z h =
+    lex-skip start (Name name_mode.Hash) 35 (take (suc count) (b ∷ digits) ++ rest) refl
+    ∙ (hash-is_zero b (take count digits ++ rest) (h.digits 0 (omega arith)) ∙ run-names (record hash { mode = Name (Digits 0) }) (b ∷ digits) rest (suc count) value h)
+
+pub leads_name : (digits bytes : List ℕ) (count value byte : ℕ) → bytes ≡ 35 ∷ digits → 0 < count → AreNameDigits (Name (Digits 0)) digits count value → (count < length digits) × ((d : ℕ) → byte ≡ get_or digits count d) → ¬ IsDigit byte → ReachesWaitingToken bytes (count + 1) (meaning.name value)
+leads_name digits bytes count value byte e z h found n =
+    let more : suc count ≡ count + 1 = omega arith in
+    let fronts : ReachesWaitingToken (35 ∷ digits) (suc count) (meaning.name value) = record {
+      byte = byte;
+      behind = slice_get-get_or digits count 0 found.0 ∙ ap (λ (b : ℕ). Some b) (sym (found.1 0));
+      state = record hash { mode = Name (Digits value); size = 1 + count };
+      reaches = λ rest. name-reaches digits rest count value z h;
+      size_is = omega arith;
+      found = known (meaning.name value);
+      ended_is = refl;
+      means = refl;
+      ends = rw (false_from_not _ (digit-decides byte) n) refl;
+    } in
+    subst (λ (x : List ℕ). ReachesWaitingToken x (count + 1) (meaning.name value)) (sym e) (subst (λ (k : ℕ). ReachesWaitingToken (35 ∷ digits) k (meaning.name value)) more fronts)
+
+-- ---- strings of plain characters
+
+pub leads_text : (inside bytes value : List ℕ) (count end byte : ℕ) → bytes ≡ 39 ∷ inside → value ≡ take count inside → ArePlain inside count → end ≡ 39
+    → (count < length inside) × ((d : ℕ) → end ≡ get_or inside count d) → (count + 1 < length inside) × ((d : ℕ) → byte ≡ get_or inside (count + 1) d) → byte ≢ 39 → ReachesWaitingToken bytes (count + 2) (meaning.text value)
+leads_text inside bytes value count end byte e v h is ending found n =
+    let more : suc (count + 1) ≡ count + 2 = omega arith in
+    let fronts : ReachesWaitingToken (39 ∷ inside) (suc (count + 1)) (meaning.text (take count inside)) = record {
+      byte = byte;
+      behind = slice_get-get_or inside (count + 1) 0 found.0 ∙ ap (λ (b : ℕ). Some b) (sym (found.1 0));
+      state = behind_text;
+      reaches = λ rest. reads rest;
+      size_is = omega arith;
+      found = known (meaning.text (take count inside));
+      ended_is = refl;
+      means = refl;
+      ends = rw (ne_eqb byte 39 n) refl;
+    } in
+    subst (λ (x : List ℕ). ReachesWaitingToken x (count + 2) (meaning.text value)) (sym e)
+    (subst (λ (x : List ℕ). ReachesWaitingToken (39 ∷ inside) (count + 2) (meaning.text x)) (sym v) (subst (λ (k : ℕ). ReachesWaitingToken (39 ∷ inside) k (meaning.text (take count inside))) more fronts))
+  where
+    open_text : State
+    open_text = record { mode = Text Inside; pending_bytes = []; characters = []; size = 1 }
+
+    behind_text : State
+    behind_text = record { mode = Text Apostrophe; pending_bytes = []; characters = take count inside; size = 1 + count + 1 }
+
+    whole : take (count + 1) inside ≡ take count inside ++ 39 ∷ []
+    whole = take_more inside count 0 ending.0 ∙ ap (λ (c : ℕ). take count inside ++ c ∷ []) (sym (ending.1 0) ∙ is)
+
+    reads : (rest : List ℕ) → lex start (39 ∷ (take (count + 1) inside ++ rest)) ≡ lex behind_text rest
+    reads rest =
+        lex-skip start (Text Inside) 39 (take (count + 1) inside ++ rest) refl
+        ∙ (ap (λ (x : List ℕ). lex open_text x) (ap (λ (x : List ℕ). x ++ rest) whole ∙ append_assoc (take count inside) (39 ∷ []) rest)
+        ∙ (run-puts open_text inside (39 ∷ rest) count h
+        ∙ lex-skip (record open_text { characters = take count inside; size = 1 + count }) (Text Apostrophe) 39 rest refl))

@@ -1,6 +1,0 @@
-use Rattle.std.proofs.Common.{refl}
-use Rattle.p21_tokens.specs.Front.{single}
-use Rattle.p21_tokens.proofs.front.front_token.Goals as goal
-
-pub returns-in-Some : goal.returns-in-Some
-returns-in-Some c = single c.in_ok-first.first.now c.in_ok-first._rest.now c.in-Some.single c.in_ok-first.ensures.cases.0 refl (c.in-Some.ensures {u = tt}) c.single_token.ensures

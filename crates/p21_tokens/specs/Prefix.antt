@@ -1,0 +1,42 @@
+-- A token that stands whole at the front of bytes.
+use Rattle.std.specs.Prelude.{◌≡◌, ℕ, ◌+◌, ◌≤◌, List, ◌∷◌, ◌++◌, take, slice_get, Option, Some, None}
+use Rattle.p21_exchange.specs.Laying.{count_behind}
+use Rattle.p21_exchange.specs.Token as meaning
+use Rattle.p21_tokens_automaton.specs.Meaning.{Means}
+use Rattle.p21_tokens_automaton.specs.Reading.{State, start, FoundToken, ended_token, single_token, lex}
+use Rattle.p21_tokens_automaton.specs.Run.{EachHasAction}
+use Rattle.p21_tokens_automaton.specs.Step.{advance}
+use Rattle.p21_tokens_automaton.specs.declared.mode.Mode.TheVariants.{Between, Text}
+use Rattle.p21_tokens_automaton.specs.declared.mode.Single.{Single}
+use Rattle.p21_tokens_automaton.specs.declared.mode.TextMode.TheVariants.{Inside}
+use Rattle.p21_tokens_automaton.specs.declared.mode.Action.TheVariants.{End, Give, Put}
+use Rattle.p21_tokens.specs.Held.{Held, pending_of, state_of}
+use Rattle.p21_tokens.specs.Token.{meant}
+use Rattle.p21_tokens.specs.declared.token.Token.{Token}
+
+-- so many bytes lead to a state that the byte behind them ends, with this token
+pub record ReachesWaitingToken (bytes : List ℕ) (count : ℕ) (token : meaning.Token) : Type 0 where
+  pub byte : ℕ
+  pub behind : slice_get bytes count ≡ Some byte
+  pub state : State
+  pub reaches : (rest : List ℕ) → lex start (take count bytes ++ rest) ≡ lex state rest
+  pub size_is : state.size ≡ count
+  pub found : FoundToken
+  pub ended_is : ended_token state ≡ Some found
+  pub means : Means found token
+  pub ends : advance state.mode byte ≡ End
+
+-- the first byte is a token, or so many lead to one
+pub data ReachesToken (bytes : List ℕ) (count : ℕ) (token : meaning.Token) : Type 0 where
+  single : (byte : ℕ) (rest : List ℕ) (one : Single) → bytes ≡ byte ∷ rest → count ≡ 1 → advance Between byte ≡ Give one → token ≡ single_token one → ReachesToken bytes count token
+  leads : ReachesWaitingToken bytes count token → ReachesToken bytes count token
+
+-- so many bytes at the front, each of which is a character of a string
+abbrev pub ArePlain : List ℕ → ℕ → Type 0
+ArePlain bytes count = EachHasAction (Text Inside) bytes count (λ byte. Put (Text Inside) byte)
+
+-- such a token is taken where nothing is open and the limits allow it, or nothing is
+abbrev pub TakesLeadingToken : Held → List ℕ → Option (ℕ × Token) → Held → Type 0
+TakesLeadingToken old bytes None new = new ≡ old
+TakesLeadingToken old bytes (Some front) new =
+    (state_of old ≡ start) × ReachesToken bytes front.0 (meant front.1) × (pending_of old + front.0 ≤ old.statement_limit) × (new ≡ record old { statement = count_behind old.statement (record { token = meant front.1; size = front.0 }); file = old.file + front.0 })

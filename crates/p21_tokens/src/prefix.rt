@@ -1,0 +1,144 @@
+//! Tokens that stand whole at the front of bytes, read without a state.
+ghost use Rattle.std.specs.Prelude.{◌≡◌, ◌≤◌, IfSome, get_or};
+ghost use Rattle.p21_exchange.specs.Keyword.{IsUpper};
+ghost use Rattle.p21_tokens_automaton.specs.Step.{advance};
+ghost use Rattle.p21_tokens_automaton.specs.declared.mode.Mode.TheVariants.{Between};
+ghost use Rattle.p21_tokens_automaton.specs.declared.mode.Action.TheVariants.{Give};
+ghost use Rattle.p21_tokens.specs.Prefix.{ArePlain, ReachesToken, ReachesWaitingToken};
+ghost use Rattle.p21_tokens.specs.Token.{meant};
+
+use crate::read_token::{behind, single_token};
+use crate::token::Token;
+use p21_tokens_automaton::{Single, keyword_bytes, name_digits, plain_characters};
+use p21_values::{Name, Number, Text, Word, read_number};
+use std::alloc::Global;
+
+/// The token at the front of bytes, and how many bytes it has, where that is easily seen: one of one byte, or a keyword,
+/// a number, an instance name or a string of plain characters with the byte behind it.
+pub(crate) fn leading_token(alloc: Global, bytes: &[u8]) -> Option<(usize, Token)>
+    ensures { IfSome result (λ front. ReachesToken bytes.now front.0 (meant front.1)) }
+{
+    let (first, _rest) = bytes.split_first()?;
+    if let Some(single) = single(*first) {
+        return Some((1, single_token(single)));
+    }
+    waiting_token(alloc, *first, bytes)
+}
+
+/// The token that one byte is.
+fn single(byte: u8) -> Option<Single>
+    ensures { IfSome result (λ single. advance Between byte ≡ Give single) }
+{
+    match byte {
+        b'(' => Some(Single::Left),
+        b')' => Some(Single::Right),
+        b',' => Some(Single::Comma),
+        b';' => Some(Single::Semicolon),
+        b'=' => Some(Single::Equals),
+        b'$' => Some(Single::Dollar),
+        b'*' => Some(Single::Star),
+        _ => None,
+    }
+}
+
+fn waiting_token(alloc: Global, first: u8, bytes: &[u8]) -> Option<(usize, Token)>
+    requires { get_or bytes.now 0 0 ≡ first }
+    ensures { IfSome result (λ front. ReachesWaitingToken bytes.now front.0 (meant front.1)) }
+{
+    match first {
+        b'#' => leading_name(bytes),
+        b'\'' => leading_text(alloc, bytes),
+        b'0'..=b'9' | b'+' | b'-' => leading_number(alloc, bytes),
+        b'A'..=b'Z' | b'_' => leading_keyword(alloc, bytes),
+        _ => None,
+    }
+}
+
+/// The byte behind it is none that a number goes on with.
+fn leading_number(alloc: Global, bytes: &[u8]) -> Option<(usize, Token)>
+    ensures { IfSome result (λ front. ReachesWaitingToken bytes.now front.0 (meant front.1)) }
+{
+    let (count, number) = read_number(alloc, bytes)?;
+    let next = *bytes.get(count)?;
+    if next.is_ascii_digit() {
+        return None;
+    }
+    match number {
+        Number::Whole(number) => {
+            if next == b'.' {
+                return None;
+            }
+            Some((count, Token::Whole(number)))
+        }
+        Number::Real(number) => {
+            if next == b'E' {
+                return None;
+            }
+            Some((count, Token::Real(number)))
+        }
+    }
+}
+
+fn leading_keyword(alloc: Global, bytes: &[u8]) -> Option<(usize, Token)>
+    requires { IsUpper (get_or bytes.now 0 0) }
+    ensures { IfSome result (λ front. ReachesWaitingToken bytes.now front.0 (meant front.1)) }
+{
+    let count = keyword_bytes(bytes);
+    let byte = *bytes.get(count)?;
+    if byte == b'-' {
+        return None;
+    }
+    match Word::of_prefix(alloc, bytes, count) {
+        Ok(word) => Some((count, Token::Keyword(word))),
+        Err(_no_memory) => None,
+    }
+}
+
+fn leading_name(bytes: &[u8]) -> Option<(usize, Token)>
+    ensures { IfSome result (λ front. ReachesWaitingToken bytes.now front.0 (meant front.1)) }
+{
+    let digits = behind(b'#', bytes)?;
+    let (count, value) = name_digits(0, digits);
+    let byte = *digits.get(count)?;
+    if count == 0 || byte.is_ascii_digit() {
+        return None;
+    }
+    Some((count + 1, Token::Name(Name(value))))
+}
+
+fn leading_text(alloc: Global, bytes: &[u8]) -> Option<(usize, Token)>
+    ensures { IfSome result (λ front. ReachesWaitingToken bytes.now front.0 (meant front.1)) }
+{
+    let inside = behind(b'\'', bytes)?;
+    let count = plain_count(inside);
+    let end = *inside.get(count)?;
+    let byte = *inside.get(count + 1)?;
+    if end != b'\'' || byte == b'\'' {
+        return None;
+    }
+    let text = plain_text(alloc, &inside[..count])?;
+    Some((count + 2, Token::Text(text)))
+}
+
+/// How many bytes of a string are characters of one byte each. There is often none.
+fn plain_count(inside: &[u8]) -> usize
+    ensures { ArePlain inside.now result }
+{
+    match inside.first() {
+        Some(b'\'') => 0,
+        _ => plain_characters(inside),
+    }
+}
+
+fn plain_text(alloc: Global, characters: &[u8]) -> Option<Text>
+    ensures { IfSome result (λ text. text ≡ characters.now) }
+{
+    let mut text = Text::new(alloc);
+    if characters.is_empty() {
+        return Some(text);
+    }
+    match text.push_latin1(characters) {
+        Ok(()) => Some(text),
+        Err(_no_memory) => None,
+    }
+}

@@ -1,0 +1,207 @@
+ghost use Rattle.std.specs.Prelude.{◌≡◌, [], OnErr, Some};
+ghost use Rattle.p21_tokens_automaton.specs.Reading.{closed_token, ended_token_in, ended_number, ended_word, single_token, marker_of};
+ghost use Rattle.p21_tokens.specs.Steps.{ReadsFound, ReadsEnd};
+ghost use Rattle.p21_tokens.specs.Token.{meant};
+
+use crate::fault::{TokenFault, value_fault};
+use crate::token::Token;
+use p21_tokens_automaton::{Marker, Mode, NameMode, NumberMode, Single, TextMode, WordMode};
+use p21_values::{Bits, Decimal, Name, Text, Whole, Word};
+use std::alloc::Global;
+use std::mem;
+
+/// The token that a byte behind it ends. A string's characters move into it.
+pub(crate) fn read_ended_token(
+    alloc: Global,
+    mode: Mode,
+    pending_bytes: &[u8],
+    text: &mut Text,
+) -> Result<Token, TokenFault>
+    ensures found { ReadsFound (ended_token_in mode pending_bytes.now text.old) result }
+    ensures left { OnErr result (text.new ≡ text.old) }
+{
+    match mode {
+        Mode::Number(mode) => read_number(alloc, mode, pending_bytes),
+        Mode::Word(mode) => read_word(alloc, mode, pending_bytes),
+        Mode::Name(NameMode::Digits(value)) => Ok(Token::Name(Name(value))),
+        Mode::Text(TextMode::Apostrophe) => Ok(Token::Text(mem::replace(text, Text::new(alloc)))),
+        _ => Err(TokenFault::BadByte),
+    }
+}
+
+/// The token that the end of the bytes leaves, or none between tokens.
+pub(crate) fn read_last_token(
+    alloc: Global,
+    mode: Mode,
+    pending_bytes: &[u8],
+    text: &mut Text,
+) -> Result<Option<Token>, TokenFault>
+    ensures { ReadsEnd mode pending_bytes.now text.old result }
+{
+    match mode {
+        Mode::Between => Ok(None),
+        Mode::Slash => Err(TokenFault::EndsEarly),
+        Mode::Comment => Err(TokenFault::OpenComment),
+        Mode::Star => Err(TokenFault::OpenComment),
+        Mode::Text(mode) => match mode {
+            TextMode::Apostrophe => Ok(Some(Token::Text(mem::replace(text, Text::new(alloc))))),
+            _ => Err(TokenFault::OpenString),
+        },
+        _ => match read_ended_token(alloc, mode, pending_bytes, text) {
+            Ok(token) => Ok(Some(token)),
+            Err(TokenFault::BadByte) => Err(TokenFault::EndsEarly),
+            Err(fault) => Err(fault),
+        },
+    }
+}
+
+/// The number of pending bytes.
+fn read_number(alloc: Global, mode: NumberMode, pending_bytes: &[u8]) -> Result<Token, TokenFault>
+    ensures { ReadsFound (ended_number mode pending_bytes.now) result }
+{
+    match mode {
+        NumberMode::Whole => read_whole(alloc, pending_bytes),
+        NumberMode::Fraction => read_real(alloc, pending_bytes),
+        NumberMode::ExponentDigits => read_real(alloc, pending_bytes),
+        _ => Err(TokenFault::BadByte),
+    }
+}
+
+fn read_whole(alloc: Global, pending_bytes: &[u8]) -> Result<Token, TokenFault>
+    ensures { ReadsFound (Some (spelled whole pending_bytes.now)) result }
+{
+    match Whole::read(alloc, pending_bytes) {
+        Ok(number) => Ok(Token::Whole(number)),
+        Err(fault) => Err(value_fault(fault)),
+    }
+}
+
+fn read_real(alloc: Global, pending_bytes: &[u8]) -> Result<Token, TokenFault>
+    ensures { ReadsFound (Some (spelled real pending_bytes.now)) result }
+{
+    match Decimal::read(alloc, pending_bytes) {
+        Ok(number) => Ok(Token::Real(number)),
+        Err(fault) => Err(value_fault(fault)),
+    }
+}
+
+/// The keyword of pending bytes, or the first or last token of a file.
+pub(crate) fn read_word(
+    alloc: Global,
+    mode: WordMode,
+    pending_bytes: &[u8],
+) -> Result<Token, TokenFault>
+    ensures { ReadsFound (ended_word mode pending_bytes.now) result }
+{
+    match mode {
+        WordMode::Keyword => match Word::read(alloc, pending_bytes) {
+            Ok(word) => Ok(Token::Keyword(word)),
+            Err(fault) => Err(value_fault(fault)),
+        },
+        WordMode::UserKeyword => read_user_keyword(alloc, pending_bytes),
+        WordMode::Marked(Marker::Begin) => Ok(Token::Begin),
+        WordMode::Marked(Marker::Finish) => Ok(Token::Finish),
+        _ => Err(TokenFault::BadByte),
+    }
+}
+
+/// A keyword behind its `!`.
+fn read_user_keyword(alloc: Global, pending_bytes: &[u8]) -> Result<Token, TokenFault>
+    ensures { ReadsFound (Some (spelled user_keyword pending_bytes.now)) result }
+{
+    let Some(word) = behind(b'!', pending_bytes) else {
+        return Err(TokenFault::BadByte);
+    };
+    match Word::read(alloc, word) {
+        Ok(word) => Ok(Token::UserKeyword(word)),
+        Err(fault) => Err(value_fault(fault)),
+    }
+}
+
+/// What stands behind a first byte, if it is this one.
+pub(crate) fn behind(first: u8, bytes: &[u8]) -> Option<&[u8]>
+    ensures none { IfNone result ((rest : List ℕ) → bytes.now ≡ first ∷ rest → ⊥) }
+    ensures some { IfSome result (λ rest. bytes.now ≡ first ∷ rest.now) }
+{
+    let (byte, rest) = bytes.split_first()?;
+    if *byte == first { Some(rest) } else { None }
+}
+
+/// What stands before a last byte, if it is this one.
+fn before(last: u8, bytes: &[u8]) -> Option<&[u8]>
+    ensures none { IfNone result ((rest : List ℕ) → bytes.now ≡ rest ++ last ∷ [] → ⊥) }
+    ensures some { IfSome result (λ rest. bytes.now ≡ rest.now ++ last ∷ []) }
+{
+    let (byte, rest) = bytes.split_last()?;
+    if *byte == last { Some(rest) } else { None }
+}
+
+ghost use Rattle.std.specs.Prelude.{ℕ, List, ◌∷◌, ◌++◌, IfNone, IfSome};
+ghost use Rattle.p21_tokens_automaton.specs.Reading.{spelled, whole, real, user_keyword, item, bits};
+
+/// The token of pending bytes whose last one ends it: an enumeration item or a binary.
+pub(crate) fn read_closed_token(
+    alloc: Global,
+    mode: Mode,
+    pending_bytes: &[u8],
+) -> Result<Token, TokenFault>
+    ensures { ReadsFound (closed_token mode pending_bytes.now) result }
+{
+    match mode {
+        Mode::Word(_mode) => read_item(alloc, pending_bytes),
+        Mode::Binary(_mode) => read_bits(alloc, pending_bytes),
+        _ => Err(TokenFault::BadByte),
+    }
+}
+
+/// An enumeration item between its points.
+fn read_item(alloc: Global, pending_bytes: &[u8]) -> Result<Token, TokenFault>
+    ensures { ReadsFound (Some (spelled item pending_bytes.now)) result }
+{
+    let Some(rest) = behind(b'.', pending_bytes) else {
+        return Err(TokenFault::BadByte);
+    };
+    let Some(word) = before(b'.', rest) else {
+        return Err(TokenFault::BadByte);
+    };
+    match Word::read(alloc, word) {
+        Ok(word) => Ok(Token::Item(word)),
+        Err(fault) => Err(value_fault(fault)),
+    }
+}
+
+fn read_bits(alloc: Global, pending_bytes: &[u8]) -> Result<Token, TokenFault>
+    ensures { ReadsFound (Some (spelled bits pending_bytes.now)) result }
+{
+    match Bits::read(alloc, pending_bytes) {
+        Ok(value) => Ok(Token::Bits(value)),
+        Err(fault) => Err(value_fault(fault)),
+    }
+}
+
+pub(crate) fn single_token(single: Single) -> Token
+    ensures { meant result ≡ single_token single }
+{
+    match single {
+        Single::Left => Token::Left,
+        Single::Right => Token::Right,
+        Single::Comma => Token::Comma,
+        Single::Semicolon => Token::Semicolon,
+        Single::Equals => Token::Equals,
+        Single::Dollar => Token::Dollar,
+        Single::Star => Token::Star,
+    }
+}
+
+/// The first or last token of a file that these bytes begin, where a `-` stands behind them.
+pub(crate) fn marker_of(pending_bytes: &[u8]) -> Option<Mode>
+    ensures { result ≡ marker_of pending_bytes.now }
+{
+    if pending_bytes == b"ISO".as_slice() {
+        Some(Mode::Word(WordMode::Marker(Marker::Begin, 4)))
+    } else if pending_bytes == b"END".as_slice() {
+        Some(Mode::Word(WordMode::Marker(Marker::Finish, 4)))
+    } else {
+        None
+    }
+}

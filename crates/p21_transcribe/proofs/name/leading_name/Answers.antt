@@ -1,0 +1,17 @@
+use Rattle.std.proofs.Common.{◌≢◌, ℕ, ◌+◌, ◌<◌, get_or, subst, sym, arith}
+use Rattle.p21_exchange.specs.Token.{name}
+use Rattle.p21_transcribe.proofs.NameTokens.{name-at_front}
+use Rattle.p21_transcribe.specs.LeadingToken.{IsCanonicalLeadingToken}
+use Rattle.p21_transcribe.proofs.name.leading_name.Goals as goal
+use Rattle.p21_transcribe.proofs.name.leading_name.Goals.{else-count-gt1-via-then-count-gt1+else-digits-eq48, else-count-gt1-via-else-count-gt1}
+
+pub returns : goal.returns
+returns c =
+    let digits = c.in_ok-digits.digits.now in
+    let count = c.digit_run-count.result in
+    let first : 1 < count → get_or digits 0 0 ≢ 48 = λ more. elim c.else-count-gt1.branch [
+      | else-count-gt1-via-then-count-gt1+else-digits-eq48 w ↦ w.if-digits-eq48.false
+      | else-count-gt1-via-else-count-gt1 w ↦ absurd (omega arith)
+    ] in
+    subst (λ (n : ℕ). IsCanonicalLeadingToken c.args.bytes.now (count + 1) (name n)) (sym c.number_of.ensures)
+    (name-at_front c.args.bytes.now digits count c.in_ok-digits.ensures.some c.digit_run-count.ensures (omega arith) (omega arith) first)

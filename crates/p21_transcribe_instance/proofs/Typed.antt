@@ -1,0 +1,110 @@
+-- Values that are taken with what stands around them.
+use Rattle.std.proofs.Common.{◌≡◌, ◌∙◌, ℕ, suc, ◌≤◌, List, [], ◌∷◌, ◌++◌, length, drop, codes, refl, ap, sym, subst, arith, append_assoc}
+use Rattle.std.proofs.lemmas.Option.{slice_get_within}
+use Rattle.p21_claim_values.proofs.CanonicalValue.{named-is}
+use Rattle.p21_claim_values.specs.Needs.{FitsWithNeeds, with_chosen_type}
+use Rattle.p21_exchange.specs.Parameter as parameter
+use Rattle.p21_exchange.specs.Parameter.{Param, key_of, param_tokens}
+use Rattle.p21_exchange.specs.Token as token
+use Rattle.p21_express_tables.specs.Base.{HasBase, IsBase}
+use Rattle.p21_express_tables.specs.declared.base.Base.{Base}
+use Rattle.p21_express_graph.specs.Resolved.{IsType}
+use Rattle.p21_files.specs.Reference as reference
+use Rattle.p21_files.specs.Value as meant
+use Rattle.p21_files.specs.Value.{Value}
+use Rattle.p21_files.specs.ValueText.{value_text}
+use Rattle.p21_mapping_values.specs.declared.need.Need.{Need}
+use Rattle.p21_schemas.specs.Schema as schema
+use Rattle.p21_schemas.specs.Schema.{Schema, TypeNamed, TypeUse, type_member}
+use Rattle.p21_schemas.specs.Select.{Offers}
+use Rattle.p21_transcribe.proofs.Parts.{goes-on}
+use Rattle.p21_transcribe.specs.Gaps.{PassesSeparators}
+use Rattle.p21_transcribe.specs.LeadingToken.{Transcribes}
+use Rattle.p21_transcribe_instance.proofs.Laid.{laid-enclosed, laid-join, laid-one, param-behind}
+use Rattle.p21_transcribe_instance.proofs.Values.{comes-fits}
+use Rattle.p21_transcribe_instance.specs.TakenValues.{IsBaseInSchema, KeepsNeeds, LaidBefore, PassesDelimiter, TakesEnclosed, TakesKeyword, TakesWithNeeds}
+use Rattle.p21_values.specs.Canonical.{Continues}
+
+-- ---- what a refusal leaves
+
+pub goes-further : (old middle new : List ℕ) → Continues old middle → Continues middle new → Continues old new
+goes-further old middle new first (tail, is) = goes-on old middle new tail first is
+
+pub keeps-further : (before between after : List Need) → KeepsNeeds before between → KeepsNeeds between after → KeepsNeeds before after
+keeps-further before between after (first, is) (more, same) = (first ++ more, same ∙ (ap (λ (ns : List Need). ns ++ more) is ∙ append_assoc before first more))
+
+-- ---- separators before a value, and parentheses around it
+
+pub behind-gap : (s : Schema) (F : Param → Value → List reference.Need → Type 0) (most : ℕ) (bytes middle rest old new : List ℕ) (before after : List Need) → PassesSeparators bytes middle → TakesWithNeeds s F most middle rest old new before after → TakesWithNeeds s F most bytes rest old new before after
+behind-gap s F most bytes middle rest old new before after passes h = record {
+  added = h.added;
+  needs_are = h.needs_are;
+  takes = record {
+    parameter = h.takes.parameter;
+    value = h.takes.value;
+    fits = h.takes.fits;
+    shallow = h.takes.shallow;
+    laid = param-behind bytes middle rest h.takes.parameter passes h.takes.laid;
+    text_is = h.takes.text_is;
+  };
+}
+
+pub enclosed-text : (old opened middle new text : List ℕ) → opened ≡ old ++ 40 ∷ [] → middle ≡ opened ++ text → new ≡ middle ++ 41 ∷ [] → new ≡ old ++ (codes "(" ++ (text ++ codes ")"))
+enclosed-text old opened middle new text opens is ends = rw (ends, is, opens) (simp append_assoc refl)
+
+pub enclosed-taken : (s : Schema) (base : Base) (most : ℕ) (bytes opened inside behind rest old marked middle new : List ℕ) (before after : List Need) → PassesDelimiter 40 bytes opened → marked ≡ old ++ 40 ∷ [] → PassesSeparators opened inside
+    → ((last : TypeUse) → IsBase s last base → TakesWithNeeds s (FitsWithNeeds s last) most inside behind marked middle before after) → PassesDelimiter 41 behind rest × (new ≡ middle ++ 41 ∷ []) → (type : TypeUse) → HasBase s type base → TakesEnclosed s (FitsWithNeeds s type) most bytes rest old new before after
+enclosed-taken s base most bytes opened inside behind rest old marked middle new before after opening opens passes takes closing type (last, comes, is) =
+    let h = behind-gap s (FitsWithNeeds s last) most opened inside behind marked middle before after passes (takes last is) in
+    record {
+      parameter = h.takes.parameter;
+      value = h.takes.value;
+      added = h.added;
+      needs_are = h.needs_are;
+      fits = comes-fits s type last h.takes.parameter h.takes.value _ comes h.takes.fits;
+      shallow = h.takes.shallow;
+      laid = laid-enclosed bytes opened behind rest (param_tokens h.takes.parameter) opening h.takes.laid closing.0;
+      text_is = enclosed-text old marked middle new (value_text s h.takes.value) opens h.takes.text_is closing.1;
+    }
+
+-- what a refusal behind the value leaves
+pub enclosed-refused : (s : Schema) (base : Base) (most : ℕ) (inside behind old marked middle : List ℕ) (before after : List Need) → IsBaseInSchema s base → marked ≡ old ++ 40 ∷ [] → ((last : TypeUse) → IsBase s last base → TakesWithNeeds s (FitsWithNeeds s last) most inside behind marked middle before after)
+    → Continues old middle × KeepsNeeds before after
+enclosed-refused s base most inside behind old marked middle before after (type, known, (last, comes, is)) opens takes =
+    let h = takes last is in
+    (goes-on old marked middle (value_text s h.takes.value) (40 ∷ [], opens) h.takes.text_is, (h.added, h.needs_are))
+
+-- ---- typed parameters
+
+pub type-named : (s : Schema) (t : ℕ) (name : List ℕ) → TypeNamed s t name → IsType s t
+type-named s t name (x, at, is) = slice_get_within s.types t x at
+
+pub keyword-taken : (s : Schema) (t u : ℕ) (word bytes rest old new : List ℕ) → rest ≡ drop (length word) bytes → Transcribes bytes (length word) (token.keyword word) old new → Offers s t (type_member u) → TypeNamed s u word → TakesKeyword s t u bytes rest old new
+keyword-taken s t u word bytes rest old new e h offers named = record {
+  word = word;
+  offers = offers;
+  named = named;
+  laid = subst (LaidBefore bytes (token.keyword word ∷ [])) (sym e) (laid-one bytes (length word) (token.keyword word) h.stands);
+  text_is = h.appended;
+}
+
+typed-as : (s : Schema) (t u less most : ℕ) (bytes behind rest old middle new : List ℕ) (before after : List Need) → suc less ≤ most → TakesKeyword s t u bytes behind old middle → TakesEnclosed s (FitsWithNeeds s (schema.defined u)) less behind rest middle new before after
+    → TakesWithNeeds s (FitsWithNeeds s (schema.defined t)) most bytes rest old new before after
+typed-as s t u less most bytes behind rest old middle new before after room key h = record {
+  added = h.added;
+  needs_are = h.needs_are;
+  takes = record {
+    parameter = parameter.typed (key_of key.word) h.parameter;
+    value = meant.typed u h.value;
+    fits = with_chosen_type t u key.word h.parameter h.value _ key.offers key.named h.fits;
+    shallow = let shallow = h.shallow in omega arith;
+    laid = laid-join bytes behind rest (token.keyword key.word ∷ []) (token.left ∷ (param_tokens h.parameter ++ (token.right ∷ []))) key.laid h.laid;
+    text_is =
+        let E = codes "(" ++ (value_text s h.value ++ codes ")") in
+        h.text_is ∙ (ap (λ (x : List ℕ). x ++ E) key.text_is ∙ (append_assoc old key.word E ∙ ap (λ (x : List ℕ). old ++ (x ++ E)) (sym (named-is s u key.word key.named))));
+  };
+}
+
+pub typed-taken : (s : Schema) (t u less most : ℕ) (base : Base) (bytes behind rest old middle new : List ℕ) (before after : List Need) → suc less ≤ most → TakesKeyword s t u bytes behind old middle → HasBase s (schema.defined u) base
+    → ((type : TypeUse) → HasBase s type base → TakesEnclosed s (FitsWithNeeds s type) less behind rest middle new before after) → TakesWithNeeds s (FitsWithNeeds s (schema.defined t)) most bytes rest old new before after
+typed-taken s t u less most base bytes behind rest old middle new before after room key has takes = typed-as s t u less most bytes behind rest old middle new before after room key (takes (schema.defined u) has)

@@ -1,0 +1,180 @@
+-- Values that are taken, by what may stand there.
+use Rattle.std.proofs.Common.{◌≡◌, ◌∙◌, ℕ, ◌≤◌, Bool, true, List, [], ◌∷◌, ◌++◌, drop, refl, sym, subst, arith, Option, Some, None, Contains, IfNone}
+use Rattle.std.proofs.lemmas.List.{append-nil}
+use denote.Ref.{Bor}
+use Rattle.p21_claim_values.specs.Needs.{FitsAtWithNeeds, FitsWithNeeds, with_chosen_instance, with_dollar, with_fit, with_instance, with_item, with_star, with_underlying}
+use Rattle.p21_exchange.specs.Parameter as parameter
+use Rattle.p21_exchange.specs.Nesting.{depth}
+use Rattle.p21_exchange.specs.Parameter.{Param, param_tokens}
+use Rattle.p21_exchange.specs.Token as token
+use Rattle.p21_express_graph.proofs.Resolving.{type-is}
+use Rattle.p21_express_graph.specs.DirectRenaming.{ComesTo, at_itself, through}
+use Rattle.p21_express_tables.specs.Base.{HasBase, IsBase}
+use Rattle.p21_express_tables.specs.declared.base.Base.{Base}
+use Rattle.p21_express_tables.specs.declared.base.Base.TheVariants.{Items, Select}
+use Rattle.p21_express_graph.specs.Resolved.{IsType, IsTypeUse}
+use Rattle.p21_express_types.specs.declared.kind.Member.{Member}
+use Rattle.p21_express_types.specs.declared.number.TypeId.{TypeId}
+use Rattle.p21_express_types.specs.declared.type_use.TypeUse as code
+use Rattle.p21_express_types.specs.declared.number.EntityId.{EntityId}
+use Rattle.p21_express_types.specs.Meaning.{member, type_use}
+use Rattle.p21_files.specs.Reference as reference
+use Rattle.p21_files.specs.Value as meant
+use Rattle.p21_files.specs.Value.{Value}
+use Rattle.p21_files.specs.ValueText.{value_text}
+use Rattle.p21_mapping_values.specs.declared.need.Need.{Need}
+use Rattle.p21_schemas.specs.PlaceType.{PlaceType, derived_place, stored_place}
+use Rattle.p21_schemas.specs.Schema as schema
+use Rattle.p21_schemas.specs.Schema.{Schema, TypeUse}
+use Rattle.p21_schemas.specs.Select.{IsSelect, Offers}
+use Rattle.p21_transcribe.specs.LeadingToken.{IsLeadingToken, Transcribes}
+use Rattle.p21_transcribe_instance.specs.Steps.{IsStepForSome, IsStepFor}
+use Rattle.p21_transcribe_instance.specs.declared.step.Step.{Step}
+use Rattle.p21_transcribe_instance.specs.declared.step.Step.TheVariants.{Derived, Stored}
+use Rattle.p21_transcribe_instance.proofs.Laid.{laid-mark, laid-one}
+use Rattle.p21_transcribe_instance.specs.TakenValues.{IsBaseInSchema, KeepsNeeds, LaidBefore, TakesReferencesTo, TakesScalar, TakesValue, TakesWithNeeds}
+
+-- a parameter of one token
+token-value : (s : Schema) (F : Param → Value → Type 0) (one : token.Token) (p : Param) (v : Value) (bytes rest : List ℕ) (count : ℕ) (old new : List ℕ) → IsLeadingToken bytes count one → rest ≡ drop count bytes → param_tokens p ≡ one ∷ [] → depth p ≡ 0 → F p v → new ≡ old ++ value_text s v
+    → TakesValue s F 0 bytes rest old new
+token-value s F one p v bytes rest count old new stands e tokens flat fits text = record {
+  parameter = p;
+  value = v;
+  fits = fits;
+  shallow = omega arith;
+  laid = subst (λ (ts : List token.Token). LaidBefore bytes ts rest) (sym tokens) (subst (LaidBefore bytes (one ∷ [])) (sym e) (laid-one bytes count one stands));
+  text_is = text;
+}
+
+pub scalar-value : (s : Schema) (type : TypeUse) (bytes rest : List ℕ) (count : ℕ) (old new : List ℕ) → rest ≡ drop count bytes → TakesScalar type bytes count old new → TakesValue s (λ p v. FitsWithNeeds s type p v []) 0 bytes rest old new
+scalar-value s type bytes rest count old new e h = token-value s (λ p v. FitsWithNeeds s type p v []) h.token h.parameter h.value bytes rest count old new h.stands e h.tokens_are h.flat (h.fits s) (h.text_is s)
+
+pub item-value : (s : Schema) (t : ℕ) (words : List (List ℕ)) (word : List ℕ) (bytes rest : List ℕ) (count : ℕ) (old new : List ℕ) → schema.kind_of s t ≡ Some (schema.items words) → rest ≡ drop count bytes → Contains words word → Transcribes bytes count (token.item word) old new
+    → TakesValue s (λ p v. FitsWithNeeds s (schema.defined t) p v []) 0 bytes rest old new
+item-value s t words word bytes rest count old new is e among h =
+    token-value s (λ p v. FitsWithNeeds s (schema.defined t) p v []) (token.item word) (parameter.item word) (meant.item word) bytes rest count old new h.stands e refl refl (with_item t words word is among) h.appended
+
+-- a value that needs nothing
+pub needs-nothing : (s : Schema) (F : Param → Value → List reference.Need → Type 0) (most : ℕ) (bytes rest old new : List ℕ) (needs : List Need) → TakesValue s (λ p v. F p v []) most bytes rest old new → TakesWithNeeds s F most bytes rest old new needs needs
+needs-nothing s F most bytes rest old new needs h = record { added = []; needs_are = sym (append-nil needs); takes = h }
+
+-- what fits one way fits another way
+pub fits-as : (s : Schema) (F G : Param → Value → List reference.Need → Type 0) (most more : ℕ) (bytes rest old new : List ℕ) (before after : List Need) → most ≤ more → ((p : Param) (v : Value) (needs : List reference.Need) → F p v needs → G p v needs)
+    → TakesWithNeeds s F most bytes rest old new before after → TakesWithNeeds s G more bytes rest old new before after
+fits-as s F G most more bytes rest old new before after wider follows h = record {
+  added = h.added;
+  needs_are = h.needs_are;
+  takes = record {
+    parameter = h.takes.parameter;
+    value = h.takes.value;
+    fits = follows h.takes.parameter h.takes.value _ h.takes.fits;
+    shallow = let shallow = h.takes.shallow in omega arith;
+    laid = h.takes.laid;
+    text_is = h.takes.text_is;
+  };
+}
+
+-- ---- references
+
+pub name-taken : (s : Schema) (type : TypeUse) (wanted : Member) (bytes rest : List ℕ) (count n : ℕ) (old new : List ℕ) (before after : List Need) → rest ≡ drop count bytes → Transcribes bytes count (token.name n) old new
+    → after ≡ before ++ record { target = n; wanted = wanted } ∷ [] → TakesReferencesTo s type (member wanted) → TakesWithNeeds s (FitsWithNeeds s type) 0 bytes rest old new before after
+name-taken s type wanted bytes rest count n old new before after e h pushed takes = record {
+  added = record { target = n; wanted = wanted } ∷ [];
+  needs_are = pushed;
+  takes = token-value s (λ p v. FitsWithNeeds s type p v (record { target = n; wanted = member wanted } ∷ [])) (token.name n) (parameter.name n) (meant.reference n) bytes rest count old new h.stands e refl refl (takes n) h.appended;
+}
+
+pub entity-at : (u : code.TypeUse) (e : EntityId) (bytes rest old new : List ℕ) (before after : List Need) → u ≡ code.Entity e → ((s : Schema) (type : TypeUse) → TakesReferencesTo s type (schema.entity_member e.0) → TakesWithNeeds s (FitsWithNeeds s type) 0 bytes rest old new before after) → (s : Schema)
+    → TakesWithNeeds s (FitsWithNeeds s (type_use u)) 0 bytes rest old new before after
+entity-at u e bytes rest old new before after is h s = h s (type_use u) (subst (λ (x : code.TypeUse). TakesReferencesTo s (type_use x) (schema.entity_member e.0)) (sym is) (λ n. with_instance e.0 n))
+
+pub chosen-at : (s : Schema) (t : ℕ) (bytes rest old new : List ℕ) (before after : List Need) → (e : ℕ) × Offers s t (schema.entity_member e) → ((other : Schema) (type : TypeUse) → TakesReferencesTo other type (schema.type_member t) → TakesWithNeeds other (FitsWithNeeds other type) 0 bytes rest old new before after)
+    → TakesWithNeeds s (FitsWithNeeds s (schema.defined t)) 0 bytes rest old new before after
+chosen-at s t bytes rest old new before after (e, offers) h = h s (schema.defined t) (λ n. with_chosen_instance t n e offers)
+
+pub select-known : (s : Schema) (t : ℕ) → IsSelect s t → IsType s t
+select-known s t (members, is) = type-is s t (schema.choice members) is
+
+-- ---- what a type comes down to
+
+pub comes-fits : (s : Schema) (type last : TypeUse) (p : Param) (v : Value) (needs : List reference.Need) → ComesTo s type last → FitsWithNeeds s last p v needs → FitsWithNeeds s type p v needs
+comes-fits s type last p v needs (at_itself _) fits = fits
+comes-fits s type last p v needs (through t next _ is more) fits = with_underlying t next p v needs is (comes-fits s next last p v needs more fits)
+
+-- a value of the type that it comes to
+pub stored-taken : (s : Schema) (optional : Bool) (base : Base) (most : ℕ) (bytes rest same old new : List ℕ) (before after : List Need) → same ≡ old → ((last : TypeUse) → IsBase s last base → TakesWithNeeds s (FitsWithNeeds s last) most bytes rest same new before after) → (type : TypeUse) → HasBase s type base
+    → TakesWithNeeds s (FitsAtWithNeeds s (stored_place optional type)) most bytes rest old new before after
+stored-taken s optional base most bytes rest same old new before after e takes type (last, comes, is) =
+    fits-as s (FitsWithNeeds s last) (FitsAtWithNeeds s (stored_place optional type)) most most bytes rest old new before after (omega arith) (λ p v needs fits. with_fit optional type p v needs (comes-fits s type last p v needs comes fits))
+    (subst (λ (x : List ℕ). TakesWithNeeds s (FitsWithNeeds s last) most bytes rest x new before after) e (takes last is))
+
+-- no value, where there may be none
+pub left-out : (s : Schema) (optional : Bool) (type : TypeUse) (most : ℕ) (bytes rest old new : List ℕ) (needs : List Need) → optional ≡ true → bytes ≡ 36 ∷ rest → new ≡ old ++ 36 ∷ [] → TakesWithNeeds s (FitsAtWithNeeds s (stored_place optional type)) most bytes rest old new needs needs
+left-out s optional type most bytes rest old new needs may e is =
+    subst (λ (x : Bool). TakesWithNeeds s (FitsAtWithNeeds s (stored_place x type)) most bytes rest old new needs needs) (sym may)
+    (needs-nothing s (FitsAtWithNeeds s (stored_place true type)) most bytes rest old new needs
+    (record { parameter = parameter.dollar; value = meant.missing; fits = with_dollar type; shallow = omega arith; laid = laid-mark 36 token.dollar bytes rest refl (λ byte. tt) e; text_is = is }))
+
+-- a derived attribute
+pub star-at : (s : Schema) (bytes rest old new : List ℕ) (needs : List Need) → (bytes ≡ 42 ∷ rest) × (new ≡ old ++ 42 ∷ []) → TakesWithNeeds s (FitsAtWithNeeds s derived_place) 64 bytes rest old new needs needs
+star-at s bytes rest old new needs (e, is) =
+    needs-nothing s (FitsAtWithNeeds s derived_place) 64 bytes rest old new needs
+    (record { parameter = parameter.star; value = meant.derived; fits = with_star; shallow = omega arith; laid = laid-mark 42 token.star bytes rest refl (λ byte. tt) e; text_is = is })
+
+pub star-taken : (s : Schema) (step : Step) (bytes rest old new : List ℕ) (needs : List Need) → step ≡ Derived → (bytes ≡ 42 ∷ rest) × (new ≡ old ++ 42 ∷ []) → (at : PlaceType) → IsStepFor s at step → TakesWithNeeds s (FitsAtWithNeeds s at) 64 bytes rest old new needs needs
+star-taken s step bytes rest old new needs derived taken at says =
+    subst (λ (x : PlaceType). TakesWithNeeds s (FitsAtWithNeeds s x) 64 bytes rest old new needs needs) (sym (subst (IsStepFor s at) derived says)) (star-at s bytes rest old new needs taken)
+
+pub dollar-put : (optional : Bool) (bytes rest old new : List ℕ) → optional ≡ true → (bytes ≡ 36 ∷ rest) × (new ≡ old ++ 36 ∷ []) → (optional ≡ true) × (bytes ≡ 36 ∷ rest) × (new ≡ old ++ 36 ∷ [])
+dollar-put optional bytes rest old new may h = (may, h.0, h.1)
+
+-- ---- steps
+
+pub step-known : (s : Schema) (step : Step) (optional : Bool) (of : code.TypeUse) → step ≡ Stored optional of → IsStepForSome s step → IsTypeUse s (type_use of)
+step-known s step optional of is (at, says) = (subst (IsStepFor s at) is says).2
+
+comes-join : (s : Schema) (type middle last : TypeUse) → ComesTo s type middle → ComesTo s middle last → ComesTo s type last
+comes-join s type middle last (at_itself _) more = more
+comes-join s type middle last (through t next _ is comes) more = through t next last is (comes-join s next middle last comes more)
+
+pub step-taken : (s : Schema) (step : Step) (optional : Bool) (of : code.TypeUse) (base : Base) (bytes rest old new : List ℕ) (before after : List Need) → step ≡ Stored optional of → HasBase s (type_use of) base
+    → ((type : TypeUse) → HasBase s type base → TakesWithNeeds s (FitsAtWithNeeds s (stored_place optional type)) 64 bytes rest old new before after) → (at : PlaceType) → IsStepFor s at step → TakesWithNeeds s (FitsAtWithNeeds s at) 64 bytes rest old new before after
+step-taken s step optional of base bytes rest old new before after is (last, comes, base_is) takes at says =
+    let says_ = subst (IsStepFor s at) is says in
+    subst (λ (x : PlaceType). TakesWithNeeds s (FitsAtWithNeeds s x) 64 bytes rest old new before after) (sym says_.1) (takes says_.0 (last, comes-join s says_.0 (type_use of) last says_.3 comes, base_is))
+
+pub base-select : (s : Schema) (base : Base) (t : TypeId) → base ≡ Select t → IsBaseInSchema s base → IsSelect s t.0
+base-select s base t is (type, known, (last, comes, found)) = (subst (IsBase s last) is found).1
+
+pub needs-kept : {A : Type 0} (found : Option A) (needs : List Need) → IfNone found (KeepsNeeds needs needs)
+needs-kept None needs = ([], sym (append-nil needs))
+needs-kept (Some x) needs = tt
+
+pub needs-same : (old new : List Need) → new ≡ old → KeepsNeeds old new
+needs-same old new e = ([], e ∙ sym (append-nil old))
+
+-- ---- bases
+
+pub scalar-at : (u : code.TypeUse) (bytes rest old new : List ℕ) (needs : List Need) → ((s : Schema) → TakesValue s (λ p v. FitsWithNeeds s (type_use u) p v []) 0 bytes rest old new) → (s : Schema) → TakesWithNeeds s (FitsWithNeeds s (type_use u)) 0 bytes rest old new needs needs
+scalar-at u bytes rest old new needs h s = needs-nothing s (FitsWithNeeds s (type_use u)) 0 bytes rest old new needs (h s)
+
+item-at : (base : Base) (words : Bor (List (List ℕ))) (bytes rest old new : List ℕ) (needs : List Need) → base ≡ Items words → ((s : Schema) (t : ℕ) → schema.kind_of s t ≡ Some (schema.items words.now) → TakesValue s (λ p v. FitsWithNeeds s (schema.defined t) p v []) 0 bytes rest old new)
+    → (s : Schema) (type : TypeUse) → IsBase s type base → TakesWithNeeds s (FitsWithNeeds s type) 0 bytes rest old new needs needs
+item-at base words bytes rest old new needs same h s type is =
+    let (t, e, kind) = subst (IsBase s type) same is in
+    subst (λ (x : TypeUse). TakesWithNeeds s (FitsWithNeeds s x) 0 bytes rest old new needs needs) (sym e) (needs-nothing s (FitsWithNeeds s (schema.defined t)) 0 bytes rest old new needs (h s t kind))
+
+pub select-at : (s : Schema) (base : Base) (t : TypeId) (most : ℕ) (bytes rest old new : List ℕ) (before after : List Need) → base ≡ Select t → TakesWithNeeds s (FitsWithNeeds s (schema.defined t.0)) most bytes rest old new before after → (type : TypeUse) → IsBase s type base
+    → TakesWithNeeds s (FitsWithNeeds s type) most bytes rest old new before after
+select-at s base t most bytes rest old new before after same h type is = subst (λ (x : TypeUse). TakesWithNeeds s (FitsWithNeeds s x) most bytes rest old new before after) (sym (subst (IsBase s type) same is).0) h
+
+-- as deep as it may be
+pub no-deeper : (s : Schema) (F : Param → Value → List reference.Need → Type 0) (most : ℕ) (bytes rest old new : List ℕ) (before after : List Need) → TakesWithNeeds s F 0 bytes rest old new before after → TakesWithNeeds s F most bytes rest old new before after
+no-deeper s F most bytes rest old new before after h = fits-as s F F 0 most bytes rest old new before after (omega arith) (λ p v needs fits. fits) h
+
+pub plain-deep : (s : Schema) (u : code.TypeUse) (most : ℕ) (bytes rest old new : List ℕ) (before after : List Need) → ((other : Schema) → TakesWithNeeds other (FitsWithNeeds other (type_use u)) 0 bytes rest old new before after) → TakesWithNeeds s (FitsWithNeeds s (type_use u)) most bytes rest old new before after
+plain-deep s u most bytes rest old new before after h = no-deeper s (FitsWithNeeds s (type_use u)) most bytes rest old new before after (h s)
+
+pub item-deep : (s : Schema) (base : Base) (words : Bor (List (List ℕ))) (most : ℕ) (bytes rest old new : List ℕ) (needs : List Need) → base ≡ Items words → ((other : Schema) (t : ℕ) → schema.kind_of other t ≡ Some (schema.items words.now) → TakesValue other (λ p v. FitsWithNeeds other (schema.defined t) p v []) 0 bytes rest old new)
+    → (type : TypeUse) → IsBase s type base → TakesWithNeeds s (FitsWithNeeds s type) most bytes rest old new needs needs
+item-deep s base words most bytes rest old new needs same h type is = no-deeper s (FitsWithNeeds s type) most bytes rest old new needs needs (item-at base words bytes rest old new needs same h s type is)

@@ -1,6 +1,0 @@
-use Rattle.p21_transcribe.proofs.Found.{some_to}
-use Rattle.p21_transcribe_instance.proofs.Laid.{mark-behind}
-use Rattle.p21_transcribe_instance.proofs.mark.append_mark.Goals as goal
-
-pub returns-clause-some : goal.returns-clause-some
-returns-clause-some c = some_to _ (λ rest. mark-behind c.args.mark c.args.bytes.now c.behind_separators.result.now rest.now _ _ c.behind_separators.ensures) c.append_first.ensures.some

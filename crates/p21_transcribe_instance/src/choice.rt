@@ -1,0 +1,62 @@
+//! Values of selects (ISO 10303-21, mapping of EXPRESS select data types).
+ghost use Rattle.std.specs.Prelude.{◌≡◌, IfNone, IfSome};
+ghost use Rattle.p21_claim_values.specs.Needs.{FitsWithNeeds};
+ghost use Rattle.p21_schemas.specs.Schema.{TypeNamed, defined, type_member};
+ghost use Rattle.p21_schemas.specs.Select.{IsSelect, Offers};
+ghost use Rattle.p21_transcribe_instance.specs.TakenValues.{TakesKeyword, TakesWithNeeds};
+ghost use Rattle.p21_values.specs.Canonical.{Continues};
+
+use crate::reference::append_reference;
+use p21_express_tables::Schema;
+use p21_express_types::{Member, TypeId};
+use p21_mapping_values::Need;
+use p21_transcribe::{Draft, append_keyword};
+
+/// A reference, at a select that offers an entity: what stands behind it.
+pub(crate) fn append_chosen<'a>(
+    schema: &Schema,
+    select: TypeId,
+    bytes: &'a [u8],
+    draft: &mut Draft,
+    needs: &mut Vec<Need>,
+) -> Option<&'a [u8]>
+    requires { IsSelect schema.now select.0 }
+    ensures some { IfSome result (λ rest. TakesWithNeeds schema.now (FitsWithNeeds schema.now (defined select.0)) 0 bytes.now rest.now draft.old draft.new needs.old.items needs.new.items) }
+    ensures draft { IfNone result (Continues draft.old draft.new) }
+    ensures needs { IfNone result (needs.new.items ≡ needs.old.items) }
+{
+    if !schema.offers_entity(select) {
+        return None;
+    }
+    append_reference(Member::Defined(select), bytes, draft, needs)
+}
+
+/// Appends the keyword at the front, if it names a type that the select offers: the type, and what stands behind the
+/// keyword.
+pub(crate) fn append_offered<'a>(
+    schema: &Schema,
+    select: TypeId,
+    bytes: &'a [u8],
+    draft: &mut Draft,
+) -> Option<(TypeId, &'a [u8])>
+    requires { IsSelect schema.now select.0 }
+    ensures some { IfSome result (λ found. TakesKeyword schema.now select.0 found.0.0 bytes.now found.1.now draft.old draft.new) }
+    ensures none { IfNone result (Continues draft.old draft.new) }
+{
+    let word = append_keyword(bytes, draft)?;
+    let chosen = offered_type(schema, select, word)?;
+    Some((chosen, &bytes[word.len()..]))
+}
+
+/// The type of this name, if the select offers it.
+fn offered_type(schema: &Schema, select: TypeId, name: &[u8]) -> Option<TypeId>
+    requires { IsSelect schema.now select.0 }
+    ensures offered_type { IfSome result (λ chosen. Offers schema.now select.0 (type_member chosen.0)) }
+    ensures named { IfSome result (λ chosen. TypeNamed schema.now chosen.0 name.now) }
+{
+    let chosen = schema.type_named(name)?;
+    if !schema.offers(select, Member::Defined(chosen)) {
+        return None;
+    }
+    Some(chosen)
+}

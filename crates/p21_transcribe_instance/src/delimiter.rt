@@ -1,0 +1,31 @@
+//! A byte that is a token (ISO 10303-21, clause 6: tokens).
+ghost use Rattle.std.specs.Prelude.{◌≡◌, [], ◌∷◌, ◌++◌, IfNone, IfSome};
+ghost use Rattle.p21_transcribe_instance.specs.TakenValues.{PassesDelimiter};
+
+use p21_transcribe::{Draft, behind_separators};
+
+/// Appends the byte, if it stands first: what stands behind it.
+#[inline(always)]
+pub(crate) fn append_delimiter<'a>(mark: u8, bytes: &'a [u8], draft: &mut Draft) -> Option<&'a [u8]>
+    ensures some { IfSome result (λ rest. (bytes.now ≡ mark ∷ rest.now) × (draft.new ≡ draft.old ++ mark ∷ [])) }
+    ensures none { IfNone result (draft.new ≡ draft.old) }
+{
+    let (first, rest) = bytes.split_first()?;
+    if *first != mark || !draft.put(mark) {
+        return None;
+    }
+    Some(rest)
+}
+
+/// Appends the byte, if it stands first behind the separators: what stands behind it.
+#[inline(always)]
+pub(crate) fn append_next_delimiter<'a>(
+    mark: u8,
+    bytes: &'a [u8],
+    draft: &mut Draft,
+) -> Option<&'a [u8]>
+    ensures some { IfSome result (λ rest. PassesDelimiter mark bytes.now rest.now × (draft.new ≡ draft.old ++ mark ∷ [])) }
+    ensures none { IfNone result (draft.new ≡ draft.old) }
+{
+    append_delimiter(mark, behind_separators(bytes), draft)
+}

@@ -1,0 +1,107 @@
+//! The parameters of a simple record of external mapping, at the attributes that its entity declares itself (ISO 10303-21,
+//! mapping of EXPRESS entity data types: external mapping).
+ghost use Rattle.std.specs.Prelude.{◌≡◌, ◌-◌, ◌≤◌, length, IfNone, IfSome};
+ghost use Rattle.p21_exchange.specs.Parameter.{more_tokens, params_tokens};
+ghost use Rattle.p21_express_graph.specs.Lookups.{AreEntities, places_from};
+ghost use Rattle.p21_express_graph.specs.Orders.{numbers};
+ghost use Rattle.p21_express_graph.specs.Resolved.{IsEntity, IsPlace};
+ghost use Rattle.p21_express_types.specs.Meaning.{place as place_of};
+ghost use Rattle.p21_files.specs.ValueText.{with_commas, with_commas_between};
+ghost use Rattle.p21_schemas.specs.Order.{own_places};
+ghost use Rattle.p21_schemas.specs.Schema.{attributes_of};
+ghost use Rattle.p21_transcribe_instance.specs.Records.{TakesAtPlace};
+ghost use Rattle.p21_transcribe_instance.specs.TakenParameters.{TakesPlaces};
+ghost use Rattle.p21_transcribe_instance.specs.TakenValues.{KeepsNeeds};
+ghost use Rattle.p21_values.specs.Canonical.{Continues};
+
+use crate::separated_delimiter::append_delimiter;
+use crate::value::append_placed;
+use p21_express_tables::Schema;
+use p21_express_types::{EntityId, Place};
+use p21_mapping_values::Need;
+use p21_transcribe::{Draft, behind_separators};
+
+/// Appends the values at the front, at the attributes that an entity of a set declares itself, with a comma between each two,
+/// and adds their references: what stands behind them.
+#[inline(always)]
+pub(crate) fn append_own_parameters<'a>(
+    schema: &Schema,
+    set: &[EntityId],
+    owner: EntityId,
+    bytes: &'a [u8],
+    draft: &mut Draft,
+    needs: &mut Vec<Need>,
+) -> Option<&'a [u8]>
+    requires set { AreEntities schema.now (numbers set.now) }
+    requires owner { IsEntity schema.now owner.0 }
+    ensures some { IfSome result (λ rest. TakesPlaces schema.now (numbers set.now) params_tokens with_commas_between (own_places schema.now owner.0) bytes.now rest.now draft.old draft.new needs.old.items needs.new.items) }
+    ensures draft { IfNone result (Continues draft.old draft.new) }
+    ensures needs { IfNone result (KeepsNeeds needs.old.items needs.new.items) }
+{
+    let count = schema.attribute_count(owner);
+    if count == 0 {
+        return Some(bytes);
+    }
+    let rest = append_parameter_at(
+        schema,
+        set,
+        Place {
+            entity: owner,
+            index: 0,
+        },
+        bytes,
+        draft,
+        needs,
+    )?;
+    append_further_parameters(schema, set, owner, count, rest, draft, needs)
+}
+
+/// The same from the second attribute on, with a comma before each.
+fn append_further_parameters<'a>(
+    schema: &Schema,
+    set: &[EntityId],
+    owner: EntityId,
+    count: u32,
+    bytes: &'a [u8],
+    draft: &mut Draft,
+    needs: &mut Vec<Need>,
+) -> Option<&'a [u8]>
+    requires set { AreEntities schema.now (numbers set.now) }
+    requires count { count ≡ length (attributes_of schema.now owner.0) }
+    requires some { 1 ≤ count }
+    ensures some { IfSome result (λ rest. TakesPlaces schema.now (numbers set.now) more_tokens with_commas (places_from owner.0 1 (count - 1)) bytes.now rest.now draft.old draft.new needs.old.items needs.new.items) }
+    ensures draft { IfNone result (Continues draft.old draft.new) }
+    ensures needs { IfNone result (KeepsNeeds needs.old.items needs.new.items) }
+{
+    let mut rest = bytes;
+    for index in 1..count {
+        let behind = append_delimiter(b',', rest, draft)?;
+        let place = Place {
+            entity: owner,
+            index,
+        };
+        rest = append_parameter_at(schema, set, place, behind, draft, needs)?;
+    }
+    Some(rest)
+}
+
+/// The value at one attribute, behind separators.
+#[inline(always)]
+fn append_parameter_at<'a>(
+    schema: &Schema,
+    set: &[EntityId],
+    place: Place,
+    bytes: &'a [u8],
+    draft: &mut Draft,
+    needs: &mut Vec<Need>,
+) -> Option<&'a [u8]>
+    requires set { AreEntities schema.now (numbers set.now) }
+    requires place { IsPlace schema.now (place_of place) }
+    ensures some { IfSome result (λ rest. TakesAtPlace schema.now (numbers set.now) (place_of place) bytes.now rest.now draft.old draft.new needs.old.items needs.new.items) }
+    ensures draft { IfNone result (Continues draft.old draft.new) }
+    ensures needs { IfNone result (KeepsNeeds needs.old.items needs.new.items) }
+{
+    schema.holds_together();
+    let at = schema.type_at(set, place);
+    append_placed(schema, at, behind_separators(bytes), draft, needs)
+}

@@ -1,0 +1,113 @@
+ghost use Rattle.std.specs.Prelude.{◌↔◌, false, ◌≡◌, IfOk, IfSome, IsTrue};
+ghost use Rattle.p21_express_graph.specs.Resolved.{IsEntity};
+ghost use Rattle.p21_schemas.specs.Schema.{EntityNamed, Schema as Meant};
+ghost use Rattle.p21_transcribe_instance.specs.Steps.{IsPlanOf, IsRow, MayStandAlone, row_view, rows_view};
+
+use crate::guess::Guesses;
+use crate::row::{Row, find_row};
+use p21_express_tables::{OwnFaults, Schema};
+use p21_express_types::EntityId;
+use p21_values::NoMemory;
+use std::alloc::Global;
+use std::marker::Model;
+
+/// What is known of the instances of a schema, for the entities that were prepared, and guesses of the entities that keywords
+/// name. It borrows nothing of the schema.
+#[derive(Drop)]
+pub struct Plan {
+    alloc: Global,
+    // By the number of the entity; those from the last row on aren't prepared.
+    rows: Vec<Option<Row>>,
+    guesses: Guesses,
+}
+
+impl Model for Plan {
+    ghost use Rattle.std.specs.Prelude.{List, Option};
+    ghost use Rattle.p21_transcribe_instance.specs.Prepared.{Prepared, plan_code};
+
+    ghost Value = { List (Option Prepared) };
+
+    ghost coded = { plan_code };
+
+    ghost use Rattle.p21_transcribe_instance.specs.Steps.{rows_view};
+
+    ghost view = { λ plan. rows_view plan.rows.items };
+}
+
+impl Plan {
+    /// Nothing prepared. It takes no memory.
+    pub fn new(alloc: Global) -> Plan
+        ensures { (s : Meant) → IsPlanOf s result }
+    {
+        Plan {
+            alloc,
+            rows: Vec::new(alloc),
+            guesses: Guesses::new(alloc),
+        }
+    }
+
+    /// The entity of this name, in upper case.
+    #[inline(always)]
+    pub fn entity(&mut self, schema: &Schema, name: &[u8]) -> Option<EntityId>
+        ensures some { IfSome result (λ entity. EntityNamed schema.now entity.0 name.now) }
+        ensures plan { IsPlanOf schema.now self.old → IsPlanOf schema.now self.new }
+    {
+        self.guesses.entity(schema, name)
+    }
+
+    /// What is known of the instances whose set is the entity and its supertypes: none where that isn't prepared.
+    #[inline(always)]
+    pub fn row(&self, entity: EntityId) -> Option<&Row>
+        ensures { (s : Meant) → IsPlanOf s self.now → IfSome result (λ row. IsRow s entity.0 (row_view row.now)) }
+    {
+        let row = self.rows.get(entity.0 as usize)?;
+        match row {
+            Some(row) => Some(row),
+            None => None,
+        }
+    }
+
+    /// Prepares an entity, and says whether an instance may have it and its supertypes as its set.
+    ///
+    /// # Errors
+    ///
+    /// `NoMemory`.
+    #[inline(never)]
+    pub fn prepare(&mut self, schema: &Schema, entity: EntityId) -> Result<bool, NoMemory>
+        requires { IsEntity schema.now entity.0 }
+        ensures plan { IsPlanOf schema.now self.old → IsPlanOf schema.now self.new }
+        ensures may { IfOk result (λ may. IsTrue may ↔ MayStandAlone schema.now entity.0) }
+    {
+        if !may_stand_alone(schema, entity) {
+            return Ok(false);
+        }
+        let row = find_row(self.alloc, schema, entity)?;
+        put_row(&mut self.rows, entity.0 as usize, row)?;
+        Ok(true)
+    }
+}
+
+/// Whether an instance may have the entity and its supertypes as its set.
+fn may_stand_alone(schema: &Schema, entity: EntityId) -> bool
+    requires { IsEntity schema.now entity.0 }
+    ensures { IsTrue result ↔ MayStandAlone schema.now entity.0 }
+{
+    has_no_faults(schema.own_faults(entity))
+}
+
+fn has_no_faults(faults: OwnFaults) -> bool
+    ensures { IsTrue result ↔ ((faults.is_abstract ≡ false) × (faults.leaves_open ≡ false) × (faults.clashes ≡ false)) }
+{
+    !faults.is_abstract && !faults.leaves_open && !faults.clashes
+}
+
+/// Puts the row of an entity in its place.
+fn put_row(rows: &mut Vec<Option<Row>>, at: usize, row: Row) -> Result<(), NoMemory>
+    ensures { (s : Meant) → IsPlanOf s (rows_view rows.old.items) → IsRow s at (row_view row) → IsPlanOf s (rows_view rows.new.items) }
+{
+    while rows.len() <= at {
+        rows.push(None)?;
+    }
+    rows[at] = Some(row);
+    Ok(())
+}

@@ -1,0 +1,32 @@
+ghost use Rattle.std.specs.Prelude.{IfOk};
+ghost use Rattle.p21_express_graph.specs.Resolved.{IsEntity};
+ghost use Rattle.p21_transcribe_instance.specs.Steps.{IsRow, MayStandAlone, row_view};
+
+use crate::step::{Step, find_steps};
+use p21_express_tables::Schema;
+use p21_express_types::EntityId;
+use p21_values::NoMemory;
+use std::alloc::Global;
+
+/// What is known of the instances whose set is an entity and its supertypes: these, rising by name, and what may stand at the
+/// attributes, in the order of internal mapping.
+#[derive(Debug, Drop)]
+pub struct Row {
+    pub entities: Vec<EntityId>,
+    pub steps: Vec<Step>,
+}
+
+/// What is known of the instances of an entity.
+///
+/// # Errors
+///
+/// `NoMemory`.
+pub(crate) fn find_row(alloc: Global, schema: &Schema, entity: EntityId) -> Result<Row, NoMemory>
+    requires entity { IsEntity schema.now entity.0 }
+    requires may { MayStandAlone schema.now entity.0 }
+    ensures { IfOk result (λ row. IsRow schema.now entity.0 (row_view row)) }
+{
+    let entities = schema.own_rising(entity)?;
+    let steps = find_steps(alloc, schema, entity)?;
+    Ok(Row { entities, steps })
+}

@@ -1,0 +1,375 @@
+//! A value, by what may stand at its attribute.
+ghost use Rattle.std.specs.Prelude.{◌≡◌, ◌+◌, [], ◌∷◌, ◌++◌, length, true, IfNone, IfSome};
+ghost use Rattle.p21_claim_values.specs.Needs.{FitsAtWithNeeds, FitsWithNeeds};
+ghost use Rattle.p21_express_tables.specs.Base.{HasBase, IsBase};
+ghost use Rattle.p21_express_graph.specs.Resolved.{HoldsTogether, IsTypeUse};
+ghost use Rattle.p21_express_types.specs.Meaning.{place_type, type_use};
+ghost use Rattle.p21_schemas.specs.PlaceType.{PlaceType as MeantPlace, stored_place};
+ghost use Rattle.p21_schemas.specs.Schema.{TypeUse as MeantType, defined};
+ghost use Rattle.p21_schemas.specs.Select.{IsSelect};
+ghost use Rattle.p21_transcribe_instance.specs.Steps.{IsStepForSome, IsStepFor};
+ghost use Rattle.p21_transcribe_instance.specs.Elements.{AddsLength, IsAggregateOf, TakesElements};
+ghost use Rattle.p21_transcribe_instance.specs.TakenValues.{IsBaseInSchema, IsKnownAt, KeepsNeeds, TakesEnclosed, TakesWithNeeds};
+ghost use Rattle.p21_values.specs.Canonical.{Continues};
+
+use crate::aggregate::{allows_count, are_compared, element_of};
+use crate::bare::append_plain;
+use crate::choice::{append_chosen, append_offered};
+use crate::delimiter::{append_delimiter, append_next_delimiter};
+use crate::length::add_length;
+use crate::order::append_close;
+use crate::scalar::append_listed;
+use crate::step::Step;
+use p21_express_tables::{Base, Schema};
+use p21_express_types::{PlaceType, TypeId, TypeUse};
+use p21_mapping_values::Need;
+use p21_transcribe::{Draft, behind_separators};
+
+/// How deep lists and typed parameters stand one in another at most, as in the grammar.
+const NESTING: usize = 64;
+
+/// Appends the canonical text of the value at the front, by what may stand at its attribute, and adds its references, in the
+/// order in which they are named: what stands behind the value. None where it isn't taken this way; then the text and the
+/// references go on from those before.
+#[inline(always)]
+pub(crate) fn append_value<'a>(
+    schema: &Schema,
+    step: &Step,
+    bytes: &'a [u8],
+    draft: &mut Draft,
+    needs: &mut Vec<Need>,
+) -> Option<&'a [u8]>
+    requires { IsStepForSome schema.now step.now }
+    ensures some { IfSome result (λ rest. (at : MeantPlace) → IsStepFor schema.now at step.now → TakesWithNeeds schema.now (FitsAtWithNeeds schema.now at) 64 bytes.now rest.now draft.old draft.new needs.old.items needs.new.items) }
+    ensures draft { IfNone result (Continues draft.old draft.new) }
+    ensures needs { IfNone result (KeepsNeeds needs.old.items needs.new.items) }
+{
+    match step {
+        Step::Derived => append_delimiter(b'*', bytes, draft),
+        Step::Stored(optional, of) => {
+            let base = base_of(schema, of);
+            append_stored(schema, *optional, &base, NESTING, bytes, draft, needs)
+        }
+    }
+}
+
+/// The same, by the type of the place. None where redeclarations leave that open.
+pub(crate) fn append_placed<'a>(
+    schema: &Schema,
+    at: PlaceType<'_>,
+    bytes: &'a [u8],
+    draft: &mut Draft,
+    needs: &mut Vec<Need>,
+) -> Option<&'a [u8]>
+    requires { IsKnownAt schema.now (place_type at) }
+    ensures some { IfSome result (λ rest. TakesWithNeeds schema.now (FitsAtWithNeeds schema.now (place_type at.entry)) 64 bytes.now rest.now draft.old draft.new needs.old.items needs.new.items) }
+    ensures draft { IfNone result (Continues draft.old draft.new) }
+    ensures needs { IfNone result (KeepsNeeds needs.old.items needs.new.items) }
+{
+    match at {
+        PlaceType::Derived => append_delimiter(b'*', bytes, draft),
+        PlaceType::Stored(optional, of) => {
+            let base = base_of(schema, of);
+            append_stored(schema, optional, &base, NESTING, bytes, draft, needs)
+        }
+        PlaceType::Two => None,
+    }
+}
+
+/// A value of a type that comes down to this, or `$` where it is OPTIONAL. Lists and typed parameters stand at most so deep
+/// in it.
+#[inline(always)]
+#[cycle(append)]
+fn append_stored<'a>(
+    schema: &Schema,
+    optional: bool,
+    base: &Base<'_>,
+    most: usize,
+    bytes: &'a [u8],
+    draft: &mut Draft,
+    needs: &mut Vec<Need>,
+) -> Option<&'a [u8]>
+    requires { IsBaseInSchema schema.now base.now }
+    ensures some { IfSome result (λ rest. (type : MeantType) → HasBase schema.now type base.now → TakesWithNeeds schema.now (FitsAtWithNeeds schema.now (stored_place optional type)) most bytes.now rest.now draft.old draft.new needs.old.items needs.new.items) }
+    ensures draft { IfNone result (Continues draft.old draft.new) }
+    ensures needs { IfNone result (KeepsNeeds needs.old.items needs.new.items) }
+{
+    match append_left_out(optional, bytes, draft) {
+        Some(rest) => Some(rest),
+        None => append_present(schema, base, most, bytes, draft, needs),
+    }
+}
+
+/// `$` where there may be no value.
+#[inline(always)]
+fn append_left_out<'a>(optional: bool, bytes: &'a [u8], draft: &mut Draft) -> Option<&'a [u8]>
+    ensures some { IfSome result (λ rest. (optional ≡ true) × (bytes.now ≡ 36 ∷ rest.now) × (draft.new ≡ draft.old ++ 36 ∷ [])) }
+    ensures none { IfNone result (draft.new ≡ draft.old) }
+{
+    if !optional {
+        return None;
+    }
+    append_delimiter(b'$', bytes, draft)
+}
+
+/// A value of a type that comes down to this.
+#[inline(always)]
+#[cycle(append)]
+fn append_present<'a>(
+    schema: &Schema,
+    base: &Base<'_>,
+    most: usize,
+    bytes: &'a [u8],
+    draft: &mut Draft,
+    needs: &mut Vec<Need>,
+) -> Option<&'a [u8]>
+    requires { IsBaseInSchema schema.now base.now }
+    ensures some { IfSome result (λ rest. (type : MeantType) → IsBase schema.now type base.now → TakesWithNeeds schema.now (FitsWithNeeds schema.now type) most bytes.now rest.now draft.old draft.new needs.old.items needs.new.items) }
+    ensures draft { IfNone result (Continues draft.old draft.new) }
+    ensures needs { IfNone result (KeepsNeeds needs.old.items needs.new.items) }
+{
+    match base {
+        Base::Select(select) => append_choice(schema, *select, most, bytes, draft, needs),
+        Base::Plain(of) => append_undeclared(schema, of, most, bytes, draft, needs),
+        Base::Items(words) => append_listed(words, bytes, draft),
+    }
+}
+
+/// What a select offers: a reference, or a typed parameter.
+#[inline(never)]
+#[cycle(append)]
+fn append_choice<'a>(
+    schema: &Schema,
+    select: TypeId,
+    most: usize,
+    bytes: &'a [u8],
+    draft: &mut Draft,
+    needs: &mut Vec<Need>,
+) -> Option<&'a [u8]>
+    requires { IsSelect schema.now select.0 }
+    ensures some { IfSome result (λ rest. TakesWithNeeds schema.now (FitsWithNeeds schema.now (defined select.0)) most bytes.now rest.now draft.old draft.new needs.old.items needs.new.items) }
+    ensures draft { IfNone result (Continues draft.old draft.new) }
+    ensures needs { IfNone result (KeepsNeeds needs.old.items needs.new.items) }
+{
+    match bytes.first() {
+        Some(b'#') => append_chosen(schema, select, bytes, draft, needs),
+        _ => append_typed(schema, select, most, bytes, draft, needs),
+    }
+}
+
+/// A typed parameter.
+#[inline(always)]
+#[cycle(append)]
+fn append_typed<'a>(
+    schema: &Schema,
+    select: TypeId,
+    most: usize,
+    bytes: &'a [u8],
+    draft: &mut Draft,
+    needs: &mut Vec<Need>,
+) -> Option<&'a [u8]>
+    requires { IsSelect schema.now select.0 }
+    ensures some { IfSome result (λ rest. TakesWithNeeds schema.now (FitsWithNeeds schema.now (defined select.0)) most bytes.now rest.now draft.old draft.new needs.old.items needs.new.items) }
+    ensures draft { IfNone result (Continues draft.old draft.new) }
+    ensures needs { IfNone result (KeepsNeeds needs.old.items needs.new.items) }
+{
+    if most == 0 {
+        return None;
+    }
+    let (chosen, behind) = append_offered(schema, select, bytes, draft)?;
+    let of = TypeUse::Defined(chosen);
+    let base = base_of(schema, &of);
+    append_enclosed(schema, &base, most - 1, behind, draft, needs)
+}
+
+/// A value of a type that comes down to this, in parentheses.
+#[inline(always)]
+#[cycle(append)]
+fn append_enclosed<'a>(
+    schema: &Schema,
+    base: &Base<'_>,
+    most: usize,
+    bytes: &'a [u8],
+    draft: &mut Draft,
+    needs: &mut Vec<Need>,
+) -> Option<&'a [u8]>
+    requires { IsBaseInSchema schema.now base.now }
+    ensures some { IfSome result (λ rest. (type : MeantType) → HasBase schema.now type base.now → TakesEnclosed schema.now (FitsWithNeeds schema.now type) most bytes.now rest.now draft.old draft.new needs.old.items needs.new.items) }
+    ensures draft { IfNone result (Continues draft.old draft.new) }
+    ensures needs { IfNone result (KeepsNeeds needs.old.items needs.new.items) }
+{
+    let opened = append_next_delimiter(b'(', bytes, draft)?;
+    let inside = behind_separators(opened);
+    let behind = append_present(schema, base, most, inside, draft, needs)?;
+    append_next_delimiter(b')', behind, draft)
+}
+
+/// A value of a type that is no declared one.
+#[inline(always)]
+#[cycle(append)]
+fn append_undeclared<'a>(
+    schema: &Schema,
+    of: &TypeUse,
+    most: usize,
+    bytes: &'a [u8],
+    draft: &mut Draft,
+    needs: &mut Vec<Need>,
+) -> Option<&'a [u8]>
+    requires { HoldsTogether schema.now → IsTypeUse schema.now (type_use of.now) }
+    ensures some { IfSome result (λ rest. TakesWithNeeds schema.now (FitsWithNeeds schema.now (type_use of.now)) most bytes.now rest.now draft.old draft.new needs.old.items needs.new.items) }
+    ensures draft { IfNone result (Continues draft.old draft.new) }
+    ensures needs { IfNone result (KeepsNeeds needs.old.items needs.new.items) }
+{
+    match element_of(of) {
+        Some((optional, element)) => append_aggregate(
+            schema, of, optional, element, most, bytes, draft, needs,
+        ),
+        None => append_plain(of, bytes, draft, needs),
+    }
+}
+
+/// An aggregate.
+#[inline(never)]
+#[cycle(append)]
+fn append_aggregate<'a>(
+    schema: &Schema,
+    of: &TypeUse,
+    optional: bool,
+    element: &TypeUse,
+    most: usize,
+    bytes: &'a [u8],
+    draft: &mut Draft,
+    needs: &mut Vec<Need>,
+) -> Option<&'a [u8]>
+    requires known { HoldsTogether schema.now → IsTypeUse schema.now (type_use of.now) }
+    requires elements { IsAggregateOf (type_use of.now) optional (type_use element.now) }
+    ensures some { IfSome result (λ rest. TakesWithNeeds schema.now (FitsWithNeeds schema.now (type_use of.now)) most bytes.now rest.now draft.old draft.new needs.old.items needs.new.items) }
+    ensures draft { IfNone result (Continues draft.old draft.new) }
+    ensures needs { IfNone result (KeepsNeeds needs.old.items needs.new.items) }
+{
+    if most == 0 {
+        return None;
+    }
+    schema.holds_together();
+    let base = base_of(schema, element);
+    let mut lengths = Vec::new(*needs.allocator());
+    append_counted(
+        schema,
+        of,
+        optional,
+        &base,
+        most - 1,
+        bytes,
+        draft,
+        needs,
+        &mut lengths,
+    )
+}
+
+/// An aggregate whose elements come down to this, in parentheses. How long its elements are is kept where they are compared.
+#[inline(always)]
+#[cycle(append)]
+fn append_counted<'a>(
+    schema: &Schema,
+    of: &TypeUse,
+    optional: bool,
+    base: &Base<'_>,
+    most: usize,
+    bytes: &'a [u8],
+    draft: &mut Draft,
+    needs: &mut Vec<Need>,
+    lengths: &mut Vec<usize>,
+) -> Option<&'a [u8]>
+    requires base { IsBaseInSchema schema.now base.now }
+    requires empty { lengths.old.items ≡ [] }
+    ensures some { IfSome result (λ rest. (element : MeantType) → IsAggregateOf (type_use of.now) optional element → HasBase schema.now element base.now → TakesWithNeeds schema.now (FitsWithNeeds schema.now (type_use of.now)) (most + 1) bytes.now rest.now draft.old draft.new needs.old.items needs.new.items) }
+    ensures draft { IfNone result (Continues draft.old draft.new) }
+    ensures needs { IfNone result (KeepsNeeds needs.old.items needs.new.items) }
+{
+    let start = draft.len();
+    let compared = are_compared(of);
+    let inside = append_delimiter(b'(', bytes, draft)?;
+    let (count, behind) = append_each(
+        schema, optional, base, most, compared, inside, draft, needs, lengths,
+    )?;
+    if !allows_count(of, count) {
+        return None;
+    }
+    schema.well_formed();
+    append_close(of, start, lengths, behind, draft)
+}
+
+/// Elements with a comma between each two: how many, and what stands behind them. How long they are is added where they are
+/// compared.
+#[inline(always)]
+#[cycle(append)]
+fn append_each<'a>(
+    schema: &Schema,
+    optional: bool,
+    base: &Base<'_>,
+    most: usize,
+    compared: bool,
+    bytes: &'a [u8],
+    draft: &mut Draft,
+    needs: &mut Vec<Need>,
+    lengths: &mut Vec<usize>,
+) -> Option<(usize, &'a [u8])>
+    requires { IsBaseInSchema schema.now base.now }
+    ensures some { IfSome result (λ found. (element : MeantType) → HasBase schema.now element base.now → TakesElements schema.now optional element compared most found.0 bytes.now found.1.now draft.old draft.new lengths.old.items lengths.new.items needs.old.items needs.new.items) }
+    ensures draft { IfNone result (Continues draft.old draft.new) }
+    ensures needs { IfNone result (KeepsNeeds needs.old.items needs.new.items) }
+{
+    let first = behind_separators(bytes);
+    if let Some(b')') = first.first() {
+        return Some((0, bytes));
+    }
+    let mut behind = append_element(
+        schema, optional, base, most, compared, first, draft, needs, lengths,
+    )?;
+    let mut count = 1;
+    while let Some(next) = append_next_delimiter(b',', behind, draft) {
+        let inside = behind_separators(next);
+        behind = append_element(
+            schema, optional, base, most, compared, inside, draft, needs, lengths,
+        )?;
+        count += 1;
+    }
+    Some((count, behind))
+}
+
+/// An element. How long it is is added where elements are compared.
+#[inline(always)]
+#[cycle(append)]
+fn append_element<'a>(
+    schema: &Schema,
+    optional: bool,
+    base: &Base<'_>,
+    most: usize,
+    compared: bool,
+    bytes: &'a [u8],
+    draft: &mut Draft,
+    needs: &mut Vec<Need>,
+    lengths: &mut Vec<usize>,
+) -> Option<&'a [u8]>
+    requires { IsBaseInSchema schema.now base.now }
+    ensures some { IfSome result (λ rest. (element : MeantType) → HasBase schema.now element base.now → TakesWithNeeds schema.now (FitsAtWithNeeds schema.now (stored_place optional element)) most bytes.now rest.now draft.old draft.new needs.old.items needs.new.items) }
+    ensures lengths { IfSome result (λ rest. AddsLength compared (length draft.old) (length draft.new) lengths.old.items lengths.new.items) }
+    ensures draft { IfNone result (Continues draft.old draft.new) }
+    ensures needs { IfNone result (KeepsNeeds needs.old.items needs.new.items) }
+{
+    let before = draft.len();
+    let rest = append_stored(schema, optional, base, most, bytes, draft, needs)?;
+    if !add_length(compared, before, draft.len(), lengths) {
+        return None;
+    }
+    Some(rest)
+}
+
+/// What a type of the schema comes down to.
+fn base_of<'a>(schema: &'a Schema, of: &'a TypeUse) -> Base<'a>
+    requires { IsTypeUse schema.now (type_use of.now) }
+    ensures has { HasBase schema.now (type_use of.now) result }
+    ensures known { IsBaseInSchema schema.now result }
+{
+    schema.base(of)
+}

@@ -1,3 +1,0 @@
-pub mod Arranged
-pub mod Elements
-pub mod Taken

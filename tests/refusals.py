@@ -1,0 +1,164 @@
+#!/usr/bin/env python3
+"""Whether each refusal has one number and one name wherever these are written by hand. The list of docs/FAULTS.md, from which
+tools/make-refusals makes what the program says of them, is compared with the titles of its sections and with what the pages
+show, with the code (crates/*/src/fault.rt) and the definitions that its contracts cite (crates/*/specs/Fault.antt), and
+with include/p21.h, python/p21/_faults.py and tests/plain/refusal.py. So are the names and numbers of what is left out, by the
+table in the section of LeftOut. The status is 1 where one differs, is missing or isn't listed.
+"""
+
+import pathlib
+import re
+import runpy
+import sys
+
+ROOT = pathlib.Path(__file__).resolve().parent.parent
+PAGES = ["README.md", "examples/README.md", *(f"docs/{path.name}" for path in sorted((ROOT / "docs").glob("*.md")))]
+HELP = "crates/p21_command_line/src/help.rt"
+CODE = {
+    "files": ("p21_values", "p21_tokens", "p21_grammar", "p21_mapping_values", "p21_stream_kept"),
+    "schemas": ("p21_express_lexemes", "p21_express_outline"),
+}
+
+# What a place doesn't have: what the program alone says, or the library of values; and, in the plain reader, limits and the
+# machine.
+NO_CALL_ANSWERS = {"12", "13", "91", "92"}
+NOT_PLAIN = {"13", "22", "27", "90", "91", "92"}
+
+
+def read(name):
+    return (ROOT / name).read_text()
+
+
+def listed():
+    """The list of docs/FAULTS.md: each number with its name."""
+    section = re.search(r"^## All refusals\n(.*?)^## ", read("docs/FAULTS.md"), re.M | re.S)[1]
+    return re.findall(r"^ {4,}(S?\d+) ([A-Z]\w+) ", section, re.M)
+
+
+def left_out():
+    """The names in the table of what is left out."""
+    section = re.search(r"^### 26 LeftOut\n(.*?)^### ", read("docs/FAULTS.md"), re.M | re.S)[1]
+    return {name for row in re.findall(r"^\| (`[^|]*) \|", section, re.M) for name in re.findall(r"`(\w+)`", row)}
+
+
+def camel(name):
+    """A constant's words as one name."""
+    return "".join(word.capitalize() for word in name.split("_"))
+
+
+def pairs_of(numbers, names):
+    """Numbers and names by case as pairs; the name of what is left out is that of its case."""
+    for case, number in numbers:
+        yield number, names.get(case, case if case == "LeftOut" else f"no name of {case}")
+
+
+def pairs_in_code(crate):
+    """What `number` and `name` answer in the code, and what their contracts cite."""
+    text = read(f"crates/{crate}/src/fault.rt")
+    names = dict(re.findall(r'\w+::(\w+) => "(\w+)",', text))
+    yield "src/fault.rt", list(pairs_of(re.findall(r"\w+::(\w+)(?:\(\w+\))? => (\d+),", text), names))
+    text = read(f"crates/{crate}/specs/Fault.antt")
+    names = dict(re.findall(r'^fault_name (\w+) = codes "(\w+)"$', text, re.M))
+    yield "specs/Fault.antt", list(pairs_of(re.findall(r"^fault_number \(?(\w+)(?: \w+\))? = (\d+)$", text, re.M), names))
+
+
+def constants(title):
+    """The constants of an enumeration of include/p21.h below a title, without their prefix."""
+    block = re.search(rf"/\* {title}.*?\*/\nenum \{{\n(.*?)\}};", read("include/p21.h"), re.S)[1]
+    return re.findall(r"P21_(?:SCHEMA_(?!NAME\b)|ABSENT_)?(\w+) = (\d+)", block)
+
+
+def schemas(pairs):
+    return [(number if number == "90" else f"S{number}", name) for number, name in pairs]
+
+
+def places():
+    """Each place that has pairs of a number and a name: its title, the pairs, and what it has to have beside those of which it
+    says nothing: a set of numbers, or nothing where it shows some."""
+    known = dict(listed())
+    files = {number for number in known if not number.startswith("S")}
+    of_schemas = set(known) - files
+    faults = read("docs/FAULTS.md")
+    yield "docs/FAULTS.md, titles", re.findall(r"^### (S?\d+) (\w+)$", faults, re.M), set(known)
+    for page in [*PAGES, HELP]:
+        yield page, re.findall(r"refused (S?\d+) ([A-Z]\w+)", read(page)), None
+    for kind, crates in CODE.items():
+        together = {"src/fault.rt": [], "specs/Fault.antt": []}
+        for crate in crates:
+            for file, pairs in pairs_in_code(crate):
+                pairs = schemas(pairs) if kind == "schemas" else pairs
+                together[file] += pairs
+                yield f"crates/{crate}/{file}", pairs, {number for number, _ in pairs} or {"a number"}
+        wanted = files if kind == "files" else of_schemas | {"90"}
+        for file, pairs in together.items():
+            yield f"{file} of the crates of {kind}", pairs, wanted
+    header = [(number, camel(name)) for name, number in constants("The refusals of files")]
+    yield "include/p21.h", header, files - NO_CALL_ANSWERS
+    header = [(number, camel(name)) for name, number in constants("The refusals of schemas")]
+    yield "include/p21.h, schemas", schemas(header), of_schemas
+    python = runpy.run_path(str(ROOT / "python/p21/_faults.py"))
+    plain = runpy.run_path(str(ROOT / "tests/plain/refusal.py"))
+    numbered = lambda table: [(str(number), name) for number, name in table.items()]
+    yield "python/p21/_faults.py, FILES", numbered(python["FILES"]), files - NO_CALL_ANSWERS
+    yield "python/p21/_faults.py, SCHEMAS", schemas(numbered(python["SCHEMAS"])), of_schemas
+    yield "tests/plain/refusal.py, NAMES", numbered(plain["NAMES"]), files - NOT_PLAIN
+    yield "tests/plain/refusal.py, SCHEMA_NAMES", schemas(numbered(plain["SCHEMA_NAMES"])), of_schemas
+
+
+def absent_places():
+    """Each place that has what is left out: its title, and the names, or the numbers with their names."""
+    code = read("crates/p21_tokens/src/fault.rt")
+    yield "crates/p21_tokens/src/fault.rt", [(case, name) for case, name in re.findall(r'Absent::(\w+) => "LeftOut\((\w+)\)"', code)]
+    specs = read("crates/p21_tokens/specs/Fault.antt")
+    yield "crates/p21_tokens/specs/Fault.antt", re.findall(r'^absent_name (\w+) = codes "LeftOut\((\w+)\)"$', specs, re.M)
+
+
+def absent_numbers():
+    """Each place that has numbers of what is left out."""
+    code = read("crates/p21_c/src/answers.rt")
+    yield "crates/p21_c/src/answers.rt", {name: number for name, number in re.findall(r"Absent::(\w+) => (\d+),", code)}
+    specs = read("crates/p21_c/specs/Answers.antt")
+    yield "crates/p21_c/specs/Answers.antt", dict(re.findall(r"^absent_number_of (\w+) = (\d+)$", specs, re.M))
+    yield "include/p21.h, what is left out", {camel(name): number for name, number in constants("What is left out")}
+    python = runpy.run_path(str(ROOT / "python/p21/_faults.py"))
+    yield "python/p21/_faults.py, ABSENT", {name: str(number) for number, name in python["ABSENT"].items()}
+
+
+def wrong_in_places():
+    """What stands twice in the list, and what differs from it."""
+    known = dict(listed())
+    told = [number for number, _ in listed()] + [(number[0] == "S", name) for number, name in listed()]
+    yield from (f"docs/FAULTS.md, the list: {it} stands twice" for it in sorted({str(it) for it in told if told.count(it) > 1}))
+    for title, pairs, wanted in places():
+        for number, name in sorted(set(pairs)):
+            if known.get(number) != name:
+                yield f"{title}: {number} {name}, and in the list {number} {known.get(number, 'is no refusal')}"
+        found = {number for number, _ in pairs}
+        for number in sorted(set() if wanted is None else wanted ^ found):
+            yield f"{title}: {number} {'is missing' if number in wanted else 'should not be there'}"
+
+
+def wrong_in_absent():
+    """What differs from the table of what is left out, and from the first place that has numbers."""
+    known = left_out()
+    for title, pairs in absent_places():
+        yield from (f"{title}: {case} is named {name}" for case, name in pairs if case != name)
+        yield from (f"{title}: {name} stands in one of it and docs/FAULTS.md" for name in sorted(known ^ {it for it, _ in pairs}))
+    first, numbers = next(absent_numbers())
+    for title, found in absent_numbers():
+        yield from (f"{title}: {name} stands in one of it and docs/FAULTS.md" for name in sorted(known ^ set(found)))
+        yield from (f"{title}: {name} is {number}, and in {first} {numbers.get(name)}" for name, number in found.items() if numbers.get(name) != number)
+
+
+def main():
+    wrong = [*wrong_in_places(), *wrong_in_absent()]
+    for line in wrong:
+        print(line)
+    count, absent = len(listed()), len(left_out())
+    of = sum(1 for _, pairs, _ in places() if pairs) + sum(1 for _ in absent_places()) + sum(1 for _ in absent_numbers())
+    print(f"{count} refusals, {absent} forms left out, {of} places, {len(wrong)} failed")
+    return int(bool(wrong) or not count or not absent)
+
+
+if __name__ == "__main__":
+    sys.exit(main())
