@@ -4,7 +4,7 @@ use Rattle.std.specs.BTreeMap.{is_at}
 use Rattle.std.specs.Cmp.Lexicographic.{slice_cmp}
 use Rattle.std.specs.Ordering.{nat_cmp, is_eq, is_lt, ordering_reverse}
 use Rattle.std.specs.Str.{bytes_eq}
-use Rattle.std.proofs.Common.{Ordering, Less, Equal, Greater, arith, ap, sym, ◌∙◌, true≢false}
+use Rattle.std.proofs.Common.{◌&&◌, T, Ordering, Less, Equal, Greater, arith, ap, sym, ◌∙◌, true≢false}
 use Rattle.std.proofs.lemmas.Bool.{both_ways}
 use Rattle.std.proofs.lemmas.Bool.Decides.{nat_tests}
 use Rattle.std.proofs.lemmas.Cmp.{nat_list_cmp_total}
@@ -19,6 +19,11 @@ nat_eq-turned m n = by (nat_eq m n) (nat_eq n m) refl refl
     by true false is is_ = absurd (grind (arith, nat_tests))
     by false true is is_ = absurd (grind (arith, nat_tests))
     by false false is is_ = is ∙ sym is_
+
+-- of two tests at once, each holds
+pub both : (x y : Bool) → T (x && y) → T x × T y
+both true y holds = (tt, holds)
+both false y holds = absurd holds
 
 -- a look-up of a number doesn't stop at another one
 pub is_at-other : (m n : ℕ) → n ≢ m → is_at (nat_cmp m) n ≡ false

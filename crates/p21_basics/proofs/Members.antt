@@ -1,9 +1,11 @@
 -- The members of lists.
-use Rattle.std.specs.Prelude.{◌≡◌, ℕ, zero, suc, ◌+◌, List, [], ◌∷◌, ◌++◌, map, filter, length, slice_get, Option, Some, Contains, refl, ◌⊎◌, Bool, true, false, cond}
+use Rattle.std.specs.Prelude.{◌≡◌, ℕ, zero, suc, ◌+◌, List, [], ◌∷◌, ◌++◌, map, filter, length, take, drop, ◌-◌, slice_get, Option, Some, Contains, refl, ◌⊎◌, Bool, true, false, cond}
 use Rattle.std.specs.Str.{bytes_eq}
 use Rattle.std.proofs.lemmas.Bool.{or_parts}
 use Rattle.std.specs.List.{list_any, flat_map, zip, AllZip, enumerate_from, AllByRecursion as Each}
 use Rattle.std.proofs.Common.{arith, subst, ap, sym, ◌∙◌, inl, inr}
+use Rattle.std.proofs.lemmas.List.{length-drop}
+use Rattle.std.proofs.Math.Seq.{take-length}
 use Rattle.std.proofs.lemmas.List.Elements.{Contains-append_left, Contains-append_right, Contains-append_cases}
 
 pub Contains-none : {X : Type 0} (x : X) → Contains [] x → ⊥
@@ -240,6 +242,10 @@ pub Contains-no_word : (x : List ℕ) (xs : List (List ℕ)) → bytes_eq x x �
 Contains-no_word x [] same none (k, below, is) = omega (arith, below)
 Contains-no_word x (y ∷ ys) same none (zero, below, is) = let h : true ≡ false = sym same ∙ ap (λ z. bytes_eq x z) (sym is) ∙ (or_parts (bytes_eq x y) (list_any (bytes_eq x) ys) none).0 in cc
 Contains-no_word x (y ∷ ys) same none (suc k, below, is) = Contains-no_word x ys same (or_parts (bytes_eq x y) (list_any (bytes_eq x) ys) none).1 (k, omega (arith, below), is)
+
+-- what a slice of a list from a place on holds
+pub rest_is : (bytes : List ℕ) (count : ℕ) → take (length bytes - count) (drop count bytes) ≡ drop count bytes
+rest_is bytes count = ap (λ (n : ℕ). take n (drop count bytes)) (sym (length-drop count bytes)) ∙ take-length (drop count bytes)
 
 pub head_is : (x y : ℕ) (xs ys : List ℕ) → x ∷ xs ≡ y ∷ ys → x ≡ y
 head_is x y xs ys e = cc

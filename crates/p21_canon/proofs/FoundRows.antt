@@ -42,9 +42,6 @@ pub on_err_more : {T E : Type 0} (r : Result T E) (P Q : Type 0) → (P → Q) �
 on_err_more (Ok value) P Q more holds = tt
 on_err_more (Err fault) P Q more holds = more holds
 
-pub continues-same : (old new : List ℕ) → new ≡ old → Continues old new
-continues-same old new is = ([], is ∙ sym (append-nil old))
-
 pub continues-later : (old x out new : List ℕ) → out ≡ old ++ x → Continues out new → Continues old new
 continues-later old x out new e (tail, is) = (x ++ tail, is ∙ ap (λ (y : List ℕ). y ++ tail) e ∙ append_assoc old x tail)
 

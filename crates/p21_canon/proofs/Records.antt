@@ -1,24 +1,20 @@
 -- The canonical record of a meaning means it, and is canonical.
-use Rattle.std.proofs.Common.{◌≡◌, ℕ, zero, suc, ◌+◌, ◌<◌, false, List, [], ◌∷◌, length, Option, Some, None, Contains, arith, refl, ap, sym, subst, ◌∙◌, inl, inr}
-use Rattle.std.specs.Cmp.Lexicographic.{slice_cmp}
+use Rattle.std.proofs.Common.{◌≡◌, ℕ, ◌<◌, List, [], ◌∷◌, length, Option, Some, None, Contains, arith, refl, ap, sym, subst, ◌∙◌, inl, inr}
 use Rattle.std.specs.List.{AllZip, zip, AllByRecursion as Each}
-use Rattle.std.specs.List.Sorted.{IsStrictlySortedBy}
-use Rattle.std.specs.Ordering.{is_lt, nat_cmp}
-use Rattle.std.specs.Prelude.{slice_index_or}
 use Rattle.p21_basics.proofs.Members.{AllZip-member, Contains-cases, Contains-first, Contains-later, Contains-none}
 use Rattle.p21_basics.proofs.Shuffles.{none_twice-distinct}
 use Rattle.p21_claim_values.proofs.CanonicalParam.{canonical_params}
 use Rattle.p21_claim_values.proofs.Leaves.{closure-leaf}
 use Rattle.p21_claim_values.proofs.Printing.{canonical_typed, means-with}
 use Rattle.p21_claim_values.proofs.RecordOnce.{words}
-use Rattle.p21_claim_values.proofs.Sorting.{below-not_back}
+use Rattle.p21_claim_values.proofs.PrintingParts.{first-entity}
+use Rattle.p21_claim_values.proofs.Rising.{strict-rises}
 use Rattle.p21_exchange.specs.Parameter.{key_of, params_of}
 use Rattle.p21_exchange.specs.Record.{Part, Record, simple, complex}
 use Rattle.p21_files.proofs.OneMeaning.{rising-none_twice}
 use Rattle.p21_files.specs.CanonicalRecord.{AreTextsRising, HasOneLeaf, IsCanonicalPart, IsCanonicalRecord}
 use Rattle.p21_files.specs.Meaning.{HasOwnCount, NamesEntity, PartMeans, RecordMeans, Typed}
 use Rattle.p21_files.specs.Reference.{EntitySets}
-use Rattle.p21_files.specs.Sorting.{is_below}
 use Rattle.p21_files.specs.Value.{Values}
 use Rattle.p21_schemas.proofs.Orders.{order_within-only}
 use Rattle.p21_schemas.specs.Order.{order}
@@ -53,12 +49,6 @@ closed-set s kinds r m means = record {
   distinct = none_twice-distinct m.entities (rising-none_twice s m.entities means.rising.0 means.rising.1 means.rising.2);
   closed = subset-closed s kinds r m means;
 }
-
--- it has members
-first-entity : (s : Schema) (kinds : EntitySets) (m : Typed) (parts : List Part) (es : List ℕ) → AllZip (PartMeans s kinds m) parts es → 0 < length parts → (e : ℕ) × Contains es e
-first-entity s kinds m [] es all some = absurd (omega (arith, some))
-first-entity s kinds m (part ∷ parts) [] all some = absurd all
-first-entity s kinds m (part ∷ parts) (e ∷ es) all some = (e, Contains-first e es)
 
 some-entity : (s : Schema) (kinds : EntitySets) (r : Record) (m : Typed) → RecordMeans s kinds r m → (e : ℕ) × Contains m.entities e
 some-entity s kinds (simple part) m means = (means.means.entity, (means.means.closure means.means.entity).1 (itself means.means.entity))
@@ -155,17 +145,6 @@ external-means s formed kinds r m means =
       closed = set.closed;
       parts_mean = parts-mean s formed kinds r m means;
     })
-
--- keywords that rise are in order
-strict-rises : (xs : List (List ℕ)) → IsStrictlySortedBy (slice_cmp nat_cmp) xs → AreTextsRising xs
-unfolding IsStrictlySortedBy
-strict-rises [] rise k d low high = absurd (omega (arith, high))
-strict-rises (x ∷ []) rise k d low high = absurd (omega (arith, high))
-strict-rises (x ∷ y ∷ ys) rise zero d low high = below-not_back x y (ap is_lt rise.0.0)
-strict-rises (x ∷ y ∷ ys) rise (suc k) d low high =
-    let P : ℕ → Type 0 = λ n. is_below (slice_index_or (x ∷ y ∷ ys) n d) (slice_index_or (x ∷ y ∷ ys) (suc k) d) ≡ false in
-    let next : suc (k + 1) ≡ suc k + 1 = omega arith in
-    subst P next (strict-rises (y ∷ ys) rise.1 k d (omega arith) (omega (arith, high)))
 
 words-are : (s : Schema) (es : List ℕ) (rows : List Values) (names : List (List ℕ)) → AllZip (HasOwnCount s) es rows → AllZip (EntityNamed s) es names → words (parts_for s es rows) ≡ names
 words-are s [] rows [] all named = refl

@@ -7,7 +7,8 @@ use Rattle.p21_claim_values.proofs.CanonicalParam.{canonical_params, texts-of, v
 use Rattle.p21_claim_values.proofs.OfType.{AreWritten}
 use Rattle.p21_claim_values.proofs.ParamTexts.{list-is, tokens_text-append}
 use Rattle.p21_claim_values.proofs.Printing.{part-said}
-use Rattle.p21_claim_values.specs.Written.{IsSpelled, IsWrittenStatement}
+use Rattle.p21_claim_values.specs.Written.{IsWrittenStatement}
+use Rattle.p21_exchange.specs.Token.{IsSpelled}
 use Rattle.p21_exchange.specs.CanonicalText.{param_text, param_texts, statement_text, tokens_text}
 use Rattle.p21_exchange.specs.Parameter.{Param, Params, key_of, params_of}
 use Rattle.p21_exchange.specs.Record.{Record, part_tokens, record_tokens}

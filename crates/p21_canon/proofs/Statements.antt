@@ -8,7 +8,8 @@ use Rattle.p21_basics.proofs.Members.{Each-front}
 use Rattle.p21_claim_values.proofs.CanonicalLaid.{laid-each_spelled, statement_laid}
 use Rattle.p21_claim_values.proofs.Printing.{canonical-same_typed, canonical_typed}
 use Rattle.p21_claim_values.proofs.RecordOnce.{record-once}
-use Rattle.p21_claim_values.specs.Written.{IsSpelled, IsWrittenStatement}
+use Rattle.p21_claim_values.specs.Written.{IsWrittenStatement}
+use Rattle.p21_exchange.specs.Token.{IsSpelled}
 use Rattle.p21_exchange.specs.CanonicalText.{statement_text}
 use Rattle.p21_exchange.specs.Laying.{Laid}
 use Rattle.p21_exchange.specs.Record.{Record, record_tokens}

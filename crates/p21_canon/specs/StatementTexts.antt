@@ -6,7 +6,7 @@ use Rattle.p21_files.specs.Value.{Values, no_values}
 use Rattle.p21_files.specs.ValueText.{list_text, value_texts, with_commas, with_commas_between}
 use Rattle.p21_schemas.specs.Schema.{Schema}
 use Rattle.p21_schemas.specs.Supertype.{InClosure, IsA}
-use Rattle.p21_claim_values.specs.Written.{IsSpelled}
+use Rattle.p21_exchange.specs.Token.{IsSpelled}
 use Rattle.p21_exchange.specs.Spelling.{name_spelling}
 use Rattle.p21_exchange.specs.Token as token
 use Rattle.p21_express_graph.specs.Lookups.{AreEntities}

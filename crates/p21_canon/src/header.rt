@@ -1,6 +1,7 @@
 //! The canonical text of a header record, and of the record that begins a named data section.
 ghost use Rattle.std.specs.Prelude.{◌≡◌, ◌++◌, OnErr, OnOk};
-ghost use Rattle.p21_claim_values.specs.Written.{IsSpelled, IsWritten, IsWrittenStatement};
+ghost use Rattle.p21_claim_values.specs.Written.{IsWritten, IsWrittenStatement};
+ghost use Rattle.p21_exchange.specs.Token.{IsSpelled};
 ghost use Rattle.p21_exchange.specs.CanonicalText.{param_text, statement_text};
 ghost use Rattle.p21_exchange.specs.Laying.{Laid};
 ghost use Rattle.p21_exchange.specs.Parameter.{key_token, list, typed};

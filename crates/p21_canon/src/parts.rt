@@ -1,8 +1,7 @@
 ghost use Rattle.std.specs.Prelude.{◌≡◌, ◌++◌, ℕ, codes, length, Contains, IfOk, OnErr, OnOk};
 ghost use Rattle.std.specs.List.{AllByRecursion as Each};
 ghost use Rattle.p21_canon.specs.StatementTexts.{AreSpelledParts, HasRows, IsClosureOf, IsFirstAt, IsSpelledPart, entity_name, part_text, parts_text, row_of, rows_texts, still_first, texts_behind};
-ghost use Rattle.p21_claim_values.specs.Written.{IsSpelled};
-ghost use Rattle.p21_exchange.specs.Token.{keyword};
+ghost use Rattle.p21_exchange.specs.Token.{IsSpelled, keyword};
 ghost use Rattle.p21_express_graph.specs.Lookups.{AreEntities};
 ghost use Rattle.p21_express_graph.specs.Orders.{numbers};
 ghost use Rattle.p21_express_graph.specs.Resolved.{IsEntity};

@@ -62,7 +62,7 @@ entries-entity_sets s formed others (e ∷ es) (m ∷ ms) each all =
     ∙ ap (λ (x : Typed). (e.name, x.entities) ∷ entity_sets_of ms) one
     ∙ ap (λ (ks : EntitySets). (e.name, e.meaning.entities) ∷ ks) (entries-entity_sets s formed others es ms each.1 all.1)
 
-written-are : (groups : List SectionEntries) → instances_in (map section_of groups) ≡ written_in (entries_in groups)
+pub written-are : (groups : List SectionEntries) → instances_in (map section_of groups) ≡ written_in (entries_in groups)
 written-are [] = refl
 written-are (g ∷ gs) = ap (λ (is : List Instance). written_in g.entries ++ is) (written-are gs) ∙ sym (map-append (λ (e : Entry). (e.name, e.record_)) g.entries (entries_in gs))
 

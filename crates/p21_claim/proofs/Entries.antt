@@ -20,7 +20,7 @@ use Rattle.p21_claim.proofs.SectionsOnce.{named}
 use Rattle.p21_claim_values.proofs.Printing.{canonical_typed}
 use Rattle.p21_claim_values.proofs.PrintingParts.{has-canonical_record}
 use Rattle.p21_claim_values.proofs.Wider.{IsWider, record-wider}
-use Rattle.p21_claim_values.specs.Written.{IsSpelled}
+use Rattle.p21_exchange.specs.Token.{IsSpelled}
 
 -- an instance with its meaning
 abbrev pub Entry : Type 0

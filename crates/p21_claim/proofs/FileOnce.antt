@@ -25,7 +25,7 @@ use Rattle.p21_claim.proofs.Headings.{headings-once, headings-none_twice}
 use Rattle.p21_claim.proofs.SaidFiles.{Instance, header-said, instances-said}
 use Rattle.p21_claim.proofs.SectionsOnce.{named, named-same, names-by_sections, sections-once}
 use Rattle.p21_basics.proofs.Shuffles.{NoneTwice}
-use Rattle.p21_claim_values.specs.Written.{IsSpelled}
+use Rattle.p21_exchange.specs.Token.{IsSpelled}
 use Rattle.p21_claim_values.proofs.HeaderOnce.{header-once}
 use Rattle.p21_claim.proofs.OneReading.{Reads-one}
 

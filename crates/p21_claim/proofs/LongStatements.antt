@@ -4,12 +4,12 @@ use Rattle.p21_basics.proofs.Members.{tail_is}
 use Rattle.p21_claim.proofs.TokenPrefixes.{long-statement}
 use Rattle.p21_claim.specs.SizeLaws.{FullStatementIsDead}
 use Rattle.p21_exchange.proofs.FirstBytes.{spelling_begins}
-use Rattle.p21_exchange.proofs.OneGap.{gap-one, nothing-first}
+use Rattle.p21_exchange.proofs.OneGap.{gap-one, nothing-first, begins-on}
 use Rattle.p21_exchange.specs.Laying.{AreStatementsWithin, LaidAs, Lexeme, count_behind, open_bytes}
 use Rattle.p21_exchange.specs.Pending.{BeginsWithNoSeparator, IsTokenByte, LaidUpTo, Tail, nothing, open_comment, slash, tail_size, unfinished}
 use Rattle.p21_exchange.specs.Separator.{IsSeparatorText}
 use Rattle.p21_exchange.specs.Token.{IsFollowed, MayFollow, Spells, Token, semicolon}
-use Rattle.p21_tokens_automaton.proofs.OnePending.{append-rest, begins-no_separator, begins-on, count-more, front-one}
+use Rattle.p21_tokens_automaton.proofs.OnePending.{append-rest, begins-no_separator, count-more, front-one}
 
 -- one of two fronts of a list begins the other
 abbrev Begins : List ℕ → List ℕ → List ℕ → List ℕ → Type 0

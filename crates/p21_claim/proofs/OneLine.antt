@@ -23,7 +23,7 @@ use Rattle.p21_claim.proofs.FileOnce.{Meant}
 use Rattle.p21_claim_values.proofs.HeaderOnce.{header-once}
 use Rattle.p21_claim_values.proofs.RecordOnce.{record-once}
 use Rattle.p21_files.proofs.OneMeaning.{RecordMeans-one}
-use Rattle.p21_claim_values.specs.Written.{IsSpelled}
+use Rattle.p21_exchange.specs.Token.{IsSpelled}
 
 abbrev pub IsCanonicalInstance : Schema → Instance → Meant → Type 0
 IsCanonicalInstance s written meant = IsCanonicalRecord s written.1 meant.1

@@ -13,11 +13,10 @@ use Rattle.p21_files.specs.SameFile.{SameFileMeaning}
 use Rattle.p21_schemas.specs.Schema.{Schema}
 use Rattle.p21_exchange.specs.Statement.{Statement}
 use Rattle.p21_exchange.specs.Structure.{statements, tokens_of}
-use Rattle.p21_exchange.specs.Token.{Token}
+use Rattle.p21_exchange.specs.Token.{Token, IsSpelled}
 use Rattle.p21_claim_values.proofs.CanonicalLaid.{laid-spelled, statement_lexemes, lines_laid, statements_within}
 use Rattle.p21_claim.proofs.OneAccepted.{Means-one}
 use Rattle.p21_claim.proofs.OneReading.{one_lexemes}
-use Rattle.p21_claim_values.specs.Written.{IsSpelled}
 
 -- the lexemes of canonical bytes are those of their lines, whatever laying is taken
 pub lexemes-are : (s : Schema) (bytes : List ℕ) (c : Canonical s bytes) → c.reads.in_grammar.laid.lexemes ≡ flat_map statement_lexemes (statements c.reads.structure)

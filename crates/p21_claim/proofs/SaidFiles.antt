@@ -7,7 +7,8 @@ use Rattle.p21_exchange.specs.Statement.{Statement, section, header, instance, s
 use Rattle.p21_exchange.specs.Structure.{Structure, section_statements, statements, tokens_of}
 use Rattle.p21_exchange.specs.Token as token
 use Rattle.p21_basics.proofs.Members.{Each-front, Each-back, Each-apart, Each-joined, Each-unmapped, Each-weaker}
-use Rattle.p21_claim_values.specs.Written.{IsSpelled, IsWrittenStatement}
+use Rattle.p21_claim_values.specs.Written.{IsWrittenStatement}
+use Rattle.p21_exchange.specs.Token.{IsSpelled}
 
 abbrev pub Instance : Type 0
 Instance = ℕ × Record

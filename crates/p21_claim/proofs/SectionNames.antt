@@ -2,7 +2,7 @@
 use Rattle.std.specs.Prelude.{◌≡◌, ℕ, List, [], ◌∷◌, map, Contains}
 use Rattle.std.specs.List.{AllByRecursion as Each}
 use Rattle.std.proofs.Common.{arith, ap, sym, subst, ◌∙◌, inl, inr, append-nil}
-use Rattle.p21_basics.proofs.Members.{Contains-none, Contains-first, Contains-later, Contains-cases, Each-member}
+use Rattle.p21_basics.proofs.Members.{Contains-none, Contains-first, Contains-later, Contains-cases, Each-member, Each-of_members}
 use Rattle.p21_exchange.specs.DataSection.{Heading, unnamed, named, IsNamed, AreHeadings, section_names}
 use Rattle.p21_exchange.specs.Parameter as parameter
 use Rattle.p21_exchange.specs.Parameter.{Param}
@@ -13,7 +13,7 @@ use Rattle.p21_claim.proofs.Headings.{heading_text}
 use Rattle.p21_claim_values.proofs.LaidTexts.{one-text}
 use Rattle.p21_claim_values.specs.Written.{IsWrittenStatement}
 use Rattle.p21_basics.proofs.Shuffles.{Shuffled, Shuffled-first, Shuffled-none, Shuffled-members, Shuffled-symmetric, NoneTwice, Taken, taken_first, taken_later}
-use Rattle.p21_claim_values.specs.Written.{IsSpelled}
+use Rattle.p21_exchange.specs.Token.{IsSpelled}
 
 -- the name has a spelling, where there is one
 abbrev pub IsNameSpelled : Heading → Type 0
@@ -50,10 +50,6 @@ texts_none_twice (unnamed ∷ []) are spelled none = (λ among. Contains-none []
 texts_none_twice (unnamed ∷ next ∷ more) are spelled none = absurd are
 texts_none_twice (named name schema ∷ more) are spelled none = named-texts_none_twice (named name schema ∷ more) (tt, are) spelled none
 
-each-named : (found : List Heading) → ((h : Heading) → Contains found h → IsNamed h) → Each IsNamed found
-each-named [] all = tt
-each-named (heading ∷ more) all = (all heading (Contains-first heading more), each-named more (λ h among. all h (Contains-later heading more h among)))
-
 some-headings : (found : List Heading) (h : Heading) → Contains found h → Each IsNamed found → AreHeadings found
 some-headings [] h among are = absurd (Contains-none h among)
 some-headings (unnamed ∷ more) h among are = absurd are.0
@@ -72,4 +68,4 @@ headings-shuffled (unnamed ∷ []) ys are mixed =
 headings-shuffled (unnamed ∷ next ∷ more) ys are mixed = absurd are
 headings-shuffled (named name schema ∷ more) ys are mixed =
     some-headings ys (named name schema) (Shuffled-members (named name schema ∷ more) ys mixed (named name schema) (Contains-first (named name schema) more))
-    (each-named ys (λ h among. Each-member IsNamed (named name schema ∷ more) h (tt, are) (Shuffled-members ys (named name schema ∷ more) (Shuffled-symmetric (named name schema ∷ more) ys mixed) h among)))
+    (Each-of_members IsNamed ys (λ h among. Each-member IsNamed (named name schema ∷ more) h (tt, are) (Shuffled-members ys (named name schema ∷ more) (Shuffled-symmetric (named name schema ∷ more) ys mixed) h among)))

@@ -159,10 +159,6 @@ stored-lines groups kept store number g at lines (onto, back) l = (to, from)
         let L : Line → Type 0 = λ y. Contains lines y in
         subst L is (onto x (Contains-permutation (stored_in groups) kept x store (Contains-mapped stored_of (numbered_entries_in groups) (0 + number, e) found)) zero_)
 
--- headings of blocks for sections
-each-named : (hs : List Heading) → ((h : Heading) → Contains hs h → IsNamed h) → Each IsNamed hs
-each-named hs all = Each-of_members IsNamed hs all
-
 are-headings : (hs gs : List Heading) → AreHeadings gs → length hs ≡ length gs → ((h : Heading) → Contains hs h → Contains gs h) → AreHeadings hs
 are-headings hs [] are size onto = absurd are
 are-headings [] (g ∷ gs) are size onto = absurd (omega (arith, size))
@@ -172,7 +168,7 @@ are-headings (h ∷ []) (unnamed ∷ []) are size onto = elim (Contains-cases un
 ]
 are-headings (h ∷ next ∷ more) (unnamed ∷ []) are size onto = absurd (omega (arith, size))
 are-headings hs (unnamed ∷ next ∷ more) are size onto = absurd are
-are-headings (h ∷ hs) (named name schema ∷ more) are size onto = first h (all h (Contains-first h hs)) (each-named hs (λ x among. all x (Contains-later h hs x among)))
+are-headings (h ∷ hs) (named name schema ∷ more) are size onto = first h (all h (Contains-first h hs)) (Each-of_members IsNamed hs (λ x among. all x (Contains-later h hs x among)))
   where
     all : (x : Heading) → Contains (h ∷ hs) x → IsNamed x
     all x among = Each-member IsNamed (named name schema ∷ more) x (tt, are) (onto x among)

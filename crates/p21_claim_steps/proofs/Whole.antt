@@ -23,7 +23,7 @@ use Rattle.p21_claim_steps.specs.Offending.{IsUnserved, unfit as is_unfit, unkno
 use Rattle.p21_claim_steps.specs.Waiting.{Reference, references_in, references_of}
 use Rattle.p21_claim_steps.specs.WholeLaws.{UnrefusedTextSize, UnrefusedHaveHeadings, UnrefusedAreAccepted, UnrefusedAreCompleteFile, LastTokenIsOfNoFile, UnservedReferenceIsNotAccepted, StatementsWithinUpToTail}
 use Rattle.p21_exchange.proofs.FirstBytes.{spelling_begins}
-use Rattle.p21_exchange.proofs.OneGap.{gap-one}
+use Rattle.p21_exchange.proofs.OneGap.{gap-one, begins-on}
 use Rattle.p21_exchange.proofs.Semicolons.{statements-end}
 use Rattle.p21_exchange.specs.DataSection.{AreHeadings, Heading, headings, instances_in, section_names}
 use Rattle.p21_exchange.specs.Grammar.{IsFile}
@@ -39,7 +39,7 @@ use Rattle.p21_files.specs.File.{HeadingNamesSchema}
 use Rattle.p21_files.specs.Reference.{Need}
 use Rattle.p21_schemas.specs.Schema.{Schema}
 use Rattle.p21_schemas.specs.WellFormed.{IsWellFormed}
-use Rattle.p21_tokens_automaton.proofs.OnePending.{append-rest, begins-no_separator, begins-on, front-one}
+use Rattle.p21_tokens_automaton.proofs.OnePending.{append-rest, begins-no_separator, front-one}
 
 -- ---- the last token
 

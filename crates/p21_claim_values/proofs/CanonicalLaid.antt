@@ -3,7 +3,8 @@ use Rattle.std.proofs.Common.{◌≡◌, ◌∙◌, ◌≢◌, ℕ, ◌+◌, ◌
 use Rattle.std.proofs.lemmas.List.{map-append}
 use Rattle.std.specs.List.{flat_map, AllByRecursion as Each}
 use Rattle.p21_basics.proofs.Members.{Each-front, Each-back, Each-joined}
-use Rattle.p21_claim_values.specs.Written.{IsSpelled, IsWritten, IsWrittenStatement}
+use Rattle.p21_claim_values.specs.Written.{IsWritten, IsWrittenStatement}
+use Rattle.p21_exchange.specs.Token.{IsSpelled, Token, begin, finish, keyword, user_keyword, name, whole, real, text, item, bits, left, right, comma, semicolon, equals, dollar, star, MayFollow, IsFollowed, IsWholeAtOnce}
 use Rattle.p21_exchange.proofs.CanonicalSpellings.{spells-itself}
 use Rattle.p21_exchange.proofs.Laying.{lay}
 use Rattle.p21_exchange.proofs.Semicolons.{unended, statement-ends, unended-no_semicolon}
@@ -18,7 +19,6 @@ use Rattle.p21_exchange.specs.Record.{Part, Record, simple, complex, part_tokens
 use Rattle.p21_exchange.specs.Separator.{blank}
 use Rattle.p21_exchange.specs.Spelling.{spelling}
 use Rattle.p21_exchange.specs.Statement.{Statement, begin as file_begin, finish as file_finish, header_start, section_end, data_start, section, header, instance, statement_tokens}
-use Rattle.p21_exchange.specs.Token.{Token, begin, finish, keyword, user_keyword, name, whole, real, text, item, bits, left, right, comma, semicolon, equals, dollar, star, MayFollow, IsFollowed, IsWholeAtOnce}
 
 -- tokens that are laid have spellings
 pub laid-spelled : (bytes : List ℕ) (lexemes : List Lexeme) → LaidAs bytes lexemes → Each IsSpelled (tokens_in lexemes)

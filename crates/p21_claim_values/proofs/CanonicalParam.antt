@@ -20,7 +20,8 @@ use Rattle.p21_basics.proofs.Shuffles.{Shuffled, no_more, one_more, Shuffled-sym
 use Rattle.p21_files.specs.Sorting.{is_below, insert_text, sort_texts}
 use Rattle.p21_files.specs.ValueText.{type_name, list_text, value_text, value_texts}
 use Rattle.p21_basics.proofs.Members.{Each-append}
-use Rattle.p21_claim_values.specs.Written.{IsSpelled, IsWritten}
+use Rattle.p21_claim_values.specs.Written.{IsWritten}
+use Rattle.p21_exchange.specs.Token.{IsSpelled}
 use Rattle.p21_exchange.proofs.Parameters.{listed-params}
 
 abbrev pub insert_param : Param → List Param → List Param

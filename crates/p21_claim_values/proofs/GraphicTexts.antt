@@ -6,10 +6,10 @@ use Rattle.std.specs.List.{AllByRecursion as Each}
 use Rattle.p21_basics.proofs.Members.{Each-append}
 use Rattle.p21_basics.proofs.PlainDigits.{plain_are_digits, plain_digits_are}
 use Rattle.p21_basics.specs.Digits.{AllDigits, hex_digit, plain_digits}
-use Rattle.p21_claim_values.specs.Written.{IsSpelled}
+use Rattle.p21_basics.proofs.Comparing.{both}
+use Rattle.p21_exchange.specs.Token.{IsSpelled, Token, begin, finish, keyword, user_keyword, name, whole, real, text, item, bits, left, right, comma, semicolon, equals, dollar, star}
 use Rattle.p21_claim_values.specs.LineLaws.{LinesAreGraphic}
 use Rattle.p21_exchange.proofs.BitSpellings.{bits_spell}
-use Rattle.p21_exchange.proofs.Laying.{both}
 use Rattle.p21_exchange.proofs.Texts.{text_spelling-graphic}
 use Rattle.p21_exchange.specs.CanonicalText.{tokens_text}
 use Rattle.p21_exchange.specs.Keyword.{IsKeyword, IsKeywordByte, IsUpper}
@@ -17,7 +17,6 @@ use Rattle.p21_exchange.specs.Number.{Decimal}
 use Rattle.p21_exchange.specs.Spelling.{bits_spelling, exponent_spelling, minus_bytes, normalised_exponent, digits_with_point, spelling, whole_spelling}
 use Rattle.p21_exchange.specs.Statement.{statement_tokens}
 use Rattle.p21_exchange.specs.Text.{IsGraphic}
-use Rattle.p21_exchange.specs.Token.{Token, begin, finish, keyword, user_keyword, name, whole, real, text, item, bits, left, right, comma, semicolon, equals, dollar, star}
 
 upper : (byte : ℕ) → IsUpper byte → IsGraphic byte
 upper byte (inl h) = (omega (arith, h), omega (arith, h))

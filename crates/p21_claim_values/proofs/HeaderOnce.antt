@@ -8,7 +8,8 @@ use Rattle.p21_claim_values.proofs.LaidTexts.{one-text}
 use Rattle.p21_claim_values.proofs.OfType.{AreWritten, params-written}
 use Rattle.p21_claim_values.proofs.RecordOnce.{part-same, part-written}
 use Rattle.p21_claim_values.specs.HeaderLaws.{LinesTellHeaderRecords, TextsTellHeaderParameters}
-use Rattle.p21_claim_values.specs.Written.{IsSpelled, IsWritten, IsWrittenStatement}
+use Rattle.p21_claim_values.specs.Written.{IsWritten, IsWrittenStatement}
+use Rattle.p21_exchange.specs.Token.{IsSpelled, Token}
 use Rattle.p21_exchange.proofs.OneTree.{one_record}
 use Rattle.p21_exchange.proofs.ReducedDecimals.{reduced_once}
 use Rattle.p21_exchange.specs.CanonicalText.{param_text, statement_text}
@@ -18,7 +19,6 @@ use Rattle.p21_exchange.specs.Parameter.{Param, Params, no_params, param, param_
 use Rattle.p21_exchange.specs.Record.{Part, part_tokens, simple}
 use Rattle.p21_exchange.specs.Statement.{header, statement_tokens}
 use Rattle.p21_exchange.specs.Token as token
-use Rattle.p21_exchange.specs.Token.{Token}
 use Rattle.p21_files.proofs.SameFiles.{SameParam-reflexive, SamePart-reflexive}
 use Rattle.p21_files.specs.SameFile.{SameParam, both_dollar, both_star, same_wholes, same_reals, same_texts, same_names, same_items, same_bits, same_lists, same_typed, SameParams, both_end, both_next, SamePart}
 use Rattle.p21_tokens_automaton.proofs.Theorems.{one-laying}

@@ -8,7 +8,8 @@ use Rattle.p21_claim_values.proofs.CanonicalLaid.{laid-each_spelled, statement_l
 use Rattle.p21_claim_values.proofs.Printing.{canonical-same_typed, canonical_typed}
 use Rattle.p21_claim_values.proofs.PrintingParts.{has-canonical_record}
 use Rattle.p21_claim_values.proofs.RecordOnce.{record-once}
-use Rattle.p21_claim_values.specs.Written.{IsSpelled, IsWrittenStatement}
+use Rattle.p21_claim_values.specs.Written.{IsWrittenStatement}
+use Rattle.p21_exchange.specs.Token.{IsSpelled, Token}
 use Rattle.p21_exchange.proofs.OneTree.{one_record}
 use Rattle.p21_exchange.specs.CanonicalText.{statement_text}
 use Rattle.p21_exchange.specs.Grammar.{IsDataRecord}
@@ -16,7 +17,6 @@ use Rattle.p21_exchange.specs.Laying.{Laid}
 use Rattle.p21_exchange.specs.Record.{Record, record_tokens}
 use Rattle.p21_exchange.specs.Statement.{Statement, section, header, instance, statement_tokens}
 use Rattle.p21_exchange.specs.Token as token
-use Rattle.p21_exchange.specs.Token.{Token}
 use Rattle.p21_files.proofs.OneMeaning.{RecordMeans-one}
 use Rattle.p21_files.proofs.SameFiles.{SameTyped-reflexive, SameTyped-symmetric, SameTyped-transitive}
 use Rattle.p21_files.specs.CanonicalTexts.{HaveCanonicalSize, IsInstanceText}

@@ -11,11 +11,11 @@ use Rattle.p21_schemas.specs.Schema.{Schema, TypeUse, Member, Width, alias, item
 use Rattle.p21_schemas.specs.Select.{Offers, offered, offered_within, IsSelect}
 use Rattle.p21_exchange.specs.Spelling.{spelling}
 use Rattle.p21_exchange.specs.Token as token
-use Rattle.p21_exchange.specs.Token.{Token}
+use Rattle.p21_exchange.specs.Token.{Token, IsSpelled}
 use Rattle.p21_files.specs.Value.{Value, whole, real, number, text, bits, item, reference, missing, list, array, set, bag, typed, Values, no_values, value}
 use Rattle.p21_exchange.proofs.RealSpellings.{real_spells}
 use Rattle.p21_basics.proofs.Members.{Each-front, Each-back}
-use Rattle.p21_claim_values.specs.Written.{IsSpelled, IsWritten}
+use Rattle.p21_claim_values.specs.Written.{IsWritten}
 
 mutual
   pub data OfType (s : Schema) : TypeUse → Value → Type 0 where

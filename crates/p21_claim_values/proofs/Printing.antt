@@ -29,7 +29,8 @@ use Rattle.p21_claim_values.proofs.Leaves.{closure-leaf}
 use Rattle.p21_claim_values.proofs.OfType.{AreWritten, fits-of}
 use Rattle.p21_claim_values.proofs.RecordOnce.{part-written}
 use Rattle.p21_files.specs.Sorting.{is_below}
-use Rattle.p21_claim_values.specs.Written.{IsSpelled, IsWritten}
+use Rattle.p21_claim_values.specs.Written.{IsWritten}
+use Rattle.p21_exchange.specs.Token.{IsSpelled}
 
 -- ---- no user keywords
 
@@ -229,7 +230,7 @@ means-with s kinds r q a means mapping = record {
 pub key-plain : (s : Schema) (key : Key) (e : ℕ) → NamesEntity s key e → IsNoUserKeyword (key_token key)
 key-plain s key e (n, named, is) = let P : Key → Type 0 = λ k. IsNoUserKeyword (key_token k) in subst P (sym is) tt
 
-written-tokens : (ps : Params) → AreWritten ps → Each IsSpelled (params_tokens ps)
+pub written-tokens : (ps : Params) → AreWritten ps → Each IsSpelled (params_tokens ps)
 written-tokens no_params written = tt
 written-tokens (param p ps) written = Each-append IsSpelled (param_tokens p) (more_tokens ps) written.0 (more ps written.1)
   where

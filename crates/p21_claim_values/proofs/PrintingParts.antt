@@ -15,7 +15,7 @@ use Rattle.p21_files.specs.Reference.{EntitySets}
 use Rattle.p21_schemas.specs.Schema.{Schema}
 use Rattle.p21_schemas.specs.Supertype.{InClosure}
 use Rattle.p21_exchange.specs.Token as token
-use Rattle.p21_exchange.specs.Token.{Token}
+use Rattle.p21_exchange.specs.Token.{Token, IsSpelled}
 use Rattle.p21_claim_values.proofs.Leaves.{leaf-closure, decide-one_leaf}
 use Rattle.p21_claim_values.proofs.OfType.{AreWritten}
 use Rattle.p21_claim_values.proofs.Printing.{HasCanonicalRecord, canonical_typed, printed-places, printed-each, print-simple, print-record, means-with, key-plain, part-said, part-plain}
@@ -24,7 +24,6 @@ use Rattle.p21_basics.proofs.Shuffles.{distinct-none_twice, none_twice-distinct}
 use Rattle.p21_claim_values.proofs.Rising.{sort-rises}
 use Rattle.p21_basics.proofs.Shuffles.{Shuffled, no_more, one_more, Shuffled-symmetric, Shuffled-members, Shuffled-mapped, Shuffled-none_twice, Taken, taken_first, taken_later}
 use Rattle.p21_files.specs.Sorting.{is_below, insert_text, sort_texts}
-use Rattle.p21_claim_values.specs.Written.{IsSpelled}
 
 -- the keywords of parts that are written
 keys-said : (parts : List Part) (rest : List Token) → Each IsSpelled (flat_map part_tokens parts ++ rest) → Each (λ (part : Part). IsSpelled (key_token part.key)) parts
@@ -163,7 +162,7 @@ some-made (x ∷ xs) some = omega arith
 some-member : {X : Type 0} (xs : List X) (x : X) → Contains xs x → 0 < length xs
 some-member xs x (k, below, is) = omega (arith, below)
 
-first-entity : (s : Schema) (kinds : EntitySets) (a : Typed) (parts : List Part) (es : List ℕ) → AllZip (PartMeans s kinds a) parts es → 0 < length parts → (e : ℕ) × Contains es e
+pub first-entity : (s : Schema) (kinds : EntitySets) (a : Typed) (parts : List Part) (es : List ℕ) → AllZip (PartMeans s kinds a) parts es → 0 < length parts → (e : ℕ) × Contains es e
 first-entity s kinds a [] es all some = absurd (omega (arith, some))
 first-entity s kinds a (part ∷ parts) [] all some = absurd all
 first-entity s kinds a (part ∷ parts) (e ∷ es) all some = (e, Contains-first e es)

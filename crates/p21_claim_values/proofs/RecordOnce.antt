@@ -18,7 +18,7 @@ use Rattle.p21_files.specs.SameValue.{Same, SameInOrder, both_end, both_next}
 use Rattle.p21_schemas.specs.Schema.{Schema, Place, EntityNamed}
 use Rattle.p21_schemas.specs.Supertype.{IsA, itself}
 use Rattle.p21_exchange.specs.Token as token
-use Rattle.p21_exchange.specs.Token.{Token}
+use Rattle.p21_exchange.specs.Token.{Token, IsSpelled}
 use Rattle.p21_files.specs.Value.{Value, Values, value_at}
 use Rattle.p21_claim_values.proofs.CanonicalValue.{canonical_at-text}
 use Rattle.p21_claim_values.proofs.SameTexts.{same-exactly_texts_at}
@@ -27,7 +27,7 @@ use Rattle.p21_claim_values.proofs.LaidTexts.{one-text}
 use Rattle.p21_claim_values.proofs.OfType.{AreWritten, params-written}
 use Rattle.p21_claim_values.proofs.Sorting.{rising-members}
 use Rattle.p21_basics.proofs.Shuffles.{NoneTwice, AreMembers, zip-one, distinct-none_twice}
-use Rattle.p21_claim_values.specs.Written.{IsSpelled, IsWritten}
+use Rattle.p21_claim_values.specs.Written.{IsWritten}
 
 -- ---- names
 

@@ -2,7 +2,7 @@
 use Rattle.std.specs.List.{AllByRecursion as Each}
 use Rattle.p21_exchange.specs.Parameter.{Param, param_tokens}
 use Rattle.p21_exchange.specs.Statement.{Statement, statement_tokens}
-pub use Rattle.p21_exchange.specs.Token.{IsSpelled}
+use Rattle.p21_exchange.specs.Token.{IsSpelled}
 
 -- each token of the parameter has a spelling
 abbrev pub IsWritten : Param → Type 0

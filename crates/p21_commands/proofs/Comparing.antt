@@ -6,7 +6,7 @@ use Rattle.p21_basics.specs.Limits.{Limits, usual}
 use Rattle.p21_commands.specs.Failures.{Failures}
 use Rattle.p21_commands.specs.Fault.{Reports}
 use Rattle.p21_commands.specs.Status.{refused}
-use Rattle.p21_commands.specs.Transfer.{AppendsPartOf}
+use Rattle.p21_stream_io.specs.Transfer.{AppendsPartOf}
 use Rattle.p21_commands.specs.declared.fault.CommandFault.{CommandFault}
 use Rattle.p21_commands.specs.declared.fault.CommandFault.TheVariants.{Refused, NoMemory, Read, Write}
 use Rattle.p21_commands.specs.Files.{IsFileRefused}

@@ -1,6 +1,6 @@
 -- Which calls failed, in a step of a command and in the steps together.
 use Rattle.std.proofs.Common.{◌≡◌, List, [], ◌∷◌, ◌++◌, inl, inr}
-use Rattle.p21_commands.specs.Failures.{Failures, FailedBy, NoneFailed, OneFailed}
+use Rattle.p21_commands.specs.Failures.{Failures, FailedBy, NoneFailed}
 use Rattle.p21_commands.specs.declared.fault.CommandFault.{CommandFault}
 use Rattle.p21_commands.specs.declared.fault.CommandFault.TheVariants.{Refused, NoMemory, Read, Write}
 

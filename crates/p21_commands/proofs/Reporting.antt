@@ -6,7 +6,8 @@ use Rattle.p21_commands.specs.Command.{Fails, FailsBy}
 use Rattle.p21_commands.specs.Failures.{Failures, FailedBy, NoneFailed}
 use Rattle.p21_commands.specs.Fault.{Reports, fault_status}
 use Rattle.p21_commands.specs.Status.{done, failed, refused}
-use Rattle.p21_commands.specs.Transfer.{AppendsPartOf, Writes}
+use Rattle.p21_commands.specs.Transfer.{Writes}
+use Rattle.p21_stream_io.specs.Transfer.{AppendsPartOf}
 use Rattle.p21_commands.specs.declared.fault.CommandFault.{CommandFault}
 use Rattle.p21_commands.specs.declared.fault.CommandFault.TheVariants.{Refused, Write}
 use Rattle.p21_commands.proofs.Failing.{none_more}

@@ -5,7 +5,7 @@ use Rattle.p21_basics.specs.Limits.{usual}
 use Rattle.p21_commands.specs.declared.fault.CommandFault.{CommandFault}
 use Rattle.p21_commands.specs.declared.fault.CommandFault.TheVariants.{Refused, NoMemory, Read, Write}
 use Rattle.p21_commands.specs.Refusals.{IsOfFile, refusal_line}
-use Rattle.p21_commands.specs.Load.{DeclaresRead, IsRefused as IsSchemaRefused}
+use Rattle.p21_commands.specs.Load.{DeclaresRead, IsSchemaRefused}
 use Rattle.p21_schemas.specs.Schema.{Schema}
 use Rattle.p21_stream.specs.ReaderInput.{IsAcceptedInput, IsRefused, RefusesRead}
 use Rattle.p21_stream_output.specs.Output.{Output}

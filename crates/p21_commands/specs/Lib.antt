@@ -2,6 +2,7 @@
 pub mod Command
 pub mod Failures
 pub mod Fault
+pub mod Refusing
 pub mod Param
 pub mod Status
 pub mod Transfer

@@ -1,5 +1,6 @@
 -- A schema over a reader.
 use Rattle.std.specs.Prelude.{Option, ◌≡◌, ◌≢◌, ℕ, List, ◌++◌, codes, decimal, string_bytes}
+use Rattle.p21_commands.specs.Refusing.{IsRefusedBy}
 use Rattle.p21_commands.specs.Transfer.{GivesText}
 use Rattle.p21_commands.specs.declared.fault.CommandFault.{CommandFault}
 use Rattle.p21_commands.specs.declared.fault.CommandFault.TheVariants.{Refused, NoMemory, Read, Write}
@@ -20,13 +21,6 @@ pub record IsRefusalLine (text line : List ℕ) : Type 0 where
   pub not_memory : fault ≢ schema_fault.NoMemory
   pub line_is : line ≡ refusal_line fault
 
--- a text is refused by its line, or memory runs out
-abbrev pub RefusesBy : List ℕ → CommandFault → Type 0
-RefusesBy text (Refused line) = IsRefusalLine text (string_bytes line)
-RefusesBy text NoMemory = Unit {0}
-RefusesBy text Read = ⊥
-RefusesBy text Write = ⊥
-
 -- the text of the reader declares the schema
 pub record DeclaresRead (reader : Option (List ℕ)) (schema : Schema) : Type 0 where
   pub text : List ℕ
@@ -34,14 +28,12 @@ pub record DeclaresRead (reader : Option (List ℕ)) (schema : Schema) : Type 0 
   pub declares : Declares text schema
 
 -- the text of the reader declares no schema, and the line says so
-pub record IsRefused (reader : Option (List ℕ)) (line : List ℕ) : Type 0 where
-  pub text : List ℕ
-  pub gives : GivesText reader text
-  pub is_refusal : IsRefusalLine text line
+abbrev pub IsSchemaRefused : Option (List ℕ) → List ℕ → Type 0
+IsSchemaRefused reader line = IsRefusedBy IsRefusalLine reader line
 
 -- the text of the reader is refused by its line, or memory runs out, or the reader fails
 abbrev pub RefusesRead : Option (List ℕ) → CommandFault → Type 0
-RefusesRead reader (Refused line) = IsRefused reader (string_bytes line)
+RefusesRead reader (Refused line) = IsSchemaRefused reader (string_bytes line)
 RefusesRead reader NoMemory = Unit {0}
 RefusesRead reader Read = Unit {0}
 RefusesRead reader Write = ⊥

@@ -1,12 +1,11 @@
 -- What `p21 param` writes for what it reads.
-use Rattle.std.specs.Prelude.{Option, ◌≡◌, ◌≢◌, ℕ, List, ◌++◌, codes, decimal, string_bytes}
+use Rattle.std.specs.Prelude.{Option, ◌≡◌, ◌≢◌, ℕ, List, ◌++◌, codes, decimal}
 use Rattle.p21_tokens.specs.Fault.{fault_number, fault_name}
 use Rattle.p21_tokens.specs.Parameter.{IsAnswer, IsRefusal}
 use Rattle.p21_tokens.specs.declared.fault.TokenFault.{TokenFault}
 use Rattle.p21_tokens.specs.declared.fault.TokenFault.TheVariants as token_fault
+use Rattle.p21_commands.specs.Refusing.{IsRefusedBy}
 use Rattle.p21_commands.specs.Transfer.{GivesText}
-use Rattle.p21_commands.specs.declared.fault.CommandFault.{CommandFault}
-use Rattle.p21_commands.specs.declared.fault.CommandFault.TheVariants.{Refused, NoMemory, Read, Write}
 
 -- `refused NUMBER NAME` and a line feed
 abbrev pub refusal_line : TokenFault → List ℕ
@@ -25,13 +24,6 @@ pub record IsRefusalLine (text line : List ℕ) : Type 0 where
   pub not_memory : fault ≢ token_fault.NoMemory
   pub line_is : line ≡ refusal_line fault
 
--- a text is refused by its line, or memory runs out
-abbrev pub RefusesBy : List ℕ → CommandFault → Type 0
-RefusesBy text (Refused line) = IsRefusalLine text (string_bytes line)
-RefusesBy text NoMemory = Unit {0}
-RefusesBy text Read = ⊥
-RefusesBy text Write = ⊥
-
 -- the line answers the text of the reader
 pub record IsAnswered (reader : Option (List ℕ)) (line : List ℕ) : Type 0 where
   pub text : List ℕ
@@ -39,7 +31,5 @@ pub record IsAnswered (reader : Option (List ℕ)) (line : List ℕ) : Type 0 wh
   pub is_answer : IsAnswerLine text line
 
 -- the line names a fault for which the text of the reader is refused
-pub record IsRefused (reader : Option (List ℕ)) (line : List ℕ) : Type 0 where
-  pub text : List ℕ
-  pub gives : GivesText reader text
-  pub is_refusal : IsRefusalLine text line
+abbrev pub IsParamRefused : Option (List ℕ) → List ℕ → Type 0
+IsParamRefused reader line = IsRefusedBy IsRefusalLine reader line

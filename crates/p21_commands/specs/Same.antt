@@ -3,7 +3,7 @@ use Rattle.std.specs.Prelude.{Option, ◌≡◌, ◌⊎◌, ℕ, Bool, true, fal
 use Rattle.std.specs.Io.KnownBytes.{Keeps}
 use Rattle.p21_basics.specs.Limits.{usual}
 use Rattle.p21_commands.specs.Files.{IsFileRefused}
-use Rattle.p21_commands.specs.Load.{DeclaresRead, IsRefused as IsSchemaRefused}
+use Rattle.p21_commands.specs.Load.{DeclaresRead, IsSchemaRefused}
 use Rattle.p21_schemas.specs.Schema.{Schema}
 use Rattle.p21_stream.specs.Answers.{Compares, IsCanonicalOfRead}
 use Rattle.p21_stream.specs.declared.comparing.Which.{Which}

@@ -1,7 +1,7 @@
 -- What reading and writing whole texts does to the bytes that a reader has left and a writer holds, where they are known.
 use Rattle.std.specs.Prelude.{Option, ◌≡◌, ◌≤◌, ℕ, List, length, take, IfSome}
 use Rattle.std.specs.Io.KnownBytes.{Appends, Consumes}
-pub use Rattle.p21_stream_io.specs.Transfer.{AppendsPartOf}
+use Rattle.p21_stream_io.specs.Transfer.{AppendsPartOf}
 
 -- so many bytes of a text are read at most: one more than a text may have
 abbrev pub most_read : ℕ

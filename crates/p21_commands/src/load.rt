@@ -2,7 +2,8 @@
 ghost use Rattle.std.specs.Prelude.{◌≡◌, [], ◌∷◌, IfErr, IfOk, MatchResult, OnOk, string_bytes};
 ghost use Rattle.p21_commands.specs.Failures.{FailedBy, failures_of};
 ghost use Rattle.p21_commands.specs.Transfer.{ConsumesAtMost};
-ghost use Rattle.p21_commands.specs.Load.{DeclaresRead, RefusesBy, RefusesRead, refusal_line};
+ghost use Rattle.p21_commands.specs.Load.{DeclaresRead, IsRefusalLine, RefusesRead, refusal_line};
+ghost use Rattle.p21_commands.specs.Refusing.{RefusesBy};
 ghost use Rattle.p21_schemas.specs.Declared.{Declares};
 
 use crate::fault::CommandFault;
@@ -31,7 +32,7 @@ pub(crate) fn load_schema<S: Read>(
 
 /// The schema that a text declares, or the fault line that says why there is none.
 fn declared_schema(alloc: Global, text: &[u8]) -> Result<Schema, CommandFault>
-    ensures { MatchResult result (Declares text.now) (RefusesBy text.now) }
+    ensures { MatchResult result (Declares text.now) (RefusesBy IsRefusalLine text.now) }
 {
     match read_schema(alloc, text) {
         Ok(schema) => Ok(schema),

@@ -3,7 +3,8 @@ ghost use Rattle.std.specs.Prelude.{◌≡◌, ◌≢◌, ◌⊎◌, [], ◌∷�
 ghost use Rattle.std.specs.Io.KnownBytes.{Keeps};
 ghost use Rattle.p21_commands.specs.Command.{Fails, FailsBy};
 ghost use Rattle.p21_commands.specs.Failures.{FailedBy, NoneFailed, failures_of};
-ghost use Rattle.p21_commands.specs.Param.{IsAnswerLine, IsAnswered, IsRefused, RefusesBy, refusal_line};
+ghost use Rattle.p21_commands.specs.Param.{IsAnswerLine, IsAnswered, IsParamRefused, IsRefusalLine, refusal_line};
+ghost use Rattle.p21_commands.specs.Refusing.{RefusesBy};
 ghost use Rattle.p21_commands.specs.Status.{done, failed, refused};
 ghost use Rattle.p21_commands.specs.Transfer.{ConsumesAtMost, Writes};
 
@@ -31,11 +32,11 @@ pub fn param_command<R: Read, W: Write, F: Write>(
     ensures silent { result ≡ done → Keeps (F.contents faults.old.inner) (F.contents faults.new.inner) }
 
     ensures refused { result ≡ refused
-        → Writes (IsRefused (R.remaining input.old.inner)) (F.contents faults.old.inner) (F.contents faults.new.inner) }
+        → Writes (IsParamRefused (R.remaining input.old.inner)) (F.contents faults.old.inner) (F.contents faults.new.inner) }
     ensures unwritten { result ≡ refused → Keeps (W.contents output.old.inner) (W.contents output.new.inner) }
 
     ensures failed { result ≡ failed
-        → Fails (IsAnswered (R.remaining input.old.inner)) (IsRefused (R.remaining input.old.inner))
+        → Fails (IsAnswered (R.remaining input.old.inner)) (IsParamRefused (R.remaining input.old.inner))
         (W.contents output.old.inner) (W.contents output.new.inner) (F.contents faults.old.inner) (F.contents faults.new.inner)
         (failures_of input.old input.new ∷ []) (failures_of output.old output.new) (failures_of faults.old faults.new) }
     ensures unfailed { result ≢ failed
@@ -56,7 +57,7 @@ fn write_param<R: Read, W: Write>(
     ensures consumed { ConsumesAtMost (R.remaining input.old.inner) (R.remaining input.new.inner) }
     ensures ok { OnOk result
         (Writes (IsAnswered (R.remaining input.old.inner)) (W.contents output.old.inner) (W.contents output.new.inner)) }
-    ensures err { IfErr result (FailsBy (IsAnswered (R.remaining input.old.inner)) (IsRefused (R.remaining input.old.inner))
+    ensures err { IfErr result (FailsBy (IsAnswered (R.remaining input.old.inner)) (IsParamRefused (R.remaining input.old.inner))
         (W.contents output.old.inner) (W.contents output.new.inner)) }
 
     ensures unfailed { OnOk result (NoneFailed (failures_of input.old input.new ∷ failures_of output.old output.new ∷ [])) }
@@ -69,7 +70,7 @@ fn write_param<R: Read, W: Write>(
 
 /// The canonical spelling of the parameter that a text holds, and a line feed.
 fn param_answer_line(alloc: Global, text: &[u8]) -> Result<Vec<u8>, CommandFault>
-    ensures { MatchResult result (λ line. IsAnswerLine text.now line.items) (RefusesBy text.now) }
+    ensures { MatchResult result (λ line. IsAnswerLine text.now line.items) (RefusesBy IsRefusalLine text.now) }
 {
     match canonical_param(alloc, text) {
         Ok(mut line) => {

@@ -5,7 +5,7 @@ ghost use Rattle.p21_commands.specs.Command.{Fails, FailsBy};
 ghost use Rattle.p21_commands.specs.Failures.{FailedBy, NoneFailed, failures_of};
 ghost use Rattle.p21_commands.specs.Status.{done, failed, refused};
 ghost use Rattle.p21_commands.specs.Transfer.{ConsumesAtMost, Writes};
-ghost use Rattle.p21_commands.specs.Load.{IsRefused, RefusesRead};
+ghost use Rattle.p21_commands.specs.Load.{IsSchemaRefused, RefusesRead};
 ghost use Rattle.p21_commands.specs.Print.{IsPrinted};
 
 use crate::fault::{CommandFault, report};
@@ -33,11 +33,11 @@ pub fn schema_command<S: Read, W: Write, F: Write>(
     ensures silent { result ≡ done → Keeps (F.contents faults.old.inner) (F.contents faults.new.inner) }
 
     ensures refused { result ≡ refused
-        → Writes (IsRefused (S.remaining reader.old.inner)) (F.contents faults.old.inner) (F.contents faults.new.inner) }
+        → Writes (IsSchemaRefused (S.remaining reader.old.inner)) (F.contents faults.old.inner) (F.contents faults.new.inner) }
     ensures unwritten { result ≡ refused → Keeps (W.contents output.old.inner) (W.contents output.new.inner) }
 
     ensures failed { result ≡ failed
-        → Fails (IsPrinted (S.remaining reader.old.inner)) (IsRefused (S.remaining reader.old.inner))
+        → Fails (IsPrinted (S.remaining reader.old.inner)) (IsSchemaRefused (S.remaining reader.old.inner))
         (W.contents output.old.inner) (W.contents output.new.inner) (F.contents faults.old.inner) (F.contents faults.new.inner)
         (failures_of reader.old reader.new ∷ []) (failures_of output.old output.new) (failures_of faults.old faults.new) }
     ensures unfailed { result ≢ failed
@@ -58,7 +58,7 @@ fn write_schema<S: Read, W: Write>(
     ensures consumed { ConsumesAtMost (S.remaining reader.old.inner) (S.remaining reader.new.inner) }
     ensures ok { OnOk result
         (Writes (IsPrinted (S.remaining reader.old.inner)) (W.contents output.old.inner) (W.contents output.new.inner)) }
-    ensures err { IfErr result (FailsBy (IsPrinted (S.remaining reader.old.inner)) (IsRefused (S.remaining reader.old.inner))
+    ensures err { IfErr result (FailsBy (IsPrinted (S.remaining reader.old.inner)) (IsSchemaRefused (S.remaining reader.old.inner))
         (W.contents output.old.inner) (W.contents output.new.inner)) }
 
     ensures unfailed { OnOk result (NoneFailed (failures_of reader.old reader.new ∷ failures_of output.old output.new ∷ [])) }

@@ -2,7 +2,8 @@
 ghost use Rattle.std.specs.Prelude.{◌≡◌, ◌⊎◌, [], ◌∷◌, IfOk, IfErr, OnOk, OnErr};
 ghost use Rattle.std.specs.Io.KnownBytes.{Appends};
 ghost use Rattle.p21_commands.specs.Failures.{FailedBy, failures_of};
-ghost use Rattle.p21_commands.specs.Transfer.{AppendsPartOf, ConsumesAtMost, GivesText};
+ghost use Rattle.p21_commands.specs.Transfer.{ConsumesAtMost, GivesText};
+ghost use Rattle.p21_stream_io.specs.Transfer.{AppendsPartOf};
 ghost use Rattle.p21_stream_io.specs.Watch.{one_call_more};
 
 use crate::fault::CommandFault;

@@ -1,10 +1,8 @@
 -- What the claim says of a session that refuses what a source gave.
-use Rattle.std.proofs.Common.{◌≡◌, ◌≢◌, ◌⊎◌, ℕ, suc, List, [], ◌∷◌, ◌++◌, append_assoc, Option, Err, inl, inr, subst, slice_index_or, Fits, w8, arith}
-use Rattle.std.specs.List.{AllByRecursion as Each}
+use Rattle.std.proofs.Common.{◌≡◌, ◌≢◌, ◌⊎◌, ℕ, List, ◌++◌, append_assoc, Option, Err, inl, inr, subst, slice_index_or, Fits, w8}
 use Rattle.p21_example_session.specs.Receiving.{IsReceived}
 use Rattle.p21_stream.specs.p21_files.Accepted.{IsAccepted, IsDead}
 use Rattle.p21_stream.specs.Claim.{Claim, IsFailure, IsOpen}
-use Rattle.p21_stream.specs.p21_basics.Digits.{IsByte}
 use Rattle.p21_stream.specs.declared.Fault.{Fault}
 use Rattle.p21_stream.specs.declared.Fault.TheVariants.{NoMemory, Read, Write}
 use Rattle.p21_stream.specs.Held.{SessionHeld}
@@ -13,11 +11,7 @@ use Rattle.p21_stream.specs.p21_basics.Limits.{Limits}
 use Rattle.p21_stream.specs.ReaderInput.{IsOfBytes, IsRefused}
 use Rattle.p21_stream.specs.declared.Refusal.{Refusal}
 use Rattle.p21_stream.specs.p21_schemas.Schema.{Schema}
-
--- the items of a buffer are bytes
-each-byte : (buffer : List ℕ) → ((i : ℕ) → Fits w8 (slice_index_or buffer i 0)) → Each IsByte buffer
-each-byte [] fits = tt
-each-byte (byte ∷ bytes) fits = ((let f = (fits 0).fits in omega arith), each-byte bytes (λ i. fits (suc i)))
+use Rattle.p21_stream.proofs.Feeding.{each-byte}
 
 -- a fault of bytes other than want of memory is no failure
 no-failure : (P : Type 0) (fault : Fault) → IsOfBytes fault → fault ≢ NoMemory → IsFailure fault ⊎ P → P

@@ -4,10 +4,11 @@ use Rattle.std.specs.Prelude.{codes}
 use Rattle.std.specs.Char.{IsScalar}
 use Rattle.std.specs.List.{AllByRecursion as Each}
 use lib.Dec.{T, leb, leb→le}
+use Rattle.p21_basics.proofs.Comparing.{both}
 use Rattle.p21_exchange.specs.Laying.{Lexeme, LaidAs, count_behind, AreStatementsWithin}
 use Rattle.p21_exchange.specs.Spelling.{text_spelling}
 use Rattle.p21_exchange.specs.Token.{Token, Spells, IsFollowed, begin, finish, keyword, text, left, right, comma, semicolon}
-use Rattle.p21_exchange.proofs.Laying.{both, lay, lay_on_line, lay_end, is_keyword, keyword_by, left_ends_words, semicolon_ends_words}
+use Rattle.p21_exchange.proofs.Laying.{lay, lay_on_line, lay_end, is_keyword, keyword_by, left_ends_words, semicolon_ends_words}
 use Rattle.p21_exchange.proofs.Texts.{text_spells}
 
 -- bytes with the tokens that are laid in them

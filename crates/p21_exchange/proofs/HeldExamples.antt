@@ -71,7 +71,7 @@ one-spelled =
       same = refl;
     }
 
-two-spelled : SpellsName (codes "#2") 2
+pub two-spelled : SpellsName (codes "#2") 2
 two-spelled = name_spells 2 (lit< tt)
 
 space_ends_digits : IsDigit 32 → ⊥

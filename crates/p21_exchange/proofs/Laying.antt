@@ -3,6 +3,7 @@ use Rattle.std.proofs.Common.{ℕ, ◌⊎◌, Bool, true, false, ◌&&◌, ◌||
 use Rattle.std.proofs.lemmas.List.{append-nil}
 use Rattle.std.specs.List.{AllByRecursion as Each}
 use lib.Dec.{T, leb, eqb, leb→le, eqb→eq}
+use Rattle.p21_basics.proofs.Comparing.{both}
 use Rattle.p21_exchange.specs.Pending.{LaidUpTo, nothing}
 use Rattle.p21_exchange.specs.Token.{Token, Spells, IsFollowed}
 use Rattle.p21_exchange.specs.Laying.{Lexeme, LaidAs}
@@ -21,11 +22,6 @@ lay_on_line token spelling rest lexemes spells followed laid = (10 ∷ [], spell
 
 pub lay_end : LaidAs (10 ∷ []) []
 lay_end = (blank 10 ∷ [], (inl (lit≤ tt), tt), refl)
-
-pub both : (x y : Bool) → T (x && y) → T x × T y
-both true true t = (tt, tt)
-both true false t = absurd t
-both false y t = absurd t
 
 either : (x y : Bool) → T (x || y) → T x ⊎ T y
 either true y t = inl tt

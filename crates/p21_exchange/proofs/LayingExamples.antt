@@ -72,14 +72,13 @@ name_digit : (n : ℕ) (spelling : List ℕ) → MayFollow (name n) spelling 48 
 name_digit n spelling no_digit = no_digit (lit≤ tt, lit≤ tt)
 
 -- `1.`
-one : Decimal
+abbrev pub one : Decimal
 one = record { significand = pos 1; exponent = pos 0 }
 
-one-form : RealForm (codes "1.")
+abbrev one-form : RealForm (codes "1.")
 one-form = record { sign = none; whole = codes "1"; fraction = []; power = no_exponent; bytes_are = refl; some_digits = lit< tt; are_digits = ((lit≤ tt, lit≤ tt), tt); are_fraction_digits = tt; is_exponent = tt }
 
-one-spelled : SpellsReal (codes "1.") one
-unfolding one one-form
+pub one-spelled : SpellsReal (codes "1.") one
 one-spelled =
     record {
       form = one-form;

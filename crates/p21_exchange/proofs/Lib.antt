@@ -1,6 +1,6 @@
 mod HeaderExamples
-mod HeldExamples
-mod LayingExamples
+pub mod HeldExamples
+pub mod LayingExamples
 mod NumberExamples
 mod TextExamples
 mod TokenExamples

@@ -3,6 +3,7 @@ use Rattle.std.proofs.Common.{◌≡◌, ℕ, List, [], ◌∷◌, ◌++◌, ap,
 use Rattle.std.specs.List.{flat_map, AllByRecursion as Each}
 use Rattle.p21_basics.proofs.Members.{head_is, tail_is}
 use Rattle.p21_exchange.specs.Separator.{Separator, blank, comment, IsCommentText, IsSeparator, separator_bytes, IsSeparatorText}
+use Rattle.p21_exchange.specs.Pending.{BeginsWithNoSeparator}
 
 -- no separator stands in front
 abbrev pub HasNoSeparator : List ℕ → Type 0
@@ -13,7 +14,12 @@ pub nothing-first : HasNoSeparator []
 nothing-first (blank b) rest is same = cc
 nothing-first (comment inside) rest is same = cc
 
-EndsOnce-tail : (byte : ℕ) (inside : List ℕ) → IsCommentText (byte ∷ inside) → IsCommentText inside
+-- what begins with no separator still does with more behind it
+pub begins-on : (bytes more : List ℕ) → BeginsWithNoSeparator bytes → BeginsWithNoSeparator (bytes ++ more)
+begins-on [] more begins = absurd begins
+begins-on (byte ∷ bytes) more begins = begins
+
+pub EndsOnce-tail : (byte : ℕ) (inside : List ℕ) → IsCommentText (byte ∷ inside) → IsCommentText inside
 EndsOnce-tail byte inside once before after same = once (byte ∷ before) after (ap (λ bytes. byte ∷ bytes) same)
 
 -- no `*/` stands in front of the one that ends a comment

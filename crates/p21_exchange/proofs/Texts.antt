@@ -15,11 +15,11 @@ pub text_scalars : (bytes characters : List ℕ) → SpellsText bytes characters
 text_scalars bytes characters s = characters_are_scalars s.inside characters s.encodes
 
 -- how a character is spelled: twice, as itself, or in a directive of its own with four or eight digits
-data IsSpelled (c : ℕ) : Type 0 where
-  twice : IsApostropheOrBackslash c → character_spelling c ≡ c ∷ c ∷ [] → IsSpelled c
-  as_itself : IsGraphic c → (c ≢ 39) → (c ≢ 92) → character_spelling c ≡ c ∷ [] → IsSpelled c
-  with_four : character_spelling c ≡ unit_bytes (extended2 (c ∷ [])) → character_spelling c ≡ 92 ∷ 88 ∷ 50 ∷ 92 ∷ (hex_digits 4 c ++ end_extended) → IsSpelled c
-  with_eight : character_spelling c ≡ 92 ∷ 88 ∷ 52 ∷ 92 ∷ (hex_digits 8 c ++ end_extended) → IsSpelled c
+data IsSpelledCharacter (c : ℕ) : Type 0 where
+  twice : IsApostropheOrBackslash c → character_spelling c ≡ c ∷ c ∷ [] → IsSpelledCharacter c
+  as_itself : IsGraphic c → (c ≢ 39) → (c ≢ 92) → character_spelling c ≡ c ∷ [] → IsSpelledCharacter c
+  with_four : character_spelling c ≡ unit_bytes (extended2 (c ∷ [])) → character_spelling c ≡ 92 ∷ 88 ∷ 50 ∷ 92 ∷ (hex_digits 4 c ++ end_extended) → IsSpelledCharacter c
+  with_eight : character_spelling c ≡ 92 ∷ 88 ∷ 52 ∷ 92 ∷ (hex_digits 8 c ++ end_extended) → IsSpelledCharacter c
 
 quoted_is : (c : ℕ) → (eqb c 39 || eqb c 92) ≡ true → IsApostropheOrBackslash c
 quoted_is c e = grind (arith, nat_tests)
@@ -30,18 +30,18 @@ unquoted_is c e = (λ h. grind (arith, nat_tests), λ h. grind (arith, nat_tests
 graphic_is : (c : ℕ) → (nat_le 32 c && nat_lt c 127) ≡ true → IsGraphic c
 graphic_is c e = (grind (arith, nat_tests), grind (arith, nat_tests))
 
-spelled : (c : ℕ) → IsSpelled c
+spelled : (c : ℕ) → IsSpelledCharacter c
 spelled c = quoted (eqb c 39 || eqb c 92) refl
   where
-    wide : (w : Bool) → nat_lt c 0x1_0000 ≡ w → (eqb c 39 || eqb c 92) ≡ false → (nat_le 32 c && nat_lt c 127) ≡ false → IsSpelled c
+    wide : (w : Bool) → nat_lt c 0x1_0000 ≡ w → (eqb c 39 || eqb c 92) ≡ false → (nat_le 32 c && nat_lt c 127) ≡ false → IsSpelledCharacter c
     wide true e q p = with_four (rw (q, p, e) refl) (rw (q, p, e) refl)
     wide false e q p = with_eight (rw (q, p, e) refl)
 
-    graphic : (g : Bool) → (nat_le 32 c && nat_lt c 127) ≡ g → (eqb c 39 || eqb c 92) ≡ false → IsSpelled c
+    graphic : (g : Bool) → (nat_le 32 c && nat_lt c 127) ≡ g → (eqb c 39 || eqb c 92) ≡ false → IsSpelledCharacter c
     graphic true e q = let differs = unquoted_is c q in as_itself (graphic_is c e) differs.0 differs.1 (rw (q, e) refl)
     graphic false e q = wide (nat_lt c 0x1_0000) refl q e
 
-    quoted : (q : Bool) → (eqb c 39 || eqb c 92) ≡ q → IsSpelled c
+    quoted : (q : Bool) → (eqb c 39 || eqb c 92) ≡ q → IsSpelledCharacter c
     quoted true e = twice (quoted_is c e) (rw e refl)
     quoted false e = graphic (nat_le 32 c && nat_lt c 127) refl e
 
@@ -52,7 +52,7 @@ record UnitOf (c : ℕ) : Type 0 where
   bytes_are : character_spelling c ≡ unit_bytes unit
   characters_are : c ∷ [] ≡ unit_characters unit
 
-unit_of : (c : ℕ) → IsScalar c → IsSpelled c → UnitOf c
+unit_of : (c : ℕ) → IsScalar c → IsSpelledCharacter c → UnitOf c
 unit_of c scalar (twice quoted e) = record { unit = doubled c; is_unit = quoted; bytes_are = e; characters_are = refl }
 unit_of c scalar (as_itself graphic h k e) = record { unit = plain c; is_unit = (graphic, h, k); bytes_are = e; characters_are = refl }
 unit_of c scalar (with_four e _) = record { unit = extended2 (c ∷ []); is_unit = (lit< tt, (scalar, tt)); bytes_are = e; characters_are = refl }
@@ -108,7 +108,7 @@ directive-graphic kind digits h hex =
     let zero_digit : IsGraphic 48 = (lit≤ tt, lit≤ tt) in
     (backslash, (letter, (h, (backslash, both digits end_extended (digits-graphic digits hex) (backslash, (letter, (zero_digit, (backslash, tt))))))))
 
-character_spelling-graphic : (c : ℕ) → IsSpelled c → Each IsGraphic (character_spelling c)
+character_spelling-graphic : (c : ℕ) → IsSpelledCharacter c → Each IsGraphic (character_spelling c)
 character_spelling-graphic c (twice (inl h) e) = let own : IsGraphic c = (omega (arith, h), omega (arith, h)) in subst (Each IsGraphic) (sym e) (own, (own, tt))
 character_spelling-graphic c (twice (inr h) e) = let own : IsGraphic c = (omega (arith, h), omega (arith, h)) in subst (Each IsGraphic) (sym e) (own, (own, tt))
 character_spelling-graphic c (as_itself own _ _ e) = subst (Each IsGraphic) (sym e) (own, tt)

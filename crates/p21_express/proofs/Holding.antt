@@ -8,7 +8,7 @@ use Rattle.std.proofs.lemmas.Option.{slice_get_within}
 use Rattle.std.proofs.lemmas.Slice.Zip.{AllZip-long}
 use Rattle.p21_basics.proofs.Members.{Contains-none, Contains-found, Contains-unmapped, Each-of_members, Each-member, AllZip-member, AllZip-second_member}
 use Rattle.p21_schemas.specs.Schema as schema
-use Rattle.p21_schemas.specs.Schema.{Schema, TypeUse, Member, entity_member, type_member, Kind, Attribute, Redeclared, Place, Entity, Defined}
+use Rattle.p21_schemas.specs.Schema.{Schema, TypeUse, Member, entity_member, type_member, Kind, Redeclared, Place, Entity, Defined}
 use Rattle.p21_schemas.specs.Declared.{HasNoCircle, HasSupertype, Renames, HasSelect}
 use Rattle.p21_schemas.specs.SchemaDeclaration.{SchemaDeclaration, entities_of}
 use Rattle.p21_schemas.specs.Redeclaration.{RedeclaresPlace}

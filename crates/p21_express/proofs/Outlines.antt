@@ -7,7 +7,7 @@ use Rattle.std.proofs.lemmas.Option.{slice_get_within}
 use Rattle.std.proofs.lemmas.Slice.Zip.{AllZip-long}
 use Rattle.p21_basics.proofs.Members.{Contains-none, Contains-found, AllZip-member, AllZip-second_member}
 use Rattle.p21_schemas.specs.Schema as schema
-use Rattle.p21_schemas.specs.Schema.{Schema, TypeUse, Kind, Entity, Defined, kind_of}
+use Rattle.p21_schemas.specs.Schema.{Schema, TypeUse, Kind, Entity, Defined}
 use Rattle.p21_schemas.specs.Declared.{Declares, HasNoCircle, HasSupertype, Renames, HasSelect, most_declarations}
 use Rattle.p21_schemas.specs.SchemaDeclaration.{SchemaDeclaration, entities_of, types_of}
 use Rattle.p21_schemas.specs.Supertype.{supertypes_of}

@@ -18,6 +18,14 @@ use p21_express_tables::Schema;
 use p21_express_types::{EntityId, Place};
 use std::alloc::Global;
 
+/// An entity that redeclares: its schema, in which nothing is redeclared yet, and the names that the text declares.
+#[derive(Drop)]
+struct Redeclarer<'a> {
+    schema: &'a Schema,
+    known: &'a KnownNames,
+    entity: EntityId,
+}
+
 /// The place that `SELF\supertype.name` redeclares.
 fn named_place(
     schema: &Schema,
@@ -38,19 +46,17 @@ fn named_place(
 /// A place that is redeclared as an explicit attribute.
 fn redeclared_as(
     alloc: Global,
-    schema: &Schema,
-    known: &KnownNames,
-    entity: EntityId,
+    redeclarer: &Redeclarer<'_>,
     supertype: &[u8],
     name: &[u8],
     explicit: &ExplicitAttributes,
 ) -> Result<Redeclared, SchemaFault>
-    requires few { AreFew known.now }
-    requires entity { IsEntity schema.now entity.0 }
-    ensures { Finds redeclared_view (DigestRedeclaredIs schema.now (names_of known.now) entity.0 ((supertype.now, name.now), explicit.now.optional, type_view explicit.now.data_type)) result }
+    requires few { AreFew redeclarer.now.known.now }
+    requires entity { IsEntity redeclarer.now.schema.now redeclarer.now.entity.0 }
+    ensures { Finds redeclared_view (DigestRedeclaredIs redeclarer.now.schema.now (names_of redeclarer.now.known.now) redeclarer.now.entity.0 ((supertype.now, name.now), explicit.now.optional, type_view explicit.now.data_type)) result }
 {
-    let place = named_place(schema, entity, supertype, name)?;
-    let type_use = resolve_type(alloc, known, &explicit.data_type)?;
+    let place = named_place(redeclarer.schema, redeclarer.entity, supertype, name)?;
+    let type_use = resolve_type(alloc, redeclarer.known, &explicit.data_type)?;
     Ok(Redeclared {
         place,
         optional: explicit.optional,
@@ -61,16 +67,14 @@ fn redeclared_as(
 /// Adds an attribute, if it is redeclared.
 fn add_redeclared(
     alloc: Global,
-    schema: &Schema,
-    known: &KnownNames,
-    entity: EntityId,
+    redeclarer: &Redeclarer<'_>,
     name: &AttributeName,
     explicit: &ExplicitAttributes,
     out: &mut Vec<Redeclared>,
 ) -> Result<(), SchemaFault>
-    requires few { AreFew known.now }
-    requires entity { IsEntity schema.now entity.0 }
-    ensures { AddsEach redeclared_view (DigestRedeclaredIs schema.now (names_of known.now) entity.0) (redeclared_by (attributes_view explicit.now) (name.now ∷ [])) result out.old out.new }
+    requires few { AreFew redeclarer.now.known.now }
+    requires entity { IsEntity redeclarer.now.schema.now redeclarer.now.entity.0 }
+    ensures { AddsEach redeclared_view (DigestRedeclaredIs redeclarer.now.schema.now (names_of redeclarer.now.known.now) redeclarer.now.entity.0) (redeclared_by (attributes_view explicit.now) (name.now ∷ [])) result out.old out.new }
 {
     match name {
         AttributeName::Own(_name) => Ok(()),
@@ -80,9 +84,7 @@ fn add_redeclared(
         } => {
             let redeclared = redeclared_as(
                 alloc,
-                schema,
-                known,
-                entity,
+                redeclarer,
                 supertype.bytes(),
                 name.bytes(),
                 explicit,
@@ -96,19 +98,17 @@ fn add_redeclared(
 /// Adds the redeclared ones of explicit attributes of one type.
 fn add_all_redeclared(
     alloc: Global,
-    schema: &Schema,
-    known: &KnownNames,
-    entity: EntityId,
+    redeclarer: &Redeclarer<'_>,
     explicit: &ExplicitAttributes,
     out: &mut Vec<Redeclared>,
 ) -> Result<(), SchemaFault>
-    requires few { AreFew known.now }
-    requires entity { IsEntity schema.now entity.0 }
-    ensures { AddsEach redeclared_view (DigestRedeclaredIs schema.now (names_of known.now) entity.0) (redeclared_by (attributes_view explicit.now) explicit.now.names.items) result out.old out.new }
+    requires few { AreFew redeclarer.now.known.now }
+    requires entity { IsEntity redeclarer.now.schema.now redeclarer.now.entity.0 }
+    ensures { AddsEach redeclared_view (DigestRedeclaredIs redeclarer.now.schema.now (names_of redeclarer.now.known.now) redeclarer.now.entity.0) (redeclared_by (attributes_view explicit.now) explicit.now.names.items) result out.old out.new }
 {
     for name in &explicit.names {
         let name: &AttributeName = name;
-        add_redeclared(alloc, schema, known, entity, name, explicit, out)?;
+        add_redeclared(alloc, redeclarer, name, explicit, out)?;
     }
     Ok(())
 }
@@ -130,10 +130,15 @@ pub(crate) fn redeclared_of(
     requires entity { IsEntity schema.now entity.0 }
     ensures { FindsEach redeclared_view (DigestRedeclaredIs schema.now (names_of known.now) entity.0) (digest_redeclared_explicit (map attributes_view explicit.now)) result }
 {
+    let redeclarer = Redeclarer {
+        schema,
+        known,
+        entity,
+    };
     let mut found = Vec::new(alloc);
     for attributes in explicit {
         let attributes: &ExplicitAttributes = attributes;
-        add_all_redeclared(alloc, schema, known, entity, attributes, &mut found)?;
+        add_all_redeclared(alloc, &redeclarer, attributes, &mut found)?;
     }
     Ok(found)
 }

@@ -1,5 +1,5 @@
 -- The table of what numbers that lead to numbers come to.
-use Rattle.std.specs.Prelude.{◌≡◌, ◌↔◌, ℕ, zero, suc, ◌+◌, ◌<◌, ◌≤◌, List, [], ◌∷◌, ◌++◌, Some, length, slice_get, slice_set, take, nat_eq, Contains, refl, Result, Ok, Err}
+use Rattle.std.specs.Prelude.{◌≡◌, ◌↔◌, ℕ, zero, suc, ◌+◌, ◌<◌, List, [], ◌∷◌, ◌++◌, Some, length, slice_get, slice_set, take, nat_eq, Contains, refl, Result, Ok, Err}
 use Rattle.std.specs.List.{flat_map}
 use Rattle.std.specs.List.Retain.{IsFiltered, DiffersFromLast}
 use Rattle.std.specs.List.Sorted.{IsStrictlyIncreasing, IsBinarySearchResult, IsPermutation, IsSorted}
@@ -9,20 +9,15 @@ use Rattle.std.proofs.lemmas.Bool.{cases_eq, cases_lt}
 use Rattle.std.proofs.lemmas.Grind.{get_or_default_zero}
 use Rattle.std.proofs.lemmas.List.Elements.{Contains-append_left, Contains-append_right, Contains-append_cases}
 use Rattle.std.proofs.lemmas.List.Filters.{dedup_is}
-use Rattle.std.proofs.lemmas.List.Kept.{AllPairs-from_increasing, Contains-dedup_nat, Contains-from_dedup}
+use Rattle.std.proofs.lemmas.List.Kept.{Contains-dedup_nat, Contains-from_dedup}
 use Rattle.std.proofs.lemmas.List.Sorted.{searched, Contains-permutation, IsPermutation-sym}
 use Rattle.std.proofs.lemmas.Map.Keys.{IsStrictlyIncreasing-dedup}
 use Rattle.std.proofs.lemmas.List.{length-set}
 use Rattle.p21_basics.proofs.Members.{Contains-none, Contains-found, Contains-flat_map, Contains-one_of}
+use Rattle.p21_basics.proofs.RisingLists.{never-fall}
 use Rattle.p21_express_graph.specs.CollectedLists.{Collects, of_own, of_next, IsRisingOf, AreCollected}
 use Rattle.p21_express_graph.specs.SettledOrder.{nexts_of, IsNext, IsSettledOrder}
 use Rattle.p21_express_graph.proofs.OrderTables.{set-same, set-other, take-more}
-
-never-fall : (xs : List ℕ) → IsStrictlyIncreasing xs → (i j : ℕ) → i ≤ j → j < length xs → get_or xs i 0 ≤ get_or xs j 0
-never-fall xs rising i j le below = elim (cases_lt i j) [
-  | inl h ↦ let lt = AllPairs-from_increasing xs rising i j 0 h below in omega (arith, lt)
-  | inr h ↦ let same : i ≡ j = omega (arith, h, le) in let at = ap (λ k. get_or xs k 0) same in omega (arith, at)
-]
 
 -- numbers that were sorted, and of which each was left but once
 pub rising-deduped : {xs sorted ys : List ℕ} → IsPermutation xs sorted → IsSorted nat_cmp sorted → IsFiltered (DiffersFromLast nat_eq) [] sorted ys → IsRisingOf xs ys

@@ -1,5 +1,5 @@
 -- The last one of the types that a type renames, one behind the other.
-use Rattle.std.specs.Prelude.{◌≡◌, ◌≢◌, ◌⊎◌, ℕ, suc, ◌+◌, ◌<◌, List, [], ◌∷◌, Some, length, map, slice_get, slice_set, take, Contains, refl}
+use Rattle.std.specs.Prelude.{◌≡◌, ℕ, suc, List, [], Some, length, slice_get, slice_set, take, Contains, refl}
 use Rattle.std.proofs.Common.{arith, ap, sym, ◌∙◌, subst, inl, inr, get_or}
 use Rattle.std.proofs.lemmas.Bool.{cases_eq}
 use Rattle.std.proofs.lemmas.List.{get_or-set_other, get_or-set_same, length-set, length-map}
@@ -7,7 +7,7 @@ use Rattle.p21_basics.proofs.Members.{Contains-none, Contains-first, Contains-ca
 use Rattle.p21_schemas.specs.Declared.{HasNoCircle, Renames}
 use Rattle.p21_schemas.specs.Schema as schema
 use Rattle.p21_schemas.specs.Schema.{Schema, TypeUse, Kind, defined, alias, kind_of}
-use Rattle.p21_express_graph.specs.DirectRenaming.{ComesTo, at_itself, through, IsPlain, AreEnds, IsEnd, RenamesNone, renamed_by, direct_renaming}
+use Rattle.p21_express_graph.specs.DirectRenaming.{at_itself, through, IsPlain, AreEnds, IsEnd, RenamesNone, renamed_by, direct_renaming}
 use Rattle.p21_express_graph.specs.Resolved.{HoldsTogether, IsType}
 use Rattle.p21_express_graph.specs.SettledOrder.{AreWithin, IsNext, IsSettledOrder}
 use Rattle.p21_express_graph.proofs.Offering.{listed, listed-got, listed-has}

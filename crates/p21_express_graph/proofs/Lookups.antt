@@ -5,12 +5,16 @@ use Rattle.std.proofs.Common.{arith, ap, sym, ◌∙◌, subst, inl, inr, get_or
 use Rattle.std.specs.Option.{option_map}
 use Rattle.std.proofs.lemmas.Bool.{cases_lt}
 use Rattle.std.proofs.lemmas.List.{map-append}
-use Rattle.std.proofs.lemmas.Option.{slice_get-map, slice_get_read}
-use Rattle.p21_basics.proofs.Members.{Contains-none, Contains-cases}
-use Rattle.p21_schemas.specs.Schema.{Schema, Place, Attribute, attributes_of}
+use Rattle.std.proofs.lemmas.Option.{slice_get-map, slice_get_read, slice_get_within}
+use Rattle.std.proofs.lemmas.List.Elements.{Contains-append_cases}
+use Rattle.p21_basics.proofs.Members.{Contains-none, Contains-cases, AllZip-member}
+use Rattle.p21_schemas.specs.Schema.{Schema, Place, Attribute, attributes_of, AreRisingByName, EntityNamed, TypeNamed}
 use Rattle.p21_schemas.specs.Supertype.{IsLeaf, LeavesAmong, no_more, leaf_next, other_next}
 use Rattle.p21_schemas.specs.Order.{own_places}
-use Rattle.p21_express_graph.specs.Lookups.{places_from}
+use Rattle.p21_express_graph.specs.Lookups.{places_from, AreEntities}
+use Rattle.p21_express_graph.specs.Orders.{numbers}
+use Rattle.p21_express_graph.specs.Resolved.{IsEntity, IsType}
+use Rattle.p21_express_types.specs.declared.number.EntityId.{EntityId}
 
 -- a number that stands at no index is none of them
 pub unnumbered : {X Y : Type 0} (number : X → Y) (d : X) (xs : List X) (x : Y) → ((k : ℕ) → k < length xs → number (get_or xs k d) ≡ x → ⊥) → Contains (map number xs) x → ⊥
@@ -36,6 +40,15 @@ pub other-more : (s : Schema) (entities es leaves : List ℕ) (e : ℕ) → Leav
 other-more s entities _ _ e no_more is = other_next e [] [] is no_more
 other-more s entities _ _ e (leaf_next f es leaves is_leaf more) is = leaf_next f (es ++ e ∷ []) leaves is_leaf (other-more s entities es leaves e more is)
 other-more s entities _ _ e (other_next f es leaves no_leaf more) is = other_next f (es ++ e ∷ []) leaves no_leaf (other-more s entities es leaves e more is)
+
+-- each is a leaf
+pub leaves-all : (s : Schema) (entities among leaves : List ℕ) → LeavesAmong s entities among leaves → (e : ℕ) → Contains leaves e → IsLeaf s entities e
+leaves-all s entities among leaves no_more e there = absurd (Contains-none e there)
+leaves-all s entities among leaves (leaf_next f es ls leaf rest) e there = elim (Contains-cases f ls e there) [
+  | inl h ↦ subst (IsLeaf s entities) h leaf
+  | inr h ↦ leaves-all s entities es ls rest e h
+]
+leaves-all s entities among leaves (other_next f es ls other rest) e there = leaves-all s entities es leaves rest e there
 
 -- the places of an entity by their numbers
 own-from : (e : ℕ) (k : ℕ) (xs : List Attribute) → map (λ p. record { entity = e; index = p.0 }) (enumerate_from k xs) ≡ places_from e k (length xs)
@@ -102,3 +115,18 @@ each-number number d P (y ∷ xs) x each among = elim (Contains-cases (number y)
   | inl h ↦ subst P h (each zero (omega arith))
   | inr h ↦ each-number number d P xs x (λ k below. each (suc k) (omega (arith, below))) h
 ]
+
+-- the entities so far and one more
+pub known-more : (s : Schema) (es : List EntityId) (x : EntityId) → AreEntities s (numbers es) → IsEntity s x.0 → AreEntities s (numbers (es ++ x ∷ []))
+known-more s es x are is e among = elim (Contains-append_cases (numbers es) (x.0 ∷ []) e (subst (λ (ns : List ℕ). Contains ns e) (map-append (λ (y : EntityId). y.0) es (x ∷ [])) among)) [
+  | inl before ↦ are e before
+  | inr last ↦ elim (Contains-cases x.0 [] e last) [ inl same ↦ subst (IsEntity s) same is | inr none ↦ absurd (Contains-none e none) ]
+]
+
+-- the entities of a set that rises are those of the schema
+pub rising-known : (s : Schema) (entities : List ℕ) → AreRisingByName s entities → AreEntities s entities
+rising-known s entities (names, named, rise) e among = let (name, at, (x, is, same)) = AllZip-member (EntityNamed s) entities names e named among in slice_get_within s.entities e x is
+
+-- a type of a name is one of the schema
+pub type-named : (s : Schema) (t : ℕ) (name : List ℕ) → TypeNamed s t name → IsType s t
+type-named s t name (x, at, is) = slice_get_within s.types t x at

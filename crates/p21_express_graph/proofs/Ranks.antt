@@ -1,5 +1,5 @@
 -- A way along which ranks fall is no longer than there are numbers.
-use Rattle.std.specs.Prelude.{ℕ, suc, ◌+◌, ◌-◌, ◌<◌, ◌≤◌, Bool, List, [], ◌∷◌, length}
+use Rattle.std.specs.Prelude.{ℕ, suc, ◌+◌, ◌<◌, ◌≤◌, Bool, List, [], ◌∷◌, length}
 use Rattle.std.proofs.Common.{arith}
 use Rattle.p21_schemas.specs.Declared.{HasNoCircle}
 use Rattle.p21_express_graph.specs.SettledOrder.{IsNext}

@@ -1,16 +1,16 @@
 -- Schemas with the same names of entities, supertypes and attributes have the same orders and places, and so the same
 -- redeclarations resolve in them to the same places.
-use Rattle.std.specs.Prelude.{◌≡◌, ◌⊎◌, ℕ, zero, suc, Bool, List, [], ◌∷◌, ◌++◌, length, map, Option, Some, None, slice_get, Contains, refl}
-use Rattle.std.specs.List.{AllZip, flat_map, enumerate_from}
+use Rattle.std.specs.Prelude.{◌≡◌, ◌⊎◌, ℕ, zero, suc, List, [], ◌∷◌, ◌++◌, length, map, Option, Some, None, slice_get, Contains, refl}
+use Rattle.std.specs.List.{flat_map, enumerate_from}
 use Rattle.std.specs.Option.{option_map}
 use Rattle.std.proofs.Common.{ap, sym, ◌∙◌, subst, inl, inr}
 use Rattle.std.proofs.lemmas.List.{length-map}
 use Rattle.std.proofs.lemmas.Option.{slice_get-map}
-use Rattle.p21_schemas.specs.Schema.{Schema, Place, Entity, Attribute, Redeclared, EntityNamed, PlaceNamed, attributes_of, attribute_at}
+use Rattle.p21_schemas.specs.Schema.{Schema, Place, Entity, Attribute, EntityNamed, PlaceNamed, attributes_of, attribute_at}
 use Rattle.p21_schemas.specs.Supertype.{supertypes_of, IsA, itself, above}
 use Rattle.p21_schemas.specs.Order.{order_within, order, own_places, places, first_occurrences}
 use Rattle.p21_schemas.specs.Redeclaration.{IsProperSupertype, IsOwnPlace, IsPlaceOf, RedeclaresPlace, HasNoPlace}
-use Rattle.p21_express_syntax.specs.Digest.{TypeDigest, EntityDigest}
+use Rattle.p21_express_syntax.specs.Digest.{EntityDigest}
 use Rattle.p21_express_outline.specs.Bare.{bare_entity, bare}
 use Rattle.p21_express_outline.specs.Outline.{Named, digest_redeclared_explicit}
 use Rattle.p21_express_outline.specs.Redeclarations.{DigestRedeclaredIs, DigestDerivesName, DigestDerivedAre, no_more, a_place, no_place, RedeclarationsAre}

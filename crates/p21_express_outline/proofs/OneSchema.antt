@@ -1,15 +1,12 @@
 -- Kept declarations declare one schema at most, and so does a text.
-use Rattle.std.specs.Prelude.{◌≡◌, ◌⊎◌, ℕ, zero, suc, ◌+◌, length, Bool, List, [], ◌∷◌, ◌++◌, map, Option, Some, None, slice_get, Contains, refl}
-use Rattle.std.specs.List.{AllZip, flat_map, enumerate_from, IsDistinct}
-use Rattle.std.specs.Str.{bytes_eq}
+use Rattle.std.specs.Prelude.{◌≡◌, ◌⊎◌, ℕ, zero, suc, ◌+◌, length, Bool, List, [], ◌∷◌, map, Option, Some, None, slice_get, Contains, refl}
+use Rattle.std.specs.List.{flat_map, enumerate_from}
 use Rattle.std.proofs.Common.{arith, ap, sym, ◌∙◌, subst, inl, inr}
 use Rattle.p21_basics.proofs.Members.{Contains-flat_map, Contains-first, Contains-later, Contains-found, AllZip-second_member, at-front}
 use Rattle.p21_schemas.specs.Schema as schema
 use Rattle.p21_schemas.specs.Schema.{Schema, Place, Entity, Attribute, Redeclared, Defined, EntityNamed, attributes_of, attribute_at}
-use Rattle.p21_schemas.specs.Declared.{Declares}
-use Rattle.p21_schemas.specs.Order.{order, own_places, places}
+use Rattle.p21_schemas.specs.Order.{order, own_places}
 use Rattle.p21_schemas.specs.Redeclaration.{IsProperSupertype, IsOwnPlace, IsPlaceOf, RedeclaresPlace, HasNoPlace}
-use Rattle.p21_schemas.specs.SchemaDeclaration.{SchemaDeclaration}
 use Rattle.p21_schemas.specs.WellFormed.{HasDistinctEntities}
 use Rattle.p21_schemas.proofs.Orders.{order_within-self}
 use Rattle.p21_express_syntax.specs.Digest.{TypeDigest, EntityDigest, SchemaDigest}
@@ -17,9 +14,9 @@ use Rattle.p21_express_syntax.specs.Digesting.{schema_digest}
 use Rattle.p21_express_syntax.proofs.SchemasRead.{one_digest}
 use Rattle.p21_express_outline.specs.Bare.{bare_entity, bare}
 use Rattle.p21_express_outline.specs.DeclaredBy.{DeclaredBy, OneSchemaDeclared}
-use Rattle.p21_express_outline.specs.Outline.{Named, named, digest_names, IsNamed, EntityOutline, TypeOutline, DigestAttributeIs, digest_own_explicit, digest_own_names, digest_redeclared_explicit, digest_redeclared_names, attribute_names, IsOutline}
+use Rattle.p21_express_outline.specs.Outline.{Named, digest_names, EntityOutline, TypeOutline, DigestAttributeIs, digest_own_explicit, digest_own_names, digest_redeclared_explicit, digest_redeclared_names, attribute_names, IsOutline}
 use Rattle.p21_express_outline.specs.Redeclarations.{DigestRedeclaredIs, DigestDerivedAre, no_more, a_place, no_place, RedeclarationsAre}
-use Rattle.p21_express_outline.proofs.Agreeing.{Agree, agrees-bare, redeclarations-agree}
+use Rattle.p21_express_outline.proofs.Agreeing.{agrees-bare, redeclarations-agree}
 use Rattle.p21_express_outline.proofs.SchemaDigests.{declared-text}
 use Rattle.p21_express_outline.proofs.TypeDigests.{type-one}
 use Rattle.p21_express_outline.proofs.NameLemmas.{HasNames, entity-at, AreApart, one-entity, distinct-at}

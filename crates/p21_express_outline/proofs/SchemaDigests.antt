@@ -1,27 +1,27 @@
 -- A schema declaration declares what is kept of it declares.
-use Rattle.std.specs.Prelude.{◌≡◌, ℕ, zero, suc, ◌<◌, ◌+◌, ◌≤◌, Bool, List, [], ◌∷◌, ◌++◌, map, length, Option, Some, None, Contains, refl}
-use Rattle.std.specs.List.{AllZip, IsDistinct, enumerate_from, AllByRecursion as Each}
+use Rattle.std.specs.Prelude.{◌≡◌, ℕ, ◌<◌, Bool, List, [], ◌∷◌, ◌++◌, map, length, Contains, refl}
+use Rattle.std.specs.List.{AllZip, IsDistinct, AllByRecursion as Each}
 use Rattle.std.specs.Str.{bytes_eq}
 use Rattle.std.proofs.Common.{arith, ap, sym, ◌∙◌, subst}
 use Rattle.std.proofs.lemmas.List.{length-map}
 use Rattle.std.proofs.lemmas.Slice.Zip.{AllZip-long}
-use Rattle.p21_basics.proofs.Members.{Each-member, Each-of_members, Each-weaker, Contains-first, Contains-mapped, Contains-flat_map, AllZip-member}
+use Rattle.p21_basics.proofs.Members.{Each-member, Each-of_members, Each-weaker, Contains-first, Contains-flat_map, AllZip-member}
 use Rattle.p21_schemas.specs.EntityDeclaration as written
 use Rattle.p21_schemas.specs.EntityDeclaration.{EntityDeclaration, ExplicitAttributes, IsEntityDeclaration, AreExplicit}
 use Rattle.p21_schemas.specs.TypeDeclaration.{TypeDeclaration}
 use Rattle.p21_schemas.specs.SchemaDeclaration as declaration
 use Rattle.p21_schemas.specs.SchemaDeclaration.{Declaration, SchemaDeclaration, IsDeclaration, IsSchemaDeclaration, entities_of, types_of}
 use Rattle.p21_schemas.specs.WrittenType.{WrittenType}
-use Rattle.p21_schemas.specs.Schema.{Schema, Entity, Attribute, Redeclared, Defined}
+use Rattle.p21_schemas.specs.Schema.{Schema, Entity}
 use Rattle.p21_schemas.specs.Declared.{DeclaresSchema, Declares}
 use Rattle.p21_schemas.specs.DeclaredEntity.{DeclaresEntity, DeclaresAttribute, DeclaresRedeclared, own_names, redeclared_names, own_explicit, redeclared_explicit}
 use Rattle.p21_schemas.specs.DeclaredOneOf.{DeclaresOneOf, all_one_of_names}
 use Rattle.p21_schemas.specs.DefinedType.{DeclaresType}
 use Rattle.p21_express_syntax.specs.Digesting.{entity_digest, defined_type_digest, schema_digest}
 use Rattle.p21_express_syntax.specs.ReadDeclarations.{IsTextOf}
-use Rattle.p21_express_syntax.specs.Within.{HasNumbers, IsTypeWithin, AreAttributesWithin, IsEntityWithin, IsDefinedWithin, IsSchemaWithin}
-use Rattle.p21_express_outline.specs.DeclaredBy.{AreRedeclared, DeclaredBy}
-use Rattle.p21_express_outline.specs.Outline.{Named, named, digest_names, IsNamed, EntityOutline, TypeOutline, DigestOneOfIs, digest_one_of_lists, IsOutline}
+use Rattle.p21_express_syntax.specs.Within.{HasNumbers, AreAttributesWithin, IsEntityWithin, IsDefinedWithin, IsSchemaWithin}
+use Rattle.p21_express_outline.specs.DeclaredBy.{DeclaredBy}
+use Rattle.p21_express_outline.specs.Outline.{Named, named, digest_names, IsNamed, EntityOutline, TypeOutline, DigestOneOfIs}
 use Rattle.p21_express_outline.specs.Redeclarations.{RedeclarationsAre}
 use Rattle.p21_express_outline.proofs.EntityDigests.{IsSmall, entity-digested, entity-written, redeclarations-digested, all_one_of-digested}
 use Rattle.p21_express_outline.proofs.KindDigests.{defined-digested, defined-written, defined-within, declared-no_select}

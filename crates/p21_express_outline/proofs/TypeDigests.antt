@@ -1,5 +1,5 @@
 -- A type that is written, and what is kept of it.
-use Rattle.std.specs.Prelude.{◌≡◌, ◌⊎◌, ℕ, List, [], ◌∷◌, Option, Some, None, refl}
+use Rattle.std.specs.Prelude.{◌≡◌, ℕ, Option, Some, None, refl}
 use Rattle.std.proofs.Common.{ap, sym, ◌∙◌, subst, inl, inr}
 use Rattle.p21_basics.specs.Digits.{number}
 use Rattle.p21_schemas.specs.WrittenType as written
@@ -12,7 +12,7 @@ use Rattle.p21_express_syntax.specs.Digesting.{type_digest, width_digest, high_d
 use Rattle.p21_express_syntax.specs.Within.{HasNumbers}
 use Rattle.p21_express_syntax.specs.declared.types.SimpleType.{SimpleType}
 use Rattle.p21_express_syntax.specs.declared.types.SimpleType.TheVariants as simple
-use Rattle.p21_express_outline.specs.Outline.{Named, IsNamed, DigestTypeIs, SimpleIs, aggregates_of, width_of}
+use Rattle.p21_express_outline.specs.Outline.{Named, DigestTypeIs, SimpleIs, aggregates_of, width_of}
 use Rattle.p21_express_outline.proofs.NameLemmas.{HasNames, entity-at, type-at, entity-of, type-of, AreApart, one-entity, one-type, no-both}
 
 width-digested : (w : Option written.Width) (width : Option schema.Width) → DenotesWidth w width → width ≡ width_of (width_digest w)

@@ -1,7 +1,7 @@
 -- What holds of two lists, place by place.
 use Rattle.std.specs.Prelude.{◌≡◌, ℕ, zero, suc, ◌+◌, List, [], ◌∷◌, ◌++◌, map, Some, slice_get, Contains, refl}
 use Rattle.std.specs.List.{AllZip, enumerate_from, flat_map, AllByRecursion as Each}
-use Rattle.std.proofs.Common.{ap, sym, ◌∙◌, subst}
+use Rattle.std.proofs.Common.{ap, sym, ◌∙◌}
 use Rattle.std.proofs.lemmas.List.{map-append}
 use Rattle.p21_basics.proofs.Members.{Contains-first, Contains-later}
 

@@ -1,5 +1,5 @@
 -- A schema without its redeclarations.
-use Rattle.std.specs.Prelude.{◌≡◌, [], map}
+use Rattle.std.specs.Prelude.{[], map}
 use Rattle.p21_schemas.specs.Schema.{Schema, Entity}
 
 abbrev pub bare_entity : Entity → Entity

@@ -1,5 +1,5 @@
 -- Entities that are noted at the ONEOF lists in which they stand.
-use Rattle.std.specs.Prelude.{◌≡◌, ◌≢◌, ◌↔◌, ◌⊎◌, ℕ, zero, suc, ◌+◌, List, [], ◌∷◌, ◌++◌, Option, None, Some, map, take, Contains, refl}
+use Rattle.std.specs.Prelude.{◌≡◌, ◌≢◌, ◌↔◌, ◌⊎◌, ℕ, zero, suc, List, [], ◌∷◌, ◌++◌, Option, None, Some, map, take, Contains, refl}
 use Rattle.std.specs.BTreeMap.{BTreeMap, Updates, get}
 use Rattle.std.specs.Ordering.{nat_cmp}
 use Rattle.std.proofs.Common.{arith, ap, sym, ◌∙◌, subst, inl, inr}

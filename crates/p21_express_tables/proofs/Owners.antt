@@ -1,5 +1,5 @@
 -- The entities that redeclare places, by the entities that declare these.
-use Rattle.std.specs.Prelude.{◌≡◌, ◌⊎◌, ◌+◌, ℕ, ◌<◌, List, [], ◌∷◌, ◌++◌, take, Option, None, Some, length, map, slice_get, Contains, refl}
+use Rattle.std.specs.Prelude.{◌≡◌, ◌+◌, ℕ, ◌<◌, List, [], ◌∷◌, ◌++◌, take, Option, None, Some, length, map, slice_get, Contains, refl}
 use Rattle.std.specs.Option.{option_map}
 use Rattle.std.proofs.Common.{arith, ap, sym, ◌∙◌, subst, inl, inr, append_assoc, get_or}
 use Rattle.std.proofs.lemmas.List.{append-nil, map-append, take_more}

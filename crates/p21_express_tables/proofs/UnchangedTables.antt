@@ -1,5 +1,5 @@
 -- What is prepared without regard to redeclarations stays right once the entities redeclare something.
-use Rattle.std.specs.Prelude.{◌≡◌, ◌↔◌, ℕ, zero, suc, List, [], ◌∷◌, ◌++◌, Some, length, map, slice_get, Contains, refl}
+use Rattle.std.specs.Prelude.{◌≡◌, ℕ, zero, suc, List, [], ◌∷◌, ◌++◌, Some, length, map, slice_get, refl}
 use Rattle.std.specs.List.{AllZip, flat_map}
 use Rattle.std.specs.Option.{option_map}
 use Rattle.std.proofs.Common.{arith, ap, sym, ◌∙◌, subst}
@@ -9,9 +9,8 @@ use Rattle.p21_schemas.specs.Schema.{Schema, Entity, TypeUse, Member, entity_mem
 use Rattle.p21_schemas.specs.Select.{IsNoSelect, Offers, offered, offered_within}
 use Rattle.p21_schemas.specs.Supertype.{supertypes_of}
 use Rattle.p21_express_graph.specs.DirectRenaming.{ComesTo, at_itself, through, AreEnds}
-use Rattle.p21_express_graph.specs.Prefixes.{lists_in}
 use Rattle.p21_express_graph.specs.Offered.{AreOffered}
-use Rattle.p21_express_graph.specs.Orders.{AreOrders, numbers, supertype_lists}
+use Rattle.p21_express_graph.specs.Orders.{AreOrders, supertype_lists}
 use Rattle.p21_express_graph.specs.Ranking.{IsRanking}
 use Rattle.p21_express_graph.specs.Redeclaring.{redeclaring_each, redeclaring_schema}
 use Rattle.p21_express_graph.specs.SettledOrder.{nexts_of}

@@ -159,15 +159,6 @@ impl Schema {
         })
     }
 
-    /// The parts of the schema. It takes no memory.
-    pub fn into_contents(self) -> SchemaContents
-        ensures value { schema_of result ≡ self }
-        ensures named { AreNamed result }
-    {
-        let Schema { parts, .. } = self;
-        parts
-    }
-
     /// All names are resolved, and no chain comes back. It does nothing.
     pub fn holds_together(&self)
         ensures { HoldsTogether self.now }

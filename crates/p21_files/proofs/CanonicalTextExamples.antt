@@ -1,6 +1,5 @@
 -- The canonical text of an instance, and what is kept of it.
-use Rattle.std.proofs.Common.{◌≡◌, ℕ, pos, negsuc, List, [], ◌∷◌, refl, sym, subst, arith, lit<, lit≤, inl, inr}
-use lib.Signed.{le_z_yes}
+use Rattle.std.proofs.Common.{◌≡◌, ℕ, pos, negsuc, List, [], ◌∷◌, refl, sym, subst, arith, inl, inr}
 use Rattle.std.specs.Prelude.{codes}
 use Rattle.std.specs.List.{AllByRecursion as Each}
 use Rattle.p21_files.specs.CanonicalRecord.{HasOneLeaf, IsCanonicalRecord}
@@ -8,8 +7,7 @@ use Rattle.p21_exchange.specs.CanonicalText.{statement_text}
 use Rattle.p21_basics.specs.Digits.{IsDigit}
 use Rattle.p21_files.specs.CanonicalTexts.{IsInstanceText, HaveCanonicalSize}
 use Rattle.p21_exchange.specs.Laying.{Lexeme, LaidAs, tokens_in}
-use Rattle.p21_exchange.specs.Name.{SpellsName}
-use Rattle.p21_exchange.specs.Number.{none, no_exponent, Decimal, IsReduced, RealForm, SpellsReal, real_ratio}
+use Rattle.p21_exchange.specs.Number.{Decimal, IsReduced}
 use Rattle.p21_exchange.specs.Parameter.{dollar, real, no_params, param, key_of}
 use Rattle.p21_exchange.specs.Record.{Record, simple}
 use Rattle.p21_exchange.specs.Statement.{instance, statement_tokens}
@@ -18,44 +16,14 @@ use Rattle.p21_exchange.specs.Token as token
 use Rattle.p21_exchange.specs.Token.{Token, name, equals, keyword, MayFollow, Spells}
 use Rattle.p21_files.specs.Value as value
 use Rattle.p21_exchange.proofs.CanonicalLaying.{Laying, put, put_left, put_right, put_comma, put_semicolon, no_dash_left}
-use Rattle.p21_exchange.proofs.Exponents.{in_range_by}
 use Rattle.p21_exchange.proofs.Laying.{keyword_by, left_ends_words}
 use Rattle.p21_files.proofs.MeaningExamples.{point_record, point_set, point_values, point_meaning, point-is, point-means}
 use Rattle.p21_basics.proofs.Members.{Each-member}
 use Rattle.p21_schemas.proofs.OrderExamples.{demo-is_a}
 use Rattle.p21_files.proofs.SameFiles.{SameTyped-reflexive}
 use Rattle.p21_schemas.proofs.TestSchemas.{demo, point}
-use Rattle.p21_exchange.proofs.Names.{name_spells}
-
-abbrev pub one : Decimal
-one = record { significand = pos 1; exponent = pos 0 }
-
-abbrev one-form : RealForm (codes "1.")
-one-form =
-    record {
-      sign = none;
-      whole = codes "1";
-      fraction = [];
-      power = no_exponent;
-      bytes_are = refl;
-      some_digits = lit< tt;
-      are_digits = ((lit≤ tt, lit≤ tt), tt);
-      are_fraction_digits = tt;
-      is_exponent = tt;
-    }
-
-pub one-spelled : SpellsReal (codes "1.") one
-one-spelled =
-    record {
-      form = one-form;
-      is_short = tt;
-      in_range = in_range_by (real_ratio one-form) (pos 0) (lit< tt) (record { low = lit≤ tt; high = lit< tt }) (le_z_yes tt, le_z_yes tt);
-      is_reduced = λ e. cc;
-      same = refl;
-    }
-
-pub two-spelled : SpellsName (codes "#2") 2
-two-spelled = name_spells 2 (lit< tt)
+use Rattle.p21_exchange.proofs.LayingExamples.{one, one-spelled}
+use Rattle.p21_exchange.proofs.HeldExamples.{two-spelled}
 
 pub equals_ends_digits : IsDigit 61 → ⊥
 equals_ends_digits digit = omega (arith, digit)

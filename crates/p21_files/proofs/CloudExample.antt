@@ -34,10 +34,11 @@ use Rattle.p21_schemas.specs.Supertype.{IsA, itself, above}
 use Rattle.p21_basics.proofs.Members.{Contains-none, Each-member}
 use Rattle.p21_exchange.proofs.CanonicalLaying.{Laying, end, put, put_on_line, put_left, put_right, put_comma, put_semicolon, put_section, put_record, put_finish, put_text_comma, put_text_right, within_by, no_dash_left}
 use Rattle.p21_exchange.proofs.Laying.{keyword_by, left_ends_words}
+use Rattle.p21_exchange.proofs.HeldExamples.{two-spelled}
 use Rattle.p21_files.proofs.DemoExample.{demo-header, description, file_name, file_schema, header_lines}
 use Rattle.p21_files.proofs.CanonicalTextExamples.{equals_ends_digits}
 use Rattle.p21_files.proofs.MeaningExamples.{point_set, not_redeclared, no_clash, stored, abstract-is_shape}
-use Rattle.p21_files.proofs.NamedPoints.{two_record, two_meaning, two-means, two-canonical, one_name, two_name, short_line}
+use Rattle.p21_files.proofs.NamedPoints.{two_record, two_meaning, two-means, two-canonical, one_name, short_line}
 use Rattle.p21_files.proofs.SameFiles.{SameFileMeaning-reflexive}
 use Rattle.p21_files.proofs.ValueExamples.{tally-fits_item}
 use Rattle.p21_schemas.proofs.SchemaNames.{demo_large}
@@ -174,7 +175,7 @@ abbrev cloud_line : Laying → Laying
 cloud_line rest =
     put_on_line (name 1) (codes "#1") one_name
     (put equals (codes "=") refl (put (keyword (codes "CLOUD")) (codes "CLOUD") (refl, keyword_by (codes "CLOUD") tt)
-    (put_left (put_left (put (name 2) (codes "#2") two_name (put_right (put_comma (put_left (put_right (put_comma (put_left (put (keyword (codes "TALLY")) (codes "TALLY") (refl, keyword_by (codes "TALLY") tt)
+    (put_left (put_left (put (name 2) (codes "#2") two-spelled (put_right (put_comma (put_left (put_right (put_comma (put_left (put (keyword (codes "TALLY")) (codes "TALLY") (refl, keyword_by (codes "TALLY") tt)
     (put_left (put (token.whole (pos 1)) (codes "1") one_spelled (put_right (put_right (put_right (put_semicolon rest)))) (right_ends_digits, λ h. omega (arith, h)))) (left_ends_words, no_dash_left)))))))) right_ends_digits)))
     (left_ends_words, no_dash_left)) tt) equals_ends_digits
 

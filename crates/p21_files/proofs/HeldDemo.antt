@@ -1,12 +1,11 @@
 -- What is held of a file of the schema DEMO behind `DATA;` and `#1=CLOUD((#2),((`.
-use Rattle.std.proofs.Common.{◌≡◌, ℕ, List, [], ◌∷◌, refl, arith, lit<}
+use Rattle.std.proofs.Common.{◌≡◌, ℕ, List, [], ◌∷◌, refl, arith}
 use Rattle.std.specs.Prelude.{codes}
 use Rattle.std.specs.List.{flat_map, AllByRecursion as Each}
 use Rattle.p21_exchange.specs.DataSection.{unnamed}
 use Rattle.p21_basics.specs.Digits.{IsDigit}
 use Rattle.p21_files.specs.Held.{IsHeld}
 use Rattle.p21_exchange.specs.Laying.{tokens_in}
-use Rattle.p21_exchange.specs.Name.{SpellsName}
 use Rattle.p21_exchange.specs.OpenNesting.{IsNoSemicolon}
 use Rattle.p21_exchange.specs.Pending.{nothing}
 use Rattle.p21_schemas.specs.Schema.{Schema}
@@ -14,17 +13,12 @@ use Rattle.p21_exchange.specs.Statement.{Statement, section, header, begin, head
 use Rattle.p21_exchange.specs.Token.{name, equals, keyword}
 use Rattle.p21_exchange.proofs.CanonicalLaying.{Laying, put, put_on_line, put_left, put_right, put_comma, put_section, no_dash_left}
 use Rattle.p21_files.proofs.DemoExample.{demo, demo-is_file, description, file_name, file_schema, header_lines}
+use Rattle.p21_files.proofs.NamedPoints.{one_name}
 use Rattle.p21_exchange.proofs.Laying.{keyword_by, left_ends_words, up_to}
-use Rattle.p21_exchange.proofs.Names.{name_spells}
+use Rattle.p21_exchange.proofs.HeldExamples.{two-spelled}
 
 abbrev demo_open : List ℕ
 demo_open = codes "ISO-10303-21;\nHEADER;\nFILE_DESCRIPTION((''),'2;1');\nFILE_NAME('','',(''),(''),'','','');\nFILE_SCHEMA(('DEMO'));\nENDSEC;\nDATA;\n#1=CLOUD((#2),(("
-
-one-spelled : SpellsName (codes "#1") 1
-one-spelled = name_spells 1 (lit< tt)
-
-two-spelled : SpellsName (codes "#2") 2
-two-spelled = name_spells 2 (lit< tt)
 
 equals_ends_digits : IsDigit 61 → ⊥
 equals_ends_digits digit = omega (arith, digit)
@@ -40,7 +34,7 @@ open_lists = put_left (put_left (put (name 2) (codes "#2") two-spelled (put_righ
 
 abbrev open_instance : Laying
 open_instance =
-    put_on_line (name 1) (codes "#1") one-spelled
+    put_on_line (name 1) (codes "#1") one_name
     (put equals (codes "=") refl (put (keyword (codes "CLOUD")) (codes "CLOUD") (refl, keyword_by (codes "CLOUD") tt) open_lists (left_ends_words, no_dash_left)) tt) equals_ends_digits
 
 abbrev laying : Laying

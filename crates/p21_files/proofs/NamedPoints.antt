@@ -19,11 +19,13 @@ use Rattle.p21_files.specs.Value as value
 use Rattle.p21_files.specs.Value.{Values, no_values}
 use Rattle.p21_exchange.proofs.CanonicalLaying.{Laying, put, put_on_line, put_left, put_right, put_comma, put_semicolon, no_dash_left}
 use Rattle.p21_exchange.proofs.Exponents.{in_range_by}
-use Rattle.p21_files.proofs.CanonicalTextExamples.{one, one-spelled, equals_ends_digits, comma_ends_one, right_ends_one, point-leaf}
+use Rattle.p21_files.proofs.CanonicalTextExamples.{equals_ends_digits, comma_ends_one, right_ends_one, point-leaf}
 use Rattle.p21_exchange.proofs.Laying.{keyword_by, left_ends_words}
 use Rattle.p21_files.proofs.MeaningExamples.{point_set, point-is, point-only, point-means, point-stored}
 use Rattle.p21_schemas.proofs.TestSchemas.{demo, point, label, attribute, label_place, x_place, y_place}
 use Rattle.p21_exchange.proofs.Names.{name_spells}
+use Rattle.p21_exchange.proofs.LayingExamples.{one, one-spelled}
+use Rattle.p21_exchange.proofs.HeldExamples.{two-spelled}
 
 abbrev pub two : Decimal
 two = record { significand = pos 2; exponent = pos 0 }
@@ -146,14 +148,11 @@ point_start n spelling spelled rest =
 pub one_name : SpellsName (codes "#1") 1
 one_name = name_spells 1 (lit< tt)
 
-pub two_name : SpellsName (codes "#2") 2
-two_name = name_spells 2 (lit< tt)
-
 abbrev pub one_line : Laying → Laying
 one_line rest = point_start 1 (codes "#1") one_name (put (token.real one) (codes "1.") one-spelled (put_comma (last_one rest)) comma_ends_one)
 
 abbrev pub short_line : Laying → Laying
-short_line rest = point_start 2 (codes "#2") two_name (put (token.real two) (codes "2.") short-spelled (put_comma (last_one rest)) short_then_comma)
+short_line rest = point_start 2 (codes "#2") two-spelled (put (token.real two) (codes "2.") short-spelled (put_comma (last_one rest)) short_then_comma)
 
 abbrev pub long_line : Laying → Laying
-long_line rest = point_start 2 (codes "#2") two_name (put (token.real two) (codes "2.0") long-spelled (put_comma (last_one rest)) long_then_comma)
+long_line rest = point_start 2 (codes "#2") two-spelled (put (token.real two) (codes "2.0") long-spelled (put_comma (last_one rest)) long_then_comma)

@@ -16,7 +16,7 @@ use Rattle.p21_grammar.specs.Held.{Held}
 use Rattle.p21_grammar.specs.Histories.{GrammarHistory, call_of, IsWholeFile, AreNoFile, Stands, GivesOfFile, HasHeadingForm, Answers, RefusalIsKnown, Refuses, RefusesToken, BeginNoFile}
 use Rattle.p21_grammar.specs.Runs.{run_outcome, with_first_statements, moved, run, pending}
 use Rattle.p21_grammar.specs.Sound.{IsSound}
-use Rattle.p21_grammar.specs.Machine.{Spot, idle, go, emit, refuse, step, spot_of, depth_of, AnswersMove, Refuses as MachineRefuses}
+use Rattle.p21_grammar.specs.Machine.{Spot, idle, go, emit, refuse, step, spot_of, depth_of, AnswersMove, RefusesMove}
 use Rattle.p21_grammar.specs.Stage.{walk, then_walk, after}
 use Rattle.p21_grammar.specs.HeadingShape.{HasHeadingShape}
 use Rattle.p21_grammar.specs.Statements.{statement_of, statements_of}
@@ -169,7 +169,7 @@ answers_with p sp depth t m event depth_ refused_ ran move e none history stands
     let Goal : ℕ → Option GrammarFault → Type 0 = λ d r. Answers (held_at m.stage (spot_of m) d r) event (extended history (call_of t event)) in
     (found.0, subst (λ d. Goal d refused_) (sym e) (subst (Goal (depth_of (spot_of m))) (sym none) found.1))
 
-refuses-by : (p : Stage) (sp : Spot) (t : Token) (why : GrammarFault) → Reaches p sp → (taken : List Token) (given : List Statement) → IsLed taken given p sp → MachineRefuses (step p sp t) why → Refuses taken given t why
+refuses-by : (p : Stage) (sp : Spot) (t : Token) (why : GrammarFault) → Reaches p sp → (taken : List Token) (given : List Statement) → IsLed taken given p sp → RefusesMove (step p sp t) why → Refuses taken given t why
 refuses-by p sp t why ran taken given is refused = by why refused where
   was_ran : run taken Start idle ≡ Some (run_outcome given p sp)
   was_ran = history-ran p sp ran taken given is.taken_are is.leads is.sound
@@ -177,7 +177,7 @@ refuses-by p sp t why ran taken given is refused = by why refused where
   dead : (f : GrammarFault) → step p sp t ≡ refuse f → BeginNoFile (taken ++ t ∷ [])
   dead f e = no_file taken given p sp was_ran t f e
 
-  by : (f : GrammarFault) → MachineRefuses (step p sp t) f → Refuses taken given t f
+  by : (f : GrammarFault) → RefusesMove (step p sp t) f → Refuses taken given t f
   by fault.NoMemory e = tt
   by fault.EndsEarly e = step-blamed p sp t fault.EndsEarly (e (λ i. cc))
   by fault.Unexpected e = dead fault.Unexpected (e (λ i. cc))
@@ -195,7 +195,7 @@ refuses-by p sp t why ran taken given is refused = by why refused where
   by fault.SectionShape e = dead fault.SectionShape (e (λ i. cc))
 
 -- a call that refused
-pub refuses : (p : Stage) (sp : Spot) (depth : ℕ) (t : Token) (why : GrammarFault) (q : Stage) (sq : Spot) → Reaches p sp → MachineRefuses (step p sp t) why
+pub refuses : (p : Stage) (sp : Spot) (depth : ℕ) (t : Token) (why : GrammarFault) (q : Stage) (sq : Spot) → Reaches p sp → RefusesMove (step p sp t) why
     → (history : GrammarHistory) → Stands (held_at p sp depth None) history → history.refusal ≡ None → RefusesToken history t why (held_at q sq depth (Some why))
 unfolding Stands
 refuses p sp depth t why q sq ran refused history stands open_ =

@@ -10,7 +10,6 @@ use Rattle.p21_exchange.specs.Parameter.{Key, key_of, Param, dollar, text, list,
 use Rattle.p21_exchange.specs.Record.{Part, part_tokens}
 use Rattle.p21_exchange.specs.Statement.{data_start, section_tokens}
 use Rattle.p21_exchange.specs.Token as token
-use Rattle.p21_exchange.specs.Token.{Token}
 use Rattle.p21_exchange.proofs.Semicolons.{Each-append}
 use Rattle.p21_grammar.specs.Shape.{is_key, is_text, is_text_or_unset, are_texts, are_strings, is_of_type, have_types, is_schema_row, is_schema, is_only_schema, is_name_and_schema, is_file_schema, is_further, is_heading}
 

@@ -344,5 +344,5 @@ AnswersMove move m None = move ≡ go m.stage (spot_of m)
 AnswersMove move m (Some event) = (move ≡ emit (statement_of event) m.stage) × (spot_of m ≡ idle)
 
 -- want of memory apart, this is why there is no move
-abbrev pub Refuses : Move → GrammarFault → Type 0
-Refuses move why = why ≢ fault.NoMemory → move ≡ refuse why
+abbrev pub RefusesMove : Move → GrammarFault → Type 0
+RefusesMove move why = why ≢ fault.NoMemory → move ≡ refuse why

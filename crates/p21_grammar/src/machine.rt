@@ -2,7 +2,7 @@ ghost use Rattle.std.specs.Prelude.{◌≡◌, ◌↔◌, [], IfOk, IfErr, IsTru
 ghost use Rattle.p21_exchange.specs.Parameter.{key_of, no_params};
 ghost use Rattle.p21_exchange.specs.Statement.{section, header, instance};
 ghost use Rattle.p21_grammar.specs.Stage.{after, is_in_data};
-ghost use Rattle.p21_grammar.specs.Machine.{open_of, opening_of, stack_of, closed_part, put_back, close_typed, spot_of, head_of, step, enter, close, close_empty, comma, put, at_next, at_behind, at_word, at_line, at_named, at_equal, at_inside, at_keyed, at_record_end, at_instance_end, end_keyword, end_record, at_idle, at_start, at_begun, at_header, at_headed, at_data, at_behind_unnamed, at_behind_named, at_end, misplaced_fault, misplaced_param_fault, other_section_fault, idle, next, go, refuse, part_row, open_at, depth_of, ended, end_heading, close_records, at_data_keyword, MakesMove, AnswersMove, Refuses};
+ghost use Rattle.p21_grammar.specs.Machine.{open_of, opening_of, stack_of, closed_part, put_back, close_typed, spot_of, head_of, step, enter, close, close_empty, comma, put, at_next, at_behind, at_word, at_line, at_named, at_equal, at_inside, at_keyed, at_record_end, at_instance_end, end_keyword, end_record, at_idle, at_start, at_begun, at_header, at_headed, at_data, at_behind_unnamed, at_behind_named, at_end, misplaced_fault, misplaced_param_fault, other_section_fault, idle, next, go, refuse, part_row, open_at, depth_of, ended, end_heading, close_records, at_data_keyword, MakesMove, AnswersMove, RefusesMove};
 ghost use Rattle.p21_grammar.specs.HeadingShape.{HasHeadingShape};
 ghost use Rattle.p21_grammar.specs.Statements.{line_of};
 ghost use Rattle.p21_grammar_tree.specs.View.{key_view, part_view, part_views, record_view, view, views};
@@ -159,7 +159,7 @@ fn trimmed_params(alloc: Global, params: Vec<Param>, more: u8) -> Vec<Param>
         return params;
     }
     if count <= FEW {
-        return moved(alloc, params, count + usize::from(more));
+        return in_block_with_room(alloc, params, count + usize::from(more));
     }
     params.shrink_to_fit();
     params
@@ -167,7 +167,7 @@ fn trimmed_params(alloc: Global, params: Vec<Param>, more: u8) -> Vec<Param>
 
 /// The same parameters in a block with this room, where there is memory for it. They leave a block that the next row can take
 /// whole; cut down where it lies, it would leave a rest that is too small for a row.
-fn moved(alloc: Global, params: Vec<Param>, room: usize) -> Vec<Param>
+fn in_block_with_room(alloc: Global, params: Vec<Param>, room: usize) -> Vec<Param>
     ensures { result.items ≡ params.items }
 {
     let mut params = params;
@@ -257,7 +257,7 @@ impl Machine {
     #[inline(always)]
     fn enter(&mut self, opening: Opening) -> Result<(), GrammarFault>
         ensures ok { IfOk result (λ _. MakesMove (enter self.old.stage (opening_of opening) (open_of self.old.row) (stack_of self.old.frames.items)) self.new) }
-        ensures err { IfErr result (λ why. Refuses (enter self.old.stage (opening_of opening) (open_of self.old.row) (stack_of self.old.frames.items)) why) }
+        ensures err { IfErr result (λ why. RefusesMove (enter self.old.stage (opening_of opening) (open_of self.old.row) (stack_of self.old.frames.items)) why) }
     {
         if self.frames.len() >= NESTING {
             return Err(GrammarFault::TooDeep);
@@ -273,7 +273,7 @@ impl Machine {
     #[inline(always)]
     fn put(&mut self, param: Param) -> Result<(), GrammarFault>
         ensures ok { IfOk result (λ _. MakesMove (put self.old.stage (open_of self.old.row) (stack_of self.old.frames.items) (view param)) self.new) }
-        ensures err { IfErr result (λ why. Refuses (put self.old.stage (open_of self.old.row) (stack_of self.old.frames.items) (view param)) why) }
+        ensures err { IfErr result (λ why. RefusesMove (put self.old.stage (open_of self.old.row) (stack_of self.old.frames.items) (view param)) why) }
     {
         self.at = At::Behind;
         self.row.params.push(param)?;
@@ -300,7 +300,7 @@ impl Machine {
     /// A list or a typed parameter that has ended, in the row around it.
     fn put_back(&mut self, param: Param) -> Result<(), GrammarFault>
         ensures ok { IfOk result (λ _. MakesMove (put_back self.old.stage (stack_of self.old.frames.items) (view param)) self.new) }
-        ensures err { IfErr result (λ why. Refuses (put_back self.old.stage (stack_of self.old.frames.items) (view param)) why) }
+        ensures err { IfErr result (λ why. RefusesMove (put_back self.old.stage (stack_of self.old.frames.items) (view param)) why) }
     {
         let Some(around) = self.frames.pop() else {
             return Err(GrammarFault::Unexpected);
@@ -313,7 +313,7 @@ impl Machine {
     /// A typed parameter has one parameter.
     fn close_typed(&mut self, key: Key, params: Vec<Param>) -> Result<(), GrammarFault>
         ensures ok { IfOk result (λ _. MakesMove (close_typed self.old.stage (stack_of self.old.frames.items) (key_view key) (views params.items)) self.new) }
-        ensures err { IfErr result (λ why. Refuses (close_typed self.old.stage (stack_of self.old.frames.items) (key_view key) (views params.items)) why) }
+        ensures err { IfErr result (λ why. RefusesMove (close_typed self.old.stage (stack_of self.old.frames.items) (key_view key) (views params.items)) why) }
     {
         let mut params = params;
         let Some(param) = params.pop() else {
@@ -329,7 +329,7 @@ impl Machine {
     /// The parenthesis behind parameters.
     fn close(&mut self) -> Result<(), GrammarFault>
         ensures ok { IfOk result (λ _. MakesMove (close self.old.stage (open_of self.old.row) (stack_of self.old.frames.items)) self.new) }
-        ensures err { IfErr result (λ why. Refuses (close self.old.stage (open_of self.old.row) (stack_of self.old.frames.items)) why) }
+        ensures err { IfErr result (λ why. RefusesMove (close self.old.stage (open_of self.old.row) (stack_of self.old.frames.items)) why) }
     {
         let closed = Row {
             opening: Opening::List,
@@ -352,7 +352,7 @@ impl Machine {
     /// The parenthesis right behind an opening one.
     fn close_empty(&mut self) -> Result<(), GrammarFault>
         ensures ok { IfOk result (λ _. MakesMove (close_empty self.old.stage (open_of self.old.row) (stack_of self.old.frames.items)) self.new) }
-        ensures err { IfErr result (λ why. Refuses (close_empty self.old.stage (open_of self.old.row) (stack_of self.old.frames.items)) why) }
+        ensures err { IfErr result (λ why. RefusesMove (close_empty self.old.stage (open_of self.old.row) (stack_of self.old.frames.items)) why) }
     {
         if !self.row.params.is_empty() {
             return Err(GrammarFault::Unexpected);
@@ -364,7 +364,7 @@ impl Machine {
     #[inline(always)]
     fn comma(&mut self) -> Result<(), GrammarFault>
         ensures ok { IfOk result (λ _. MakesMove (comma self.old.stage (open_of self.old.row) (stack_of self.old.frames.items)) self.new) }
-        ensures err { IfErr result (λ why. Refuses (comma self.old.stage (open_of self.old.row) (stack_of self.old.frames.items)) why) }
+        ensures err { IfErr result (λ why. RefusesMove (comma self.old.stage (open_of self.old.row) (stack_of self.old.frames.items)) why) }
     {
         if let Opening::Tagged(_) = &self.row.opening {
             return Err(GrammarFault::Unexpected);
@@ -377,7 +377,7 @@ impl Machine {
     #[inline(always)]
     fn put_name(&mut self, name: Name) -> Result<(), GrammarFault>
         ensures ok { IfOk result (λ _. MakesMove (at_next self.old.stage (open_of self.old.row) (stack_of self.old.frames.items) (token.name name)) self.new) }
-        ensures err { IfErr result (λ why. Refuses (at_next self.old.stage (open_of self.old.row) (stack_of self.old.frames.items) (token.name name)) why) }
+        ensures err { IfErr result (λ why. RefusesMove (at_next self.old.stage (open_of self.old.row) (stack_of self.old.frames.items) (token.name name)) why) }
     {
         if self.stage.is_in_header() {
             return Err(GrammarFault::Unexpected);
@@ -388,7 +388,7 @@ impl Machine {
     /// A user-defined keyword of a typed parameter.
     fn put_user_keyword(&mut self, word: Word) -> Result<(), GrammarFault>
         ensures ok { IfOk result (λ _. MakesMove (at_next self.old.stage (open_of self.old.row) (stack_of self.old.frames.items) (token.user_keyword word)) self.new) }
-        ensures err { IfErr result (λ why. Refuses (at_next self.old.stage (open_of self.old.row) (stack_of self.old.frames.items) (token.user_keyword word)) why) }
+        ensures err { IfErr result (λ why. RefusesMove (at_next self.old.stage (open_of self.old.row) (stack_of self.old.frames.items) (token.user_keyword word)) why) }
     {
         if !self.stage.is_in_header() {
             return Err(GrammarFault::LeftOut(Absent::UserKeyword));
@@ -401,7 +401,7 @@ impl Machine {
     #[inline(always)]
     fn next(&mut self, token: Token) -> Result<(), GrammarFault>
         ensures ok { IfOk result (λ _. MakesMove (at_next self.old.stage (open_of self.old.row) (stack_of self.old.frames.items) (meant token)) self.new) }
-        ensures err { IfErr result (λ why. Refuses (at_next self.old.stage (open_of self.old.row) (stack_of self.old.frames.items) (meant token)) why) }
+        ensures err { IfErr result (λ why. RefusesMove (at_next self.old.stage (open_of self.old.row) (stack_of self.old.frames.items) (meant token)) why) }
     {
         let param = match token {
             Token::Dollar => Param::Dollar,
@@ -430,7 +430,7 @@ impl Machine {
     #[inline(always)]
     fn behind(&mut self, token: Token) -> Result<(), GrammarFault>
         ensures ok { IfOk result (λ _. MakesMove (at_behind self.old.stage (open_of self.old.row) (stack_of self.old.frames.items) (meant token)) self.new) }
-        ensures err { IfErr result (λ why. Refuses (at_behind self.old.stage (open_of self.old.row) (stack_of self.old.frames.items) (meant token)) why) }
+        ensures err { IfErr result (λ why. RefusesMove (at_behind self.old.stage (open_of self.old.row) (stack_of self.old.frames.items) (meant token)) why) }
     {
         match token {
             Token::Comma => self.comma(),
@@ -442,7 +442,7 @@ impl Machine {
     /// Behind the keyword of a typed parameter.
     fn word(&mut self, key: Key, token: Token) -> Result<(), GrammarFault>
         ensures ok { IfOk result (λ _. MakesMove (at_word self.old.stage (key_view key) (open_of self.old.row) (stack_of self.old.frames.items) (meant token)) self.new) }
-        ensures err { IfErr result (λ why. Refuses (at_word self.old.stage (key_view key) (open_of self.old.row) (stack_of self.old.frames.items) (meant token)) why) }
+        ensures err { IfErr result (λ why. RefusesMove (at_word self.old.stage (key_view key) (open_of self.old.row) (stack_of self.old.frames.items) (meant token)) why) }
     {
         match token {
             Token::Left => self.enter(Opening::Tagged(key)),
@@ -453,7 +453,7 @@ impl Machine {
     /// The end of a section line.
     fn end_line(&mut self, line: Line) -> Result<Option<Event>, GrammarFault>
         ensures ok { IfOk result (λ event. AnswersMove (ended (section (line_of line)) (after self.old.stage (section (line_of line)))) self.new event) }
-        ensures err { IfErr result (λ why. Refuses (ended (section (line_of line)) (after self.old.stage (section (line_of line)))) why) }
+        ensures err { IfErr result (λ why. RefusesMove (ended (section (line_of line)) (after self.old.stage (section (line_of line)))) why) }
         ensures shaped { IfOk result HasHeadingShape }
     {
         self.stage = self.stage.after_line(line)?;
@@ -464,7 +464,7 @@ impl Machine {
     /// The end of a header record.
     fn end_header(&mut self, part: Part) -> Result<Option<Event>, GrammarFault>
         ensures ok { IfOk result (λ event. AnswersMove (ended (header (part_view part)) (after self.old.stage (header (part_view part)))) self.new event) }
-        ensures err { IfErr result (λ why. Refuses (ended (header (part_view part)) (after self.old.stage (header (part_view part)))) why) }
+        ensures err { IfErr result (λ why. RefusesMove (ended (header (part_view part)) (after self.old.stage (header (part_view part)))) why) }
         ensures shaped { IfOk result HasHeadingShape }
     {
         self.stage = self.stage.after_part(&part)?;
@@ -475,7 +475,7 @@ impl Machine {
     /// The end of a DATA with parameters.
     fn end_heading(&mut self, part: Part) -> Result<Option<Event>, GrammarFault>
         ensures ok { IfOk result (λ event. AnswersMove (end_heading self.old.stage (part_view part)) self.new event) }
-        ensures err { IfErr result (λ why. Refuses (end_heading self.old.stage (part_view part)) why) }
+        ensures err { IfErr result (λ why. RefusesMove (end_heading self.old.stage (part_view part)) why) }
         ensures shaped { IfOk result HasHeadingShape }
     {
         if !is_heading(&part) {
@@ -489,7 +489,7 @@ impl Machine {
     /// The end of a record with no instance name.
     fn end_record(&mut self, part: Part) -> Result<Option<Event>, GrammarFault>
         ensures ok { IfOk result (λ event. AnswersMove (end_record self.old.stage (part_view part)) self.new event) }
-        ensures err { IfErr result (λ why. Refuses (end_record self.old.stage (part_view part)) why) }
+        ensures err { IfErr result (λ why. RefusesMove (end_record self.old.stage (part_view part)) why) }
         ensures shaped { IfOk result HasHeadingShape }
     {
         if self.stage.is_in_header() {
@@ -502,7 +502,7 @@ impl Machine {
     /// The end of a bare keyword: that of the header, or the beginning of a data section without a name.
     fn end_keyword(&mut self, key: &Key) -> Result<Option<Event>, GrammarFault>
         ensures ok { IfOk result (λ event. AnswersMove (end_keyword self.old.stage (key_view key.now)) self.new event) }
-        ensures err { IfErr result (λ why. Refuses (end_keyword self.old.stage (key_view key.now)) why) }
+        ensures err { IfErr result (λ why. RefusesMove (end_keyword self.old.stage (key_view key.now)) why) }
         ensures shaped { IfOk result HasHeadingShape }
     {
         if self.stage.is_in_header() {
@@ -521,7 +521,7 @@ impl Machine {
     /// The end of an instance.
     fn end_instance(&mut self, name: Name, body: Record) -> Result<Option<Event>, GrammarFault>
         ensures ok { IfOk result (λ event. AnswersMove (ended (instance name (record_view body)) (after self.old.stage (instance name (record_view body)))) self.new event) }
-        ensures err { IfErr result (λ why. Refuses (ended (instance name (record_view body)) (after self.old.stage (instance name (record_view body)))) why) }
+        ensures err { IfErr result (λ why. RefusesMove (ended (instance name (record_view body)) (after self.old.stage (instance name (record_view body)))) why) }
         ensures shaped { IfOk result HasHeadingShape }
     {
         self.stage = self.stage.after_instance()?;
@@ -532,7 +532,7 @@ impl Machine {
     /// Behind a section line without its `;`.
     fn line(&mut self, line: Line, token: Token) -> Result<Option<Event>, GrammarFault>
         ensures ok { IfOk result (λ event. AnswersMove (at_line self.old.stage (line_of line) (meant token)) self.new event) }
-        ensures err { IfErr result (λ why. Refuses (at_line self.old.stage (line_of line) (meant token)) why) }
+        ensures err { IfErr result (λ why. RefusesMove (at_line self.old.stage (line_of line) (meant token)) why) }
         ensures shaped { IfOk result HasHeadingShape }
     {
         match token {
@@ -545,7 +545,7 @@ impl Machine {
     #[inline(always)]
     fn named(&mut self, name: Name, token: Token) -> Result<(), GrammarFault>
         ensures ok { IfOk result (λ _. MakesMove (at_named self.old.stage name (meant token)) self.new) }
-        ensures err { IfErr result (λ why. Refuses (at_named self.old.stage name (meant token)) why) }
+        ensures err { IfErr result (λ why. RefusesMove (at_named self.old.stage name (meant token)) why) }
     {
         match token {
             Token::Equals => {
@@ -560,7 +560,7 @@ impl Machine {
     #[inline(always)]
     fn equal(&mut self, name: Name, token: Token) -> Result<(), GrammarFault>
         ensures ok { IfOk result (λ _. MakesMove (at_equal self.old.stage name (meant token)) self.new) }
-        ensures err { IfErr result (λ why. Refuses (at_equal self.old.stage name (meant token)) why) }
+        ensures err { IfErr result (λ why. RefusesMove (at_equal self.old.stage name (meant token)) why) }
     {
         match token {
             Token::Keyword(word) => {
@@ -578,7 +578,7 @@ impl Machine {
     /// The parenthesis behind the records of an instance.
     fn close_records(&mut self, name: Name, parts: Vec<Part>) -> Result<(), GrammarFault>
         ensures ok { IfOk result (λ _. MakesMove (close_records self.old.stage name (part_views parts.items)) self.new) }
-        ensures err { IfErr result (λ why. Refuses (close_records self.old.stage name (part_views parts.items)) why) }
+        ensures err { IfErr result (λ why. RefusesMove (close_records self.old.stage name (part_views parts.items)) why) }
     {
         let Some(parts) = Parts::from_vec(parts) else {
             return Err(GrammarFault::Unexpected);
@@ -590,7 +590,7 @@ impl Machine {
     /// Behind `#1=(` and records.
     fn among(&mut self, name: Name, parts: Vec<Part>, token: Token) -> Result<(), GrammarFault>
         ensures ok { IfOk result (λ _. MakesMove (at_inside self.old.stage name (part_views parts.items) (meant token)) self.new) }
-        ensures err { IfErr result (λ why. Refuses (at_inside self.old.stage name (part_views parts.items) (meant token)) why) }
+        ensures err { IfErr result (λ why. RefusesMove (at_inside self.old.stage name (part_views parts.items) (meant token)) why) }
     {
         match token {
             Token::Keyword(word) => {
@@ -617,7 +617,7 @@ impl Machine {
     /// Behind the keyword of a simple record.
     fn keyed(&mut self, head: Head, key: Key, token: Token) -> Result<Option<Event>, GrammarFault>
         ensures ok { IfOk result (λ event. AnswersMove (at_keyed self.old.stage (head_of head) (key_view key) (meant token)) self.new event) }
-        ensures err { IfErr result (λ why. Refuses (at_keyed self.old.stage (head_of head) (key_view key) (meant token)) why) }
+        ensures err { IfErr result (λ why. RefusesMove (at_keyed self.old.stage (head_of head) (key_view key) (meant token)) why) }
         ensures shaped { IfOk result HasHeadingShape }
     {
         match token {
@@ -636,7 +636,7 @@ impl Machine {
     /// Behind a record with no instance name.
     fn record_end(&mut self, part: Part, token: Token) -> Result<Option<Event>, GrammarFault>
         ensures ok { IfOk result (λ event. AnswersMove (at_record_end self.old.stage (part_view part) (meant token)) self.new event) }
-        ensures err { IfErr result (λ why. Refuses (at_record_end self.old.stage (part_view part) (meant token)) why) }
+        ensures err { IfErr result (λ why. RefusesMove (at_record_end self.old.stage (part_view part) (meant token)) why) }
         ensures shaped { IfOk result HasHeadingShape }
     {
         match token {
@@ -653,7 +653,7 @@ impl Machine {
         token: Token,
     ) -> Result<Option<Event>, GrammarFault>
         ensures ok { IfOk result (λ event. AnswersMove (at_instance_end self.old.stage name (record_view body) (meant token)) self.new event) }
-        ensures err { IfErr result (λ why. Refuses (at_instance_end self.old.stage name (record_view body) (meant token)) why) }
+        ensures err { IfErr result (λ why. RefusesMove (at_instance_end self.old.stage name (record_view body) (meant token)) why) }
         ensures shaped { IfOk result HasHeadingShape }
     {
         match token {
@@ -667,7 +667,7 @@ impl Machine {
     /// At the start of the file.
     fn start(&mut self, token: Token) -> Result<(), GrammarFault>
         ensures ok { IfOk result (λ _. MakesMove (at_start self.old.stage (meant token)) self.new) }
-        ensures err { IfErr result (λ why. Refuses (at_start self.old.stage (meant token)) why) }
+        ensures err { IfErr result (λ why. RefusesMove (at_start self.old.stage (meant token)) why) }
     {
         match token {
             Token::Begin => {
@@ -681,7 +681,7 @@ impl Machine {
     /// Behind `ISO-10303-21;`.
     fn begun(&mut self, token: Token) -> Result<(), GrammarFault>
         ensures ok { IfOk result (λ _. MakesMove (at_begun self.old.stage (meant token)) self.new) }
-        ensures err { IfErr result (λ why. Refuses (at_begun self.old.stage (meant token)) why) }
+        ensures err { IfErr result (λ why. RefusesMove (at_begun self.old.stage (meant token)) why) }
     {
         match token {
             Token::Keyword(word) => {
@@ -698,7 +698,7 @@ impl Machine {
     /// In the header.
     fn header(&mut self, token: Token) -> Result<(), GrammarFault>
         ensures ok { IfOk result (λ _. MakesMove (at_header self.old.stage (meant token)) self.new) }
-        ensures err { IfErr result (λ why. Refuses (at_header self.old.stage (meant token)) why) }
+        ensures err { IfErr result (λ why. RefusesMove (at_header self.old.stage (meant token)) why) }
     {
         match token {
             Token::Keyword(word) => {
@@ -716,7 +716,7 @@ impl Machine {
     /// A keyword with which a data section begins, or where one may begin.
     fn data_keyword(&mut self, word: Word) -> Result<(), GrammarFault>
         ensures ok { IfOk result (λ _. MakesMove (at_data_keyword self.old.stage word) self.new) }
-        ensures err { IfErr result (λ why. Refuses (at_data_keyword self.old.stage word) why) }
+        ensures err { IfErr result (λ why. RefusesMove (at_data_keyword self.old.stage word) why) }
     {
         if !is_word(&word, b"DATA") {
             return Err(other_section_fault(&word));
@@ -728,7 +728,7 @@ impl Machine {
     /// Behind the header.
     fn headed(&mut self, token: Token) -> Result<(), GrammarFault>
         ensures ok { IfOk result (λ _. MakesMove (at_headed self.old.stage (meant token)) self.new) }
-        ensures err { IfErr result (λ why. Refuses (at_headed self.old.stage (meant token)) why) }
+        ensures err { IfErr result (λ why. RefusesMove (at_headed self.old.stage (meant token)) why) }
     {
         match token {
             Token::Keyword(word) => self.data_keyword(word),
@@ -741,7 +741,7 @@ impl Machine {
     #[inline(always)]
     fn data(&mut self, token: Token) -> Result<(), GrammarFault>
         ensures ok { IfOk result (λ _. MakesMove (at_data self.old.stage (meant token)) self.new) }
-        ensures err { IfErr result (λ why. Refuses (at_data self.old.stage (meant token)) why) }
+        ensures err { IfErr result (λ why. RefusesMove (at_data self.old.stage (meant token)) why) }
     {
         match token {
             Token::Name(name) => {
@@ -763,7 +763,7 @@ impl Machine {
     /// Behind a data section without a name.
     fn behind_unnamed(&mut self, token: Token) -> Result<(), GrammarFault>
         ensures ok { IfOk result (λ _. MakesMove (at_behind_unnamed self.old.stage (meant token)) self.new) }
-        ensures err { IfErr result (λ why. Refuses (at_behind_unnamed self.old.stage (meant token)) why) }
+        ensures err { IfErr result (λ why. RefusesMove (at_behind_unnamed self.old.stage (meant token)) why) }
     {
         match token {
             Token::Keyword(word) => {
@@ -783,7 +783,7 @@ impl Machine {
     /// Behind a data section with a name.
     fn behind_named(&mut self, token: Token) -> Result<(), GrammarFault>
         ensures ok { IfOk result (λ _. MakesMove (at_behind_named self.old.stage (meant token)) self.new) }
-        ensures err { IfErr result (λ why. Refuses (at_behind_named self.old.stage (meant token)) why) }
+        ensures err { IfErr result (λ why. RefusesMove (at_behind_named self.old.stage (meant token)) why) }
     {
         match token {
             Token::Keyword(word) => self.data_keyword(word),
@@ -799,7 +799,7 @@ impl Machine {
     #[inline(always)]
     fn idle(&mut self, token: Token) -> Result<(), GrammarFault>
         ensures ok { IfOk result (λ _. MakesMove (at_idle self.old.stage (meant token)) self.new) }
-        ensures err { IfErr result (λ why. Refuses (at_idle self.old.stage (meant token)) why) }
+        ensures err { IfErr result (λ why. RefusesMove (at_idle self.old.stage (meant token)) why) }
     {
         match self.stage {
             Stage::Start => self.start(token),
@@ -819,7 +819,7 @@ impl Machine {
     #[inline(never)]
     fn other(&mut self, token: Token) -> Result<Option<Event>, GrammarFault>
         ensures ok { IfOk result (λ event. AnswersMove (step self.old.stage (spot_of self.old) (meant token)) self.new event) }
-        ensures err { IfErr result (λ why. Refuses (step self.old.stage (spot_of self.old) (meant token)) why) }
+        ensures err { IfErr result (λ why. RefusesMove (step self.old.stage (spot_of self.old) (meant token)) why) }
         ensures shaped { IfOk result HasHeadingShape }
     {
         match mem::replace(&mut self.at, At::Idle) {
@@ -841,7 +841,7 @@ impl Machine {
     /// The next token. It answers a statement with its `;`.
     pub fn step(&mut self, token: Token) -> Result<Option<Event>, GrammarFault>
         ensures ok { IfOk result (λ event. AnswersMove (step self.old.stage (spot_of self.old) (meant token)) self.new event) }
-        ensures err { IfErr result (λ why. Refuses (step self.old.stage (spot_of self.old) (meant token)) why) }
+        ensures err { IfErr result (λ why. RefusesMove (step self.old.stage (spot_of self.old) (meant token)) why) }
         ensures shaped { IfOk result HasHeadingShape }
     {
         match &self.at {

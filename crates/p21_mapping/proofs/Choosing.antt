@@ -1,6 +1,5 @@
 -- What a base has for a name and for a keyword.
 use Rattle.std.proofs.Common.{◌≡◌, ◌∙◌, sym, ap, subst, ℕ, ◌<◌, ◌^◌, List, [], ◌∷◌, ◌++◌, Ok, Err, Some, None}
-use Rattle.std.proofs.lemmas.Option.{slice_get_within}
 use denote.Ref.{Bor}
 use Rattle.p21_mapping_values.proofs.SpelledScalars.{name-spelled}
 use Rattle.p21_claim_values.proofs.OfType.{of_entity, of_chosen_instance, offers-select}
@@ -10,7 +9,6 @@ use Rattle.p21_exchange.specs.Parameter.{Param, Key}
 use Rattle.p21_express_tables.specs.Base.{IsBase}
 use Rattle.p21_express_tables.specs.declared.base.Base.{Base}
 use Rattle.p21_express_tables.specs.declared.base.Base.TheVariants.{Plain, Select}
-use Rattle.p21_express_graph.specs.Resolved.{IsType}
 use Rattle.p21_express_types.specs.declared.kind.Member.{Member}
 use Rattle.p21_express_types.specs.declared.kind.Member.TheVariants as wanted
 use Rattle.p21_express_types.specs.declared.number.EntityId.{EntityId}
@@ -75,6 +73,3 @@ unnamed-no_key s base t key same none = no_key s base (Select t) key same (λ p 
 
 pub unoffered-no_key : (s : Schema) → HasDistinctTypes s → (base : Base) (t chosen : TypeId) (key : Key) → base ≡ Select t → TypeNamed s chosen.0 key.word → (Offers s t.0 (type_member chosen.0) → ⊥) → DecidesKey s base key None
 unoffered-no_key s distinct base t chosen key same named none = no_key s base (Select t) key same (λ p (u, name, key_is, offers, other). let same_type = distinct u chosen.0 key.word (subst (TypeNamed s u) (sym (ap (λ (k : Key). k.word) key_is)) other) named in none (subst (λ x. Offers s t.0 (type_member x)) same_type offers))
-
-pub named-known : (s : Schema) (t : ℕ) (name : List ℕ) → TypeNamed s t name → IsType s t
-named-known s t name (x, at, _) = slice_get_within s.types t x at

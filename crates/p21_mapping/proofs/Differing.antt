@@ -1,11 +1,11 @@
 -- Values of one type are distinct exactly if their texts are.
-use Rattle.std.proofs.Common.{◌≡◌, ◌≢◌, ◌∙◌, ◌↔◌, sym, ap, refl, subst, inl, inr, ℕ, ◌+◌, ◌<◌, ◌≤◌, Bool, true, false, List, [], ◌∷◌, ◌++◌, length, map, take, get_or, IsTrue, Contains, append_assoc}
-use Rattle.std.proofs.lemmas.List.{append-nil, map-append, take_all, take_more}
+use Rattle.std.proofs.Common.{◌≡◌, ◌≢◌, ◌∙◌, ◌↔◌, sym, ap, refl, subst, inl, inr, ℕ, ◌+◌, ◌<◌, ◌≤◌, Bool, true, List, [], ◌∷◌, ◌++◌, length, map, take, get_or, IsTrue, Contains, append_assoc}
+use Rattle.std.proofs.lemmas.List.{map-append, take_all, take_more}
 use Rattle.p21_basics.proofs.Members.{Contains-none, Contains-first, Contains-later, Contains-cases}
 use Rattle.p21_claim_values.proofs.OfType.{OfType, EachOf, of_none, of_next, of_empty, missing-of_none}
 use Rattle.p21_claim_values.proofs.SameFromTexts.{same-from_text}
 use Rattle.p21_claim_values.proofs.TextsFromSame.{text-from_same, same-missing}
-use Rattle.p21_files.specs.SameValue.{Same, Among, here, there, AreDistinct}
+use Rattle.p21_files.specs.SameValue.{Among, here, there, AreDistinct}
 use Rattle.p21_files.specs.Value as meant
 use Rattle.p21_files.specs.Value.{Values, no_values, value, missing}
 use Rattle.p21_files.specs.ValueText.{value_text}

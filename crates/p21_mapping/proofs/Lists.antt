@@ -1,5 +1,5 @@
 -- The elements of a list, and the aggregate of their values.
-use Rattle.std.proofs.Common.{◌≡◌, ◌≢◌, ◌∙◌, sym, ap, refl, subst, inl, inr, ℕ, suc, ◌+◌, ◌⊎◌, Bool, true, false, List, [], ◌∷◌, ◌++◌, ◌<◌, ◌≤◌, get_or, length, reverse, Ok, Err, Some, None, Contains, Vec, Box, Global, append_assoc, arith}
+use Rattle.std.proofs.Common.{◌≡◌, ◌≢◌, ◌∙◌, sym, ap, refl, subst, inl, inr, ℕ, suc, ◌⊎◌, Bool, true, false, List, [], ◌∷◌, ◌++◌, ◌<◌, ◌≤◌, get_or, length, reverse, Ok, Err, Some, None, Contains, Vec, Box, Global, append_assoc, arith}
 use Rattle.std.proofs.lemmas.List.{append-nil, map-append, reverse-append, reverse-reverse}
 use denote.Param.Weighed.{at_most, most}
 use denote.Ref.{Bor}

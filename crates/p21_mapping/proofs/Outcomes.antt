@@ -1,47 +1,32 @@
 -- What the check of a parameter answers, by what is known of it.
-use Rattle.std.proofs.Common.{◌≡◌, ◌≢◌, ◌∙◌, ◌↔◌, sym, ap, refl, subst, ℕ, ℤ, Bool, true, false, List, [], ◌∷◌, ◌++◌, Result, Ok, Err, IsTrue, Contains, length, Option}
+use Rattle.std.proofs.Common.{◌≡◌, ◌≢◌, ◌∙◌, sym, refl, subst, ℕ, List, [], Result, Ok, Err, Option}
 use Rattle.std.proofs.lemmas.List.{append-nil}
-use Rattle.std.specs.List.{AllByRecursion as Each}
-use Rattle.std.specs.Char.{IsScalar}
 use denote.Ref.{Bor}
-use Rattle.p21_claim_values.proofs.OfType.{OfType, of_whole, of_real, of_number, of_boolean, of_logical, of_text, of_binary, of_items}
-use Rattle.p21_claim_values.specs.Needs.{FitsWithNeeds, with_whole, with_real, with_number, with_whole_number, with_boolean, with_logical, with_text, with_binary, with_item}
-use Rattle.p21_claim_values.specs.Written.{IsSpelled}
-use Rattle.p21_exchange.proofs.RealSpellings.{real_spells}
-use Rattle.p21_exchange.proofs.Texts.{text_spells}
-use Rattle.p21_exchange.specs.Keyword.{IsKeyword}
-use Rattle.p21_exchange.specs.Number.{Decimal, IsInRange, IsReduced, SameRatio, ratio_of, whole_ratio}
+use Rattle.p21_claim_values.proofs.OfType.{OfType}
+use Rattle.p21_claim_values.specs.Needs.{FitsWithNeeds}
 use Rattle.p21_exchange.specs.Parameter as parameter
 use Rattle.p21_exchange.specs.Parameter.{Param}
-use Rattle.p21_exchange.specs.Spelling.{spelling}
-use Rattle.p21_exchange.specs.Token as token
 use Rattle.p21_express_tables.specs.Base.{IsBase}
 use Rattle.p21_express_graph.specs.DirectRenaming.{IsPlain}
 use Rattle.p21_express_tables.specs.declared.base.Base.{Base}
 use Rattle.p21_express_tables.specs.declared.base.Base.TheVariants.{Plain, Items, Select}
 use Rattle.p21_express_types.specs.declared.type_use.TypeUse as code
-use Rattle.p21_express_types.specs.declared.type_use.Width.{Width}
-use Rattle.p21_express_types.specs.Meaning.{type_use, width_option}
-use Rattle.p21_files.specs.BrokenValue.{BreaksAt, BreaksWithin, number_range, wrong_kind, select_type, wrong_width, unknown_item, itself, UsesSelect, IsOfWrongKind}
-use Rattle.p21_files.specs.Fits.{IsWithinWidth, boolean_items, logical_items}
-use Rattle.p21_files.specs.ParameterKind.{TakesKind, HasItems, of_boolean as items_of_boolean, of_logical as items_of_logical, of_enumeration}
+use Rattle.p21_express_types.specs.Meaning.{type_use}
+use Rattle.p21_files.specs.BrokenValue.{BreaksAt, wrong_kind, select_type, itself, UsesSelect, IsOfWrongKind}
 use Rattle.p21_files.specs.Reference as reference
 use Rattle.p21_files.specs.Value as meant
 use Rattle.p21_express_types.specs.declared.number.TypeId.{TypeId}
 use Rattle.p21_mapping.proofs.BaseKinds.{TakesAt, TakesPlainly, base-takes}
-use Rattle.p21_mapping.specs.Outcome.{Answers, FitsAlone, FitsOrBreaks, Found, IsKindFault, IsValueOf, RefusesItem, needs_view}
+use Rattle.p21_mapping.specs.Outcome.{Answers, FitsAlone, FitsOrBreaks, IsKindFault, IsValueOf, RefusesItem, needs_view}
 use Rattle.p21_mapping_values.specs.KnownTypes.{HasKnownTypes}
-use Rattle.p21_mapping_values.proofs.Views.{view-Whole, view-Real, view-Number, view-Text, view-Bits, view-Item}
 use Rattle.p21_mapping_values.specs.declared.fault.CheckFault.{CheckFault}
 use Rattle.p21_mapping_values.specs.declared.fault.CheckFault.TheVariants as fault
 use Rattle.p21_mapping_values.specs.declared.need.Need.{Need}
 use Rattle.p21_mapping_values.specs.declared.value.Value.{Value}
-use Rattle.p21_mapping_values.specs.declared.value.Value as value
-use Rattle.p21_mapping_values.specs.Fault.{fault_number, value_fault}
+use Rattle.p21_mapping_values.specs.Fault.{fault_number}
 use Rattle.p21_mapping_values.specs.View.{view}
 use Rattle.p21_schemas.specs.Schema as schema
 use Rattle.p21_schemas.specs.Schema.{Schema, TypeUse, kind_of}
-use Rattle.p21_values.specs.Decimal.{IsDecimal, ReducesRatio}
 
 -- ---- answers from answers
 

@@ -9,7 +9,9 @@ use Rattle.p21_files.specs.Meaning.{HasPlaceTypes, NamesEntity}
 use Rattle.p21_files.specs.RecordPlaces.{IsEntitySetOf}
 use Rattle.p21_mapping.proofs.Shapes.{leaf-breaks, set-refuses, simple-leaf, simple-set}
 use Rattle.p21_express_graph.specs.Rising.{HaveSame}
-use Rattle.p21_mapping.specs.Shape.{HasOpenPlace, PassesOwnSet, PassesSet, Refuses, RefusesOwnSet}
+use Rattle.p21_mapping.specs.declared.shape.Listed.{Listed}
+use Rattle.p21_mapping.specs.declared.shape.Listed.TheVariants.{Named, Order}
+use Rattle.p21_mapping.specs.Shape.{AreListed, HasOpenPlace, IsOwnClosure, PassesOwnSet, PassesSet, Refuses, RefusesOwnSet, own_of}
 use Rattle.p21_mapping_values.specs.declared.fault.CheckFault.{CheckFault}
 use Rattle.p21_mapping_values.specs.declared.fault.CheckFault.TheVariants.{Abstract, OneOf, TwoRedeclarations}
 use Rattle.p21_schemas.specs.OneOf.{Clashes}
@@ -17,6 +19,11 @@ use Rattle.p21_schemas.specs.Order.{order, own_places}
 use Rattle.p21_schemas.specs.PlaceType.{PlaceType, TypeAt, derived_place, stored_place, two_redeclarations, IsDerivedIn, IsRedeclared, Decides}
 use Rattle.p21_schemas.specs.Schema.{Schema, Place, Redeclared}
 use Rattle.p21_schemas.specs.WellFormed.{HasDistinctEntities}
+
+-- an entity whose closure the set is, is one of the schema
+pub own-listed : (s : Schema) (listed : Listed) (entities : List ℕ) → IsOwnClosure s (own_of listed) entities → AreListed s listed
+own-listed s (Order e) entities own = own.0
+own-listed s (Named es) entities own = tt
 
 pub same-itself : (es : List ℕ) → HaveSame es es
 same-itself es f = (λ among. among, λ among. among)

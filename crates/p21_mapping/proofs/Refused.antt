@@ -3,11 +3,11 @@ use Rattle.std.specs.Prelude.{◌≡◌, ℕ, ◌<◌, List, [], length, map, Co
 use Rattle.std.specs.List.{AllByRecursion as Each, flat_map, zip}
 use Rattle.std.proofs.Common.{ap, sym, ◌∙◌, subst, Vec, Global}
 use Rattle.std.proofs.lemmas.List.{append-nil}
-use Rattle.std.proofs.lemmas.Option.{slice_get_within}
-use Rattle.p21_basics.proofs.Members.{AllZip-member, Contains-first, Each-member, Each-of_members}
+use Rattle.p21_basics.proofs.Members.{Contains-first, Each-member, Each-of_members}
 use Rattle.p21_exchange.specs.Parameter.{Param, listed}
 use Rattle.p21_exchange.specs.Record.{Part, Record, simple, complex}
 use Rattle.p21_express_graph.specs.Lookups.{AreEntities}
+use Rattle.p21_express_graph.proofs.Lookups.{rising-known}
 use Rattle.p21_files.specs.BrokenRule.{Breaks, at_place}
 use Rattle.p21_files.specs.Meaning.{HasPlaceTypes}
 use Rattle.p21_files.specs.RecordPlaces.{HasParamAt}
@@ -20,13 +20,10 @@ use Rattle.p21_mapping_values.specs.Fault.{fault_number}
 use Rattle.p21_mapping_values.specs.declared.value.Values.{Values as Stored}
 use Rattle.p21_mapping_values.specs.TypedView.{rows_view}
 use Rattle.p21_schemas.specs.Order.{own_places}
-use Rattle.p21_schemas.specs.Schema.{Schema, Place, EntityNamed, AreRisingByName}
-
-pub rising-within : (s : Schema) (es : List ℕ) → AreRisingByName s es → AreEntities s es
-rising-within s es (names, named, rises) e among = let (name, there, (x, at, is)) = AllZip-member (EntityNamed s) es names e named among in slice_get_within s.entities e x at
+use Rattle.p21_schemas.specs.Schema.{Schema, Place}
 
 pub listed-within : (s : Schema) (r : Record) (es entities : List ℕ) → HasShape s r es entities → AreEntities s es
-listed-within s r es entities shape e among = rising-within s entities shape.rising e ((shape.same e).0 among)
+listed-within s r es entities shape e among = rising-known s entities shape.rising e ((shape.same e).0 among)
 
 pub listed-decided : (s : Schema) (r : Record) (es entities : List ℕ) → HasShape s r es entities → Each (HasPlaceTypes s entities) es
 listed-decided s r es entities shape = Each-of_members (HasPlaceTypes s entities) es (λ e among. Each-member (HasPlaceTypes s entities) entities e shape.place_types ((shape.same e).0 among))

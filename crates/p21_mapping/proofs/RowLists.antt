@@ -6,7 +6,7 @@ use Rattle.std.proofs.lemmas.List.{append-nil, map-append, length-append}
 use Rattle.std.proofs.lemmas.Grind.{flat_map-append}
 use Rattle.p21_basics.proofs.Members.{Contains-first, Contains-later, Each-append}
 use Rattle.p21_claim_values.specs.Needs.{FitPlacesWithNeeds, AreNeedsOfParts}
-use Rattle.p21_exchange.specs.Parameter.{Param, Params, param, listed, params_of}
+use Rattle.p21_exchange.specs.Parameter.{Param, Params, listed, params_of}
 use Rattle.p21_exchange.specs.Record.{Part}
 use Rattle.p21_express_graph.specs.Lookups.{places_from}
 use Rattle.p21_express_graph.proofs.Lookups.{own-places-are, places-more}

@@ -1,5 +1,5 @@
 -- Scalars at their types.
-use Rattle.std.proofs.Common.{◌≡◌, ◌≢◌, ◌∙◌, ◌↔◌, sym, ap, refl, subst, ℕ, ℤ, Bool, true, false, List, [], ◌∷◌, Result, Ok, Err, IsTrue, Contains, length, Option, rules}
+use Rattle.std.proofs.Common.{◌≡◌, ◌∙◌, ◌↔◌, sym, ap, refl, subst, ℕ, ℤ, Bool, true, false, List, [], Ok, Err, IsTrue, Contains, length, Option, rules}
 use Rattle.std.specs.List.{AllByRecursion as Each}
 use Rattle.std.specs.Char.{IsScalar}
 use denote.Ref.{Bor}
@@ -12,19 +12,18 @@ use Rattle.p21_exchange.specs.Parameter as parameter
 use Rattle.p21_exchange.specs.Parameter.{Param}
 use Rattle.p21_express_tables.specs.Base.{IsBase}
 use Rattle.p21_express_tables.specs.declared.base.Base.{Base}
-use Rattle.p21_express_tables.specs.declared.base.Base.TheVariants.{Plain, Items, Select}
+use Rattle.p21_express_tables.specs.declared.base.Base.TheVariants.{Plain, Items}
 use Rattle.p21_express_types.specs.declared.type_use.TypeUse as code
 use Rattle.p21_express_types.specs.declared.type_use.Width.{Width}
 use Rattle.p21_express_types.specs.Meaning.{type_use, width_option}
-use Rattle.p21_files.specs.BrokenValue.{BreaksAt, number_range, wrong_width, unknown_item}
+use Rattle.p21_files.specs.BrokenValue.{number_range, wrong_width, unknown_item}
 use Rattle.p21_files.specs.Fits.{IsWithinWidth, boolean_items, logical_items}
-use Rattle.p21_files.specs.ParameterKind.{HasItems, HasWidth, of_boolean as items_of_boolean, of_logical as items_of_logical, of_enumeration}
+use Rattle.p21_files.specs.ParameterKind.{HasItems, of_boolean as items_of_boolean, of_logical as items_of_logical, of_enumeration}
 use Rattle.p21_files.specs.Value as meant
 use Rattle.p21_mapping.proofs.Outcomes.{alone, broken}
-use Rattle.p21_mapping.specs.Outcome.{DecidesItem, FitsAlone, FitsOrBreaks, RefusesItem}
+use Rattle.p21_mapping.specs.Outcome.{DecidesItem, FitsAlone, FitsOrBreaks}
 use Rattle.p21_mapping_values.proofs.Views.{view-Whole, view-Real, view-Number, view-Text, view-Bits, view-Item}
 use Rattle.p21_mapping_values.specs.declared.fault.CheckFault.TheVariants as fault
-use Rattle.p21_mapping_values.specs.declared.need.Need.{Need}
 use Rattle.p21_mapping_values.specs.declared.value.Value as value
 use Rattle.p21_mapping_values.specs.Fault.{value_fault}
 use Rattle.p21_schemas.specs.Schema as schema

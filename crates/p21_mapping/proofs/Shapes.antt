@@ -10,7 +10,7 @@ use Rattle.p21_express_graph.specs.Lookups.{AreEntities, places_from}
 use Rattle.p21_express_graph.specs.Orders.{numbers}
 use Rattle.p21_express_types.specs.declared.number.EntityId.{EntityId}
 use Rattle.p21_express_graph.specs.Resolved.{HoldsTogether, IsEntity}
-use Rattle.p21_express_graph.proofs.Lookups.{map-option, own-places-are}
+use Rattle.p21_express_graph.proofs.Lookups.{map-option, own-places-are, leaves-all}
 use Rattle.p21_express_graph.proofs.OrderTables.{order-tells, IsA-within, are-entities}
 use Rattle.p21_files.proofs.OneMeaning.{EntityNamed-one, NamesEntity-one}
 use Rattle.p21_files.proofs.RecordSets.{internal-set, external-set}
@@ -196,15 +196,6 @@ complex-shape s distinct parts es entities named differ closed same rising concr
   place_types = passes.1;
   counts = complex-counts s distinct parts es named counts;
 }
-
--- the leaves tell whether one is abstract
-leaves-all : (s : Schema) (entities among leaves : List ℕ) → LeavesAmong s entities among leaves → (e : ℕ) → Contains leaves e → IsLeaf s entities e
-leaves-all s entities among leaves no_more e there = absurd (Contains-none e there)
-leaves-all s entities among leaves (leaf_next f es ls leaf rest) e there = elim (Contains-cases f ls e there) [
-  | inl h ↦ let P : ℕ → Type 0 = λ x. IsLeaf s entities x in subst P h leaf
-  | inr h ↦ leaves-all s entities es ls rest e h
-]
-leaves-all s entities among leaves (other_next f es ls other rest) e there = leaves-all s entities es leaves rest e there
 
 leaves-has : (s : Schema) (entities among leaves : List ℕ) → LeavesAmong s entities among leaves → (e : ℕ) → Contains among e → IsLeaf s entities e → Contains leaves e
 leaves-has s entities among leaves no_more e there leaf = there

@@ -3,6 +3,7 @@ use Rattle.std.specs.Prelude.{◌≡◌, ◌≢◌, ℕ, List, length, nat_eq, s
 use Rattle.std.specs.List.{AllByRecursion as Each, AllZip, IsDistinct}
 use Rattle.p21_exchange.specs.Parameter.{listed}
 use Rattle.p21_exchange.specs.Record.{Part, Record, simple, complex}
+use Rattle.p21_express_graph.specs.Orders.{numbers}
 use Rattle.p21_express_tables.specs.OwnSets.{LeavesOpen}
 use Rattle.p21_express_graph.specs.Resolved.{IsEntity}
 use Rattle.p21_express_graph.specs.Rising.{HaveSame}
@@ -10,6 +11,8 @@ use Rattle.p21_express_types.specs.declared.number.EntityId.{EntityId}
 use Rattle.p21_files.specs.BrokenRule.{Breaks}
 use Rattle.p21_files.specs.Meaning.{HasPlaceTypes, NamesEntity}
 use Rattle.p21_files.specs.RecordPlaces.{HasPart, IsEntitySetOf, part_places}
+use Rattle.p21_mapping.specs.declared.shape.Listed.{Listed}
+use Rattle.p21_mapping.specs.declared.shape.Listed.TheVariants.{Named, Order}
 use Rattle.p21_mapping_values.specs.Fault.{fault_number}
 use Rattle.p21_mapping_values.specs.declared.fault.CheckFault.{CheckFault}
 use Rattle.p21_mapping_values.specs.declared.fault.CheckFault.TheVariants.{PartTwice, PartMissing, Abstract, OneOf, TwoRedeclarations, NoMemory}
@@ -93,6 +96,21 @@ RefusesOwnSet s e other = ⊥
 abbrev pub IsOwnClosure : Schema → Option EntityId → List ℕ → Type 0
 IsOwnClosure s None entities = Unit {0}
 IsOwnClosure s (Some e) entities = IsEntity s e.0 × HaveSame (order s e.0) entities
+
+-- the entity whose closure the set is, where that is known
+abbrev pub own_of : Listed → Option EntityId
+own_of (Order e) = Some e
+own_of (Named es) = None
+
+-- the entities whose places the parameters stand at
+abbrev pub listed_in : Schema → Listed → List ℕ
+listed_in s (Order e) = order s e.0
+listed_in s (Named es) = numbers es.items
+
+-- the entity of an order is one of the schema
+abbrev pub AreListed : Schema → Listed → Type 0
+AreListed s (Order e) = IsEntity s e.0
+AreListed s (Named es) = Unit {0}
 
 -- as many parameters as the entity has places of its own
 abbrev pub HasCount : Schema → Part → ℕ → Type 0

@@ -5,12 +5,12 @@ ghost use Rattle.p21_grammar_tree.specs.View.{record_view};
 ghost use Rattle.p21_mapping.specs.ArrangedRows.{HasRows};
 ghost use Rattle.p21_mapping.specs.Outcome.{needs_view};
 ghost use Rattle.p21_mapping.specs.Checked.{ChecksRecord};
-ghost use Rattle.p21_mapping.specs.Shape.{HasShape, IsOwnClosure, Refuses};
+ghost use Rattle.p21_mapping.specs.Shape.{HasShape, IsOwnClosure, Refuses, listed_in, own_of};
 ghost use Rattle.p21_mapping_values.specs.TypedView.{rows_view};
 ghost use Rattle.p21_schemas.specs.WellFormed.{IsWellFormed};
 
 use crate::arranged_rows::arranged_rows;
-use crate::fitted::{complex_rows, simple_rows};
+use crate::fitted::{EntitySet, complex_rows, simple_rows};
 use crate::shape::{Shape, shape_of};
 use p21_express_tables::Schema;
 use p21_express_types::EntityId;
@@ -50,21 +50,23 @@ fn check_with_shape(
 ) -> Result<(Typed, Vec<Need>), CheckFault>
     requires formed { IsWellFormed schema.now }
     requires holds { HoldsTogether schema.now }
-    requires own { IsOwnClosure schema.now shape.own (numbers shape.entities.items) }
-    requires shape { HasShape schema.now (record_view of) (numbers shape.listed.items) (numbers shape.entities.items) }
+    requires own { IsOwnClosure schema.now (own_of shape.listed) (numbers shape.entities.items) }
+    requires shape { HasShape schema.now (record_view of) (listed_in schema.now shape.listed) (numbers shape.entities.items) }
     ensures { ChecksRecord schema.now (record_view of) result }
 {
-    let Shape {
-        own,
-        listed,
-        entities,
-    } = shape;
+    let Shape { listed, entities } = shape;
+    let in_order = listed.entities(schema);
     let mut needs = Vec::new(alloc);
-    let rows = match rows_of(alloc, schema, own, &listed, &entities, of, &mut needs) {
+    let set = EntitySet {
+        schema,
+        own: listed.own(),
+        entities: &entities,
+    };
+    let rows = match rows_of(alloc, &set, in_order, of, &mut needs) {
         Ok(rows) => rows,
         Err(fault) => return Err(fault),
     };
-    let values = arranged_rows(alloc, &entities, &listed, rows)?;
+    let values = arranged_rows(alloc, &entities, in_order, rows)?;
     let typed = Typed {
         parts: Ids::from_vec(entities),
         values: Rows::from_vec(values),
@@ -75,26 +77,22 @@ fn check_with_shape(
 /// The values of the places of each entity, in the order of the record.
 fn rows_of(
     alloc: Global,
-    schema: &Schema,
-    own: Option<EntityId>,
+    set: &EntitySet<'_>,
     listed: &[EntityId],
-    entities: &[EntityId],
     of: Record,
     needs: &mut Vec<Need>,
 ) -> Result<Vec<Values>, CheckFault>
-    requires holds { HoldsTogether schema.now }
-    requires formed { IsWellFormed schema.now }
-    requires own { IsOwnClosure schema.now own (numbers entities.now) }
-    requires shape { HasShape schema.now (record_view of) (numbers listed.now) (numbers entities.now) }
-    ensures { MatchResult result (λ rows. HasRows schema.now (record_view of) (numbers listed.now) (numbers entities.now) (rows_view rows.items) (needs_view needs.old.items) (needs_view needs.new.items)) (Refuses schema.now (record_view of)) }
+    requires holds { HoldsTogether set.now.schema.now }
+    requires formed { IsWellFormed set.now.schema.now }
+    requires own { IsOwnClosure set.now.schema.now set.now.own (numbers set.now.entities.now) }
+    requires shape { HasShape set.now.schema.now (record_view of) (numbers listed.now) (numbers set.now.entities.now) }
+    ensures { MatchResult result (λ rows. HasRows set.now.schema.now (record_view of) (numbers listed.now) (numbers set.now.entities.now) (rows_view rows.items) (needs_view needs.old.items) (needs_view needs.new.items)) (Refuses set.now.schema.now (record_view of)) }
 {
     match of {
         Record::Simple(part) => {
             let params = part.params.into_items();
-            simple_rows(alloc, schema, own, entities, listed, params, needs)
+            simple_rows(alloc, set, listed, params, needs)
         }
-        Record::Complex(parts) => {
-            complex_rows(alloc, schema, entities, listed, parts.into_items(), needs)
-        }
+        Record::Complex(parts) => complex_rows(alloc, set, listed, parts.into_items(), needs),
     }
 }

@@ -25,64 +25,64 @@ use p21_mapping_values::{CheckFault, Need, Value, Values};
 use std::alloc::Global;
 use std::vec::IntoIter;
 
+/// The set of entities of a record, in a schema.
+#[derive(Drop)]
+pub(crate) struct EntitySet<'a> {
+    pub schema: &'a Schema,
+    /// The entity whose closure it is, where that is known.
+    pub own: Option<EntityId>,
+    pub entities: &'a [EntityId],
+}
+
 /// What may stand at a place of a set of entities. Where the set is the closure of one, this is known beforehand.
-fn type_here<'a>(
-    schema: &'a Schema,
-    own: Option<EntityId>,
-    entities: &[EntityId],
-    place: Place,
-) -> PlaceType<'a>
-    requires own { IsOwnClosure schema.now own (numbers entities.now) }
-    requires entities { AreEntities schema.now (numbers entities.now) }
-    requires place { IsPlace schema.now (place_of place) }
-    ensures { TypeAt schema.now (numbers entities.now) (place_of place) (place_type result) }
+fn type_here<'a>(set: &EntitySet<'a>, place: Place) -> PlaceType<'a>
+    requires own { IsOwnClosure set.now.schema.now set.now.own (numbers set.now.entities.now) }
+    requires entities { AreEntities set.now.schema.now (numbers set.now.entities.now) }
+    requires place { IsPlace set.now.schema.now (place_of place) }
+    ensures { TypeAt set.now.schema.now (numbers set.now.entities.now) (place_of place) (place_type result) }
 {
-    match own {
-        Some(entity) => schema.own_type(entity, place),
-        None => schema.type_at(entities, place),
+    match set.own {
+        Some(entity) => set.schema.own_type(entity, place),
+        None => set.schema.type_at(set.entities, place),
     }
 }
 
 /// The value of a parameter at a place of a set of entities.
 fn fit_here(
     alloc: Global,
-    schema: &Schema,
-    own: Option<EntityId>,
-    entities: &[EntityId],
+    set: &EntitySet<'_>,
     place: Place,
     param: Param,
     needs: &mut Vec<Need>,
 ) -> Result<Value, CheckFault>
-    requires own { IsOwnClosure schema.now own (numbers entities.now) }
-    requires entities { AreEntities schema.now (numbers entities.now) }
-    requires place { IsPlace schema.now (place_of place) }
-    requires decided { TypeAt schema.now (numbers entities.now) (place_of place) two_redeclarations → ⊥ }
-    ensures { MatchResult result (λ found. FitsHere schema.now (numbers entities.now) (place_of place) (tree param) (view found) (needs_view needs.old.items) (needs_view needs.new.items)) (RefusesHere schema.now (numbers entities.now) (place_of place) (tree param)) }
+    requires own { IsOwnClosure set.now.schema.now set.now.own (numbers set.now.entities.now) }
+    requires entities { AreEntities set.now.schema.now (numbers set.now.entities.now) }
+    requires place { IsPlace set.now.schema.now (place_of place) }
+    requires decided { TypeAt set.now.schema.now (numbers set.now.entities.now) (place_of place) two_redeclarations → ⊥ }
+    ensures { MatchResult result (λ found. FitsHere set.now.schema.now (numbers set.now.entities.now) (place_of place) (tree param) (view found) (needs_view needs.old.items) (needs_view needs.new.items)) (RefusesHere set.now.schema.now (numbers set.now.entities.now) (place_of place) (tree param)) }
 {
-    schema.holds_together();
-    let at = type_here(schema, own, entities, place);
-    let found = fit_place(alloc, schema, at, param, needs);
+    set.schema.holds_together();
+    let at = type_here(set, place);
+    let found = fit_place(alloc, set.schema, at, param, needs);
     found
 }
 
 /// The values of the places that an entity declares, which as many of the parameters stand at.
 pub(crate) fn fit_row(
     alloc: Global,
-    schema: &Schema,
-    own: Option<EntityId>,
-    entities: &[EntityId],
+    set: &EntitySet<'_>,
     owner: EntityId,
     params: &mut IntoIter<Param, Global>,
     needs: &mut Vec<Need>,
 ) -> Result<Values, CheckFault>
-    requires own { IsOwnClosure schema.now own (numbers entities.now) }
-    requires entities { AreEntities schema.now (numbers entities.now) }
-    requires owner { IsEntity schema.now owner.0 }
-    requires decided { HasPlaceTypes schema.now (numbers entities.now) owner.0 }
-    requires enough { length (attributes_of schema.now owner.0) ≤ length (into_iter_items params.old) }
-    ensures { MatchResult result (λ values. TakesRow schema.now (numbers entities.now) owner.0 (param_views (into_iter_items params.old)) (param_views (into_iter_items params.new)) (map view (list_of values)) (needs_view needs.old.items) (needs_view needs.new.items)) (RefusesAmong schema.now (numbers entities.now) (zip (own_places schema.now owner.0) (param_views (into_iter_items params.old)))) }
+    requires own { IsOwnClosure set.now.schema.now set.now.own (numbers set.now.entities.now) }
+    requires entities { AreEntities set.now.schema.now (numbers set.now.entities.now) }
+    requires owner { IsEntity set.now.schema.now owner.0 }
+    requires decided { HasPlaceTypes set.now.schema.now (numbers set.now.entities.now) owner.0 }
+    requires enough { length (attributes_of set.now.schema.now owner.0) ≤ length (into_iter_items params.old) }
+    ensures { MatchResult result (λ values. TakesRow set.now.schema.now (numbers set.now.entities.now) owner.0 (param_views (into_iter_items params.old)) (param_views (into_iter_items params.new)) (map view (list_of values)) (needs_view needs.old.items) (needs_view needs.new.items)) (RefusesAmong set.now.schema.now (numbers set.now.entities.now) (zip (own_places set.now.schema.now owner.0) (param_views (into_iter_items params.old)))) }
 {
-    let count = schema.attribute_count(owner);
+    let count = set.schema.attribute_count(owner);
     let mut values = Vec::with_capacity(alloc, count as usize)?;
     for index in 0..count {
         let Some(param) = params.next() else {
@@ -92,7 +92,7 @@ pub(crate) fn fit_row(
             entity: owner,
             index,
         };
-        match fit_here(alloc, schema, own, entities, place, param, needs) {
+        match fit_here(alloc, set, place, param, needs) {
             Ok(value) => values.push(value)?,
             Err(fault) => return Err(fault),
         }
@@ -103,24 +103,22 @@ pub(crate) fn fit_row(
 /// The values of the places of entities, one entity behind the other, which as many parameters stand at.
 pub(crate) fn simple_rows(
     alloc: Global,
-    schema: &Schema,
-    own: Option<EntityId>,
-    entities: &[EntityId],
+    set: &EntitySet<'_>,
     listed: &[EntityId],
     params: Vec<Param>,
     needs: &mut Vec<Need>,
 ) -> Result<Vec<Values>, CheckFault>
-    requires own { IsOwnClosure schema.now own (numbers entities.now) }
-    requires entities { AreEntities schema.now (numbers entities.now) }
-    requires listed { AreEntities schema.now (numbers listed.now) }
-    requires decided { Each (HasPlaceTypes schema.now (numbers entities.now)) (numbers listed.now) }
-    requires each { length params.items ≡ length (flat_map (own_places schema.now) (numbers listed.now)) }
-    ensures { MatchResult result (λ rows. TakesRows schema.now (numbers entities.now) (numbers listed.now) (param_views params.items) [] (rows_view rows.items) (needs_view needs.old.items) (needs_view needs.new.items)) (RefusesAmong schema.now (numbers entities.now) (zip (flat_map (own_places schema.now) (numbers listed.now)) (param_views params.items))) }
+    requires own { IsOwnClosure set.now.schema.now set.now.own (numbers set.now.entities.now) }
+    requires entities { AreEntities set.now.schema.now (numbers set.now.entities.now) }
+    requires listed { AreEntities set.now.schema.now (numbers listed.now) }
+    requires decided { Each (HasPlaceTypes set.now.schema.now (numbers set.now.entities.now)) (numbers listed.now) }
+    requires each { length params.items ≡ length (flat_map (own_places set.now.schema.now) (numbers listed.now)) }
+    ensures { MatchResult result (λ rows. TakesRows set.now.schema.now (numbers set.now.entities.now) (numbers listed.now) (param_views params.items) [] (rows_view rows.items) (needs_view needs.old.items) (needs_view needs.new.items)) (RefusesAmong set.now.schema.now (numbers set.now.entities.now) (zip (flat_map (own_places set.now.schema.now) (numbers listed.now)) (param_views params.items))) }
 {
     let mut left = params.into_iter();
     let mut rows = Vec::with_capacity(alloc, listed.len())?;
     for owner in listed {
-        match fit_row(alloc, schema, own, entities, *owner, &mut left, needs) {
+        match fit_row(alloc, set, *owner, &mut left, needs) {
             Ok(row) => rows.push(row)?,
             Err(fault) => return Err(fault),
         }
@@ -131,17 +129,17 @@ pub(crate) fn simple_rows(
 /// The values of the places that each entity declares, which the parameters of its simple record stand at.
 pub(crate) fn complex_rows(
     alloc: Global,
-    schema: &Schema,
-    entities: &[EntityId],
+    set: &EntitySet<'_>,
     listed: &[EntityId],
     parts: Vec<Part>,
     needs: &mut Vec<Need>,
 ) -> Result<Vec<Values>, CheckFault>
-    requires entities { AreEntities schema.now (numbers entities.now) }
-    requires decided { Each (HasPlaceTypes schema.now (numbers entities.now)) (numbers listed.now) }
-    requires named { AreNamed schema.now (part_views parts.items) (numbers listed.now) }
-    requires counts { HasCounts schema.now (complex (part_views parts.items)) }
-    ensures { MatchResult result (λ rows. TakesParts schema.now (numbers entities.now) (numbers listed.now) (part_views parts.items) [] (rows_view rows.items) (needs_view needs.old.items) (needs_view needs.new.items)) (RefusesPart schema.now (numbers entities.now) (part_views parts.items)) }
+    requires own { IsOwnClosure set.now.schema.now set.now.own (numbers set.now.entities.now) }
+    requires entities { AreEntities set.now.schema.now (numbers set.now.entities.now) }
+    requires decided { Each (HasPlaceTypes set.now.schema.now (numbers set.now.entities.now)) (numbers listed.now) }
+    requires named { AreNamed set.now.schema.now (part_views parts.items) (numbers listed.now) }
+    requires counts { HasCounts set.now.schema.now (complex (part_views parts.items)) }
+    ensures { MatchResult result (λ rows. TakesParts set.now.schema.now (numbers set.now.entities.now) (numbers listed.now) (part_views parts.items) [] (rows_view rows.items) (needs_view needs.old.items) (needs_view needs.new.items)) (RefusesPart set.now.schema.now (numbers set.now.entities.now) (part_views parts.items)) }
 {
     let mut left = parts.into_iter();
     let mut rows = Vec::with_capacity(alloc, listed.len())?;
@@ -150,7 +148,7 @@ pub(crate) fn complex_rows(
             unreachable!()
         };
         let mut params = part.params.into_items().into_iter();
-        match fit_row(alloc, schema, None, entities, *owner, &mut params, needs) {
+        match fit_row(alloc, set, *owner, &mut params, needs) {
             Ok(row) => rows.push(row)?,
             Err(fault) => return Err(fault),
         }

@@ -1,4 +1,4 @@
-ghost use Rattle.std.specs.Prelude.{ℕ, Contains, MatchBool, MatchResult, IfOk};
+ghost use Rattle.std.specs.Prelude.{◌≡◌, ℕ, Contains, MatchBool, MatchResult, IfOk};
 ghost use Rattle.p21_exchange.specs.Record.{simple, complex};
 ghost use Rattle.p21_express_graph.specs.Lookups.{AreEntities};
 ghost use Rattle.p21_express_graph.specs.Orders.{numbers};
@@ -6,7 +6,7 @@ ghost use Rattle.p21_express_graph.specs.Resolved.{IsEntity};
 ghost use Rattle.p21_grammar_tree.specs.View.{part_view, part_views, record_view};
 ghost use Rattle.p21_schemas.specs.Schema.{IsAbstract};
 ghost use Rattle.p21_schemas.specs.WellFormed.{IsWellFormed};
-ghost use Rattle.p21_mapping.specs.Shape.{AreMembers, HasSomeAbstractLeaf, HasNoAbstractLeaf, HasShape, IsOwnClosure, PassesOwnSet, PassesSet, Refuses, RefusesMembers, RefusesOwnSet, RefusesSet};
+ghost use Rattle.p21_mapping.specs.Shape.{AreMembers, HasSomeAbstractLeaf, HasNoAbstractLeaf, HasShape, IsOwnClosure, PassesOwnSet, PassesSet, Refuses, RefusesMembers, RefusesOwnSet, RefusesSet, listed_in, own_of, AreListed};
 
 use crate::key::{named, named_entities};
 use crate::members::{has_twice, is_closed};
@@ -19,12 +19,42 @@ use p21_mapping_values::CheckFault;
 use p21_values::NoMemory;
 use std::alloc::Global;
 
-/// The entities of a record: in internal form the one that its keyword names; those whose places its parameters stand at, in
-/// their order; and its set, rising by keyword.
+/// The entities whose places the parameters of a record stand at, in their order.
+#[derive(Debug, Drop)]
+pub enum Listed {
+    /// In internal mapping those of the order of the entity that the keyword names.
+    Order(EntityId),
+    /// In external mapping those that the keywords name.
+    Named(Vec<EntityId>),
+}
+
+impl Listed {
+    /// The entities. It takes no memory.
+    pub(crate) fn entities<'a>(&'a self, schema: &'a Schema) -> &'a [EntityId]
+        requires { AreListed schema.now self.now }
+        ensures { numbers result.now ≡ listed_in schema.now self.now }
+    {
+        match self {
+            Listed::Order(entity) => schema.order_of(*entity),
+            Listed::Named(entities) => entities,
+        }
+    }
+
+    /// The entity whose closure the set is, where that is known.
+    pub(crate) fn own(&self) -> Option<EntityId>
+        ensures { result ≡ own_of self.now }
+    {
+        match self {
+            Listed::Order(entity) => Some(*entity),
+            Listed::Named(_) => None,
+        }
+    }
+}
+
+/// The entities of a record: those whose places its parameters stand at, and its set, rising by keyword.
 #[derive(Debug, Drop)]
 pub struct Shape {
-    pub own: Option<EntityId>,
-    pub listed: Vec<EntityId>,
+    pub listed: Listed,
     pub entities: Vec<EntityId>,
 }
 
@@ -36,7 +66,7 @@ pub struct Shape {
 /// `NoMemory`.
 pub(crate) fn shape_of(alloc: Global, schema: &Schema, of: &Record) -> Result<Shape, CheckFault>
     requires { IsWellFormed schema.now }
-    ensures { MatchResult result (λ shape. HasShape schema.now (record_view of.now) (numbers shape.listed.items) (numbers shape.entities.items) × IsOwnClosure schema.now shape.own (numbers shape.entities.items)) (Refuses schema.now (record_view of.now)) }
+    ensures { MatchResult result (λ shape. HasShape schema.now (record_view of.now) (listed_in schema.now shape.listed) (numbers shape.entities.items) × IsOwnClosure schema.now (own_of shape.listed) (numbers shape.entities.items)) (Refuses schema.now (record_view of.now)) }
 {
     match of {
         Record::Simple(part) => simple_shape(schema, part),
@@ -46,7 +76,7 @@ pub(crate) fn shape_of(alloc: Global, schema: &Schema, of: &Record) -> Result<Sh
 
 fn simple_shape(schema: &Schema, part: &Part) -> Result<Shape, CheckFault>
     requires { IsWellFormed schema.now }
-    ensures { MatchResult result (λ shape. HasShape schema.now (simple (part_view part.now)) (numbers shape.listed.items) (numbers shape.entities.items) × IsOwnClosure schema.now shape.own (numbers shape.entities.items)) (Refuses schema.now (simple (part_view part.now))) }
+    ensures { MatchResult result (λ shape. HasShape schema.now (simple (part_view part.now)) (listed_in schema.now shape.listed) (numbers shape.entities.items) × IsOwnClosure schema.now (own_of shape.listed) (numbers shape.entities.items)) (Refuses schema.now (simple (part_view part.now))) }
 {
     let Some(entity) = named(schema, &part.key) else {
         return Err(CheckFault::UnknownEntity);
@@ -56,14 +86,13 @@ fn simple_shape(schema: &Schema, part: &Part) -> Result<Shape, CheckFault>
         Ok(()) => {}
         Err(fault) => return Err(fault),
     }
-    let listed = schema.order(entity)?;
-    if !has_count(schema, &listed, part.params.items().len()) {
+    let listed = schema.order_of(entity);
+    if !has_count(schema, listed, part.params.items().len()) {
         return Err(CheckFault::Count);
     }
     let entities = schema.own_rising(entity)?;
     Ok(Shape {
-        own: Some(entity),
-        listed,
+        listed: Listed::Order(entity),
         entities,
     })
 }
@@ -88,7 +117,7 @@ fn check_own_set(schema: &Schema, entity: EntityId) -> Result<(), CheckFault>
 
 fn complex_shape(alloc: Global, schema: &Schema, parts: &[Part]) -> Result<Shape, CheckFault>
     requires { IsWellFormed schema.now }
-    ensures { MatchResult result (λ shape. HasShape schema.now (complex (part_views parts.now)) (numbers shape.listed.items) (numbers shape.entities.items) × IsOwnClosure schema.now shape.own (numbers shape.entities.items)) (Refuses schema.now (complex (part_views parts.now))) }
+    ensures { MatchResult result (λ shape. HasShape schema.now (complex (part_views parts.now)) (listed_in schema.now shape.listed) (numbers shape.entities.items) × IsOwnClosure schema.now (own_of shape.listed) (numbers shape.entities.items)) (Refuses schema.now (complex (part_views parts.now))) }
 {
     let listed = named_entities(alloc, schema, parts)?;
     check_members(alloc, schema, &listed)?;
@@ -105,8 +134,7 @@ fn complex_shape(alloc: Global, schema: &Schema, parts: &[Part]) -> Result<Shape
         return Err(CheckFault::Count);
     }
     Ok(Shape {
-        own: None,
-        listed,
+        listed: Listed::Named(listed),
         entities,
     })
 }

@@ -1,7 +1,7 @@
 -- The tokens of scalars have spellings.
 use Rattle.std.proofs.Common.{ℕ, ◌<◌, ◌^◌, ℤ, Bool, List, refl}
 use Rattle.std.specs.List.{AllByRecursion as Each}
-use Rattle.p21_claim_values.specs.Written.{IsSpelled}
+use Rattle.p21_exchange.specs.Token.{IsSpelled}
 use Rattle.p21_exchange.proofs.BitSpellings.{bits_spell}
 use Rattle.p21_exchange.proofs.Names.{name_spells}
 use Rattle.p21_exchange.proofs.RealSpellings.{real_spells}

@@ -1,12 +1,13 @@
 -- Lists, typed parameters and records whose tokens have spellings.
-use Rattle.std.proofs.Common.{◌≡◌, ℕ, Bool, true, false, List, [], ◌∷◌, ◌++◌, codes, refl, subst, sym, Result, Ok, Err}
-use Rattle.std.specs.List.{AllByRecursion as Each}
+use Rattle.std.proofs.Common.{◌≡◌, Bool, true, false, [], ◌∷◌, codes, refl, subst, sym, Result, Ok, Err}
 use Rattle.std.specs.Result.{OnOk}
 use Rattle.p21_basics.proofs.Members.{Each-append}
 use Rattle.p21_claim_values.proofs.OfType.{AreWritten}
-use Rattle.p21_claim_values.specs.Written.{IsSpelled, IsWritten, IsWrittenStatement}
+use Rattle.p21_claim_values.specs.Written.{IsWritten, IsWrittenStatement}
+use Rattle.p21_exchange.specs.Token.{IsSpelled}
+use Rattle.p21_claim_values.proofs.Printing.{written-tokens}
 use Rattle.p21_exchange.specs.Keyword.{IsKeyword}
-use Rattle.p21_exchange.specs.Parameter.{Key, Param, Params, no_params, param, list, typed, key_token, param_tokens, params_tokens, more_tokens}
+use Rattle.p21_exchange.specs.Parameter.{Key, Param, Params, list, typed, key_token, param_tokens, params_tokens}
 use Rattle.p21_exchange.specs.Record.{Part}
 use Rattle.p21_exchange.specs.Statement.{header}
 use Rattle.p21_exchange.specs.Token as token
@@ -26,16 +27,8 @@ on_more (Err fault) P Q more holds = tt
 pub scalar-said : {T E : Type 0} (r : Result T E) (p q : Param) → p ≡ q → IsWritten q → OnOk r (IsWritten p)
 scalar-said r p q is written = on_any r (IsWritten p) (subst IsWritten (sym is) written)
 
-pub more-said : (ps : Params) → AreWritten ps → Each IsSpelled (more_tokens ps)
-more-said no_params written = tt
-more-said (param p ps) written = ((codes ",", refl), Each-append IsSpelled (param_tokens p) (more_tokens ps) written.0 (more-said ps written.1))
-
-pub params-said : (ps : Params) → AreWritten ps → Each IsSpelled (params_tokens ps)
-params-said no_params written = tt
-params-said (param p ps) written = Each-append IsSpelled (param_tokens p) (more_tokens ps) written.0 (more-said ps written.1)
-
 pub list-said : (ps : Params) → AreWritten ps → IsWritten (list ps)
-list-said ps written = ((codes "(", refl), Each-append IsSpelled (params_tokens ps) (token.right ∷ []) (params-said ps written) ((codes ")", refl), tt))
+list-said ps written = ((codes "(", refl), Each-append IsSpelled (params_tokens ps) (token.right ∷ []) (written-tokens ps written) ((codes ")", refl), tt))
 
 pub typed-said : (key : Key) (p : Param) → IsSpelled (key_token key) → IsWritten p → IsWritten (typed key p)
 typed-said key p spelled written = (spelled, ((codes "(", refl), Each-append IsSpelled (param_tokens p) (token.right ∷ []) written ((codes ")", refl), tt)))

@@ -1,5 +1,5 @@
 -- Values that can be written.
-use Rattle.p21_claim_values.specs.Written.{IsSpelled}
+use Rattle.p21_exchange.specs.Token.{IsSpelled}
 use Rattle.p21_exchange.specs.Token as token
 use Rattle.p21_files.specs.Value.{Value, whole, real, number, text, bits, item, reference, derived, missing, list, array, set, bag, typed, Values, no_values, value}
 use Rattle.p21_files.specs.ValueText.{type_name}

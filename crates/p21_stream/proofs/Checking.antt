@@ -14,7 +14,7 @@ use Rattle.p21_exchange.specs.Record.{Record}
 use Rattle.p21_exchange.specs.Statement.{header, statement_tokens}
 use Rattle.p21_exchange.specs.Token.{Token, semicolon}
 use Rattle.p21_schemas.specs.Schema.{Schema}
-use Rattle.p21_stream.specs.StatementReader as front
+use Rattle.p21_stream.specs.StatementReader as statements
 use Rattle.p21_stream.specs.StatementReader.{StatementHistory}
 use Rattle.p21_stream.proofs.Within.{nothing-taken, tokens-given}
 use Rattle.p21_stream.specs.Checked.{ChecksStatements, IsMeaningful}
@@ -50,7 +50,7 @@ none-laid [] rest tokens is laid =
 none-laid (x ∷ xs) rest tokens is laid = cc
 
 -- where they are laid in a prefix of the bytes taken, they are the first of the statements given
-tokens-ended : (held : front.Held) (reading : StatementHistory) (live : front.IsLive held reading) (front rest : List ℕ) (tokens : List Token) → reading.taken ≡ front ++ rest → Laid front (tokens ++ semicolon ∷ []) → BeginsWith (tokens ++ semicolon ∷ []) (flat_map statement_tokens reading.given)
+tokens-ended : (held : statements.Held) (reading : StatementHistory) (live : statements.IsLive held reading) (front rest : List ℕ) (tokens : List Token) → reading.taken ≡ front ++ rest → Laid front (tokens ++ semicolon ∷ []) → BeginsWith (tokens ++ semicolon ∷ []) (flat_map statement_tokens reading.given)
 tokens-ended held reading live front rest tokens is laid = elim live.answered [
   | inl none ↦ absurd (none-laid front rest tokens (sym (nothing-taken held reading live none) ∙ is) laid)
   | inr answers ↦ (let (more, given) = answers.given_at_once front rest tokens semicolon (live.taken_are ∙ is) laid tt in
@@ -64,7 +64,7 @@ records-mean s limits entries found =
     Each-mapped (λ (i : ℕ × Record). IsMeaningful s i.1) (λ (e : Entry). (e.name, e.record_)) entries
     (Each-weaker (IsFound s limits) (λ (e : Entry). IsMeaningful s e.record_) (λ e is. (is.meant.kinds, e.meaning, is.meant.means)) entries found)
 
-pub checks-statements : (s : Schema) (limits : Limits) (held : front.Held) (kept : Kept) (reading : StatementHistory) → IsLive s limits held kept reading → ChecksStatements s reading.taken
+pub checks-statements : (s : Schema) (limits : Limits) (held : statements.Held) (kept : Kept) (reading : StatementHistory) → IsLive s limits held kept reading → ChecksStatements s reading.taken
 checks-statements s limits held kept reading live front rest tokens is laid =
     let unrefused = live.keeps.unrefused in
     record {

@@ -22,7 +22,7 @@ use Rattle.p21_stream_kept.specs.Source.{IsOfBytes}
 use Rattle.p21_stream_kept.specs.declared.fault.Fault.{Fault}
 use Rattle.p21_stream_kept.specs.declared.fault.Fault.TheVariants as faults
 use Rattle.p21_stream_kept.specs.declared.refusal.Refusal.{Refusal}
-use Rattle.p21_stream.specs.StatementReader as front
+use Rattle.p21_stream.specs.StatementReader as statements
 use Rattle.p21_stream.specs.StatementReader.{AreWholeStatements, StatementHistory, limits_of}
 use Rattle.p21_stream_kept.proofs.Unserved.{unserved-not_accepted}
 use Rattle.p21_stream_kept.specs.Served.{IsFirstUnserved, RefusesNeed}
@@ -35,7 +35,7 @@ use Rattle.p21_stream.specs.Pieces.{EndGives, IsBetweenPieces}
 use Rattle.p21_stream.specs.Session.{IsLive}
 
 -- a whole file whose references are served is accepted, and its lines are its canonical file
-pub whole-accepted : (s : Schema) → IsWellFormed s → (limits : Limits) (held : front.Held) (kept : Kept) (reading : StatementHistory) → IsLive s limits held kept reading → reading.seen ≡ None → AreWholeStatements reading.taken reading.given
+pub whole-accepted : (s : Schema) → IsWellFormed s → (limits : Limits) (held : statements.Held) (kept : Kept) (reading : StatementHistory) → IsLive s limits held kept reading → reading.seen ≡ None → AreWholeStatements reading.taken reading.given
     → Each (λ (r : Reference). IsServedBy s kept.stored r.1) kept.waiting → (blocks : List Block) → AreBlocksOf kept blocks → IsCanonicalFile s limits reading.taken (text_with_header kept.header blocks)
 whole-accepted s formed limits held kept reading live none w served blocks are =
     let within : AreStatementsWithin limits.record_source 0 w.laid.lexemes = subst (λ (most : ℕ). AreStatementsWithin most 0 w.laid.lexemes) (ap (λ p. p.0) live.limits_are) (statements-within held reading live.reads none w) in
@@ -46,7 +46,7 @@ whole-accepted s formed limits held kept reading live none w served blocks are =
 tokens-laid : (taken : List ℕ) (given : List Statement) (w : AreWholeStatements taken given) → Laid taken (tokens_of w.whole.structure)
 tokens-laid taken given w = subst (λ (ts : List Token). Laid taken ts) (sym w.whole.tokens_are) w.laid
 
-pub end-accepted : (s : Schema) → IsWellFormed s → (held : front.Held) (kept : Kept) (output : Output) → front.FinishGives held (Ok tt) → Each (λ (r : Reference). IsServedBy s kept.stored r.1) kept.waiting
+pub end-accepted : (s : Schema) → IsWellFormed s → (held : statements.Held) (kept : Kept) (output : Output) → statements.FinishGives held (Ok tt) → Each (λ (r : Reference). IsServedBy s kept.stored r.1) kept.waiting
     → ((s : Schema) (limits : Limits) (given : List Statement) → Keeps s limits given kept → IsFileOfKept kept output) → EndGives s held kept (Ok output)
 end-accepted s formed held kept output ends served end limits taken given live =
     let reading : StatementHistory = record { taken = taken; seen = None; given = given } in
@@ -58,7 +58,7 @@ end-accepted s formed held kept output ends served end limits taken given live =
     }
 
 -- what is kept where the statement reader takes the end is that of a whole file
-pub whole-kept : (s : Schema) (held : front.Held) (kept : Kept) → front.FinishGives held (Ok tt) → IsBetweenPieces s held kept → IsKeptOfFile kept
+pub whole-kept : (s : Schema) (held : statements.Held) (kept : Kept) → statements.FinishGives held (Ok tt) → IsBetweenPieces s held kept → IsKeptOfFile kept
 whole-kept s held kept ends is =
     let w = ends is.reading is.live.reads is.none_seen in
     record { schema = s; limits = is.limits; given = is.reading.given; keeps = is.live.keeps; structure = w.whole.structure; text = w.whole.text; is_file = w.whole.is_file; statements_are = w.whole.statements_are }
@@ -66,11 +66,11 @@ whole-kept s held kept ends is =
 -- ---- refusals
 
 -- the statement reader refuses the end
-pub front-refused : (s : Schema) (held : front.Held) (kept : Kept) (fault : Fault) (refusal : Refusal) → refusal.fault ≡ fault → front.FinishGives held (Err fault) → EndGives s held kept (Err refusal)
-front-refused s held kept fault refusal is gives other limits taken given live = gives (λ none. other (is ∙ none)) (record { taken = taken; seen = None; given = given }) live.reads refl s limits
+pub statements-refused : (s : Schema) (held : statements.Held) (kept : Kept) (fault : Fault) (refusal : Refusal) → refusal.fault ≡ fault → statements.FinishGives held (Err fault) → EndGives s held kept (Err refusal)
+statements-refused s held kept fault refusal is gives other limits taken given live = gives (λ none. other (is ∙ none)) (record { taken = taken; seen = None; given = given }) live.reads refl s limits
 
 -- a reference is refused
-pub reference-refused : (s : Schema) → IsWellFormed s → (held : front.Held) (kept : Kept) (refusal : Refusal) → front.FinishGives held (Ok tt) → (holder : ℕ) (fault : Fault) → IsFirstUnserved s kept.stored kept.waiting holder fault → EndGives s held kept (Err refusal)
+pub reference-refused : (s : Schema) → IsWellFormed s → (held : statements.Held) (kept : Kept) (refusal : Refusal) → statements.FinishGives held (Ok tt) → (holder : ℕ) (fault : Fault) → IsFirstUnserved s kept.stored kept.waiting holder fault → EndGives s held kept (Err refusal)
 reference-refused s formed held kept refusal ends holder fault is other limits taken given live =
     let w = ends (record { taken = taken; seen = None; given = given }) live.reads refl in
     unserved-not_accepted s formed limits taken given kept live.keeps w.whole.structure w.whole.statements_are (tokens-laid taken given w) holder fault is
@@ -78,8 +78,8 @@ reference-refused s formed held kept refusal ends holder fault is other limits t
 -- the refusal of a need is none of a reader or a writer
 need-of_bytes : (s : Schema) (stored : List StoredEntry) (need : Need) (fault : Fault) → RefusesNeed s stored need fault → IsOfBytes fault
 need-of_bytes s stored need (faults.Token fault) refuses = absurd refuses
-need-of_bytes s stored need (faults.Grammar fault) refuses = tt
-need-of_bytes s stored need (faults.Check fault) refuses = tt
+need-of_bytes s stored need (faults.Grammar fault) refuses = absurd refuses
+need-of_bytes s stored need (faults.Check fault) refuses = absurd refuses
 need-of_bytes s stored need faults.SchemaName refuses = tt
 need-of_bytes s stored need faults.SectionTwice refuses = tt
 need-of_bytes s stored need faults.DuplicateName refuses = tt
@@ -96,7 +96,7 @@ reference-of_bytes s stored waiting holder fault is = need-of_bytes s stored is.
 -- ---- by histories
 
 -- where no call was refused
-pub ends : (s : Schema) (limits : Limits) (held : front.Held) (kept : Kept) (was : Option Refusal) → was ≡ None → (result : Result Output Refusal) → EndGives s held kept result → FinishGives (record { schema = s; limits = limits; front = held; kept = kept; refused = was }) result
+pub ends : (s : Schema) (limits : Limits) (held : statements.Held) (kept : Kept) (was : Option Refusal) → was ≡ None → (result : Result Output Refusal) → EndGives s held kept result → FinishGives (record { schema = s; limits = limits; statements = held; kept = kept; refused = was }) result
 unfolding Stands
 ends s limits held kept was open_ (Ok accepted) gives = λ history stands. let none = sym stands.0 ∙ open_ in let going = stands.1 none in (none, gives limits history.taken going.0 going.1)
 ends s limits held kept was open_ (Err refusal) gives = λ other history stands. let going = stands.1 (sym stands.0 ∙ open_) in gives other limits history.taken going.0 going.1

@@ -16,24 +16,24 @@ use Rattle.p21_stream_output.specs.Output.{Output}
 use Rattle.p21_stream_kept.specs.declared.fault.Fault.{Fault}
 use Rattle.p21_stream_kept.specs.declared.fault.Fault.TheVariants.{Token, Grammar, Check, SchemaName, SectionTwice, DuplicateName, CanonicalTooLong, Dangling, WrongTarget, NoMemory, Read, Write}
 use Rattle.p21_stream_kept.specs.declared.refusal.Refusal.{Refusal}
-use Rattle.p21_stream.specs.StatementReader as front
+use Rattle.p21_stream.specs.StatementReader as statements
 use Rattle.p21_stream.specs.Held.{SessionHeld, limits_of, schema_of}
 use Rattle.p21_stream.specs.Histories.{FeedGives, FinishGives, KeepsSchema, SessionHistory, Stands, nothing_taken}
 use Rattle.p21_tokens.specs.Histories as tokens
 
 -- ---- within the limit of a file
 
-live-short : (held : front.Held) (reading : front.StatementHistory) → front.IsLive held reading → length reading.taken ≤ (front.limits_of held).1
+live-short : (held : statements.Held) (reading : statements.StatementHistory) → statements.IsLive held reading → length reading.taken ≤ (statements.limits_of held).1
 live-short held reading live = short live.answered where
-  short : (live.history ≡ empty) ⊎ tokens.Answers held.lexer live.history → length reading.taken ≤ (front.limits_of held).1
+  short : (live.history ≡ empty) ⊎ tokens.Answers held.lexer live.history → length reading.taken ≤ (statements.limits_of held).1
   short (inl none) = let e : reading.taken ≡ [] = sym live.taken_are ∙ ap (λ h. h.taken) none in rw e (omega arith)
-  short (inr answers) = subst (λ (l : List ℕ). length l ≤ (front.limits_of held).1) live.taken_are answers.file_within
+  short (inr answers) = subst (λ (l : List ℕ). length l ≤ (statements.limits_of held).1) live.taken_are answers.file_within
 
 pub taken-short : (held : SessionHeld) (history : SessionHistory) → Stands held history → history.refusal ≡ None → length history.taken ≤ (limits_of held).file_source
 unfolding Stands
 taken-short held history stands open_ =
     let live = (stands.1 open_).1 in
-    subst (λ (most : ℕ). length history.taken ≤ most) (ap (λ p. p.1) live.limits_are) (live-short held.front _ live.reads)
+    subst (λ (most : ℕ). length history.taken ≤ most) (ap (λ p. p.1) live.limits_are) (live-short held.statements _ live.reads)
 
 -- ---- one more piece
 
@@ -52,7 +52,7 @@ pub refused-by : (s : Schema) (limits : Limits) (start new : Option (List ℕ)) 
 refused-by s limits start new NoMemory of refused = tt
 refused-by s limits start new Read of refused = tt
 refused-by s limits start new Write of refused = of
-refused-by s limits start new (Token fault) of refused = (of, refused (λ e. cc e))
+refused-by s limits start new (Token fault) of refused = (of.0, refused (λ e. cc e))
 refused-by s limits start new (Grammar fault) of refused = refused (λ e. cc e)
 refused-by s limits start new (Check fault) of refused = refused (λ e. cc e)
 refused-by s limits start new SchemaName of refused = refused (λ e. cc e)
@@ -65,7 +65,7 @@ refused-by s limits start new WrongTarget of refused = refused (λ e. cc e)
 -- ---- bytes
 
 -- the items of a buffer are bytes
-each-byte : (buffer : List ℕ) → ((i : ℕ) → Fits w8 (slice_index_or buffer i 0)) → Each IsByte buffer
+pub each-byte : (buffer : List ℕ) → ((i : ℕ) → Fits w8 (slice_index_or buffer i 0)) → Each IsByte buffer
 each-byte [] fits = tt
 each-byte (byte ∷ bytes) fits = ((let f = (fits 0).fits in omega arith), each-byte bytes (λ i. fits (suc i)))
 

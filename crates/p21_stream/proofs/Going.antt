@@ -15,17 +15,17 @@ use Rattle.p21_stream_kept.specs.declared.fault.Fault.{Fault}
 use Rattle.p21_stream_kept.specs.declared.fault.Fault.TheVariants.{NoMemory}
 use Rattle.p21_stream.proofs.Seen.{looked-up_to}
 use Rattle.p21_stream.proofs.Stepping.{taken-looked}
-use Rattle.p21_stream.specs.StatementReader as front
+use Rattle.p21_stream.specs.StatementReader as statements
 use Rattle.p21_stream.specs.StatementReader.{IsSeenAt, StatementHistory, bytes_looked_at}
 use Rattle.p21_stream_kept.specs.Steps as kept_steps
-use Rattle.p21_stream.specs.Laws.{DeadByStatement, DeadByStep, HeldWhileLive, LiveAtStart, LiveByPiece, LiveByStatement, LiveByToken}
+use Rattle.p21_stream.specs.Laws.{DeadByStatement, DeadByStep, HeldWhileLive, LiveAtStart, LiveByPiece, LiveByStatement, LiveByTokens}
 use Rattle.p21_stream.specs.Session.{IsDeadWithin}
 
 pub live-at_start : LiveAtStart
 live-at_start s limits held reads are = record { reads = reads; limits_are = are; keeps = keeps-at_start s limits }
 
-pub live-by_token : LiveByToken
-live-by_token s limits held next kept reading tokens piece count live goes same = record {
+pub live-by_tokens : LiveByTokens
+live-by_tokens s limits held next kept reading tokens piece count live goes same = record {
   reading = goes.reading;
   live = record {
     reads = goes.live;
@@ -34,7 +34,7 @@ live-by_token s limits held next kept reading tokens piece count live goes same 
   };
   taken_are = goes.taken_are;
   seen_at = goes.seen_at;
-  one_more = goes.one_more;
+  more = goes.more;
 }
 
 pub live-by_piece : LiveByPiece
@@ -50,11 +50,11 @@ live-by_statement s limits held next kept after reading tokens piece count state
   };
   taken_are = goes.taken_are;
   seen_at = goes.seen_at;
-  one_more = goes.one_more;
+  more = goes.more;
 }
 
 -- a statement that is refused where the reader stands behind it
-pub dead-behind : (s : Schema) → IsWellFormed s → (limits : Limits) (next : front.Held) (kept after : Kept) (reading on : StatementHistory) (piece : List ℕ) (count : ℕ) (statement : Statement) (fault : Fault) → Keeps s limits reading.given kept → front.IsLive next on
+pub dead-behind : (s : Schema) → IsWellFormed s → (limits : Limits) (next : statements.Held) (kept after : Kept) (reading on : StatementHistory) (piece : List ℕ) (count : ℕ) (statement : Statement) (fault : Fault) → Keeps s limits reading.given kept → statements.IsLive next on
     → on.taken ≡ reading.taken ++ take count piece → on.given ≡ reading.given ++ statement ∷ [] → IsSeenAt on.seen piece count → count ≤ length piece → kept_steps.StepGives s limits kept statement (Err fault) after → fault ≢ NoMemory → IsDeadWithin s limits reading piece
 dead-behind s formed limits next kept after reading on piece count statement fault keeps live taken_are given_are seen_at within refuses other =
     let offends = refuses other reading.given keeps in

@@ -1,12 +1,12 @@
 -- The instances of a file by what is kept of them.
-use Rattle.std.specs.Prelude.{◌≡◌, ℕ, List, [], ◌∷◌, ◌++◌, map, Contains, refl}
+use Rattle.std.specs.Prelude.{◌≡◌, ℕ, List, [], ◌∷◌, map, Contains, refl}
 use Rattle.std.specs.List.Sorted.{IsPermutation}
 use Rattle.std.proofs.Common.{sym, ap, subst, ◌∙◌}
-use Rattle.std.proofs.lemmas.List.{map-append}
 use Rattle.std.proofs.lemmas.List.Sorted.{IsPermutation-map}
 use Rattle.p21_basics.proofs.Members.{Contains-mapped, Contains-unmapped, Each-member}
 use Rattle.p21_basics.specs.Limits.{Limits}
 use Rattle.p21_claim.specs.CompleteFile.{Entry, SectionEntries, Line, entries_in, section_of, written_in}
+use Rattle.p21_claim.proofs.Ending.{written-are}
 use Rattle.p21_claim_steps.proofs.Among.{sections-are}
 use Rattle.p21_claim_steps.proofs.Storing.{numbered-entries, stored-entry}
 use Rattle.p21_claim_steps.specs.Among.{sections_among}
@@ -28,10 +28,6 @@ use Rattle.p21_stream_store.specs.StoredInstance.{StoredInstance, instance_names
 twice : {X Y Z : Type 0} (f : X → Y) (g : Y → Z) (xs : List X) → map g (map f xs) ≡ map (λ (x : X). g (f x)) xs
 twice f g [] = refl
 twice f g (x ∷ xs) = ap (λ ys. g (f x) ∷ ys) (twice f g xs)
-
-written-are : (groups : List SectionEntries) → instances_in (map section_of groups) ≡ written_in (entries_in groups)
-written-are [] = refl
-written-are (g ∷ gs) = ap (λ (is : List (ℕ × Record)). written_in g.entries ++ is) (written-are gs) ∙ sym (map-append (λ (e : Entry). (e.name, e.record_)) g.entries (entries_in gs))
 
 -- the instances of the tree are those that were found
 instances-found : (s : Schema) (limits : Limits) (given : List Statement) (kept : keeping.Kept) (keeps : Keeps s limits given kept) (structure : Structure) → statements structure ≡ given → instances_in structure.sections ≡ written_in (entries_in keeps.groups)

@@ -27,7 +27,7 @@ use Rattle.p21_schemas.specs.Supertype.{itself}
 use Rattle.p21_schemas.specs.WellFormed.{IsWellFormed}
 use Rattle.p21_stream_kept.specs.declared.fault.Fault.{Fault}
 use Rattle.p21_stream_kept.specs.declared.refusal.Refusal.{Refusal}
-use Rattle.p21_stream.specs.StatementReader as front
+use Rattle.p21_stream.specs.StatementReader as statements
 use Rattle.p21_stream.specs.StatementReader.{IsSeenAt, StatementHistory, limits_of}
 use Rattle.p21_stream.specs.PassingOver.{GivesPassed, PassesInstances, instance_tokens, with_instances}
 use Rattle.p21_stream_kept.specs.Found.{HasFound}
@@ -131,7 +131,7 @@ tokens-no_separators bytes (lexeme ∷ lexemes) token tokens is (gap, spelling, 
 
 -- ---- an instance that is passed over
 
-module _ (s : Schema) (limits : Limits) (held next : front.Held) (kept : Kept) (piece : List ℕ) (count n : ℕ) (entities text : List ℕ) (needs : List meant.Need) (found : IsFoundIn s n entities (take count piece) text needs) (within : count ≤ length piece) where
+module _ (s : Schema) (limits : Limits) (held next : statements.Held) (kept : Kept) (piece : List ℕ) (count n : ℕ) (entities text : List ℕ) (needs : List meant.Need) (found : IsFoundIn s n entities (take count piece) text needs) (within : count ≤ length piece) where
   abbrev one : List (ℕ × Record)
   one = (n, found.record_) ∷ []
 
@@ -151,7 +151,7 @@ module _ (s : Schema) (limits : Limits) (held next : front.Held) (kept : Kept) (
   passed-none many reading live at pending are = none-separate are
 
   module _ (gives : GivesPassed held count next) (same : limits_of next ≡ limits_of held) where
-    goes : (reading : StatementHistory) (live : front.IsLive held reading) → PassesInstances reading (length live.history.given) (take count piece) one next
+    goes : (reading : StatementHistory) (live : statements.IsLive held reading) → PassesInstances reading (length live.history.given) (take count piece) one next
     goes reading live = gives reading live (take count piece) one (length-take-le count piece within) found.are
 
     pub passed-follows : IsUnderWay s limits held kept piece → FollowsFound s limits kept n entities needs text
@@ -184,5 +184,5 @@ module _ (s : Schema) (limits : Limits) (held next : front.Held) (kept : Kept) (
 -- ---- where none is
 
 -- all is as before
-pub as-before : (P : front.Held → Kept → Type 0) (held next : front.Held) (kept after : Kept) → next ≡ held → after ≡ kept → P next after → P held kept
-as-before P held next kept after front_is kept_is given = subst (λ (k : Kept). P held k) kept_is (subst (λ (h : front.Held). P h after) front_is given)
+pub as-before : (P : statements.Held → Kept → Type 0) (held next : statements.Held) (kept after : Kept) → next ≡ held → after ≡ kept → P next after → P held kept
+as-before P held next kept after statements_are kept_is given = subst (λ (k : Kept). P held k) kept_is (subst (λ (h : statements.Held). P h after) statements_are given)

@@ -8,7 +8,7 @@ use Rattle.p21_stream_kept.specs.Source.{IsOfBytes}
 use Rattle.p21_stream_kept.specs.declared.fault.Fault.{Fault}
 use Rattle.p21_stream_kept.specs.declared.fault.Fault.TheVariants.{Token, Grammar, Check, SchemaName, SectionTwice, DuplicateName, CanonicalTooLong, Dangling, WrongTarget, NoMemory, Read, Write}
 use Rattle.p21_stream_kept.specs.declared.refusal.Refusal.{Refusal}
-use Rattle.p21_stream.specs.StatementReader as front
+use Rattle.p21_stream.specs.StatementReader as statements
 use Rattle.p21_stream.specs.StatementReader.{nothing_read}
 use Rattle.p21_stream_kept.specs.Steps.{StepKeepsBound}
 use Rattle.p21_stream.proofs.Checking.{checks-statements}
@@ -40,15 +40,15 @@ none-some refusal o none some = let clash : None ≡ Some refusal = none ∙ som
 
 -- ---- nothing taken
 
-module _ (s : Schema) (limits : Limits) (held : front.Held) (kept : Kept) (refused : Option Refusal) (live : front.IsLive held nothing_read) (counted : limits.file_source < 2 ^ 64) (are : front.limits_of held ≡ (limits.record_source, limits.file_source)) (nothing : kept ≡ nothing_kept) (none : refused ≡ None) where
+module _ (s : Schema) (limits : Limits) (held : statements.Held) (kept : Kept) (refused : Option Refusal) (live : statements.IsLive held nothing_read) (counted : limits.file_source < 2 ^ 64) (are : statements.limits_of held ≡ (limits.record_source, limits.file_source)) (nothing : kept ≡ nothing_kept) (none : refused ≡ None) where
   live-new : IsLive s limits held kept nothing_read
   live-new = subst (λ (k : Kept). IsLive s limits held k nothing_read) (sym nothing) (live-at_start s limits held live are)
 
-  pub stands-new : Stands (record { schema = s; limits = limits; front = held; kept = kept; refused = refused }) nothing_taken
+  pub stands-new : Stands (record { schema = s; limits = limits; statements = held; kept = kept; refused = refused }) nothing_taken
   unfolding Stands
   stands-new = (none, λ same. ([], live-new), λ refusal is. absurd (none-some refusal None refl is))
 
-  pub bounded-new : IsBounded (record { schema = s; limits = limits; front = held; kept = kept; refused = refused })
+  pub bounded-new : IsBounded (record { schema = s; limits = limits; statements = held; kept = kept; refused = refused })
   bounded-new =
       let bytes : kept.bytes ≡ 0 = ap (λ (k : Kept). k.bytes) nothing in
       let references : kept.references ≡ 0 = ap (λ (k : Kept). k.references) nothing in
@@ -57,31 +57,31 @@ module _ (s : Schema) (limits : Limits) (held : front.Held) (kept : Kept) (refus
 -- ---- a piece that is read
 
 -- no byte was seen, so any may come first
-pub under-way : (s : Schema) (limits : Limits) (held : front.Held) (kept : Kept) (was : Option Refusal) (piece : List ℕ) → IsBounded (record { schema = s; limits = limits; front = held; kept = kept; refused = was }) → was ≡ None → IsUnderWay s limits held kept piece
+pub under-way : (s : Schema) (limits : Limits) (held : statements.Held) (kept : Kept) (was : Option Refusal) (piece : List ℕ) → IsBounded (record { schema = s; limits = limits; statements = held; kept = kept; refused = was }) → was ≡ None → IsUnderWay s limits held kept piece
 under-way s limits held kept was piece bounded open_ =
     let (reading, none, live) = bounded.reads open_ in
-    record { reading = reading; live = live; seen_at = subst (λ (o : Option ℕ). front.IsSeenAt o piece 0) (sym none) tt; counted = bounded.counted }
+    record { reading = reading; live = live; seen_at = subst (λ (o : Option ℕ). statements.IsSeenAt o piece 0) (sym none) tt; counted = bounded.counted }
 
-module _ (s : Schema) (limits : Limits) (held next : front.Held) (kept after : Kept) (piece : List ℕ) (was now : Option Refusal) (open_ : was ≡ None) (same : now ≡ was) (gives : ReadGives s limits held kept piece (Ok tt) next after) where
-  pub fed-whole : FeedGives (record { schema = s; limits = limits; front = held; kept = kept; refused = was }) piece (Ok tt) (record { schema = s; limits = limits; front = next; kept = after; refused = now })
+module _ (s : Schema) (limits : Limits) (held next : statements.Held) (kept after : Kept) (piece : List ℕ) (was now : Option Refusal) (open_ : was ≡ None) (same : now ≡ was) (gives : ReadGives s limits held kept piece (Ok tt) next after) where
+  pub fed-whole : FeedGives (record { schema = s; limits = limits; statements = held; kept = kept; refused = was }) piece (Ok tt) (record { schema = s; limits = limits; statements = next; kept = after; refused = now })
   unfolding Stands
   fed-whole history stands =
       let none : history.refusal ≡ None = sym stands.0 ∙ open_ in
       let going = stands.1 none in
       (none, (same ∙ stands.0, (λ _. gives (record { taken = history.taken; seen = None; given = going.0 }) going.1 tt), λ refusal is. absurd (none-some refusal history.refusal (sym none) is)))
 
-  pub fed-checks : FeedChecks (record { schema = s; limits = limits; front = held; kept = kept; refused = was }) piece (Ok tt)
+  pub fed-checks : FeedChecks (record { schema = s; limits = limits; statements = held; kept = kept; refused = was }) piece (Ok tt)
   unfolding Stands
   fed-checks history stands =
       let going = stands.1 (sym stands.0 ∙ open_) in
       let whole = gives (record { taken = history.taken; seen = None; given = going.0 }) going.1 tt in
       checks-statements s limits next after (record { taken = history.taken ++ piece; seen = None; given = whole.0 }) whole.1
 
-  pub bounded-whole : StepKeepsBound limits kept after → front.limits_of next ≡ front.limits_of held → IsBounded (record { schema = s; limits = limits; front = held; kept = kept; refused = was }) → IsBounded (record { schema = s; limits = limits; front = next; kept = after; refused = now })
+  pub bounded-whole : StepKeepsBound limits kept after → statements.limits_of next ≡ statements.limits_of held → IsBounded (record { schema = s; limits = limits; statements = held; kept = kept; refused = was }) → IsBounded (record { schema = s; limits = limits; statements = next; kept = after; refused = now })
   bounded-whole bound limits_same bounded =
       let way = under-way s limits held kept was piece bounded open_ in
       let whole = gives way.reading way.live way.seen_at in
-      let end : front.StatementHistory = record { taken = way.reading.taken ++ piece; seen = None; given = whole.0 } in
+      let end : statements.StatementHistory = record { taken = way.reading.taken ++ piece; seen = None; given = whole.0 } in
       record {
         counted = bounded.counted;
         limits_are = limits_same ∙ bounded.limits_are;
@@ -98,8 +98,8 @@ pub fed-again : (held : SessionHeld) (piece : List ℕ) (refusal : Refusal) → 
 unfolding Stands
 fed-again held piece refusal was history stands none = absurd (none-some refusal held.refused (sym (stands.0 ∙ none)) was)
 
-pub fed-refused : (s : Schema) (limits : Limits) (held next : front.Held) (kept after end : Kept) (piece : List ℕ) (was : Option Refusal) (refusal : Refusal) → ReadGives s limits held kept piece (Err refusal) next after
-    → FeedGives (record { schema = s; limits = limits; front = held; kept = kept; refused = was }) piece (Err refusal) (record { schema = s; limits = limits; front = next; kept = end; refused = Some refusal })
+pub fed-refused : (s : Schema) (limits : Limits) (held next : statements.Held) (kept after end : Kept) (piece : List ℕ) (was : Option Refusal) (refusal : Refusal) → ReadGives s limits held kept piece (Err refusal) next after
+    → FeedGives (record { schema = s; limits = limits; statements = held; kept = kept; refused = was }) piece (Err refusal) (record { schema = s; limits = limits; statements = next; kept = end; refused = Some refusal })
 unfolding Stands
 fed-refused s limits held next kept after end piece was refusal gives history stands none =
     let going = stands.1 none in
@@ -118,8 +118,8 @@ fed-refused s limits held next kept after end piece was refusal gives history st
       })
     ]
 
-pub bounded-refused : (s : Schema) (limits : Limits) (held next : front.Held) (kept end : Kept) (was : Option Refusal) (refusal : Refusal) → end ≡ nothing_kept → front.limits_of next ≡ front.limits_of held → IsOfBytes refusal.fault
-    → IsBounded (record { schema = s; limits = limits; front = held; kept = kept; refused = was }) → IsBounded (record { schema = s; limits = limits; front = next; kept = end; refused = Some refusal })
+pub bounded-refused : (s : Schema) (limits : Limits) (held next : statements.Held) (kept end : Kept) (was : Option Refusal) (refusal : Refusal) → end ≡ nothing_kept → statements.limits_of next ≡ statements.limits_of held → IsOfBytes refusal.fault
+    → IsBounded (record { schema = s; limits = limits; statements = held; kept = kept; refused = was }) → IsBounded (record { schema = s; limits = limits; statements = next; kept = end; refused = Some refusal })
 bounded-refused s limits held next kept end was refusal nothing same of bounded =
     let bytes : end.bytes ≡ 0 = ap (λ (k : Kept). k.bytes) nothing in
     let references : end.references ≡ 0 = ap (λ (k : Kept). k.references) nothing in
@@ -134,8 +134,8 @@ bounded-refused s limits held next kept end was refusal nothing same of bounded 
 
 -- ---- separators
 
-pub fed-quiet : (s : Schema) (limits : Limits) (held : front.Held) (kept : Kept) (piece : List ℕ) (was : Option Refusal) (refusal : Refusal) → NeedsNoMemory {Answer = Unit {0}} s limits held kept piece (Err refusal)
-    → FeedNeedsNoMemory (record { schema = s; limits = limits; front = held; kept = kept; refused = was }) piece (Err refusal)
+pub fed-quiet : (s : Schema) (limits : Limits) (held : statements.Held) (kept : Kept) (piece : List ℕ) (was : Option Refusal) (refusal : Refusal) → NeedsNoMemory {Answer = Unit {0}} s limits held kept piece (Err refusal)
+    → FeedNeedsNoMemory (record { schema = s; limits = limits; statements = held; kept = kept; refused = was }) piece (Err refusal)
 unfolding Stands
 fed-quiet s limits held kept piece was refusal needs history stands none pending are = let going = stands.1 none in needs (record { taken = history.taken; seen = None; given = going.0 }) going.1 tt pending are
 
@@ -145,12 +145,12 @@ again-quiet held piece refusal was history stands none pending are = absurd (non
 
 -- ---- what is held
 
-pub holds : (held : SessionHeld) (pending depth kept needs : ℕ) → ((reading : front.StatementHistory) → front.IsLive held.front reading → front.HasOpenStatement reading pending depth) → kept ≡ held.kept.bytes → needs ≡ held.kept.references
+pub holds : (held : SessionHeld) (pending depth kept needs : ℕ) → ((reading : statements.StatementHistory) → statements.IsLive held.statements reading → statements.HasOpenStatement reading pending depth) → kept ≡ held.kept.bytes → needs ≡ held.kept.references
     → HoldsFor held (record { pending = pending; depth = depth; kept = kept; needs = needs })
 unfolding Stands
 holds held pending depth kept needs opens kept_is needs_are history stands none =
     let going = stands.1 none in
-    let reading : front.StatementHistory = record { taken = history.taken; seen = None; given = going.0 } in
-    let own : IsHeld held.schema history.taken (record { pending = pending; depth = depth; kept = held.kept.bytes; needs = held.kept.references }) = held-while_live held.schema held.limits held.front held.kept reading going.1 pending depth (opens reading going.1.reads) in
+    let reading : statements.StatementHistory = record { taken = history.taken; seen = None; given = going.0 } in
+    let own : IsHeld held.schema history.taken (record { pending = pending; depth = depth; kept = held.kept.bytes; needs = held.kept.references }) = held-while_live held.schema held.limits held.statements held.kept reading going.1 pending depth (opens reading going.1.reads) in
     subst (λ (n : ℕ). IsHeld held.schema history.taken (record { pending = pending; depth = depth; kept = kept; needs = n })) (sym needs_are)
     (subst (λ (n : ℕ). IsHeld held.schema history.taken (record { pending = pending; depth = depth; kept = n; needs = held.kept.references })) (sym kept_is) own)

@@ -5,7 +5,7 @@ use Rattle.std.proofs.lemmas.List.{length-map}
 use Rattle.std.specs.List.{flat_map}
 use Rattle.p21_basics.proofs.Members.{Each-append, head_is, tail_is}
 use Rattle.p21_exchange.proofs.FirstBytes.{spelling_begins, no-spelling, slash-first}
-use Rattle.p21_exchange.proofs.OneGap.{HasNoSeparator, gap-one, nothing-first}
+use Rattle.p21_exchange.proofs.OneGap.{HasNoSeparator, gap-one, nothing-first, begins-on}
 use Rattle.p21_exchange.specs.Laying.{Lexeme, count_behind, open_bytes, tokens_in}
 use Rattle.p21_exchange.specs.Pending.{Tail, nothing, unfinished, slash, open_comment, tail_bytes, tail_size, BeginsWithNoSeparator, IsPending, IsTail, LaidUpTo}
 use Rattle.p21_exchange.specs.Separator.{blank, comment, IsSeparator, IsSeparatorText, separator_bytes}
@@ -24,7 +24,7 @@ use Rattle.p21_tokens.specs.Token.{meant}
 use Rattle.p21_tokens.specs.declared.fault.TokenFault.{TokenFault}
 use Rattle.p21_tokens.specs.declared.fault.TokenFault.TheVariants as token_fault
 use Rattle.p21_tokens.specs.declared.token.Token.{Token as TokenRead}
-use Rattle.p21_tokens_automaton.proofs.OnePending.{append-rest, begins-no_separator, begins-on, front-one, pending-one, none-pending}
+use Rattle.p21_tokens_automaton.proofs.OnePending.{append-rest, begins-no_separator, front-one, pending-one, none-pending}
 
 -- ---- separators
 

@@ -14,33 +14,33 @@ use Rattle.p21_exchange.specs.Token.{Token}
 use Rattle.p21_schemas.specs.Schema.{Schema}
 use Rattle.p21_stream.proofs.Stepping.{given-first}
 use Rattle.p21_stream.specs.StatementReader.{Held, AreWholeStatements, StatementHistory, limits_of}
-use Rattle.p21_stream.specs.StatementReader as front
+use Rattle.p21_stream.specs.StatementReader as statements
 use Rattle.p21_stream.specs.Session.{IsLive}
 use Rattle.p21_tokens.specs.Histories.{TokenHistory}
 
 -- ---- of bytes and tokens
 
-pub nothing-taken : (held : Held) (reading : StatementHistory) (live : front.IsLive held reading) → live.history ≡ empty → reading.taken ≡ []
+pub nothing-taken : (held : Held) (reading : StatementHistory) (live : statements.IsLive held reading) → live.history ≡ empty → reading.taken ≡ []
 nothing-taken held reading live none = sym live.taken_are ∙ ap (λ (h : TokenHistory). h.taken) none
 
-pub source-within : (held : Held) (reading : StatementHistory) → front.IsLive held reading → length reading.taken ≤ (limits_of held).1
+pub source-within : (held : Held) (reading : StatementHistory) → statements.IsLive held reading → length reading.taken ≤ (limits_of held).1
 source-within held reading live = elim live.answered [
   | inl none ↦ (let size : length reading.taken ≡ 0 = ap length (nothing-taken held reading live none) in omega (arith, size))
   | inr answers ↦ (let within = answers.file_within in let same : length live.history.taken ≡ length reading.taken = ap length live.taken_are in omega (arith, within, same))
 ]
 
-pub given-few : (held : Held) (reading : StatementHistory) (live : front.IsLive held reading) → length live.history.given ≤ length reading.taken
+pub given-few : (held : Held) (reading : StatementHistory) (live : statements.IsLive held reading) → length live.history.given ≤ length reading.taken
 given-few held reading live = elim live.answered [
   | inl none ↦ (let size : length live.history.given ≡ 0 = ap (λ (h : TokenHistory). length h.given) none in omega (arith, size))
   | inr answers ↦ (let few = answers.given_few in let same : length live.history.taken ≡ length reading.taken = ap length live.taken_are in omega (arith, few, same))
 ]
 
 -- the tokens given are those of the statements given and of the open one
-pub tokens-given : (held : Held) (reading : StatementHistory) (live : front.IsLive held reading) → live.history.given ≡ flat_map statement_tokens reading.given ++ live.ended_by.depth_is.opened
+pub tokens-given : (held : Held) (reading : StatementHistory) (live : statements.IsLive held reading) → live.history.given ≡ flat_map statement_tokens reading.given ++ live.ended_by.depth_is.opened
 tokens-given held reading live =
     sym live.tokens_are ∙ live.ended_by.depth_is.open_statement.given_are ∙ ap (λ (ts : List Token). ts ++ live.ended_by.depth_is.opened) live.ended_by.ended_are
 
-pub statements-few : (held : Held) (reading : StatementHistory) → front.IsLive held reading → length (flat_map statement_tokens reading.given) ≤ length reading.taken
+pub statements-few : (held : Held) (reading : StatementHistory) → statements.IsLive held reading → length (flat_map statement_tokens reading.given) ≤ length reading.taken
 statements-few held reading live =
     let few = given-few held reading live in
     let sizes : length live.history.given ≡ length (flat_map statement_tokens reading.given ++ live.ended_by.depth_is.opened) = ap length (tokens-given held reading live) in
@@ -63,7 +63,7 @@ no-more [] none = refl
 no-more (x ∷ xs) none = cc
 
 -- the tokens of a whole file have been given
-tokens-whole : (held : Held) (reading : StatementHistory) (live : front.IsLive held reading) → reading.seen ≡ None → (w : AreWholeStatements reading.taken reading.given) → w.found ≡ live.history.given
+tokens-whole : (held : Held) (reading : StatementHistory) (live : statements.IsLive held reading) → reading.seen ≡ None → (w : AreWholeStatements reading.taken reading.given) → w.found ≡ live.history.given
 tokens-whole held reading live none w =
     let seen : live.history.seen ≡ None = live.seen_is ∙ none in
     let bytes : looked_at live.history ++ [] ≡ reading.taken =
@@ -79,7 +79,7 @@ tokens-whole held reading live none w =
     is ∙ ap (λ (l : List Token). live.history.given ++ l) (no-more more size) ∙ append-nil live.history.given
 
 -- and each statement of it is within its limit
-pub statements-within : (held : Held) (reading : StatementHistory) → front.IsLive held reading → reading.seen ≡ None → (w : AreWholeStatements reading.taken reading.given) → AreStatementsWithin (limits_of held).0 0 w.laid.lexemes
+pub statements-within : (held : Held) (reading : StatementHistory) → statements.IsLive held reading → reading.seen ≡ None → (w : AreWholeStatements reading.taken reading.given) → AreStatementsWithin (limits_of held).0 0 w.laid.lexemes
 statements-within held reading live none w = elim live.answered [
   | inl nothing ↦ (let bare : LaidAs [] w.laid.lexemes = subst (λ (b : List ℕ). LaidAs b w.laid.lexemes) (nothing-taken held reading live nothing) w.laid.laid in
       let same : [] ≡ w.laid.lexemes = one_lexemes [] [] w.laid.lexemes ([], tt, refl) bare in

@@ -2,7 +2,7 @@
 use Rattle.std.specs.Prelude.{◌≡◌, ◌≤◌, ◌<◌, ◌^◌, None, Some}
 use Rattle.p21_stream_kept.specs.Source.{IsOfBytes}
 use Rattle.p21_stream_kept.specs.declared.refusal.Refusal.{Refusal}
-use Rattle.p21_stream.specs.StatementReader as front
+use Rattle.p21_stream.specs.StatementReader as statements
 use Rattle.p21_stream.specs.StatementReader.{StatementHistory}
 use Rattle.p21_stream.specs.Held.{SessionHeld}
 use Rattle.p21_stream.specs.Session.{IsLive}
@@ -11,8 +11,8 @@ use Rattle.p21_stream.specs.Session.{IsLive}
 -- them; where no byte was refused, the session stands for some bytes; and a refusal is none of a reader or a writer
 pub record IsBounded (held : SessionHeld) : Type 0 where
   pub counted : held.limits.file_source < 2 ^ 64
-  pub limits_are : front.limits_of held.front ≡ (held.limits.record_source, held.limits.file_source)
+  pub limits_are : statements.limits_of held.statements ≡ (held.limits.record_source, held.limits.file_source)
   pub kept_within : held.kept.bytes ≤ held.limits.file_canonical
   pub needs_within : held.kept.references ≤ held.limits.file_source
-  pub reads : held.refused ≡ None → (reading : StatementHistory) × (reading.seen ≡ None) × IsLive held.schema held.limits held.front held.kept reading
+  pub reads : held.refused ≡ None → (reading : StatementHistory) × (reading.seen ≡ None) × IsLive held.schema held.limits held.statements held.kept reading
   pub of_bytes : (refusal : Refusal) → held.refused ≡ Some refusal → IsOfBytes refusal.fault

@@ -7,8 +7,8 @@ use Rattle.p21_express_tables.specs.Coding.{schema_code}
 use Rattle.p21_schemas.specs.Schema.{Schema}
 use Rattle.p21_stream_kept.specs.contracts.refusal.Refusal as refusal_row
 use Rattle.p21_stream_kept.specs.declared.refusal.Refusal.{Refusal}
-use Rattle.p21_stream.specs.StatementReader as front
-use Rattle.p21_stream.specs.contracts.statement_reader.StatementReader as front_row
+use Rattle.p21_stream.specs.StatementReader as statements
+use Rattle.p21_stream.specs.contracts.statement_reader.StatementReader as statements_row
 use Rattle.p21_stream_kept.specs.contracts.kept.Kept as kept_row
 use Rattle.p21_values.specs.contracts.limits.Limits as limits_row
 
@@ -16,7 +16,7 @@ use Rattle.p21_values.specs.contracts.limits.Limits as limits_row
 pub record SessionHeld : Type 0 where
   pub schema : Schema
   pub limits : Limits
-  pub front : front.Held
+  pub statements : statements.Held
   pub kept : Kept
   pub refused : Option Refusal
 
@@ -32,6 +32,6 @@ refusal_of held = held.refused
 
 -- what is held stored as numbers and lists, so that two can be told apart; nothing that is claimed rests on it
 abbrev pub held_code : Coded SessionHeld
-held_code = code_by (((Schema × Limits) × (front.Held × Kept)) × Option Refusal)
-    (coded× (coded× (coded× schema_code limits_row.the_row.coded) (coded× front_row.the_row.coded kept_row.the_row.coded)) (coded_option refusal_row.the_row.coded))
-    (λ h. (((h.schema, h.limits), (h.front, h.kept)), h.refused)) (λ p. record { schema = p.0.0.0; limits = p.0.0.1; front = p.0.1.0; kept = p.0.1.1; refused = p.1 }) (λ _. refl)
+held_code = code_by (((Schema × Limits) × (statements.Held × Kept)) × Option Refusal)
+    (coded× (coded× (coded× schema_code limits_row.the_row.coded) (coded× statements_row.the_row.coded kept_row.the_row.coded)) (coded_option refusal_row.the_row.coded))
+    (λ h. (((h.schema, h.limits), (h.statements, h.kept)), h.refused)) (λ p. record { schema = p.0.0.0; limits = p.0.0.1; statements = p.0.1.0; kept = p.0.1.1; refused = p.1 }) (λ _. refl)

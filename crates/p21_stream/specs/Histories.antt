@@ -43,7 +43,7 @@ RefusesDeadBytes s limits taken refusal = refusal.fault ≢ NoMemory → IsDead 
 
 -- the bytes are read, and what their statements leave is kept
 abbrev pub StandsForBytes : SessionHeld → List ℕ → Type 0
-StandsForBytes held taken = (given : List Statement) × IsLive held.schema held.limits held.front held.kept (record { taken = taken; seen = None; given = given })
+StandsForBytes held taken = (given : List Statement) × IsLive held.schema held.limits held.statements held.kept (record { taken = taken; seen = None; given = given })
 
 -- what is held stands for a history: what it says is what `new`, `feed`, `finish` and `held` say of it
 unfoldable pub Stands : SessionHeld → SessionHistory → Type 0

@@ -7,7 +7,7 @@ use Rattle.p21_express_graph.specs.Rising.{IsOwnRising}
 use Rattle.p21_files.specs.Reference.{Need}
 use Rattle.p21_schemas.specs.Schema.{Schema}
 use Rattle.p21_stream_kept.specs.declared.refusal.Refusal.{Refusal}
-use Rattle.p21_stream.specs.StatementReader as front
+use Rattle.p21_stream.specs.StatementReader as statements
 use Rattle.p21_stream.specs.PassingOver.{AreInstances}
 use Rattle.p21_stream_kept.specs.Found.{HasFound}
 use Rattle.p21_transcribe_instance.specs.ExternalSet.{IsNumberedSet}
@@ -27,7 +27,7 @@ HasEntities s sets (Own e) entities = IsOwnRising s e.0 entities
 HasEntities s sets (Numbered at) entities = IsNumberedSet sets at entities
 
 -- what an instance gives that is taken so: as much as its tokens do; where it isn't, all is as before
-abbrev pub PassGives : Schema → Limits → front.Held → Kept → List ℕ → Result (Option ℕ) Refusal → front.Held → Kept → Type 0
+abbrev pub PassGives : Schema → Limits → statements.Held → Kept → List ℕ → Result (Option ℕ) Refusal → statements.Held → Kept → Type 0
 PassGives s limits held kept piece (Ok None) next after = (next ≡ held) × (after ≡ kept)
 PassGives s limits held kept piece (Ok (Some count)) next after = StepGives s limits held kept piece (Ok (Some count)) next after
 PassGives s limits held kept piece (Err refusal) next after = StepGives s limits held kept piece (Err refusal) next after

@@ -1,5 +1,5 @@
--- What a session's progress owes for a token, and for a whole piece.
-use Rattle.std.specs.Prelude.{◌≡◌, ◌≢◌, ◌≤◌, ◌<◌, ◌^◌, ℕ, List, ◌++◌, length, take, Option, Some, None, Result, Ok, Err}
+-- What a session's progress owes for a statement, and for a whole piece.
+use Rattle.std.specs.Prelude.{◌≡◌, ◌≢◌, ◌≤◌, ◌<◌, ◌^◌, ℕ, List, ◌++◌, length, Option, Some, None, Result, Ok, Err}
 use Rattle.p21_basics.specs.Limits.{Limits}
 use Rattle.p21_claim_steps.specs.Keeping.{Kept}
 use Rattle.p21_exchange.specs.Pending.{IsPending}
@@ -9,14 +9,14 @@ use Rattle.p21_schemas.specs.Schema.{Schema}
 use Rattle.p21_stream_output.specs.Output.{Output}
 use Rattle.p21_stream_kept.specs.declared.fault.Fault.TheVariants.{NoMemory}
 use Rattle.p21_stream_kept.specs.declared.refusal.Refusal.{Refusal}
-use Rattle.p21_stream.specs.StatementReader as front
+use Rattle.p21_stream.specs.StatementReader as statements
 use Rattle.p21_stream.specs.StatementReader.{IsSeenAt, StatementHistory}
 use Rattle.p21_stream.specs.Canonical.{IsCanonicalOutput}
-use Rattle.p21_stream.specs.Session.{IsDeadWithin, IsLive}
+use Rattle.p21_stream.specs.Session.{IsDeadWithin, IsLive, TakesMoreTokens}
 use Rattle.p21_tokens.specs.Histories.{AreSeparators}
 
 -- a history is live, and the byte that was seen is offered first; 64 bits count the bytes of a file
-pub record IsUnderWay (s : Schema) (limits : Limits) (held : front.Held) (kept : Kept) (piece : List ℕ) : Type 0 where
+pub record IsUnderWay (s : Schema) (limits : Limits) (held : statements.Held) (kept : Kept) (piece : List ℕ) : Type 0 where
   pub reading : StatementHistory
   pub live : IsLive s limits held kept reading
   pub seen_at : IsSeenAt reading.seen piece 0
@@ -28,25 +28,17 @@ TakesWithinPiece piece (Ok (Some count)) = count ≤ length piece
 TakesWithinPiece piece other = Unit {0}
 
 -- the piece is read whole, with whatever statements
-abbrev pub IsReadWhole : Schema → Limits → StatementHistory → List ℕ → front.Held → Kept → Type 0
+abbrev pub IsReadWhole : Schema → Limits → StatementHistory → List ℕ → statements.Held → Kept → Type 0
 IsReadWhole s limits reading piece held kept = (given : List Statement) × IsLive s limits held kept (record { taken = reading.taken ++ piece; seen = None; given = given })
 
--- a history of so many tokens goes on behind so many bytes of a piece, with more tokens
-pub record TakesMoreTokens (s : Schema) (limits : Limits) (old : StatementHistory) (tokens : ℕ) (piece : List ℕ) (count : ℕ) (held : front.Held) (kept : Kept) : Type 0 where
-  pub reading : StatementHistory
-  pub live : IsLive s limits held kept reading
-  pub taken_are : reading.taken ≡ old.taken ++ take count piece
-  pub seen_at : IsSeenAt reading.seen piece count
-  pub more : tokens < length live.reads.history.given
-
--- what a token, an instance, or the rest of a piece, gives: for each history that is live, where the byte that was seen is offered first
-abbrev pub StepGives : Schema → Limits → front.Held → Kept → List ℕ → Result (Option ℕ) Refusal → front.Held → Kept → Type 0
+-- what a statement, or the rest of a piece, gives: for each history that is live, where the byte that was seen is offered first
+abbrev pub StepGives : Schema → Limits → statements.Held → Kept → List ℕ → Result (Option ℕ) Refusal → statements.Held → Kept → Type 0
 StepGives s limits held kept piece (Ok None) next after = (reading : StatementHistory) → IsLive s limits held kept reading → IsSeenAt reading.seen piece 0 → IsReadWhole s limits reading piece next after
 StepGives s limits held kept piece (Ok (Some count)) next after = (reading : StatementHistory) (live : IsLive s limits held kept reading) → IsSeenAt reading.seen piece 0 → TakesMoreTokens s limits reading (length live.reads.history.given) piece count next after
 StepGives s limits held kept piece (Err refusal) next after = refusal.fault ≢ NoMemory → (reading : StatementHistory) → IsLive s limits held kept reading → IsSeenAt reading.seen piece 0 → IsDeadWithin s limits reading piece
 
 -- what a whole piece gives
-abbrev pub ReadGives : Schema → Limits → front.Held → Kept → List ℕ → Result (Unit {0}) Refusal → front.Held → Kept → Type 0
+abbrev pub ReadGives : Schema → Limits → statements.Held → Kept → List ℕ → Result (Unit {0}) Refusal → statements.Held → Kept → Type 0
 ReadGives s limits held kept piece (Ok done) next after = (reading : StatementHistory) → IsLive s limits held kept reading → IsSeenAt reading.seen piece 0 → IsReadWhole s limits reading piece next after
 ReadGives s limits held kept piece (Err refusal) next after = refusal.fault ≢ NoMemory → (reading : StatementHistory) → IsLive s limits held kept reading → IsSeenAt reading.seen piece 0 → IsDeadWithin s limits reading piece
 
@@ -56,22 +48,22 @@ AsksForNoMemory (Ok answer) = Unit {0}
 AsksForNoMemory (Err refusal) = refusal.fault ≢ NoMemory
 
 -- for each history that is live, where the byte that was seen is offered first
-abbrev pub NeedsNoMemory : {Answer : Type 0} → Schema → Limits → front.Held → Kept → List ℕ → Result Answer Refusal → Type 0
+abbrev pub NeedsNoMemory : {Answer : Type 0} → Schema → Limits → statements.Held → Kept → List ℕ → Result Answer Refusal → Type 0
 NeedsNoMemory s limits held kept piece result = (reading : StatementHistory) → IsLive s limits held kept reading → IsSeenAt reading.seen piece 0 → IsPending reading.taken 0 → AreSeparators piece → AsksForNoMemory result
 
 -- a piece of separators alone ends no token either
-abbrev pub EndsNoToken : Schema → Limits → front.Held → Kept → List ℕ → Result (Option ℕ) Refusal → Type 0
+abbrev pub EndsNoToken : Schema → Limits → statements.Held → Kept → List ℕ → Result (Option ℕ) Refusal → Type 0
 EndsNoToken s limits held kept piece (Ok (Some count)) = (reading : StatementHistory) → IsLive s limits held kept reading → IsSeenAt reading.seen piece 0 → IsPending reading.taken 0 → AreSeparators piece → ⊥
 EndsNoToken s limits held kept piece other = Unit {0}
 
 -- between two pieces: a history is live, and no byte behind it was seen
-pub record IsBetweenPieces (s : Schema) (held : front.Held) (kept : Kept) : Type 0 where
+pub record IsBetweenPieces (s : Schema) (held : statements.Held) (kept : Kept) : Type 0 where
   pub limits : Limits
   pub reading : StatementHistory
   pub live : IsLive s limits held kept reading
   pub none_seen : reading.seen ≡ None
 
 -- what the end of the bytes gives, whatever the canonical limits
-abbrev pub EndGives : Schema → front.Held → Kept → Result Output Refusal → Type 0
+abbrev pub EndGives : Schema → statements.Held → Kept → Result Output Refusal → Type 0
 EndGives s held kept (Ok accepted) = (limits : Limits) (taken : List ℕ) (given : List Statement) → IsLive s limits held kept (record { taken = taken; seen = None; given = given }) → IsCanonicalOutput s limits taken accepted
 EndGives s held kept (Err refusal) = refusal.fault ≢ NoMemory → (limits : Limits) (taken : List ℕ) (given : List Statement) → IsLive s limits held kept (record { taken = taken; seen = None; given = given }) → ¬ IsAccepted s limits taken

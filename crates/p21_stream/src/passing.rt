@@ -15,7 +15,7 @@ use crate::progress::{Progress, refused};
 use p21_express_tables::Schema;
 use p21_express_types::EntityId;
 use p21_mapping_values::Need;
-use p21_stream_kept::Refusal;
+use p21_stream_kept::{FoundInstance, Refusal};
 use p21_transcribe::Draft;
 use p21_transcribe_instance::{Plan, Sets, append_external, append_instance};
 use p21_values::{Limits, Name};
@@ -53,22 +53,22 @@ impl Progress {
         limits: Limits,
         piece: &[u8],
     ) -> Result<Option<usize>, Refusal>
-        requires way { IsUnderWay schema.now limits self.old.front self.old.kept piece.now }
+        requires way { IsUnderWay schema.now limits self.old.statements self.old.kept piece.now }
         requires plan { IsPlanOf schema.now self.old.plan }
         requires sets { AreExternalSets schema.now self.old.sets }
         ensures takes { TakesWithinPiece piece.now result }
-        ensures gives { PassGives schema.now limits self.old.front self.old.kept piece.now result self.new.front self.new.kept }
-        ensures no_memory { NeedsNoMemory schema.now limits self.old.front self.old.kept piece.now result }
+        ensures gives { PassGives schema.now limits self.old.statements self.old.kept piece.now result self.new.statements self.new.kept }
+        ensures no_memory { NeedsNoMemory schema.now limits self.old.statements self.old.kept piece.now result }
         ensures kind { IfErr result (λ refusal. IsOfBytes refusal.fault) }
-        ensures no_token { EndsNoToken schema.now limits self.old.front self.old.kept piece.now result }
+        ensures no_token { EndsNoToken schema.now limits self.old.statements self.old.kept piece.now result }
         ensures bound { StepKeepsBound limits self.old.kept self.new.kept }
-        ensures limits { limits_of self.new.front ≡ limits_of self.old.front }
+        ensures limits { limits_of self.new.statements ≡ limits_of self.old.statements }
         ensures refused { self.new.refused ≡ self.old.refused }
         ensures plan { IsPlanOf schema.now self.new.plan }
         ensures sets { AreExternalSets schema.now self.new.sets }
     {
         schema.well_formed();
-        if !self.front.is_between_instances() {
+        if !self.statements.is_between_instances() {
             return Ok(None);
         }
         let Some(found) = find(
@@ -84,14 +84,17 @@ impl Progress {
         let Some(entities) = entities_of(found.set, &self.plan, &self.sets) else {
             return Ok(None);
         };
-        if !self.front.pass_over(found.count) {
+        if !self.statements.pass_over(found.count) {
             return Ok(None);
         }
         let line = self.draft.between(0, self.draft.len());
-        match self
-            .kept
-            .take_found(schema, limits, found.name, entities, line, &self.needs)
-        {
+        let instance = FoundInstance {
+            name: found.name,
+            entities,
+            line,
+            needs: &self.needs,
+        };
+        match self.kept.take_found(schema, limits, &instance) {
             Ok(()) => {
                 self.statement = self.statement.saturating_add(1);
                 Ok(Some(found.count))

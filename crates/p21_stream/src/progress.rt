@@ -32,7 +32,7 @@ use std::alloc::Global;
 pub(crate) struct Progress {
     alloc: Global,
     // The statement reader, and what is kept of those that it gave.
-    pub front: StatementReader,
+    pub statements: StatementReader,
     pub kept: Kept,
     // The line and the references of an instance that is taken straight from its bytes.
     pub draft: Draft,
@@ -50,8 +50,8 @@ pub(crate) struct Progress {
 impl Progress {
     /// The progress of a file of which nothing is read. It takes no memory.
     pub(crate) fn new(alloc: Global, limits: Limits) -> Progress
-        ensures live { IsLive result.front nothing_read }
-        ensures limits { limits_of result.front ≡ (limits.record_source, limits.file_source) }
+        ensures live { IsLive result.statements nothing_read }
+        ensures limits { limits_of result.statements ≡ (limits.record_source, limits.file_source) }
         ensures kept { result.kept ≡ nothing_kept }
         ensures refused { result.refused ≡ None }
         ensures counted { limits.file_source < 2 ^ 64 }
@@ -62,7 +62,7 @@ impl Progress {
         let _most = limits.file_source();
         Progress {
             alloc,
-            front: StatementReader::new(alloc, limits),
+            statements: StatementReader::new(alloc, limits),
             kept: Kept::new(alloc),
             draft: Draft::new(alloc),
             needs: Vec::new(alloc),
@@ -122,7 +122,7 @@ impl Progress {
         ensures kind { (limits : MeantLimits) → IsBounded (held_in schema.now limits self) → IfErr result (λ refusal. IsOfBytes refusal.fault) }
     {
         let Progress {
-            front,
+            statements,
             kept,
             statement,
             refused,
@@ -131,7 +131,7 @@ impl Progress {
         if let Some(refusal) = refused {
             return Err(refusal);
         }
-        end(front, kept, statement, schema)
+        end(statements, kept, statement, schema)
     }
 
     /// The refusal that was answered, if there is one.
@@ -150,14 +150,14 @@ impl Progress {
     ///
     /// The refusal of its first byte, token or statement that is refused.
     fn read(&mut self, schema: &Schema, limits: Limits, piece: &[u8]) -> Result<(), Refusal>
-        requires way { IsUnderWay schema.now limits self.old.front self.old.kept piece.now }
+        requires way { IsUnderWay schema.now limits self.old.statements self.old.kept piece.now }
         requires plan { IsPlanOf schema.now self.old.plan }
         requires sets { AreExternalSets schema.now self.old.sets }
-        ensures gives { ReadGives schema.now limits self.old.front self.old.kept piece.now result self.new.front self.new.kept }
-        ensures no_memory { NeedsNoMemory schema.now limits self.old.front self.old.kept piece.now result }
+        ensures gives { ReadGives schema.now limits self.old.statements self.old.kept piece.now result self.new.statements self.new.kept }
+        ensures no_memory { NeedsNoMemory schema.now limits self.old.statements self.old.kept piece.now result }
         ensures kind { IfErr result (λ refusal. IsOfBytes refusal.fault) }
         ensures bound { StepKeepsBound limits self.old.kept self.new.kept }
-        ensures limits { limits_of self.new.front ≡ limits_of self.old.front }
+        ensures limits { limits_of self.new.statements ≡ limits_of self.old.statements }
         ensures refused { self.new.refused ≡ self.old.refused }
         ensures plan { IsPlanOf schema.now self.new.plan }
         ensures sets { AreExternalSets schema.now self.new.sets }
@@ -178,28 +178,28 @@ impl Progress {
         }
     }
 
-    /// Reads the bytes of a whole instance or of one token, or the rest of a piece in which none is whole; says how many bytes
-    /// where it was an instance or a token.
+    /// Reads the bytes of a whole instance, or those of tokens up to the end of a statement, or the rest of a piece in which no
+    /// token is whole; says how many bytes where it was an instance or tokens.
     ///
     /// # Errors
     ///
-    /// The refusal of a byte, of the token, or of the statement that ends.
+    /// The refusal of a byte, of a token, or of the statement that ends.
     fn advance(
         &mut self,
         schema: &Schema,
         limits: Limits,
         piece: &[u8],
     ) -> Result<Option<usize>, Refusal>
-        requires way { IsUnderWay schema.now limits self.old.front self.old.kept piece.now }
+        requires way { IsUnderWay schema.now limits self.old.statements self.old.kept piece.now }
         requires plan { IsPlanOf schema.now self.old.plan }
         requires sets { AreExternalSets schema.now self.old.sets }
         ensures takes { TakesWithinPiece piece.now result }
-        ensures gives { StepGives schema.now limits self.old.front self.old.kept piece.now result self.new.front self.new.kept }
-        ensures no_memory { NeedsNoMemory schema.now limits self.old.front self.old.kept piece.now result }
+        ensures gives { StepGives schema.now limits self.old.statements self.old.kept piece.now result self.new.statements self.new.kept }
+        ensures no_memory { NeedsNoMemory schema.now limits self.old.statements self.old.kept piece.now result }
         ensures kind { IfErr result (λ refusal. IsOfBytes refusal.fault) }
-        ensures no_token { EndsNoToken schema.now limits self.old.front self.old.kept piece.now result }
+        ensures no_token { EndsNoToken schema.now limits self.old.statements self.old.kept piece.now result }
         ensures bound { StepKeepsBound limits self.old.kept self.new.kept }
-        ensures limits { limits_of self.new.front ≡ limits_of self.old.front }
+        ensures limits { limits_of self.new.statements ≡ limits_of self.old.statements }
         ensures refused { self.new.refused ≡ self.old.refused }
         ensures plan { IsPlanOf schema.now self.new.plan }
         ensures sets { AreExternalSets schema.now self.new.sets }
@@ -214,32 +214,32 @@ impl Progress {
         self.step(schema, limits, piece)
     }
 
-    /// Reads the bytes of one token, or the rest of a piece in which none is whole; says how many bytes where it was a
-    /// token.
+    /// Reads the bytes of tokens up to the end of a statement, or the rest of a piece in which none ends; says how many bytes
+    /// where they were tokens.
     ///
     /// # Errors
     ///
-    /// The refusal of a byte, of the token, or of the statement that it ends.
+    /// The refusal of a byte, of a token, or of the statement that ends.
     fn step(
         &mut self,
         schema: &Schema,
         limits: Limits,
         piece: &[u8],
     ) -> Result<Option<usize>, Refusal>
-        requires { IsUnderWay schema.now limits self.old.front self.old.kept piece.now }
+        requires { IsUnderWay schema.now limits self.old.statements self.old.kept piece.now }
         ensures takes { TakesWithinPiece piece.now result }
-        ensures gives { StepGives schema.now limits self.old.front self.old.kept piece.now result self.new.front self.new.kept }
-        ensures no_memory { NeedsNoMemory schema.now limits self.old.front self.old.kept piece.now result }
+        ensures gives { StepGives schema.now limits self.old.statements self.old.kept piece.now result self.new.statements self.new.kept }
+        ensures no_memory { NeedsNoMemory schema.now limits self.old.statements self.old.kept piece.now result }
         ensures kind { IfErr result (λ refusal. IsOfBytes refusal.fault) }
-        ensures no_token { EndsNoToken schema.now limits self.old.front self.old.kept piece.now result }
+        ensures no_token { EndsNoToken schema.now limits self.old.statements self.old.kept piece.now result }
         ensures bound { StepKeepsBound limits self.old.kept self.new.kept }
-        ensures limits { limits_of self.new.front ≡ limits_of self.old.front }
+        ensures limits { limits_of self.new.statements ≡ limits_of self.old.statements }
         ensures refused { self.new.refused ≡ self.old.refused }
         ensures sets { self.new.sets ≡ self.old.sets }
         ensures plan { self.new.plan ≡ self.old.plan }
     {
         schema.well_formed();
-        let answer = match self.front.step(piece) {
+        let answer = match self.statements.step(piece) {
             Ok(answer) => answer,
             Err(fault) => return Err(refused(fault, None, self.statement)),
         };
@@ -281,17 +281,17 @@ fn take(kept: &mut Kept, schema: &Schema, limits: Limits, event: Event) -> Resul
 ///
 /// That of the reader; then the first reference in the file that no instance serves; `NoMemory`.
 fn end(
-    front: StatementReader,
+    statements: StatementReader,
     kept: Kept,
     statement: u64,
     schema: &Schema,
 ) -> Result<Accepted, Refusal>
-    requires { IsBetweenPieces schema.now front kept }
-    ensures gives { EndGives schema.now front kept result }
+    requires { IsBetweenPieces schema.now statements kept }
+    ensures gives { EndGives schema.now statements kept result }
     ensures kind { IfErr result (λ refusal. IsOfBytes refusal.fault) }
 {
     schema.well_formed();
-    match front.finish() {
+    match statements.finish() {
         Ok(()) => {}
         Err(fault) => return Err(refused(fault, None, statement)),
     }

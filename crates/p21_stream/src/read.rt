@@ -132,7 +132,8 @@ fn feed_piece<R: Read>(
     }
 }
 
-/// Feeds a session a piece.
+/// Feeds a session a piece. It stands by itself since the prover knows of a parameter, and of no part of one, that it holds
+/// bytes.
 fn feed(session: &mut Session<'_>, piece: &[u8]) -> Result<(), Refusal>
     ensures gives { OnOk result (FeedGives session.old piece.now (Ok tt) session.new) }
     ensures schema { KeepsSchema session.old session.new }

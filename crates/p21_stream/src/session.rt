@@ -80,8 +80,8 @@ impl<'s> Session<'s> {
         ensures needs { result.needs ≤ (limits_of self.now).file_source }
     {
         Held {
-            pending: self.progress.front.pending(),
-            depth: self.progress.front.depth(),
+            pending: self.progress.statements.pending(),
+            depth: self.progress.statements.depth(),
             kept: self.progress.kept.size(),
             needs: self.progress.kept.references(),
         }

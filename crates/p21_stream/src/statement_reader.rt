@@ -2,7 +2,7 @@ ghost use Rattle.std.specs.Prelude.{◌≡◌, ◌≤◌, ◌↔◌, ◌+◌, []
 ghost use Rattle.p21_exchange.specs.OpenNesting.{IsDepth};
 ghost use Rattle.p21_grammar.specs.Between.{StandsForMore};
 ghost use Rattle.p21_stream_kept.specs.Source.{IsOfBytes};
-ghost use Rattle.p21_stream.specs.StatementReader.{FinishGives, HasOpenStatement, IsLive, NeedsNoMemory, StatementHistory, StepGives, TakesWithinPiece, limits_of, nothing_read};
+ghost use Rattle.p21_stream.specs.StatementReader.{FinishGives, HasOpenStatement, IsLive, NeedsNoMemory, StatementHistory, StepGives, TakesWithinPiece, TokenGives, limits_of, nothing_read};
 ghost use Rattle.p21_stream.specs.PassingOver.{GivesPassed, IsAtRest, IsBetweenInstances, held_behind, room_of};
 
 use p21_grammar::{Event, GrammarFault, Line, Parser};
@@ -26,7 +26,7 @@ impl Model for StatementReader {
 
     ghost Value = { Held };
 
-    ghost view = { λ front. record { lexer = front.lexer; parser = front.parser } };
+    ghost view = { λ reader. record { lexer = reader.lexer; parser = reader.parser } };
 }
 
 impl StatementReader {
@@ -42,15 +42,52 @@ impl StatementReader {
         }
     }
 
+    /// Takes the bytes of tokens up to the end of a statement, and says how many, with the statement; or the rest of a piece in
+    /// which none ends. Behind very many tokens it answers without a statement. The byte behind a token may have been looked
+    /// at: it has to be offered next.
+    ///
+    /// # Errors
+    ///
+    /// The lexer's, or the parser's at a token.
+    pub fn step(&mut self, piece: &[u8]) -> Result<Option<(usize, Option<Event>)>, Fault>
+        ensures takes { TakesWithinPiece piece.now result }
+        ensures gives { StepGives self.old piece.now result self.new }
+        ensures limits { limits_of self.new ≡ limits_of self.old }
+        ensures no_memory { NeedsNoMemory self.old piece.now result }
+        ensures kind { IfErr result (λ fault. IsOfBytes fault) }
+    {
+        let mut taken: usize = 0;
+        let mut rounds: u64 = 0;
+        loop {
+            let answer = match self.take_token(&piece[taken..]) {
+                Ok(answer) => answer,
+                Err(fault) => return Err(fault),
+            };
+            let Some((count, event)) = answer else {
+                return Ok(None);
+            };
+            taken += count;
+            if let Some(event) = event {
+                self.ended = is_end(&event);
+                return Ok(Some((taken, Some(event))));
+            }
+            if rounds == u64::MAX {
+                return Ok(Some((taken, None)));
+            }
+            rounds += 1;
+        }
+    }
+
     /// Takes the bytes of one token, or of the rest of a piece in which none is whole, and says how many; with the `;` of
-    /// a statement, the statement. The byte behind a token may have been looked at: it has to be offered next.
+    /// a statement, the statement.
     ///
     /// # Errors
     ///
     /// The lexer's, or the parser's at the token.
-    pub fn step(&mut self, piece: &[u8]) -> Result<Option<(usize, Option<Event>)>, Fault>
+    #[inline(always)]
+    fn take_token(&mut self, piece: &[u8]) -> Result<Option<(usize, Option<Event>)>, Fault>
         ensures takes { TakesWithinPiece piece.now result }
-        ensures gives { StepGives self.old piece.now result self.new }
+        ensures gives { TokenGives self.old piece.now result self.new }
         ensures limits { limits_of self.new ≡ limits_of self.old }
         ensures no_memory { NeedsNoMemory self.old piece.now result }
         ensures kind { IfErr result (λ fault. IsOfBytes fault) }
@@ -62,13 +99,11 @@ impl StatementReader {
         let Some(token) = token else {
             return Ok(None);
         };
-        match self.parser.take(token) {
-            Ok(event) => {
-                self.ended = has_ended(&event, self.ended);
-                Ok(Some((count, event)))
-            }
-            Err(fault) => Err(Fault::from(fault)),
-        }
+        let event = match self.parser.take(token) {
+            Ok(event) => event,
+            Err(fault) => return Err(Fault::from(fault)),
+        };
+        Ok(Some((count, event)))
     }
 
     /// The end of the bytes. A last whole token is looked at only where the file has ended before it.
@@ -165,11 +200,10 @@ fn last_fault(mut parser: Parser, token: Token, ended: bool) -> Fault
     }
 }
 
-/// Whether the last statement behind this call is the last line of a file.
-fn has_ended(event: &Option<Event>, before: bool) -> bool {
+/// Whether a statement is the last line of a file.
+fn is_end(event: &Event) -> bool {
     match event {
-        Some(Event::Section(Line::Finish)) => true,
-        Some(_) => false,
-        None => before,
+        Event::Section(Line::Finish) => true,
+        _ => false,
     }
 }

@@ -12,12 +12,11 @@ use Rattle.p21_claim_steps.specs.Stored.{StoredEntry}
 use Rattle.p21_claim_steps.specs.Waiting.{Reference}
 use Rattle.p21_claim_values.proofs.CanonicalLaid.{laid-each_spelled}
 use Rattle.p21_claim_values.proofs.GraphicTexts.{lines-graphic}
-use Rattle.p21_claim_values.specs.Written.{IsSpelled}
+use Rattle.p21_exchange.specs.Token.{IsSpelled, semicolon}
 use Rattle.p21_exchange.specs.CanonicalText.{tokens_text}
 use Rattle.p21_exchange.specs.Record.{Record, record_tokens}
 use Rattle.p21_exchange.specs.Statement.{Statement, instance, statement_tokens}
 use Rattle.p21_exchange.specs.Text.{IsGraphic}
-use Rattle.p21_exchange.specs.Token.{semicolon}
 use Rattle.p21_files.specs.CanonicalTexts.{IsInstanceText}
 use Rattle.p21_files.specs.Meaning.{Typed}
 use Rattle.p21_files.specs.Reference.{Need}

@@ -21,7 +21,7 @@ pub record HasFound (s : Schema) (n : ℕ) (record_ : Record) (entities : List �
   pub entities_are : meaning.entities ≡ entities
   pub printed : IsInstanceText s n record_ text
 
--- this is found of an instance, or its record breaks the rule of the number
-abbrev pub FindsInstance : Schema → ℕ → Record → Result Found Fault → Type 0
-FindsInstance s n record_ (Ok found) = HasFound s n record_ (ids_view found.entities) (needs_view found.needs.items) found.line.items
-FindsInstance s n record_ (Err fault) = fault ≢ NoMemory → Breaks s record_ (fault_number fault)
+-- this is found of an instance, with this canonical text, or its record breaks the rule of the number
+abbrev pub FindsInstance : Schema → ℕ → Record → Result Found Fault → List ℕ → Type 0
+FindsInstance s n record_ (Ok found) text = HasFound s n record_ (ids_view found.entities) (needs_view found.needs.items) text
+FindsInstance s n record_ (Err fault) text = fault ≢ NoMemory → Breaks s record_ (fault_number fault)

@@ -13,7 +13,7 @@ ghost use Rattle.p21_stream_kept.specs.Taking.{Follows, FollowsFound};
 
 use crate::canonical_limits::fits_limits;
 use crate::fault::Fault;
-use crate::found::find_instance;
+use crate::found::{FoundInstance, find_instance};
 use crate::schema_name::names_schema;
 use crate::sections::Sections;
 use crate::served::{add_waiting, drop_served, first_unserved};
@@ -21,7 +21,6 @@ use crate::shape::{heading, line_size, schema_text};
 use crate::stored::{has_instance, store};
 use p21_canon::write_header;
 use p21_express_tables::Schema;
-use p21_express_types::EntityId;
 use p21_grammar::Line;
 use p21_grammar_tree::{Part, Record};
 use p21_mapping_values::Need;
@@ -29,6 +28,7 @@ use p21_stream_store::{Instances, Memberships};
 use p21_values::{Canonical, Limits, Name, NoMemory, Text};
 use std::alloc::Global;
 use std::marker::Model;
+use std::mem;
 
 /// The canonical lines of header records and instances, the data sections, and the references that wait for the end of
 /// the file.
@@ -49,6 +49,8 @@ pub struct Kept {
     pub(crate) bytes: u64,
     // Those of section lines, and the line feeds of the others.
     pub(crate) framing: u64,
+    // The line of one instance while it is made, used again for the next.
+    pub(crate) line: Vec<u8>,
 }
 
 /// A reference to an instance that has not come, or that doesn't serve.
@@ -60,6 +62,9 @@ pub struct Reference {
 
 /// So many references may come, in any file, before the waiting ones are looked at again.
 const PATIENCE: u64 = 1024;
+
+/// The most room that the line of an instance keeps for the next one.
+const LINE_ROOM: usize = 65_536;
 
 impl Model for Kept {
     ghost use Rattle.p21_claim_steps.specs.Keeping.{Kept as Meant};
@@ -88,6 +93,7 @@ impl Kept {
             references: 0,
             bytes: 0,
             framing: 0,
+            line: Vec::new(alloc),
         }
     }
 
@@ -191,22 +197,56 @@ impl Kept {
         if self.has_name(name) {
             return Err(Fault::DuplicateName);
         }
-        let found = match find_instance(self.alloc, schema, name, of) {
+        let mut line = mem::replace(&mut self.line, Vec::new(self.alloc));
+        let result = self.find_and_keep(schema, limits, name, of, &mut line);
+        self.put_back(line);
+        result
+    }
+
+    /// Checks the record of an instance whose name none has before it, and keeps the instance. Its canonical line is made in
+    /// place of what stands in `line`.
+    ///
+    /// # Errors
+    ///
+    /// In this order: `Check`, `CanonicalTooLong`. `NoMemory`.
+    fn find_and_keep(
+        &mut self,
+        schema: &Schema,
+        limits: Limits,
+        name: Name,
+        of: Record,
+        line: &mut Vec<u8>,
+    ) -> Result<(), Fault>
+        requires another { Contains (map (λ (x : StoredEntry). x.name) self.old.stored) name → ⊥ }
+        requires follows { Follows schema.now limits self.old (instance name (record_view of)) }
+        ensures gives { StepGives schema.now limits self.old (instance name (record_view of)) result self.new }
+        ensures bound { StepKeepsBound limits self.old self.new }
+        ensures kind { IfErr result (λ fault. IsOfBytes fault) }
+    {
+        let found = match find_instance(self.alloc, schema, name, of, line) {
             Ok(found) => found,
             Err(fault) => return Err(fault),
         };
-        self.keep_found(
-            schema,
-            limits,
+        let instance = FoundInstance {
             name,
-            found.entities.items(),
-            &found.line,
-            &found.needs,
-        )
+            entities: found.entities.items(),
+            line,
+            needs: &found.needs,
+        };
+        self.keep_found(schema, limits, &instance)
     }
 
-    /// Takes an instance that stands in a tree behind the statements that are kept, by what is found of it: its set of
-    /// entities, its canonical line without a line feed, and what it needs of other instances.
+    /// Puts back the line of an instance that was made, with its room, for the next one; the room of a long line is given
+    /// back.
+    fn put_back(&mut self, line: Vec<u8>)
+        ensures { self.new ≡ self.old }
+    {
+        if line.capacity() <= LINE_ROOM {
+            self.line = line;
+        }
+    }
+
+    /// Takes an instance that stands in a tree behind the statements that are kept, by what is found of it.
     ///
     /// # Errors
     ///
@@ -215,20 +255,17 @@ impl Kept {
         &mut self,
         schema: &Schema,
         limits: Limits,
-        name: Name,
-        entities: &[EntityId],
-        line: &[u8],
-        needs: &[Need],
+        found: &FoundInstance<'_>,
     ) -> Result<(), Fault>
-        requires { FollowsFound schema.now limits self.old name (ids_view entities.now) (needs_view needs.now) line.now }
-        ensures gives { FoundGives schema.now limits self.old name (ids_view entities.now) (needs_view needs.now) line.now result self.new }
+        requires { FollowsFound schema.now limits self.old found.now.name (ids_view found.now.entities.now) (needs_view found.now.needs.now) found.now.line.now }
+        ensures gives { FoundGives schema.now limits self.old found.now.name (ids_view found.now.entities.now) (needs_view found.now.needs.now) found.now.line.now result self.new }
         ensures bound { StepKeepsBound limits self.old self.new }
         ensures kind { IfErr result (λ fault. IsOfBytes fault) }
     {
-        if self.has_name(name) {
+        if self.has_name(found.name) {
             return Err(Fault::DuplicateName);
         }
-        self.keep_found(schema, limits, name, entities, line, needs)
+        self.keep_found(schema, limits, found)
     }
 
     /// Whether a stored instance has this name.
@@ -247,18 +284,15 @@ impl Kept {
         &mut self,
         schema: &Schema,
         limits: Limits,
-        name: Name,
-        entities: &[EntityId],
-        line: &[u8],
-        needs: &[Need],
+        found: &FoundInstance<'_>,
     ) -> Result<(), Fault>
-        requires another { Contains (map (λ (x : StoredEntry). x.name) self.old.stored) name → ⊥ }
-        requires found { FollowsFound schema.now limits self.old name (ids_view entities.now) (needs_view needs.now) line.now }
-        ensures gives { FoundGives schema.now limits self.old name (ids_view entities.now) (needs_view needs.now) line.now result self.new }
+        requires another { Contains (map (λ (x : StoredEntry). x.name) self.old.stored) found.now.name → ⊥ }
+        requires found { FollowsFound schema.now limits self.old found.now.name (ids_view found.now.entities.now) (needs_view found.now.needs.now) found.now.line.now }
+        ensures gives { FoundGives schema.now limits self.old found.now.name (ids_view found.now.entities.now) (needs_view found.now.needs.now) found.now.line.now result self.new }
         ensures bound { StepKeepsBound limits self.old self.new }
         ensures kind { IfErr result (λ fault. IsOfBytes fault) }
     {
-        let size = line.len() as u64;
+        let size = found.line.len() as u64;
         if !fits_limits(limits, self.bytes, self.framing, size) {
             return Err(Fault::CanonicalTooLong);
         }
@@ -267,8 +301,8 @@ impl Kept {
             schema,
             &self.memberships,
             &self.instances,
-            name,
-            needs,
+            found.name,
+            found.needs,
             &mut self.waiting,
         ) else {
             return Err(Fault::NoMemory);
@@ -277,14 +311,12 @@ impl Kept {
             self.alloc,
             &mut self.memberships,
             &mut self.instances,
-            name,
             section,
-            entities,
-            line,
+            found,
         ) else {
             return Err(Fault::NoMemory);
         };
-        self.references += needs.len() as u64;
+        self.references += found.needs.len() as u64;
         self.bytes += size;
         self.framing += 1;
         self.drop_served(schema);

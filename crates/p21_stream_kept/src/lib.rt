@@ -15,6 +15,7 @@ mod shape;
 mod stored;
 
 pub use fault::Fault;
+pub use found::FoundInstance;
 pub use kept::{Kept, Reference};
 pub use refusal::{At, Refusal};
 pub use schema_name::names_schema;

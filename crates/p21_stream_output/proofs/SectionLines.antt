@@ -1,7 +1,5 @@
 -- The lines of a section, from all positions by rising names.
-use Rattle.std.proofs.Common.{◌≡◌, ◌<◌, ℕ, List, [], ◌∷◌, Bool, true, false, cond, length, map, nat_eq, inl, inr, refl, sym, ap, subst, ◌∙◌, arith}
-use Rattle.std.proofs.lemmas.Bool.{eq-eqb, ne_eqb}
-use Rattle.std.proofs.lemmas.Bool.Decides.{eqb_tells}
+use Rattle.std.proofs.Common.{◌≡◌, ◌<◌, ℕ, List, [], ◌∷◌, Bool, true, false, cond, length, map, nat_eq, refl, sym, ap, subst, arith}
 use Rattle.std.proofs.lemmas.List.{get_or-map, length-map}
 use Rattle.std.proofs.lemmas.List.Kept.{IsNonDecreasingBy-filter}
 use Rattle.std.proofs.lemmas.List.Sorted.{Contains-permutation, IsPermutation-map, IsPermutation-refl, IsPermutation-sym}
@@ -10,16 +8,11 @@ use Rattle.std.specs.List.{IsDistinct}
 use Rattle.std.specs.List.Sorted.{IsNonDecreasingBy, IsPermutation, IsStrictlySortedBy}
 use Rattle.std.specs.Ordering.{nat_cmp}
 use Rattle.std.specs.Prelude.{Contains, filter}
+use Rattle.p21_basics.proofs.Comparing.{nat_eq-turned}
 use Rattle.p21_claim.specs.CompleteFile.{Line}
 use Rattle.p21_claim_steps.proofs.Output.{lines-by_section}
 use Rattle.p21_claim_steps.specs.OutputLaws.{lines_of, stored_at}
 use Rattle.p21_claim_steps.specs.Stored.{AreLinesOf, StoredEntry}
-
-flips : (x y : ℕ) → nat_eq x y ≡ nat_eq y x
-flips x y = elim (eqb_tells x y) [
-  | inl (equal, same) ↦ equal ∙ sym (eq-eqb y x (sym same))
-  | inr (other, differ) ↦ other ∙ sym (ne_eqb y x (λ e. differ (sym e)))
-]
 
 mapped-rises_on : {X Y : Type 0} (f : X → Y) (n : Y → ℕ) (xs : List X) → IsNonDecreasingBy (λ (x : X). n (f x)) xs → IsNonDecreasingBy n (map f xs)
 mapped-rises_on f n [] rises i j d before below = absurd (omega (arith, below))
@@ -52,7 +45,7 @@ section-lines stored differ at order are rises number = ((onto, back), found.1)
 
     found : AreLinesOf (map at order) number (lines_of own) × IsStrictlySortedBy nat_cmp (map (λ (l : Line). l.0) (lines_of own))
     found =
-        let differ_ = IsDistinct-IsPermutation nat_eq flips (map (λ (x : StoredEntry). x.name) stored) (map (λ (x : StoredEntry). x.name) (map at order)) (IsPermutation-map (λ (x : StoredEntry). x.name) stored (map at order) are) differ in
+        let differ_ = IsDistinct-IsPermutation nat_eq nat_eq-turned (map (λ (x : StoredEntry). x.name) stored) (map (λ (x : StoredEntry). x.name) (map at order)) (IsPermutation-map (λ (x : StoredEntry). x.name) stored (map at order) are) differ in
         let P : List StoredEntry → Type 0 = λ xs. IsPermutation xs own in
         let same = subst P (sym (filter-mapped at number order)) (IsPermutation-refl own) in
         lines-by_section (map at order) differ_ number own same (mapped-rises_on at (λ (x : StoredEntry). x.name) (filter (λ (p : ℕ). nat_eq (at p).section number) order) (IsNonDecreasingBy-filter (λ (p : ℕ). (at p).name) (λ (p : ℕ). nat_eq (at p).section number) order rises))

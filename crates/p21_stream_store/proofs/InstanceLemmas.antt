@@ -7,7 +7,8 @@ use Rattle.std.proofs.lemmas.List.FromFn.{get_or-range_with_len, length-range_wi
 use Rattle.std.proofs.lemmas.Option.{get_or_from_slice_get, slice_get-get_or, slice_get_within, unwrap_or-slice_get}
 use Rattle.std.specs.List.{Contains, range_with_len, slice_get}
 use Rattle.std.specs.List.Sorted.{IsNonDecreasingBy, IsPermutation, IsStrictlyIncreasing}
-use Rattle.p21_stream_store.proofs.NameLemmas.{never_fall}
+use Rattle.p21_basics.proofs.Members.{Contains-found, at-behind, at-front}
+use Rattle.p21_basics.proofs.RisingLists.{never-fall}
 use Rattle.p21_stream_store.specs.StoredInstance.{StoredInstance, instance_names, stored_instances, name_at}
 use Rattle.p21_stream_store.specs.Seen.{MayHaveCome}
 
@@ -24,9 +25,6 @@ kept-get (a ∷ names) (b ∷ lines) zero n l e f =
     ap (λ (m : ℕ). Some (kept m b)) name ∙ ap (λ (m : ℕ × List ℕ). Some (kept n m)) line
 kept-get (a ∷ names) (b ∷ lines) (suc i) n l e f = kept-get names lines i n l e f
 
-contains_got : {X : Type 0} (xs : List X) (i : ℕ) (x : X) → slice_get xs i ≡ Some x → Contains xs x
-contains_got xs i x e = (i, slice_get_within xs i x e, get_or_from_slice_get xs i x x e)
-
 names-stored_instances : (names : List ℕ) (lines : List (ℕ × List ℕ)) → length names ≡ length lines → instance_names (stored_instances names lines) ≡ names
 names-stored_instances [] lines e = refl
 names-stored_instances (a ∷ names) [] e = absurd (omega (arith, e))
@@ -37,10 +35,10 @@ place_within names lines i n e f = let within = slice_get_within names i n f in 
 
 module _ (rising late : List ℕ) (texts_of_rising texts_of_late : List (ℕ × List ℕ)) (all : List StoredInstance) (all_are : stored_instances rising texts_of_rising ++ stored_instances late texts_of_late ≡ all) where
   pub rising_found : (i n : ℕ) (l : ℕ × List ℕ) → slice_get rising i ≡ Some n → slice_get texts_of_rising i ≡ Some l → Contains all (kept n l)
-  rising_found i n l e f = subst (λ (x : List StoredInstance). Contains x (kept n l)) all_are (Contains-append_left _ _ _ (contains_got _ i _ (kept-get rising texts_of_rising i n l e f)))
+  rising_found i n l e f = subst (λ (x : List StoredInstance). Contains x (kept n l)) all_are (Contains-append_left _ _ _ (Contains-found _ i _ (kept-get rising texts_of_rising i n l e f)))
 
   pub late_found : (i n : ℕ) (l : ℕ × List ℕ) → slice_get late i ≡ Some n → slice_get texts_of_late i ≡ Some l → Contains all (kept n l)
-  late_found i n l e f = subst (λ (x : List StoredInstance). Contains x (kept n l)) all_are (Contains-append_right _ _ _ (contains_got _ i _ (kept-get late texts_of_late i n l e f)))
+  late_found i n l e f = subst (λ (x : List StoredInstance). Contains x (kept n l)) all_are (Contains-append_right _ _ _ (Contains-found _ i _ (kept-get late texts_of_late i n l e f)))
 
   pub names_are : length rising ≡ length texts_of_rising → length late ≡ length texts_of_late → instance_names all ≡ rising ++ late
   names_are e f =
@@ -132,18 +130,9 @@ kept-size [] lines e = refl
 kept-size (a ∷ names) [] e = absurd (omega (arith, e))
 kept-size (a ∷ names) (b ∷ lines) e = let rest = kept-size names lines (omega (arith, e)) in omega (arith, rest)
 
-got-front : {X : Type 0} (xs ys : List X) (i : ℕ) (x : X) → slice_get xs i ≡ Some x → slice_get (xs ++ ys) i ≡ Some x
-got-front [] ys i x e = cc
-got-front (a ∷ xs) ys zero x e = e
-got-front (a ∷ xs) ys (suc i) x e = got-front xs ys i x e
-
 -- what is read at a position of the list, where 0 means no number
 pub read_or_zero : (xs : List ℕ) (i n : ℕ) → i < length xs → n ≡ unwrap_or (slice_get xs i) 0 → slice_get xs i ≡ Some n
 read_or_zero xs i n within e = slice_get-get_or xs i 0 within ∙ ap Some (sym (e ∙ unwrap_or-slice_get xs i 0))
-
-got-behind : {X : Type 0} (xs ys : List X) (i : ℕ) (x : X) → slice_get ys i ≡ Some x → slice_get (xs ++ ys) (length xs + i) ≡ Some x
-got-behind {X} [] ys i x e = let P : ℕ → Type 0 = λ n. slice_get ys n ≡ Some x in let same : i ≡ 0 + i = omega arith in subst P same e
-got-behind {X} (a ∷ xs) ys i x e = let P : ℕ → Type 0 = λ n. slice_get (a ∷ (xs ++ ys)) n ≡ Some x in let same : suc (length xs + i) ≡ suc (length xs) + i = omega arith in subst P same (got-behind xs ys i x e)
 
 module _ (rising late : List ℕ) (texts_of_rising texts_of_late : List (ℕ × List ℕ)) (all : List StoredInstance) (all_are : stored_instances rising texts_of_rising ++ stored_instances late texts_of_late ≡ all) where
   pub all_size : length rising ≡ length texts_of_rising → length late ≡ length texts_of_late → length all ≡ length rising + length late
@@ -155,7 +144,7 @@ module _ (rising late : List ℕ) (texts_of_rising texts_of_late : List (ℕ × 
       omega (arith, whole, parts, one, two)
 
   pub rising_got : (i n : ℕ) (l : ℕ × List ℕ) → slice_get rising i ≡ Some n → slice_get texts_of_rising i ≡ Some l → slice_get all i ≡ Some (kept n l)
-  rising_got i n l e f = subst (λ (x : List StoredInstance). slice_get x i ≡ Some (kept n l)) all_are (got-front (stored_instances rising texts_of_rising) (stored_instances late texts_of_late) i (kept n l) (kept-get rising texts_of_rising i n l e f))
+  rising_got i n l e f = subst (λ (x : List StoredInstance). slice_get x i ≡ Some (kept n l)) all_are (at-front (stored_instances rising texts_of_rising) (stored_instances late texts_of_late) i (kept n l) (kept-get rising texts_of_rising i n l e f))
 
   pub late_got : (first i n : ℕ) (l : ℕ × List ℕ) → length rising ≡ length texts_of_rising → first ≡ length texts_of_rising → first ≤ i → slice_get late (i - first) ≡ Some n → slice_get texts_of_late (i - first) ≡ Some l → slice_get all i ≡ Some (kept n l)
   late_got first i n l same is above e f =
@@ -163,7 +152,7 @@ module _ (rising late : List ℕ) (texts_of_rising texts_of_late : List (ℕ × 
       let place : length (stored_instances rising texts_of_rising) + (i - first) ≡ i = omega (arith, size, is, above, same) in
       subst (λ (x : List StoredInstance). slice_get x i ≡ Some (kept n l)) all_are
       (subst (λ (k : ℕ). slice_get (stored_instances rising texts_of_rising ++ stored_instances late texts_of_late) k ≡ Some (kept n l)) place
-      (got-behind (stored_instances rising texts_of_rising) (stored_instances late texts_of_late) (i - first) (kept n l) (kept-get late texts_of_late (i - first) n l e f)))
+      (at-behind (stored_instances rising texts_of_rising) (stored_instances late texts_of_late) (i - first) (kept n l) (kept-get late texts_of_late (i - first) n l e f)))
 
   pub late_within : (first i : ℕ) → length rising ≡ length texts_of_rising → length late ≡ length texts_of_late → first ≡ length texts_of_rising → first ≤ i → i < length all → i - first < length late
   late_within first i same same_ is above below = let size = all_size same same_ in omega (arith, size, is, above, below, same)
@@ -184,7 +173,7 @@ rising_places all rises i j d h within =
     let two : get_or (range_with_len 0 (length all)) j d ≡ j = get_or-range_with_len 0 (length all) j d (omega (arith, within, size)) ∙ (let e : 0 + j ≡ j = omega arith in e) in
     let first : name_at all (get_or (range_with_len 0 (length all)) i d) ≡ get_or (instance_names all) i 0 = ap (name_at all) one ∙ name-at all i in
     let second : name_at all (get_or (range_with_len 0 (length all)) j d) ≡ get_or (instance_names all) j 0 = ap (name_at all) two ∙ name-at all j in
-    let below = never_fall (instance_names all) rises i j h (omega (arith, within, size, names)) in
+    let below = never-fall (instance_names all) rises i j h (omega (arith, within, size, names)) in
     omega (arith, first, second, below)
 
 module _ (rising late : List ℕ) (texts_of_rising texts_of_late : List (ℕ × List ℕ)) (all : List StoredInstance) (all_are : stored_instances rising texts_of_rising ++ stored_instances late texts_of_late ≡ all) (same : length rising ≡ length texts_of_rising) (same_ : length late ≡ length texts_of_late) where

@@ -1,33 +1,20 @@
 -- Where a name stands among rising names, and in a set.
-use Rattle.std.proofs.Common.{◌≡◌, ◌+◌, ◌≤◌, ◌<◌, ℕ, zero, suc, true, false, List, length, get_or, Some, sym, ap, arith, eqb, ltb, ◌-◌, inl, inr, ◌∙◌}
+use Rattle.std.proofs.Common.{◌≡◌, ◌+◌, ◌≤◌, ◌<◌, ℕ, true, false, List, length, get_or, Some, sym, ap, arith, eqb, ltb, ◌-◌, inl, inr, ◌∙◌}
 use Rattle.std.proofs.lemmas.Bool.Decides.{leb_tells, nat_tests}
 use Rattle.std.proofs.lemmas.Grind.{get_or_default_zero}
 use Rattle.std.proofs.lemmas.Option.{get_or_from_slice_get, slice_get-get_or, slice_get_within}
 use Rattle.std.specs.List.{Contains, slice_get}
 use Rattle.std.specs.List.Sorted.{IsStrictlyIncreasing}
+use Rattle.p21_basics.proofs.RisingLists.{never-fall}
 
 same_at : (a b : ℕ) → eqb a b ≡ true → a ≡ b
 same_at a b e = grind (arith, nat_tests)
-
-rise_to : (xs : List ℕ) → IsStrictlyIncreasing xs → (i n : ℕ) → i + n < length xs → get_or xs i 0 ≤ get_or xs (i + n) 0
-rise_to xs r i zero h = let same : get_or xs (i + 0) 0 ≡ get_or xs i 0 = ap (λ (k : ℕ). get_or xs k 0) (let e : i + 0 ≡ i = omega arith in e) in omega (arith, same)
-rise_to xs r i (suc n) h =
-    let before = rise_to xs r i n (omega (arith, h)) in
-    let step = r (i + n) (omega (arith, h)) in
-    let same : get_or xs (i + suc n) 0 ≡ get_or xs (i + n + 1) 0 = ap (λ (k : ℕ). get_or xs k 0) (let e : i + suc n ≡ i + n + 1 = omega arith in e) in
-    omega (arith, before, step, same)
-
-pub never_fall : (xs : List ℕ) → IsStrictlyIncreasing xs → (i j : ℕ) → i ≤ j → j < length xs → get_or xs i 0 ≤ get_or xs j 0
-never_fall xs r i j h k =
-    let same : get_or xs (i + (j - i)) 0 ≡ get_or xs j 0 = ap (λ (n : ℕ). get_or xs n 0) (let e : i + (j - i) ≡ j = omega (arith, h) in e) in
-    let to = rise_to xs r i (j - i) (omega (arith, h, k)) in
-    omega (arith, to, same)
 
 -- a name above the last of rising names is above them all
 pub above_all : (xs : List ℕ) (last x : ℕ) → IsStrictlyIncreasing xs → Some last ≡ slice_get xs (length xs - 1) → ltb last x ≡ true → (y : ℕ) → Contains xs y → y < x
 above_all xs last x rising is tested y (k, h, at) =
     let above : last < x = grind (arith, nat_tests) in
-    let most = never_fall xs rising k (length xs - 1) (omega (arith, h)) (omega (arith, h)) in
+    let most = never-fall xs rising k (length xs - 1) (omega (arith, h)) (omega (arith, h)) in
     let here : get_or xs k y ≡ get_or xs k 0 = get_or_default_zero xs k y h in
     let end : get_or xs (length xs - 1) 0 ≡ last = get_or_from_slice_get xs (length xs - 1) last 0 (sym is) in
     omega (arith, most, here, end, above, at)
@@ -42,11 +29,11 @@ within_last xs last x is tested =
 
 -- where the name at a position is below a name, so are those in front of it
 pub below_to : (xs : List ℕ) → IsStrictlyIncreasing xs → (x place : ℕ) → place < length xs → get_or xs place 0 < x → (i : ℕ) → i < place + 1 → get_or xs i 0 < x
-below_to xs rising x place within below i before = let most = never_fall xs rising i place (omega (arith, before)) within in omega (arith, most, below)
+below_to xs rising x place within below i before = let most = never-fall xs rising i place (omega (arith, before)) within in omega (arith, most, below)
 
 -- where the name at a position is not below a name, those behind it are not either
 pub behind_from : (xs : List ℕ) → IsStrictlyIncreasing xs → (x place : ℕ) → x ≤ get_or xs place 0 → (i : ℕ) → place ≤ i → i < length xs → x ≤ get_or xs i 0
-behind_from xs rising x place above i behind within = let least = never_fall xs rising place i behind within in omega (arith, least, above)
+behind_from xs rising x place above i behind within = let least = never-fall xs rising place i behind within in omega (arith, least, above)
 
 -- only the first that isn't below a name can be it
 pub not_found : (xs : List ℕ) (x place : ℕ) → IsStrictlyIncreasing xs → ((i : ℕ) → i < place → get_or xs i 0 < x) → ((i : ℕ) → place ≤ i → i < length xs → x ≤ get_or xs i 0) → (slice_get xs place ≡ Some x → ⊥) → Contains xs x → ⊥
@@ -55,7 +42,7 @@ not_found xs x place rising before behind other (k, within, at) =
     elim (leb_tells place k) [
       | inl from ↦
           let inside : place < length xs = omega (arith, from.1, within) in
-          let least = never_fall xs rising place k from.1 within in
+          let least = never-fall xs rising place k from.1 within in
           let above = behind place (omega arith) inside in
           let same : get_or xs place 0 ≡ x = omega (arith, least, above, here, at) in
           other (slice_get-get_or xs place 0 inside ∙ ap Some same)

@@ -1,8 +1,9 @@
 -- Texts one behind the other: where each starts and ends, and what one more text adds.
 use Rattle.std.proofs.Common.{◌≡◌, ◌+◌, ◌-◌, ◌≤◌, ◌<◌, ℕ, zero, suc, List, [], ◌∷◌, ◌++◌, length, take, drop, get_or, Some, refl, sym, ap, ◌∙◌, arith, add-one}
-use Rattle.std.proofs.lemmas.List.{length-append, length-drop, length-take, take-append-le, drop-append-le, take_all}
+use Rattle.std.proofs.lemmas.List.{length-append, length-drop, length-take, take-append-le, drop-append-le}
 use Rattle.std.proofs.Math.Seq.{drop-append_seam, take-append_seam}
 use Rattle.std.specs.List.{slice_get}
+use Rattle.p21_basics.proofs.Members.{rest_is}
 use Rattle.p21_stream_store.specs.Texts.{texts_of, AreStarts, AreStartsFrom}
 
 pub length-texts_of : (starts bytes : List ℕ) → length (texts_of starts bytes) ≡ length starts
@@ -70,10 +71,6 @@ starts_more (s ∷ t ∷ more) bytes text a = (a.0, starts_more (t ∷ more) byt
 
 -- ---- as the code reads them
 
--- the rest of the bytes as a range of them
-pub part_all : (bytes : List ℕ) (start : ℕ) → take (length bytes - start) (drop start bytes) ≡ drop start bytes
-part_all bytes start = take_all (length bytes - start) (drop start bytes) (simp length-drop (omega arith))
-
 pub next_rises : (starts : List ℕ) (size i : ℕ) → AreStartsFrom starts size → i < length starts → (length starts - i ≡ 1 → ⊥) → get_or starts i 0 ≤ get_or starts (i + 1) 0
 next_rises starts size i a h more = rw add-one (starts_rise starts size i a (omega (arith, h, more)))
 
@@ -82,15 +79,15 @@ next_within starts size i a h more = starts_within starts size (i + 1) a (omega 
 
 pub read_last : (starts bytes : List ℕ) (i : ℕ) → i < length starts → length starts - i ≡ 1
     → slice_get (texts_of starts bytes) i ≡ Some (take (length bytes - get_or starts i 0) (drop (get_or starts i 0) bytes))
-read_last starts bytes i h e = text_last starts bytes i (omega (arith, h, e)) ∙ ap (λ (x : List ℕ). Some x) (sym (part_all bytes (get_or starts i 0)))
+read_last starts bytes i h e = text_last starts bytes i (omega (arith, h, e)) ∙ ap (λ (x : List ℕ). Some x) (sym (rest_is bytes (get_or starts i 0)))
 
 pub read_before : (starts bytes : List ℕ) (i : ℕ) → i < length starts → (length starts - i ≡ 1 → ⊥)
     → slice_get (texts_of starts bytes) i ≡ Some (take (get_or starts (i + 1) 0 - get_or starts i 0) (take (length bytes - get_or starts i 0) (drop (get_or starts i 0) bytes)))
 read_before starts bytes i h more =
-    rw add-one (text_before starts bytes i (omega (arith, h, more)) ∙ ap (λ (x : List ℕ). Some (take (get_or starts (suc i) 0 - get_or starts i 0) x)) (sym (part_all bytes (get_or starts i 0))))
+    rw add-one (text_before starts bytes i (omega (arith, h, more)) ∙ ap (λ (x : List ℕ). Some (take (get_or starts (suc i) 0 - get_or starts i 0) x)) (sym (rest_is bytes (get_or starts i 0))))
 
 pub part_length : (bytes : List ℕ) (start end_ : ℕ) → start ≤ end_ → end_ ≤ length bytes → end_ - start ≡ length (take (end_ - start) (take (length bytes - start) (drop start bytes)))
-part_length bytes start end_ rise within = rw part_all (simp (length-take, length-drop) (omega arith))
+part_length bytes start end_ rise within = rw rest_is (simp (length-take, length-drop) (omega arith))
 
 pub no_bytes : (starts bytes : List ℕ) → AreStarts starts bytes → length starts ≡ 0 → length bytes ≡ 0
 no_bytes [] bytes a e = ap length a

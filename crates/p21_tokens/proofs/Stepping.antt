@@ -7,7 +7,7 @@ use Rattle.p21_exchange.specs.Token as meaning
 use Rattle.p21_tokens_automaton.proofs.Steps.{lex-pass, lex-skip, lex-keep, lex-put, lex-give, lex-close, lex-dash, lex-end, lex-byte}
 use Rattle.p21_tokens_automaton.specs.Bytes.{is_blank}
 use Rattle.p21_tokens_automaton.specs.Meaning.{Means, MeanAll}
-use Rattle.p21_tokens_automaton.specs.Reading.{start, Answer, without_tokens, stopped, before, FoundToken, known, spelled, keyword, user_keyword, whole, real, item, bits, SizedToken, closed_token, ended_token, ended_token_in, ended_number, ended_word, ended_name, ended_text, marker_of, single_token, given_first, continue_marker, first, act, at_end, with_last_tokens, all_tokens, lex}
+use Rattle.p21_tokens_automaton.specs.Reading.{start, Answer, without_tokens, stopped, before, FoundToken, known, spelled, keyword, user_keyword, whole, real, item, bits, SizedToken, closed_token, ended_token, ended_token_in, ended_number, ended_word, ended_name, ended_text, marker_of, single_token, with_token_in_front, continue_marker, first, act, at_end, with_last_tokens, all_tokens, lex}
 use Rattle.p21_tokens_automaton.specs.Step.{advance}
 use Rattle.p21_tokens_automaton.specs.declared.mode.Action.{Action}
 use Rattle.p21_tokens_automaton.specs.declared.mode.Action.TheVariants.{Pass, Skip, Keep, Put, Give, Close, End, Dash, Refuse}
@@ -79,15 +79,15 @@ not-all : (w : Wrong) (founds : List SizedToken) → all_tokens (without_tokens 
 not-all w founds e = cc
 
 -- no token is found, or one that means nothing
-dead-first : (v : Held) (b : ℕ) (o : Option FoundToken) (size : ℕ) (go : List ℕ → Answer) → ((bs : List ℕ) → rest_of v (b ∷ bs) ≡ given_first o size (go bs)) → ((found : FoundToken) → o ≡ Some found → (token : meaning.Token) → Means found token → ⊥) → IsDeadAt v (b ∷ [])
+dead-first : (v : Held) (b : ℕ) (o : Option FoundToken) (size : ℕ) (go : List ℕ → Answer) → ((bs : List ℕ) → rest_of v (b ∷ bs) ≡ with_token_in_front o size (go bs)) → ((found : FoundToken) → o ≡ Some found → (token : meaning.Token) → Means found token → ⊥) → IsDeadAt v (b ∷ [])
 dead-first v b None size go e n rest founds lexemes a m = not-all wrong.Byte founds (sym (ap all_tokens (e rest)) ∙ a)
 dead-first v b (Some found) size go e n rest founds lexemes a m =
     let x = all-first found size (go rest) founds lexemes (sym (ap all_tokens (e rest)) ∙ a) m in n found refl x.0 x.1
 
-reads-refuses : (v : Held) (b : ℕ) (o : Option FoundToken) (size : ℕ) (go : List ℕ → Answer) (x : TokenFault) → ((bs : List ℕ) → rest_of v (b ∷ bs) ≡ given_first o size (go bs)) → (advance v.mode b ≡ End → ended_token (state_of v) ≡ o) → (is_gap v.mode ≡ true → is_blank b ≡ true → ⊥) → IsInLimits v b → (IsFaultOf fault.BadByte o x → IsFaultAt v b (advance v.mode b) x) → ReadsFound o (Err x) → RefusesByte v b x
+reads-refuses : (v : Held) (b : ℕ) (o : Option FoundToken) (size : ℕ) (go : List ℕ → Answer) (x : TokenFault) → ((bs : List ℕ) → rest_of v (b ∷ bs) ≡ with_token_in_front o size (go bs)) → (advance v.mode b ≡ End → ended_token (state_of v) ≡ o) → (is_gap v.mode ≡ true → is_blank b ≡ true → ⊥) → IsInLimits v b → (IsFaultOf fault.BadByte o x → IsFaultAt v b (advance v.mode b) x) → ReadsFound o (Err x) → RefusesByte v b x
 reads-refuses v b o size go x e i n l w r = by_fault x o e i w r
   where
-    none : (x : TokenFault) (o : Option FoundToken) → ((bs : List ℕ) → rest_of v (b ∷ bs) ≡ given_first o size (go bs)) → (advance v.mode b ≡ End → ended_token (state_of v) ≡ o) → ((found : FoundToken) → o ≡ Some found → (token : meaning.Token) → Means found token → ⊥) → IsFaultAt v b (advance v.mode b) x
+    none : (x : TokenFault) (o : Option FoundToken) → ((bs : List ℕ) → rest_of v (b ∷ bs) ≡ with_token_in_front o size (go bs)) → (advance v.mode b ≡ End → ended_token (state_of v) ≡ o) → ((found : FoundToken) → o ≡ Some found → (token : meaning.Token) → Means found token → ⊥) → IsFaultAt v b (advance v.mode b) x
         → IsDeadAt v (b ∷ []) × EndsNoMeantToken v b × IsInLimits v b × IsFaultAt v b (advance v.mode b) x
     none x o e i h named = (dead-first v b o size go e h, (λ q found token f m. h found (sym (i q) ∙ f) token m), l, named)
 
@@ -97,7 +97,7 @@ reads-refuses v b o size go x e i n l w r = by_fault x o e i w r
     of_none : (found : FoundToken) → (let o : Option FoundToken = None in o) ≡ Some found → (token : meaning.Token) → Means found token → ⊥
     of_none found q = absurd cc
 
-    by_fault : (x : TokenFault) (o : Option FoundToken) → ((bs : List ℕ) → rest_of v (b ∷ bs) ≡ given_first o size (go bs)) → (advance v.mode b ≡ End → ended_token (state_of v) ≡ o) → (IsFaultOf fault.BadByte o x → IsFaultAt v b (advance v.mode b) x) → ReadsFound o (Err x) → RefusesByte v b x
+    by_fault : (x : TokenFault) (o : Option FoundToken) → ((bs : List ℕ) → rest_of v (b ∷ bs) ≡ with_token_in_front o size (go bs)) → (advance v.mode b ≡ End → ended_token (state_of v) ≡ o) → (IsFaultOf fault.BadByte o x → IsFaultAt v b (advance v.mode b) x) → ReadsFound o (Err x) → RefusesByte v b x
     by_fault fault.NoMemory o e i w r = n
     by_fault fault.FileTooLong None e i w r = absurd r.0
     by_fault fault.FileTooLong (Some f) e i w r = absurd r.0

@@ -4,6 +4,7 @@ use Rattle.std.specs.List.{flat_map, AllByRecursion as Each}
 use Rattle.std.proofs.lemmas.Bool.{cases_eq}
 use Rattle.std.proofs.lemmas.Bool.Decides.{nat_tests}
 use Rattle.p21_exchange.specs.Separator.{Separator, blank, comment, IsCommentText, IsSeparator, separator_bytes, IsSeparatorText}
+use Rattle.p21_exchange.proofs.OneGap.{EndsOnce-tail}
 use Rattle.p21_tokens_automaton.proofs.Steps.{lex-pass}
 use Rattle.p21_tokens_automaton.specs.Step.{advance}
 use Rattle.p21_tokens_automaton.specs.Reading.{State, start, pass, lex}
@@ -24,9 +25,6 @@ advance-comment b h = search (rules, tests)
 
 advance-star-other : (b : ℕ) → (b ≡ 42 → ⊥) → (b ≡ 47 → ⊥) → advance Star b ≡ Pass Comment
 advance-star-other b h k = search (rules, tests)
-
-EndsOnce-tail : (b : ℕ) (inside : List ℕ) → IsCommentText (b ∷ inside) → IsCommentText inside
-EndsOnce-tail b inside h x y e = h (b ∷ x) y (ap (λ s. b ∷ s) e)
 
 not-empty : (inside : List ℕ) → inside ++ (42 ∷ 47 ∷ []) ≡ [] → ⊥
 not-empty [] e = cc

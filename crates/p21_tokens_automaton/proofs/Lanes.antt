@@ -4,6 +4,7 @@ use Rattle.std.proofs.lemmas.Bool.{cases_order}
 use Rattle.std.proofs.lemmas.List.{length-map, map-id}
 use Rattle.std.proofs.lemmas.Simd.{mask_l-mod}
 use lib.Lanes.{mask_l, top, Each1}
+use Rattle.p21_basics.proofs.Comparing.{both}
 
 -- the lanes of a comparison
 abbrev pub equal : ℕ → ℕ → ℕ
@@ -27,10 +28,6 @@ itself lanes = sym (map-id lanes)
 abbrev pub each_below : (ℕ → Bool) → ℕ → Bool
 each_below p zero = true
 each_below p (suc n) = p n && each_below p n
-
-both : (a b : Bool) → T (a && b) → T a × T b
-both true b h = (tt, h)
-both false b h = absurd h
 
 at-below : (p : ℕ → Bool) (n : ℕ) → T (each_below p n) → (k : ℕ) → k < n → T (p k)
 at-below p zero h k l = absurd (omega arith)

@@ -5,7 +5,7 @@ use Rattle.p21_exchange.specs.Pending.{Tail, nothing, unfinished, slash, open_co
 use Rattle.p21_exchange.specs.Separator.{blank, comment}
 use Rattle.p21_exchange.specs.Token.{Token, begin, finish, keyword, user_keyword, name, whole, real, text, item, bits, left, right, comma, semicolon, equals, dollar, star, Spells, IsFollowed, IsWholeAtOnce}
 use Rattle.p21_exchange.proofs.FirstBytes.{spelling_begins, no-spelling, slash-first}
-use Rattle.p21_exchange.proofs.OneGap.{HasNoSeparator, gap-one}
+use Rattle.p21_exchange.proofs.OneGap.{HasNoSeparator, gap-one, begins-on}
 use Rattle.p21_basics.proofs.Members.{head_is, tail_is}
 use Rattle.p21_tokens_automaton.specs.Meaning.{Means, found_of}
 use Rattle.p21_tokens_automaton.specs.Reading.{State, start, Answer, FoundToken, without_tokens, open_at, before, SizedToken, ended_token, lex}
@@ -18,10 +18,6 @@ begins-no_separator [] begins separator rest is same = begins
 begins-no_separator (byte ∷ bytes) begins (blank b) rest (inl low) same = let h : byte ≡ b = head_is byte b _ _ same in omega (arith, h, low, begins.0)
 begins-no_separator (byte ∷ bytes) begins (blank b) rest (inr delete) same = begins.1 (head_is byte b _ _ same ∙ delete)
 begins-no_separator (byte ∷ bytes) begins (comment inside) rest is same = begins.2 (head_is byte 47 _ _ same)
-
-pub begins-on : (bytes more : List ℕ) → BeginsWithNoSeparator bytes → BeginsWithNoSeparator (bytes ++ more)
-begins-on [] more begins = absurd begins
-begins-on (byte ∷ bytes) more begins = begins
 
 -- nothing, a token that is not whole, a lone `/` and an open comment begin with no separator
 tail-begins : (tail : Tail) → IsTail tail → HasNoSeparator (tail_bytes tail)

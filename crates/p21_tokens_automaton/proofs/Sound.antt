@@ -7,10 +7,11 @@ use Rattle.p21_exchange.specs.Token.{Token, item, bits, Spells, IsFollowed, MayF
 use Rattle.p21_exchange.specs.Separator.{Separator, blank, comment, IsCommentText, IsSeparator, separator_bytes, IsSeparatorText}
 use Rattle.p21_exchange.specs.Laying.{Lexeme}
 use Rattle.p21_exchange.specs.Pending.{Tail, nothing, unfinished, slash, open_comment, tail_bytes, BeginsWithNoSeparator}
+use Rattle.p21_exchange.proofs.OneGap.{begins-on}
 use Rattle.p21_tokens_automaton.specs.Meaning.{Means, MeanAll}
 use Rattle.p21_tokens_automaton.specs.Bytes.{is_blank}
 use Rattle.p21_tokens_automaton.specs.Step.{advance, between_action}
-use Rattle.p21_tokens_automaton.specs.Reading.{State, start, pass, skip, keep, put, Answer, without_tokens, open_at, stopped, Ending, before, FoundToken, known, spelled, item as item_kind, bits as bits_kind, SizedToken, ended_token, closed_token, marker_of, given_first, continue_marker, single_token, first, act, lex}
+use Rattle.p21_tokens_automaton.specs.Reading.{State, start, pass, skip, keep, put, Answer, without_tokens, open_at, stopped, Ending, before, FoundToken, known, spelled, item as item_kind, bits as bits_kind, SizedToken, ended_token, closed_token, marker_of, with_token_in_front, continue_marker, single_token, first, act, lex}
 use Rattle.p21_tokens_automaton.specs.declared.mode.Mode.{Mode}
 use Rattle.p21_tokens_automaton.specs.declared.mode.Mode.TheVariants.{Between, Slash, Comment, Star, Number, Word, Name, Binary, Text}
 use Rattle.p21_tokens_automaton.specs.declared.mode.Single.{Single}
@@ -166,10 +167,6 @@ shift front b bs ls e (inl i) =
 shift front b bs ls e (inr i) =
     let same : (front ++ b ∷ []) ++ bs ≡ front ++ (b ∷ bs) = append_assoc front (b ∷ []) bs in
     inr (record { none = i.none; fits = subst (λ x. ModeFits e.mode e.pending_bytes e.characters x) same i.fits; size_is = i.size_is ∙ ap length same })
-
-no-separator-more : (front more : List ℕ) → BeginsWithNoSeparator front → BeginsWithNoSeparator (front ++ more)
-no-separator-more [] more n = absurd n
-no-separator-more (b ∷ front) more n = n
 
 -- ---- what the rest of the bytes is, by the state
 
@@ -332,7 +329,7 @@ module _ (first-fits : (b : ℕ) → FirstFits b (between_action b))
     token-step s founds ls e front r m n f z = at (advance s.mode b) (mode-fits s.mode b s.pending_bytes s.characters front f) (sym (lex-byte s b bs) ∙ r)
       where
         more : BeginsWithNoSeparator (front ++ b ∷ [])
-        more = no-separator-more front (b ∷ []) n
+        more = begins-on front (b ∷ []) n
 
         longer : s.size + 1 ≡ length (front ++ b ∷ [])
         longer = omega (arith, z, length-append front (b ∷ []))
@@ -340,7 +337,7 @@ module _ (first-fits : (b : ℕ) → FirstFits b (between_action b))
         goes : (next : State) → ModeFits next.mode next.pending_bytes next.characters (front ++ b ∷ []) → next.size ≡ s.size + 1 → lex next bs ≡ read founds e → TokenRest front (b ∷ bs) ls e
         goes next g k q = shift front b bs ls e (token-rest next.mode next bs ls e (front ++ b ∷ []) (sound next founds ls e q m) g more g (k ∙ longer))
 
-        closes : (o : Option FoundToken) → closed_token s.mode (s.pending_bytes ++ b ∷ []) ≡ o → ((found : FoundToken) (token : Token) → closed_token s.mode (s.pending_bytes ++ b ∷ []) ≡ Some found → Means found token → Spells token (front ++ b ∷ [])) → given_first o (s.size + 1) (lex start bs) ≡ read founds e → TokenRest front (b ∷ bs) ls e
+        closes : (o : Option FoundToken) → closed_token s.mode (s.pending_bytes ++ b ∷ []) ≡ o → ((found : FoundToken) (token : Token) → closed_token s.mode (s.pending_bytes ++ b ∷ []) ≡ Some found → Means found token → Spells token (front ++ b ∷ [])) → with_token_in_front o (s.size + 1) (lex start bs) ≡ read founds e → TokenRest front (b ∷ bs) ls e
         closes None q g h = absurd (not-read _ founds e h)
         closes (Some x) q g h =
             let p = before-read (record { found = x; size = s.size + 1 }) (lex start bs) founds e h in
@@ -358,7 +355,7 @@ module _ (first-fits : (b : ℕ) → FirstFits b (between_action b))
               laid = sound start p.0 y.others e p.2 y.rest refl;
             })
 
-        ends : (o : Option FoundToken) → ended_token s ≡ o → ((found : FoundToken) (token : Token) → ended_token s ≡ Some found → Means found token → MayFollow token front b) → given_first o s.size (first (advance Between b) b (λ next. lex next bs)) ≡ read founds e → TokenRest front (b ∷ bs) ls e
+        ends : (o : Option FoundToken) → ended_token s ≡ o → ((found : FoundToken) (token : Token) → ended_token s ≡ Some found → Means found token → MayFollow token front b) → with_token_in_front o s.size (first (advance Between b) b (λ next. lex next bs)) ≡ read founds e → TokenRest front (b ∷ bs) ls e
         ends None q g h = absurd (not-read _ founds e h)
         ends (Some x) q g h =
             let p = before-read (record { found = x; size = s.size }) (first (advance Between b) b (λ next. lex next bs)) founds e h in

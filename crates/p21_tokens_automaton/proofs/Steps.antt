@@ -1,7 +1,7 @@
 -- One byte of the reading, by the action that it calls for.
 use Rattle.std.proofs.Common.{◌≡◌, ℕ, ◌+◌, List, [], ◌∷◌, ◌++◌, refl, ap, ◌∙◌, Option, Some}
 use Rattle.p21_tokens_automaton.specs.Step.{advance}
-use Rattle.p21_tokens_automaton.specs.Reading.{State, start, pass, skip, keep, put, Answer, without_tokens, before, Continuation, FoundToken, known, single_token, ended_token, closed_token, marker_of, given_first, continue_marker, first, act, lex, open_at}
+use Rattle.p21_tokens_automaton.specs.Reading.{State, start, pass, skip, keep, put, Answer, without_tokens, before, Continuation, FoundToken, known, single_token, ended_token, closed_token, marker_of, with_token_in_front, continue_marker, first, act, lex, open_at}
 use Rattle.p21_tokens_automaton.specs.declared.mode.Mode.{Mode}
 use Rattle.p21_tokens_automaton.specs.declared.mode.Mode.TheVariants.{Between}
 use Rattle.p21_tokens_automaton.specs.declared.mode.Single.{Single}
@@ -35,7 +35,7 @@ pub lex-give : (s : State) (one : Single) (b : ℕ) (bs : List ℕ) → advance 
 lex-give s one b bs e = by_action s b bs (Give one) e
 
 pub lex-close : (s : State) (f : FoundToken) (b : ℕ) (bs : List ℕ) → advance s.mode b ≡ Close → closed_token s.mode (s.pending_bytes ++ b ∷ []) ≡ Some f → lex s (b ∷ bs) ≡ before (record { found = f; size = s.size + 1 }) (lex start bs)
-lex-close s f b bs e g = by_action s b bs Close e ∙ ap (λ (x : Option FoundToken). given_first x (s.size + 1) (lex start bs)) g
+lex-close s f b bs e g = by_action s b bs Close e ∙ ap (λ (x : Option FoundToken). with_token_in_front x (s.size + 1) (lex start bs)) g
 
 pub lex-dash : (s : State) (m : Mode) (b : ℕ) (bs : List ℕ) → advance s.mode b ≡ Dash → marker_of s.pending_bytes ≡ Some m → lex s (b ∷ bs) ≡ lex (keep s m b) bs
 lex-dash s m b bs e g = by_action s b bs Dash e ∙ ap (λ (x : Option Mode). continue_marker x s b (λ next. lex next bs)) g
@@ -55,5 +55,5 @@ pub lex-end : (s : State) (f : FoundToken) (b : ℕ) (bs : List ℕ) → advance
 unfolding lex
 lex-end s f b bs e g =
     by_action s b bs End e
-    ∙ (ap (λ (x : Option FoundToken). given_first x s.size (first (advance Between b) b (λ next. lex next bs))) g
+    ∙ (ap (λ (x : Option FoundToken). with_token_in_front x s.size (first (advance Between b) b (λ next. lex next bs))) g
     ∙ ap (λ (x : Answer). before (record { found = f; size = s.size }) x) (first-act (advance Between b) b (λ next. lex next bs)))

@@ -147,9 +147,9 @@ abbrev pub Continuation : Type 0
 Continuation = State → Answer
 
 -- a token of this size, if there is one, in front
-abbrev pub given_first : Option FoundToken → ℕ → Answer → Answer
-given_first None size answer = without_tokens (stopped wrong.Byte)
-given_first (Some found) size answer = before (record { found = found; size = size }) answer
+abbrev pub with_token_in_front : Option FoundToken → ℕ → Answer → Answer
+with_token_in_front None size answer = without_tokens (stopped wrong.Byte)
+with_token_in_front (Some found) size answer = before (record { found = found; size = size }) answer
 
 abbrev pub continue_marker : Option Mode → State → ℕ → Continuation → Answer
 continue_marker None s byte go = without_tokens (stopped wrong.Byte)
@@ -172,8 +172,8 @@ act (Skip mode) s byte go = go (skip s mode)
 act (Keep mode) s byte go = go (keep s mode byte)
 act (Put mode character) s byte go = go (put s mode character)
 act (Give one) s byte go = before (record { found = known (single_token one); size = 1 }) (go start)
-act Close s byte go = given_first (closed_token s.mode (s.pending_bytes ++ byte ∷ [])) (s.size + 1) (go start)
-act End s byte go = given_first (ended_token s) s.size (first (advance Between byte) byte go)
+act Close s byte go = with_token_in_front (closed_token s.mode (s.pending_bytes ++ byte ∷ [])) (s.size + 1) (go start)
+act End s byte go = with_token_in_front (ended_token s) s.size (first (advance Between byte) byte go)
 act Dash s byte go = continue_marker (marker_of s.pending_bytes) s byte go
 act (Refuse wrong) s byte go = without_tokens (stopped wrong)
 

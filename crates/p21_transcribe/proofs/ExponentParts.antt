@@ -4,10 +4,10 @@ use Rattle.std.proofs.lemmas.List.{take-append-drop}
 use Rattle.std.proofs.Math.Nat.{pow-le-pow_right}
 use Rattle.p21_basics.proofs.PlainDigits.{number_below}
 use Rattle.p21_basics.specs.Digits.{AllDigits, number}
+use Rattle.p21_basics.proofs.Members.{rest_is}
 use Rattle.p21_exchange.proofs.Forms.{NoDigitFirst, behind_sign, first_sign}
 use Rattle.p21_exchange.specs.Number.{is_minus, no_exponent, signed}
 use Rattle.p21_values.proofs.Readings.{exponent_front}
-use Rattle.p21_transcribe.proofs.Splits.{rest_is}
 use Rattle.p21_transcribe.specs.Numbers.{EndsReal}
 use Rattle.p21_transcribe.specs.Runs.{IsDigitRun, BeginsWithoutByte}
 

@@ -17,8 +17,5 @@ part_alone r bytes text old new e h = part_behind r [] bytes text old old new e 
 pub goes-on : (old middle new more : List ℕ) → Continues old middle → new ≡ middle ++ more → Continues old new
 goes-on old middle new more (tail, is) e = (tail ++ more, e ∙ (ap (λ (x : List ℕ). x ++ more) is ∙ append_assoc old tail more))
 
-pub stays : (old new : List ℕ) → new ≡ old → Continues old new
-stays old new e = ([], e ∙ sym (append-nil old))
-
 pub stays-behind : (old middle new : List ℕ) → Continues old middle → new ≡ middle → Continues old new
 stays-behind old middle new (tail, is) e = (tail, e ∙ is)

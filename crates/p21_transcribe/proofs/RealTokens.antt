@@ -5,6 +5,7 @@ use Rattle.std.proofs.lemmas.List.{drop-take, take-append-drop}
 use Rattle.std.proofs.Math.Seq.{drop-append_seam, take-append_seam}
 use Rattle.p21_basics.proofs.PlainDigits.{digits_append}
 use Rattle.p21_basics.specs.Digits.{AllDigits, IsDigit, number}
+use Rattle.p21_basics.proofs.Members.{rest_is}
 use Rattle.p21_exchange.proofs.Forms.{NoDigitFirst, behind_sign, first_sign}
 use Rattle.p21_exchange.proofs.Exponents.{in_range_of_same}
 use Rattle.p21_exchange.proofs.Ratios.{ratio-positive}
@@ -13,13 +14,13 @@ use Rattle.p21_exchange.specs.Spelling.{exponent_spelling}
 use Rattle.p21_exchange.specs.Token.{IsFollowed, real}
 use Rattle.p21_values.proofs.DigitRuns.{digits_parts}
 use Rattle.p21_values.proofs.Readings.{front_real}
-use Rattle.p21_values.proofs.Significands.{end_empty, end_kept}
+use Rattle.p21_values.proofs.Significands.{end_empty, end_kept, first_kept}
 use Rattle.p21_values.proofs.StoredDecimals.{reads_digits, reads_zero, stored_of_digits, stored_spelling}
 use Rattle.p21_values.specs.Decimal.{ReducesRatio}
 use Rattle.p21_values.specs.Digits.{HasNoLeadingZero, WithoutTrailingZeros, WithoutLeadingZeros}
 use Rattle.p21_values.specs.RealComponents.{digits_ratio}
 use Rattle.p21_values.specs.Stored.{stored_decimal}
-use Rattle.p21_transcribe.proofs.Splits.{behind-count, rest_is, unsigned-front}
+use Rattle.p21_transcribe.proofs.Splits.{behind-count, unsigned-front}
 use Rattle.p21_transcribe.proofs.WholeTokens.{number-zeros}
 use Rattle.p21_transcribe.specs.Appending.{AppendsAllOrNone, AppendsAllOrSome}
 use Rattle.p21_transcribe.specs.LeadingToken.{IsLeadingToken}
@@ -125,10 +126,6 @@ module _ (bytes tail : List ℕ) (count zeros : ℕ) (digits : AreDigits bytes c
 pub front_cut : (zeros : ℕ) (all kept : List ℕ) → all ≡ replicate zeros 48 ++ kept → AllDigits kept → HasNoLeadingZero kept → WithoutLeadingZeros all kept
 front_cut zeros all kept e digits first = record { are_digits = digits; first = first; same = sym (ap number e ∙ number-zeros zeros kept) }
 
-first_of : (xs ys : List ℕ) → 0 < length xs → HasNoLeadingZero xs → HasNoLeadingZero (xs ++ ys)
-first_of [] ys some h = absurd (omega arith)
-first_of (x ∷ xs) ys some h = h
-
 -- ---- the number that is written
 
 pub number_of_normalised : (r n : Bool) (whole fraction front : List ℕ) (written k : ℤ) (old new : List ℕ) → WithoutLeadingZeros (whole ++ fraction) front → 0 < length front → k ≡ written +ℤ pos (length front - 1) -ℤ pos (length fraction)
@@ -150,7 +147,7 @@ module _ (n : Bool) (w f : List ℕ) (cw cf zw : ℕ) (written k : ℤ) (old new
       let both = length-append kept (take cf f) in
       let all : take cw w ++ take cf f ≡ replicate zw 48 ++ (kept ++ take cf f) = ap (λ (x : List ℕ). x ++ take cf f) (split_zeros w cw zw wd z) ∙ append_assoc (replicate zw 48) kept (take cf f) in
       number_of_normalised r n (take cw w) (take cf f) (kept ++ take cf f) written k old new
-      (front_cut zw _ _ all (digits_append kept (take cf f) (kept_digits w cw zw wd z) fd.digits) (first_of kept (take cf f) (omega arith) (subst HasNoLeadingZero (kept_is w cw zw wd z) z.first)))
+      (front_cut zw _ _ all (digits_append kept (take cf f) (kept_digits w cw zw wd z) fd.digits) (first_kept kept (take cf f) (omega arith) (subst HasNoLeadingZero (kept_is w cw zw wd z) z.first)))
       (omega arith) (omega (arith, ints, e)) (subst (λ (x : List ℕ). AppendsNormalised r n (x ++ take cf f) k old new) (tail_take w tail cw zw wd z some is) h)
 
   module _ (zf : ℕ) (none : cw ≤ zw) (y : AreLeadingZeros (take cf f) zf) where

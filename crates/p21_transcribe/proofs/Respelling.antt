@@ -5,6 +5,7 @@ use Rattle.std.proofs.lemmas.List.{flat_map_more}
 use Rattle.std.proofs.Math.Seq.{take-add}
 use Rattle.std.specs.Char.{IsScalar}
 use Rattle.std.specs.List.{flat_map, AllByRecursion as Each}
+use Rattle.p21_basics.proofs.Members.{rest_is}
 use Rattle.p21_exchange.specs.Spelling.{character_spelling}
 use Rattle.p21_exchange.specs.Text.{extended2, IsStringUnit, unit_bytes, unit_characters, utf16_groups, end_extended, Encodes}
 use Rattle.p21_exchange.specs.Token.{text}
@@ -20,7 +21,6 @@ use Rattle.p21_tokens_automaton.specs.declared.mode.NameMode.{NameMode}
 use Rattle.p21_tokens_automaton.specs.declared.mode.NameMode.TheVariants.{Hash, Digits}
 use Rattle.p21_tokens_automaton.specs.declared.mode.TextMode.{TextMode}
 use Rattle.p21_tokens_automaton.specs.declared.mode.TextMode.TheVariants.{Inside}
-use Rattle.p21_transcribe.proofs.Splits.{rest_is}
 use Rattle.p21_transcribe.proofs.TextTokens.{characters-encoded, size-within, text-stands}
 use Rattle.p21_transcribe.specs.Characters.{AreCharacters}
 use Rattle.p21_transcribe.specs.LeadingToken.{Transcribes}

@@ -20,11 +20,10 @@ use Rattle.p21_tokens_automaton.specs.declared.mode.Mode.{Mode}
 use Rattle.p21_tokens_automaton.specs.declared.mode.Mode.TheVariants.{Text}
 use Rattle.p21_tokens_automaton.specs.declared.mode.TextMode.TheVariants.{Inside, Utf8Last, Utf8Second, Utf8Third}
 use Rattle.p21_tokens_automaton.specs.declared.mode.Wrong.TheVariants as wrong
-use Rattle.p21_transcribe.proofs.Splits.{rest_is}
 use Rattle.p21_transcribe.specs.Characters.{AreCharacters, EndsText, IsDoubled, IsExtendedCharacter, IsExtendedDirective}
 use Rattle.p21_transcribe.specs.LeadingToken.{IsLeadingToken, IsCanonicalLeadingToken}
 use Rattle.p21_transcribe.specs.Runs.{BeginsWithoutByte}
-use Rattle.p21_basics.proofs.Members.{Each-append}
+use Rattle.p21_basics.proofs.Members.{Each-append, rest_is}
 
 pub no_characters : (bytes : List ℕ) → AreCharacters bytes 0 0
 no_characters bytes = record { characters = []; are_scalars = tt; size_is = refl; within = omega arith; bytes_are = refl }

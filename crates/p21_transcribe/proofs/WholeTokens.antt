@@ -4,6 +4,7 @@ use Rattle.std.proofs.lemmas.List.{drop-take, get_or-drop, get_or-take, take-app
 use Rattle.std.proofs.Math.Nat.{zero-mul, one-le-pow}
 use Rattle.p21_basics.proofs.PlainDigits.{ArePlain, number_first, plain_digits-number}
 use Rattle.p21_basics.specs.Digits.{AllDigits, number, plain_digits}
+use Rattle.p21_basics.proofs.Members.{rest_is}
 use Rattle.p21_exchange.proofs.Forms.{NoDigitFirst, behind_sign, first_sign}
 use Rattle.p21_exchange.specs.Number.{SpellsWhole, is_minus, signed}
 use Rattle.p21_exchange.specs.Spelling.{whole_spelling}
@@ -12,7 +13,7 @@ use Rattle.p21_values.proofs.DigitRuns.{digits_parts}
 use Rattle.p21_values.proofs.Readings.{front_whole}
 use Rattle.p21_values.specs.Digits.{HasNoLeadingZero}
 use Rattle.p21_transcribe.proofs.NameTokens.{plain-front}
-use Rattle.p21_transcribe.proofs.Splits.{behind-count, rest_is, unsigned-front}
+use Rattle.p21_transcribe.proofs.Splits.{behind-count, unsigned-front}
 use Rattle.p21_transcribe.specs.LeadingToken.{IsLeadingToken}
 use Rattle.p21_transcribe.specs.Runs.{AreLeadingZeros, IsDigitRun, BeginsWithoutByte}
 

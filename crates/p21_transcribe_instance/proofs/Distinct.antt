@@ -1,14 +1,11 @@
 -- Elements whose texts differ are distinct.
-use Rattle.std.proofs.Common.{ℕ, false, List, [], ◌∷◌, sym, subst, Contains}
-use Rattle.std.specs.List.{AllByRecursion as Each}
+use Rattle.std.proofs.Common.{ℕ, false, List, ◌∷◌, sym, subst, Contains}
 use Rattle.p21_basics.proofs.Members.{Contains-first, Contains-later}
 use Rattle.p21_claim_values.proofs.Needs.{assignment, each-servable, served-each}
 use Rattle.p21_claim_values.proofs.OfType.{EachOf, OfType, fit_each-of, of_next, of_none, params-written}
 use Rattle.p21_claim_values.proofs.TextsFromSame.{text-from_same}
 use Rattle.p21_claim_values.specs.Needs.{FitEachWithNeeds}
-use Rattle.p21_claim_values.specs.Written.{IsSpelled}
 use Rattle.p21_exchange.specs.Parameter.{Params, params_tokens}
-use Rattle.p21_exchange.specs.Token.{Token}
 use Rattle.p21_files.specs.Reference.{Need}
 use Rattle.p21_files.specs.SameValue.{Among, AreDistinct, here, there}
 use Rattle.p21_files.specs.Value.{Value, Values}
@@ -17,11 +14,7 @@ use Rattle.p21_mapping_values.specs.SplitTexts.{NoneTwice}
 use Rattle.p21_schemas.specs.Schema.{Schema, TypeUse}
 use Rattle.p21_schemas.specs.WellFormed.{HasDistinctTypes}
 use Rattle.p21_transcribe_instance.specs.TakenValues.{LaidBefore}
-
--- tokens that are laid have spellings
-laid-spelled : (bytes rest : List ℕ) (ts : List Token) → LaidBefore bytes ts rest → Each IsSpelled ts
-laid-spelled bytes rest [] e = tt
-laid-spelled bytes rest (t ∷ ts) (gap, spelling, behind, e, separates, spells, followed, laid) = ((spelling, spells), laid-spelled behind rest ts laid)
+use Rattle.p21_transcribe_instance.proofs.LaidRuns.{laid-spelled}
 
 elements-of : (s : Schema) (type : TypeUse) (ps : Params) (vs : Values) (needs : List Need) (bytes rest : List ℕ) → FitEachWithNeeds s false type ps vs needs → LaidBefore bytes (params_tokens ps) rest → EachOf s false type vs
 elements-of s type ps vs needs bytes rest each laid =

@@ -1,11 +1,9 @@
 -- Simple records that are taken one behind the other.
-use Rattle.std.proofs.Common.{◌≡◌, ◌∙◌, ℕ, Contains, inl, inr, length-append, suc, ◌+◌, ◌-◌, ◌<◌, ◌≤◌, length, get_or, take, arith, List, [], ◌∷◌, ◌++◌, map, refl, ap, sym, subst, append_assoc}
+use Rattle.std.proofs.Common.{◌≡◌, ◌∙◌, ℕ, length-append, suc, ◌+◌, ◌-◌, ◌<◌, ◌≤◌, length, get_or, take, arith, List, [], ◌∷◌, ◌++◌, map, refl, ap, sym, subst, append_assoc}
 use Rattle.std.proofs.lemmas.Grind.{flat_map-append}
 use Rattle.std.proofs.lemmas.List.{append-nil, map-append, take-append-le, take_all, take_more}
 use Rattle.std.specs.List.{flat_map}
-use Rattle.std.proofs.lemmas.List.Elements.{Contains-append_cases}
-use Rattle.std.proofs.lemmas.Option.{slice_get_within}
-use Rattle.p21_basics.proofs.Members.{AllZip-member, Contains-cases, Contains-none, Each-append, Each-at}
+use Rattle.p21_basics.proofs.Members.{Each-append, Each-at}
 use Rattle.p21_claim_values.specs.Needs.{FitsAtWithNeeds}
 use Rattle.p21_exchange.specs.Parameter.{Params, more_tokens, params_tokens}
 use Rattle.p21_exchange.specs.Record.{part_tokens}
@@ -13,9 +11,9 @@ use Rattle.p21_exchange.specs.Token as token
 use Rattle.p21_exchange.specs.Token.{Token}
 use Rattle.p21_express_graph.proofs.Lookups.{own-places-are, places-more}
 use Rattle.p21_express_graph.proofs.Resolving.{stored-is}
-use Rattle.p21_express_graph.specs.Lookups.{AreEntities, places_from}
+use Rattle.p21_express_graph.specs.Lookups.{places_from}
 use Rattle.p21_express_graph.specs.Orders.{numbers}
-use Rattle.p21_express_graph.specs.Resolved.{HoldsTogether, IsEntity}
+use Rattle.p21_express_graph.specs.Resolved.{HoldsTogether}
 use Rattle.p21_express_types.specs.declared.number.EntityId.{EntityId}
 use Rattle.p21_files.specs.Reference as meant
 use Rattle.p21_files.specs.ValueText.{value_text, with_commas, with_commas_between}
@@ -23,7 +21,7 @@ use Rattle.p21_mapping_values.specs.declared.need.Need.{Need}
 use Rattle.p21_mapping_values.specs.TypedView.{need_view}
 use Rattle.p21_schemas.specs.Order.{own_places}
 use Rattle.p21_schemas.specs.PlaceType.{PlaceType, TypeAt, derived_place, stored_place, two_redeclarations}
-use Rattle.p21_schemas.specs.Schema.{AreRisingByName, EntityNamed, Place, Schema, attributes_of}
+use Rattle.p21_schemas.specs.Schema.{Place, Schema, attributes_of}
 use Rattle.p21_transcribe.specs.Gaps.{PassesSeparators}
 use Rattle.p21_transcribe_instance.proofs.LaidRuns.{takes-join, takes-mark}
 use Rattle.p21_transcribe_instance.proofs.Stepping.{GoOn, first-places, next-places, none-places}
@@ -32,7 +30,6 @@ use Rattle.p21_transcribe_instance.specs.TakenParameters.{TakesTokens, TakesEnti
 use Rattle.p21_transcribe_instance.specs.ExternalSet.{AreExternalSets, IsNumberedSet, IsExternalSet}
 use Rattle.p21_transcribe_instance.proofs.Laid.{laid-join, param-behind}
 use Rattle.p21_transcribe_instance.specs.TakenValues.{IsKnownAt, KeepsNeeds, LaidBefore, TakesWithNeeds}
-use Rattle.p21_schemas.specs.Supertype.{IsLeaf, LeavesAmong, leaf_next, no_more, other_next}
 use Rattle.p21_values.specs.Canonical.{Continues}
 
 pub no-parts : (s : Schema) (entities bytes old : List ℕ) (needs : List Need) → TakesParts s entities [] bytes bytes old old needs needs
@@ -148,10 +145,6 @@ own-next s entities e index bytes middle behind rest old between comma new befor
 
 -- ---- sets of external mapping
 
--- the entities of a set that rises are those of the schema
-pub rising-known : (s : Schema) (entities : List ℕ) → AreRisingByName s entities → AreEntities s entities
-rising-known s entities (names, named, rise) e among = let (name, at, (x, is, same)) = AllZip-member (EntityNamed s) entities names e named among in slice_get_within s.entities e x is
-
 -- the one of a number
 pub usual-at : (s : Schema) (sets : List (List ℕ)) (at : ℕ) (entities : List ℕ) → AreExternalSets s sets → IsNumberedSet sets at entities → IsExternalSet s entities
 usual-at s sets at entities are numbered = Each-at (IsExternalSet s) sets at entities are numbered
@@ -175,21 +168,6 @@ pub needs-back : (before after : List Need) (count : ℕ) → count ≡ length b
 needs-back before after count is (added, appended) = ap (take count) appended ∙ take-append-le count before added (omega (arith, is)) ∙ take_all count before (omega (arith, is))
 
 -- ---- leaves
-
-pub leaves-all : (s : Schema) (entities among leaves : List ℕ) → LeavesAmong s entities among leaves → (e : ℕ) → Contains leaves e → IsLeaf s entities e
-leaves-all s entities among leaves no_more e there = absurd (Contains-none e there)
-leaves-all s entities among leaves (leaf_next f es ls leaf rest) e there = elim (Contains-cases f ls e there) [
-  | inl h ↦ subst (IsLeaf s entities) h leaf
-  | inr h ↦ leaves-all s entities es ls rest e h
-]
-leaves-all s entities among leaves (other_next f es ls other rest) e there = leaves-all s entities es leaves rest e there
-
--- the entities so far and one more
-pub known-more : (s : Schema) (es : List EntityId) (x : EntityId) → AreEntities s (numbers es) → IsEntity s x.0 → AreEntities s (numbers (es ++ x ∷ []))
-known-more s es x are is e among = elim (Contains-append_cases (numbers es) (x.0 ∷ []) e (subst (λ (ns : List ℕ). Contains ns e) (map-append (λ (y : EntityId). y.0) es (x ∷ [])) among)) [
-  | inl before ↦ are e before
-  | inr last ↦ elim (Contains-cases x.0 [] e last) [ inl same ↦ subst (IsEntity s) same is | inr none ↦ absurd (Contains-none e none) ]
-]
 
 -- ---- the whole record
 

@@ -2,10 +2,9 @@
 use Rattle.std.proofs.Common.{◌≡◌, ◌∙◌, ℕ, List, [], ◌∷◌, ◌++◌, drop, length, take, refl, ap, sym, subst, append_assoc}
 use Rattle.std.proofs.lemmas.List.{take-append-drop}
 use Rattle.std.specs.List.{AllByRecursion as Each}
-use Rattle.p21_claim_values.specs.Written.{IsSpelled}
+use Rattle.p21_exchange.specs.Token.{IsSpelled, Token, MayFollow, Spells}
 use Rattle.p21_exchange.specs.Spelling.{name_spelling, spelling}
 use Rattle.p21_exchange.specs.Token as token
-use Rattle.p21_exchange.specs.Token.{Token, MayFollow, Spells}
 use Rattle.p21_schemas.specs.Schema.{EntityNamed, Schema}
 use Rattle.p21_transcribe.specs.Gaps.{PassesSeparators}
 use Rattle.p21_transcribe.specs.LeadingToken.{Transcribes}

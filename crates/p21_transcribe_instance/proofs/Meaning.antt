@@ -12,7 +12,8 @@ use Rattle.p21_claim_values.proofs.OfType.{AreWritten}
 use Rattle.p21_claim_values.proofs.Printing.{canonical-same_typed, canonical_typed, means-with, part-plain, part-said}
 use Rattle.p21_claim_values.proofs.RecordOnce.{part-written}
 use Rattle.p21_claim_values.specs.Needs.{FitPlacesWithNeeds, MeansWithNeeds, AreNeedsOfRecord}
-use Rattle.p21_claim_values.specs.Written.{IsSpelled, IsWrittenStatement}
+use Rattle.p21_claim_values.specs.Written.{IsWrittenStatement}
+use Rattle.p21_exchange.specs.Token.{IsSpelled, Token}
 use Rattle.p21_exchange.specs.CanonicalText.{statement_text}
 use Rattle.p21_exchange.specs.Grammar.{IsDataRecord}
 use Rattle.p21_exchange.specs.Laying.{Laid}
@@ -22,7 +23,6 @@ use Rattle.p21_exchange.specs.Record.{Part, record_tokens, simple}
 use Rattle.p21_exchange.specs.Spelling.{name_spelling}
 use Rattle.p21_exchange.specs.Statement.{instance, statement_tokens}
 use Rattle.p21_exchange.specs.Token as token
-use Rattle.p21_exchange.specs.Token.{Token}
 use Rattle.p21_express_graph.proofs.OrderTables.{order-tells}
 use Rattle.p21_express_graph.specs.Resolved.{HoldsTogether, IsEntity}
 use Rattle.p21_express_graph.specs.Rising.{HaveSame, IsOwnRising}

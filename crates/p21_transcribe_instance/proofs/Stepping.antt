@@ -176,9 +176,6 @@ enclosed s steps bytes inside behind rest old opened between new before after ma
 
 -- ---- what is appended and added
 
-pub continues-join : (old middle new : List ℕ) → Continues old middle → Continues middle new → Continues old new
-continues-join old middle new (x, is) (y, is_) = (x ++ y, is_ ∙ ap (λ (t : List ℕ). t ++ y) is ∙ append_assoc old x y)
-
 pub needs-join : (before among after : List Need) → KeepsNeeds before among → KeepsNeeds among after → KeepsNeeds before after
 needs-join before among after (x, is) (y, is_) = (x ++ y, is_ ∙ ap (λ (ns : List Need). ns ++ y) is ∙ append_assoc before x y)
 

@@ -2,27 +2,24 @@
 use Rattle.std.proofs.Common.{◌≡◌, ◌∙◌, ℕ, List, [], ◌∷◌, ◌++◌, refl, ap, sym, append_assoc}
 use Rattle.std.specs.List.{AllByRecursion as Each}
 use Rattle.p21_basics.proofs.Members.{Each-front, Each-back, tail_is}
-use Rattle.p21_claim_values.proofs.CanonicalParam.{canonical_param, canonical-written, value_text-is}
+use Rattle.p21_claim_values.proofs.CanonicalParam.{canonical_param, value_text-is}
 use Rattle.p21_claim_values.proofs.Existence.{canonical_value, canonical-is}
 use Rattle.p21_claim_values.proofs.Needs.{AreServed, served-at}
-use Rattle.p21_claim_values.proofs.OfType.{AreWritten, fits-of}
+use Rattle.p21_claim_values.proofs.OfType.{AreWritten}
 use Rattle.p21_claim_values.proofs.ParamTexts.{list-is, tokens_text-append}
-use Rattle.p21_claim_values.proofs.Printing.{at-fits, canonical_typed, has-canonical_value}
-use Rattle.p21_claim_values.specs.Written.{IsWritten}
+use Rattle.p21_claim_values.proofs.Printing.{at-fits, canonical_typed, has-canonical_value, at-written}
 use Rattle.p21_exchange.specs.CanonicalText.{param_texts, statement_text, tokens_text}
-use Rattle.p21_exchange.specs.Parameter.{Param, Params, no_params, param, key_of, params_tokens}
+use Rattle.p21_exchange.specs.Parameter.{Params, no_params, param, key_of, params_tokens}
 use Rattle.p21_exchange.specs.Record.{simple}
 use Rattle.p21_exchange.specs.Spelling.{name_spelling}
 use Rattle.p21_exchange.specs.Statement.{instance}
 use Rattle.p21_exchange.specs.Token as token
 use Rattle.p21_exchange.specs.Token.{Token}
 use Rattle.p21_files.specs.CanonicalRecord.{AreCanonicalAt}
-use Rattle.p21_files.specs.Fits.{FitsAt, star, dollar, fits}
+use Rattle.p21_files.specs.Fits.{FitsAt, fits}
 use Rattle.p21_files.specs.Meaning.{FitPlaces, HasValueAt, Typed}
 use Rattle.p21_files.specs.Reference.{EntitySets, IsServed}
-use Rattle.p21_files.specs.Value.{Value}
 use Rattle.p21_files.specs.ValueText.{value_text, with_commas_between}
-use Rattle.p21_schemas.specs.PlaceType.{PlaceType}
 use Rattle.p21_schemas.specs.Schema.{Schema}
 use Rattle.p21_transcribe_instance.specs.TakenParameters.{IsPlacedParameter, PlacedParameter, body_text, needs_at, params_at, places_at, texts_at}
 
@@ -48,11 +45,6 @@ canonical-stand s m [] has = tt
 canonical-stand s m (p ∷ ps) has = ((canonical_value s p.value, has-canonical_value s m p.place p.value has.0, canonical-is s p.value), canonical-stand s m ps has.1)
 
 -- ---- spellings
-
-at-written : (s : Schema) (kinds : EntitySets) (at : PlaceType) (p : Param) (v : Value) → FitsAt s kinds at p v → IsWritten p → IsWritten (canonical_param s v)
-at-written s kinds at p v star written = written
-at-written s kinds at p v (dollar type) written = written
-at-written s kinds at p v (fits optional type _ _ fit) written = canonical-written s type v (fits-of s kinds type p v fit written)
 
 pub canonical-spelled : (s : Schema) (kinds : EntitySets) (entities : List ℕ) (ps : List PlacedParameter) → Each (IsPlacedParameter s entities) ps → AreServed s kinds (needs_at ps) → AreWritten (params_at ps) → AreWritten (canonical_at s ps)
 canonical-spelled s kinds entities [] each served written = tt

@@ -1,6 +1,5 @@
 -- Values that are taken with what stands around them.
 use Rattle.std.proofs.Common.{◌≡◌, ◌∙◌, ℕ, suc, ◌≤◌, List, [], ◌∷◌, ◌++◌, length, drop, codes, refl, ap, sym, subst, arith, append_assoc}
-use Rattle.std.proofs.lemmas.Option.{slice_get_within}
 use Rattle.p21_claim_values.proofs.CanonicalValue.{named-is}
 use Rattle.p21_claim_values.specs.Needs.{FitsWithNeeds, with_chosen_type}
 use Rattle.p21_exchange.specs.Parameter as parameter
@@ -8,7 +7,6 @@ use Rattle.p21_exchange.specs.Parameter.{Param, key_of, param_tokens}
 use Rattle.p21_exchange.specs.Token as token
 use Rattle.p21_express_tables.specs.Base.{HasBase, IsBase}
 use Rattle.p21_express_tables.specs.declared.base.Base.{Base}
-use Rattle.p21_express_graph.specs.Resolved.{IsType}
 use Rattle.p21_files.specs.Reference as reference
 use Rattle.p21_files.specs.Value as meant
 use Rattle.p21_files.specs.Value.{Value}
@@ -26,12 +24,6 @@ use Rattle.p21_transcribe_instance.specs.TakenValues.{IsBaseInSchema, KeepsNeeds
 use Rattle.p21_values.specs.Canonical.{Continues}
 
 -- ---- what a refusal leaves
-
-pub goes-further : (old middle new : List ℕ) → Continues old middle → Continues middle new → Continues old new
-goes-further old middle new first (tail, is) = goes-on old middle new tail first is
-
-pub keeps-further : (before between after : List Need) → KeepsNeeds before between → KeepsNeeds between after → KeepsNeeds before after
-keeps-further before between after (first, is) (more, same) = (first ++ more, same ∙ (ap (λ (ns : List Need). ns ++ more) is ∙ append_assoc before first more))
 
 -- ---- separators before a value, and parentheses around it
 
@@ -75,9 +67,6 @@ enclosed-refused s base most inside behind old marked middle before after (type,
     (goes-on old marked middle (value_text s h.takes.value) (40 ∷ [], opens) h.takes.text_is, (h.added, h.needs_are))
 
 -- ---- typed parameters
-
-pub type-named : (s : Schema) (t : ℕ) (name : List ℕ) → TypeNamed s t name → IsType s t
-type-named s t name (x, at, is) = slice_get_within s.types t x at
 
 pub keyword-taken : (s : Schema) (t u : ℕ) (word bytes rest old new : List ℕ) → rest ≡ drop (length word) bytes → Transcribes bytes (length word) (token.keyword word) old new → Offers s t (type_member u) → TypeNamed s u word → TakesKeyword s t u bytes rest old new
 keyword-taken s t u word bytes rest old new e h offers named = record {

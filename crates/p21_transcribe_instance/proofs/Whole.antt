@@ -1,11 +1,8 @@
 -- An instance whose simple records are those of a set of external mapping means something, and has a canonical text.
-use Rattle.std.proofs.Common.{◌≡◌, ◌∙◌, ℕ, zero, suc, ◌+◌, ◌<◌, false, List, [], ◌∷◌, ◌++◌, length, map, Contains, refl, ap, sym, subst, arith, append_assoc}
+use Rattle.std.proofs.Common.{◌≡◌, ◌∙◌, ℕ, ◌+◌, ◌<◌, List, [], ◌∷◌, ◌++◌, length, map, Contains, refl, ap, sym, subst, arith, append_assoc}
 use Rattle.std.proofs.lemmas.List.{length-map, map-append}
-use Rattle.std.specs.Cmp.Lexicographic.{slice_cmp}
 use Rattle.std.specs.List.{AllByRecursion as Each, AllZip, flat_map}
-use Rattle.std.specs.List.Sorted.{IsStrictlySortedBy}
-use Rattle.std.specs.Ordering.{is_lt, nat_cmp}
-use Rattle.std.specs.Prelude.{codes, slice_index_or}
+use Rattle.std.specs.Prelude.{codes}
 use Rattle.p21_basics.proofs.Members.{Each-append, Each-apart, Each-back, Each-front}
 use Rattle.p21_basics.proofs.Shuffles.{distinct-none_twice}
 use Rattle.p21_claim_values.proofs.CanonicalLaid.{statement_laid}
@@ -13,9 +10,10 @@ use Rattle.p21_claim_values.proofs.Needs.{AreServed, needs-can_be_served, served
 use Rattle.p21_claim_values.proofs.ParamTexts.{list-is, tokens_text-append}
 use Rattle.p21_claim_values.proofs.Printing.{canonical-same_typed, canonical_typed, means-with, part-plain, part-said}
 use Rattle.p21_claim_values.proofs.RecordOnce.{part-written, words}
-use Rattle.p21_claim_values.proofs.Sorting.{below-not_back}
 use Rattle.p21_claim_values.specs.Needs.{FitPlacesWithNeeds, MeansWithNeeds, AreNeedsOfParts}
-use Rattle.p21_claim_values.specs.Written.{IsSpelled, IsWrittenStatement}
+use Rattle.p21_claim_values.specs.Written.{IsWrittenStatement}
+use Rattle.p21_exchange.specs.Token.{IsSpelled, Token}
+use Rattle.p21_claim_values.proofs.Rising.{strict-rises}
 use Rattle.p21_exchange.specs.CanonicalText.{statement_text, tokens_text}
 use Rattle.p21_exchange.specs.Grammar.{IsDataRecord, IsNoUserKeyword, IsShallowPart}
 use Rattle.p21_exchange.specs.Laying.{Laid}
@@ -24,14 +22,12 @@ use Rattle.p21_exchange.specs.Record.{Part, complex, part_tokens, record_tokens}
 use Rattle.p21_exchange.specs.Spelling.{name_spelling}
 use Rattle.p21_exchange.specs.Statement.{instance, statement_tokens}
 use Rattle.p21_exchange.specs.Token as token
-use Rattle.p21_exchange.specs.Token.{Token}
 use Rattle.p21_files.proofs.OneMeaning.{EntityNamed-one}
 use Rattle.p21_files.proofs.SameFiles.{SameTyped-symmetric}
 use Rattle.p21_files.specs.CanonicalRecord.{AreCanonicalAt, AreTextsRising, HasOneLeaf, IsCanonicalPart}
 use Rattle.p21_files.specs.CanonicalTexts.{IsInstanceText}
 use Rattle.p21_files.specs.Meaning.{FitPlaces, HasValueAt, MeansExternal, PartMeans, RecordMeans, Typed}
 use Rattle.p21_files.specs.Reference.{IsServed, EntitySets, Need}
-use Rattle.p21_files.specs.Sorting.{is_below}
 use Rattle.p21_files.specs.ValueText.{with_commas_between}
 use Rattle.p21_mapping_values.specs.declared.need.Need as code
 use Rattle.p21_schemas.specs.Order.{own_places}
@@ -132,17 +128,6 @@ words-are s entities [] (n ∷ names) each named = absurd named
 words-are s entities (o ∷ os) [] each named = absurd named
 words-are s entities (o ∷ os) (n ∷ names) each named =
     ap (λ (w : List ℕ). w ∷ words (canonical_parts s os)) (EntityNamed-one s o.owner o.word n each.0.named named.0) ∙ ap (λ (ws : List (List ℕ)). n ∷ ws) (words-are s entities os names each.1 named.1)
-
--- keywords that rise are in order
-strict-rises : (xs : List (List ℕ)) → IsStrictlySortedBy (slice_cmp nat_cmp) xs → AreTextsRising xs
-unfolding IsStrictlySortedBy
-strict-rises [] rise k d low high = absurd (omega (arith, high))
-strict-rises (x ∷ []) rise k d low high = absurd (omega (arith, high))
-strict-rises (x ∷ y ∷ ys) rise zero d low high = below-not_back x y (ap is_lt rise.0.0)
-strict-rises (x ∷ y ∷ ys) rise (suc k) d low high =
-    let P : ℕ → Type 0 = λ n. is_below (slice_index_or (x ∷ y ∷ ys) n d) (slice_index_or (x ∷ y ∷ ys) (suc k) d) ≡ false in
-    let next : suc (k + 1) ≡ suc k + 1 = omega arith in
-    subst P next (strict-rises (y ∷ ys) rise.1 k d (omega arith) (omega (arith, high)))
 
 -- ---- texts
 

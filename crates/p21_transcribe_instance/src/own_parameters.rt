@@ -21,6 +21,13 @@ use p21_express_types::{EntityId, Place};
 use p21_mapping_values::Need;
 use p21_transcribe::{Draft, behind_separators};
 
+/// An entity, and how many attributes it declares itself.
+#[derive(Clone, Copy)]
+struct Owner {
+    entity: EntityId,
+    count: u32,
+}
+
 /// Appends the values at the front, at the attributes that an entity of a set declares itself, with a comma between each two,
 /// and adds their references: what stands behind them.
 #[inline(always)]
@@ -53,31 +60,34 @@ pub(crate) fn append_own_parameters<'a>(
         draft,
         needs,
     )?;
-    append_further_parameters(schema, set, owner, count, rest, draft, needs)
+    let owner = Owner {
+        entity: owner,
+        count,
+    };
+    append_further_parameters(schema, set, owner, rest, draft, needs)
 }
 
 /// The same from the second attribute on, with a comma before each.
 fn append_further_parameters<'a>(
     schema: &Schema,
     set: &[EntityId],
-    owner: EntityId,
-    count: u32,
+    owner: Owner,
     bytes: &'a [u8],
     draft: &mut Draft,
     needs: &mut Vec<Need>,
 ) -> Option<&'a [u8]>
     requires set { AreEntities schema.now (numbers set.now) }
-    requires count { count ≡ length (attributes_of schema.now owner.0) }
-    requires some { 1 ≤ count }
-    ensures some { IfSome result (λ rest. TakesPlaces schema.now (numbers set.now) more_tokens with_commas (places_from owner.0 1 (count - 1)) bytes.now rest.now draft.old draft.new needs.old.items needs.new.items) }
+    requires count { owner.count ≡ length (attributes_of schema.now owner.entity.0) }
+    requires some { 1 ≤ owner.count }
+    ensures some { IfSome result (λ rest. TakesPlaces schema.now (numbers set.now) more_tokens with_commas (places_from owner.entity.0 1 (owner.count - 1)) bytes.now rest.now draft.old draft.new needs.old.items needs.new.items) }
     ensures draft { IfNone result (Continues draft.old draft.new) }
     ensures needs { IfNone result (KeepsNeeds needs.old.items needs.new.items) }
 {
     let mut rest = bytes;
-    for index in 1..count {
+    for index in 1..owner.count {
         let behind = append_delimiter(b',', rest, draft)?;
         let place = Place {
-            entity: owner,
+            entity: owner.entity,
             index,
         };
         rest = append_parameter_at(schema, set, place, behind, draft, needs)?;

@@ -28,6 +28,24 @@ use p21_transcribe::{Draft, behind_separators};
 /// How deep lists and typed parameters stand one in another at most, as in the grammar.
 const NESTING: usize = 64;
 
+/// What may stand at an attribute, or at a place of an aggregate: a value of a type that comes down to this, or `$` where it is
+/// OPTIONAL. Lists and typed parameters stand at most so deep in it.
+#[derive(Clone, Copy)]
+struct Stored<'a> {
+    schema: &'a Schema,
+    optional: bool,
+    base: &'a Base<'a>,
+    most: usize,
+}
+
+/// An aggregate: its type, whether places may be empty, and the type of its elements.
+#[derive(Clone, Copy)]
+struct Aggregate<'a> {
+    of: &'a TypeUse,
+    optional: bool,
+    element: &'a TypeUse,
+}
+
 /// Appends the canonical text of the value at the front, by what may stand at its attribute, and adds its references, in the
 /// order in which they are named: what stands behind the value. None where it isn't taken this way; then the text and the
 /// references go on from those before.
@@ -48,7 +66,13 @@ pub(crate) fn append_value<'a>(
         Step::Derived => append_delimiter(b'*', bytes, draft),
         Step::Stored(optional, of) => {
             let base = base_of(schema, of);
-            append_stored(schema, *optional, &base, NESTING, bytes, draft, needs)
+            let at = Stored {
+                schema,
+                optional: *optional,
+                base: &base,
+                most: NESTING,
+            };
+            append_stored(&at, bytes, draft, needs)
         }
     }
 }
@@ -70,33 +94,35 @@ pub(crate) fn append_placed<'a>(
         PlaceType::Derived => append_delimiter(b'*', bytes, draft),
         PlaceType::Stored(optional, of) => {
             let base = base_of(schema, of);
-            append_stored(schema, optional, &base, NESTING, bytes, draft, needs)
+            let at = Stored {
+                schema,
+                optional,
+                base: &base,
+                most: NESTING,
+            };
+            append_stored(&at, bytes, draft, needs)
         }
         PlaceType::Two => None,
     }
 }
 
-/// A value of a type that comes down to this, or `$` where it is OPTIONAL. Lists and typed parameters stand at most so deep
-/// in it.
+/// A value, or `$` where there may be none.
 #[inline(always)]
 #[cycle(append)]
 fn append_stored<'a>(
-    schema: &Schema,
-    optional: bool,
-    base: &Base<'_>,
-    most: usize,
+    at: &Stored<'_>,
     bytes: &'a [u8],
     draft: &mut Draft,
     needs: &mut Vec<Need>,
 ) -> Option<&'a [u8]>
-    requires { IsBaseInSchema schema.now base.now }
-    ensures some { IfSome result (λ rest. (type : MeantType) → HasBase schema.now type base.now → TakesWithNeeds schema.now (FitsAtWithNeeds schema.now (stored_place optional type)) most bytes.now rest.now draft.old draft.new needs.old.items needs.new.items) }
+    requires { IsBaseInSchema at.now.schema.now at.now.base.now }
+    ensures some { IfSome result (λ rest. (type : MeantType) → HasBase at.now.schema.now type at.now.base.now → TakesWithNeeds at.now.schema.now (FitsAtWithNeeds at.now.schema.now (stored_place at.now.optional type)) at.now.most bytes.now rest.now draft.old draft.new needs.old.items needs.new.items) }
     ensures draft { IfNone result (Continues draft.old draft.new) }
     ensures needs { IfNone result (KeepsNeeds needs.old.items needs.new.items) }
 {
-    match append_left_out(optional, bytes, draft) {
+    match append_left_out(at.optional, bytes, draft) {
         Some(rest) => Some(rest),
-        None => append_present(schema, base, most, bytes, draft, needs),
+        None => append_present(at.schema, at.base, at.most, bytes, draft, needs),
     }
 }
 
@@ -221,9 +247,14 @@ fn append_undeclared<'a>(
     ensures needs { IfNone result (KeepsNeeds needs.old.items needs.new.items) }
 {
     match element_of(of) {
-        Some((optional, element)) => append_aggregate(
-            schema, of, optional, element, most, bytes, draft, needs,
-        ),
+        Some((optional, element)) => {
+            let aggregate = Aggregate {
+                of,
+                optional,
+                element,
+            };
+            append_aggregate(schema, &aggregate, most, bytes, draft, needs)
+        }
         None => append_plain(of, bytes, draft, needs),
     }
 }
@@ -233,17 +264,15 @@ fn append_undeclared<'a>(
 #[cycle(append)]
 fn append_aggregate<'a>(
     schema: &Schema,
-    of: &TypeUse,
-    optional: bool,
-    element: &TypeUse,
+    aggregate: &Aggregate<'_>,
     most: usize,
     bytes: &'a [u8],
     draft: &mut Draft,
     needs: &mut Vec<Need>,
 ) -> Option<&'a [u8]>
-    requires known { HoldsTogether schema.now → IsTypeUse schema.now (type_use of.now) }
-    requires elements { IsAggregateOf (type_use of.now) optional (type_use element.now) }
-    ensures some { IfSome result (λ rest. TakesWithNeeds schema.now (FitsWithNeeds schema.now (type_use of.now)) most bytes.now rest.now draft.old draft.new needs.old.items needs.new.items) }
+    requires known { HoldsTogether schema.now → IsTypeUse schema.now (type_use aggregate.now.of.now) }
+    requires elements { IsAggregateOf (type_use aggregate.now.of.now) aggregate.now.optional (type_use aggregate.now.element.now) }
+    ensures some { IfSome result (λ rest. TakesWithNeeds schema.now (FitsWithNeeds schema.now (type_use aggregate.now.of.now)) most bytes.now rest.now draft.old draft.new needs.old.items needs.new.items) }
     ensures draft { IfNone result (Continues draft.old draft.new) }
     ensures needs { IfNone result (KeepsNeeds needs.old.items needs.new.items) }
 {
@@ -251,51 +280,42 @@ fn append_aggregate<'a>(
         return None;
     }
     schema.holds_together();
-    let base = base_of(schema, element);
+    let base = base_of(schema, aggregate.element);
     let mut lengths = Vec::new(*needs.allocator());
-    append_counted(
+    let at = Stored {
         schema,
-        of,
-        optional,
-        &base,
-        most - 1,
-        bytes,
-        draft,
-        needs,
-        &mut lengths,
-    )
+        optional: aggregate.optional,
+        base: &base,
+        most: most - 1,
+    };
+    append_counted(&at, aggregate.of, bytes, draft, needs, &mut lengths)
 }
 
-/// An aggregate whose elements come down to this, in parentheses. How long its elements are is kept where they are compared.
+/// An aggregate with this at its places, in parentheses. How long its elements are is kept where they are compared.
 #[inline(always)]
 #[cycle(append)]
 fn append_counted<'a>(
-    schema: &Schema,
+    at: &Stored<'_>,
     of: &TypeUse,
-    optional: bool,
-    base: &Base<'_>,
-    most: usize,
     bytes: &'a [u8],
     draft: &mut Draft,
     needs: &mut Vec<Need>,
     lengths: &mut Vec<usize>,
 ) -> Option<&'a [u8]>
-    requires base { IsBaseInSchema schema.now base.now }
+    requires base { IsBaseInSchema at.now.schema.now at.now.base.now }
     requires empty { lengths.old.items ≡ [] }
-    ensures some { IfSome result (λ rest. (element : MeantType) → IsAggregateOf (type_use of.now) optional element → HasBase schema.now element base.now → TakesWithNeeds schema.now (FitsWithNeeds schema.now (type_use of.now)) (most + 1) bytes.now rest.now draft.old draft.new needs.old.items needs.new.items) }
+    ensures some { IfSome result (λ rest. (element : MeantType) → IsAggregateOf (type_use of.now) at.now.optional element → HasBase at.now.schema.now element at.now.base.now → TakesWithNeeds at.now.schema.now (FitsWithNeeds at.now.schema.now (type_use of.now)) (at.now.most + 1) bytes.now rest.now draft.old draft.new needs.old.items needs.new.items) }
     ensures draft { IfNone result (Continues draft.old draft.new) }
     ensures needs { IfNone result (KeepsNeeds needs.old.items needs.new.items) }
 {
     let start = draft.len();
     let compared = are_compared(of);
     let inside = append_delimiter(b'(', bytes, draft)?;
-    let (count, behind) = append_each(
-        schema, optional, base, most, compared, inside, draft, needs, lengths,
-    )?;
+    let (count, behind) = append_each(at, compared, inside, draft, needs, lengths)?;
     if !allows_count(of, count) {
         return None;
     }
-    schema.well_formed();
+    at.schema.well_formed();
     append_close(of, start, lengths, behind, draft)
 }
 
@@ -304,18 +324,15 @@ fn append_counted<'a>(
 #[inline(always)]
 #[cycle(append)]
 fn append_each<'a>(
-    schema: &Schema,
-    optional: bool,
-    base: &Base<'_>,
-    most: usize,
+    at: &Stored<'_>,
     compared: bool,
     bytes: &'a [u8],
     draft: &mut Draft,
     needs: &mut Vec<Need>,
     lengths: &mut Vec<usize>,
 ) -> Option<(usize, &'a [u8])>
-    requires { IsBaseInSchema schema.now base.now }
-    ensures some { IfSome result (λ found. (element : MeantType) → HasBase schema.now element base.now → TakesElements schema.now optional element compared most found.0 bytes.now found.1.now draft.old draft.new lengths.old.items lengths.new.items needs.old.items needs.new.items) }
+    requires { IsBaseInSchema at.now.schema.now at.now.base.now }
+    ensures some { IfSome result (λ found. (element : MeantType) → HasBase at.now.schema.now element at.now.base.now → TakesElements at.now.schema.now at.now.optional element compared at.now.most found.0 bytes.now found.1.now draft.old draft.new lengths.old.items lengths.new.items needs.old.items needs.new.items) }
     ensures draft { IfNone result (Continues draft.old draft.new) }
     ensures needs { IfNone result (KeepsNeeds needs.old.items needs.new.items) }
 {
@@ -323,15 +340,11 @@ fn append_each<'a>(
     if let Some(b')') = first.first() {
         return Some((0, bytes));
     }
-    let mut behind = append_element(
-        schema, optional, base, most, compared, first, draft, needs, lengths,
-    )?;
+    let mut behind = append_element(at, compared, first, draft, needs, lengths)?;
     let mut count = 1;
     while let Some(next) = append_next_delimiter(b',', behind, draft) {
         let inside = behind_separators(next);
-        behind = append_element(
-            schema, optional, base, most, compared, inside, draft, needs, lengths,
-        )?;
+        behind = append_element(at, compared, inside, draft, needs, lengths)?;
         count += 1;
     }
     Some((count, behind))
@@ -341,24 +354,21 @@ fn append_each<'a>(
 #[inline(always)]
 #[cycle(append)]
 fn append_element<'a>(
-    schema: &Schema,
-    optional: bool,
-    base: &Base<'_>,
-    most: usize,
+    at: &Stored<'_>,
     compared: bool,
     bytes: &'a [u8],
     draft: &mut Draft,
     needs: &mut Vec<Need>,
     lengths: &mut Vec<usize>,
 ) -> Option<&'a [u8]>
-    requires { IsBaseInSchema schema.now base.now }
-    ensures some { IfSome result (λ rest. (element : MeantType) → HasBase schema.now element base.now → TakesWithNeeds schema.now (FitsAtWithNeeds schema.now (stored_place optional element)) most bytes.now rest.now draft.old draft.new needs.old.items needs.new.items) }
+    requires { IsBaseInSchema at.now.schema.now at.now.base.now }
+    ensures some { IfSome result (λ rest. (element : MeantType) → HasBase at.now.schema.now element at.now.base.now → TakesWithNeeds at.now.schema.now (FitsAtWithNeeds at.now.schema.now (stored_place at.now.optional element)) at.now.most bytes.now rest.now draft.old draft.new needs.old.items needs.new.items) }
     ensures lengths { IfSome result (λ rest. AddsLength compared (length draft.old) (length draft.new) lengths.old.items lengths.new.items) }
     ensures draft { IfNone result (Continues draft.old draft.new) }
     ensures needs { IfNone result (KeepsNeeds needs.old.items needs.new.items) }
 {
     let before = draft.len();
-    let rest = append_stored(schema, optional, base, most, bytes, draft, needs)?;
+    let rest = append_stored(at, bytes, draft, needs)?;
     if !add_length(compared, before, draft.len(), lengths) {
         return None;
     }

@@ -9,3 +9,4 @@ pub mod StoredDecimals
 pub mod StoredWholes
 pub mod Added
 pub mod ByteStorageLemmas
+pub mod Continuing

@@ -20,7 +20,7 @@ front_empty w [] f g empty whole fraction =
       same = fraction.same ∙ sym (number_append w f ∙ (omega (arith, ap (λ (n : ℕ). n * 10 ^ length f) none, zero-mul (10 ^ length f))));
     }
 
-first_kept : (v f : List ℕ) → 0 < length v → HasNoLeadingZero v → HasNoLeadingZero (v ++ f)
+pub first_kept : (v f : List ℕ) → 0 < length v → HasNoLeadingZero v → HasNoLeadingZero (v ++ f)
 first_kept [] f some first = absurd (omega arith)
 first_kept (d ∷ v) f some first = first
 

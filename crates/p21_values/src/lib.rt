@@ -22,6 +22,6 @@ pub use fault::{NoMemory, ValueFault};
 pub use limits::Limits;
 pub use name::Name;
 pub use prefix::{Number, read_number};
-pub use text::Text;
+pub use text::{Text, long_directive, short_directive};
 pub use whole::Whole;
 pub use word::Word;

@@ -174,14 +174,14 @@ fn append_character(character: char, out: &mut Vec<u8>) -> Result<(), NoMemory>
     match character {
         '\'' | '\\' => out.extend_from_slice(&[code as u8, code as u8])?,
         ' '..='~' => out.push(code as u8)?,
-        '\0'..='\u{FFFF}' => out.extend_from_slice(&extended2(code))?,
-        _ => out.extend_from_slice(&extended4(code))?,
+        '\0'..='\u{FFFF}' => out.extend_from_slice(&short_directive(code))?,
+        _ => out.extend_from_slice(&long_directive(code))?,
     }
     Ok(())
 }
 
-/// The directive of a character with four hex digits.
-fn extended2(code: u32) -> [u8; 12]
+/// The directive of a character with four hex digits (ISO 10303-21, tokens: string). It takes no memory.
+pub fn short_directive(code: u32) -> [u8; 12]
     ensures { result ≡ 92 ∷ 88 ∷ 50 ∷ 92 ∷ (hex_digits 4 code ++ end_extended) }
 {
     [
@@ -200,8 +200,8 @@ fn extended2(code: u32) -> [u8; 12]
     ]
 }
 
-/// The directive of a character with eight hex digits.
-fn extended4(code: u32) -> [u8; 16]
+/// The directive of a character with eight hex digits (ISO 10303-21, tokens: string). It takes no memory.
+pub fn long_directive(code: u32) -> [u8; 16]
     ensures { result ≡ 92 ∷ 88 ∷ 52 ∷ 92 ∷ (hex_digits 8 code ++ end_extended) }
 {
     [

@@ -1,7 +1,8 @@
-use Rattle.p21_canon.proofs.FoundRows.{continues-behind, continues-same, on_err, still-next, value-next}
+use Rattle.p21_canon.proofs.FoundRows.{continues-behind, on_err, still-next, value-next}
 use Rattle.p21_mapping_values.proofs.Elements.{known_at}
 use Rattle.p21_mapping_values.proofs.Spelled.{spelled-more}
 use Rattle.p21_canon.proofs.parts.append_values.Goals as goal
+use Rattle.p21_values.proofs.Continuing.{continues-same}
 
 pub write_value-requires : goal.write_value-requires
 write_value-requires c = known_at _ _ _ _ c.value-item.is c.loop-value-test.true c.requires

@@ -1,5 +1,5 @@
 use Rattle.std.proofs.Common.{List, subst, sym}
-use Rattle.p21_canon.proofs.FoundRows.{continues-behind, continues-same, meant-closed, meant-rows, on_err, on_err_more}
+use Rattle.p21_canon.proofs.FoundRows.{continues-behind, meant-closed, meant-rows, on_err, on_err_more}
 use Rattle.p21_canon.proofs.Statements.{external-appends, internal-appends}
 use Rattle.p21_canon.specs.StatementTexts.{IsClosedSet, IsClosureOf}
 use Rattle.p21_express_graph.specs.Lookups.{AreEntities}
@@ -8,6 +8,7 @@ use Rattle.p21_express_types.specs.declared.number.EntityId.{EntityId}
 use Rattle.p21_files.specs.CanonicalRecord.{HasOneLeaf}
 use Rattle.p21_mapping_values.specs.TypedView.{typed_view}
 use Rattle.p21_canon.proofs.statement.append_statement.Goals as goal
+use Rattle.p21_values.proofs.Continuing.{continues-same}
 
 pub returns-in_err-write_canonical-clause-err : goal.returns-in_err-write_canonical-clause-err
 returns-in_err-write_canonical-clause-err c = on_err _ _ (continues-same _ _ c.in_err-write_canonical.ensures.err)

@@ -1,4 +1,4 @@
-use Rattle.std.specs.Prelude.{List, map, length, refl}
+use Rattle.std.specs.Prelude.{List, map, refl}
 use Rattle.std.proofs.Common.{arith, ap, sym, ◌∙◌}
 use Rattle.p21_schemas.specs.Schema.{Schema, Entity}
 use Rattle.p21_express_graph.specs.SchemaContents.{entity, schema_of}

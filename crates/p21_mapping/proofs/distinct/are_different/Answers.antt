@@ -1,4 +1,4 @@
-use Rattle.std.proofs.Common.{◌∙◌, rules}
+use Rattle.std.proofs.Common.{◌∙◌}
 use Rattle.std.proofs.lemmas.Result.{IfOk-weaker}
 use Rattle.p21_mapping_values.proofs.Elements.{fits_bytes, known_at}
 use Rattle.p21_mapping.proofs.Differing.{bytes-more, differ-by_texts, lengths-more}

@@ -5,4 +5,4 @@ use Rattle.p21_mapping.proofs.Here.{here}
 use Rattle.p21_mapping.proofs.fitted.fit_here.Goals as goal
 
 pub returns : goal.returns
-returns c = here c.args.schema.now (numbers c.args.entities.now) (place c.args.place) (place_type c.type_here-at.result) (view c.args.param) c.args.needs.now.items c.fit_place-found.new.needs.items c.fit_place-found.result c.type_here-at.ensures c.fit_place-found.ensures
+returns c = here c.args.set.now.schema.now (numbers c.args.set.now.entities.now) (place c.args.place) (place_type c.type_here-at.result) (view c.args.param) c.args.needs.now.items c.fit_place-found.new.needs.items c.fit_place-found.result c.type_here-at.ensures c.fit_place-found.ensures

@@ -10,5 +10,5 @@ use Rattle.p21_schemas.specs.Order.{order}
 
 pub returns-in-Some : goal.returns-in-Some
 returns-in-Some c =
-    let P : Option EntityId → Type 0 = λ own. IsOwnClosure c.args.schema.now own (numbers c.args.entities.now) in
-    type-same c.args.schema.now (order c.args.schema.now c.in-Some.entity.0) (numbers c.args.entities.now) (subst P c.in-Some.is c.requires.own).1 (place c.args.place) (place_type c.own_type.result) c.own_type.ensures
+    let P : Option EntityId → Type 0 = λ own. IsOwnClosure c.args.set.now.schema.now own (numbers c.args.set.now.entities.now) in
+    type-same c.args.set.now.schema.now (order c.args.set.now.schema.now c.in-Some.entity.0) (numbers c.args.set.now.entities.now) (subst P c.in-Some.is c.requires.own).1 (place c.args.place) (place_type c.own_type.result) c.own_type.ensures

@@ -1,4 +1,4 @@
-use Rattle.std.proofs.Common.{rules, []}
+use Rattle.std.proofs.Common.{[]}
 use Rattle.p21_mapping.proofs.Choosing.{name_at, name_refused}
 use Rattle.p21_mapping.proofs.instance.fit_name.Goals as goal
 

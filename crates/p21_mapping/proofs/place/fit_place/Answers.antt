@@ -1,4 +1,4 @@
-use Rattle.std.proofs.Common.{sym, subst, rules, Ok, Err}
+use Rattle.std.proofs.Common.{sym, subst, rules, Ok}
 use Rattle.p21_express_types.specs.Meaning.{place_type, type_use}
 use Rattle.p21_files.specs.BrokenValue.{BreaksAtPlace, derived_not_star}
 use Rattle.p21_grammar_tree.specs.View.{view}

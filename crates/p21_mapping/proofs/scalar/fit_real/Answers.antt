@@ -1,4 +1,3 @@
-use Rattle.std.proofs.Common.{rules}
 use Rattle.p21_exchange.specs.Parameter as parameter
 use Rattle.p21_mapping.proofs.Outcomes.{at_declared, at_other}
 use Rattle.p21_mapping.proofs.Scalars.{number_at, real_at}

@@ -1,5 +1,3 @@
-use Rattle.std.proofs.Common.{◌≡◌, sym, subst, rules}
-use Rattle.p21_exchange.specs.Parameter as parameter
 use Rattle.p21_mapping.proofs.Outcomes.{refuses-plain, refuses-select}
 use Rattle.p21_mapping.proofs.Scalars.{decides-boolean, decides-items, decides-logical}
 use Rattle.p21_mapping.proofs.BaseKinds.{item-nowhere}

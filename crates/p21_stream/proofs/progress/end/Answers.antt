@@ -2,18 +2,18 @@ use Rattle.std.proofs.Common.{ℕ, Option, subst, sym}
 use Rattle.p21_stream_kept.specs.Source.{IsOfBytes}
 use Rattle.p21_stream_kept.specs.declared.fault.Fault.{Fault}
 use Rattle.p21_stream_kept.specs.Served.{AnswersUnserved}
-use Rattle.p21_stream.proofs.Ending.{end-accepted, front-refused, reference-of_bytes, reference-refused, whole-kept}
+use Rattle.p21_stream.proofs.Ending.{end-accepted, statements-refused, reference-of_bytes, reference-refused, whole-kept}
 use Rattle.p21_stream.proofs.progress.end.Goals as goal
 
 pub returns-in-Err-clause-gives : goal.returns-in-Err-clause-gives
-returns-in-Err-clause-gives c = front-refused c.args.schema.now c.args.front c.args.kept c.in-Err.fault c.refused.result c.refused.ensures c.in-Err.ensures.gives
+returns-in-Err-clause-gives c = statements-refused c.args.schema.now c.args.statements c.args.kept c.in-Err.fault c.refused.result c.refused.ensures c.in-Err.ensures.gives
 
 pub returns-in-Err-clause-kind : goal.returns-in-Err-clause-kind
 returns-in-Err-clause-kind c = subst IsOfBytes (sym c.refused.ensures) c.in-Err.ensures.kind
 
 pub returns-in-Some-clause-gives : goal.returns-in-Some-clause-gives
 returns-in-Some-clause-gives c =
-    reference-refused c.args.schema.now c.well_formed-2.ensures c.args.front c.args.kept c.unserved.result c.in-Ok.ensures.gives c.in-Some.found.0 c.in-Some.found.1
+    reference-refused c.args.schema.now c.well_formed-2.ensures c.args.statements c.args.kept c.unserved.result c.in-Ok.ensures.gives c.in-Some.found.0 c.in-Some.found.1
     (subst (λ (o : Option (ℕ × Fault)). AnswersUnserved c.args.schema.now c.args.kept.stored c.args.kept.waiting o) c.in-Some.is c.first_unserved.ensures)
 
 pub returns-in-Some-clause-kind : goal.returns-in-Some-clause-kind
@@ -23,7 +23,7 @@ returns-in-Some-clause-kind c =
     (subst (λ (o : Option (ℕ × Fault)). AnswersUnserved c.args.schema.now c.args.kept.stored c.args.kept.waiting o) c.in-Some.is c.first_unserved.ensures))
 
 pub into_accepted-requires : goal.into_accepted-requires
-into_accepted-requires c = whole-kept c.args.schema.now c.args.front c.args.kept c.in-Ok.ensures.gives c.requires
+into_accepted-requires c = whole-kept c.args.schema.now c.args.statements c.args.kept c.in-Ok.ensures.gives c.requires
 
 pub returns-clause-gives : goal.returns-clause-gives
-returns-clause-gives c = end-accepted c.args.schema.now c.well_formed-2.ensures c.args.front c.args.kept c.in-Ok-into_accepted.accepted c.in-Ok.ensures.gives (c.in_default.ensures {u = tt}) (c.in-Ok-into_accepted.ensures {u = tt})
+returns-clause-gives c = end-accepted c.args.schema.now c.well_formed-2.ensures c.args.statements c.args.kept c.in-Ok-into_accepted.accepted c.in-Ok.ensures.gives (c.in_default.ensures {u = tt}) (c.in-Ok-into_accepted.ensures {u = tt})

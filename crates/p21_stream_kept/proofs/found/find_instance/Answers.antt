@@ -14,4 +14,4 @@ returns-in-Err-clause-kind c = subst IsOfBytes (sym c.from.ensures) (check-of_by
 pub returns-clause-finds : goal.returns-clause-finds
 returns-clause-finds c =
     let P : List ℕ → Type 0 = λ old. AppendsStatement c.args.schema.now c.args.name (typed_view c.in-Ok.checked.0) old c.write_record.new.out.items in
-    found c.args.schema.now c.args.name (record_view c.args.of) (typed_view c.in-Ok.checked.0) (needs_view c.in-Ok.checked.1.items) c.in-Ok.ensures c.write_record.new.out.items (subst P c.in-Ok-empty_line.ensures c.in-Ok-write_record.ensures.ok)
+    found c.args.schema.now c.args.name (record_view c.args.of) (typed_view c.in-Ok.checked.0) (needs_view c.in-Ok.checked.1.items) c.in-Ok.ensures c.write_record.new.out.items (subst P c.clear.ensures.items c.in-Ok-write_record.ensures.ok)

@@ -4,4 +4,4 @@ use Rattle.p21_stream_kept.proofs.stored.store.Goals as goal
 
 pub returns-clause-ok : goal.returns-clause-ok
 returns-clause-ok c =
-    stored-pushed c.args.memberships.now c.add.new.self (membership_of c.args.section c.args.entities.now) c.in-Ok.membership c.in-Ok.ensures.ok c.args.instances.now c.push.new.self c.requires.memberships c.args.name c.name.inside.0 c.name.view_is c.args.line.now c.push.result c.push.ensures.ok
+    stored-pushed c.args.memberships.now c.add.new.self (membership_of c.args.section c.args.found.now.entities.now) c.in-Ok.membership c.in-Ok.ensures.ok c.args.instances.now c.push.new.self c.requires.memberships c.args.found.now.name c.name.inside.0 c.name.view_is c.args.found.now.line.now c.push.result c.push.ensures.ok

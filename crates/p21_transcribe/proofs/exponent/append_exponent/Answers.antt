@@ -3,15 +3,16 @@ use Rattle.std.proofs.lemmas.Int.{ints}
 use mir.Syntax.{w32}
 use Rattle.p21_exchange.specs.Spelling.{exponent_spelling}
 use Rattle.p21_transcribe.proofs.ExponentSpellings.{one_digit, two_digits}
-use Rattle.p21_transcribe.proofs.Parts.{goes-on, part_behind, stays, stays-behind}
+use Rattle.p21_transcribe.proofs.Parts.{goes-on, part_behind, stays-behind}
 use Rattle.p21_transcribe.proofs.exponent.append_exponent.Goals as goal
+use Rattle.p21_values.proofs.Continuing.{continues-same}
 
 pub returns-then-not-put : goal.returns-then-not-put
-returns-then-not-put c = stays c.args.draft.now _ (c.if-not-put.ensures {u = tt})
+returns-then-not-put c = continues-same c.args.draft.now _ (c.if-not-put.ensures {u = tt})
 
 pub returns-then-not-append_minus : goal.returns-then-not-append_minus
 returns-then-not-append_minus c =
-    let mark = goes-on c.args.draft.now c.args.draft.now _ _ (stays c.args.draft.now c.args.draft.now refl) (c.if-not-put.ensures {u = tt}) in
+    let mark = goes-on c.args.draft.now c.args.draft.now _ _ (continues-same c.args.draft.now c.args.draft.now refl) (c.if-not-put.ensures {u = tt}) in
     stays-behind c.args.draft.now _ _ mark (c.if-not-append_minus.ensures {u = tt})
 
 pub returns-then-value-lt10 : goal.returns-then-value-lt10
@@ -31,7 +32,7 @@ returns-then-value-lt10 c =
 
 pub returns-then-not-put-2 : goal.returns-then-not-put-2
 returns-then-not-put-2 c =
-    let mark = goes-on c.args.draft.now c.args.draft.now _ _ (stays c.args.draft.now c.args.draft.now refl) (c.if-not-put.ensures {u = tt}) in
+    let mark = goes-on c.args.draft.now c.args.draft.now _ _ (continues-same c.args.draft.now c.args.draft.now refl) (c.if-not-put.ensures {u = tt}) in
     let minus = goes-on c.args.draft.now _ _ _ mark (c.if-not-append_minus.ensures {u = tt}) in
     stays-behind c.args.draft.now _ _ minus (c.if-not-put-2.ensures {u = tt})
 

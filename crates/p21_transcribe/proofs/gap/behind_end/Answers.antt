@@ -1,6 +1,6 @@
 use Rattle.std.proofs.Common.{◌+◌, arith}
+use Rattle.p21_basics.proofs.Members.{rest_is}
 use Rattle.p21_transcribe.proofs.Gaps.{ends_at, no_end}
-use Rattle.p21_transcribe.proofs.Splits.{rest_is}
 use Rattle.p21_transcribe.proofs.gap.behind_end.Goals as goal
 
 pub returns-then-inside-i-eq47-clause-some : goal.returns-then-inside-i-eq47-clause-some

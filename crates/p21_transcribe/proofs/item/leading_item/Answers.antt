@@ -1,8 +1,8 @@
 use Rattle.std.proofs.Common.{refl, ℕ, ◌+◌, take, ◌∙◌, subst, sym, length-take-le}
+use Rattle.p21_basics.proofs.Members.{rest_is}
 use Rattle.p21_exchange.specs.Token.{item}
 use Rattle.p21_tokens.proofs.LeadingTokens.{keyword-is}
 use Rattle.p21_transcribe.proofs.ItemTokens.{item-between}
-use Rattle.p21_transcribe.proofs.Splits.{rest_is}
 use Rattle.p21_transcribe.specs.LeadingToken.{IsCanonicalLeadingToken}
 use Rattle.p21_transcribe.proofs.item.leading_item.Goals as goal
 

@@ -1,7 +1,7 @@
 use Rattle.std.proofs.Common.{ℕ, List, ap, get_or, refl, subst, sym}
+use Rattle.p21_basics.proofs.Members.{rest_is}
 use Rattle.p21_exchange.specs.Keyword.{IsUpper}
 use Rattle.p21_transcribe.proofs.KeywordTokens.{keyword-at_front}
-use Rattle.p21_transcribe.proofs.Splits.{rest_is}
 use Rattle.p21_transcribe.specs.Runs.{BeginsWithoutByte}
 use Rattle.p21_transcribe.proofs.keyword.leading_keyword.Goals as goal
 

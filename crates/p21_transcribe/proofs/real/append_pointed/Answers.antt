@@ -2,33 +2,34 @@ use Rattle.std.proofs.Common.{◌≡◌, ◌≤◌, ◌-◌, ℕ, List, [], ◌�
 use Rattle.p21_basics.proofs.PlainDigits.{digits_append}
 use Rattle.p21_basics.specs.Digits.{AllDigits}
 use Rattle.p21_values.specs.Digits.{WithoutTrailingZeros}
-use Rattle.p21_transcribe.proofs.Parts.{goes-on, stays, stays-behind}
+use Rattle.p21_values.proofs.Continuing.{continues-same}
+use Rattle.p21_transcribe.proofs.Parts.{goes-on, stays-behind}
 use Rattle.p21_transcribe.proofs.RealTokens.{behind-text, first-digit, first-significant, first-split, further-digits, pointed-part, text-within}
 use Rattle.p21_transcribe.specs.Numbers.{AppendsWithoutExponent}
 use Rattle.p21_transcribe.proofs.real.append_pointed.Goals as goal
 
 pub returns-then-not-append_minus : goal.returns-then-not-append_minus
-returns-then-not-append_minus c = stays c.args.draft.now _ (c.if-not-append_minus.ensures {u = tt})
+returns-then-not-append_minus c = continues-same c.args.draft.now _ (c.if-not-append_minus.ensures {u = tt})
 
 pub returns-then-not-put : goal.returns-then-not-put
-returns-then-not-put c = let sign = goes-on c.args.draft.now c.args.draft.now _ _ (stays c.args.draft.now c.args.draft.now refl) (c.if-not-append_minus.ensures {u = tt}) in stays-behind c.args.draft.now _ _ sign (c.if-not-put.ensures {u = tt})
+returns-then-not-put c = let sign = goes-on c.args.draft.now c.args.draft.now _ _ (continues-same c.args.draft.now c.args.draft.now refl) (c.if-not-append_minus.ensures {u = tt}) in stays-behind c.args.draft.now _ _ sign (c.if-not-put.ensures {u = tt})
 
 pub returns-then-not-put-2 : goal.returns-then-not-put-2
 returns-then-not-put-2 c =
-    let sign = goes-on c.args.draft.now c.args.draft.now _ _ (stays c.args.draft.now c.args.draft.now refl) (c.if-not-append_minus.ensures {u = tt}) in
+    let sign = goes-on c.args.draft.now c.args.draft.now _ _ (continues-same c.args.draft.now c.args.draft.now refl) (c.if-not-append_minus.ensures {u = tt}) in
     let digit = goes-on c.args.draft.now _ _ _ sign (c.if-not-put.ensures {u = tt}) in
     stays-behind c.args.draft.now _ _ digit (c.if-not-put-2.ensures {u = tt})
 
 pub returns-then-not-append_prefix : goal.returns-then-not-append_prefix
 returns-then-not-append_prefix c =
-    let sign = goes-on c.args.draft.now c.args.draft.now _ _ (stays c.args.draft.now c.args.draft.now refl) (c.if-not-append_minus.ensures {u = tt}) in
+    let sign = goes-on c.args.draft.now c.args.draft.now _ _ (continues-same c.args.draft.now c.args.draft.now refl) (c.if-not-append_minus.ensures {u = tt}) in
     let digit = goes-on c.args.draft.now _ _ _ sign (c.if-not-put.ensures {u = tt}) in
     let point = goes-on c.args.draft.now _ _ _ digit (c.if-not-put-2.ensures {u = tt}) in
     stays-behind c.args.draft.now _ _ point (c.if-not-append_prefix.ensures {u = tt})
 
 pub returns-then-not-append_some : goal.returns-then-not-append_some
 returns-then-not-append_some c =
-    let sign = goes-on c.args.draft.now c.args.draft.now _ _ (stays c.args.draft.now c.args.draft.now refl) (c.if-not-append_minus.ensures {u = tt}) in
+    let sign = goes-on c.args.draft.now c.args.draft.now _ _ (continues-same c.args.draft.now c.args.draft.now refl) (c.if-not-append_minus.ensures {u = tt}) in
     let digit = goes-on c.args.draft.now _ _ _ sign (c.if-not-put.ensures {u = tt}) in
     let point = goes-on c.args.draft.now _ _ _ digit (c.if-not-put-2.ensures {u = tt}) in
     let more = goes-on c.args.draft.now _ _ _ point (c.if-not-append_prefix.ensures {u = tt}) in

@@ -2,12 +2,12 @@ use Rattle.std.proofs.Common.{◌≡◌, ℕ, ℤ, pos, List, [], Ok, true, take
 use Rattle.std.proofs.lemmas.Int.{ints}
 use mir.Syntax.{w32}
 use Rattle.p21_basics.specs.Digits.{number}
+use Rattle.p21_basics.proofs.Members.{rest_is}
 use Rattle.p21_exchange.proofs.Forms.{NoDigitFirst}
 use Rattle.p21_exchange.specs.Number.{signed}
 use Rattle.p21_values.proofs.StoredDecimals.{reads_whole}
 use Rattle.p21_values.specs.RealComponents.{digits_ratio}
 use Rattle.p21_transcribe.proofs.RealTokens.{real-at_front, whole_number}
-use Rattle.p21_transcribe.proofs.Splits.{rest_is}
 use Rattle.p21_transcribe.proofs.WholeTokens.{whole-at_front}
 use Rattle.p21_transcribe.specs.Numbers.{AppendsNumber, EndsReal, a_real, a_whole}
 use Rattle.p21_transcribe.proofs.real.append_real.Goals as goal

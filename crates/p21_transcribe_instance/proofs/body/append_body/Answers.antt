@@ -1,6 +1,7 @@
 use Rattle.p21_transcribe.proofs.Found.{none_to, some_to}
-use Rattle.p21_transcribe_instance.proofs.Stepping.{continues-join, enclosed, mark-goes_on, none_from, steps-go_on}
+use Rattle.p21_transcribe_instance.proofs.Stepping.{enclosed, mark-goes_on, none_from, steps-go_on}
 use Rattle.p21_transcribe_instance.proofs.body.append_body.Goals as goal
+use Rattle.p21_values.proofs.Continuing.{continues-join}
 
 pub returns-clause-some : goal.returns-clause-some
 returns-clause-some c = some_to _ (λ rest. enclosed c.args.schema.now c.args.steps.now c.args.bytes.now _ _ rest.now _ _ _ _ _ _ c.in_ok-inside.ensures.some c.in_ok-behind.ensures.some) c.append_end.ensures.some

@@ -1,11 +1,12 @@
 use Rattle.std.proofs.Common.{refl}
 use Rattle.p21_express_graph.specs.Orders.{numbers}
+use Rattle.p21_express_graph.proofs.Lookups.{rising-known}
 use Rattle.p21_transcribe.proofs.Found.{some_to}
-use Rattle.p21_transcribe.proofs.Parts.{stays}
-use Rattle.p21_transcribe_instance.proofs.Joining.{numbered-taken, rising-known, usual-at}
+use Rattle.p21_transcribe_instance.proofs.Joining.{numbered-taken, usual-at}
 use Rattle.p21_transcribe_instance.proofs.Stepping.{none_from}
 use Rattle.p21_transcribe_instance.proofs.Values.{needs-same}
 use Rattle.p21_transcribe_instance.proofs.external.append_by_set.Goals as goal
+use Rattle.p21_values.proofs.Continuing.{continues-same}
 
 pub append_record-requires : goal.append_record-requires
 append_record-requires c =
@@ -18,7 +19,7 @@ returns-clause-some c =
     some_to _ (λ rest. numbered-taken c.args.schema.now c.args.sets.now c.args.at (numbers c.in_ok-set.set.now) c.args.bytes.now rest.now _ _ _ _ c.in_ok-set.ensures usual) c.append_record.ensures.some
 
 pub returns-in_err-set-clause-draft : goal.returns-in_err-set-clause-draft
-returns-in_err-set-clause-draft c = none_from _ (stays _ _ refl)
+returns-in_err-set-clause-draft c = none_from _ (continues-same _ _ refl)
 
 pub returns-in_err-set-clause-needs : goal.returns-in_err-set-clause-needs
 returns-in_err-set-clause-needs c = none_from _ (needs-same _ _ refl)

@@ -1,9 +1,10 @@
 use Rattle.std.proofs.Common.{refl}
 use Rattle.p21_transcribe.proofs.Parts.{stays-behind}
-use Rattle.p21_transcribe_instance.proofs.Stepping.{continues-join, mark-goes_on, none_from, takes-goes_on}
+use Rattle.p21_transcribe_instance.proofs.Stepping.{mark-goes_on, none_from, takes-goes_on}
 use Rattle.p21_transcribe_instance.proofs.Whole.{external-taken}
 use Rattle.p21_transcribe_instance.proofs.Values.{needs-same}
 use Rattle.p21_transcribe_instance.proofs.external.append_external.Goals as goal
+use Rattle.p21_values.proofs.Continuing.{continues-join}
 
 pub returns-clause-some : goal.returns-clause-some
 returns-clause-some c =

@@ -1,5 +1,5 @@
 use Rattle.std.proofs.Common.{length}
-use Rattle.p21_transcribe.proofs.Splits.{rest_is}
+use Rattle.p21_basics.proofs.Members.{rest_is}
 use Rattle.p21_transcribe_instance.proofs.LaidRuns.{entity-taken}
 use Rattle.p21_transcribe_instance.proofs.Stepping.{leaf-goes_on, none_from}
 use Rattle.p21_transcribe_instance.proofs.head.append_entity.Goals as goal

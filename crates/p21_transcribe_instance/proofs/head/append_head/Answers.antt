@@ -1,5 +1,5 @@
+use Rattle.p21_basics.proofs.Members.{rest_is}
 use Rattle.p21_transcribe.proofs.Parts.{stays-behind}
-use Rattle.p21_transcribe.proofs.Splits.{rest_is}
 use Rattle.p21_transcribe_instance.proofs.LaidRuns.{head-taken}
 use Rattle.p21_transcribe_instance.proofs.Stepping.{leaf-goes_on, none_from}
 use Rattle.p21_transcribe_instance.proofs.head.append_head.Goals as goal

@@ -2,11 +2,12 @@ use Rattle.std.proofs.Common.{List, refl, subst, sym}
 use Rattle.p21_express_graph.specs.Orders.{numbers}
 use Rattle.p21_schemas.specs.Order.{order, places}
 use Rattle.p21_transcribe_instance.proofs.Meaning.{entity-is, instance-taken}
-use Rattle.p21_transcribe_instance.proofs.Stepping.{continues-join, entity-goes_on, none_from, row-in, takes-goes_on}
+use Rattle.p21_transcribe_instance.proofs.Stepping.{entity-goes_on, none_from, row-in, takes-goes_on}
 use Rattle.p21_transcribe_instance.specs.Steps.{AreStepsAt}
 use Rattle.p21_transcribe_instance.specs.declared.step.Step.{Step}
 use Rattle.p21_transcribe_instance.proofs.Values.{needs-same}
 use Rattle.p21_transcribe_instance.proofs.instance.append_instance.Goals as goal
+use Rattle.p21_values.proofs.Continuing.{continues-join}
 
 pub is_prepared-requires : goal.is_prepared-requires
 is_prepared-requires c = let (word, named, takes) = c.in_ok-entity.ensures.some in entity-is c.args.schema.now c.in_ok-entity.entity.0 word named

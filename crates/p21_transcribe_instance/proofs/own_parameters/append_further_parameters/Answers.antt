@@ -3,18 +3,19 @@ use Rattle.p21_exchange.specs.Parameter.{more_tokens}
 use Rattle.p21_express_graph.specs.Lookups.{places_from}
 use Rattle.p21_express_graph.specs.Orders.{numbers}
 use Rattle.p21_files.specs.ValueText.{with_commas}
-use Rattle.p21_transcribe.proofs.Parts.{stays, stays-behind}
+use Rattle.p21_transcribe.proofs.Parts.{stays-behind}
 use Rattle.p21_transcribe_instance.proofs.Joining.{at-goes_on, own-next}
-use Rattle.p21_transcribe_instance.proofs.Stepping.{continues-join, mark-goes_on, needs-join, none-places, none_from}
+use Rattle.p21_transcribe_instance.proofs.Stepping.{mark-goes_on, needs-join, none-places, none_from}
 use Rattle.p21_transcribe_instance.specs.TakenParameters.{TakesPlaces}
 use Rattle.p21_transcribe_instance.proofs.Values.{needs-same}
 use Rattle.p21_transcribe_instance.proofs.own_parameters.append_further_parameters.Goals as goal
+use Rattle.p21_values.proofs.Continuing.{continues-same, continues-join}
 
 pub loop-index-init : goal.loop-index-init
 loop-index-init c = record {
   some = omega arith;
-  takes = none-places c.args.schema.now (numbers c.args.set.now) more_tokens with_commas (places_from c.args.owner.0 1 0) c.args.bytes.now c.args.draft.now c.args.needs.now.items refl refl refl;
-  draft = stays _ _ refl;
+  takes = none-places c.args.schema.now (numbers c.args.set.now) more_tokens with_commas (places_from c.args.owner.entity.0 1 0) c.args.bytes.now c.args.draft.now c.args.needs.now.items refl refl refl;
+  draft = continues-same _ _ refl;
   needs = needs-same _ _ refl;
 }
 
@@ -39,12 +40,12 @@ loop-index-preserved c =
     let some = c.loop-index.invariant.some in
     record {
       some = omega (arith, some);
-      takes = own-next c.args.schema.now (numbers c.args.set.now) c.args.owner.0 c.loop-index.index c.args.bytes.now _ _ _ _ _ _ _ _ _ _ some c.loop-index.invariant.takes c.in_ok-behind.ensures.some c.in_ok-rest.ensures.some;
+      takes = own-next c.args.schema.now (numbers c.args.set.now) c.args.owner.entity.0 c.loop-index.index c.args.bytes.now _ _ _ _ _ _ _ _ _ _ some c.loop-index.invariant.takes c.in_ok-behind.ensures.some c.in_ok-rest.ensures.some;
       draft = continues-join _ _ _ c.loop-index.invariant.draft (continues-join _ _ _ (mark-goes_on _ _ _ _ _ c.in_ok-behind.ensures.some) goes_on.0);
       needs = needs-join _ _ _ c.loop-index.invariant.needs goes_on.1;
     }
 
 pub returns-clause-some : goal.returns-clause-some
 returns-clause-some c =
-    let end : c.loop-index.index - 1 ≡ c.args.count - 1 = omega (arith, c.loop-index-test.false, c.loop-index.auto.index-end, c.requires.some) in
-    subst (λ (k : ℕ). TakesPlaces c.args.schema.now (numbers c.args.set.now) more_tokens with_commas (places_from c.args.owner.0 1 k) c.args.bytes.now c.loop-index.rest.now c.args.draft.now c.loop-index.draft c.args.needs.now.items c.loop-index.needs.items) end c.loop-index.invariant.takes
+    let end : c.loop-index.index - 1 ≡ c.args.owner.count - 1 = omega (arith, c.loop-index-test.false, c.loop-index.auto.index-end, c.requires.some) in
+    subst (λ (k : ℕ). TakesPlaces c.args.schema.now (numbers c.args.set.now) more_tokens with_commas (places_from c.args.owner.entity.0 1 k) c.args.bytes.now c.loop-index.rest.now c.args.draft.now c.loop-index.draft c.args.needs.now.items c.loop-index.needs.items) end c.loop-index.invariant.takes

@@ -2,8 +2,9 @@ use Rattle.std.proofs.Common.{arith}
 use Rattle.p21_express_graph.specs.Orders.{numbers}
 use Rattle.p21_transcribe.proofs.Found.{none_to, some_to}
 use Rattle.p21_transcribe_instance.proofs.Joining.{at-goes_on, own-first, own-none}
-use Rattle.p21_transcribe_instance.proofs.Stepping.{continues-join, needs-join}
+use Rattle.p21_transcribe_instance.proofs.Stepping.{needs-join}
 use Rattle.p21_transcribe_instance.proofs.own_parameters.append_own_parameters.Goals as goal
+use Rattle.p21_values.proofs.Continuing.{continues-join}
 
 pub returns-then-count-eq0-clause-some : goal.returns-then-count-eq0-clause-some
 returns-then-count-eq0-clause-some c = own-none c.args.schema.now (numbers c.args.set.now) c.args.owner.0 c.attribute_count-count.result c.args.bytes.now c.args.draft.now c.args.needs.now.items c.attribute_count-count.ensures (omega (arith, c.if-count-eq0.true))

@@ -1,8 +1,9 @@
 use Rattle.p21_express_graph.specs.Orders.{numbers}
 use Rattle.p21_transcribe.proofs.Parts.{stays-behind}
 use Rattle.p21_transcribe_instance.proofs.Joining.{one-part, places-go_on}
-use Rattle.p21_transcribe_instance.proofs.Stepping.{continues-join, entity-goes_on, mark-goes_on, none_from}
+use Rattle.p21_transcribe_instance.proofs.Stepping.{entity-goes_on, mark-goes_on, none_from}
 use Rattle.p21_transcribe_instance.proofs.parts.append_part.Goals as goal
+use Rattle.p21_values.proofs.Continuing.{continues-join}
 
 pub returns-clause-some : goal.returns-clause-some
 returns-clause-some c = one-part c.args.schema.now (numbers c.args.set.now) c.args.owner.0 c.args.bytes.now _ _ _ _ _ _ _ _ _ _ _ c.in_ok-keyed.ensures.some c.in_ok-inside.ensures.some c.in_ok-behind.ensures.some c.in_ok-rest.ensures.some

@@ -3,17 +3,17 @@ use Rattle.std.proofs.lemmas.List.{take_all}
 use Rattle.p21_express_graph.proofs.Gatherings.{numbered-at}
 use Rattle.p21_express_graph.specs.Orders.{numbers}
 use Rattle.p21_express_types.specs.declared.number.EntityId.{EntityId}
-use Rattle.p21_transcribe.proofs.Parts.{stays}
 use Rattle.p21_transcribe_instance.proofs.Joining.{next-part, no-parts, parts-go_on}
-use Rattle.p21_transcribe_instance.proofs.Stepping.{continues-join, needs-join, none_from}
+use Rattle.p21_transcribe_instance.proofs.Stepping.{needs-join, none_from}
 use Rattle.p21_transcribe_instance.specs.Records.{TakesParts}
 use Rattle.p21_transcribe_instance.proofs.Values.{needs-same}
 use Rattle.p21_transcribe_instance.proofs.parts.append_parts.Goals as goal
+use Rattle.p21_values.proofs.Continuing.{continues-same, continues-join}
 
 pub loop-owner-init : goal.loop-owner-init
 loop-owner-init c = record {
   takes = no-parts c.args.schema.now (numbers c.args.set.now) c.args.bytes.now c.args.draft.now c.args.needs.now.items;
-  draft = stays _ _ refl;
+  draft = continues-same _ _ refl;
   needs = needs-same _ _ refl;
 }
 

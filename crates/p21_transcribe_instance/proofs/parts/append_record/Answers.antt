@@ -1,8 +1,9 @@
 use Rattle.p21_express_graph.specs.Orders.{numbers}
 use Rattle.p21_transcribe.proofs.Found.{none_to, some_to}
 use Rattle.p21_transcribe_instance.proofs.Joining.{parts-go_on, record-taken}
-use Rattle.p21_transcribe_instance.proofs.Stepping.{continues-join, none_from}
+use Rattle.p21_transcribe_instance.proofs.Stepping.{none_from}
 use Rattle.p21_transcribe_instance.proofs.parts.append_record.Goals as goal
+use Rattle.p21_values.proofs.Continuing.{continues-join}
 
 pub returns-clause-some : goal.returns-clause-some
 returns-clause-some c = some_to _ (λ rest. record-taken c.args.schema.now (numbers c.args.set.now) c.args.bytes.now _ rest.now _ _ _ _ _ c.in_ok-behind.ensures.some) c.append_end.ensures.some

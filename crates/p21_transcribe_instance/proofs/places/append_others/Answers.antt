@@ -2,17 +2,18 @@ use Rattle.std.proofs.Common.{List, refl, subst, arith, take}
 use Rattle.std.proofs.lemmas.List.{take_all}
 use Rattle.p21_exchange.specs.Parameter.{more_tokens}
 use Rattle.p21_files.specs.ValueText.{with_commas}
-use Rattle.p21_transcribe.proofs.Parts.{stays, stays-behind}
-use Rattle.p21_transcribe_instance.proofs.Stepping.{continues-join, each-in, mark-goes_on, needs-join, next-step, no-steps, none_from, step-goes_on}
+use Rattle.p21_transcribe.proofs.Parts.{stays-behind}
+use Rattle.p21_transcribe_instance.proofs.Stepping.{each-in, mark-goes_on, needs-join, next-step, no-steps, none_from, step-goes_on}
 use Rattle.p21_transcribe_instance.specs.TakenParameters.{TakesSteps}
 use Rattle.p21_transcribe_instance.specs.declared.step.Step.{Step}
 use Rattle.p21_transcribe_instance.proofs.Values.{needs-same}
 use Rattle.p21_transcribe_instance.proofs.places.append_others.Goals as goal
+use Rattle.p21_values.proofs.Continuing.{continues-same, continues-join}
 
 pub loop-step-init : goal.loop-step-init
 loop-step-init c = record {
   takes = no-steps c.args.schema.now more_tokens with_commas (take 0 c.args.steps.now) c.args.bytes.now c.args.draft.now c.args.needs.now.items refl refl refl;
-  draft = stays _ _ refl;
+  draft = continues-same _ _ refl;
   needs = needs-same _ _ refl;
 }
 

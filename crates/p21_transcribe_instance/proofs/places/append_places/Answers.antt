@@ -2,9 +2,10 @@ use Rattle.std.proofs.Common.{refl, subst}
 use Rattle.p21_exchange.specs.Parameter.{params_tokens}
 use Rattle.p21_files.specs.ValueText.{with_commas_between}
 use Rattle.p21_transcribe.proofs.Found.{none_to, some_to}
-use Rattle.p21_transcribe_instance.proofs.Stepping.{continues-join, first-in, first-steps, needs-join, no-steps, others-in, step-goes_on}
+use Rattle.p21_transcribe_instance.proofs.Stepping.{first-in, first-steps, needs-join, no-steps, others-in, step-goes_on}
 use Rattle.p21_transcribe_instance.specs.TakenParameters.{AreStepsIn}
 use Rattle.p21_transcribe_instance.proofs.places.append_places.Goals as goal
+use Rattle.p21_values.proofs.Continuing.{continues-join}
 
 pub returns-in_default-clause-some : goal.returns-in_default-clause-some
 returns-in_default-clause-some c = no-steps c.args.schema.now params_tokens with_commas_between c.args.steps.now c.args.bytes.now c.args.draft.now c.args.needs.now.items refl refl c.in_default.ensures.cases

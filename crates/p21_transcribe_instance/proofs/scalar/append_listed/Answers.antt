@@ -1,4 +1,4 @@
-use Rattle.p21_transcribe.proofs.Splits.{rest_is}
+use Rattle.p21_basics.proofs.Members.{rest_is}
 use Rattle.p21_transcribe_instance.proofs.Values.{item-value}
 use Rattle.p21_transcribe_instance.proofs.scalar.append_listed.Goals as goal
 

@@ -1,17 +1,20 @@
 use Rattle.std.proofs.Common.{◌+◌, ◌-◌, [], ◌∷◌, refl, arith}
+use Rattle.p21_express_graph.proofs.Lookups.{type-named}
 use Rattle.p21_transcribe.proofs.Found.{none_to, some_to}
-use Rattle.p21_transcribe.proofs.Parts.{goes-on, stays, stays-behind}
+use Rattle.p21_transcribe.proofs.Parts.{goes-on, stays-behind}
 use Rattle.p21_transcribe_instance.proofs.Elements.{aggregate-at, aggregate-taken, along-ends, along-first, along-needs, along-next, along-text, close-refused, compared-as, element-known, element-refused, element-shorter, elements-held, elements-refused, next-shorter, no-elements, plain-known, start-within, undeclared-at}
-use Rattle.p21_transcribe_instance.proofs.Typed.{enclosed-refused, enclosed-taken, goes-further, keeps-further, type-named, typed-taken}
+use Rattle.p21_transcribe_instance.proofs.Typed.{enclosed-refused, enclosed-taken, typed-taken}
 use Rattle.p21_transcribe_instance.proofs.Values.{base-select, item-deep, left-out, needs-kept, needs-same, no-deeper, plain-deep, select-at, stored-taken}
 use Rattle.p21_express_types.specs.Meaning.{type_use}
 use Rattle.p21_transcribe_instance.proofs.value.+append.Goals as goal
+use Rattle.p21_transcribe_instance.proofs.Stepping.{needs-join}
+use Rattle.p21_values.proofs.Continuing.{continues-same, continues-join}
 
 pub append_stored-returns-in-Some-clause-some : goal.append_stored-returns-in-Some-clause-some
-append_stored-returns-in-Some-clause-some t c = λ type has. left-out c.args.schema.now c.args.optional type c.args.most c.args.bytes.now _ _ _ _ c.in-Some.ensures.some.0 c.in-Some.ensures.some.1 c.in-Some.ensures.some.2
+append_stored-returns-in-Some-clause-some t c = λ type has. left-out c.args.at.now.schema.now c.args.at.now.optional type c.args.at.now.most c.args.bytes.now _ _ _ _ c.in-Some.ensures.some.0 c.in-Some.ensures.some.1 c.in-Some.ensures.some.2
 
 pub append_stored-returns-in-None-clause-some : goal.append_stored-returns-in-None-clause-some
-append_stored-returns-in-None-clause-some t c = some_to _ (λ rest. stored-taken c.args.schema.now c.args.optional c.args.base.now c.args.most c.args.bytes.now rest.now _ _ _ _ _ c.in-None.ensures.none) c.append_present.ensures.some
+append_stored-returns-in-None-clause-some t c = some_to _ (λ rest. stored-taken c.args.at.now.schema.now c.args.at.now.optional c.args.at.now.base.now c.args.at.now.most c.args.bytes.now rest.now _ _ _ _ _ c.in-None.ensures.none) c.append_present.ensures.some
 
 pub append_stored-returns-in-None-clause-draft : goal.append_stored-returns-in-None-clause-draft
 append_stored-returns-in-None-clause-draft t c = rw c.in-None.ensures.none at c.append_present.ensures.draft
@@ -32,7 +35,7 @@ pub append_present-returns-in-Items-clause-some : goal.append_present-returns-in
 append_present-returns-in-Items-clause-some t c = some_to _ (λ rest. item-deep c.args.schema.now c.args.base.now _ c.args.most c.args.bytes.now rest.now _ _ _ c.in-Items.is) c.append_listed.ensures.some
 
 pub append_present-returns-in-Items-clause-draft : goal.append_present-returns-in-Items-clause-draft
-append_present-returns-in-Items-clause-draft t c = none_to _ (stays _ _) c.append_listed.ensures.none
+append_present-returns-in-Items-clause-draft t c = none_to _ (continues-same _ _) c.append_listed.ensures.none
 
 pub append_present-returns-in-Items-clause-needs : goal.append_present-returns-in-Items-clause-needs
 append_present-returns-in-Items-clause-needs t c = needs-kept c.append_listed.result c.args.needs.now.items
@@ -56,7 +59,7 @@ append_typed-returns-clause-some t c =
     some_to _ (λ rest. typed-taken c.args.schema.now c.args.select.0 c.in_ok-chosen.chosen.0 (c.args.most - 1) c.args.most _ c.args.bytes.now _ rest.now _ _ _ _ _ (omega arith) c.in_ok-chosen.ensures.some c.base_of-base.ensures.has) c.append_enclosed.ensures.some
 
 pub append_typed-returns-clause-draft : goal.append_typed-returns-clause-draft
-append_typed-returns-clause-draft t c = none_to _ (goes-further _ _ _ (_, c.in_ok-chosen.ensures.some.text_is)) c.append_enclosed.ensures.draft
+append_typed-returns-clause-draft t c = none_to _ (continues-join _ _ _ (_, c.in_ok-chosen.ensures.some.text_is)) c.append_enclosed.ensures.draft
 
 pub append_typed-returns-in_err-chosen-clause-needs : goal.append_typed-returns-in_err-chosen-clause-needs
 append_typed-returns-in_err-chosen-clause-needs t c = needs-kept c.from_residual.result c.args.needs.now.items
@@ -79,7 +82,7 @@ append_enclosed-returns-clause-needs t c =
     none_to _ (λ same. refused.1) c.append_next_delimiter-2.ensures.none
 
 pub append_enclosed-returns-in_err-behind-clause-draft : goal.append_enclosed-returns-in_err-behind-clause-draft
-append_enclosed-returns-in_err-behind-clause-draft t c = rw c.from_residual-in_err-behind.ensures (goes-further _ _ _ (40 ∷ [], c.in_ok-opened.ensures.some.1) c.in_err-behind.ensures.draft)
+append_enclosed-returns-in_err-behind-clause-draft t c = rw c.from_residual-in_err-behind.ensures (continues-join _ _ _ (40 ∷ [], c.in_ok-opened.ensures.some.1) c.in_err-behind.ensures.draft)
 
 pub append_enclosed-returns-in_err-opened-clause-needs : goal.append_enclosed-returns-in_err-opened-clause-needs
 append_enclosed-returns-in_err-opened-clause-needs t c = needs-kept c.from_residual.result c.args.needs.now.items
@@ -96,14 +99,14 @@ pub append_undeclared-returns-in-None-clause-needs : goal.append_undeclared-retu
 append_undeclared-returns-in-None-clause-needs t c = none_to _ (needs-same _ _) c.append_plain.ensures.needs
 
 pub append_aggregate-base_of-base-requires : goal.append_aggregate-base_of-base-requires
-append_aggregate-base_of-base-requires t c = element-known c.args.schema.now (type_use c.args.of.now) c.args.optional (type_use c.args.element.now) c.requires.elements (c.requires.known c.holds_together.ensures)
+append_aggregate-base_of-base-requires t c = element-known c.args.schema.now (type_use c.args.aggregate.now.of.now) c.args.aggregate.now.optional (type_use c.args.aggregate.now.element.now) c.requires.elements (c.requires.known c.holds_together.ensures)
 
 pub append_aggregate-append_counted-requires : goal.append_aggregate-append_counted-requires
 append_aggregate-append_counted-requires t c = (omega arith, (c.base_of-base.ensures.known, c.new-lengths.ensures.items))
 
 pub append_aggregate-returns-clause-some : goal.append_aggregate-returns-clause-some
 append_aggregate-returns-clause-some t c =
-    some_to _ (λ rest. aggregate-at c.args.schema.now (type_use c.args.of.now) c.args.optional (type_use c.args.element.now) c.base_of-base.result c.args.most (c.args.most - 1 + 1) c.args.bytes.now rest.now _ _ _ _ (omega arith) c.requires.elements c.base_of-base.ensures.has) c.append_counted.ensures.some
+    some_to _ (λ rest. aggregate-at c.args.schema.now (type_use c.args.aggregate.now.of.now) c.args.aggregate.now.optional (type_use c.args.aggregate.now.element.now) c.base_of-base.result c.args.most (c.args.most - 1 + 1) c.args.bytes.now rest.now _ _ _ _ (omega arith) c.requires.elements c.base_of-base.ensures.has) c.append_counted.ensures.some
 
 -- ---- the elements of an aggregate
 
@@ -112,32 +115,32 @@ append_counted-append_each-requires t c = (omega arith, c.requires.base)
 
 pub append_counted-append_close-requires : goal.append_counted-append_close-requires
 append_counted-append_close-requires t c =
-    let refused = elements-refused c.args.schema.now c.args.optional _ c.args.base.now c.args.most _ _ _ _ _ _ _ _ _ _ c.requires.base c.in_ok-inside.ensures.some.1 c.in_ok-count.ensures.some in
-    let takes = compared-as c.args.schema.now (type_use c.args.of.now) c.args.optional _ c.args.base.now c.args.most _ _ _ _ _ _ _ _ _ c.are_compared-compared.ensures c.in_ok-count.ensures.some in
+    let refused = elements-refused c.args.at.now.schema.now c.args.at.now.optional _ c.args.at.now.base.now c.args.at.now.most _ _ _ _ _ _ _ _ _ _ c.requires.base c.in_ok-inside.ensures.some.1 c.in_ok-count.ensures.some in
+    let takes = compared-as c.args.at.now.schema.now (type_use c.args.of.now) c.args.at.now.optional _ c.args.at.now.base.now c.args.at.now.most _ _ _ _ _ _ _ _ _ c.are_compared-compared.ensures c.in_ok-count.ensures.some in
     record {
       start = start-within _ _ _ c.len-start.ensures refused.0;
-      holds = elements-held c.args.schema.now (type_use c.args.of.now) c.args.optional c.args.base.now c.args.most _ _ _ _ _ _ _ _ _ _ _ c.requires.base c.len-start.ensures c.in_ok-inside.ensures.some.1 c.requires.empty takes;
+      holds = elements-held c.args.at.now.schema.now (type_use c.args.of.now) c.args.at.now.optional c.args.at.now.base.now c.args.at.now.most _ _ _ _ _ _ _ _ _ _ _ c.requires.base c.len-start.ensures c.in_ok-inside.ensures.some.1 c.requires.empty takes;
     }
 
 pub append_counted-returns-clause-some : goal.append_counted-returns-clause-some
 append_counted-returns-clause-some t c =
-    let takes = compared-as c.args.schema.now (type_use c.args.of.now) c.args.optional _ c.args.base.now c.args.most _ _ _ _ _ _ _ _ _ c.are_compared-compared.ensures c.in_ok-count.ensures.some in
-    some_to _ (λ rest. aggregate-taken c.args.schema.now (type_use c.args.of.now) c.args.optional c.args.base.now c.args.most _ _ c.args.bytes.now _ _ rest.now _ _ _ _ _ _ _ _ c.well_formed-2.ensures.types_distinct (c.if-not-allows_count.ensures refl) c.in_ok-inside.ensures.some.0 c.len-start.ensures c.in_ok-inside.ensures.some.1 c.requires.empty takes) c.append_close.ensures.some
+    let takes = compared-as c.args.at.now.schema.now (type_use c.args.of.now) c.args.at.now.optional _ c.args.at.now.base.now c.args.at.now.most _ _ _ _ _ _ _ _ _ c.are_compared-compared.ensures c.in_ok-count.ensures.some in
+    some_to _ (λ rest. aggregate-taken c.args.at.now.schema.now (type_use c.args.of.now) c.args.at.now.optional c.args.at.now.base.now c.args.at.now.most _ _ c.args.bytes.now _ _ rest.now _ _ _ _ _ _ _ _ c.well_formed-2.ensures.types_distinct (c.if-not-allows_count.ensures refl) c.in_ok-inside.ensures.some.0 c.len-start.ensures c.in_ok-inside.ensures.some.1 c.requires.empty takes) c.append_close.ensures.some
 
 pub append_counted-returns-then-not-allows_count-clause-draft : goal.append_counted-returns-then-not-allows_count-clause-draft
-append_counted-returns-then-not-allows_count-clause-draft t c = (elements-refused c.args.schema.now c.args.optional _ c.args.base.now c.args.most _ _ _ _ _ _ _ _ _ _ c.requires.base c.in_ok-inside.ensures.some.1 c.in_ok-count.ensures.some).0
+append_counted-returns-then-not-allows_count-clause-draft t c = (elements-refused c.args.at.now.schema.now c.args.at.now.optional _ c.args.at.now.base.now c.args.at.now.most _ _ _ _ _ _ _ _ _ _ c.requires.base c.in_ok-inside.ensures.some.1 c.in_ok-count.ensures.some).0
 
 pub append_counted-returns-then-not-allows_count-clause-needs : goal.append_counted-returns-then-not-allows_count-clause-needs
-append_counted-returns-then-not-allows_count-clause-needs t c = (elements-refused c.args.schema.now c.args.optional _ c.args.base.now c.args.most _ _ _ _ _ _ _ _ _ _ c.requires.base c.in_ok-inside.ensures.some.1 c.in_ok-count.ensures.some).1
+append_counted-returns-then-not-allows_count-clause-needs t c = (elements-refused c.args.at.now.schema.now c.args.at.now.optional _ c.args.at.now.base.now c.args.at.now.most _ _ _ _ _ _ _ _ _ _ c.requires.base c.in_ok-inside.ensures.some.1 c.in_ok-count.ensures.some).1
 
 pub append_counted-returns-clause-draft : goal.append_counted-returns-clause-draft
 append_counted-returns-clause-draft t c =
-    let refused = elements-refused c.args.schema.now c.args.optional _ c.args.base.now c.args.most _ _ _ _ _ _ _ _ _ _ c.requires.base c.in_ok-inside.ensures.some.1 c.in_ok-count.ensures.some in
+    let refused = elements-refused c.args.at.now.schema.now c.args.at.now.optional _ c.args.at.now.base.now c.args.at.now.most _ _ _ _ _ _ _ _ _ _ c.requires.base c.in_ok-inside.ensures.some.1 c.in_ok-count.ensures.some in
     none_to _ (close-refused _ _ _ _ c.len-start.ensures refused.0) c.append_close.ensures.none
 
 pub append_counted-returns-clause-needs : goal.append_counted-returns-clause-needs
 append_counted-returns-clause-needs t c =
-    let refused = elements-refused c.args.schema.now c.args.optional _ c.args.base.now c.args.most _ _ _ _ _ _ _ _ _ _ c.requires.base c.in_ok-inside.ensures.some.1 c.in_ok-count.ensures.some in
+    let refused = elements-refused c.args.at.now.schema.now c.args.at.now.optional _ c.args.at.now.base.now c.args.at.now.most _ _ _ _ _ _ _ _ _ _ c.requires.base c.in_ok-inside.ensures.some.1 c.in_ok-count.ensures.some in
     none_to _ (λ same. refused.1) c.append_close.ensures.none
 
 -- ---- elements
@@ -146,43 +149,43 @@ pub append_each-append_element-requires : goal.append_each-append_element-requir
 append_each-append_element-requires t c = (omega arith, c.requires)
 
 pub append_each-returns-in-Some-eq41-clause-some : goal.append_each-returns-in-Some-eq41-clause-some
-append_each-returns-in-Some-eq41-clause-some t c = λ type has. no-elements c.args.schema.now c.args.optional type c.args.compared c.args.most c.args.bytes.now c.args.draft.now c.args.lengths.now.items c.args.needs.now.items
+append_each-returns-in-Some-eq41-clause-some t c = λ type has. no-elements c.args.at.now.schema.now c.args.at.now.optional type c.args.compared c.args.at.now.most c.args.bytes.now c.args.draft.now c.args.lengths.now.items c.args.needs.now.items
 
 pub append_each-loop-next-init : goal.append_each-loop-next-init
 append_each-loop-next-init t c = (
-  along-first c.args.schema.now c.args.base.now c.args.optional c.args.compared c.args.most c.args.bytes.now _ _ _ _ _ _ _ _ c.behind_separators-first.ensures c.in_ok-behind.ensures.some c.in_ok-behind.ensures.lengths,
-  let shorter = element-shorter c.args.schema.now c.args.base.now c.args.optional c.args.most c.args.bytes.now _ _ _ _ _ _ c.requires c.behind_separators-first.ensures c.in_ok-behind.ensures.some in omega arith,
+  along-first c.args.at.now.schema.now c.args.at.now.base.now c.args.at.now.optional c.args.compared c.args.at.now.most c.args.bytes.now _ _ _ _ _ _ _ _ c.behind_separators-first.ensures c.in_ok-behind.ensures.some c.in_ok-behind.ensures.lengths,
+  let shorter = element-shorter c.args.at.now.schema.now c.args.at.now.base.now c.args.at.now.optional c.args.at.now.most c.args.bytes.now _ _ _ _ _ _ c.requires c.behind_separators-first.ensures c.in_ok-behind.ensures.some in omega arith,
 )
 
 pub append_each-loop-next-smaller : goal.append_each-loop-next-smaller
-append_each-loop-next-smaller t c = next-shorter c.args.schema.now c.args.base.now c.args.optional c.args.most _ _ _ _ _ _ _ _ c.requires c.in-Some.ensures.some.0 c.behind_separators-inside.ensures c.in_ok-behind-2.ensures.some
+append_each-loop-next-smaller t c = next-shorter c.args.at.now.schema.now c.args.at.now.base.now c.args.at.now.optional c.args.at.now.most _ _ _ _ _ _ _ _ c.requires c.in-Some.ensures.some.0 c.behind_separators-inside.ensures c.in_ok-behind-2.ensures.some
 
 pub append_each-loop-next-preserved : goal.append_each-loop-next-preserved
 append_each-loop-next-preserved t c = (
-  along-next c.args.schema.now c.args.base.now c.args.optional c.args.compared c.args.most c.args.bytes.now _ _ _ c.loop-next.count _ _ _ _ _ _ _ _ _ _ _ c.loop-next.invariant.0 c.in-Some.ensures.some.0 c.in-Some.ensures.some.1 c.behind_separators-inside.ensures c.in_ok-behind-2.ensures.some c.in_ok-behind-2.ensures.lengths,
-  let shorter = next-shorter c.args.schema.now c.args.base.now c.args.optional c.args.most _ _ _ _ _ _ _ _ c.requires c.in-Some.ensures.some.0 c.behind_separators-inside.ensures c.in_ok-behind-2.ensures.some in
+  along-next c.args.at.now.schema.now c.args.at.now.base.now c.args.at.now.optional c.args.compared c.args.at.now.most c.args.bytes.now _ _ _ c.loop-next.count _ _ _ _ _ _ _ _ _ _ _ c.loop-next.invariant.0 c.in-Some.ensures.some.0 c.in-Some.ensures.some.1 c.behind_separators-inside.ensures c.in_ok-behind-2.ensures.some c.in_ok-behind-2.ensures.lengths,
+  let shorter = next-shorter c.args.at.now.schema.now c.args.at.now.base.now c.args.at.now.optional c.args.at.now.most _ _ _ _ _ _ _ _ c.requires c.in-Some.ensures.some.0 c.behind_separators-inside.ensures c.in_ok-behind-2.ensures.some in
       let room = c.loop-next.invariant.1 in
       omega arith,
 )
 
 pub append_each-returns-in_err-behind-2-clause-draft : goal.append_each-returns-in_err-behind-2-clause-draft
 append_each-returns-in_err-behind-2-clause-draft t c =
-    let so_far = along-text c.args.schema.now c.args.base.now c.args.optional c.args.compared c.args.most c.args.bytes.now _ _ _ _ _ _ _ _ c.requires c.loop-next.invariant.0 in
-    rw c.from_residual-in_err-behind-2.ensures (goes-further _ _ _ (goes-on _ _ _ _ so_far c.in-Some.ensures.some.1) c.in_err-behind-2.ensures.draft)
+    let so_far = along-text c.args.at.now.schema.now c.args.at.now.base.now c.args.at.now.optional c.args.compared c.args.at.now.most c.args.bytes.now _ _ _ _ _ _ _ _ c.requires c.loop-next.invariant.0 in
+    rw c.from_residual-in_err-behind-2.ensures (continues-join _ _ _ (goes-on _ _ _ _ so_far c.in-Some.ensures.some.1) c.in_err-behind-2.ensures.draft)
 
 pub append_each-returns-in_err-behind-2-clause-needs : goal.append_each-returns-in_err-behind-2-clause-needs
 append_each-returns-in_err-behind-2-clause-needs t c =
-    let so_far = along-needs c.args.schema.now c.args.base.now c.args.optional c.args.compared c.args.most c.args.bytes.now _ _ _ _ _ _ _ _ c.requires c.loop-next.invariant.0 in
-    rw c.from_residual-in_err-behind-2.ensures (keeps-further _ _ _ so_far c.in_err-behind-2.ensures.needs)
+    let so_far = along-needs c.args.at.now.schema.now c.args.at.now.base.now c.args.at.now.optional c.args.compared c.args.at.now.most c.args.bytes.now _ _ _ _ _ _ _ _ c.requires c.loop-next.invariant.0 in
+    rw c.from_residual-in_err-behind-2.ensures (needs-join _ _ _ so_far c.in_err-behind-2.ensures.needs)
 
 pub append_each-returns-clause-some : goal.append_each-returns-clause-some
-append_each-returns-clause-some t c = rw c.in_default-append_next_delimiter.ensures.none (along-ends c.args.schema.now c.args.base.now c.args.optional c.args.compared c.args.most c.args.bytes.now _ _ _ _ _ _ _ _ c.loop-next.invariant.0)
+append_each-returns-clause-some t c = rw c.in_default-append_next_delimiter.ensures.none (along-ends c.args.at.now.schema.now c.args.at.now.base.now c.args.at.now.optional c.args.compared c.args.at.now.most c.args.bytes.now _ _ _ _ _ _ _ _ c.loop-next.invariant.0)
 
 pub append_element-append_stored-requires : goal.append_element-append_stored-requires
 append_element-append_stored-requires t c = (omega arith, c.requires)
 
 pub append_element-returns-then-not-add_length-clause-draft : goal.append_element-returns-then-not-add_length-clause-draft
-append_element-returns-then-not-add_length-clause-draft t c = (element-refused c.args.schema.now c.args.base.now c.args.optional c.args.most c.args.bytes.now _ _ _ _ _ c.requires c.in_ok-rest.ensures.some).0
+append_element-returns-then-not-add_length-clause-draft t c = (element-refused c.args.at.now.schema.now c.args.at.now.base.now c.args.at.now.optional c.args.at.now.most c.args.bytes.now _ _ _ _ _ c.requires c.in_ok-rest.ensures.some).0
 
 pub append_element-returns-then-not-add_length-clause-needs : goal.append_element-returns-then-not-add_length-clause-needs
-append_element-returns-then-not-add_length-clause-needs t c = (element-refused c.args.schema.now c.args.base.now c.args.optional c.args.most c.args.bytes.now _ _ _ _ _ c.requires c.in_ok-rest.ensures.some).1
+append_element-returns-then-not-add_length-clause-needs t c = (element-refused c.args.at.now.schema.now c.args.at.now.base.now c.args.at.now.optional c.args.at.now.most c.args.bytes.now _ _ _ _ _ c.requires c.in_ok-rest.ensures.some).1

@@ -4,16 +4,16 @@ use Rattle.p21_transcribe_instance.proofs.value.+append.Given as goal
 
 -- How deep the rest may be falls; at the same depth each function stands above what it calls.
 abbrev pub decreases-append_counted : goal.decreases-append_counted
-decreases-append_counted l = 9 * l.most + 9
+decreases-append_counted l = 9 * l.at.now.most + 9
 
 abbrev pub decreases-append_each : goal.decreases-append_each
-decreases-append_each l = 9 * l.most + 8
+decreases-append_each l = 9 * l.at.now.most + 8
 
 abbrev pub decreases-append_element : goal.decreases-append_element
-decreases-append_element l = 9 * l.most + 7
+decreases-append_element l = 9 * l.at.now.most + 7
 
 abbrev pub decreases-append_stored : goal.decreases-append_stored
-decreases-append_stored l = 9 * l.most + 6
+decreases-append_stored l = 9 * l.at.now.most + 6
 
 abbrev pub decreases-append_enclosed : goal.decreases-append_enclosed
 decreases-append_enclosed l = 9 * l.most + 6
@@ -38,4 +38,4 @@ abbrev pub decreases-append_each-loop-next : goal.decreases-append_each-loop-nex
 decreases-append_each-loop-next l = length l.behind
 
 abbrev pub invariant-append_each-loop-next : goal.invariant-append_each-loop-next
-invariant-append_each-loop-next l = Along l.schema l.base l.optional l.compared l.most l.fn.bytes l.fn.draft l.fn.lengths.items l.fn.needs.items l.count l.behind l.draft l.lengths.items l.needs.items × (l.count + length l.behind ≤ length l.fn.bytes + 1)
+invariant-append_each-loop-next l = Along l.at.schema.now l.at.base.now l.at.optional l.compared l.at.most l.fn.bytes l.fn.draft l.fn.lengths.items l.fn.needs.items l.count l.behind l.draft l.lengths.items l.needs.items × (l.count + length l.behind ≤ length l.fn.bytes + 1)

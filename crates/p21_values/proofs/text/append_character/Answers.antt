@@ -12,4 +12,4 @@ pub returns-in_ok-extend_from_slice-in_default-clause-ok :
     goal.returns-in_ok-extend_from_slice-in_default-clause-ok
 returns-in_ok-extend_from_slice-in_default-clause-ok c =
     let past : 0x1_0000 ≤ c.args.character = omega (arith, c.in_default) in
-    rw (past_four_digits c.args.character past, c.in_ok-extend_from_slice-in_default.ensures.items, c.extended4.ensures, c.from-code.ensures)
+    rw (past_four_digits c.args.character past, c.in_ok-extend_from_slice-in_default.ensures.items, c.long_directive.ensures, c.from-code.ensures)

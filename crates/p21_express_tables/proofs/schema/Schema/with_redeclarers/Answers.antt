@@ -1,5 +1,5 @@
-use Rattle.std.specs.Prelude.{◌≡◌, List, length, map}
-use Rattle.std.proofs.Common.{arith, ap, sym, ◌∙◌, subst}
+use Rattle.std.specs.Prelude.{◌≡◌, length, map}
+use Rattle.std.proofs.Common.{ap, sym, ◌∙◌, subst}
 use Rattle.p21_schemas.specs.Schema.{Schema}
 use Rattle.p21_express_graph.specs.SchemaContents.{entity, schema_of}
 use Rattle.p21_express_graph.specs.Redeclaring.{redeclaring, redeclaring_schema}

@@ -11,21 +11,21 @@ returns-in-Some-clause-gives c = fed-again (held_in c.args.schema.now c.args.lim
 
 pub returns-in-Ok-clause-gives : goal.returns-in-Ok-clause-gives
 returns-in-Ok-clause-gives c =
-    fed-whole c.args.schema.now c.args.limits c.args.self.now.front c.read.new.self.front c.args.self.now.kept c.read.new.self.kept c.args.piece.now c.args.self.now.refused c.read.new.self.refused c.in_default.is c.in-Ok.ensures.refused c.in-Ok.ensures.gives
+    fed-whole c.args.schema.now c.args.limits c.args.self.now.statements c.read.new.self.statements c.args.self.now.kept c.read.new.self.kept c.args.piece.now c.args.self.now.refused c.read.new.self.refused c.in_default.is c.in-Ok.ensures.refused c.in-Ok.ensures.gives
 
 pub returns-in-Ok-clause-checks : goal.returns-in-Ok-clause-checks
 returns-in-Ok-clause-checks c =
-    fed-checks c.args.schema.now c.args.limits c.args.self.now.front c.read.new.self.front c.args.self.now.kept c.read.new.self.kept c.args.piece.now c.args.self.now.refused c.read.new.self.refused c.in_default.is c.in-Ok.ensures.refused c.in-Ok.ensures.gives
+    fed-checks c.args.schema.now c.args.limits c.args.self.now.statements c.read.new.self.statements c.args.self.now.kept c.read.new.self.kept c.args.piece.now c.args.self.now.refused c.read.new.self.refused c.in_default.is c.in-Ok.ensures.refused c.in-Ok.ensures.gives
 
 pub returns-in-Ok-clause-bounded : goal.returns-in-Ok-clause-bounded
 returns-in-Ok-clause-bounded c =
-    bounded-whole c.args.schema.now c.args.limits c.args.self.now.front c.read.new.self.front c.args.self.now.kept c.read.new.self.kept c.args.piece.now c.args.self.now.refused c.read.new.self.refused c.in_default.is c.in-Ok.ensures.refused c.in-Ok.ensures.gives
+    bounded-whole c.args.schema.now c.args.limits c.args.self.now.statements c.read.new.self.statements c.args.self.now.kept c.read.new.self.kept c.args.piece.now c.args.self.now.refused c.read.new.self.refused c.in_default.is c.in-Ok.ensures.refused c.in-Ok.ensures.gives
     c.in-Ok.ensures.bound c.in-Ok.ensures.limits c.requires.bounded
 
 pub returns-in-Err-clause-gives : goal.returns-in-Err-clause-gives
 returns-in-Err-clause-gives c =
     subst (λ (r : Result (Unit {0}) Refusal). FeedGives (held_in c.args.schema.now c.args.limits c.args.self.now) c.args.piece.now r (held_in c.args.schema.now c.args.limits (record c.read.new.self { kept = c.new.result; refused = Some c.in-Err.refusal }))) (sym (c.answered.ensures c.in-Err.refusal refl))
-    (fed-refused c.args.schema.now c.args.limits c.args.self.now.front c.read.new.self.front c.args.self.now.kept c.read.new.self.kept c.new.result c.args.piece.now c.args.self.now.refused c.in-Err.refusal c.in-Err.ensures.gives)
+    (fed-refused c.args.schema.now c.args.limits c.args.self.now.statements c.read.new.self.statements c.args.self.now.kept c.read.new.self.kept c.new.result c.args.piece.now c.args.self.now.refused c.in-Err.refusal c.in-Err.ensures.gives)
 
 pub returns-in-Err-clause-checks : goal.returns-in-Err-clause-checks
 returns-in-Err-clause-checks c = subst (λ (r : Result (Unit {0}) Refusal). FeedChecks (held_in c.args.schema.now c.args.limits c.args.self.now) c.args.piece.now r) (sym (c.answered.ensures c.in-Err.refusal refl)) tt
@@ -36,7 +36,7 @@ returns-in-Some-clause-no_memory c = again-quiet (held_in c.args.schema.now c.ar
 pub returns-in-Err-clause-no_memory : goal.returns-in-Err-clause-no_memory
 returns-in-Err-clause-no_memory c =
     subst (λ (r : Result (Unit {0}) Refusal). FeedNeedsNoMemory (held_in c.args.schema.now c.args.limits c.args.self.now) c.args.piece.now r) (sym (c.answered.ensures c.in-Err.refusal refl))
-    (fed-quiet c.args.schema.now c.args.limits c.args.self.now.front c.args.self.now.kept c.args.piece.now c.args.self.now.refused c.in-Err.refusal c.in-Err.ensures.no_memory)
+    (fed-quiet c.args.schema.now c.args.limits c.args.self.now.statements c.args.self.now.kept c.args.piece.now c.args.self.now.refused c.in-Err.refusal c.in-Err.ensures.no_memory)
 
 pub returns-in-Some-clause-kind : goal.returns-in-Some-clause-kind
 returns-in-Some-clause-kind c = c.requires.bounded.of_bytes c.in-Some.refusal c.in-Some.is
@@ -46,10 +46,10 @@ returns-in-Err-clause-kind c = subst (λ (r : Result (Unit {0}) Refusal). IfErr 
 
 pub returns-in-Err-clause-bounded : goal.returns-in-Err-clause-bounded
 returns-in-Err-clause-bounded c =
-    bounded-refused c.args.schema.now c.args.limits c.args.self.now.front c.read.new.self.front c.args.self.now.kept c.new.result c.args.self.now.refused c.in-Err.refusal c.new.ensures c.in-Err.ensures.limits c.in-Err.ensures.kind c.requires.bounded
+    bounded-refused c.args.schema.now c.args.limits c.args.self.now.statements c.read.new.self.statements c.args.self.now.kept c.new.result c.args.self.now.refused c.in-Err.refusal c.new.ensures c.in-Err.ensures.limits c.in-Err.ensures.kind c.requires.bounded
 
 pub read-requires-clause-way : goal.read-requires-clause-way
-read-requires-clause-way c = under-way c.args.schema.now c.args.limits c.args.self.now.front c.args.self.now.kept c.args.self.now.refused c.args.piece.now c.requires.bounded c.in_default.is
+read-requires-clause-way c = under-way c.args.schema.now c.args.limits c.args.self.now.statements c.args.self.now.kept c.args.self.now.refused c.args.piece.now c.requires.bounded c.in_default.is
 
 pub returns-in-Err-clause-refused : goal.returns-in-Err-clause-refused
 returns-in-Err-clause-refused c = subst (λ (r : Result (Unit {0}) Refusal). IfErr r (λ refusal. Some c.in-Err.refusal ≡ Some refusal)) (sym (c.answered.ensures c.in-Err.refusal refl)) refl

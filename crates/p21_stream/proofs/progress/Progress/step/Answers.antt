@@ -1,61 +1,61 @@
 use Rattle.std.proofs.Common.{ℕ, Ok, Err, Option, Some, subst}
 use Rattle.p21_grammar.specs.declared.event.Event.{Event}
-use Rattle.p21_stream.specs.StatementReader as front
-use Rattle.p21_stream.proofs.Pieces.{statement-follows, step-offends, step-piece, step-quiet, step-refused, step-statement, step-token, token-none, token-quiet}
+use Rattle.p21_stream.specs.StatementReader as statements
+use Rattle.p21_stream.proofs.Pieces.{statement-follows, step-offends, step-piece, step-quiet, step-refused, step-statement, step-tokens, token-none, token-quiet}
 use Rattle.p21_stream.proofs.progress.Progress.step.Goals as goal
 
 pub returns-in-Err-clause-gives : goal.returns-in-Err-clause-gives
-returns-in-Err-clause-gives c = step-refused c.args.schema.now c.args.limits c.args.self.now.front c.step.new.self c.args.self.now.kept c.args.self.now.kept c.args.piece.now c.refused.result c.in-Err.fault c.refused.ensures c.in-Err.ensures.gives
+returns-in-Err-clause-gives c = step-refused c.args.schema.now c.args.limits c.args.self.now.statements c.step.new.self c.args.self.now.kept c.args.self.now.kept c.args.piece.now c.refused.result c.in-Err.fault c.refused.ensures c.in-Err.ensures.gives
 
 pub returns-in_default-event-clause-gives : goal.returns-in_default-event-clause-gives
 returns-in_default-event-clause-gives c =
-    step-token c.args.schema.now c.args.limits c.args.self.now.front c.step.new.self c.args.self.now.kept c.args.piece.now c.in-Some.count
-    (subst (λ (e : Option Event). front.StepGives c.args.self.now.front c.args.piece.now (Ok (Some (c.in-Some.count, e))) c.step.new.self) c.in_default-event.is
-    (subst (λ (a : Option (ℕ × Option Event)). front.StepGives c.args.self.now.front c.args.piece.now (Ok a) c.step.new.self) c.in-Some.is c.in-Ok.ensures.gives))
+    step-tokens c.args.schema.now c.args.limits c.args.self.now.statements c.step.new.self c.args.self.now.kept c.args.piece.now c.in-Some.count
+    (subst (λ (e : Option Event). statements.StepGives c.args.self.now.statements c.args.piece.now (Ok (Some (c.in-Some.count, e))) c.step.new.self) c.in_default-event.is
+    (subst (λ (a : Option (ℕ × Option Event)). statements.StepGives c.args.self.now.statements c.args.piece.now (Ok a) c.step.new.self) c.in-Some.is c.in-Ok.ensures.gives))
     c.in-Ok.ensures.limits
 
 pub returns-in-Ok-take-clause-gives : goal.returns-in-Ok-take-clause-gives
 returns-in-Ok-take-clause-gives c =
-    step-statement c.args.schema.now c.args.limits c.args.self.now.front c.step.new.self c.args.self.now.kept c.take.new.kept c.args.piece.now c.in-Some.count c.in-Some-event.event
-    (subst (λ (e : Option Event). front.StepGives c.args.self.now.front c.args.piece.now (Ok (Some (c.in-Some.count, e))) c.step.new.self) c.in-Some-event.is
-    (subst (λ (a : Option (ℕ × Option Event)). front.StepGives c.args.self.now.front c.args.piece.now (Ok a) c.step.new.self) c.in-Some.is c.in-Ok.ensures.gives))
+    step-statement c.args.schema.now c.args.limits c.args.self.now.statements c.step.new.self c.args.self.now.kept c.take.new.kept c.args.piece.now c.in-Some.count c.in-Some-event.event
+    (subst (λ (e : Option Event). statements.StepGives c.args.self.now.statements c.args.piece.now (Ok (Some (c.in-Some.count, e))) c.step.new.self) c.in-Some-event.is
+    (subst (λ (a : Option (ℕ × Option Event)). statements.StepGives c.args.self.now.statements c.args.piece.now (Ok a) c.step.new.self) c.in-Some.is c.in-Ok.ensures.gives))
     c.in-Ok.ensures.limits c.in-Ok-take.ensures.gives
 
 pub returns-in-Err-take-clause-gives : goal.returns-in-Err-take-clause-gives
 returns-in-Err-take-clause-gives c =
-    step-offends c.args.schema.now c.well_formed-2.ensures c.args.limits c.args.self.now.front c.step.new.self c.args.self.now.kept c.take.new.kept c.args.piece.now c.in-Some.count c.in-Some-event.event c.refused-in-Err-take.result c.in-Err-take.fault
+    step-offends c.args.schema.now c.well_formed-2.ensures c.args.limits c.args.self.now.statements c.step.new.self c.args.self.now.kept c.take.new.kept c.args.piece.now c.in-Some.count c.in-Some-event.event c.refused-in-Err-take.result c.in-Err-take.fault
     c.refused-in-Err-take.ensures
-    (subst (λ (e : Option Event). front.StepGives c.args.self.now.front c.args.piece.now (Ok (Some (c.in-Some.count, e))) c.step.new.self) c.in-Some-event.is
-    (subst (λ (a : Option (ℕ × Option Event)). front.StepGives c.args.self.now.front c.args.piece.now (Ok a) c.step.new.self) c.in-Some.is c.in-Ok.ensures.gives))
-    (subst (λ (a : Option (ℕ × Option Event)). front.TakesWithinPiece c.args.piece.now (Ok a)) c.in-Some.is c.in-Ok.ensures.takes) c.in-Err-take.ensures.gives
+    (subst (λ (e : Option Event). statements.StepGives c.args.self.now.statements c.args.piece.now (Ok (Some (c.in-Some.count, e))) c.step.new.self) c.in-Some-event.is
+    (subst (λ (a : Option (ℕ × Option Event)). statements.StepGives c.args.self.now.statements c.args.piece.now (Ok a) c.step.new.self) c.in-Some.is c.in-Ok.ensures.gives))
+    (subst (λ (a : Option (ℕ × Option Event)). statements.TakesWithinPiece c.args.piece.now (Ok a)) c.in-Some.is c.in-Ok.ensures.takes) c.in-Err-take.ensures.gives
 
 pub returns-in-Err-clause-no_memory : goal.returns-in-Err-clause-no_memory
-returns-in-Err-clause-no_memory c = step-quiet c.args.schema.now c.args.limits c.args.self.now.front c.args.self.now.kept c.args.piece.now c.refused.result c.in-Err.fault c.refused.ensures c.in-Err.ensures.no_memory
+returns-in-Err-clause-no_memory c = step-quiet c.args.schema.now c.args.limits c.args.self.now.statements c.args.self.now.kept c.args.piece.now c.refused.result c.in-Err.fault c.refused.ensures c.in-Err.ensures.no_memory
 
 pub returns-in_default-event-clause-no_token : goal.returns-in_default-event-clause-no_token
 returns-in_default-event-clause-no_token c =
-    token-none c.args.schema.now c.args.limits c.args.self.now.front c.args.self.now.kept c.args.piece.now (c.in-Some.count, c.in-Some.event)
-    (subst (λ (a : Option (ℕ × Option Event)). front.NeedsNoMemory c.args.self.now.front c.args.piece.now (Ok a)) c.in-Some.is c.in-Ok.ensures.no_memory) c.in-Some.count
+    token-none c.args.schema.now c.args.limits c.args.self.now.statements c.args.self.now.kept c.args.piece.now (c.in-Some.count, c.in-Some.event)
+    (subst (λ (a : Option (ℕ × Option Event)). statements.NeedsNoMemory c.args.self.now.statements c.args.piece.now (Ok a)) c.in-Some.is c.in-Ok.ensures.no_memory) c.in-Some.count
 
 pub returns-in-Ok-take-clause-no_token : goal.returns-in-Ok-take-clause-no_token
 returns-in-Ok-take-clause-no_token c =
-    token-none c.args.schema.now c.args.limits c.args.self.now.front c.args.self.now.kept c.args.piece.now (c.in-Some.count, c.in-Some.event)
-    (subst (λ (a : Option (ℕ × Option Event)). front.NeedsNoMemory c.args.self.now.front c.args.piece.now (Ok a)) c.in-Some.is c.in-Ok.ensures.no_memory) c.in-Some.count
+    token-none c.args.schema.now c.args.limits c.args.self.now.statements c.args.self.now.kept c.args.piece.now (c.in-Some.count, c.in-Some.event)
+    (subst (λ (a : Option (ℕ × Option Event)). statements.NeedsNoMemory c.args.self.now.statements c.args.piece.now (Ok a)) c.in-Some.is c.in-Ok.ensures.no_memory) c.in-Some.count
 
 pub returns-in-Err-take-clause-no_memory : goal.returns-in-Err-take-clause-no_memory
 returns-in-Err-take-clause-no_memory c =
-    token-quiet c.args.schema.now c.args.limits c.args.self.now.front c.args.self.now.kept c.args.piece.now (c.in-Some.count, c.in-Some.event)
-    (subst (λ (a : Option (ℕ × Option Event)). front.NeedsNoMemory c.args.self.now.front c.args.piece.now (Ok a)) c.in-Some.is c.in-Ok.ensures.no_memory) (Err c.refused-in-Err-take.result)
+    token-quiet c.args.schema.now c.args.limits c.args.self.now.statements c.args.self.now.kept c.args.piece.now (c.in-Some.count, c.in-Some.event)
+    (subst (λ (a : Option (ℕ × Option Event)). statements.NeedsNoMemory c.args.self.now.statements c.args.piece.now (Ok a)) c.in-Some.is c.in-Ok.ensures.no_memory) (Err c.refused-in-Err-take.result)
 
 pub returns-in_default-clause-gives : goal.returns-in_default-clause-gives
 returns-in_default-clause-gives c =
-    step-piece c.args.schema.now c.args.limits c.args.self.now.front c.step.new.self c.args.self.now.kept c.args.piece.now
-    (subst (λ (a : Option (ℕ × Option Event)). front.StepGives c.args.self.now.front c.args.piece.now (Ok a) c.step.new.self) c.in_default.is c.in-Ok.ensures.gives)
+    step-piece c.args.schema.now c.args.limits c.args.self.now.statements c.step.new.self c.args.self.now.kept c.args.piece.now
+    (subst (λ (a : Option (ℕ × Option Event)). statements.StepGives c.args.self.now.statements c.args.piece.now (Ok a) c.step.new.self) c.in_default.is c.in-Ok.ensures.gives)
     c.in-Ok.ensures.limits
 
 pub take-requires : goal.take-requires
 take-requires c =
-    statement-follows c.args.schema.now c.args.limits c.args.self.now.front c.step.new.self c.args.self.now.kept c.args.piece.now c.in-Some.count c.in-Some-event.event c.requires
-    (subst (λ (e : Option Event). front.StepGives c.args.self.now.front c.args.piece.now (Ok (Some (c.in-Some.count, e))) c.step.new.self) c.in-Some-event.is
-    (subst (λ (a : Option (ℕ × Option Event)). front.StepGives c.args.self.now.front c.args.piece.now (Ok a) c.step.new.self) c.in-Some.is c.in-Ok.ensures.gives))
+    statement-follows c.args.schema.now c.args.limits c.args.self.now.statements c.step.new.self c.args.self.now.kept c.args.piece.now c.in-Some.count c.in-Some-event.event c.requires
+    (subst (λ (e : Option Event). statements.StepGives c.args.self.now.statements c.args.piece.now (Ok (Some (c.in-Some.count, e))) c.step.new.self) c.in-Some-event.is
+    (subst (λ (a : Option (ℕ × Option Event)). statements.StepGives c.args.self.now.statements c.args.piece.now (Ok a) c.step.new.self) c.in-Some.is c.in-Ok.ensures.gives))
     c.in-Ok.ensures.limits

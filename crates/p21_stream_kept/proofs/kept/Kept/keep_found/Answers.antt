@@ -28,29 +28,29 @@ invariant_of-self-2 c =
     record { memberships = c.store.ensures.memberships; sections = c.store.ensures.sections (length c.self.inside.sections) (omega (arith, last)) c.self.invariant.sections; named = c.store.ensures.named; counted = let fits = c.fits_limits.ensures.fits c.if-not-fits_limits.false in omega (arith, fits) }
 
 pub last-section-requires : goal.last-section-requires
-last-section-requires c = subst (λ (k : Kept). 0 < length k.headings) (sym c.self.view_is) (follows-section c.args.schema.now c.args.limits c.args.self.now c.args.name c.requires.found.record_ c.requires.found.follows)
+last-section-requires c = subst (λ (k : Kept). 0 < length k.headings) (sym c.self.view_is) (follows-section c.args.schema.now c.args.limits c.args.self.now c.args.found.now.name c.requires.found.record_ c.requires.found.follows)
 
 pub store-requires-clause-another : goal.store-requires-clause-another
 store-requires-clause-another c =
-    let P : List ℕ → Type 0 = λ names. Contains names c.args.name in
+    let P : List ℕ → Type 0 = λ names. Contains names c.args.found.now.name in
     λ among. c.requires.another (subst (λ (k : Kept). P (map (λ (x : StoredEntry). x.name) k.stored)) c.self.view_is (subst P (sym (stored-names c.self.inside.memberships c.self.inside.instances)) among))
 
 pub store-requires-clause-line : goal.store-requires-clause-line
-store-requires-clause-line c = found-named c.args.schema.now c.args.name c.requires.found.record_ (ids_view c.args.entities.now) (needs_view c.args.needs.now) c.args.line.now c.requires.found.found
+store-requires-clause-line c = found-named c.args.schema.now c.args.found.now.name c.requires.found.record_ (ids_view c.args.found.now.entities.now) (needs_view c.args.found.now.needs.now) c.args.found.now.line.now c.requires.found.found
 
 pub overflow_add-self : goal.overflow_add-self
 overflow_add-self c =
     let is = c.requires.found.found in
-    let needs = length-map c.args.needs.now need_view in
-    let few = follows-few c.args.schema.now c.args.limits c.args.self.now c.args.name c.requires.found.record_ c.requires.found.follows is.meaning (needs_view c.args.needs.now) is.meant in
+    let needs = length-map c.args.found.now.needs.now need_view in
+    let few = follows-few c.args.schema.now c.args.limits c.args.self.now c.args.found.now.name c.requires.found.record_ c.requires.found.follows is.meaning (needs_view c.args.found.now.needs.now) is.meant in
     let same = ap (λ (k : Kept). k.references) c.self.view_is in
     omega (arith, needs, few, same)
 
 pub returns-then-not-fits_limits-clause-gives : goal.returns-then-not-fits_limits-clause-gives
 returns-then-not-fits_limits-clause-gives c =
     let old : Kept = kept_of c.self.inside in
-    let F : Kept → Type 0 = λ k. FoundGives c.args.schema.now c.args.limits k c.args.name (ids_view c.args.entities.now) (needs_view c.args.needs.now) c.args.line.now (Err CanonicalTooLong) k in
-    subst F c.self.view_is (λ record_ is. refused-instance c.args.schema.now c.args.limits old old c.args.name record_ c.args.line.now is.printed (λ room.
+    let F : Kept → Type 0 = λ k. FoundGives c.args.schema.now c.args.limits k c.args.found.now.name (ids_view c.args.found.now.entities.now) (needs_view c.args.found.now.needs.now) c.args.found.now.line.now (Err CanonicalTooLong) k in
+    subst F c.self.view_is (λ record_ is. refused-instance c.args.schema.now c.args.limits old old c.args.found.now.name record_ c.args.found.now.line.now is.printed (λ room.
     let passes : c.fits_limits.result ≡ true = c.fits_limits.ensures.decides.1 room in
     let fails = c.if-not-fits_limits.true in
     cc))
@@ -59,20 +59,20 @@ pub returns-clause-gives : goal.returns-clause-gives
 returns-clause-gives c =
     let s = c.args.schema.now in
     let old : Kept = kept_of c.self.inside in
-    let entities = ids_view c.args.entities.now in
-    let needs = needs_view c.args.needs.now in
-    let line = c.args.line.now in
+    let entities = ids_view c.args.found.now.entities.now in
+    let needs = needs_view c.args.found.now.needs.now in
+    let line = c.args.found.now.line.now in
     let stored : List StoredEntry = stored_of c.store.new.memberships c.store.new.instances in
     let waiting : List Reference = references_of c.add_waiting.new.waiting.items in
-    let counted = ap (λ n. old.references + n) (sym (length-map c.args.needs.now need_view)) in
-    let kept : Kept = record old { stored = stored; waiting = waiting; references = old.references + length c.args.needs.now; bytes = old.bytes + length line; framing = old.framing + 1 } in
-    let N : Kept → Type 0 = λ k. Contains (map (λ (x : StoredEntry). x.name) k.stored) c.args.name → ⊥ in
+    let counted = ap (λ n. old.references + n) (sym (length-map c.args.found.now.needs.now need_view)) in
+    let kept : Kept = record old { stored = stored; waiting = waiting; references = old.references + length c.args.found.now.needs.now; bytes = old.bytes + length line; framing = old.framing + 1 } in
+    let N : Kept → Type 0 = λ k. Contains (map (λ (x : StoredEntry). x.name) k.stored) c.args.found.now.name → ⊥ in
     let none : N old = subst N (sym c.self.view_is) c.requires.another in
-    let permuted : IsPermutation (record { name = c.args.name; section = c.last-section.result; entities = entities; text = line } ∷ old.stored) stored = c.in-Ok-store.ensures.ok in
+    let permuted : IsPermutation (record { name = c.args.found.now.name; section = c.last-section.result; entities = entities; text = line } ∷ old.stored) stored = c.in-Ok-store.ensures.ok in
     let last : c.last-section.result + 1 ≡ length old.headings = c.last-section.ensures in
     let new = c.drop_served.new.self in
-    let F : Kept → Type 0 = λ k. FoundGives s c.args.limits k c.args.name entities needs line (Ok tt) new in
+    let F : Kept → Type 0 = λ k. FoundGives s c.args.limits k c.args.found.now.name entities needs line (Ok tt) new in
     subst F c.self.view_is (λ record_ is.
-    took-dropped s c.args.limits old kept new (instance c.args.name record_) c.drop_served.ensures
-    (took-found s c.args.limits old kept c.args.name record_ entities needs line is none waiting c.in-Ok.ensures c.last-section.result last stored permuted (c.fits_limits.ensures.decides.0 c.if-not-fits_limits.false)
+    took-dropped s c.args.limits old kept new (instance c.args.found.now.name record_) c.drop_served.ensures
+    (took-found s c.args.limits old kept c.args.found.now.name record_ entities needs line is none waiting c.in-Ok.ensures c.last-section.result last stored permuted (c.fits_limits.ensures.decides.0 c.if-not-fits_limits.false)
     (λ i. record old { stored = stored; waiting = waiting; references = counted i; bytes = old.bytes + length line; framing = old.framing + 1 })))

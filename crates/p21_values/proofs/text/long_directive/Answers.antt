@@ -1,5 +1,5 @@
 use Rattle.std.proofs.Math.Nat.{div-div-eq-div-mul}
-use Rattle.p21_values.proofs.text.extended4.Goals as goal
+use Rattle.p21_values.proofs.text.long_directive.Goals as goal
 
 pub returns : goal.returns
 returns c = simp div-div-eq-div-mul (cc)
