@@ -18,14 +18,14 @@ use Rattle.p21_stream.proofs.Stepping.{taken-looked}
 use Rattle.p21_stream.specs.StatementReader as statements
 use Rattle.p21_stream.specs.StatementReader.{IsSeenAt, StatementHistory, bytes_looked_at}
 use Rattle.p21_stream_kept.specs.Steps as kept_steps
-use Rattle.p21_stream.specs.Laws.{DeadByStatement, DeadByStep, HeldWhileLive, LiveAtStart, LiveByPiece, LiveByStatement, LiveByTokens}
+use Rattle.p21_stream.specs.Laws.{DeadByStatement, DeadByStep, HeldWhileLive, LiveAtStart, LiveByPiece, LiveByStatement, LiveByToken}
 use Rattle.p21_stream.specs.Session.{IsDeadWithin}
 
 pub live-at_start : LiveAtStart
 live-at_start s limits held reads are = record { reads = reads; limits_are = are; keeps = keeps-at_start s limits }
 
-pub live-by_tokens : LiveByTokens
-live-by_tokens s limits held next kept reading tokens piece count live goes same = record {
+pub live-by_token : LiveByToken
+live-by_token s limits held next kept reading tokens piece count live goes same = record {
   reading = goes.reading;
   live = record {
     reads = goes.live;
@@ -34,7 +34,7 @@ live-by_tokens s limits held next kept reading tokens piece count live goes same
   };
   taken_are = goes.taken_are;
   seen_at = goes.seen_at;
-  more = goes.more;
+  one_more = goes.one_more;
 }
 
 pub live-by_piece : LiveByPiece
@@ -50,7 +50,7 @@ live-by_statement s limits held next kept after reading tokens piece count state
   };
   taken_are = goes.taken_are;
   seen_at = goes.seen_at;
-  more = goes.more;
+  one_more = goes.one_more;
 }
 
 -- a statement that is refused where the reader stands behind it

@@ -3,7 +3,6 @@ pub mod Stepping
 pub mod Finishing
 pub mod Opening
 pub mod Quiet
-pub mod Tokens
 pub mod PassedOver
 pub mod Going
 pub mod Pieces

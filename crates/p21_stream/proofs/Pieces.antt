@@ -1,8 +1,7 @@
 -- A piece, token by token.
-use Rattle.std.proofs.Common.{◌≡◌, ◌+◌, ◌-◌, ◌^◌, ◌≤◌, ◌<◌, ℕ, List, [], ◌∷◌, ◌++◌, length, take, drop, Option, Some, None, Result, Ok, Err, refl, sym, ap, subst, ◌∙◌, append_assoc, arith}
-use Rattle.std.proofs.Math.Seq.{take-add}
+use Rattle.std.proofs.Common.{◌≡◌, ◌+◌, ◌-◌, ◌^◌, ◌≤◌, ◌<◌, ℕ, zero, suc, List, [], ◌∷◌, ◌++◌, length, take, drop, Option, Some, None, Result, Ok, Err, refl, sym, ap, subst, ◌∙◌, append_assoc, arith}
 use Rattle.std.proofs.lemmas.List.{length-drop, take-append-drop}
-use Rattle.std.specs.List.{flat_map}
+use Rattle.std.specs.List.{flat_map, slice_get}
 use Rattle.p21_basics.specs.Limits.{Limits}
 use Rattle.p21_claim_steps.specs.Keeping.{Keeps, Kept}
 use Rattle.p21_exchange.specs.Statement.{Statement, statement_tokens}
@@ -19,14 +18,30 @@ use Rattle.p21_stream.specs.StatementReader.{IsSeenAt, StatementHistory, limits_
 use Rattle.p21_stream_kept.specs.Steps as kept_steps
 use Rattle.p21_stream_kept.specs.Steps.{StepKeepsBound}
 use Rattle.p21_stream_kept.specs.Taking.{Follows}
-use Rattle.p21_stream.proofs.Going.{dead-by_statement, dead-by_step, live-by_piece, live-by_statement, live-by_tokens}
-use Rattle.p21_stream.proofs.Seen.{seen-first}
+use Rattle.p21_stream.proofs.Going.{dead-by_statement, dead-by_step, live-by_piece, live-by_statement, live-by_token}
 use Rattle.p21_stream.proofs.Within.{given-few, source-within, statements-few}
-use Rattle.p21_stream.specs.Pieces.{EndsNoToken, IsUnderWay, NeedsNoMemory, ReadGives, StepGives}
-use Rattle.p21_stream.specs.Session.{IsLive}
+use Rattle.p21_stream.specs.Pieces.{EndsNoToken, TakesMoreTokens, IsUnderWay, NeedsNoMemory, ReadGives, StepGives}
+use Rattle.p21_stream.specs.Session.{TakesOneToken, IsLive}
 use Rattle.p21_stream.specs.declared.progress.Progress.{Progress}
 
--- ---- the rest of a piece behind a statement
+-- ---- pieces of pieces
+
+take-add : (m k : ℕ) (l : List ℕ) → take (m + k) l ≡ take m l ++ take k (drop m l)
+take-add zero k l = let same : zero + k ≡ k = omega arith in ap (λ (n : ℕ). take n l) same
+take-add (suc m) zero [] = let same : suc m + zero ≡ suc m = omega arith in ap (λ (n : ℕ). take {A = ℕ} n []) same
+take-add (suc m) (suc k) [] = let same : suc m + suc k ≡ suc (m + suc k) = omega arith in ap (λ (n : ℕ). take {A = ℕ} n []) same
+take-add (suc m) k (x ∷ xs) = let same : suc m + k ≡ suc (m + k) = omega arith in ap (λ (n : ℕ). take n (x ∷ xs)) same ∙ ap (λ (l : List ℕ). x ∷ l) (take-add m k xs)
+
+get-drop : (m : ℕ) (l : List ℕ) → slice_get (drop m l) 0 ≡ slice_get l m
+get-drop zero l = refl
+get-drop (suc m) [] = refl
+get-drop (suc m) (x ∷ xs) = get-drop m xs
+
+seen-first : (seen : Option ℕ) (m : ℕ) (l : List ℕ) → IsSeenAt seen l m → IsSeenAt seen (drop m l) 0
+seen-first None m l at = tt
+seen-first (Some byte) m l at = get-drop m l ∙ at
+
+-- ---- the rest of a piece behind a token
 
 pub read-on : (s : Schema) (limits : Limits) (held next last : statements.Held) (kept after end : Kept) (piece : List ℕ) (count : ℕ) → StepGives s limits held kept piece (Ok (Some count)) next after → count ≤ length piece
     → (result : Result (Unit {0}) Refusal) → ReadGives s limits next after (drop count piece) result last end → ReadGives s limits held kept piece result last end
@@ -50,16 +65,21 @@ read-last s limits held next kept after piece gives = gives
 
 -- ---- a step
 
+-- a history with one more token has more tokens
+further : (s : Schema) (limits : Limits) (old : StatementHistory) (tokens : ℕ) (piece : List ℕ) (count : ℕ) (held : statements.Held) (kept : Kept) → TakesOneToken s limits old tokens piece count held kept → TakesMoreTokens s limits old tokens piece count held kept
+further s limits old tokens piece count held kept on = let more = on.one_more in record { reading = on.reading; live = on.live; taken_are = on.taken_are; seen_at = on.seen_at; more = omega (arith, more) }
+
 pub step-piece : (s : Schema) (limits : Limits) (held next : statements.Held) (kept : Kept) (piece : List ℕ) → statements.StepGives held piece (Ok None) next → limits_of next ≡ limits_of held → StepGives s limits held kept piece (Ok None) next kept
 step-piece s limits held next kept piece gives same reading live at = (reading.given, live-by_piece s limits held next kept reading piece live (gives reading live.reads at) same)
 
-pub step-tokens : (s : Schema) (limits : Limits) (held next : statements.Held) (kept : Kept) (piece : List ℕ) (count : ℕ) → statements.StepGives held piece (Ok (Some (count, None))) next → limits_of next ≡ limits_of held → StepGives s limits held kept piece (Ok (Some count)) next kept
-step-tokens s limits held next kept piece count gives same reading live at = live-by_tokens s limits held next kept reading (length live.reads.history.given) piece count live (gives reading live.reads at) same
+pub step-token : (s : Schema) (limits : Limits) (held next : statements.Held) (kept : Kept) (piece : List ℕ) (count : ℕ) → statements.StepGives held piece (Ok (Some (count, None))) next → limits_of next ≡ limits_of held → StepGives s limits held kept piece (Ok (Some count)) next kept
+step-token s limits held next kept piece count gives same reading live at = further s limits reading (length live.reads.history.given) piece count next kept (live-by_token s limits held next kept reading (length live.reads.history.given) piece count live (gives reading live.reads at) same)
 
 pub step-statement : (s : Schema) (limits : Limits) (held next : statements.Held) (kept after : Kept) (piece : List ℕ) (count : ℕ) (event : Event) → statements.StepGives held piece (Ok (Some (count, Some event))) next → limits_of next ≡ limits_of held
     → kept_steps.StepGives s limits kept (statement_of event) (Ok tt) after → StepGives s limits held kept piece (Ok (Some count)) next after
 step-statement s limits held next kept after piece count event gives same takes reading live at =
-    live-by_statement s limits held next kept after reading (length live.reads.history.given) piece count (statement_of event) live (gives reading live.reads at) same takes
+    further s limits reading (length live.reads.history.given) piece count next after
+    (live-by_statement s limits held next kept after reading (length live.reads.history.given) piece count (statement_of event) live (gives reading live.reads at) same takes)
 
 pub step-refused : (s : Schema) (limits : Limits) (held next : statements.Held) (kept after : Kept) (piece : List ℕ) (refusal : Refusal) (fault : Fault) → refusal.fault ≡ fault → statements.StepGives held piece (Err fault) next → StepGives s limits held kept piece (Err refusal) next after
 step-refused s limits held next kept after piece refusal fault is gives other reading live at = dead-by_step s limits held next kept reading piece fault live at gives (λ none. other (is ∙ none))
@@ -97,16 +117,16 @@ follows-behind s limits next kept reading on statement keeps live given limit co
       few = subst (λ (sts : List Statement). length (flat_map statement_tokens sts) < 2 ^ 64) given (omega (arith, few, within, limit, counted));
     }
 
--- the statement that ends
+-- the statement that a token ends
 pub statement-follows : (s : Schema) (limits : Limits) (held next : statements.Held) (kept : Kept) (piece : List ℕ) (count : ℕ) (event : Event) → IsUnderWay s limits held kept piece → statements.StepGives held piece (Ok (Some (count, Some event))) next
     → limits_of next ≡ limits_of held → Follows s limits kept (statement_of event)
 statement-follows s limits held next kept piece count event way gives same =
     let on = gives way.reading way.live.reads way.seen_at in
     follows-behind s limits next kept way.reading on.reading (statement_of event) way.live.keeps on.live on.given_are (ap (λ p. p.1) (same ∙ way.live.limits_are)) way.counted
 
--- ---- all statements of a piece
+-- ---- all tokens of a piece
 
--- what the rest gives, the piece gives; and each round took a token or more
+-- what the rest gives, the piece gives; and each round gave a token
 pub record IsRest (s : Schema) (limits : Limits) (old : Progress) (piece : List ℕ) (now : Progress) (rest : List ℕ) (rounds : ℕ) : Type 0 where
   pub gives : (result : Result (Unit {0}) Refusal) (last : statements.Held) (end : Kept) → ReadGives s limits now.statements now.kept rest result last end → ReadGives s limits old.statements old.kept piece result last end
   pub bound : StepKeepsBound limits old.kept now.kept

@@ -1,12 +1,11 @@
 -- What was looked at in a piece without being taken.
-use Rattle.std.proofs.Common.{◌≡◌, ◌+◌, ◌≤◌, ◌⊎◌, ℕ, zero, suc, List, [], ◌∷◌, ◌++◌, length, take, drop, Option, Some, None, inl, inr, refl, sym, ap, ◌∙◌, append_assoc, arith}
+use Rattle.std.proofs.Common.{◌≡◌, ◌+◌, ◌≤◌, ◌⊎◌, ℕ, zero, suc, List, [], ◌∷◌, ◌++◌, length, take, Option, Some, None, inl, inr, refl, sym, ap, ◌∙◌, append_assoc, arith}
 use Rattle.std.proofs.lemmas.List.{append-nil}
 use Rattle.std.proofs.lemmas.Option.{slice_get_within}
 use Rattle.std.specs.List.{slice_get}
 use Rattle.p21_basics.specs.History.{IsOfferedFirst, seen_behind}
 use Rattle.p21_stream.specs.StatementReader.{IsSeenAt}
 use Rattle.p21_tokens.proofs.Extending.{take-one}
-use Rattle.p21_tokens.proofs.Scanning.{byte-behind}
 
 -- what was seen is offered first
 pub offered : (seen : Option ℕ) (piece : List ℕ) → IsSeenAt seen piece 0 → IsOfferedFirst seen piece
@@ -47,18 +46,3 @@ looked-up_to taken piece count (Some byte) within at = record {
   within = let below = slice_get_within piece count byte at in omega (arith, below);
   looked_are = append_assoc taken (take count piece) (byte ∷ []) ∙ ap (λ (l : List ℕ). taken ++ l) (sym (take-one piece count byte at));
 }
-
--- ---- the rest of a piece
-
-get-drop : (m : ℕ) (l : List ℕ) → slice_get (drop m l) 0 ≡ slice_get l m
-get-drop zero l = refl
-get-drop (suc m) [] = refl
-get-drop (suc m) (x ∷ xs) = get-drop m xs
-
-pub seen-first : (seen : Option ℕ) (m : ℕ) (l : List ℕ) → IsSeenAt seen l m → IsSeenAt seen (drop m l) 0
-seen-first None m l at = tt
-seen-first (Some byte) m l at = get-drop m l ∙ at
-
-pub seen-further : (seen : Option ℕ) (m n : ℕ) (l : List ℕ) → IsSeenAt seen (drop m l) n → IsSeenAt seen l (m + n)
-seen-further None m n l at = tt
-seen-further (Some byte) m n l at = byte-behind l m n byte at

@@ -1,5 +1,5 @@
--- What a session's progress owes for a statement, and for a whole piece.
-use Rattle.std.specs.Prelude.{◌≡◌, ◌≢◌, ◌≤◌, ◌<◌, ◌^◌, ℕ, List, ◌++◌, length, Option, Some, None, Result, Ok, Err}
+-- What a session's progress owes for a token, and for a whole piece.
+use Rattle.std.specs.Prelude.{◌≡◌, ◌≢◌, ◌≤◌, ◌<◌, ◌^◌, ℕ, List, ◌++◌, length, take, Option, Some, None, Result, Ok, Err}
 use Rattle.p21_basics.specs.Limits.{Limits}
 use Rattle.p21_claim_steps.specs.Keeping.{Kept}
 use Rattle.p21_exchange.specs.Pending.{IsPending}
@@ -12,7 +12,7 @@ use Rattle.p21_stream_kept.specs.declared.refusal.Refusal.{Refusal}
 use Rattle.p21_stream.specs.StatementReader as statements
 use Rattle.p21_stream.specs.StatementReader.{IsSeenAt, StatementHistory}
 use Rattle.p21_stream.specs.Canonical.{IsCanonicalOutput}
-use Rattle.p21_stream.specs.Session.{IsDeadWithin, IsLive, TakesMoreTokens}
+use Rattle.p21_stream.specs.Session.{IsDeadWithin, IsLive}
 use Rattle.p21_tokens.specs.Histories.{AreSeparators}
 
 -- a history is live, and the byte that was seen is offered first; 64 bits count the bytes of a file
@@ -31,7 +31,15 @@ TakesWithinPiece piece other = Unit {0}
 abbrev pub IsReadWhole : Schema → Limits → StatementHistory → List ℕ → statements.Held → Kept → Type 0
 IsReadWhole s limits reading piece held kept = (given : List Statement) × IsLive s limits held kept (record { taken = reading.taken ++ piece; seen = None; given = given })
 
--- what a statement, or the rest of a piece, gives: for each history that is live, where the byte that was seen is offered first
+-- a history of so many tokens goes on behind so many bytes of a piece, with more tokens
+pub record TakesMoreTokens (s : Schema) (limits : Limits) (old : StatementHistory) (tokens : ℕ) (piece : List ℕ) (count : ℕ) (held : statements.Held) (kept : Kept) : Type 0 where
+  pub reading : StatementHistory
+  pub live : IsLive s limits held kept reading
+  pub taken_are : reading.taken ≡ old.taken ++ take count piece
+  pub seen_at : IsSeenAt reading.seen piece count
+  pub more : tokens < length live.reads.history.given
+
+-- what a token, an instance, or the rest of a piece, gives: for each history that is live, where the byte that was seen is offered first
 abbrev pub StepGives : Schema → Limits → statements.Held → Kept → List ℕ → Result (Option ℕ) Refusal → statements.Held → Kept → Type 0
 StepGives s limits held kept piece (Ok None) next after = (reading : StatementHistory) → IsLive s limits held kept reading → IsSeenAt reading.seen piece 0 → IsReadWhole s limits reading piece next after
 StepGives s limits held kept piece (Ok (Some count)) next after = (reading : StatementHistory) (live : IsLive s limits held kept reading) → IsSeenAt reading.seen piece 0 → TakesMoreTokens s limits reading (length live.reads.history.given) piece count next after

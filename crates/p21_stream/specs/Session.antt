@@ -1,5 +1,5 @@
 -- What a session knows of the bytes that it has taken, where it has refused none.
-use Rattle.std.specs.Prelude.{◌≡◌, ◌≤◌, ◌<◌, ℕ, List, ◌++◌, length, take}
+use Rattle.std.specs.Prelude.{◌≡◌, ◌≤◌, ◌+◌, ℕ, List, ◌++◌, length, take}
 use Rattle.p21_basics.specs.Limits.{Limits}
 use Rattle.p21_claim_steps.specs.Keeping.{Keeps, Kept}
 use Rattle.p21_files.specs.Accepted.{IsDead}
@@ -13,13 +13,13 @@ pub record IsLive (s : Schema) (limits : Limits) (held : statements.Held) (kept 
   pub limits_are : limits_of held ≡ (limits.record_source, limits.file_source)
   pub keeps : Keeps s limits reading.given kept
 
--- a history of so many tokens goes on behind so many bytes of a piece, with more tokens
-pub record TakesMoreTokens (s : Schema) (limits : Limits) (old : StatementHistory) (tokens : ℕ) (piece : List ℕ) (count : ℕ) (held : statements.Held) (kept : Kept) : Type 0 where
+-- a history of so many tokens goes on behind so many bytes of a piece, with one more token
+pub record TakesOneToken (s : Schema) (limits : Limits) (old : StatementHistory) (tokens : ℕ) (piece : List ℕ) (count : ℕ) (held : statements.Held) (kept : Kept) : Type 0 where
   pub reading : StatementHistory
   pub live : IsLive s limits held kept reading
   pub taken_are : reading.taken ≡ old.taken ++ take count piece
   pub seen_at : IsSeenAt reading.seen piece count
-  pub more : tokens < length live.reads.history.given
+  pub one_more : length live.reads.history.given ≡ tokens + 1
 
 -- nothing that is accepted begins with the bytes taken and some of the piece
 pub record IsDeadWithin (s : Schema) (limits : Limits) (old : StatementHistory) (piece : List ℕ) : Type 0 where

@@ -1,6 +1,6 @@
 -- What a lexer and a parser behind it have taken and answered (ISO 10303-21, tokens; formal definition of the exchange
 -- structure).
-use Rattle.std.specs.Prelude.{◌≡◌, ◌≢◌, ◌≤◌, ◌<◌, ◌+◌, ◌⊎◌, ℕ, List, [], ◌∷◌, ◌++◌, length, take, slice_get, Option, Some, None, Result, Ok, Err}
+use Rattle.std.specs.Prelude.{◌≡◌, ◌≢◌, ◌≤◌, ◌+◌, ◌⊎◌, ℕ, List, [], ◌∷◌, ◌++◌, length, take, slice_get, Option, Some, None, Result, Ok, Err}
 use Rattle.std.specs.List.{flat_map}
 use Rattle.p21_basics.specs.History.{empty}
 use Rattle.p21_basics.specs.Limits.{Limits}
@@ -72,7 +72,8 @@ abbrev pub IsSeenAt : Option ℕ → List ℕ → ℕ → Type 0
 IsSeenAt None piece place = Unit {0}
 IsSeenAt (Some byte) piece place = slice_get piece place ≡ Some byte
 
--- a history of so many tokens goes on behind so many bytes of the piece, with one more token, which gave these statements
+-- a step goes on from a history of so many tokens: it took so many bytes of the piece and one more token, and gave these
+-- statements
 pub record TakesOneToken (old : StatementHistory) (tokens : ℕ) (piece : List ℕ) (count : ℕ) (given : List Statement) (held : Held) : Type 0 where
   pub reading : StatementHistory
   pub live : IsLive held reading
@@ -80,15 +81,6 @@ pub record TakesOneToken (old : StatementHistory) (tokens : ℕ) (piece : List �
   pub given_are : reading.given ≡ old.given ++ given
   pub seen_at : IsSeenAt reading.seen piece count
   pub one_more : length live.history.given ≡ tokens + 1
-
--- a history of so many tokens goes on behind so many bytes of the piece, with more tokens, which gave these statements
-pub record TakesTokens (old : StatementHistory) (tokens : ℕ) (piece : List ℕ) (count : ℕ) (given : List Statement) (held : Held) : Type 0 where
-  pub reading : StatementHistory
-  pub live : IsLive held reading
-  pub taken_are : reading.taken ≡ old.taken ++ take count piece
-  pub given_are : reading.given ≡ old.given ++ given
-  pub seen_at : IsSeenAt reading.seen piece count
-  pub more : tokens < length live.history.given
 
 -- a step refuses a byte, or the token that it follows: nothing that begins with the bytes up to it is accepted
 pub record RefusesWithin (limits : ℕ × ℕ) (old : StatementHistory) (piece : List ℕ) : Type 0 where
@@ -99,14 +91,8 @@ pub record RefusesWithin (limits : ℕ × ℕ) (old : StatementHistory) (piece :
 -- what a step gives, for each history that was stood for, where the byte that was seen is offered first
 abbrev pub StepGives : Held → List ℕ → Result (Option (ℕ × Option Event)) Fault → Held → Type 0
 StepGives old piece (Ok None) new = (reading : StatementHistory) → IsLive old reading → IsSeenAt reading.seen piece 0 → IsLive new (record { taken = reading.taken ++ piece; seen = None; given = reading.given })
-StepGives old piece (Ok (Some (count, event))) new = (reading : StatementHistory) (live : IsLive old reading) → IsSeenAt reading.seen piece 0 → TakesTokens reading (length live.history.given) piece count (statements_of event) new
+StepGives old piece (Ok (Some (count, event))) new = (reading : StatementHistory) (live : IsLive old reading) → IsSeenAt reading.seen piece 0 → TakesOneToken reading (length live.history.given) piece count (statements_of event) new
 StepGives old piece (Err fault) new = fault ≢ NoMemory → (reading : StatementHistory) → IsLive old reading → IsSeenAt reading.seen piece 0 → RefusesWithin (limits_of old) reading piece
-
--- what one token gives: as much as a step where the piece ends or it is refused
-abbrev pub TokenGives : Held → List ℕ → Result (Option (ℕ × Option Event)) Fault → Held → Type 0
-TokenGives old piece (Ok None) new = StepGives old piece (Ok None) new
-TokenGives old piece (Ok (Some (count, event))) new = (reading : StatementHistory) (live : IsLive old reading) → IsSeenAt reading.seen piece 0 → TakesOneToken reading (length live.history.given) piece count (statements_of event) new
-TokenGives old piece (Err fault) new = StepGives old piece (Err fault) new
 
 -- so many bytes of the piece at most
 abbrev pub TakesWithinPiece : List ℕ → Result (Option (ℕ × Option Event)) Fault → Type 0

@@ -178,12 +178,12 @@ impl Progress {
         }
     }
 
-    /// Reads the bytes of a whole instance, or those of tokens up to the end of a statement, or the rest of a piece in which no
-    /// token is whole; says how many bytes where it was an instance or tokens.
+    /// Reads the bytes of a whole instance or of one token, or the rest of a piece in which none is whole; says how many bytes
+    /// where it was an instance or a token.
     ///
     /// # Errors
     ///
-    /// The refusal of a byte, of a token, or of the statement that ends.
+    /// The refusal of a byte, of the token, or of the statement that ends.
     fn advance(
         &mut self,
         schema: &Schema,
@@ -214,12 +214,12 @@ impl Progress {
         self.step(schema, limits, piece)
     }
 
-    /// Reads the bytes of tokens up to the end of a statement, or the rest of a piece in which none ends; says how many bytes
-    /// where they were tokens.
+    /// Reads the bytes of one token, or the rest of a piece in which none is whole; says how many bytes where it was a
+    /// token.
     ///
     /// # Errors
     ///
-    /// The refusal of a byte, of a token, or of the statement that ends.
+    /// The refusal of a byte, of the token, or of the statement that it ends.
     fn step(
         &mut self,
         schema: &Schema,

@@ -2,7 +2,7 @@ ghost use Rattle.std.specs.Prelude.{◌≡◌, ◌≤◌, ◌↔◌, ◌+◌, []
 ghost use Rattle.p21_exchange.specs.OpenNesting.{IsDepth};
 ghost use Rattle.p21_grammar.specs.Between.{StandsForMore};
 ghost use Rattle.p21_stream_kept.specs.Source.{IsOfBytes};
-ghost use Rattle.p21_stream.specs.StatementReader.{FinishGives, HasOpenStatement, IsLive, NeedsNoMemory, StatementHistory, StepGives, TakesWithinPiece, TokenGives, limits_of, nothing_read};
+ghost use Rattle.p21_stream.specs.StatementReader.{FinishGives, HasOpenStatement, IsLive, NeedsNoMemory, StatementHistory, StepGives, TakesWithinPiece, limits_of, nothing_read};
 ghost use Rattle.p21_stream.specs.PassingOver.{GivesPassed, IsAtRest, IsBetweenInstances, held_behind, room_of};
 
 use p21_grammar::{Event, GrammarFault, Line, Parser};
@@ -42,52 +42,15 @@ impl StatementReader {
         }
     }
 
-    /// Takes the bytes of tokens up to the end of a statement, and says how many, with the statement; or the rest of a piece in
-    /// which none ends. Behind very many tokens it answers without a statement. The byte behind a token may have been looked
-    /// at: it has to be offered next.
-    ///
-    /// # Errors
-    ///
-    /// The lexer's, or the parser's at a token.
-    pub fn step(&mut self, piece: &[u8]) -> Result<Option<(usize, Option<Event>)>, Fault>
-        ensures takes { TakesWithinPiece piece.now result }
-        ensures gives { StepGives self.old piece.now result self.new }
-        ensures limits { limits_of self.new ≡ limits_of self.old }
-        ensures no_memory { NeedsNoMemory self.old piece.now result }
-        ensures kind { IfErr result (λ fault. IsOfBytes fault) }
-    {
-        let mut taken: usize = 0;
-        let mut rounds: u64 = 0;
-        loop {
-            let answer = match self.take_token(&piece[taken..]) {
-                Ok(answer) => answer,
-                Err(fault) => return Err(fault),
-            };
-            let Some((count, event)) = answer else {
-                return Ok(None);
-            };
-            taken += count;
-            if let Some(event) = event {
-                self.ended = is_end(&event);
-                return Ok(Some((taken, Some(event))));
-            }
-            if rounds == u64::MAX {
-                return Ok(Some((taken, None)));
-            }
-            rounds += 1;
-        }
-    }
-
     /// Takes the bytes of one token, or of the rest of a piece in which none is whole, and says how many; with the `;` of
-    /// a statement, the statement.
+    /// a statement, the statement. The byte behind a token may have been looked at: it has to be offered next.
     ///
     /// # Errors
     ///
     /// The lexer's, or the parser's at the token.
-    #[inline(always)]
-    fn take_token(&mut self, piece: &[u8]) -> Result<Option<(usize, Option<Event>)>, Fault>
+    pub fn step(&mut self, piece: &[u8]) -> Result<Option<(usize, Option<Event>)>, Fault>
         ensures takes { TakesWithinPiece piece.now result }
-        ensures gives { TokenGives self.old piece.now result self.new }
+        ensures gives { StepGives self.old piece.now result self.new }
         ensures limits { limits_of self.new ≡ limits_of self.old }
         ensures no_memory { NeedsNoMemory self.old piece.now result }
         ensures kind { IfErr result (λ fault. IsOfBytes fault) }
@@ -99,11 +62,13 @@ impl StatementReader {
         let Some(token) = token else {
             return Ok(None);
         };
-        let event = match self.parser.take(token) {
-            Ok(event) => event,
-            Err(fault) => return Err(Fault::from(fault)),
-        };
-        Ok(Some((count, event)))
+        match self.parser.take(token) {
+            Ok(event) => {
+                self.ended = has_ended(&event, self.ended);
+                Ok(Some((count, event)))
+            }
+            Err(fault) => Err(Fault::from(fault)),
+        }
     }
 
     /// The end of the bytes. A last whole token is looked at only where the file has ended before it.
@@ -200,10 +165,11 @@ fn last_fault(mut parser: Parser, token: Token, ended: bool) -> Fault
     }
 }
 
-/// Whether a statement is the last line of a file.
-fn is_end(event: &Event) -> bool {
+/// Whether the last statement behind this call is the last line of a file.
+fn has_ended(event: &Option<Event>, before: bool) -> bool {
     match event {
-        Event::Section(Line::Finish) => true,
-        _ => false,
+        Some(Event::Section(Line::Finish)) => true,
+        Some(_) => false,
+        None => before,
     }
 }

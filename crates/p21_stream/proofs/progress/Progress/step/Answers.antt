@@ -1,7 +1,7 @@
 use Rattle.std.proofs.Common.{ℕ, Ok, Err, Option, Some, subst}
 use Rattle.p21_grammar.specs.declared.event.Event.{Event}
 use Rattle.p21_stream.specs.StatementReader as statements
-use Rattle.p21_stream.proofs.Pieces.{statement-follows, step-offends, step-piece, step-quiet, step-refused, step-statement, step-tokens, token-none, token-quiet}
+use Rattle.p21_stream.proofs.Pieces.{statement-follows, step-offends, step-piece, step-quiet, step-refused, step-statement, step-token, token-none, token-quiet}
 use Rattle.p21_stream.proofs.progress.Progress.step.Goals as goal
 
 pub returns-in-Err-clause-gives : goal.returns-in-Err-clause-gives
@@ -9,7 +9,7 @@ returns-in-Err-clause-gives c = step-refused c.args.schema.now c.args.limits c.a
 
 pub returns-in_default-event-clause-gives : goal.returns-in_default-event-clause-gives
 returns-in_default-event-clause-gives c =
-    step-tokens c.args.schema.now c.args.limits c.args.self.now.statements c.step.new.self c.args.self.now.kept c.args.piece.now c.in-Some.count
+    step-token c.args.schema.now c.args.limits c.args.self.now.statements c.step.new.self c.args.self.now.kept c.args.piece.now c.in-Some.count
     (subst (λ (e : Option Event). statements.StepGives c.args.self.now.statements c.args.piece.now (Ok (Some (c.in-Some.count, e))) c.step.new.self) c.in_default-event.is
     (subst (λ (a : Option (ℕ × Option Event)). statements.StepGives c.args.self.now.statements c.args.piece.now (Ok a) c.step.new.self) c.in-Some.is c.in-Ok.ensures.gives))
     c.in-Ok.ensures.limits
