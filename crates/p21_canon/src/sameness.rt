@@ -6,9 +6,9 @@ ghost use Rattle.p21_canon.specs.Occurrences.{Occurs};
 
 use p21_mapping_values::Value;
 
-/// Are two values the same (ISO 10303-11, value comparison operators)? Reals and numbers are compared by their ratios,
-/// lists and arrays element by element, sets and bags without order. It takes no memory, and time that grows with the
-/// square of an aggregate's length.
+/// Whether two values are the same (ISO 10303-11, value comparison operators). Reals and numbers are compared by their
+/// ratios, lists and arrays element by element, sets and bags without order. It takes no memory, and time that grows with
+/// the square of an aggregate's length.
 #[cycle(same)]
 pub fn same(a: &Value, b: &Value) -> bool
     ensures { IsTrue result ↔ Same (view a.now) (view b.now) }
@@ -34,7 +34,7 @@ pub fn same(a: &Value, b: &Value) -> bool
     }
 }
 
-/// Are values the same element by element?
+/// Whether values are the same element by element.
 #[cycle(same)]
 fn same_in_order(a: &[Value], b: &[Value]) -> bool
     ensures { IsTrue result ↔ SameInOrder (views a.now) (views b.now) }
@@ -50,7 +50,7 @@ fn same_in_order(a: &[Value], b: &[Value]) -> bool
     true
 }
 
-/// Is the value the same as some element?
+/// Whether the value is the same as some element.
 #[cycle(same)]
 fn is_among(value: &Value, others: &[Value]) -> bool
     ensures { IsTrue result ↔ Among (view value.now) (views others.now) }
@@ -63,7 +63,7 @@ fn is_among(value: &Value, others: &[Value]) -> bool
     false
 }
 
-/// Is each value the same as some element of the others?
+/// Whether each value is the same as some element of the others.
 #[cycle(same)]
 fn each_among(values: &[Value], others: &[Value]) -> bool
     ensures { IsTrue result ↔ EachAmong (views values.now) (views others.now) }
@@ -90,7 +90,8 @@ fn occurrences(value: &Value, others: &[Value]) -> usize
     count
 }
 
-/// Do the values pair off? Without memory: there are as many, and each is as often among the one as among the other.
+/// Whether the values pair off: there are as many, and each is as often among the one as among the other. It takes no
+/// memory.
 #[cycle(same)]
 fn same_paired(a: &[Value], b: &[Value]) -> bool
     ensures { IsTrue result ↔ SamePaired (views a.now) (views b.now) }

@@ -37,7 +37,7 @@ fn check_no_entity(found: &TypeUse) -> Result<(), SchemaFault>
     }
 }
 
-/// Words once more.
+/// Copies of words, in their order.
 fn copied_all(alloc: Global, words: &[Word]) -> Result<Vec<Word>, NoMemory>
     ensures { IfOk result (λ copies. copies.items ≡ words.now) }
 {

@@ -7,16 +7,16 @@ ghost use Rattle.p21_express_types.specs.Meaning.{member};
 use crate::fault::SchemaFault;
 use crate::names::KnownNames;
 use p21_express_types::{EntityId, Member, TypeId};
-use p21_values::{Canonical, NoMemory, Word};
+use p21_values::{NoMemory, Word};
 use std::alloc::Global;
 
-/// A word once more.
+/// A copy of a word.
 pub(crate) fn copied(alloc: Global, word: &Word) -> Result<Word, NoMemory>
     ensures { IfOk result (λ copy. copy ≡ word.now) }
 {
-    let mut bytes = Vec::new(alloc);
-    word.write_canonical(&mut bytes)?;
-    Word::of_prefix(alloc, &bytes, bytes.len())
+    word.holds();
+    let bytes = word.bytes();
+    Word::of_prefix(alloc, bytes, bytes.len())
 }
 
 /// The entity of a name.

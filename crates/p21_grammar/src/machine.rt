@@ -202,7 +202,7 @@ fn trimmed_record_params(alloc: Global, params: Vec<Param>, head: &Head) -> Vec<
     }
 }
 
-/// Can lists be many in these rows? So it is where they stand deep, behind many parameters, or in one of several records.
+/// Whether lists can be many in these rows: where they stand deep, behind many parameters, or in one of several records.
 fn are_many(around: &[Row]) -> bool {
     if around.len() > SHALLOW {
         return true;
@@ -219,7 +219,7 @@ fn are_many(around: &[Row]) -> bool {
     false
 }
 
-/// Do these parameters belong to one of several records?
+/// Whether these parameters belong to one of several records.
 fn is_of_several(opening: &Opening) -> bool {
     matches!(opening, Opening::Part(Head::Among(_, _), _))
 }
@@ -861,7 +861,7 @@ impl Machine {
         Ok(None)
     }
 
-    /// Is no statement open, and has the file ended?
+    /// Whether no statement is open and the file has ended.
     pub fn is_ended(&self) -> bool
         ensures { IsTrue result ↔ ((self.now.stage ≡ Ended) × (spot_of self.now ≡ idle)) }
     {
@@ -871,7 +871,7 @@ impl Machine {
         }
     }
 
-    /// Is no statement open, in a data section?
+    /// Whether it stands in a data section, with no statement open.
     pub fn is_between_instances(&self) -> bool
         ensures { IsTrue result ↔ ((is_in_data self.now.stage ≡ true) × (spot_of self.now ≡ idle)) }
     {

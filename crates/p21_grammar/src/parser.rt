@@ -106,8 +106,8 @@ impl Parser {
         self.depth
     }
 
-    /// Does it stand in a data section, with no statement open? Then instances may be passed over, which takes no call:
-    /// behind one it holds what it held before it. It takes no memory.
+    /// Whether it stands in a data section, with no statement open. Then instances may be passed over, which takes no
+    /// call: behind one it holds what it held before it. It takes no memory.
     pub fn is_between_instances(&self) -> bool
         ensures value { IsTrue result ↔ IsBetweenInstances self.now }
         ensures stands { result ≡ true → StandsForMore self.now }

@@ -7,14 +7,14 @@ ghost use Rattle.p21_grammar.specs.Shape.{is_key, is_text, is_text_or_unset, are
 use p21_grammar_tree::{Key, Param, Part};
 use p21_values::Word;
 
-/// Has it these characters?
+/// Whether the word has these characters.
 pub fn is_word(word: &Word, characters: &[u8]) -> bool
     ensures { result ≡ bytes_eq word.now characters.now }
 {
     word.bytes() == characters
 }
 
-/// Is it this keyword, which is no user-defined one?
+/// Whether the keyword is this standard one. A user-defined keyword never is.
 pub fn is_key(key: &Key, word: &[u8]) -> bool
     ensures { result ≡ is_key word.now (key_view key.now) }
 {

@@ -25,7 +25,7 @@ pub(crate) fn element(of: &TypeUse) -> Option<(bool, &TypeUse)>
     }
 }
 
-/// Do the bounds of the aggregate allow so many elements?
+/// Whether the bounds of the aggregate allow so many elements.
 pub(crate) fn allows_count(of: &TypeUse, count: usize) -> bool
     ensures { IsTrue result ↔ AllowsCount (type_use of.now) count }
 {
@@ -38,7 +38,7 @@ pub(crate) fn allows_count(of: &TypeUse, count: usize) -> bool
     }
 }
 
-/// May no two elements of the aggregate be the same?
+/// Whether no two elements of the aggregate may be the same.
 pub(crate) fn is_unique(of: &TypeUse) -> bool
     ensures { IsTrue result ↔ IsUnique (type_use of.now) }
 {

@@ -5,7 +5,7 @@ ghost use Rattle.p21_express_types.specs.Meaning.{width_option};
 use p21_express_types::Width;
 use p21_values::Word;
 
-/// Does a width allow so many characters or bits (ISO 10303-11, String data type, Binary data type)?
+/// Whether a width allows so many characters or bits (ISO 10303-11, String data type, Binary data type).
 pub(crate) fn is_within(width: Option<Width>, count: u128) -> bool
     ensures { IsTrue result ↔ IsWithinWidth (width_option width) count }
 {
@@ -22,7 +22,7 @@ pub(crate) fn is_within(width: Option<Width>, count: u128) -> bool
     }
 }
 
-/// Do bounds allow so many elements (ISO 10303-11, Aggregation data types)?
+/// Whether bounds allow so many elements (ISO 10303-11, Aggregation data types).
 pub(crate) fn is_bounded(low: u32, high: Option<u32>, count: usize) -> bool
     ensures { IsTrue result ↔ IsWithinBounds low high count }
 {
@@ -35,7 +35,7 @@ pub(crate) fn is_bounded(low: u32, high: Option<u32>, count: usize) -> bool
     }
 }
 
-/// Has an array with these bounds so many elements, one for each index?
+/// Whether an array with these bounds has so many elements, one for each index.
 pub(crate) fn is_array_count(low: u32, high: u32, count: usize) -> bool
     ensures { IsTrue result ↔ (count + low ≡ high + 1) }
 {
@@ -44,14 +44,14 @@ pub(crate) fn is_array_count(low: u32, high: u32, count: usize) -> bool
     low <= behind && count == behind - low
 }
 
-/// Is the word an item of BOOLEAN?
+/// Whether the word is an item of BOOLEAN.
 pub(crate) fn is_boolean(word: &Word) -> bool
     ensures { IsTrue result ↔ Contains boolean_items word.now }
 {
     matches!(word.bytes(), b"T" | b"F")
 }
 
-/// Is the word an item of LOGICAL?
+/// Whether the word is an item of LOGICAL.
 pub(crate) fn is_logical(word: &Word) -> bool
     ensures { IsTrue result ↔ Contains logical_items word.now }
 {

@@ -14,7 +14,7 @@ use p21_mapping_values::{Value, are_distinct, write_value};
 use p21_values::NoMemory;
 use std::alloc::Global;
 
-/// Are no two of the elements of an aggregate the same, where none may be the same as another?
+/// Whether no two elements of an aggregate are the same, where no two may be the same.
 ///
 /// # Errors
 ///
@@ -35,8 +35,8 @@ pub(crate) fn keeps_unique(
     are_different(alloc, schema, values)
 }
 
-/// Are no two of the values the same (ISO 10303-11, Value comparison operators), empty places apart? Two values of one type
-/// are the same exactly if their canonical texts are equal.
+/// Whether no two of the values are the same (ISO 10303-11, Value comparison operators), empty places apart. Two values of
+/// one type are the same exactly if their canonical texts are equal.
 ///
 /// # Errors
 ///

@@ -6,7 +6,7 @@ use p21_grammar_tree::{Key, Param, Params};
 use p21_values::NoMemory;
 use std::alloc::Global;
 
-/// A keyword once more.
+/// A copy of a keyword.
 pub(crate) fn copied_key(alloc: Global, key: &Key) -> Result<Key, NoMemory>
     ensures { IfOk result (λ copy. key_view copy ≡ key_view key.now) }
 {
@@ -16,7 +16,7 @@ pub(crate) fn copied_key(alloc: Global, key: &Key) -> Result<Key, NoMemory>
     })
 }
 
-/// A parameter once more.
+/// A copy of a parameter.
 ///
 /// # Errors
 ///
@@ -43,7 +43,7 @@ pub fn copied_param(alloc: Global, param: &Param) -> Result<Param, NoMemory>
     }
 }
 
-/// Parameters in a row once more.
+/// Copies of parameters, in their order.
 ///
 /// # Errors
 ///

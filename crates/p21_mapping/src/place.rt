@@ -52,7 +52,7 @@ pub(crate) fn fit_place(
     }
 }
 
-/// Is it `*`?
+/// Whether the parameter is `*`.
 fn is_star(param: &Param) -> bool
     ensures { IsTrue result ↔ (view param.now ≡ parameter.star) }
 {
@@ -78,7 +78,7 @@ fn fit_stored(
     fit(alloc, schema, param, of, needs)
 }
 
-/// Is it `$` where there may be no value?
+/// Whether the parameter is `$`, where there may be no value.
 fn is_left_out(optional: bool, param: &Param) -> bool
     ensures { IsTrue result ↔ IsLeftOut optional (view param.now) }
 {

@@ -6,7 +6,7 @@ use p21_grammar_tree::{Part, Parts, Record};
 use p21_values::NoMemory;
 use std::alloc::Global;
 
-/// A record once more.
+/// A copy of a record.
 ///
 /// # Errors
 ///
@@ -20,7 +20,7 @@ pub fn copied_record(alloc: Global, of: &Record) -> Result<Record, NoMemory>
     }
 }
 
-/// A simple record once more.
+/// A copy of a simple record.
 fn copied_part(alloc: Global, part: &Part) -> Result<Part, NoMemory>
     ensures { IfOk result (λ copy. part_view copy ≡ part_view part.now) }
 {
@@ -30,7 +30,7 @@ fn copied_part(alloc: Global, part: &Part) -> Result<Part, NoMemory>
     })
 }
 
-/// Simple records in a row once more.
+/// Copies of simple records, in their order.
 fn copied_parts(alloc: Global, parts: &Parts) -> Result<Parts, NoMemory>
     ensures { IfOk result (λ copy. part_views copy ≡ part_views parts.now) }
 {

@@ -100,7 +100,7 @@ pub(crate) fn fit_item(base: Base<'_>, word: Word) -> Result<Value, CheckFault>
     }
 }
 
-/// Is the word one of the items of the type?
+/// Whether the word is one of the items of the type.
 fn is_item(base: Base<'_>, word: &Word) -> Result<bool, CheckFault>
     ensures ok { IfOk result (λ is_one. DecidesItem base.entry word.now is_one) }
     ensures err { IfErr result (λ fault. RefusesItem base.entry word.now fault) }

@@ -3,7 +3,7 @@ ghost use Rattle.std.specs.Prelude.{◌≡◌, IfOk};
 use p21_values::{Bits, Canonical, Decimal, NoMemory, Text, ValueFault, Whole, Word};
 use std::alloc::Global;
 
-/// A whole number once more, read from its spelling.
+/// A copy of a whole number, read from its spelling.
 #[tactic(auto, using(crate::proofs::Respelled::same_whole, crate::proofs::Respelled::whole_memory))]
 pub(crate) fn copied_whole(alloc: Global, whole: &Whole) -> Result<Whole, NoMemory>
     ensures { IfOk result (λ copy. copy ≡ whole.now) }
@@ -16,7 +16,7 @@ pub(crate) fn copied_whole(alloc: Global, whole: &Whole) -> Result<Whole, NoMemo
     }
 }
 
-/// A decimal number once more, read from its spelling.
+/// A copy of a decimal number, read from its spelling.
 #[tactic(auto, using(crate::proofs::Respelled::same_real, crate::proofs::Respelled::real_memory))]
 pub(crate) fn copied_real(alloc: Global, real: &Decimal) -> Result<Decimal, NoMemory>
     ensures { IfOk result (λ copy. copy ≡ real.now) }
@@ -29,7 +29,7 @@ pub(crate) fn copied_real(alloc: Global, real: &Decimal) -> Result<Decimal, NoMe
     }
 }
 
-/// Bits once more, read from their spelling.
+/// A copy of bits, read from their spelling.
 #[tactic(auto, using(crate::proofs::Respelled::same_bits, crate::proofs::Respelled::bits_memory))]
 pub(crate) fn copied_bits(alloc: Global, bits: &Bits) -> Result<Bits, NoMemory>
     ensures { IfOk result (λ copy. copy ≡ bits.now) }
@@ -42,7 +42,7 @@ pub(crate) fn copied_bits(alloc: Global, bits: &Bits) -> Result<Bits, NoMemory>
     }
 }
 
-/// A text once more, character by character.
+/// A copy of a text, made character by character.
 pub(crate) fn copied_text(alloc: Global, text: &Text) -> Result<Text, NoMemory>
     ensures { IfOk result (λ copy. copy ≡ text.now) }
 {
@@ -54,7 +54,7 @@ pub(crate) fn copied_text(alloc: Global, text: &Text) -> Result<Text, NoMemory>
     Ok(copy)
 }
 
-/// A word once more.
+/// A copy of a word.
 pub(crate) fn copied_word(alloc: Global, word: &Word) -> Result<Word, NoMemory>
     ensures { IfOk result (λ copy. copy ≡ word.now) }
 {

@@ -32,7 +32,7 @@ use std::marker::Model;
 /// Reads tokens from bytes that come in pieces of any size.
 #[derive(Drop)]
 pub struct Lexer {
-    // For what the tokens keep.
+    // The allocator of what the tokens keep.
     alloc: Global,
     // Where the states stand.
     mode: Mode,

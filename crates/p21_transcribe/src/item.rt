@@ -71,7 +71,7 @@ pub(crate) fn is_upper(byte: u8) -> bool
     byte.is_ascii_uppercase() || byte == b'_'
 }
 
-/// Is this one of the words?
+/// Whether the bytes are those of one of the words.
 fn has_word(words: &[Word], wanted: &[u8]) -> bool
     ensures { IsTrue result → Contains words.now wanted.now }
 {

@@ -32,7 +32,7 @@ pub(crate) fn element_of(of: &TypeUse) -> Option<(bool, &TypeUse)>
     }
 }
 
-/// Are the elements of the aggregate compared, as they have no order or none may be equal?
+/// Whether the elements of the aggregate are compared, since they have no order or no two may be equal.
 pub(crate) fn are_compared(of: &TypeUse) -> bool
     ensures { result ≡ compares_elements (type_use of.now) }
 {

@@ -5,7 +5,7 @@ use p21_express_types::TypeUse;
 use p21_values::NoMemory;
 use std::alloc::Global;
 
-/// A type once more.
+/// A copy of a type.
 ///
 /// # Errors
 ///

@@ -7,7 +7,7 @@ use super::Lexer;
 use p21_tokens_automaton::Mode;
 
 impl Lexer {
-    /// Does it stand between two tokens, with nothing pending and no statement open? It takes no memory.
+    /// Whether it stands between two tokens, with nothing pending and no statement open. It takes no memory.
     pub fn is_resting(&self) -> bool
         ensures value { IsTrue result ↔ IsResting self.now }
         ensures rests { result ≡ true → (history : TokenHistory) → Stands self.now history → IsAtRest history }
