@@ -15,7 +15,7 @@ use crate::event::{Event, Line};
 use crate::fault::GrammarFault;
 use crate::shape::{is_heading, is_key, is_word};
 use crate::stage::Stage;
-use p21_grammar_tree::{Key, Param, Params, Part, Parts, Record};
+use p21_grammar_tree::{Key, Param, Params, Part, Parts, Record, SpareRows};
 use p21_tokens::{Absent, Token};
 use p21_values::{Name, Word};
 use std::alloc::Global;
@@ -92,6 +92,8 @@ pub struct Machine {
     at: At,
     row: Row,
     frames: Vec<Row>,
+    // The rows of the statements before, emptied, for the next ones.
+    spare: SpareRows<Param>,
 }
 
 fn key(word: Word) -> Key
@@ -250,7 +252,16 @@ impl Machine {
                 params: Vec::new(alloc),
             },
             frames: Vec::new(alloc),
+            spare: SpareRows::new(alloc),
         }
+    }
+
+    /// Exchanges the emptied rows that wait to be used again. It takes no memory.
+    pub fn swap_rows(&mut self, rows: &mut SpareRows<Param>)
+        ensures stage { self.new.stage ≡ self.old.stage }
+        ensures spot { spot_of self.new ≡ spot_of self.old }
+    {
+        mem::swap(&mut self.spare, rows);
     }
 
     /// Opens a list or a typed parameter.
@@ -263,7 +274,7 @@ impl Machine {
             return Err(GrammarFault::TooDeep);
         }
         self.at = At::Next;
-        let params = Vec::new(self.alloc);
+        let params = self.spare.take(self.alloc);
         let around = mem::replace(&mut self.row, Row { opening, params });
         self.frames.push(around)?;
         Ok(())
@@ -610,7 +621,7 @@ impl Machine {
         self.frames.clear();
         self.row = Row {
             opening: Opening::Part(head, key),
-            params: Vec::new(self.alloc),
+            params: self.spare.take(self.alloc),
         };
     }
 

@@ -9,6 +9,7 @@ ghost use Rattle.p21_tokens.specs.Token.{meant};
 use crate::event::Event;
 use crate::fault::GrammarFault;
 use crate::machine::Machine;
+use p21_grammar_tree::{Param, SpareRows};
 use p21_tokens::Token;
 use std::alloc::Global;
 use std::marker::Model;
@@ -76,6 +77,14 @@ impl Parser {
                 Err(fault)
             }
         }
+    }
+
+    /// Exchanges the emptied rows of statements before that wait to be used again: those that a caller has moved the
+    /// parameters out of, for those that are left. It takes no memory.
+    pub fn swap_rows(&mut self, rows: &mut SpareRows<Param>)
+        ensures { self.new ≡ self.old }
+    {
+        self.machine.swap_rows(rows);
     }
 
     /// The end of the tokens. It takes no memory.

@@ -4,7 +4,7 @@ mod spelled;
 
 use p21_grammar::{
     Absent, Canonical, Event, GrammarFault, Key, Lexer, Limits, Line, NoMemory, Param, Params,
-    Parser, Part, Record, Token, Word,
+    Parser, Part, Record, SpareRows, Token, Word,
 };
 use spelled::{put, spell_event};
 use std::alloc::Global;
@@ -86,10 +86,22 @@ impl Reader {
                 if spell_event(&event, &mut self.given).is_err() {
                     self.is_lost = true;
                 }
+                self.use_row_again(event);
             }
             Ok(None) => {}
             Err(fault) => self.refused = Some(fault),
         }
+    }
+
+    /// Gives the row of an instance of internal mapping back to the parser, which takes the next one in its room.
+    fn use_row_again(&mut self, statement: Event) {
+        let mut rows = SpareRows::new(*self.given.allocator());
+        if let Some(record) = record_of(statement)
+            && let Some(row) = row_of(record)
+        {
+            rows.put(row);
+        }
+        self.parser.swap_rows(&mut rows);
     }
 
     /// Takes a text so many times.
@@ -105,6 +117,24 @@ impl Reader {
             Some(fault) => repeats(&mut self.parser, fault),
             None => !self.is_lost,
         }
+    }
+}
+
+/// The record of an instance.
+fn record_of(statement: Event) -> Option<Record> {
+    match statement {
+        Event::Instance(_, record) => Some(record),
+        Event::Section(_line) => None,
+        Event::Named(_part) => None,
+        Event::Header(_part) => None,
+    }
+}
+
+/// The parameters of a record of internal mapping.
+fn row_of(record: Record) -> Option<Vec<Param>> {
+    match record {
+        Record::Simple(part) => Some(part.params.into_items()),
+        Record::Complex(_parts) => None,
     }
 }
 

@@ -272,7 +272,7 @@ none_taken s optional type left all needs found turned none = record {
 }
 
 -- the last of those left is the next one
-next-one : (left rest : List tree.Param) (p : tree.Param) → left ≡ rest ++ p ∷ [] → reverse left ≡ p ∷ reverse rest
+pub next-one : (left rest : List tree.Param) (p : tree.Param) → left ≡ rest ++ p ∷ [] → reverse left ≡ p ∷ reverse rest
 next-one left rest p is = ap (λ (xs : List tree.Param). reverse xs) is ∙ reverse-append rest (p ∷ [])
 
 seamed : (ys left rest all : List tree.Param) (p : tree.Param) → left ≡ rest ++ p ∷ [] → ys ++ reverse left ≡ all → (ys ++ p ∷ []) ++ reverse rest ≡ all

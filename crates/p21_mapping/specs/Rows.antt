@@ -1,5 +1,5 @@
 -- Parameters at the places of entities, with the values that they stand for there and what these need.
-use Rattle.std.specs.Prelude.{◌≡◌, ◌≢◌, ℕ, List, ◌++◌, map, Contains}
+use Rattle.std.specs.Prelude.{◌≡◌, ◌≢◌, ℕ, List, ◌++◌, map, reverse, Contains}
 use Rattle.std.specs.List.{AllByRecursion as Each, flat_map, zip}
 use Rattle.p21_claim_values.specs.Needs.{FitsAtWithNeeds}
 use Rattle.p21_exchange.specs.Parameter.{Param, listed}
@@ -62,6 +62,10 @@ pub record FitsRows (s : Schema) (entities owners : List ℕ) (pss : List (List 
 abbrev pub param_views : List Parameter → List Param
 param_views ps = map tree.view ps
 
+-- the parameters of a row that are taken from its end, the next one first
+abbrev pub left_views : List Parameter → List Param
+left_views left = param_views (reverse left)
+
 -- a parameter fits at the place, and adds its needs
 abbrev pub FitsHere : Schema → List ℕ → Place → Param → Value → List Need → List Need → Type 0
 FitsHere s entities place p v old new = (added : List Need) × (new ≡ old ++ added) × IsFitted s entities (record { place = place; param = p; value = v; needs = added })
@@ -95,6 +99,10 @@ BreaksAmong s entities pairs number = (place : Place) × (p : Param) × Contains
 
 abbrev pub RefusesAmong : Schema → List ℕ → List (Place × Param) → CheckFault → Type 0
 RefusesAmong s entities pairs fault = fault ≢ NoMemory → BreaksAmong s entities pairs (fault_number fault)
+
+-- a parameter at one of the places that the entity declares breaks the rule of the fault
+abbrev pub RefusesRow : Schema → List ℕ → ℕ → List Param → CheckFault → Type 0
+RefusesRow s entities owner params = RefusesAmong s entities (zip (own_places s owner) params)
 
 -- rows of the first entities, from the front of parameters
 pub record TakesRows (s : Schema) (entities owners : List ℕ) (before after : List Param) (rows : List Values) (old new : List Need) : Type 0 where

@@ -25,8 +25,9 @@ pub(crate) fn element(of: &TypeUse) -> Option<(bool, &TypeUse)>
     }
 }
 
-/// Whether the bounds of the aggregate allow so many elements.
-pub(crate) fn allows_count(of: &TypeUse, count: usize) -> bool
+/// Whether the bounds of the aggregate allow so many elements (ISO 10303-11, Aggregation data types). It takes no memory.
+#[inline]
+pub fn allows_count(of: &TypeUse, count: usize) -> bool
     ensures { IsTrue result ↔ AllowsCount (type_use of.now) count }
 {
     match of {
@@ -38,8 +39,9 @@ pub(crate) fn allows_count(of: &TypeUse, count: usize) -> bool
     }
 }
 
-/// Whether no two elements of the aggregate may be the same.
-pub(crate) fn is_unique(of: &TypeUse) -> bool
+/// Whether no two elements of the aggregate may be the same. It takes no memory.
+#[inline]
+pub fn is_unique(of: &TypeUse) -> bool
     ensures { IsTrue result ↔ IsUnique (type_use of.now) }
 {
     match of {

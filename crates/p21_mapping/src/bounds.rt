@@ -5,8 +5,9 @@ ghost use Rattle.p21_express_types.specs.Meaning.{width_option};
 use p21_express_types::Width;
 use p21_values::Word;
 
-/// Whether a width allows so many characters or bits (ISO 10303-11, String data type, Binary data type).
-pub(crate) fn is_within(width: Option<Width>, count: u128) -> bool
+/// Whether a width allows so many characters or bits (ISO 10303-11, String data type, Binary data type). It takes no memory.
+#[inline]
+pub fn is_within(width: Option<Width>, count: u128) -> bool
     ensures { IsTrue result ↔ IsWithinWidth (width_option width) count }
 {
     match width {
@@ -23,6 +24,7 @@ pub(crate) fn is_within(width: Option<Width>, count: u128) -> bool
 }
 
 /// Whether bounds allow so many elements (ISO 10303-11, Aggregation data types).
+#[inline]
 pub(crate) fn is_bounded(low: u32, high: Option<u32>, count: usize) -> bool
     ensures { IsTrue result ↔ IsWithinBounds low high count }
 {
@@ -36,6 +38,7 @@ pub(crate) fn is_bounded(low: u32, high: Option<u32>, count: usize) -> bool
 }
 
 /// Whether an array with these bounds has so many elements, one for each index.
+#[inline]
 pub(crate) fn is_array_count(low: u32, high: u32, count: usize) -> bool
     ensures { IsTrue result ↔ (count + low ≡ high + 1) }
 {

@@ -1,6 +1,5 @@
-ghost use Rattle.std.specs.Prelude.{◌≡◌, ◌≤◌, [], length, map, MatchResult};
+ghost use Rattle.std.specs.Prelude.{◌≡◌, ◌≤◌, [], length, map, reverse, MatchResult};
 ghost use Rattle.std.specs.List.{AllByRecursion as Each, flat_map, zip};
-ghost use Rattle.std.specs.Vec.Iter.{into_iter_items};
 ghost use Rattle.p21_express_graph.specs.Lookups.{AreEntities};
 ghost use Rattle.p21_express_graph.specs.Orders.{numbers};
 ghost use Rattle.p21_express_graph.specs.Resolved.{IsEntity, IsPlace};
@@ -8,7 +7,7 @@ ghost use Rattle.p21_express_types.specs.Meaning.{place as place_of, place_type}
 ghost use Rattle.p21_files.specs.Meaning.{HasPlaceTypes};
 ghost use Rattle.p21_grammar_tree.specs.View.{part_views, view as tree};
 ghost use Rattle.p21_mapping.specs.Outcome.{needs_view};
-ghost use Rattle.p21_mapping.specs.Rows.{FitsHere, RefusesAmong, RefusesHere, RefusesPart, TakesParts, TakesRow, TakesRows, param_views};
+ghost use Rattle.p21_mapping.specs.Rows.{FitsHere, RefusesAmong, RefusesHere, RefusesPart, RefusesRow, TakesParts, TakesRow, TakesRows, left_views, param_views};
 ghost use Rattle.p21_exchange.specs.Record.{complex};
 ghost use Rattle.p21_mapping.specs.Shape.{AreNamed, HasCounts, IsOwnClosure};
 ghost use Rattle.p21_mapping_values.specs.TypedView.{rows_view};
@@ -18,12 +17,11 @@ ghost use Rattle.p21_schemas.specs.PlaceType.{TypeAt, two_redeclarations};
 ghost use Rattle.p21_schemas.specs.Schema.{attributes_of};
 
 use crate::place::fit_place;
+use crate::record_rows::RecordRows;
 use p21_express_tables::Schema;
 use p21_express_types::{EntityId, Place, PlaceType};
 use p21_grammar_tree::{Param, Part};
 use p21_mapping_values::{CheckFault, Need, Value, Values};
-use std::alloc::Global;
-use std::vec::IntoIter;
 
 /// The set of entities of a record, in a schema.
 #[derive(Drop)]
@@ -49,7 +47,7 @@ fn type_here<'a>(set: &EntitySet<'a>, place: Place) -> PlaceType<'a>
 
 /// The value of a parameter at a place of a set of entities.
 fn fit_here(
-    alloc: Global,
+    spare: &mut RecordRows,
     set: &EntitySet<'_>,
     place: Place,
     param: Param,
@@ -63,36 +61,37 @@ fn fit_here(
 {
     set.schema.holds_together();
     let at = type_here(set, place);
-    let found = fit_place(alloc, set.schema, at, param, needs);
+    let found = fit_place(spare, set.schema, at, param, needs);
     found
 }
 
-/// The values of the places that an entity declares, which as many of the parameters stand at.
+/// The values of the places that an entity declares, which as many of the parameters stand at. They are taken from the
+/// end of the row, where the first one stands.
 pub(crate) fn fit_row(
-    alloc: Global,
+    spare: &mut RecordRows,
     set: &EntitySet<'_>,
     owner: EntityId,
-    params: &mut IntoIter<Param, Global>,
+    params: &mut Vec<Param>,
     needs: &mut Vec<Need>,
 ) -> Result<Values, CheckFault>
     requires own { IsOwnClosure set.now.schema.now set.now.own (numbers set.now.entities.now) }
     requires entities { AreEntities set.now.schema.now (numbers set.now.entities.now) }
     requires owner { IsEntity set.now.schema.now owner.0 }
     requires decided { HasPlaceTypes set.now.schema.now (numbers set.now.entities.now) owner.0 }
-    requires enough { length (attributes_of set.now.schema.now owner.0) ≤ length (into_iter_items params.old) }
-    ensures { MatchResult result (λ values. TakesRow set.now.schema.now (numbers set.now.entities.now) owner.0 (param_views (into_iter_items params.old)) (param_views (into_iter_items params.new)) (map view (list_of values)) (needs_view needs.old.items) (needs_view needs.new.items)) (RefusesAmong set.now.schema.now (numbers set.now.entities.now) (zip (own_places set.now.schema.now owner.0) (param_views (into_iter_items params.old)))) }
+    requires enough { length (attributes_of set.now.schema.now owner.0) ≤ length (reverse params.old.items) }
+    ensures { MatchResult result (λ values. TakesRow set.now.schema.now (numbers set.now.entities.now) owner.0 (left_views params.old.items) (left_views params.new.items) (map view (list_of values)) (needs_view needs.old.items) (needs_view needs.new.items)) (RefusesRow set.now.schema.now (numbers set.now.entities.now) owner.0 (left_views params.old.items)) }
 {
     let count = set.schema.attribute_count(owner);
-    let mut values = Vec::with_capacity(alloc, count as usize)?;
+    let mut values = spare.values.with_room(spare.alloc, count as usize)?;
     for index in 0..count {
-        let Some(param) = params.next() else {
+        let Some(param) = params.pop() else {
             unreachable!()
         };
         let place = Place {
             entity: owner,
             index,
         };
-        match fit_here(alloc, set, place, param, needs) {
+        match fit_here(spare, set, place, param, needs) {
             Ok(value) => values.push(value)?,
             Err(fault) => return Err(fault),
         }
@@ -102,7 +101,7 @@ pub(crate) fn fit_row(
 
 /// The values of the places of entities, one entity behind the other, which as many parameters stand at.
 pub(crate) fn simple_rows(
-    alloc: Global,
+    spare: &mut RecordRows,
     set: &EntitySet<'_>,
     listed: &[EntityId],
     params: Vec<Param>,
@@ -115,20 +114,22 @@ pub(crate) fn simple_rows(
     requires each { length params.items ≡ length (flat_map (own_places set.now.schema.now) (numbers listed.now)) }
     ensures { MatchResult result (λ rows. TakesRows set.now.schema.now (numbers set.now.entities.now) (numbers listed.now) (param_views params.items) [] (rows_view rows.items) (needs_view needs.old.items) (needs_view needs.new.items)) (RefusesAmong set.now.schema.now (numbers set.now.entities.now) (zip (flat_map (own_places set.now.schema.now) (numbers listed.now)) (param_views params.items))) }
 {
-    let mut left = params.into_iter();
-    let mut rows = Vec::with_capacity(alloc, listed.len())?;
+    let mut left = params;
+    left.reverse();
+    let mut rows = spare.rows.with_room(spare.alloc, listed.len())?;
     for owner in listed {
-        match fit_row(alloc, set, *owner, &mut left, needs) {
+        match fit_row(spare, set, *owner, &mut left, needs) {
             Ok(row) => rows.push(row)?,
             Err(fault) => return Err(fault),
         }
     }
+    spare.params.put(left);
     Ok(rows)
 }
 
 /// The values of the places that each entity declares, which the parameters of its simple record stand at.
 pub(crate) fn complex_rows(
-    alloc: Global,
+    spare: &mut RecordRows,
     set: &EntitySet<'_>,
     listed: &[EntityId],
     parts: Vec<Part>,
@@ -142,16 +143,18 @@ pub(crate) fn complex_rows(
     ensures { MatchResult result (λ rows. TakesParts set.now.schema.now (numbers set.now.entities.now) (numbers listed.now) (part_views parts.items) [] (rows_view rows.items) (needs_view needs.old.items) (needs_view needs.new.items)) (RefusesPart set.now.schema.now (numbers set.now.entities.now) (part_views parts.items)) }
 {
     let mut left = parts.into_iter();
-    let mut rows = Vec::with_capacity(alloc, listed.len())?;
+    let mut rows = spare.rows.with_room(spare.alloc, listed.len())?;
     for owner in listed {
         let Some(part) = left.next() else {
             unreachable!()
         };
-        let mut params = part.params.into_items().into_iter();
-        match fit_row(alloc, set, *owner, &mut params, needs) {
+        let mut params = part.params.into_items();
+        params.reverse();
+        match fit_row(spare, set, *owner, &mut params, needs) {
             Ok(row) => rows.push(row)?,
             Err(fault) => return Err(fault),
         }
+        spare.params.put(params);
     }
     Ok(rows)
 }

@@ -18,7 +18,7 @@ use p21_canon::write_record;
 use p21_express::read_schema;
 use p21_express_tables::Schema;
 use p21_grammar::{Event, Lexer, Limits, Name, Parser, Record, Token};
-use p21_mapping::{CheckFault, check_owned_record, check_record};
+use p21_mapping::{CheckFault, RecordRows, check_owned_record_in, check_record};
 use std::alloc::Global;
 use std::process::Abort;
 
@@ -139,16 +139,18 @@ fn append_statement(
     Ok(())
 }
 
-/// The same by the check that takes the record.
+/// The same by the check that takes the record, in the rows of the records before.
 fn append_moved(
-    alloc: Global,
+    spare: &mut RecordRows,
     schema: &Schema,
     name: Name,
     record: Record,
     out: &mut Vec<u8>,
 ) -> Result<(), CheckFault> {
-    let (typed, _needs) = check_owned_record(alloc, schema, record)?;
-    write_record(schema, name, &typed, out)?;
+    let (typed, _needs) = check_owned_record_in(spare, schema, record)?;
+    let written = write_record(schema, name, &typed, out);
+    spare.put_back(typed.values);
+    written?;
     Ok(())
 }
 
@@ -177,22 +179,29 @@ fn comes_to(alloc: Global, schema: &Schema, instance: &Instance, wanted: &[u8]) 
 /// The same where the record is moved.
 fn comes_moved_to(
     alloc: Global,
+    spare: &mut RecordRows,
     schema: &Schema,
     name: Name,
     record: Record,
     wanted: &[u8],
 ) -> bool {
     let mut out = Vec::new(alloc);
-    let found = append_moved(alloc, schema, name, record, &mut out);
+    let found = append_moved(spare, schema, name, record, &mut out);
     is_answer(alloc, found, &out, wanted)
 }
 
 /// Whether this comes of the instance that a text is, by both checks.
-fn answers(alloc: Global, schema: &Schema, text: &[u8], wanted: &[u8]) -> bool {
+fn answers(
+    alloc: Global,
+    spare: &mut RecordRows,
+    schema: &Schema,
+    text: &[u8],
+    wanted: &[u8],
+) -> bool {
     match read_instance(alloc, text) {
         Some(instance) => {
             comes_to(alloc, schema, &instance, wanted)
-                && comes_moved_to(alloc, schema, instance.name, instance.record, wanted)
+                && comes_moved_to(alloc, spare, schema, instance.name, instance.record, wanted)
         }
         None => false,
     }
@@ -200,8 +209,19 @@ fn answers(alloc: Global, schema: &Schema, text: &[u8], wanted: &[u8]) -> bool {
 
 /// Whether this comes of a text, and of a canonical statement itself.
 fn holds(alloc: Global, schema: &Schema, text: &[u8], wanted: &[u8]) -> bool {
-    answers(alloc, schema, text, wanted)
-        && (!wanted.starts_with(b"#") || answers(alloc, schema, wanted, wanted))
+    holds_in(alloc, &mut RecordRows::new(alloc), schema, text, wanted)
+}
+
+/// The same in the rows of the records before.
+fn holds_in(
+    alloc: Global,
+    spare: &mut RecordRows,
+    schema: &Schema,
+    text: &[u8],
+    wanted: &[u8],
+) -> bool {
+    answers(alloc, spare, schema, text, wanted)
+        && (!wanted.starts_with(b"#") || answers(alloc, spare, schema, wanted, wanted))
 }
 
 /// Instances, with the canonical statement of each, or the refusal of its record.
@@ -209,8 +229,15 @@ type Rows = &'static [(&'static str, &'static str)];
 
 /// The first instance of which something else comes.
 fn first_wrong_of(alloc: Global, schema: &Schema, rows: Rows) -> &'static str {
+    let mut spare = RecordRows::new(alloc);
     for (text, wanted) in rows {
-        if !holds(alloc, schema, text.as_bytes(), wanted.as_bytes()) {
+        if !holds_in(
+            alloc,
+            &mut spare,
+            schema,
+            text.as_bytes(),
+            wanted.as_bytes(),
+        ) {
             return text;
         }
     }

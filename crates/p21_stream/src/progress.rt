@@ -20,7 +20,7 @@ use crate::statement_reader::StatementReader;
 use p21_express_tables::Schema;
 use p21_grammar::Event;
 use p21_mapping_values::Need;
-use p21_stream_kept::{At, Fault, Kept, Refusal};
+use p21_stream_kept::{At, Fault, Kept, Refusal, Workspace};
 use p21_stream_output::Accepted;
 use p21_transcribe::Draft;
 use p21_transcribe_instance::{Plan, Sets};
@@ -41,6 +41,8 @@ pub(crate) struct Progress {
     pub plan: Plan,
     // The sets of instances of external mapping that are taken so.
     pub sets: Sets,
+    // Where instances are checked that are taken by their tokens.
+    pub workspace: Workspace,
     // The number of the open statement, counted from 1.
     pub statement: u64,
     // The refusal that was answered, and is answered again.
@@ -68,6 +70,7 @@ impl Progress {
             needs: Vec::new(alloc),
             plan: Plan::new(alloc),
             sets: Sets::new(alloc),
+            workspace: Workspace::new(alloc),
             statement: 1,
             refused: None,
         }
@@ -250,9 +253,10 @@ impl Progress {
             return Ok(Some(count));
         };
         let name = name_of(&event);
-        match take(&mut self.kept, schema, limits, event) {
+        match take(&mut self.kept, schema, limits, event, &mut self.workspace) {
             Ok(()) => {
                 self.statement = self.statement.saturating_add(1);
+                self.statements.swap_rows(&mut self.workspace.rows.params);
                 Ok(Some(count))
             }
             Err(fault) => Err(refused(fault, name, self.statement)),
@@ -260,8 +264,14 @@ impl Progress {
     }
 }
 
-/// Takes a statement.
-fn take(kept: &mut Kept, schema: &Schema, limits: Limits, event: Event) -> Result<(), Fault>
+/// Takes a statement. The record of an instance is checked in a workspace.
+fn take(
+    kept: &mut Kept,
+    schema: &Schema,
+    limits: Limits,
+    event: Event,
+    workspace: &mut Workspace,
+) -> Result<(), Fault>
     requires { Follows schema.now limits kept.old (statement_of event) }
     ensures gives { kept_steps.StepGives schema.now limits kept.old (statement_of event) result kept.new }
     ensures kind { IfErr result (λ fault. IsOfBytes fault) }
@@ -271,7 +281,9 @@ fn take(kept: &mut Kept, schema: &Schema, limits: Limits, event: Event) -> Resul
         Event::Section(line) => kept.take_line(limits, line),
         Event::Named(part) => kept.take_heading(schema, limits, part),
         Event::Header(part) => kept.take_header(schema, limits, &part),
-        Event::Instance(name, record) => kept.take_instance(schema, limits, name, record),
+        Event::Instance(name, record) => {
+            kept.take_instance(schema, limits, name, record, workspace)
+        }
     }
 }
 

@@ -5,7 +5,7 @@ ghost use Rattle.p21_stream_kept.specs.Source.{IsOfBytes};
 ghost use Rattle.p21_stream.specs.StatementReader.{FinishGives, HasOpenStatement, IsLive, NeedsNoMemory, StatementHistory, StepGives, TakesWithinPiece, limits_of, nothing_read};
 ghost use Rattle.p21_stream.specs.PassingOver.{GivesPassed, IsAtRest, IsBetweenInstances, held_behind, room_of};
 
-use p21_grammar::{Event, GrammarFault, Line, Parser};
+use p21_grammar::{Event, GrammarFault, Line, Param, Parser, SpareRows};
 use p21_stream_kept::Fault;
 use p21_tokens::{Lexer, Token};
 use p21_values::Limits;
@@ -69,6 +69,13 @@ impl StatementReader {
             }
             Err(fault) => Err(Fault::from(fault)),
         }
+    }
+
+    /// Exchanges the emptied rows of statements before that wait to be used again. It takes no memory.
+    pub fn swap_rows(&mut self, rows: &mut SpareRows<Param>)
+        ensures { self.new ≡ self.old }
+    {
+        self.parser.swap_rows(rows);
     }
 
     /// The end of the bytes. A last whole token is looked at only where the file has ended before it.

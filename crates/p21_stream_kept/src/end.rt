@@ -38,12 +38,10 @@ impl Kept {
             waiting,
             bytes,
             framing,
-            line,
             ..
         } = self;
-        // The references that waited and the line have no use any more, and their room is given back before more is asked for.
+        // The references that waited have no use any more, and their room is given back before more is asked for.
         drop(waiting);
-        drop(line);
         let parts = named_sections_of(alloc, sections.items())?;
         accepted_file(
             alloc,

@@ -4,14 +4,14 @@ ghost use Rattle.p21_stream_kept.specs.Source.{IsOfBytes};
 ghost use Rattle.p21_stream_kept.specs.Found.{FindsInstance};
 
 use crate::fault::Fault;
+use crate::workspace::Workspace;
 use p21_canon::write_record;
 use p21_express_tables::Schema;
 use p21_express_types::EntityId;
 use p21_grammar_tree::Record;
-use p21_mapping::check_owned_record;
+use p21_mapping::check_owned_record_in;
 use p21_mapping_values::{Ids, Need, Typed};
 use p21_values::Name;
-use std::alloc::Global;
 
 /// What is found of an instance: its name, its set of entities, its canonical line without a line feed, and what it needs
 /// of other instances.
@@ -30,30 +30,30 @@ pub(crate) struct Found {
     pub(crate) needs: Vec<Need>,
 }
 
-/// Checks the record of an instance, and writes its canonical line in place of what stands in `line`.
+/// Checks the record of an instance, and writes its canonical line in place of the line of the workspace.
 ///
 /// # Errors
 ///
 /// `Check`, `NoMemory`.
 pub(crate) fn find_instance(
-    alloc: Global,
     schema: &Schema,
     name: Name,
     of: Record,
-    line: &mut Vec<u8>,
+    workspace: &mut Workspace,
 ) -> Result<Found, Fault>
-    ensures finds { FindsInstance schema.now name (record_view of) result line.new.items }
+    ensures finds { FindsInstance schema.now name (record_view of) result workspace.new.line.items }
     ensures kind { IfErr result (λ fault. IsOfBytes fault) }
 {
-    let (typed, needs) = match check_owned_record(alloc, schema, of) {
+    let (typed, needs) = match check_owned_record_in(&mut workspace.rows, schema, of) {
         Ok(checked) => checked,
         Err(fault) => return Err(Fault::from(fault)),
     };
-    line.clear();
-    let Ok(()) = write_record(schema, name, &typed, line) else {
+    workspace.line.clear();
+    let Ok(()) = write_record(schema, name, &typed, &mut workspace.line) else {
         return Err(Fault::NoMemory);
     };
-    let Typed { parts, .. } = typed;
+    let Typed { parts, values } = typed;
+    workspace.rows.put_back(values);
     Ok(Found {
         entities: parts,
         needs,

@@ -19,6 +19,7 @@ use crate::sections::Sections;
 use crate::served::{add_waiting, drop_served, first_unserved};
 use crate::shape::{heading, line_size, schema_text};
 use crate::stored::{has_instance, store};
+use crate::workspace::Workspace;
 use p21_canon::write_header;
 use p21_express_tables::Schema;
 use p21_grammar::Line;
@@ -28,7 +29,6 @@ use p21_stream_store::{Instances, Memberships};
 use p21_values::{Canonical, Limits, Name, NoMemory, Text};
 use std::alloc::Global;
 use std::marker::Model;
-use std::mem;
 
 /// The canonical lines of header records and instances, the data sections, and the references that wait for the end of
 /// the file.
@@ -49,8 +49,6 @@ pub struct Kept {
     pub(crate) bytes: u64,
     // Those of section lines, and the line feeds of the others.
     pub(crate) framing: u64,
-    // The line of one instance while it is made, used again for the next.
-    pub(crate) line: Vec<u8>,
 }
 
 /// A reference to an instance that has not come, or that doesn't serve.
@@ -62,9 +60,6 @@ pub struct Reference {
 
 /// So many references may come, in any file, before the waiting ones are looked at again.
 const PATIENCE: u64 = 1024;
-
-/// The most room that the line of an instance keeps for the next one.
-const LINE_ROOM: usize = 65_536;
 
 impl Model for Kept {
     ghost use Rattle.p21_claim_steps.specs.Keeping.{Kept as Meant};
@@ -93,7 +88,6 @@ impl Kept {
             references: 0,
             bytes: 0,
             framing: 0,
-            line: Vec::new(alloc),
         }
     }
 
@@ -188,6 +182,7 @@ impl Kept {
         limits: Limits,
         name: Name,
         of: Record,
+        workspace: &mut Workspace,
     ) -> Result<(), Fault>
         requires { Follows schema.now limits self.old (instance name (record_view of)) }
         ensures gives { StepGives schema.now limits self.old (instance name (record_view of)) result self.new }
@@ -197,14 +192,12 @@ impl Kept {
         if self.has_name(name) {
             return Err(Fault::DuplicateName);
         }
-        let mut line = mem::replace(&mut self.line, Vec::new(self.alloc));
-        let result = self.find_and_keep(schema, limits, name, of, &mut line);
-        self.put_back(line);
+        let result = self.find_and_keep(schema, limits, name, of, workspace);
+        workspace.trim();
         result
     }
 
-    /// Checks the record of an instance whose name none has before it, and keeps the instance. Its canonical line is made in
-    /// place of what stands in `line`.
+    /// Checks the record of an instance whose name none has before it, in a workspace, and keeps the instance.
     ///
     /// # Errors
     ///
@@ -215,7 +208,7 @@ impl Kept {
         limits: Limits,
         name: Name,
         of: Record,
-        line: &mut Vec<u8>,
+        workspace: &mut Workspace,
     ) -> Result<(), Fault>
         requires another { Contains (map (λ (x : StoredEntry). x.name) self.old.stored) name → ⊥ }
         requires follows { Follows schema.now limits self.old (instance name (record_view of)) }
@@ -223,27 +216,17 @@ impl Kept {
         ensures bound { StepKeepsBound limits self.old self.new }
         ensures kind { IfErr result (λ fault. IsOfBytes fault) }
     {
-        let found = match find_instance(self.alloc, schema, name, of, line) {
+        let found = match find_instance(schema, name, of, workspace) {
             Ok(found) => found,
             Err(fault) => return Err(fault),
         };
         let instance = FoundInstance {
             name,
             entities: found.entities.items(),
-            line,
+            line: &workspace.line,
             needs: &found.needs,
         };
         self.keep_found(schema, limits, &instance)
-    }
-
-    /// Puts back the line of an instance that was made, with its room, for the next one; the room of a long line is given
-    /// back.
-    fn put_back(&mut self, line: Vec<u8>)
-        ensures { self.new ≡ self.old }
-    {
-        if line.capacity() <= LINE_ROOM {
-            self.line = line;
-        }
     }
 
     /// Takes an instance that stands in a tree behind the statements that are kept, by what is found of it.

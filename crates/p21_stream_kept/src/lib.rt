@@ -13,6 +13,7 @@ mod sections;
 mod served;
 mod shape;
 mod stored;
+mod workspace;
 
 pub use fault::Fault;
 pub use found::FoundInstance;
@@ -20,3 +21,4 @@ pub use kept::{Kept, Reference};
 pub use refusal::{At, Refusal};
 pub use schema_name::names_schema;
 pub use shape::line_size;
+pub use workspace::Workspace;

@@ -5,7 +5,6 @@ use Rattle.p21_basics.proofs.Members.{Each-append}
 use Rattle.p21_claim_values.proofs.Printing.{ArePlain, IsPlain, list-plain}
 use Rattle.p21_claim_values.specs.Needs.{FitsAtWithNeeds, FitsWithNeeds, FitEachWithNeeds, with_whole, with_real, with_number, with_whole_number, with_boolean, with_logical, with_text, with_binary, with_instance, with_underlying, with_item, with_chosen_instance, with_chosen_type, with_array, with_list, with_set, with_bag, with_none, with_next, with_empty, with_star, with_dollar, with_fit}
 use Rattle.p21_exchange.specs.Grammar.{IsNoUserKeyword}
-use Rattle.p21_exchange.specs.Parameter as parameter
 use Rattle.p21_exchange.specs.Parameter.{Param, Params, param_tokens}
 use Rattle.p21_exchange.specs.Token as token
 use Rattle.p21_files.specs.Reference.{Need}

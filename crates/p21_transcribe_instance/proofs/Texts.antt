@@ -16,7 +16,7 @@ use Rattle.p21_exchange.specs.Statement.{instance}
 use Rattle.p21_exchange.specs.Token as token
 use Rattle.p21_exchange.specs.Token.{Token}
 use Rattle.p21_files.specs.CanonicalRecord.{AreCanonicalAt}
-use Rattle.p21_files.specs.Fits.{FitsAt, fits}
+use Rattle.p21_files.specs.Fits.{FitsAt}
 use Rattle.p21_files.specs.Meaning.{FitPlaces, HasValueAt, Typed}
 use Rattle.p21_files.specs.Reference.{EntitySets, IsServed}
 use Rattle.p21_files.specs.ValueText.{value_text, with_commas_between}

@@ -30,7 +30,6 @@ mod sets;
 mod step;
 mod type_copy;
 mod value;
-mod width;
 
 pub use external::{External, append_external};
 pub use instance::{Instance, append_instance};

@@ -6,8 +6,8 @@ ghost use Rattle.p21_schemas.specs.Schema as schema;
 ghost use Rattle.p21_transcribe_instance.specs.TakenValues.{TakesScalar, TakesValue};
 ghost use Rattle.p21_values.specs.Canonical.{Continues};
 
-use crate::width::is_within;
 use p21_express_types::{TypeUse, Width, Words};
+use p21_mapping::is_within;
 use p21_transcribe::{
     Draft, append_bits, append_item, append_logical, append_real, append_text, append_whole,
 };
@@ -72,7 +72,7 @@ fn append_string(width: Option<Width>, bytes: &[u8], draft: &mut Draft) -> Optio
     ensures none { IfNone result (Continues draft.old draft.new) }
 {
     let (count, characters) = append_text(bytes, draft)?;
-    if !is_within(width, characters) {
+    if !is_within(width, characters as u128) {
         return None;
     }
     Some(count)
@@ -85,7 +85,7 @@ fn append_binary(width: Option<Width>, bytes: &[u8], draft: &mut Draft) -> Optio
     ensures none { IfNone result (Continues draft.old draft.new) }
 {
     let (count, size) = append_bits(bytes, draft)?;
-    if !is_within(width, size) {
+    if !is_within(width, size as u128) {
         return None;
     }
     Some(count)

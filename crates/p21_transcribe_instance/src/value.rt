@@ -12,7 +12,7 @@ ghost use Rattle.p21_transcribe_instance.specs.Elements.{AddsLength, IsAggregate
 ghost use Rattle.p21_transcribe_instance.specs.TakenValues.{IsBaseInSchema, IsKnownAt, KeepsNeeds, TakesEnclosed, TakesWithNeeds};
 ghost use Rattle.p21_values.specs.Canonical.{Continues};
 
-use crate::aggregate::{allows_count, are_compared, element_of};
+use crate::aggregate::{are_compared, element_of};
 use crate::bare::append_plain;
 use crate::choice::{append_chosen, append_offered};
 use crate::delimiter::{append_delimiter, append_next_delimiter};
@@ -22,6 +22,7 @@ use crate::scalar::append_listed;
 use crate::step::Step;
 use p21_express_tables::{Base, Schema};
 use p21_express_types::{PlaceType, TypeId, TypeUse};
+use p21_mapping::allows_count;
 use p21_mapping_values::Need;
 use p21_transcribe::{Draft, behind_separators};
 

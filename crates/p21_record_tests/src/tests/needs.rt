@@ -2,7 +2,7 @@ use super::schemas::{DEMO, LINKS};
 use super::*;
 use p21_express_types::Member;
 use p21_grammar::Canonical;
-use p21_mapping::{Need, serves};
+use p21_mapping::{Need, check_owned_record, serves};
 
 /// What may be wanted in the tables here.
 const WANTED: [&str; 5] = ["POINT", "ITEM", "NODE", "TARGET", "OTHER"];

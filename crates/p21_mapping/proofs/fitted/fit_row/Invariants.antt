@@ -1,5 +1,4 @@
-use Rattle.std.proofs.Common.{map}
-use Rattle.std.specs.Vec.Iter.{into_iter_items}
+use Rattle.std.proofs.Common.{map, reverse}
 use Rattle.p21_express_graph.specs.Orders.{numbers}
 use Rattle.p21_mapping.specs.Outcome.{needs_view}
 use Rattle.p21_mapping.specs.Rows.{RowSoFar, param_views}
@@ -7,4 +6,4 @@ use Rattle.p21_mapping_values.specs.View.{view}
 use Rattle.p21_mapping.proofs.fitted.fit_row.Given as goal
 
 abbrev pub invariant-loop-index : goal.invariant-loop-index
-invariant-loop-index l = RowSoFar l.set.schema.now (numbers l.set.entities.now) l.owner.0 l.index (param_views (into_iter_items l.fn.params)) (param_views (into_iter_items l.params)) (map view l.values.items) (needs_view l.fn.needs.items) (needs_view l.needs.items)
+invariant-loop-index l = RowSoFar l.set.schema.now (numbers l.set.entities.now) l.owner.0 l.index (param_views (reverse l.fn.params.items)) (param_views (reverse l.params.items)) (map view l.values.items) (needs_view l.fn.needs.items) (needs_view l.needs.items)

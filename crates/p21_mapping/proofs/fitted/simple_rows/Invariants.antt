@@ -1,5 +1,4 @@
-use Rattle.std.proofs.Common.{take}
-use Rattle.std.specs.Vec.Iter.{into_iter_items}
+use Rattle.std.proofs.Common.{reverse, take}
 use Rattle.p21_express_graph.specs.Orders.{numbers}
 use Rattle.p21_mapping.specs.Outcome.{needs_view}
 use Rattle.p21_mapping.specs.Rows.{TakesRows, param_views}
@@ -7,4 +6,4 @@ use Rattle.p21_mapping_values.specs.TypedView.{rows_view}
 use Rattle.p21_mapping.proofs.fitted.simple_rows.Given as goal
 
 abbrev pub invariant-loop-owner : goal.invariant-loop-owner
-invariant-loop-owner l = TakesRows l.set.schema.now (numbers l.set.entities.now) (numbers (take l.owner-index l.listed)) (param_views l.fn.params.items) (param_views (into_iter_items l.left)) (rows_view l.rows.items) (needs_view l.fn.needs.items) (needs_view l.needs.items)
+invariant-loop-owner l = TakesRows l.set.schema.now (numbers l.set.entities.now) (numbers (take l.owner-index l.listed)) (param_views l.fn.params.items) (param_views (reverse l.left.items)) (rows_view l.rows.items) (needs_view l.fn.needs.items) (needs_view l.needs.items)

@@ -125,7 +125,7 @@ append_counted-append_close-requires t c =
 pub append_counted-returns-clause-some : goal.append_counted-returns-clause-some
 append_counted-returns-clause-some t c =
     let takes = compared-as c.args.at.now.schema.now (type_use c.args.of.now) c.args.at.now.optional _ c.args.at.now.base.now c.args.at.now.most _ _ _ _ _ _ _ _ _ c.are_compared-compared.ensures c.in_ok-count.ensures.some in
-    some_to _ (λ rest. aggregate-taken c.args.at.now.schema.now (type_use c.args.of.now) c.args.at.now.optional c.args.at.now.base.now c.args.at.now.most _ _ c.args.bytes.now _ _ rest.now _ _ _ _ _ _ _ _ c.well_formed-2.ensures.types_distinct (c.if-not-allows_count.ensures refl) c.in_ok-inside.ensures.some.0 c.len-start.ensures c.in_ok-inside.ensures.some.1 c.requires.empty takes) c.append_close.ensures.some
+    some_to _ (λ rest. aggregate-taken c.args.at.now.schema.now (type_use c.args.of.now) c.args.at.now.optional c.args.at.now.base.now c.args.at.now.most _ _ c.args.bytes.now _ _ rest.now _ _ _ _ _ _ _ _ c.well_formed-2.ensures.types_distinct (c.if-not-allows_count.ensures.0 refl) c.in_ok-inside.ensures.some.0 c.len-start.ensures c.in_ok-inside.ensures.some.1 c.requires.empty takes) c.append_close.ensures.some
 
 pub append_counted-returns-then-not-allows_count-clause-draft : goal.append_counted-returns-then-not-allows_count-clause-draft
 append_counted-returns-then-not-allows_count-clause-draft t c = (elements-refused c.args.at.now.schema.now c.args.at.now.optional _ c.args.at.now.base.now c.args.at.now.most _ _ _ _ _ _ _ _ _ _ c.requires.base c.in_ok-inside.ensures.some.1 c.in_ok-count.ensures.some).0

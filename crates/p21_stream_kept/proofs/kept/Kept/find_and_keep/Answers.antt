@@ -8,7 +8,7 @@ keep_found-requires-clause-found c =
     let found = c.in-Ok.found in
     record {
       record_ = record_view c.args.of;
-      found = found-same c.args.schema.now c.args.name (record_view c.args.of) found.entities c.items.result.now found.needs.items c.deref-2.result.now c.find_instance.new.line.items c.deref.result.now c.items.ensures c.deref-2.ensures.value c.deref.ensures.value c.in-Ok.ensures.finds;
+      found = found-same c.args.schema.now c.args.name (record_view c.args.of) found.entities c.items.result.now found.needs.items c.deref-2.result.now c.find_instance.new.workspace.line.items c.deref.result.now c.items.ensures c.deref-2.ensures.value c.deref.ensures.value c.in-Ok.ensures.finds;
       follows = c.requires.follows;
     }
 
@@ -18,4 +18,4 @@ returns-in-Err-clause-gives c = instance-broken c.args.schema.now c.args.limits 
 pub returns-clause-gives : goal.returns-clause-gives
 returns-clause-gives c =
     let found = c.in-Ok.found in
-    c.keep_found.ensures.gives (record_view c.args.of) (found-same c.args.schema.now c.args.name (record_view c.args.of) found.entities c.items.result.now found.needs.items c.deref-2.result.now c.find_instance.new.line.items c.deref.result.now c.items.ensures c.deref-2.ensures.value c.deref.ensures.value c.in-Ok.ensures.finds)
+    c.keep_found.ensures.gives (record_view c.args.of) (found-same c.args.schema.now c.args.name (record_view c.args.of) found.entities c.items.result.now found.needs.items c.deref-2.result.now c.find_instance.new.workspace.line.items c.deref.result.now c.items.ensures c.deref-2.ensures.value c.deref.ensures.value c.in-Ok.ensures.finds)
