@@ -89,8 +89,8 @@ EDITS = [
         [],
         "an example has another line than the page that shows it",
         "crates/p21_example_canonical/src/lib.rt",
-        "//! Is a file accepted under a schema, and what is its canonical file?",
-        "//! Is a file accepted, and what is its canonical file?",
+        "//! Answers whether a file is accepted under a schema, and what its canonical file is.",
+        "//! Answers whether a file is accepted, and what its canonical file is.",
         "shown otherwise: crates/p21_example_canonical/src/lib.rt",
     ),
     Edit(
