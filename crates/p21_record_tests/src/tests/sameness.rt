@@ -3,7 +3,7 @@ use super::*;
 use p21_canon::same;
 use p21_mapping::{Typed, Value, Values};
 
-/// Are values the same, place by place?
+/// Whether values are the same, place by place.
 fn same_values(a: &[Value], b: &[Value]) -> bool {
     for (a, b) in a.iter().zip(b.iter()) {
         if !same(a, b) || !same(b, a) {
@@ -13,7 +13,7 @@ fn same_values(a: &[Value], b: &[Value]) -> bool {
     a.len() == b.len()
 }
 
-/// Are the values of two records the same, place by place?
+/// Whether the values of two records are the same, place by place.
 fn same_rows(a: &[Values], b: &[Values]) -> bool {
     for (a, b) in a.iter().zip(b.iter()) {
         if !same_values(a.items(), b.items()) {
