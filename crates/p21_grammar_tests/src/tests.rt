@@ -99,7 +99,7 @@ impl Reader {
         if let Some(record) = record_of(statement)
             && let Some(row) = row_of(record)
         {
-            rows.put(row);
+            let _ = rows.put(row);
         }
         self.parser.swap_rows(&mut rows);
     }

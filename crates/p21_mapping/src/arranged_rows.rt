@@ -30,7 +30,7 @@ pub(crate) fn arranged_rows(
         let row = mem::replace(&mut left[at], Values::from_vec(Vec::new(spare.alloc)));
         all.push(row)?;
     }
-    spare.rows.put(left);
+    let _ = spare.rows.put(left);
     Ok(all)
 }
 

@@ -123,7 +123,7 @@ pub(crate) fn simple_rows(
             Err(fault) => return Err(fault),
         }
     }
-    spare.params.put(left);
+    let _ = spare.params.put(left);
     Ok(rows)
 }
 
@@ -154,7 +154,7 @@ pub(crate) fn complex_rows(
             Ok(row) => rows.push(row)?,
             Err(fault) => return Err(fault),
         }
-        spare.params.put(params);
+        let _ = spare.params.put(params);
     }
     Ok(rows)
 }

@@ -180,7 +180,7 @@ fn fit_each(
         let value = fit_stored(spare, schema, param, optional, of, needs)?;
         values.push(value)?;
     }
-    spare.params.put(left);
+    let _ = spare.params.put(left);
     Ok(values)
 }
 

@@ -5,6 +5,7 @@ mod long;
 mod names;
 mod needs;
 mod places;
+mod rooms;
 mod same_values;
 mod sameness;
 mod schemas;

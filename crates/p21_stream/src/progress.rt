@@ -264,7 +264,7 @@ impl Progress {
     }
 }
 
-/// Takes a statement. The record of an instance is checked in a workspace.
+/// Takes a statement. The record of an instance is checked in a workspace, which keeps no long line.
 fn take(
     kept: &mut Kept,
     schema: &Schema,
@@ -282,7 +282,9 @@ fn take(
         Event::Named(part) => kept.take_heading(schema, limits, part),
         Event::Header(part) => kept.take_header(schema, limits, &part),
         Event::Instance(name, record) => {
-            kept.take_instance(schema, limits, name, record, workspace)
+            let result = kept.take_instance(schema, limits, name, record, workspace);
+            workspace.trim();
+            result
         }
     }
 }

@@ -192,30 +192,6 @@ impl Kept {
         if self.has_name(name) {
             return Err(Fault::DuplicateName);
         }
-        let result = self.find_and_keep(schema, limits, name, of, workspace);
-        workspace.trim();
-        result
-    }
-
-    /// Checks the record of an instance whose name none has before it, in a workspace, and keeps the instance.
-    ///
-    /// # Errors
-    ///
-    /// In this order: `Check`, `CanonicalTooLong`. `NoMemory`.
-    fn find_and_keep(
-        &mut self,
-        schema: &Schema,
-        limits: Limits,
-        name: Name,
-        of: Record,
-        workspace: &mut Workspace,
-    ) -> Result<(), Fault>
-        requires another { Contains (map (λ (x : StoredEntry). x.name) self.old.stored) name → ⊥ }
-        requires follows { Follows schema.now limits self.old (instance name (record_view of)) }
-        ensures gives { StepGives schema.now limits self.old (instance name (record_view of)) result self.new }
-        ensures bound { StepKeepsBound limits self.old self.new }
-        ensures kind { IfErr result (λ fault. IsOfBytes fault) }
-    {
         let found = match find_instance(schema, name, of, workspace) {
             Ok(found) => found,
             Err(fault) => return Err(fault),

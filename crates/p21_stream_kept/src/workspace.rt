@@ -1,7 +1,10 @@
+ghost use Rattle.std.specs.Prelude.{◌≡◌, ◌<◌, ◌≤◌, []};
+ghost use Rattle.std.specs.Vec.{vec_capacity};
+
 use p21_mapping::RecordRows;
 use std::alloc::Global;
 
-/// The most room that the line of an instance keeps for the next one.
+/// The most room in bytes that the line of an instance keeps for the next one.
 const LINE_ROOM: usize = 65_536;
 
 /// Where one instance after another is checked: the emptied rows of those before, and the canonical line. Nothing in it
@@ -10,21 +13,31 @@ const LINE_ROOM: usize = 65_536;
 pub struct Workspace {
     /// The emptied rows of records and of their values.
     pub rows: RecordRows,
-    // The canonical line of the instance that was checked last.
-    pub(crate) line: Vec<u8>,
+    /// The canonical line of the instance that was checked last.
+    pub line: Vec<u8>,
 }
 
 impl Workspace {
     /// A workspace in which nothing was checked. It takes no memory.
-    pub fn new(alloc: Global) -> Workspace {
+    pub fn new(alloc: Global) -> Workspace
+        ensures params { result.rows.params ≡ [] }
+        ensures values { result.rows.values ≡ [] }
+        ensures rows { result.rows.rows ≡ [] }
+        ensures line { result.line.items ≡ [] }
+        ensures room { vec_capacity result.line ≡ 0 }
+    {
         Workspace {
             rows: RecordRows::new(alloc),
             line: Vec::new(alloc),
         }
     }
 
-    /// Gives back the room of a long line.
-    pub(crate) fn trim(&mut self) {
+    /// Gives back the room of a line that has more than 65,536 bytes of it. It takes no memory.
+    pub fn trim(&mut self)
+        ensures given_back { 65536 < vec_capacity self.old.line → vec_capacity self.new.line ≡ 0 }
+        ensures kept { vec_capacity self.old.line ≤ 65536 → self.new.line ≡ self.old.line }
+        ensures rows { self.new.rows ≡ self.old.rows }
+    {
         if self.line.capacity() > LINE_ROOM {
             self.line = Vec::new(*self.line.allocator());
         }

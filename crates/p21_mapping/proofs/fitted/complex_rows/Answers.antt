@@ -23,7 +23,7 @@ use Rattle.p21_schemas.specs.Order.{own_places}
 use Rattle.p21_mapping.proofs.fitted.complex_rows.Goals as goal
 
 pub loop-owner-init : goal.loop-owner-init
-loop-owner-init c = rw (c.in_ok-rows.ensures, c.into_iter-left.ensures.rest) (parts-begin c.args.set.now.schema.now (numbers c.args.set.now.entities.now) c.args.listed.now (part_views c.args.parts.items) (needs_view c.args.needs.now.items))
+loop-owner-init c = rw (c.in_ok-rows.ensures.items, c.into_iter-left.ensures.rest) (parts-begin c.args.set.now.schema.now (numbers c.args.set.now.entities.now) c.args.listed.now (part_views c.args.parts.items) (needs_view c.args.needs.now.items))
 
 pub unreachable-requires : goal.unreachable-requires
 unreachable-requires c =

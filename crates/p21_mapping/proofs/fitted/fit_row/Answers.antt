@@ -16,7 +16,7 @@ use Rattle.p21_mapping.proofs.fitted.fit_row.Goals as goal
 use Rattle.p21_schemas.proofs.OwnPlaces.{own_places-has}
 
 pub loop-index-init : goal.loop-index-init
-loop-index-init c = rw c.in_ok-values.ensures (row-begins c.args.set.now.schema.now (numbers c.args.set.now.entities.now) c.args.owner.0 (param_views (reverse c.args.params.now.items)) (needs_view c.args.needs.now.items))
+loop-index-init c = rw c.in_ok-values.ensures.items (row-begins c.args.set.now.schema.now (numbers c.args.set.now.entities.now) c.args.owner.0 (param_views (reverse c.args.params.now.items)) (needs_view c.args.needs.now.items))
 
 pub unreachable-requires : goal.unreachable-requires
 unreachable-requires c =

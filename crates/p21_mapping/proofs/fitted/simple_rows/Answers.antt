@@ -13,7 +13,7 @@ use Rattle.p21_mapping_values.specs.TypedView.{rows_view}
 use Rattle.p21_mapping.proofs.fitted.simple_rows.Goals as goal
 
 pub loop-owner-init : goal.loop-owner-init
-loop-owner-init c = rw (c.in_ok-rows.ensures, c.reverse.ensures.items, reverse-reverse c.args.params.items) (rows-begin c.args.set.now.schema.now (numbers c.args.set.now.entities.now) c.args.listed.now (param_views c.args.params.items) (needs_view c.args.needs.now.items))
+loop-owner-init c = rw (c.in_ok-rows.ensures.items, c.reverse.ensures.items, reverse-reverse c.args.params.items) (rows-begin c.args.set.now.schema.now (numbers c.args.set.now.entities.now) c.args.listed.now (param_views c.args.params.items) (needs_view c.args.needs.now.items))
 
 pub fit_row-requires-clause-owner : goal.fit_row-requires-clause-owner
 fit_row-requires-clause-owner c = c.requires.listed _ (numbered-at (λ e. e.0) c.args.listed.now c.loop-owner.owner-index record { 0 = 0 } c.loop-owner-test.true)

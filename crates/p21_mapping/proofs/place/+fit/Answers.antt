@@ -109,4 +109,4 @@ fit_each-fit_stored-requires t c =
     search rules
 
 pub fit_each-loop-param-init : goal.fit_each-loop-param-init
-fit_each-loop-param-init t c = none_taken c.args.schema.now c.args.optional (type_use c.args.of.now) _ c.args.params.items c.args.needs.now.items c.in_ok-values.values c.reverse.ensures.items c.in_ok-values.ensures
+fit_each-loop-param-init t c = none_taken c.args.schema.now c.args.optional (type_use c.args.of.now) _ c.args.params.items c.args.needs.now.items c.in_ok-values.values c.reverse.ensures.items c.in_ok-values.ensures.items
