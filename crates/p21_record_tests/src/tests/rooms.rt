@@ -43,7 +43,7 @@ fn leaves_rooms(
 }
 
 /// The first instance behind which other rows wait.
-pub(super) fn first_otherwise(alloc: Global, schema: &Schema, rooms: Rooms) -> &'static str {
+fn first_otherwise(alloc: Global, schema: &Schema, rooms: Rooms) -> &'static str {
     for (text, values, rows) in rooms {
         if !leaves_rooms(alloc, schema, text, values, rows) {
             return text;
