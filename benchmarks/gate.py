@@ -84,7 +84,7 @@ def write(sums, clock, last, edits):
         "",
         f"Made by `benchmarks/gate.py` on {datetime.date.today():%-d %B %Y}, on {os.cpu_count()} processors: `rt ci` from nothing took",
         f"{clock / 60:.0f} minutes by the clock and {whole:,.0f} seconds of a processor, and ended with `{last}`.",
-        f"Its lanes are full nearly to the end, so two processors take about {whole / 120:.0f} minutes.",
+        f"The processors were busy for {100 * whole / (clock * os.cpu_count()):.0f} per cent of that time; two take {whole / 120:.0f} minutes at least.",
         "",
         "Seconds of a processor. The first wrong body of a crate costs the crate's proof once more.",
         "",
