@@ -3,9 +3,9 @@
 
     benchmarks/ways.py [SCHEMA FILE..]      without these, the files of the other benchmarks, of 10,000 instances each
 
-The program has no counter, so valgrind counts the calls of `take_instance`, which takes an instance that came token by token;
-the others of an accepted file went the shorter way. Each instance whose name has a zero in front has to be counted: that shows
-that the program has this function apart, and not inlined. P21 names another program than ./p21. Needs valgrind.
+The program has no counter, so valgrind counts the calls by which a session keeps an instance that came token by token; the
+others of an accepted file went the shorter way. Each instance whose name has a zero in front has to be counted: that shows
+that the program has these functions apart, and not inlined. P21 names another program than ./p21. Needs valgrind.
 """
 
 import os
@@ -19,7 +19,8 @@ import models
 
 ROOT = pathlib.Path(__file__).resolve().parent.parent
 COUNT = 10_000
-COUNTED = "p21_stream_kept::kept::Kept::take_instance"
+# What takes a statement that came token by token, and what keeps an instance either way.
+TAKES, KEEPS = "p21_stream::progress::take", "p21_stream_kept::kept::Kept::keep_found"
 FILES = {
     "points": models.points,
     "boundary model": models.boundary,
@@ -38,15 +39,18 @@ def program():
 
 
 def calls(profile):
-    """How often the counted function is called. A name stands in a profile once, behind its number."""
-    names, called, count = {}, None, 0
+    """How often the one function calls the other. A name stands in a profile once, behind its number."""
+    names, within, called, count = {}, None, None, 0
     for line in profile.splitlines():
         kind, _, rest = line.partition("=")
         if kind in ("fn", "cfn"):
             number, _, symbol = rest.partition(" ")
             names.setdefault(number, symbol)
-            called = names[number] if kind == "cfn" else None
-        elif kind == "calls" and called == COUNTED:
+            if kind == "fn":
+                within, called = names[number], None
+            else:
+                called = names[number]
+        elif kind == "calls" and (within, called) == (TAKES, KEEPS):
             count += int(rest.split()[0])
     return count
 
