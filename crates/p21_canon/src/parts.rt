@@ -73,7 +73,7 @@ fn append_values(
 pub(crate) fn append_internal(
     schema: &Schema,
     leaf: EntityId,
-    typed: &Typed,
+    typed: &Typed<'_>,
     out: &mut Vec<u8>,
 ) -> Result<(), NoMemory>
     requires row { HasRows schema.now (typed_view typed.now) }
@@ -93,7 +93,7 @@ pub(crate) fn append_internal(
 /// Appends the texts of the values of some entities with a comma between each two, or a part of them where memory runs out.
 fn append_rows(
     schema: &Schema,
-    typed: &Typed,
+    typed: &Typed<'_>,
     entities: &[EntityId],
     out: &mut Vec<u8>,
 ) -> Result<(), NoMemory>
@@ -112,7 +112,7 @@ fn append_rows(
 }
 
 /// The values beside an entity.
-fn row<'a>(typed: &'a Typed, entity: EntityId) -> &'a [Value]
+fn row<'a>(typed: &'a Typed<'_>, entity: EntityId) -> &'a [Value]
     requires long { length typed.now.parts ≡ length typed.now.values }
     requires member { Contains (ids_view typed.now.parts) entity.0 }
     ensures { views result.now ≡ row_of (typed_view typed.now) entity.0 }
@@ -137,7 +137,7 @@ fn first_position_of(entities: &[EntityId], entity: EntityId) -> usize
 /// Appends the record of external mapping and its `;`, or a part of it where memory runs out.
 pub(crate) fn append_external(
     schema: &Schema,
-    typed: &Typed,
+    typed: &Typed<'_>,
     out: &mut Vec<u8>,
 ) -> Result<(), NoMemory>
     requires { HasRows schema.now (typed_view typed.now) }

@@ -21,7 +21,7 @@ use p21_values::{Canonical, Name, NoMemory};
 pub fn write_record(
     schema: &Schema,
     name: Name,
-    typed: &Typed,
+    typed: &Typed<'_>,
     out: &mut Vec<u8>,
 ) -> Result<(), NoMemory>
     requires { IsMeant schema.now (typed_view typed.now) }
@@ -42,7 +42,7 @@ pub fn write_record(
 fn append_statement(
     schema: &Schema,
     name: Name,
-    typed: &Typed,
+    typed: &Typed<'_>,
     out: &mut Vec<u8>,
 ) -> Result<(), NoMemory>
     requires { IsMeant schema.now (typed_view typed.now) }

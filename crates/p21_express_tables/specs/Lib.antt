@@ -3,6 +3,7 @@ pub mod Base
 pub mod Coding
 pub mod DecidedPlaces
 pub mod Decisions
+pub mod Ids
 pub mod OneOf
 pub mod OwnSets
 pub mod Above

@@ -5,6 +5,7 @@ mod ascent;
 mod base;
 mod decided;
 mod holders;
+mod ids;
 mod one_of;
 mod own_sets;
 mod place_types;
@@ -14,5 +15,6 @@ mod schema;
 mod words;
 
 pub use base::Base;
+pub use ids::Ids;
 pub use own_sets::OwnFaults;
 pub use schema::Schema;

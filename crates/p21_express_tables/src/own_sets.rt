@@ -15,12 +15,12 @@ ghost use Rattle.p21_express_tables.specs.declared.place_types.Decision.TheVaria
 ghost use Rattle.p21_express_tables.specs.OwnSets.{HasOwnFaults, IsOpenAt, IsOwnSet, LeavesOpen};
 
 use crate::decided::{DecidedPlace, decision_at};
+use crate::ids::Ids;
 use crate::place_types::Decision;
 use crate::schema::Schema;
 use p21_express_graph::Redeclared;
 use p21_express_types::{EntityId, Place, PlaceType};
 use p21_values::NoMemory;
-use std::alloc::Global;
 
 /// What makes the set of an entity and its supertypes no set of an instance.
 #[derive(Clone, Copy, Debug, Drop, PartialEq, Eq)]
@@ -59,31 +59,22 @@ impl Schema {
         }
     }
 
-    /// An entity and its supertypes, rising by name.
+    /// An entity and its supertypes, rising by name. It takes no memory where they are few and known beforehand.
     ///
     /// # Errors
     ///
     /// `NoMemory`.
-    pub fn own_rising(&self, entity: EntityId) -> Result<Vec<EntityId>, NoMemory>
+    pub fn own_rising(&self, entity: EntityId) -> Result<Ids<'_>, NoMemory>
         requires { IsEntity self.now entity.0 }
-        ensures { IfOk result (λ entities. IsOwnRising self.now entity.0 (numbers entities.items)) }
+        ensures { IfOk result (λ entities. IsOwnRising self.now entity.0 (numbers entities)) }
     {
-        match self.own.get(entity.0 as usize) {
-            Some(own) => self.rising_in(entity, own),
-            None => self.find_rising(entity),
+        if let Some(own) = self.own.get(entity.0 as usize) {
+            if let Some(rising) = &own.rising {
+                return Ok(Ids::from_slice(rising));
+            }
         }
-    }
-
-    /// The same, where this is known of its set.
-    fn rising_in(&self, entity: EntityId, own: &OwnSet) -> Result<Vec<EntityId>, NoMemory>
-        requires entity { IsEntity self.now entity.0 }
-        requires own { IsOwnSet self.now entity.0 own.now }
-        ensures { IfOk result (λ entities. IsOwnRising self.now entity.0 (numbers entities.items)) }
-    {
-        match &own.rising {
-            Some(rising) => copied(self.alloc, rising),
-            None => self.find_rising(entity),
-        }
+        let rising = self.find_rising(entity)?;
+        Ok(Ids::from_vec(rising))
     }
 
     /// What may stand at a place of an instance whose set is an entity and its supertypes (ISO 10303-11, Attribute
@@ -250,11 +241,4 @@ impl Schema {
             _ => false,
         }
     }
-}
-
-fn copied(alloc: Global, entities: &[EntityId]) -> Result<Vec<EntityId>, NoMemory>
-    ensures { IfOk result (λ copy. copy.items ≡ entities.now) }
-{
-    let copy = Vec::from_slice(alloc, entities)?;
-    Ok(copy)
 }

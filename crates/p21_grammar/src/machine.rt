@@ -1,10 +1,12 @@
 ghost use Rattle.std.specs.Prelude.{◌≡◌, ◌↔◌, [], IfOk, IfErr, IsTrue, true};
+ghost use Rattle.std.specs.Vec.{vec_capacity};
 ghost use Rattle.p21_exchange.specs.Parameter.{key_of, no_params};
 ghost use Rattle.p21_exchange.specs.Statement.{section, header, instance};
 ghost use Rattle.p21_grammar.specs.Stage.{after, is_in_data};
 ghost use Rattle.p21_grammar.specs.Machine.{open_of, opening_of, stack_of, closed_part, put_back, close_typed, spot_of, head_of, step, enter, close, close_empty, comma, put, at_next, at_behind, at_word, at_line, at_named, at_equal, at_inside, at_keyed, at_record_end, at_instance_end, end_keyword, end_record, at_idle, at_start, at_begun, at_header, at_headed, at_data, at_behind_unnamed, at_behind_named, at_end, misplaced_fault, misplaced_param_fault, other_section_fault, idle, next, go, refuse, part_row, open_at, depth_of, ended, end_heading, close_records, at_data_keyword, MakesMove, AnswersMove, RefusesMove};
 ghost use Rattle.p21_grammar.specs.HeadingShape.{HasHeadingShape};
 ghost use Rattle.p21_grammar.specs.Statements.{line_of};
+ghost use Rattle.p21_grammar_tree.specs.Rooms.{TakesOneAtMost, next_room, rooms_left};
 ghost use Rattle.p21_grammar_tree.specs.View.{key_view, part_view, part_views, record_view, view, views};
 ghost use Rattle.p21_exchange.specs.Token as token;
 ghost use Rattle.p21_tokens.specs.Token.{meant};
@@ -92,8 +94,6 @@ pub struct Machine {
     at: At,
     row: Row,
     frames: Vec<Row>,
-    // The rows of the statements before, emptied, for the next ones.
-    spare: SpareRows<Param>,
 }
 
 fn key(word: Word) -> Key
@@ -252,29 +252,23 @@ impl Machine {
                 params: Vec::new(alloc),
             },
             frames: Vec::new(alloc),
-            spare: SpareRows::new(alloc),
         }
     }
 
-    /// Exchanges the emptied rows that wait to be used again. It takes no memory.
-    pub fn swap_rows(&mut self, rows: &mut SpareRows<Param>)
-        ensures stage { self.new.stage ≡ self.old.stage }
-        ensures spot { spot_of self.new ≡ spot_of self.old }
-    {
-        mem::swap(&mut self.spare, rows);
-    }
-
-    /// Opens a list or a typed parameter.
+    /// Opens a list or a typed parameter, in the row that was kept last, if one waits.
     #[inline(always)]
-    fn enter(&mut self, opening: Opening) -> Result<(), GrammarFault>
+    fn enter(&mut self, opening: Opening, rows: &mut SpareRows<Param>) -> Result<(), GrammarFault>
         ensures ok { IfOk result (λ _. MakesMove (enter self.old.stage (opening_of opening) (open_of self.old.row) (stack_of self.old.frames.items)) self.new) }
         ensures err { IfErr result (λ why. RefusesMove (enter self.old.stage (opening_of opening) (open_of self.old.row) (stack_of self.old.frames.items)) why) }
+        ensures rows { TakesOneAtMost rows.old rows.new }
+        ensures room { IfOk result (λ _. vec_capacity self.new.row.params ≡ next_room rows.old) }
+        ensures taken { IfOk result (λ _. rows.new ≡ rooms_left rows.old) }
     {
         if self.frames.len() >= NESTING {
             return Err(GrammarFault::TooDeep);
         }
         self.at = At::Next;
-        let params = self.spare.take(self.alloc);
+        let params = rows.take(self.alloc);
         let around = mem::replace(&mut self.row, Row { opening, params });
         self.frames.push(around)?;
         Ok(())
@@ -410,9 +404,10 @@ impl Machine {
 
     /// Where a parameter may begin.
     #[inline(always)]
-    fn next(&mut self, token: Token) -> Result<(), GrammarFault>
+    fn next(&mut self, token: Token, rows: &mut SpareRows<Param>) -> Result<(), GrammarFault>
         ensures ok { IfOk result (λ _. MakesMove (at_next self.old.stage (open_of self.old.row) (stack_of self.old.frames.items) (meant token)) self.new) }
         ensures err { IfErr result (λ why. RefusesMove (at_next self.old.stage (open_of self.old.row) (stack_of self.old.frames.items) (meant token)) why) }
+        ensures rows { TakesOneAtMost rows.old rows.new }
     {
         let param = match token {
             Token::Dollar => Param::Dollar,
@@ -428,7 +423,7 @@ impl Machine {
                 return Ok(());
             }
             Token::UserKeyword(word) => return self.put_user_keyword(word),
-            Token::Left => return self.enter(Opening::List),
+            Token::Left => return self.enter(Opening::List, rows),
             Token::Right => return self.close_empty(),
             Token::Begin | Token::Finish | Token::Comma | Token::Semicolon | Token::Equals => {
                 return Err(GrammarFault::Unexpected);
@@ -451,12 +446,18 @@ impl Machine {
     }
 
     /// Behind the keyword of a typed parameter.
-    fn word(&mut self, key: Key, token: Token) -> Result<(), GrammarFault>
+    fn word(
+        &mut self,
+        key: Key,
+        token: Token,
+        rows: &mut SpareRows<Param>,
+    ) -> Result<(), GrammarFault>
         ensures ok { IfOk result (λ _. MakesMove (at_word self.old.stage (key_view key) (open_of self.old.row) (stack_of self.old.frames.items) (meant token)) self.new) }
         ensures err { IfErr result (λ why. RefusesMove (at_word self.old.stage (key_view key) (open_of self.old.row) (stack_of self.old.frames.items) (meant token)) why) }
+        ensures rows { TakesOneAtMost rows.old rows.new }
     {
         match token {
-            Token::Left => self.enter(Opening::Tagged(key)),
+            Token::Left => self.enter(Opening::Tagged(key), rows),
             token => Err(misplaced_param_fault(self.stage, &token)),
         }
     }
@@ -613,27 +614,36 @@ impl Machine {
         }
     }
 
-    /// Opens the parameters of a simple record.
-    fn open_part(&mut self, head: Head, key: Key)
-        ensures { MakesMove (go self.old.stage (next (open_at (part_row (head_of head) (key_view key)) no_params) [])) self.new }
+    /// Opens the parameters of a simple record, in the row that was kept last, if one waits.
+    fn open_part(&mut self, head: Head, key: Key, rows: &mut SpareRows<Param>)
+        ensures moves { MakesMove (go self.old.stage (next (open_at (part_row (head_of head) (key_view key)) no_params) [])) self.new }
+        ensures room { vec_capacity self.new.row.params ≡ next_room rows.old }
+        ensures taken { rows.new ≡ rooms_left rows.old }
     {
         self.at = At::Next;
         self.frames.clear();
         self.row = Row {
             opening: Opening::Part(head, key),
-            params: self.spare.take(self.alloc),
+            params: rows.take(self.alloc),
         };
     }
 
     /// Behind the keyword of a simple record.
-    fn keyed(&mut self, head: Head, key: Key, token: Token) -> Result<Option<Event>, GrammarFault>
+    fn keyed(
+        &mut self,
+        head: Head,
+        key: Key,
+        token: Token,
+        rows: &mut SpareRows<Param>,
+    ) -> Result<Option<Event>, GrammarFault>
         ensures ok { IfOk result (λ event. AnswersMove (at_keyed self.old.stage (head_of head) (key_view key) (meant token)) self.new event) }
         ensures err { IfErr result (λ why. RefusesMove (at_keyed self.old.stage (head_of head) (key_view key) (meant token)) why) }
         ensures shaped { IfOk result HasHeadingShape }
+        ensures rows { TakesOneAtMost rows.old rows.new }
     {
         match token {
             Token::Left => {
-                self.open_part(head, key);
+                self.open_part(head, key, rows);
                 Ok(None)
             }
             Token::Semicolon => match head {
@@ -828,10 +838,15 @@ impl Machine {
 
     /// The next token, where what was taken last is moved out.
     #[inline(never)]
-    fn other(&mut self, token: Token) -> Result<Option<Event>, GrammarFault>
+    fn other(
+        &mut self,
+        token: Token,
+        rows: &mut SpareRows<Param>,
+    ) -> Result<Option<Event>, GrammarFault>
         ensures ok { IfOk result (λ event. AnswersMove (step self.old.stage (spot_of self.old) (meant token)) self.new event) }
         ensures err { IfErr result (λ why. RefusesMove (step self.old.stage (spot_of self.old) (meant token)) why) }
         ensures shaped { IfOk result HasHeadingShape }
+        ensures rows { TakesOneAtMost rows.old rows.new }
     {
         match mem::replace(&mut self.at, At::Idle) {
             At::Idle => self.idle(token)?,
@@ -839,9 +854,9 @@ impl Machine {
             At::Named(name) => self.named(name, token)?,
             At::Equal(name) => self.equal(name, token)?,
             At::Among(name, parts) => self.among(name, parts, token)?,
-            At::Keyed(head, key) => return self.keyed(head, key, token),
-            At::Next => self.next(token)?,
-            At::Word(key) => self.word(key, token)?,
+            At::Keyed(head, key) => return self.keyed(head, key, token, rows),
+            At::Next => self.next(token, rows)?,
+            At::Word(key) => self.word(key, token, rows)?,
             At::Behind => self.behind(token)?,
             At::RecordEnd(part) => return self.record_end(part, token),
             At::InstanceEnd(name, body) => return self.instance_end(name, body, token),
@@ -850,13 +865,18 @@ impl Machine {
     }
 
     /// The next token. It answers a statement with its `;`.
-    pub fn step(&mut self, token: Token) -> Result<Option<Event>, GrammarFault>
+    pub fn step(
+        &mut self,
+        token: Token,
+        rows: &mut SpareRows<Param>,
+    ) -> Result<Option<Event>, GrammarFault>
         ensures ok { IfOk result (λ event. AnswersMove (step self.old.stage (spot_of self.old) (meant token)) self.new event) }
         ensures err { IfErr result (λ why. RefusesMove (step self.old.stage (spot_of self.old) (meant token)) why) }
         ensures shaped { IfOk result HasHeadingShape }
+        ensures rows { TakesOneAtMost rows.old rows.new }
     {
         match &self.at {
-            At::Next => self.next(token)?,
+            At::Next => self.next(token, rows)?,
             At::Behind => self.behind(token)?,
             At::Idle => self.idle(token)?,
             At::Named(name) => {
@@ -867,7 +887,7 @@ impl Machine {
                 let name = *name;
                 self.equal(name, token)?
             }
-            _ => return self.other(token),
+            _ => return self.other(token, rows),
         }
         Ok(None)
     }

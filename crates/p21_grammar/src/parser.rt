@@ -4,6 +4,7 @@ ghost use Rattle.p21_exchange.specs.OpenNesting.{IsDepth};
 ghost use Rattle.p21_grammar.specs.Between.{IsBetweenInstances, StandsForMore};
 ghost use Rattle.p21_grammar.specs.Histories.{GrammarHistory, Stands, TakeGives, FinishGives, HasHeadingForm, RefusalIsKnown, RefusesAgain};
 ghost use Rattle.p21_grammar.specs.declared.fault.GrammarFault.{GrammarFault};
+ghost use Rattle.p21_grammar_tree.specs.Rooms.{TakesOneAtMost};
 ghost use Rattle.p21_tokens.specs.Token.{meant};
 
 use crate::event::Event;
@@ -47,7 +48,8 @@ impl Parser {
         }
     }
 
-    /// Takes the next token. Each statement is answered with its `;`.
+    /// Takes the next token. Each statement is answered with its `;`. Where parameters open with the token, they stand in the
+    /// row that was kept last, if one waits: a caller that has moved the parameters out of a statement keeps its rows there.
     ///
     /// # Errors
     ///
@@ -55,7 +57,11 @@ impl Parser {
     /// parameter one in another, `AfterEnd` behind the end of the file, `LeftOut` at a part of the standard that is left
     /// out, `HeaderShape` and `SectionShape` at the `;` of a statement that has not the form it should have there,
     /// `NoMemory`. After a refusal each call answers it.
-    pub fn take(&mut self, token: Token) -> Result<Option<Event>, GrammarFault>
+    pub fn take(
+        &mut self,
+        token: Token,
+        rows: &mut SpareRows<Param>,
+    ) -> Result<Option<Event>, GrammarFault>
         ensures gives { TakeGives self.old (meant token) result self.new }
         ensures shaped { IfOk result HasHeadingForm }
         ensures goes_on { IfOk result (λ event. self.new.refused ≡ None) }
@@ -63,11 +69,12 @@ impl Parser {
         ensures refused { IfErr result (λ fault. self.new.refused ≡ Some fault) }
         ensures known { RefusalIsKnown self.new }
         ensures within { self.new.depth ≤ 64 }
+        ensures rows { TakesOneAtMost rows.old rows.new }
     {
         if let Some(fault) = self.refused {
             return Err(fault);
         }
-        match self.machine.step(token) {
+        match self.machine.step(token, rows) {
             Ok(event) => {
                 self.depth = self.machine.depth();
                 Ok(event)
@@ -77,14 +84,6 @@ impl Parser {
                 Err(fault)
             }
         }
-    }
-
-    /// Exchanges the emptied rows of statements before that wait to be used again: those that a caller has moved the
-    /// parameters out of, for those that are left. It takes no memory.
-    pub fn swap_rows(&mut self, rows: &mut SpareRows<Param>)
-        ensures { self.new ≡ self.old }
-    {
-        self.machine.swap_rows(rows);
     }
 
     /// The end of the tokens. It takes no memory.

@@ -19,11 +19,12 @@ const HEADER: &str = "ISO-10303-21;HEADER;";
 /// Texts, with the statements of each and then the refusal, `end` and the refusal of the end, or nothing.
 type Rows = &'static [(&'static str, &'static str)];
 
-/// A lexer and a parser, and the statements that were given.
+/// A lexer and a parser, the rows of statements before, and the statements that were given.
 #[derive(Drop)]
 struct Reader {
     lexer: Lexer,
     parser: Parser,
+    rows: SpareRows<Param>,
     given: Vec<u8>,
     refused: Option<GrammarFault>,
     // Whether the lexer refused a text, or memory ran out.
@@ -35,6 +36,7 @@ impl Reader {
         Reader {
             lexer: Lexer::new(rt.alloc(), Limits::usual()),
             parser: Parser::new(rt.alloc()),
+            rows: SpareRows::new(rt.alloc()),
             given: Vec::new(rt.alloc()),
             refused: None,
             is_lost: false,
@@ -81,7 +83,7 @@ impl Reader {
     }
 
     fn take(&mut self, token: Token) {
-        match self.parser.take(token) {
+        match self.parser.take(token, &mut self.rows) {
             Ok(Some(event)) => {
                 if spell_event(&event, &mut self.given).is_err() {
                     self.is_lost = true;
@@ -93,15 +95,13 @@ impl Reader {
         }
     }
 
-    /// Gives the row of an instance of internal mapping back to the parser, which takes the next one in its room.
+    /// Keeps the row of an instance of internal mapping, in whose room the next one stands.
     fn use_row_again(&mut self, statement: Event) {
-        let mut rows = SpareRows::new(*self.given.allocator());
         if let Some(record) = record_of(statement)
             && let Some(row) = row_of(record)
         {
-            let _ = rows.put(row);
+            let _ = self.rows.put(row);
         }
-        self.parser.swap_rows(&mut rows);
     }
 
     /// Takes a text so many times.
@@ -114,7 +114,7 @@ impl Reader {
     /// Whether nothing was lost, and a refusal is answered again.
     fn is_steady(&mut self) -> bool {
         match self.refused {
-            Some(fault) => repeats(&mut self.parser, fault),
+            Some(fault) => repeats(&mut self.parser, &mut self.rows, fault),
             None => !self.is_lost,
         }
     }
@@ -139,7 +139,7 @@ fn row_of(record: Record) -> Option<Vec<Param>> {
 }
 
 /// Whether each of these tokens behind a refusal is answered by that refusal, and the depth is kept.
-fn repeats(parser: &mut Parser, fault: GrammarFault) -> bool {
+fn repeats(parser: &mut Parser, rows: &mut SpareRows<Param>, fault: GrammarFault) -> bool {
     let depth = parser.depth();
     let tokens = [
         Token::Semicolon,
@@ -149,7 +149,7 @@ fn repeats(parser: &mut Parser, fault: GrammarFault) -> bool {
         Token::Finish,
     ];
     for token in tokens {
-        if parser.take(token).err() != Some(fault) {
+        if parser.take(token, rows).err() != Some(fault) {
             return false;
         }
     }
@@ -197,9 +197,23 @@ fn comes_to(reader: Reader, text: &str, expected: &str) -> bool {
 /// Whether the token that begins a file gives no statement, and the semicolon behind it gives the first.
 fn begins_with_semicolon(alloc: Global) -> bool {
     let mut parser = Parser::new(alloc);
-    let first = matches!(parser.take(Token::Begin), Ok(None));
-    let second = parser.take(Token::Semicolon);
+    let mut rows = SpareRows::new(alloc);
+    let first = matches!(parser.take(Token::Begin, &mut rows), Ok(None));
+    let second = parser.take(Token::Semicolon, &mut rows);
     first && matches!(second, Ok(Some(Event::Section(Line::Begin))))
+}
+
+/// For how many elements the row has room in which an instance stands, where a row with this room waits.
+fn room_of_instance(rt: &HostRuntime, room: usize, text: &str) -> Result<usize, NoMemory> {
+    let mut reader = Reader::behind(rt, HEAD, "DATA;");
+    reader.rows.put(Vec::with_capacity(rt.alloc(), room)?)?;
+    reader.feed(text);
+    Ok(reader.rows.take(rt.alloc()).capacity())
+}
+
+#[test]
+fn stands_in_the_row_that_waits(rt: HostRuntime) {
+    assert!(rt; room_of_instance(&rt, 40, "#1=A(1,2,3,4,5);") == Ok(40));
 }
 
 #[test]

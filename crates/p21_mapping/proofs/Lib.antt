@@ -16,3 +16,4 @@ pub mod Taking
 pub mod Here
 pub mod Refused
 pub mod Arranging
+pub mod Waiting

@@ -14,11 +14,11 @@ use std::alloc::Global;
 /// # Errors
 ///
 /// Those of `check_owned_record`, in the same order.
-pub fn check_record(
+pub fn check_record<'a>(
     alloc: Global,
-    schema: &Schema,
+    schema: &'a Schema,
     of: &Record,
-) -> Result<(Typed, Vec<Need>), CheckFault>
+) -> Result<(Typed<'a>, Vec<Need>), CheckFault>
     ensures { ChecksRecord schema.now (record_view of.now) result }
 {
     let copy = copied_record(alloc, of)?;

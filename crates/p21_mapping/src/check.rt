@@ -16,7 +16,7 @@ use crate::shape::{Shape, shape_of};
 use p21_express_tables::Schema;
 use p21_express_types::EntityId;
 use p21_grammar_tree::Record;
-use p21_mapping_values::{CheckFault, Ids, Need, Rows, Typed, Values};
+use p21_mapping_values::{CheckFault, Need, Rows, Typed, Values};
 use std::alloc::Global;
 
 /// Checks a record against a schema, and moves its texts, numbers and names into the typed record that it means (ISO
@@ -31,7 +31,7 @@ pub fn check_owned_record(
     alloc: Global,
     schema: &Schema,
     of: Record,
-) -> Result<(Typed, Vec<Need>), CheckFault>
+) -> Result<(Typed<'_>, Vec<Need>), CheckFault>
     ensures { ChecksRecord schema.now (record_view of) result }
 {
     check_owned_record_in(&mut RecordRows::new(alloc), schema, of)
@@ -42,11 +42,11 @@ pub fn check_owned_record(
 /// # Errors
 ///
 /// Those of `check_owned_record`, in the same order.
-pub fn check_owned_record_in(
+pub fn check_owned_record_in<'a>(
     spare: &mut RecordRows,
-    schema: &Schema,
+    schema: &'a Schema,
     of: Record,
-) -> Result<(Typed, Vec<Need>), CheckFault>
+) -> Result<(Typed<'a>, Vec<Need>), CheckFault>
     ensures { ChecksRecord schema.now (record_view of) result }
 {
     schema.well_formed();
@@ -58,16 +58,16 @@ pub fn check_owned_record_in(
 }
 
 /// Checks a record whose entities are known.
-fn check_with_shape(
+fn check_with_shape<'a>(
     spare: &mut RecordRows,
-    schema: &Schema,
-    shape: Shape,
+    schema: &'a Schema,
+    shape: Shape<'a>,
     of: Record,
-) -> Result<(Typed, Vec<Need>), CheckFault>
+) -> Result<(Typed<'a>, Vec<Need>), CheckFault>
     requires formed { IsWellFormed schema.now }
     requires holds { HoldsTogether schema.now }
-    requires own { IsOwnClosure schema.now (own_of shape.listed) (numbers shape.entities.items) }
-    requires shape { HasShape schema.now (record_view of) (listed_in schema.now shape.listed) (numbers shape.entities.items) }
+    requires own { IsOwnClosure schema.now (own_of shape.listed) (numbers shape.entities) }
+    requires shape { HasShape schema.now (record_view of) (listed_in schema.now shape.listed) (numbers shape.entities) }
     ensures { ChecksRecord schema.now (record_view of) result }
 {
     let Shape { listed, entities } = shape;
@@ -76,15 +76,15 @@ fn check_with_shape(
     let set = EntitySet {
         schema,
         own: listed.own(),
-        entities: &entities,
+        entities: entities.items(),
     };
     let rows = match rows_of(spare, &set, in_order, of, &mut needs) {
         Ok(rows) => rows,
         Err(fault) => return Err(fault),
     };
-    let values = arranged_rows(spare, &entities, in_order, rows)?;
+    let values = arranged_rows(spare, entities.items(), in_order, rows)?;
     let typed = Typed {
-        parts: Ids::from_vec(entities),
+        parts: entities,
         values: Rows::from_vec(values),
     };
     Ok((typed, needs))

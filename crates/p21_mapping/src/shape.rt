@@ -12,7 +12,7 @@ use crate::key::{named, named_entities};
 use crate::members::{has_twice, is_closed};
 use crate::places::{has_count, has_open_place, have_counts};
 use crate::positions::Positions;
-use p21_express_tables::Schema;
+use p21_express_tables::{Ids, Schema};
 use p21_express_types::EntityId;
 use p21_grammar_tree::{Part, Record};
 use p21_mapping_values::CheckFault;
@@ -52,10 +52,10 @@ impl Listed {
 }
 
 /// The entities of a record: those whose places its parameters stand at, and its set, rising by keyword.
-#[derive(Debug, Drop)]
-pub struct Shape {
+#[derive(Drop)]
+pub struct Shape<'a> {
     pub listed: Listed,
-    pub entities: Vec<EntityId>,
+    pub entities: Ids<'a>,
 }
 
 /// The entities of a record, where nothing is wrong with them, nor with the numbers of its parameters.
@@ -64,9 +64,13 @@ pub struct Shape {
 ///
 /// In this order: `UnknownEntity`, `PartTwice`, `PartMissing`, `Abstract`, `OneOf`, `TwoRedeclarations`, `Count`.
 /// `NoMemory`.
-pub(crate) fn shape_of(alloc: Global, schema: &Schema, of: &Record) -> Result<Shape, CheckFault>
+pub(crate) fn shape_of<'a>(
+    alloc: Global,
+    schema: &'a Schema,
+    of: &Record,
+) -> Result<Shape<'a>, CheckFault>
     requires { IsWellFormed schema.now }
-    ensures { MatchResult result (λ shape. HasShape schema.now (record_view of.now) (listed_in schema.now shape.listed) (numbers shape.entities.items) × IsOwnClosure schema.now (own_of shape.listed) (numbers shape.entities.items)) (Refuses schema.now (record_view of.now)) }
+    ensures { MatchResult result (λ shape. HasShape schema.now (record_view of.now) (listed_in schema.now shape.listed) (numbers shape.entities) × IsOwnClosure schema.now (own_of shape.listed) (numbers shape.entities)) (Refuses schema.now (record_view of.now)) }
 {
     match of {
         Record::Simple(part) => simple_shape(schema, part),
@@ -74,9 +78,9 @@ pub(crate) fn shape_of(alloc: Global, schema: &Schema, of: &Record) -> Result<Sh
     }
 }
 
-fn simple_shape(schema: &Schema, part: &Part) -> Result<Shape, CheckFault>
+fn simple_shape<'a>(schema: &'a Schema, part: &Part) -> Result<Shape<'a>, CheckFault>
     requires { IsWellFormed schema.now }
-    ensures { MatchResult result (λ shape. HasShape schema.now (simple (part_view part.now)) (listed_in schema.now shape.listed) (numbers shape.entities.items) × IsOwnClosure schema.now (own_of shape.listed) (numbers shape.entities.items)) (Refuses schema.now (simple (part_view part.now))) }
+    ensures { MatchResult result (λ shape. HasShape schema.now (simple (part_view part.now)) (listed_in schema.now shape.listed) (numbers shape.entities) × IsOwnClosure schema.now (own_of shape.listed) (numbers shape.entities)) (Refuses schema.now (simple (part_view part.now))) }
 {
     let Some(entity) = named(schema, &part.key) else {
         return Err(CheckFault::UnknownEntity);
@@ -115,9 +119,13 @@ fn check_own_set(schema: &Schema, entity: EntityId) -> Result<(), CheckFault>
     Ok(())
 }
 
-fn complex_shape(alloc: Global, schema: &Schema, parts: &[Part]) -> Result<Shape, CheckFault>
+fn complex_shape<'a>(
+    alloc: Global,
+    schema: &'a Schema,
+    parts: &[Part],
+) -> Result<Shape<'a>, CheckFault>
     requires { IsWellFormed schema.now }
-    ensures { MatchResult result (λ shape. HasShape schema.now (complex (part_views parts.now)) (listed_in schema.now shape.listed) (numbers shape.entities.items) × IsOwnClosure schema.now (own_of shape.listed) (numbers shape.entities.items)) (Refuses schema.now (complex (part_views parts.now))) }
+    ensures { MatchResult result (λ shape. HasShape schema.now (complex (part_views parts.now)) (listed_in schema.now shape.listed) (numbers shape.entities) × IsOwnClosure schema.now (own_of shape.listed) (numbers shape.entities)) (Refuses schema.now (complex (part_views parts.now))) }
 {
     let listed = named_entities(alloc, schema, parts)?;
     check_members(alloc, schema, &listed)?;
@@ -135,7 +143,7 @@ fn complex_shape(alloc: Global, schema: &Schema, parts: &[Part]) -> Result<Shape
     }
     Ok(Shape {
         listed: Listed::Named(listed),
-        entities,
+        entities: Ids::from_vec(entities),
     })
 }
 

@@ -5,3 +5,4 @@ pub mod Fault
 pub mod SplitTexts
 pub mod KnownTypes
 pub mod Spelled
+pub mod Rooms

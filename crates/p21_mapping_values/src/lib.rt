@@ -12,8 +12,9 @@ mod value_text;
 
 pub use fault::CheckFault;
 pub use need::Need;
+pub use p21_express_tables::Ids;
 pub use texts::{append_rising, are_distinct};
 pub use tokens::{append_byte, append_item, append_separator};
-pub use typed::{Ids, Rows, Typed};
+pub use typed::{Rows, Typed};
 pub use value::{Value, Values};
 pub use value_text::write_value;

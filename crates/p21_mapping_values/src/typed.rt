@@ -1,54 +1,15 @@
 ghost use Rattle.std.specs.Prelude.{◌≡◌};
 
 use crate::value::Values;
-use p21_express_types::EntityId;
+use p21_express_tables::Ids;
 use std::marker::Model;
 
 /// What the record of an instance means: its set of entities, rising by keyword, and for each of them the values of the
 /// places that it declares.
 #[derive(Drop)]
-pub struct Typed {
-    pub parts: Ids,
+pub struct Typed<'a> {
+    pub parts: Ids<'a>,
     pub values: Rows,
-}
-
-/// Entities in a row.
-#[derive(Drop)]
-pub struct Ids {
-    entities: Vec<EntityId>,
-}
-
-impl Model for Ids {
-    ghost use Rattle.std.specs.Prelude.{List};
-    ghost use Rattle.p21_express_types.specs.declared.number.EntityId.{EntityId};
-
-    ghost Value = { List EntityId };
-
-    ghost view = { λ ids. ids.entities.items };
-}
-
-impl Ids {
-    /// These entities in this order. It takes no memory.
-    pub fn from_vec(ids: Vec<EntityId>) -> Ids
-        ensures { result ≡ ids.items }
-    {
-        Ids { entities: ids }
-    }
-
-    /// The entities, first to last. It takes no memory.
-    pub fn items(&self) -> &[EntityId]
-        ensures { result.now ≡ self.now }
-    {
-        &self.entities
-    }
-
-    /// The entities, first to last. It takes no memory.
-    pub fn into_items(self) -> Vec<EntityId>
-        ensures { result.items ≡ self }
-    {
-        let Ids { entities } = self;
-        entities
-    }
 }
 
 /// Rows of values, one behind the other.

@@ -32,11 +32,14 @@ pub struct Values {
 }
 
 impl Values {
+    ghost use Rattle.std.specs.Vec.{vec_capacity};
     ghost use Rattle.p21_mapping_values.specs.View.{list_of};
+    ghost use Rattle.p21_mapping_values.specs.Rooms.{room_of};
 
     /// These values in this order. It takes no memory.
     pub fn from_vec(values: Vec<Value>) -> Values
-        ensures { list_of result ≡ values.items }
+        ensures items { list_of result ≡ values.items }
+        ensures room { room_of result ≡ vec_capacity values }
     {
         Values { all: values }
     }
@@ -50,7 +53,8 @@ impl Values {
 
     /// The values, first to last. It takes no memory.
     pub fn into_items(self) -> Vec<Value>
-        ensures { result.items ≡ list_of self }
+        ensures items { result.items ≡ list_of self }
+        ensures room { vec_capacity result ≡ room_of self }
     {
         let Values { all } = self;
         all

@@ -32,6 +32,7 @@ const HEAD: &str =
 struct Reader {
     lexer: Lexer,
     parser: Parser,
+    rows: RecordRows,
     last: Option<Event>,
     // Whether a text was refused, or memory ran out.
     is_lost: bool,
@@ -43,6 +44,7 @@ impl Reader {
         let mut reader = Reader {
             lexer: Lexer::new(alloc, Limits::usual()),
             parser: Parser::new(alloc),
+            rows: RecordRows::new(alloc),
             last: None,
             is_lost: false,
         };
@@ -78,7 +80,7 @@ impl Reader {
     }
 
     fn take(&mut self, token: Token) {
-        match self.parser.take(token) {
+        match self.parser.take(token, &mut self.rows.params) {
             Ok(event) => self.last = event,
             Err(_) => self.is_lost = true,
         }
@@ -150,7 +152,7 @@ fn append_moved(
 ) -> Result<(), CheckFault> {
     let (typed, _needs) = check_owned_record_in(spare, schema, record)?;
     let written = write_record(schema, name, &typed, out);
-    spare.put_back(typed.values);
+    let _ = spare.put_back(typed.values.into_items());
     written?;
     Ok(())
 }
@@ -261,6 +263,8 @@ enum Table {
     Letters(values::Letters),
     // Whether two instances mean the same.
     Pairs(sameness::Pairs),
+    // For how many elements the rows have room that wait behind instances.
+    Rooms(rooms::Rooms),
 }
 
 /// What a row is called that doesn't hold: `"none"` where each row holds.
@@ -274,6 +278,7 @@ fn first_wrong_in(alloc: Global, schema: &Schema, table: Table) -> &'static str 
         Table::Servants(holder, rows) => needs::first_wrong_servant(alloc, schema, holder, rows),
         Table::Letters(rows) => values::first_otherwise(alloc, schema, rows),
         Table::Pairs(rows) => sameness::first_unlike(alloc, schema, rows),
+        Table::Rooms(rows) => rooms::first_otherwise(alloc, schema, rows),
     }
 }
 

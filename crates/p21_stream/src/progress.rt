@@ -242,7 +242,7 @@ impl Progress {
         ensures plan { self.new.plan ≡ self.old.plan }
     {
         schema.well_formed();
-        let answer = match self.statements.step(piece) {
+        let answer = match self.statements.step(piece, &mut self.workspace.rows.params) {
             Ok(answer) => answer,
             Err(fault) => return Err(refused(fault, None, self.statement)),
         };
@@ -256,7 +256,6 @@ impl Progress {
         match take(&mut self.kept, schema, limits, event, &mut self.workspace) {
             Ok(()) => {
                 self.statement = self.statement.saturating_add(1);
-                self.statements.swap_rows(&mut self.workspace.rows.params);
                 Ok(Some(count))
             }
             Err(fault) => Err(refused(fault, name, self.statement)),

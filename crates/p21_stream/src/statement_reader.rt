@@ -1,6 +1,7 @@
 ghost use Rattle.std.specs.Prelude.{◌≡◌, ◌≤◌, ◌↔◌, ◌+◌, [], length, IfErr, IsTrue, None, true, false};
 ghost use Rattle.p21_exchange.specs.OpenNesting.{IsDepth};
 ghost use Rattle.p21_grammar.specs.Between.{StandsForMore};
+ghost use Rattle.p21_grammar_tree.specs.Rooms.{TakesOneAtMost};
 ghost use Rattle.p21_stream_kept.specs.Source.{IsOfBytes};
 ghost use Rattle.p21_stream.specs.StatementReader.{FinishGives, HasOpenStatement, IsLive, NeedsNoMemory, StatementHistory, StepGives, TakesWithinPiece, limits_of, nothing_read};
 ghost use Rattle.p21_stream.specs.PassingOver.{GivesPassed, IsAtRest, IsBetweenInstances, held_behind, room_of};
@@ -15,6 +16,7 @@ use std::marker::Model;
 /// A lexer, and a parser that takes its tokens.
 #[derive(Drop)]
 pub struct StatementReader {
+    alloc: Global,
     lexer: Lexer,
     parser: Parser,
     // Whether the last statement ended the file.
@@ -36,6 +38,7 @@ impl StatementReader {
         ensures limits { limits_of result ≡ (limits.record_source, limits.file_source) }
     {
         StatementReader {
+            alloc,
             lexer: Lexer::new(alloc, limits),
             parser: Parser::new(alloc),
             ended: false,
@@ -43,17 +46,23 @@ impl StatementReader {
     }
 
     /// Takes the bytes of one token, or of the rest of a piece in which none is whole, and says how many; with the `;` of
-    /// a statement, the statement. The byte behind a token may have been looked at: it has to be offered next.
+    /// a statement, the statement. The byte behind a token may have been looked at: it has to be offered next. Parameters that
+    /// open stand in the row that was kept last, if one waits.
     ///
     /// # Errors
     ///
     /// The lexer's, or the parser's at the token.
-    pub fn step(&mut self, piece: &[u8]) -> Result<Option<(usize, Option<Event>)>, Fault>
+    pub fn step(
+        &mut self,
+        piece: &[u8],
+        rows: &mut SpareRows<Param>,
+    ) -> Result<Option<(usize, Option<Event>)>, Fault>
         ensures takes { TakesWithinPiece piece.now result }
         ensures gives { StepGives self.old piece.now result self.new }
         ensures limits { limits_of self.new ≡ limits_of self.old }
         ensures no_memory { NeedsNoMemory self.old piece.now result }
         ensures kind { IfErr result (λ fault. IsOfBytes fault) }
+        ensures rows { TakesOneAtMost rows.old rows.new }
     {
         let (count, token) = match self.lexer.next(piece) {
             Ok(answer) => answer,
@@ -62,20 +71,13 @@ impl StatementReader {
         let Some(token) = token else {
             return Ok(None);
         };
-        match self.parser.take(token) {
+        match self.parser.take(token, rows) {
             Ok(event) => {
                 self.ended = has_ended(&event, self.ended);
                 Ok(Some((count, event)))
             }
             Err(fault) => Err(Fault::from(fault)),
         }
-    }
-
-    /// Exchanges the emptied rows of statements before that wait to be used again. It takes no memory.
-    pub fn swap_rows(&mut self, rows: &mut SpareRows<Param>)
-        ensures { self.new ≡ self.old }
-    {
-        self.parser.swap_rows(rows);
     }
 
     /// The end of the bytes. A last whole token is looked at only where the file has ended before it.
@@ -88,6 +90,7 @@ impl StatementReader {
         ensures kind { IfErr result (λ fault. IsOfBytes fault) }
     {
         let StatementReader {
+            alloc,
             lexer,
             parser,
             ended,
@@ -102,7 +105,7 @@ impl StatementReader {
                 Err(fault) => Err(Fault::from(fault)),
             };
         };
-        Err(last_fault(parser, token, ended))
+        Err(last_fault(alloc, parser, token, ended))
     }
 
     /// The token bytes of the open statement. It takes no memory.
@@ -160,13 +163,13 @@ impl StatementReader {
 }
 
 /// The fault of a last token, behind which no `;` stands.
-fn last_fault(mut parser: Parser, token: Token, ended: bool) -> Fault
+fn last_fault(alloc: Global, mut parser: Parser, token: Token, ended: bool) -> Fault
     ensures { IsOfBytes result }
 {
     if !ended {
         return Fault::Grammar(GrammarFault::EndsEarly);
     }
-    match parser.take(token) {
+    match parser.take(token, &mut SpareRows::new(alloc)) {
         Ok(_) => Fault::Grammar(GrammarFault::EndsEarly),
         Err(fault) => Fault::from(fault),
     }

@@ -25,8 +25,8 @@ pub struct FoundInstance<'a> {
 
 /// What is found of the record of an instance: its set of entities, and what it needs of other instances.
 #[derive(Drop)]
-pub(crate) struct Found {
-    pub(crate) entities: Ids,
+pub(crate) struct Found<'a> {
+    pub(crate) entities: Ids<'a>,
     pub(crate) needs: Vec<Need>,
 }
 
@@ -35,12 +35,12 @@ pub(crate) struct Found {
 /// # Errors
 ///
 /// `Check`, `NoMemory`.
-pub(crate) fn find_instance(
-    schema: &Schema,
+pub(crate) fn find_instance<'a>(
+    schema: &'a Schema,
     name: Name,
     of: Record,
     workspace: &mut Workspace,
-) -> Result<Found, Fault>
+) -> Result<Found<'a>, Fault>
     ensures finds { FindsInstance schema.now name (record_view of) result workspace.new.line.items }
     ensures kind { IfErr result (λ fault. IsOfBytes fault) }
 {
@@ -53,7 +53,7 @@ pub(crate) fn find_instance(
         return Err(Fault::NoMemory);
     };
     let Typed { parts, values } = typed;
-    workspace.rows.put_back(values);
+    let _ = workspace.rows.put_back(values.into_items());
     Ok(Found {
         entities: parts,
         needs,

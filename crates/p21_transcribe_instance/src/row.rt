@@ -26,7 +26,8 @@ pub(crate) fn find_row(alloc: Global, schema: &Schema, entity: EntityId) -> Resu
     requires may { MayStandAlone schema.now entity.0 }
     ensures { IfOk result (λ row. IsRow schema.now entity.0 (row_view row)) }
 {
-    let entities = schema.own_rising(entity)?;
+    let found = schema.own_rising(entity)?;
+    let entities = Vec::from_slice(alloc, found.items())?;
     let steps = find_steps(alloc, schema, entity)?;
     Ok(Row { entities, steps })
 }

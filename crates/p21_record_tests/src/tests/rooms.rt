@@ -4,7 +4,7 @@ use p21_mapping::SpareRows;
 
 /// An instance, and for how many elements the rows have room that wait behind it, the row that was kept last in front: the
 /// rows of its values, and the rows of these, in the order of its set and in that of the record.
-type Rooms = &'static [(&'static str, &'static [usize], &'static [usize])];
+pub(crate) type Rooms = &'static [(&'static str, &'static [usize], &'static [usize])];
 
 /// Whether rows with these rooms wait, and no others.
 fn are_rooms<T: Drop>(alloc: Global, spare: &mut SpareRows<T>, wanted: &[usize]) -> bool {
@@ -43,7 +43,7 @@ fn leaves_rooms(
 }
 
 /// The first instance behind which other rows wait.
-fn first_otherwise(alloc: Global, schema: &Schema, rooms: Rooms) -> &'static str {
+pub(crate) fn first_otherwise(alloc: Global, schema: &Schema, rooms: Rooms) -> &'static str {
     for (text, values, rows) in rooms {
         if !leaves_rooms(alloc, schema, text, values, rows) {
             return text;
@@ -52,22 +52,15 @@ fn first_otherwise(alloc: Global, schema: &Schema, rooms: Rooms) -> &'static str
     "none"
 }
 
-fn check_rooms(rt: &impl Abort, alloc: Global, schema: &str, rooms: Rooms) {
-    match read_schema(alloc, schema.as_bytes()) {
-        Ok(schema) => passes(rt, first_otherwise(alloc, &schema, rooms)),
-        Err(_) => passes(rt, "the schema"),
-    }
-}
-
 /// Values in lists, and in lists of lists. The second point finds the longer row for its first entity, and so leaves two
 /// rows of two.
 #[test]
 fn uses_the_rows_of_lists_again(rt: HostRuntime) {
-    check_rooms(
+    check(
         &rt,
         rt.alloc(),
         DEMO,
-        &[
+        Table::Rooms(&[
             ("#1=MARKED('',.RED.);", &[1, 1], &[2, 2]),
             ("#1=POINT('',1.,2.);", &[2, 2], &[2, 2]),
             (
@@ -75,21 +68,21 @@ fn uses_the_rows_of_lists_again(rt: HostRuntime) {
                 &[3, 2, 2, 3, 1, 1],
                 &[1, 1],
             ),
-        ],
+        ]),
     );
 }
 
 /// A row for each entity, which stand in the order of their names.
 #[test]
 fn uses_the_rows_of_entities_again(rt: HostRuntime) {
-    check_rooms(
+    check(
         &rt,
         rt.alloc(),
         DIAMOND,
-        &[
+        Table::Rooms(&[
             ("#1=R(1);", &[1], &[1, 1]),
             ("#1=A(1,2);", &[1, 1], &[2, 2]),
             ("#1=C(1,2,3,4);", &[1, 1, 1, 1], &[4, 4]),
-        ],
+        ]),
     );
 }

@@ -24,14 +24,14 @@ fn same_rows(a: &[Values], b: &[Values]) -> bool {
 }
 
 /// The typed record of the instance that a text is.
-fn typed_of(alloc: Global, schema: &Schema, text: &str) -> Option<Typed> {
+fn typed_of<'a>(alloc: Global, schema: &'a Schema, text: &str) -> Option<Typed<'a>> {
     match read_instance(alloc, text.as_bytes()) {
         Some(instance) => typed_record(alloc, schema, &instance.record),
         None => None,
     }
 }
 
-fn typed_record(alloc: Global, schema: &Schema, record: &Record) -> Option<Typed> {
+fn typed_record<'a>(alloc: Global, schema: &'a Schema, record: &Record) -> Option<Typed<'a>> {
     match check_record(alloc, schema, record) {
         Ok((typed, _needs)) => Some(typed),
         Err(_) => None,

@@ -44,14 +44,14 @@ fn rows(alloc: Global) -> Option<Rows> {
     }
 }
 
-fn entities(alloc: Global) -> Option<Ids> {
+fn entities(alloc: Global) -> Option<Ids<'static>> {
     match Vec::from_array(alloc, [EntityId(3), EntityId(0)]) {
         Ok(all) => Some(Ids::from_vec(all)),
         Err(_) => None,
     }
 }
 
-fn typed(alloc: Global) -> Option<Typed> {
+fn typed(alloc: Global) -> Option<Typed<'static>> {
     let parts = entities(alloc)?;
     let values = rows(alloc)?;
     Some(Typed { parts, values })
@@ -65,13 +65,10 @@ fn are_rows(rows: &[Values]) -> bool {
     rows.len() == 2 && rows[0].items().len() == 2 && rows[1].items().is_empty()
 }
 
-/// Whether a typed record has those parts, looked at and then moved out.
-fn has_parts(typed: Typed) -> bool {
+/// Whether a typed record has those parts, its rows looked at and then moved out.
+fn has_parts(typed: Typed<'_>) -> bool {
     let Typed { parts, values } = typed;
-    are_entities(parts.items())
-        && are_rows(values.items())
-        && are_entities(&parts.into_items())
-        && are_rows(&values.into_items())
+    are_entities(parts.items()) && are_rows(values.items()) && are_rows(&values.into_items())
 }
 
 fn holds_parts(alloc: Global) -> bool {

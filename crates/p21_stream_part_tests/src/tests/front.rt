@@ -1,5 +1,5 @@
 //! From pieces to statements.
-use p21_grammar::Limits;
+use p21_grammar::{Limits, Param, SpareRows};
 use p21_stream::StatementReader;
 use std::alloc::Global;
 
@@ -10,12 +10,25 @@ const BEGUN: &[u8] =
 /// A data section, and the end.
 const REST: &[u8] = b"DATA;#1=POINT(1.,2.);ENDSEC;END-ISO-10303-21;";
 
+/// A statement reader, and the rows of the statements before.
+#[derive(Drop)]
+struct Front {
+    reader: StatementReader,
+    rows: SpareRows<Param>,
+}
+
+impl Front {
+    fn new(alloc: Global) -> Front {
+        Front {
+            reader: StatementReader::new(alloc, Limits::usual()),
+            rows: SpareRows::new(alloc),
+        }
+    }
+}
+
 /// Takes the beginning of a piece, and answers what is left of it and whether a statement ended; the number of a fault.
-fn take_front<'a>(
-    front: &mut StatementReader,
-    piece: &'a [u8],
-) -> Result<Option<(&'a [u8], bool)>, u8> {
-    match front.step(piece) {
+fn take_front<'a>(front: &mut Front, piece: &'a [u8]) -> Result<Option<(&'a [u8], bool)>, u8> {
+    match front.reader.step(piece, &mut front.rows) {
         Ok(Some((taken, event))) => {
             let (_, rest) = piece.split_at(taken.min(piece.len()));
             Ok(Some((rest, event.is_some())))
@@ -26,7 +39,7 @@ fn take_front<'a>(
 }
 
 /// How many statements end in a piece; the number of a fault.
-fn statements(front: &mut StatementReader, piece: &[u8]) -> Result<usize, u8> {
+fn statements(front: &mut Front, piece: &[u8]) -> Result<usize, u8> {
     let mut left = piece;
     let mut count: usize = 0;
     for _ in 0..1_000 {
@@ -48,11 +61,11 @@ type Piece = (&'static [u8], usize, [u64; 2]);
 /// By its name: pieces one after another, and the number of the fault of a file that ends there, if there is one.
 type Files = &'static [(&'static str, &'static [Piece], Result<(), u8>)];
 
-fn takes(front: &mut StatementReader, (piece, count, open): Piece) -> bool {
-    statements(front, piece) == Ok(count) && [front.pending(), front.depth()] == open
+fn takes(front: &mut Front, (piece, count, open): Piece) -> bool {
+    statements(front, piece) == Ok(count) && [front.reader.pending(), front.reader.depth()] == open
 }
 
-fn takes_all(front: &mut StatementReader, pieces: &[Piece]) -> bool {
+fn takes_all(front: &mut Front, pieces: &[Piece]) -> bool {
     for piece in pieces {
         if !takes(front, *piece) {
             return false;
@@ -62,15 +75,15 @@ fn takes_all(front: &mut StatementReader, pieces: &[Piece]) -> bool {
 }
 
 /// The number of the fault of a file that ends here.
-fn ending(front: StatementReader) -> Result<(), u8> {
-    match front.finish() {
+fn ending(front: Front) -> Result<(), u8> {
+    match front.reader.finish() {
         Ok(()) => Ok(()),
         Err(fault) => Err(fault.number()),
     }
 }
 
 fn ends_so(alloc: Global, pieces: &[Piece], end: Result<(), u8>) -> bool {
-    let mut front = StatementReader::new(alloc, Limits::usual());
+    let mut front = Front::new(alloc);
     let are_taken = takes_all(&mut front, pieces);
     ending(front) == end && are_taken
 }
@@ -118,7 +131,7 @@ const REFUSED: &[(&str, &[u8], u8)] = &[
 ];
 
 fn refuses(alloc: Global, piece: &[u8], number: u8) -> bool {
-    let mut front = StatementReader::new(alloc, Limits::usual());
+    let mut front = Front::new(alloc);
     statements(&mut front, piece) == Err(number)
 }
 

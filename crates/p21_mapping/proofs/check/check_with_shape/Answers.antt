@@ -20,30 +20,30 @@ pub returns-in-Err : goal.returns-in-Err
 returns-in-Err c = λ other. refused c.args.schema.now c.requires.formed (record_view c.args.of) c.in-Err.fault c.in-Err.ensures other
 
 pub entities-in_order-requires : goal.entities-in_order-requires
-entities-in_order-requires c = own-listed c.args.schema.now c.args.shape.listed (numbers c.args.shape.entities.items) c.requires.own
+entities-in_order-requires c = own-listed c.args.schema.now c.args.shape.listed (numbers c.args.shape.entities) c.requires.own
 
 pub arranged_rows-requires-clause-listed : goal.arranged_rows-requires-clause-listed
-arranged_rows-requires-clause-listed c = rw (c.deref-2.ensures.value, c.entities-in_order.ensures) (λ e among. (c.requires.shape.same e).1 among)
+arranged_rows-requires-clause-listed c = rw (c.items-2.ensures, c.entities-in_order.ensures) (λ e among. (c.requires.shape.same e).1 among)
 
 pub arranged_rows-requires-clause-differ : goal.arranged_rows-requires-clause-differ
 arranged_rows-requires-clause-differ c =
     let (names, named, rises) = c.requires.shape.rising in
     let P : List EntityId → Type 0 = λ es. IsDistinct nat_eq (numbers es) in
-    subst P (sym c.deref-2.ensures.value) (none_twice-distinct (numbers c.args.shape.entities.items) (rising-none_twice c.args.schema.now (numbers c.args.shape.entities.items) names named rises))
+    subst P (sym c.items-2.ensures) (none_twice-distinct (numbers c.args.shape.entities) (rising-none_twice c.args.schema.now (numbers c.args.shape.entities) names named rises))
 
 pub arranged_rows-requires-clause-each : goal.arranged_rows-requires-clause-each
 arranged_rows-requires-clause-each c =
-    rows-count c.args.schema.now (record_view c.args.of) (numbers c.entities-in_order.result.now) (numbers c.deref.result.now) c.in-Ok.rows.items (needs_view c.new-needs.result.items) (needs_view c.rows_of.new.needs.items) c.in-Ok.ensures
+    rows-count c.args.schema.now (record_view c.args.of) (numbers c.entities-in_order.result.now) (numbers c.items.result.now) c.in-Ok.rows.items (needs_view c.new-needs.result.items) (needs_view c.rows_of.new.needs.items) c.in-Ok.ensures
     ∙ numbers-length c.entities-in_order.result.now
 
 pub returns : goal.returns
 returns c =
-    let A : List ℕ → Type 0 = λ ls. HasRows c.args.schema.now (record_view c.args.of) ls (numbers c.deref.result.now) (rows_view c.in-Ok.rows.items) (needs_view c.new-needs.result.items) (needs_view c.rows_of.new.needs.items) in
+    let A : List ℕ → Type 0 = λ ls. HasRows c.args.schema.now (record_view c.args.of) ls (numbers c.items.result.now) (rows_view c.in-Ok.rows.items) (needs_view c.new-needs.result.items) (needs_view c.rows_of.new.needs.items) in
     let B : List EntityId → Type 0 = λ xs. HasRows c.args.schema.now (record_view c.args.of) (listed_in c.args.schema.now c.args.shape.listed) (numbers xs) (rows_view c.in-Ok.rows.items) (needs_view c.new-needs.result.items) (needs_view c.rows_of.new.needs.items) in
-    let C : List Need → Type 0 = λ xs. HasRows c.args.schema.now (record_view c.args.of) (listed_in c.args.schema.now c.args.shape.listed) (numbers c.args.shape.entities.items) (rows_view c.in-Ok.rows.items) (needs_view xs) (needs_view c.rows_of.new.needs.items) in
-    let D : List ℕ → Type 0 = λ ls. AreArranged ls (rows_view c.in-Ok.rows.items) (numbers c.deref-2.result.now) (rows_view c.in_ok-values.values.items) in
+    let C : List Need → Type 0 = λ xs. HasRows c.args.schema.now (record_view c.args.of) (listed_in c.args.schema.now c.args.shape.listed) (numbers c.args.shape.entities) (rows_view c.in-Ok.rows.items) (needs_view xs) (needs_view c.rows_of.new.needs.items) in
+    let D : List ℕ → Type 0 = λ ls. AreArranged ls (rows_view c.in-Ok.rows.items) (numbers c.items-2.result.now) (rows_view c.in_ok-values.values.items) in
     let F : List EntityId → Type 0 = λ xs. AreArranged (listed_in c.args.schema.now c.args.shape.listed) (rows_view c.in-Ok.rows.items) (numbers xs) (rows_view c.in_ok-values.values.items) in
-    rw (c.from_vec.ensures, c.from_vec-2.ensures)
-    (checked c.args.schema.now c.requires.formed c.requires.holds (record_view c.args.of) (listed_in c.args.schema.now c.args.shape.listed) (numbers c.args.shape.entities.items) c.requires.shape (rows_view c.in-Ok.rows.items) (needs_view c.rows_of.new.needs.items)
-    (subst C c.new-needs.ensures.items (subst B c.deref.ensures.value (subst A c.entities-in_order.ensures c.in-Ok.ensures))) (rows_view c.in_ok-values.values.items)
-    (subst F c.deref-2.ensures.value (subst D c.entities-in_order.ensures c.in_ok-values.ensures)))
+    rw c.from_vec.ensures
+    (checked c.args.schema.now c.requires.formed c.requires.holds (record_view c.args.of) (listed_in c.args.schema.now c.args.shape.listed) (numbers c.args.shape.entities) c.requires.shape (rows_view c.in-Ok.rows.items) (needs_view c.rows_of.new.needs.items)
+    (subst C c.new-needs.ensures.items (subst B c.items.ensures (subst A c.entities-in_order.ensures c.in-Ok.ensures))) (rows_view c.in_ok-values.values.items)
+    (subst F c.items-2.ensures (subst D c.entities-in_order.ensures c.in_ok-values.ensures)))

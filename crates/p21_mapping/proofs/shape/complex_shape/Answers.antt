@@ -10,7 +10,7 @@ use Rattle.p21_express_types.specs.declared.number.EntityId.{EntityId}
 use Rattle.p21_files.specs.Meaning.{NamesEntity}
 use Rattle.p21_grammar_tree.specs.View.{part_views}
 use Rattle.p21_express_graph.specs.Rising.{HaveSame}
-use Rattle.p21_mapping.specs.Shape.{IsClosed, HasSomeAbstractLeaf, HasNoAbstractLeaf, PassesSet, RefusesSet, HasCount, HasOtherCount}
+use Rattle.p21_mapping.specs.Shape.{IsClosed, HasSomeAbstractLeaf, HasNoAbstractLeaf, PassesSet, RefusesSet, HasCount, HasOtherCount, HasShape}
 use Rattle.p21_mapping.proofs.Shapes.{named-entities, same-entities, members-refuse, leaf-breaks, complex-set, set-refuses, complex-miscount, complex-shape, views-length, numbers-length}
 use Rattle.p21_mapping.proofs.shape.complex_shape.Goals as goal
 
@@ -52,10 +52,11 @@ pub returns-then-not-have_counts : goal.returns-then-not-have_counts
 returns-then-not-have_counts c = λ _. complex-miscount c.args.schema.now (part_views c.args.parts.now) (numbers c.in_ok-listed.listed.items) c.in_ok-listed.ensures (let P : List EntityId → Type 0 = λ xs. HasOtherCount c.args.schema.now (part_views c.args.parts.now) (numbers xs) in subst P c.deref-5.ensures.value c.if-not-have_counts.ensures)
 
 pub returns : goal.returns
-returns c = (
-  complex-shape c.args.schema.now c.requires.entities_distinct (part_views c.args.parts.now) (numbers c.in_ok-listed.listed.items) (numbers c.in_ok-entities.entities.items) c.in_ok-listed.ensures (let P : List EntityId → Type 0 = λ xs. IsDistinct nat_eq (numbers xs) in subst P c.deref.ensures.value c.in_ok-check_members.ensures.0) (let P : List EntityId → Type 0 = λ xs. IsClosed c.args.schema.now (numbers xs) in subst P c.deref.ensures.value c.in_ok-check_members.ensures.1) (let P : List EntityId → Type 0 = λ xs. HaveSame (numbers xs) (numbers c.in_ok-entities.entities.items) in subst P c.deref-2.ensures.value c.in_ok-entities.ensures.same) c.in_ok-entities.ensures.rising
-      (let P : List EntityId → Type 0 = λ xs. HasNoAbstractLeaf c.args.schema.now (numbers xs) in subst P c.deref-3.ensures.value (MatchBool-at_false _ _ c.if-found.false c.in_ok-found.ensures))
-      (let P : List EntityId → Type 0 = λ xs. PassesSet c.args.schema.now (numbers xs) in subst P c.deref-4.ensures.value c.in-Ok.ensures)
-      (let P : List EntityId → Type 0 = λ xs. AllZip (HasCount c.args.schema.now) (part_views c.args.parts.now) (numbers xs) in subst P c.deref-5.ensures.value c.if-not-have_counts.ensures),
-  tt,
-)
+returns c =
+    let S : List EntityId → Type 0 = λ xs. HasShape c.args.schema.now (complex (part_views c.args.parts.now)) (numbers c.in_ok-listed.listed.items) (numbers xs) in (
+      subst S (sym c.from_vec.ensures) (complex-shape c.args.schema.now c.requires.entities_distinct (part_views c.args.parts.now) (numbers c.in_ok-listed.listed.items) (numbers c.in_ok-entities.entities.items) c.in_ok-listed.ensures (let P : List EntityId → Type 0 = λ xs. IsDistinct nat_eq (numbers xs) in subst P c.deref.ensures.value c.in_ok-check_members.ensures.0) (let P : List EntityId → Type 0 = λ xs. IsClosed c.args.schema.now (numbers xs) in subst P c.deref.ensures.value c.in_ok-check_members.ensures.1) (let P : List EntityId → Type 0 = λ xs. HaveSame (numbers xs) (numbers c.in_ok-entities.entities.items) in subst P c.deref-2.ensures.value c.in_ok-entities.ensures.same) c.in_ok-entities.ensures.rising
+          (let P : List EntityId → Type 0 = λ xs. HasNoAbstractLeaf c.args.schema.now (numbers xs) in subst P c.deref-3.ensures.value (MatchBool-at_false _ _ c.if-found.false c.in_ok-found.ensures))
+          (let P : List EntityId → Type 0 = λ xs. PassesSet c.args.schema.now (numbers xs) in subst P c.deref-4.ensures.value c.in-Ok.ensures)
+          (let P : List EntityId → Type 0 = λ xs. AllZip (HasCount c.args.schema.now) (part_views c.args.parts.now) (numbers xs) in subst P c.deref-5.ensures.value c.if-not-have_counts.ensures)),
+      tt,
+    )

@@ -39,9 +39,9 @@ pub returns : goal.returns
 returns c =
     let (same, rising) = c.in_ok-entities.ensures in
     let within : IsEntity c.args.schema.now c.in-Some.entity.0 = named-within c.args.schema.now (part_view c.args.part.now).key c.in-Some.entity.0 c.in-Some.ensures in (
-      simple-shape c.args.schema.now c.holds_together.ensures c.requires.entities_distinct (part_view c.args.part.now) c.in-Some.entity.0 (order c.args.schema.now c.in-Some.entity.0) (numbers c.in_ok-entities.entities.items) c.in-Some.ensures
+      simple-shape c.args.schema.now c.holds_together.ensures c.requires.entities_distinct (part_view c.args.part.now) c.in-Some.entity.0 (order c.args.schema.now c.in-Some.entity.0) (numbers c.in_ok-entities.entities) c.in-Some.ensures
           refl same rising c.in-Ok.ensures.0
-          (own-passes c.args.schema.now c.in-Some.entity.0 (numbers c.in_ok-entities.entities.items) same c.in-Ok.ensures)
+          (own-passes c.args.schema.now c.in-Some.entity.0 (numbers c.in_ok-entities.entities) same c.in-Ok.ensures)
           (part-length c.args.part.now ∙ sym (ap length c.items.ensures) ∙ c.has_count.ensures.0 c.if-not-has_count.false ∙ ap (λ xs. length (flat_map (own_places c.args.schema.now) xs)) c.order_of-listed.ensures),
       (within, same),
     )

@@ -1,8 +1,6 @@
-use Rattle.std.proofs.Common.{ℕ, Ok, Err, Option, Some, subst, sym}
+use Rattle.std.proofs.Common.{ℕ, Ok, Err, Option, Some, subst}
 use Rattle.p21_grammar.specs.declared.event.Event.{Event}
-use Rattle.p21_stream.specs.Pieces.{StepGives}
 use Rattle.p21_stream.specs.StatementReader as statements
-use Rattle.p21_stream.specs.StatementReader.{Held}
 use Rattle.p21_stream.proofs.Pieces.{statement-follows, step-offends, step-piece, step-quiet, step-refused, step-statement, step-token, token-none, token-quiet}
 use Rattle.p21_stream.proofs.progress.Progress.step.Goals as goal
 
@@ -18,11 +16,10 @@ returns-in_default-event-clause-gives c =
 
 pub returns-in-Ok-take-clause-gives : goal.returns-in-Ok-take-clause-gives
 returns-in-Ok-take-clause-gives c =
-    subst (λ (s : Held). StepGives c.args.schema.now c.args.limits c.args.self.now.statements c.args.self.now.kept c.args.piece.now (Ok (Some c.in-Some.count)) s c.take.new.kept) (sym c.swap_rows.ensures)
-    (step-statement c.args.schema.now c.args.limits c.args.self.now.statements c.step.new.self c.args.self.now.kept c.take.new.kept c.args.piece.now c.in-Some.count c.in-Some-event.event
+    step-statement c.args.schema.now c.args.limits c.args.self.now.statements c.step.new.self c.args.self.now.kept c.take.new.kept c.args.piece.now c.in-Some.count c.in-Some-event.event
     (subst (λ (e : Option Event). statements.StepGives c.args.self.now.statements c.args.piece.now (Ok (Some (c.in-Some.count, e))) c.step.new.self) c.in-Some-event.is
     (subst (λ (a : Option (ℕ × Option Event)). statements.StepGives c.args.self.now.statements c.args.piece.now (Ok a) c.step.new.self) c.in-Some.is c.in-Ok.ensures.gives))
-    c.in-Ok.ensures.limits c.in-Ok-take.ensures.gives)
+    c.in-Ok.ensures.limits c.in-Ok-take.ensures.gives
 
 pub returns-in-Err-take-clause-gives : goal.returns-in-Err-take-clause-gives
 returns-in-Err-take-clause-gives c =
