@@ -203,11 +203,15 @@ fn begins_with_semicolon(alloc: Global) -> bool {
     first && matches!(second, Ok(Some(Event::Section(Line::Begin))))
 }
 
-/// For how many elements the row has room in which an instance stands, where a row with this room waits.
+/// For how many elements the row has room in which an instance stands, where a row with this room waits: none where the
+/// instance isn't given.
 fn room_of_instance(rt: &HostRuntime, room: usize, text: &str) -> Result<usize, NoMemory> {
     let mut reader = Reader::behind(rt, HEAD, "DATA;");
     reader.rows.put(Vec::with_capacity(rt.alloc(), room)?)?;
     reader.feed(text);
+    if reader.refused.is_some() || reader.is_lost || reader.parser.depth() > 0 {
+        return Ok(0);
+    }
     Ok(reader.rows.take(rt.alloc()).capacity())
 }
 
