@@ -1,7 +1,7 @@
 #!/usr/bin/env python3
 """Lists the functions in which a refused allocation made no difference to the answer, with how often, and a run for each.
 
-There a second, smaller growth was tried. Each run of allocations.py has its allocations refused one by one; arguments name
+There another way was tried, or the memory was wanted for speed alone. Each run of allocations.py has its allocations refused one by one; arguments name
 the parts of it that are run. Functions are those that the compiler left in the program, the innermost first; some that
 stand further out may be left over from earlier calls. Wants `nm` and `objdump`. P21 names the program.
 """
