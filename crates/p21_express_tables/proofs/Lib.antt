@@ -6,4 +6,6 @@ pub mod Owners
 pub mod UnchangedTables
 pub mod Deciding
 pub mod Noted
+pub mod Numbered
+pub mod RisingSets
 pub mod OneOfLists

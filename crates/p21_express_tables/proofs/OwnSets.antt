@@ -1,5 +1,5 @@
 -- The set that an entity and its supertypes make.
-use Rattle.std.specs.Prelude.{◌≡◌, ℕ, zero, suc, ◌+◌, ◌<◌, ◌≤◌, List, [], ◌∷◌, ◌++◌, Some, length, slice_get, Contains, refl}
+use Rattle.std.specs.Prelude.{◌≡◌, ℕ, zero, suc, ◌+◌, ◌<◌, ◌≤◌, List, [], Some, length, slice_get, Contains, refl}
 use Rattle.std.proofs.Common.{arith, ap, sym, subst, inl, inr}
 use Rattle.std.proofs.lemmas.Bool.{cases_lt}
 use Rattle.std.proofs.lemmas.Option.{slice_get_within}
@@ -20,9 +20,9 @@ use Rattle.p21_express_graph.specs.declared.ranking.Ranking.{Ranking}
 use Rattle.p21_express_graph.specs.Resolved.{HoldsTogether, IsPlace, IsResolved, IsRedeclared as IsRedeclaredOf}
 use Rattle.p21_express_graph.proofs.Lookups.{own-places-are}
 use Rattle.p21_express_graph.proofs.OrderTables.{order-tells}
-use Rattle.p21_express_graph.proofs.Pairs.{snoc-get}
-use Rattle.p21_express_tables.specs.OwnSets.{AreOwnSets, IsOwnSet}
+use Rattle.p21_express_tables.specs.OwnSets.{AreOwnSets}
 use Rattle.p21_express_tables.specs.Prepared.{IsPrepared}
+use Rattle.p21_express_tables.specs.RisingSets.{RisingSet}
 use Rattle.p21_express_tables.specs.declared.own_sets.OwnSet.{OwnSet}
 
 -- the places of an entity by their numbers
@@ -72,8 +72,10 @@ two-only s holds entities place found is open_ = by found (TypeAt-one s holds.su
     by Two same = refl
 
 -- the tables with other sets
-pub with-own : {s : Schema} {orders : PrefixLists} {indexes : List Index} {listed_in redeclarers : List (List ℕ)} {ends : List ℕ} {offered : Offered} {ranking : Ranking} {own sets : List OwnSet}
-    → IsPrepared s orders indexes listed_in redeclarers ends offered ranking own → AreOwnSets s sets → IsPrepared s orders indexes listed_in redeclarers ends offered ranking sets
+pub with-own : {s : Schema} {orders : PrefixLists} {indexes : List Index} {listed_in redeclarers : List (List ℕ)} {ends : List ℕ}
+    → {offered : Offered} {ranking : Ranking} {rising_sets : List RisingSet} {own sets : List OwnSet}
+    → IsPrepared s orders indexes listed_in redeclarers ends offered ranking rising_sets own → AreOwnSets s sets
+    → IsPrepared s orders indexes listed_in redeclarers ends offered ranking rising_sets sets
 with-own is are = record {
   prefixes_are = is.prefixes_are;
   orders_are = is.orders_are;
@@ -84,19 +86,10 @@ with-own is are = record {
   entities_offered = is.entities_offered;
   types_offered = is.types_offered;
   ranking_is = is.ranking_is;
+  rising_are = is.rising_are;
   own_are = are;
 }
 
 -- as yet there is none
 pub none-own : (s : Schema) (sets : List OwnSet) → sets ≡ [] → AreOwnSets s sets
 none-own s sets none e own at = let below = slice_get_within sets e own at in absurd (omega (arith, below, ap length none))
-
--- one set more
-pub own-more : (s : Schema) (sets : List OwnSet) (own : OwnSet) → AreOwnSets s sets → IsOwnSet s (length sets) own → AreOwnSets s (sets ++ own ∷ [])
-own-more s sets own are is e other at = elim (snoc-get sets own e other at) [
-  | inl h ↦ are e other h
-  | inr h ↦
-      let P : ℕ → Type 0 = λ n. IsOwnSet s n other in
-      let Q : OwnSet → Type 0 = λ o. IsOwnSet s (length sets) o in
-      subst P (sym h.0) (subst Q (sym h.1) is)
-]

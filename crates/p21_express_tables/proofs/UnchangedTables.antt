@@ -1,5 +1,5 @@
 -- What is prepared without regard to redeclarations stays right once the entities redeclare something.
-use Rattle.std.specs.Prelude.{◌≡◌, ℕ, zero, suc, List, [], ◌∷◌, ◌++◌, Some, length, map, slice_get, refl}
+use Rattle.std.specs.Prelude.{◌≡◌, ℕ, zero, suc, List, [], ◌∷◌, ◌++◌, None, Some, length, map, slice_get, refl}
 use Rattle.std.specs.List.{AllZip, flat_map}
 use Rattle.std.specs.Option.{option_map}
 use Rattle.std.proofs.Common.{arith, ap, sym, ◌∙◌, subst}
@@ -10,7 +10,7 @@ use Rattle.p21_schemas.specs.Select.{IsNoSelect, Offers, offered, offered_within
 use Rattle.p21_schemas.specs.Supertype.{supertypes_of}
 use Rattle.p21_express_graph.specs.DirectRenaming.{ComesTo, at_itself, through, AreEnds}
 use Rattle.p21_express_graph.specs.Offered.{AreOffered}
-use Rattle.p21_express_graph.specs.Orders.{AreOrders, supertype_lists}
+use Rattle.p21_express_graph.specs.Orders.{AreOrders, numbers, supertype_lists}
 use Rattle.p21_express_graph.specs.Ranking.{IsRanking}
 use Rattle.p21_express_graph.specs.Redeclaring.{redeclaring_each, redeclaring_schema}
 use Rattle.p21_express_graph.specs.SettledOrder.{nexts_of}
@@ -25,6 +25,7 @@ use Rattle.p21_express_graph.proofs.OrderTables.{supertypes-listed}
 use Rattle.p21_express_tables.specs.OwnSets.{AreOwnSets}
 use Rattle.p21_express_tables.specs.Prepared.{IsPrepared}
 use Rattle.p21_express_tables.specs.Redeclarers.{AreRedeclarers}
+use Rattle.p21_express_tables.specs.RisingSets.{AreRisingSets, IsRisingSet, RisingSet}
 use Rattle.p21_express_tables.specs.declared.own_sets.OwnSet.{OwnSet}
 
 -- ---- entities
@@ -76,6 +77,15 @@ module _ (s t : Schema) (count : length t.entities ≡ length s.entities) where
       each = λ e below. is.each e (omega (arith, below, count));
     }
 
+  module _ (supertypes : supertype_lists t ≡ supertype_lists s) (names : map (λ x. x.name) t.entities ≡ map (λ x. x.name) s.entities) where
+    rising_set-same : (e : ℕ) (set : RisingSet) → IsRisingSet s e set → IsRisingSet t e set
+    rising_set-same e None more = rw (order-same supertypes e) more
+    rising_set-same e (Some entities) (few, (same, (texts, all, rises))) =
+        rw (order-same supertypes e) (few, (same, (texts, all-named names (numbers entities.items) texts all, rises)))
+
+    rising_sets-same : {sets : List RisingSet} → AreRisingSets s sets → AreRisingSets t sets
+    rising_sets-same are = record { size = are.size ∙ sym count; each = λ e set at. rising_set-same e set (are.each e set at) }
+
 -- ---- tables of types
 
 module _ (s t : Schema) (same : (x : ℕ) → kind_of s x ≡ kind_of t x) where
@@ -110,21 +120,27 @@ offered-same s t same count member are = record {
 
 -- ---- all tables
 
-pub redeclaring-prepared : (s t : Schema) (ys : List Entity) → length s.entities ≡ length ys → t ≡ redeclaring_schema s ys → {orders : PrefixLists} {indexes : List Index} {listed_in before after : List (List ℕ)} {ends : List ℕ} {all : Offered} {ranking : Ranking} {own sets : List OwnSet}
-    → IsPrepared s orders indexes listed_in before ends all ranking own → AreRedeclarers t after → AreOwnSets t sets → IsPrepared t orders indexes listed_in after ends all ranking sets
-redeclaring-prepared s t ys long same {orders} {indexes} {listed_in} {before} {after} {ends} {all} {ranking} {own} {sets} is redeclarers own_sets =
+pub redeclaring-prepared : (s t : Schema) (ys : List Entity) → length s.entities ≡ length ys → t ≡ redeclaring_schema s ys
+    → {orders : PrefixLists} {indexes : List Index} {listed_in before after : List (List ℕ)} {ends : List ℕ}
+    → {all : Offered} {ranking : Ranking} {rising_sets : List RisingSet} {own sets : List OwnSet}
+    → IsPrepared s orders indexes listed_in before ends all ranking rising_sets own → AreRedeclarers t after → AreOwnSets t sets
+    → IsPrepared t orders indexes listed_in after ends all ranking rising_sets sets
+redeclaring-prepared s t ys long same {orders} {indexes} {listed_in} {before} {after} {ends} {all} {ranking} {rising_sets} {own} {sets} is redeclarers own_sets =
     let whole : Schema = redeclaring_schema s ys in
     let count : length whole.entities ≡ length s.entities = each-count s.entities ys long in
-    let P : Schema → Type 0 = λ z. AreRedeclarers z after → AreOwnSets z sets → IsPrepared z orders indexes listed_in after ends all ranking sets in
+    let supertypes : supertype_lists whole ≡ supertype_lists s = each-same (λ x. x.supertypes) (λ x y. refl) s.entities ys long in
+    let names : map (λ x. x.name) whole.entities ≡ map (λ x. x.name) s.entities = each-same (λ x. x.name) (λ x y. refl) s.entities ys long in
+    let P : Schema → Type 0 = λ z. AreRedeclarers z after → AreOwnSets z sets → IsPrepared z orders indexes listed_in after ends all ranking rising_sets sets in
     subst P (sym same) (λ redeclarers_ own_. record {
       prefixes_are = is.prefixes_are;
-      orders_are = orders-same s whole count (each-same (λ x. x.supertypes) (λ x y. refl) s.entities ys long) is.orders_are;
+      orders_are = orders-same s whole count supertypes is.orders_are;
       indexes_are = is.indexes_are;
       listed_are = record { each = is.listed_are.each; rising = is.listed_are.rising };
       redeclarers_are = redeclarers_;
       ends_are = ends-same s whole (λ x. refl) refl is.ends_are;
       entities_offered = offered-same s whole (λ x. refl) refl entity_member is.entities_offered;
       types_offered = offered-same s whole (λ x. refl) refl type_member is.types_offered;
-      ranking_is = ranking-same s whole count (each-same (λ x. x.name) (λ x y. refl) s.entities ys long) is.ranking_is;
+      ranking_is = ranking-same s whole count names is.ranking_is;
+      rising_are = rising_sets-same s whole count supertypes names is.rising_are;
       own_are = own_;
     }) redeclarers own_sets

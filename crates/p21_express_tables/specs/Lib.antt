@@ -8,5 +8,6 @@ pub mod OneOf
 pub mod OwnSets
 pub mod Above
 pub mod Redeclarers
+pub mod RisingSets
 pub mod NotedEntities
 pub mod Prepared

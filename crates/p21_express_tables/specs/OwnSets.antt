@@ -1,11 +1,9 @@
 -- What holds of the set that an entity and its supertypes make.
-use Rattle.std.specs.Prelude.{◌≡◌, ◌↔◌, ℕ, IfSome, IsTrue, List, Some, slice_get, Contains}
+use Rattle.std.specs.Prelude.{◌≡◌, ◌↔◌, ℕ, IsTrue, List, Some, slice_get, Contains}
 use Rattle.p21_schemas.specs.Schema.{Schema, Place, IsAbstract}
 use Rattle.p21_schemas.specs.OneOf.{Clashes}
 use Rattle.p21_schemas.specs.Order.{order, places}
 use Rattle.p21_schemas.specs.PlaceType.{two_redeclarations, TypeAt}
-use Rattle.p21_express_graph.specs.Orders.{numbers}
-use Rattle.p21_express_graph.specs.Rising.{IsOwnRising}
 use Rattle.p21_express_tables.specs.DecidedPlaces.{AreDecided}
 use Rattle.p21_express_tables.specs.declared.own_sets.OwnFaults.{OwnFaults}
 use Rattle.p21_express_tables.specs.declared.own_sets.OwnSet.{OwnSet}
@@ -26,7 +24,6 @@ pub record HasOwnFaults (s : Schema) (e : ℕ) (faults : OwnFaults) : Type 0 whe
 pub record IsOwnSet (s : Schema) (e : ℕ) (own : OwnSet) : Type 0 where
   pub faults_are : HasOwnFaults s e own.faults
   pub decided_are : AreDecided s (order s e) own.decided.items
-  pub rising_is : IfSome own.rising (λ entities. IsOwnRising s e (numbers entities.items))
 
 -- each is that of the entity of its number
 abbrev pub AreOwnSets : Schema → List OwnSet → Type 0

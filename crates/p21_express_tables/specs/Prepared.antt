@@ -15,10 +15,11 @@ use Rattle.p21_express_graph.specs.declared.ranking.Ranking.{Ranking}
 use Rattle.p21_express_tables.specs.OneOf.{AreListedIn}
 use Rattle.p21_express_tables.specs.OwnSets.{AreOwnSets}
 use Rattle.p21_express_tables.specs.Redeclarers.{AreRedeclarers}
+use Rattle.p21_express_tables.specs.RisingSets.{RisingSet, AreRisingSets}
 use Rattle.p21_express_tables.specs.declared.own_sets.OwnSet.{OwnSet}
 
 -- each table is that of the schema
-pub record IsPrepared (s : Schema) (orders : PrefixLists) (indexes : List Index) (listed_in redeclarers : List (List ℕ)) (ends : List ℕ) (offered : Offered) (ranking : Ranking) (own : List OwnSet) : Type 0 where
+pub record IsPrepared (s : Schema) (orders : PrefixLists) (indexes : List Index) (listed_in redeclarers : List (List ℕ)) (ends : List ℕ) (offered : Offered) (ranking : Ranking) (rising_sets : List RisingSet) (own : List OwnSet) : Type 0 where
   pub prefixes_are : AreRunPrefixes orders
   pub orders_are : AreOrders s (lists_in orders)
   pub indexes_are : AreIndexes (number_lists orders.runs.items) indexes
@@ -28,4 +29,5 @@ pub record IsPrepared (s : Schema) (orders : PrefixLists) (indexes : List Index)
   pub entities_offered : AreOffered s entity_member (lists_of offered.entities.items)
   pub types_offered : AreOffered s type_member (lists_of offered.types.items)
   pub ranking_is : IsRanking s (numbers ranking.rising.items) ranking.ranks.items
+  pub rising_are : AreRisingSets s rising_sets
   pub own_are : AreOwnSets s own

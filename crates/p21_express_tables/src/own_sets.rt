@@ -1,4 +1,4 @@
-ghost use Rattle.std.specs.Prelude.{◌≡◌, ◌↔◌, IsTrue, map, Contains, IfOk, IfSome, OnOk};
+ghost use Rattle.std.specs.Prelude.{◌≡◌, ◌<◌, ◌↔◌, IsTrue, length, map, Contains, IfOk, OnErr, OnOk};
 ghost use Rattle.p21_schemas.specs.Schema.{Redeclared as MeantRedeclared};
 ghost use Rattle.p21_schemas.specs.OneOf.{Clashes};
 ghost use Rattle.p21_schemas.specs.Order.{order};
@@ -12,7 +12,7 @@ ghost use Rattle.p21_express_graph.specs.Rising.{IsOwnRising};
 ghost use Rattle.p21_express_tables.specs.DecidedPlaces.{AreDecided};
 ghost use Rattle.p21_express_tables.specs.Decisions.{IsDecision};
 ghost use Rattle.p21_express_tables.specs.declared.place_types.Decision.TheVariants.{Two};
-ghost use Rattle.p21_express_tables.specs.OwnSets.{HasOwnFaults, IsOpenAt, IsOwnSet, LeavesOpen};
+ghost use Rattle.p21_express_tables.specs.OwnSets.{HasOwnFaults, IsOpenAt, LeavesOpen};
 
 use crate::decided::{DecidedPlace, decision_at};
 use crate::ids::Ids;
@@ -40,12 +40,7 @@ pub(crate) struct OwnSet {
     pub(crate) faults: OwnFaults,
     // What decides at each place that an entity of it redeclares.
     pub(crate) decided: Vec<DecidedPlace>,
-    // Its entities, rising by name, where they are few.
-    pub(crate) rising: Option<Vec<EntityId>>,
 }
-
-/// So many entities of a set are few.
-const FEW: usize = 64;
 
 impl Schema {
     /// What makes the set of an entity and its supertypes no set of an instance. It takes no memory.
@@ -59,22 +54,23 @@ impl Schema {
         }
     }
 
-    /// An entity and its supertypes, rising by name. It takes no memory where they are few and known beforehand.
+    /// An entity and its supertypes, rising by name. It takes no memory where they are 64 at most.
     ///
     /// # Errors
     ///
-    /// `NoMemory`.
+    /// `NoMemory`, only where they are more than 64.
     pub fn own_rising(&self, entity: EntityId) -> Result<Ids<'_>, NoMemory>
         requires { IsEntity self.now entity.0 }
-        ensures { IfOk result (λ entities. IsOwnRising self.now entity.0 (numbers entities)) }
+        ensures ok { IfOk result (λ entities. IsOwnRising self.now entity.0 (numbers entities)) }
+        ensures err { OnErr result (64 < length (order self.now entity.0)) }
     {
-        if let Some(own) = self.own.get(entity.0 as usize) {
-            if let Some(rising) = &own.rising {
-                return Ok(Ids::from_slice(rising));
+        match &self.rising_sets[entity.0 as usize] {
+            Some(rising) => Ok(Ids::from_slice(rising)),
+            None => {
+                let rising = self.find_rising(entity)?;
+                Ok(Ids::from_vec(rising))
             }
         }
-        let rising = self.find_rising(entity)?;
-        Ok(Ids::from_vec(rising))
     }
 
     /// What may stand at a place of an instance whose set is an entity and its supertypes (ISO 10303-11, Attribute
@@ -120,12 +116,10 @@ impl Schema {
         }
         let entity = EntityId(number as u32);
         let decided = self.find_decided(entity)?;
-        let rising = self.few_rising(entity)?;
         let clashes = self.find_clash(self.order_of(entity))?;
         let own = OwnSet {
             faults: self.own_faults_with(entity, self.has_open(entity, &decided), clashes),
             decided,
-            rising,
         };
         self.own.push(own)?;
         Ok(())
@@ -176,18 +170,6 @@ impl Schema {
             Decision::Two => self.is_a(entity, decided.place.entity),
             _ => false,
         }
-    }
-
-    /// An entity and its supertypes, rising by name, where they are few.
-    fn few_rising(&self, entity: EntityId) -> Result<Option<Vec<EntityId>>, NoMemory>
-        requires { IsEntity self.now entity.0 }
-        ensures { IfOk result (λ rising. IfSome rising (λ entities. IsOwnRising self.now entity.0 (numbers entities.items))) }
-    {
-        if self.order_of(entity).len() > FEW {
-            return Ok(None);
-        }
-        let rising = self.find_rising(entity)?;
-        Ok(Some(rising))
     }
 
     fn find_rising(&self, entity: EntityId) -> Result<Vec<EntityId>, NoMemory>

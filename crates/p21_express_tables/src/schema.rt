@@ -14,6 +14,7 @@ ghost use Rattle.p21_express_graph.specs.Redeclaring.{redeclaring, redeclaring_s
 use crate::one_of::all_listed_in;
 use crate::own_sets::OwnSet;
 use crate::redeclarers::all_redeclarers;
+use crate::rising::all_rising_sets;
 use p21_express_graph::{
     Attribute, Defined, Entity, Index, Offered, PrefixLists, Ranking, Redeclarations,
     SchemaContents, all_ends, all_offered, all_orders, contents_with, indexes_of, is_among,
@@ -42,6 +43,8 @@ pub struct Schema {
     // What holds of the own sets of the first entities, or of all.
     pub(crate) own: Vec<OwnSet>,
     pub(crate) ranking: Ranking,
+    // For each entity, it and its supertypes, rising by name, where they are 64 at most.
+    pub(crate) rising_sets: Vec<Option<Vec<EntityId>>>,
 }
 
 impl Model for Schema {
@@ -59,7 +62,7 @@ impl Model for Schema {
 
     ghost view = { λ schema. schema_of schema.parts };
 
-    ghost invariant = { λ schema. HoldsTogether (schema_of schema.parts) × AreNamed schema.parts × IsPrepared (schema_of schema.parts) schema.orders schema.indexes.items (lists_of schema.listed_in.items) (lists_of schema.redeclarers.items) schema.ends.items schema.offered schema.ranking schema.own.items };
+    ghost invariant = { λ schema. HoldsTogether (schema_of schema.parts) × AreNamed schema.parts × IsPrepared (schema_of schema.parts) schema.orders schema.indexes.items (lists_of schema.listed_in.items) (lists_of schema.redeclarers.items) schema.ends.items schema.offered schema.ranking schema.rising_sets.items schema.own.items };
 }
 
 impl Schema {
@@ -78,8 +81,8 @@ impl Schema {
         Ok(schema)
     }
 
-    /// Prepares the parts of a schema, but not what is known of the own sets of entities: that is found where it is asked
-    /// for.
+    /// Prepares the parts of a schema, but not the faults of the own sets of entities, nor what decides at the places that
+    /// they redeclare: that is found where it is asked for.
     ///
     /// # Errors
     ///
@@ -96,6 +99,7 @@ impl Schema {
         let ends = all_ends(alloc, &parts)?;
         let redeclarers = all_redeclarers(alloc, &parts)?;
         let ranking = rank_entities(alloc, &parts)?;
+        let rising_sets = all_rising_sets(alloc, &parts, &orders, &ranking)?;
         Ok(Schema {
             alloc,
             parts,
@@ -107,6 +111,7 @@ impl Schema {
             redeclarers,
             own: Vec::new(alloc),
             ranking,
+            rising_sets,
         })
     }
 
@@ -126,7 +131,7 @@ impl Schema {
         Ok(schema)
     }
 
-    /// The same, but what is known of the own sets of entities isn't prepared.
+    /// The same, but these faults and what decides aren't prepared.
     fn with_redeclarers(self, found: Vec<Redeclarations>) -> Result<Schema, NoMemory>
         requires each { length self.entities ≡ length found.items }
         requires whole { HoldsTogether (redeclaring_schema self (map redeclaring found.items)) }
@@ -141,6 +146,7 @@ impl Schema {
             listed_in,
             ends,
             ranking,
+            rising_sets,
             ..
         } = self;
         let whole = contents_with(alloc, parts, found)?;
@@ -156,6 +162,7 @@ impl Schema {
             redeclarers,
             own: Vec::new(alloc),
             ranking,
+            rising_sets,
         })
     }
 

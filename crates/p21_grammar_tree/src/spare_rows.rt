@@ -1,7 +1,7 @@
 //! Emptied rows, whose room is used again.
-ghost use Rattle.std.specs.Prelude.{◌≡◌, ◌<◌, ◌++◌, [], ◌∷◌, max, IfOk, OnOk, OnErr};
+ghost use Rattle.std.specs.Prelude.{◌≡◌, ◌<◌, [], max, IfOk, IsTrue, OnOk, OnErr};
 ghost use Rattle.std.specs.Vec.{vec_capacity};
-ghost use Rattle.p21_grammar_tree.specs.Rooms.{next_room, rooms_left, IsKept, KeepsWaiting, AreFewAndShort};
+ghost use Rattle.p21_grammar_tree.specs.Rooms.{next_room, rooms_left, is_kept, with_row, AreFewAndShort};
 
 use p21_values::NoMemory;
 use std::alloc::Global;
@@ -77,11 +77,9 @@ impl<T: Drop> SpareRows<T> {
     ///
     /// `NoMemory`, only where it would be kept. Then its room is given back, and those that wait stay.
     pub fn put(&mut self, row: Vec<T>) -> Result<(), NoMemory>
-        ensures kept { OnOk result (IsKept self.old (vec_capacity row) → self.new ≡ self.old ++ vec_capacity row ∷ []) }
-        ensures dropped { (IsKept self.old (vec_capacity row) → ⊥) → self.new ≡ self.old }
-        ensures err { OnErr result (IsKept self.old (vec_capacity row)) }
+        ensures ok { OnOk result (self.new ≡ with_row self.old (vec_capacity row)) }
+        ensures err { OnErr result (IsTrue (is_kept self.old (vec_capacity row))) }
         ensures left { OnErr result (self.new ≡ self.old) }
-        ensures waiting { KeepsWaiting self.old self.new }
         ensures bounds { AreFewAndShort self.new }
     {
         if row.capacity() == 0 || row.capacity() > ROW_ROOM || self.rows.len() >= ROWS {

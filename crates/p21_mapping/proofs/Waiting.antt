@@ -1,55 +1,59 @@
 -- Rows that are put among those that wait.
-use Rattle.std.proofs.Common.{◌≡◌, ◌∙◌, sym, ap, subst, ℕ, ◌+◌, List, [], ◌∷◌, ◌++◌, length, Contains, Result, Ok, Err, OnOk, append_assoc, arith}
-use Rattle.std.specs.List.{flat_map, AllByRecursion as Each}
-use Rattle.std.proofs.lemmas.List.{length-append}
-use Rattle.std.proofs.lemmas.List.Elements.{Contains-append_left, Contains-push}
-use Rattle.p21_basics.proofs.Members.{Each-append, Each-weaker}
-use Rattle.p21_grammar_tree.specs.Rooms.{IsKept, KeepsWaiting, WaitsIfKept}
+use Rattle.std.proofs.Common.{◌≡◌, ◌∙◌, sym, ap, refl, subst, ℕ, List, [], ◌∷◌, ◌++◌, Result, Ok, Err, MatchResult, OnErr, OnOk, append_assoc}
+use Rattle.std.specs.Prelude.{IsTrue, Vec}
+use Rattle.std.specs.Global.{Global}
+use Rattle.std.specs.Vec.{vec_capacity}
+use Rattle.std.proofs.lemmas.List.{append-nil}
+use Rattle.p21_mapping_values.proofs.Rooms.{rooms-moved}
+use Rattle.p21_mapping_values.specs.Rooms.{room_of, rooms_inside, rooms_with, row_rooms}
+use Rattle.p21_mapping_values.specs.View.{list_of}
+use Rattle.p21_mapping_values.specs.declared.value.Value.{Value}
+use Rattle.p21_mapping_values.specs.declared.value.Values.{Values}
+use Rattle.p21_grammar_tree.specs.Rooms.{StopsAt, is_kept, with_row, with_rows}
 
-keeps-then : (old now new : List ℕ) → KeepsWaiting old now → KeepsWaiting now new → KeepsWaiting old new
-keeps-then old now new (first, is) (more, is_) = (first ++ more, is_ ∙ ap (λ rooms. rooms ++ more) is ∙ append_assoc old first more)
+-- what comes of putting rows with these rooms there: they were put, or one found no memory
+abbrev pub Puts : {X E : Type 0} → Result X E → List ℕ → List ℕ → List ℕ → Type 0
+Puts result old new rooms = MatchResult result (λ _. new ≡ with_rows old rooms) (λ _. StopsAt old rooms new)
 
--- a row that would be kept behind more of them would be kept in front of these too
-kept-before : (old new : List ℕ) (room : ℕ) → KeepsWaiting old new → IsKept new room → IsKept old room
-kept-before old new room (more, is) fits =
-    let long : length new ≡ length old + length more = ap length is ∙ length-append old more in
-    (fits.0, fits.1, omega (arith, fits.2, long))
+-- the rows of a list or of another aggregate
+pub aggregate-put : {X E : Type 0} (result : Result X E) (old new : List ℕ) (v : Value) (vs : Values) (row : Vec Value Global) → rooms_inside v ≡ row_rooms vs → row.items ≡ list_of vs → vec_capacity row ≡ room_of vs
+    → Puts result old new (rooms_with row.items (vec_capacity row)) → Puts result old new (rooms_inside v)
+aggregate-put result old new v vs row inside are is puts = subst (Puts result old new) (rooms-moved vs row are is ∙ sym inside) puts
 
--- a row that waits goes on waiting
-waits-on : (old new : List ℕ) → KeepsWaiting old new → (room : ℕ) → WaitsIfKept old room → WaitsIfKept new room
-waits-on old new keeps room waits = λ fits.
-    subst (λ rooms. Contains rooms room) (sym keeps.1) (Contains-append_left old keeps.0 room (waits (kept-before old new room keeps fits)))
+with-both : (old first more : List ℕ) → with_rows old (first ++ more) ≡ with_rows (with_rows old first) more
+with-both old [] more = refl
+with-both old (room ∷ first) more = with-both (with_row old room) first more
 
-all-wait_on : (old new rooms : List ℕ) → KeepsWaiting old new → Each (WaitsIfKept old) rooms → Each (WaitsIfKept new) rooms
-all-wait_on old new rooms keeps = Each-weaker (WaitsIfKept old) (WaitsIfKept new) (waits-on old new keeps) rooms
+-- rows with the first of all these rooms were put there, and these are left
+abbrev pub PutSoFar : List ℕ → List ℕ → List ℕ → List ℕ → Type 0
+PutSoFar all left old now = (done : List ℕ) × (all ≡ done ++ left) × (now ≡ with_rows old done)
 
--- a row that was put there
-pub put-waits : (old new : List ℕ) (room : ℕ) → KeepsWaiting old new → (IsKept old room → new ≡ old ++ room ∷ []) → WaitsIfKept new room
-put-waits old new room keeps put = λ fits. subst (λ rooms. Contains rooms room) (sym (put (kept-before old new room keeps fits))) (Contains-push old room)
-
--- the rows of the last of some things were put there, and some things are left
-abbrev pub PutSoFar : {X : Type 0} → (X → List ℕ) → List X → List X → List ℕ → List ℕ → Type 0
-PutSoFar {X} rooms_of all left old now = KeepsWaiting old now × ((done : List X) × (all ≡ left ++ done) × Each (WaitsIfKept now) (flat_map rooms_of done))
-
-pub one-put : {X : Type 0} (rooms_of : X → List ℕ) (all left rest : List X) (x : X) (old now new : List ℕ) → PutSoFar rooms_of all left old now → left ≡ rest ++ x ∷ [] → KeepsWaiting now new → Each (WaitsIfKept new) (rooms_of x) → PutSoFar rooms_of all rest old new
-one-put rooms_of all left rest x old now new (keeps, (done, are, wait)) is more waits = (
-  keeps-then old now new keeps more,
-  (
-    x ∷ done,
-    are ∙ ap (λ xs. xs ++ done) is ∙ append_assoc rest (x ∷ []) done,
-    Each-append (WaitsIfKept new) (rooms_of x) (flat_map rooms_of done) waits (all-wait_on now new (flat_map rooms_of done) more wait),
-  ),
+-- the next ones are put too
+pub some-put : (all first left before old now new : List ℕ) → PutSoFar all before old now → before ≡ first ++ left → new ≡ with_rows now first → PutSoFar all left old new
+some-put all first left before old now new (done, are, put) split is = (
+  done ++ first,
+  are ∙ ap (λ rooms. done ++ rooms) split ∙ sym (append_assoc done first left),
+  is ∙ ap (λ rooms. with_rows rooms first) put ∙ sym (with-both old done first),
 )
 
-all-put : {X : Type 0} (rooms_of : X → List ℕ) (all left : List X) (old now : List ℕ) → PutSoFar rooms_of all left old now → left ≡ [] → Each (WaitsIfKept now) (flat_map rooms_of all)
-all-put rooms_of all left old now (_, (done, are, wait)) none = subst (λ xs. Each (WaitsIfKept now) (flat_map rooms_of xs)) (sym (are ∙ ap (λ xs. xs ++ done) none)) wait
+-- one of the next ones finds no memory
+pub some-stop : (all first left before old now new : List ℕ) → PutSoFar all before old now → before ≡ first ++ left → StopsAt now first new → StopsAt old all new
+some-stop all first left before old now new (done, are, put) split (some, room, rest, parts, is, kept) = (
+  done ++ some,
+  room,
+  rest ++ left,
+  are
+      ∙ ap (λ rooms. done ++ rooms) (split ∙ ap (λ rooms. rooms ++ left) parts ∙ append_assoc some (room ∷ rest) left)
+      ∙ sym (append_assoc done some (room ∷ rest ++ left)),
+  is ∙ ap (λ rooms. with_rows rooms some) put ∙ sym (with-both old done some),
+  kept,
+)
 
--- and then the row of these itself
-pub row-put : {X : Type 0} (rooms_of : X → List ℕ) (all left : List X) (old now new : List ℕ) (room : ℕ) → PutSoFar rooms_of all left old now → left ≡ [] → KeepsWaiting now new → WaitsIfKept new room → Each (WaitsIfKept new) (flat_map rooms_of all ++ room ∷ [])
-row-put rooms_of all left old now new room put none keeps waits =
-    Each-append (WaitsIfKept new) (flat_map rooms_of all) (room ∷ []) (all-wait_on now new (flat_map rooms_of all) keeps (all-put rooms_of all left old now put none)) (waits, tt)
-
--- what follows where there is an answer
-pub ok-then : {X E : Type 0} (r : Result X E) (A B : Type 0) → (A → B) → OnOk r A → OnOk r B
-ok-then (Ok x) A B then a = then a
-ok-then (Err e) A B then a = tt
+-- and so the last one
+pub last-put : {X E : Type 0} (result : Result X E) (all before old now new : List ℕ) (room : ℕ) → PutSoFar all before old now → before ≡ room ∷ []
+    → OnOk result (new ≡ with_row now room) → OnErr result (IsTrue (is_kept now room)) → OnErr result (new ≡ now) → Puts result old new all
+last-put (Ok _) all before old now new room so_far one put kept same =
+    let (done, are, is) = some-put all (room ∷ []) [] before old now new so_far one put in
+    is ∙ ap (with_rows old) (sym (are ∙ append-nil done))
+last-put (Err _) all before old now new room so_far one put kept same =
+    some-stop all (room ∷ []) [] before old now new so_far one ([], room, [], refl, same, subst (λ rooms. IsTrue (is_kept rooms room)) (sym same) kept)

@@ -13,6 +13,7 @@ use Rattle.p21_files.specs.Meaning.{HasPlaceTypes, NamesEntity}
 use Rattle.p21_files.specs.RecordPlaces.{HasPart, IsEntitySetOf, part_places}
 use Rattle.p21_mapping.specs.declared.shape.Listed.{Listed}
 use Rattle.p21_mapping.specs.declared.shape.Listed.TheVariants.{Named, Order}
+use Rattle.p21_mapping.specs.declared.shape.Shape.{Shape}
 use Rattle.p21_mapping_values.specs.Fault.{fault_number}
 use Rattle.p21_mapping_values.specs.declared.fault.CheckFault.{CheckFault}
 use Rattle.p21_mapping_values.specs.declared.fault.CheckFault.TheVariants.{PartTwice, PartMissing, Abstract, OneOf, TwoRedeclarations, NoMemory}
@@ -140,3 +141,7 @@ pub record HasShape (s : Schema) (record_ : Record) (es entities : List ℕ) : T
   pub no_clash : ¬ Clashes s entities
   pub place_types : Each (HasPlaceTypes s entities) entities
   pub counts : HasCounts s record_
+
+-- the entities of the record are found, and its set is the closure of its entity, where that is known
+abbrev pub IsShape : Schema → Record → Shape → Type 0
+IsShape s record_ shape = HasShape s record_ (listed_in s shape.listed) (numbers shape.entities) × IsOwnClosure s (own_of shape.listed) (numbers shape.entities)

@@ -1,7 +1,7 @@
-ghost use Rattle.std.specs.Prelude.{◌≡◌, ◌⊎◌, ◌<◌, [], length, OnErr, OnOk};
-ghost use Rattle.std.specs.List.{AllByRecursion as Each};
+ghost use Rattle.std.specs.Prelude.{◌≡◌, [], MatchResult, OnErr, OnOk};
 ghost use Rattle.std.specs.Vec.{vec_capacity};
-ghost use Rattle.p21_grammar_tree.specs.Rooms.{KeepsWaiting, WaitsIfKept};
+ghost use Rattle.p21_grammar_tree.specs.Rooms.{StopsAt, with_row, with_rows};
+ghost use Rattle.p21_mapping.specs.RecordRows.{StopsInRows};
 ghost use Rattle.p21_mapping_values.specs.Rooms.{rooms_in, rooms_inside, rooms_with};
 
 use p21_grammar_tree::{Param, SpareRows};
@@ -36,19 +36,18 @@ impl RecordRows {
         }
     }
 
-    /// Keeps the rows of a typed record that is needed no more, emptied, and those inside its values, behind those that
-    /// wait. `SpareRows` says which ones it keeps; the room of the others is given back.
+    /// Puts the rows of a typed record that is needed no more among those that wait, emptied, and those inside its values: the
+    /// last one first, and each behind those inside it. `SpareRows` says which ones it keeps; the room of the others is given
+    /// back.
     ///
     /// # Errors
     ///
-    /// `NoMemory`, only where a row would be kept. Then the rows that aren't kept yet are given back.
+    /// `NoMemory`, only where a row would be kept. Those put before it stay, and the others are given back.
     pub fn put_back(&mut self, rows: Vec<Values>) -> Result<(), NoMemory>
-        ensures values_wait { OnOk result (Each (WaitsIfKept self.new.values) (rooms_in rows.items)) }
-        ensures rows_wait { OnOk result (WaitsIfKept self.new.rows (vec_capacity rows)) }
-        ensures err { OnErr result ((length self.new.values < 16) ⊎ (length self.new.rows < 16)) }
         ensures params { self.new.params ≡ self.old.params }
-        ensures values { KeepsWaiting self.old.values self.new.values }
-        ensures rows { KeepsWaiting self.old.rows self.new.rows }
+        ensures values { OnOk result (self.new.values ≡ with_rows self.old.values (rooms_in rows.items)) }
+        ensures rows { OnOk result (self.new.rows ≡ with_row self.old.rows (vec_capacity rows)) }
+        ensures err { OnErr result (StopsInRows self.old rows self.new) }
     {
         let mut left = rows;
         while let Some(row) = left.pop() {
@@ -58,12 +57,10 @@ impl RecordRows {
     }
 }
 
-/// Keeps the rows inside these values, emptied, and their own.
+/// Puts the rows inside these values there, emptied, and behind them their own.
 #[cycle(put)]
 fn put_values(spare: &mut SpareRows<Value>, values: Vec<Value>) -> Result<(), NoMemory>
-    ensures wait { OnOk result (Each (WaitsIfKept spare.new) (rooms_with values.items (vec_capacity values))) }
-    ensures err { OnErr result (length spare.new < 16) }
-    ensures waiting { KeepsWaiting spare.old spare.new }
+    ensures { MatchResult result (λ _. spare.new ≡ with_rows spare.old (rooms_with values.items (vec_capacity values))) (λ _. StopsAt spare.old (rooms_with values.items (vec_capacity values)) spare.new) }
 {
     let mut left = values;
     while let Some(value) = left.pop() {
@@ -72,12 +69,10 @@ fn put_values(spare: &mut SpareRows<Value>, values: Vec<Value>) -> Result<(), No
     spare.put(left)
 }
 
-/// Keeps the rows inside a value, emptied.
+/// Puts the rows inside a value there, emptied.
 #[cycle(put)]
 fn put_inside(spare: &mut SpareRows<Value>, value: Value) -> Result<(), NoMemory>
-    ensures wait { OnOk result (Each (WaitsIfKept spare.new) (rooms_inside value)) }
-    ensures err { OnErr result (length spare.new < 16) }
-    ensures waiting { KeepsWaiting spare.old spare.new }
+    ensures { MatchResult result (λ _. spare.new ≡ with_rows spare.old (rooms_inside value)) (λ _. StopsAt spare.old (rooms_inside value) spare.new) }
 {
     match value {
         Value::List(values) => put_values(spare, values.into_items()),

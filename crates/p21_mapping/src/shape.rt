@@ -6,7 +6,7 @@ ghost use Rattle.p21_express_graph.specs.Resolved.{IsEntity};
 ghost use Rattle.p21_grammar_tree.specs.View.{part_view, part_views, record_view};
 ghost use Rattle.p21_schemas.specs.Schema.{IsAbstract};
 ghost use Rattle.p21_schemas.specs.WellFormed.{IsWellFormed};
-ghost use Rattle.p21_mapping.specs.Shape.{AreMembers, HasSomeAbstractLeaf, HasNoAbstractLeaf, HasShape, IsOwnClosure, PassesOwnSet, PassesSet, Refuses, RefusesMembers, RefusesOwnSet, RefusesSet, listed_in, own_of, AreListed};
+ghost use Rattle.p21_mapping.specs.Shape.{AreMembers, HasSomeAbstractLeaf, HasNoAbstractLeaf, IsShape, PassesOwnSet, PassesSet, Refuses, RefusesMembers, RefusesOwnSet, RefusesSet, listed_in, own_of, AreListed};
 
 use crate::key::{named, named_entities};
 use crate::members::{has_twice, is_closed};
@@ -70,7 +70,7 @@ pub(crate) fn shape_of<'a>(
     of: &Record,
 ) -> Result<Shape<'a>, CheckFault>
     requires { IsWellFormed schema.now }
-    ensures { MatchResult result (λ shape. HasShape schema.now (record_view of.now) (listed_in schema.now shape.listed) (numbers shape.entities) × IsOwnClosure schema.now (own_of shape.listed) (numbers shape.entities)) (Refuses schema.now (record_view of.now)) }
+    ensures { MatchResult result (IsShape schema.now (record_view of.now)) (Refuses schema.now (record_view of.now)) }
 {
     match of {
         Record::Simple(part) => simple_shape(schema, part),
@@ -80,7 +80,7 @@ pub(crate) fn shape_of<'a>(
 
 fn simple_shape<'a>(schema: &'a Schema, part: &Part) -> Result<Shape<'a>, CheckFault>
     requires { IsWellFormed schema.now }
-    ensures { MatchResult result (λ shape. HasShape schema.now (simple (part_view part.now)) (listed_in schema.now shape.listed) (numbers shape.entities) × IsOwnClosure schema.now (own_of shape.listed) (numbers shape.entities)) (Refuses schema.now (simple (part_view part.now))) }
+    ensures { MatchResult result (IsShape schema.now (simple (part_view part.now))) (Refuses schema.now (simple (part_view part.now))) }
 {
     let Some(entity) = named(schema, &part.key) else {
         return Err(CheckFault::UnknownEntity);
@@ -125,7 +125,7 @@ fn complex_shape<'a>(
     parts: &[Part],
 ) -> Result<Shape<'a>, CheckFault>
     requires { IsWellFormed schema.now }
-    ensures { MatchResult result (λ shape. HasShape schema.now (complex (part_views parts.now)) (listed_in schema.now shape.listed) (numbers shape.entities) × IsOwnClosure schema.now (own_of shape.listed) (numbers shape.entities)) (Refuses schema.now (complex (part_views parts.now))) }
+    ensures { MatchResult result (IsShape schema.now (complex (part_views parts.now))) (Refuses schema.now (complex (part_views parts.now))) }
 {
     let listed = named_entities(alloc, schema, parts)?;
     check_members(alloc, schema, &listed)?;

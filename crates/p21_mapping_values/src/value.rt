@@ -36,7 +36,7 @@ impl Values {
     ghost use Rattle.p21_mapping_values.specs.View.{list_of};
     ghost use Rattle.p21_mapping_values.specs.Rooms.{room_of};
 
-    /// These values in this order. It takes no memory.
+    /// These values in this order, with the room of their vector. It takes no memory.
     pub fn from_vec(values: Vec<Value>) -> Values
         ensures items { list_of result ≡ values.items }
         ensures room { room_of result ≡ vec_capacity values }
@@ -51,7 +51,7 @@ impl Values {
         &self.all
     }
 
-    /// The values, first to last. It takes no memory.
+    /// The values, first to last, with the room of the row. It takes no memory.
     pub fn into_items(self) -> Vec<Value>
         ensures items { result.items ≡ list_of self }
         ensures room { vec_capacity result ≡ room_of self }

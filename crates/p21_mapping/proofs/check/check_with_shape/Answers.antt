@@ -1,4 +1,4 @@
-use Rattle.std.specs.Prelude.{ℕ, List, nat_eq}
+use Rattle.std.specs.Prelude.{List, [], nat_eq}
 use Rattle.std.specs.List.{IsDistinct}
 use Rattle.std.proofs.Common.{sym, ◌∙◌, subst}
 use Rattle.p21_basics.proofs.Shuffles.{none_twice-distinct}
@@ -12,7 +12,6 @@ use Rattle.p21_mapping.specs.Shape.{listed_in}
 use Rattle.p21_mapping.specs.ArrangedRows.{AreArranged, HasRows}
 use Rattle.p21_mapping.specs.Outcome.{needs_view}
 use Rattle.p21_mapping.proofs.Shapes.{numbers-length}
-use Rattle.p21_mapping_values.specs.declared.need.Need.{Need}
 use Rattle.p21_mapping_values.specs.TypedView.{rows_view}
 use Rattle.p21_mapping.proofs.check.check_with_shape.Goals as goal
 
@@ -38,12 +37,19 @@ arranged_rows-requires-clause-each c =
 
 pub returns : goal.returns
 returns c =
-    let A : List ℕ → Type 0 = λ ls. HasRows c.args.schema.now (record_view c.args.of) ls (numbers c.items.result.now) (rows_view c.in-Ok.rows.items) (needs_view c.new-needs.result.items) (needs_view c.rows_of.new.needs.items) in
-    let B : List EntityId → Type 0 = λ xs. HasRows c.args.schema.now (record_view c.args.of) (listed_in c.args.schema.now c.args.shape.listed) (numbers xs) (rows_view c.in-Ok.rows.items) (needs_view c.new-needs.result.items) (needs_view c.rows_of.new.needs.items) in
-    let C : List Need → Type 0 = λ xs. HasRows c.args.schema.now (record_view c.args.of) (listed_in c.args.schema.now c.args.shape.listed) (numbers c.args.shape.entities) (rows_view c.in-Ok.rows.items) (needs_view xs) (needs_view c.rows_of.new.needs.items) in
-    let D : List ℕ → Type 0 = λ ls. AreArranged ls (rows_view c.in-Ok.rows.items) (numbers c.items-2.result.now) (rows_view c.in_ok-values.values.items) in
-    let F : List EntityId → Type 0 = λ xs. AreArranged (listed_in c.args.schema.now c.args.shape.listed) (rows_view c.in-Ok.rows.items) (numbers xs) (rows_view c.in_ok-values.values.items) in
-    rw c.from_vec.ensures
-    (checked c.args.schema.now c.requires.formed c.requires.holds (record_view c.args.of) (listed_in c.args.schema.now c.args.shape.listed) (numbers c.args.shape.entities) c.requires.shape (rows_view c.in-Ok.rows.items) (needs_view c.rows_of.new.needs.items)
-    (subst C c.new-needs.ensures.items (subst B c.items.ensures (subst A c.entities-in_order.ensures c.in-Ok.ensures))) (rows_view c.in_ok-values.values.items)
-    (subst F c.items-2.ensures (subst D c.entities-in_order.ensures c.in_ok-values.ensures)))
+    let s = c.args.schema.now in
+    let of = record_view c.args.of in
+    let listed = listed_in s c.args.shape.listed in
+    let entities = numbers c.args.shape.entities in
+    let rows = rows_view c.in-Ok.rows.items in
+    let needs = needs_view c.rows_of.new.needs.items in
+    let arranged = rows_view c.in_ok-values.values.items in
+    let at_listed : HasRows s of listed (numbers c.items.result.now) rows (needs_view c.new-needs.result.items) needs =
+    subst (λ ls. HasRows s of ls (numbers c.items.result.now) rows (needs_view c.new-needs.result.items) needs) c.entities-in_order.ensures c.in-Ok.ensures in
+    let at_set : HasRows s of listed entities rows (needs_view c.new-needs.result.items) needs =
+    subst (λ xs. HasRows s of listed (numbers xs) rows (needs_view c.new-needs.result.items) needs) c.items.ensures at_listed in
+    let has : HasRows s of listed entities rows (needs_view []) needs = subst (λ xs. HasRows s of listed entities rows (needs_view xs) needs) c.new-needs.ensures.items at_set in
+    let arranged_listed : AreArranged listed rows (numbers c.items-2.result.now) arranged =
+    subst (λ ls. AreArranged ls rows (numbers c.items-2.result.now) arranged) c.entities-in_order.ensures c.in_ok-values.ensures in
+    let are : AreArranged listed rows entities arranged = subst (λ xs. AreArranged listed rows (numbers xs) arranged) c.items-2.ensures arranged_listed in
+    rw c.from_vec.ensures (checked s c.requires.formed c.requires.holds of listed entities c.requires.shape rows needs has arranged are)

@@ -1,5 +1,5 @@
-use Rattle.std.specs.Prelude.{List, nat_eq, length}
-use Rattle.std.specs.List.{AllZip, IsDistinct}
+use Rattle.std.specs.Prelude.{List, length}
+use Rattle.std.specs.List.{AllZip}
 use Rattle.std.proofs.Common.{ap, sym, ◌∙◌, subst}
 use Rattle.std.proofs.lemmas.Bool.{MatchBool-at_true, MatchBool-at_false}
 use Rattle.std.proofs.lemmas.Result.{err_from_is_err_and}
@@ -10,7 +10,7 @@ use Rattle.p21_express_types.specs.declared.number.EntityId.{EntityId}
 use Rattle.p21_files.specs.Meaning.{NamesEntity}
 use Rattle.p21_grammar_tree.specs.View.{part_views}
 use Rattle.p21_express_graph.specs.Rising.{HaveSame}
-use Rattle.p21_mapping.specs.Shape.{IsClosed, HasSomeAbstractLeaf, HasNoAbstractLeaf, PassesSet, RefusesSet, HasCount, HasOtherCount, HasShape}
+use Rattle.p21_mapping.specs.Shape.{AreMembers, IsClosed, HasSomeAbstractLeaf, HasNoAbstractLeaf, PassesSet, RefusesSet, HasCount, HasOtherCount, HasShape}
 use Rattle.p21_mapping.proofs.Shapes.{named-entities, same-entities, members-refuse, leaf-breaks, complex-set, set-refuses, complex-miscount, complex-shape, views-length, numbers-length}
 use Rattle.p21_mapping.proofs.shape.complex_shape.Goals as goal
 
@@ -22,11 +22,8 @@ returns-in_err-check_members c =
     let p = err_from_is_err_and c.from_residual-in_err-check_members.result c.from_residual-in_err-check_members.ensures.1 in
     rw (p.1, p.2) (members-refuse c.args.schema.now c.requires.entities_distinct (part_views c.args.parts.now) (numbers c.in_ok-listed.listed.items) c.in_ok-listed.ensures _ (rw c.deref.ensures.value at c.in_err-check_members.ensures))
 
-pub rising-requires-clause-entities : goal.rising-requires-clause-entities
-rising-requires-clause-entities c = rw c.deref-2.ensures.value (named-entities c.args.schema.now (part_views c.args.parts.now) (numbers c.in_ok-listed.listed.items) c.in_ok-listed.ensures)
-
-pub rising-requires-clause-distinct : goal.rising-requires-clause-distinct
-rising-requires-clause-distinct c = rw c.deref-2.ensures.value (let P : List EntityId → Type 0 = λ xs. IsDistinct nat_eq (numbers xs) in subst P c.deref.ensures.value c.in_ok-check_members.ensures.0)
+pub rising-requires : goal.rising-requires
+rising-requires c = rw c.deref-2.ensures.value (named-entities c.args.schema.now (part_views c.args.parts.now) (numbers c.in_ok-listed.listed.items) c.in_ok-listed.ensures)
 
 pub has_abstract_leaf-requires : goal.has_abstract_leaf-requires
 has_abstract_leaf-requires c = rw c.deref-3.ensures.value (same-entities c.args.schema.now (numbers c.in_ok-listed.listed.items) (numbers c.in_ok-entities.entities.items) (let P : List EntityId → Type 0 = λ xs. HaveSame (numbers xs) (numbers c.in_ok-entities.entities.items) in subst P c.deref-2.ensures.value c.in_ok-entities.ensures.same) (named-entities c.args.schema.now (part_views c.args.parts.now) (numbers c.in_ok-listed.listed.items) c.in_ok-listed.ensures))
@@ -53,10 +50,18 @@ returns-then-not-have_counts c = λ _. complex-miscount c.args.schema.now (part_
 
 pub returns : goal.returns
 returns c =
-    let S : List EntityId → Type 0 = λ xs. HasShape c.args.schema.now (complex (part_views c.args.parts.now)) (numbers c.in_ok-listed.listed.items) (numbers xs) in (
-      subst S (sym c.from_vec.ensures) (complex-shape c.args.schema.now c.requires.entities_distinct (part_views c.args.parts.now) (numbers c.in_ok-listed.listed.items) (numbers c.in_ok-entities.entities.items) c.in_ok-listed.ensures (let P : List EntityId → Type 0 = λ xs. IsDistinct nat_eq (numbers xs) in subst P c.deref.ensures.value c.in_ok-check_members.ensures.0) (let P : List EntityId → Type 0 = λ xs. IsClosed c.args.schema.now (numbers xs) in subst P c.deref.ensures.value c.in_ok-check_members.ensures.1) (let P : List EntityId → Type 0 = λ xs. HaveSame (numbers xs) (numbers c.in_ok-entities.entities.items) in subst P c.deref-2.ensures.value c.in_ok-entities.ensures.same) c.in_ok-entities.ensures.rising
-          (let P : List EntityId → Type 0 = λ xs. HasNoAbstractLeaf c.args.schema.now (numbers xs) in subst P c.deref-3.ensures.value (MatchBool-at_false _ _ c.if-found.false c.in_ok-found.ensures))
-          (let P : List EntityId → Type 0 = λ xs. PassesSet c.args.schema.now (numbers xs) in subst P c.deref-4.ensures.value c.in-Ok.ensures)
-          (let P : List EntityId → Type 0 = λ xs. AllZip (HasCount c.args.schema.now) (part_views c.args.parts.now) (numbers xs) in subst P c.deref-5.ensures.value c.if-not-have_counts.ensures)),
-      tt,
-    )
+    let s = c.args.schema.now in
+    let parts = part_views c.args.parts.now in
+    let es = numbers c.in_ok-listed.listed.items in
+    let entities = numbers c.in_ok-entities.entities.items in
+    let members : AreMembers s es = subst (λ xs. AreMembers s (numbers xs)) c.deref.ensures.value c.in_ok-check_members.ensures in
+    let same : HaveSame es entities = subst (λ xs. HaveSame (numbers xs) entities) c.deref-2.ensures.value c.in_ok-entities.ensures.same in
+    let no_leaf = MatchBool-at_false _ _ c.if-found.false c.in_ok-found.ensures in
+    let concrete : HasNoAbstractLeaf s entities = subst (λ xs. HasNoAbstractLeaf s (numbers xs)) c.deref-3.ensures.value no_leaf in
+    let passes : PassesSet s entities = subst (λ xs. PassesSet s (numbers xs)) c.deref-4.ensures.value c.in-Ok.ensures in
+    let counts : AllZip (HasCount s) parts es = subst (λ xs. AllZip (HasCount s) parts (numbers xs)) c.deref-5.ensures.value c.if-not-have_counts.ensures in
+    let distinct = c.requires.entities_distinct in
+    let named = c.in_ok-listed.ensures in
+    let rising = c.in_ok-entities.ensures.rising in
+    let shape : HasShape s (complex parts) es entities = complex-shape s distinct parts es entities named members.0 members.1 same rising concrete passes counts in
+    (subst (λ xs. HasShape s (complex parts) es (numbers xs)) (sym c.from_vec.ensures) shape, tt)

@@ -3,7 +3,6 @@ use Rattle.std.specs.List.{flat_map}
 use Rattle.std.proofs.Common.{ap, sym, ◌∙◌}
 use Rattle.p21_basics.proofs.Members.{Contains-first}
 use Rattle.p21_express_graph.specs.Orders.{numbers}
-use Rattle.p21_express_graph.specs.Resolved.{IsEntity}
 use Rattle.p21_files.specs.BrokenRule.{unknown_entity}
 use Rattle.p21_grammar_tree.specs.View.{part_view}
 use Rattle.p21_mapping.proofs.OwnSets.{own-passes, own-refuses}
@@ -37,11 +36,14 @@ own_rising-requires c = named-within c.args.schema.now (part_view c.args.part.no
 
 pub returns : goal.returns
 returns c =
-    let (same, rising) = c.in_ok-entities.ensures in
-    let within : IsEntity c.args.schema.now c.in-Some.entity.0 = named-within c.args.schema.now (part_view c.args.part.now).key c.in-Some.entity.0 c.in-Some.ensures in (
-      simple-shape c.args.schema.now c.holds_together.ensures c.requires.entities_distinct (part_view c.args.part.now) c.in-Some.entity.0 (order c.args.schema.now c.in-Some.entity.0) (numbers c.in_ok-entities.entities) c.in-Some.ensures
-          refl same rising c.in-Ok.ensures.0
-          (own-passes c.args.schema.now c.in-Some.entity.0 (numbers c.in_ok-entities.entities) same c.in-Ok.ensures)
-          (part-length c.args.part.now ∙ sym (ap length c.items.ensures) ∙ c.has_count.ensures.0 c.if-not-has_count.false ∙ ap (λ xs. length (flat_map (own_places c.args.schema.now) xs)) c.order_of-listed.ensures),
-      (within, same),
+    let s = c.args.schema.now in
+    let part = part_view c.args.part.now in
+    let e = c.in-Some.entity.0 in
+    let entities = numbers c.in_ok-entities.entities in
+    let (same, rising) = c.in_ok-entities.ensures.ok in
+    let passes = own-passes s e entities same c.in-Ok.ensures in
+    let in_order = ap (λ xs. length (flat_map (own_places s) xs)) c.order_of-listed.ensures in
+    let count = part-length c.args.part.now ∙ sym (ap length c.items.ensures) ∙ c.has_count.ensures.0 c.if-not-has_count.false ∙ in_order in (
+      simple-shape s c.holds_together.ensures c.requires.entities_distinct part e (order s e) entities c.in-Some.ensures refl same rising c.in-Ok.ensures.0 passes count,
+      (named-within s part.key e c.in-Some.ensures, same),
     )

@@ -4,9 +4,6 @@ use Rattle.p21_express_graph.specs.Orders.{numbers}
 use Rattle.p21_schemas.specs.Schema.{AreRisingByName}
 use Rattle.p21_transcribe_instance.proofs.external_set.check_external_set.Goals as goal
 
-pub rising-requires-clause-distinct : goal.rising-requires-clause-distinct
-rising-requires-clause-distinct c = c.in_ok-check_members.ensures.0
-
 pub returns : goal.returns
 returns c = λ yes. record {
   distinct = c.in_ok-check_members.ensures.0;

@@ -1,4 +1,4 @@
-use Rattle.std.specs.Prelude.{◌≡◌, ◌↔◌, ℕ, IsTrue, List, length}
+use Rattle.std.specs.Prelude.{◌≡◌, ◌↔◌, ◌++◌, ◌∷◌, [], ℕ, IsTrue, List, length}
 use Rattle.std.proofs.Common.{sym, subst, ◌∙◌}
 use Rattle.p21_schemas.specs.OneOf.{Clashes}
 use Rattle.p21_schemas.specs.Order.{order}
@@ -9,7 +9,8 @@ use Rattle.p21_express_tables.specs.OwnSets.{AreOwnSets, IsOwnSet}
 use Rattle.p21_express_tables.specs.declared.decided.DecidedPlace.{DecidedPlace}
 use Rattle.p21_express_tables.specs.declared.own_sets.OwnSet.{OwnSet}
 use Rattle.p21_express_tables.proofs.schema.Schema.prepare_own_set.Goals as goal
-use Rattle.p21_express_tables.proofs.OwnSets.{own-more, with-own}
+use Rattle.p21_express_tables.proofs.Numbered.{each-more}
+use Rattle.p21_express_tables.proofs.OwnSets.{with-own}
 
 pub has_open-requires-clause-decided : goal.has_open-requires-clause-decided
 has_open-requires-clause-decided c =
@@ -28,9 +29,10 @@ pub invariant_of-self-2 : goal.invariant_of-self-2
 invariant_of-self-2 c =
     let inside = c.self.invariant in
     let s = schema_of c.self.inside.parts in
-    let own : OwnSet = record { faults = c.own_faults_with.result; decided = c.in_ok-decided.decided; rising = c.in_ok-rising.rising } in
+    let own : OwnSet = record { faults = c.own_faults_with.result; decided = c.in_ok-decided.decided } in
     let number : c.len-number.result ≡ length c.self.inside.own.items = c.len-number.ensures ∙ c.self.inside.own.ok.0 in
     let P : ℕ → Type 0 = λ n. IsOwnSet s n own in
     let Q : Schema → Type 0 = λ z. IsOwnSet z c.len-number.result own in
-    let is : IsOwnSet c.args.self.now c.len-number.result own = record { faults_are = c.own_faults_with.ensures; decided_are = c.in_ok-decided.ensures; rising_is = c.in_ok-rising.ensures } in
-    (inside.0, inside.1, with-own inside.2 (subst (AreOwnSets s) (sym c.in_ok-push.ensures.items) (own-more s c.self.inside.own.items own inside.2.own_are (subst P number (subst Q (sym c.self.view_is) is)))))
+    let is : IsOwnSet c.args.self.now c.len-number.result own = record { faults_are = c.own_faults_with.ensures; decided_are = c.in_ok-decided.ensures } in
+    let sets : AreOwnSets s (c.self.inside.own.items ++ own ∷ []) = each-more (IsOwnSet s) c.self.inside.own.items own inside.2.own_are (subst P number (subst Q (sym c.self.view_is) is)) in
+    (inside.0, inside.1, with-own inside.2 (subst (AreOwnSets s) (sym c.in_ok-push.ensures.items) sets))

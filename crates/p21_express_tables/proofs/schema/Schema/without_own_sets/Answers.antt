@@ -30,6 +30,7 @@ invariant_of-result c = (
     entities_offered = c.in_ok-offered.ensures.entities;
     types_offered = c.in_ok-offered.ensures.types;
     ranking_is = c.in_ok-ranking.ensures;
+    rising_are = c.in_ok-rising_sets.ensures;
     own_are = none-own (schema_of c.args.parts) _ c.new.ensures.items;
   },
 )
