@@ -15,7 +15,7 @@ ROOT = pathlib.Path(__file__).resolve().parent.parent
 PAGES = ["README.md", "examples/README.md", *(f"docs/{path.name}" for path in sorted((ROOT / "docs").glob("*.md")))]
 HELP = "crates/p21_command_line/src/help.rt"
 CODE = {
-    "files": ("p21_values", "p21_tokens", "p21_grammar", "p21_mapping_values", "p21_stream_kept"),
+    "files": ("p21_values", "p21_tokens", "p21_grammar", "p21_mapping_faults", "p21_stream_statements"),
     "schemas": ("p21_express_lexemes", "p21_express_outline"),
 }
 
@@ -115,10 +115,10 @@ def absent_places():
 
 def absent_numbers():
     """Each place that has numbers of what is left out."""
-    code = read("crates/p21_c/src/answers.rt")
-    yield "crates/p21_c/src/answers.rt", {name: number for name, number in re.findall(r"Absent::(\w+) => (\d+),", code)}
-    specs = read("crates/p21_c/specs/Answers.antt")
-    yield "crates/p21_c/specs/Answers.antt", dict(re.findall(r"^absent_number_of (\w+) = (\d+)$", specs, re.M))
+    code = read("crates/p21_c_answers/src/answers.rt")
+    yield "crates/p21_c_answers/src/answers.rt", {name: number for name, number in re.findall(r"Absent::(\w+) => (\d+),", code)}
+    specs = read("crates/p21_c_answers/specs/Answers.antt")
+    yield "crates/p21_c_answers/specs/Answers.antt", dict(re.findall(r"^absent_number_of (\w+) = (\d+)$", specs, re.M))
     yield "include/p21.h, what is left out", {camel(name): number for name, number in constants("What is left out")}
     python = runpy.run_path(str(ROOT / "python/p21/_faults.py"))
     yield "python/p21/_faults.py, ABSENT", {name: str(number) for number, name in python["ABSENT"].items()}

@@ -3,7 +3,6 @@
 #![tactic(auto)]
 
 mod accepting;
-mod answers;
 mod components;
 mod contents;
 mod files;

@@ -14,8 +14,8 @@ use Rattle.p21_commands.specs.Load.{DeclaresRead}
 use Rattle.p21_schemas.specs.Schema.{Schema}
 use Rattle.p21_stream.specs.Answers.{FailsToWrite, IsWritten}
 use Rattle.p21_stream.specs.ReaderInput.{RefusesRead}
-use Rattle.p21_stream_kept.specs.declared.fault.Fault.{Fault}
-use Rattle.p21_stream_kept.specs.declared.fault.Fault.TheVariants as file
+use Rattle.p21_stream_statements.specs.declared.fault.Fault.{Fault}
+use Rattle.p21_stream_statements.specs.declared.fault.Fault.TheVariants as file
 use Rattle.p21_stream_kept.specs.declared.refusal.Refusal.{Refusal}
 
 module _ (schema old new output_old output_new : Option (List ℕ)) (s : Schema) (declares : DeclaresRead schema s) where

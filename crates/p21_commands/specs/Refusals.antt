@@ -2,9 +2,9 @@
 use Rattle.std.specs.Prelude.{◌≡◌, ◌≢◌, ℕ, List, ◌++◌, codes, decimal, string_bytes}
 use Rattle.p21_commands.specs.declared.fault.CommandFault.{CommandFault}
 use Rattle.p21_commands.specs.declared.fault.CommandFault.TheVariants as command
-use Rattle.p21_stream_kept.specs.Fault.{fault_name, fault_number}
-use Rattle.p21_stream_kept.specs.declared.fault.Fault.{Fault}
-use Rattle.p21_stream_kept.specs.declared.fault.Fault.TheVariants.{NoMemory, Read, Write}
+use Rattle.p21_stream_statements.specs.Fault.{fault_name, fault_number}
+use Rattle.p21_stream_statements.specs.declared.fault.Fault.{Fault}
+use Rattle.p21_stream_statements.specs.declared.fault.Fault.TheVariants.{NoMemory, Read, Write}
 use Rattle.p21_stream_kept.specs.declared.refusal.At.{At}
 use Rattle.p21_stream_kept.specs.declared.refusal.At.TheVariants.{Statement, Instance}
 use Rattle.p21_stream_kept.specs.declared.refusal.Refusal.{Refusal}

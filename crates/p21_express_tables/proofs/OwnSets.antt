@@ -1,5 +1,6 @@
 -- The set that an entity and its supertypes make.
 use Rattle.std.specs.Prelude.{◌≡◌, ℕ, zero, suc, ◌+◌, ◌<◌, ◌≤◌, List, [], Some, length, slice_get, Contains, refl}
+use Rattle.std.specs.Global.{Vec}
 use Rattle.std.proofs.Common.{arith, ap, sym, subst, inl, inr}
 use Rattle.std.proofs.lemmas.Bool.{cases_lt}
 use Rattle.std.proofs.lemmas.Option.{slice_get_within}
@@ -13,17 +14,13 @@ use Rattle.p21_express_types.specs.Meaning.{place_type}
 use Rattle.p21_express_types.specs.declared.place_type.PlaceType.{PlaceType}
 use Rattle.p21_express_types.specs.declared.place_type.PlaceType.TheVariants.{Derived, Stored, Two}
 use Rattle.p21_express_graph.specs.Lookups.{places_from}
-use Rattle.p21_express_graph.specs.declared.prefixes.PrefixLists.{PrefixLists}
-use Rattle.p21_express_graph.specs.declared.indexes.Index.{Index}
-use Rattle.p21_express_graph.specs.declared.offered.Offered.{Offered}
-use Rattle.p21_express_graph.specs.declared.ranking.Ranking.{Ranking}
 use Rattle.p21_express_graph.specs.Resolved.{HoldsTogether, IsPlace, IsResolved, IsRedeclared as IsRedeclaredOf}
 use Rattle.p21_express_graph.proofs.Lookups.{own-places-are}
 use Rattle.p21_express_graph.proofs.OrderTables.{order-tells}
 use Rattle.p21_express_tables.specs.OwnSets.{AreOwnSets}
 use Rattle.p21_express_tables.specs.Prepared.{IsPrepared}
-use Rattle.p21_express_tables.specs.RisingSets.{RisingSet}
 use Rattle.p21_express_tables.specs.declared.own_sets.OwnSet.{OwnSet}
+use Rattle.p21_express_tables.specs.declared.tables.Tables.{Tables}
 
 -- the places of an entity by their numbers
 places_from-has : (e k n i : ℕ) → k ≤ i → i < k + n → Contains (places_from e k n) (record { entity = e; index = i })
@@ -72,11 +69,8 @@ two-only s holds entities place found is open_ = by found (TypeAt-one s holds.su
     by Two same = refl
 
 -- the tables with other sets
-pub with-own : {s : Schema} {orders : PrefixLists} {indexes : List Index} {listed_in redeclarers : List (List ℕ)} {ends : List ℕ}
-    → {offered : Offered} {ranking : Ranking} {rising_sets : List RisingSet} {own sets : List OwnSet}
-    → IsPrepared s orders indexes listed_in redeclarers ends offered ranking rising_sets own → AreOwnSets s sets
-    → IsPrepared s orders indexes listed_in redeclarers ends offered ranking rising_sets sets
-with-own is are = record {
+pub with-own : (s : Schema) (tables : Tables) (own : Vec OwnSet) → IsPrepared s tables → AreOwnSets s own.items → IsPrepared s (record tables { own = own })
+with-own s tables own is are = record {
   prefixes_are = is.prefixes_are;
   orders_are = is.orders_are;
   indexes_are = is.indexes_are;

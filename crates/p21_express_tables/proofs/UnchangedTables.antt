@@ -1,5 +1,6 @@
 -- What is prepared without regard to redeclarations stays right once the entities redeclare something.
 use Rattle.std.specs.Prelude.{◌≡◌, ℕ, zero, suc, List, [], ◌∷◌, ◌++◌, None, Some, length, map, slice_get, refl}
+use Rattle.std.specs.Global.{Vec}
 use Rattle.std.specs.List.{AllZip, flat_map}
 use Rattle.std.specs.Option.{option_map}
 use Rattle.std.proofs.Common.{arith, ap, sym, ◌∙◌, subst}
@@ -13,11 +14,7 @@ use Rattle.p21_express_graph.specs.Offered.{AreOffered}
 use Rattle.p21_express_graph.specs.Orders.{AreOrders, numbers, supertype_lists}
 use Rattle.p21_express_graph.specs.Ranking.{IsRanking}
 use Rattle.p21_express_graph.specs.Redeclaring.{redeclaring_each, redeclaring_schema}
-use Rattle.p21_express_graph.specs.SettledOrder.{nexts_of}
-use Rattle.p21_express_graph.specs.declared.prefixes.PrefixLists.{PrefixLists}
-use Rattle.p21_express_graph.specs.declared.indexes.Index.{Index}
-use Rattle.p21_express_graph.specs.declared.offered.Offered.{Offered}
-use Rattle.p21_express_graph.specs.declared.ranking.Ranking.{Ranking}
+use Rattle.p21_express_graph.specs.SettledOrder.{lists_of, nexts_of}
 use Rattle.p21_express_graph.proofs.SameEntities.{each-same}
 use Rattle.p21_express_graph.proofs.Gatherings.{mapped-length}
 use Rattle.p21_express_graph.proofs.Naming.{named}
@@ -27,6 +24,7 @@ use Rattle.p21_express_tables.specs.Prepared.{IsPrepared}
 use Rattle.p21_express_tables.specs.Redeclarers.{AreRedeclarers}
 use Rattle.p21_express_tables.specs.RisingSets.{AreRisingSets, IsRisingSet, RisingSet}
 use Rattle.p21_express_tables.specs.declared.own_sets.OwnSet.{OwnSet}
+use Rattle.p21_express_tables.specs.declared.tables.Tables.{Tables}
 
 -- ---- entities
 
@@ -121,16 +119,15 @@ offered-same s t same count member are = record {
 -- ---- all tables
 
 pub redeclaring-prepared : (s t : Schema) (ys : List Entity) → length s.entities ≡ length ys → t ≡ redeclaring_schema s ys
-    → {orders : PrefixLists} {indexes : List Index} {listed_in before after : List (List ℕ)} {ends : List ℕ}
-    → {all : Offered} {ranking : Ranking} {rising_sets : List RisingSet} {own sets : List OwnSet}
-    → IsPrepared s orders indexes listed_in before ends all ranking rising_sets own → AreRedeclarers t after → AreOwnSets t sets
-    → IsPrepared t orders indexes listed_in after ends all ranking rising_sets sets
-redeclaring-prepared s t ys long same {orders} {indexes} {listed_in} {before} {after} {ends} {all} {ranking} {rising_sets} {own} {sets} is redeclarers own_sets =
+    → (tables : Tables) (redeclarers : Vec (Vec ℕ)) (own : Vec OwnSet)
+    → IsPrepared s tables → AreRedeclarers t (lists_of redeclarers.items) → AreOwnSets t own.items
+    → IsPrepared t (record tables { redeclarers = redeclarers; own = own })
+redeclaring-prepared s t ys long same tables redeclarers own is redeclarers_are own_are =
     let whole : Schema = redeclaring_schema s ys in
     let count : length whole.entities ≡ length s.entities = each-count s.entities ys long in
     let supertypes : supertype_lists whole ≡ supertype_lists s = each-same (λ x. x.supertypes) (λ x y. refl) s.entities ys long in
     let names : map (λ x. x.name) whole.entities ≡ map (λ x. x.name) s.entities = each-same (λ x. x.name) (λ x y. refl) s.entities ys long in
-    let P : Schema → Type 0 = λ z. AreRedeclarers z after → AreOwnSets z sets → IsPrepared z orders indexes listed_in after ends all ranking rising_sets sets in
+    let P : Schema → Type 0 = λ z. AreRedeclarers z (lists_of redeclarers.items) → AreOwnSets z own.items → IsPrepared z (record tables { redeclarers = redeclarers; own = own }) in
     subst P (sym same) (λ redeclarers_ own_. record {
       prefixes_are = is.prefixes_are;
       orders_are = orders-same s whole count supertypes is.orders_are;
@@ -143,4 +140,4 @@ redeclaring-prepared s t ys long same {orders} {indexes} {listed_in} {before} {a
       ranking_is = ranking-same s whole count names is.ranking_is;
       rising_are = rising_sets-same s whole count supertypes names is.rising_are;
       own_are = own_;
-    }) redeclarers own_sets
+    }) redeclarers_are own_are

@@ -49,6 +49,6 @@ impl Schema {
         requires { IsType self.now of.0 }
         ensures { IsEnd self.now of.0 result.0 }
     {
-        TypeId(self.ends[of.0 as usize])
+        TypeId(self.tables.ends[of.0 as usize])
     }
 }

@@ -12,6 +12,7 @@ mod place_types;
 mod redeclarers;
 mod rising;
 mod schema;
+mod tables;
 mod words;
 
 pub use base::Base;

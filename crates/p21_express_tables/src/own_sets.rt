@@ -48,7 +48,7 @@ impl Schema {
         requires { IsEntity self.now entity.0 }
         ensures { HasOwnFaults self.now entity.0 result }
     {
-        match self.own.get(entity.0 as usize) {
+        match self.tables.own.get(entity.0 as usize) {
             Some(own) => own.faults,
             None => self.find_own_faults(entity),
         }
@@ -64,7 +64,7 @@ impl Schema {
         ensures ok { IfOk result (λ entities. IsOwnRising self.now entity.0 (numbers entities)) }
         ensures err { OnErr result (64 < length (order self.now entity.0)) }
     {
-        match &self.rising_sets[entity.0 as usize] {
+        match &self.tables.rising_sets[entity.0 as usize] {
             Some(rising) => Ok(Ids::from_slice(rising)),
             None => {
                 let rising = self.find_rising(entity)?;
@@ -89,7 +89,7 @@ impl Schema {
         ensures { IsDecision self.now (order self.now entity.0) (place_of place) result }
     {
         self.holds_together();
-        match self.own.get(entity.0 as usize) {
+        match self.tables.own.get(entity.0 as usize) {
             Some(own) => decision_at(&own.decided, place),
             None => self.decision(self.order_of(entity), place),
         }
@@ -110,7 +110,7 @@ impl Schema {
         ensures { OnOk result (self.new ≡ self.old) }
     {
         self.holds_together();
-        let number = self.own.len();
+        let number = self.tables.own.len();
         if number >= self.entities() {
             return Ok(());
         }
@@ -121,7 +121,7 @@ impl Schema {
             faults: self.own_faults_with(entity, self.has_open(entity, &decided), clashes),
             decided,
         };
-        self.own.push(own)?;
+        self.tables.own.push(own)?;
         Ok(())
     }
 

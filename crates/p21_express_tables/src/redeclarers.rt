@@ -20,7 +20,7 @@ impl Schema {
         ensures all { (e : ℕ) (place : MeantPlace) → place.entity ≡ entity.0 → RedeclaresPlace self.now e place → Contains result.now e }
         ensures within { (e : ℕ) → Contains result.now e → IsEntity self.now e }
     {
-        match self.redeclarers.get(entity.0 as usize) {
+        match self.tables.redeclarers.get(entity.0 as usize) {
             Some(numbers) => numbers,
             None => &[],
         }

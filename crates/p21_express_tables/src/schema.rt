@@ -12,13 +12,12 @@ ghost use Rattle.p21_express_graph.specs.SchemaContents.{schema_of, AreNamed, en
 ghost use Rattle.p21_express_graph.specs.Redeclaring.{redeclaring, redeclaring_schema};
 
 use crate::one_of::all_listed_in;
-use crate::own_sets::OwnSet;
 use crate::redeclarers::all_redeclarers;
 use crate::rising::all_rising_sets;
+use crate::tables::Tables;
 use p21_express_graph::{
-    Attribute, Defined, Entity, Index, Offered, PrefixLists, Ranking, Redeclarations,
-    SchemaContents, all_ends, all_offered, all_orders, contents_with, indexes_of, is_among,
-    rank_entities,
+    Attribute, Defined, Entity, Redeclarations, SchemaContents, all_ends, all_offered, all_orders,
+    contents_with, indexes_of, is_among, rank_entities,
 };
 use p21_express_types::{EntityId, Member, Place, TypeId, TypeKind};
 use p21_values::NoMemory;
@@ -30,21 +29,7 @@ use std::marker::Model;
 pub struct Schema {
     pub(crate) alloc: Global,
     parts: SchemaContents,
-    orders: PrefixLists,
-    // Of each run of the orders.
-    indexes: Vec<Index>,
-    offered: Offered,
-    // For each entity the numbers of the ONEOF lists with it, rising.
-    pub(crate) listed_in: Vec<Vec<usize>>,
-    // For each type the last one of those that it renames, one behind the other.
-    pub(crate) ends: Vec<u32>,
-    // For each entity the numbers of those that redeclare a place which it declares, rising.
-    pub(crate) redeclarers: Vec<Vec<usize>>,
-    // What holds of the own sets of the first entities, or of all.
-    pub(crate) own: Vec<OwnSet>,
-    pub(crate) ranking: Ranking,
-    // For each entity, it and its supertypes, rising by name, where they are 64 at most.
-    pub(crate) rising_sets: Vec<Option<Vec<EntityId>>>,
+    pub(crate) tables: Tables,
 }
 
 impl Model for Schema {
@@ -57,12 +42,11 @@ impl Model for Schema {
 
     ghost use Rattle.p21_express_graph.specs.SchemaContents.{schema_of, AreNamed};
     ghost use Rattle.p21_express_graph.specs.Resolved.{HoldsTogether};
-    ghost use Rattle.p21_express_graph.specs.SettledOrder.{lists_of};
     ghost use Rattle.p21_express_tables.specs.Prepared.{IsPrepared};
 
     ghost view = { λ schema. schema_of schema.parts };
 
-    ghost invariant = { λ schema. HoldsTogether (schema_of schema.parts) × AreNamed schema.parts × IsPrepared (schema_of schema.parts) schema.orders schema.indexes.items (lists_of schema.listed_in.items) (lists_of schema.redeclarers.items) schema.ends.items schema.offered schema.ranking schema.rising_sets.items schema.own.items };
+    ghost invariant = { λ schema. HoldsTogether (schema_of schema.parts) × AreNamed schema.parts × IsPrepared (schema_of schema.parts) schema.tables };
 }
 
 impl Schema {
@@ -100,9 +84,7 @@ impl Schema {
         let redeclarers = all_redeclarers(alloc, &parts)?;
         let ranking = rank_entities(alloc, &parts)?;
         let rising_sets = all_rising_sets(alloc, &parts, &orders, &ranking)?;
-        Ok(Schema {
-            alloc,
-            parts,
+        let tables = Tables {
             orders,
             indexes,
             offered,
@@ -112,6 +94,11 @@ impl Schema {
             own: Vec::new(alloc),
             ranking,
             rising_sets,
+        };
+        Ok(Schema {
+            alloc,
+            parts,
+            tables,
         })
     }
 
@@ -140,29 +127,18 @@ impl Schema {
         let Schema {
             alloc,
             parts,
-            orders,
-            indexes,
-            offered,
-            listed_in,
-            ends,
-            ranking,
-            rising_sets,
-            ..
+            tables,
         } = self;
         let whole = contents_with(alloc, parts, found)?;
         let redeclarers = all_redeclarers(alloc, &whole)?;
         Ok(Schema {
             alloc,
             parts: whole,
-            orders,
-            indexes,
-            offered,
-            listed_in,
-            ends,
-            redeclarers,
-            own: Vec::new(alloc),
-            ranking,
-            rising_sets,
+            tables: Tables {
+                redeclarers,
+                own: Vec::new(alloc),
+                ..tables
+            },
         })
     }
 
@@ -234,8 +210,8 @@ impl Schema {
         ensures { IsTrue result ↔ IsA self.now sub.0 sup.0 }
     {
         self.holds_together();
-        let front = self.orders.prefix_of(sub.0);
-        self.indexes[front.run].has(sup.0, front.size)
+        let front = self.tables.orders.prefix_of(sub.0);
+        self.tables.indexes[front.run].has(sup.0, front.size)
     }
 
     /// The order of an entity in an instance (ISO 10303-21, Mapping of EXPRESS entity data types: internal mapping).
@@ -256,7 +232,7 @@ impl Schema {
         requires { IsEntity self.now entity.0 }
         ensures { numbers result.now ≡ order self.now entity.0 }
     {
-        self.orders.list(entity.0)
+        self.tables.orders.list(entity.0)
     }
 
     /// The places of an entity in an instance, in the order of internal mapping.
@@ -356,8 +332,11 @@ impl Schema {
         ensures { IsTrue result ↔ Offers self.now of.0 (member_of member) }
     {
         match member {
-            Member::Entity(entity) => is_among(&self.offered.entities[of.0 as usize], entity.0),
-            Member::Defined(other) => is_among(&self.offered.types[of.0 as usize], other.0),
+            Member::Entity(entity) => is_among(
+                &self.tables.offered.entities[of.0 as usize],
+                entity.0,
+            ),
+            Member::Defined(other) => is_among(&self.tables.offered.types[of.0 as usize], other.0),
         }
     }
 
@@ -366,7 +345,7 @@ impl Schema {
         requires { IsType self.now of.0 }
         ensures { IsTrue result ↔ ((e : ℕ) × Offers self.now of.0 (entity_member e)) }
     {
-        !self.offered.entities[of.0 as usize].is_empty()
+        !self.tables.offered.entities[of.0 as usize].is_empty()
     }
 
     /// The entity of this number.

@@ -1,7 +1,7 @@
 -- The rows that wait to be used again, each by its room: the number of elements that it holds without memory asked for. The
 -- last one is taken first.
-use Rattle.std.specs.Prelude.{◌≡◌, ◌⊎◌, ◌&&◌, ℕ, ◌-◌, ◌≤◌, Bool, List, [], ◌∷◌, ◌++◌, length, take, slice_index_or, if◌then◌else◌, nat_le, nat_lt, IsTrue}
-use Rattle.std.specs.List.{All}
+use Rattle.std.specs.Prelude.{◌≡◌, ◌⊎◌, ◌&&◌, ℕ, ◌-◌, ◌≤◌, Bool, List, [], ◌∷◌, ◌++◌, length, take, slice_index_or, if◌then◌else◌, nat_le, nat_lt, IsTrue, Result, MatchResult}
+use Rattle.std.specs.List.{All, fold}
 
 -- the room of the row that is taken next, which is a new one without room where none waits
 abbrev pub next_room : List ℕ → ℕ
@@ -21,12 +21,15 @@ with_row rooms room = if is_kept rooms room then rooms ++ room ∷ [] else rooms
 
 -- those that wait once rows with these rooms were put there, one by one
 abbrev pub with_rows : List ℕ → List ℕ → List ℕ
-with_rows rooms [] = rooms
-with_rows rooms (room ∷ more) = with_rows (with_row rooms room) more
+with_rows = fold with_row
 
 -- some rows with these rooms were put there one by one, and the next one would be kept
 abbrev pub StopsAt : List ℕ → List ℕ → List ℕ → Type 0
 StopsAt old rooms new = (done : List ℕ) × (room : ℕ) × (left : List ℕ) × (rooms ≡ done ++ room ∷ left) × (new ≡ with_rows old done) × IsTrue (is_kept new room)
+
+-- what comes of putting rows with these rooms there: they were put, or one found no memory
+abbrev pub Puts : {X E : Type 0} → Result X E → List ℕ → List ℕ → List ℕ → Type 0
+Puts result old rooms new = MatchResult result (λ _. new ≡ with_rows old rooms) (λ _. StopsAt old rooms new)
 
 -- no more than 16 rows, none with room for more than 64 elements
 abbrev pub AreFewAndShort : List ℕ → Type 0

@@ -17,7 +17,7 @@ use Rattle.p21_mapping.specs.Choosing.{IsBaseIn}
 use Rattle.p21_mapping.specs.Outcome.{ElementOrBreaks, FitsAlone, FitsFrom, FitsOrBreaks, FitsPlaceOrBreaks, IsElementOf, IsValueAt, IsValueOf}
 use Rattle.p21_mapping_values.specs.KnownTypes.{HasKnownTypes}
 use Rattle.p21_mapping_values.proofs.Views.{view-Missing, view-Derived}
-use Rattle.p21_mapping_values.specs.declared.fault.CheckFault.{CheckFault}
+use Rattle.p21_mapping_faults.specs.declared.fault.CheckFault.{CheckFault}
 use Rattle.p21_mapping_values.specs.declared.need.Need.{Need}
 use Rattle.p21_mapping_values.specs.declared.value.Value.{Value}
 use Rattle.p21_mapping_values.specs.declared.value.Value as value

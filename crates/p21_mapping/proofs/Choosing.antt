@@ -21,7 +21,7 @@ use Rattle.p21_mapping.proofs.BaseKinds.{TakesAt, base-takes}
 use Rattle.p21_mapping.specs.Choosing.{DecidesKey, DecidesName, WantsMember}
 use Rattle.p21_mapping.specs.Outcome.{FitsFrom, IsKindFault}
 use Rattle.p21_mapping_values.proofs.Views.{view-Reference}
-use Rattle.p21_mapping_values.specs.declared.fault.CheckFault.{CheckFault}
+use Rattle.p21_mapping_faults.specs.declared.fault.CheckFault.{CheckFault}
 use Rattle.p21_mapping_values.specs.declared.need.Need.{Need}
 use Rattle.p21_mapping_values.specs.declared.value.Value as value
 use Rattle.p21_schemas.specs.Schema as schema

@@ -11,7 +11,7 @@ use Rattle.p21_grammar_tree.specs.declared.param.Param.{Param as Parameter}
 use Rattle.p21_mapping.proofs.RowLists.{row-left}
 use Rattle.p21_mapping.specs.Rows.{FitsHere, RefusesHere, RowSoFar, param_views}
 use Rattle.p21_mapping.specs.Outcome.{FitsPlaceOrBreaks, needs_view}
-use Rattle.p21_mapping_values.specs.declared.fault.CheckFault.{CheckFault}
+use Rattle.p21_mapping_faults.specs.declared.fault.CheckFault.{CheckFault}
 use Rattle.p21_mapping_values.specs.declared.need.Need.{Need}
 use Rattle.p21_mapping_values.specs.declared.value.Value.{Value}
 use Rattle.p21_mapping_values.specs.TypedView.{need_view}

@@ -28,11 +28,11 @@ use Rattle.p21_mapping.specs.Aggregate.{aggregate_value}
 use Rattle.p21_mapping.specs.Choosing.{DecidesKey, IsBaseIn}
 use Rattle.p21_mapping.specs.Outcome.{AreElementsOf, BreaksAmong, FitsFrom, FitsOrBreaks, Found, IsElementOf, IsKindFault, IsValueOf, KeepsUnique, needs_view}
 use Rattle.p21_mapping.proofs.Outcomes.{broken, value-means}
-use Rattle.p21_mapping_values.specs.Fault.{fault_number}
+use Rattle.p21_mapping_faults.specs.Fault.{fault_number}
 use Rattle.p21_mapping_values.specs.KnownTypes.{HasKnownTypes, HaveKnownTypes}
 use Rattle.p21_mapping_values.proofs.Views.{view-Tagged}
-use Rattle.p21_mapping_values.specs.declared.fault.CheckFault.{CheckFault}
-use Rattle.p21_mapping_values.specs.declared.fault.CheckFault.TheVariants as fault
+use Rattle.p21_mapping_faults.specs.declared.fault.CheckFault.{CheckFault}
+use Rattle.p21_mapping_faults.specs.declared.fault.CheckFault.TheVariants as fault
 use Rattle.p21_mapping_values.specs.declared.need.Need.{Need}
 use Rattle.p21_mapping_values.specs.declared.value.Value.{Value}
 use Rattle.p21_mapping_values.specs.declared.value.Value as code_value

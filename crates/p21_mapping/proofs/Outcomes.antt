@@ -19,11 +19,11 @@ use Rattle.p21_express_types.specs.declared.number.TypeId.{TypeId}
 use Rattle.p21_mapping.proofs.BaseKinds.{TakesAt, TakesPlainly, base-takes}
 use Rattle.p21_mapping.specs.Outcome.{Answers, FitsAlone, FitsOrBreaks, IsKindFault, IsValueOf, RefusesItem, needs_view}
 use Rattle.p21_mapping_values.specs.KnownTypes.{HasKnownTypes}
-use Rattle.p21_mapping_values.specs.declared.fault.CheckFault.{CheckFault}
-use Rattle.p21_mapping_values.specs.declared.fault.CheckFault.TheVariants as fault
+use Rattle.p21_mapping_faults.specs.declared.fault.CheckFault.{CheckFault}
+use Rattle.p21_mapping_faults.specs.declared.fault.CheckFault.TheVariants as fault
 use Rattle.p21_mapping_values.specs.declared.need.Need.{Need}
 use Rattle.p21_mapping_values.specs.declared.value.Value.{Value}
-use Rattle.p21_mapping_values.specs.Fault.{fault_number}
+use Rattle.p21_mapping_faults.specs.Fault.{fault_number}
 use Rattle.p21_mapping_values.specs.View.{view}
 use Rattle.p21_schemas.specs.Schema as schema
 use Rattle.p21_schemas.specs.Schema.{Schema, TypeUse, kind_of}

@@ -12,8 +12,8 @@ use Rattle.p21_express_graph.specs.Rising.{HaveSame}
 use Rattle.p21_mapping.specs.declared.shape.Listed.{Listed}
 use Rattle.p21_mapping.specs.declared.shape.Listed.TheVariants.{Named, Order}
 use Rattle.p21_mapping.specs.Shape.{AreListed, HasOpenPlace, IsOwnClosure, PassesOwnSet, PassesSet, Refuses, RefusesOwnSet, own_of}
-use Rattle.p21_mapping_values.specs.declared.fault.CheckFault.{CheckFault}
-use Rattle.p21_mapping_values.specs.declared.fault.CheckFault.TheVariants.{Abstract, OneOf, TwoRedeclarations}
+use Rattle.p21_mapping_faults.specs.declared.fault.CheckFault.{CheckFault}
+use Rattle.p21_mapping_faults.specs.declared.fault.CheckFault.TheVariants.{Abstract, OneOf, TwoRedeclarations}
 use Rattle.p21_schemas.specs.OneOf.{Clashes}
 use Rattle.p21_schemas.specs.Order.{order, own_places}
 use Rattle.p21_schemas.specs.PlaceType.{PlaceType, TypeAt, derived_place, stored_place, two_redeclarations, IsDerivedIn, IsRedeclared, Decides}

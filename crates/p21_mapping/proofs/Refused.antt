@@ -15,8 +15,8 @@ use Rattle.p21_files.specs.Reference.{Need}
 use Rattle.p21_mapping.specs.ArrangedRows.{HasRows}
 use Rattle.p21_mapping.specs.Rows.{BreaksAmong, TakesRows, TakesParts, RefusesAmong, RefusesPart}
 use Rattle.p21_mapping.specs.Shape.{HasShape, Refuses}
-use Rattle.p21_mapping_values.specs.declared.fault.CheckFault.{CheckFault}
-use Rattle.p21_mapping_values.specs.Fault.{fault_number}
+use Rattle.p21_mapping_faults.specs.declared.fault.CheckFault.{CheckFault}
+use Rattle.p21_mapping_faults.specs.Fault.{fault_number}
 use Rattle.p21_mapping_values.specs.declared.value.Values.{Values as Stored}
 use Rattle.p21_mapping_values.specs.TypedView.{rows_view}
 use Rattle.p21_schemas.specs.Order.{own_places}

@@ -23,9 +23,9 @@ use Rattle.p21_files.specs.Value as meant
 use Rattle.p21_mapping.proofs.Outcomes.{alone, broken}
 use Rattle.p21_mapping.specs.Outcome.{DecidesItem, FitsAlone, FitsOrBreaks}
 use Rattle.p21_mapping_values.proofs.Views.{view-Whole, view-Real, view-Number, view-Text, view-Bits, view-Item}
-use Rattle.p21_mapping_values.specs.declared.fault.CheckFault.TheVariants as fault
+use Rattle.p21_mapping_faults.specs.declared.fault.CheckFault.TheVariants as fault
 use Rattle.p21_mapping_values.specs.declared.value.Value as value
-use Rattle.p21_mapping_values.specs.Fault.{value_fault}
+use Rattle.p21_mapping_faults.specs.Fault.{value_fault}
 use Rattle.p21_schemas.specs.Schema as schema
 use Rattle.p21_schemas.specs.Schema.{Schema, TypeUse}
 use Rattle.p21_values.specs.Decimal.{IsDecimal, ReducesRatio}

@@ -20,8 +20,8 @@ use Rattle.p21_files.specs.RecordPlaces.{IsEntitySetOf}
 use Rattle.p21_grammar_tree.specs.declared.param.Param.{Param as Parameter}
 use Rattle.p21_grammar_tree.specs.declared.record.Part as tree
 use Rattle.p21_grammar_tree.specs.View.{items_of, part_view, part_views, views}
-use Rattle.p21_mapping_values.specs.declared.fault.CheckFault.{CheckFault}
-use Rattle.p21_mapping_values.specs.declared.fault.CheckFault.TheVariants.{PartTwice, PartMissing, OneOf, TwoRedeclarations, NoMemory}
+use Rattle.p21_mapping_faults.specs.declared.fault.CheckFault.{CheckFault}
+use Rattle.p21_mapping_faults.specs.declared.fault.CheckFault.TheVariants.{PartTwice, PartMissing, OneOf, TwoRedeclarations, NoMemory}
 use Rattle.p21_express_graph.specs.Rising.{HaveSame}
 use Rattle.p21_mapping.specs.Shape.{Refuses, AreNamed, HasTwice, IsClosed, LacksSupertype, HasSomeAbstractLeaf, HasNoAbstractLeaf, PassesSet, RefusesMembers, RefusesSet, HasCount, HasOtherCount, HasCounts, HasShape}
 use Rattle.p21_mapping.proofs.GrownLists.{AllZip-at_second, AllZip-at_both}

@@ -21,10 +21,10 @@ use Rattle.p21_mapping.specs.Rows.{Row, IsRow, FitsRows}
 use Rattle.p21_mapping.proofs.RowLists.{HaveValues, row-count, row-known, rows-joined, rows-parts}
 use Rattle.p21_mapping.specs.Shape.{AreNamed, IsEntityList, HasShape, Refuses}
 use Rattle.p21_mapping_values.specs.KnownTypes.{HaveKnownTypes}
-use Rattle.p21_mapping_values.specs.declared.fault.CheckFault.{CheckFault}
-use Rattle.p21_mapping_values.specs.declared.fault.CheckFault.TheVariants.{NoMemory}
+use Rattle.p21_mapping_faults.specs.declared.fault.CheckFault.{CheckFault}
+use Rattle.p21_mapping_faults.specs.declared.fault.CheckFault.TheVariants.{NoMemory}
 use Rattle.p21_mapping_values.specs.declared.value.Values.{Values as Stored}
-use Rattle.p21_mapping_values.specs.Fault.{fault_number}
+use Rattle.p21_mapping_faults.specs.Fault.{fault_number}
 use Rattle.p21_mapping_values.specs.TypedView.{rows_view}
 use Rattle.p21_mapping_values.specs.View.{row_of_values}
 use Rattle.p21_schemas.proofs.OrderedOnce.{order-distinct}

@@ -11,11 +11,11 @@ use Rattle.p21_files.specs.Reference.{IsServed, EntitySets, record_references}
 use Rattle.p21_files.specs.Reference as reference
 pub use Rattle.p21_mapping.specs.Outcome.{needs_view}
 use Rattle.p21_mapping_values.specs.KnownTypes.{HaveKnownTypes}
-use Rattle.p21_mapping_values.specs.declared.fault.CheckFault.{CheckFault}
-use Rattle.p21_mapping_values.specs.declared.fault.CheckFault.TheVariants.{NoMemory}
+use Rattle.p21_mapping_faults.specs.declared.fault.CheckFault.{CheckFault}
+use Rattle.p21_mapping_faults.specs.declared.fault.CheckFault.TheVariants.{NoMemory}
 use Rattle.p21_mapping_values.specs.declared.need.Need.{Need}
 use Rattle.p21_mapping_values.specs.declared.typed.Typed.{Typed}
-use Rattle.p21_mapping_values.specs.Fault.{fault_number}
+use Rattle.p21_mapping_faults.specs.Fault.{fault_number}
 use Rattle.p21_mapping_values.specs.TypedView.{typed_view}
 use Rattle.p21_schemas.specs.Schema.{Schema}
 

@@ -19,4 +19,5 @@ pub use Rattle.p21_grammar_tree.specs as p21_grammar_tree
 pub use Rattle.p21_express_types.specs as p21_express_types
 pub use Rattle.p21_express_graph.specs as p21_express_graph
 pub use Rattle.p21_express_tables.specs as p21_express_tables
+pub use Rattle.p21_mapping_faults.specs as p21_mapping_faults
 pub use Rattle.p21_mapping_values.specs as p21_mapping_values

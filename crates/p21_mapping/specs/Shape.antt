@@ -14,9 +14,9 @@ use Rattle.p21_files.specs.RecordPlaces.{HasPart, IsEntitySetOf, part_places}
 use Rattle.p21_mapping.specs.declared.shape.Listed.{Listed}
 use Rattle.p21_mapping.specs.declared.shape.Listed.TheVariants.{Named, Order}
 use Rattle.p21_mapping.specs.declared.shape.Shape.{Shape}
-use Rattle.p21_mapping_values.specs.Fault.{fault_number}
-use Rattle.p21_mapping_values.specs.declared.fault.CheckFault.{CheckFault}
-use Rattle.p21_mapping_values.specs.declared.fault.CheckFault.TheVariants.{PartTwice, PartMissing, Abstract, OneOf, TwoRedeclarations, NoMemory}
+use Rattle.p21_mapping_faults.specs.Fault.{fault_number}
+use Rattle.p21_mapping_faults.specs.declared.fault.CheckFault.{CheckFault}
+use Rattle.p21_mapping_faults.specs.declared.fault.CheckFault.TheVariants.{PartTwice, PartMissing, Abstract, OneOf, TwoRedeclarations, NoMemory}
 use Rattle.p21_schemas.specs.OneOf.{Clashes}
 use Rattle.p21_schemas.specs.Order.{order, own_places}
 use Rattle.p21_schemas.specs.PlaceType.{TypeAt, two_redeclarations}

@@ -5,7 +5,8 @@ use crate::check::check_owned_record;
 use crate::record::copied_record;
 use p21_express_tables::Schema;
 use p21_grammar_tree::Record;
-use p21_mapping_values::{CheckFault, Need, Typed};
+use p21_mapping_faults::CheckFault;
+use p21_mapping_values::{Need, Typed};
 use std::alloc::Global;
 
 /// Checks a record as `check_owned_record` does, and leaves it as it is: the typed record has copies of its

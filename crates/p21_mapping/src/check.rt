@@ -16,7 +16,8 @@ use crate::shape::{Shape, shape_of};
 use p21_express_tables::Schema;
 use p21_express_types::EntityId;
 use p21_grammar_tree::Record;
-use p21_mapping_values::{CheckFault, Need, Rows, Typed, Values};
+use p21_mapping_faults::CheckFault;
+use p21_mapping_values::{Need, Rows, Typed, Values};
 use std::alloc::Global;
 
 /// Checks a record against a schema, and moves its texts, numbers and names into the typed record that it means (ISO

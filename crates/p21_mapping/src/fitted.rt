@@ -21,7 +21,8 @@ use crate::record_rows::RecordRows;
 use p21_express_tables::Schema;
 use p21_express_types::{EntityId, Place, PlaceType};
 use p21_grammar_tree::{Param, Part};
-use p21_mapping_values::{CheckFault, Need, Value, Values};
+use p21_mapping_faults::CheckFault;
+use p21_mapping_values::{Need, Value, Values};
 
 /// The set of entities of a record, in a schema.
 #[derive(Drop)]

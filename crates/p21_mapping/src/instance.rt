@@ -10,7 +10,8 @@ use crate::scalar::other_kind;
 use p21_express_tables::{Base, Schema};
 use p21_express_types::{Member, TypeId, TypeUse};
 use p21_grammar_tree::Key;
-use p21_mapping_values::{CheckFault, Need, Value};
+use p21_mapping_faults::CheckFault;
+use p21_mapping_values::{Need, Value};
 use p21_values::Name;
 
 /// The name of an instance, at an entity or at a select that offers one. What the instance has to be is added to the needs.

@@ -8,7 +8,7 @@ ghost use Rattle.p21_mapping.specs.Shape.{AreNamed, Refuses};
 use p21_express_tables::Schema;
 use p21_express_types::EntityId;
 use p21_grammar_tree::{Key, Part};
-use p21_mapping_values::CheckFault;
+use p21_mapping_faults::CheckFault;
 use std::alloc::Global;
 
 /// The entity that a keyword names. A user-defined keyword names none.

@@ -16,7 +16,8 @@ use crate::scalar::{fit_bits, fit_item, fit_real, fit_text, fit_whole, other_kin
 use p21_express_tables::{Base, Schema};
 use p21_express_types::{PlaceType, TypeUse};
 use p21_grammar_tree::{Key, Param, Params};
-use p21_mapping_values::{CheckFault, Need, Value, Values};
+use p21_mapping_faults::CheckFault;
+use p21_mapping_values::{Need, Value, Values};
 
 /// After how many parameters their room is given back.
 const AT_ONCE: usize = 1024;

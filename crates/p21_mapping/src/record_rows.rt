@@ -1,6 +1,6 @@
-ghost use Rattle.std.specs.Prelude.{◌≡◌, [], MatchResult, OnErr, OnOk};
+ghost use Rattle.std.specs.Prelude.{◌≡◌, [], OnErr, OnOk};
 ghost use Rattle.std.specs.Vec.{vec_capacity};
-ghost use Rattle.p21_grammar_tree.specs.Rooms.{StopsAt, with_row, with_rows};
+ghost use Rattle.p21_grammar_tree.specs.Rooms.{Puts, with_row, with_rows};
 ghost use Rattle.p21_mapping.specs.RecordRows.{StopsInRows};
 ghost use Rattle.p21_mapping_values.specs.Rooms.{rooms_in, rooms_inside, rooms_with};
 
@@ -60,7 +60,7 @@ impl RecordRows {
 /// Puts the rows inside these values there, emptied, and behind them their own.
 #[cycle(put)]
 fn put_values(spare: &mut SpareRows<Value>, values: Vec<Value>) -> Result<(), NoMemory>
-    ensures { MatchResult result (λ _. spare.new ≡ with_rows spare.old (rooms_with values.items (vec_capacity values))) (λ _. StopsAt spare.old (rooms_with values.items (vec_capacity values)) spare.new) }
+    ensures { Puts result spare.old (rooms_with values.items (vec_capacity values)) spare.new }
 {
     let mut left = values;
     while let Some(value) = left.pop() {
@@ -72,7 +72,7 @@ fn put_values(spare: &mut SpareRows<Value>, values: Vec<Value>) -> Result<(), No
 /// Puts the rows inside a value there, emptied.
 #[cycle(put)]
 fn put_inside(spare: &mut SpareRows<Value>, value: Value) -> Result<(), NoMemory>
-    ensures { MatchResult result (λ _. spare.new ≡ with_rows spare.old (rooms_inside value)) (λ _. StopsAt spare.old (rooms_inside value) spare.new) }
+    ensures { Puts result spare.old (rooms_inside value) spare.new }
 {
     match value {
         Value::List(values) => put_values(spare, values.into_items()),

@@ -5,7 +5,8 @@ ghost use Rattle.p21_mapping.specs.Outcome.{DecidesItem, FitsAlone, IsKindFault,
 use crate::bounds::{is_boolean, is_logical, is_within};
 use p21_express_tables::Base;
 use p21_express_types::TypeUse;
-use p21_mapping_values::{CheckFault, Value};
+use p21_mapping_faults::CheckFault;
+use p21_mapping_values::Value;
 use p21_values::{Bits, Decimal, Text, Whole, Word};
 use std::alloc::Global;
 

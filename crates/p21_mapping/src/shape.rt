@@ -15,7 +15,7 @@ use crate::positions::Positions;
 use p21_express_tables::{Ids, Schema};
 use p21_express_types::EntityId;
 use p21_grammar_tree::{Part, Record};
-use p21_mapping_values::CheckFault;
+use p21_mapping_faults::CheckFault;
 use p21_values::NoMemory;
 use std::alloc::Global;
 

@@ -1,7 +1,6 @@
 pub mod Row
 pub mod View
 pub mod TypedView
-pub mod Fault
 pub mod SplitTexts
 pub mod KnownTypes
 pub mod Spelled

@@ -2,7 +2,6 @@
 //! (ISO 10303-21, mapping of EXPRESS data types). The canonical text of a value, its small pieces, and texts put in order.
 #![tactic(auto)]
 
-mod fault;
 mod need;
 mod texts;
 mod tokens;
@@ -10,7 +9,6 @@ mod typed;
 mod value;
 mod value_text;
 
-pub use fault::CheckFault;
 pub use need::Need;
 pub use p21_express_tables::Ids;
 pub use texts::{append_rising, are_distinct};

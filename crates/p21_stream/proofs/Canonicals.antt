@@ -14,8 +14,8 @@ use Rattle.p21_schemas.specs.WellFormed.{IsWellFormed}
 use Rattle.p21_stream.specs.Answers.{AreReadInOneWay, Compares, FailsToWrite, IsCanonicalOfRead, IsOnlyCanonicalFile, IsPartWritten, IsWritten}
 use Rattle.p21_stream.specs.ReaderInput.{IsAcceptedInput, RefusesRead, write_failures}
 use Rattle.p21_stream_output.specs.Output.{Output, output_text}
-use Rattle.p21_stream_kept.specs.declared.fault.Fault.{Fault}
-use Rattle.p21_stream_kept.specs.declared.fault.Fault.TheVariants.{Token, Grammar, Check, SchemaName, SectionTwice, DuplicateName, CanonicalTooLong, Dangling, WrongTarget, NoMemory, Read, Write}
+use Rattle.p21_stream_statements.specs.declared.fault.Fault.{Fault}
+use Rattle.p21_stream_statements.specs.declared.fault.Fault.TheVariants.{Token, Grammar, Check, SchemaName, SectionTwice, DuplicateName, CanonicalTooLong, Dangling, WrongTarget, NoMemory, Read, Write}
 use Rattle.p21_stream_io.specs.Transfer.{AppendsPartOf}
 
 pub only-canonical : (s : Schema) → IsWellFormed s → (limits : Limits) → AreLimits limits → (bytes text : List ℕ) → IsCanonicalFile s limits bytes text → IsOnlyCanonicalFile s limits bytes text

@@ -14,8 +14,8 @@ use Rattle.p21_exchange.specs.Record.{Record}
 use Rattle.p21_exchange.specs.Statement.{header, statement_tokens}
 use Rattle.p21_exchange.specs.Token.{Token, semicolon}
 use Rattle.p21_schemas.specs.Schema.{Schema}
-use Rattle.p21_stream.specs.StatementReader as statements
-use Rattle.p21_stream.specs.StatementReader.{StatementHistory}
+use Rattle.p21_stream_statements.specs.StatementReader as statements
+use Rattle.p21_stream_statements.specs.StatementReader.{StatementHistory}
 use Rattle.p21_stream.proofs.Within.{nothing-taken, tokens-given}
 use Rattle.p21_stream.specs.Checked.{ChecksStatements, IsMeaningful}
 use Rattle.p21_stream.specs.Session.{IsLive}

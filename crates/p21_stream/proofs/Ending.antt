@@ -18,12 +18,12 @@ use Rattle.p21_schemas.specs.Schema.{Schema}
 use Rattle.p21_schemas.specs.WellFormed.{IsWellFormed}
 use Rattle.p21_stream_output.specs.Output.{Output}
 use Rattle.p21_stream_output.specs.Ending.{IsFileOfKept}
-use Rattle.p21_stream_kept.specs.Source.{IsOfBytes}
-use Rattle.p21_stream_kept.specs.declared.fault.Fault.{Fault}
-use Rattle.p21_stream_kept.specs.declared.fault.Fault.TheVariants as faults
+use Rattle.p21_stream_statements.specs.Source.{IsOfBytes}
+use Rattle.p21_stream_statements.specs.declared.fault.Fault.{Fault}
+use Rattle.p21_stream_statements.specs.declared.fault.Fault.TheVariants as faults
 use Rattle.p21_stream_kept.specs.declared.refusal.Refusal.{Refusal}
-use Rattle.p21_stream.specs.StatementReader as statements
-use Rattle.p21_stream.specs.StatementReader.{AreWholeStatements, StatementHistory, limits_of}
+use Rattle.p21_stream_statements.specs.StatementReader as statements
+use Rattle.p21_stream_statements.specs.StatementReader.{AreWholeStatements, StatementHistory, limits_of}
 use Rattle.p21_stream_kept.proofs.Unserved.{unserved-not_accepted}
 use Rattle.p21_stream_kept.specs.Served.{IsFirstUnserved, RefusesNeed}
 use Rattle.p21_stream_kept.specs.Taking.{IsKeptOfFile}

@@ -10,13 +10,13 @@ use Rattle.p21_exchange.specs.Statement.{Statement}
 use Rattle.p21_files.specs.Accepted.{IsDead}
 use Rattle.p21_schemas.specs.Schema.{Schema}
 use Rattle.p21_schemas.specs.WellFormed.{IsWellFormed}
-use Rattle.p21_stream_kept.specs.Fault.{fault_number}
-use Rattle.p21_stream_kept.specs.declared.fault.Fault.{Fault}
-use Rattle.p21_stream_kept.specs.declared.fault.Fault.TheVariants.{NoMemory}
-use Rattle.p21_stream.proofs.Seen.{looked-up_to}
-use Rattle.p21_stream.proofs.Stepping.{taken-looked}
-use Rattle.p21_stream.specs.StatementReader as statements
-use Rattle.p21_stream.specs.StatementReader.{IsSeenAt, StatementHistory, bytes_looked_at}
+use Rattle.p21_stream_statements.specs.Fault.{fault_number}
+use Rattle.p21_stream_statements.specs.declared.fault.Fault.{Fault}
+use Rattle.p21_stream_statements.specs.declared.fault.Fault.TheVariants.{NoMemory}
+use Rattle.p21_stream_statements.proofs.Seen.{looked-up_to}
+use Rattle.p21_stream_statements.proofs.Stepping.{taken-looked}
+use Rattle.p21_stream_statements.specs.StatementReader as statements
+use Rattle.p21_stream_statements.specs.StatementReader.{IsSeenAt, StatementHistory, bytes_looked_at}
 use Rattle.p21_stream_kept.specs.Steps as kept_steps
 use Rattle.p21_stream.specs.Laws.{DeadByStatement, DeadByStep, HeldWhileLive, LiveAtStart, LiveByPiece, LiveByStatement, LiveByToken}
 use Rattle.p21_stream.specs.Session.{IsDeadWithin}

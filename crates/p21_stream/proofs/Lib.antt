@@ -1,9 +1,3 @@
-pub mod Seen
-pub mod Stepping
-pub mod Finishing
-pub mod Opening
-pub mod Quiet
-pub mod PassedOver
 pub mod Going
 pub mod Pieces
 pub mod Within

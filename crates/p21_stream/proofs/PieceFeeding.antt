@@ -4,12 +4,12 @@ use Rattle.p21_basics.specs.Limits.{Limits}
 use Rattle.p21_claim_steps.specs.Keeping.{Kept, nothing_kept}
 use Rattle.p21_files.specs.Held.{IsHeld}
 use Rattle.p21_schemas.specs.Schema.{Schema}
-use Rattle.p21_stream_kept.specs.Source.{IsOfBytes}
-use Rattle.p21_stream_kept.specs.declared.fault.Fault.{Fault}
-use Rattle.p21_stream_kept.specs.declared.fault.Fault.TheVariants.{Token, Grammar, Check, SchemaName, SectionTwice, DuplicateName, CanonicalTooLong, Dangling, WrongTarget, NoMemory, Read, Write}
+use Rattle.p21_stream_statements.specs.Source.{IsOfBytes}
+use Rattle.p21_stream_statements.specs.declared.fault.Fault.{Fault}
+use Rattle.p21_stream_statements.specs.declared.fault.Fault.TheVariants.{Token, Grammar, Check, SchemaName, SectionTwice, DuplicateName, CanonicalTooLong, Dangling, WrongTarget, NoMemory, Read, Write}
 use Rattle.p21_stream_kept.specs.declared.refusal.Refusal.{Refusal}
-use Rattle.p21_stream.specs.StatementReader as statements
-use Rattle.p21_stream.specs.StatementReader.{nothing_read}
+use Rattle.p21_stream_statements.specs.StatementReader as statements
+use Rattle.p21_stream_statements.specs.StatementReader.{nothing_read}
 use Rattle.p21_stream_kept.specs.Steps.{StepKeepsBound}
 use Rattle.p21_stream.proofs.Checking.{checks-statements}
 use Rattle.p21_stream.proofs.Going.{held-while_live, live-at_start}

@@ -12,9 +12,9 @@ use Rattle.p21_exchange.specs.Laying.{AreStatementsWithin, Laid, LaidAs, Lexeme}
 use Rattle.p21_exchange.specs.Statement.{Statement, statement_tokens}
 use Rattle.p21_exchange.specs.Token.{Token}
 use Rattle.p21_schemas.specs.Schema.{Schema}
-use Rattle.p21_stream.proofs.Stepping.{given-first}
-use Rattle.p21_stream.specs.StatementReader.{Held, AreWholeStatements, StatementHistory, limits_of}
-use Rattle.p21_stream.specs.StatementReader as statements
+use Rattle.p21_stream_statements.proofs.Stepping.{given-first}
+use Rattle.p21_stream_statements.specs.StatementReader.{Held, AreWholeStatements, StatementHistory, limits_of}
+use Rattle.p21_stream_statements.specs.StatementReader as statements
 use Rattle.p21_stream.specs.Session.{IsLive}
 use Rattle.p21_tokens.specs.Histories.{TokenHistory}
 

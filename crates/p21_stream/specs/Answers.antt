@@ -14,8 +14,8 @@ use Rattle.p21_schemas.specs.Schema.{Schema}
 use Rattle.p21_stream.specs.ReaderInput.{IsReadWhole, RefusesRead, read_failures}
 use Rattle.p21_stream.specs.declared.comparing.Which.{Which}
 use Rattle.p21_stream.specs.declared.comparing.Which.TheVariants.{First, Second}
-use Rattle.p21_stream_kept.specs.declared.fault.Fault.{Fault}
-use Rattle.p21_stream_kept.specs.declared.fault.Fault.TheVariants.{Write}
+use Rattle.p21_stream_statements.specs.declared.fault.Fault.{Fault}
+use Rattle.p21_stream_statements.specs.declared.fault.Fault.TheVariants.{Write}
 use Rattle.p21_stream_io.specs.Transfer.{AppendsPartOf}
 
 -- ---- one canonical file

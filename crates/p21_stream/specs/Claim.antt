@@ -11,8 +11,8 @@ use Rattle.p21_schemas.specs.Schema.{Schema}
 use Rattle.p21_stream.specs.Answers.{AreReadInOneWay, Compares, IsOnlyCanonicalFile}
 use Rattle.p21_stream.specs.ReaderInput.{RefusesRead}
 use Rattle.p21_stream_output.specs.Output.{Output, output_text}
-use Rattle.p21_stream_kept.specs.declared.fault.Fault.{Fault}
-use Rattle.p21_stream_kept.specs.declared.fault.Fault.TheVariants.{NoMemory, Read, Write}
+use Rattle.p21_stream_statements.specs.declared.fault.Fault.{Fault}
+use Rattle.p21_stream_statements.specs.declared.fault.Fault.TheVariants.{NoMemory, Read, Write}
 use Rattle.p21_stream_kept.specs.declared.refusal.Refusal.{Refusal}
 use Rattle.p21_stream.specs.Canonical.{IsCanonicalOutput}
 use Rattle.p21_stream.specs.Held.{SessionHeld, limits_of, schema_of}

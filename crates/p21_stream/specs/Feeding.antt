@@ -2,7 +2,7 @@
 use Rattle.std.specs.Prelude.{Option, None, ◌≡◌, ◌≤◌, ◌+◌, ℕ, List, length}
 use Rattle.std.specs.Io.KnownBytes.{Consumes, IsAtEnd}
 use Rattle.p21_stream.specs.ReaderInput.{IsReadWhole, RefusesRead}
-use Rattle.p21_stream_kept.specs.declared.fault.Fault.{Fault}
+use Rattle.p21_stream_statements.specs.declared.fault.Fault.{Fault}
 use Rattle.p21_stream.specs.Held.{SessionHeld, limits_of, schema_of}
 use Rattle.p21_stream.specs.Histories.{SessionHistory, Stands}
 

@@ -8,7 +8,7 @@ use Rattle.p21_files.specs.Held as files
 use Rattle.p21_files.specs.Held.{IsHeld}
 use Rattle.p21_schemas.specs.Schema.{Schema}
 use Rattle.p21_stream_output.specs.Output.{Output}
-use Rattle.p21_stream_kept.specs.declared.fault.Fault.TheVariants.{NoMemory}
+use Rattle.p21_stream_statements.specs.declared.fault.Fault.TheVariants.{NoMemory}
 use Rattle.p21_stream_kept.specs.declared.refusal.Refusal.{Refusal}
 use Rattle.p21_stream.specs.Canonical.{IsCanonicalOutput}
 use Rattle.p21_stream.specs.Checked.{ChecksStatements}

@@ -6,10 +6,10 @@ use Rattle.p21_exchange.specs.Statement.{Statement}
 use Rattle.p21_files.specs.Held.{IsHeld}
 use Rattle.p21_schemas.specs.Schema.{Schema}
 use Rattle.p21_schemas.specs.WellFormed.{IsWellFormed}
-use Rattle.p21_stream_kept.specs.declared.fault.Fault.{Fault}
-use Rattle.p21_stream_kept.specs.declared.fault.Fault.TheVariants.{NoMemory}
-use Rattle.p21_stream.specs.StatementReader as statements
-use Rattle.p21_stream.specs.StatementReader.{HasOpenStatement, IsSeenAt, StatementHistory, limits_of, nothing_read}
+use Rattle.p21_stream_statements.specs.declared.fault.Fault.{Fault}
+use Rattle.p21_stream_statements.specs.declared.fault.Fault.TheVariants.{NoMemory}
+use Rattle.p21_stream_statements.specs.StatementReader as statements
+use Rattle.p21_stream_statements.specs.StatementReader.{HasOpenStatement, IsSeenAt, StatementHistory, limits_of, nothing_read}
 use Rattle.p21_stream_kept.specs.Steps as kept_steps
 use Rattle.p21_stream.specs.Session.{TakesOneToken, IsDeadWithin, IsLive}
 

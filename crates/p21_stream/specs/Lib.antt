@@ -1,6 +1,4 @@
 -- Pieces and histories of a session; what the calls on whole files answer, what they read and write, and what is claimed of them.
-pub mod StatementReader
-pub mod PassingOver
 pub mod Session
 pub mod Laws
 pub mod Held
@@ -28,7 +26,9 @@ pub use Rattle.p21_express.specs as p21_express
 pub use Rattle.p21_express_outline.specs as p21_express_outline
 pub use Rattle.p21_express_graph.specs as p21_express_graph
 pub use Rattle.p21_express_tables.specs as p21_express_tables
+pub use Rattle.p21_mapping_faults.specs as p21_mapping_faults
 pub use Rattle.p21_mapping_values.specs as p21_mapping_values
+pub use Rattle.p21_stream_statements.specs as p21_stream_statements
 pub use Rattle.p21_stream_kept.specs as p21_stream_kept
 pub use Rattle.p21_stream_io.specs as p21_stream_io
 pub use Rattle.p21_stream_store.specs as p21_stream_store

@@ -7,8 +7,8 @@ use Rattle.p21_express_graph.specs.Rising.{IsOwnRising}
 use Rattle.p21_files.specs.Reference.{Need}
 use Rattle.p21_schemas.specs.Schema.{Schema}
 use Rattle.p21_stream_kept.specs.declared.refusal.Refusal.{Refusal}
-use Rattle.p21_stream.specs.StatementReader as statements
-use Rattle.p21_stream.specs.PassingOver.{AreInstances}
+use Rattle.p21_stream_statements.specs.StatementReader as statements
+use Rattle.p21_stream_statements.specs.PassingOver.{AreInstances}
 use Rattle.p21_stream_kept.specs.Found.{HasFound}
 use Rattle.p21_transcribe_instance.specs.ExternalSet.{IsNumberedSet}
 use Rattle.p21_stream.specs.declared.passing.Set.{Set}

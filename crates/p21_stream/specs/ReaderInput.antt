@@ -4,10 +4,10 @@ use Rattle.std.specs.Io.KnownBytes.{Consumes, IsAtEnd}
 use Rattle.p21_basics.specs.Limits.{Limits}
 use Rattle.p21_files.specs.Accepted.{IsAccepted, IsDead}
 use Rattle.p21_schemas.specs.Schema.{Schema}
-use Rattle.p21_stream_kept.specs.declared.fault.Fault.{Fault}
-use Rattle.p21_stream_kept.specs.declared.fault.Fault.TheVariants.{Token, NoMemory, Read, Write}
+use Rattle.p21_stream_statements.specs.declared.fault.Fault.{Fault}
+use Rattle.p21_stream_statements.specs.declared.fault.Fault.TheVariants.{Token, NoMemory, Read, Write}
 use Rattle.p21_stream_output.specs.Output.{Output}
-pub use Rattle.p21_stream_kept.specs.Source.{IsOfBytes}
+pub use Rattle.p21_stream_statements.specs.Source.{IsOfBytes}
 use Rattle.p21_stream_io.specs.Watch.{one_call_more}
 use Rattle.p21_stream.specs.Canonical.{IsCanonicalOutput}
 use Rattle.p21_tokens.specs.Fault.{IsOfTokens}

@@ -4,8 +4,8 @@ use Rattle.p21_basics.specs.Limits.{Limits}
 use Rattle.p21_claim_steps.specs.Keeping.{Keeps, Kept}
 use Rattle.p21_files.specs.Accepted.{IsDead}
 use Rattle.p21_schemas.specs.Schema.{Schema}
-use Rattle.p21_stream.specs.StatementReader as statements
-use Rattle.p21_stream.specs.StatementReader.{IsSeenAt, StatementHistory, limits_of}
+use Rattle.p21_stream_statements.specs.StatementReader as statements
+use Rattle.p21_stream_statements.specs.StatementReader.{IsSeenAt, StatementHistory, limits_of}
 
 -- the statement reader stands for a history, within the limits, and the store keeps its statements
 pub record IsLive (s : Schema) (limits : Limits) (held : statements.Held) (kept : Kept) (reading : StatementHistory) : Type 0 where

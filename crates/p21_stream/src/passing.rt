@@ -3,8 +3,8 @@ ghost use Rattle.std.specs.Prelude.{◌≡◌, ◌≤◌, ℕ, List, [], length,
 ghost use Rattle.p21_mapping_values.specs.TypedView.{ids_view};
 ghost use Rattle.p21_schemas.specs.Schema.{Schema as Meant};
 ghost use Rattle.p21_mapping.specs.Checked.{needs_view};
-ghost use Rattle.p21_stream_kept.specs.Source.{IsOfBytes};
-ghost use Rattle.p21_stream.specs.StatementReader.{limits_of};
+ghost use Rattle.p21_stream_statements.specs.Source.{IsOfBytes};
+ghost use Rattle.p21_stream_statements.specs.StatementReader.{limits_of};
 ghost use Rattle.p21_stream_kept.specs.Steps.{StepKeepsBound};
 ghost use Rattle.p21_stream.specs.Passing.{HasEntities, IsFoundIn, PassGives};
 ghost use Rattle.p21_stream.specs.Pieces.{EndsNoToken, IsUnderWay, NeedsNoMemory, TakesWithinPiece};

@@ -3,8 +3,8 @@ ghost use Rattle.p21_basics.specs.Limits.{Limits as MeantLimits};
 ghost use Rattle.p21_claim_steps.specs.Keeping.{nothing_kept};
 ghost use Rattle.p21_grammar.specs.Statements.{statement_of};
 ghost use Rattle.p21_schemas.specs.Schema.{Schema as Meant};
-ghost use Rattle.p21_stream.specs.StatementReader.{IsLive, limits_of, nothing_read};
-ghost use Rattle.p21_stream_kept.specs.Source.{IsOfBytes};
+ghost use Rattle.p21_stream_statements.specs.StatementReader.{IsLive, limits_of, nothing_read};
+ghost use Rattle.p21_stream_statements.specs.Source.{IsOfBytes};
 ghost use Rattle.p21_stream_kept.specs.declared.refusal.Refusal.{Refusal};
 ghost use Rattle.p21_stream_kept.specs.Steps as kept_steps;
 ghost use Rattle.p21_stream_kept.specs.Steps.{StepKeepsBound};
@@ -16,12 +16,12 @@ ghost use Rattle.p21_stream.specs.Pieces.{EndGives, EndsNoToken, IsBetweenPieces
 ghost use Rattle.p21_transcribe_instance.specs.ExternalSet.{AreExternalSets};
 ghost use Rattle.p21_transcribe_instance.specs.Steps.{IsPlanOf};
 
-use crate::statement_reader::StatementReader;
 use p21_express_tables::Schema;
 use p21_grammar::Event;
 use p21_mapping_values::Need;
-use p21_stream_kept::{At, Fault, Kept, Refusal, Workspace};
+use p21_stream_kept::{At, Kept, Refusal, Workspace};
 use p21_stream_output::Accepted;
+use p21_stream_statements::{Fault, StatementReader};
 use p21_transcribe::Draft;
 use p21_transcribe_instance::{Plan, Sets};
 use p21_values::{Limits, Name};

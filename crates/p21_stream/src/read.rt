@@ -8,8 +8,9 @@ ghost use Rattle.p21_stream.specs.Histories.{FeedGives, KeepsSchema, Stands, not
 use crate::session::Session;
 use p21_express_tables::Schema;
 use p21_stream_io::{Watched, read_piece};
-use p21_stream_kept::{At, Fault, Refusal};
+use p21_stream_kept::{At, Refusal};
 use p21_stream_output::Accepted;
+use p21_stream_statements::Fault;
 use p21_values::Limits;
 use std::alloc::Global;
 use std::io::Read;

@@ -1,5 +1,5 @@
 ghost use Rattle.std.specs.Prelude.{◌≡◌, ◌≤◌, IfErr, Some};
-ghost use Rattle.p21_stream_kept.specs.Source.{IsOfBytes};
+ghost use Rattle.p21_stream_statements.specs.Source.{IsOfBytes};
 ghost use Rattle.p21_stream.specs.Held.{limits_of, refusal_of, schema_of};
 ghost use Rattle.p21_stream.specs.Histories.{FeedChecks, FeedGives, FeedNeedsNoMemory, FinishGives, HoldsFor, KeepsSchema, RefusesAgain, RefusesAtEnd, Stands, nothing_taken};
 ghost use Rattle.p21_stream.specs.Inside.{held_of};
@@ -7,8 +7,9 @@ ghost use Rattle.p21_stream.specs.Inside.{held_of};
 use crate::held::Held;
 use crate::progress::{Progress, refused};
 use p21_express_tables::Schema;
-use p21_stream_kept::{Fault, Refusal};
+use p21_stream_kept::Refusal;
 use p21_stream_output::Accepted;
+use p21_stream_statements::Fault;
 use p21_values::Limits;
 use std::alloc::Global;
 use std::marker::Model;

@@ -1,5 +1,5 @@
 ghost use Rattle.std.specs.Prelude.{◌≡◌, IfErr, Some};
-ghost use Rattle.p21_stream_kept.specs.Source.{IsOfBytes};
+ghost use Rattle.p21_stream_statements.specs.Source.{IsOfBytes};
 ghost use Rattle.p21_stream.specs.Held.{limits_of, refusal_of, schema_of};
 ghost use Rattle.p21_stream.specs.Histories.{FeedChecks, FeedGives, FeedNeedsNoMemory, FinishGives, KeepsSchema, RefusesAgain, RefusesAtEnd, Stands, nothing_taken};
 ghost use Rattle.std.specs.Arc.{arc_value};

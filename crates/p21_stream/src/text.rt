@@ -12,8 +12,9 @@ use crate::claim::headline;
 use crate::session::Session;
 use p21_express_tables::Schema;
 use p21_stream_io::Watched;
-use p21_stream_kept::{Fault, Refusal};
+use p21_stream_kept::Refusal;
 use p21_stream_output::Accepted;
+use p21_stream_statements::Fault;
 use p21_values::{Limits, NoMemory};
 use std::alloc::Global;
 

@@ -19,9 +19,9 @@ use Rattle.p21_files.specs.BrokenRule.{Breaks}
 use Rattle.p21_files.specs.CanonicalTexts.{IsInstanceText}
 use Rattle.p21_files.specs.Reference.{Need}
 use Rattle.p21_schemas.specs.Schema.{Schema}
-use Rattle.p21_stream_kept.specs.Fault.{fault_number}
-use Rattle.p21_stream_kept.specs.declared.fault.Fault.{Fault}
-use Rattle.p21_stream_kept.specs.declared.fault.Fault.TheVariants.{CanonicalTooLong, DuplicateName, NoMemory}
+use Rattle.p21_stream_statements.specs.Fault.{fault_number}
+use Rattle.p21_stream_statements.specs.declared.fault.Fault.{Fault}
+use Rattle.p21_stream_statements.specs.declared.fault.Fault.TheVariants.{CanonicalTooLong, DuplicateName, NoMemory}
 use Rattle.p21_stream_kept.proofs.Stepping.{long}
 use Rattle.p21_stream_kept.specs.Inside.{stored_of, stored_with}
 use Rattle.p21_stream_kept.specs.Steps.{FitsLimits, StepGives}

@@ -1,4 +1,3 @@
-pub mod Sources
 mod Prefixes
 mod Lengths
 pub mod Stepping

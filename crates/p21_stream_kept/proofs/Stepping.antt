@@ -20,7 +20,7 @@ use Rattle.p21_grammar.specs.declared.event.Line.TheVariants.{Begin, HeaderStart
 use Rattle.p21_schemas.specs.Schema.{Schema}
 use Rattle.p21_schemas.specs.SchemaName.{NamesSchema}
 use Rattle.p21_stream_kept.specs.Steps.{FitsLimits, StepGives}
-use Rattle.p21_stream_kept.specs.declared.fault.Fault.TheVariants.{CanonicalTooLong, SchemaName, SectionTwice}
+use Rattle.p21_stream_statements.specs.declared.fault.Fault.TheVariants.{CanonicalTooLong, SchemaName, SectionTwice}
 
 -- ---- no room
 

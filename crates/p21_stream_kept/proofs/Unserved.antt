@@ -17,8 +17,8 @@ use Rattle.p21_files.specs.Accepted.{IsAccepted}
 use Rattle.p21_files.specs.Reference.{Need}
 use Rattle.p21_schemas.specs.Schema.{Schema}
 use Rattle.p21_schemas.specs.WellFormed.{IsWellFormed}
-use Rattle.p21_stream_kept.specs.declared.fault.Fault.{Fault}
-use Rattle.p21_stream_kept.specs.declared.fault.Fault.TheVariants.{Dangling, WrongTarget}
+use Rattle.p21_stream_statements.specs.declared.fault.Fault.{Fault}
+use Rattle.p21_stream_statements.specs.declared.fault.Fault.TheVariants.{Dangling, WrongTarget}
 use Rattle.p21_stream_kept.proofs.Instances.{stored-names}
 use Rattle.p21_stream_kept.specs.Inside.{reference_of, references_of, stored_of}
 use Rattle.p21_mapping.specs.Checked.{needs_view}

@@ -9,9 +9,9 @@ use Rattle.p21_files.specs.Reference.{Need}
 use Rattle.p21_mapping.specs.Checked.{needs_view}
 use Rattle.p21_mapping_values.specs.TypedView.{ids_view}
 use Rattle.p21_schemas.specs.Schema.{Schema}
-use Rattle.p21_stream_kept.specs.Fault.{fault_number}
-use Rattle.p21_stream_kept.specs.declared.fault.Fault.{Fault}
-use Rattle.p21_stream_kept.specs.declared.fault.Fault.TheVariants.{NoMemory}
+use Rattle.p21_stream_statements.specs.Fault.{fault_number}
+use Rattle.p21_stream_statements.specs.declared.fault.Fault.{Fault}
+use Rattle.p21_stream_statements.specs.declared.fault.Fault.TheVariants.{NoMemory}
 use Rattle.p21_stream_kept.specs.declared.found.Found.{Found}
 
 -- the record has a meaning of these entities and with these needs, and the instance has this canonical text

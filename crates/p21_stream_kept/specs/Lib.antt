@@ -1,5 +1,4 @@
-pub mod Fault
-pub mod Source
+pub mod Location
 pub mod Prefix
 pub mod Shape
 pub mod Found

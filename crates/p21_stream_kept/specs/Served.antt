@@ -6,8 +6,8 @@ use Rattle.p21_claim_steps.specs.Stored.{StoredEntry}
 use Rattle.p21_claim_steps.specs.Waiting.{Reference}
 use Rattle.p21_files.specs.Reference.{Need, Serves}
 use Rattle.p21_schemas.specs.Schema.{Schema}
-use Rattle.p21_stream_kept.specs.declared.fault.Fault.{Fault}
-use Rattle.p21_stream_kept.specs.declared.fault.Fault.TheVariants.{Dangling, WrongTarget}
+use Rattle.p21_stream_statements.specs.declared.fault.Fault.{Fault}
+use Rattle.p21_stream_statements.specs.declared.fault.Fault.TheVariants.{Dangling, WrongTarget}
 
 -- no instance has the name, or the one that has it doesn't serve
 abbrev pub RefusesNeed : Schema → List StoredEntry → Need → Fault → Type 0

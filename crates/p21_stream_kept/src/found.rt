@@ -1,9 +1,8 @@
 ghost use Rattle.std.specs.Prelude.{IfErr};
 ghost use Rattle.p21_grammar_tree.specs.View.{record_view};
-ghost use Rattle.p21_stream_kept.specs.Source.{IsOfBytes};
+ghost use Rattle.p21_stream_statements.specs.Source.{IsOfBytes};
 ghost use Rattle.p21_stream_kept.specs.Found.{FindsInstance};
 
-use crate::fault::Fault;
 use crate::workspace::Workspace;
 use p21_canon::write_record;
 use p21_express_tables::Schema;
@@ -11,6 +10,7 @@ use p21_express_types::EntityId;
 use p21_grammar_tree::Record;
 use p21_mapping::check_owned_record_in;
 use p21_mapping_values::{Ids, Need, Typed};
+use p21_stream_statements::Fault;
 use p21_values::Name;
 
 /// What is found of an instance: its name, its set of entities, its canonical line without a line feed, and what it needs

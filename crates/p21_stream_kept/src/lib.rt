@@ -1,10 +1,9 @@
-//! What a session keeps of the statements of a file that it has taken, what it tests of header records, and why it refuses a
-//! file, and where.
+//! What a session keeps of the statements of a file that it has taken, what it tests of header records, and where it refuses
+//! a file.
 #![tactic(auto)]
 
 mod canonical_limits;
 mod end;
-mod fault;
 mod found;
 mod kept;
 mod refusal;
@@ -15,7 +14,6 @@ mod shape;
 mod stored;
 mod workspace;
 
-pub use fault::Fault;
 pub use found::FoundInstance;
 pub use kept::{Kept, Reference};
 pub use refusal::{At, Refusal};

@@ -6,11 +6,11 @@ ghost use Rattle.p21_mapping_values.specs.TypedView.{need_view};
 ghost use Rattle.p21_stream_kept.specs.Inside.{HaveMemberships, references_of, stored_of};
 ghost use Rattle.p21_stream_kept.specs.Served.{AddsWaiting, AnswersNeed, AnswersUnserved, DropsServed};
 
-use crate::fault::Fault;
 use crate::kept::Reference;
 use p21_express_tables::Schema;
 use p21_mapping::serves;
 use p21_mapping_values::Need;
+use p21_stream_statements::Fault;
 use p21_stream_store::{Instances, Memberships};
 use p21_values::{Name, NoMemory};
 

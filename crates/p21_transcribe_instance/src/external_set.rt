@@ -9,7 +9,7 @@ use crate::sets::are_same;
 use p21_express_tables::Schema;
 use p21_express_types::EntityId;
 use p21_mapping::{check_members, check_set, has_abstract_leaf};
-use p21_mapping_values::CheckFault;
+use p21_mapping_faults::CheckFault;
 use p21_values::NoMemory;
 use std::alloc::Global;
 

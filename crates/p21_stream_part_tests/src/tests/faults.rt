@@ -1,7 +1,8 @@
 //! Faults, and where they are named.
 use p21_grammar::{Absent, GrammarFault, Name, NoMemory, TokenFault};
-use p21_mapping_values::CheckFault;
-use p21_stream_kept::{At, Fault, Refusal};
+use p21_mapping_faults::CheckFault;
+use p21_stream_kept::{At, Refusal};
+use p21_stream_statements::Fault;
 
 /// Faults, each with its number and its name.
 const NAMED: &[(Fault, u8, &str)] = &[

@@ -1,6 +1,6 @@
 //! From pieces to statements.
 use p21_grammar::{Limits, Param, SpareRows};
-use p21_stream::StatementReader;
+use p21_stream_statements::StatementReader;
 use std::alloc::Global;
 
 /// The statements of a header.

@@ -16,7 +16,7 @@ use Rattle.p21_mapping.proofs.Taking.{parts-begin, parts-more, parts-room, parts
 use Rattle.p21_mapping.specs.Outcome.{needs_view}
 use Rattle.p21_mapping.specs.Rows.{BreaksAmong, TakesRow, param_views}
 use Rattle.p21_mapping.proofs.Shapes.{named-within, own-count, views-length}
-use Rattle.p21_mapping_values.specs.Fault.{fault_number}
+use Rattle.p21_mapping_faults.specs.Fault.{fault_number}
 use Rattle.p21_mapping_values.specs.TypedView.{rows_view}
 use Rattle.p21_mapping_values.specs.View.{list_of, view}
 use Rattle.p21_schemas.specs.Order.{own_places}

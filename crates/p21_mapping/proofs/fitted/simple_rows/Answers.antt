@@ -8,7 +8,7 @@ use Rattle.p21_mapping.proofs.Here.{param_views-length}
 use Rattle.p21_mapping.proofs.Taking.{rows-begin, rows-more, rows-enough, rows-end, rows-break}
 use Rattle.p21_mapping.specs.Outcome.{needs_view}
 use Rattle.p21_mapping.specs.Rows.{param_views}
-use Rattle.p21_mapping_values.specs.Fault.{fault_number}
+use Rattle.p21_mapping_faults.specs.Fault.{fault_number}
 use Rattle.p21_mapping_values.specs.TypedView.{rows_view}
 use Rattle.p21_mapping.proofs.fitted.simple_rows.Goals as goal
 

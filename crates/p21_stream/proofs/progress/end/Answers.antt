@@ -1,6 +1,6 @@
 use Rattle.std.proofs.Common.{ℕ, Option, subst, sym}
-use Rattle.p21_stream_kept.specs.Source.{IsOfBytes}
-use Rattle.p21_stream_kept.specs.declared.fault.Fault.{Fault}
+use Rattle.p21_stream_statements.specs.Source.{IsOfBytes}
+use Rattle.p21_stream_statements.specs.declared.fault.Fault.{Fault}
 use Rattle.p21_stream_kept.specs.Served.{AnswersUnserved}
 use Rattle.p21_stream.proofs.Ending.{end-accepted, statements-refused, reference-of_bytes, reference-refused, whole-kept}
 use Rattle.p21_stream.proofs.progress.end.Goals as goal

@@ -3,8 +3,8 @@ use Rattle.p21_canon.specs.Statement.{AppendsStatement}
 use Rattle.p21_grammar_tree.specs.View.{record_view}
 use Rattle.p21_mapping.specs.Checked.{needs_view}
 use Rattle.p21_mapping_values.specs.TypedView.{typed_view}
-use Rattle.p21_stream_kept.proofs.Sources.{check-of_bytes}
-use Rattle.p21_stream_kept.specs.Source.{IsOfBytes}
+use Rattle.p21_stream_statements.proofs.Sources.{check-of_bytes}
+use Rattle.p21_stream_statements.specs.Source.{IsOfBytes}
 use Rattle.p21_stream_kept.proofs.Finding.{found}
 use Rattle.p21_stream_kept.proofs.found.find_instance.Goals as goal
 

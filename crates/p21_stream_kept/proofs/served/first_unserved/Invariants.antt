@@ -1,5 +1,5 @@
 use Rattle.std.proofs.Common.{ℕ, Option, drop}
-use Rattle.p21_stream_kept.specs.declared.fault.Fault.{Fault}
+use Rattle.p21_stream_statements.specs.declared.fault.Fault.{Fault}
 use Rattle.p21_stream_kept.specs.Inside.{references_of, stored_of}
 use Rattle.p21_stream_kept.specs.Served.{AnswersUnserved}
 use Rattle.p21_stream_kept.proofs.served.first_unserved.Given as goal

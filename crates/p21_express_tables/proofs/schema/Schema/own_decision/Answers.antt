@@ -15,7 +15,7 @@ pub returns-in-Some : goal.returns-in-Some
 returns-in-Some c =
     let P : Schema → Type 0 = λ s. AreDecided s (order s c.args.entity.0) c.in-Some.own.now.decided.items in
     let Q : List DecidedPlace → Type 0 = λ ds. AreDecided c.args.self.now (order c.args.self.now c.args.entity.0) ds in
-    let at : slice_get c.self.inside.own.items c.args.entity.0 ≡ Some c.in-Some.own.now = ap (λ xs. slice_get xs c.args.entity.0) (sym c.deref.ensures.value) ∙ slice_get_read c.deref.result.now (length c.deref.result.now) c.args.entity.0 c.in-Some.own.now refl c.in-Some.ensures.lookup.3.0 c.in-Some.ensures.lookup.1 in
+    let at : slice_get c.self.inside.tables.own.items c.args.entity.0 ≡ Some c.in-Some.own.now = ap (λ xs. slice_get xs c.args.entity.0) (sym c.deref.ensures.value) ∙ slice_get_read c.deref.result.now (length c.deref.result.now) c.args.entity.0 c.in-Some.own.now refl c.in-Some.ensures.lookup.3.0 c.in-Some.ensures.lookup.1 in
     c.decision_at.ensures c.args.self.now (order c.args.self.now c.args.entity.0) (subst Q (sym c.deref-in-Some.ensures.value) (subst P c.self.view_is (c.self.invariant.2.own_are c.args.entity.0 c.in-Some.own.now at).decided_are))
 
 pub decision-requires : goal.decision-requires

@@ -1,15 +1,11 @@
-use Rattle.std.specs.Prelude.{List, Result, Ok, Err, OnErr}
+use Rattle.std.specs.Prelude.{List}
 use Rattle.std.proofs.Common.{subst, sym, ◌∙◌}
+use Rattle.std.proofs.lemmas.Result.{err_from_is_err_and}
 use Rattle.p21_express_types.specs.declared.number.EntityId.{EntityId}
 use Rattle.p21_express_graph.specs.Orders.{numbers}
 use Rattle.p21_express_graph.specs.Rising.{IsOwnRising}
 use Rattle.p21_express_tables.proofs.RisingSets.{set-kept}
 use Rattle.p21_express_tables.proofs.schema.Schema.own_rising.Goals as goal
-
--- what holds anyway does so where there is a fault
-on_err : {T E P : Type 0} (result : Result T E) → P → OnErr result P
-on_err (Ok x) holds = tt
-on_err (Err fault) holds = holds
 
 pub returns-in-Some-clause-ok : goal.returns-in-Some-clause-ok
 returns-in-Some-clause-ok c =
@@ -19,7 +15,8 @@ returns-in-Some-clause-ok c =
 
 pub returns-in_err-rising-in-None-clause-err : goal.returns-in_err-rising-in-None-clause-err
 returns-in_err-rising-in-None-clause-err c =
-    on_err c.from_residual.result (set-kept c.self.view_is c.self.invariant.2.rising_are c.requires c.index.ensures c.in-None.is)
+    let (_, is, _) = err_from_is_err_and c.from_residual.result c.from_residual.ensures.1 in
+    rw is (set-kept c.self.view_is c.self.invariant.2.rising_are c.requires c.index.ensures c.in-None.is)
 
 pub returns-in_ok-rising-in-None-clause-ok : goal.returns-in_ok-rising-in-None-clause-ok
 returns-in_ok-rising-in-None-clause-ok c =

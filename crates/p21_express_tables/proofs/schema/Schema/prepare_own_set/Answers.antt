@@ -23,16 +23,18 @@ own_faults_with-requires-clause-clash c = let P : List ℕ → Type 0 = λ es. I
 pub invariant_of-self : goal.invariant_of-self
 invariant_of-self c =
     let inside = c.self.invariant in
-    (inside.0, inside.1, with-own inside.2 (subst (AreOwnSets (schema_of c.self.inside.parts)) (sym c.in_err-push.ensures.items) inside.2.own_are))
+    let s = schema_of c.self.inside.parts in
+    (inside.0, inside.1, with-own s _ _ inside.2 (subst (AreOwnSets s) (sym c.in_err-push.ensures.items) inside.2.own_are))
 
 pub invariant_of-self-2 : goal.invariant_of-self-2
 invariant_of-self-2 c =
     let inside = c.self.invariant in
     let s = schema_of c.self.inside.parts in
     let own : OwnSet = record { faults = c.own_faults_with.result; decided = c.in_ok-decided.decided } in
-    let number : c.len-number.result ≡ length c.self.inside.own.items = c.len-number.ensures ∙ c.self.inside.own.ok.0 in
+    let number : c.len-number.result ≡ length c.self.inside.tables.own.items = c.len-number.ensures ∙ c.self.inside.tables.own.ok.0 in
     let P : ℕ → Type 0 = λ n. IsOwnSet s n own in
     let Q : Schema → Type 0 = λ z. IsOwnSet z c.len-number.result own in
     let is : IsOwnSet c.args.self.now c.len-number.result own = record { faults_are = c.own_faults_with.ensures; decided_are = c.in_ok-decided.ensures } in
-    let sets : AreOwnSets s (c.self.inside.own.items ++ own ∷ []) = each-more (IsOwnSet s) c.self.inside.own.items own inside.2.own_are (subst P number (subst Q (sym c.self.view_is) is)) in
-    (inside.0, inside.1, with-own inside.2 (subst (AreOwnSets s) (sym c.in_ok-push.ensures.items) sets))
+    let next : IsOwnSet s (length c.self.inside.tables.own.items) own = subst P number (subst Q (sym c.self.view_is) is) in
+    let sets = each-more (IsOwnSet s) c.self.inside.tables.own.items own inside.2.own_are next in
+    (inside.0, inside.1, with-own s _ _ inside.2 (subst (AreOwnSets s) (sym c.in_ok-push.ensures.items) sets))

@@ -24,7 +24,7 @@ invariant_of-result c =
     let whole : HoldsTogether t = subst HoldsTogether (sym (c.in_ok-whole.ensures.value ∙ ap (λ z. redeclaring_schema z ys) c.self.view_is)) c.requires.whole in (
       whole,
       c.in_ok-whole.ensures.named,
-      redeclaring-prepared s t ys long c.in_ok-whole.ensures.value c.self.invariant.2 c.in_ok-redeclarers.ensures (none-own t _ c.new.ensures.items),
+      redeclaring-prepared s t ys long c.in_ok-whole.ensures.value _ _ _ c.self.invariant.2 c.in_ok-redeclarers.ensures (none-own t _ c.new.ensures.items),
     )
 
 pub returns : goal.returns

@@ -1,6 +1,6 @@
 use Rattle.std.proofs.Common.{◌≡◌, ℕ, Ok, Option, subst, sym}
 use Rattle.p21_claim_steps.specs.Keeping.{Kept}
-use Rattle.p21_stream.specs.StatementReader as statements
+use Rattle.p21_stream_statements.specs.StatementReader as statements
 use Rattle.p21_stream_kept.specs.Steps.{StepKeepsBound}
 use Rattle.p21_stream.proofs.Passed.{as-before}
 use Rattle.p21_stream.specs.Passing.{PassGives}

@@ -1,6 +1,6 @@
 use Rattle.std.proofs.Common.{ℕ, Ok, Err, Option, Some, subst}
 use Rattle.p21_grammar.specs.declared.event.Event.{Event}
-use Rattle.p21_stream.specs.StatementReader as statements
+use Rattle.p21_stream_statements.specs.StatementReader as statements
 use Rattle.p21_stream.proofs.Pieces.{statement-follows, step-offends, step-piece, step-quiet, step-refused, step-statement, step-token, token-none, token-quiet}
 use Rattle.p21_stream.proofs.progress.Progress.step.Goals as goal
 

@@ -1,5 +1,5 @@
 use Rattle.std.proofs.Common.{sym, subst}
-use Rattle.p21_stream.specs.StatementReader as statements
+use Rattle.p21_stream_statements.specs.StatementReader as statements
 use Rattle.p21_stream.proofs.PieceFeeding.{holds}
 use Rattle.p21_stream.specs.Held.{SessionHeld}
 use Rattle.p21_stream.specs.Histories.{HoldsFor}

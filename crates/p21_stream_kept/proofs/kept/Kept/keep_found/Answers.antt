@@ -8,7 +8,7 @@ use Rattle.p21_claim_steps.specs.Waiting.{Reference}
 use Rattle.p21_exchange.specs.Statement.{instance}
 use Rattle.p21_mapping.specs.Checked.{needs_view}
 use Rattle.p21_mapping_values.specs.TypedView.{ids_view, need_view}
-use Rattle.p21_stream_kept.specs.declared.fault.Fault.TheVariants.{CanonicalTooLong}
+use Rattle.p21_stream_statements.specs.declared.fault.Fault.TheVariants.{CanonicalTooLong}
 use Rattle.p21_stream_kept.proofs.Dropping.{took-dropped}
 use Rattle.p21_stream_kept.proofs.Finding.{found-named, took-found}
 use Rattle.p21_stream_kept.proofs.Following.{follows-few, follows-section}

@@ -2,7 +2,7 @@ use Rattle.std.proofs.Common.{◌≡◌, ◌+◌, true, ap, subst, sym, Ok, Err}
 use Rattle.p21_claim_steps.specs.Keeping.{Kept}
 use Rattle.p21_exchange.specs.Statement.{section}
 use Rattle.p21_grammar.specs.Statements.{line_of}
-use Rattle.p21_stream_kept.specs.declared.fault.Fault.TheVariants.{CanonicalTooLong}
+use Rattle.p21_stream_statements.specs.declared.fault.Fault.TheVariants.{CanonicalTooLong}
 use Rattle.p21_stream_kept.proofs.Stepping.{refused-line, took-line}
 use Rattle.p21_stream_kept.specs.Inside.{kept_of}
 use Rattle.p21_stream_kept.specs.Steps.{FitsLimits, StepGives}

@@ -1,0 +1,2 @@
+-- What the calls of C answer.
+pub mod Answers

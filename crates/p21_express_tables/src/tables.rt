@@ -1,0 +1,23 @@
+use crate::own_sets::OwnSet;
+use p21_express_graph::{Index, Offered, PrefixLists, Ranking};
+use p21_express_types::EntityId;
+
+/// The tables that are prepared for the look-ups of a schema.
+#[derive(Drop)]
+pub(crate) struct Tables {
+    pub(crate) orders: PrefixLists,
+    // Of each run of the orders.
+    pub(crate) indexes: Vec<Index>,
+    pub(crate) offered: Offered,
+    // For each entity the numbers of the ONEOF lists with it, rising.
+    pub(crate) listed_in: Vec<Vec<usize>>,
+    // For each type the last one of those that it renames, one behind the other.
+    pub(crate) ends: Vec<u32>,
+    // For each entity the numbers of those that redeclare a place which it declares, rising.
+    pub(crate) redeclarers: Vec<Vec<usize>>,
+    // What holds of the own sets of the first entities, or of all.
+    pub(crate) own: Vec<OwnSet>,
+    pub(crate) ranking: Ranking,
+    // For each entity, it and its supertypes, rising by name, where they are 64 at most.
+    pub(crate) rising_sets: Vec<Option<Vec<EntityId>>>,
+}

@@ -1,0 +1,57 @@
+use Rattle.std.proofs.Common.{sym, subst, Ok, Err, Some}
+use Rattle.p21_stream_statements.proofs.Sources.{grammar-of_bytes, token-of_bytes}
+use Rattle.p21_stream_statements.specs.Source.{IsOfBytes}
+use Rattle.p21_stream_statements.proofs.Stepping.{Owes, parse-refused, token-refused, went-on}
+use Rattle.p21_stream_statements.proofs.Quiet.{quiet-refused, quiet-token}
+use Rattle.p21_stream_statements.specs.StatementReader.{Held, NeedsNoMemory, StepGives}
+use Rattle.p21_tokens.specs.Histories.{NextGives}
+use Rattle.p21_stream_statements.proofs.statement_reader.StatementReader.step.Goals as goal
+
+pub returns-in-Err-clause-gives : goal.returns-in-Err-clause-gives
+returns-in-Err-clause-gives c =
+    subst (λ (h : Held). Owes h c.args.piece.now c.from.result) c.self.view_is
+    (subst (λ f. Owes (record { lexer = c.self.inside.lexer; parser = c.self.inside.parser }) c.args.piece.now f) (sym c.from.ensures)
+    (token-refused (record { lexer = c.self.inside.lexer; parser = c.self.inside.parser }) c.args.piece.now c.in-Err.fault c.next.new.self c.in-Err.ensures.history))
+
+pub returns-in-Ok-take-clause-gives : goal.returns-in-Ok-take-clause-gives
+returns-in-Ok-take-clause-gives c =
+    let held : Held = record { lexer = c.self.inside.lexer; parser = c.self.inside.parser } in
+    subst (λ (h : Held). StepGives h c.args.piece.now (Ok (Some (c.in-Ok.answer.0, c.in-Ok-take.event))) (record { lexer = c.next.new.self; parser = c.take.new.self })) c.self.view_is
+    (went-on held c.args.piece.now c.in-Ok.answer.0 c.in-Some.token c.next.new.self c.in-Ok-take.event c.take.new.self
+    (subst (λ t. NextGives c.self.inside.lexer c.args.piece.now (Ok (c.in-Ok.answer.0, t)) c.next.new.self) c.in-Some.is c.in-Ok.ensures.history)
+    c.in-Ok-take.ensures.gives)
+
+pub returns-in-Err-take-clause-gives : goal.returns-in-Err-take-clause-gives
+returns-in-Err-take-clause-gives c =
+    let held : Held = record { lexer = c.self.inside.lexer; parser = c.self.inside.parser } in
+    subst (λ (h : Held). Owes h c.args.piece.now c.from-in-Err-take.result) c.self.view_is
+    (subst (λ f. Owes held c.args.piece.now f) (sym c.from-in-Err-take.ensures)
+    (parse-refused held c.args.piece.now c.in-Ok.answer.0 c.in-Some.token c.next.new.self c.in-Err-take.fault c.take.new.self
+    (subst (λ t. NextGives c.self.inside.lexer c.args.piece.now (Ok (c.in-Ok.answer.0, t)) c.next.new.self) c.in-Some.is c.in-Ok.ensures.history)
+    c.in-Ok.ensures.whole.0
+    c.in-Err-take.ensures.gives))
+
+pub returns-in-Err-clause-no_memory : goal.returns-in-Err-clause-no_memory
+returns-in-Err-clause-no_memory c =
+    subst (λ (h : Held). NeedsNoMemory h c.args.piece.now (Err c.from.result)) c.self.view_is
+    (quiet-refused (record { lexer = c.self.inside.lexer; parser = c.self.inside.parser }) c.args.piece.now c.in-Err.fault c.from.result c.from.ensures c.in-Err.ensures.no_memory)
+
+pub returns-in-Ok-take-clause-no_memory : goal.returns-in-Ok-take-clause-no_memory
+returns-in-Ok-take-clause-no_memory c =
+    let held : Held = record { lexer = c.self.inside.lexer; parser = c.self.inside.parser } in
+    subst (λ (h : Held). NeedsNoMemory h c.args.piece.now (Ok (Some (c.in-Ok.answer.0, c.in-Ok-take.event)))) c.self.view_is
+    (quiet-token held c.args.piece.now c.in-Ok.answer.0 c.in-Some.token c.next.new.self (subst (λ t. NextGives c.self.inside.lexer c.args.piece.now (Ok (c.in-Ok.answer.0, t)) c.next.new.self) c.in-Some.is c.in-Ok.ensures.history)
+    (Ok (Some (c.in-Ok.answer.0, c.in-Ok-take.event))))
+
+pub returns-in-Err-take-clause-no_memory : goal.returns-in-Err-take-clause-no_memory
+returns-in-Err-take-clause-no_memory c =
+    let held : Held = record { lexer = c.self.inside.lexer; parser = c.self.inside.parser } in
+    subst (λ (h : Held). NeedsNoMemory h c.args.piece.now (Err c.from-in-Err-take.result)) c.self.view_is
+    (quiet-token held c.args.piece.now c.in-Ok.answer.0 c.in-Some.token c.next.new.self (subst (λ t. NextGives c.self.inside.lexer c.args.piece.now (Ok (c.in-Ok.answer.0, t)) c.next.new.self) c.in-Some.is c.in-Ok.ensures.history)
+    (Err c.from-in-Err-take.result))
+
+pub returns-in-Err-clause-kind : goal.returns-in-Err-clause-kind
+returns-in-Err-clause-kind c = subst IsOfBytes (sym c.from.ensures) (token-of_bytes c.in-Err.fault c.in-Err.ensures.kind)
+
+pub returns-in-Err-take-clause-kind : goal.returns-in-Err-take-clause-kind
+returns-in-Err-take-clause-kind c = subst IsOfBytes (sym c.from-in-Err-take.ensures) (grammar-of_bytes c.in-Err-take.fault)

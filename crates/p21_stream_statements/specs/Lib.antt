@@ -1,0 +1,4 @@
+pub mod Fault
+pub mod Source
+pub mod StatementReader
+pub mod PassingOver

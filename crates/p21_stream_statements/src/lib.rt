@@ -1,0 +1,8 @@
+//! The statements of a file that comes in pieces, by a lexer and a parser behind it; and why a file is refused.
+#![tactic(auto)]
+
+mod fault;
+mod statement_reader;
+
+pub use fault::Fault;
+pub use statement_reader::StatementReader;

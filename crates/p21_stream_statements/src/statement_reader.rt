@@ -1,0 +1,185 @@
+ghost use Rattle.std.specs.Prelude.{◌≡◌, ◌≤◌, ◌↔◌, ◌+◌, [], length, IfErr, IsTrue, None, true, false};
+ghost use Rattle.p21_exchange.specs.OpenNesting.{IsDepth};
+ghost use Rattle.p21_grammar.specs.Between.{StandsForMore};
+ghost use Rattle.p21_grammar_tree.specs.Rooms.{TakesOneAtMost};
+ghost use Rattle.p21_stream_statements.specs.Source.{IsOfBytes};
+ghost use Rattle.p21_stream_statements.specs.StatementReader.{FinishGives, HasOpenStatement, IsLive, NeedsNoMemory, StatementHistory, StepGives, TakesWithinPiece, limits_of, nothing_read};
+ghost use Rattle.p21_stream_statements.specs.PassingOver.{GivesPassed, IsAtRest, IsBetweenInstances, held_behind, room_of};
+
+use crate::fault::Fault;
+use p21_grammar::{Event, GrammarFault, Line, Param, Parser, SpareRows};
+use p21_tokens::{Lexer, Token};
+use p21_values::Limits;
+use std::alloc::Global;
+use std::marker::Model;
+
+/// A lexer, and a parser that takes its tokens.
+#[derive(Drop)]
+pub struct StatementReader {
+    alloc: Global,
+    lexer: Lexer,
+    parser: Parser,
+    // Whether the last statement ended the file.
+    ended: bool,
+}
+
+impl Model for StatementReader {
+    ghost use Rattle.p21_stream_statements.specs.StatementReader.{Held};
+
+    ghost Value = { Held };
+
+    ghost view = { λ reader. record { lexer = reader.lexer; parser = reader.parser } };
+}
+
+impl StatementReader {
+    /// A statement reader that has taken no bytes. It takes no memory.
+    pub fn new(alloc: Global, limits: Limits) -> StatementReader
+        ensures live { IsLive result nothing_read }
+        ensures limits { limits_of result ≡ (limits.record_source, limits.file_source) }
+    {
+        StatementReader {
+            alloc,
+            lexer: Lexer::new(alloc, limits),
+            parser: Parser::new(alloc),
+            ended: false,
+        }
+    }
+
+    /// Takes the bytes of one token, or of the rest of a piece in which none is whole, and says how many; with the `;` of
+    /// a statement, the statement. The byte behind a token may have been looked at: it has to be offered next. Parameters that
+    /// open stand in the row that was kept last, if one waits.
+    ///
+    /// # Errors
+    ///
+    /// The lexer's, or the parser's at the token.
+    pub fn step(
+        &mut self,
+        piece: &[u8],
+        rows: &mut SpareRows<Param>,
+    ) -> Result<Option<(usize, Option<Event>)>, Fault>
+        ensures takes { TakesWithinPiece piece.now result }
+        ensures gives { StepGives self.old piece.now result self.new }
+        ensures limits { limits_of self.new ≡ limits_of self.old }
+        ensures no_memory { NeedsNoMemory self.old piece.now result }
+        ensures kind { IfErr result (λ fault. IsOfBytes fault) }
+        ensures rows { TakesOneAtMost rows.old rows.new }
+    {
+        let (count, token) = match self.lexer.next(piece) {
+            Ok(answer) => answer,
+            Err(fault) => return Err(Fault::from(fault)),
+        };
+        let Some(token) = token else {
+            return Ok(None);
+        };
+        match self.parser.take(token, rows) {
+            Ok(event) => {
+                self.ended = has_ended(&event, self.ended);
+                Ok(Some((count, event)))
+            }
+            Err(fault) => Err(Fault::from(fault)),
+        }
+    }
+
+    /// The end of the bytes. A last whole token is looked at only where the file has ended before it.
+    ///
+    /// # Errors
+    ///
+    /// The lexer's, `EndsEarly`, or the parser's at a last token.
+    pub fn finish(self) -> Result<(), Fault>
+        ensures gives { FinishGives self result }
+        ensures kind { IfErr result (λ fault. IsOfBytes fault) }
+    {
+        let StatementReader {
+            alloc,
+            lexer,
+            parser,
+            ended,
+        } = self;
+        let last = match lexer.finish() {
+            Ok(last) => last,
+            Err(fault) => return Err(Fault::from(fault)),
+        };
+        let Some(token) = last else {
+            return match parser.finish() {
+                Ok(()) => Ok(()),
+                Err(fault) => Err(Fault::from(fault)),
+            };
+        };
+        Err(last_fault(alloc, parser, token, ended))
+    }
+
+    /// The token bytes of the open statement. It takes no memory.
+    pub fn pending(&self) -> u64
+        ensures within { result ≤ (limits_of self.now).0 }
+        ensures pending { (reading : StatementHistory) → IsLive self.now reading → HasOpenStatement reading result self.now.parser.depth }
+    {
+        self.lexer.pending()
+    }
+
+    /// The lists and typed parameters that are open, at most 64. It takes no memory.
+    pub fn depth(&self) -> u64
+        ensures within { result ≤ 64 }
+        ensures depth { result ≡ self.now.parser.depth }
+    {
+        self.parser.depth() as u64
+    }
+
+    /// Whether it stands in a data section, between two tokens, with no statement open. Then instances that are read elsewhere
+    /// may be passed over. It takes no memory.
+    pub fn is_between_instances(&self) -> bool
+        ensures value { IsTrue result ↔ IsBetweenInstances self.now }
+        ensures rests { result ≡ true → (reading : StatementHistory) → IsLive self.now reading → IsAtRest reading }
+        ensures stands { result ≡ true → StandsForMore self.now.parser }
+    {
+        if !self.lexer.is_resting() {
+            return false;
+        }
+        self.parser.is_between_instances()
+    }
+
+    /// How many bytes of whole instances the limits allow, also where one instance has them all. It takes no memory.
+    pub fn room_for_statements(&self) -> u64
+        ensures value { result ≡ room_of self.now }
+    {
+        self.lexer.room_for_statements()
+    }
+
+    /// Passes over bytes of whole instances, with separators around their tokens, as if it had taken them; says whether it
+    /// did. It does where it stands between instances and has room for as many. The caller has read them. It takes no
+    /// memory.
+    pub fn pass_over(&mut self, count: usize) -> bool
+        ensures passes { IsTrue result ↔ (IsBetweenInstances self.old × (count ≤ room_of self.old)) }
+        ensures held { result ≡ true → self.new ≡ held_behind self.old count }
+        ensures left { result ≡ false → self.new ≡ self.old }
+        ensures gives { result ≡ true → GivesPassed self.old count self.new }
+        ensures limits { limits_of self.new ≡ limits_of self.old }
+        ensures depth { self.new.parser.depth ≡ self.old.parser.depth }
+    {
+        if !self.is_between_instances() {
+            return false;
+        }
+        self.lexer.pass_over(count)
+    }
+}
+
+/// The fault of a last token, behind which no `;` stands.
+fn last_fault(alloc: Global, mut parser: Parser, token: Token, ended: bool) -> Fault
+    ensures { IsOfBytes result }
+{
+    if !ended {
+        return Fault::Grammar(GrammarFault::EndsEarly);
+    }
+    match parser.take(token, &mut SpareRows::new(alloc)) {
+        Ok(_) => Fault::Grammar(GrammarFault::EndsEarly),
+        Err(fault) => Fault::from(fault),
+    }
+}
+
+/// Whether the last statement behind this call is the last line of a file.
+fn has_ended(event: &Option<Event>, before: bool) -> bool {
+    match event {
+        Some(Event::Section(Line::Finish)) => true,
+        Some(_) => false,
+        None => before,
+    }
+}
