@@ -15,11 +15,21 @@ use std::sync::Arc;
 
 /// A session that owns its schema together with others and borrows nothing, for a caller that keeps it where no borrow
 /// lives long enough.
-#[derive(Drop)]
 pub struct SharedSession {
     schema: Arc<Schema, Global>,
     limits: Limits,
     progress: Progress,
+}
+
+// Written out: crates above call it, where they would prove a derived one field by field.
+impl Drop for SharedSession {
+    fn drop(self) {
+        let SharedSession {
+            schema: _,
+            limits: _,
+            progress: _,
+        } = self;
+    }
 }
 
 impl Model for SharedSession {
