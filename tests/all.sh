@@ -1,12 +1,13 @@
 #!/bin/sh
 # Runs all tests that stand beside the gate, one part behind the other, and prints a line for each: whether it passed, the
-# seconds that it took, and the last line that it wrote. The whole of what a part wrote follows where it failed.
+# seconds that it took, and the last line that it wrote. The whole of what a part wrote follows where it failed. A part that
+# lacks what it needs, or some of it, ends with status 77 and says in its last line what is missing: it is counted as skipped.
 #
 #   tests/all.sh [PART..]     PART is the path of a script below tests, as hostile/devices.sh; all parts without one
 #
 # The environment variable P21 names the program; without it, it is the one that ./p21 builds where it is missing or old.
-# Four parts want `rt`: bindings.sh builds the library for C and Python where it is missing or old, hostile/calls.py builds a
-# program of the libraries without a proof, and fail_alloc.sh and want_of_memory.sh try tests.
+# Five parts want `rt`: bindings.sh builds the library for C and Python where it is missing or old, release.py links a program,
+# hostile/calls.py builds a program of the libraries without a proof, and fail_alloc.sh and want_of_memory.sh try tests.
 
 root=$(cd "$(dirname -- "$(readlink -f -- "$0")")/.." && pwd) || exit
 "${P21:-$root/p21}" --version > /dev/null || exit
@@ -16,25 +17,25 @@ export PYTHONDONTWRITEBYTECODE=1
 cd "$root/tests" || exit
 log=$(mktemp) || exit
 trap 'rm -f "$log"' EXIT
-failed=0
+passed=0 failed=0 skipped=0
 
 # run SCRIPT ARGUMENTS: runs a part.
 run() {
     part=$1
     shift
     begun=$(date +%s)
-    if "./$part" "$@" > "$log" 2>&1; then
-        passed=passed
-    else
-        passed=FAILED
-        failed=1
-    fi
-    echo "$part: $passed, $(($(date +%s) - begun)) s: $(tail -n 1 "$log" | cut -c 1-120)"
-    [ "$passed" = passed ] || cat "$log"
+    "./$part" "$@" > "$log" 2>&1
+    case $? in
+        0) how=passed passed=$((passed + 1)) ;;
+        77) how=skipped skipped=$((skipped + 1)) ;;
+        *) how=FAILED failed=$((failed + 1)) ;;
+    esac
+    echo "$part: $how, $(($(date +%s) - begun)) s: $(tail -n 1 "$log" | cut -c 1-120)"
+    [ "$how" != FAILED ] || cat "$log"
 }
 
 if [ "$#" -eq 0 ]; then
-    set -- program.sh texts.py definitions.py edits.py refusals.py library.py install.sh pages.sh bindings.sh
+    set -- program.sh texts.py definitions.py edits.py refusals.py library.py install.sh pages.sh bindings.sh release.py
     for tools in tools_*.py; do
         [ ! -e "$tools" ] || set -- "$@" "$tools"
     done
@@ -48,4 +49,5 @@ for part in "$@"; do
         *) run "$part" ;;
     esac
 done
-exit "$failed"
+echo "$passed passed, $failed failed, $skipped skipped"
+[ "$failed" -eq 0 ]

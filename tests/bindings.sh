@@ -6,8 +6,8 @@
 #   tests/bindings.sh [FOLDER]     FOLDER has libp21_c.a, liblibc_c.a, libp21.so and p21.h, as tools/build-library puts them
 #                                 there; without one they are built
 #
-# It wants a C compiler (CC). Where there is no valgrind, or no pytest for the Python of PYTHON, what wants it is left out, and
-# the last line says so.
+# It wants a C compiler (CC). Where there is no valgrind, or no pytest for the Python of PYTHON, what wants it is left out, the
+# last line says so, and the status is 77.
 
 root=$(cd "$(dirname -- "$(readlink -f -- "$0")")/.." && pwd) || exit
 here=$(mktemp -d) || exit
@@ -155,4 +155,5 @@ else
     leave_out 'the Python package' "$python has no pytest"
 fi
 echo "$parts parts, $wrong wrong$left_out"
-[ "$wrong" -eq 0 ]
+[ "$wrong" -eq 0 ] || exit 1
+[ -z "$left_out" ] || exit 77

@@ -25,7 +25,7 @@ touch "$tree/crates/p21/src/main.rt" "$tree/crates.txt"
 
 # A path with the programs that the scripts call, and no toolchain.
 mkdir "$here/path"
-for name in sh awk basename env cat cp dirname find grep install ln mkdir mktemp readlink rm touch; do
+for name in sh awk basename cut env cat cp dirname find grep install ln mkdir mktemp readlink rm sed sha256sum sort touch; do
     ln -s "$(command -v "$name")" "$here/path/$name"
 done
 
@@ -66,12 +66,14 @@ files() {
 expect 'no folder' 2 'usage: tools/install PREFIX' "$tree/tools/install"
 expect 'two folders' 2 'usage: tools/install PREFIX' "$tree/tools/install" "$here/prefix" "$here/other"
 
-expect 'a program alone' 0 'there is no man/p21.1' "$tree/tools/install" "$here/prefix"
+expect 'a program alone' 0 'there is no README.md' "$tree/tools/install" "$here/prefix"
 files 'the files of a program alone' './bin/p21
 ./share/doc/p21/LICENSE'
 
-mkdir "$tree/man" "$tree/completions" "$tree/docs"
-for part in man/p21.1 docs/FAULTS.md docs/RECIPES.md docs/SCHEMAS.md completions/p21.bash completions/_p21 completions/p21.fish tools/shared.py tools/p21-a tools/p21-b; do
+mkdir -p "$tree/man" "$tree/completions" "$tree/docs" "$tree/examples/refused"
+for part in README.md man/p21.1 man/p21-a.1 docs/CODE.md docs/FAULTS.md docs/RECIPES.md docs/SCHEMAS.md completions/p21.bash completions/_p21 \
+    completions/p21.fish completions/p21-a.bash completions/_p21-a completions/p21-a.fish examples/one.step examples/refused/two.step \
+    tools/shared.py tools/p21-a tools/p21-b; do
     echo "$part" > "$tree/$part"
 done
 expect 'each part' 0 "$here/prefix/bin/p21" "$tree/tools/install" "$here/prefix"
@@ -85,13 +87,20 @@ files 'the files of each part' './bin/p21
 ./lib/p21/p21-b
 ./lib/p21/shared.py
 ./share/bash-completion/completions/p21
+./share/bash-completion/completions/p21-a
 ./share/doc/p21/FAULTS.md
 ./share/doc/p21/LICENSE
+./share/doc/p21/README.md
 ./share/doc/p21/RECIPES.md
 ./share/doc/p21/SCHEMAS.md
+./share/doc/p21/examples/one.step
+./share/doc/p21/examples/refused/two.step
+./share/fish/vendor_completions.d/p21-a.fish
 ./share/fish/vendor_completions.d/p21.fish
+./share/man/man1/p21-a.1
 ./share/man/man1/p21.1
-./share/zsh/site-functions/_p21'
+./share/zsh/site-functions/_p21
+./share/zsh/site-functions/_p21-a'
 
 # The tools themselves, with the program that they find beside them.
 rm "$tree"/tools/p21-*
@@ -111,6 +120,7 @@ files 'no file where there is no program' ''
 # A toolchain that has proved one crate before, proves two functions of the program, and builds it.
 cat > "$here/path/rt" <<'END'
 #!/bin/sh
+[ "$*" != version ] || { echo 'a toolchain'; exit; }
 [ "$*" = ci ] && [ -z "$FAILS" ] || { echo 'rt: p21: error'; exit 1; }
 echo 'rt: p21_a is kept: an earlier run on this machine proved the same files over the same libraries'
 printf 'fn p21::%s: proved\n' first second
@@ -118,6 +128,8 @@ echo 'rt: p21 proved'
 mkdir -p crates/p21/out
 printf '#!/bin/sh\necho "built of %s: $*"\n' "$(cd crates && echo *)" > crates/p21/out/p21
 chmod +x crates/p21/out/p21
+echo 'object code' > crates/p21/out/p21.o
+echo '2 passed, 0 failed'
 END
 chmod +x "$here/path/rt"
 for name in tail tee wc mv chmod; do
@@ -130,19 +142,31 @@ expect 'a build that fails' 126 'the program could not be built' env FAILS=1 "$t
 expect 'a build' 0 'p21: p21_a is proved (1 of 2)
 p21: p21 is proved (2 of 2)
 built of p21 p21_a: check s f' env P21_KEEP=1 "$tree/p21" check s f
-rm "$here/path/rt"
+sum=$(cd "$tree/crates/p21/out" && sha256sum p21 p21.o | sed 's/^/file /')
+expect 'what is known of the build' 0 "proved p21_a
+proved p21
+gate 2 passed, 0 failed
+$sum" cat "$tree/crates/p21/out/record"
+expect 'the toolchain of the build' 0 'toolchain a toolchain' cat "$tree/crates/p21/out/record"
+sources() {
+    sh -c 'root=$1; . "$root/tools/building.sh"; sum_of_sources "$root" p21' sources "$tree"
+}
+expect 'the sources of the build' 0 "sources $(sources)" cat "$tree/crates/p21/out/record"
+echo 'fn a() {}' > "$tree/crates/p21_a/src/lib.rt"
+[ "$(sources)" != "$(sed -n 's/^sources //p' "$tree/crates/p21/out/record")" ] || { echo 'other sources have the same checksum' >&2; failed=1; }
+rm "$tree/crates/p21_a/src/lib.rt" "$here/path/rt"
+touch "$tree/crates/p21/out/begun"
 expect 'the program that was built' 0 'built of p21 p21_a: check s f' "$tree/p21" check s f
 
-# A toolchain that proves the library's two crates; and compilers that write what they are told.
-mkdir -p "$here/bin" "$here/c" "$tree/crates/p21_c/src" "$tree/include" "$tree/python/p21"
+# A toolchain that proves the library's two crates; and a compiler and a linker that write what they are told.
+mkdir -p "$here/bin" "$here/toolchain/bin" "$here/c" "$tree/crates/p21_c/src" "$tree/include" "$tree/python/p21"
 touch "$tree/crates/p21_c/src/lib.rt" "$here/c/liblibc_c.a" "$tree/include/p21.h"
 echo 'p21_c staticlib: p21_a' >> "$tree/crates.txt"
-ln -s "$(command -v sed)" "$here/path/sed"
 expect 'no toolchain for the library' 127 'rt of the toolchain is not in PATH' "$tree/tools/build-library" "$here/prefix"
 printf '#!/bin/sh\nprintf "rt: %%s proved\\n" p21_a p21_c\n' > "$here/path/rt"
 printf '#!/bin/sh\n[ -z "$FAILS" ] && echo "$*" > out/libp21_c.a\n' > "$here/bin/rattle"
-printf '#!/bin/sh\necho "$*" > "$3"\n' > "$here/path/cc"
-chmod +x "$here/path/rt" "$here/bin/rattle" "$here/path/cc"
+printf '#!/bin/sh\necho "$*" > "$3"\n' > "$here/toolchain/bin/ld.lld"
+chmod +x "$here/path/rt" "$here/bin/rattle" "$here/toolchain/bin/ld.lld"
 expect 'a library that fails' 126 'the library could not be built' env FAILS=1 "$tree/tools/build-library" "$here/prefix"
 expect 'a library' 0 "p21: p21_c is proved (2 of 2)
 $here/prefix/libp21.so" "$tree/tools/build-library" "$here/prefix"

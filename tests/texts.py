@@ -6,7 +6,7 @@ prints, where `..` stands for lines that are left out. The commands behind `$` o
 program and the tools in its path. Those of a program that isn't there are named and left out.
 
 P21 in the environment, or the first argument, names another program than ./p21. The status is 1 where an answer is
-another one.
+another one, and 77 where something was left out.
 """
 
 import os
@@ -126,14 +126,16 @@ def is_shown(wanted, found):
     return re.fullmatch(pattern, found if found.endswith("\n") or not found else found + "\n") is not None
 
 
-def sessions(folder):
-    """Each command of the pages: what it is, what it should print, what it prints, and whether that is the same."""
+def sessions(folder, left_out):
+    """Each command of the pages: what it is, what it should print, what it prints, and whether that is the same. Programs that
+    commands need and that aren't there are added to those that are left out."""
     for page in pages():
         blocks = []
         for block in blocks_of(page):
             missing = {name for command, _ in block for name in OTHERS if name in command.split() and not shutil.which(name)}
             if missing:
                 print(f"{page.name}: not run, without {' '.join(missing)}: {block[0][0]}")
+                left_out |= missing
             else:
                 blocks.append(block)
         commands = [command for block in blocks for command in block]
@@ -213,6 +215,7 @@ def faults(folder):
 
 def main():
     failed = count = 0
+    left_out = set()
 
     def judge(title, wanted, found, is_right):
         """Counts an answer, and shows it where it is another one."""
@@ -228,10 +231,11 @@ def main():
             found, status = answer(arguments)
             refused = wanted.startswith(("refused", "schema refused", "different", "no #"))
             judge(title, f"{wanted}, status {int(refused)}", f"{found}, status {status}", found == wanted and status == refused)
-        for session in [*sessions(folder), *helps(folder)]:
+        for session in [*sessions(folder, left_out), *helps(folder)]:
             judge(*session)
-    print(f"{count - failed} passed, {failed} failed")
-    return int(failed > 0)
+    without = f"; left out what needs {', '.join(sorted(left_out))}" if left_out else ""
+    print(f"{count - failed} passed, {failed} failed{without}")
+    return 1 if failed else 77 if left_out else 0
 
 
 if __name__ == "__main__":

@@ -23,6 +23,30 @@ newer_sources() {
         -type f -newer "$1" 2> /dev/null
 }
 
+# A checksum of all that the gate reads of a crate and of those below it in a folder: sum_of_sources FOLDER CRATE
+sum_of_sources() (
+    cd "$1" || exit
+    {
+        cat HANDLES
+        for name in $(needed_crates "$2"); do
+            grep "^${name}[ :]" crates.txt
+            find "crates/$name" \( -path "crates/$name/out" -o -path "crates/$name/must-fail" \) -prune -o -type f -exec sha256sum {} + |
+                LC_ALL=C sort -k 2
+        done
+    } | sha256sum | cut -d ' ' -f 1
+)
+
+# What is known of a build of a crate: the toolchain, the sources, each crate that the gate proved, how the gate ended, and the
+# files that were built: record FOLDER CRATE FILE..
+record() (
+    folder=$1 crate=$2 out=$root/crates/$2/out
+    shift 2
+    echo "toolchain $(rt version)"
+    echo "sources $(sum_of_sources "$folder" "$crate")"
+    sed -n -E 's/^rt: ([a-z0-9_]+) (proved|is kept.*)$/proved \1/p; s/^([0-9]+ passed, [0-9]+ failed)$/gate \1/p' "$out/build.log"
+    cd "$out" && sha256sum "$@" | sed 's/^/file /'
+)
+
 # Whether the file that was built of a crate is used as it stands: stands CRATE FILE
 stands() {
     [ -f "$root/crates/$1/out/$2" ] || return
@@ -35,7 +59,8 @@ stands() {
 # The gate runs over a copy of the crates that it needs, without wrong bodies, as many side by side as the machine has
 # processors and memory for. Where the toolchain keeps what it proved, the next build and the whole gate prove only what has
 # changed. FILE is what the gate then leaves in the crate's folder `out`, or what MAKE, a command that is run in the
-# crate's folder, makes there of what is proved.
+# crate's folder, makes there of what is proved. The object code of a program is left beside it, and `record` says what both
+# were built of.
 build() {
     crate=$1 what=$2 file=$3 make=${4:-true}
     out=$root/crates/$crate/out
@@ -70,7 +95,14 @@ build() {
         tail -n 20 "$log" >&2
         return 1
     fi
-    mv -f "$copy/crates/$crate/out/$file" "$out/$file"
+    set --
+    for made in "$crate" "$crate.o" "lib$crate.a"; do
+        [ ! -f "$copy/crates/$crate/out/$made" ] || set -- "$@" "$made"
+    done
+    for made in "$@"; do
+        mv -f "$copy/crates/$crate/out/$made" "$out/$made"
+    done
+    record "$copy" "$crate" "$@" > "$out/record"
     rm -rf "$copy"
 }
 

@@ -8,6 +8,7 @@ import pathlib
 import re
 import shutil
 import subprocess
+import sys
 import tempfile
 from typing import NamedTuple
 
@@ -49,9 +50,10 @@ class Part(NamedTuple):
 
 
 def find_program():
-    """The program: $P21, or the one of this repository, or the one that is installed beside the tools or in the path.
+    """The program: $P21, or the one of this repository, or the one that is installed with the tools, or the one in the path.
 
-    That of the repository is built first, where it is missing or old.
+    That of the repository is built first, where it is missing or old. What is installed stands in the folder of programs above
+    this file, or beside the tool as it was called.
     """
     if os.environ.get("P21"):
         return os.environ["P21"]
@@ -59,8 +61,8 @@ def find_program():
     if (repository / "crates.txt").exists():
         subprocess.run([repository / "p21", "--version"], stdout=subprocess.DEVNULL, check=True)
         return str(repository / "crates" / "p21" / "out" / "p21")
-    installed = HERE.parent.parent / "bin" / "p21"
-    return str(installed) if installed.exists() else shutil.which("p21") or "p21"
+    installed = (HERE.parent.parent / "bin" / "p21", pathlib.Path(sys.argv[0]).parent / "p21")
+    return next((str(path) for path in installed if path.is_file()), None) or shutil.which("p21") or "p21"
 
 
 def line_of(error, status):

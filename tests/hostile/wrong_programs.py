@@ -35,6 +35,8 @@ class Edit:
     says: str
     # Which of two programs of edited sources the script runs. Others read the sources themselves, or run what stands beside.
     program: int = 0
+    # Whether the script looks at what is built in the repository, and at its history.
+    has_builds: bool = False
 
 
 EDITS = [
@@ -119,6 +121,16 @@ EDITS = [
         "Prints the canonical spelling of one parameter.",
         "Prints the canonical spelling of a parameter.",
         "man/p21.1",
+    ),
+    Edit(
+        "release.py",
+        [],
+        "a gate that failed counts as one that passed",
+        "tools/make-release",
+        r'r"\d+ passed, 0 failed"',
+        r'r"\d+ passed, \d+ failed"',
+        "no release: a gate that failed:\n",
+        has_builds=True,
     ),
     Edit(
         "tools_diff.py",
@@ -276,6 +288,16 @@ def copy_of_repository(folder):
     shutil.copytree(ROOT, folder, ignore=shutil.ignore_patterns(".git", "out"), symlinks=True)
 
 
+def add_builds(root):
+    """Gives a copy of the repository what is built in it, and a history of one commit."""
+    for name in ("p21/out/p21", "p21/out/p21.o", "p21_c/out/libp21_c.a"):
+        if (ROOT / "crates" / name).is_file():
+            (root / "crates" / name).parent.mkdir(exist_ok=True)
+            shutil.copy2(ROOT / "crates" / name, root / "crates" / name)
+    for words in (["init", "-q"], ["add", "-A"], ["commit", "-q", "-m", "What stands here"]):
+        subprocess.run(["git", "-c", "user.name=p21", "-c", "user.email=p21@localhost", *words], cwd=root, check=True)
+
+
 def apply(edit, root):
     path = root / edit.file
     text = path.read_text()
@@ -290,6 +312,8 @@ def edited(edits, folder):
     copy_of_repository(root)
     for edit in edits:
         apply(edit, root)
+    if edits[0].has_builds:
+        add_builds(root)
     if not edits[0].program:
         return root, None
     program = pathlib.Path(folder) / "p21"

@@ -1,0 +1,14 @@
+# Completions of p21-table for bash. Made by tools/make-pages from the tool's own options.
+
+_p21_table() {
+    local word=${COMP_WORDS[COMP_CWORD]}
+    COMPREPLY=()
+    case ${COMP_WORDS[COMP_CWORD - 1]}:$word in
+        *:-*) COMPREPLY=($(compgen -W '--help --data --schema --files-from --format --jobs' -- "$word")) ;;
+    esac
+    case ${COMP_WORDS[COMP_CWORD - 1]} in
+        --format) COMPREPLY=($(compgen -W 'text tsv json' -- "$word")) ;;
+        -j | --jobs) compopt +o default ;;
+    esac
+}
+complete -o default -F _p21_table p21-table

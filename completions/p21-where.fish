@@ -1,0 +1,4 @@
+# Completions of p21-where for fish. Made by tools/make-pages from the tool's own options.
+
+complete -c p21-where -s h -l help -d 'Print help'
+complete -c p21-where -l schema -r -F -d 'a further schema, for files that name another one; may be given several times'

@@ -1,0 +1,194 @@
+"""The packages of a release, from its files below a prefix: a tarball, a package of Debian and a wheel.
+
+Each is the same byte for byte for the same files: times are those that are given, owners are root, and the files stand in the
+order in which they are given.
+"""
+
+import base64
+import csv
+import email.message
+import email.policy
+import gzip
+import hashlib
+import io
+import os
+import pathlib
+import re
+import subprocess
+import tarfile
+import tempfile
+import time
+import zipfile
+from typing import NamedTuple
+
+ABOUT = "says whether two STEP files (ISO 10303-21) hold the same model"
+MAINTAINER = "The authors of p21 <p21@localhost>"
+# The version of the C library that wheels and Debian's package name, and what wheels call systems that have it.
+C_LIBRARY = "2.17"
+PLATFORMS = ("manylinux_2_17_x86_64", "manylinux2014_x86_64")
+COPYRIGHT = """\
+Format: https://www.debian.org/doc/packaging-manuals/copyright-format/1.0/
+Upstream-Name: p21
+
+Files: *
+Copyright: the authors of p21
+License: Apache-2.0
+ The text of the license stands in /usr/share/common-licenses/Apache-2.0. The libraries that are linked into the
+ program have licenses of their own, MIT or Apache-2.0: /usr/share/doc/p21/licenses has their texts.
+"""
+# Python keeps what it compiles of the tools beside them.
+BEFORE_REMOVAL = """\
+#!/bin/sh
+set -e
+rm -rf /usr/lib/p21/__pycache__
+"""
+
+
+class Entry(NamedTuple):
+    """A file of a package. A link has the path that it leads to in place of bytes."""
+
+    content: bytes
+    is_program: bool = False
+    leads_to: str = ""
+
+
+def zipped(content):
+    """The bytes, compressed by gzip without a time."""
+    return gzip.compress(content, 9, mtime=0)
+
+
+def tar(path, top, entries, when):
+    """A tar archive below one folder."""
+    plain = io.BytesIO()
+    with tarfile.open(fileobj=plain, mode="w", format=tarfile.USTAR_FORMAT) as archive:
+        for name, entry in entries.items():
+            info = tarfile.TarInfo(f"{top}/{name}")
+            info.mtime, info.mode, info.uname, info.gname = when, 0o755 if entry.is_program else 0o644, "root", "root"
+            if entry.leads_to:
+                info.type, info.linkname, info.mode = tarfile.SYMTYPE, entry.leads_to, 0o777
+            info.size = len(entry.content)
+            archive.addfile(info, io.BytesIO(entry.content))
+    path.write_bytes(zipped(plain.getvalue()))
+
+
+def debian_entries(entries):
+    """The files as Debian has them: completions of zsh where its zsh looks, manual pages packed, and the license told."""
+    found = {}
+    for name, entry in entries.items():
+        name = name.replace("share/zsh/site-functions/", "share/zsh/vendor-completions/")
+        if name.startswith("share/man/"):
+            name, entry = f"{name}.gz", entry._replace(content=zipped(entry.content))
+        if name != "share/doc/p21/LICENSE":
+            found[f"usr/{name}"] = entry
+    found["usr/share/doc/p21/copyright"] = Entry(COPYRIGHT.encode())
+    return dict(sorted(found.items()))
+
+
+def deb(path, version, entries, when):
+    """A package of Debian."""
+    size = sum(-(-len(entry.content) // 1024) for entry in entries.values())
+    control = f"""\
+Package: p21
+Version: {version}
+Architecture: amd64
+Maintainer: {MAINTAINER}
+Installed-Size: {size}
+Depends: libc6 (>= {C_LIBRARY}), python3 (>= 3.8)
+Section: utils
+Priority: optional
+Description: {ABOUT}
+ p21 reads a STEP file in clear text against its EXPRESS schema, checks every
+ instance, and gives the canonical file: one text for each meaning. p21-where,
+ p21-diff and p21-table show where a file is refused, what differs in two, and
+ what holds of many.
+"""
+    sums = "".join(f"{hashlib.md5(entry.content).hexdigest()}  {name}\n" for name, entry in entries.items() if not entry.leads_to)
+    about = {
+        "DEBIAN/control": Entry(control.encode()),
+        "DEBIAN/md5sums": Entry(sums.encode()),
+        "DEBIAN/prerm": Entry(BEFORE_REMOVAL.encode(), True),
+    }
+    with tempfile.TemporaryDirectory() as place:
+        folder = pathlib.Path(place) / "package"
+        for name, entry in {**entries, **about}.items():
+            file = folder / name
+            file.parent.mkdir(parents=True, exist_ok=True)
+            if entry.leads_to:
+                file.symlink_to(entry.leads_to)
+            else:
+                file.write_bytes(entry.content)
+                file.chmod(0o755 if entry.is_program else 0o644)
+        for directory in [folder, *(it for it in folder.rglob("*") if it.is_dir())]:
+            directory.chmod(0o755)
+        # dpkg-deb takes this time for what is newer.
+        times = {**os.environ, "SOURCE_DATE_EPOCH": str(when)}
+        words = ["dpkg-deb", "--root-owner-group", "-Zgzip", "-z9", "--build", folder, path]
+        subprocess.run(words, env=times, stdout=subprocess.DEVNULL, check=True)
+
+
+def wheel_entries(version, settings, root, entries, library):
+    """The files of a wheel: the Python package of a repository with the library in it; the program and the tools as scripts,
+    and what the tools share as modules; and what goes to `share`."""
+    dist, data = f"p21-{version}.dist-info", f"p21-{version}.data"
+    package, project = root / "python/p21", settings["project"]
+    patterns = ["*.py", *settings["tool"]["setuptools"]["package-data"]["p21"]]
+    files = sorted(path for pattern in patterns for path in package.glob(pattern))
+    found = {f"p21/{path.relative_to(package)}": Entry(path.read_bytes()) for path in files}
+    found["p21/libp21.so"] = Entry(library.read_bytes(), True)
+    for name, entry in entries.items():
+        folder, _, base = name.rpartition("/")
+        if name == "bin/p21":
+            found[f"{data}/scripts/p21"] = entry
+        elif folder == "lib/p21" and entry.is_program:
+            # pip puts its own Python in place of this word.
+            script = re.sub(rb"\A#!.*python3\n", b"#!python\n", entry.content)
+            found[f"{data}/scripts/{base}"] = entry._replace(content=script)
+        elif folder == "lib/p21":
+            found[base] = entry
+        elif name.startswith("share/"):
+            found[f"{data}/data/{name}"] = entry
+    about = {
+        "Metadata-Version": "2.1",
+        "Name": project["name"],
+        "Version": version,
+        "Summary": project["description"],
+        "License": project["license"]["text"],
+        "Requires-Python": project["requires-python"],
+        "Description-Content-Type": "text/markdown",
+    }
+    wheel = [("Wheel-Version", "1.0"), ("Generator", "tools/make-release"), ("Root-Is-Purelib", "false")]
+    wheel += [("Tag", f"py3-none-{platform}") for platform in PLATFORMS]
+    readme = (root / "README.md").read_text()
+    found[f"{dist}/LICENSE"] = Entry((root / "LICENSE").read_bytes())
+    found[f"{dist}/METADATA"] = Entry(message(about.items(), readme))
+    found[f"{dist}/WHEEL"] = Entry(message(wheel))
+    return {**found, f"{dist}/RECORD": Entry(listing(found, f"{dist}/RECORD"))}
+
+
+def message(fields, text=""):
+    """Fields as the files of a wheel have them."""
+    found = email.message.EmailMessage(policy=email.policy.EmailPolicy(utf8=True, max_line_length=None))
+    for name, value in fields:
+        found[name] = value
+    return f"{found}\n{text}".replace("\n\n\n", "\n\n", 1).encode()
+
+
+def listing(entries, own):
+    """The list of a wheel: each file with its checksum and size, and the list itself with neither."""
+    text = io.StringIO()
+    rows = csv.writer(text, lineterminator="\n")
+    for name, entry in entries.items():
+        digest = base64.urlsafe_b64encode(hashlib.sha256(entry.content).digest()).rstrip(b"=").decode()
+        rows.writerow([name, f"sha256={digest}", len(entry.content)])
+    rows.writerow([own, "", ""])
+    return text.getvalue().encode()
+
+
+def wheel(path, entries, when):
+    """A wheel."""
+    with zipfile.ZipFile(path, "w") as archive:
+        for name, entry in entries.items():
+            info = zipfile.ZipInfo(name, time.gmtime(when)[:6])
+            info.compress_type, info.create_system = zipfile.ZIP_DEFLATED, 3
+            info.external_attr = (0o100755 if entry.is_program else 0o100644) << 16
+            archive.writestr(info, entry.content, compresslevel=9)
