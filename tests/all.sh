@@ -6,8 +6,10 @@
 #   tests/all.sh [PART..]     PART is the path of a script below tests, as hostile/devices.sh; all parts without one
 #
 # The environment variable P21 names the program; without it, it is the one that ./p21 builds where it is missing or old.
-# Five parts want `rt`: bindings.sh builds the library for C and Python where it is missing or old, release.py links a program,
-# hostile/calls.py builds a program of the libraries without a proof, and fail_alloc.sh and want_of_memory.sh try tests.
+# Seven parts want `rt`: bindings.sh builds the library for C and Python where it is missing or old, release.py links a program,
+# page.py and page_module.py build the page where it is missing or old, hostile/calls.py builds a program of the libraries
+# without a proof, and fail_alloc.sh and want_of_memory.sh try tests. page.py wants Chromium, and page_module.py Node with
+# 64-bit WebAssembly memory.
 
 root=$(cd "$(dirname -- "$(readlink -f -- "$0")")/.." && pwd) || exit
 "${P21:-$root/p21}" --version > /dev/null || exit
@@ -35,7 +37,8 @@ run() {
 }
 
 if [ "$#" -eq 0 ]; then
-    set -- program.sh texts.py definitions.py edits.py refusals.py library.py install.sh pages.sh bindings.sh release.py
+    set -- program.sh texts.py definitions.py edits.py refusals.py library.py install.sh pages.sh bindings.sh release.py \
+        page.py page_module.py
     for tools in tools_*.py; do
         [ ! -e "$tools" ] || set -- "$@" "$tools"
     done

@@ -305,6 +305,14 @@ def kinds(tests):
         ("XML", 1, b"<?xml version='1.0'?>\n<a/>", "this is XML or HTML, and not clear text"),
         ("a program", 20, pathlib.Path("/bin/sh").read_bytes(), None),
         ("a schema", 20, pathlib.Path(SCHEMA).read_bytes(), "this is a schema text: are schema and file exchanged?"),
+        (
+            "a schema behind remarks",
+            7,
+            b"-- a\n(* b *) (* c *)-- d\n" + pathlib.Path(SCHEMA).read_bytes(),
+            "this is a schema text: are schema and file exchanged?",
+        ),
+        ("a long line of dashes", 7, b"-- " * 1000, None),
+        ("many remarks", 20, b"(* a *) " * 500, None),
     ]
     for name, number, data, note in rows:
         path = tests.make("kind", data)

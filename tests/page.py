@@ -1,0 +1,310 @@
+#!/usr/bin/env python3
+"""Opens the page in a headless Chromium and drops files on it.
+
+Over the examples, the refused ones too, and over files that are made by chance, what it shows is what the program, p21-where
+and p21-diff print. Then it is used as people do: with a keyboard, on a phone, without a network, with a job that is stopped,
+with a memory that can't grow, and in a browser that has no 64-bit memory. Where there is a Firefox, the examples are opened
+in it too.
+
+P21 names another program than ./p21. The status is 77 where there is no Chromium.
+"""
+
+import pathlib
+import random
+import re
+import shutil
+import socket
+import subprocess
+import sys
+
+import fuzz
+from plain import commands
+from tooling import ROOT, Tests, file_of
+from web import browser, firefox, making
+
+CASES = 300
+ANSWER = """(() => {
+    const answer = document.getElementById("answer");
+    const texts = (within, selector) => [...within.querySelectorAll(selector)].map((found) => found.textContent);
+    if (answer.hidden || answer.children.length === 0) return null;
+    return {
+        verdict: texts(answer, ".verdict")[0],
+        files: [...answer.querySelectorAll(".file")].map((file) => ({
+            name: file.dataset.name,
+            line: texts(file, ".line")[0],
+            canonical: texts(file, ".canonical")[0] ?? null,
+            lines: texts(file, ".lines")[0]?.split("\\n") ?? null,
+        })),
+        differences: [...answer.querySelectorAll(".differences li")].map(
+            (found) => `${texts(found, ".what")[0]}: ${texts(found, ".value").join(" -> ")}`),
+    };
+})()"""
+SAID = "document.getElementById('said').textContent"
+
+
+class Page:
+    """The page in a browser, with files in a folder of their own whose names are as people see them."""
+
+    def __init__(self, tests, path, *options):
+        self.tests = tests
+        self.folder = tests.here
+        self.browser = browser.Browser(*options)
+        self.open(path)
+
+    def open(self, path):
+        """Opens the page anew, and waits until the program stands ready."""
+        self.browser.open("about:blank")
+        self.browser.open(f"file://{path}")
+        self.browser.wait("document.body.dataset.ready !== undefined || !document.getElementById('unable').hidden")
+
+    def dropped(self, *names):
+        """What the page shows when these files are dropped on it."""
+        self.browser.ask("document.getElementById('answer').replaceChildren()")
+        self.browser.drop([self.folder / name for name in names])
+        return self.browser.wait(ANSWER)
+
+    def program(self, *words):
+        """What the program writes to each stream in that folder, and its status."""
+        done = subprocess.run([self.tests.program, *words], cwd=self.folder, capture_output=True, check=False)
+        return done.stdout.decode("latin-1"), done.stderr.decode("latin-1"), done.returncode
+
+    def tool(self, name, *words):
+        """What a tool prints in that folder, line by line."""
+        command = [ROOT / "tools" / name, *words]
+        return subprocess.run(command, cwd=self.folder, capture_output=True, text=True, check=False).stdout.splitlines()
+
+    def judge_file(self, name, shown, schema, file, places=True):
+        """What the page shows of a file is what the program and p21-where print."""
+        output, error, _ = self.program("check", schema, file)
+        canonical, _, status = self.program("canon", schema, file)
+        wanted = {"line": (output + error).rstrip("\n"), "canonical": canonical if status == 0 else None}
+        found = {key: shown[key] for key in wanted}
+        if places:
+            wanted["lines"] = self.tool("p21-where", schema, file) if status != 0 else None
+            found["lines"] = shown["lines"]
+        self.tests.judge(f"{name}, {file}", wanted, found)
+
+    def judge_pair(self, name, shown, schema, first, second, differ=True):
+        """What the page shows of two files is what the program and p21-diff print."""
+        output, error, _ = self.program("same", schema, first, second)
+        refused = [file for file in shown["files"] if not file["line"].startswith("accepted")]
+        if error:
+            self.tests.judge(f"{name}: one is refused", True, refused != [])
+            return
+        self.tests.judge(f"{name}: the verdict", output, re.match("Same|Different", shown["verdict"])[0].lower() + "\n")
+        if differ:
+            self.tests.judge(f"{name}: differences", self.tool("p21-diff", schema, first, second), shown["differences"])
+
+
+def examples(page):
+    """All examples, alone and in pairs."""
+    schema = "product.exp"
+    steps = ["product.step", "product-other.step", "product-changed.step"]
+    refused = sorted(path.name for path in (ROOT / "examples" / "refused").iterdir())
+    for name in [schema, *steps, *(f"refused/{name}" for name in refused)]:
+        shutil.copy(ROOT / "examples" / name, page.folder)
+    for file in steps + refused:
+        shown = page.dropped(schema, file)
+        page.judge_file("example", shown["files"][0], schema, file)
+    for first in steps:
+        for second in steps + refused[:2]:
+            if first != second:
+                shown = page.dropped(second, schema, first) if second < first else page.dropped(first, second, schema)
+                names = [file["name"] for file in shown["files"]]
+                for file in shown["files"]:
+                    page.judge_file("pair", file, schema, file["name"], places=False)
+                page.judge_pair(f"{first} and {second}", shown, schema, *names)
+
+
+def chance(page):
+    """Files that are made by chance, alone and in pairs."""
+    cases = fuzz.Cases(commands)
+    refused = 0
+    for number in range(CASES):
+        _, texts, _ = cases.case("same" if number % 4 == 3 else "file", random.Random(f"page {number}"))
+        names = ["schema.exp", "first.step", "second.step"][: len(texts)]
+        for name, text in zip(names, texts):
+            page.tests.make(name, text)
+        shown = page.dropped(*names)
+        for file, name in zip(shown["files"], names[1:], strict=True):
+            page.judge_file(f"case {number}", file, names[0], name, places=False)
+            refused += file["canonical"] is None
+        if len(texts) == 3:
+            page.judge_pair(f"case {number}", shown, *names, differ=number % 20 == 3)
+    page.tests.judge("some of the cases are refused", True, CASES // 10 < refused < CASES)
+
+
+def others(page):
+    """A schema that is refused, exchanged files, a file of another kind, and files without a schema."""
+    page.tests.make("refused.exp", "SCHEMA s; ENTITY a; x : foo; END_ENTITY; END_SCHEMA;")
+    shown = page.dropped("refused.exp")
+    page.tests.judge("a schema that is refused", page.tool("p21-where", "refused.exp"), shown["files"][0]["lines"])
+    shutil.copy("/bin/true", page.folder / "program.step")
+    shown = page.dropped("product.exp", "program.step")
+    page.judge_file("a program", shown["files"][0], "product.exp", "program.step")
+    page.browser.choose("#schema", page.folder / "product.step")
+    page.browser.wait("document.querySelector('[data-slot=schema]').textContent.includes('product.step')")
+    shown = page.browser.wait(ANSWER)
+    lines = page.tool("p21-where", "product.step")
+    page.tests.judge("a file in place of the schema", lines, shown["files"][0]["lines"])
+    for slot in ("schema", "first", "second"):
+        page.browser.ask(f"document.querySelector('[data-slot={slot}] .remove')?.click()")
+    page.browser.drop([page.folder / "product.step"])
+    page.browser.wait(f"{SAID} === 'Now the schema is wanted: product.step names PRODUCT_MODEL.'")
+    page.browser.drop([page.folder / "product.exp"])
+    shown = page.browser.wait(ANSWER)
+    page.judge_file("the schema behind the file", shown["files"][0], "product.exp", "product.step")
+
+
+def large(page):
+    """A large file has a progress bar, and can be stopped; the next job is answered as ever."""
+    head, end = file_of("MARK", [("PRODUCT_MODEL", "DEMO")]).encode().split(b"MARK")
+    shutil.copy(ROOT / "examples" / "demo.exp", page.folder)
+    with open(page.folder / "large.step", "wb") as file:
+        file.write(head)
+        for _ in range(640):
+            file.write(b" " * (1 << 20))
+        file.write(end)
+    page.browser.drop([page.folder / "demo.exp", page.folder / "large.step"])
+    page.browser.wait("document.getElementById('progress').value > 0 && !document.getElementById('work').hidden")
+    said = page.browser.ask("document.getElementById('doing').textContent")
+    page.tests.judge("how far it is", True, re.fullmatch(r"large\.step: [\d.]+ [kM]B of 671 MB", said) is not None)
+    page.browser.ask("document.getElementById('stop').click()")
+    page.tests.judge("stopped", "Stopped. Start again", page.browser.ask(SAID))
+    page.tests.judge("no answer", None, page.browser.ask(ANSWER))
+    page.tests.judge("no bar", True, page.browser.ask("document.getElementById('work').hidden"))
+    (page.folder / "large.step").unlink()
+    shown = page.dropped("product.exp", "product.step")
+    page.judge_file("after a stop", shown["files"][0], "product.exp", "product.step")
+
+
+def people(page):
+    """A keyboard, a screen reader, a phone, and what the page says of itself."""
+    tests, tab = page.tests, page.browser
+    tab.ask("document.activeElement.blur(); scrollTo(0, 0)")
+    page.open(page.path)
+    order = []
+    for _ in range(4):
+        tab.press("Tab", 9)
+        order.append(tab.ask("document.activeElement.id || document.activeElement.textContent"))
+    tests.judge("where Tab leads", ["schema", "first", "second", "A block, written in two ways"], order)
+    tab.press("Enter", 13, "\r")
+    tests.judge("Enter on an example", "Same", page.browser.wait(ANSWER)["verdict"][:4])
+    tests.judge("what is said", "Same. Both files hold the same model.", tab.ask(SAID))
+    tab.press("Tab", 9)
+    tab.press(" ", 32, " ")
+    tab.wait(f"{SAID} === 'Different. 1 difference.'")
+    nodes = tab.call("Accessibility.getFullAXTree")["nodes"]
+    named = [(node["role"]["value"], node.get("name", {}).get("value")) for node in nodes if not node["ignored"]]
+    for role, name in (
+        ("heading", "p21"),
+        ("main", ""),
+        ("status", ""),
+        ("heading", "Different"),
+        ("button", "Take product.step away"),
+        ("button", "Save as text"),
+    ):
+        tests.judge(f"a reader hears {role} {name}", True, (role, name) in named)
+    unnamed = [role for role, name in named if role in ("button", "textbox", "link", "progressbar", "region") and not name]
+    tests.judge("what has no name", [], unnamed)
+    for width in (320, 390, 1280):
+        tab.look(width=width)
+        fits = tab.ask("document.documentElement.scrollWidth <= innerWidth")
+        tests.judge(f"nothing stands beside a width of {width}", True, fits)
+    tab.look()
+    version = page.program("--version")[0].strip()
+    tests.judge("the version", version, tab.ask("document.getElementById('version').textContent"))
+    checksum = subprocess.run([ROOT / "tools" / "build-page", "--sources"], capture_output=True, text=True, check=True).stdout
+    tests.judge("the checksum", checksum.strip(), tab.ask("document.getElementById('checksum').textContent"))
+    words = "What runs here is WebAssembly: the same sources as the proved program’s, through LLVM’s other backend."
+    module = tab.ask("document.getElementById('module').textContent")
+    tests.judge("what the module is", True, module.endswith(words))
+    tests.judge("the mark", page.is_unproved, module.startswith("Unproved. "))
+
+
+def network(page):
+    """The page has no way to the network."""
+    with socket.create_server(("127.0.0.1", 0)) as server:
+        server.settimeout(0.5)
+        address = f"http://127.0.0.1:{server.getsockname()[1]}/"
+        script = f"""Promise.all([
+            fetch("{address}").then(() => "fetched", () => "refused"),
+            new Promise((done) => {{ const image = new Image(); image.onload = () => done("loaded");
+                image.onerror = () => done("refused"); image.src = "{address}"; }}),
+        ])"""
+        page.tests.judge("a request", ["refused", "refused"], page.browser.ask(script))
+        try:
+            server.accept()
+            page.tests.judge("a connection", "none", "one")
+        except TimeoutError:
+            page.tests.judge("a connection", "none", "none")
+
+
+def want_of_memory(page):
+    """A memory that can't grow: the page says so in the program's words."""
+    module = page.tests.make("limited.wasm", making.limited(making.MODULE.read_bytes(), 16))
+    limited = page.folder / "limited.html"
+    making.make_page(limited, module)
+    points = "\n".join(f"#{number}=POINT($,1.,1.);" for number in range(1, 100001))
+    page.tests.make("points.step", file_of(points, [("PRODUCT_MODEL", "DEMO")]))
+    page.open(limited)
+    shown = page.dropped("demo.exp", "points.step")
+    page.tests.judge("want of memory", ["out of memory"], shown["files"][0]["lines"])
+    shown = page.dropped("product.exp", "product.step")
+    page.judge_file("after want of memory", shown["files"][0], "product.exp", "product.step")
+
+
+def without_memory(page):
+    """Where the browser has no 64-bit memory, the page says so. No switch of this browser takes it away, so a script does."""
+    script = "WebAssembly.validate = () => false"
+    page.browser.call("Page.addScriptToEvaluateOnNewDocument", source=script)
+    page.open(page.path)
+    page.tests.judge("a browser without it", True, page.browser.ask("document.getElementById('unable').checkVisibility()"))
+    page.tests.judge("nothing to choose", True, page.browser.ask("document.getElementById('choose').inert"))
+
+
+def in_firefox(page):
+    """The examples in Firefox, where it is: files are chosen there, and the answers are those of the program."""
+    if not firefox.found():
+        print("there is no Firefox")
+        return
+    chromium, page.browser = page.browser, firefox.Firefox()
+    try:
+        page.open(page.path)
+        page.browser.choose("#schema", page.folder / "product.exp")
+        for path in [page.folder / "product-other.step", *sorted((ROOT / "examples" / "refused").iterdir())]:
+            page.browser.ask("document.getElementById('answer').replaceChildren()")
+            page.browser.choose("#first", page.folder / path.name)
+            shown = page.browser.wait(ANSWER)
+            page.judge_file("in Firefox", shown["files"][0], "product.exp", path.name)
+        page.browser.ask("document.getElementById('answer').replaceChildren()")
+        page.browser.choose("#first", page.folder / "product.step")
+        page.browser.wait(ANSWER)
+        page.browser.choose("#second", page.folder / "product-changed.step")
+        shown = page.browser.wait(f"{SAID}.startsWith('Different') && {ANSWER}")
+        page.judge_pair("in Firefox", shown, "product.exp", "product.step", "product-changed.step")
+    finally:
+        page.browser.close()
+        page.browser = chromium
+
+
+def main():
+    if not browser.found():
+        making.skipped("there is no Chromium")
+    tests = Tests("page")
+    path = tests.here / "p21.html"
+    said = making.make_page(path)
+    page = Page(tests, path)
+    page.path = path
+    page.is_unproved = "unproved" in said
+    try:
+        for group in (examples, chance, others, large, people, network, in_firefox, want_of_memory, without_memory):
+            group(page)
+    finally:
+        page.browser.close()
+    tests.end()
+
+
+if __name__ == "__main__":
+    sys.path.insert(0, str(pathlib.Path(__file__).resolve().parent))
+    main()

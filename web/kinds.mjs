@@ -1,0 +1,23 @@
+// What a text is by its first bytes, and whether this browser can run the program. Both the page and its workers ask.
+
+export const STEP_FILE = /^[\t-\r ]*ISO-10303-21/;
+export const SCHEMA_TEXT = /^(?:[\t-\r ]|\(\*(?:(?!\*\)).)*\*\)|--[^\n]*(?:\n|$))*SCHEMA\b/is;
+
+/** Is the text a schema, a STEP file, or neither by how it begins? */
+export function kindOf(front) {
+  if (SCHEMA_TEXT.test(front)) return "schema";
+  return STEP_FILE.test(front) ? "file" : null;
+}
+
+/** The name of the schema that a STEP file names in its header, which has to stand in the text. */
+export function namedSchema(front) {
+  return /\bFILE_SCHEMA\s*\(\s*\(\s*'\s*([^'\s{]*)/.exec(front)?.[1] ?? null;
+}
+
+/** A module with a memory of 64 bits and nothing else. */
+const WIDE_MEMORY = Uint8Array.of(0, 0x61, 0x73, 0x6d, 1, 0, 0, 0, 5, 3, 1, 4, 1);
+
+/** Can this browser run the program? */
+export function hasWideMemory() {
+  return typeof WebAssembly === "object" && WebAssembly.validate(WIDE_MEMORY);
+}

@@ -1,0 +1,184 @@
+// How the text of a statement is read, as in tools/p21_reading.py. Texts are strings with a character for each byte.
+
+import { Trouble } from "./program.mjs";
+
+const PIECE = 1 << 14;
+
+/** A text of bytes as a string with a character for each. */
+export function textOf(bytes) {
+  const pieces = [];
+  for (let at = 0; at < bytes.length; at += PIECE) {
+    pieces.push(String.fromCharCode.apply(null, bytes.subarray(at, at + PIECE)));
+  }
+  return pieces.join("");
+}
+
+/** The bytes of such a string. */
+export function bytesOf(text) {
+  const bytes = new Uint8Array(text.length);
+  for (let at = 0; at < text.length; at++) bytes[at] = text.charCodeAt(at);
+  return bytes;
+}
+
+/** The characters of a text in UTF-8; what a byte stands for that belongs to none says `otherwise`. */
+export function characters(text, otherwise) {
+  const found = [];
+  for (let at = 0; at < text.length; ) {
+    const size = sizeOfCharacter(text, at);
+    found.push(size ? decoded(text, at, size) : otherwise(text.charCodeAt(at)));
+    at += size || 1;
+  }
+  return found;
+}
+
+/** The character of so many bytes at a place. */
+function decoded(text, at, size) {
+  if (size === 1) return text[at];
+  return new TextDecoder("utf-8", { ignoreBOM: true }).decode(bytesOf(text.slice(at, at + size)));
+}
+
+/** How many bytes the character at a place has, or 0 where none begins. */
+function sizeOfCharacter(text, at) {
+  const first = text.charCodeAt(at);
+  if (first < 0x80) return 1;
+  if (first < 0xc2 || first > 0xf4) return 0;
+  const size = first < 0xe0 ? 2 : first < 0xf0 ? 3 : 4;
+  const least = { 0xe0: 0xa0, 0xf0: 0x90 }[first] ?? 0x80;
+  const most = { 0xed: 0x9f, 0xf4: 0x8f }[first] ?? 0xbf;
+  for (let behind = 1; behind < size; behind++) {
+    const byte = text.charCodeAt(at + behind);
+    if (!(byte >= (behind === 1 ? least : 0x80) && byte <= (behind === 1 ? most : 0xbf))) return 0;
+  }
+  return size;
+}
+
+/** What `p21 schema` prints: the schema's name, each entity's attributes in order, and which entities are abstract. */
+export function listing(program, schema) {
+  const answer = program.run(["schema", "--", "schema"], { schema });
+  if (answer.status !== 0) throw new Trouble(answer.error);
+  const [first, ...lines] = textOf(answer.output).trimEnd().split("\n");
+  const found = { name: first.split(" ")[1], attributes: new Map(), abstract: new Set() };
+  for (const line of lines) {
+    const [, abstract, name, attributes] = /^(ABSTRACT )?(\w+)\((.*)\)$/.exec(line);
+    found.attributes.set(name, attributes ? attributes.split(",") : []);
+    if (abstract) found.abstract.add(name);
+  }
+  return found;
+}
+
+/**
+ * The names of the attributes for which the values of a part stand.
+ *
+ * An instance of one part has the values of all attributes. One of several has those that the entity itself declares, which
+ * are the last ones.
+ */
+export function namesOfValues(attributes, part, alone) {
+  let names = attributes.get(part.key) ?? [];
+  if (!alone) names = names.slice(Math.max(names.length - part.values.length, 0));
+  const surplus = Math.max(part.values.length - names.length, 0);
+  return [...names.slice(0, part.values.length), ...Array(surplus).fill("?")];
+}
+
+// --- Statements ---
+
+// A string up to its end. In it `''`, `\\` and `\S\` with any character go together, and no text matches in two ways.
+const STRING = /'[^'\\]*(?:(?:''|\\S\\[ -~]|\\\\|\\(?!\\|S\\[ -~]))[^'\\]*)*'(?!')/.source;
+const REMARK = /\/\*.*?\*\//.source;
+const LEXEME = new RegExp(`[\\0- \\x7f]+|${REMARK}|(${STRING}|"[^"]*"|[^\\0- \\x7f(),;='"/]+|.)`, "gs");
+
+/** The words and signs of a text with their places. */
+export function lexemes(text) {
+  const found = [];
+  for (const match of text.matchAll(LEXEME)) {
+    if (match[1] !== undefined) found.push({ text: match[1], start: match.index, end: match.index + match[1].length });
+  }
+  return found;
+}
+
+/** The words and signs of a text, of which one after the other is taken. */
+class Lexemes {
+  constructor(text) {
+    this.found = lexemes(text);
+    this.at = 0;
+  }
+
+  /** The next one without taking it; behind the last one an empty text. */
+  next() {
+    return this.found[this.at]?.text ?? "";
+  }
+
+  /** The next one with its place. A text that ends here is no statement. */
+  take() {
+    if (this.at === this.found.length) throw new Trouble("the text ends inside a statement");
+    return this.found[this.at++];
+  }
+}
+
+/** The parts of an instance or header record, of which the text has its right parentheses. */
+export function readParts(text) {
+  const words = new Lexemes(text);
+  if (words.next().startsWith("#")) {
+    words.take();
+    words.take();
+  }
+  if (words.next() !== "(") return [readPart(words)];
+  words.take();
+  const parts = [];
+  while (words.next() !== ")") parts.push(readPart(words));
+  return parts;
+}
+
+/** A keyword and the values in parentheses behind it, with the place of the `)`. */
+function readPart(words) {
+  const key = words.take();
+  words.take();
+  const { values, end } = readValues(words);
+  return { key: key.text, start: key.start, values, end };
+}
+
+/** The values up to the `)` of a `(` that is taken, and the place of that `)`. */
+function readValues(words) {
+  const values = [];
+  while (words.next() !== ")" && words.next() !== "") {
+    values.push(readValue(words));
+    if (words.next() === ",") words.take();
+  }
+  return { values, end: words.take().start };
+}
+
+/** One value by its place: a scalar, a list, or a keyword with a value in parentheses; `inner` are the values in it. */
+function readValue(words) {
+  const first = words.take();
+  if (first.text !== "(") {
+    if (words.next() !== "(") return { start: first.start, end: first.end, inner: [] };
+    words.take();
+  }
+  const { values, end } = readValues(words);
+  return { start: first.start, end: end + 1, inner: values };
+}
+
+// --- Texts for people ---
+
+/** The number of the line in which a place stands. */
+export function lineNumber(bytes, at) {
+  let number = 1;
+  for (let end = bytes.indexOf(10); end >= 0 && end < at; end = bytes.indexOf(10, end + 1)) number++;
+  return number;
+}
+
+/** The text around a place; `..` stands for what is left out. */
+export function shortened(text, at, width = 100) {
+  const signs = [...text];
+  if (signs.length <= width) return text;
+  const start = Math.min(Math.max(at - Math.floor(width / 2), 0), signs.length - width);
+  const front = start > 0 ? ".. " : "";
+  const back = start + width < signs.length ? " .." : "";
+  return front + signs.slice(start, start + width).join("") + back;
+}
+
+/** Bytes as a text on one line, with signs that can't be shown by their numbers. */
+export function clean(text) {
+  const numbered = (sign) => `\\x${sign.codePointAt(0).toString(16).padStart(2, "0")}`;
+  const line = characters(text, (byte) => `\\x${byte.toString(16)}`).join("").replace(/[ \t\r\n]+/g, " ");
+  return line.replace(/(?! )[\p{C}\p{Z}]/gu, numbered);
+}
