@@ -37,13 +37,14 @@ run() {
 }
 
 if [ "$#" -eq 0 ]; then
-    set -- program.sh texts.py definitions.py edits.py refusals.py library.py install.sh pages.sh bindings.sh release.py \
+    set -- program.sh texts.py definitions.py edits.py refusals.py patterns.py library.py install.sh pages.sh bindings.sh release.py \
         page.py page_module.py
     for tools in tools_*.py; do
         [ ! -e "$tools" ] || set -- "$@" "$tools"
     done
     set -- "$@" hostile/devices.sh hostile/changing.py hostile/transfers.py hostile/large.py hostile/stack.py \
-        hostile/memory.py hostile/allocations.py hostile/calls.py fail_alloc.sh want_of_memory.sh two_ways.py fuzz.py
+        hostile/memory.py hostile/allocations.py hostile/calls.py fail_alloc.sh want_of_memory.sh two_ways.py fuzz.py \
+        guided.sh growth.sh ways.py hostile/larger.py
 fi
 for part in "$@"; do
     case $part in

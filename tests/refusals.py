@@ -3,7 +3,8 @@
 tools/make-refusals makes what the program says of them, is compared with the titles of its sections and with what the pages
 show, with the code (crates/*/src/fault.rt) and the definitions that its contracts cite (crates/*/specs/Fault.antt), and
 with include/p21.h, python/p21/_faults.py and tests/plain/refusal.py. So are the names and numbers of what is left out, by the
-table in the section of LeftOut. The status is 1 where one differs, is missing or isn't listed.
+table in the section of LeftOut. The sentence of each fault of each crate is compared with tests/sentences.txt. The status is
+1 where one differs, is missing or isn't listed.
 """
 
 import pathlib
@@ -18,6 +19,10 @@ CODE = {
     "files": ("p21_values", "p21_tokens", "p21_grammar", "p21_mapping_faults", "p21_stream_statements"),
     "schemas": ("p21_express_lexemes", "p21_express_outline"),
 }
+
+# An attribute of thiserror with its text, and below it the fault: a case of an enumeration, or a type of its own.
+SENTENCE = re.compile(r'#\[error\("([^"]*)"\)\]\n\s*(?:pub struct )?(\w+)')
+SENTENCES = "tests/sentences.txt"
 
 # What a place doesn't have: what the program alone says, or the library of values; and, in the plain reader, limits and the
 # machine.
@@ -124,6 +129,26 @@ def absent_numbers():
     yield "python/p21/_faults.py, ABSENT", {name: str(number) for number, name in python["ABSENT"].items()}
 
 
+def sentences():
+    """The sentence of each fault of the code, by its crate, its enumeration and its case."""
+    for path in sorted(ROOT.glob("crates/*/src/**/*.rt")):
+        enumeration = ""
+        for line in re.split(r"^(?=pub enum )", path.read_text(), flags=re.M):
+            enumeration = (re.findall(r"^pub enum (\w+)", line) or [enumeration])[0]
+            for sentence, case in SENTENCE.findall(line):
+                fault = case if f"struct {case}" in line else f"{enumeration}::{case}"
+                yield f"{path.parts[len(ROOT.parts) + 1]} {fault}", sentence
+
+
+def wrong_in_sentences():
+    """What differs from the table of sentences."""
+    known = dict(line.split(": ", 1) for line in read(SENTENCES).splitlines())
+    found = dict(sentences())
+    for fault in sorted(known.keys() | found.keys()):
+        if known.get(fault) != found.get(fault):
+            yield f"{fault}: the code says {found.get(fault)!r}, and {SENTENCES} {known.get(fault)!r}"
+
+
 def wrong_in_places():
     """What stands twice in the list, and what differs from it."""
     known = dict(listed())
@@ -151,13 +176,14 @@ def wrong_in_absent():
 
 
 def main():
-    wrong = [*wrong_in_places(), *wrong_in_absent()]
+    wrong = [*wrong_in_places(), *wrong_in_absent(), *wrong_in_sentences()]
     for line in wrong:
         print(line)
     count, absent = len(listed()), len(left_out())
     of = sum(1 for _, pairs, _ in places() if pairs) + sum(1 for _ in absent_places()) + sum(1 for _ in absent_numbers())
-    print(f"{count} refusals, {absent} forms left out, {of} places, {len(wrong)} failed")
-    return int(bool(wrong) or not count or not absent)
+    said = len(dict(sentences()))
+    print(f"{count} refusals, {absent} forms left out, {of} places, {said} sentences, {len(wrong)} failed")
+    return int(bool(wrong) or not count or not absent or not said)
 
 
 if __name__ == "__main__":

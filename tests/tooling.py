@@ -5,9 +5,12 @@ import pathlib
 import subprocess
 import sys
 import tempfile
+import time
 
 ROOT = pathlib.Path(__file__).resolve().parent.parent
 SCHEMA = "examples/product.exp"
+# A tool that takes longer never ends.
+MOST_SECONDS = 300
 
 # The files that stand in the repository are named from its top.
 os.chdir(ROOT)
@@ -53,8 +56,25 @@ class Tests:
         """What the tool writes to each stream, and its status. It is given a text by a pipe, or an open file."""
         command = [f"tools/{self.tool}", *(argument.format(here=self.here) for argument in arguments)]
         given = {"input": text} if file is None else {"stdin": file}
-        done = subprocess.run(command, capture_output=True, check=False, **given)
+        done = subprocess.run(command, capture_output=True, check=False, timeout=MOST_SECONDS, **given)
         return done.stdout.decode(), done.stderr.decode(), done.returncode
+
+    def full_disk(self, arguments):
+        """What the tool says where nothing can be written to its output, and its status."""
+        with open("/dev/full", "wb") as full:
+            done = subprocess.run([f"tools/{self.tool}", *arguments], stdout=full, stderr=subprocess.PIPE, check=False)
+        return done.stderr.decode(), done.returncode
+
+    def peak(self, arguments):
+        """The megabytes that the tool itself takes at most, without those of the program."""
+        command = [f"tools/{self.tool}", *arguments]
+        run = subprocess.Popen(command, stdout=subprocess.DEVNULL, stderr=subprocess.DEVNULL)
+        found = 0
+        while run.poll() is None:
+            status = pathlib.Path(f"/proc/{run.pid}/status").read_text().split()
+            found = max(found, int(status[status.index("VmHWM:") + 1]) if "VmHWM:" in status else 0)
+            time.sleep(0.01)
+        return found / 1000
 
     def judge(self, name, wanted, found):
         """One row: what is found is what is wanted."""

@@ -3,9 +3,14 @@
 
 import hashlib
 import json
+import os
+import runpy
 import subprocess
+import sys
 
 from tooling import ROOT, SCHEMA, Tests, file_of
+
+sys.path.insert(0, str(ROOT / "tools"))
 
 BLOCK = "5d11fa2abae65fa2bff1265d357ae88c5adf85242cd77e53a1c8b9877eff411c"
 CHANGED = "2c7249104ea26fc6fa7c66495f8df8c2bf8f9ed06ab1ca0553e38d142f7e1c20"
@@ -128,6 +133,51 @@ def names(tests):
     tests.judge("a list from standard input", (2, 0), (len(output.splitlines()), status))
 
 
+def controls(tests):
+    """Names with control characters, and one that isn't UTF-8: one row for each in every form, and no escape."""
+    file = file_of("")
+    written = {"a\x1b[31m.step": "a\\x1b[31m.step", "b\naccepted.step": "b\\naccepted.step", "c\udcff.step": "c\\xff.step"}
+    for name in written:
+        (tests.here / "named").mkdir(exist_ok=True)
+        tests.make(f"named/{name}", file)
+    folder = f"{tests.here}/named"
+    for form in ("text", "tsv", "json"):
+        output, error, status = tests.run(["--format", form, SCHEMA, folder, f"{folder}/none\x1b.step"])
+        lines = output.splitlines()[form == "tsv" :]
+        tests.judge(f"{form}: rows", (4, False, 3), (len(lines), any(sign in output + error for sign in "\x1b\udcff"), status))
+        if form == "json":
+            found = [json.loads(line)["file"] for line in lines[:3]]
+            tests.judge("names in JSON", [f"{folder}/{name}" for name in written], found)
+            continue
+        found = [line.split("\t")[:2] if form == "tsv" else line.split()[:2] for line in lines[:3]]
+        tests.judge(f"{form}: names", [[f"{folder}/{name}", "accepted"] for name in written.values()], found)
+        missing = f"{folder}/none\\x1b.step".replace("\\", "\\\\") if form == "tsv" else f"{folder}/none\\x1b.step"
+        tests.judge(f"{form}: a file that isn't there", True, f"cannot open {folder}/none" in lines[3] and missing.replace("\\\\", "\\") in lines[3])
+        command = next(line for line in error.splitlines() if line.startswith("the same: ")).removeprefix("the same: ")
+        named = subprocess.run(["bash", "-c", f"printf '%s\\0' {command}"], capture_output=True, check=True).stdout
+        wanted = [os.fsencode(f"{folder}/{name}") for name in written]
+        tests.judge(f"{form}: names as words of a shell", wanted, named.split(b"\0")[:-1])
+
+
+def full_disk(tests):
+    """An output to which nothing can be written."""
+    error = "p21-table: [Errno 28] No space left on device\n"
+    for form in ("text", "tsv", "json"):
+        tests.judge(f"a full disk, {form}", (error, 2), tests.full_disk(["--format", form, SCHEMA, "examples/product.step"]))
+
+
+def headers(tests):
+    """The hash of the data alone where the end of the header stands in two pieces of what the program writes."""
+    tool = runpy.run_path(str(ROOT / "tools" / "p21-table"))
+    text = b"HEADER;\nA();\nENDSEC;\nDATA;\n#1=A();\n#2=A();\nENDSEC;\n"
+    behind = hashlib.sha256(text.partition(b"\nENDSEC;\n")[2]).hexdigest()
+    for size in range(1, 20):
+        found = tool["Canonical"](True)
+        for at in range(0, len(text), size):
+            found.add(text[at : at + size])
+        tests.judge(f"pieces of {size} bytes", (behind, 2), (found.hash.hexdigest(), found.instances))
+
+
 def pipes(tests):
     """The schema or a file from a pipe, and a file as standard input."""
     step = ROOT / "examples" / "product.step"
@@ -150,6 +200,9 @@ def main():
     schemas(tests)
     names(tests)
     pipes(tests)
+    controls(tests)
+    full_disk(tests)
+    headers(tests)
     refused = "examples/product.step: schema refused S2 Syntax"
     tests.expect("exchanged arguments", ["examples/product.step", SCHEMA], 2, [], f"p21-table: {refused}")
     tests.expect("no file", [SCHEMA], 2, [], "p21-table: no file is named")

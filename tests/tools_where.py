@@ -394,9 +394,132 @@ def changed(tests):
         tests.judge(name, (line, status == 1, "", status), (lines[0], has_place, error, found))
 
 
+# A schema whose sets hold lists, in which elements may be equal.
+SETS = "SCHEMA s; ENTITY a; x : SET OF LIST OF INTEGER; y : SET OF SET OF INTEGER; END_ENTITY; END_SCHEMA;"
+EQUALS = [
+    ("a list again", "#1=A(((1,1),(2),«(1,01)»),());"),
+    ("equal elements of an inner set", "#1=A(((1,1)),((1,2),(3,«+3»),(4)));"),
+    ("equal elements of the last set", "#1=A((),((1,2),(1,3,«1»)));"),
+    ("the last set again", "#1=A((),((1,2),(1,3),«(1,2)»));"),
+]
+
+
+def equals(tests):
+    """The second of two equal elements, where those of a list may be equal."""
+    schema = tests.make("sets.exp", SETS)
+    for name, instances in EQUALS:
+        text, place, marked = unmarked(file_of(instances, [("PRODUCT_MODEL", "S")]))
+        found = tests.run([schema, tests.make("sets.step", text)])[0]
+        tests.judge(name, ("refused 52 NotDistinct in #1", place, marked), parts(found)[:3])
+
+
+# Texts that a pattern could take very many ways through, that have very many digits, or that are deep.
+STRANGE = [
+    ("60 dashes", b"-" * 60),
+    ("dashes and remarks", b"--(**)" * 700),
+    ("remarks that are open", b"/*" * 100_000),
+    ("an apostrophe behind many", b"'" * 100_001),
+    ("backslashes", b"#1=A('" + b"\\" * 100_001),
+    ("parentheses", b"ISO-10303-21;" + b"(" * 100_000),
+]
+DIGITS = [
+    ("a name of 5,000 digits", "#" + "9" * 5000 + "=POINT($,1.,1.);", "refused 10 NameRange at statement 8"),
+    ("a name behind 5,000 zeros", "#" + "0" * 5000 + "1=POINT($,1.,2);", "refused 49 WrongKind in #1"),
+    ("a reference behind 5,000 zeros", "#1=CLOUD((#" + "0" * 5000 + "7),(),(TALLY(1)));", "refused 56 Dangling in #1"),
+    ("a number of 5,000 digits", "#1=CLOUD((),(),(TALLY(1),TALLY(" + "9" * 5000 + "),TALLY(1)));", "refused 52 NotDistinct in #1"),
+]
+
+
+def strange(tests):
+    """Texts of strangers are read to their end: as a file, and as a schema."""
+    for name, data in STRANGE:
+        path = tests.make("strange", data)
+        line, status = program_line(tests, SCHEMA, path)
+        output, error, found = tests.run([SCHEMA, path])
+        tests.judge(f"{name}, a file", (line, "", status), (output.splitlines()[0], error, found))
+        output, error, found = tests.run([path])
+        tests.judge(f"{name}, a schema", ("schema refused", "", 1), (output[:14], error, found))
+    for name, instance, wanted in DIGITS:
+        path = tests.make("digits.step", file_of(instance, [("PRODUCT_MODEL", "DEMO")]))
+        output, error, status = tests.run([DEMO, path])
+        has_place = re.fullmatch(re.escape(path) + r":8:\d+", output.splitlines()[1]) is not None
+        tests.judge(name, (wanted, True, "", 1), (output.splitlines()[0], has_place, error, status))
+
+
+# Of texts twice and three times as long: how many bytes of memory one more byte takes at most.
+MOST_MEMORY = 4
+
+
+def memory(tests):
+    """The memory that grows with a text: lists, strings, parts, references and words."""
+    lists = "SCHEMA s; ENTITY a; x : LIST OF INTEGER; y : LIST OF a; END_ENTITY; END_SCHEMA;"
+    schema = tests.make("lists.exp", lists)
+    rows = [
+        ("elements", lambda n: "#1=A((" + "1," * n + "'x'),());"),
+        ("apostrophes", lambda n: "#1=A('" + "''" * n + "',());"),
+        ("remarks", lambda n: "/**/" * n + "#1=A('',());"),
+        ("references", lambda n: "#1=A((),(" + "#1," * n + "#2));"),
+        ("parts", lambda n: "#1=(" + "A((),())" * n + ");"),
+        ("values too many", lambda n: "#1=A(" + "1," * n + "1);"),
+    ]
+    for name, made in rows:
+        sizes, peaks = [], []
+        for count in (200_000, 600_000):
+            path = tests.make("long.step", file_of(made(count), [("PRODUCT_MODEL", "S")]))
+            sizes.append(pathlib.Path(path).stat().st_size / 1e6)
+            peaks.append(tests.peak([schema, path]))
+        grown = (peaks[1] - peaks[0]) / (sizes[1] - sizes[0])
+        tests.judge(f"memory, {name}: {grown:.1f} bytes a byte", True, grown <= MOST_MEMORY)
+    for name, made in (("words", lambda n: ";" * n), ("names", lambda n: ",".join(f"a{k}" for k in range(n // 4)) + ",a1 : REAL;")):
+        sizes, peaks = [], []
+        for count in (200_000, 800_000):
+            path = tests.make("long.exp", f"SCHEMA s; ENTITY a; {made(count)} END_ENTITY; END_SCHEMA;")
+            sizes.append(pathlib.Path(path).stat().st_size / 1e6)
+            peaks.append(tests.peak([path]))
+        grown = (peaks[1] - peaks[0]) / (sizes[1] - sizes[0])
+        tests.judge(f"memory, {name} of a schema: {grown:.1f} bytes a byte", True, grown <= MOST_MEMORY)
+
+
+def controls(tests):
+    """Names and texts with control characters are printed without them, and so is what the program says of them."""
+    name = "a\x1b[31m\n\udcff.step"
+    written = "a\\x1b[31m\\n\\xff.step"
+    text = file_of("#1=POINT('\x1b]0;x\x07',1.,2);", [("PRODUCT_MODEL", "DEMO")])
+    path = tests.make(name, text)
+    shown = f"{tests.here}/{written}"
+    line, _ = program_line(tests, DEMO, tests.make("plain.step", text))
+    found = tests.run([DEMO, path])
+    tests.judge("a name with an escape, and one that isn't UTF-8", (line, shown), (found[0].splitlines()[0], found[0].splitlines()[1].rsplit(":", 2)[0]))
+    tests.judge("a text with an escape", (False, "", 1), ("\x1b" in found[0] or "\x07" in found[0], *found[1:]))
+    schema = tests.make("remark.exp", "SCHEMA s; ENTITY a; x : (* \x1b[2J *) REAL; END_ENTITY; END_SCHEMA;")
+    made = tests.make("made.step", file_of("#1=A('');", [("PRODUCT_MODEL", "S")]))
+    tests.judge("a schema with an escape", "  > X  ''\n       x : (* \\x1b[2J *) REAL;\n", tests.run([schema, made])[0].partition("  A\n")[2])
+    missing = tests.run([SCHEMA, f"{tests.here}/none\x1b[1m\n"])
+    tests.judge("a file that isn't there", (f"cannot open {tests.here}/none\\x1b[1m\\n\n", "", 3), missing)
+    renamed = tests.make("b\n.exp", "SCHEMA draft; END_SCHEMA;")
+    command = tests.run([renamed, tests.make("made.step", file_of(""))])[0].splitlines()[-1]
+    subprocess.run(["bash", "-c", command], check=True, cwd=tests.here)
+    tests.judge("a command for a name with a line feed", b"SCHEMA PRODUCT_MODEL", (tests.here / "renamed.exp").read_bytes()[:20])
+
+
+def limits(tests):
+    """A device without an end, and an output to which nothing can be written."""
+    reading.MOST_COPIED, most = 1 << 22, reading.MOST_COPIED
+    try:
+        found = reading.lasting("/dev/zero")
+    except reading.Trouble as trouble:
+        found = str(trouble)
+    reading.MOST_COPIED = most
+    tests.judge("a device without an end", "/dev/zero has more than 4194304 bytes and is no plain file: save it as one first", found)
+    error = "p21-where: [Errno 28] No space left on device\n"
+    tests.judge("a full disk", (error, 3), tests.full_disk([SCHEMA, "examples/refused/Count.step"]))
+    tests.judge("a full disk, help", (error, 3), tests.full_disk(["--help"]))
+
+
 def main():
     tests = Tests("p21-where")
-    for group in (faults, refused, values, schemas, attributes, explained, hints, kinds, others, renaming, changed):
+    groups = [faults, refused, values, schemas, attributes, explained, hints, kinds, others, renaming, changed]
+    for group in [*groups, equals, strange, controls, limits, memory]:
         group(tests)
     tests.end()
 

@@ -1,12 +1,22 @@
-"""What the tools beside the program share: how they run it, and how they read the text of a statement.
+"""What the tools beside the program share: how they run it, how they read the text of a statement, and how they print what
+files hold.
 
-The tools judge nothing themselves. Which files are accepted, what is refused and what a file means, the program says.
+The tools judge nothing themselves. Which files are accepted, what is refused and what a file means, the program says. A text
+may be of any size and hold anything: it is read where it lies, and what is found in it is read again where it is asked for.
 """
 
+import argparse
+import array
+import collections.abc
+import contextlib
+import itertools
+import mmap
 import os
 import pathlib
 import re
+import shlex
 import shutil
+import signal
 import subprocess
 import sys
 import tempfile
@@ -15,6 +25,8 @@ from typing import NamedTuple
 HERE = pathlib.Path(__file__).resolve().parent
 PIECE = 1 << 20
 FURTHER = "a further schema, for files that name another one; may be given several times"
+# So many bytes are copied of what is no plain file, as a pipe or a device.
+MOST_COPIED = 1 << 30
 
 
 class Trouble(Exception):
@@ -29,21 +41,64 @@ class Answer(NamedTuple):
     status: int
 
 
-class Value(NamedTuple):
-    """A parameter by its place in a text, with the elements of a list or the one value of a typed parameter."""
+# --- What is printed ---
 
-    start: int
-    end: int
-    inner: list
+ESCAPES = {"\n": "\\n", "\r": "\\r", "\t": "\\t"}
 
 
-class Part(NamedTuple):
-    """A keyword by its place in a text, with its parameters and the place of the `)` behind them."""
+def shown(text):
+    """A text on one line, with characters that a terminal doesn't show, and bytes that are none, by their numbers."""
+    return text if text.isprintable() else "".join(map(shown_character, text))
 
-    key: str
-    start: int
-    values: list
-    end: int
+
+def shown_character(character):
+    """A character, or its number where it isn't shown."""
+    code = ord(character)
+    if character.isprintable():
+        return character
+    if 0xDC80 <= code <= 0xDCFF:
+        return f"\\x{code - 0xDC00:02x}"
+    form = f"\\x{code:02x}" if code < 0x100 else f"\\u{code:04x}" if code < 0x10000 else f"\\U{code:08x}"
+    return ESCAPES.get(character, form)
+
+
+def quoted(name):
+    """A name of a file as a word of a shell."""
+    if name.isprintable():
+        return shlex.quote(name)
+    signs = (chr(byte) if 0x20 <= byte < 0x7F and byte not in b"'\\" else f"\\x{byte:02x}" for byte in os.fsencode(name))
+    return f"$'{''.join(signs)}'"
+
+
+class Arguments(argparse.ArgumentParser):
+    """A command line, whose words are shown where one is wrong, and whose help fails where it can't be written."""
+
+    def print_help(self, file=None):
+        print(self.format_help(), end="", file=file)
+
+    def error(self, message):
+        super().error(shown(message))
+
+
+def ended(tool, status, work):
+    """The status of a tool's work. Where it can't be done, or its output can't be written, a line says why, and this is the
+    status."""
+    signal.signal(signal.SIGPIPE, signal.SIG_DFL)
+    signal.signal(signal.SIGINT, signal.SIG_DFL)
+    for stream in (sys.stdout, sys.stderr):
+        stream.reconfigure(errors="backslashreplace")
+    try:
+        try:
+            return work()
+        finally:
+            sys.stdout.flush()
+    except (Trouble, OSError) as trouble:
+        with contextlib.suppress(OSError):
+            print(f"{tool}: {shown(str(trouble))}", file=sys.stderr, flush=True)
+        # What waits to be written would fail again at the end.
+        for stream in (sys.stdout, sys.stderr):
+            os.dup2(os.open(os.devnull, os.O_WRONLY), stream.fileno())
+        return status
 
 
 # --- The program ---
@@ -67,24 +122,69 @@ def find_program():
 
 def line_of(error, status):
     """What the program wrote to its second stream, without the last line end, and the signal that ended it."""
-    line = error.decode("utf-8", "backslashreplace").rstrip("\n")
+    line = error.decode("utf-8", "surrogateescape")
+    line = line[:-1] if line.endswith("\n") else line
     return line if status >= 0 else f"{line} ended by signal {-status}".lstrip()
 
 
 def lasting(path):
-    """The path, or that of a copy where the program could not read it again and again: of a pipe, and of what this process
-    has open, as /dev/stdin. The program inherits the copy, which is gone when this process ends."""
+    """The path, or that of a descriptor which the program inherits: of the file, where its name isn't UTF-8, or else of a
+    copy, where the program could not read it again and again. That is so of a pipe, and of what this process has open, as
+    /dev/stdin. A copy is gone when this process ends."""
     is_open_here = path.startswith(("/dev/", "/proc/"))
     is_plain = os.path.isfile(path) and not is_open_here
-    if is_plain or not os.path.exists(path) or os.path.isdir(path) or not os.access(path, os.R_OK):
+    if not os.path.exists(path) or os.path.isdir(path) or not os.access(path, os.R_OK):
         return path
+    if is_plain:
+        return path if is_text(path) else inherited(os.open(path, os.O_RDONLY))
     with tempfile.TemporaryFile() as copy:
-        with open(path, "rb") as file:
-            shutil.copyfileobj(file, copy)
+        with open(path, "rb", buffering=0) as file:
+            copy_of(file, copy, path)
         copy.flush()
-        descriptor = os.dup(copy.fileno())
+        return inherited(os.dup(copy.fileno()))
+
+
+def is_text(path):
+    """Is a name UTF-8, as the program wants it?"""
+    try:
+        path.encode("utf-8")
+    except UnicodeEncodeError:
+        return False
+    return True
+
+
+def copy_of(file, copy, path):
+    """Copies what has no size that is known, and maybe no end."""
+    left = MOST_COPIED
+    while piece := file.read(min(PIECE, left + 1)):
+        left -= len(piece)
+        if left < 0:
+            raise Trouble(f"{path} has more than {MOST_COPIED} bytes and is no plain file: save it as one first")
+        copy.write(piece)
+
+
+def inherited(descriptor):
+    """The path of a descriptor in a program that inherits it."""
     os.set_inheritable(descriptor, True)
     return f"/dev/fd/{descriptor}"
+
+
+@contextlib.contextmanager
+def opened(path):
+    """What `lasting` answers, for as long as a `with` block runs."""
+    found = lasting(path)
+    try:
+        yield found
+    finally:
+        if found != path:
+            os.close(int(found.rpartition("/")[2]))
+
+
+def text_of(path):
+    """The bytes of a file. Those of a plain one aren't read before they are looked at."""
+    with open(path, "rb") as file:
+        size = os.fstat(file.fileno()).st_size
+        return mmap.mmap(file.fileno(), 0, access=mmap.ACCESS_READ) if size else b""
 
 
 def words_of(program, command, *paths):
@@ -93,13 +193,24 @@ def words_of(program, command, *paths):
 
 
 def run(program, command, *paths, text=None, output=subprocess.PIPE):
-    """The answer of a command of the program over these paths. A text is given to it as /dev/stdin."""
-    given = {"stdin": subprocess.DEVNULL} if text is None else {"input": text}
-    streams = {"stdout": output, "stderr": subprocess.PIPE, "close_fds": False}
-    try:
-        done = subprocess.run(words_of(program, command, *paths), check=False, **streams, **given)
-    except OSError as error:
-        raise Trouble(f"cannot run {program}: {error.strerror}") from None
+    """The answer of a command of the program over these paths. A text, in pieces, is given to it as /dev/stdin."""
+    with contextlib.ExitStack() as stack:
+        given = subprocess.DEVNULL
+        if text is not None:
+            given = stack.enter_context(tempfile.TemporaryFile())
+            given.writelines(text)
+            given.seek(0)
+        try:
+            done = subprocess.run(
+                words_of(program, command, *paths),
+                check=False,
+                stdin=given,
+                stdout=output,
+                stderr=subprocess.PIPE,
+                close_fds=False,
+            )
+        except OSError as error:
+            raise Trouble(f"cannot run {program}: {error.strerror}") from None
     return Answer(done.stdout or b"", line_of(done.stderr, done.returncode), done.returncode)
 
 
@@ -118,21 +229,47 @@ class Listing(NamedTuple):
     """What `p21 schema` prints: the schema's name, each entity's attributes in order, and which entities are abstract."""
 
     name: str
-    attributes: dict
+    attributes: collections.abc.Mapping
     abstract: set
 
 
+class Attributes(collections.abc.Mapping):
+    """The attributes of each entity, which are read from the listing where they are asked for."""
+
+    def __init__(self, text):
+        self.text = text
+        self.places = {}
+
+    def __getitem__(self, name):
+        place = self.places[name]
+        listed = self.text[place : self.text.find(b")", place)].decode("ascii")
+        return listed.split(",") if listed else []
+
+    def __contains__(self, name):
+        return name in self.places
+
+    def __iter__(self):
+        return iter(self.places)
+
+    def __len__(self):
+        return len(self.places)
+
+
+LISTED = re.compile(rb"\n(ABSTRACT )?(\w+)\(")
+
+
 def listing(program, schema, named):
-    """The listing of a schema, which the command line names so."""
-    answer = run(program, "schema", schema)
-    if answer.status != 0:
-        raise Trouble(f"{named}: {answer.error}")
-    first, *lines = answer.output.decode("ascii").splitlines()
-    found = Listing(first.split()[1], {}, set())
-    for line in lines:
-        abstract, name, attributes = re.fullmatch(r"(ABSTRACT )?(\w+)\((.*)\)", line).groups()
-        found.attributes[name] = attributes.split(",") if attributes else []
-        if abstract:
+    """The listing of a schema, which the command line names so. It may be longer than the schema by far."""
+    with tempfile.TemporaryFile() as output:
+        answer = run(program, "schema", schema, output=output)
+        if answer.status != 0:
+            raise Trouble(f"{named}: {answer.error}")
+        text = mmap.mmap(output.fileno(), 0, access=mmap.ACCESS_READ)
+    found = Listing(text[: text.find(b"\n")].split()[1].decode("ascii"), Attributes(text), set())
+    for entity in LISTED.finditer(text):
+        name = entity[2].decode("ascii")
+        found.attributes.places[name] = entity.end()
+        if entity[1]:
             found.abstract.add(name)
     return found
 
@@ -150,75 +287,268 @@ def names_of_values(attributes, part, alone):
     return names[: len(part.values)] + ["?"] * surplus
 
 
+# --- Rows of things in a text ---
+
+
+class Row(collections.abc.Sequence):
+    """Things that stand one behind the other in a text, each read again where it is asked for: of so many only the place of
+    each 64th is kept."""
+
+    STEP = 64
+
+    def __init__(self, places, thing, first):
+        """`places` has the places of all things from a given one on, and `thing` is that at a place."""
+        self.places = places
+        self.thing = thing
+        self.first = first
+        self.marks = array.array("Q")
+        self.count = 0
+        for self.count, place in enumerate(places(first), 1):
+            if self.count % self.STEP == 1:
+                self.marks.append(place)
+
+    def __len__(self):
+        return self.count
+
+    def __getitem__(self, at):
+        at += self.count if at < 0 else 0
+        if not 0 <= at < self.count:
+            raise IndexError(at)
+        return self.thing(next(itertools.islice(self.places(self.marks[at // self.STEP]), at % self.STEP, None)))
+
+    def __iter__(self):
+        return map(self.thing, self.places(self.first))
+
+
+def first_repeated(items, size):
+    """The first of some items whose key another one has before it, with that one; or None. `items` gives them anew, as pairs
+    of a key and an item. It takes about `size` bytes, whatever the items are.
+
+    Keys are marked by a bit each. Two may have one bit: those whose bit is marked already are suspects, and compared."""
+    bits = 8 * size + 64
+    marked = bytearray(size + 8)
+    suspects, taken = set(), 0
+
+    def confirmed():
+        known = {}
+        for key, item in itertools.islice(items(), taken):
+            if hash(key) % bits in suspects:
+                if key in known:
+                    return known[key], item
+                known[key] = item
+        return None
+
+    for key, _ in items():
+        taken += 1
+        bit = hash(key) % bits
+        if marked[bit // 8] >> bit % 8 & 1:
+            suspects.add(bit)
+        marked[bit // 8] |= 1 << bit % 8
+        if len(suspects) > 64 + size // 1024:
+            found = confirmed()
+            if found:
+                return found
+            suspects.clear()
+    return confirmed() if suspects else None
+
+
 # --- Statements ---
 
-# A string up to its end. In it `''`, `\\` and `\S\` with any character go together, and no text matches in two ways.
-STRING = rb"'[^'\\]*(?:(?:''|\\S\\[ -~]|\\\\|\\(?!\\|S\\[ -~]))[^'\\]*)*'(?!')"
-REMARK = rb"/\*.*?\*/"
-LEXEME = re.compile(rb"[\0- \x7f]+|" + REMARK + rb"|(" + STRING + rb'|"[^"]*"|[^\0- \x7f(),;=\'"/]+|.)', re.S)
+BLANKS = re.compile(rb"[\0- \x7f]*")
+# What ends a string, and what in it looks like its end: two apostrophes, two backslashes, and \S\ with any character.
+IN_STRING = re.compile(rb"''|\\S\\[ -~]|\\\\|'")
+LEXEME = re.compile(rb"[\0- \x7f]+|'|/\*|([^\0- \x7f(),;='\"/]+|\"[^\"]*\"|.)", re.S)
+# What stands around the values of a list, and what hides it.
+SIGN = re.compile(rb"[(),]")
+PARENTHESIS = re.compile(rb"[()]")
+REFERENCE = re.compile(rb"#\d+")
+HIDDEN = re.compile(rb"['\"]|/\*")
 
 
-class Lexemes:
-    """The words and signs of a text, of which one after the other is taken."""
+def end_of_string(text, start):
+    """The place behind the string that begins here, or None where it is open."""
+    found = IN_STRING.search(text, start + 1)
+    while found and found[0] != b"'":
+        found = IN_STRING.search(text, found.end())
+    return found and found.end()
 
-    def __init__(self, text, start):
-        self.found = [m for m in LEXEME.finditer(text, start) if m[1] is not None]
-        self.at = 0
 
-    def next(self):
-        """The next one without taking it; behind the last one an empty byte string."""
-        return self.found[self.at][1] if self.at < len(self.found) else b""
+def end_of_remark(text, start):
+    """The place behind the remark that begins here, or None where it is open."""
+    end = text.find(b"*/", start + 2)
+    return None if end < 0 else end + 2
 
-    def take(self):
-        """The next one with its place. A text that ends here is no statement."""
-        if self.at == len(self.found):
-            raise ValueError("the text ends inside a statement")
-        self.at += 1
-        return self.found[self.at - 1]
+
+def end_of_binary(text, start):
+    """The place behind the binary that begins here, or None where it is open."""
+    end = text.find(b'"', start + 1)
+    return None if end < 0 else end + 1
+
+
+HIDING = {b"'": end_of_string, b"/*": end_of_remark, b'"': end_of_binary}
+
+
+def outside(pattern, text, start):
+    """What a pattern finds from a place on that stands in no string, binary or remark.
+
+    The text is looked at in pieces, so that no more of it is passed over than is asked for. Each ends behind a sign, since
+    nothing that a pattern finds goes on there.
+    """
+    size = 64
+    while start is not None and start < len(text):
+        end = min(start + size, len(text))
+        hidden = HIDDEN.search(text, start, end)
+        if hidden:
+            end = hidden.start()
+        elif end < len(text):
+            end = 1 + max(text.rfind(sign, start, end) for sign in (b",", b"(", b")"))
+        if end > start:
+            yield from pattern.finditer(text, start, end)
+            start = end
+        if hidden:
+            start = HIDING[hidden[0]](text, end)
+        size *= 2
+
+
+def behind_blanks(text, at):
+    """The place behind blanks and remarks."""
+    at = BLANKS.match(text, at).end()
+    while text[at : at + 2] == b"/*":
+        end = end_of_remark(text, at)
+        if end is None:
+            return at
+        at = BLANKS.match(text, end).end()
+    return at
+
+
+def lexemes(text, start, end):
+    """The places of the words and signs of a part of a text."""
+    while start < end:
+        found = LEXEME.match(text, start, end)
+        start = found.end()
+        if found[1] is not None:
+            yield found.span()
+        elif found[0] == b"/*":
+            start = end_of_remark(text, found.start()) or end
+        elif found[0] == b"'":
+            start = end_of_string(text, found.start()) or end
+            yield found.start(), start
+
+
+class Value(NamedTuple):
+    """A parameter by its place in a text."""
+
+    text: bytes
+    start: int
+    end: int
+
+    @property
+    def inner(self):
+        """The elements of a list, or the one value of a typed parameter; none of any other."""
+        if self.text[self.end - 1 : self.end] != b")":
+            return ()
+        return values_of(self.text, next(outside(SIGN, self.text, self.start)).start())
+
+
+class Part(NamedTuple):
+    """A keyword by its place in a text, with its parameters and the place of the `)` behind them."""
+
+    key: str
+    start: int
+    values: Row
+    end: int
+
+
+def closing(text, opening):
+    """The place of the `)` that ends what a `(` begins."""
+    depth = 0
+    for found in outside(PARENTHESIS, text, opening):
+        depth += 1 if found[0] == b"(" else -1
+        if depth == 0:
+            return found.start()
+    raise ValueError("the text ends inside a statement")
+
+
+def signs_in_list(text, sign):
+    """The place of the sign before each value of a list, from a `(` or a `,` on. It answers that of the `)` behind the list."""
+    if text[sign] == ord("(") and text[behind_blanks(text, sign + 1)] == ord(")"):
+        return closing(text, sign)
+    yield sign
+    at = sign + 1
+    while True:
+        for found in outside(SIGN, text, at):
+            if found[0] == b")":
+                return found.start()
+            if found[0] == b"(":
+                at = closing(text, found.start()) + 1
+                break
+            yield found.start()
+
+
+def signs_in_parts(text, at):
+    """The same of all parts, from the keyword of one on, or from a sign."""
+    if text[at] not in b"(,":
+        at = next(outside(SIGN, text, at)).start()
+    while True:
+        end = yield from signs_in_list(text, at)
+        found = next(outside(SIGN, text, end + 1), None)
+        if not found or found[0] != b"(":
+            return
+        at = found.start()
+
+
+def value_behind(text, sign):
+    """The value behind a `(` or a `,`."""
+    start = end = behind_blanks(text, sign + 1)
+    found = next(outside(SIGN, text, start))
+    if found[0] == b"(":
+        return Value(text, start, closing(text, found.start()) + 1)
+    for _, end in lexemes(text, start, found.start()):
+        pass
+    return Value(text, start, end)
+
+
+def values_of(text, opening):
+    """The values in the parentheses that a `(` begins."""
+    return Row(lambda sign: signs_in_list(text, sign), lambda sign: value_behind(text, sign), opening)
+
+
+def values_of_all(text, parts):
+    """The values of all parts, one behind the other."""
+    start = parts[0].start
+    return Row(lambda sign: signs_in_parts(text, sign), lambda sign: value_behind(text, sign), start)
+
+
+def references_of(text, parts):
+    """The references of an instance in their order."""
+
+    def places(place):
+        return (found.start() for found in outside(REFERENCE, text, place))
+
+    return Row(places, lambda place: Value(text, *REFERENCE.match(text, place).span()), parts[0].start)
 
 
 def read_parts(text, start=0):
     """The parts of the instance or header record that begins here, of which the text has its right parentheses."""
-    lexemes = Lexemes(text, start)
-    if lexemes.next().startswith(b"#"):
-        lexemes.take()
-        lexemes.take()
-    if lexemes.next() != b"(":
-        return [read_part(lexemes)]
-    lexemes.take()
-    parts = []
-    while lexemes.next() != b")":
-        parts.append(read_part(lexemes))
-    return parts
+    start = behind_blanks(text, start)
+    if text[start : start + 1] == b"#":
+        start = behind_blanks(text, behind_blanks(text, REFERENCE.match(text, start).end()) + 1)
+    if text[start : start + 1] != b"(":
+        return [part_at(text, start)]
+
+    def places(place):
+        while text[place : place + 1] not in (b")", b""):
+            yield place
+            place = behind_blanks(text, closing(text, next(outside(SIGN, text, place)).start()) + 1)
+
+    return Row(places, lambda place: part_at(text, place), behind_blanks(text, start + 1))
 
 
-def read_part(lexemes):
+def part_at(text, start):
     """A keyword and the values in parentheses behind it."""
-    key = lexemes.take()
-    lexemes.take()
-    values, end = read_values(lexemes)
-    return Part(key[1].decode("latin-1"), key.start(), values, end)
-
-
-def read_values(lexemes):
-    """The values up to the `)` of a `(` that is taken, and the place of that `)`."""
-    values = []
-    while lexemes.next() not in (b")", b""):
-        values.append(read_value(lexemes))
-        if lexemes.next() == b",":
-            lexemes.take()
-    return values, lexemes.take().start()
-
-
-def read_value(lexemes):
-    """One value: a scalar, a list, or a keyword with a value in parentheses."""
-    first = lexemes.take()
-    if first[1] != b"(":
-        if lexemes.next() != b"(":
-            return Value(first.start(), first.end(), [])
-        lexemes.take()
-    inner, end = read_values(lexemes)
-    return Value(first.start(), end + 1, inner)
+    _, end = next(lexemes(text, start, len(text)))
+    opening = behind_blanks(text, end)
+    return Part(text[start:end].decode("latin-1"), start, values_of(text, opening), closing(text, opening))
 
 
 # --- Texts for people ---

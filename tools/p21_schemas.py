@@ -4,22 +4,32 @@ The program says whether a text is refused and by which number. The place is fou
 or changed: cut behind a word, with some declarations replaced by empty ones of the same name, or without redeclarations.
 """
 
+import array
+import collections
+import dataclasses
+import functools
 import itertools
 import re
+import subprocess
 from typing import NamedTuple
 
 import p21_reading as reading
 
 LEXEME = re.compile(
-    rb"[\0- \x7f]+|--[^\n]*|(?P<remark>\(\*)"
-    rb"|(?P<word>[A-Za-z][A-Za-z0-9_]*|[0-9]+|'[^']*(?:''[^']*)*'(?!')|\"[^\"]*\"|[!#-&(-~])|(?P<other>.)",
+    rb"[\0- \x7f]+|--[^\n]*|(?P<remark>\(\*)|(?P<string>')"
+    rb"|(?P<word>[A-Za-z][A-Za-z0-9_]*|[0-9]+|\"[^\"]*\"|[!#-&(-~])|(?P<other>.)",
     re.S,
 )
 REMARK_MARK = re.compile(rb"\(\*|\*\)")
 STRAY = b" \x80"
 TEXT_LIMIT = 16_777_216
+MOST_DECLARATIONS = 65_535
 DECLARATIONS = ("ENTITY", "TYPE", "FUNCTION", "PROCEDURE", "RULE", "CONSTANT", "SUBTYPE_CONSTRAINT")
-ONLY_ONEOF = r"\bSUPERTYPE OF \( ONEOF \( ([\w ,]+) \) \)"
+# What stands in a heading before and behind the names of supertypes, and those of a ONEOF with nothing beside it.
+OF_SUBTYPE = ["SUBTYPE", "OF", "("], [")"]
+OF_ONEOF = ["SUPERTYPE", "OF", "(", "ONEOF", "("], [")", ")"]
+# So many texts are said of an attribute, and of each so many bytes.
+MOST_TEXTS, LONGEST_TEXT = 8, 4096
 GROUPS = ("DERIVE", "INVERSE", "UNIQUE", "WHERE", "END_ENTITY", "END_TYPE")
 NO_NAMES = set(
     "ABSTRACT ARRAY BAG BINARY BOOLEAN ENTITY ENUMERATION FIXED INTEGER LIST LOGICAL NUMBER OF ONEOF OPTIONAL REAL SELECT"
@@ -35,12 +45,40 @@ class Word(NamedTuple):
     end: int
 
 
+@dataclasses.dataclass(frozen=True)
+class Stretch:
+    """A stretch of a text from a word to another: a declaration, or a statement of one. It gives its words."""
+
+    text: bytes
+    start: int
+    end: int
+
+    def __iter__(self):
+        return words_of(self.text, self.start, self.end)
+
+
 class Declaration(NamedTuple):
-    """A declaration: its kind, its name, and its words up to the `;` behind its end."""
+    """A declaration: its kind and its name, as a word and as a text, and the stretch up to the `;` behind its end."""
 
     kind: str
     name: str
-    words: list
+    named: Word
+    whole: Stretch
+
+    @property
+    def words(self):
+        """Its words, one after the other."""
+        return iter(self.whole)
+
+    @property
+    def start(self):
+        """Where it begins."""
+        return self.whole.start
+
+    @property
+    def end(self):
+        """Where it ends."""
+        return self.whole.end
 
 
 class Place(NamedTuple):
@@ -51,20 +89,41 @@ class Place(NamedTuple):
     notes: list
 
 
-def words_of(text):
-    """The words of a text, and the place of a byte, string or remark that makes none, or None."""
-    words = []
-    at = 0
-    while at < len(text):
-        found = LEXEME.match(text, at)
-        at = found.end()
-        if found["remark"]:
-            at = end_of_remark(text, found.start())
-        if found["other"] or at is None:
-            return words, found.start()
+def words_of(text, start=0, end=None):
+    """The words of a text, or of a part of it that begins and ends with a word, up to the first byte, string or remark that
+    makes none."""
+    end = len(text) if end is None else end
+    while start is not None and start < end:
+        found = LEXEME.match(text, start)
+        start = found.end()
         if found["word"]:
-            words.append(Word(found["word"].decode("latin-1").upper(), found.start(), found.end()))
-    return words, None
+            yield Word(found["word"].decode("latin-1").upper(), found.start(), start)
+        elif found["string"]:
+            start = end_of_string(text, found.start())
+            if start:
+                yield Word(text[found.start() : start].decode("latin-1").upper(), found.start(), start)
+        elif found["remark"]:
+            start = end_of_remark(text, found.start())
+        elif found["other"]:
+            return
+
+
+def stray_of(text, start):
+    """Behind the last word of a text: where a byte, a string or a remark stands that makes no word, or None."""
+    while start < len(text):
+        found = LEXEME.match(text, start)
+        start = end_of_remark(text, found.start()) if found["remark"] else found.end()
+        if start is None or found["other"] or found["string"]:
+            return found.start()
+    return None
+
+
+def end_of_string(text, start):
+    """The place behind a string, in which two apostrophes are one, or None where it doesn't end."""
+    end = text.find(b"'", start + 1)
+    while end >= 0 and text[end + 1 : end + 2] == b"'":
+        end = text.find(b"'", end + 2)
+    return None if end < 0 else end + 1
 
 
 def end_of_remark(text, start):
@@ -83,49 +142,51 @@ def is_name(word):
 
 
 class Outline:
-    """The declarations of a schema text."""
+    """The declarations of a schema text. No schema has more of them than a text may have, and one that is refused for the
+    number has one more."""
 
     def __init__(self, text):
         self.text = text
-        self.words, self.stray = words_of(text)
-        self.declarations = []
-        at = 0
-        while at < len(self.words):
-            kind = self.words[at].text
-            end = self.end_of(at) if kind in DECLARATIONS else at + 1
-            if kind in DECLARATIONS and end - at > 2:
-                self.declarations.append(Declaration(kind, self.words[at + 1].text, self.words[at:end]))
-            at = end
+        self.declarations = list(itertools.islice(self.declared(), MOST_DECLARATIONS + 1))
         self.entities = {found.name: found for found in self.declarations if found.kind == "ENTITY"}
         self.types = {found.name: found for found in self.declarations if found.kind == "TYPE"}
 
-    def end_of(self, at):
-        """The number of the word behind the declaration that begins with this one."""
-        kind = self.words[at].text
-        nested = kind in ("FUNCTION", "PROCEDURE")
-        depth = 0
-        while at < len(self.words):
-            word = self.words[at].text
-            depth += word == kind and (nested or depth == 0)
-            depth -= word == f"END_{kind}"
-            at += 1
-            if depth == 0:
-                return min(at + 1, len(self.words))
-        return at
+    @property
+    def words(self):
+        """All words of the text, one after the other."""
+        return words_of(self.text)
+
+    def declared(self):
+        """Each declaration. It ends one word behind its `END_`.., and one of a function or procedure may hold others."""
+        words = self.words
+        for word in words:
+            kind = word.text
+            if kind not in DECLARATIONS:
+                continue
+            nested = kind in ("FUNCTION", "PROCEDURE")
+            named, last, depth, count = None, word, 1, 1
+            for count, last in enumerate(words, 2):
+                named = named or last
+                if depth == 0:
+                    break
+                depth += (nested and last.text == kind) - (last.text == f"END_{kind}")
+            if count > 2:
+                yield Declaration(kind, named.text, named, Stretch(self.text, word.start, last.end))
 
     def source(self, declaration):
         """The text of a declaration."""
-        return self.text[declaration.words[0].start : declaration.words[-1].end]
+        return memoryview(self.text)[declaration.start : declaration.end]
 
-    def heading(self, name):
-        """The heading of an entity, word by word with blanks between."""
-        words = texts(self.entities[name].words)
-        return " ".join(words[: words.index(";")])
+    def listed(self, name, around):
+        """The entities that stand in a list of the heading of an entity, each once."""
+        words = names_between(self.entities[name], around)
+        found = (self.entities[word.text].name for word in words() if word.text in self.entities) if words else ()
+        return list(dict.fromkeys(found))
 
+    @functools.lru_cache(maxsize=None)
     def supertypes(self, name):
         """The entities of which an entity says that it is a subtype."""
-        found = re.search(r"\bSUBTYPE OF \( ([\w ,]+) \)$", self.heading(name))
-        return [word for word in found[1].split(" , ") if word in self.entities] if found else []
+        return self.listed(name, OF_SUBTYPE)
 
     def closure(self, names):
         """These entities with all of their supertypes."""
@@ -140,80 +201,83 @@ class Outline:
 
     def oneof(self, name):
         """The entities of the ONEOF that an entity states and nothing beside it."""
-        found = re.search(ONLY_ONEOF, self.heading(name))
-        return found[1].split(" , ") if found else []
+        return self.listed(name, OF_ONEOF)
 
     def statements(self, declaration):
         """Each statement between the heading and the end of a declaration, with the word of its group in front of it."""
-        group = ""
-        statement = []
-        first = texts(declaration.words).index(";")
-        for word in declaration.words[first + 1 :]:
-            if not statement and word.text in GROUPS:
+        words = declaration.words
+        for word in words:
+            if word.text == ";":
+                break
+        group, first = "", None
+        for word in words:
+            if first is None and word.text in GROUPS:
                 group = word.text
                 continue
-            statement.append(word)
+            first = first or word
             if word.text == ";":
-                yield group, statement
-                statement = []
+                yield group, Stretch(self.text, first.start, word.end)
+                first = None
 
     def redeclarations(self):
         """Each statement that declares inherited attributes anew, or derives one."""
         for entity in self.entities.values():
             for group, statement in self.statements(entity):
-                if group in ("", "DERIVE") and "SELF" in names_in(statement):
+                if group in ("", "DERIVE") and is_anew(statement):
                     yield entity, statement
 
     def repeated(self, declaration):
         """The second of two equal names among the attributes of an entity, or in a list of a declaration."""
-        heading = declaration.words[: texts(declaration.words).index(";")]
         if declaration.kind == "ENTITY":
-            own = [words for group, words in self.statements(declaration) if group in ("", "DERIVE")]
-            names = [word for words in own if "SELF" not in names_in(words) for word in words[: len(names_in(words))]]
-            lists = [names, *listed_in(heading)]
+            listed = (names_between(declaration, around) for around in (OF_SUBTYPE, OF_ONEOF))
+            lists = [lambda: self.new_names(declaration), *listed]
         else:
-            lists = [heading[3:]]
-        for words in lists:
-            seen = set()
-            for word in filter(is_name, words):
-                if word.text in seen:
-                    return word
-                seen.add(word.text)
+            lists = [lambda: itertools.islice(heading_of(declaration), 3, None)]
+        for words in filter(None, lists):
+            found = reading.first_repeated(
+                lambda: ((word.text, word) for word in words() if is_name(word)), declaration.end - declaration.start
+            )
+            if found:
+                return found[1]
         return None
+
+    def new_names(self, declaration):
+        """The names that an entity gives to attributes of its own."""
+        for group, statement in self.statements(declaration):
+            if group in ("", "DERIVE") and not is_anew(statement):
+                yield from names_in(statement)
 
     def unknown(self, declaration):
         """The first name in a declaration that is declared nowhere, or not as what it has to be."""
-        words = declaration.words
         if declaration.kind == "TYPE":
-            if words[4].text == ";" and words[3].text in self.entities:
-                return words[3]
-            end = next(i for i, word in enumerate(words) if word.text in GROUPS)
-            return self.undeclared([] if words[3].text == "ENUMERATION" else words[3:end])
-        listed = re.search(r"\bSUBTYPE OF \( ([\w ,]+) \)$", self.heading(declaration.name))
-        needed = set(self.oneof(declaration.name) + (listed[1].split(" , ") if listed else []))
-        for word in words:
-            if word.text == ";":
-                break
-            if word.text in needed and word.text not in self.entities:
-                return word
+            body, behind = itertools.islice(declaration.words, 3, 5)
+            if behind.text == ";" and body.text in self.entities:
+                return body
+            if body.text == "ENUMERATION":
+                return None
+            words = itertools.islice(declaration.words, 3, None)
+            return self.undeclared(itertools.takewhile(lambda word: word.text not in GROUPS, words))
+        for words in filter(None, (names_between(declaration, around) for around in (OF_ONEOF, OF_SUBTYPE))):
+            for word in words():
+                if word.text != "," and word.text not in self.entities:
+                    return word
         for group, statement in self.statements(declaration):
-            behind = statement[len(names_in(statement)) :] if group == "" else []
-            front = [word for word, text in zip(statement[2:], texts(statement)) if text == "SELF"]
-            found = self.undeclared((front if group in ("", "DERIVE") else []) + behind)
+            front = self.undeclared(owners_in(statement)) if group in ("", "DERIVE") else None
+            found = front or (self.undeclared(type_in(statement)) if group == "" else None)
             if found:
                 return found
         return None
 
     def undeclared(self, words):
         """The first of these words that is a name and declared nowhere."""
-        known = self.entities.keys() | self.types.keys()
-        return next((word for word in words if is_name(word) and word.text not in known), None)
+        names = (word for word in words if is_name(word))
+        return next((word for word in names if word.text not in self.entities and word.text not in self.types), None)
 
     def own_attributes(self, name):
         """The names of the explicit attributes that an entity declares itself, redeclarations apart."""
-        listed = [names_in(words) for group, words in self.statements(self.entities[name]) if group == ""]
-        items = [item for names in listed for item in " ".join(names).split(" , ")]
-        return [item for item in items if " " not in item]
+        for group, statement in self.statements(self.entities[name]):
+            if group == "":
+                yield from (item[0].text for item in items_in(statement) if len(item) == 1)
 
     def order(self, name):
         """An entity behind its supertypes, each with those of its own in front of it, and each once."""
@@ -231,7 +295,7 @@ class Outline:
 
     def places(self, name):
         """The attributes for which an instance of an entity has values, each with the entity that declares it."""
-        return [(entity, attribute) for entity in self.order(name) for attribute in self.own_attributes(entity)]
+        return ((entity, attribute) for entity in self.order(name) for attribute in self.own_attributes(entity))
 
     def explained(self, entities, place):
         """The texts that say what stands at a place in an instance of these entities: where it is declared, where it is
@@ -240,46 +304,87 @@ class Outline:
         found = []
         for entity in [declaring, *sorted(self.closure(entities) - {declaring})]:
             for group, statement in self.statements(self.entities[entity]):
-                items = " ".join(names_in(statement)).split(" , ")
-                anew = any(item.startswith("SELF ") and item.endswith(f" . {attribute}") for item in items)
-                if (group == "" and entity == declaring and attribute in items) or (group in ("", "DERIVE") and anew):
-                    text = self.plain(statement[0], statement[-1])
+                named = [len(item) > 1 for item in items_in(statement) if item[-1].text == attribute]
+                is_own = group == "" and entity == declaring and False in named
+                if is_own or (group in ("", "DERIVE") and True in named):
+                    text = self.plain(statement.start, statement.end)
                     found += [text if entity == declaring else f"{text} (in {entity.lower()})"]
+            if len(found) >= MOST_TEXTS:
+                break
         for text in found:
             named = re.split("[:=]", text, 1)[-1]
-            if len(found) < 8 and not re.match(r" (?:SELECT|ENUMERATION)\b", named, re.I):
+            if len(found) < MOST_TEXTS and not re.match(r" (?:SELECT|ENUMERATION)\b", named, re.I):
                 types = [self.types[word] for word in re.findall(r"\w+", named.upper()) if word in self.types]
                 found += [body for body in map(self.body, types) if body not in found]
         return found
 
     def body(self, declaration):
         """The text of a type without its words around."""
-        words = declaration.words
-        return self.plain(words[1], words[texts(words).index(";")])
+        return self.plain(declaration.named.start, next(word.end for word in declaration.words if word.text == ";"))
 
-    def plain(self, first, last):
-        """The text from a word to another, on one line."""
-        return " ".join(self.text[first.start : last.end].decode("latin-1").split())
-
-
-def texts(words):
-    """The words as texts."""
-    return [word.text for word in words]
+    def plain(self, start, end):
+        """A part of the text on one line, of which only the beginning is said where it is long."""
+        return " ".join(self.text[start : min(end, start + LONGEST_TEXT)].decode("latin-1").split())
 
 
-def listed_in(heading):
-    """The names in the heading of an entity behind SUBTYPE OF, and those of a ONEOF with nothing beside it, as words."""
-    found = texts(heading)
-    starts = [at + 3 for at in range(len(found)) if found[at : at + 3] == ["SUBTYPE", "OF", "("]]
-    if re.search(ONLY_ONEOF, " ".join(found)):
-        starts.append(found.index("ONEOF") + 2)
-    return [list(itertools.takewhile(lambda word: word.text != ")", heading[start:])) for start in starts]
+def heading_of(declaration):
+    """The words of a declaration up to its first `;`."""
+    return itertools.takewhile(lambda word: word.text != ";", declaration.words)
+
+
+def names_between(declaration, around):
+    """The words in the heading of a declaration between some words and others: what gives them, or None."""
+    front, back = around
+    heading = heading_of(declaration)
+    last = collections.deque(maxlen=len(front))
+    start = 0
+    while list(last) != front:
+        word = next(heading, None)
+        if word is None:
+            return None
+        last.append(word.text)
+        start += 1
+    end = next((word.text for word in heading if word.text in ("(", ")")), None)
+    if [end, *(word.text for word in itertools.islice(heading, len(back) - 1))] != back:
+        return None
+    return lambda: itertools.takewhile(lambda word: word.text != ")", itertools.islice(declaration.words, start, None))
 
 
 def names_in(statement):
-    """What stands in front of the `:` of a statement."""
-    found = texts(statement)
-    return found[: found.index(":")] if ":" in found else []
+    """What stands in front of the `:` of a statement; nothing where it has none."""
+    return itertools.takewhile(lambda word: word.text != ":", statement) if has_colon(statement) else iter(())
+
+
+def type_in(statement):
+    """What stands behind the `:` of a statement; all of it where it has none."""
+    return itertools.dropwhile(lambda word: word.text != ":", statement) if has_colon(statement) else iter(statement)
+
+
+def has_colon(statement):
+    """Is there a `:` in a statement?"""
+    return any(word.text == ":" for word in statement)
+
+
+def items_in(statement):
+    """What stands between the commas in front of the `:` of a statement: a word, or the words that name an inherited
+    attribute. Of more words the first ones."""
+    for is_comma, words in itertools.groupby(names_in(statement), lambda word: word.text == ","):
+        if not is_comma:
+            yield list(itertools.islice(words, 5))
+
+
+def is_anew(statement):
+    """Does a statement declare inherited attributes anew?"""
+    return any(word.text == "SELF" for word in names_in(statement))
+
+
+def owners_in(statement):
+    """The word behind the one behind each SELF: the entity whose attribute is declared anew."""
+    before, last = "", ""
+    for word in statement:
+        if before == "SELF":
+            yield word
+        before, last = last, word.text
 
 
 # --- Refusals ---
@@ -292,11 +397,16 @@ class Refused:
         self.program = program
         self.number = number
         self.text = text
-        self.outline = Outline(text)
 
-    def answers(self, text):
-        """Is this text refused by the same number?"""
-        return number_of(reading.run(self.program, "schema", "/dev/stdin", text=text).error) == self.number
+    @functools.cached_property
+    def outline(self):
+        """The declarations of the text."""
+        return Outline(self.text)
+
+    def answers(self, *pieces):
+        """Is a text, which is these pieces, refused by the same number?"""
+        found = reading.run(self.program, "schema", "/dev/stdin", text=pieces, output=subprocess.DEVNULL)
+        return number_of(found.error) == self.number
 
     def place(self):
         """The place where the text is refused, or None where it can't be told."""
@@ -308,16 +418,17 @@ class Refused:
 
     def around(self, place):
         """The declaration that a place stands in, or the line, by its start and end."""
-        for found in self.outline.declarations:
-            if found.words[0].start <= place.start <= found.words[-1].end:
-                return found.words[0].start, found.words[-1].end
+        for found in self.outline.declarations if len(self.text) <= TEXT_LIMIT else ():
+            if found.start <= place.start <= found.end:
+                return found.start, found.end
         start = self.text.rfind(b"\n", 0, place.start) + 1
         end = self.text.find(b"\n", place.start)
         return start, end if end >= 0 else len(self.text)
 
     def place_of_byte(self):
         """The byte, the string or the remark that makes no word."""
-        start = self.outline.stray
+        last = collections.deque(self.outline.words, 1)
+        start = stray_of(self.text, last[0].end if last else 0)
         if start is None:
             return None
         end = start + 1
@@ -331,10 +442,14 @@ class Refused:
         A byte that no word has is put behind the cut: it is refused by another number, but only where the words in front
         of it aren't refused.
         """
-        words = self.outline.words
+        words = reading.Row(
+            lambda start: (word.start for word in words_of(self.text, start)),
+            lambda start: next(words_of(self.text, start)),
+            0,
+        )
 
         def is_refused(count):
-            return self.answers(self.text[: words[count - 1].end] + STRAY)
+            return self.answers(memoryview(self.text)[: words[count - 1].end], STRAY)
 
         if not words or not is_refused(len(words)):
             end = words[-1].end if words else 0
@@ -345,13 +460,13 @@ class Refused:
     def notes_on(self, word):
         """In which declaration a word stands."""
         for found in reversed(self.outline.declarations):
-            if found.words[0].start <= word.start <= found.words[-1].end:
-                return [f"in {found.kind} {found.name}, {self.line(found.words[0])}"]
+            if found.start <= word.start <= found.end:
+                return [f"in {found.kind} {brief(found.name)}, {self.line(found.start)}"]
         return []
 
-    def line(self, word):
-        """The line in which a word stands."""
-        return f"line {reading.line_number(self.text, word.start)}"
+    def line(self, start):
+        """The line in which a place stands."""
+        return f"line {reading.line_number(self.text, start)}"
 
     def place_in_whole(self):
         """The place of a refusal that comes of several declarations."""
@@ -364,10 +479,10 @@ class Refused:
         declarations = self.outline.declarations
 
         def is_refused(count):
-            sources = [self.outline.source(found) for found in declarations[:count]]
-            if self.number != 3:
-                sources += [empty(found) for found in declarations[count:]]
-            return self.answers(b"SCHEMA s;" + b"\n".join(sources) + b"\nEND_SCHEMA;")
+            sources = map(self.outline.source, declarations[:count])
+            others = map(empty, declarations[count:] if self.number != 3 else ())
+            pieces = itertools.chain.from_iterable((b"\n", source) for source in itertools.chain(sources, others))
+            return self.answers(b"SCHEMA s;", *pieces, b"\nEND_SCHEMA;")
 
         if not declarations or not is_refused(len(declarations)):
             return None
@@ -376,39 +491,46 @@ class Refused:
         others = [other for other in declarations if other.name == found.name and other is not found and is_kept(other)]
         if self.number == 3 and not word and not others:
             return self.place_of_redeclaration()
-        word = word or found.words[1]
-        notes = [f"{other.kind} {other.name} stands in {self.line(other.words[0])} too" for other in others]
+        word = word or found.named
+        notes = [f"{other.kind} {brief(other.name)} stands in {self.line(other.start)} too" for other in others[:MOST_TEXTS]]
         return Place(word.start, word.end, self.notes_on(word) + (notes if self.number == 3 else []))
 
     def place_of_renamed_select(self):
         """The first type that is just the name of a select."""
         for found in self.outline.types.values():
-            body = found.words[3]
-            if found.words[4].text == ";" and body.text in self.outline.types:
-                if self.outline.types[body.text].words[3].text == "SELECT":
+            body, behind = itertools.islice(found.words, 3, 5)
+            if behind.text == ";" and body.text in self.outline.types:
+                if next(itertools.islice(self.outline.types[body.text].words, 3, None)).text == "SELECT":
                     return Place(body.start, body.end, self.notes_on(body))
         return None
 
     def place_of_redeclaration(self):
         """The first statement with which the text is refused, where those behind it are blanked."""
-        statements = [words for _, words in self.outline.redeclarations()]
+        places = array.array("Q")
+        for _, statement in self.outline.redeclarations():
+            places.extend((statement.start, statement.end))
 
         def is_refused(count):
             text = bytearray(self.text)
-            for words in statements[count:]:
-                text[words[0].start : words[-1].end] = b" " * (words[-1].end - words[0].start)
-            return self.answers(bytes(text))
+            for start, end in zip(places[2 * count :: 2], places[2 * count + 1 :: 2]):
+                text[start:end] = b" " * (end - start)
+            return self.answers(text)
 
-        if not statements or not is_refused(len(statements)):
+        if not places or not is_refused(len(places) // 2):
             return None
-        words = statements[first_count(len(statements), is_refused) - 1]
-        return Place(words[0].start, words[-1].end, self.notes_on(words[0]))
+        start, end = places[2 * first_count(len(places) // 2, is_refused) - 2 :][:2]
+        return Place(start, end, self.notes_on(next(words_of(self.text, start))))
 
 
 def number_of(line):
     """The number behind the S of a schema's refusal; 0 where the line is none."""
     found = re.match(r"schema refused S(\d)", line)
     return int(found[1]) if found else 0
+
+
+def brief(text):
+    """A word of a text on one line, of which the end may be left out."""
+    return reading.shown(reading.shortened(text, 0, 60)[0])
 
 
 def first_count(count, is_true):

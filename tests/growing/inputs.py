@@ -1,10 +1,16 @@
 """Inputs for which time or memory could grow faster than their bytes, each made for a size.
 
-A generator takes a size and a folder, writes what it makes there, and answers the program's arguments.
+A generator takes a size and a folder, writes what it makes there, and answers the program's arguments. Where a schema may cost
+more than its bytes, an `Input` says by how much: how many pairs of an entity and a supertype it has, how many things its selects
+offer, and how many entities are in the sets that a file uses.
 """
+import collections
+import itertools
 import pathlib
 import random
 import subprocess
+
+Input = collections.namedtuple("Input", "arguments pairs offered used", defaults=(0, 0, 0))
 
 DEMO = pathlib.Path(__file__).resolve().parent.parent.parent / "examples" / "demo.exp"
 START = "ISO-10303-21;\nHEADER;\nFILE_DESCRIPTION((''),'2;1');\nFILE_NAME('','',(''),(''),'','','');\nFILE_SCHEMA(('%s'));\nENDSEC;\n"
@@ -39,6 +45,13 @@ def schema(folder, pieces):
     return ["schema", schema_of(folder, pieces)]
 
 
+def made_by(name, *words, folder):
+    """What a program in C that stands beside this file writes."""
+    program, source = folder / name, pathlib.Path(__file__).with_name(f"{name}.c")
+    subprocess.run(["cc", "-O2", str(source), "-o", str(program)], check=True)
+    return subprocess.run([str(program), *map(str, words)], check=True, capture_output=True, text=True).stdout
+
+
 # Files under the schema of the examples.
 
 def rising(n, folder):
@@ -57,10 +70,7 @@ def shuffled(n, folder):
 
 def colliding(n, folder):
     """Late names that a table by hashes with a fixed seed would keep in one group."""
-    maker = folder / "colliding"
-    source = pathlib.Path(__file__).with_name("colliding.c")
-    subprocess.run(["cc", "-O2", str(source), "-o", str(maker)], check=True)
-    names = subprocess.run([str(maker), str(n)], check=True, capture_output=True, text=True).stdout.split()
+    names = made_by("colliding", n, folder=folder).split()
     return check_demo(folder, [POINT % 18446744073709551615] + [POINT % int(k) for k in names])
 
 
@@ -117,7 +127,7 @@ def lists_in_lists(n, folder):
 
 def parts_of_one_instance(n, folder):
     entities = ("ENTITY a%d; x : INTEGER; END_ENTITY;\n" % k for k in range(n))
-    return check(folder, entities, ["#1=(" + "".join("A%d(1)" % k for k in range(n)) + ");\n"])
+    return Input(check(folder, entities, ["#1=(" + "".join("A%d(1)" % k for k in range(n)) + ");\n"]), used=n)
 
 
 def last_item(n, folder):
@@ -141,26 +151,429 @@ def records_in_many_oneof_lists(n, folder):
 # Schemas alone.
 
 def chain(n, folder):
-    return schema(folder, ["ENTITY e0; END_ENTITY;\n", *("ENTITY e%d SUBTYPE OF (e%d); END_ENTITY;\n" % (k, k - 1) for k in range(1, n))])
+    members = ("ENTITY e%d SUBTYPE OF (e%d); END_ENTITY;\n" % (k, k - 1) for k in range(1, n))
+    return Input(schema(folder, ["ENTITY e0; END_ENTITY;\n", *members]), pairs=n * n // 2)
 
 
 def diamonds(n, folder):
     levels = ("ENTITY %s%d SUBTYPE OF (a%d, b%d); END_ENTITY;\n" % (side, k, k - 1, k - 1) for k in range(1, n) for side in "ab")
-    return schema(folder, ["ENTITY a0; END_ENTITY; ENTITY b0; END_ENTITY;\n", *levels])
+    return Input(schema(folder, ["ENTITY a0; END_ENTITY; ENTITY b0; END_ENTITY;\n", *levels]), pairs=2 * n * n)
 
 
 def selects(n, folder):
     entities = ("ENTITY e%d; END_ENTITY;\n" % k for k in range(n))
     chain = ("TYPE s%d = SELECT (s%d, e%d); END_TYPE;\n" % (k, k - 1, k) for k in range(1, n))
-    return schema(folder, [*entities, "TYPE s0 = SELECT (e0); END_TYPE;\n", *chain])
+    return Input(schema(folder, [*entities, "TYPE s0 = SELECT (e0); END_TYPE;\n", *chain]), offered=n * n // 2)
 
 
 def chain_with_oneof_lists(n, folder):
     members = ("ENTITY e%d SUBTYPE OF (e%d); END_ENTITY;\n" % (k, k - 1) for k in range(1, n))
     lists = ("ENTITY r%d_%d SUPERTYPE OF (ONEOF (e%d)); END_ENTITY;\n" % (k, j, k) for k in range(n) for j in range(20))
-    return schema(folder, ["ENTITY e0; END_ENTITY;\n", *members, *lists])
+    return Input(schema(folder, ["ENTITY e0; END_ENTITY;\n", *members, *lists]), pairs=n * n // 2)
 
 
 def chain_that_redeclares(n, folder):
     members = ("ENTITY e%d SUBTYPE OF (e%d); x%d : NUMBER; SELF\\e%d.x%d : INTEGER; END_ENTITY;\n" % (k, k - 1, k, k - 1, k - 1) for k in range(1, n))
-    return schema(folder, ["ENTITY e0; x0 : NUMBER; END_ENTITY;\n", *members])
+    return Input(schema(folder, ["ENTITY e0; x0 : NUMBER; END_ENTITY;\n", *members]), pairs=n * n // 2)
+
+
+# Sets of entities: large ones, many of them, and what is asked of each.
+
+def entities(names):
+    return ("ENTITY %s; END_ENTITY;\n" % name for name in names)
+
+
+def below_all(name, names):
+    """An entity whose set holds all of these."""
+    return "ENTITY %s SUBTYPE OF (%s); END_ENTITY;\n" % (name, ",".join(names))
+
+
+def numbered(stem, count):
+    return ["%s%06d" % (stem, k) for k in range(count)]
+
+
+def sections_with_a_large_set(n, folder):
+    names = numbered("e", n)
+    pieces = ("DATA('%d',('S'));#%d=Z();ENDSEC;\n" % (k, k) for k in range(n))
+    file = write(folder, "f.step", [START % "S", *pieces, END])
+    return Input(["check", schema_of(folder, [*entities(names), below_all("z", names)]), file], pairs=n, used=n)
+
+
+def chain_in_use(n, folder):
+    members = ("ENTITY e%d SUBTYPE OF (e%d); END_ENTITY;\n" % (k, k - 1) for k in range(1, n))
+    lines = ("#%d=E%d();\n" % (k + 1, k) for k in range(n))
+    return Input(check(folder, ["ENTITY e0; END_ENTITY;\n", *members], lines), pairs=n * n // 2, used=n * n // 2)
+
+
+def references_by_a_select(n, folder):
+    names = numbered("e", n)
+    declarations = [*entities(names), below_all("zz", names), "TYPE t = SELECT (zz, q); END_TYPE; ENTITY q; x : LIST OF t; END_ENTITY;\n"]
+    return Input(check(folder, declarations, ["#1=ZZ();\n", "#2=Q((" + ",".join(["#1"] * 8 * n) + "));\n"]), pairs=n, used=n)
+
+
+def references_to_a_large_set(n, folder):
+    names = numbered("e", n)
+    declarations = [*entities(names), below_all("zz", names), "ENTITY q; x : LIST OF zz; END_ENTITY;\n"]
+    return Input(check(folder, declarations, ["#1=ZZ();\n", "#2=Q((" + ",".join(["#1"] * 8 * n) + "));\n"]), pairs=n, used=n)
+
+
+def references_ahead_by_a_select(n, folder):
+    names = numbered("e", n)
+    declarations = [*entities(names), below_all("zz", names), "TYPE t = SELECT (zz, q); END_TYPE; ENTITY q; x : LIST OF t; END_ENTITY;\n"]
+    return Input(check(folder, declarations, ["#2=Q((" + ",".join(["#5"] * 8 * n) + "));\n", "#5=ZZ();\n"]), pairs=n, used=n)
+
+
+def sets_that_take_turns(n, folder):
+    """Records of 40 parts each, whose sets are 17."""
+    names = numbered("e", 57)
+    lines = ("#%d=(%s);\n" % (k + 1, "".join("%s()" % name.upper() for name in names[k % 17 : k % 17 + 40])) for k in range(n))
+    return check(folder, entities(names), lines)
+
+
+def sets_of_four(n, folder):
+    names = numbered("a", 64)
+    sets = itertools.islice(itertools.combinations(names, 4), n)
+    lines = ("#%d=(%s);\n" % (k + 1, "".join("%s()" % name.upper() for name in chosen)) for k, chosen in enumerate(sets))
+    return Input(check(folder, entities(names), lines), used=4 * n)
+
+
+def colliding_sets(n, folder):
+    lines = made_by("colliding_sets", n, 12, 8, folder=folder)
+    return Input(check(folder, entities("a%02d" % k for k in range(64)), [lines]), used=8 * n)
+
+
+def record_of_many_parts(n, folder):
+    names = numbered("a", n)
+    lines = ("#%d=(%s);\n" % (k, "".join("%s()" % name.upper() for name in names[: n - k % 2])) for k in (1, 2, 3, 4))
+    return Input(check(folder, entities(names), lines), used=2 * n)
+
+
+def large_sets_in_turn(n, folder):
+    """Two entities whose sets are alike but for one entity in the middle."""
+    names = numbered("e", n)
+    declarations = [*entities(names), below_all("e000000a", names), below_all("e000000b", names)]
+    lines = ("#%d=E000000%s();\n" % (k, "AB"[k % 2]) for k in range(8 * n))
+    return Input(check(folder, declarations, lines), pairs=2 * n, used=2 * n)
+
+
+def parts_that_redeclare(n, folder):
+    places = "".join("x%d : NUMBER; " % k for k in range(n))
+    leaves = ("ENTITY a%06d SUBTYPE OF (r); SELF\\r.x%d : INTEGER; END_ENTITY;\n" % (k, k) for k in range(n))
+    parts = "".join("A%06d()" % k for k in range(n))
+    lines = ("#%d=(%sR(%s));\n" % (k + 1, parts, ",".join(["1"] * n)) for k in range(2))
+    return Input(check(folder, ["ENTITY r; " + places + "END_ENTITY;\n", *leaves], lines), pairs=n, used=n)
+
+
+def chain_that_redeclares_one_place(n, folder):
+    members = ("ENTITY a%06d SUBTYPE OF (a%06d); SELF\\r.x : NUMBER; END_ENTITY;\n" % (k, k - 1) for k in range(1, n))
+    declarations = ["ENTITY r; x : NUMBER; END_ENTITY;\n", "ENTITY a000000 SUBTYPE OF (r); SELF\\r.x : NUMBER; END_ENTITY;\n", *members, "ENTITY b; END_ENTITY;\n"]
+    lines = ("#%d=(%sB()R(1));\n" % (k + 1, "".join("A%06d()" % k for k in range(n))) for k in range(2))
+    return Input(check(folder, declarations, lines), pairs=n * n // 2, used=n)
+
+
+def records_under_oneof_lists(n, folder):
+    names, others = ["a%02d" % k for k in range(16)], ["x%02d" % k for k in range(17)]
+    lists = ("ENTITY r%d_%s SUPERTYPE OF (ONEOF (%s)); END_ENTITY;\n" % (k, name, name) for k in range(n) for name in names)
+    body = "".join("%s()" % name.upper() for name in names)
+    lines = ("#%d=(%s%s());\n" % (k + 1, body, others[k % 17].upper()) for k in range(n))
+    return check(folder, [*entities(names + others), *lists], lines)
+
+
+# Schemas with a file that uses little of them.
+
+def wide_subtypes(n, folder):
+    names = numbered("e", n)
+    lower = ("ENTITY y%d SUBTYPE OF (z); END_ENTITY;\n" % k for k in range(n))
+    return Input(check(folder, [*entities(names), below_all("z", names), *lower], []), pairs=n * n)
+
+
+def redeclared_fan(n, folder):
+    names = ",".join("a%d" % k for k in range(n))
+    anew = "".join("SELF\\b.a%d : REAL;" % k for k in range(n))
+    lower = ("ENTITY e%d SUBTYPE OF (c); END_ENTITY;\n" % k for k in range(n))
+    return Input(check(folder, ["ENTITY b; " + names + " : NUMBER; END_ENTITY;\nENTITY c SUBTYPE OF (b); " + anew + "END_ENTITY;\n", *lower], []), pairs=2 * n)
+
+
+def all_redeclared(n, folder):
+    names = ",".join("a%d" % k for k in range(n))
+    anew = "".join("SELF\\b.a%d : REAL;" % k for k in range(n))
+    return schema(folder, ["ENTITY b; " + names + " : NUMBER; END_ENTITY;\nENTITY c SUBTYPE OF (b); " + anew + "END_ENTITY;\n"])
+
+
+def all_derived(n, folder):
+    names = ",".join("a%d" % k for k in range(n))
+    anew = "".join("SELF\\b.a%d : REAL := 1;" % k for k in range(n))
+    return schema(folder, ["ENTITY b; " + names + " : NUMBER; END_ENTITY;\nENTITY c SUBTYPE OF (b); DERIVE " + anew + "END_ENTITY;\n"])
+
+
+def one_redeclared(n, folder):
+    names = ",".join("a%d" % k for k in range(n))
+    lower = ("ENTITY e%d SUBTYPE OF (c); END_ENTITY;\n" % k for k in range(n))
+    return Input(check(folder, ["ENTITY b; " + names + " : NUMBER; END_ENTITY;\nENTITY c SUBTYPE OF (b); SELF\\b.a0 : REAL; END_ENTITY;\n", *lower], []), pairs=2 * n)
+
+
+def redeclared_by_many(n, folder):
+    names = numbered("a", n)
+    anew = ("ENTITY %s SUBTYPE OF (r); DERIVE SELF\\r.x : REAL := 1; END_ENTITY;\n" % name for name in names)
+    lower = ("ENTITY z%d SUBTYPE OF (j); END_ENTITY;\n" % k for k in range(n))
+    return Input(check(folder, ["ENTITY r; x : NUMBER; END_ENTITY;\n", *anew, below_all("j", names), *lower], []), pairs=n * n)
+
+
+def redeclared_of_many(n, folder):
+    names = numbered("r", n)
+    owners = ("ENTITY %s; x : NUMBER; END_ENTITY;\n" % name for name in names)
+    anew = "".join("SELF\\%s.x : REAL; " % name for name in names)
+    lower = ("ENTITY z%d SUBTYPE OF (c); END_ENTITY;\n" % k for k in range(n))
+    return Input(check(folder, [*owners, "ENTITY c SUBTYPE OF (" + ",".join(names) + "); " + anew + "END_ENTITY;\n", *lower], []), pairs=n * n)
+
+
+def owners_by_a_lower_name(n, folder):
+    names = numbered("r", n)
+    owners = ("ENTITY %s; x%d : NUMBER; END_ENTITY;\n" % (name, k) for k, name in enumerate(names))
+    anew = "".join("SELF\\c.x%d : REAL; " % k for k in range(n))
+    return Input(check(folder, [*owners, below_all("c", names), "ENTITY d SUBTYPE OF (c); " + anew + "END_ENTITY;\n"], []), pairs=2 * n)
+
+
+def owners_by_a_lower_name_each(n, folder):
+    names = numbered("r", n)
+    owners = ("ENTITY %s; x%d : NUMBER; END_ENTITY;\n" % (name, k) for k, name in enumerate(names))
+    anew = ("ENTITY d%d SUBTYPE OF (c); SELF\\c.x%d : REAL; END_ENTITY;\n" % (k, k) for k in range(n))
+    return Input(check(folder, [*owners, below_all("c", names), *anew], []), pairs=n * n)
+
+
+def oneof_lists_above_many(n, folder):
+    names = ["a%d" % k for k in range(16)]
+    lists = ("ENTITY r%d_%s SUPERTYPE OF (ONEOF (%s)); END_ENTITY;\n" % (k, name, name) for k in range(n) for name in names)
+    lower = ("ENTITY e%d SUBTYPE OF (%s); END_ENTITY;\n" % (k, ",".join(names)) for k in range(n))
+    return Input(check(folder, [*entities(names), *lists, *lower], []), pairs=16 * n)
+
+
+def deep_attributes(n, folder):
+    names = ",".join("a%d" % k for k in range(n))
+    return schema(folder, ["ENTITY e; " + names + " : OPTIONAL " + "LIST OF " * 32 + "REAL; END_ENTITY;\n"])
+
+
+def deep_attributes_in_use(n, folder):
+    names = ",".join("a%d" % k for k in range(n))
+    lower = ("ENTITY e%d SUBTYPE OF (b); END_ENTITY;\n" % k for k in range(n))
+    lines = ("#%d=E%d(%s);\n" % (k + 1, k, ",".join(["$"] * n)) for k in range(n))
+    return Input(check(folder, ["ENTITY b; " + names + " : OPTIONAL " + "LIST OF " * 32 + "REAL; END_ENTITY;\n", *lower], lines), pairs=n, used=2 * n)
+
+
+def selects_of_a_wide_one(n, folder):
+    names = numbered("e", n)
+    wide = "TYPE s0 = SELECT (" + ",".join(names) + "); END_TYPE;\n"
+    return Input(check(folder, [*entities(names), wide, *("TYPE t%d = SELECT (s0); END_TYPE;\n" % k for k in range(n))], []), offered=n * n)
+
+
+def chain_of_a_wide_select(n, folder):
+    names = numbered("e", n)
+    wide = "TYPE s0 = SELECT (" + ",".join(names) + "); END_TYPE;\n"
+    return Input(check(folder, [*entities(names), wide, *("TYPE s%d = SELECT (s%d); END_TYPE;\n" % (k, k - 1) for k in range(1, n))], []), offered=n * n)
+
+
+def ladder_of_selects(n, folder):
+    rungs = ("TYPE %s%d = SELECT (a%d, b%d); END_TYPE;\n" % (side, k, k - 1, k - 1) for k in range(1, n) for side in "ab")
+    return check(folder, ["ENTITY e; END_ENTITY; TYPE a0 = SELECT (e); END_TYPE; TYPE b0 = SELECT (e); END_TYPE;\n", *rungs], [])
+
+
+def renamed_types_alone(n, folder):
+    return check(folder, ["TYPE t0 = INTEGER; END_TYPE;\n", *("TYPE t%d = t%d; END_TYPE;\n" % (k, k - 1) for k in range(1, n))], [])
+
+
+def colliding_words(n, folder):
+    return made_by("colliding_names", n, 15, 9, folder=folder).lower().split()
+
+
+def colliding_attributes(n, folder):
+    return schema(folder, ["ENTITY e; ", ",".join(colliding_words(n, folder)), " : REAL; END_ENTITY;\n"])
+
+
+def colliding_entities(n, folder):
+    return check(folder, entities(colliding_words(n, folder)), [])
+
+
+def colliding_items(n, folder):
+    return check(folder, ["TYPE t = ENUMERATION OF (", ",".join(colliding_words(n, folder)), "); END_TYPE;\n"], [])
+
+
+# Files of one kind of thing, as many as there may be.
+
+USUAL = (
+    "ENTITY a; x : LIST OF a; END_ENTITY;\nENTITY b; s : OPTIONAL STRING; END_ENTITY; ENTITY c; END_ENTITY; TYPE t = REAL; END_TYPE;"
+    " TYPE u = SELECT (t, c); END_TYPE; ENTITY d; y : LIST OF LIST OF LIST OF INTEGER; END_ENTITY; ENTITY e; z : LIST OF u; END_ENTITY;"
+    " ENTITY f; v : SET OF SET OF SET OF INTEGER; w : LIST OF NUMBER; END_ENTITY;\n"
+)
+
+
+def of_lines(made):
+    return lambda n, folder: check(folder, [USUAL], made(n))
+
+
+def of_file(made):
+    return lambda n, folder: ["check", schema_of(folder, [USUAL]), write(folder, "f.step", made(n))]
+
+
+def of_schema(made):
+    return lambda n, folder: check(folder, made(n), [])
+
+
+def header_with(text):
+    return START.replace("ENDSEC;", text + "ENDSEC;") % "S"
+
+
+EMPTY = "DATA;\nENDSEC;\n" + END
+NESTED = "(" * 59 + "()" + ",())" * 59
+
+LINES = {
+    "references_ahead_in_one_list": lambda n: ["#1=A((" + ",".join(["#9"] * n) + "));\n", "#9=A(());\n"],
+    "references_ahead_in_many_lists": lambda n: [*("#%d=A((%s));\n" % (k + 10, ",".join(["#9"] * 20)) for k in range(n)), "#9=A(());\n"],
+    "references_that_wait": lambda n: ("#%d=A((#%d,#%d,#%d));\n" % (k, 3 * k + 10**7, 3 * k + 1 + 10**7, 3 * k + 2 + 10**7) for k in range(n)),
+    "references_served_in_turn": lambda n: ("#%d=A((#%d));\n" % (k ^ 1023, (k + 1) % (n | 1023) ^ 1023) for k in range((n | 1023) + 1)),
+    "shortest_instances": lambda n: ("#%d=C();" % k for k in range(n)),
+    "shortest_instances_falling": lambda n: ("#%d=C();" % (n - k) for k in range(n)),
+    "large_names_falling": lambda n: ("#%d=C();" % (10**9 + n - k) for k in range(n)),
+    "late_names_below_a_large_one": lambda n: ["#18446744073709551615=C();\n", *("#%d=C();\n" % (max(262144, 16 * k) - 1 - (k if k * 16 < 262144 else 0)) for k in range(1, n))],
+    "late_names_without_gaps": lambda n: ["#%d=C();\n" % (n + 1), *("#%d=C();\n" % k for k in range(n))],
+    "lists_of_lists": lambda n: ["#1=D((" + ",".join(["((1,1),(1,1))"] * n) + "));\n"],
+    "empty_lists": lambda n: ["#1=D((" + ",".join(["()"] * n) + "));\n"],
+    "lists_of_empty_lists": lambda n: ["#1=D((" + ",".join(["(())"] * n) + "));\n"],
+    "typed_parameters": lambda n: ["#1=E((" + ",".join(["T(1.)"] * n) + "));\n"],
+    "sets_of_sets": lambda n: ["#1=F((" + ",".join("((%d))" % k for k in range(n)) + "),());\n"],
+    "numbers": lambda n: ["#1=F((),(" + ",".join(["1"] * n) + "));\n"],
+    "letters_of_two_bytes": lambda n: ["#1=B('" + "\xc3\xa9" * n + "');\n"],
+    "letters_of_four_bytes": lambda n: ["#1=B('" + "\xf0\x9f\x98\x80" * n + "');\n"],
+    "letters_by_directives": lambda n: ["#1=B('" + "\\S\\i" * n + "');\n"],
+    "apostrophes": lambda n: ["#1=B('" + "''" * n + "');\n"],
+    "many_short_strings": lambda n: ("#%d=B('%s');\n" % (k, "\xc3\xa9" * 30) for k in range(n)),
+    "long_lines_one_after_another": lambda n: ("#%d=B('%s');\n" % (k, "a" * 100_000) for k in range(n)),
+    "digits_of_one_number": lambda n: ["#1=F((),(" + "9" * n + "));\n"],
+    "digits_of_one_real": lambda n: ["#1=F((),(" + "9" * n + ".5E-%d));\n" % max(n - 100, 0)],
+    "parentheses_that_stay_open": lambda n: ["#1=C" + "(" * n],
+    "one_keyword_in_parts": lambda n: ["#1=(" + "C()" * n + ");"],
+    "a_long_keyword": lambda n: ["#1=" + "K" * n + "();"],
+    "a_long_item": lambda n: ["#1=B(." + "K" * n + ".);"],
+    "a_long_binary": lambda n: ['#1=B("0' + "F" * n + '");'],
+    "zeros_of_one_name": lambda n: ["#" + "0" * n + "1=C();"],
+    "remarks": lambda n: ["/**/" * n],
+    "a_remark_of_stars": lambda n: ["/*" + "*" * n + "*/"],
+}
+WHOLE = {
+    "empty_sections": lambda n: [START % "S", *("DATA('%d',('S'));ENDSEC;\n" % k for k in range(n)), END],
+    "sections_of_one_instance": lambda n: [START % "S", *("DATA('%d',('S'));#%d=C();ENDSEC;\n" % (k, k) for k in range(n)), END],
+    "a_section_with_a_long_name": lambda n: [START % "S", "DATA('", "a" * n, "',('S'));ENDSEC;\n", END],
+    "sections_with_blanks_in_the_schema_text": lambda n: [START % "S", *("DATA('%d',('S%s'));ENDSEC;\n" % (k, " " * 1000) for k in range(n)), END],
+    "header_records": lambda n: [header_with("".join("A%d((1,1),(1,1));\n" % k for k in range(n))), EMPTY],
+    "equal_header_records": lambda n: [header_with("X();" * n), EMPTY],
+    "a_list_in_the_header": lambda n: [header_with("X((" + ",".join(["()"] * n) + "));"), EMPTY],
+    "a_long_description": lambda n: [(START % "S").replace("((''),'2;1')", "((" + ",".join(["''"] * n) + "),'2;1')"), EMPTY],
+}
+TEXTS = {
+    "a_long_name_of_a_schema": lambda n: ["ENTITY " + "e" * n + "; END_ENTITY;\n"],
+    "attributes_of_one_type": lambda n: ["ENTITY e; " + ",".join("a%d" % k for k in range(n)) + " : REAL; END_ENTITY;\n"],
+    "attributes_one_by_one": lambda n: ["ENTITY e; " + "".join("a%d:REAL;" % k for k in range(n)) + "END_ENTITY;\n"],
+    "items": lambda n: ["TYPE e = ENUMERATION OF (" + ",".join("a%d" % k for k in range(n)) + "); END_TYPE;\n"],
+    "deep_bags": lambda n: ["ENTITY e; " + "".join("a%d:" % k + "BAG OF " * 32 + "REAL;" for k in range(n)) + "END_ENTITY;\n"],
+    "plain_entities": lambda n: entities("e%d" % k for k in range(n)),
+    "rules_of_one_entity": lambda n: ["ENTITY e; WHERE " + "a:1;" * n + "END_ENTITY;\n"],
+    "remarks_in_remarks": lambda n: ["(*" * n + "*)" * n],
+    "one_oneof_list": lambda n: ["ENTITY e SUPERTYPE OF (ONEOF (" + ",".join("a%d" % k for k in range(n)) + ")); END_ENTITY;\n", *entities("a%d" % k for k in range(n))],
+    "derived_attributes": lambda n: ["ENTITY e; DERIVE " + "".join("a%d:REAL:=1;" % k for k in range(n)) + "END_ENTITY;\n"],
+    "supertypes_of_one_entity": lambda n: [*entities("a%d" % k for k in range(n)), below_all("e", ["a%d" % k for k in range(n)])],
+}
+
+
+def values_by_a_chain_of_selects(n, folder):
+    """Typed values at the last of selects, each of which has the one before."""
+    chain = ("TYPE s%d = SELECT (s%d); END_TYPE;\n" % (k, k - 1) for k in range(1, n))
+    declarations = ["TYPE t = INTEGER; END_TYPE;\nTYPE s0 = SELECT (t); END_TYPE;\n", *chain, "ENTITY a; x : LIST OF s%d; END_ENTITY;\n" % (n - 1)]
+    return Input(check(folder, declarations, ["#1=A((" + ",".join(["T(1)"] * n) + "));\n"]), offered=n)
+
+
+def values_typed_by_renamed_types(n, folder):
+    """Each value with the name of another type, each of which renames the one before."""
+    types = ("TYPE t%d = t%d; END_TYPE;\n" % (k, k - 1) for k in range(1, n))
+    names = ",".join("t%d" % k for k in range(n))
+    declarations = ["TYPE t0 = INTEGER; END_TYPE;\n", *types, "TYPE s = SELECT (" + names + "); END_TYPE; ENTITY a; x : LIST OF s; END_ENTITY;\n"]
+    return Input(check(folder, declarations, ["#1=A((" + ",".join("T%d(1)" % k for k in range(n)) + "));\n"]), offered=n)
+
+
+def sections_of_other_sets(n, folder):
+    """Each section with instances of the same twenty sets."""
+    names = numbered("e", 20)
+    lines = ("DATA('%d',('S'));%sENDSEC;\n" % (k, "".join("#%d=%s();" % (20 * k + j, name.upper()) for j, name in enumerate(names))) for k in range(n))
+    return Input(["check", schema_of(folder, entities(names)), write(folder, "f.step", [START % "S", *lines, END])], used=20 * n)
+
+
+def references_by_a_select_of_each_entity(n, folder):
+    names = numbered("e", n)
+    declarations = [*entities(names), "TYPE t = SELECT (" + ",".join(names) + "); END_TYPE; ENTITY q; x : LIST OF t; END_ENTITY;\n"]
+    lines = ["#%d=%s();\n" % (k + 2, name.upper()) for k, name in enumerate(names)]
+    return Input(check(folder, declarations, [*lines, "#1=Q((" + ",".join("#%d" % (k + 2) for k in range(n)) + "));\n"]), offered=n, used=n)
+
+
+def references_ahead_to_each_entity(n, folder):
+    """Each reference is of another entity's attribute, and waits."""
+    names = numbered("e", n)
+    owners = ("ENTITY q%s; x : %s; END_ENTITY;\n" % (name, name) for name in names)
+    lines = ["#%d=Q%s(#%d);\n" % (k + 1, name.upper(), n + k + 1) for k, name in enumerate(names)]
+    lines += ["#%d=%s();\n" % (n + k + 1, name.upper()) for k, name in enumerate(names)]
+    return Input(check(folder, [*entities(names), *owners], lines), used=2 * n)
+
+
+def names_that_begin_alike(n, folder):
+    return check(folder, entities("e" * 1000 + "%06d" % k for k in range(n)), [])
+
+
+def texts_that_begin_alike(n, folder):
+    elements = ",".join("'%s%06d'" % ("a" * 1000, k * 7919 % n) for k in range(n))
+    return check(folder, ["ENTITY a; x : SET OF STRING; END_ENTITY;\n"], ["#1=A((" + elements + "));\n"])
+
+
+def sets_32_deep(n, folder):
+    elements = ",".join("(" * 31 + "%d" % (k * 7919 % n) + ")" * 31 for k in range(n))
+    return check(folder, ["ENTITY a; x : " + "SET OF " * 32 + "INTEGER; END_ENTITY;\n"], ["#1=A((" + elements + "));\n"])
+
+
+def layers_that_share_all(n, folder):
+    """Layers of 40 entities, each below all of the layer before."""
+    layer = lambda k: ",".join("e%d_%d" % (k, j) for j in range(40))
+    lower = ("ENTITY e%d_%d SUBTYPE OF (%s); END_ENTITY;\n" % (k, j, layer(k - 1)) for k in range(1, n) for j in range(40))
+    return Input(schema(folder, [*entities(layer(0).split(",")), *lower]), pairs=800 * n * n)
+
+
+def constraints_of_one_entity(n, folder):
+    names = numbered("e", n)
+    listed = " ANDOR ".join("ONEOF (%s, %s)" % (names[k - 1], name) for k, name in enumerate(names))
+    return check(folder, ["ENTITY z SUPERTYPE OF (" + listed + "); END_ENTITY;\n", *("ENTITY %s SUBTYPE OF (z); END_ENTITY;\n" % name for name in names)], [])
+
+
+def inverse_attributes(n, folder):
+    inverse = "".join("i%d : SET OF q FOR x; " % k for k in range(n))
+    return check(folder, ["ENTITY q; x : a; END_ENTITY;\nENTITY a; INVERSE " + inverse + "END_ENTITY;\n"], [])
+
+
+def functions_in_functions(n, folder):
+    return check(folder, ["FUNCTION f : REAL; " * n + "END_FUNCTION; " * n], [])
+
+
+def instances_of_one_long_chain(n, folder):
+    """Instances of external mapping that name all of a chain, with an attribute each, and the next with one part less."""
+    members = ("ENTITY e%04d SUBTYPE OF (e%04d); x%d : INTEGER; END_ENTITY;\n" % (k, k - 1, k) for k in range(1, 60))
+    parts = ["E%04d(%d)" % (k, k) for k in range(60)]
+    lines = ("#%d=(%s);\n" % (k + 1, "".join(parts[: 60 - k % 20])) for k in range(n))
+    return check(folder, ["ENTITY e0000; x0 : INTEGER; END_ENTITY;\n", *members], lines)
+
+
+def schema_with_rules_in_parentheses(n, folder):
+    return check(folder, ["ENTITY e; WHERE a: " + "(" * n + "1" + ")" * n + "; END_ENTITY;\n"], [])
+
+
+def lists_nested_with_a_second_element(n, folder):
+    declarations = ["TYPE t = " + "LIST OF " * 30 + "REAL; END_TYPE;\n", "ENTITY a; x : " + "LIST OF " * 32 + "t; END_ENTITY;\n"]
+    return check(folder, declarations, ["#1=A((" + ",".join([NESTED] * n) + "));\n"])
+
+
+globals().update({name: of_lines(made) for name, made in LINES.items()})
+globals().update({name: of_file(made) for name, made in WHOLE.items()})
+globals().update({name: of_schema(made) for name, made in TEXTS.items()})

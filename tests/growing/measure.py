@@ -1,16 +1,27 @@
 #!/usr/bin/env python3
-"""Measures how the program's time and memory grow with its input: each input at a size and at four times that size.
+"""Measures how the program's time and memory grow with its input.
 
-  tests/growth.sh [NAME..]
+  tests/growth.sh [--second SECONDS] [--table] [NAME..]
 
-The program is that of the environment variable P21, else ./p21. A line for each input; the status is 1 where a bound is passed.
+For each input a size is looked for at which a run takes as long as `--second` says (0.12 seconds of a processor, so that the
+last of three doublings takes one); then it is doubled three times, and the exponent of the growth of time over bytes is fitted.
+Each run is held against what its input may cost (docs/PERFORMANCE.md): for each byte 40 times what sha256sum takes for one, and 45
+bytes of memory; for each pair of an entity and a supertype, and each thing that a select offers, 20 ns and 4 bytes; for each
+entity of a set that a file uses 50 ns and 8 bytes. Memory is that of the program alone (alone.c).
+
+An input that is over its bounds today has a mark in OPEN, with how many times over the bounds it is. The status is 1 where one
+without a mark is over the bounds, and where one with a mark is worse than its mark says. `--table` prints the marks as they
+would have to be. The program is that of the environment variable P21, else ./p21.
 """
+import argparse
+import math
 import os
 import pathlib
-import resource
+import shutil
 import subprocess
 import sys
 import tempfile
+import time
 from collections import namedtuple
 
 import inputs
@@ -18,98 +29,225 @@ import inputs
 ROOT = pathlib.Path(__file__).resolve().parent.parent.parent
 PROGRAM = os.environ.get("P21", str(ROOT / "p21"))
 
-# Time and memory at four times the size, at most so many times those at the size.
-LINEAR, SQUARE = 5.5, 18
-# A run of less than so many seconds says nothing of its growth.
-FLOOR = 0.02
+# What every run may take: seconds and bytes.
+SECONDS_ALWAYS, BYTES_ALWAYS = 0.02, 4_000_000
+SHA_TIMES, BYTES_A_BYTE = 40, 45
+SECONDS_A_PAIR, BYTES_A_PAIR = 20e-9, 4
+SECONDS_OF_USE, BYTES_OF_USE = 50e-9, 8
+# A machine at work measures up to so many times what it does alone; a mark says what was seen once.
+NOISE = 1.5
+# A run ends after so many seconds. No larger one is tried behind one that took so many seconds, or read or took so many bytes.
+MOST_SECONDS = 60
+LONG, LARGE, MUCH = 4, 150_000_000, 1_000_000_000
 
-# An input at its size; `growth` bounds the ratios, `seconds` and `megabytes` the larger run, where one is stated.
-# Of a file, a third of a second a megabyte is the bound in seconds where none is stated.
-Row = namedtuple("Row", "name size growth seconds megabytes", defaults=(LINEAR, None, None))
+# An input from its smallest size on; a greater size than the second isn't a text of its kind, or one of too many bytes.
+Row = namedtuple("Row", "name least most", defaults=(100_000_000,))
+# How many times over the bounds an input was seen in time and in memory, at texts of so many megabytes at most, and what the
+# largest run took.
+Open = namedtuple("Open", "time memory megabytes seen")
+Run = namedtuple("Run", "size bytes seconds peak time memory")
 
-FILES = [
-    Row("rising", 50_000),
-    Row("falling", 50_000),
-    Row("shuffled", 50_000),
-    Row("colliding", 12_500),
-    Row("sections", 16_000),
-    Row("sections_with_long_names", 1_000),
-    Row("references_ahead", 25_000),
-    Row("set_of_references", 25_000),
-    Row("bag_of_numbers", 100_000),
-    Row("lists_of_one", 250_000),
-    Row("list_of_digits", 250_000),
-    Row("lists_of_two", 100_000),
-    Row("records_of_one_keyword", 125_000),
-    Row("lists_in_lists", 5_000),
-    Row("parts_of_one_instance", 2_000),
-    Row("last_item", 4_000),
-    Row("renamed_types", 2_000),
-    Row("records_in_many_oneof_lists", 500),
+# What the schema of an input holds is limited in number; a text of a schema has at most 16 MB.
+ENTITIES = 60_000
+MOST_OF_TEXT = {
+    "a_long_name_of_a_schema": 16_000_000,
+    "attributes_of_one_type": 1_500_000,
+    "attributes_one_by_one": 1_000_000,
+    "items": 1_500_000,
+    "rules_of_one_entity": 4_000_000,
+    "remarks_in_remarks": 4_000_000,
+    "derived_attributes": 800_000,
+}
+ROWS = [
+    *(Row(name, 1_000) for name in inputs.LINES if name not in ("long_lines_one_after_another", "parentheses_that_stay_open")),
+    Row("long_lines_one_after_another", 8),
+    Row("parentheses_that_stay_open", 1_000_000, 8_000_000),
+    *(Row(name, 500) for name in inputs.WHOLE),
+    *(Row(name, 500, MOST_OF_TEXT.get(name, ENTITIES)) for name in inputs.TEXTS),
+    *(Row(name, 2_000) for name in ("rising", "falling", "shuffled", "colliding", "references_ahead", "set_of_references")),
+    *(Row(name, 2_000) for name in ("bag_of_numbers", "lists_of_one", "list_of_digits", "lists_of_two", "records_of_one_keyword")),
+    Row("sections", 1_000),
+    Row("sections_with_long_names", 50),
+    Row("lists_in_lists", 200),
+    Row("lists_nested_with_a_second_element", 50),
+    Row("parts_of_one_instance", 500, ENTITIES),
+    Row("last_item", 500),
+    Row("renamed_types", 500, ENTITIES),
+    Row("records_in_many_oneof_lists", 100),
+    *(Row(name, 100, ENTITIES // 2) for name in ("chain", "diamonds", "selects")),
+    Row("chain_with_oneof_lists", 20, ENTITIES // 21),
+    Row("chain_that_redeclares", 50, ENTITIES),
+    *(Row(name, 200, ENTITIES // 2) for name in ("sections_with_a_large_set", "chain_in_use", "large_sets_in_turn")),
+    *(Row(name, 200, ENTITIES // 2) for name in ("references_by_a_select", "references_to_a_large_set", "references_ahead_by_a_select")),
+    Row("sets_that_take_turns", 200),
+    Row("sets_of_four", 1_000, 600_000),
+    Row("colliding_sets", 500),
+    *(Row(name, 100, ENTITIES // 2) for name in ("record_of_many_parts", "parts_that_redeclare", "chain_that_redeclares_one_place")),
+    Row("records_under_oneof_lists", 50, ENTITIES // 17),
+    *(Row(name, 50, ENTITIES // 3) for name in ("wide_subtypes", "redeclared_fan", "one_redeclared", "redeclared_by_many")),
+    *(Row(name, 50, ENTITIES // 3) for name in ("redeclared_of_many", "owners_by_a_lower_name", "owners_by_a_lower_name_each")),
+    *(Row(name, 200, 400_000) for name in ("all_redeclared", "all_derived", "deep_attributes")),
+    Row("oneof_lists_above_many", 50, ENTITIES // 17),
+    Row("deep_attributes_in_use", 20, ENTITIES // 2),
+    *(Row(name, 100, ENTITIES // 2) for name in ("selects_of_a_wide_one", "chain_of_a_wide_select", "ladder_of_selects")),
+    Row("renamed_types_alone", 500, ENTITIES),
+    *(Row(name, 1_000, 1_500_000) for name in ("colliding_attributes", "colliding_items")),
+    Row("colliding_entities", 1_000, ENTITIES),
+    Row("schema_with_rules_in_parentheses", 1_000, 8_000_000),
+    *(Row(name, 200, ENTITIES // 2) for name in ("values_by_a_chain_of_selects", "values_typed_by_renamed_types")),
+    *(Row(name, 200, ENTITIES // 3) for name in ("references_by_a_select_of_each_entity", "references_ahead_to_each_entity")),
+    *(Row(name, 100) for name in ("sections_of_other_sets", "texts_that_begin_alike", "sets_32_deep", "instances_of_one_long_chain")),
+    Row("names_that_begin_alike", 100, 15_000),
+    Row("layers_that_share_all", 5, 500),
+    Row("constraints_of_one_entity", 100, ENTITIES // 2),
+    *(Row(name, 500, 400_000) for name in ("inverse_attributes", "functions_in_functions")),
 ]
-SCHEMAS = [
-    Row("chain", 2_000, SQUARE, 0.7, 130),
-    Row("diamonds", 500, SQUARE),
-    Row("selects", 2_000, SQUARE),
-    Row("chain_with_oneof_lists", 50, SQUARE),
-    Row("chain_that_redeclares", 200, SQUARE),
-]
+# Seen with an unproved build that is as fast as the proved one within a tenth (benchmarks/unproved.py --as-proved).
+OPEN = {
+    "redeclared_fan": Open(158.1, 8.3, 0.10, "6.6 s, 72 MB"),
+    "chain_that_redeclares": Open(35.3, 4.6, 0.28, "6.4 s, 170 MB"),
+    "all_redeclared": Open(37.4, 0.6, 1.41, "11.8 s, 36 MB"),
+    "all_derived": Open(18.4, 0.3, 1.67, "6.8 s, 18 MB"),
+    "colliding_attributes": Open(28.6, 0.4, 0.64, "4.4 s, 14 MB"),
+    "colliding_items": Open(28.0, 0.4, 0.64, "4.3 s, 12 MB"),
+    "colliding_entities": Open(10.5, 0.6, 0.96, "2.3 s, 30 MB"),
+    "colliding_sets": Open(6.6, 0.2, 6.55, "9.5 s, 43 MB"),
+    "chain_in_use": Open(0.6, 1.3, 0.77, "3.5 s, 1368 MB"),
+    "deep_attributes_in_use": Open(8.5, 16.8, 3.35, "6.1 s, 2596 MB"),
+    "references_by_a_select": Open(39.0, 0.5, 1.54, "13.3 s, 35 MB"),
+    "references_ahead_by_a_select": Open(38.9, 0.5, 1.54, "13.3 s, 35 MB"),
+    "references_to_a_large_set": Open(5.4, 0.5, 1.54, "1.8 s, 35 MB"),
+    "records_under_oneof_lists": Open(16.7, 0.4, 1.59, "5.9 s, 32 MB"),
+    "parts_that_redeclare": Open(50.1, 0.5, 1.35, "15.1 s, 35 MB"),
+    "wide_subtypes": Open(1.1, 3.8, 0.99, "3.8 s, 2702 MB"),
+    "redeclared_by_many": Open(4.6, 3.5, 0.77, "4.6 s, 700 MB"),
+    "redeclared_of_many": Open(63.3, 5.3, 0.18, "6.8 s, 119 MB"),
+    "one_redeclared": Open(9.1, 0.6, 0.61, "1.3 s, 18 MB"),
+    "owners_by_a_lower_name_each": Open(1.8, 3.8, 1.46, "6.4 s, 2727 MB"),
+    "large_sets_in_turn": Open(10.8, 0.2, 2.50, "5.9 s, 15 MB"),
+    "sections_with_a_large_set": Open(10.3, 44.2, 0.94, "2.2 s, 2048 MB"),
+    "lists_of_lists": Open(0.9, 1.1, 1.79, "0.3 s, 86 MB"),
+    "lists_in_lists": Open(1.1, 0.7, 1.60, "0.4 s, 55 MB"),
+    "diamonds": Open(0.9, 2.0, 1.34, "6.3 s, 2696 MB"),
+    "chain_with_oneof_lists": Open(8.8, 0.5, 1.48, "3.0 s, 32 MB"),
+    "chain_that_redeclares_one_place": Open(9.8, 0.5, 0.55, "5.3 s, 14 MB"),
+    "owners_by_a_lower_name": Open(13.0, 0.7, 0.94, "2.8 s, 34 MB"),
+    "deep_attributes": Open(2.2, 4.9, 0.71, "0.4 s, 175 MB"),
+    "oneof_lists_above_many": Open(17.2, 0.5, 1.56, "5.9 s, 35 MB"),
+    "sets_32_deep": Open(6.1, 0.7, 0.86, "1.2 s, 30 MB"),
+    "layers_that_share_all": Open(2.5, 2.6, 4.30, "6.3 s, 1362 MB"),
+}
 
 
-def run(arguments):
-    """The least seconds of a processor and the megabytes of three runs; a run ends after two minutes."""
-    seconds, megabytes = [], []
-    for _ in range(3):
-        child = subprocess.Popen([PROGRAM, *arguments], stdout=subprocess.DEVNULL, stderr=subprocess.DEVNULL,
-                                 preexec_fn=lambda: resource.setrlimit(resource.RLIMIT_CPU, (120, 120)))
-        _, status, used = os.wait4(child.pid, 0)
-        child.returncode = os.waitstatus_to_exitcode(status)
-        if child.returncode not in (0, 1):
+def seconds_of_sha(launcher):
+    """The seconds that `sha256sum` takes for a byte, the least of some runs."""
+    with tempfile.NamedTemporaryFile() as file:
+        size = 32_000_000
+        file.write(bytes(size))
+        file.flush()
+        return min(run(launcher, [shutil.which("sha256sum"), file.name])[0] for _ in range(3)) / size
+
+
+def run(launcher, words):
+    """The seconds and the bytes of a run; None where it was ended, or failed."""
+    done = subprocess.run([launcher, str(MOST_SECONDS), *words], stdout=subprocess.PIPE, check=True, text=True)
+    status, seconds, kilobytes = done.stdout.split()
+    return (float(seconds), int(kilobytes) * 1024) if status in ("0", "1") else None
+
+
+def measured(launcher, row, size, a_byte):
+    """A run of an input at a size, and how many times its bounds it takes."""
+    with tempfile.TemporaryDirectory(dir="/dev/shm" if os.path.isdir("/dev/shm") else None) as name:
+        folder = pathlib.Path(name)
+        made = getattr(inputs, row.name)(size, folder)
+        made = made if isinstance(made, inputs.Input) else inputs.Input(made)
+        read = sum(os.path.getsize(word) for word in made.arguments[1:])
+        found = run(launcher, [PROGRAM, *made.arguments])
+    if found is None:
+        return None
+    seconds, peak = found
+    pairs = made.pairs + made.offered
+    time_bound = SECONDS_ALWAYS + SHA_TIMES * a_byte * read + SECONDS_A_PAIR * pairs + SECONDS_OF_USE * made.used
+    memory_bound = BYTES_ALWAYS + BYTES_A_BYTE * read + BYTES_A_PAIR * pairs + BYTES_OF_USE * made.used
+    return Run(size, read, seconds, peak, seconds / time_bound, peak / memory_bound)
+
+
+def exponent(runs):
+    """The exponent of the growth of time over bytes, fitted by least squares; None where no run takes long enough."""
+    points = [(math.log(it.bytes), math.log(it.seconds)) for it in runs if it.seconds >= 0.02]
+    if len(points) < 2:
+        return None
+    across, up = (sum(values) / len(points) for values in zip(*points))
+    spread = sum((x - across) ** 2 for x, _ in points)
+    return sum((x - across) * (y - up) for x, y in points) / spread if spread else None
+
+
+def runs_of(launcher, row, a_byte, second):
+    """The runs of an input: from the size on at which one takes as long as wanted, three doublings. None if one was ended."""
+    size = row.least
+    runs = []
+    while size <= row.most and len(runs) < 4:
+        found = measured(launcher, row, size, a_byte)
+        if found is None:
             return None
-        seconds.append(used.ru_utime + used.ru_stime)
-        megabytes.append(used.ru_maxrss / 1024)
-    return min(seconds), min(megabytes)
+        runs.append(found)
+        if found.seconds > LONG or found.bytes > LARGE or found.peak > MUCH:
+            break
+        # A run that is too short isn't kept, where three doublings are left.
+        if found.seconds < second and 8 * size <= row.most:
+            runs.clear()
+        size *= 2
+    return runs
 
 
-def measured(row, size):
-    with tempfile.TemporaryDirectory() as folder:
-        arguments = getattr(inputs, row.name)(size, pathlib.Path(folder))
-        read = sum(os.path.getsize(word) for word in arguments[1:]) / 1e6
-        return read, run(arguments)
-
-
-def faults_of(row, is_file):
-    read, small = measured(row, row.size)
-    more, large = measured(row, 4 * row.size)
-    if small is None or large is None:
-        print(f"{row.name}: did not end in two minutes, or failed")
-        return ["end"]
-    ratio = large[0] / max(small[0], FLOOR)
-    bound = row.seconds or (is_file and max(more / 3, FLOOR)) or None
-    faults = []
-    if large[0] > FLOOR and ratio > row.growth:
-        faults.append(f"time grows {ratio:.1f} times, at most {row.growth}")
-    if bound and large[0] > bound:
-        faults.append(f"at most {bound:.2f} s")
-    if row.megabytes and large[1] > row.megabytes:
-        faults.append(f"at most {row.megabytes} MB")
-    if is_file and large[1] - small[1] > 40 * (more - read) + 1:
-        faults.append(f"{(large[1] - small[1]) / (more - read):.0f} bytes of memory for one of the file, at most 40")
-    said = "; ".join(faults) or "good"
-    print(f"{row.name}: {row.size} and four times as many, {more:.1f} MB: {small[0]:.2f} and {large[0]:.2f} s, {small[1]:.0f} and {large[1]:.0f} MB: {said}", flush=True)
-    return faults
+def judged(row, runs):
+    """What is wrong with an input, and what there is to say of it."""
+    if not runs:
+        return "was ended, or failed", True
+    mark = OPEN.get(row.name)
+    compared = [it for it in runs if mark and it.bytes <= 1.01e6 * mark.megabytes] or runs[: 1 if mark else len(runs)]
+    time_over, memory_over = max(it.time for it in compared), max(it.memory for it in compared)
+    over = any(max(it.time, it.memory) > 1 for it in runs)
+    if mark is None:
+        return (f"OVER: {time_over:.1f} times in time, {memory_over:.1f} in memory" if over else "good"), over
+    if time_over > NOISE * max(mark.time, 1) or memory_over > NOISE * max(mark.memory, 1):
+        return f"WORSE than its mark: {time_over:.1f} times in time, {memory_over:.1f} in memory", True
+    return (f"open ({time_over:.1f} times in time, {memory_over:.1f} in memory)" if over else "good: its mark can go"), False
 
 
 def main():
-    wanted = sys.argv[1:]
-    rows = [(row, True) for row in FILES] + [(row, False) for row in SCHEMAS]
-    known = {row.name for row, _ in rows}
-    unknown = [name for name in wanted if name not in known]
+    parser = argparse.ArgumentParser(prog="tests/growth.sh", description=__doc__.splitlines()[0])
+    parser.add_argument("names", metavar="NAME", nargs="*", help="inputs; all without one")
+    parser.add_argument("--second", type=float, default=0.12, help="the seconds that the first of four runs takes")
+    parser.add_argument("--table", action="store_true", help="print the marks of what is over its bounds")
+    given = parser.parse_args()
+    known = {row.name: row for row in ROWS}
+    unknown = [name for name in given.names if name not in known]
     if unknown:
-        sys.exit(f"no input has the name {unknown[0]}; there are {', '.join(sorted(known))}")
-    passed = [bool(faults_of(row, is_file)) for row, is_file in rows if not wanted or row.name in wanted]
-    print(f"{passed.count(False)} passed, {passed.count(True)} failed")
-    sys.exit(any(passed))
+        parser.error(f"no input has the name {unknown[0]}; there are {', '.join(sorted(known))}")
+    marks, counts, begun = [], {"good": 0, "open": 0, "failed": 0}, time.monotonic()
+    with tempfile.TemporaryDirectory() as folder:
+        launcher = f"{folder}/alone"
+        subprocess.run([os.environ.get("CC", "cc"), "-O2", pathlib.Path(__file__).with_name("alone.c"), "-o", launcher], check=True)
+        a_byte = seconds_of_sha(launcher)
+        print(f"sha256sum: {a_byte * 1e9:.2f} ns a byte, so at most {SHA_TIMES * a_byte * 1e6:.2f} s a megabyte", flush=True)
+        for row in [known[name] for name in given.names] or ROWS:
+            runs = runs_of(launcher, row, a_byte, given.second)
+            said, failed = judged(row, runs)
+            fitted = exponent(runs or ())
+            grown = f"exponent {fitted:.2f}" if fitted is not None else "too short for an exponent"
+            shown = "; ".join(f"{it.bytes / 1e6:.2f} MB {it.seconds:.2f} s {it.peak / 1e6:.0f} MB" for it in runs or ())
+            print(f"{row.name}: {shown}: {grown}: {said}", flush=True)
+            counts["failed" if failed else "open" if said.startswith("open") else "good"] += 1
+            if runs and max(max(it.time, it.memory) for it in runs) > 1:
+                last = runs[-1]
+                numbers = f"{max(it.time for it in runs):.1f}, {max(it.memory for it in runs):.1f}, {last.bytes / 1e6:.2f}"
+                marks.append(f'    "{row.name}": Open({numbers}, "{last.seconds:.1f} s, {last.peak / 1e6:.0f} MB"),')
+    if given.table:
+        print("\n".join(marks))
+    print(f"{counts['good']} passed, {counts['open']} open, {counts['failed']} failed, {time.monotonic() - begun:.0f} s")
+    return int(counts["failed"] > 0)
 
 
-main()
+if __name__ == "__main__":
+    sys.exit(main())

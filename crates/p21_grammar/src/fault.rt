@@ -13,13 +13,13 @@ pub enum GrammarFault {
     EndsEarly,
     #[error("a token after the end of the file")]
     AfterEnd,
-    #[error("a part of the standard that is left run_outcome")]
+    #[error("a part of the standard that is left out")]
     LeftOut(Absent),
     #[error("not the header that a file has")]
     HeaderShape,
     #[error("not a name and a list of one schema")]
     SectionShape,
-    #[error("run_outcome of memory")]
+    #[error("out of memory")]
     NoMemory,
 }
 
