@@ -4,9 +4,11 @@ _p21_diff() {
     local word=${COMP_WORDS[COMP_CWORD]}
     COMPREPLY=()
     case ${COMP_WORDS[COMP_CWORD - 1]}:$word in
-        *:-*) COMPREPLY=($(compgen -W '--help --data --full' -- "$word")) ;;
+        *:-*) COMPREPLY=($(compgen -W '--help --data --full --names --pairing --stat --tolerance --format' -- "$word")) ;;
     esac
     case ${COMP_WORDS[COMP_CWORD - 1]} in
+        --tolerance) compopt +o default ;;
+        --format) COMPREPLY=($(compgen -W 'text json html' -- "$word")) ;;
     esac
 }
 complete -o default -F _p21_diff p21-diff

@@ -3,3 +3,8 @@
 complete -c p21-diff -s h -l help -d 'Print help'
 complete -c p21-diff -l data -d 'compare the data without the header'
 complete -c p21-diff -l full -d 'print long texts whole'
+complete -c p21-diff -l names -d 'compare up to the names of instances'
+complete -c p21-diff -l pairing -r -F -d 'with --names: write the pairs of names to a file'
+complete -c p21-diff -l stat -d 'print a table by entity in front of the list'
+complete -c p21-diff -l tolerance -x -d 'leave out reals that are within X, absolute or relative'
+complete -c p21-diff -l format -x -a 'text json html' -d 'text, a JSON object a line, or a page for a browser'

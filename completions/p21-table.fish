@@ -2,6 +2,7 @@
 
 complete -c p21-table -s h -l help -d 'Print help'
 complete -c p21-table -l data -d 'hash the data without the header'
+complete -c p21-table -l names -d 'hash the model without the names of its instances'
 complete -c p21-table -l schema -r -F -d 'a further schema, for files that name another one; may be given several times'
 complete -c p21-table -l files-from -r -F -d 'a text with a file'\''s name in each line; - is standard input'
 complete -c p21-table -l format -x -a 'text tsv json' -d 'text, tab-separated, or a JSON object a line'

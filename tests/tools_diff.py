@@ -1,6 +1,9 @@
 #!/usr/bin/env python3
 """Runs tools/p21-diff over the examples and over pairs of files that are made. P21 names another program than ./p21."""
 
+import subprocess
+import time
+
 from tooling import FRAME, ROOT, SCHEMA, Tests, file_of
 
 POINT = "#1=CARTESIAN_POINT('',(0.,0.,0.));"
@@ -147,6 +150,126 @@ TROUBLE = [
 ]
 
 
+# Each row: a name, the options, and the lines that are printed of the example and its change.
+FORMS = [
+    (
+        "a table",
+        ["--stat"],
+        [
+            "                   changed       came       went",
+            "CARTESIAN_POINT          1          0          0",
+            "total                    1          0          0",
+            "",
+            "changed #24 CARTESIAN_POINT.COORDINATES: (8.E1,5.E1,1.25E1) -> (8.E1,5.E1,1.225E1)",
+            "different: 1 changed, 0 came, 0 went",
+        ],
+    ),
+    (
+        "objects",
+        ["--format", "json", "--stat"],
+        [
+            '{"kind": "stat", "entity": "CARTESIAN_POINT", "changed": 1, "came": 0, "went": 0}',
+            '{"kind": "changed", "what": "instance", "a": 24, "b": 24, "entity": "CARTESIAN_POINT", "attribute": "COORDINATES", '
+            '"before": "(8.E1,5.E1,1.25E1)", "after": "(8.E1,5.E1,1.225E1)"}',
+            '{"kind": "verdict", "verdict": "different", "changed": 1, "came": 0, "went": 0}',
+        ],
+    ),
+    (
+        "a tolerance that is too small",
+        ["--tolerance", "0.0199"],
+        [
+            "changed #24 CARTESIAN_POINT.COORDINATES: (8.E1,5.E1,1.25E1) -> (8.E1,5.E1,1.225E1)",
+            "different: 1 changed, 0 came, 0 went; 0 values within the tolerance 0.0199 not listed",
+        ],
+    ),
+    (
+        "a relative tolerance",
+        ["--tolerance", "0.02"],
+        ["different: 0 changed, 0 came, 0 went; 1 value within the tolerance 0.02 not listed"],
+    ),
+]
+
+# Each row: a real, another one, a tolerance, and whether they are within it.
+NEAR = [
+    ("1.", "1.001", "0.001", True),
+    ("1.", "1.002", "0.001", False),
+    ("1000.", "1000.9", "0.001", True),
+    ("-1.", "1.", "1.9", False),
+    ("0.", "1.E-9", "1E-9", True),
+    ("1.E300", "1.0001E300", "0.001", True),
+    ("0." + "1" * 5000, "0." + "1" * 4999 + "2", "1E-30", True),
+    ("1" * 5000 + ".", "1" * 4999 + "2.", "1E-5001", False),
+    ("1" * 5000 + ".", "1" * 4999 + "2.", "1E-30", True),
+]
+
+
+def forms(tests):
+    """The forms of the output, and tolerances."""
+    files = ["examples/product.step", "examples/product-changed.step"]
+    for name, options, lines in FORMS:
+        is_listed = any("COORDINATES" in line for line in lines)
+        wanted = "".join(line + "\n" for line in lines), "", int(is_listed)
+        tests.judge(name, wanted, tests.run([*options, SCHEMA, *files]))
+    for one, other, tolerance, is_near in NEAR:
+        paths = [tests.make(f"{at}.step", file_of(POINT, [("0.,0.,0.", f"0.,0.,{real}")])) for at, real in enumerate((one, other))]
+        _, error, status = tests.run(["--tolerance", tolerance, SCHEMA, *paths])
+        tests.judge(f"{one[:20]} and {other[:20]} within {tolerance}", ("", int(not is_near)), (error, status))
+    _, _, status = tests.run(["--tolerance", "-1", SCHEMA, *files])
+    tests.judge("a tolerance below 0", 2, status)
+
+
+def strange(tests):
+    """Names of files that a terminal would obey, that aren't UTF-8, and devices that are full."""
+    product = "examples/product.step"
+    name = "a\x1b[31m\nonly in B: #1=X();\u202e.step"
+    escaped = "a\\x1b[31m\\nonly in B: #1=X();\\u202e.step"
+    wanted = f"p21-diff: {tests.here}/{escaped}: cannot open {tests.here}/{escaped}\n"
+    tests.judge("a name with signs that aren't shown", ("", wanted, 2), tests.run([SCHEMA, str(tests.here / name), product]))
+    tests.make(name, (ROOT / product).read_text())
+    for form in ("text", "json", "html"):
+        output, error, status = tests.run(["--format", form, SCHEMA, str(tests.here / name), "examples/product-changed.step"])
+        tests.judge(f"such a name in {form}", ([], "", 1), ([sign for sign in "\x1b\u202e" if sign in output], error, status))
+    path = bytes(tests.here) + b"/\xff.step"
+    with open(path, "wb") as file:
+        file.write((ROOT / product).read_bytes())
+    for words in ([], ["--names"]):
+        done = subprocess.run(["tools/p21-diff", *words, SCHEMA, path, product], capture_output=True, check=False)
+        tests.judge("a name that isn't UTF-8", (b"", 0), (done.stderr, done.returncode))
+    for words in ([], ["--format", "json"], ["--format", "html"], ["--stat"], ["--names"]):
+        with open("/dev/full", "wb") as full:
+            command = ["tools/p21-diff", *words, SCHEMA, product, "examples/product-changed.step"]
+            done = subprocess.run(command, stdout=full, stderr=subprocess.PIPE, check=False)
+        tests.judge(f"a full device, {words}", (b"p21-diff: [Errno 28] No space left on device\n", 2), (done.stderr, done.returncode))
+
+
+def memory(tests):
+    """What a comparison takes where one record is as large as the file: at most four times the file beside what it always takes."""
+    titles = ",".join(["'t'"] * 1_000_000)
+    rows = [
+        ("a list", *(file_of(f"#1=PERSON('a',$,$,({titles},'{last}'));") for last in "xy")),
+        ("a string", *(file_of(f"#1=PERSON('a','{'p' * 4_000_000}{last}',$,$);") for last in "xy")),
+        ("values of a header record", *(file_of("", [("MODEL'));", f"MODEL'));\n!R({titles},'{last}');")]) for last in "xy")),
+        ("an instance of one file alone", file_of(f"#1=PERSON('a',$,$,({titles}));"), file_of(POINT)),
+    ]
+    least = peak(tests, [tests.make("a.step", file_of(POINT)), tests.make("b.step", file_of(POINT, [("0.,0.,0.", "0.,0.,1.")]))])
+    for name, one, other in rows:
+        found = peak(tests, [tests.make("a.step", one), tests.make("b.step", other)])
+        tests.judge(f"{name}, {len(one)} bytes: {found - least} bytes more", True, found - least <= 4 * len(one))
+
+
+def peak(tests, paths):
+    """The most resident bytes of a run that finds a difference, as far as they are seen each millisecond. Those of the program,
+    which it runs, aren't counted."""
+    found = 0
+    with subprocess.Popen(["tools/p21-diff", SCHEMA, *paths], stdout=subprocess.DEVNULL) as process:
+        while process.poll() is None:
+            with open(f"/proc/{process.pid}/status", encoding="ascii") as status:
+                found = max([found, *(int(line.split()[1]) * 1024 for line in status if line.startswith("VmHWM:"))])
+            time.sleep(0.001)
+    tests.judge("a run that is measured", 1, process.returncode)
+    return found
+
+
 def main():
     tests = Tests("p21-diff")
     product = "examples/product.step"
@@ -163,6 +286,9 @@ def main():
         tests.expect(name, [*options, SCHEMA, *paths], int(lines != []), lines)
     for name, given, line in TROUBLE:
         tests.expect(name, given, 2, [], f"p21-diff: {line}")
+    forms(tests)
+    strange(tests)
+    memory(tests)
     tests.end()
 
 

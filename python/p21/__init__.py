@@ -1,7 +1,7 @@
 """Whether two STEP files (ISO 10303-21) hold the same model.
 
-A schema is read from its EXPRESS text. Under it a file is checked, its canonical file is given, and two files are compared; a
-session reads a file that comes in pieces:
+A schema is read from its EXPRESS text. Under it a file is checked, its canonical file is given, and two files are compared; it
+is said what differs in them; a session reads a file that comes in pieces:
 
     schema = p21.Schema(pathlib.Path("product.exp").read_text())
     print(p21.check(schema, "product.step").instances)
@@ -14,6 +14,7 @@ The work is done by the shared library libp21.so, which tools/build-library buil
 variable P21_LIBRARY says, and else beside this file.
 """
 
+from p21._diff import diff
 from p21._faults import Refused, SchemaRefused
 from p21._files import Report, Source, canonical, check, same
 from p21._schema import Schema
@@ -30,6 +31,7 @@ __all__ = [
     "Source",
     "canonical",
     "check",
+    "diff",
     "same",
     "version",
 ]

@@ -24,7 +24,8 @@ class Schema:
         self._handle = Handle()
         # The last name of a session may be lost in another thread.
         self._lock = threading.RLock()
-        at, length, _keep = passed(text.encode() if isinstance(text, str) else text)
+        self._text = text.encode() if isinstance(text, str) else bytes(text)
+        at, length, _keep = passed(self._text)
         report = ReportStruct()
         judge(LIBRARY.p21_schema_new(at, length, self._handle, report), report)
 

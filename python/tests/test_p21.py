@@ -412,3 +412,24 @@ def test_readme(tmp_path):
     (tmp_path / "examples").symlink_to(EXAMPLES)
     assert output_of(textwrap.dedent(lines), tmp_path) == ["128", "True"]
     assert (tmp_path / "canonical.step").read_bytes() == p21.canonical(p21.Schema((EXAMPLES / "product.exp").read_text()), EXAMPLES / "product.step")
+
+
+def test_diff(product, tmp_path):
+    files = [EXAMPLES / name for name in ("product.step", "product-changed.step", "product-other.step")]
+    change = {"kind": "changed", "what": "instance", "a": 24, "b": 24, "entity": "CARTESIAN_POINT", "attribute": "COORDINATES"}
+    change.update(before="(8.E1,5.E1,1.25E1)", after="(8.E1,5.E1,1.225E1)")
+    counts = {"kind": "verdict", "verdict": "different", "changed": 1, "came": 0, "went": 0}
+    assert p21.diff(product, files[0], files[1]) == [change, counts]
+    assert p21.diff(product, files[0], files[1], names=True) == [change, {**counts, "pairs": 128, "ambiguous": 0}]
+    near = {**counts, "changed": 0, "tolerance": "0.5", "near": 1}
+    assert p21.diff(product, files[0], files[1], tolerance=0.5) == [near]
+    # The names of all instances, and of what they refer to, are a hundred greater.
+    text = re.sub(r"'(?:[^']|'')*'|#(\d+)", lambda word: f"#{int(word[1]) + 100}" if word[1] else word[0], files[2].read_text())
+    (other := tmp_path / "other.step").write_text(text)
+    same = {**counts, "verdict": "same", "changed": 0, "pairs": 128, "ambiguous": 0}
+    assert p21.diff(product, files[0], other, names=True) == [same]
+    assert p21.diff(product, files[0], other)[-1]["verdict"] == "different"
+    with pytest.raises(ValueError):
+        p21.diff(product, files[0], files[0], tolerance=-1)
+    with pytest.raises(p21.Refused):
+        p21.diff(product, files[0], EXAMPLES / "refused" / "Count.step", names=True)

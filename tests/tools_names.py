@@ -1,0 +1,367 @@
+#!/usr/bin/env python3
+"""Compares files up to the names of their instances: generated files of which the right answer is known from how they were
+made, through tools/p21-diff --names, tools/p21-renumber and tools/p21-table --names. P21 names another program than ./p21.
+
+    tests/tools_names.py [PAIRS]     so many pairs for the hash that doesn't depend on names; 10,000 without a number
+"""
+
+import json
+import os
+import random
+import subprocess
+import sys
+
+from tooling import ROOT, Tests
+from renaming import shuffled
+
+sys.path.insert(0, str(ROOT / "tools"))
+import p21_hashes  # pylint: disable=wrong-import-position
+import p21_schemas  # pylint: disable=wrong-import-position
+import p21_sets  # pylint: disable=wrong-import-position
+
+SCHEMA = "tests/naming.exp"
+FRONT = """ISO-10303-21;
+HEADER;
+FILE_DESCRIPTION((''),'2;1');
+FILE_NAME('','',(''),(''),'','','');
+FILE_SCHEMA(('NAMING'));
+ENDSEC;
+DATA;
+"""
+END = "ENDSEC;\nEND-ISO-10303-21;\n"
+
+
+def file_of(records):
+    """A file of these records, by their names."""
+    return (FRONT + "".join(f"#{name}={record};\n" for name, record in records.items()) + END).encode("ascii")
+
+
+# --- Files that are made ---
+
+
+class Maker:
+    """Makes records by chance, each of which refers to others in front of it, or to any where cycles are wanted."""
+
+    def __init__(self, chance, count, cyclic):
+        self.chance = chance
+        self.count = count
+        self.cyclic = cyclic
+        self.at = 0
+
+    def ref(self):
+        """A reference."""
+        return f"#{self.chance.randint(1, self.count if self.cyclic else self.at - 1)}"
+
+    def refs(self, most=4):
+        """Some references."""
+        return [self.ref() for _ in range(self.chance.randint(0, most))]
+
+    def members(self, most=4):
+        """The references of a set, in the order of their texts."""
+        return sorted(set(self.refs(most)))
+
+    def record(self, name):
+        """A record of any entity."""
+        self.at = name
+        kind = self.chance.choice(KINDS) if name > 1 or self.cyclic else leaf
+        return kind(self)
+
+
+def listed(items):
+    """The text of a list."""
+    return f"({','.join(items)})"
+
+
+def leaf(maker):
+    """A leaf, of which some say the same."""
+    return f"LEAF('{maker.chance.choice('abc')}',{maker.chance.randint(1, 9)}.)"
+
+
+def row(maker):
+    """A list."""
+    return f"ROW({listed(maker.refs())})"
+
+
+def bag(maker):
+    """A bag, in which an instance may be twice."""
+    return f"SACK({listed(sorted(maker.refs()))})"
+
+
+def group(maker):
+    """A set beside a reference."""
+    return f"GROUP({maker.chance.choice(['$', chr(39) + 'g' + chr(39)])},{listed(maker.members())},{maker.ref()})"
+
+
+def link(maker):
+    """Two references, or none."""
+    return f"LINK({maker.chance.choice(['$', maker.ref()])},{maker.ref()})"
+
+
+def deep(maker):
+    """A set of lists."""
+    return f"DEEP({listed(sorted({listed(maker.refs(2)) for _ in range(3)}))})"
+
+
+def nest(maker):
+    """A list of sets of sets."""
+    sets = [listed(sorted({listed(maker.members(2)) for _ in range(2)})) for _ in range(2)]
+    return f"NEST({listed(sets)})"
+
+
+def choice(maker):
+    """A set of references, typed lists and reals."""
+    items = {maker.ref(), f"FEW({listed(maker.refs(2))})", f"MANY({listed(maker.members(3))})", "LENGTH(2.)"}
+    return f"CHOICE({listed(sorted(items))})"
+
+
+def complex_one(maker):
+    """An instance of two parts."""
+    return f"(BACK({listed(sorted(maker.refs()))})SIDE({maker.ref()})THING())"
+
+
+KINDS = [leaf, leaf, leaf, row, bag, group, link, deep, nest, choice, complex_one]
+
+
+def by_chance(seed, count, cyclic):
+    """Records by a seed."""
+    maker = Maker(random.Random(seed), count, cyclic)
+    return {name: maker.record(name) for name in range(1, count + 1)}
+
+
+def ring(first, count):
+    """Links in a circle."""
+    return {first + at: f"LINK(#{first + (at + 1) % count},$)" for at in range(count)}
+
+
+def rings(*counts):
+    """Circles one behind the other."""
+    found = {}
+    for count in counts:
+        found.update(ring(len(found) + 1, count))
+    return found
+
+
+def neighbours(edges, count):
+    """A bag for each node, of the nodes around it."""
+    around = {node: sorted(f"#{b + 1 if a == node else a + 1}" for a, b in edges if node in (a, b)) for node in range(count)}
+    return {node + 1: f"SACK({listed(around[node])})" for node in range(count)}
+
+
+def rook():
+    """Sixteen fields, each beside those of its row and its column."""
+    pairs = [(a, b) for a in range(16) for b in range(a) if a // 4 == b // 4 or a % 4 == b % 4]
+    return neighbours(pairs, 16)
+
+
+def shrikhande():
+    """Sixteen fields of which each has as many neighbours, and each two as many common ones, as among those of the rook."""
+    steps = [(0, 1), (1, 0), (1, 1)]
+    pairs = {tuple(sorted((4 * a + b, 4 * ((a + c) % 4) + (b + d) % 4))) for a in range(4) for b in range(4) for c, d in steps}
+    return neighbours(sorted(pairs), 16)
+
+
+SHARED = {1: "LEAF('a',1.)", 2: "ROW((#1))", 3: "LINK(#1,#2)"}
+COPIED = {1: "LEAF('a',1.)", 2: "ROW((#4))", 3: "LINK(#1,#2)", 4: "LEAF('a',1.)"}
+USED_BY_TWO = {1: "LEAF('a',1.)", 2: "LEAF('a',1.)", 3: "ROW((#1))", 4: "SACK((#1))", 5: "LINK(#2,$)"}
+USED_BY_OTHERS = {1: "LEAF('a',1.)", 2: "LEAF('a',1.)", 3: "ROW((#1))", 4: "SACK((#2))", 5: "LINK(#2,$)"}
+EQUAL = {**{name: "LEAF('a',1.)" for name in range(1, 101)}, 200: f"SACK({listed(sorted(f'#{n}' for n in range(1, 101)))})"}
+PARTS = {
+    **{3 * at + 1: "LEAF('a',1.)" for at in range(50)},
+    **{3 * at + 2: f"ROW((#{3 * at + 1}))" for at in range(50)},
+    **{3 * at + 3: f"LINK(#{3 * at + 1},#{3 * at + 2})" for at in range(50)},
+}
+MIXED = rings(*[6] * 20, *[3] * 42), rings(*[6] * 21, *[3] * 40)
+
+# Each row: a name, the records of both files, the verdict, and how many pairs could be others (None where it isn't counted).
+ROWS = [
+    ("empty", {}, {}, "same", 0),
+    ("one instance", {1: "LEAF('a',1.)"}, {1: "LEAF('a',1.)"}, "same", 0),
+    ("one instance and none", {1: "LEAF('a',1.)"}, {}, "different", 0),
+    ("an instance that refers to itself", {1: "LINK(#1,$)"}, {1: "LINK(#1,$)"}, "same", 0),
+    ("itself and nothing", {1: "LINK(#1,$)"}, {1: "LINK($,$)"}, "different", 0),
+    ("shared and copied", SHARED, COPIED, "different", None),
+    ("copied", COPIED, COPIED, "same", 0),
+    ("used by two and used by others", USED_BY_TWO, USED_BY_OTHERS, "different", None),
+    ("a bag of equal instances", EQUAL, EQUAL, "same", 99),
+    ("equal parts", PARTS, PARTS, "same", 49),
+    ("a circle", rings(6), rings(6), "same", 1),
+    ("a circle and two smaller ones", rings(6), rings(3, 3), "different", None),
+    ("a long circle", rings(1000), rings(1000), "same", 1),
+    ("circles", rings(6, 3, 3), rings(3, 6, 3), "same", None),
+    ("the same but for two circles, undecided", *MIXED, "undecided", None),
+    ("a rook's fields", rook(), rook(), "same", None),
+    ("fields of two kinds that refinement can't tell apart", rook(), shrikhande(), "different", None),
+    ("a list in another order", {1: "LEAF('a',1.)", 2: "LEAF('b',1.)", 3: "ROW((#1,#2))"}, {1: "LEAF('a',1.)", 2: "LEAF('b',1.)", 3: "ROW((#2,#1))"}, "different", 0),
+    ("sets of lists", {1: "LEAF('a',1.)", 2: "LEAF('b',1.)", 3: "DEEP(((#1,#2),(#2,#1)))"}, {1: "LEAF('b',1.)", 2: "LEAF('a',1.)", 3: "DEEP(((#1,#2),(#2,#1)))"}, "same", 0),
+    ("sets of lists that differ", {1: "LEAF('a',1.)", 2: "LEAF('b',1.)", 3: "DEEP(((#1,#2),(#2,#2)))"}, {1: "LEAF('b',1.)", 2: "LEAF('a',1.)", 3: "DEEP(((#1,#1),(#1,#2)))"}, "different", 0),
+    ("typed sets and lists", {1: "LEAF('a',1.)", 2: "LEAF('b',1.)", 3: "CHOICE((FEW((#1,#2)),MANY((#1,#2))))"}, {7: "LEAF('b',1.)", 9: "LEAF('a',1.)", 3: "CHOICE((FEW((#9,#7)),MANY((#7,#9))))"}, "same", 0),
+    ("a typed list in another order", {1: "LEAF('a',1.)", 2: "LEAF('b',1.)", 3: "CHOICE((FEW((#1,#2))))"}, {7: "LEAF('b',1.)", 9: "LEAF('a',1.)", 3: "CHOICE((FEW((#7,#9))))"}, "different", 0),
+]  # fmt: skip
+
+
+# --- What is tried ---
+
+
+def verdict(tests, options, first, second):
+    """The objects that p21-diff --names prints of two files, without the verdict; the verdict; and the status."""
+    paths = [tests.make("a.step", first), tests.make("b.step", second)]
+    output, error, status = tests.run(["--names", "--format", "json", *options, SCHEMA, *paths])
+    objects = [json.loads(line) for line in output.splitlines()]
+    return objects[:-1], objects[-1] if objects else error, status
+
+
+def known(tests):
+    """Files of which the answer is known."""
+    for name, first, second, word, ambiguous in ROWS:
+        for seed in (1, 2):
+            other, _ = shuffled(file_of(second), seed)
+            _, found, status = verdict(tests, [], file_of(first), other)
+            wanted = (word, {"same": 0, "different": 1, "undecided": 3}[word])
+            tests.judge(f"{name}, {seed}", wanted, (found["verdict"], status))
+            if ambiguous is not None:
+                tests.judge(f"{name}, {seed}, pairs that could be others", ambiguous, found["ambiguous"])
+
+
+def pairings(tests):
+    """The pairing of shuffled files, by which the program says that they are the same."""
+    for seed in range(40):
+        text = file_of(by_chance(seed, 3 + 3 * seed, cyclic=seed % 2 == 1))
+        other, names = shuffled(text, seed)
+        pairs = str(tests.here / "pairs")
+        objects, found, status = verdict(tests, ["--pairing", pairs], text, other)
+        tests.judge(f"shuffled, {seed}", ([], "same", 0), (objects, found["verdict"], status))
+        renumbered = subprocess.run(
+            ["tools/p21-renumber", SCHEMA, str(tests.here / "a.step"), pairs], capture_output=True, check=False
+        )
+        made = tests.make("renumbered.step", renumbered.stdout)
+        answer = subprocess.run([tests.program, "same", SCHEMA, made, str(tests.here / "b.step")], capture_output=True, check=False)
+        tests.judge(f"renumbered, {seed}", (b"", b"same\n"), (renumbered.stderr, answer.stdout))
+        if found["ambiguous"] == 0:
+            with open(pairs, "rb") as file:
+                lines = dict(line.strip().replace(b"#", b"").split(b"\t") for line in file)
+            right = {b"%d" % old: b"%d" % new for old, new in names.items()}
+            tests.judge(f"the pairs themselves, {seed}", right, lines)
+
+
+def changes(tests):
+    """One leaf has another value: just that is listed, with both names, where nothing else says the same."""
+    for seed in range(20):
+        records = by_chance(seed, 30, cyclic=seed % 2 == 1)
+        chance = random.Random(seed)
+        leaves = [name for name, record in records.items() if record.startswith("LEAF")]
+        for at, name in enumerate(leaves):
+            records[name] = f"LEAF('leaf {at}',1.)"
+        name = chance.choice(leaves)
+        changed = {**records, name: records[name].replace("1.)", "2.5)")}
+        other, names = shuffled(file_of(changed), seed)
+        objects, found, status = verdict(tests, [], file_of(records), other)
+        wanted = {
+            "kind": "changed", "what": "instance", "a": name, "b": names[name], "entity": "LEAF", "attribute": "X",
+            "before": "1.", "after": "2.5",
+        }  # fmt: skip
+        tests.judge(f"one value, {seed}", ([wanted], "different", 1), (objects, found["verdict"], status))
+        objects, found, status = verdict(tests, ["--tolerance", "0.6"], file_of(records), other)
+        tests.judge(f"one value within the tolerance, {seed}", ([], "different", 1, 0), (objects, found["verdict"], found["near"], status))
+
+
+def gone(tests):
+    """A leaf that nothing refers to goes, and another comes."""
+    records = {name: f"LEAF('leaf {name}',{name}.)" for name in range(1, 20)}
+    records[20] = "ROW((#1,#2,#3))"
+    left = {name: record for name, record in records.items() if name not in (7, 8)}
+    other, names = shuffled(file_of({**left, 30: "GROUP('new',(#1),#2)"}), 5)
+    objects, found, _ = verdict(tests, ["--stat"], file_of(records), other)
+    wanted = [
+        {"kind": "stat", "entity": "LEAF", "changed": 0, "came": 0, "went": 2},
+        {"kind": "stat", "entity": "GROUP", "changed": 0, "came": 1, "went": 0},
+        {"kind": "went", "what": "instance", "a": 7, "entity": "LEAF", "before": "#7=LEAF('leaf 7',7.);"},
+        {"kind": "went", "what": "instance", "a": 8, "entity": "LEAF", "before": "#8=LEAF('leaf 8',8.);"},
+    ]
+    new = f"#{names[30]}=GROUP('new',(#{names[1]}),#{names[2]});"
+    wanted.append({"kind": "came", "what": "instance", "b": names[30], "entity": "GROUP", "after": new})
+    tests.judge("what came and went", (wanted, 18), (objects, found["pairs"]))
+
+
+# --- The hash ---
+
+
+def hashed(sets, text):
+    """The hash of a canonical file without names."""
+    return p21_hashes.name_free(text, sets, False)
+
+
+def canonical(tests, text):
+    """The canonical file of a file."""
+    return subprocess.run([tests.program, "canon", SCHEMA, tests.make("c.step", text)], capture_output=True, check=True).stdout
+
+
+def hashes(tests, count):
+    """Shuffled files have equal hashes; of so many pairs that differ in one value none has."""
+    with open(SCHEMA, "rb") as file:
+        sets = p21_sets.Sets(p21_schemas.Outline(file.read()))
+    equal = 0
+    for seed in range(count):
+        records = by_chance(seed, 5 + seed % 40, cyclic=seed % 3 == 0)
+        leaves = [name for name, record in records.items() if record.startswith("LEAF")]
+        if not leaves:
+            records[len(records) + 1] = "LEAF('z',1.)"
+            leaves = [len(records)]
+        text = file_of(records)
+        changed = dict(records)
+        name = leaves[seed % len(leaves)]
+        changed[name] = "LEAF('changed',1.)" if seed % 2 else records[name].split(",")[0] + ",77.)"
+        equal += hashed(sets, text).sha256 == hashed(sets, file_of(changed)).sha256
+        if seed % 100 == 0:
+            other = canonical(tests, shuffled(text, seed)[0])
+            tests.judge(f"canonical as it is made, {seed}", text, canonical(tests, text))
+            tests.judge(f"the hash of a shuffled file, {seed}", hashed(sets, text), hashed(sets, other))
+    tests.judge(f"equal hashes of {count} pairs that differ in a value", 0, equal)
+
+
+def decided(tests):
+    """Whether a hash says that equal ones mean the same."""
+    with open(SCHEMA, "rb") as file:
+        sets = p21_sets.Sets(p21_schemas.Outline(file.read()))
+    rows = [
+        ("empty", {}, True), ("equal", EQUAL, True), ("parts", PARTS, True), ("copied", COPIED, True),
+        ("a circle", rings(6), False), ("circles", rings(3, 3), False), ("a rook's fields", rook(), False),
+        ("other fields", shrikhande(), False),
+    ]  # fmt: skip
+    for name, records, wanted in rows:
+        found = hashed(sets, file_of(records)) if name != "a rook's fields" else hashed(sets, canonical(tests, file_of(records)))
+        tests.judge(f"decided, {name}", wanted, found.is_decided)
+    two, others = hashed(sets, file_of(USED_BY_TWO)), hashed(sets, file_of(USED_BY_OTHERS))
+    tests.judge("hashes of what is used by two and by others", True, two.sha256 != others.sha256)
+    same = hashed(sets, file_of(rings(6))).sha256 == hashed(sets, file_of(rings(3, 3))).sha256
+    tests.judge("circles that digests can't tell apart have equal hashes", True, same)
+
+
+def table(tests):
+    """The rows of p21-table --names."""
+    records = by_chance(4, 30, cyclic=False)
+    files = [tests.make("one.step", file_of(records)), tests.make("two.step", shuffled(file_of(records), 4)[0])]
+    files += [tests.make("circle.step", file_of(rings(6))), tests.make("circles.step", file_of(rings(3, 3)))]
+    command = ["tools/p21-table", "--names", "--format", "json", SCHEMA, *files]
+    done = subprocess.run(command, capture_output=True, check=False, text=True)
+    rows = [json.loads(line) for line in done.stdout.splitlines()]
+    tests.judge("rows", [True, True, False, False], [row["decided"] for row in rows])
+    tests.judge("hashes in rows", (2, 2), (len({row["sha256"] for row in rows}), len({row["sha256"] for row in rows[:2]}) + 1))
+    tests.judge("which are the same", f"4 files, 4 accepted, 0 not\nthe same up to names: {files[0]} {files[1]}\n", done.stderr)
+
+
+def main():
+    tests = Tests("p21-diff")
+    count = int(sys.argv[1]) if len(sys.argv) > 1 else 10_000
+    known(tests)
+    pairings(tests)
+    changes(tests)
+    gone(tests)
+    decided(tests)
+    table(tests)
+    hashes(tests, count)
+    tests.end()
+
+
+if __name__ == "__main__":
+    os.chdir(ROOT)
+    main()

@@ -1,0 +1,55 @@
+"""Canonical files as the tools read them: how the program is asked for one, and how one is written with other names."""
+
+import mmap
+import os
+import re
+import tempfile
+from typing import BinaryIO, Dict, Iterator, Tuple
+
+import p21_reading as reading
+from p21_files import shown
+
+
+def handed(path: str) -> str:
+    """A path that the program can take and read again: of a file whose name isn't UTF-8 that of the open file."""
+    try:
+        path.encode("utf-8")
+    except UnicodeEncodeError:
+        try:
+            descriptor = os.open(path, os.O_RDONLY)
+        except OSError as error:
+            raise reading.Trouble(f"cannot open {shown(path)}: {error.strerror}") from None
+        os.set_inheritable(descriptor, True)
+        path = f"/dev/fd/{descriptor}"
+    return str(reading.lasting(path))
+
+
+def canonical(program: str, schema: str, path: str) -> mmap.mmap:
+    """The canonical file of a file."""
+    with tempfile.TemporaryFile() as output:
+        answer = reading.run(program, "canon", schema, handed(path), output=output)
+        if answer.status != 0:
+            raise reading.Trouble(f"{shown(path)}: {shown(answer.error)}")
+        return mmap.mmap(output.fileno(), 0, access=mmap.ACCESS_READ)
+
+
+def write_pairs(file: BinaryIO, pairs: Iterator[Tuple[int, int]]) -> None:
+    """Writes a pairing: in each line the two names of an instance, with a tab between them."""
+    for first, second in pairs:
+        file.write(b"#%d\t#%d\n" % (first, second))
+
+
+def read_pairs(path: str) -> Dict[bytes, bytes]:
+    """Reads a pairing: the second name of each first one."""
+    found: Dict[bytes, bytes] = {}
+    with open(path, "rb") as file:
+        for number, line in enumerate(file, 1):
+            names = re.fullmatch(rb"#(0|[1-9]\d{0,19})\t#(0|[1-9]\d{0,19})\n?", line)
+            if names is None:
+                raise reading.Trouble(f"{shown(path)}: line {number} has not two names")
+            if names[1] in found:
+                raise reading.Trouble(f"{shown(path)}: #{names[1].decode()} stands twice")
+            found[names[1]] = names[2]
+    if len(set(found.values())) < len(found):
+        raise reading.Trouble(f"{shown(path)}: two instances have one new name")
+    return found
