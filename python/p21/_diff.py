@@ -11,15 +11,15 @@ from p21._schema import Schema
 
 
 def _tools() -> Tuple[ModuleType, ModuleType, ModuleType]:
-    """The modules of the tools, which stand in a folder beside this file."""
-    folder = str(pathlib.Path(__file__).resolve().parent / "_tools")
-    sys.path.insert(0, folder)
+    """The modules of the tools, which a wheel installs beside the package, and which a clone has in its folder `tools`."""
+    tools = pathlib.Path(__file__).resolve().parents[2] / "tools"
+    sys.path.insert(0, str(tools))
     try:
         import p21_differences
         import p21_schemas
         import p21_sets
     finally:
-        sys.path.remove(folder)
+        sys.path.remove(str(tools))
     return p21_differences, p21_schemas, p21_sets
 
 
