@@ -37,8 +37,8 @@ run() {
 }
 
 if [ "$#" -eq 0 ]; then
-    set -- program.sh texts.py definitions.py edits.py refusals.py patterns.py library.py install.sh pages.sh bindings.sh release.py \
-        page.py page_module.py
+    set -- program.sh texts.py canonical_form.py definitions.py edits.py refusals.py patterns.py library.py install.sh pages.sh bindings.sh \
+        release.py page.py page_module.py
     for tools in tools_*.py; do
         [ ! -e "$tools" ] || set -- "$@" "$tools"
     done
