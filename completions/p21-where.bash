@@ -4,7 +4,7 @@ _p21_where() {
     local word=${COMP_WORDS[COMP_CWORD]}
     COMPREPLY=()
     case ${COMP_WORDS[COMP_CWORD - 1]}:$word in
-        *:-*) COMPREPLY=($(compgen -W '--help --schema' -- "$word")) ;;
+        *:-*) COMPREPLY=($(compgen -W '--help --schemas --schema' -- "$word")) ;;
     esac
     case ${COMP_WORDS[COMP_CWORD - 1]} in
     esac

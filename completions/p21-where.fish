@@ -1,4 +1,5 @@
 # Completions of p21-where for fish. Made by tools/make-pages from the tool's own options.
 
 complete -c p21-where -s h -l help -d 'Print help'
+complete -c p21-where -l schemas -r -F -d 'a folder of schemas, each found by what a file names; in place of S. P21_SCHEMAS names one too'
 complete -c p21-where -l schema -r -F -d 'a further schema, for files that name another one; may be given several times'

@@ -1,0 +1,12 @@
+# Completions of p21-adapt for bash. Made by tools/make-pages from the tool's own options.
+
+_p21_adapt() {
+    local word=${COMP_WORDS[COMP_CWORD]}
+    COMPREPLY=()
+    case ${COMP_WORDS[COMP_CWORD - 1]}:$word in
+        *:-*) COMPREPLY=($(compgen -W '--help --from --output' -- "$word")) ;;
+    esac
+    case ${COMP_WORDS[COMP_CWORD - 1]} in
+    esac
+}
+complete -o default -F _p21_adapt p21-adapt

@@ -1,0 +1,126 @@
+#!/usr/bin/env python3
+"""Runs p21-table and p21-where with a folder of schemas, over the examples and files that are made. P21 names another program
+than ./p21."""
+
+import hashlib
+import json
+import os
+import shutil
+
+from tooling import ROOT, SCHEMA, Tests, file_of
+
+BLOCK = "5d11fa2abae65fa2bff1265d357ae88c5adf85242cd77e53a1c8b9877eff411c"
+HEAD = "file\tanswer\tinstances\tsha256\tschema\tschema_sha256"
+ALIASES = "# one schema by two names\n\nautomotive_design = product.exp\n"
+
+
+def shelf(tests, name, aliases=None, listings=("product.exp", "demo.exp")):
+    """A folder with these listings of the examples."""
+    folder = tests.here / name
+    folder.mkdir()
+    for listing in listings:
+        shutil.copy(ROOT / "examples" / listing, folder)
+    if aliases is not None:
+        (folder / "aliases").write_text(aliases)
+    return str(folder)
+
+
+def hash_of(listing):
+    """The hash of a listing of the examples."""
+    return hashlib.sha256((ROOT / "examples" / listing).read_bytes()).hexdigest()
+
+
+def tables(tests, folder):
+    """Each file has its row by the listing that serves the name in it."""
+    demo = tests.make("demo.step", file_of("#1=POINT($,1.,2.);", [("PRODUCT_MODEL", "Demo { 1 0 }")]))
+    other = tests.make("other.step", file_of("", [("PRODUCT_MODEL", "OTHER")]))
+    none = tests.make("none.step", "ISO-10303-21;HEADER;ENDSEC;")
+    alias = "examples/refused/SchemaName.step"
+    product = [f"{folder}/product.exp", hash_of("product.exp")]
+    first = [f"{folder}/demo.exp", hash_of("demo.exp")]
+    rows = [
+        ["examples/product.step", "accepted", "128", BLOCK, *product],
+        [demo, "accepted", "1", None, *first],
+        [alias, "accepted", "1", None, *product],
+        [other, "no schema OTHER on the shelf", "", "", "", ""],
+        [none, "refused 30 HeaderShape at statement 3", "", "", f"{folder}/product.exp", hash_of("product.exp")],
+    ]
+    output, error, status = tests.run(["--format", "tsv", "--schemas", folder, *(row[0] for row in rows)])
+    found = [line.split("\t") for line in output.splitlines()]
+    for row, line in zip(rows, found[1:]):
+        line[3] = None if row[3] is None else line[3]
+    tests.judge("the head", HEAD.split("\t"), found[0])
+    for row, line in zip(rows, found[1:]):
+        tests.judge(f"row of {row[0]}", row, line)
+    tests.judge("the status", 2, status)
+    change = f"{folder}/product.exp:1: SCHEMA product_model -> SCHEMA AUTOMOTIVE_DESIGN\n"
+    by = [f"by {first[0]}, SHA-256 {first[1]}: 1 file\n", f"by {product[0]}, SHA-256 {product[1]}: 3 files\n"]
+    tests.judge("what is said of the shelf", "".join(by) + change, error[error.find("by ") :])
+    output, _, status = tests.run(["--format", "json", "--schemas", folder, "examples/product.step"])
+    tests.judge("JSON", (product, 0), ([json.loads(output)[name] for name in HEAD.split("\t")[4:]], status))
+
+
+def variable(tests, folder):
+    """P21_SCHEMAS names the folder where the first name is no schema."""
+    os.environ["P21_SCHEMAS"] = folder
+    output, error, status = tests.run(["--format", "tsv", "examples/product.step"])
+    tests.judge("the variable", (HEAD, True, 0), (output.splitlines()[0], "\nby " in error, status))
+    output, error, status = tests.run(["--format", "tsv", SCHEMA, "examples/product.step"])
+    tests.judge("a schema that is named", ("file\tanswer\tinstances\tsha256", False, 0), (output.splitlines()[0], "\nby " in error, status))
+    del os.environ["P21_SCHEMAS"]
+
+
+def places(tests, folder):
+    """p21-where finds the schema too, and shows the change that an alias makes."""
+    tests.tool = "p21-where"
+    count = "examples/refused/Count.step"
+    wanted = tests.run([SCHEMA, count])
+    tests.judge("the same place", wanted, tests.run(["--schemas", folder, count]))
+    with open(count, "rb") as file:
+        output, _, status = tests.run(["--schemas", folder, "/dev/stdin"], file.read())
+    tests.judge("from a pipe", (wanted[0].replace(count, "/dev/stdin"), 1), (output, status))
+    change = f"{folder}/product.exp:1: SCHEMA product_model -> SCHEMA AUTOMOTIVE_DESIGN"
+    given = ["--schemas", folder, "examples/refused/SchemaName.step"]
+    tests.expect("an alias", given, 0, ["accepted, instances 1, canonical bytes 303"], change)
+    other = str(tests.here / "other.step")
+    tests.expect("no such schema", ["--schemas", folder, other], 3, [], f"p21-where: no schema OTHER on the shelf {folder}")
+    tests.expect("a schema beside a shelf", ["--schemas", folder, SCHEMA, count], 3, [], "p21-where: with a shelf only the file is named")
+    tests.tool = "p21-table"
+
+
+def refused(tests):
+    """Folders that are no shelves."""
+    (tests.here / "empty").mkdir()
+    twice = shelf(tests, "twice", "DEMO = product.exp\n")
+    shutil.copy(ROOT / SCHEMA, tests.here / "twice" / "a.exp")
+    (tests.here / "twice" / "aliases").unlink()
+    given = [
+        (f"{tests.here}/nowhere", f"{tests.here}/nowhere is no folder of schemas"),
+        (f"{tests.here}/empty", f"{tests.here}/empty has no listing whose name ends in .exp"),
+        (twice, f"{twice}/a.exp and {twice}/product.exp both serve PRODUCT_MODEL"),
+    ]
+    for name, aliases, line in [
+        ("served", "DEMO = product.exp\n", "{0}/demo.exp and {0}/product.exp both serve DEMO"),
+        ("wrong", "# a\nA: demo.exp\n", "{0}/aliases:2: no NAME = LISTING of this folder: A: demo.exp"),
+        ("absent", "A = none.exp", "{0}/aliases:1: no NAME = LISTING of this folder: A = none.exp"),
+    ]:
+        folder = shelf(tests, name, aliases)
+        given.append((folder, line.format(folder)))
+    for folder, line in given:
+        tests.expect(folder, ["--schemas", folder, "examples/product.step"], 2, [], f"p21-table: {line}")
+    tests.expect("no schema at all", [], 2, [], "p21-table: no schema is named")
+
+
+def main():
+    tests = Tests("p21-table")
+    os.environ.pop("P21_SCHEMAS", None)
+    folder = shelf(tests, "shelf", ALIASES)
+    tables(tests, folder)
+    variable(tests, folder)
+    places(tests, folder)
+    refused(tests)
+    tests.end()
+
+
+if __name__ == "__main__":
+    main()
