@@ -10,7 +10,7 @@ import shutil
 from tooling import ROOT, SCHEMA, Tests, file_of
 
 BLOCK = "5d11fa2abae65fa2bff1265d357ae88c5adf85242cd77e53a1c8b9877eff411c"
-HEAD = "file\tanswer\tinstances\tsha256\tschema\tschema_sha256"
+HEAD = "file\tanswer\tinstances\tsha256\tschema\tschema_sha256\tform"
 ALIASES = "# one schema by two names\n\nautomotive_design = product.exp\n"
 
 
@@ -39,11 +39,11 @@ def tables(tests, folder):
     product = [f"{folder}/product.exp", hash_of("product.exp")]
     first = [f"{folder}/demo.exp", hash_of("demo.exp")]
     rows = [
-        ["examples/product.step", "accepted", "128", BLOCK, *product],
-        [demo, "accepted", "1", None, *first],
-        [alias, "accepted", "1", None, *product],
-        [other, "no schema OTHER on the shelf", "", "", "", ""],
-        [none, "refused 30 HeaderShape at statement 3", "", "", f"{folder}/product.exp", hash_of("product.exp")],
+        ["examples/product.step", "accepted", "128", BLOCK, *product, "1"],
+        [demo, "accepted", "1", None, *first, "1"],
+        [alias, "accepted", "1", None, *product, "1"],
+        [other, "no schema OTHER on the shelf", "", "", "", "", ""],
+        [none, "refused 30 HeaderShape at statement 3", "", "", *product, ""],
     ]
     output, error, status = tests.run(["--format", "tsv", "--schemas", folder, *(row[0] for row in rows)])
     found = [line.split("\t") for line in output.splitlines()]
@@ -57,7 +57,7 @@ def tables(tests, folder):
     by = [f"by {first[0]}, SHA-256 {first[1]}: 1 file\n", f"by {product[0]}, SHA-256 {product[1]}: 3 files\n"]
     tests.judge("what is said of the shelf", "".join(by) + change, error[error.find("by ") :])
     output, _, status = tests.run(["--format", "json", "--schemas", folder, "examples/product.step"])
-    tests.judge("JSON", (product, 0), ([json.loads(output)[name] for name in HEAD.split("\t")[4:]], status))
+    tests.judge("JSON", ([*product, 1], 0), ([json.loads(output)[name] for name in HEAD.split("\t")[4:]], status))
 
 
 def variable(tests, folder):
