@@ -72,7 +72,7 @@ def verified(tests):
     given = ["--verify", manifest, SCHEMA, str(folder)]
     tests.expect("nothing changed", given, 0, [], "5 files: 5 as it was")
     shutil.copy(ROOT / "examples" / "product-other.step", folder / "a.step")
-    tests.expect("other bytes", given, 0, [f"other bytes, the same meaning: {folder}/a.step"], "5 files: 4 as it was, 1 other bytes, the same meaning")
+    tests.expect("other bytes", given, 0, [f"other bytes of the same meaning: {folder}/a.step"], "5 files: 4 as it was, 1 other bytes of the same meaning")
     later = (folder / "b.step").read_text().replace("2024-03-15T10:30:00", "2024-03-16T08:00:00")
     (folder / "b.step").write_text(later)
     (folder / "c.step").unlink()
@@ -80,7 +80,7 @@ def verified(tests):
     (folder / "deep/Count.step").write_text(later)
     shutil.copy(ROOT / "examples" / "refused" / "Missing.step", folder / "deep/d.step")
     rows = [
-        ("a.step", "other bytes, the same meaning", ""),
+        ("a.step", "other bytes of the same meaning", ""),
         ("b.step", "changed", "the header alone"),
         ("c.step", "missing", "No such file or directory"),
         ("deep/Count.step", "changed", "accepted, where it was refused 45 Count in #3"),
@@ -88,14 +88,14 @@ def verified(tests):
         ("e.step", "new", ""),
     ]
     rows = [(f"{folder}/{name}", *rest) for name, *rest in rows]
-    said = "6 files: 1 other bytes, the same meaning, 1 new, 3 changed, 1 missing\n"
+    said = "6 files: 1 other bytes of the same meaning, 1 new, 3 changed, 1 missing\n"
     lines = ["file\tfound\twhy", *("\t".join(row) for row in rows)]
     output, error, status = tests.run(["--format", "tsv", *given])
     tests.judge("each change", (lines, said, 1), (output.splitlines(), error, status))
     output, error, status = tests.run(["--format", "json", *given])
     tests.judge("JSON", (rows, 1), ([tuple(json.loads(line).values()) for line in output.splitlines()], status))
     _, error, status = tests.run(["--verify", manifest, SCHEMA])
-    tests.judge("no files beside the manifest", ("5 files: 1 other bytes, the same meaning, 3 changed, 1 missing\n", 1), (error, status))
+    tests.judge("no files beside the manifest", ("5 files: 1 other bytes of the same meaning, 3 changed, 1 missing\n", 1), (error, status))
 
 
 def resumed(tests):

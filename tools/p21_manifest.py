@@ -35,7 +35,7 @@ class Entry(NamedTuple):
 
 
 # What verifying says of a file, from the best to the worst, and the status that it leads to.
-AS_IT_WAS, SAME_MEANING, NEW, CHANGED, MISSING = "as it was", "other bytes, the same meaning", "new", "changed", "missing"
+AS_IT_WAS, SAME_MEANING, NEW, CHANGED, MISSING = "as it was", "other bytes of the same meaning", "new", "changed", "missing"
 STATUS = {AS_IT_WAS: 0, SAME_MEANING: 0, NEW: 1, CHANGED: 1, MISSING: 1}
 
 
