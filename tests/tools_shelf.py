@@ -108,6 +108,11 @@ def refused(tests):
         given.append((folder, line.format(folder)))
     for folder, line in given:
         tests.expect(folder, ["--schemas", folder, "examples/product.step"], 2, [], f"p21-table: {line}")
+    folder = shelf(tests, "unfit", listings=["demo.exp"])
+    unfit = tests.make("unfit/unfit.EXP", "SCHEMA product_model;\nENTITY a; x : LIST [1:n] OF REAL; END_ENTITY;\nEND_SCHEMA;\n")
+    output, error, status = tests.run(["--schemas", folder, "examples/product.step"])
+    line = f"{unfit} is refused: p21-where shows where, and p21-adapt may make it fit"
+    tests.judge("a listing that is refused", (True, line, 2), ("schema refused S6 LeftOut" in output, error.splitlines()[-1], status))
     tests.expect("no schema at all", [], 2, [], "p21-table: no schema is named")
 
 

@@ -83,7 +83,7 @@ class Shelf:
         self.listings = {}
         if not self.folder.is_dir():
             raise reading.Trouble(f"{folder} is no folder of schemas")
-        for path in sorted(self.folder.glob("*.exp")):
+        for path in sorted(path for path in self.folder.iterdir() if path.suffix.lower() == ".exp"):
             self.keep(self.name_behind(path), path)
         self.own = set(self.listings)
         self.read_aliases()
@@ -91,7 +91,7 @@ class Shelf:
             raise reading.Trouble(f"{folder} has no listing whose name ends in .exp")
 
     def name_behind(self, path):
-        """The name behind SCHEMA, and its place in the text."""
+        """The name behind SCHEMA, whose place in the text is kept."""
         text = path.read_bytes()
         words = p21_schemas.words_of(text)
         first, name = next(words, None), next(words, None)
