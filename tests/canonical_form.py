@@ -89,9 +89,11 @@ def of_the_folder(tests):
 
 
 def version(tests):
-    """The page names the version of the hashes."""
+    """The page names the version of the hashes, and so do the tables."""
     found = set(re.findall(r"[Vv]ersion (\d+) of the canonical form", PAGE.read_text(encoding="utf-8")))
     tests.judge("the version of the form", {VERSION}, found)
+    said = re.findall(r"^FORM = (\d+)$", (ROOT / "tools" / "p21_manifest.py").read_text(encoding="utf-8"), re.M)
+    tests.judge("the version that tables and manifests name", [VERSION], said)
 
 
 def main():
