@@ -1,8 +1,7 @@
 #!/bin/sh
 # Runs the tests of p21_value_tests for want of memory with the first allocation of each refused, then with the second, and
 # so on, and stops at the first test that doesn't pass. It ends where no test meets a refusal: a copy of the tests, in which
-# an answer for want of memory is a failure, says which do. (A number at the beginning of bytes is `None` for want of memory
-# too, which the copy doesn't see; that is its first allocation, and the first of all others.) It takes some three minutes.
+# an answer for want of memory is a failure, says which do. It takes some three minutes.
 
 root=$(cd "$(dirname -- "$(readlink -f -- "$0")")/.." && pwd) || exit
 here=$(mktemp -d) || exit

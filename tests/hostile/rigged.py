@@ -70,6 +70,14 @@ class Rigged:
         answer = self.spawned(arguments, environment, meanwhile)
         return answer, Counts(*map(int, self.counts.read_text().split()))
 
+    def traced(self, arguments, **failures):
+        """The same, and for each refused allocation the places in the program that may be those of the calls to it."""
+        trace = self.folder / "trace"
+        trace.unlink(missing_ok=True)
+        answer, counts = self.failing(arguments, TRACE=trace, **failures)
+        lines = trace.read_text().splitlines() if trace.exists() else []
+        return answer, counts, [[int(word, 16) for word in line.split()] for line in lines]
+
     def spawned(self, arguments, environment, meanwhile=None):
         """A run with nothing to read; a signal is a status below 0."""
         flags = os.O_WRONLY | os.O_CREAT | os.O_TRUNC

@@ -238,6 +238,16 @@ EDITS = [
         program=1,
     ),
     Edit(
+        "hostile/allocations.py",
+        ["refusals"],
+        "a token for which memory runs out is read again byte by byte",
+        "crates/p21_tokens/src/lexer.rt",
+        "Some(Err(_no_memory)) => return Err(TokenFault::NoMemory),",
+        "Some(Err(_no_memory)) => {}",
+        "unseen in p21_values::text::Text::push_latin1",
+        program=1,
+    ),
+    Edit(
         "hostile/memory.py",
         [],
         "an instance is left out where memory runs out",

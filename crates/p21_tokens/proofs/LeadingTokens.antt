@@ -1,5 +1,5 @@
 -- Tokens that stand whole at the front of bytes.
-use Rattle.std.proofs.Common.{◌≡◌, ℤ, Bool, false, ◌==◌, if◌then◌else◌, inl, ◌≢◌, ℕ, zero, suc, ◌+◌, ◌-◌, ◌*◌, ◌^◌, ◌≤◌, ◌<◌, true, lt-ltb, append_assoc, List, [], ◌∷◌, ◌++◌, length, length-drop, get_or, take, drop, refl, sym, ap, ◌∙◌, subst, arith, append-nil, Some, Ok}
+use Rattle.std.proofs.Common.{◌≡◌, ℤ, Bool, false, ◌==◌, if◌then◌else◌, inl, ◌≢◌, ℕ, zero, suc, ◌+◌, ◌-◌, ◌*◌, ◌^◌, ◌≤◌, ◌<◌, true, lt-ltb, append_assoc, List, [], ◌∷◌, ◌++◌, length, length-drop, get_or, take, drop, refl, sym, ap, ◌∙◌, subst, arith, append-nil, Some, Ok, Err}
 use Rattle.std.specs.List.{slice_range}
 use Rattle.std.proofs.lemmas.Bool.{ne_eqb}
 use Rattle.std.proofs.lemmas.Bool.Decides.{nat_tests}
@@ -34,11 +34,14 @@ use Rattle.p21_tokens_automaton.specs.declared.mode.Action.TheVariants.{Pass, Gi
 use Rattle.p21_tokens_automaton.specs.declared.mode.WordMode.TheVariants.{Keyword}
 use Rattle.p21_tokens.specs.Prefix.{ReachesWaitingToken, ReachesToken, single, leads, ArePlain, TakesLeadingToken}
 use Rattle.p21_tokens.specs.Held.{Held, pending_of, state_of}
-use Rattle.p21_tokens.specs.Steps.{AreBlank, TakesRun, GivesToken, HandsOverToken, Steps, Scans, handed}
+use Rattle.p21_tokens.specs.Steps.{AreBlank, SameCounts, SameLimits, TakesRun, GivesToken, HandsOverToken, Steps, Scans, handed}
+use Rattle.p21_tokens.specs.declared.fault.TokenFault.TheVariants as fault
 use Rattle.p21_tokens.specs.declared.step.Outcome.TheVariants.{Gave}
 use Rattle.p21_tokens.specs.Token.{meant, waits}
 use Rattle.p21_tokens.specs.declared.token.Token.{Token}
 use Rattle.p21_tokens.proofs.Scanning.{Along, behind-those, byte-behind, run-join, along-gave}
+use Rattle.p21_tokens.proofs.Stepping.{same-counts_itself}
+use Rattle.p21_values.specs.declared.fault.NoMemory.{NoMemory}
 use Rattle.p21_tokens.proofs.Stepping.{ended_token-waits, single-at_once, waits-count}
 use Rattle.p21_tokens_automaton.proofs.Theorems.{same-open}
 
@@ -118,7 +121,7 @@ module _ (v w u : Held) (piece : List ℕ) (n : ℕ) (a : Along v w piece n) whe
       (omega arith, sym (ap (λ (x : List ℕ). get_or x 0 0) e) ∙ (get_or-drop n piece 0 0 ∙ ap (λ (k : ℕ). get_or piece k 0) same))
 
   -- a token at the front of what is left of a piece
-  pub along-front : (count : ℕ) (t : Token) → TakesLeadingToken w (slice_range piece n (length piece)) (Some (count, t)) u → Scans v piece (Ok (n + count, Some t)) u
+  pub along-front : (count : ℕ) (t : Token) → TakesLeadingToken w (slice_range piece n (length piece)) (Some (Ok (count, t))) u → Scans v piece (Ok (n + count, Some t)) u
   along-front count t h = at (subst (λ (x : List ℕ). ReachesToken x count (meant t)) (behind-those piece n a.within) h.1)
     where
       at : ReachesToken (drop n piece) count (meant t) → Scans v piece (Ok (n + count, Some t)) u
@@ -140,6 +143,23 @@ module _ (v w u : Held) (piece : List ℕ) (n : ℕ) (a : Along v w piece n) whe
           let held : u ≡ behind w (meant t) 1 = h.3 ∙ ap (λ (k : ℕ). behind w (meant t) k) one in
           let gives : Steps w byte (Ok (Gave t)) (behind w (meant t) 1) = (record { statement_limit = refl; file_limit = refl; refused = refl }, single-gives w byte which (meant t) h.0 g s (subst (λ (k : ℕ). pending_of w + k ≤ w.statement_limit) one h.2)) in
           subst (λ (k : ℕ). Scans v piece (Ok (n + k, Some t)) u) (sym one) (along-gave v w u piece n byte first.0 first.1 a t (subst (λ (x : Held). Steps w byte (Ok (Gave t)) x) (sym held) gives))
+
+  -- want of memory for one
+  pub along-no_memory : n < length piece → (x : NoMemory) → TakesLeadingToken w (slice_range piece n (length piece)) (Some (Err x)) u → Scans v piece (Err fault.NoMemory) u
+  along-no_memory room x h =
+      let first : get_or piece n 0 ≡ get_or (slice_range piece n (length piece)) 0 0 =
+      let same : n + 0 ≡ n = omega arith in
+      sym (ap (λ (x : List ℕ). get_or x 0 0) (behind-those piece n a.within) ∙ (get_or-drop n piece 0 0 ∙ ap (λ (k : ℕ). get_or piece k 0) same)) in (
+        w,
+        n,
+        get_or piece n 0,
+        slice_get-get_or piece n 0 room,
+        a.same,
+        a.run,
+        subst (λ (x : Held). SameLimits v x) (sym h.1) a.same,
+        (λ _ blank. let none = rw (sym first) at h.0 in cc),
+        subst (λ (x : Held). SameCounts w x) (sym h.1) (same-counts_itself w),
+      )
 
 -- where there is none, nothing changes
 pub along-no_front : (v w u : Held) (piece : List ℕ) (n : ℕ) → Along v w piece n → u ≡ w → Along v u piece n

@@ -17,7 +17,7 @@ ghost use Rattle.p21_tokens.specs.Token.{meant};
 mod passing;
 
 use crate::fault::{TokenFault, fault_of};
-use crate::prefix::leading_token;
+use crate::prefix::{LeadingToken, leading_token};
 use crate::read_token::{
     marker_of, read_closed_token, read_ended_token, read_last_token, single_token,
 };
@@ -30,7 +30,6 @@ use std::alloc::Global;
 use std::marker::Model;
 
 /// Reads tokens from bytes that come in pieces of any size.
-#[derive(Drop)]
 pub struct Lexer {
     // The allocator of what the tokens keep.
     alloc: Global,
@@ -50,6 +49,24 @@ pub struct Lexer {
     file_limit: u64,
     // The fault that was answered, and is answered again.
     refused: Option<TokenFault>,
+}
+
+// Written out: crates above call it, where they would prove a derived one field by field.
+impl Drop for Lexer {
+    fn drop(self) {
+        let Lexer {
+            alloc: _,
+            mode: _,
+            pending_bytes: _,
+            text: _,
+            size: _,
+            statement: _,
+            file: _,
+            statement_limit: _,
+            file_limit: _,
+            refused: _,
+        } = self;
+    }
 }
 
 impl Model for Lexer {
@@ -371,13 +388,16 @@ impl Lexer {
     }
 
     /// Takes a token that stands whole at the front of bytes, if the limits allow it.
-    fn take_leading_token(&mut self, bytes: &[u8]) -> Option<(usize, Token)>
+    fn take_leading_token(&mut self, bytes: &[u8]) -> LeadingToken
         ensures { TakesLeadingToken self.old bytes.now result self.new }
     {
         if !self.is_at_start() {
             return None;
         }
-        let (count, token) = leading_token(self.alloc, bytes)?;
+        let (count, token) = match leading_token(self.alloc, bytes)? {
+            Ok(front) => front,
+            Err(fault) => return Some(Err(fault)),
+        };
         let size = count as u64;
         if self.file_limit - self.file < size || self.statement_limit - self.statement < size {
             return None;
@@ -387,7 +407,7 @@ impl Lexer {
             Token::Semicolon => 0,
             _ => self.statement + size,
         };
-        Some((count, token))
+        Some(Ok((count, token)))
     }
 
     /// Takes blanks between tokens, as many as the limit allows.
@@ -433,8 +453,10 @@ impl Lexer {
     {
         let mut taken = 0;
         while taken < piece.len() {
-            if let Some((count, token)) = self.take_leading_token(&piece[taken..]) {
-                return Ok((taken + count, Some(token)));
+            match self.take_leading_token(&piece[taken..]) {
+                Some(Ok((count, token))) => return Ok((taken + count, Some(token))),
+                Some(Err(_no_memory)) => return Err(TokenFault::NoMemory),
+                None => {}
             }
             let blanks = self.take_blanks(&piece[taken..]);
             if blanks > 0 {
@@ -519,8 +541,19 @@ impl Lexer {
         if let Some(fault) = self.refused {
             return Err(fault);
         }
-        let mut text = self.text;
-        read_last_token(self.alloc, self.mode, &self.pending_bytes, &mut text)
+        let Lexer {
+            alloc,
+            mode,
+            pending_bytes,
+            mut text,
+            size: _,
+            statement: _,
+            file: _,
+            statement_limit: _,
+            file_limit: _,
+            refused: _,
+        } = self;
+        read_last_token(alloc, mode, &pending_bytes, &mut text)
     }
 
     /// The token bytes behind the last `;`, with those of a token that isn't whole yet; a lone `/` doesn't count. After

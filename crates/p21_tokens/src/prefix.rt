@@ -1,26 +1,30 @@
 //! Tokens that stand whole at the front of bytes, read without a state.
-ghost use Rattle.std.specs.Prelude.{◌≡◌, ◌≤◌, IfSome, get_or};
+ghost use Rattle.std.specs.Prelude.{◌≡◌, ◌≤◌, false, IfOk, IfSome, OnErr, get_or};
 ghost use Rattle.p21_exchange.specs.Keyword.{IsUpper};
+ghost use Rattle.p21_tokens_automaton.specs.Bytes.{is_blank};
 ghost use Rattle.p21_tokens_automaton.specs.Step.{advance};
 ghost use Rattle.p21_tokens_automaton.specs.declared.mode.Mode.TheVariants.{Between};
 ghost use Rattle.p21_tokens_automaton.specs.declared.mode.Action.TheVariants.{Give};
-ghost use Rattle.p21_tokens.specs.Prefix.{ArePlain, ReachesToken, ReachesWaitingToken};
+ghost use Rattle.p21_tokens.specs.Prefix.{ArePlain, ReachesWaitingToken, ReadsLeadingToken, ReadsWaitingToken};
 ghost use Rattle.p21_tokens.specs.Token.{meant};
 
 use crate::read_token::{behind, single_token};
 use crate::token::Token;
 use p21_tokens_automaton::{Single, keyword_bytes, name_digits, plain_characters};
-use p21_values::{Name, Number, Text, Word, read_number};
+use p21_values::{Name, NoMemory, Number, Text, Word, read_number};
 use std::alloc::Global;
 
-/// The token at the front of bytes, and how many bytes it has, where that is easily seen: one of one byte, or a keyword,
-/// a number, an instance name or a string of plain characters with the byte behind it.
-pub(crate) fn leading_token(alloc: Global, bytes: &[u8]) -> Option<(usize, Token)>
-    ensures { IfSome result (λ front. ReachesToken bytes.now front.0 (meant front.1)) }
+/// A token at the front of bytes and how many bytes it has, or want of memory for it, where one is easily seen.
+pub(crate) type LeadingToken = Option<Result<(usize, Token), NoMemory>>;
+
+/// The token at the front of bytes where it is one of one byte, or a keyword, a number, an instance name or a string of
+/// plain characters with the byte behind it.
+pub(crate) fn leading_token(alloc: Global, bytes: &[u8]) -> LeadingToken
+    ensures { ReadsLeadingToken bytes.now result }
 {
     let (first, _rest) = bytes.split_first()?;
     if let Some(single) = single(*first) {
-        return Some((1, single_token(single)));
+        return Some(Ok((1, single_token(single))));
     }
     waiting_token(alloc, *first, bytes)
 }
@@ -41,12 +45,13 @@ fn single(byte: u8) -> Option<Single>
     }
 }
 
-fn waiting_token(alloc: Global, first: u8, bytes: &[u8]) -> Option<(usize, Token)>
+fn waiting_token(alloc: Global, first: u8, bytes: &[u8]) -> LeadingToken
     requires { get_or bytes.now 0 0 ≡ first }
-    ensures { IfSome result (λ front. ReachesWaitingToken bytes.now front.0 (meant front.1)) }
+    ensures token { ReadsWaitingToken bytes.now result }
+    ensures no_memory { IfSome result (λ front. OnErr front (is_blank first ≡ false)) }
 {
     match first {
-        b'#' => leading_name(bytes),
+        b'#' => Some(Ok(leading_name(bytes)?)),
         b'\'' => leading_text(alloc, bytes),
         b'0'..=b'9' | b'+' | b'-' => leading_number(alloc, bytes),
         b'A'..=b'Z' | b'_' => leading_keyword(alloc, bytes),
@@ -55,10 +60,13 @@ fn waiting_token(alloc: Global, first: u8, bytes: &[u8]) -> Option<(usize, Token
 }
 
 /// The byte behind it is none that a number goes on with.
-fn leading_number(alloc: Global, bytes: &[u8]) -> Option<(usize, Token)>
-    ensures { IfSome result (λ front. ReachesWaitingToken bytes.now front.0 (meant front.1)) }
+fn leading_number(alloc: Global, bytes: &[u8]) -> LeadingToken
+    ensures { ReadsWaitingToken bytes.now result }
 {
-    let (count, number) = read_number(alloc, bytes)?;
+    let (count, number) = match read_number(alloc, bytes)? {
+        Ok(front) => front,
+        Err(fault) => return Some(Err(fault)),
+    };
     let next = *bytes.get(count)?;
     if next.is_ascii_digit() {
         return None;
@@ -68,20 +76,20 @@ fn leading_number(alloc: Global, bytes: &[u8]) -> Option<(usize, Token)>
             if next == b'.' {
                 return None;
             }
-            Some((count, Token::Whole(number)))
+            Some(Ok((count, Token::Whole(number))))
         }
         Number::Real(number) => {
             if next == b'E' {
                 return None;
             }
-            Some((count, Token::Real(number)))
+            Some(Ok((count, Token::Real(number))))
         }
     }
 }
 
-fn leading_keyword(alloc: Global, bytes: &[u8]) -> Option<(usize, Token)>
+fn leading_keyword(alloc: Global, bytes: &[u8]) -> LeadingToken
     requires { IsUpper (get_or bytes.now 0 0) }
-    ensures { IfSome result (λ front. ReachesWaitingToken bytes.now front.0 (meant front.1)) }
+    ensures { ReadsWaitingToken bytes.now result }
 {
     let count = keyword_bytes(bytes);
     let byte = *bytes.get(count)?;
@@ -89,8 +97,8 @@ fn leading_keyword(alloc: Global, bytes: &[u8]) -> Option<(usize, Token)>
         return None;
     }
     match Word::of_prefix(alloc, bytes, count) {
-        Ok(word) => Some((count, Token::Keyword(word))),
-        Err(_no_memory) => None,
+        Ok(word) => Some(Ok((count, Token::Keyword(word)))),
+        Err(fault) => Some(Err(fault)),
     }
 }
 
@@ -106,8 +114,8 @@ fn leading_name(bytes: &[u8]) -> Option<(usize, Token)>
     Some((count + 1, Token::Name(Name(value))))
 }
 
-fn leading_text(alloc: Global, bytes: &[u8]) -> Option<(usize, Token)>
-    ensures { IfSome result (λ front. ReachesWaitingToken bytes.now front.0 (meant front.1)) }
+fn leading_text(alloc: Global, bytes: &[u8]) -> LeadingToken
+    ensures { ReadsWaitingToken bytes.now result }
 {
     let inside = behind(b'\'', bytes)?;
     let count = plain_count(inside);
@@ -116,8 +124,10 @@ fn leading_text(alloc: Global, bytes: &[u8]) -> Option<(usize, Token)>
     if end != b'\'' || byte == b'\'' {
         return None;
     }
-    let text = plain_text(alloc, &inside[..count])?;
-    Some((count + 2, Token::Text(text)))
+    match plain_text(alloc, &inside[..count]) {
+        Ok(text) => Some(Ok((count + 2, Token::Text(text)))),
+        Err(fault) => Some(Err(fault)),
+    }
 }
 
 /// How many bytes of a string are characters of one byte each. There is often none.
@@ -130,15 +140,12 @@ fn plain_count(inside: &[u8]) -> usize
     }
 }
 
-fn plain_text(alloc: Global, characters: &[u8]) -> Option<Text>
-    ensures { IfSome result (λ text. text ≡ characters.now) }
+fn plain_text(alloc: Global, characters: &[u8]) -> Result<Text, NoMemory>
+    ensures { IfOk result (λ text. text ≡ characters.now) }
 {
     let mut text = Text::new(alloc);
-    if characters.is_empty() {
-        return Some(text);
+    if !characters.is_empty() {
+        text.push_latin1(characters)?;
     }
-    match text.push_latin1(characters) {
-        Ok(()) => Some(text),
-        Err(_no_memory) => None,
-    }
+    Ok(text)
 }

@@ -6,6 +6,24 @@ use thiserror::Error;
 #[error("out of memory")]
 pub struct NoMemory;
 
+impl NoMemory {
+    ghost use Rattle.std.specs.Prelude.{◌≡◌, codes};
+
+    /// The number of the refusal, as the program prints it. It takes no memory.
+    pub fn number(&self) -> u8
+        ensures { result ≡ 90 }
+    {
+        90
+    }
+
+    /// The name of the refusal, as the program prints it. It takes no memory.
+    pub fn name(&self) -> &'static str
+        ensures { result.now ≡ codes "NoMemory" }
+    {
+        "NoMemory"
+    }
+}
+
 /// Why bytes spell no value.
 #[derive(Clone, Copy, Debug, PartialEq, Eq, Error)]
 pub enum ValueFault {

@@ -1,9 +1,10 @@
 //! Numbers at the front of bytes, each read in one pass.
-ghost use Rattle.std.specs.Prelude.{IfSome, take};
+ghost use Rattle.std.specs.Prelude.{IfOk, IfSome, take};
 ghost use Rattle.p21_values.specs.Prefix.{SpellsNumber};
 
 use crate::decimal::{Decimal, Digits, split_exponent};
 use crate::digits::{behind, split_digits, split_sign};
+use crate::fault::{NoMemory, ValueFault};
 use crate::whole::Whole;
 use std::alloc::Global;
 
@@ -15,11 +16,15 @@ pub enum Number {
 }
 
 /// The number that stands at the front of bytes, and how many bytes it has. Its digits and those of its exponent are all
-/// that stand there; the bytes may go on with what makes another number of it. `None` where no number stands there, where
-/// it is out of range, and for want of memory: whoever wants to know why reads it as a `Whole` or a `Decimal`.
+/// that stand there; the bytes may go on with what makes another number of it. `None` where no number stands there, and
+/// where it is out of range: whoever wants to know why reads it as a `Whole` or a `Decimal`.
+///
+/// # Errors
+///
+/// `NoMemory`.
 #[inline(always)]
-pub fn read_number(alloc: Global, bytes: &[u8]) -> Option<(usize, Number)>
-    ensures { IfSome result (λ front. SpellsNumber (take front.0 bytes.now) front.1) }
+pub fn read_number(alloc: Global, bytes: &[u8]) -> Option<Result<(usize, Number), NoMemory>>
+    ensures { IfSome result (λ answer. IfOk answer (λ front. SpellsNumber (take front.0 bytes.now) front.1)) }
 {
     let (negative, unsigned) = split_sign(bytes);
     let (whole, rest) = split_digits(unsigned);
@@ -28,15 +33,16 @@ pub fn read_number(alloc: Global, bytes: &[u8]) -> Option<(usize, Number)>
     }
     let Some(decimals) = behind(b'.', rest) else {
         return match Whole::of_digits(alloc, negative, whole) {
-            Ok(number) => Some((bytes.len() - rest.len(), Number::Whole(number))),
-            Err(_no_memory) => None,
+            Ok(number) => Some(Ok((bytes.len() - rest.len(), Number::Whole(number)))),
+            Err(_no_memory) => Some(Err(NoMemory)),
         };
     };
     let (fraction, rest) = split_digits(decimals);
     let (exponent, rest) = split_exponent(rest)?;
     let digits = Digits { whole, fraction };
     match Decimal::of_digits(alloc, negative, digits, exponent) {
-        Ok(number) => Some((bytes.len() - rest.len(), Number::Real(number))),
-        Err(_fault) => None,
+        Ok(number) => Some(Ok((bytes.len() - rest.len(), Number::Real(number)))),
+        Err(ValueFault::NoMemory) => Some(Err(NoMemory)),
+        Err(_out_of_range) => None,
     }
 }

@@ -1,6 +1,7 @@
 //! Faults, and where they are named.
 use p21_grammar::{Absent, GrammarFault, Name, NoMemory, TokenFault};
 use p21_mapping_faults::CheckFault;
+use p21_stream_io::{ReadFault, WriteFault};
 use p21_stream_kept::{At, Refusal};
 use p21_stream_statements::Fault;
 
@@ -46,6 +47,8 @@ fn first_misnamed() -> &'static str {
 #[test]
 fn has_numbers_and_names(rt: HostRuntime) {
     assert_eq!(rt; first_misnamed(), "none");
+    assert_eq!(rt; (ReadFault.number(), ReadFault.name()), (91, "ReadFault"));
+    assert_eq!(rt; (WriteFault.number(), WriteFault.name()), (92, "WriteFault"));
 }
 
 /// A fault of a layer below.

@@ -1,12 +1,13 @@
 use super::spelled;
 use p21_values::{Number, read_number};
 
-/// How many bytes the number at the front has, and its canonical spelling: none where there is none.
+/// How many bytes the number at the front has, and its canonical spelling: none where there is none, or no memory.
 fn front(rt: &HostRuntime, bytes: &[u8]) -> (usize, Vec<u8>) {
     match read_number(rt.alloc(), bytes) {
         None => (0, Vec::new(rt.alloc())),
-        Some((count, Number::Whole(whole))) => (count, spelled(rt, Ok(whole))),
-        Some((count, Number::Real(real))) => (count, spelled(rt, Ok(real))),
+        Some(Err(_no_memory)) => (0, Vec::new(rt.alloc())),
+        Some(Ok((count, Number::Whole(whole)))) => (count, spelled(rt, Ok(whole))),
+        Some(Ok((count, Number::Real(real)))) => (count, spelled(rt, Ok(real))),
     }
 }
 
