@@ -1,5 +1,5 @@
 use p21_tokens::{Absent, TokenFault};
-use std::alloc::AllocFailed;
+use std::alloc::{AllocError, AllocFailed};
 use thiserror::Error;
 
 /// Why tokens are refused.
@@ -67,6 +67,17 @@ impl<T: Drop> From<AllocFailed<T>> for GrammarFault {
     ghost from_gives = { λ _ fault. fault ≡ NoMemory };
 
     fn from(_error: AllocFailed<T>) -> GrammarFault {
+        GrammarFault::NoMemory
+    }
+}
+
+impl From<AllocError> for GrammarFault {
+    ghost use Rattle.std.specs.Prelude.{◌≡◌};
+    ghost use Rattle.p21_grammar.specs.declared.fault.GrammarFault.TheVariants.{NoMemory};
+
+    ghost from_gives = { λ _ fault. fault ≡ NoMemory };
+
+    fn from(_error: AllocError) -> GrammarFault {
         GrammarFault::NoMemory
     }
 }

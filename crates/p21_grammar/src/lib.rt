@@ -15,7 +15,7 @@ mod stage;
 pub use event::{Event, Line};
 pub use fault::GrammarFault;
 pub use laws::one_tree;
-pub use p21_grammar_tree::{Key, Param, Params, Part, Parts, Record, SpareRows};
+pub use p21_grammar_tree::{Key, Param, Params, Part, Parts, Record};
 pub use p21_tokens::{Absent, Lexer, Token, TokenFault};
 pub use p21_values::{Bits, Canonical, Decimal, Limits, Name, NoMemory, Text, Whole, Word};
 pub use parser::Parser;

@@ -1,12 +1,10 @@
 ghost use Rattle.std.specs.Prelude.{◌≡◌, ◌↔◌, [], IfOk, IfErr, IsTrue, true};
-ghost use Rattle.std.specs.Vec.{vec_capacity};
 ghost use Rattle.p21_exchange.specs.Parameter.{key_of, no_params};
 ghost use Rattle.p21_exchange.specs.Statement.{section, header, instance};
 ghost use Rattle.p21_grammar.specs.Stage.{after, is_in_data};
 ghost use Rattle.p21_grammar.specs.Machine.{open_of, opening_of, stack_of, closed_part, put_back, close_typed, spot_of, head_of, step, enter, close, close_empty, comma, put, at_next, at_behind, at_word, at_line, at_named, at_equal, at_inside, at_keyed, at_record_end, at_instance_end, end_keyword, end_record, at_idle, at_start, at_begun, at_header, at_headed, at_data, at_behind_unnamed, at_behind_named, at_end, misplaced_fault, misplaced_param_fault, other_section_fault, idle, next, go, refuse, part_row, open_at, depth_of, ended, end_heading, close_records, at_data_keyword, MakesMove, AnswersMove, RefusesMove};
 ghost use Rattle.p21_grammar.specs.HeadingShape.{HasHeadingShape};
 ghost use Rattle.p21_grammar.specs.Statements.{line_of};
-ghost use Rattle.p21_grammar_tree.specs.Rooms.{TakesOneAtMost, next_room, rooms_left};
 ghost use Rattle.p21_grammar_tree.specs.View.{key_view, part_view, part_views, record_view, view, views};
 ghost use Rattle.p21_exchange.specs.Token as token;
 ghost use Rattle.p21_tokens.specs.Token.{meant};
@@ -17,7 +15,7 @@ use crate::event::{Event, Line};
 use crate::fault::GrammarFault;
 use crate::shape::{is_heading, is_key, is_word};
 use crate::stage::Stage;
-use p21_grammar_tree::{Key, Param, Params, Part, Parts, Record, SpareRows};
+use p21_grammar_tree::{Key, Param, Params, Part, Parts, Record};
 use p21_tokens::{Absent, Token};
 use p21_values::{Name, Word};
 use std::alloc::Global;
@@ -152,55 +150,70 @@ fn misplaced_param_fault(stage: Stage, token: &Token) -> GrammarFault
 }
 
 /// The same parameters, with room for so many more at most.
-fn trimmed_params(alloc: Global, params: Vec<Param>, more: u8) -> Vec<Param>
-    ensures { result.items ≡ params.items }
+fn trimmed_params(alloc: Global, params: Vec<Param>, more: u8) -> Result<Vec<Param>, GrammarFault>
+    ensures items { IfOk result (λ trimmed. trimmed.items ≡ params.items) }
+    ensures err { IfErr result (λ why. why ≡ NoMemory) }
 {
     let mut params = params;
     let count = params.len();
     if params.capacity() - count <= usize::from(more) {
-        return params;
+        return Ok(params);
     }
     if count <= FEW {
         return in_block_with_room(alloc, params, count + usize::from(more));
     }
     params.shrink_to_fit();
-    params
+    if params.capacity() > count {
+        return Err(GrammarFault::NoMemory);
+    }
+    Ok(params)
 }
 
-/// The same parameters in a block with this room, where there is memory for it. They leave a block that the next row can take
-/// whole; cut down where it lies, it would leave a rest that is too small for a row.
-fn in_block_with_room(alloc: Global, params: Vec<Param>, room: usize) -> Vec<Param>
-    ensures { result.items ≡ params.items }
+/// The same parameters in a block with this room. They leave a block that the next row can take whole; cut down where it
+/// lies, it would leave a rest that is too small for a row.
+fn in_block_with_room(
+    alloc: Global,
+    params: Vec<Param>,
+    room: usize,
+) -> Result<Vec<Param>, GrammarFault>
+    ensures items { IfOk result (λ moved. moved.items ≡ params.items) }
+    ensures err { IfErr result (λ why. why ≡ NoMemory) }
 {
     let mut params = params;
-    let Ok(mut fitting) = Vec::with_capacity(alloc, room) else {
-        return params;
-    };
-    match fitting.append(&mut params) {
-        Ok(()) => fitting,
-        Err(_) => params,
-    }
+    let mut fitting = Vec::with_capacity(alloc, room)?;
+    fitting.append(&mut params)?;
+    Ok(fitting)
 }
 
 /// The parameters of a list, trimmed where lists can be many. Two have room for a third: a block of two would be of a size
 /// that is kept for blocks of the same size, and the values of two take a smaller one.
-fn trimmed_list_params(alloc: Global, params: Vec<Param>, around: &[Row]) -> Vec<Param>
-    ensures { result.items ≡ params.items }
+fn trimmed_list_params(
+    alloc: Global,
+    params: Vec<Param>,
+    around: &[Row],
+) -> Result<Vec<Param>, GrammarFault>
+    ensures items { IfOk result (λ trimmed. trimmed.items ≡ params.items) }
+    ensures err { IfErr result (λ why. why ≡ NoMemory) }
 {
     if !are_many(around) {
-        return params;
+        return Ok(params);
     }
     let more = if params.len() > 1 { 1 } else { 0 };
     trimmed_params(alloc, params, more)
 }
 
 /// The parameters of a simple record, trimmed where it is one of several.
-fn trimmed_record_params(alloc: Global, params: Vec<Param>, head: &Head) -> Vec<Param>
-    ensures { result.items ≡ params.items }
+fn trimmed_record_params(
+    alloc: Global,
+    params: Vec<Param>,
+    head: &Head,
+) -> Result<Vec<Param>, GrammarFault>
+    ensures items { IfOk result (λ trimmed. trimmed.items ≡ params.items) }
+    ensures err { IfErr result (λ why. why ≡ NoMemory) }
 {
     match head {
         Head::Among(_, _) => trimmed_params(alloc, params, 0),
-        _ => params,
+        _ => Ok(params),
     }
 }
 
@@ -255,21 +268,21 @@ impl Machine {
         }
     }
 
-    /// Opens a list or a typed parameter, in the row that was kept last, if one waits.
+    /// Opens a list or a typed parameter.
     #[inline(always)]
-    fn enter(&mut self, opening: Opening, rows: &mut SpareRows<Param>) -> Result<(), GrammarFault>
+    fn enter(&mut self, opening: Opening) -> Result<(), GrammarFault>
         ensures ok { IfOk result (λ _. MakesMove (enter self.old.stage (opening_of opening) (open_of self.old.row) (stack_of self.old.frames.items)) self.new) }
         ensures err { IfErr result (λ why. RefusesMove (enter self.old.stage (opening_of opening) (open_of self.old.row) (stack_of self.old.frames.items)) why) }
-        ensures rows { TakesOneAtMost rows.old rows.new }
-        ensures room { IfOk result (λ _. vec_capacity self.new.row.params ≡ next_room rows.old) }
-        ensures taken { IfOk result (λ _. rows.new ≡ rooms_left rows.old) }
     {
         if self.frames.len() >= NESTING {
             return Err(GrammarFault::TooDeep);
         }
         self.at = At::Next;
-        let params = rows.take(self.alloc);
-        let around = mem::replace(&mut self.row, Row { opening, params });
+        let opened = Row {
+            opening,
+            params: Vec::new(self.alloc),
+        };
+        let around = mem::replace(&mut self.row, opened);
         self.frames.push(around)?;
         Ok(())
     }
@@ -343,11 +356,12 @@ impl Machine {
         let Row { opening, params } = mem::replace(&mut self.row, closed);
         match opening {
             Opening::Part(head, key) => {
-                let params = Params::from_vec(trimmed_record_params(self.alloc, params, &head));
+                let params = trimmed_record_params(self.alloc, params, &head)?;
+                let params = Params::from_vec(params);
                 self.close_part(head, Part { key, params })
             }
             Opening::List => {
-                let params = trimmed_list_params(self.alloc, params, &self.frames);
+                let params = trimmed_list_params(self.alloc, params, &self.frames)?;
                 self.put_back(Param::List(Params::from_vec(params)))
             }
             Opening::Tagged(key) => self.close_typed(key, params),
@@ -404,10 +418,9 @@ impl Machine {
 
     /// Where a parameter may begin.
     #[inline(always)]
-    fn next(&mut self, token: Token, rows: &mut SpareRows<Param>) -> Result<(), GrammarFault>
+    fn next(&mut self, token: Token) -> Result<(), GrammarFault>
         ensures ok { IfOk result (λ _. MakesMove (at_next self.old.stage (open_of self.old.row) (stack_of self.old.frames.items) (meant token)) self.new) }
         ensures err { IfErr result (λ why. RefusesMove (at_next self.old.stage (open_of self.old.row) (stack_of self.old.frames.items) (meant token)) why) }
-        ensures rows { TakesOneAtMost rows.old rows.new }
     {
         let param = match token {
             Token::Dollar => Param::Dollar,
@@ -423,7 +436,7 @@ impl Machine {
                 return Ok(());
             }
             Token::UserKeyword(word) => return self.put_user_keyword(word),
-            Token::Left => return self.enter(Opening::List, rows),
+            Token::Left => return self.enter(Opening::List),
             Token::Right => return self.close_empty(),
             Token::Begin | Token::Finish | Token::Comma | Token::Semicolon | Token::Equals => {
                 return Err(GrammarFault::Unexpected);
@@ -450,14 +463,12 @@ impl Machine {
         &mut self,
         key: Key,
         token: Token,
-        rows: &mut SpareRows<Param>,
     ) -> Result<(), GrammarFault>
         ensures ok { IfOk result (λ _. MakesMove (at_word self.old.stage (key_view key) (open_of self.old.row) (stack_of self.old.frames.items) (meant token)) self.new) }
         ensures err { IfErr result (λ why. RefusesMove (at_word self.old.stage (key_view key) (open_of self.old.row) (stack_of self.old.frames.items) (meant token)) why) }
-        ensures rows { TakesOneAtMost rows.old rows.new }
     {
         match token {
-            Token::Left => self.enter(Opening::Tagged(key), rows),
+            Token::Left => self.enter(Opening::Tagged(key)),
             token => Err(misplaced_param_fault(self.stage, &token)),
         }
     }
@@ -614,17 +625,15 @@ impl Machine {
         }
     }
 
-    /// Opens the parameters of a simple record, in the row that was kept last, if one waits.
-    fn open_part(&mut self, head: Head, key: Key, rows: &mut SpareRows<Param>)
-        ensures moves { MakesMove (go self.old.stage (next (open_at (part_row (head_of head) (key_view key)) no_params) [])) self.new }
-        ensures room { vec_capacity self.new.row.params ≡ next_room rows.old }
-        ensures taken { rows.new ≡ rooms_left rows.old }
+    /// Opens the parameters of a simple record.
+    fn open_part(&mut self, head: Head, key: Key)
+        ensures { MakesMove (go self.old.stage (next (open_at (part_row (head_of head) (key_view key)) no_params) [])) self.new }
     {
         self.at = At::Next;
         self.frames.clear();
         self.row = Row {
             opening: Opening::Part(head, key),
-            params: rows.take(self.alloc),
+            params: Vec::new(self.alloc),
         };
     }
 
@@ -634,16 +643,14 @@ impl Machine {
         head: Head,
         key: Key,
         token: Token,
-        rows: &mut SpareRows<Param>,
     ) -> Result<Option<Event>, GrammarFault>
         ensures ok { IfOk result (λ event. AnswersMove (at_keyed self.old.stage (head_of head) (key_view key) (meant token)) self.new event) }
         ensures err { IfErr result (λ why. RefusesMove (at_keyed self.old.stage (head_of head) (key_view key) (meant token)) why) }
         ensures shaped { IfOk result HasHeadingShape }
-        ensures rows { TakesOneAtMost rows.old rows.new }
     {
         match token {
             Token::Left => {
-                self.open_part(head, key, rows);
+                self.open_part(head, key);
                 Ok(None)
             }
             Token::Semicolon => match head {
@@ -841,12 +848,10 @@ impl Machine {
     fn other(
         &mut self,
         token: Token,
-        rows: &mut SpareRows<Param>,
     ) -> Result<Option<Event>, GrammarFault>
         ensures ok { IfOk result (λ event. AnswersMove (step self.old.stage (spot_of self.old) (meant token)) self.new event) }
         ensures err { IfErr result (λ why. RefusesMove (step self.old.stage (spot_of self.old) (meant token)) why) }
         ensures shaped { IfOk result HasHeadingShape }
-        ensures rows { TakesOneAtMost rows.old rows.new }
     {
         match mem::replace(&mut self.at, At::Idle) {
             At::Idle => self.idle(token)?,
@@ -854,9 +859,9 @@ impl Machine {
             At::Named(name) => self.named(name, token)?,
             At::Equal(name) => self.equal(name, token)?,
             At::Among(name, parts) => self.among(name, parts, token)?,
-            At::Keyed(head, key) => return self.keyed(head, key, token, rows),
-            At::Next => self.next(token, rows)?,
-            At::Word(key) => self.word(key, token, rows)?,
+            At::Keyed(head, key) => return self.keyed(head, key, token),
+            At::Next => self.next(token)?,
+            At::Word(key) => self.word(key, token)?,
             At::Behind => self.behind(token)?,
             At::RecordEnd(part) => return self.record_end(part, token),
             At::InstanceEnd(name, body) => return self.instance_end(name, body, token),
@@ -868,15 +873,13 @@ impl Machine {
     pub fn step(
         &mut self,
         token: Token,
-        rows: &mut SpareRows<Param>,
     ) -> Result<Option<Event>, GrammarFault>
         ensures ok { IfOk result (λ event. AnswersMove (step self.old.stage (spot_of self.old) (meant token)) self.new event) }
         ensures err { IfErr result (λ why. RefusesMove (step self.old.stage (spot_of self.old) (meant token)) why) }
         ensures shaped { IfOk result HasHeadingShape }
-        ensures rows { TakesOneAtMost rows.old rows.new }
     {
         match &self.at {
-            At::Next => self.next(token, rows)?,
+            At::Next => self.next(token)?,
             At::Behind => self.behind(token)?,
             At::Idle => self.idle(token)?,
             At::Named(name) => {
@@ -887,7 +890,7 @@ impl Machine {
                 let name = *name;
                 self.equal(name, token)?
             }
-            _ => return self.other(token, rows),
+            _ => return self.other(token),
         }
         Ok(None)
     }

@@ -4,23 +4,31 @@ ghost use Rattle.p21_exchange.specs.OpenNesting.{IsDepth};
 ghost use Rattle.p21_grammar.specs.Between.{IsBetweenInstances, StandsForMore};
 ghost use Rattle.p21_grammar.specs.Histories.{GrammarHistory, Stands, TakeGives, FinishGives, HasHeadingForm, RefusalIsKnown, RefusesAgain};
 ghost use Rattle.p21_grammar.specs.declared.fault.GrammarFault.{GrammarFault};
-ghost use Rattle.p21_grammar_tree.specs.Rooms.{TakesOneAtMost};
 ghost use Rattle.p21_tokens.specs.Token.{meant};
 
 use crate::event::Event;
 use crate::fault::GrammarFault;
 use crate::machine::Machine;
-use p21_grammar_tree::{Param, SpareRows};
 use p21_tokens::Token;
 use std::alloc::Global;
 use std::marker::Model;
 
 /// Takes tokens one by one, and answers each statement with its `;`.
-#[derive(Drop)]
 pub struct Parser {
     machine: Machine,
     depth: usize,
     refused: Option<GrammarFault>,
+}
+
+// Written out: crates above call it, where they would prove a derived one field by field.
+impl Drop for Parser {
+    fn drop(self) {
+        let Parser {
+            machine: _,
+            depth: _,
+            refused: _,
+        } = self;
+    }
 }
 
 impl Model for Parser {
@@ -48,8 +56,7 @@ impl Parser {
         }
     }
 
-    /// Takes the next token. Each statement is answered with its `;`. Where parameters open with the token, they stand in the
-    /// row that was kept last, if one waits: a caller that has moved the parameters out of a statement keeps its rows there.
+    /// Takes the next token. Each statement is answered with its `;`.
     ///
     /// # Errors
     ///
@@ -57,11 +64,7 @@ impl Parser {
     /// parameter one in another, `AfterEnd` behind the end of the file, `LeftOut` at a part of the standard that is left
     /// out, `HeaderShape` and `SectionShape` at the `;` of a statement that has not the form it should have there,
     /// `NoMemory`. After a refusal each call answers it.
-    pub fn take(
-        &mut self,
-        token: Token,
-        rows: &mut SpareRows<Param>,
-    ) -> Result<Option<Event>, GrammarFault>
+    pub fn take(&mut self, token: Token) -> Result<Option<Event>, GrammarFault>
         ensures gives { TakeGives self.old (meant token) result self.new }
         ensures shaped { IfOk result HasHeadingForm }
         ensures goes_on { IfOk result (λ event. self.new.refused ≡ None) }
@@ -69,12 +72,11 @@ impl Parser {
         ensures refused { IfErr result (λ fault. self.new.refused ≡ Some fault) }
         ensures known { RefusalIsKnown self.new }
         ensures within { self.new.depth ≤ 64 }
-        ensures rows { TakesOneAtMost rows.old rows.new }
     {
         if let Some(fault) = self.refused {
             return Err(fault);
         }
-        match self.machine.step(token, rows) {
+        match self.machine.step(token) {
             Ok(event) => {
                 self.depth = self.machine.depth();
                 Ok(event)

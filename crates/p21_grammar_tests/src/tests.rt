@@ -4,7 +4,7 @@ mod spelled;
 
 use p21_grammar::{
     Absent, Canonical, Event, GrammarFault, Key, Lexer, Limits, Line, NoMemory, Param, Params,
-    Parser, Part, Record, SpareRows, Token, Word,
+    Parser, Part, Record, Token, Word,
 };
 use spelled::{put, spell_event};
 use std::alloc::Global;
@@ -19,12 +19,11 @@ const HEADER: &str = "ISO-10303-21;HEADER;";
 /// Texts, with the statements of each and then the refusal, `end` and the refusal of the end, or nothing.
 type Rows = &'static [(&'static str, &'static str)];
 
-/// A lexer and a parser, the rows of statements before, and the statements that were given.
+/// A lexer and a parser, and the statements that were given.
 #[derive(Drop)]
 struct Reader {
     lexer: Lexer,
     parser: Parser,
-    rows: SpareRows<Param>,
     given: Vec<u8>,
     refused: Option<GrammarFault>,
     // Whether the lexer refused a text, or memory ran out.
@@ -36,7 +35,6 @@ impl Reader {
         Reader {
             lexer: Lexer::new(rt.alloc(), Limits::usual()),
             parser: Parser::new(rt.alloc()),
-            rows: SpareRows::new(rt.alloc()),
             given: Vec::new(rt.alloc()),
             refused: None,
             is_lost: false,
@@ -83,24 +81,14 @@ impl Reader {
     }
 
     fn take(&mut self, token: Token) {
-        match self.parser.take(token, &mut self.rows) {
+        match self.parser.take(token) {
             Ok(Some(event)) => {
                 if spell_event(&event, &mut self.given).is_err() {
                     self.is_lost = true;
                 }
-                self.use_row_again(event);
             }
             Ok(None) => {}
             Err(fault) => self.refused = Some(fault),
-        }
-    }
-
-    /// Keeps the row of an instance of internal mapping, in whose room the next one stands.
-    fn use_row_again(&mut self, statement: Event) {
-        if let Some(record) = record_of(statement)
-            && let Some(row) = row_of(record)
-        {
-            let _ = self.rows.put(row);
         }
     }
 
@@ -114,32 +102,14 @@ impl Reader {
     /// Whether nothing was lost, and a refusal is answered again.
     fn is_steady(&mut self) -> bool {
         match self.refused {
-            Some(fault) => repeats(&mut self.parser, &mut self.rows, fault),
+            Some(fault) => repeats(&mut self.parser, fault),
             None => !self.is_lost,
         }
     }
 }
 
-/// The record of an instance.
-fn record_of(statement: Event) -> Option<Record> {
-    match statement {
-        Event::Instance(_, record) => Some(record),
-        Event::Section(_line) => None,
-        Event::Named(_part) => None,
-        Event::Header(_part) => None,
-    }
-}
-
-/// The parameters of a record of internal mapping.
-fn row_of(record: Record) -> Option<Vec<Param>> {
-    match record {
-        Record::Simple(part) => Some(part.params.into_items()),
-        Record::Complex(_parts) => None,
-    }
-}
-
 /// Whether each of these tokens behind a refusal is answered by that refusal, and the depth is kept.
-fn repeats(parser: &mut Parser, rows: &mut SpareRows<Param>, fault: GrammarFault) -> bool {
+fn repeats(parser: &mut Parser, fault: GrammarFault) -> bool {
     let depth = parser.depth();
     let tokens = [
         Token::Semicolon,
@@ -149,7 +119,7 @@ fn repeats(parser: &mut Parser, rows: &mut SpareRows<Param>, fault: GrammarFault
         Token::Finish,
     ];
     for token in tokens {
-        if parser.take(token, rows).err() != Some(fault) {
+        if parser.take(token).err() != Some(fault) {
             return false;
         }
     }
@@ -197,27 +167,9 @@ fn comes_to(reader: Reader, text: &str, expected: &str) -> bool {
 /// Whether the token that begins a file gives no statement, and the semicolon behind it gives the first.
 fn begins_with_semicolon(alloc: Global) -> bool {
     let mut parser = Parser::new(alloc);
-    let mut rows = SpareRows::new(alloc);
-    let first = matches!(parser.take(Token::Begin, &mut rows), Ok(None));
-    let second = parser.take(Token::Semicolon, &mut rows);
+    let first = matches!(parser.take(Token::Begin), Ok(None));
+    let second = parser.take(Token::Semicolon);
     first && matches!(second, Ok(Some(Event::Section(Line::Begin))))
-}
-
-/// For how many elements the row has room in which an instance stands, where a row with this room waits: none where the
-/// instance isn't given.
-fn room_of_instance(rt: &HostRuntime, room: usize, text: &str) -> Result<usize, NoMemory> {
-    let mut reader = Reader::behind(rt, HEAD, "DATA;");
-    reader.rows.put(Vec::with_capacity(rt.alloc(), room)?)?;
-    reader.feed(text);
-    if reader.refused.is_some() || reader.is_lost || reader.parser.depth() > 0 {
-        return Ok(0);
-    }
-    Ok(reader.rows.take(rt.alloc()).capacity())
-}
-
-#[test]
-fn stands_in_the_row_that_waits(rt: HostRuntime) {
-    assert!(rt; room_of_instance(&rt, 40, "#1=A(1,2,3,4,5);") == Ok(40));
 }
 
 #[test]

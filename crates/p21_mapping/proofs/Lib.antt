@@ -16,4 +16,3 @@ pub mod Taking
 pub mod Here
 pub mod Refused
 pub mod Arranging
-pub mod Waiting

@@ -7,7 +7,6 @@ pub mod PresentTexts
 pub mod Rows
 pub mod Checked
 pub mod ArrangedRows
-pub mod RecordRows
 -- What the clauses of its calls cite, for callers who name this crate alone
 pub use Rattle.p21_basics.specs as p21_basics
 pub use Rattle.p21_exchange.specs as p21_exchange

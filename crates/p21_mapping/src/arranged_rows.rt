@@ -4,15 +4,15 @@ ghost use Rattle.p21_mapping.specs.ArrangedRows.{AreArranged, HasNoEntityTwice};
 ghost use Rattle.p21_mapping_values.specs.TypedView.{rows_view};
 
 use crate::positions::Positions;
-use crate::record_rows::RecordRows;
 use p21_express_types::EntityId;
 use p21_mapping_values::Values;
 use p21_values::NoMemory;
+use std::alloc::Global;
 use std::mem;
 
 /// The rows of entities in the order of the set that they are.
 pub(crate) fn arranged_rows(
-    spare: &mut RecordRows,
+    alloc: Global,
     entities: &[EntityId],
     listed: &[EntityId],
     rows: Vec<Values>,
@@ -22,15 +22,14 @@ pub(crate) fn arranged_rows(
     requires each { length rows.items ≡ length listed.now }
     ensures { IfOk result (λ all. AreArranged (numbers listed.now) (rows_view rows.items) (numbers entities.now) (rows_view all.items)) }
 {
-    let positions = Positions::of(spare.alloc, listed)?;
+    let positions = Positions::of(alloc, listed)?;
     let mut left = rows;
-    let mut all = spare.rows.with_room(spare.alloc, entities.len())?;
+    let mut all = Vec::with_capacity(alloc, entities.len())?;
     for entity in entities {
         let at = position(&positions, *entity);
-        let row = mem::replace(&mut left[at], Values::from_vec(Vec::new(spare.alloc)));
+        let row = mem::replace(&mut left[at], Values::from_vec(Vec::new(alloc)));
         all.push(row)?;
     }
-    let _ = spare.rows.put(left);
     Ok(all)
 }
 

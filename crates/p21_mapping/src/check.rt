@@ -11,7 +11,6 @@ ghost use Rattle.p21_schemas.specs.WellFormed.{IsWellFormed};
 
 use crate::arranged_rows::arranged_rows;
 use crate::fitted::{EntitySet, complex_rows, simple_rows};
-use crate::record_rows::RecordRows;
 use crate::shape::{Shape, shape_of};
 use p21_express_tables::Schema;
 use p21_express_types::EntityId;
@@ -35,32 +34,17 @@ pub fn check_owned_record(
 ) -> Result<(Typed<'_>, Vec<Need>), CheckFault>
     ensures { ChecksRecord schema.now (record_view of) result }
 {
-    check_owned_record_in(&mut RecordRows::new(alloc), schema, of)
-}
-
-/// Checks a record as `check_owned_record` does, in rows that were used before.
-///
-/// # Errors
-///
-/// Those of `check_owned_record`, in the same order.
-pub fn check_owned_record_in<'a>(
-    spare: &mut RecordRows,
-    schema: &'a Schema,
-    of: Record,
-) -> Result<(Typed<'a>, Vec<Need>), CheckFault>
-    ensures { ChecksRecord schema.now (record_view of) result }
-{
     schema.well_formed();
     schema.holds_together();
-    match shape_of(spare.alloc, schema, &of) {
-        Ok(shape) => check_with_shape(spare, schema, shape, of),
+    match shape_of(alloc, schema, &of) {
+        Ok(shape) => check_with_shape(alloc, schema, shape, of),
         Err(fault) => Err(fault),
     }
 }
 
 /// Checks a record whose entities are known.
 fn check_with_shape<'a>(
-    spare: &mut RecordRows,
+    alloc: Global,
     schema: &'a Schema,
     shape: Shape<'a>,
     of: Record,
@@ -73,17 +57,17 @@ fn check_with_shape<'a>(
 {
     let Shape { listed, entities } = shape;
     let in_order = listed.entities(schema);
-    let mut needs = Vec::new(spare.alloc);
+    let mut needs = Vec::new(alloc);
     let set = EntitySet {
         schema,
         own: listed.own(),
         entities: entities.items(),
     };
-    let rows = match rows_of(spare, &set, in_order, of, &mut needs) {
+    let rows = match rows_of(alloc, &set, in_order, of, &mut needs) {
         Ok(rows) => rows,
         Err(fault) => return Err(fault),
     };
-    let values = arranged_rows(spare, entities.items(), in_order, rows)?;
+    let values = arranged_rows(alloc, entities.items(), in_order, rows)?;
     let typed = Typed {
         parts: entities,
         values: Rows::from_vec(values),
@@ -93,7 +77,7 @@ fn check_with_shape<'a>(
 
 /// The values of the places of each entity, in the order of the record.
 fn rows_of(
-    spare: &mut RecordRows,
+    alloc: Global,
     set: &EntitySet<'_>,
     listed: &[EntityId],
     of: Record,
@@ -108,8 +92,8 @@ fn rows_of(
     match of {
         Record::Simple(part) => {
             let params = part.params.into_items();
-            simple_rows(spare, set, listed, params, needs)
+            simple_rows(alloc, set, listed, params, needs)
         }
-        Record::Complex(parts) => complex_rows(spare, set, listed, parts.into_items(), needs),
+        Record::Complex(parts) => complex_rows(alloc, set, listed, parts.into_items(), needs),
     }
 }

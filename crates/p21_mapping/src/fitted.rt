@@ -17,12 +17,12 @@ ghost use Rattle.p21_schemas.specs.PlaceType.{TypeAt, two_redeclarations};
 ghost use Rattle.p21_schemas.specs.Schema.{attributes_of};
 
 use crate::place::fit_place;
-use crate::record_rows::RecordRows;
 use p21_express_tables::Schema;
 use p21_express_types::{EntityId, Place, PlaceType};
 use p21_grammar_tree::{Param, Part};
 use p21_mapping_faults::CheckFault;
 use p21_mapping_values::{Need, Value, Values};
+use std::alloc::Global;
 
 /// The set of entities of a record, in a schema.
 #[derive(Drop)]
@@ -48,7 +48,7 @@ fn type_here<'a>(set: &EntitySet<'a>, place: Place) -> PlaceType<'a>
 
 /// The value of a parameter at a place of a set of entities.
 fn fit_here(
-    spare: &mut RecordRows,
+    alloc: Global,
     set: &EntitySet<'_>,
     place: Place,
     param: Param,
@@ -62,14 +62,14 @@ fn fit_here(
 {
     set.schema.holds_together();
     let at = type_here(set, place);
-    let found = fit_place(spare, set.schema, at, param, needs);
+    let found = fit_place(alloc, set.schema, at, param, needs);
     found
 }
 
 /// The values of the places that an entity declares, which as many of the parameters stand at. They are taken from the
 /// end of the row, where the first one stands.
 pub(crate) fn fit_row(
-    spare: &mut RecordRows,
+    alloc: Global,
     set: &EntitySet<'_>,
     owner: EntityId,
     params: &mut Vec<Param>,
@@ -83,7 +83,7 @@ pub(crate) fn fit_row(
     ensures { MatchResult result (λ values. TakesRow set.now.schema.now (numbers set.now.entities.now) owner.0 (left_views params.old.items) (left_views params.new.items) (map view (list_of values)) (needs_view needs.old.items) (needs_view needs.new.items)) (RefusesRow set.now.schema.now (numbers set.now.entities.now) owner.0 (left_views params.old.items)) }
 {
     let count = set.schema.attribute_count(owner);
-    let mut values = spare.values.with_room(spare.alloc, count as usize)?;
+    let mut values = Vec::with_capacity(alloc, count as usize)?;
     for index in 0..count {
         let Some(param) = params.pop() else {
             unreachable!()
@@ -92,7 +92,7 @@ pub(crate) fn fit_row(
             entity: owner,
             index,
         };
-        match fit_here(spare, set, place, param, needs) {
+        match fit_here(alloc, set, place, param, needs) {
             Ok(value) => values.push(value)?,
             Err(fault) => return Err(fault),
         }
@@ -102,7 +102,7 @@ pub(crate) fn fit_row(
 
 /// The values of the places of entities, one entity behind the other, which as many parameters stand at.
 pub(crate) fn simple_rows(
-    spare: &mut RecordRows,
+    alloc: Global,
     set: &EntitySet<'_>,
     listed: &[EntityId],
     params: Vec<Param>,
@@ -117,20 +117,19 @@ pub(crate) fn simple_rows(
 {
     let mut left = params;
     left.reverse();
-    let mut rows = spare.rows.with_room(spare.alloc, listed.len())?;
+    let mut rows = Vec::with_capacity(alloc, listed.len())?;
     for owner in listed {
-        match fit_row(spare, set, *owner, &mut left, needs) {
+        match fit_row(alloc, set, *owner, &mut left, needs) {
             Ok(row) => rows.push(row)?,
             Err(fault) => return Err(fault),
         }
     }
-    let _ = spare.params.put(left);
     Ok(rows)
 }
 
 /// The values of the places that each entity declares, which the parameters of its simple record stand at.
 pub(crate) fn complex_rows(
-    spare: &mut RecordRows,
+    alloc: Global,
     set: &EntitySet<'_>,
     listed: &[EntityId],
     parts: Vec<Part>,
@@ -144,18 +143,17 @@ pub(crate) fn complex_rows(
     ensures { MatchResult result (λ rows. TakesParts set.now.schema.now (numbers set.now.entities.now) (numbers listed.now) (part_views parts.items) [] (rows_view rows.items) (needs_view needs.old.items) (needs_view needs.new.items)) (RefusesPart set.now.schema.now (numbers set.now.entities.now) (part_views parts.items)) }
 {
     let mut left = parts.into_iter();
-    let mut rows = spare.rows.with_room(spare.alloc, listed.len())?;
+    let mut rows = Vec::with_capacity(alloc, listed.len())?;
     for owner in listed {
         let Some(part) = left.next() else {
             unreachable!()
         };
         let mut params = part.params.into_items();
         params.reverse();
-        match fit_row(spare, set, *owner, &mut params, needs) {
+        match fit_row(alloc, set, *owner, &mut params, needs) {
             Ok(row) => rows.push(row)?,
             Err(fault) => return Err(fault),
         }
-        let _ = spare.params.put(params);
     }
     Ok(rows)
 }

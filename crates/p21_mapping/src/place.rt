@@ -11,13 +11,13 @@ ghost use Rattle.p21_mapping.specs.Outcome.{ElementOrBreaks, ElementsOrBreak, Fi
 use crate::aggregate::{aggregate_of, allows_count, element};
 use crate::distinct::keeps_unique;
 use crate::instance::{chosen, fit_name};
-use crate::record_rows::RecordRows;
 use crate::scalar::{fit_bits, fit_item, fit_real, fit_text, fit_whole, other_kind};
 use p21_express_tables::{Base, Schema};
 use p21_express_types::{PlaceType, TypeUse};
 use p21_grammar_tree::{Key, Param, Params};
 use p21_mapping_faults::CheckFault;
 use p21_mapping_values::{Need, Value, Values};
+use std::alloc::Global;
 
 /// After how many parameters their room is given back.
 const AT_ONCE: usize = 1024;
@@ -31,7 +31,7 @@ const AT_ONCE: usize = 1024;
 /// `StarNotDerived`, `WrongKind`, `NumberRange`, `Width`, `UnknownItem`, `SelectType`, `Bounds`, those of the elements,
 /// `NotDistinct`. `NoMemory`.
 pub(crate) fn fit_place(
-    spare: &mut RecordRows,
+    alloc: Global,
     schema: &Schema,
     at: PlaceType<'_>,
     param: Param,
@@ -48,7 +48,7 @@ pub(crate) fn fit_place(
                 Err(CheckFault::DerivedNotStar)
             }
         }
-        PlaceType::Stored(optional, of) => fit_stored(spare, schema, param, optional, of, needs),
+        PlaceType::Stored(optional, of) => fit_stored(alloc, schema, param, optional, of, needs),
         PlaceType::Two => Err(CheckFault::TwoRedeclarations),
     }
 }
@@ -63,7 +63,7 @@ fn is_star(param: &Param) -> bool
 /// A value of the type, or none where there may be none.
 #[cycle(fit)]
 fn fit_stored(
-    spare: &mut RecordRows,
+    alloc: Global,
     schema: &Schema,
     param: Param,
     optional: bool,
@@ -76,7 +76,7 @@ fn fit_stored(
     if is_left_out(optional, &param) {
         return Ok(Value::Missing);
     }
-    fit(spare, schema, param, of, needs)
+    fit(alloc, schema, param, of, needs)
 }
 
 /// Whether the parameter is `$`, where there may be no value.
@@ -102,7 +102,7 @@ fn base_of<'a>(schema: &'a Schema, of: &'a TypeUse) -> Base<'a>
 /// A value of the type.
 #[cycle(fit)]
 fn fit(
-    spare: &mut RecordRows,
+    alloc: Global,
     schema: &Schema,
     param: Param,
     of: &TypeUse,
@@ -115,15 +115,15 @@ fn fit(
     match param {
         Param::Dollar => Err(CheckFault::Missing),
         Param::Star => Err(CheckFault::StarNotDerived),
-        Param::Whole(whole) => fit_whole(spare.alloc, base, whole),
+        Param::Whole(whole) => fit_whole(alloc, base, whole),
         Param::Real(real) => fit_real(base, real),
         Param::Text(text) => fit_text(base, text),
         Param::Bits(bits) => fit_bits(base, bits),
         Param::Item(word) => fit_item(base, word),
         Param::Name(name) => fit_name(schema, base, name, needs),
-        Param::List(params) => fit_list(spare, schema, params, base, needs),
+        Param::List(params) => fit_list(alloc, schema, params, base, needs),
         Param::Tagged(key, inner) => fit_tagged(
-            spare,
+            alloc,
             schema,
             Box::into_inner(inner),
             key,
@@ -136,7 +136,7 @@ fn fit(
 /// A list, at an aggregate.
 #[cycle(fit)]
 fn fit_list(
-    spare: &mut RecordRows,
+    alloc: Global,
     schema: &Schema,
     params: Params,
     base: Base<'_>,
@@ -154,8 +154,8 @@ fn fit_list(
     if !allows_count(of, params.items().len()) {
         return Err(CheckFault::Bounds);
     }
-    let values = fit_each(spare, schema, params.into_items(), optional, element, needs)?;
-    if !keeps_unique(spare.alloc, schema, of, &values)? {
+    let values = fit_each(alloc, schema, params.into_items(), optional, element, needs)?;
+    if !keeps_unique(alloc, schema, of, &values)? {
         return Err(CheckFault::NotDistinct);
     }
     Ok(aggregate_of(of, Values::from_vec(values)))
@@ -164,7 +164,7 @@ fn fit_list(
 /// The elements of a list.
 #[cycle(fit)]
 fn fit_each(
-    spare: &mut RecordRows,
+    alloc: Global,
     schema: &Schema,
     params: Vec<Param>,
     optional: bool,
@@ -174,14 +174,13 @@ fn fit_each(
     requires { IsTypeUse schema.now (type_use of.now) }
     ensures { ElementsOrBreak schema.now optional (type_use of.now) (views params.items) needs.old.items result needs.new.items }
 {
-    let mut values = spare.values.with_room(spare.alloc, params.len())?;
+    let mut values = Vec::with_capacity(alloc, params.len())?;
     let mut left = params;
     left.reverse();
     while let Some(param) = last_taken(&mut left) {
-        let value = fit_stored(spare, schema, param, optional, of, needs)?;
+        let value = fit_stored(alloc, schema, param, optional, of, needs)?;
         values.push(value)?;
     }
-    let _ = spare.params.put(left);
     Ok(values)
 }
 
@@ -199,7 +198,7 @@ fn last_taken(left: &mut Vec<Param>) -> Option<Param>
 /// A typed parameter, at a select that offers the type of its keyword.
 #[cycle(fit)]
 fn fit_tagged(
-    spare: &mut RecordRows,
+    alloc: Global,
     schema: &Schema,
     inner: Param,
     key: Key,
@@ -212,6 +211,6 @@ fn fit_tagged(
     let Some(chosen) = chosen(schema, &base, &key) else {
         return Err(other_kind(base));
     };
-    let value = fit(spare, schema, inner, &TypeUse::Defined(chosen), needs)?;
-    Ok(Value::Tagged(chosen, Box::new(spare.alloc, value)?))
+    let value = fit(alloc, schema, inner, &TypeUse::Defined(chosen), needs)?;
+    Ok(Value::Tagged(chosen, Box::new(alloc, value)?))
 }

@@ -1,7 +1,6 @@
 pub mod SpelledScalars
 pub mod WrittenParams
 pub mod Views
-pub mod Rooms
 pub mod Rising
 pub mod Elements
 pub mod Spelled

@@ -4,4 +4,3 @@ pub mod TypedView
 pub mod SplitTexts
 pub mod KnownTypes
 pub mod Spelled
-pub mod Rooms

@@ -32,14 +32,11 @@ pub struct Values {
 }
 
 impl Values {
-    ghost use Rattle.std.specs.Vec.{vec_capacity};
     ghost use Rattle.p21_mapping_values.specs.View.{list_of};
-    ghost use Rattle.p21_mapping_values.specs.Rooms.{room_of};
 
-    /// These values in this order, with the room of their vector. It takes no memory.
+    /// These values, in this order. It takes no memory.
     pub fn from_vec(values: Vec<Value>) -> Values
-        ensures items { list_of result ≡ values.items }
-        ensures room { room_of result ≡ vec_capacity values }
+        ensures { list_of result ≡ values.items }
     {
         Values { all: values }
     }
@@ -51,12 +48,10 @@ impl Values {
         &self.all
     }
 
-    /// The values, first to last, with the room of the row. It takes no memory.
+    /// The values, moved out. It takes no memory.
     pub fn into_items(self) -> Vec<Value>
-        ensures items { result.items ≡ list_of self }
-        ensures room { vec_capacity result ≡ room_of self }
+        ensures { result.items ≡ list_of self }
     {
-        let Values { all } = self;
-        all
+        self.all
     }
 }

@@ -5,7 +5,6 @@ mod long;
 mod names;
 mod needs;
 mod places;
-mod rooms;
 mod same_values;
 mod sameness;
 mod schemas;
@@ -19,7 +18,7 @@ use p21_canon::write_record;
 use p21_express::read_schema;
 use p21_express_tables::Schema;
 use p21_grammar::{Event, Lexer, Limits, Name, Parser, Record, Token};
-use p21_mapping::{CheckFault, RecordRows, check_owned_record_in, check_record};
+use p21_mapping::{CheckFault, check_owned_record, check_record};
 use std::alloc::Global;
 use std::process::Abort;
 
@@ -32,7 +31,6 @@ const HEAD: &str =
 struct Reader {
     lexer: Lexer,
     parser: Parser,
-    rows: RecordRows,
     last: Option<Event>,
     // Whether a text was refused, or memory ran out.
     is_lost: bool,
@@ -44,7 +42,6 @@ impl Reader {
         let mut reader = Reader {
             lexer: Lexer::new(alloc, Limits::usual()),
             parser: Parser::new(alloc),
-            rows: RecordRows::new(alloc),
             last: None,
             is_lost: false,
         };
@@ -80,7 +77,7 @@ impl Reader {
     }
 
     fn take(&mut self, token: Token) {
-        match self.parser.take(token, &mut self.rows.params) {
+        match self.parser.take(token) {
             Ok(event) => self.last = event,
             Err(_) => self.is_lost = true,
         }
@@ -142,18 +139,16 @@ fn append_statement(
     Ok(())
 }
 
-/// The same by the check that takes the record, in the rows of the records before.
+/// The same by the check that takes the record.
 fn append_moved(
-    spare: &mut RecordRows,
+    alloc: Global,
     schema: &Schema,
     name: Name,
     record: Record,
     out: &mut Vec<u8>,
 ) -> Result<(), CheckFault> {
-    let (typed, _needs) = check_owned_record_in(spare, schema, record)?;
-    let written = write_record(schema, name, &typed, out);
-    let _ = spare.put_back(typed.values.into_items());
-    written?;
+    let (typed, _needs) = check_owned_record(alloc, schema, record)?;
+    write_record(schema, name, &typed, out)?;
     Ok(())
 }
 
@@ -182,29 +177,22 @@ fn comes_to(alloc: Global, schema: &Schema, instance: &Instance, wanted: &[u8]) 
 /// The same where the record is moved.
 fn comes_moved_to(
     alloc: Global,
-    spare: &mut RecordRows,
     schema: &Schema,
     name: Name,
     record: Record,
     wanted: &[u8],
 ) -> bool {
     let mut out = Vec::new(alloc);
-    let found = append_moved(spare, schema, name, record, &mut out);
+    let found = append_moved(alloc, schema, name, record, &mut out);
     is_answer(alloc, found, &out, wanted)
 }
 
 /// Whether this comes of the instance that a text is, by both checks.
-fn answers(
-    alloc: Global,
-    spare: &mut RecordRows,
-    schema: &Schema,
-    text: &[u8],
-    wanted: &[u8],
-) -> bool {
+fn answers(alloc: Global, schema: &Schema, text: &[u8], wanted: &[u8]) -> bool {
     match read_instance(alloc, text) {
         Some(instance) => {
             comes_to(alloc, schema, &instance, wanted)
-                && comes_moved_to(alloc, spare, schema, instance.name, instance.record, wanted)
+                && comes_moved_to(alloc, schema, instance.name, instance.record, wanted)
         }
         None => false,
     }
@@ -212,19 +200,8 @@ fn answers(
 
 /// Whether this comes of a text, and of a canonical statement itself.
 fn holds(alloc: Global, schema: &Schema, text: &[u8], wanted: &[u8]) -> bool {
-    holds_in(alloc, &mut RecordRows::new(alloc), schema, text, wanted)
-}
-
-/// The same in the rows of the records before.
-fn holds_in(
-    alloc: Global,
-    spare: &mut RecordRows,
-    schema: &Schema,
-    text: &[u8],
-    wanted: &[u8],
-) -> bool {
-    answers(alloc, spare, schema, text, wanted)
-        && (!wanted.starts_with(b"#") || answers(alloc, spare, schema, wanted, wanted))
+    answers(alloc, schema, text, wanted)
+        && (!wanted.starts_with(b"#") || answers(alloc, schema, wanted, wanted))
 }
 
 /// Instances, with the canonical statement of each, or the refusal of its record.
@@ -232,15 +209,8 @@ type Rows = &'static [(&'static str, &'static str)];
 
 /// The first instance of which something else comes.
 fn first_wrong_of(alloc: Global, schema: &Schema, rows: Rows) -> &'static str {
-    let mut spare = RecordRows::new(alloc);
     for (text, wanted) in rows {
-        if !holds_in(
-            alloc,
-            &mut spare,
-            schema,
-            text.as_bytes(),
-            wanted.as_bytes(),
-        ) {
+        if !holds(alloc, schema, text.as_bytes(), wanted.as_bytes()) {
             return text;
         }
     }
@@ -263,8 +233,6 @@ enum Table {
     Letters(values::Letters),
     // Whether two instances mean the same.
     Pairs(sameness::Pairs),
-    // For how many elements the rows have room that wait behind instances.
-    Rooms(rooms::Rooms),
 }
 
 /// What a row is called that doesn't hold: `"none"` where each row holds.
@@ -278,7 +246,6 @@ fn first_wrong_in(alloc: Global, schema: &Schema, table: Table) -> &'static str 
         Table::Servants(holder, rows) => needs::first_wrong_servant(alloc, schema, holder, rows),
         Table::Letters(rows) => values::first_otherwise(alloc, schema, rows),
         Table::Pairs(rows) => sameness::first_unlike(alloc, schema, rows),
-        Table::Rooms(rows) => rooms::first_otherwise(alloc, schema, rows),
     }
 }
 

@@ -242,7 +242,7 @@ impl Progress {
         ensures plan { self.new.plan ≡ self.old.plan }
     {
         schema.well_formed();
-        let answer = match self.statements.step(piece, &mut self.workspace.rows.params) {
+        let answer = match self.statements.step(piece) {
             Ok(answer) => answer,
             Err(fault) => return Err(refused(fault, None, self.statement)),
         };

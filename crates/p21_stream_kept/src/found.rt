@@ -8,8 +8,8 @@ use p21_canon::write_record;
 use p21_express_tables::Schema;
 use p21_express_types::EntityId;
 use p21_grammar_tree::Record;
-use p21_mapping::check_owned_record_in;
-use p21_mapping_values::{Ids, Need, Typed};
+use p21_mapping::check_owned_record;
+use p21_mapping_values::{Ids, Need};
 use p21_stream_statements::Fault;
 use p21_values::Name;
 
@@ -44,7 +44,8 @@ pub(crate) fn find_instance<'a>(
     ensures finds { FindsInstance schema.now name (record_view of) result workspace.new.line.items }
     ensures kind { IfErr result (λ fault. IsOfBytes fault) }
 {
-    let (typed, needs) = match check_owned_record_in(&mut workspace.rows, schema, of) {
+    let alloc = *workspace.line.allocator();
+    let (typed, needs) = match check_owned_record(alloc, schema, of) {
         Ok(checked) => checked,
         Err(fault) => return Err(Fault::from(fault)),
     };
@@ -52,10 +53,8 @@ pub(crate) fn find_instance<'a>(
     let Ok(()) = write_record(schema, name, &typed, &mut workspace.line) else {
         return Err(Fault::NoMemory);
     };
-    let Typed { parts, values } = typed;
-    let _ = workspace.rows.put_back(values.into_items());
     Ok(Found {
-        entities: parts,
+        entities: typed.parts,
         needs,
     })
 }

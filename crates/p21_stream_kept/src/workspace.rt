@@ -1,18 +1,14 @@
 ghost use Rattle.std.specs.Prelude.{◌≡◌, ◌<◌, ◌≤◌, []};
 ghost use Rattle.std.specs.Vec.{vec_capacity};
 
-use p21_mapping::RecordRows;
 use std::alloc::Global;
 
 /// The most room in bytes that the line of an instance keeps for the next one.
 const LINE_ROOM: usize = 65_536;
 
-/// Where one instance after another is checked: the emptied rows of those before, and the canonical line. Nothing in it
-/// counts for what is kept.
+/// Where the canonical line of one instance after another is written. Nothing in it counts for what is kept.
 #[derive(Drop)]
 pub struct Workspace {
-    /// The emptied rows of records and of their values.
-    pub rows: RecordRows,
     /// The canonical line of the instance that was checked last.
     pub line: Vec<u8>,
 }
@@ -20,14 +16,10 @@ pub struct Workspace {
 impl Workspace {
     /// A workspace in which nothing was checked. It takes no memory.
     pub fn new(alloc: Global) -> Workspace
-        ensures params { result.rows.params ≡ [] }
-        ensures values { result.rows.values ≡ [] }
-        ensures rows { result.rows.rows ≡ [] }
         ensures line { result.line.items ≡ [] }
         ensures room { vec_capacity result.line ≡ 0 }
     {
         Workspace {
-            rows: RecordRows::new(alloc),
             line: Vec::new(alloc),
         }
     }
@@ -36,7 +28,6 @@ impl Workspace {
     pub fn trim(&mut self)
         ensures given_back { 65536 < vec_capacity self.old.line → vec_capacity self.new.line ≡ 0 }
         ensures kept { vec_capacity self.old.line ≤ 65536 → self.new.line ≡ self.old.line }
-        ensures rows { self.new.rows ≡ self.old.rows }
     {
         if self.line.capacity() > LINE_ROOM {
             self.line = Vec::new(*self.line.allocator());

@@ -1,26 +1,34 @@
 ghost use Rattle.std.specs.Prelude.{◌≡◌, ◌≤◌, ◌↔◌, ◌+◌, [], length, IfErr, IsTrue, None, true, false};
 ghost use Rattle.p21_exchange.specs.OpenNesting.{IsDepth};
 ghost use Rattle.p21_grammar.specs.Between.{StandsForMore};
-ghost use Rattle.p21_grammar_tree.specs.Rooms.{TakesOneAtMost};
 ghost use Rattle.p21_stream_statements.specs.Source.{IsOfBytes};
 ghost use Rattle.p21_stream_statements.specs.StatementReader.{FinishGives, HasOpenStatement, IsLive, NeedsNoMemory, StatementHistory, StepGives, TakesWithinPiece, limits_of, nothing_read};
 ghost use Rattle.p21_stream_statements.specs.PassingOver.{GivesPassed, IsAtRest, IsBetweenInstances, held_behind, room_of};
 
 use crate::fault::Fault;
-use p21_grammar::{Event, GrammarFault, Line, Param, Parser, SpareRows};
+use p21_grammar::{Event, GrammarFault, Line, Parser};
 use p21_tokens::{Lexer, Token};
 use p21_values::Limits;
 use std::alloc::Global;
 use std::marker::Model;
 
 /// A lexer, and a parser that takes its tokens.
-#[derive(Drop)]
 pub struct StatementReader {
-    alloc: Global,
     lexer: Lexer,
     parser: Parser,
     // Whether the last statement ended the file.
     ended: bool,
+}
+
+// Written out: crates above call it, where they would prove a derived one field by field.
+impl Drop for StatementReader {
+    fn drop(self) {
+        let StatementReader {
+            lexer: _,
+            parser: _,
+            ended: _,
+        } = self;
+    }
 }
 
 impl Model for StatementReader {
@@ -38,7 +46,6 @@ impl StatementReader {
         ensures limits { limits_of result ≡ (limits.record_source, limits.file_source) }
     {
         StatementReader {
-            alloc,
             lexer: Lexer::new(alloc, limits),
             parser: Parser::new(alloc),
             ended: false,
@@ -46,23 +53,17 @@ impl StatementReader {
     }
 
     /// Takes the bytes of one token, or of the rest of a piece in which none is whole, and says how many; with the `;` of
-    /// a statement, the statement. The byte behind a token may have been looked at: it has to be offered next. Parameters that
-    /// open stand in the row that was kept last, if one waits.
+    /// a statement, the statement. The byte behind a token may have been looked at: it has to be offered next.
     ///
     /// # Errors
     ///
     /// The lexer's, or the parser's at the token.
-    pub fn step(
-        &mut self,
-        piece: &[u8],
-        rows: &mut SpareRows<Param>,
-    ) -> Result<Option<(usize, Option<Event>)>, Fault>
+    pub fn step(&mut self, piece: &[u8]) -> Result<Option<(usize, Option<Event>)>, Fault>
         ensures takes { TakesWithinPiece piece.now result }
         ensures gives { StepGives self.old piece.now result self.new }
         ensures limits { limits_of self.new ≡ limits_of self.old }
         ensures no_memory { NeedsNoMemory self.old piece.now result }
         ensures kind { IfErr result (λ fault. IsOfBytes fault) }
-        ensures rows { TakesOneAtMost rows.old rows.new }
     {
         let (count, token) = match self.lexer.next(piece) {
             Ok(answer) => answer,
@@ -71,7 +72,7 @@ impl StatementReader {
         let Some(token) = token else {
             return Ok(None);
         };
-        match self.parser.take(token, rows) {
+        match self.parser.take(token) {
             Ok(event) => {
                 self.ended = has_ended(&event, self.ended);
                 Ok(Some((count, event)))
@@ -90,7 +91,6 @@ impl StatementReader {
         ensures kind { IfErr result (λ fault. IsOfBytes fault) }
     {
         let StatementReader {
-            alloc,
             lexer,
             parser,
             ended,
@@ -105,7 +105,7 @@ impl StatementReader {
                 Err(fault) => Err(Fault::from(fault)),
             };
         };
-        Err(last_fault(alloc, parser, token, ended))
+        Err(last_fault(parser, token, ended))
     }
 
     /// The token bytes of the open statement. It takes no memory.
@@ -163,13 +163,13 @@ impl StatementReader {
 }
 
 /// The fault of a last token, behind which no `;` stands.
-fn last_fault(alloc: Global, mut parser: Parser, token: Token, ended: bool) -> Fault
+fn last_fault(mut parser: Parser, token: Token, ended: bool) -> Fault
     ensures { IsOfBytes result }
 {
     if !ended {
         return Fault::Grammar(GrammarFault::EndsEarly);
     }
-    match parser.take(token, &mut SpareRows::new(alloc)) {
+    match parser.take(token) {
         Ok(_) => Fault::Grammar(GrammarFault::EndsEarly),
         Err(fault) => Fault::from(fault),
     }

@@ -1,5 +1,5 @@
 //! From pieces to statements.
-use p21_grammar::{Limits, Param, SpareRows};
+use p21_grammar::Limits;
 use p21_stream_statements::StatementReader;
 use std::alloc::Global;
 
@@ -10,25 +10,12 @@ const BEGUN: &[u8] =
 /// A data section, and the end.
 const REST: &[u8] = b"DATA;#1=POINT(1.,2.);ENDSEC;END-ISO-10303-21;";
 
-/// A statement reader, and the rows of the statements before.
-#[derive(Drop)]
-struct Front {
-    reader: StatementReader,
-    rows: SpareRows<Param>,
-}
-
-impl Front {
-    fn new(alloc: Global) -> Front {
-        Front {
-            reader: StatementReader::new(alloc, Limits::usual()),
-            rows: SpareRows::new(alloc),
-        }
-    }
-}
-
 /// Takes the beginning of a piece, and answers what is left of it and whether a statement ended; the number of a fault.
-fn take_front<'a>(front: &mut Front, piece: &'a [u8]) -> Result<Option<(&'a [u8], bool)>, u8> {
-    match front.reader.step(piece, &mut front.rows) {
+fn take_front<'a>(
+    reader: &mut StatementReader,
+    piece: &'a [u8],
+) -> Result<Option<(&'a [u8], bool)>, u8> {
+    match reader.step(piece) {
         Ok(Some((taken, event))) => {
             let (_, rest) = piece.split_at(taken.min(piece.len()));
             Ok(Some((rest, event.is_some())))
@@ -39,11 +26,11 @@ fn take_front<'a>(front: &mut Front, piece: &'a [u8]) -> Result<Option<(&'a [u8]
 }
 
 /// How many statements end in a piece; the number of a fault.
-fn statements(front: &mut Front, piece: &[u8]) -> Result<usize, u8> {
+fn statements(reader: &mut StatementReader, piece: &[u8]) -> Result<usize, u8> {
     let mut left = piece;
     let mut count: usize = 0;
     for _ in 0..1_000 {
-        match take_front(front, left) {
+        match take_front(reader, left) {
             Ok(Some((rest, is_ended))) => {
                 left = rest;
                 count = count.saturating_add(usize::from(is_ended));
@@ -61,13 +48,13 @@ type Piece = (&'static [u8], usize, [u64; 2]);
 /// By its name: pieces one after another, and the number of the fault of a file that ends there, if there is one.
 type Files = &'static [(&'static str, &'static [Piece], Result<(), u8>)];
 
-fn takes(front: &mut Front, (piece, count, open): Piece) -> bool {
-    statements(front, piece) == Ok(count) && [front.reader.pending(), front.reader.depth()] == open
+fn takes(reader: &mut StatementReader, (piece, count, open): Piece) -> bool {
+    statements(reader, piece) == Ok(count) && [reader.pending(), reader.depth()] == open
 }
 
-fn takes_all(front: &mut Front, pieces: &[Piece]) -> bool {
+fn takes_all(reader: &mut StatementReader, pieces: &[Piece]) -> bool {
     for piece in pieces {
-        if !takes(front, *piece) {
+        if !takes(reader, *piece) {
             return false;
         }
     }
@@ -75,17 +62,17 @@ fn takes_all(front: &mut Front, pieces: &[Piece]) -> bool {
 }
 
 /// The number of the fault of a file that ends here.
-fn ending(front: Front) -> Result<(), u8> {
-    match front.reader.finish() {
+fn ending(reader: StatementReader) -> Result<(), u8> {
+    match reader.finish() {
         Ok(()) => Ok(()),
         Err(fault) => Err(fault.number()),
     }
 }
 
 fn ends_so(alloc: Global, pieces: &[Piece], end: Result<(), u8>) -> bool {
-    let mut front = Front::new(alloc);
-    let are_taken = takes_all(&mut front, pieces);
-    ending(front) == end && are_taken
+    let mut reader = StatementReader::new(alloc, Limits::usual());
+    let are_taken = takes_all(&mut reader, pieces);
+    ending(reader) == end && are_taken
 }
 
 fn first_wrong(alloc: Global) -> &'static str {
@@ -131,8 +118,8 @@ const REFUSED: &[(&str, &[u8], u8)] = &[
 ];
 
 fn refuses(alloc: Global, piece: &[u8], number: u8) -> bool {
-    let mut front = Front::new(alloc);
-    statements(&mut front, piece) == Err(number)
+    let mut reader = StatementReader::new(alloc, Limits::usual());
+    statements(&mut reader, piece) == Err(number)
 }
 
 fn first_taken(alloc: Global) -> &'static str {
