@@ -45,6 +45,6 @@ loop-index-preserved c =
 
 pub returns : goal.returns
 returns c =
-    rw c.from_vec.ensures.items
+    rw c.from_vec.ensures
     (row-ends c.args.set.now.schema.now (numbers c.args.set.now.entities.now) c.args.owner.0 c.loop-index.index (param_views (reverse c.args.params.now.items)) (param_views (reverse c.loop-index.params.items)) (map view c.loop-index.values.items) (needs_view c.args.needs.now.items) (needs_view c.loop-index.needs.items)
     (omega (arith, c.loop-index-test.false, c.loop-index.auto.index-end, c.attribute_count-count.ensures)) c.loop-index.invariant)

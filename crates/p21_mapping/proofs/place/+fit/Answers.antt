@@ -86,7 +86,7 @@ fit_list-returns-then-not-branch t c = same_broken c.args.schema.now c.args.base
 pub fit_list-returns : goal.fit_list-returns
 fit_list-returns t c =
     aggregate_at c.args.schema.now c.args.base c.in-Plain.of (items_of c.args.params) _ _ _ _ _ c.in_ok-values.values c.aggregate_of.result c.in-Plain.is c.in-Some.ensures (rw c.into_items.ensures at c.in_ok-values.ensures) (ap (λ xs. length xs) c.items.ensures)
-    (c.allows_count.ensures.0 (search rules)) (rw c.deref.ensures.value at (c.in_ok-keeps_unique.ensures.0 (search rules))) (rw c.from_vec.ensures.items at c.aggregate_of.ensures)
+    (c.allows_count.ensures.0 (search rules)) (rw c.deref.ensures.value at (c.in_ok-keeps_unique.ensures.0 (search rules))) (rw c.from_vec.ensures at c.aggregate_of.ensures)
 
 pub fit_list-fit_each-requires : goal.fit_list-fit_each-requires
 fit_list-fit_each-requires t c = let same = ap (λ xs. most the_size xs) c.into_items.ensures in (search (rules, param.the_lemmas), element-known c.args.schema.now _ _ _ c.in-Some.ensures (plain-known c.args.schema.now c.args.base _ c.in-Plain.is c.requires))
