@@ -1,7 +1,8 @@
 #!/bin/sh
 # Tries the library for other programs: that the header declares what is exported and names the refusals as docs/FAULTS.md
-# does; that a C program that calls each function finds what it must and touches no memory that isn't its own; that the
-# programs of README and docs/LIBRARY.md do what these pages say; and that the tests of the Python package pass.
+# does; that a C program that calls each function finds what it must and touches no memory that isn't its own; that no call
+# leaves a block of memory, whatever is let go first; that the structs stand as the header has them; that the programs of
+# README and docs/LIBRARY.md do what these pages say; and that the tests of the Python package pass.
 #
 #   tests/bindings.sh [FOLDER]     FOLDER has libp21_c.a, liblibc_c.a, libp21.so and p21.h, as tools/build-library puts them
 #                                 there; without one they are built
@@ -99,6 +100,34 @@ if command -v valgrind > /dev/null; then
 else
     leave_out 'the C program under valgrind' 'valgrind is not here'
 fi
+
+# The blocks of memory that the calls leave, counted in front of the C library, and where the structs have their fields.
+counting=$here/counting.so
+blocks=$root/tests/bindings/blocks.c
+layout=$root/tests/bindings/layout.c
+part 'what counts blocks is compiled' "${CC:-cc}" -std=c11 -O1 -Wall -Wextra -Werror -shared -fPIC -o "$counting" "$root/tests/bindings/counting.c"
+part 'the program that leaves no block is compiled over the static library' \
+    compile "$here/static_blocks" "$blocks" "$counting" "-Wl,-rpath,$here" "$folder/libp21_c.a" "$folder/liblibc_c.a"
+part 'the program that leaves no block is compiled over the shared library' \
+    compile "$here/shared_blocks" "$blocks" "$counting" "-Wl,-rpath,$here" "$folder/libp21.so" "-Wl,-rpath,$folder"
+part 'no block is left by the static library' says 'no block is left' "$here/static_blocks" "$root/examples"
+part 'no block is left by the shared library' says 'no block is left' "$here/shared_blocks" "$root/examples"
+part 'the program over the structs is compiled' statically "$here/layout" "$layout"
+part 'the structs stand as the header has them' says 'all stands where the header has it' "$here/layout" "$root/examples" "$version"
+
+# The fields of a struct that C and the library share, with their types and in their order: of the header, and of the sources.
+fields_in_c() {
+    sed -n "/^typedef struct $1 {/,/^}/s/^    \(uint[0-9]*_t\) \([a-z]*\);.*/\2 \1/p" "$root/include/p21.h"
+}
+fields_in_source() {
+    sed -n "/^#\[repr(C)\]/,/^}/{/pub struct $2 {/,/^}/s/^    pub \([a-z]*\): u\([0-9]*\),\$/\1 uint\2_t/p}" "$root/crates/$1"
+}
+fields_in_c p21_report > "$here/declared"
+fields_in_source p21_c_answers/src/answers.rt Report > "$here/found"
+part 'the fields of a report' same_lists "$here/declared" "$here/found"
+fields_in_c p21_parts > "$here/declared"
+fields_in_source p21_c/src/versions.rt Version > "$here/found"
+part 'the fields of a version' same_lists "$here/declared" "$here/found"
 
 # page NUMBER: one of the programs in C of docs/LIBRARY.md.
 page() {

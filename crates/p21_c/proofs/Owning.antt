@@ -32,7 +32,7 @@ use Rattle.std.proofs.GlobalToken.{dealloc_token-Testable}
 use Rattle.p21_c.specs.Owned.{handle_owns}
 use Rattle.p21_c.specs.contracts.contents.Content as Content
 use Rattle.p21_c.proofs.contents.Content.TheLaws as content
-use Rattle.p21_c.specs.contracts.handles.Handle as Handle
+use Rattle.p21_c.specs.contracts.components.Handle as Handle
 use Rattle.p21_c.specs.contracts.components.BoxComponents as BoxComponents
 
 abbrev pub E : Bx

@@ -4,8 +4,8 @@ ghost use Rattle.p21_c.specs.Answers.{ChecksFile, Compares, HoldsMade, MakesCano
 ghost use Rattle.p21_c.specs.Contents.{schema_in, boxed_content};
 
 use crate::accepting::{accept_text, claim_under};
+use crate::components::Handle;
 use crate::contents::{Holding, schema_of};
-use crate::handles::Handle;
 use crate::texts::{file_of, text_of};
 use p21_c_answers::{Answer, FILE, Report, SECOND, accepted, done, misused, no_memory, refused};
 use p21_express_tables::Schema;

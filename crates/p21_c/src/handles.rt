@@ -1,64 +1,13 @@
-//! The handles that C keeps.
-ghost use Rattle.std.specs.Prelude.{◌≡◌, Option, None, Some, MatchOption};
+//! What a handle of C holds is taken out of it, and put into it.
+ghost use Rattle.std.specs.Prelude.{◌≡◌, None};
 ghost use Rattle.p21_c.specs.Contents.{handed_content, boxed_content};
-ghost use Rattle.p21_c.specs.Owned.{held_code};
-ghost use Rattle.p21_c.specs.declared.contents.Content.{Content};
 
-use crate::components::BoxComponents;
-use crate::contents::{Content, Holding};
+use crate::components::{BoxComponents, Handle};
+use crate::contents::Holding;
 use std::alloc::Global;
-use std::marker::Model;
 use std::mem::replace;
-use std::ptr;
-
-/// What C keeps between calls: nothing where the pointer is null, else a content in a block of its own.
-#[repr(C)]
-pub struct Handle {
-    at: *mut u8,
-    alloc: Global,
-    pub ghost value: { Option Content } by { held_code },
-}
-
-impl Model for Handle {
-    ghost use Rattle.p21_c.specs.Owned.{handle_owns};
-
-    ghost also_owns = { λ h. handle_owns h.alloc h.at h.value };
-}
 
 impl Handle {
-    fn empty(alloc: Global) -> Handle
-        ensures { result.value ≡ None }
-    {
-        Handle {
-            at: ptr::null_mut(),
-            alloc,
-        }
-    }
-
-    fn of_components(components: BoxComponents<Content, Global>) -> Handle
-        ensures { result.value ≡ Some components.value }
-    {
-        let BoxComponents { ptr, alloc } = components;
-        Handle {
-            at: ptr as *mut u8,
-            alloc,
-        }
-    }
-
-    fn into_components(self) -> Option<BoxComponents<Content, Global>>
-        ensures { MatchOption result (self.value ≡ None) (λ components. self.value ≡ Some components.value) }
-    {
-        let Handle { at, alloc } = self;
-        if at == ptr::null_mut() {
-            None
-        } else {
-            Some(BoxComponents {
-                ptr: at as *mut Content,
-                alloc,
-            })
-        }
-    }
-
     fn holding(alloc: Global, content: Holding) -> Handle
         ensures { result.value ≡ boxed_content content }
     {

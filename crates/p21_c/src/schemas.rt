@@ -3,8 +3,8 @@ ghost use Rattle.std.specs.Prelude.{◌≡◌, None, Some};
 ghost use Rattle.p21_c.specs.Answers.{HoldsMade, StoresSchema, MakesSchema};
 ghost use Rattle.p21_c.specs.Contents.{boxed_content};
 
+use crate::components::Handle;
 use crate::contents::{Content, Holding, boxed};
-use crate::handles::Handle;
 use p21_c_answers::{Answer, Report, done, no_memory, schema_refused};
 use p21_express::read_schema;
 use p21_express_tables::Schema;

@@ -3,10 +3,10 @@ ghost use Rattle.std.specs.Prelude.{◌≡◌, None};
 ghost use Rattle.p21_c.specs.Answers.{Feeds, Finishes, HoldsMade, MakesFile, MakesLine, MakesSession, feed_answer};
 ghost use Rattle.p21_c.specs.Contents.{output_in, schema_in, session_in, boxed_content};
 
+use crate::components::Handle;
 use crate::contents::{
     Content, Holding, Taken, accepted_of, boxed, put_accepted, put_session, schema_of, take_session,
 };
-use crate::handles::Handle;
 use crate::texts::{copy_of, file_of};
 use p21_c_answers::{
     Answer, DONE, FAILED, FILE, MISUSED, REFUSED, Report, accepted, done, misused, refused,

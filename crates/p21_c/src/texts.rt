@@ -4,8 +4,8 @@ ghost use Rattle.p21_c.specs.Answers.{ShowsText};
 ghost use Rattle.p21_c.specs.Contents.{HoldsText, text_in, boxed_content};
 ghost use Rattle.p21_stream_output.specs.Output.{output_text};
 
+use crate::components::Handle;
 use crate::contents::{Content, Holding, boxed, text_of as held_text};
-use crate::handles::Handle;
 use p21_c_answers::{DONE, MISUSED};
 use p21_stream_io::Watched;
 use p21_stream_output::Accepted;

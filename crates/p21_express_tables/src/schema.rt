@@ -25,11 +25,21 @@ use std::alloc::Global;
 use std::marker::Model;
 
 /// A schema with all names resolved (ISO 10303-11), prepared for look-ups.
-#[derive(Drop)]
 pub struct Schema {
     pub(crate) alloc: Global,
     parts: SchemaContents,
     pub(crate) tables: Tables,
+}
+
+// Written out: crates above call it, where they would prove a derived one field by field.
+impl Drop for Schema {
+    fn drop(self) {
+        let Schema {
+            alloc: _,
+            parts: _,
+            tables: _,
+        } = self;
+    }
 }
 
 impl Model for Schema {

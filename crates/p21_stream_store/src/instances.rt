@@ -15,7 +15,6 @@ use std::marker::Model;
 /// Instances by name, each with its canonical text and the number of its membership. Those whose names rise, as in nearly
 /// every file, are stored in their order and take no index; a name that is below one in front of it stands in a table or a
 /// tree.
-#[derive(Drop)]
 pub struct Instances {
     // A bit for each small name that has come.
     seen: Vec<u64>,
@@ -23,6 +22,19 @@ pub struct Instances {
     texts_of_rising: StoredTexts,
     pub(crate) late: LateNames,
     texts_of_late: StoredTexts,
+}
+
+// Written out: crates above call it, where they would prove a derived one field by field.
+impl Drop for Instances {
+    fn drop(self) {
+        let Instances {
+            seen: _,
+            rising: _,
+            texts_of_rising: _,
+            late: _,
+            texts_of_late: _,
+        } = self;
+    }
 }
 
 impl Model for Instances {

@@ -13,12 +13,22 @@ use std::marker::Model;
 
 /// What is known of the instances of a schema, for the entities that were prepared, and guesses of the entities that keywords
 /// name. It borrows nothing of the schema.
-#[derive(Drop)]
 pub struct Plan {
     alloc: Global,
     // By the number of the entity; those from the last row on aren't prepared.
     rows: Vec<Option<Row>>,
     guesses: Guesses,
+}
+
+// Written out: crates above call it, where they would prove a derived one field by field.
+impl Drop for Plan {
+    fn drop(self) {
+        let Plan {
+            alloc: _,
+            rows: _,
+            guesses: _,
+        } = self;
+    }
 }
 
 impl Model for Plan {

@@ -14,11 +14,17 @@ use std::marker::Model;
 const MOST: usize = 16;
 
 /// Sets of entities that were found to be ones of external mapping, so that none is looked at again for each of its instances.
-#[derive(Drop)]
 pub struct Sets {
     all: Vec<Vec<EntityId>>,
     // The number of the one that was taken last.
     last: usize,
+}
+
+// Written out: crates above call it, where they would prove a derived one field by field.
+impl Drop for Sets {
+    fn drop(self) {
+        let Sets { all: _, last: _ } = self;
+    }
 }
 
 impl Model for Sets {

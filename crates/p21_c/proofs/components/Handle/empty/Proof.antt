@@ -19,10 +19,10 @@ use Rattle.std.proofs.raw_atomic.Walks.{proved_at}
 use Rattle.std.specs.Prelude.{None}
 use Rattle.std.specs.contracts.alloc.Global as Heap
 use Rattle.p21_c.proofs.Owning.{E, word, word_good, handle_in}
-use Rattle.p21_c.specs.contracts.handles.Handle.empty as F
-use Rattle.p21_c.specs.contracts.handles.Handle.empty.Key.{name as #self}
-use Rattle.p21_c.proofs.handles.Handle.empty.Statement.{statement}
-use Rattle.p21_c.proofs.handles.Handle.empty.Code as code
+use Rattle.p21_c.specs.contracts.components.Handle.empty as F
+use Rattle.p21_c.specs.contracts.components.Handle.empty.Key.{name as #self}
+use Rattle.p21_c.proofs.components.Handle.empty.Statement.{statement}
+use Rattle.p21_c.proofs.components.Handle.empty.Code as code
 
 abbrev From : Slot 0
 From = plain (λ _. Heap.the_row)

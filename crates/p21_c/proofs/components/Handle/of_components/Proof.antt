@@ -18,10 +18,10 @@ use Rattle.std.proofs.BoxSteps.Steps.{box_out, box_in}
 use Rattle.std.proofs.raw_atomic.Walks.{proved_at}
 use Rattle.std.specs.Prelude.{Some}
 use Rattle.p21_c.proofs.Owning.{E, FromParts as From}
-use Rattle.p21_c.specs.contracts.handles.Handle.of_components as F
-use Rattle.p21_c.specs.contracts.handles.Handle.of_components.Key.{name as #self}
-use Rattle.p21_c.proofs.handles.Handle.of_components.Statement.{statement}
-use Rattle.p21_c.proofs.handles.Handle.of_components.Code as code
+use Rattle.p21_c.specs.contracts.components.Handle.of_components as F
+use Rattle.p21_c.specs.contracts.components.Handle.of_components.Key.{name as #self}
+use Rattle.p21_c.proofs.components.Handle.of_components.Statement.{statement}
+use Rattle.p21_c.proofs.components.Handle.of_components.Code as code
 
 abbrev stayed : Stays (F.ended).signature.params (F.ended).kept
 stayed = (stay_dropped From yes, tt)

@@ -24,12 +24,12 @@ use Rattle.std.proofs.option.Made.{Some-of, none_of}
 use Rattle.std.proofs.raw_atomic.Walks.{proved_at}
 use Rattle.std.specs.Prelude.{Some, None}
 use Rattle.std.specs.contracts.alloc.Global as Heap
-use Rattle.p21_c.specs.contracts.handles.Handle as Handle
+use Rattle.p21_c.specs.contracts.components.Handle as Handle
 use Rattle.p21_c.proofs.Owning.{FromHandle as From, Boxed, PartsRow, handle_out, owned_cases, parts_in, ptr_good, word, word_good}
-use Rattle.p21_c.specs.contracts.handles.Handle.into_components as F
-use Rattle.p21_c.specs.contracts.handles.Handle.into_components.Key.{name as #self}
-use Rattle.p21_c.proofs.handles.Handle.into_components.Statement.{statement}
-use Rattle.p21_c.proofs.handles.Handle.into_components.Code as code
+use Rattle.p21_c.specs.contracts.components.Handle.into_components as F
+use Rattle.p21_c.specs.contracts.components.Handle.into_components.Key.{name as #self}
+use Rattle.p21_c.proofs.components.Handle.into_components.Statement.{statement}
+use Rattle.p21_c.proofs.components.Handle.into_components.Code as code
 
 abbrev stayed : Stays (F.ended).signature.params (F.ended).kept
 stayed = (stay_dropped From yes, tt)
