@@ -4,8 +4,8 @@
 A program of the crates below makes the call that it is told (calls.rattle), and has memory enough up to the call. A refused
 call answers want of memory; a buffer or text to which it was to append is as it was, and a lexer, a parser and a session
 answer the same again, with and without memory. Where one allocation alone is refused, the answer may be that of a call with
-none refused, and those are counted: an emptied row that finds no memory to wait in is given back. So it may where no
-allocation is refused but such ones. The calls that take no memory are made with every allocation refused.
+none refused, where a smaller growth is tried and finds memory, and those are counted. So it may where no allocation is
+refused but such ones. The calls that take no memory are made with every allocation refused.
 
 The program is built without a proof, which takes some minutes of a processor. Arguments name the calls, all without any.
 """

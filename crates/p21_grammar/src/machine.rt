@@ -459,11 +459,7 @@ impl Machine {
     }
 
     /// Behind the keyword of a typed parameter.
-    fn word(
-        &mut self,
-        key: Key,
-        token: Token,
-    ) -> Result<(), GrammarFault>
+    fn word(&mut self, key: Key, token: Token) -> Result<(), GrammarFault>
         ensures ok { IfOk result (λ _. MakesMove (at_word self.old.stage (key_view key) (open_of self.old.row) (stack_of self.old.frames.items) (meant token)) self.new) }
         ensures err { IfErr result (λ why. RefusesMove (at_word self.old.stage (key_view key) (open_of self.old.row) (stack_of self.old.frames.items) (meant token)) why) }
     {
@@ -638,12 +634,7 @@ impl Machine {
     }
 
     /// Behind the keyword of a simple record.
-    fn keyed(
-        &mut self,
-        head: Head,
-        key: Key,
-        token: Token,
-    ) -> Result<Option<Event>, GrammarFault>
+    fn keyed(&mut self, head: Head, key: Key, token: Token) -> Result<Option<Event>, GrammarFault>
         ensures ok { IfOk result (λ event. AnswersMove (at_keyed self.old.stage (head_of head) (key_view key) (meant token)) self.new event) }
         ensures err { IfErr result (λ why. RefusesMove (at_keyed self.old.stage (head_of head) (key_view key) (meant token)) why) }
         ensures shaped { IfOk result HasHeadingShape }
@@ -845,10 +836,7 @@ impl Machine {
 
     /// The next token, where what was taken last is moved out.
     #[inline(never)]
-    fn other(
-        &mut self,
-        token: Token,
-    ) -> Result<Option<Event>, GrammarFault>
+    fn other(&mut self, token: Token) -> Result<Option<Event>, GrammarFault>
         ensures ok { IfOk result (λ event. AnswersMove (step self.old.stage (spot_of self.old) (meant token)) self.new event) }
         ensures err { IfErr result (λ why. RefusesMove (step self.old.stage (spot_of self.old) (meant token)) why) }
         ensures shaped { IfOk result HasHeadingShape }
@@ -870,10 +858,7 @@ impl Machine {
     }
 
     /// The next token. It answers a statement with its `;`.
-    pub fn step(
-        &mut self,
-        token: Token,
-    ) -> Result<Option<Event>, GrammarFault>
+    pub fn step(&mut self, token: Token) -> Result<Option<Event>, GrammarFault>
         ensures ok { IfOk result (λ event. AnswersMove (step self.old.stage (spot_of self.old) (meant token)) self.new event) }
         ensures err { IfErr result (λ why. RefusesMove (step self.old.stage (spot_of self.old) (meant token)) why) }
         ensures shaped { IfOk result HasHeadingShape }
