@@ -48,7 +48,10 @@ fn first_misnamed() -> &'static str {
 fn has_numbers_and_names(rt: HostRuntime) {
     assert_eq!(rt; first_misnamed(), "none");
     assert_eq!(rt; (ReadFault.number(), ReadFault.name()), (91, "ReadFault"));
-    assert_eq!(rt; (WriteFault.number(), WriteFault.name()), (92, "WriteFault"));
+    assert_eq!(rt;
+        (WriteFault.number(), WriteFault.name()),
+        (92, "WriteFault")
+    );
 }
 
 /// A fault of a layer below.

@@ -5,11 +5,13 @@ use Rattle.p21_tokens.proofs.lexer.Lexer.scan.Goals as goal
 
 pub returns-in-Some-Ok : goal.returns-in-Some-Ok
 returns-in-Some-Ok c =
-    along-front c.args.self.now c.loop-taken.self c.take_leading_token.new.self c.args.piece.now c.loop-taken.taken c.loop-taken.invariant c.in-Some-Ok.count c.in-Some-Ok.token (rw c.in-Some-Ok.field-0-is at c.in-Some-Ok.ensures)
+    along-front c.args.self.now c.loop-taken.self c.take_leading_token.new.self c.args.piece.now c.loop-taken.taken c.loop-taken.invariant c.in-Some-Ok.count c.in-Some-Ok.token
+    (rw c.in-Some-Ok.field-0-is at c.in-Some-Ok.ensures)
 
 pub returns-in-Some-Err : goal.returns-in-Some-Err
 returns-in-Some-Err c =
-    along-no_memory c.args.self.now c.loop-taken.self c.take_leading_token.new.self c.args.piece.now c.loop-taken.taken c.loop-taken.invariant (omega arith) c.in-Some-Err._no_memory (rw c.in-Some-Err.field-0-is at c.in-Some-Err.ensures)
+    along-no_memory c.args.self.now c.loop-taken.self c.take_leading_token.new.self c.args.piece.now c.loop-taken.taken c.loop-taken.invariant (omega arith) c.in-Some-Err._no_memory
+    (rw c.in-Some-Err.field-0-is at c.in-Some-Err.ensures)
 
 pub loop-taken-preserved : goal.loop-taken-preserved
 loop-taken-preserved c =
