@@ -12,7 +12,7 @@ use Rattle.p21_files.specs.Accepted.{IsAccepted}
 use Rattle.p21_stream.specs.Answers.{IsOnlyCanonicalFile}
 use Rattle.p21_stream.specs.Claim.{Claim}
 use Rattle.p21_stream_output.specs.Output.{Output, output_text}
-use Rattle.p21_stream_kept.specs.declared.refusal.Refusal.{Refusal}
+use Rattle.p21_stream_statements.specs.declared.refusal.Refusal.{Refusal}
 use Rattle.p21_stream.specs.Canonical.{IsCanonicalOutput}
 use Rattle.p21_stream.specs.Held.{SessionHeld, limits_of, schema_of}
 use Rattle.p21_stream.specs.Histories.{FeedGives, FinishGives, KeepsSchema, Stands, fed_history, nothing_taken}

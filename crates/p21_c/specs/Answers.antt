@@ -1,5 +1,5 @@
 -- What the calls of C answer.
-use Rattle.std.specs.Prelude.{◌≡◌, ◌≢◌, ◌↔◌, ◌⊎◌, ℕ, Bool, true, false, IsTrue, List, length, Option, None, Some, Result, Ok, Err, Contains}
+use Rattle.std.specs.Prelude.{◌≡◌, ◌≢◌, ◌↔◌, ◌⊎◌, ℕ, Bool, true, false, IsTrue, List, length, Option, None, Some, Result, Ok, Err, IfErr, Contains}
 use Rattle.std.specs.Global.{Vec}
 use Rattle.std.specs.Vec.{vec_ptr}
 use denote.RawPtr.{Ptr}
@@ -15,10 +15,10 @@ use Rattle.p21_stream.specs.Answers.{IsOnlyCanonicalFile}
 use Rattle.p21_stream_output.specs.Output.{Output, output_text}
 use Rattle.p21_stream_statements.specs.Source.{IsOfBytes}
 use Rattle.p21_stream_statements.specs.declared.fault.Fault.TheVariants.{NoMemory}
-use Rattle.p21_stream_kept.specs.declared.refusal.Refusal.{Refusal}
+use Rattle.p21_stream_statements.specs.declared.refusal.Refusal.{Refusal}
 use Rattle.p21_stream.specs.Canonical.{IsCanonicalOutput}
-use Rattle.p21_stream.specs.Held.{SessionHeld, limits_of, schema_of}
-use Rattle.p21_stream.specs.Histories.{FeedGives, FinishGives, KeepsSchema, RefusesAgain, Stands, nothing_taken}
+use Rattle.p21_stream.specs.Held.{SessionHeld, limits_of, refusal_of, schema_of}
+use Rattle.p21_stream.specs.Histories.{FeedChecks, FeedGives, FeedNeedsNoMemory, FinishGives, KeepsSchema, RefusesAgain, RefusesAtEnd, Stands, nothing_taken}
 use Rattle.p21_stream_store.specs.StoredInstance.{instance_names}
 use Rattle.p21_c_answers.specs.Answers.{done, refused, misused, failed, file_subject, second_subject, done_answer, misused_answer, no_memory_answer, accepted_answer, refused_answer, schema_refused_answer}
 use Rattle.p21_c_answers.specs.declared.answers.Answer.{Answer}
@@ -97,10 +97,14 @@ MakesSession (Some s) status made =
     ((held : SessionHeld) × (session_in made ≡ Some held) × Stands held nothing_taken × (schema_of held ≡ s) × (limits_of held ≡ usual) × (status ≡ done))
     ⊎ ((made ≡ None) × (status ≡ failed))
 
--- what a piece gives
+-- what a piece gives: all that a session's own contract says of it
 pub record IsFed (old : SessionHeld) (piece : List ℕ) (result : Result (Unit {0}) Refusal) (new : SessionHeld) : Type 0 where
   pub gives : FeedGives old piece result new
+  pub checks : FeedChecks old piece result
+  pub no_memory : FeedNeedsNoMemory old piece result
   pub again : RefusesAgain old result new
+  pub refused : IfErr result (λ refusal. refusal_of new ≡ Some refusal)
+  pub kind : IfErr result (λ refusal. IsOfBytes refusal.fault)
   pub schema : KeepsSchema old new
 
 abbrev pub feed_answer : Result (Unit {0}) Refusal → Answer
@@ -112,12 +116,18 @@ Feeds None piece answer old new = (new ≡ old) × (answer ≡ misused_answer)
 Feeds (Some held) piece answer old new =
     (result : Result (Unit {0}) Refusal) × (after : SessionHeld) × IsFed held piece result after × (session_in new ≡ Some after) × (answer ≡ feed_answer result)
 
+-- what the end gives: all that a session's own contract says of it
+pub record IsFinished (old : SessionHeld) (result : Result Output Refusal) : Type 0 where
+  pub gives : FinishGives old result
+  pub again : RefusesAtEnd old result
+  pub kind : IfErr result (λ refusal. IsOfBytes refusal.fault)
+
 -- the end: what is held is the accepted file, or nothing any more
 abbrev pub Finishes : Option SessionHeld → Answer → Option Content → Option Content → Type 0
 Finishes None answer old new = (new ≡ old) × (answer ≡ misused_answer)
 Finishes (Some held) answer old new =
-    ((output : Output) × FinishGives held (Ok output) × (output_in new ≡ Some output) × (answer ≡ accepted_answer output))
-    ⊎ ((refusal : Refusal) × FinishGives held (Err refusal) × (new ≡ None) × (answer ≡ refused_answer file_subject refusal))
+    ((output : Output) × IsFinished held (Ok output) × (output_in new ≡ Some output) × (answer ≡ accepted_answer output))
+    ⊎ ((refusal : Refusal) × IsFinished held (Err refusal) × (new ≡ None) × (answer ≡ refused_answer file_subject refusal))
 
 -- ---- accepted files
 

@@ -6,8 +6,8 @@ ghost use Rattle.p21_stream.specs.Claim.{Claim};
 
 use p21_express_tables::Schema;
 use p21_stream::{Session, headline};
-use p21_stream_kept::Refusal;
 use p21_stream_output::Accepted;
+use p21_stream_statements::Refusal;
 use p21_values::Limits;
 use std::alloc::Global;
 

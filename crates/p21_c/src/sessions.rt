@@ -12,7 +12,7 @@ use p21_c_answers::{
     Answer, DONE, FAILED, FILE, MISUSED, REFUSED, Report, accepted, done, misused, refused,
 };
 use p21_stream::SharedSession;
-use p21_stream_kept::Refusal;
+use p21_stream_statements::Refusal;
 use p21_values::{Limits, Name};
 use std::alloc::Global;
 use std::sync::Arc;

@@ -10,9 +10,9 @@ use Rattle.p21_stream_output.specs.Output.{Output, output_text}
 use Rattle.p21_stream_statements.specs.Fault.{fault_number}
 use Rattle.p21_stream_statements.specs.declared.fault.Fault.{Fault}
 use Rattle.p21_stream_statements.specs.declared.fault.Fault.TheVariants.{Grammar, NoMemory, Token}
-use Rattle.p21_stream_kept.specs.declared.refusal.At.{At}
-use Rattle.p21_stream_kept.specs.declared.refusal.At.TheVariants.{Statement, Instance}
-use Rattle.p21_stream_kept.specs.declared.refusal.Refusal.{Refusal}
+use Rattle.p21_stream_statements.specs.declared.refusal.At.{At}
+use Rattle.p21_stream_statements.specs.declared.refusal.At.TheVariants.{Statement, Instance}
+use Rattle.p21_stream_statements.specs.declared.refusal.Refusal.{Refusal}
 use Rattle.p21_tokens_automaton.specs.declared.mode.Absent.{Absent}
 use Rattle.p21_tokens_automaton.specs.declared.mode.Absent.TheVariants.{UserKeyword, Scope, ConstantName, ValueName, Anchor, Reference, Signature, SecondSection, NoDataSection}
 use Rattle.p21_tokens.specs.declared.fault.TokenFault.{TokenFault}

@@ -4,9 +4,8 @@ ghost use Rattle.p21_c_answers.specs.Answers.{absent_form_of, absent_number_of, 
 
 use p21_express_outline::SchemaFault;
 use p21_grammar::GrammarFault;
-use p21_stream_kept::{At, Refusal};
 use p21_stream_output::Accepted;
-use p21_stream_statements::Fault;
+use p21_stream_statements::{At, Fault, Refusal};
 use p21_tokens::{Absent, TokenFault};
 use p21_values::Name;
 

@@ -1,6 +1,6 @@
 -- What `p21 same` says of two files.
 use Rattle.std.specs.Io.KnownBytes.{Keeps}
-use Rattle.std.proofs.Common.{◌≡◌, ℕ, Bool, List, Option, inl, inr, subst, sym, string_bytes}
+use Rattle.std.proofs.Common.{◌≡◌, ◌⊎◌, ℕ, Bool, List, Option, inl, inr, subst, sym, string_bytes}
 use Rattle.std.proofs.KnownBytes.{Keeps-refl}
 use Rattle.p21_basics.specs.Limits.{Limits, usual}
 use Rattle.p21_commands.specs.Failures.{Failures}
@@ -11,15 +11,16 @@ use Rattle.p21_commands.specs.declared.fault.CommandFault.{CommandFault}
 use Rattle.p21_commands.specs.declared.fault.CommandFault.TheVariants.{Refused, NoMemory, Read, Write}
 use Rattle.p21_commands.specs.Files.{IsFileRefused}
 use Rattle.p21_commands.specs.Refusals.{IsFaultOf}
-use Rattle.p21_commands.specs.Same.{IsAnswered, IsCompared, IsRefused, read_of, same_answer_line, word_of}
+use Rattle.p21_commands.specs.Same.{IsAnswered, IsCompared, IsFirstAccepted, IsRefused, read_of, same_answer_line, word_of}
 use Rattle.p21_commands.proofs.FileFailing.{file-refused, not-written, refused-of}
 use Rattle.p21_commands.specs.Command.{FailsBy}
 use Rattle.p21_commands.specs.Load.{DeclaresRead}
 use Rattle.p21_schemas.specs.Schema.{Schema}
-use Rattle.p21_stream.specs.Answers.{Compares, FailsToCompare}
+use Rattle.p21_stream.specs.Answers.{Compares, FailsToCompare, IfFirst, IsCanonicalOfRead}
 use Rattle.p21_stream.specs.declared.comparing.Which.{Which}
 use Rattle.p21_stream.specs.declared.comparing.Which.TheVariants.{First, Second}
-use Rattle.p21_stream_kept.specs.declared.refusal.Refusal.{Refusal}
+use Rattle.p21_stream_statements.specs.declared.fault.Fault.{Fault}
+use Rattle.p21_stream_statements.specs.declared.refusal.Refusal.{Refusal}
 
 which-fails : (schema first_old first_new second_old second_new output : Option (List ℕ)) (s : Schema) (which : Which) (refusal : Refusal) (fault : CommandFault) (word : List ℕ)
     → DeclaresRead schema s → word ≡ word_of which → IsFaultOf word refusal fault → FailsToCompare s usual first_old first_new second_old second_new which refusal.fault
@@ -56,6 +57,19 @@ pub compared : (schema first_old first_new second_old second_new : Option (List 
     → limits ≡ usual → DeclaresRead schema s → Compares s limits first_old first_new second_old second_new same → line ≡ same_answer_line same → IsCompared (read_of schema first_old first_new second_old second_new) same line
 compared schema first_old first_new second_old second_new s limits same line is_usual declares compares is =
     record { declared = s; declares = declares; compares = subst (λ l. Compares s l first_old first_new second_old second_new same) is_usual compares; line_is = is }
+
+-- where files are compared, the first is accepted
+pub first-accepted : (schema first_old first_new second_old second_new : Option (List ℕ)) (s : Schema) (limits : Limits) (same : Bool)
+    → limits ≡ usual → DeclaresRead schema s → Compares s limits first_old first_new second_old second_new same → IsFirstAccepted (read_of schema first_old first_new second_old second_new)
+first-accepted schema first_old first_new second_old second_new s limits same is_usual declares compares =
+    record { declared = s; declares = declares; text = compares.first_text; canonical = subst (λ l. IsCanonicalOfRead s l first_old first_new compares.first_text) is_usual compares.first }
+
+-- where they aren't, the first is accepted, or what holds where it is refused
+pub first-or_accepted : (Unread : Type 0) (schema first_old first_new second_old second_new : Option (List ℕ)) (s : Schema) (limits : Limits) (which : Which) (fault : Fault)
+    → limits ≡ usual → DeclaresRead schema s → FailsToCompare s limits first_old first_new second_old second_new which fault → IfFirst which Unread → Unread ⊎ IsFirstAccepted (read_of schema first_old first_new second_old second_new)
+first-or_accepted Unread schema first_old first_new second_old second_new s limits First fault is_usual declares fails unread = inl unread
+first-or_accepted Unread schema first_old first_new second_old second_new s limits Second fault is_usual declares fails unread =
+    inr (record { declared = s; declares = declares; text = fails.0.0; canonical = subst (λ l. IsCanonicalOfRead s l first_old first_new fails.0.0) is_usual fails.0.1 })
 
 -- a write fault leaves a part of the answer
 pub answer-fails : (IsAnswer IsRefusal : List ℕ → Type 0) (old new : Option (List ℕ)) (line : List ℕ) (fault : CommandFault) → IsAnswer line → AppendsPartOf old new line → fault ≡ Write → FailsBy IsAnswer IsRefusal old new fault

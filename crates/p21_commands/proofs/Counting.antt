@@ -16,7 +16,7 @@ use Rattle.p21_stream.specs.declared.comparing.Which.TheVariants.{First, Second}
 use Rattle.p21_stream_io.specs.Watch.{one_call_more}
 use Rattle.p21_stream_statements.specs.declared.fault.Fault.{Fault}
 use Rattle.p21_stream_statements.specs.declared.fault.Fault.TheVariants as file
-use Rattle.p21_stream_kept.specs.declared.refusal.Refusal.{Refusal}
+use Rattle.p21_stream_statements.specs.declared.refusal.Refusal.{Refusal}
 
 no-read : (count : ℕ) (fault : Fault) → IsNoDevice fault → read_failures count fault ≡ count
 no-read count file.Read none = absurd none

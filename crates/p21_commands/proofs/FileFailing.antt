@@ -10,7 +10,7 @@ use Rattle.p21_schemas.specs.Schema.{Schema}
 use Rattle.p21_stream.specs.ReaderInput.{IsRefused, RefusesRead}
 use Rattle.p21_stream_statements.specs.declared.fault.Fault.{Fault}
 use Rattle.p21_stream_statements.specs.declared.fault.Fault.TheVariants as file
-use Rattle.p21_stream_kept.specs.declared.refusal.Refusal.{Refusal}
+use Rattle.p21_stream_statements.specs.declared.refusal.Refusal.{Refusal}
 
 pub of-no_device : (fault : Fault) → IsOfFile fault → IsNoDevice fault
 of-no_device file.NoMemory of = absurd of

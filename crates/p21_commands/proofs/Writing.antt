@@ -16,7 +16,7 @@ use Rattle.p21_stream.specs.Answers.{FailsToWrite, IsWritten}
 use Rattle.p21_stream.specs.ReaderInput.{RefusesRead}
 use Rattle.p21_stream_statements.specs.declared.fault.Fault.{Fault}
 use Rattle.p21_stream_statements.specs.declared.fault.Fault.TheVariants as file
-use Rattle.p21_stream_kept.specs.declared.refusal.Refusal.{Refusal}
+use Rattle.p21_stream_statements.specs.declared.refusal.Refusal.{Refusal}
 
 module _ (schema old new output_old output_new : Option (List ℕ)) (s : Schema) (declares : DeclaresRead schema s) where
   before-writing : (fault : Fault) → IsNoDevice fault → FailsToWrite s usual old new output_old output_new fault → RefusesRead s usual old new fault × Keeps output_old output_new

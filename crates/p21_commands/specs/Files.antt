@@ -9,7 +9,7 @@ use Rattle.p21_commands.specs.Load.{DeclaresRead, IsSchemaRefused}
 use Rattle.p21_schemas.specs.Schema.{Schema}
 use Rattle.p21_stream.specs.ReaderInput.{IsAcceptedInput, IsRefused, RefusesRead}
 use Rattle.p21_stream_output.specs.Output.{Output}
-use Rattle.p21_stream_kept.specs.declared.refusal.Refusal.{Refusal}
+use Rattle.p21_stream_statements.specs.declared.refusal.Refusal.{Refusal}
 
 -- the file is accepted as this under the schema that its reader declares
 pub record IsAcceptedUnder (schema file_old file_new : Option (List ℕ)) (output : Output) : Type 0 where

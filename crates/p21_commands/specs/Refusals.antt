@@ -5,9 +5,9 @@ use Rattle.p21_commands.specs.declared.fault.CommandFault.TheVariants as command
 use Rattle.p21_stream_statements.specs.Fault.{fault_name, fault_number}
 use Rattle.p21_stream_statements.specs.declared.fault.Fault.{Fault}
 use Rattle.p21_stream_statements.specs.declared.fault.Fault.TheVariants.{NoMemory, Read, Write}
-use Rattle.p21_stream_kept.specs.declared.refusal.At.{At}
-use Rattle.p21_stream_kept.specs.declared.refusal.At.TheVariants.{Statement, Instance}
-use Rattle.p21_stream_kept.specs.declared.refusal.Refusal.{Refusal}
+use Rattle.p21_stream_statements.specs.declared.refusal.At.{At}
+use Rattle.p21_stream_statements.specs.declared.refusal.At.TheVariants.{Statement, Instance}
+use Rattle.p21_stream_statements.specs.declared.refusal.Refusal.{Refusal}
 
 -- the statement by its number, or the instance by its name
 abbrev pub location_text : At → List ℕ

@@ -41,6 +41,13 @@ pub record IsCompared (read : Read) (same : Bool) (line : List ℕ) : Type 0 whe
 abbrev pub IsAnswered : Read → List ℕ → Type 0
 IsAnswered read line = (same : Bool) × IsCompared read same line
 
+-- the first file is accepted under the schema that its reader declares
+pub record IsFirstAccepted (read : Read) : Type 0 where
+  pub declared : Schema
+  pub declares : DeclaresRead read.schema declared
+  pub text : List ℕ
+  pub canonical : IsCanonicalOfRead declared usual read.first_old read.first_new text
+
 -- the second file is refused, and the first one accepted under the same schema
 pub record IsSecondRefused (read : Read) (line : List ℕ) : Type 0 where
   pub second : IsFileRefused (word_of Second) read.schema read.second_old read.second_new line

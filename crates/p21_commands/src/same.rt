@@ -7,7 +7,7 @@ ghost use Rattle.p21_commands.specs.Failures.{FailedBy, NoneFailed, failures_of}
 ghost use Rattle.p21_commands.specs.Status.{done, failed, refused};
 ghost use Rattle.p21_commands.specs.Transfer as text;
 ghost use Rattle.p21_commands.specs.Transfer.{Writes};
-ghost use Rattle.p21_commands.specs.Same.{IsAnswered, IsCompared, IsRefused, read_of, same_answer_line, word_of};
+ghost use Rattle.p21_commands.specs.Same.{IsAnswered, IsCompared, IsFirstAccepted, IsRefused, read_of, same_answer_line, word_of};
 ghost use Rattle.p21_stream.specs.ReaderInput.{ConsumesAtMost};
 
 use crate::fault::{CommandFault, report};
@@ -31,6 +31,7 @@ pub fn same_command<S: Read, A: Read, B: Read, W: Write, F: Write>(
     faults: &mut Watched<F>,
 ) -> u8
     ensures status { (result ≡ done) ⊎ (result ≡ refused) ⊎ (result ≡ failed) }
+    ensures order { (second.new ≡ second.old) ⊎ IsFirstAccepted (read_of (S.remaining schema.old.inner) (A.remaining first.old.inner) (A.remaining first.new.inner) (B.remaining second.old.inner) (B.remaining second.new.inner)) }
     ensures consumed_schema { text.ConsumesAtMost (S.remaining schema.old.inner) (S.remaining schema.new.inner) }
     ensures consumed_first { ConsumesAtMost usual (A.remaining first.old.inner) (A.remaining first.new.inner) }
     ensures consumed_second { ConsumesAtMost usual (B.remaining second.old.inner) (B.remaining second.new.inner) }
@@ -69,6 +70,7 @@ fn write_same<S: Read, A: Read, B: Read, W: Write>(
     ensures ok { IfOk result (λ same. Writes (IsCompared (read_of (S.remaining schema.old.inner) (A.remaining first.old.inner) (A.remaining first.new.inner) (B.remaining second.old.inner) (B.remaining second.new.inner)) same) (W.contents output.old.inner) (W.contents output.new.inner)) }
     ensures err { IfErr result (FailsBy (IsAnswered (read_of (S.remaining schema.old.inner) (A.remaining first.old.inner) (A.remaining first.new.inner) (B.remaining second.old.inner) (B.remaining second.new.inner))) (IsRefused (read_of (S.remaining schema.old.inner) (A.remaining first.old.inner) (A.remaining first.new.inner) (B.remaining second.old.inner) (B.remaining second.new.inner)))
         (W.contents output.old.inner) (W.contents output.new.inner)) }
+    ensures order { (second.new ≡ second.old) ⊎ IsFirstAccepted (read_of (S.remaining schema.old.inner) (A.remaining first.old.inner) (A.remaining first.new.inner) (B.remaining second.old.inner) (B.remaining second.new.inner)) }
     ensures consumed_schema { text.ConsumesAtMost (S.remaining schema.old.inner) (S.remaining schema.new.inner) }
     ensures consumed_first { ConsumesAtMost usual (A.remaining first.old.inner) (A.remaining first.new.inner) }
     ensures consumed_second { ConsumesAtMost usual (B.remaining second.old.inner) (B.remaining second.new.inner) }

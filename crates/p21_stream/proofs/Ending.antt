@@ -21,7 +21,7 @@ use Rattle.p21_stream_output.specs.Ending.{IsFileOfKept}
 use Rattle.p21_stream_statements.specs.Source.{IsOfBytes}
 use Rattle.p21_stream_statements.specs.declared.fault.Fault.{Fault}
 use Rattle.p21_stream_statements.specs.declared.fault.Fault.TheVariants as faults
-use Rattle.p21_stream_kept.specs.declared.refusal.Refusal.{Refusal}
+use Rattle.p21_stream_statements.specs.declared.refusal.Refusal.{Refusal}
 use Rattle.p21_stream_statements.specs.StatementReader as statements
 use Rattle.p21_stream_statements.specs.StatementReader.{AreWholeStatements, StatementHistory, limits_of}
 use Rattle.p21_stream_kept.proofs.Unserved.{unserved-not_accepted}

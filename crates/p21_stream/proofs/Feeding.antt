@@ -15,7 +15,7 @@ use Rattle.p21_stream.specs.ReaderInput.{ConsumesAtMost, IsAcceptedInput, IsOfBy
 use Rattle.p21_stream_output.specs.Output.{Output}
 use Rattle.p21_stream_statements.specs.declared.fault.Fault.{Fault}
 use Rattle.p21_stream_statements.specs.declared.fault.Fault.TheVariants.{Token, Grammar, Check, SchemaName, SectionTwice, DuplicateName, CanonicalTooLong, Dangling, WrongTarget, NoMemory, Read, Write}
-use Rattle.p21_stream_kept.specs.declared.refusal.Refusal.{Refusal}
+use Rattle.p21_stream_statements.specs.declared.refusal.Refusal.{Refusal}
 use Rattle.p21_stream_statements.specs.StatementReader as statements
 use Rattle.p21_stream.specs.Held.{SessionHeld, limits_of, schema_of}
 use Rattle.p21_stream.specs.Histories.{FeedGives, FinishGives, KeepsSchema, SessionHistory, Stands, nothing_taken}

@@ -26,7 +26,7 @@ use Rattle.p21_schemas.specs.Schema.{EntityNamed, Schema}
 use Rattle.p21_schemas.specs.Supertype.{itself}
 use Rattle.p21_schemas.specs.WellFormed.{IsWellFormed}
 use Rattle.p21_stream_statements.specs.declared.fault.Fault.{Fault}
-use Rattle.p21_stream_kept.specs.declared.refusal.Refusal.{Refusal}
+use Rattle.p21_stream_statements.specs.declared.refusal.Refusal.{Refusal}
 use Rattle.p21_stream_statements.specs.StatementReader as statements
 use Rattle.p21_stream_statements.specs.StatementReader.{IsSeenAt, StatementHistory, limits_of}
 use Rattle.p21_stream_statements.specs.PassingOver.{GivesPassed, PassesInstances, instance_tokens, with_instances}

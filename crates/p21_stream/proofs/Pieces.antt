@@ -12,7 +12,7 @@ use Rattle.p21_grammar.specs.declared.event.Event.{Event}
 use Rattle.p21_schemas.specs.Schema.{Schema}
 use Rattle.p21_schemas.specs.WellFormed.{IsWellFormed}
 use Rattle.p21_stream_statements.specs.declared.fault.Fault.{Fault}
-use Rattle.p21_stream_kept.specs.declared.refusal.Refusal.{Refusal}
+use Rattle.p21_stream_statements.specs.declared.refusal.Refusal.{Refusal}
 use Rattle.p21_stream_statements.specs.StatementReader as statements
 use Rattle.p21_stream_statements.specs.StatementReader.{IsSeenAt, StatementHistory, limits_of}
 use Rattle.p21_stream_kept.specs.Steps as kept_steps

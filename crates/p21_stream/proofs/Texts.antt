@@ -9,7 +9,7 @@ use Rattle.p21_stream.proofs.Feeding.{dead-text}
 use Rattle.p21_stream.specs.Answers.{IsOnlyCanonicalFile}
 use Rattle.p21_stream_output.specs.Output.{Output, output_text}
 use Rattle.p21_stream_statements.specs.declared.fault.Fault.TheVariants.{NoMemory}
-use Rattle.p21_stream_kept.specs.declared.refusal.Refusal.{Refusal}
+use Rattle.p21_stream_statements.specs.declared.refusal.Refusal.{Refusal}
 use Rattle.p21_stream.specs.Held.{SessionHeld, limits_of, schema_of}
 use Rattle.p21_stream.specs.Histories.{FeedGives, FinishGives, KeepsSchema, Stands, fed_history, nothing_taken}
 

@@ -79,6 +79,11 @@ abbrev pub FailsToCompare : Schema → Limits → Option (List ℕ) → Option (
 FailsToCompare s limits first_old first_new second_old second_new First fault = RefusesRead s limits first_old first_new fault × Keeps second_old second_new
 FailsToCompare s limits first_old first_new second_old second_new Second fault = ((text : List ℕ) × IsCanonicalOfRead s limits first_old first_new text) × RefusesRead s limits second_old second_new fault
 
+-- what holds where it is the first that is refused
+abbrev pub IfFirst : Which → Type 0 → Type 0
+IfFirst First holds = holds
+IfFirst Second holds = Unit {0}
+
 -- the failures of each reader
 abbrev pub first_failures : ℕ → Which → Fault → ℕ
 first_failures count First fault = read_failures count fault

@@ -1,7 +1,7 @@
 -- What each session keeps to, whatever it was fed.
 use Rattle.std.specs.Prelude.{◌≡◌, ◌≤◌, ◌<◌, ◌^◌, None, Some}
 use Rattle.p21_stream_statements.specs.Source.{IsOfBytes}
-use Rattle.p21_stream_kept.specs.declared.refusal.Refusal.{Refusal}
+use Rattle.p21_stream_statements.specs.declared.refusal.Refusal.{Refusal}
 use Rattle.p21_stream_statements.specs.StatementReader as statements
 use Rattle.p21_stream_statements.specs.StatementReader.{StatementHistory}
 use Rattle.p21_stream.specs.Held.{SessionHeld}

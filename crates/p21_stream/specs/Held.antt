@@ -5,8 +5,8 @@ use Rattle.p21_basics.specs.Limits.{Limits}
 use Rattle.p21_claim_steps.specs.Keeping.{Kept}
 use Rattle.p21_express_tables.specs.Coding.{schema_code}
 use Rattle.p21_schemas.specs.Schema.{Schema}
-use Rattle.p21_stream_kept.specs.contracts.refusal.Refusal as refusal_row
-use Rattle.p21_stream_kept.specs.declared.refusal.Refusal.{Refusal}
+use Rattle.p21_stream_statements.specs.contracts.refusal.Refusal as refusal_row
+use Rattle.p21_stream_statements.specs.declared.refusal.Refusal.{Refusal}
 use Rattle.p21_stream_statements.specs.StatementReader as statements
 use Rattle.p21_stream_statements.specs.contracts.statement_reader.StatementReader as statements_row
 use Rattle.p21_stream_kept.specs.contracts.kept.Kept as kept_row

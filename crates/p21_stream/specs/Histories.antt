@@ -9,7 +9,7 @@ use Rattle.p21_files.specs.Held.{IsHeld}
 use Rattle.p21_schemas.specs.Schema.{Schema}
 use Rattle.p21_stream_output.specs.Output.{Output}
 use Rattle.p21_stream_statements.specs.declared.fault.Fault.TheVariants.{NoMemory}
-use Rattle.p21_stream_kept.specs.declared.refusal.Refusal.{Refusal}
+use Rattle.p21_stream_statements.specs.declared.refusal.Refusal.{Refusal}
 use Rattle.p21_stream.specs.Canonical.{IsCanonicalOutput}
 use Rattle.p21_stream.specs.Checked.{ChecksStatements}
 use Rattle.p21_stream.specs.Held.{SessionHeld, limits_of, refusal_of, schema_of}

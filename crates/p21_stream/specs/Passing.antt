@@ -6,7 +6,7 @@ use Rattle.p21_exchange.specs.Record.{Record}
 use Rattle.p21_express_graph.specs.Rising.{IsOwnRising}
 use Rattle.p21_files.specs.Reference.{Need}
 use Rattle.p21_schemas.specs.Schema.{Schema}
-use Rattle.p21_stream_kept.specs.declared.refusal.Refusal.{Refusal}
+use Rattle.p21_stream_statements.specs.declared.refusal.Refusal.{Refusal}
 use Rattle.p21_stream_statements.specs.StatementReader as statements
 use Rattle.p21_stream_statements.specs.PassingOver.{AreInstances}
 use Rattle.p21_stream_kept.specs.Found.{HasFound}

@@ -1,17 +1,16 @@
 //! Two files compared by what they mean.
 ghost use Rattle.std.specs.Prelude.{◌≡◌, ◌≤◌, ◌+◌, IfErr, IfOk, OnOk};
-ghost use Rattle.p21_stream.specs.Answers.{Compares, FailsToCompare, IsCanonicalOfRead, first_failures, second_failures};
+ghost use Rattle.p21_stream.specs.Answers.{Compares, FailsToCompare, IfFirst, IsCanonicalOfRead, first_failures, second_failures};
 ghost use Rattle.p21_stream.specs.Claim.{Claim};
 ghost use Rattle.p21_stream.specs.ReaderInput.{ConsumesAtMost, RefusesRead, read_failures};
 
 use crate::claim::headline;
-use crate::read::{accept, read_file};
+use crate::read::accept;
 use crate::text::text_of;
 use p21_express_tables::Schema;
 use p21_stream_io::Watched;
-use p21_stream_kept::Refusal;
-use p21_stream_statements::Fault;
-use p21_values::{Limits, NoMemory};
+use p21_stream_statements::Refusal;
+use p21_values::Limits;
 use std::alloc::Global;
 use std::io::Read;
 
@@ -39,6 +38,7 @@ pub fn same_meaning<R: Read, S: Read>(
         (S.remaining second.old.inner) (S.remaining second.new.inner) same) }
     ensures err { IfErr result (λ answer. FailsToCompare schema.now limits (R.remaining first.old.inner) (R.remaining first.new.inner)
         (S.remaining second.old.inner) (S.remaining second.new.inner) answer.0 answer.1.fault) }
+    ensures order { IfErr result (λ answer. IfFirst answer.0 (second.new ≡ second.old)) }
     ensures consumed_first { ConsumesAtMost limits (R.remaining first.old.inner) (R.remaining first.new.inner) }
     ensures consumed_second { ConsumesAtMost limits (S.remaining second.old.inner) (S.remaining second.new.inner) }
     ensures claim { Claim schema.now limits }
@@ -76,15 +76,12 @@ fn canonical_read<R: Read>(
     ensures failed { IfErr result (λ refusal. reader.new.failures ≡ read_failures reader.old.failures refusal.fault) }
 {
     headline(schema, limits);
-    let (accepted, at) = match read_file(alloc, schema, limits, reader) {
-        Ok(read) => read,
+    let accepted = match accept(alloc, schema, limits, reader) {
+        Ok(accepted) => accepted,
         Err(refusal) => return Err(refusal),
     };
     match text_of(alloc, &accepted) {
         Ok(text) => Ok(text),
-        Err(NoMemory) => Err(Refusal {
-            fault: Fault::NoMemory,
-            at,
-        }),
+        Err(refusal) => Err(refusal),
     }
 }

@@ -5,7 +5,7 @@ ghost use Rattle.p21_grammar.specs.Statements.{statement_of};
 ghost use Rattle.p21_schemas.specs.Schema.{Schema as Meant};
 ghost use Rattle.p21_stream_statements.specs.StatementReader.{IsLive, limits_of, nothing_read};
 ghost use Rattle.p21_stream_statements.specs.Source.{IsOfBytes};
-ghost use Rattle.p21_stream_kept.specs.declared.refusal.Refusal.{Refusal};
+ghost use Rattle.p21_stream_statements.specs.declared.refusal.Refusal.{Refusal};
 ghost use Rattle.p21_stream_kept.specs.Steps as kept_steps;
 ghost use Rattle.p21_stream_kept.specs.Steps.{StepKeepsBound};
 ghost use Rattle.p21_stream_kept.specs.Taking.{Follows};
@@ -19,9 +19,9 @@ ghost use Rattle.p21_transcribe_instance.specs.Steps.{IsPlanOf};
 use p21_express_tables::Schema;
 use p21_grammar::Event;
 use p21_mapping_values::Need;
-use p21_stream_kept::{At, Kept, Refusal, Workspace};
+use p21_stream_kept::{Kept, Workspace};
 use p21_stream_output::Accepted;
-use p21_stream_statements::{Fault, StatementReader};
+use p21_stream_statements::{At, Fault, Refusal, StatementReader};
 use p21_transcribe::Draft;
 use p21_transcribe_instance::{Plan, Sets};
 use p21_values::{Limits, Name};
@@ -311,7 +311,7 @@ fn end(
     if let Some(found) = kept.first_unserved(schema) {
         return Err(unserved(found, statement));
     }
-    let Ok(accepted) = kept.into_accepted() else {
+    let Ok(accepted) = kept.into_accepted(statement) else {
         return Err(refused(Fault::NoMemory, None, statement));
     };
     Ok(accepted)

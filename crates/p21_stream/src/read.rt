@@ -8,9 +8,8 @@ ghost use Rattle.p21_stream.specs.Histories.{FeedGives, KeepsSchema, Stands, not
 use crate::session::Session;
 use p21_express_tables::Schema;
 use p21_stream_io::{Watched, read_piece};
-use p21_stream_kept::{At, Refusal};
 use p21_stream_output::Accepted;
-use p21_stream_statements::Fault;
+use p21_stream_statements::{Fault, Refusal};
 use p21_values::Limits;
 use std::alloc::Global;
 use std::io::Read;
@@ -39,37 +38,13 @@ pub fn accept<R: Read>(
     ensures read { OnOk result (reader.new.failures ≡ reader.old.failures) }
     ensures failed { IfErr result (λ refusal. reader.new.failures ≡ read_failures reader.old.failures refusal.fault) }
 {
-    match read_file(alloc, schema, limits, reader) {
-        Ok((accepted, _)) => Ok(accepted),
-        Err(refusal) => Err(refusal),
-    }
-}
-
-/// Reads a file to its end, and says where a refusal behind it stands.
-pub(crate) fn read_file<R: Read>(
-    alloc: Global,
-    schema: &Schema,
-    limits: Limits,
-    reader: &mut Watched<R>,
-) -> Result<(Accepted, At), Refusal>
-    ensures ok { IfOk result (λ answer.
-        IsAcceptedInput schema.now limits (R.remaining reader.old.inner) (R.remaining reader.new.inner) answer.0) }
-    ensures err { IfErr result (λ refusal.
-        RefusesRead schema.now limits (R.remaining reader.old.inner) (R.remaining reader.new.inner) refusal.fault) }
-    ensures consumed { ConsumesAtMost limits (R.remaining reader.old.inner) (R.remaining reader.new.inner) }
-
-    ensures moved { reader.new.moved ≤ reader.old.moved + (limits.file_source + 1) }
-    ensures read { OnOk result (reader.new.failures ≡ reader.old.failures) }
-    ensures failed { IfErr result (λ refusal. reader.new.failures ≡ read_failures reader.old.failures refusal.fault) }
-{
     let mut session = Session::new(alloc, schema, limits);
     match feed_all(&mut session, reader, limits.file_source()) {
         Ok(()) => {}
         Err(refusal) => return Err(refusal),
     }
-    let at = session.refusal(Fault::NoMemory).at;
     match session.finish() {
-        Ok(accepted) => Ok((accepted, at)),
+        Ok(accepted) => Ok(accepted),
         Err(refusal) => Err(refusal),
     }
 }

@@ -6,8 +6,8 @@ ghost use Rattle.std.specs.Arc.{arc_value};
 
 use crate::progress::Progress;
 use p21_express_tables::Schema;
-use p21_stream_kept::Refusal;
 use p21_stream_output::Accepted;
+use p21_stream_statements::Refusal;
 use p21_values::Limits;
 use std::alloc::Global;
 use std::marker::Model;

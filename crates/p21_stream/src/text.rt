@@ -12,10 +12,9 @@ use crate::claim::headline;
 use crate::session::Session;
 use p21_express_tables::Schema;
 use p21_stream_io::Watched;
-use p21_stream_kept::Refusal;
 use p21_stream_output::Accepted;
-use p21_stream_statements::Fault;
-use p21_values::{Limits, NoMemory};
+use p21_stream_statements::{Fault, Refusal};
+use p21_values::Limits;
 use std::alloc::Global;
 
 /// The canonical file of a text that holds a file.
@@ -57,24 +56,31 @@ fn canonical_of(
         Ok(()) => {}
         Err(refusal) => return Err(refusal),
     }
-    let no_memory = session.refusal(Fault::NoMemory);
     let accepted = match session.finish() {
         Ok(accepted) => accepted,
         Err(refusal) => return Err(refusal),
     };
     match text_of(alloc, &accepted) {
         Ok(text) => Ok(text),
-        Err(NoMemory) => Err(no_memory),
+        Err(refusal) => Err(refusal),
     }
 }
 
 /// The canonical file of an accepted one.
-pub(crate) fn text_of(alloc: Global, accepted: &Accepted) -> Result<Vec<u8>, NoMemory>
-    ensures { IfOk result (λ text. text.items ≡ output_text accepted.now) }
+///
+/// # Errors
+///
+/// `NoMemory` alone: a vector takes all bytes for which there is room.
+pub(crate) fn text_of(alloc: Global, accepted: &Accepted) -> Result<Vec<u8>, Refusal>
+    ensures ok { IfOk result (λ text. text.items ≡ output_text accepted.now) }
+    ensures err { IfErr result (λ refusal. refusal.fault ≡ Fault.NoMemory) }
 {
     let mut writer = Watched::new(Vec::new(alloc));
     match accepted.write_to(&mut writer) {
         Ok(()) => Ok(writer.into_inner()),
-        Err(_) => Err(NoMemory),
+        Err(refusal) => Err(Refusal {
+            fault: Fault::NoMemory,
+            at: refusal.at,
+        }),
     }
 }

@@ -5,11 +5,10 @@ ghost use Rattle.p21_stream.specs.Claim.{Claim};
 ghost use Rattle.p21_stream.specs.ReaderInput.{ConsumesAtMost, read_failures, write_failures};
 
 use crate::claim::headline;
-use crate::read::read_file;
+use crate::read::accept;
 use p21_express_tables::Schema;
 use p21_stream_io::Watched;
-use p21_stream_kept::Refusal;
-use p21_stream_statements::Fault;
+use p21_stream_statements::Refusal;
 use p21_values::Limits;
 use std::alloc::Global;
 use std::io::{Read, Write};
@@ -42,15 +41,12 @@ pub fn rewrite<R: Read, W: Write>(
     ensures failed_write { IfErr result (λ refusal. writer.new.failures ≡ write_failures writer.old.failures refusal.fault) }
 {
     headline(schema, limits);
-    let (accepted, at) = match read_file(alloc, schema, limits, reader) {
-        Ok(read) => read,
+    let accepted = match accept(alloc, schema, limits, reader) {
+        Ok(accepted) => accepted,
         Err(refusal) => return Err(refusal),
     };
     match accepted.write_to(writer) {
         Ok(()) => Ok(accepted.len()),
-        Err(_) => Err(Refusal {
-            fault: Fault::Write,
-            at,
-        }),
+        Err(refusal) => Err(refusal),
     }
 }

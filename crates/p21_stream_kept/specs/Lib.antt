@@ -1,4 +1,3 @@
-pub mod Location
 pub mod Prefix
 pub mod Shape
 pub mod Found

@@ -1,61 +1,23 @@
-//! The end of an accepted file.
+//! The data sections of an accepted file.
 ghost use Rattle.std.specs.List.{AllZip};
-ghost use Rattle.std.specs.Prelude.{◌≡◌, [], IfOk, List};
-ghost use Rattle.p21_basics.specs.Limits.{Limits};
-ghost use Rattle.p21_claim_steps.specs.Keeping.{Keeps};
+ghost use Rattle.std.specs.Prelude.{◌≡◌, [], IfOk};
 ghost use Rattle.p21_exchange.specs.DataSection.{named, unnamed};
-ghost use Rattle.p21_exchange.specs.Statement.{Statement};
-ghost use Rattle.p21_schemas.specs.Schema.{Schema};
-ghost use Rattle.p21_stream_output.specs.Ending.{IsFileOfKept};
 ghost use Rattle.p21_stream_output.specs.NamedSections.{AreEmpty, HasHeading};
 ghost use Rattle.p21_stream_kept.specs.Sections.{heading_in, headings_of};
-ghost use Rattle.p21_stream_kept.specs.Taking.{IsKeptOfFile};
 
-use crate::kept::{Kept, heading_line};
+use crate::kept::heading_line;
 use crate::sections::Section;
 use crate::shape::heading;
-use p21_stream_output::{Accepted, NamedSection, accepted_file};
+use p21_stream_output::NamedSection;
 use p21_stream_store::Numbers;
 use p21_values::{Canonical, NoMemory, Text};
 use std::alloc::Global;
 
-impl Kept {
-    /// The accepted file of what is kept, where all references are served. The statements are those of a whole file.
-    ///
-    /// # Errors
-    ///
-    /// `NoMemory`.
-    pub fn into_accepted(self) -> Result<Accepted, NoMemory>
-        requires { IsKeptOfFile self }
-        ensures { IfOk result (λ file. (s : Schema) (limits : Limits) (given : List Statement) → Keeps s limits given self → IsFileOfKept self file) }
-    {
-        let Kept {
-            alloc,
-            header,
-            sections,
-            memberships,
-            instances,
-            waiting,
-            bytes,
-            framing,
-            ..
-        } = self;
-        // The references that waited have no use any more, and their room is given back before more is asked for.
-        drop(waiting);
-        let parts = named_sections_of(alloc, sections.items())?;
-        accepted_file(
-            alloc,
-            header,
-            parts,
-            &memberships,
-            instances,
-            bytes + framing,
-        )
-    }
-}
-
 /// The data sections as they begin, in the order of the source.
-fn named_sections_of(alloc: Global, sections: &[Section]) -> Result<Vec<NamedSection>, NoMemory>
+pub(crate) fn named_sections_of(
+    alloc: Global,
+    sections: &[Section],
+) -> Result<Vec<NamedSection>, NoMemory>
     ensures begin { IfOk result (λ parts. AllZip HasHeading (headings_of sections.now) parts.items) }
     ensures empty { IfOk result (λ parts. AreEmpty parts.items) }
 {

@@ -1,17 +1,21 @@
 ghost use Rattle.std.specs.Prelude.{◌≡◌, ◌≤◌, ◌↔◌, Contains, IfErr, IsTrue, OnErr, OnOk, map};
-ghost use Rattle.p21_claim_steps.specs.Keeping.{nothing_kept};
+ghost use Rattle.p21_basics.specs.Limits.{Limits as MeantLimits};
+ghost use Rattle.p21_claim_steps.specs.Keeping.{Keeps, nothing_kept};
 ghost use Rattle.p21_claim_steps.specs.Stored.{StoredEntry};
-ghost use Rattle.p21_exchange.specs.Statement.{data_start, header, instance, section};
+ghost use Rattle.p21_exchange.specs.Statement.{Statement, data_start, header, instance, section};
 ghost use Rattle.p21_grammar.specs.Statements.{line_of};
 ghost use Rattle.p21_grammar_tree.specs.View.{items_of, part_view, record_view, views};
 ghost use Rattle.p21_mapping.specs.Checked.{needs_view};
 ghost use Rattle.p21_mapping_values.specs.TypedView.{ids_view};
+ghost use Rattle.p21_schemas.specs.Schema.{Schema as MeantSchema};
+ghost use Rattle.p21_stream_output.specs.Ending.{IsFileOfKept};
 ghost use Rattle.p21_stream_statements.specs.Source.{IsOfBytes};
 ghost use Rattle.p21_stream_kept.specs.Served.{AnswersUnserved, LeavesServed};
 ghost use Rattle.p21_stream_kept.specs.Steps.{FoundGives, StepGives, StepKeepsBound, TakesLine};
-ghost use Rattle.p21_stream_kept.specs.Taking.{Follows, FollowsFound};
+ghost use Rattle.p21_stream_kept.specs.Taking.{Follows, FollowsFound, IsKeptOfFile};
 
 use crate::canonical_limits::fits_limits;
+use crate::end::named_sections_of;
 use crate::found::{FoundInstance, find_instance};
 use crate::schema_name::names_schema;
 use crate::sections::Sections;
@@ -24,6 +28,7 @@ use p21_express_tables::Schema;
 use p21_grammar::Line;
 use p21_grammar_tree::{Part, Record};
 use p21_mapping_values::Need;
+use p21_stream_output::{Accepted, accepted_file};
 use p21_stream_statements::Fault;
 use p21_stream_store::{Instances, Memberships};
 use p21_values::{Canonical, Limits, Name, NoMemory, Text};
@@ -32,7 +37,6 @@ use std::marker::Model;
 
 /// The canonical lines of header records and instances, the data sections, and the references that wait for the end of
 /// the file.
-#[derive(Drop)]
 pub struct Kept {
     pub(crate) alloc: Global,
     // The canonical lines of the header records, each with its line feed.
@@ -49,6 +53,24 @@ pub struct Kept {
     pub(crate) bytes: u64,
     // Those of section lines, and the line feeds of the others.
     pub(crate) framing: u64,
+}
+
+// Written out: crates above call it, where they would prove a derived one field by field.
+impl Drop for Kept {
+    fn drop(self) {
+        let Kept {
+            alloc: _,
+            header: _,
+            sections: _,
+            memberships: _,
+            instances: _,
+            waiting: _,
+            patience: _,
+            references: _,
+            bytes: _,
+            framing: _,
+        } = self;
+    }
 }
 
 /// A reference to an instance that has not come, or that doesn't serve.
@@ -320,6 +342,43 @@ impl Kept {
         ensures { AnswersUnserved schema.now self.now.stored self.now.waiting result }
     {
         first_unserved(schema, &self.memberships, &self.instances, &self.waiting)
+    }
+
+    /// The accepted file of what is kept, where all references are served. The statements are those of a whole file, and the
+    /// number is that of the one that is open behind them.
+    ///
+    /// # Errors
+    ///
+    /// `NoMemory`.
+    pub fn into_accepted(self, statement: u64) -> Result<Accepted, NoMemory>
+        requires { IsKeptOfFile self }
+        ensures kept { IfOk result (λ file. (s : MeantSchema) (limits : MeantLimits) (given : List Statement) → Keeps s limits given self → IsFileOfKept self file) }
+        ensures statement { IfOk result (λ file. file.statement ≡ statement) }
+    {
+        let Kept {
+            alloc,
+            header,
+            sections,
+            memberships,
+            instances,
+            waiting,
+            patience: _,
+            references: _,
+            bytes,
+            framing,
+        } = self;
+        // The references that waited have no use any more, and their room is given back before more is asked for.
+        drop(waiting);
+        let parts = named_sections_of(alloc, sections.items())?;
+        accepted_file(
+            alloc,
+            header,
+            parts,
+            &memberships,
+            instances,
+            bytes + framing,
+            statement,
+        )
     }
 }
 

@@ -1,12 +1,10 @@
-//! What a session keeps of the statements of a file that it has taken, what it tests of header records, and where it refuses
-//! a file.
+//! What a session keeps of the statements of a file that it has taken, and what it tests of header records.
 #![tactic(auto)]
 
 mod canonical_limits;
 mod end;
 mod found;
 mod kept;
-mod refusal;
 mod schema_name;
 mod sections;
 mod served;
@@ -16,7 +14,6 @@ mod workspace;
 
 pub use found::FoundInstance;
 pub use kept::{Kept, Reference};
-pub use refusal::{At, Refusal};
 pub use schema_name::names_schema;
 pub use shape::line_size;
 pub use workspace::Workspace;

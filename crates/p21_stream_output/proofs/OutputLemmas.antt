@@ -6,9 +6,8 @@ use Rattle.p21_claim.specs.CompleteFile.{Block, Line, block_bytes, line_bytes}
 use Rattle.p21_claim_steps.specs.Keeping.{text_with_header}
 use Rattle.p21_exchange.specs.CanonicalText.{statement_text}
 use Rattle.p21_exchange.specs.Statement.{data_start, section}
-use Rattle.p21_stream_output.specs.Output.{WrittenSection, line_of, lines_of, output_text, section_text, sections_text}
+use Rattle.p21_stream_output.specs.Output.{WrittenSection, line_of, lines_of, section_text, sections_text, written_text}
 use Rattle.p21_stream_output.specs.Writing.{IsWrittenBlock}
-use Rattle.p21_stream_store.specs.StoredInstance.{StoredInstance}
 
 lines-are : (ls : List Line) → lines_of (map (λ (l : Line). l.1) ls) ≡ flat_map line_bytes ls
 lines-are [] = refl
@@ -26,8 +25,8 @@ sections-are [] (b ∷ bs) all = absurd all
 sections-are (w ∷ ws) [] all = absurd all
 sections-are (w ∷ ws) (b ∷ bs) all = ap (λ (xs : List ℕ). xs ++ sections_text ws) (section-is w b all.0) ∙ ap (λ (xs : List ℕ). block_bytes b ++ xs) (sections-are ws bs all.1)
 
-pub output-is : (header : List ℕ) (ws : List WrittenSection) (kept : List StoredInstance) (bs : List Block) → AllZip IsWrittenBlock ws bs → output_text (record { header = header; sections = ws; kept = kept }) ≡ text_with_header header bs
-output-is header ws kept bs all =
+pub output-is : (header : List ℕ) (ws : List WrittenSection) (bs : List Block) → AllZip IsWrittenBlock ws bs → written_text header ws ≡ text_with_header header bs
+output-is header ws bs all =
     let end : List ℕ = line_of (codes "END-ISO-10303-21;") in
     let first : List ℕ = line_of (codes "ISO-10303-21;") ++ line_of (codes "HEADER;") in
     append_assoc first (header ++ line_of (codes "ENDSEC;")) (sections_text ws ++ end)

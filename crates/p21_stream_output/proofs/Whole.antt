@@ -147,12 +147,12 @@ characters-are instances [] (b ∷ blocks) all = absurd all
 characters-are instances (part ∷ parts) [] all = absurd all
 characters-are instances (part ∷ parts) (b ∷ blocks) all = (all.0.characters, characters-are instances parts blocks all.1)
 
-pub ended : (kept : Kept) (header : List ℕ) (old filed sorted : List NamedSection) (memberships : List Membership) (instances : List store.StoredInstance) (sections : List Section) → AreEmpty old → heads_of filed ≡ heads_of old → IsFiling memberships instances (section_positions old) (section_positions filed) → IsPermutation filed sorted → AreSorted sorted
-    → sections_bodies sections ≡ bodies_of sorted → IsKeptIn kept header old memberships instances → HasNamesOnce kept → IsFileOfKept kept (output_of header sections instances)
-ended kept header old filed sorted memberships instances sections none heads filing are in_order same stands once = record {
+pub ended : (kept : Kept) (header : List ℕ) (old filed sorted : List NamedSection) (memberships : List Membership) (instances : List store.StoredInstance) (sections : List Section) (statement : ℕ) → AreEmpty old → heads_of filed ≡ heads_of old → IsFiling memberships instances (section_positions old) (section_positions filed) → IsPermutation filed sorted → AreSorted sorted
+    → sections_bodies sections ≡ bodies_of sorted → IsKeptIn kept header old memberships instances → HasNamesOnce kept → IsFileOfKept kept (output_of header sections instances statement)
+ended kept header old filed sorted memberships instances sections statement none heads filing are in_order same stands once = record {
   blocks = blocks;
   are_blocks = blocks-sorted kept source blocks numbered (blocks-many at filing.order 0 kept.headings) moved.1 rise lines_rise;
-  text_is = output-is header (map (written_section instances) sections) instances blocks (parts-written instances sections sorted blocks same moved.2) ∙ ap (λ (h : List ℕ). text_with_header h blocks) (sym stands.header_is);
+  text_is = output-is header (map (written_section instances) sections) blocks (parts-written instances sections sorted blocks same moved.2) ∙ ap (λ (h : List ℕ). text_with_header h blocks) (sym stands.header_is);
   lines_are = all-lines memberships instances ∙ ap lines_of (sym stands.stored_is);
 }
   where

@@ -56,12 +56,12 @@ in-part memberships instances old filed none heads filing place number below is 
       | inr (above, at) ↦ absurd (omega (arith, above, low, many))
     ]
 
-pub has-lines : (header : List ℕ) (memberships : List Membership) (instances : List StoredInstance) (old filed sorted : List NamedSection) (sections : List Section) → HaveMemberships memberships instances → AreOfSections (length old) memberships → AreNamed instances
-    → AreEmpty old → heads_of filed ≡ heads_of old → IsFiling memberships instances (section_positions old) (section_positions filed) → IsPermutation filed sorted → sections_bodies sections ≡ bodies_of sorted → HasLines (output_of header sections instances)
-has-lines header memberships instances old filed sorted sections are_kinds of_sections named none heads filing are same =
-    Each-of_members (λ (x : StoredInstance). IsLineOf x.name x.text (output_text (output_of header sections instances))) instances each
+pub has-lines : (header : List ℕ) (memberships : List Membership) (instances : List StoredInstance) (old filed sorted : List NamedSection) (sections : List Section) (statement : ℕ) → HaveMemberships memberships instances → AreOfSections (length old) memberships → AreNamed instances
+    → AreEmpty old → heads_of filed ≡ heads_of old → IsFiling memberships instances (section_positions old) (section_positions filed) → IsPermutation filed sorted → sections_bodies sections ≡ bodies_of sorted → HasLines (output_of header sections instances statement)
+has-lines header memberships instances old filed sorted sections statement are_kinds of_sections named none heads filing are same =
+    Each-of_members (λ (x : StoredInstance). IsLineOf x.name x.text (output_text (output_of header sections instances statement))) instances each
   where
-    each : (x : StoredInstance) → Contains instances x → IsLineOf x.name x.text (output_text (output_of header sections instances))
+    each : (x : StoredInstance) → Contains instances x → IsLineOf x.name x.text (output_text (output_of header sections instances statement))
     each x among =
         let (place, at) = Contains-at instances x among in
         let low = Each-at (λ (y : StoredInstance). y.membership < length memberships) instances place x are_kinds at in
@@ -72,7 +72,7 @@ has-lines header memberships instances old filed sorted sections are_kinds of_se
               let (section, written, has) = in-sections instances sections sorted part place x same (Contains-permutation filed sorted part are filed_at) holds at in
               record {
                 named = Each-at (λ (y : StoredInstance). IsNamed y.name y.text) instances place x named at;
-                alone = alone-in_file (output_of header sections instances) (written_section instances section) x.text (Contains-mapped (written_section instances) sections section written) has;
+                alone = alone-in_file (output_of header sections instances statement) (written_section instances section) x.text (Contains-mapped (written_section instances) sections section written) has;
               }
           | inr (above, of) ↦ absurd (omega (arith, above, low))
         ]

@@ -10,11 +10,13 @@ pub record WrittenSection : Type 0 where
   pub line : List ℕ
   pub texts : List (List ℕ)
 
--- the lines of the header records, each with its LF; the data sections; and the instances, in whatever order
+-- the lines of the header records, each with its LF; the data sections; the instances, in whatever order; and the number of the
+-- statement that was open at the end of the source, of which no byte of the file tells
 pub record Output : Type 0 where
   pub header : List ℕ
   pub sections : List WrittenSection
   pub kept : List StoredInstance
+  pub statement : ℕ
 
 -- a text and an LF
 abbrev pub line_of : List ℕ → List ℕ
@@ -35,8 +37,11 @@ abbrev pub header_text : List ℕ → List ℕ
 header_text header = (line_of (codes "ISO-10303-21;") ++ line_of (codes "HEADER;")) ++ (header ++ line_of (codes "ENDSEC;"))
 
 -- the whole file
+abbrev pub written_text : List ℕ → List WrittenSection → List ℕ
+written_text header sections = header_text header ++ (sections_text sections ++ line_of (codes "END-ISO-10303-21;"))
+
 abbrev pub output_text : Output → List ℕ
-output_text o = header_text o.header ++ (sections_text o.sections ++ line_of (codes "END-ISO-10303-21;"))
+output_text o = written_text o.header o.sections
 
 -- a text of bytes 20 to 7E alone begins with the name of an instance and `=`
 abbrev pub IsNamed : ℕ → List ℕ → Type 0

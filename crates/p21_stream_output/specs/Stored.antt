@@ -22,5 +22,5 @@ HavePositions kept sections = Each (λ (x : Section). ArePositions kept x.instan
 abbrev pub written_section : List StoredInstance → Section → WrittenSection
 written_section kept x = record { line = x.line.items; texts = texts_at kept x.instance_positions }
 
-abbrev pub output_of : List ℕ → List Section → List StoredInstance → Output
-output_of header sections kept = record { header = header; sections = map (written_section kept) sections; kept = kept }
+abbrev pub output_of : List ℕ → List Section → List StoredInstance → ℕ → Output
+output_of header sections kept statement = record { header = header; sections = map (written_section kept) sections; kept = kept; statement = statement }

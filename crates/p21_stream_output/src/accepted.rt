@@ -1,14 +1,17 @@
-ghost use Rattle.std.specs.Prelude.{◌≡◌, ◌↔◌, ℕ, length, Contains, IfSome, IsNone, IsTrue, OnErr, OnOk};
+ghost use Rattle.std.specs.Prelude.{◌≡◌, ◌↔◌, ℕ, length, Contains, IfErr, IfSome, IsNone, IsTrue, OnErr, OnOk};
 ghost use Rattle.std.specs.Io.KnownBytes.{Appends};
 ghost use Rattle.p21_stream_output.specs.Output.{HasLines, IsLineOf, output_text};
 ghost use Rattle.p21_stream_output.specs.Stored.{HavePositions, output_of};
 ghost use Rattle.p21_stream_io.specs.Transfer.{AppendsPartOf};
 ghost use Rattle.p21_stream_io.specs.Watch.{one_call_more};
+ghost use Rattle.p21_stream_statements.specs.declared.fault.Fault.TheVariants as fault;
+ghost use Rattle.p21_stream_statements.specs.declared.refusal.At.TheVariants as at;
 ghost use Rattle.p21_stream_store.specs.StoredInstance.{StoredInstance, instance_names};
 
 use crate::compare::is_file;
 use crate::output::write_file;
-use p21_stream_io::{Watched, WriteFault};
+use p21_stream_io::Watched;
+use p21_stream_statements::{At, Fault, Refusal};
 use p21_stream_store::{Instances, Numbers};
 use p21_values::Name;
 use std::io::Write;
@@ -23,12 +26,26 @@ pub struct Section {
 }
 
 /// An accepted file in its canonical form.
-#[derive(Drop)]
 pub struct Accepted {
     header: Vec<u8>,
     sections: Vec<Section>,
     instances: Instances,
     len: u64,
+    // The number of the statement that was open at the end of the bytes, which a refusal of a write names.
+    statement: u64,
+}
+
+// Written out: crates above call it, where they would prove a derived one field by field.
+impl Drop for Accepted {
+    fn drop(self) {
+        let Accepted {
+            header: _,
+            sections: _,
+            instances: _,
+            len: _,
+            statement: _,
+        } = self;
+    }
 }
 
 impl Model for Accepted {
@@ -38,25 +55,33 @@ impl Model for Accepted {
 
     ghost Value = { Output };
 
-    ghost view = { λ a. output_of a.header.items a.sections.items a.instances };
+    ghost view = { λ a. output_of a.header.items a.sections.items a.instances a.statement };
 
-    ghost invariant = { λ a. HavePositions a.instances a.sections.items × (a.len ≡ length (output_text (output_of a.header.items a.sections.items a.instances))) × HasLines (output_of a.header.items a.sections.items a.instances) };
+    ghost invariant = { λ a. HavePositions a.instances a.sections.items × (a.len ≡ length (output_text (output_of a.header.items a.sections.items a.instances a.statement))) × HasLines (output_of a.header.items a.sections.items a.instances a.statement) };
 }
 
 impl Accepted {
     /// The canonical lines of the header records, each with its line feed; the data sections in the order in which they
-    /// are written; the instances; and the bytes of the canonical file. It takes no memory.
-    pub fn new(header: Vec<u8>, sections: Vec<Section>, instances: Instances, len: u64) -> Accepted
+    /// are written; the instances; the bytes of the canonical file; and the number of the statement that was open at the end
+    /// of the bytes. It takes no memory.
+    pub fn new(
+        header: Vec<u8>,
+        sections: Vec<Section>,
+        instances: Instances,
+        len: u64,
+        statement: u64,
+    ) -> Accepted
         requires placed { HavePositions instances sections.items }
-        requires len { len ≡ length (output_text (output_of header.items sections.items instances)) }
-        requires lines { HasLines (output_of header.items sections.items instances) }
-        ensures { result ≡ output_of header.items sections.items instances }
+        requires len { len ≡ length (output_text (output_of header.items sections.items instances statement)) }
+        requires lines { HasLines (output_of header.items sections.items instances statement) }
+        ensures { result ≡ output_of header.items sections.items instances statement }
     {
         Accepted {
             header,
             sections,
             instances,
             len,
+            statement,
         }
     }
 
@@ -91,15 +116,24 @@ impl Accepted {
     ///
     /// # Errors
     ///
-    /// `WriteFault` where a write answers an error, whatever its kind, or takes none of some bytes.
-    pub fn write_to<W: Write>(&self, writer: &mut Watched<W>) -> Result<(), WriteFault>
+    /// `Write`, at the statement that was open at the end of the bytes, where a write answers an error, whatever its kind, or
+    /// takes none of some bytes.
+    pub fn write_to<W: Write>(&self, writer: &mut Watched<W>) -> Result<(), Refusal>
         ensures ok { OnOk result (Appends (W.contents writer.old.inner) (W.contents writer.new.inner) (output_text self.now)) }
         ensures err { OnErr result (AppendsPartOf (W.contents writer.old.inner) (W.contents writer.new.inner) (output_text self.now)) }
 
         ensures written { OnOk result (writer.new.failures ≡ writer.old.failures) }
         ensures failed { OnErr result (writer.new.failures ≡ one_call_more writer.old.failures) }
+
+        ensures refusal { IfErr result (λ refusal. refusal ≡ record { fault = fault.Write; at = at.Statement self.now.statement }) }
     {
-        write_file(writer, &self.header, &self.sections, &self.instances)
+        match write_file(writer, &self.header, &self.sections, &self.instances) {
+            Ok(()) => Ok(()),
+            Err(_) => Err(Refusal {
+                fault: Fault::Write,
+                at: At::Statement(self.statement),
+            }),
+        }
     }
 
     /// Whether a text is the canonical file. It takes no memory.

@@ -1,8 +1,8 @@
 //! A text beside the lines of a file.
 ghost use Rattle.std.specs.Prelude.{◌≡◌, ◌↔◌, ◌++◌, IsTrue, MatchOption, map};
 ghost use Rattle.p21_stream_output.specs.Compared.{LacksPrefix};
-ghost use Rattle.p21_stream_output.specs.Output.{header_text, line_of, lines_of, output_text, section_text, sections_text};
-ghost use Rattle.p21_stream_output.specs.Stored.{HavePositions, ArePositions, output_of, texts_at, written_section};
+ghost use Rattle.p21_stream_output.specs.Output.{header_text, line_of, lines_of, section_text, sections_text, written_text};
+ghost use Rattle.p21_stream_output.specs.Stored.{HavePositions, ArePositions, texts_at, written_section};
 
 use crate::accepted::Section;
 use p21_stream_store::{Instances, Numbers};
@@ -15,7 +15,7 @@ pub(crate) fn is_file(
     instances: &Instances,
 ) -> bool
     requires { HavePositions instances.now sections.now }
-    ensures { IsTrue result ↔ (text.now ≡ output_text (output_of header.now sections.now instances.now)) }
+    ensures { IsTrue result ↔ (text.now ≡ written_text header.now (map (written_section instances.now) sections.now)) }
 {
     match behind_file(text, header, sections, instances) {
         Some(rest) => rest.is_empty(),
@@ -31,8 +31,8 @@ fn behind_file<'a>(
     instances: &Instances,
 ) -> Option<&'a [u8]>
     requires { HavePositions instances.now sections.now }
-    ensures { MatchOption result (LacksPrefix text.now (output_text (output_of header.now sections.now instances.now)))
-        (λ rest. text.now ≡ output_text (output_of header.now sections.now instances.now) ++ rest.now) }
+    ensures { MatchOption result (LacksPrefix text.now (written_text header.now (map (written_section instances.now) sections.now)))
+        (λ rest. text.now ≡ written_text header.now (map (written_section instances.now) sections.now) ++ rest.now) }
 {
     let Some(rest) = behind_header(text, header) else {
         return None;

@@ -1,8 +1,8 @@
 //! Lines on their way to a writer.
 ghost use Rattle.std.specs.Prelude.{◌≡◌, ◌++◌, map, OnErr, OnOk};
 ghost use Rattle.std.specs.Io.KnownBytes.{Appends};
-ghost use Rattle.p21_stream_output.specs.Output.{header_text, line_of, lines_of, output_text, section_text, sections_text};
-ghost use Rattle.p21_stream_output.specs.Stored.{HavePositions, ArePositions, output_of, texts_at, written_section};
+ghost use Rattle.p21_stream_output.specs.Output.{header_text, line_of, lines_of, section_text, sections_text, written_text};
+ghost use Rattle.p21_stream_output.specs.Stored.{HavePositions, ArePositions, texts_at, written_section};
 ghost use Rattle.p21_stream_io.specs.Transfer.{AppendsAllBut, AppendsPartOf};
 ghost use Rattle.p21_stream_io.specs.Watch.{one_call_more};
 
@@ -137,8 +137,8 @@ fn put_file<W: Write>(
     instances: &Instances,
 ) -> Result<(), WriteFault>
     requires { HavePositions instances.now sections.now }
-    ensures ok { OnOk result (AppendsAllBut (W.contents writer.old.inner) (W.contents writer.new.inner) (waiting.old ++ output_text (output_of header.now sections.now instances.now)) waiting.new) }
-    ensures err { OnErr result (AppendsPartOf (W.contents writer.old.inner) (W.contents writer.new.inner) (waiting.old ++ output_text (output_of header.now sections.now instances.now))) }
+    ensures ok { OnOk result (AppendsAllBut (W.contents writer.old.inner) (W.contents writer.new.inner) (waiting.old ++ written_text header.now (map (written_section instances.now) sections.now)) waiting.new) }
+    ensures err { OnErr result (AppendsPartOf (W.contents writer.old.inner) (W.contents writer.new.inner) (waiting.old ++ written_text header.now (map (written_section instances.now) sections.now))) }
 
     ensures written { OnOk result (writer.new.failures ≡ writer.old.failures) }
     ensures failed { OnErr result (writer.new.failures ≡ one_call_more writer.old.failures) }
@@ -163,8 +163,8 @@ pub(crate) fn write_file<W: Write>(
     instances: &Instances,
 ) -> Result<(), WriteFault>
     requires { HavePositions instances.now sections.now }
-    ensures ok { OnOk result (Appends (W.contents writer.old.inner) (W.contents writer.new.inner) (output_text (output_of header.now sections.now instances.now))) }
-    ensures err { OnErr result (AppendsPartOf (W.contents writer.old.inner) (W.contents writer.new.inner) (output_text (output_of header.now sections.now instances.now))) }
+    ensures ok { OnOk result (Appends (W.contents writer.old.inner) (W.contents writer.new.inner) (written_text header.now (map (written_section instances.now) sections.now))) }
+    ensures err { OnErr result (AppendsPartOf (W.contents writer.old.inner) (W.contents writer.new.inner) (written_text header.now (map (written_section instances.now) sections.now))) }
 
     ensures written { OnOk result (writer.new.failures ≡ writer.old.failures) }
     ensures failed { OnErr result (writer.new.failures ≡ one_call_more writer.old.failures) }

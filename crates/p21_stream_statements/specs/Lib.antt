@@ -1,4 +1,5 @@
 pub mod Fault
+pub mod Location
 pub mod Source
 pub mod StatementReader
 pub mod PassingOver

@@ -2,8 +2,7 @@
 use p21_grammar::{Absent, GrammarFault, Name, NoMemory, TokenFault};
 use p21_mapping_faults::CheckFault;
 use p21_stream_io::{ReadFault, WriteFault};
-use p21_stream_kept::{At, Refusal};
-use p21_stream_statements::Fault;
+use p21_stream_statements::{At, Fault, Refusal};
 
 /// Faults, each with its number and its name.
 const NAMED: &[(Fault, u8, &str)] = &[

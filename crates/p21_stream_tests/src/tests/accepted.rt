@@ -4,7 +4,7 @@ use super::files::{
     CONVERTED, CONVERTED_CANONICAL, DEMO, EMPTY, Frame, HEADER, SECTIONS, SHAPES, WHOLE, framed,
 };
 use super::{Rows, Wrong, check};
-use p21_stream::{Accepted, Limits, Name, Schema, Watched, accept};
+use p21_stream::{Accepted, At, Fault, Limits, Name, Refusal, Schema, Watched, accept};
 use std::alloc::Global;
 
 /// An answer of an accepted file.
@@ -190,25 +190,35 @@ fn knows_its_text(rt: HostRuntime) {
     check(&rt, rt.alloc(), SHAPES, Rows::Texts(TEXTS));
 }
 
-/// What a writer gets of a file: how many bytes, in how many calls, and whether a call fails.
+/// What a writer gets of a file: how many bytes, in how many calls, and the statement that is named where a call fails.
 #[derive(Clone, Copy)]
 pub(super) struct Got {
     written: usize,
     moved: u64,
-    failures: u64,
+    refused_at: Option<u64>,
 }
 
 /// A file, its canonical file, a writer, and what this gets.
 pub(super) type Writes = &'static [(&'static str, &'static str, Space, Got)];
 
+/// Whether a write fault is answered at the statement, and none where there is no statement.
+fn is_answer(answer: Result<(), Refusal>, wanted: Option<u64>) -> bool {
+    match (answer, wanted) {
+        (Err(refusal), Some(statement)) => {
+            refusal.fault == Fault::Write && refusal.at == At::Statement(statement)
+        }
+        (answer, wanted) => answer.is_ok() && wanted.is_none(),
+    }
+}
+
 /// Whether a writer gets so much of a file.
 fn gets(accepted: &Accepted, text: &[u8], space: Space, got: Got) -> bool {
     let mut writer = Watched::new(Narrow::new(text, space));
-    let is_written = accepted.write_to(&mut writer).is_ok();
+    let answer = accepted.write_to(&mut writer);
     let counts = (writer.moved(), writer.failures());
     let left = writer.into_inner().left();
-    is_written == (got.failures == 0)
-        && counts == (got.moved, got.failures)
+    is_answer(answer, got.refused_at)
+        && counts == (got.moved, u64::from(got.refused_at.is_some()))
         && left == text.len().checked_sub(got.written)
 }
 
@@ -217,7 +227,7 @@ fn gets_both(accepted: &Accepted, text: &[u8], space: Space, got: Got) -> bool {
     let whole = Got {
         written: text.len(),
         moved: 1,
-        failures: 0,
+        refused_at: None,
     };
     gets(accepted, text, space, got) && gets(accepted, text, AMPLE, whole)
 }
@@ -252,7 +262,7 @@ const WRITES: Writes = &[
         Got {
             written: 152,
             moved: 1,
-            failures: 0,
+            refused_at: None,
         },
     ),
     (
@@ -266,7 +276,7 @@ const WRITES: Writes = &[
         Got {
             written: 100,
             moved: 34,
-            failures: 1,
+            refused_at: Some(12),
         },
     ),
 ];

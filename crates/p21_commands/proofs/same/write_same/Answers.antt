@@ -1,9 +1,9 @@
-use Rattle.std.proofs.Common.{[], ◌∷◌, refl}
+use Rattle.std.proofs.Common.{[], ◌∷◌, ◌≡◌, inr, refl}
 use Rattle.p21_commands.specs.Failures.{failures_of}
 use Rattle.p21_commands.proofs.Failing.{after_reading, before_writing}
 use Rattle.p21_commands.specs.Same.{IsAnswered, IsRefused, read_of}
 use Rattle.p21_commands.proofs.Counting.{comparing-failed}
-use Rattle.p21_commands.proofs.Comparing.{answer-fails, compared, comparing-fails}
+use Rattle.p21_commands.proofs.Comparing.{answer-fails, compared, comparing-fails, first-accepted, first-or_accepted}
 use Rattle.p21_commands.proofs.same.write_same.Goals as goal
 
 pub returns-in-Err-clause-err : goal.returns-in-Err-clause-err
@@ -30,3 +30,12 @@ returns-in-Err-clause-failed g c =
     let loaded = failures_of c.args.schema.now c.load_schema.new.reader in
     let read_failed = after_reading loaded (first ∷ second ∷ []) [] c.fault_of.result c.in_ok-schema.ensures.read compared_failed in
     before_writing (loaded ∷ first ∷ second ∷ []) (failures_of c.args.output.now c.args.output.now ∷ []) c.fault_of.result read_failed (refl, tt)
+
+pub returns-in-Err-clause-order : goal.returns-in-Err-clause-order
+returns-in-Err-clause-order g c = first-or_accepted (c.same_meaning.new.second ≡ c.args.second.now) _ _ _ _ _ _ _ _ _ c.usual.ensures c.in_ok-schema.ensures.ok c.in-Err.ensures.err c.in-Err.ensures.order
+
+pub returns-in-Ok-write_whole-clause-order : goal.returns-in-Ok-write_whole-clause-order
+returns-in-Ok-write_whole-clause-order g c = inr (first-accepted _ _ _ _ _ _ _ _ c.usual.ensures c.in_ok-schema.ensures.ok c.in-Ok.ensures.ok)
+
+pub returns-clause-order : goal.returns-clause-order
+returns-clause-order g c = inr (first-accepted _ _ _ _ _ _ _ _ c.usual.ensures c.in_ok-schema.ensures.ok c.in-Ok.ensures.ok)

@@ -26,4 +26,4 @@ pub into_accepted-requires : goal.into_accepted-requires
 into_accepted-requires c = whole-kept c.args.schema.now c.args.statements c.args.kept c.in-Ok.ensures.gives c.requires
 
 pub returns-clause-gives : goal.returns-clause-gives
-returns-clause-gives c = end-accepted c.args.schema.now c.well_formed-2.ensures c.args.statements c.args.kept c.in-Ok-into_accepted.accepted c.in-Ok.ensures.gives (c.in_default.ensures {u = tt}) (c.in-Ok-into_accepted.ensures {u = tt})
+returns-clause-gives c = end-accepted c.args.schema.now c.well_formed-2.ensures c.args.statements c.args.kept c.in-Ok-into_accepted.accepted c.in-Ok.ensures.gives (c.in_default.ensures {u = tt}) c.in-Ok-into_accepted.ensures.kept

@@ -11,17 +11,17 @@ pub new-requires-clause-len : goal.new-requires-clause-len
 new-requires-clause-len c =
     let has = c.requires.size in
     let file =
-    ended has.kept c.args.header.items c.args.parts.items c.file_instances.new.parts.items c.sort_sections.new.parts.items c.args.memberships.now c.args.instances c.in_ok-sections.sections.items c.requires.empty c.in_ok-file_instances.ensures.heads c.in_ok-file_instances.ensures.rows c.sort_sections.ensures.same c.sort_sections.ensures.sorted
+    ended has.kept c.args.header.items c.args.parts.items c.file_instances.new.parts.items c.sort_sections.new.parts.items c.args.memberships.now c.args.instances c.in_ok-sections.sections.items c.args.statement c.requires.empty c.in_ok-file_instances.ensures.heads c.in_ok-file_instances.ensures.rows c.sort_sections.ensures.same c.sort_sections.ensures.sorted
     c.in_ok-sections.ensures has.stands has.once in
     sym (ap length file.text_is ∙ has.size_is file.blocks file.are_blocks)
 
 pub new-requires-clause-lines : goal.new-requires-clause-lines
 new-requires-clause-lines c =
-    has-lines c.args.header.items c.args.memberships.now c.args.instances c.args.parts.items c.file_instances.new.parts.items c.sort_sections.new.parts.items c.in_ok-sections.sections.items c.requires.memberships c.requires.sections c.requires.named
+    has-lines c.args.header.items c.args.memberships.now c.args.instances c.args.parts.items c.file_instances.new.parts.items c.sort_sections.new.parts.items c.in_ok-sections.sections.items c.args.statement c.requires.memberships c.requires.sections c.requires.named
     c.requires.empty c.in_ok-file_instances.ensures.heads c.in_ok-file_instances.ensures.rows c.sort_sections.ensures.same c.in_ok-sections.ensures
 
-pub returns : goal.returns
-returns c = λ kept stands once.
+pub returns-clause-kept : goal.returns-clause-kept
+returns-clause-kept c = λ kept stands once.
     rw c.new.ensures
-    (ended kept c.args.header.items c.args.parts.items c.file_instances.new.parts.items c.sort_sections.new.parts.items c.args.memberships.now c.args.instances c.in_ok-sections.sections.items c.requires.empty c.in_ok-file_instances.ensures.heads c.in_ok-file_instances.ensures.rows c.sort_sections.ensures.same c.sort_sections.ensures.sorted
+    (ended kept c.args.header.items c.args.parts.items c.file_instances.new.parts.items c.sort_sections.new.parts.items c.args.memberships.now c.args.instances c.in_ok-sections.sections.items c.args.statement c.requires.empty c.in_ok-file_instances.ensures.heads c.in_ok-file_instances.ensures.rows c.sort_sections.ensures.same c.sort_sections.ensures.sorted
     c.in_ok-sections.ensures stands once)

@@ -1,6 +1,6 @@
 use Rattle.std.proofs.Common.{◌≡◌, IfErr, Result, Some, refl, sym, subst}
 use Rattle.p21_stream_statements.specs.Source.{IsOfBytes}
-use Rattle.p21_stream_kept.specs.declared.refusal.Refusal.{Refusal}
+use Rattle.p21_stream_statements.specs.declared.refusal.Refusal.{Refusal}
 use Rattle.p21_stream.proofs.PieceFeeding.{again-quiet, bounded-refused, bounded-whole, fed-again, fed-checks, fed-quiet, fed-refused, fed-whole, under-way}
 use Rattle.p21_stream.specs.Histories.{FeedChecks, FeedGives, FeedNeedsNoMemory}
 use Rattle.p21_stream.specs.Inside.{held_in}

@@ -21,9 +21,9 @@ accepted_file-requires-clause-size c =
     let begins = subst (λ (hs : List Heading). AllZip HasHeading hs c.in_ok-parts.parts.items) c.items.ensures c.in_ok-parts.ensures.begin in
     end-sized (kept_of c.self.inside) c.self.inside.header.items c.in_ok-parts.parts.items c.self.inside.memberships c.self.inside.instances (subst IsKeptOfFile (sym c.self.view_is) c.requires) (record { header_is = refl; begins = begins; stored_is = refl })
 
-pub returns : goal.returns
-returns c =
+pub returns-clause-kept : goal.returns-clause-kept
+returns-clause-kept c =
     let begins = subst (λ (hs : List Heading). AllZip HasHeading hs c.in_ok-parts.parts.items) c.items.ensures c.in_ok-parts.ensures.begin in
     let stands =
     subst (λ (k : Kept). IsKeptIn k c.self.inside.header.items c.in_ok-parts.parts.items c.self.inside.memberships c.self.inside.instances) c.self.view_is (record { header_is = refl; begins = begins; stored_is = refl }) in
-    end-is c.args.self c.self.inside.header.items c.in_ok-parts.parts.items c.self.inside.memberships c.self.inside.instances c.accepted_file.result stands c.accepted_file.ensures
+    end-is c.args.self c.self.inside.header.items c.in_ok-parts.parts.items c.self.inside.memberships c.self.inside.instances c.accepted_file.result stands c.accepted_file.ensures.kept

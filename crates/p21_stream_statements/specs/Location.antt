@@ -2,8 +2,8 @@
 use Rattle.std.specs.Prelude.{ℕ}
 use Rattle.p21_stream_statements.specs.declared.fault.Fault.{Fault}
 use Rattle.p21_stream_statements.specs.declared.fault.Fault.TheVariants.{Check, DuplicateName, Dangling, WrongTarget}
-use Rattle.p21_stream_kept.specs.declared.refusal.At.{At}
-use Rattle.p21_stream_kept.specs.declared.refusal.At.TheVariants.{Statement, Instance}
+use Rattle.p21_stream_statements.specs.declared.refusal.At.{At}
+use Rattle.p21_stream_statements.specs.declared.refusal.At.TheVariants.{Statement, Instance}
 
 -- a fault is named with the instance where it is one of a record, of its name or of a reference
 abbrev pub location_of : Fault → ℕ → ℕ → At

@@ -3,7 +3,7 @@ use Rattle.p21_basics.specs.Limits.{Limits}
 use Rattle.p21_schemas.specs.Schema.{Schema}
 use Rattle.p21_stream.proofs.Feeding.{under, whole-refused}
 use Rattle.p21_stream.specs.ReaderInput.{ConsumesAtMost, RefusesRead}
-use Rattle.p21_stream.proofs.read.read_file.Goals as goal
+use Rattle.p21_stream.proofs.read.accept.Goals as goal
 
 pub returns-in-Err-finish-clause-err : goal.returns-in-Err-finish-clause-err
 returns-in-Err-finish-clause-err g c =

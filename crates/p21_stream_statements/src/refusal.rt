@@ -1,8 +1,8 @@
 ghost use Rattle.std.specs.Prelude.{◌≡◌};
-ghost use Rattle.p21_stream_kept.specs.Location.{location_of};
+ghost use Rattle.p21_stream_statements.specs.Location.{location_of};
 ghost use Rattle.p21_stream_statements.specs.Fault.{fault_number, fault_name};
 
-use p21_stream_statements::Fault;
+use crate::fault::Fault;
 use p21_values::Name;
 
 /// Where a file is refused: the number of the open statement, counted from 1, or an instance.
