@@ -37,8 +37,8 @@ run() {
 }
 
 if [ "$#" -eq 0 ]; then
-    set -- program.sh texts.py canonical_form.py definitions.py edits.py refusals.py patterns.py library.py install.sh pages.sh bindings.sh \
-        release.py page.py page_module.py
+    set -- program.sh texts.py canonical_form.py definitions.py edits.py wrong_bodies.sh refusals.py patterns.py library.py \
+        install.sh pages.sh bindings.sh release.py page.py page_module.py
     for tools in tools_*.py; do
         [ ! -e "$tools" ] || set -- "$@" "$tools"
     done
@@ -48,6 +48,7 @@ if [ "$#" -eq 0 ]; then
 fi
 for part in "$@"; do
     case $part in
+        wrong_bodies.sh) run wrong_bodies.sh --count ;;
         fuzz.py) run fuzz.py --cases 10000 --seed 1 ;;
         pages.sh) run pages.sh "$P21" ;;
         *) run "$part" ;;

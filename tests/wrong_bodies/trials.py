@@ -1,0 +1,224 @@
+#!/usr/bin/env python3
+"""Tries wrong bodies, those that the gate tries (crates/CRATE/must-fail) and those beside it (tests/wrong_bodies/CRATE): the
+prover must refuse each of them.
+
+  tests/wrong_bodies.sh [--gate] [CRATE[/NAME]..]   tries these, or all; with --gate only those of the gate
+  tests/wrong_bodies.sh --stale                     names those that aren't shown to be refused, a line each
+  tests/wrong_bodies.sh --count                     counts those, and fails where one of the gate's is among them
+
+tests/wrong_bodies/refused.txt is the record: a line for each edit that was refused, with its crate, its name and a checksum
+of what it was tried over: the edit, the src, specs and proofs of its crate, and the src and specs of all crates below.
+What the record has over the sources as they stand is not tried again, and a line is written as soon as an edit has been
+tried, so that a run that is broken off goes on where it was. Where the prover refuses an edit only because a proof names
+what the edit took away, no clause was tried: the line ends with `by_name`, and the edit isn't shown to be refused.
+
+Where the toolchain keeps proofs, `rt ci CRATE` tries each edit by itself. Elsewhere each is checked as `rt must-fail` does
+it, over what `rt check` or `rt lib` left in the crate's `out`; where there is nothing, the crate is proved first. An edit
+takes 20 to 50 seconds of a processor.
+"""
+
+import functools
+import hashlib
+import importlib.machinery
+import importlib.util
+import os
+import pathlib
+import shutil
+import subprocess
+import sys
+import tempfile
+
+ROOT = pathlib.Path(__file__).resolve().parent.parent.parent
+CRATES = ROOT / "crates"
+RECORD = ROOT / "tests" / "wrong_bodies" / "refused.txt"
+PARTS = ("src", "specs", "proofs")
+OPTIONS = ("--gate", "--stale", "--count")
+BY_NAME = "by_name"
+
+sys.path.insert(0, str(ROOT / "tests"))
+from edits import edits  # noqa: E402
+
+
+# ---- the record
+
+
+@functools.cache
+def libraries():
+    """For each crate the crates that it uses, by crates.txt."""
+    lines = (line.partition("#")[0].partition(":") for line in (ROOT / "crates.txt").read_text().splitlines())
+    used = {head.split()[0]: tail.split() for head, _, tail in lines if head.strip()}
+    return {crate: [name for name in names if name in used] for crate, names in used.items()}
+
+
+@functools.cache
+def below(crate):
+    """All crates below a crate."""
+    return frozenset(libraries()[crate]).union(*(below(name) for name in libraries()[crate]))
+
+
+@functools.cache
+def digest_of(crate, parts):
+    """A checksum of some folders of a crate."""
+    found = hashlib.sha256()
+    for part in parts:
+        for path in sorted((CRATES / crate / part).rglob("*")):
+            if path.is_file():
+                found.update(f"{path.relative_to(CRATES)}\n{path.stat().st_size}\n".encode())
+                found.update(path.read_bytes())
+    return found.hexdigest()
+
+
+def checksum(crate, path):
+    """The checksum of what an edit is tried over."""
+    over = [digest_of(crate, PARTS), *(digest_of(name, ("src", "specs")) for name in sorted(below(crate)))]
+    return hashlib.sha256("\n".join(over).encode() + b"\n" + path.read_bytes()).hexdigest()[:16]
+
+
+def record():
+    """What the record says of each edit: the checksum, and the mark where there is one."""
+    lines = (line.split() for line in RECORD.read_text().splitlines())
+    return {(crate, name): tuple(rest) for crate, name, *rest in lines}
+
+
+def note(crate, name, entry):
+    """Writes what was found of an edit into the record; without an entry the edit was not refused."""
+    found = {**record(), (crate, name): entry}
+    there = {(crate, name) for crate, name, _ in edits()}
+    lines = (f"{' '.join((*key, *rest))}\n" for key, rest in sorted(found.items()) if rest and key in there)
+    written = RECORD.with_suffix(".new")
+    written.write_text("".join(lines))
+    os.replace(written, RECORD)
+
+
+def unshown():
+    """The edits that aren't shown to be refused over the sources as they stand: crate, name and path, and whether they were
+    tried. Those of the gate come first."""
+    known = record()
+    for crate, name, path in edits():
+        found = known.get((crate, name), ())
+        tried = found[:1] == (checksum(crate, path),)
+        if not tried or BY_NAME in found:
+            yield crate, name, path, tried
+
+
+def of_gate(path):
+    """Whether the gate tries an edit."""
+    return path.parent.name == "must-fail"
+
+
+# ---- trials
+
+
+def keeps_proofs():
+    """Whether the toolchain keeps proofs, so that `rt ci` takes the names of crates."""
+    ran = subprocess.run(["rt", "help"], capture_output=True, text=True, check=False)
+    return "--anew" in ran.stdout + ran.stderr
+
+
+@functools.cache
+def tool():
+    """The toolchain's `rt`, as a module."""
+    loader = importlib.machinery.SourceFileLoader("rt", str(pathlib.Path(shutil.which("rt")).resolve()))
+    made = importlib.util.module_from_spec(importlib.util.spec_from_loader("rt", loader))
+    sys.modules["rt"] = made
+    loader.exec_module(made)
+    return made
+
+
+def run_lines(words, folder):
+    """What a command prints."""
+    ran = subprocess.run(words, cwd=folder, stdout=subprocess.PIPE, stderr=subprocess.STDOUT, text=True, errors="replace", check=False)
+    return ran.stdout.splitlines()
+
+
+def copy_of_crates(folder):
+    """A copy of the repository's crates, without what was built and without edits."""
+    (folder / ".git").mkdir()
+    for name in ("crates.txt", "HANDLES"):
+        shutil.copy(ROOT / name, folder)
+    shutil.copytree(CRATES, folder / "crates", ignore=shutil.ignore_patterns("out", "must-fail"))
+    return folder
+
+
+def said_by_gate(folder, crate, path):
+    """What `rt ci` says of an edit, in a copy of the crates."""
+    place = folder / "crates" / crate / "must-fail"
+    place.mkdir()
+    shutil.copy(path, place)
+    lines = run_lines(["rt", "ci", crate], folder)
+    shutil.rmtree(place)
+    said = [line for line in lines if line.startswith(f"rt: must-fail {crate}/")]
+    return said[-1].removeprefix("rt: ") if said else f"must-fail {crate}/{path.name}: NOT TRIED: {lines[-1] if lines else ''}"
+
+
+def said_by_prover(crate, path):
+    """What `rt must-fail` says of an edit, over the kept work of its crate."""
+    rt = tool()
+    if not (CRATES / crate / "out" / "incremental").is_dir():
+        subprocess.run(["rt", "check"], cwd=CRATES / crate, stdout=subprocess.DEVNULL, check=True)
+    found = next(it for it in rt.rtlib.crates_below(str(ROOT)) if it.name == crate)
+    with tempfile.TemporaryDirectory() as room:
+        kept = shutil.copytree(CRATES / crate / "out" / "incremental", pathlib.Path(room) / "kept")
+        return rt.must_fail(found, str(path), ["--jobs", "1"], str(kept))[1]
+
+
+def entry_of(said, crate, path):
+    """What the record is to say of an edit, by what the toolchain said of it."""
+    if ": refused, as it must be" not in said:
+        return None
+    by_name = "only because a proof file names what the edit took away" in said
+    return (checksum(crate, path), BY_NAME) if by_name else (checksum(crate, path),)
+
+
+def try_all(trials):
+    """Tries edits, and writes down what was refused."""
+    with tempfile.TemporaryDirectory() as room:
+        copy = copy_of_crates(pathlib.Path(room)) if keeps_proofs() else None
+        for crate, name, path in trials:
+            said = said_by_gate(copy, crate, path) if copy else said_by_prover(crate, path)
+            print(said, flush=True)
+            note(crate, name, entry_of(said, crate, path))
+
+
+# ---- the command
+
+
+def said_of(crate, name, tried):
+    """A line on an edit that isn't shown to be refused."""
+    return f"{crate}/{name}: {'refused only because a proof names what it took away' if tried else 'not tried over these sources'}"
+
+
+def count():
+    """Counts the edits that aren't shown to be refused, and says how many of them the gate has."""
+    missing = list(unshown())
+    gate = [it for it in missing if of_gate(it[2])]
+    for crate, name, _, tried in gate:
+        print(said_of(crate, name, tried))
+    print(f"not shown to be refused over these sources: {len(gate)} wrong bodies of the gate, {len(missing) - len(gate)} beside it")
+    return len(gate)
+
+
+def main(words):
+    unknown = [word for word in words if word not in OPTIONS and word.partition("/")[0] not in libraries()]
+    if unknown:
+        sys.exit(f"there is no {unknown[0]}")
+    if "--count" in words:
+        return int(count() > 0)
+    if "--stale" in words:
+        for crate, name, _, tried in unshown():
+            print(said_of(crate, name, tried))
+        return 0
+    names = {word for word in words if word not in OPTIONS}
+    wanted = [
+        (crate, name, path)
+        for crate, name, path in edits()
+        if (not names or names & {crate, f"{crate}/{name}"}) and (of_gate(path) or "--gate" not in words)
+    ]
+    missing = {(crate, name): tried for crate, name, _, tried in unshown()}
+    try_all([it for it in wanted if missing.get(it[:2]) is False])
+    shown = {(crate, name) for crate, name, _ in wanted} - {(crate, name) for crate, name, _, _ in unshown()}
+    return int(len(shown) < len(wanted))
+
+
+if __name__ == "__main__":
+    sys.exit(main(sys.argv[1:]))
