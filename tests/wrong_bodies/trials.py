@@ -5,6 +5,7 @@ prover must refuse each of them.
   tests/wrong_bodies.sh [--gate] [CRATE[/NAME]..]   tries these, or all; with --gate only those of the gate
   tests/wrong_bodies.sh --stale                     names those that aren't shown to be refused, a line each
   tests/wrong_bodies.sh --count                     counts those, and fails where one of the gate's is among them
+  tests/wrong_bodies.sh --from LOG                  takes what `rt ci` said, over the sources as they stand, into the record
 
 tests/wrong_bodies/refused.txt is the record: a line for each edit that was refused, with its crate, its name and a checksum
 of what it was tried over: the edit, the src, specs and proofs of its crate, and the src and specs of all crates below.
@@ -180,6 +181,17 @@ def try_all(trials):
             note(crate, name, entry_of(said, crate, path))
 
 
+def take_log(log):
+    """Writes down what the gate's log says of its edits."""
+    said = {}
+    for line in pathlib.Path(log).read_text(errors="replace").splitlines():
+        if line.startswith("rt: must-fail "):
+            said[line.removeprefix("rt: must-fail ").partition(".edit: ")[0]] = line
+    for crate, name, path in edits():
+        if of_gate(path) and f"{crate}/{name}" in said:
+            note(crate, name, entry_of(said[f"{crate}/{name}"], crate, path))
+
+
 # ---- the command
 
 
@@ -199,6 +211,9 @@ def count():
 
 
 def main(words):
+    if words[:1] == ["--from"] and len(words) == 2:
+        take_log(words[1])
+        return 0
     unknown = [word for word in words if word not in OPTIONS and word.partition("/")[0] not in libraries()]
     if unknown:
         sys.exit(f"there is no {unknown[0]}")
