@@ -9,7 +9,7 @@
 # Seven parts want `rt`: bindings.sh builds the library for C and Python where it is missing or old, release.py links a program,
 # page.py and page_module.py build the page where it is missing or old, hostile/calls.py builds a program of the libraries
 # without a proof, and fail_alloc.sh and want_of_memory.sh try tests. page.py wants Chromium, and page_module.py Node with
-# 64-bit WebAssembly memory.
+# 64-bit WebAssembly memory. clusters.py wants root, and Slurm and Dask of Debian.
 
 root=$(cd "$(dirname -- "$(readlink -f -- "$0")")/.." && pwd) || exit
 "${P21:-$root/p21}" --version > /dev/null || exit
@@ -44,7 +44,7 @@ if [ "$#" -eq 0 ]; then
     done
     set -- "$@" hostile/devices.sh hostile/changing.py hostile/transfers.py hostile/large.py hostile/stack.py \
         hostile/memory.py hostile/allocations.py hostile/calls.py fail_alloc.sh want_of_memory.sh two_ways.py fuzz.py \
-        guided.sh growth.sh ways.py hostile/larger.py published.py
+        guided.sh growth.sh ways.py hostile/larger.py published.py clusters.py
 fi
 for part in "$@"; do
     case $part in

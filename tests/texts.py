@@ -99,7 +99,6 @@ def prepared(folder):
         "HOME": str(folder / "home"),
         "LC_ALL": "C.UTF-8",
         "P21": PROGRAM,
-        "PYTHONPATH": str(ROOT / "tests" / "standins"),
         "PATH": f"{path}:{os.environ['PATH']}",
     }
 
