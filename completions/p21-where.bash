@@ -4,9 +4,10 @@ _p21_where() {
     local word=${COMP_WORDS[COMP_CWORD]}
     COMPREPLY=()
     case ${COMP_WORDS[COMP_CWORD - 1]}:$word in
-        *:-*) COMPREPLY=($(compgen -W '--help --schemas --schema' -- "$word")) ;;
+        *:-*) COMPREPLY=($(compgen -W '--help --schemas --schema --format' -- "$word")) ;;
     esac
     case ${COMP_WORDS[COMP_CWORD - 1]} in
+        --format) COMPREPLY=($(compgen -W 'text lines json sarif' -- "$word")) ;;
     esac
 }
 complete -o default -F _p21_where p21-where

@@ -140,7 +140,7 @@ TROUBLE = [
         [SCHEMA, "examples/product.step", "examples/refused/EndsEarly.step"],
         "examples/refused/EndsEarly.step: refused 24 EndsEarly at statement 10",
     ),
-    ("a file that isn't there", [SCHEMA, "{here}/none", "examples/product.step"], "{here}/none: cannot open {here}/none"),
+    ("a file that isn't there", [SCHEMA, "{here}/none", "examples/product.step"], "{here}/none: cannot open {here}/none: there is no such file"),
     ("a folder", [SCHEMA, "examples/product.step", "{here}"], "{here}: read fault"),
     (
         "exchanged arguments",
@@ -223,7 +223,7 @@ def strange(tests):
     product = "examples/product.step"
     name = "a\x1b[31m\nonly in B: #1=X();\u202e.step"
     escaped = "a\\x1b[31m\\nonly in B: #1=X();\\u202e.step"
-    wanted = f"p21-diff: {tests.here}/{escaped}: cannot open {tests.here}/{escaped}\n"
+    wanted = f"p21-diff: {tests.here}/{escaped}: cannot open {tests.here}/{escaped}: there is no such file\n"
     tests.judge("a name with signs that aren't shown", ("", wanted, 2), tests.run([SCHEMA, str(tests.here / name), product]))
     tests.make(name, (ROOT / product).read_text())
     for form in ("text", "json", "html"):

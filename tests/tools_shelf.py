@@ -84,7 +84,9 @@ def places(tests, folder):
     tests.expect("an alias", given, 0, ["accepted, instances 1, canonical bytes 303"], change)
     other = str(tests.here / "other.step")
     tests.expect("no such schema", ["--schemas", folder, other], 3, [], f"p21-where: no schema OTHER on the shelf {folder}")
-    tests.expect("a schema beside a shelf", ["--schemas", folder, SCHEMA, count], 3, [], "p21-where: with a shelf only the file is named")
+    two = ["--format", "lines", "--schemas", folder, count, "examples/refused/SchemaName.step"]
+    found = "45 Count in #3: AXIS2_PLACEMENT_3D has 4 attributes, and here are 3 values; without one: REF_DIRECTION"
+    tests.expect("several files", two, 1, [f"{count}:11:31: {found}"], change)
     tests.tool = "p21-table"
 
 

@@ -58,7 +58,7 @@ def examples(tests):
     for jobs in ("1", "5"):
         tests.expect(f"tabs, -j {jobs}", ["--format", "tsv", "-j", jobs, SCHEMA, "examples"], 1, lines, SUMMARY)
     output, error, status = tests.run(["--format", "json", SCHEMA, "examples"])
-    found = [tuple(json.loads(line).values()) for line in output.splitlines()]
+    found = [tuple(json.loads(line).values())[:4] for line in output.splitlines()]
     tests.judge("JSON", (EXAMPLES, SUMMARY + "\n", 1), (found, error, status))
     output, error, status = tests.run([SCHEMA, "examples"])
     wanted = [f"{file:35}  {answer:40}  {count or '-':>9}  {sha or '-'}" for file, answer, count, sha in EXAMPLES]
@@ -120,7 +120,7 @@ def names(tests):
     wanted = [("many/a\\ttab.step", "accepted"), ("many/a.p21", "accepted"), ("many/b.STP", "accepted")]
     wanted += [("many/c.ifc", "accepted"), ("many/deep/d.step", "accepted"), ("many/notes.txt", "accepted")]
     wanted = [(f"{tests.here}/{name}", answer) for name, answer in wanted]
-    wanted.append((f"{tests.here}/none.step", f"cannot open {tests.here}/none.step"))
+    wanted.append((f"{tests.here}/none.step", f"cannot open {tests.here}/none.step: there is no such file"))
     counts = ["7 files, 6 accepted, 1 not", "     1 cannot open"]
     counts.append("passed over: 3 files with other endings: 1 without one, 1 .gz, 1 .txt")
     tests.judge("folders and lists", (wanted, counts, 3), (found, error.splitlines()[:3], status))
@@ -190,6 +190,26 @@ def pipes(tests):
     tests.judge("a file from a pipe", wanted, tests.run(given, step.read_bytes()))
     with step.open("rb") as file:
         tests.judge("a file as standard input", wanted, tests.run(given, file=file))
+    wanted = (f"{HEAD}\n{line.format('-')}\n", summary, 0)
+    tests.judge("standard input as -", wanted, tests.run(["--format", "tsv", SCHEMA, "-"], step.read_bytes()))
+
+
+def refusals(tests):
+    """The parts of each answer in JSON."""
+    rows = [
+        ("examples/product.step", None, None, None, None),
+        ("examples/refused/BadByte.step", 1, "BadByte", 1, None),
+        ("examples/refused/Count.step", 45, "Count", None, "#3"),
+        (tests.make("scope.step", file_of("#1=!X();")), 26, "LeftOut(UserKeyword)", 8, None),
+        (tests.make("broken\n.step", file_of("#1=PERSON($,$,$,$);")), 46, "Missing", None, "#1"),
+    ]
+    given = [SCHEMA, "--format", "json", rows[0][0], "--schema", "examples/demo.exp", *(row[0] for row in rows[1:])]
+    output, _, status = tests.run(given)
+    found = [json.loads(line) for line in output.splitlines()]
+    names = ("file", "number", "name", "statement", "instance")
+    tests.judge("the parts of an answer, options among names", (rows, 1), ([tuple(row[name] for name in names) for row in found], status))
+    output, _, _ = tests.run([SCHEMA, rows[4][0], rows[0][0]])
+    tests.judge("a name with a line feed", 2, len(output.splitlines()))
 
 
 def main():
@@ -200,6 +220,7 @@ def main():
     schemas(tests)
     names(tests)
     pipes(tests)
+    refusals(tests)
     controls(tests)
     full_disk(tests)
     headers(tests)

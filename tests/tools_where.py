@@ -5,18 +5,22 @@ P21 names another program than ./p21. Whatever the file is, the first line is th
 """
 
 import gzip
+import json
 import pathlib
 import random
 import re
 import subprocess
 import sys
+import urllib.parse
 
 import texts
 from tooling import ROOT, SCHEMA, Tests, file_of
 
 sys.path.insert(0, str(ROOT / "tools"))
 
+import p21_files as files  # noqa: E402
 import p21_reading as reading  # noqa: E402
+import p21_seeking as sought  # noqa: E402
 from p21_schemas import Outline  # noqa: E402
 
 DEMO = "examples/demo.exp"
@@ -34,18 +38,18 @@ FAULTS = {
     "9 BadBinary": ("8:13", "3", "the byte 33, 3"),
     "10 NameRange": ("8:21", "6", "the byte 36, 6"),
     "11 BadName": ("8:21", " ", "the byte 20"),
-    "20 Unexpected": ("9:1", "#2", None),
+    "20 Unexpected": ("9:1", "#2", 'wanted here: ";"'),
     "21 TooDeep": ("8:75", "(", None),
     "24 EndsEarly": ("11:24", "", "the file ends here"),
-    "25 AfterEnd": ("10:1", "ISO-10303-21", None),
+    "25 AfterEnd": ("10:1", "ISO-10303-21", "wanted here: nothing but blanks and remarks behind END-ISO-10303-21;"),
     "26 LeftOut": ("8:4", "!MY_POINT", None),
-    "30 HeaderShape": ("4:1", "FILE_NAME", None),
+    "30 HeaderShape": ("4:32", ")", "FILE_NAME has 7 parameters, and here are 6; without one: authorization"),
     "31 SchemaName": (
         "5:14",
         "'AUTOMOTIVE_DESIGN { 1 0 10303 214 1 1 1 1 }'",
         "the file is of AUTOMOTIVE_DESIGN, the schema text of PRODUCT_MODEL",
     ),
-    "32 SectionShape": ("7:1", "DATA", None),
+    "32 SectionShape": ("7:1", "DATA", "wanted here: DATA; or DATA('name',('SCHEMA'));"),
     "33 SectionTwice": ("9:6", "'a'", None),
     "40 DuplicateName": ("9:1", "#01", "#1 stands in line 8 too"),
     "41 UnknownEntity": ("8:4", "SPHERICAL_SURFACE", "the schema PRODUCT_MODEL has no entity SPHERICAL_SURFACE"),
@@ -329,7 +333,7 @@ def others(tests):
     step = "examples/product.step"
     tests.expect("accepted", [SCHEMA, step], 0, ["accepted, instances 128, canonical bytes 4872"])
     tests.expect("a schema that is read", [SCHEMA], 0, ["SCHEMA PRODUCT_MODEL"])
-    tests.expect("a file that isn't there", [SCHEMA, "{here}/none"], 3, ["cannot open {here}/none"])
+    tests.expect("a file that isn't there", [SCHEMA, "{here}/none"], 3, ["cannot open {here}/none", "  {here}/none: there is no such file"])
     tests.expect("a folder", [SCHEMA, "{here}"], 3, ["read fault", "  {here} is a folder"])
     exchanged = ["schema refused S2 Syntax", f"{step}:1:1", "  ISO-10303-21;", "  ^^^"]
     exchanged.append("  this is a STEP file: are schema and file exchanged?")
@@ -392,6 +396,172 @@ def changed(tests):
         lines = output.splitlines()
         has_place = len(lines) > 1 and re.fullmatch(re.escape(path) + r":\d+:\d+", lines[1]) is not None
         tests.judge(name, (line, status == 1, "", status), (lines[0], has_place, error, found))
+
+
+# Texts in place of one of the file, with what is marked there and what was wanted, as each token says by itself.
+WANTED = [
+    ("behind an instance", [("MARK", "#1=POINT($,1.,1.)")], "ENDSEC", '";"'),
+    ("behind a value", [("MARK", "#1=POINT($,1. 2.);")], "2.", '")" or ","'),
+    ("a value", [("MARK", "#1=POINT($,,2.);")], ",", "a value or \"(\""),
+    ("behind the name", [("MARK", "#1 POINT($,1.,2.);")], "POINT", '"="'),
+    ("behind the keyword", [("MARK", "#1=POINT;")], ";", '"("'),
+    ("a statement of the data", [("MARK", "POINT($,1.,2.);")], "POINT", "ENDSEC or the name of an instance"),
+    ("the first word", [("ISO-10303-21;\nHEADER;", "HEADER;")], "HEADER", "ISO-10303-21"),
+    ("the second word", [("\nHEADER;\n", "\n")], "FILE_DESCRIPTION", "HEADER"),
+    ("a further record", [("(('DEMO'));", "(('DEMO'));FILE_NAME();")], "FILE_NAME", "a record of another keyword"),
+    ("a record left out", [("FILE_NAME('','',(''),(''),'','','');\n", "")], "FILE_SCHEMA", None),
+    ("a text for a list", [("(''),'2;1'", "'','2;1'")], "''", "a list of texts, or $"),
+    ("a number for a text", [("'2;1'", "2.1")], "2.1", "a text or $"),
+    ("a number in a list", [("(''),(''),", "(''),(1),")], "(1)", "a list of texts, or $"),
+    ("several schemas", [("'DEMO'", "'DEMO','DEMO'")], "('DEMO','DEMO')", "a list of one text"),
+    ("another schema", [("'DEMO'", "'OTHER'")], "'OTHER'", "DEMO"),
+    ("a section's name alone", [("DATA;", "DATA('a');")], "DATA", "DATA; or DATA('name',('SCHEMA'));"),
+]
+
+
+def expected(tests):
+    """What was wanted at a place, and what stands there."""
+    for name, changes, found, wanted in WANTED:
+        made = file_of("MARK" if changes[0][0] == "MARK" else "", [("PRODUCT_MODEL", "DEMO"), *changes])
+        output, error, status = tests.run(["--format", "json", DEMO, tests.make("wanted.step", made)])
+        row = json.loads(output)
+        if wanted is None:
+            row["expected"] = wanted = row["expected"] if row["expected"].startswith("FILE_NAME(a text or $, ") else None
+        tests.judge(name, (found, wanted, "", 1), (row["found"], row["expected"], error, status))
+
+
+# Instances with a value too few: what stands behind it, and which attribute is said to have none.
+MISSING = [
+    ("a value in front of a list", SCHEMA, "#1=CARTESIAN_POINT(«(»80.,50.));", "NAME"),
+    ("the list", SCHEMA, "#1=CARTESIAN_POINT(''«)»;", "COORDINATES"),
+    ("what the types leave open", SCHEMA, "#1=CALENDAR_DATE(2024,3«)»;", "DAY_COMPONENT"),
+]
+
+
+def missing(tests):
+    """Which value is missing, where types decide it."""
+    for name, schema, instances, wanted in MISSING:
+        named = "PRODUCT_MODEL" if schema == SCHEMA else "DEMO"
+        text, place, marked = unmarked(file_of(instances, [("PRODUCT_MODEL", named)]))
+        output, error, status = tests.run([schema, tests.make("missing.step", text)])
+        line, found, mark, note = parts(output)
+        tests.judge(name, (place, marked, wanted, "", 1), (found, mark, note.rpartition(": ")[2], error, status))
+
+
+# What SARIF 2.1.0 demands of each object of a log: the properties that must be there, and of each that may be there its kind.
+TEXT, COUNT, BOOLEAN = str, int, bool
+SARIF = {
+    "log": ({"version", "runs"}, {"$schema": TEXT, "version": TEXT, "runs": ["run"]}),
+    "run": ({"tool"}, {"tool": "tool", "columnKind": TEXT, "invocations": ["invocation"], "results": ["result"]}),
+    "tool": ({"driver"}, {"driver": "driver"}),
+    "driver": ({"name"}, {"name": TEXT, "semanticVersion": TEXT, "rules": ["rule"]}),
+    "rule": (
+        {"id"},
+        {"id": TEXT, "name": TEXT, "shortDescription": "message", "help": "message", "defaultConfiguration": "configuration"},
+    ),
+    "configuration": (set(), {"level": TEXT}),
+    "invocation": (
+        {"executionSuccessful"},
+        {"executionSuccessful": BOOLEAN, "exitCode": COUNT, "toolExecutionNotifications": ["notification"]},
+    ),
+    "notification": ({"message"}, {"level": TEXT, "message": "message", "locations": ["location"]}),
+    "message": ({"text"}, {"text": TEXT}),
+    "result": (
+        {"message"},
+        {
+            "ruleId": TEXT,
+            "ruleIndex": COUNT,
+            "level": TEXT,
+            "message": "message",
+            "locations": ["location"],
+            "properties": dict,
+        },
+    ),
+    "location": (set(), {"physicalLocation": "physical", "logicalLocations": ["logical"]}),
+    "physical": ({"artifactLocation"}, {"artifactLocation": "artifact", "region": "region"}),
+    "artifact": (set(), {"uri": TEXT}),
+    "region": (set(), {"startLine": COUNT, "startColumn": COUNT}),
+    "logical": (set(), {"name": TEXT, "fullyQualifiedName": TEXT, "kind": TEXT}),
+}
+
+
+def wrong_in(value, kind):
+    """What in a part of a log isn't as SARIF demands."""
+    if isinstance(kind, list):
+        found = [wrong for element in value for wrong in wrong_in(element, kind[0])] if isinstance(value, list) else [f"{value}: no list"]
+        return found + ([f"{kind[0]} twice"] if kind == ["rule"] and len({rule["id"] for rule in value}) < len(value) else [])
+    if not isinstance(kind, str):
+        return [] if isinstance(value, kind) else [f"{value} is no {kind.__name__}"]
+    needed, known = SARIF[kind]
+    found = [f"{kind} without {name}" for name in sorted(needed - set(value))] + [f"{kind}.{name}" for name in sorted(set(value) - set(known))]
+    return found + [wrong for name in value if name in known for wrong in wrong_in(value[name], known[name])]
+
+
+def forms(tests):
+    """All files of examples/refused and what can't be read, in each form."""
+    names = [f"examples/refused/{name}.step" for name in sorted(REFUSED)]
+    given = [SCHEMA, "examples/refused", "examples/product.step", f"{tests.here}/none"]
+    places = [REFUSED[pathlib.Path(name).stem][0] for name in names]
+    answers = [program_line(tests, SCHEMA, name)[0] for name in names]
+    gone = f"cannot open {tests.here}/none: there is no such file"
+    output, error, status = tests.run(["--format", "lines", *given])
+    fronts = [f"{name}:{place}: {answer.removeprefix('refused ')}: " for name, place, answer in zip(names, places, answers)]
+    lines = output.splitlines()
+    found = [line[: len(front)] for line, front in zip(lines, fronts)]
+    tests.judge("lines", (fronts, f"{tests.here}/none: {gone}", 11, "", 3), (found, lines[-1], len(lines), error, status))
+    output, error, status = tests.run(["--format", "json", *given])
+    rows = [json.loads(line) for line in output.splitlines()]
+    found = [(row["file"], f"{row['line']}:{row['column']}", row["answer"]) for row in rows[:-1]]
+    tests.judge("JSON", (list(zip(names, places, answers)), gone, "", 3), (found, rows[-1]["answer"], error, status))
+    parted = [f"refused {row['number']} {row['name']} " + (f"in {row['instance']}" if row["instance"] else f"at statement {row['statement']}") for row in rows[:-1]]
+    tests.judge("JSON, the parts of an answer", answers, parted)
+    output, error, status = tests.run(["--format", "sarif", *given])
+    log = json.loads(output)
+    run = log["runs"][0]
+    tests.judge("SARIF, its rules", ([], "2.1.0", "", 3), (wrong_in(log, "log"), log["version"], error, status))
+    regions = [result["locations"][0]["physicalLocation"] for result in run["results"]]
+    found = [(at["artifactLocation"]["uri"], f"{at['region']['startLine']}:{at['region']['startColumn']}") for at in regions]
+    tests.judge("SARIF, places", list(zip(names, places)), found)
+    rules = run["tool"]["driver"]["rules"]
+    found = [(result["ruleId"], result["level"]) for result in run["results"]]
+    wanted = [(rules[result["ruleIndex"]]["id"], "error") for result in run["results"]]
+    tests.judge("SARIF, rules", (wanted, [str(row["number"]) for row in rows[:-1]]), (found, [number for number, _ in found]))
+    said = run["invocations"][0]
+    found = (said["executionSuccessful"], said["exitCode"], said["toolExecutionNotifications"][0]["message"]["text"])
+    tests.judge("SARIF, what can't be read", (False, 3, gone), found)
+    output, error, status = tests.run(["--format", "sarif", SCHEMA, "examples/product.step"])
+    tests.judge("SARIF, nothing", ([], [], "", 0), (json.loads(output)["runs"][0]["results"], wrong_in(json.loads(output), "log"), error, status))
+    made = tests.make("a b\u00fc.step", file_of("#1=PERSON($,$,$,$);"))
+    at = json.loads(tests.run(["--format", "sarif", SCHEMA, made])[0])["runs"][0]["results"][0]["locations"][0]
+    uri = f"file://{urllib.parse.quote(str(tests.here))}/a%20b%C3%BC.step"
+    tests.judge("SARIF, a name with a blank", uri, at["physicalLocation"]["artifactLocation"]["uri"])
+    count = pathlib.Path("examples/refused/Count.step").read_bytes()
+    output, error, status = tests.run(["--format", "lines", SCHEMA, "-"], count)
+    tests.judge("standard input", ("-:11:31: 45 Count in #3", "", 1), (output.rpartition(": AXIS2")[0], error, status))
+    output, error, status = tests.run([SCHEMA, "examples/product.step", "--format", "text", "examples/refused/Missing.step"])
+    heads = [line for line in output.splitlines() if line.startswith("examples/") and ": " in line]
+    wanted = ["examples/product.step: accepted, instances 128, canonical bytes 4872", "examples/refused/Missing.step: refused 46 Missing in #2"]
+    tests.judge("text of several files, options among names", (wanted, "", 1), (heads, error, status))
+
+
+def seeking(tests):
+    """Statements and instances are found where reading each statement finds them."""
+    chance = random.Random("seeking")
+    parts_of_files = ["#1=A('');", "#02 /* ; ' */ = A('a;b');", "#3=A('\\S\\';','it''s;');", "/* #4=A(); ' */", "ENDSEC;DATA;", "#5 =A('/*','ENDSEC;');", "X('*/');\n"]
+    for size in (3, 50):
+        sought.PIECE, kept = size, sought.PIECE
+        for number in range(40):
+            data = "".join(chance.choice(parts_of_files) for _ in range(chance.randrange(1, 30))).encode()
+            found = [statement for statement in files.statements(data) if statement.start < len(data) or statement.end > statement.start]
+            ends = [statement.end for statement in files.statements(data)][:-1]
+            tests.judge(f"statements {number}", [0, *ends, None], [sought.behind_statements(data, count) for count in range(len(ends) + 2)])
+            names = [(files.name_at(data, it.start), it.start) for it in found if data[it.start : it.start + 1] == b"#"]
+            wanted = [(name, start) for name, start in names if name in (1, 3, 5)]
+            tests.judge(f"instances {number}", wanted, list(sought.defined(data, {1, 3, 5, 9})))
+            tests.judge(f"an instance {number}", [row for row in names if row[0] == 2], list(sought.defined(data, {2})))
+            sections = [it.start for it in found if data[it.start : it.end] == b"ENDSEC;"]
+            tests.judge(f"sections {number}", sections, list(sought.sections(data, len(data))))
+        sought.PIECE = kept
 
 
 # A schema whose sets hold lists, in which elements may be equal.
@@ -495,7 +665,8 @@ def controls(tests):
     made = tests.make("made.step", file_of("#1=A('');", [("PRODUCT_MODEL", "S")]))
     tests.judge("a schema with an escape", "  > X  ''\n       x : (* \\x1b[2J *) REAL;\n", tests.run([schema, made])[0].partition("  A\n")[2])
     missing = tests.run([SCHEMA, f"{tests.here}/none\x1b[1m\n"])
-    tests.judge("a file that isn't there", (f"cannot open {tests.here}/none\\x1b[1m\\n\n", "", 3), missing)
+    shown = f"{tests.here}/none\\x1b[1m\\n"
+    tests.judge("a file that isn't there", (f"cannot open {shown}\n  {shown}: there is no such file\n", "", 3), missing)
     renamed = tests.make("b\n.exp", "SCHEMA draft; END_SCHEMA;")
     command = tests.run([renamed, tests.make("made.step", file_of(""))])[0].splitlines()[-1]
     subprocess.run(["bash", "-c", command], check=True, cwd=tests.here)
@@ -519,7 +690,7 @@ def limits(tests):
 def main():
     tests = Tests("p21-where")
     groups = [faults, refused, values, schemas, attributes, explained, hints, kinds, others, renaming, changed]
-    for group in [*groups, equals, strange, controls, limits, memory]:
+    for group in [*groups, expected, missing, forms, seeking, equals, strange, controls, limits, memory]:
         group(tests)
     tests.end()
 

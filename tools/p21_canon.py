@@ -29,7 +29,7 @@ def canonical(program: str, schema: str, path: str) -> mmap.mmap:
     with tempfile.TemporaryFile() as output:
         answer = reading.run(program, "canon", schema, handed(path), output=output)
         if answer.status != 0:
-            raise reading.Trouble(f"{shown(path)}: {shown(answer.error)}")
+            raise reading.Trouble(f"{shown(path)}: {shown(reading.with_reason(answer.error, path))}")
         return mmap.mmap(output.fileno(), 0, access=mmap.ACCESS_READ)
 
 

@@ -10,11 +10,14 @@ import difflib
 import functools
 import hashlib
 import itertools
+import math
 import os
 import re
+import tempfile
 from typing import NamedTuple
 
 import p21_reading as reading
+import p21_seeking as seeking
 from p21_reading import shown  # noqa: F401 (other tools take it from here)
 from p21_schemas import Outline, Place, brief, first_count, items_in
 
@@ -26,10 +29,46 @@ FIRST_WORD = re.compile(rb"[!#]?[\w-]*")
 NAMES_WORD = re.compile(rb"[A-Za-z0-9_]*")
 OF_BYTES = (1, 4, 5, 6, 7, 9, 10, 11)
 OF_END = (2, 3, 24)
-OF_WHOLE = (22, 23, 25, 27, 30, 32)
+OF_WHOLE = (22, 23, 25, 27, 32)
+WANTED = {
+    25: "nothing but blanks and remarks behind END-ISO-10303-21;",
+    32: "DATA; or DATA('name',('SCHEMA'));",
+}
+# The records that a header begins with: of each parameter its name and its shape.
+TEXT, TEXTS, ONE_TEXT = "a text or $", "a list of texts, or $", "a list of one text"
+HEADER = [
+    ("FILE_DESCRIPTION", [("description", TEXTS), ("implementation_level", TEXT)]),
+    (
+        "FILE_NAME",
+        [
+            ("name", TEXT),
+            ("time_stamp", TEXT),
+            ("author", TEXTS),
+            ("organization", TEXTS),
+            ("preprocessor_version", TEXT),
+            ("originating_system", TEXT),
+            ("authorization", TEXT),
+        ],
+    ),
+    ("FILE_SCHEMA", [("schema_identifiers", ONE_TEXT)]),
+]
+# A token of each kind, by the words for it. Those of the first list are values, which mostly may stand together.
+VALUES = [
+    ("a number", b"1"),
+    ("a text", b"''"),
+    ("an item", b".T."),
+    ("a binary", b'"0"'),
+    ("the name of an instance", b"#1"),
+    ('"$"', b"$"),
+    ('"*"', b"*"),
+]
+SIGNS = [('"("', b"("), ('")"', b")"), ('","', b","), ('"="', b"="), ('";"', b";")]
+WORDS = [b"ISO-10303-21", b"HEADER", b"ENDSEC", b"DATA", b"END-ISO-10303-21"]
 DANGLING = 2**64 - 1
 # Of a text of a file so many characters are said of a place, and so many names are listed.
 LONGEST, MOST = 60, 8
+# So many ways in which values may stand for attributes are tried.
+MOST_WAYS = 100
 
 
 class Statement(NamedTuple):
@@ -40,9 +79,9 @@ class Statement(NamedTuple):
     open: int
 
 
-def statements(data):
-    """The statements of a file."""
-    start = at = 0
+def statements(data, start=0):
+    """The statements of a file, or those from the place behind one on."""
+    at = start
     while True:
         found = STATEMENT_MARK.search(data, at)
         if not found:
@@ -65,11 +104,6 @@ def name_at(text, start):
     return int(found[1] or b"0") if found and len(found[1]) <= 20 else None
 
 
-def name_of(data, statement):
-    """The name of the instance that a statement is, or None."""
-    return name_at(data, statement.start)
-
-
 class Refused:
     """A file that the program refuses by a number: at a statement, or in an instance."""
 
@@ -83,6 +117,8 @@ class Refused:
         self.statement = statement and int(statement)
         self.instance = instance and int(instance)
         self.listing = reading.listing(program, schema, named)
+        # Which attributes of the part with too few values have none.
+        self.missing = ()
 
     @functools.cached_property
     def outline(self):
@@ -91,17 +127,18 @@ class Refused:
 
     # What the program says
 
-    def answer(self, *pieces):
-        """The number by which a text is refused, 0 where it is accepted."""
-        found = re.match(r"refused (\d+)", reading.run(self.program, "check", self.schema, "/dev/stdin", text=pieces).error)
-        return int(found[1]) if found else 0
+    def answer(self, *pieces, schema=None):
+        """The number by which a text is refused, 0 where it is accepted and None where nothing is said of it."""
+        answer = reading.run(self.program, "check", schema or self.schema, "/dev/stdin", text=pieces)
+        found = re.match(r"refused (\d+)", answer.error)
+        return int(found[1]) if found else None if answer.status else 0
 
-    def answer_of(self, *pieces):
+    def answer_of(self, *pieces, schema=None):
         """The number by which a file of instances is refused, whose text is these pieces."""
         name = self.listing.name.encode("ascii")
         header = b"FILE_DESCRIPTION($,$);FILE_NAME($,$,$,$,$,$,$);FILE_SCHEMA(('" + name + b"'));"
         front = b"ISO-10303-21;HEADER;" + header + b"ENDSEC;DATA;\n"
-        return self.answer(front, *pieces, b"\nENDSEC;END-ISO-10303-21;")
+        return self.answer(front, *pieces, b"\nENDSEC;END-ISO-10303-21;", schema=schema)
 
     # Where it is
 
@@ -109,13 +146,23 @@ class Refused:
         """The place where the file is refused, and the statement that it stands in."""
         if self.statement is None:
             return self.place_in_instance()
+        start = seeking.behind_statements(self.data, self.statement - 1)
+        if start is None:
+            return None, None
+        statement = next(statements(self.data, start))
+        return statement, self.place_in_statement(self.front(start), statement)
+
+    def front(self, end):
+        """The statements in front of a place that aren't instances: those before the first one, and behind each section."""
         front = bytearray()
-        for number, statement in enumerate(statements(self.data), 1):
-            if number == self.statement:
-                return statement, self.place_in_statement(front, statement)
-            if self.data[statement.start : statement.start + 1] != b"#":
-                front += self.data[statement.start : statement.end]
-        return None, None
+        behind = 0
+        for section in itertools.chain([0], seeking.sections(self.data, end)):
+            for statement in statements(self.data, section) if section >= behind else ():
+                if statement.end > end or self.data[statement.start : statement.start + 1] == b"#":
+                    break
+                front += self.text(statement)
+                behind = statement.end
+        return front
 
     # At a statement
 
@@ -123,8 +170,12 @@ class Refused:
         """The place in a statement. `front` are those before it that aren't instances."""
         if self.number in OF_END:
             return self.place_of_end(statement)
+        if self.number == 30:
+            return moved(self.place_in_header(front, self.text(statement)), statement.start)
         if self.number in OF_WHOLE:
-            return Place(statement.start, FIRST_WORD.match(self.data, statement.start).end(), [])
+            end = FIRST_WORD.match(self.data, statement.start).end()
+            wanted = WANTED.get(self.number)
+            return Place(statement.start, end, [f"wanted here: {wanted}"] if wanted else [], wanted)
         if self.number == 31:
             return self.place_of_schema(statement)
         if self.number == 33:
@@ -163,7 +214,52 @@ class Refused:
         if self.answer(front, view[:at], b" ") != self.number:
             at += 1
         start, end = collections.deque(reading.lexemes(text, 0, at), 1)[0]
-        return moved(Place(start, end, []), statement.start)
+        wanted = self.wanted(front, view[:start]) if self.number == 20 and start < reading.PIECE else None
+        return moved(Place(start, end, [f"wanted here: {wanted}"] if wanted else [], wanted), statement.start)
+
+    def wanted(self, front, before):
+        """The tokens that could stand behind the beginning of a statement, or None. Each is tried."""
+
+        def could_stand(token):
+            answer = self.answer(front, before, b" ", token, b" ")
+            return answer in (0, 24) or (answer or 0) >= 30
+
+        values = [words for words, token in VALUES if could_stand(token)]
+        if len(values) == len(VALUES):
+            values = ["a value"]
+        elif could_stand(b"X"):
+            values.append("a keyword")
+        signs = [words for words, token in SIGNS if could_stand(token)]
+        own = [word.decode() for word in WORDS if could_stand(word)] if not bytes(before).strip() else []
+        found = own + values + signs
+        return " or ".join(filter(None, [", ".join(found[:-1]), *found[-1:]])) or None
+
+    def place_in_header(self, front, text):
+        """The record of the header, or the parameter in it, that has another form than it must have."""
+        at = self.statement - 3
+        key = FIRST_WORD.match(text)[0].decode("latin-1")
+        if at >= len(HEADER):
+            return Place(0, len(key), [f"{brief(key)} stands a second time"], "a record of another keyword")
+        name, parameters = HEADER[at]
+        shape = f"{name}({', '.join(shape for _, shape in parameters)})"
+        if key != name:
+            return Place(0, max(len(key), 1), [f"wanted here: {shape}"], shape)
+        part = reading.read_parts(text)[0]
+        values = part.values
+        counts = f"{name} has {len(parameters)} parameter{'s' * (len(parameters) > 1)}, and here are {len(values)}"
+        if len(values) < len(parameters):
+            missing = listed(parameter for parameter, _ in parameters[len(values) :])
+            return Place(part.end, part.end + 1, [f"{counts}; without one: {missing}", f"wanted here: {shape}"], shape)
+        if len(values) > len(parameters):
+            value = values[len(parameters)]
+            return Place(value.start, value.end, [counts, f"wanted here: {shape}"], shape)
+        for number, (value, (parameter, wanted)) in enumerate(zip(values, parameters), 1):
+            others = [b"$"] * len(parameters)
+            others[number - 1] = text[value.start : value.end]
+            if self.answer(front, name.encode(), b"(", b",".join(others), b");") == 30:
+                notes = [f"parameter {number} of {name}, {parameter}", f"wanted here: {wanted}"]
+                return Place(value.start, value.end, notes, wanted)
+        return Place(0, len(key), [f"wanted here: {shape}"], shape)
 
     def place_of_schema(self, statement):
         """The text that names the schema, and how schema and file are made to agree."""
@@ -174,7 +270,7 @@ class Refused:
         if re.fullmatch(r"[A-Za-z]\w*", named):
             notes += ["where both are one schema by two names, this makes a schema text of the file's name:"]
             notes += [f"  {self.renaming(named)}"]
-        return moved(Place(value.start, value.end, notes), statement.start)
+        return moved(Place(value.start, value.end, notes, self.listing.name), statement.start)
 
     def renaming(self, named):
         """The command that makes a schema text of another name."""
@@ -192,8 +288,7 @@ class Refused:
 
     def place_in_instance(self):
         """The place in the instance that is refused, and its statement."""
-        named = (statement for statement in statements(self.data) if name_of(self.data, statement) == self.instance)
-        found = list(itertools.islice(named, 2 if self.number == 40 else 1))
+        found = list(itertools.islice(self.instances({self.instance}), 2 if self.number == 40 else 1))
         if not found:
             return None, None
         if self.number == 40 and len(found) > 1:
@@ -204,6 +299,10 @@ class Refused:
         text = self.text(statement)
         place = self.place_in_record(text, reading.read_parts(text))
         return statement, moved(place, statement.start)
+
+    def instances(self, names):
+        """The instances of these names, in the order of the file."""
+        return (next(statements(self.data, place)) for _, place in seeking.defined(self.data, names))
 
     def place_in_record(self, text, parts):
         """The place in the text of an instance."""
@@ -226,7 +325,8 @@ class Refused:
         part = next(part for part in parts if part.key not in self.listing.attributes)
         near = difflib.get_close_matches(brief(part.key), self.listing.attributes, 3)
         notes = [f"the schema {self.listing.name} has no entity {brief(part.key)}"]
-        return of_key(part, notes + ([f"entities with a like name: {', '.join(near)}"] if near else []))
+        notes += [f"entities with a like name: {', '.join(near)}"] if near else []
+        return of_key(part, notes)._replace(expected=f"an entity of {self.listing.name}")
 
     def abstract(self, _, parts):
         """The keyword of an abstract entity of which no subtype is there."""
@@ -256,18 +356,61 @@ class Refused:
             keys.add(part.key)
         return None
 
-    def count(self, _, parts):
-        """The first value too many, or the `)` before which one is missing."""
+    def count(self, text, parts):
+        """The first value too many, or where one is missing: where the types of the attributes leave one place alone, this is
+        it, and else the `)` behind the values."""
         for part in parts:
-            wanted = sum(1 for _ in self.places(part, len(parts) == 1))
-            counts = f"{part.key} has {wanted} attributes, and here are {len(part.values)} values"
-            if len(part.values) > wanted:
+            places = list(self.places(part, len(parts) == 1))
+            wanted, count = len(places), len(part.values)
+            counts = f"{part.key} has {wanted} attributes, and here are {count} values"
+            said = {"expected": f"{wanted} value{'s' * (wanted != 1)}", "found": f"{count} value{'s' * (count != 1)}"}
+            if count > wanted:
                 value = part.values[wanted]
-                return Place(value.start, value.end, [counts])
-            if len(part.values) < wanted:
-                behind = itertools.islice(self.places(part, len(parts) == 1), len(part.values), None)
-                return Place(part.end, part.end + 1, [f"{counts}; without one: {listed(name for _, name in behind)}"])
+                return Place(value.start, value.end, [counts], **said)
+            if count < wanted:
+                self.missing = self.missing_in(text, part, places, len(parts) == 1) or range(count, wanted)
+                notes = [f"{counts}; without one: {listed(places[at][1] for at in self.missing)}"]
+                first = self.missing[0]
+                start = part.values[first].start if first < count else part.end
+                return Place(start, start + 1, notes, **said)
         return None
+
+    def missing_in(self, text, part, places, alone):
+        """Which attributes of a part have no value, where all others can have the values that are there in one way alone, and
+        None else. Each way is tried by an entity whose attributes are all optional."""
+        count = len(part.values)
+        if not alone or math.comb(len(places), count) > MOST_WAYS or part.end - part.start > reading.PIECE:
+            return None
+        derived = [name == "*" for name in self.listing.attributes[part.key]]
+        types = [self.outline.type_of([part.key], place) for place in places]
+        attributes = "".join(f"a{number} : OPTIONAL {text};" for number, text in enumerate(types))
+        word = next(word for word in self.outline.words if word.text == ";")
+        source = memoryview(self.outline.text)
+        entity = f" ENTITY p21_where; {attributes} END_ENTITY; ".encode("latin-1")
+        values = [text[value.start : value.end] for value in part.values]
+        references = {target_of(value) for value in reading.references_of(text, [part])} - {None, self.instance}
+        others = b"\n".join(self.text(statement) for statement in self.instances(references))
+        found = []
+        with tempfile.NamedTemporaryFile(suffix=".exp") as schema:
+            schema.writelines(self.with_entity(source, entity, word.end))
+            schema.flush()
+            for missing in itertools.combinations(range(len(places)), len(places) - count):
+                left = iter(values)
+                row = [b"$" if at in missing else next(left) for at in range(len(places))]
+                stars = [value == b"*" for value in row]
+                if any(star != is_derived for at, (star, is_derived) in enumerate(zip(stars, derived)) if at not in missing):
+                    continue
+                row = [b"$" if star else value for star, value in zip(stars, row)]
+                record = b"#%d=P21_WHERE(%s);\n" % (self.instance, b",".join(row))
+                if self.answer_of(record, others, schema=schema.name) in (0, 56):
+                    found.append(missing)
+        return found[0] if len(found) == 1 else None
+
+    def with_entity(self, source, entity, heading):
+        """The schema text, in pieces, with an entity behind the `;` of its heading, or behind its constants."""
+        first = next((found for found in self.outline.declarations), None)
+        at = first.start if first and first.kind != "CONSTANT" else heading
+        return source[:at], entity, source[at:]
 
     def places(self, part, alone):
         """What the values of a part stand for: all attributes of the entity, or among other parts those of its own."""
@@ -310,8 +453,7 @@ class Refused:
         references = reading.references_of(text, parts)
         first = None
         for names in self.rounds(references):
-            for statement in statements(self.data):
-                names.discard(name_of(self.data, statement))
+            names.difference_update([name for name, _ in seeking.defined(self.data, names)])
             found = next((value for value in references if target_of(value) in names), None)
             if found and (first is None or found.start < first.start):
                 first = found
@@ -324,9 +466,8 @@ class Refused:
         others = bytearray()
         for names in self.rounds(references):
             names.discard(self.instance)
-            for statement in statements(self.data):
-                if name_of(self.data, statement) in names:
-                    others += self.text(statement)
+            for statement in self.instances(names):
+                others += self.text(statement)
 
         def is_refused_elsewhere(value):
             return self.answer_of(*replaced(text, value, b"#%d" % DANGLING), b"\n", others) != self.number
@@ -335,7 +476,7 @@ class Refused:
         if value is None:
             return None
         target = target_of(value)
-        named = next(statement for statement in statements(self.data) if name_of(self.data, statement) == target)
+        named = next(self.instances({target}))
         keys = (part.key for part in reading.read_parts(self.text(named)))
         return Place(value.start, value.end, [f"#{target} is a {listed(keys, ' and ')}"])
 
@@ -395,7 +536,7 @@ class Refused:
 
 def moved(place, by):
     """A place in a part of a text as a place in the text."""
-    return Place(place.start + by, place.end + by, place.notes)
+    return place._replace(start=place.start + by, end=place.end + by)
 
 
 def of_key(part, notes):

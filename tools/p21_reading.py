@@ -79,6 +79,10 @@ class Arguments(argparse.ArgumentParser):
     def error(self, message):
         super().error(shown(message))
 
+    def parse(self):
+        """The command line. Options may stand among the names of files."""
+        return self.parse_intermixed_args()
+
 
 def ended(tool, status, work):
     """The status of a tool's work. Where it can't be done, or its output can't be written, a line says why, and this is the
@@ -127,10 +131,54 @@ def line_of(error, status):
     return line if status >= 0 else f"{line} ended by signal {-status}".lstrip()
 
 
+FOLDER = "it is a folder"
+# How the names of STEP files end.
+ENDINGS = (".step", ".stp", ".p21", ".ifc", ".spf")
+
+
+def below(path):
+    """The path itself, which may be `-` for standard input, or for a folder the STEP files below it in the order of their
+    names; and the endings of all others."""
+    if not os.path.isdir(path):
+        return [path], []
+    found = [file for file in pathlib.Path(path).rglob("*") if file.is_file()]
+    steps = sorted(str(file) for file in found if file.suffix.lower() in ENDINGS)
+    return steps, [file.suffix.lower() for file in found if file.suffix.lower() not in ENDINGS]
+
+
+nothing = contextlib.nullcontext
+
+
+def why_not(path):
+    """Why a file can't be read, or None where that isn't known."""
+    if path == "-":
+        return None
+    if os.path.isdir(path):
+        return FOLDER
+    try:
+        with open(path, "rb"):
+            return None
+    except FileNotFoundError:
+        return "there is no such file"
+    except PermissionError:
+        return "it may not be read"
+    except OSError as error:
+        return error.strerror
+
+
+def with_reason(line, *paths):
+    """The answer of the program, and where it could not open or read one of these files the reason."""
+    if not line.startswith(("cannot open ", "read fault")):
+        return line
+    reason = next(filter(None, map(why_not, paths)), None)
+    return f"{line}: {reason}" if reason else line
+
+
 def lasting(path):
     """The path, or that of a descriptor which the program inherits: of the file, where its name isn't UTF-8, or else of a
     copy, where the program could not read it again and again. That is so of a pipe, and of what this process has open, as
-    /dev/stdin. A copy is gone when this process ends."""
+    /dev/stdin, which `-` stands for. A copy is gone when this process ends."""
+    path = "/dev/stdin" if path == "-" else path
     is_open_here = path.startswith(("/dev/", "/proc/"))
     is_plain = os.path.isfile(path) and not is_open_here
     if not os.path.exists(path) or os.path.isdir(path) or not os.access(path, os.R_OK):
@@ -176,7 +224,7 @@ def opened(path):
     try:
         yield found
     finally:
-        if found != path:
+        if found.startswith("/dev/fd/") and found != path:
             os.close(int(found.rpartition("/")[2]))
 
 
@@ -212,6 +260,22 @@ def run(program, command, *paths, text=None, output=subprocess.PIPE):
         except OSError as error:
             raise Trouble(f"cannot run {program}: {error.strerror}") from None
     return Answer(done.stdout or b"", line_of(done.stderr, done.returncode), done.returncode)
+
+
+REFUSAL = re.compile(r"(?:schema )?refused (S?\d+) (\w+(?:\(\w+\))?)(?: at statement (\d+)| in (#\d+))?")
+
+
+def refusal(line):
+    """The parts of a refusal: its number, which of a schema text is a word as S4, its name, and the statement or the name of
+    the instance. All are None where nothing is refused."""
+    found = REFUSAL.match(line)
+    number, name, statement, instance = found.groups() if found else (None,) * 4
+    return {
+        "number": int(number) if number and number.isdigit() else number,
+        "name": name,
+        "statement": statement and int(statement),
+        "instance": instance,
+    }
 
 
 def first_that_names(answers, line_of_answer):
@@ -263,7 +327,7 @@ def listing(program, schema, named):
     with tempfile.TemporaryFile() as output:
         answer = run(program, "schema", schema, output=output)
         if answer.status != 0:
-            raise Trouble(f"{named}: {answer.error}")
+            raise Trouble(f"{named}: {with_reason(answer.error, named)}")
         text = mmap.mmap(output.fileno(), 0, access=mmap.ACCESS_READ)
     found = Listing(text[: text.find(b"\n")].split()[1].decode("ascii"), Attributes(text), set())
     for entity in LISTED.finditer(text):

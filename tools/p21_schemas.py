@@ -11,7 +11,7 @@ import functools
 import itertools
 import re
 import subprocess
-from typing import NamedTuple
+from typing import NamedTuple, Optional
 
 import p21_reading as reading
 
@@ -82,11 +82,14 @@ class Declaration(NamedTuple):
 
 
 class Place(NamedTuple):
-    """The place in a text where it is refused, and what there is to say of it."""
+    """The place in a text where it is refused, what there is to say of it, and where that is known what was wanted
+    there, and what is there instead of the text at the place."""
 
     start: int
     end: int
     notes: list
+    expected: Optional[str] = None
+    found: Optional[str] = None
 
 
 def words_of(text, start=0, end=None):
@@ -316,6 +319,22 @@ class Outline:
             if len(found) < MOST_TEXTS and not re.match(r" (?:SELECT|ENUMERATION)\b", named, re.I):
                 types = [self.types[word] for word in re.findall(r"\w+", named.upper()) if word in self.types]
                 found += [body for body in map(self.body, types) if body not in found]
+        return found
+
+    def type_of(self, entities, place):
+        """The type of an attribute in an instance of these entities, as its text: where several declare it anew, that of the
+        one that is furthest below."""
+        declaring, attribute = place
+        found = "REAL"
+        order = [name for entity in entities for name in self.order(entity)]
+        for entity in [declaring, *(name for name in order if name != declaring)]:
+            for _, statement in self.statements(self.entities[entity]):
+                for item in items_in(statement):
+                    is_own = len(item) == 1 and entity == declaring
+                    if item[-1].text == attribute and (is_own or (len(item) > 1 and item[0].text == "SELF")):
+                        words = [word.text for word in type_in(statement)][1:]
+                        words = words[words[:1] == ["OPTIONAL"] : -1]
+                        found = " ".join(words).partition(" : = ")[0]
         return found
 
     def body(self, declaration):

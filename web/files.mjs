@@ -18,7 +18,42 @@ const BACKSLASH = 0x5c;
 const HASH = 0x23;
 const OF_BYTES = [1, 4, 5, 6, 7, 9, 10, 11];
 const OF_END = [2, 3, 24];
-const OF_WHOLE = [22, 23, 25, 27, 30, 32];
+const OF_WHOLE = [22, 23, 25, 27, 32];
+const WANTED = {
+  25: "nothing but blanks and remarks behind END-ISO-10303-21;",
+  32: "DATA; or DATA('name',('SCHEMA'));",
+};
+// The records that a header begins with: of each parameter its name and its shape.
+const [TEXT, TEXTS, ONE_TEXT] = ["a text or $", "a list of texts, or $", "a list of one text"];
+const HEADER = [
+  ["FILE_DESCRIPTION", [["description", TEXTS], ["implementation_level", TEXT]]],
+  [
+    "FILE_NAME",
+    [
+      ["name", TEXT],
+      ["time_stamp", TEXT],
+      ["author", TEXTS],
+      ["organization", TEXTS],
+      ["preprocessor_version", TEXT],
+      ["originating_system", TEXT],
+      ["authorization", TEXT],
+    ],
+  ],
+  ["FILE_SCHEMA", [["schema_identifiers", ONE_TEXT]]],
+];
+// A token of each kind, by the words for it. Those of the first list are values, which mostly may stand together.
+const VALUES = [
+  ["a number", "1"],
+  ["a text", "''"],
+  ["an item", ".T."],
+  ["a binary", '"0"'],
+  ["the name of an instance", "#1"],
+  ['"$"', "$"],
+  ['"*"', "*"],
+];
+const SIGNS = ["(", ")", ",", "=", ";"];
+const WORDS = ["ISO-10303-21", "HEADER", "ENDSEC", "DATA", "END-ISO-10303-21"];
+const FIRST_WORD = /^[!#]?[\w-]*/;
 const DANGLING = `#${2n ** 64n - 1n}`;
 
 // --- Statements ---
@@ -172,7 +207,12 @@ export class RefusedFile {
   placeInStatement(front, statement) {
     if (OF_END.includes(this.number)) return this.placeOfEnd(statement);
     const text = this.text(statement);
-    if (OF_WHOLE.includes(this.number)) return moved(placeOf(0, /^[!#]?[\w-]*/.exec(text)[0].length), statement.start);
+    if (this.number === 30) return moved(this.placeInHeader(front, text), statement.start);
+    if (OF_WHOLE.includes(this.number)) {
+      const wanted = WANTED[this.number];
+      const notes = wanted ? [`wanted here: ${wanted}`] : [];
+      return moved(placeOf(0, FIRST_WORD.exec(text)[0].length, notes), statement.start);
+    }
     if (this.number === 31) return moved(this.placeOfSchema(text), statement.start);
     if (this.number === 33) {
       const value = readParts(text)[0].values[0];
@@ -203,7 +243,53 @@ export class RefusedFile {
     }
     if (this.answer(`${front}${text.slice(0, at)} `) !== this.number) at++;
     const word = lexemes(text.slice(0, at)).at(-1);
-    return placeOf(word.start, word.end);
+    const wanted = this.number === 20 ? this.wanted(front, text.slice(0, word.start)) : null;
+    return placeOf(word.start, word.end, wanted ? [`wanted here: ${wanted}`] : []);
+  }
+
+  /** The tokens that could stand behind the beginning of a statement, or null. Each is tried. */
+  wanted(front, before) {
+    const couldStand = (token) => {
+      const answer = this.answer(`${front}${before} ${token} `);
+      return answer === 0 || answer === 24 || answer >= 30;
+    };
+    let values = VALUES.filter(([, token]) => couldStand(token)).map(([words]) => words);
+    if (values.length === VALUES.length) values = ["a value"];
+    else if (couldStand("X")) values.push("a keyword");
+    const signs = SIGNS.filter(couldStand).map((sign) => `"${sign}"`);
+    const own = before.trim() === "" ? WORDS.filter(couldStand) : [];
+    const found = [...own, ...values, ...signs];
+    if (found.length === 0) return null;
+    return [found.slice(0, -1).join(", "), found.at(-1)].filter(Boolean).join(" or ");
+  }
+
+  /** The record of the header, or the parameter in it, that has another form than it must have. */
+  placeInHeader(front, text) {
+    const key = FIRST_WORD.exec(text)[0];
+    if (this.statement - 3 >= HEADER.length) return placeOf(0, key.length, [`${key} stands a second time`]);
+    const [name, parameters] = HEADER[this.statement - 3];
+    const shape = `wanted here: ${name}(${parameters.map(([, form]) => form).join(", ")})`;
+    if (key !== name) return placeOf(0, Math.max(key.length, 1), [shape]);
+    const [part] = readParts(text);
+    const { values } = part;
+    const many = parameters.length > 1 ? "s" : "";
+    const counts = `${name} has ${parameters.length} parameter${many}, and here are ${values.length}`;
+    if (values.length < parameters.length) {
+      const missing = parameters.slice(values.length).map(([parameter]) => parameter);
+      return placeOf(part.end, part.end + 1, [`${counts}; without one: ${missing.join(", ")}`, shape]);
+    }
+    if (values.length > parameters.length) {
+      const value = values[parameters.length];
+      return placeOf(value.start, value.end, [counts, shape]);
+    }
+    const isRefused = (value, at) => {
+      const written = parameters.map((_, number) => (number === at ? text.slice(value.start, value.end) : "$"));
+      return this.answer(`${front}${name}(${written.join(",")});`) === 30;
+    };
+    const at = values.findIndex(isRefused);
+    if (at < 0) return placeOf(0, key.length, [shape]);
+    const notes = [`parameter ${at + 1} of ${name}, ${parameters[at][0]}`, `wanted here: ${parameters[at][1]}`];
+    return placeOf(values[at].start, values[at].end, notes);
   }
 
   /** The text that names the schema, and how schema and file are made to agree. */

@@ -1,0 +1,85 @@
+"""Refusals in SARIF 2.1.0, the form in which review tools and CI take the findings of a checker."""
+
+import os
+import re
+import urllib.parse
+
+import p21_reading as reading
+
+SCHEMA = "https://docs.oasis-open.org/sarif/sarif/v2.1.0/errata01/os/schemas/sarif-schema-2.1.0.json"
+
+
+def uri_of(file):
+    """The name of a file as a reference: relative where the name is, with each byte that has no place there by its number."""
+    escaped = urllib.parse.quote(os.fsencode(file))
+    return f"file://{escaped}" if os.path.isabs(file) else escaped
+
+
+def refusals(program):
+    """The name and the sentence of each refusal by its number, as `p21 faults` lists them."""
+    listed = reading.run(program, "faults").output.decode("utf-8")
+    return {number: (name, about) for number, name, about in re.findall(r"^ +(S?\d+) (\w+) +(.*)$", listed, re.M)}
+
+
+def rule_of(number, about):
+    """A refusal as a rule."""
+    name, sentence = about
+    return {
+        "id": number,
+        "name": name,
+        "shortDescription": {"text": sentence},
+        "help": {"text": f"p21 faults {number} says what it means and what to do."},
+        "defaultConfiguration": {"level": "error"},
+    }
+
+
+def result_of(row, index, message):
+    """A refusal as a result, by the row that p21-where makes of it."""
+    place = {"artifactLocation": {"uri": uri_of(row["file"])}}
+    if row["line"]:
+        place["region"] = {"startLine": row["line"], "startColumn": row["column"]}
+    location = {"physicalLocation": place}
+    if row["instance"]:
+        named = {"name": row["instance"], "kind": "object"}
+        if row["attribute"]:
+            named["fullyQualifiedName"] = f"{row['instance']}.{row['attribute']}"
+        location["logicalLocations"] = [named]
+    kept = {key: row[key] for key in ("statement", "instance", "attribute", "expected", "found") if row[key] is not None}
+    return {
+        "ruleId": str(row["number"]),
+        "ruleIndex": index,
+        "level": "error",
+        "message": {"text": f"{row['answer']}: {message}"},
+        "locations": [location],
+        "properties": kept,
+    }
+
+
+def notification_of(row):
+    """A file that could not be read."""
+    where = {"physicalLocation": {"artifactLocation": {"uri": uri_of(row["file"])}}}
+    return {"level": "error", "message": {"text": row["answer"]}, "locations": [where]}
+
+
+def log_of(program, rows, message_of, status):
+    """The log of a run over all files, by the rows of those that aren't accepted."""
+    known = refusals(program)
+    refused = [row for row in rows if row["number"] is not None]
+    numbers = list(dict.fromkeys(str(row["number"]) for row in refused))
+    version = reading.run(program, "--version").output.decode("ascii").split()[-1]
+    invocation = {"executionSuccessful": len(refused) == len(rows), "exitCode": status}
+    if len(refused) < len(rows):
+        invocation["toolExecutionNotifications"] = [notification_of(row) for row in rows if row["number"] is None]
+    run = {
+        "tool": {
+            "driver": {
+                "name": "p21",
+                "semanticVersion": version,
+                "rules": [rule_of(number, known.get(number, (number, number))) for number in numbers],
+            }
+        },
+        "columnKind": "unicodeCodePoints",
+        "invocations": [invocation],
+        "results": [result_of(row, numbers.index(str(row["number"])), message_of(row)) for row in refused],
+    }
+    return {"$schema": SCHEMA, "version": "2.1.0", "runs": [run]}
