@@ -141,7 +141,7 @@ TROUBLE = [
         "examples/refused/EndsEarly.step: refused 24 EndsEarly at statement 10",
     ),
     ("a file that isn't there", [SCHEMA, "{here}/none", "examples/product.step"], "{here}/none: cannot open {here}/none: there is no such file"),
-    ("a folder", [SCHEMA, "examples/product.step", "{here}"], "{here}: read fault"),
+    ("a folder", [SCHEMA, "examples/product.step", "{here}"], "{here}: read fault: it is a folder"),
     (
         "exchanged arguments",
         ["examples/product.step", SCHEMA, "examples/product.step"],
