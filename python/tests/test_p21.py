@@ -424,7 +424,8 @@ def test_diff(product, tmp_path):
     near = {**counts, "changed": 0, "tolerance": "0.5", "near": 1}
     assert p21.diff(product, files[0], files[1], tolerance=0.5) == [near]
     # The names of all instances, and of what they refer to, are a hundred greater.
-    text = re.sub(r"'(?:[^']|'')*'|#(\d+)", lambda word: f"#{int(word[1]) + 100}" if word[1] else word[0], files[2].read_text())
+    plain = p21.canonical(product, files[2]).decode()
+    text = re.sub(r"'(?:[^']|'')*'|#(\d+)", lambda word: f"#{int(word[1]) + 100}" if word[1] else word[0], plain)
     (other := tmp_path / "other.step").write_text(text)
     same = {**counts, "verdict": "same", "changed": 0, "pairs": 128, "ambiguous": 0}
     assert p21.diff(product, files[0], other, names=True) == [same]
