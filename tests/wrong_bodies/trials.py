@@ -13,9 +13,9 @@ What the record has over the sources as they stand is not tried again, and a lin
 tried, so that a run that is broken off goes on where it was. Where the prover refuses an edit only because a proof names
 what the edit took away, no clause was tried: the line ends with `by_name`, and the edit isn't shown to be refused.
 
-Where the toolchain keeps proofs, `rt ci CRATE` tries each edit by itself. Elsewhere each is checked as `rt must-fail` does
-it, over what `rt check` or `rt lib` left in the crate's `out`; where there is nothing, the crate is proved first. An edit
-takes 20 to 50 seconds of a processor.
+Where the toolchain keeps proofs, `rt ci CRATE` tries the edits of a crate together, over one proof of the crate. Elsewhere
+each is checked as `rt must-fail` does it, over what `rt check` or `rt lib` left in the crate's `out`; where there is nothing,
+the crate is proved first. An edit takes 8 to 50 seconds of a processor.
 """
 
 import functools
@@ -126,12 +126,6 @@ def tool():
     return made
 
 
-def run_lines(words, folder):
-    """What a command prints."""
-    ran = subprocess.run(words, cwd=folder, stdout=subprocess.PIPE, stderr=subprocess.STDOUT, text=True, errors="replace", check=False)
-    return ran.stdout.splitlines()
-
-
 def copy_of_crates(folder):
     """A copy of the repository's crates, without what was built and without edits."""
     (folder / ".git").mkdir()
@@ -141,26 +135,35 @@ def copy_of_crates(folder):
     return folder
 
 
-def said_by_gate(folder, crate, path):
-    """What `rt ci` says of an edit, in a copy of the crates."""
+def said_by_gate(folder, crate, paths):
+    """What `rt ci` says of edits of one crate, in a copy of the crates: each with its line, as soon as it is printed."""
     place = folder / "crates" / crate / "must-fail"
     place.mkdir()
-    shutil.copy(path, place)
-    lines = run_lines(["rt", "ci", crate], folder)
+    for path in paths:
+        shutil.copy(path, place)
+    left, last = {path.name: path for path in paths}, ""
+    words = ["rt", "ci", crate]
+    with subprocess.Popen(words, cwd=folder, stdout=subprocess.PIPE, stderr=subprocess.STDOUT, text=True, errors="replace") as ran:
+        for line in ran.stdout:
+            last = line.strip() or last
+            name = line.removeprefix(f"rt: must-fail {crate}/").partition(": ")[0]
+            if line.startswith(f"rt: must-fail {crate}/") and name in left:
+                yield left.pop(name), line.strip().removeprefix("rt: ")
     shutil.rmtree(place)
-    said = [line for line in lines if line.startswith(f"rt: must-fail {crate}/")]
-    return said[-1].removeprefix("rt: ") if said else f"must-fail {crate}/{path.name}: NOT TRIED: {lines[-1] if lines else ''}"
+    for path in left.values():
+        yield path, f"must-fail {crate}/{path.name}: NOT TRIED: {last}"
 
 
-def said_by_prover(crate, path):
-    """What `rt must-fail` says of an edit, over the kept work of its crate."""
+def said_by_prover(crate, paths):
+    """What `rt must-fail` says of edits of one crate, each over the kept work of the crate."""
     rt = tool()
     if not (CRATES / crate / "out" / "incremental").is_dir():
         subprocess.run(["rt", "check"], cwd=CRATES / crate, stdout=subprocess.DEVNULL, check=True)
     found = next(it for it in rt.rtlib.crates_below(str(ROOT)) if it.name == crate)
-    with tempfile.TemporaryDirectory() as room:
-        kept = shutil.copytree(CRATES / crate / "out" / "incremental", pathlib.Path(room) / "kept")
-        return rt.must_fail(found, str(path), ["--jobs", "1"], str(kept))[1]
+    for path in paths:
+        with tempfile.TemporaryDirectory() as room:
+            kept = shutil.copytree(CRATES / crate / "out" / "incremental", pathlib.Path(room) / "kept")
+            yield path, rt.must_fail(found, str(path), ["--jobs", "1"], str(kept))[1]
 
 
 def entry_of(said, crate, path):
@@ -172,13 +175,16 @@ def entry_of(said, crate, path):
 
 
 def try_all(trials):
-    """Tries edits, and writes down what was refused."""
+    """Tries edits, crate by crate, and writes down what was refused."""
+    of_crates = {}
+    for crate, _, path in trials:
+        of_crates.setdefault(crate, []).append(path)
     with tempfile.TemporaryDirectory() as room:
         copy = copy_of_crates(pathlib.Path(room)) if keeps_proofs() else None
-        for crate, name, path in trials:
-            said = said_by_gate(copy, crate, path) if copy else said_by_prover(crate, path)
-            print(said, flush=True)
-            note(crate, name, entry_of(said, crate, path))
+        for crate, paths in of_crates.items():
+            for path, said in said_by_gate(copy, crate, paths) if copy else said_by_prover(crate, paths):
+                print(said, flush=True)
+                note(crate, path.stem, entry_of(said, crate, path))
 
 
 def take_log(log):
