@@ -8,8 +8,8 @@ use crate::refusals::SECTIONS;
 use clap::ArgMatches;
 use p21_command_line::LIST;
 use p21_commands::{
-    CommandFault, DONE, canon_command, check_command, param_command, report, same_command,
-    schema_command, show_command,
+    CommandFault, DONE, canon_command, check_all_command, check_command, param_command, report,
+    same_command, schema_command, show_command,
 };
 use p21_stream_io::Watched;
 use p21_values::Name;
@@ -86,13 +86,23 @@ fn run_schema<'a>(rt: &HostRuntime, found: &ArgMatches<'a>) -> Result<u8, Stoppe
     ))
 }
 
-/// `check S FILE [--progress]`.
+/// `check S FILE [--all] [--most N] [--progress]`.
 fn run_check<'a>(rt: &HostRuntime, found: &ArgMatches<'a>) -> Result<u8, Stopped<'a>>
     ensures ran { IfOk result IsOfCommand }
     ensures unopened { IfErr result IsUnopened }
 {
     let mut schema = Watched::new(open(rt, found, "S")?);
     let mut file = Watched::new(open_with_progress(rt, found, "FILE")?);
+    if let Some(most) = most_given(found) {
+        return Ok(check_all_command(
+            rt.alloc(),
+            &mut schema,
+            &mut file,
+            most,
+            &mut Watched::new(rt.stdout()),
+            &mut Watched::new(rt.stderr()),
+        ));
+    }
     Ok(check_command(
         rt.alloc(),
         &mut schema,
@@ -100,6 +110,15 @@ fn run_check<'a>(rt: &HostRuntime, found: &ArgMatches<'a>) -> Result<u8, Stopped
         &mut Watched::new(rt.stdout()),
         &mut Watched::new(rt.stderr()),
     ))
+}
+
+/// How many refusals are listed at most, where `--all` or `--most` asks for them.
+fn most_given(found: &ArgMatches<'_>) -> Option<u64> {
+    match found.get_one::<u64>("most") {
+        Some(most) => Some(most),
+        None if found.get_flag("all") => Some(u64::MAX),
+        None => None,
+    }
 }
 
 /// `canon S FILE [--progress]`.

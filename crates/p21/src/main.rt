@@ -20,6 +20,10 @@ use p21_stream_io::Watched;
 use std::process::ExitCode;
 use std::{env, io};
 
+/// How the number of an instance is written, for one who wrote it otherwise.
+const NAME_OF_INSTANCE: &str =
+    "N is the number of an instance in digits alone, up to 18446744073709551615: 18 for #18";
+
 fn main(rt: HostRuntime) -> ExitCode {
     ExitCode::from(run(&rt, arguments(&rt)))
 }
@@ -48,7 +52,7 @@ fn run_words(rt: &HostRuntime, words: &[String]) -> u8
     };
     match command.try_get_matches_from(words) {
         Ok(matches) => status_of(rt, run_command(rt, &matches)),
-        Err(error) => explain(rt, &error),
+        Err(error) => explain_words(rt, words, &error),
     }
 }
 
@@ -103,12 +107,37 @@ fn explain(rt: &HostRuntime, error: &Error) -> u8
     }
 }
 
+/// Shows the help that was asked for, or says what is wrong with these words, and of the number of an instance how it is written.
+fn explain_words(rt: &HostRuntime, words: &[String], error: &Error) -> u8
+    ensures status { (result ≡ done) ⊎ (result ≡ usage) ⊎ (result ≡ failed) }
+    ensures memory { kind_of error.now ≡ ErrorKind.OutOfMemory → result ≡ failed }
+    ensures shown { result ≡ done → (kind_of error.now ≡ ErrorKind.DisplayHelp)
+        ⊎ (kind_of error.now ≡ ErrorKind.DisplayVersion) }
+    ensures mistake { result ≡ usage → (kind_of error.now ≢ ErrorKind.DisplayHelp)
+        × (kind_of error.now ≢ ErrorKind.DisplayVersion) }
+{
+    let status = explain(rt, error);
+    if error.kind() == ErrorKind::ValueValidation && names_show(words) {
+        // The status is the same where the line can't be written.
+        let _ = eprintln!(rt; "{NAME_OF_INSTANCE}");
+    }
+    status
+}
+
+/// Whether the words name the command `show`.
+fn names_show(words: &[String]) -> bool {
+    match words.get(1) {
+        Some(word) => word.as_str() == "show",
+        None => false,
+    }
+}
+
 /// Says that the number of an instance has a sign, as `clap` says it of other mistakes.
 fn explain_sign(rt: &HostRuntime, number: &str) -> u8
     ensures { IsOfMistake result }
 {
     mistake(eprintln!(rt;
-        "error: invalid value '{number}' for '--name <N>': invalid digit found in string\n\nFor more information, try '--help'."
+        "error: invalid value '{number}' for '--name <N>': invalid digit found in string\n\nFor more information, try '--help'.\n{NAME_OF_INSTANCE}"
     ))
 }
 

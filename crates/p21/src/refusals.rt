@@ -139,6 +139,11 @@ string, which ends it; a keyword as a value that should be an item, `T` for `.T.
 name of an instance in the header; sections in another order. At statement 1 the schema
 was given as the file, or the file is a zip archive, or UTF-16 without a mark.
 
+Wanted here: `";"`. `p21-where` tries each token, and says which ones could stand there:
+"a value", or of the values "a number", "a text", "an item", "a binary", "the name of an
+instance", `"$"`, `"*"` and "a keyword" those that could; of the signs `"("`, `")"`,
+`","`, `"="` and `";"`; or the word that begins a statement, as ENDSEC.
+
 Look at the named statement up to its end, and at the one before it.
 ### 21 TooDeep
 
@@ -175,9 +180,10 @@ Behind `END-ISO-10303-21;`:
 
 `refused 25 AfterEnd at statement 10`
 
-The file is complete and something follows. Two files were joined to one, or a longer
-one was written over in part. Separators, line ends and remarks may follow; so may the
-byte 1A of old systems.
+Wanted here: nothing but blanks and remarks behind END-ISO-10303-21;. The file is
+complete and something follows. Two files were joined to one, or a longer one was
+written over in part. Separators, line ends and remarks may follow; so may the byte 1A
+of old systems.
 ### 26 LeftOut
 
     #1=!MY_POINT(0.,0.);
@@ -210,14 +216,23 @@ In place of the line of FILE_NAME:
 
 The header begins with three records, in this order and of this form:
 
-    FILE_DESCRIPTION(list of texts, text);
-    FILE_NAME(text, text, list of texts, list of texts, text, text, text);
-    FILE_SCHEMA(list of one text);
+    FILE_DESCRIPTION  description           a list of texts, or $
+                      implementation_level  a text or $
+    FILE_NAME         name                  a text or $
+                      time_stamp            a text or $
+                      author                a list of texts, or $
+                      organization          a list of texts, or $
+                      preprocessor_version  a text or $
+                      originating_system    a text or $
+                      authorization         a text or $
+    FILE_SCHEMA       schema_identifiers    a list of one text
 
-Here FILE_NAME has six parameters. In the first two records each text and each list may
-be `$`, a text in a list too, and lists may be empty; FILE_SCHEMA has its text. Other
-records come behind these three, with other keywords. A file of several schemas is
-refused here, as its FILE_SCHEMA has several texts.
+Here FILE_NAME has 7 parameters, and here are 6; without one: authorization. `p21-where`
+names the parameter, as "parameter 3 of FILE_NAME, author", and what is wanted here, as
+"a list of texts, or $". In the first two records a text in a list may be `$` too, and
+lists may be empty; FILE_SCHEMA has its text. Other records come behind these three,
+with other keywords. A file of several schemas is refused here, as its FILE_SCHEMA has
+several texts.
 ### 31 SchemaName
 
 In place of the line of FILE_SCHEMA:
@@ -226,9 +241,10 @@ In place of the line of FILE_SCHEMA:
 
 `refused 31 SchemaName at statement 5`
 
-The file says that it is of another schema than the one that it is checked against. The
-letters, digits and `_` in front are compared, upper and lower case alike; what follows,
-such as an object identifier, isn't looked at.
+The file says that it is of another schema than the one that it is checked against;
+`p21-where` says here that the file is of AUTOMOTIVE_DESIGN, the schema text of
+PRODUCT_MODEL. The letters, digits and `_` in front are compared, upper and lower case
+alike; what follows, such as an object identifier, isn't looked at.
 
 Check it against the schema that it names. `p21-where` prints both names. Where you know
 that both are one schema by two names, change the name in the schema text, by the
@@ -241,7 +257,8 @@ In place of `DATA;`:
 
 `refused 32 SectionShape at statement 7`
 
-A data section has either no parentheses at all or its name and a list of one schema:
+Wanted here: `DATA;` or `DATA('name',('SCHEMA'));`. A data section has either no
+parentheses at all or its name and a list of one schema, here
 `DATA('a',('PRODUCT_MODEL'));`.
 ### 33 SectionTwice
 
@@ -304,10 +321,13 @@ An entity has two parts. It has one part alone, also where it is inherited in tw
 
 `refused 45 Count in #1`
 
-The entity has another number of attributes than the record has values. Without
-parentheses around the parts, the values of all supertypes come first, in the order in
-which the schema lists them, and an attribute that is derived has a place too, with `*`
-in it. `p21 schema` prints the attributes of each entity in this order.
+CALENDAR_DATE has 3 attributes, and here are 2 values; without one: DAY_COMPONENT. The
+entity has another number of attributes than the record has values. `p21-where` says
+which values are missing: where the types leave one way alone in which the others fit,
+those of that way, and else the last ones. Without parentheses around the parts, the
+values of all supertypes come first, in the order in which the schema lists them, and an
+attribute that is derived has a place too, with `*` in it. `p21 schema` prints the
+attributes of each entity in this order.
 
 Mostly the file was written for another edition of the schema.
 ### 46 Missing

@@ -42,6 +42,11 @@ MakesSchema text answer made =
 abbrev pub StoresSchema : Schema → Answer → Option Content → Type 0
 StoresSchema s answer made = ((schema_in made ≡ Some s) × (answer ≡ done_answer)) ⊎ ((made ≡ None) × (answer ≡ no_memory_answer))
 
+-- another handle of the schema that is held; or nothing
+abbrev pub SharesSchema : Option Schema → ℕ → Option Content → Type 0
+SharesSchema None status made = (made ≡ None) × (status ≡ misused)
+SharesSchema (Some s) status made = ((schema_in made ≡ Some s) × (status ≡ done)) ⊎ ((made ≡ None) × (status ≡ failed))
+
 -- ---- files in memory
 
 -- a text is accepted as this; what is written of it is its only canonical file

@@ -1,11 +1,11 @@
 //! Schemas.
 ghost use Rattle.std.specs.Prelude.{◌≡◌, None, Some};
-ghost use Rattle.p21_c.specs.Answers.{HoldsMade, StoresSchema, MakesSchema};
-ghost use Rattle.p21_c.specs.Contents.{boxed_content};
+ghost use Rattle.p21_c.specs.Answers.{HoldsMade, SharesSchema, StoresSchema, MakesSchema};
+ghost use Rattle.p21_c.specs.Contents.{boxed_content, schema_in};
 
 use crate::components::Handle;
-use crate::contents::{Content, Holding, boxed};
-use p21_c_answers::{Answer, Report, done, no_memory, schema_refused};
+use crate::contents::{Content, Holding, boxed, schema_of};
+use p21_c_answers::{Answer, DONE, FAILED, MISUSED, Report, done, no_memory, schema_refused};
 use p21_express::read_schema;
 use p21_express_tables::Schema;
 use std::alloc::Global;
@@ -25,6 +25,19 @@ pub extern "C" fn p21_schema_new(
     schema.hand(alloc, content);
     *report = answer.report;
     answer.status
+}
+
+/// Hands out another handle of a schema, which isn't copied, so that each of several threads has one.
+#[unsafe(no_mangle)]
+pub extern "C" fn p21_schema_share(alloc: Global, schema: &mut Handle, shared: &mut Handle) -> u8
+    ensures shared { HoldsMade (SharesSchema (schema_in schema.old.value) result) shared.old.value shared.new.value }
+    ensures schema { schema.new.value ≡ schema.old.value }
+{
+    let content = schema.take(alloc);
+    let (made, status) = share(alloc, &content);
+    schema.put(alloc, content);
+    shared.hand(alloc, made);
+    status
 }
 
 /// Lets go of a schema. A session over it keeps it as long as it needs it.
@@ -56,5 +69,21 @@ fn store_schema(alloc: Global, schema: Schema) -> (Holding, Answer)
     match boxed(alloc, Content::Schema(schema)) {
         Some(content) => (Some(content), done()),
         None => (None, no_memory()),
+    }
+}
+
+/// The schema that is held, shared.
+fn share(alloc: Global, held: &Holding) -> (Holding, u8)
+    ensures { SharesSchema (schema_in (boxed_content held.now)) result.1 (boxed_content result.0) }
+{
+    let Some(schema) = schema_of(held) else {
+        return (None, MISUSED);
+    };
+    let Ok(schema) = Arc::try_clone(schema) else {
+        return (None, FAILED);
+    };
+    match boxed(alloc, Content::Schema(schema)) {
+        Some(content) => (Some(content), DONE),
+        None => (None, FAILED),
     }
 }

@@ -24,6 +24,19 @@ optional_rule id = record (new_rule id) { action = Some Set }
 abbrev pub progress_rule : Rule
 progress_rule = record (new_rule (codes "progress")) { action = Some SetTrue; long = Some (codes "progress") }
 
+-- `--all`
+abbrev pub all_rule : Rule
+all_rule = record (new_rule (codes "all")) { action = Some SetTrue; long = Some (codes "all") }
+
+-- `--most N`, with a whole number of 64 bits, 1 at least
+abbrev pub most_rule : Rule
+most_rule = record (new_rule (codes "most")) {
+  action = Some Set;
+  long = Some (codes "most");
+  value_names = 1;
+  parser = Some (Unsigned 1 18446744073709551615);
+}
+
 -- `param FILE`
 abbrev pub param_app : App
 param_app = with_rule (new_app (codes "param")) (given_rule (codes "FILE"))
@@ -36,9 +49,9 @@ schema_app = with_rule (new_app (codes "schema")) (given_rule (codes "S"))
 abbrev pub file_app : Text → App
 file_app name = with_rule (with_rule (new_app name) (given_rule (codes "S"))) (given_rule (codes "FILE"))
 
--- `check S FILE [--progress]`
+-- `check S FILE [--all] [--most N] [--progress]`
 abbrev pub check_app : App
-check_app = with_rule (file_app (codes "check")) progress_rule
+check_app = with_rule (with_rule (with_rule (file_app (codes "check")) all_rule) most_rule) progress_rule
 
 -- `canon S FILE [--progress]`
 abbrev pub canon_app : App

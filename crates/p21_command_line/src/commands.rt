@@ -2,7 +2,7 @@
 ghost use Rattle.std.specs.Prelude.{◌≡◌, IfOk, codes, false};
 ghost use Rattle.clap.specs.Words.{app_of, rule_of};
 ghost use Rattle.clap.specs.declared.builder.command.Command.TheViews.{out-Command as fields_of};
-ghost use Rattle.p21_command_line.specs.CommandLine.{app_without_commands, canon_app, check_app, faults_app, given_rule, name_rule, optional_rule, param_app, progress_rule};
+ghost use Rattle.p21_command_line.specs.CommandLine.{all_rule, app_without_commands, canon_app, check_app, faults_app, given_rule, most_rule, name_rule, optional_rule, param_app, progress_rule};
 ghost use Rattle.p21_command_line.specs.CommandLine.{program_app, same_app, schema_app, show_app};
 
 use crate::{help, refusals};
@@ -62,7 +62,7 @@ fn schema<'a>(alloc: Global) -> Result<Command<'a>, AllocError>
         .arg(schema_path(alloc))
 }
 
-/// `check S FILE [--progress]`.
+/// `check S FILE [--all] [--most N] [--progress]`.
 fn check<'a>(alloc: Global) -> Result<Command<'a>, AllocError>
     ensures app { IfOk result (λ command. app_of command ≡ check_app) }
     ensures local { IfOk result (λ command. (fields_of command).has_globals ≡ false) }
@@ -72,6 +72,8 @@ fn check<'a>(alloc: Global) -> Result<Command<'a>, AllocError>
         .after_help(help::CHECK)
         .arg(schema_path(alloc))?
         .arg(file_path(alloc))?
+        .arg(all(alloc))?
+        .arg(most(alloc))?
         .arg(progress(alloc))
 }
 
@@ -155,6 +157,30 @@ fn name<'a>(alloc: Global) -> Arg<'a>
         .long("name")
         .value_name("N")
         .value_parser(value_parser!(u64))
+}
+
+/// `--all`.
+fn all<'a>(alloc: Global) -> Arg<'a>
+    ensures rule { rule_of result ≡ all_rule }
+    ensures local { result.global ≡ false }
+{
+    Arg::new(alloc, "all")
+        .help("Lists every refusal of the file, and counts them")
+        .long("all")
+        .action(ArgAction::SetTrue)
+}
+
+/// `--most N`.
+fn most<'a>(alloc: Global) -> Arg<'a>
+    ensures rule { rule_of result ≡ most_rule }
+    ensures local { result.global ≡ false }
+{
+    Arg::new(alloc, "most")
+        .help("Lists refusals as --all does, and ends after N of them")
+        .long("most")
+        .value_name("N")
+        .value_parser(value_parser!(u64).range(1..))
+        .action(ArgAction::Set)
 }
 
 /// `--progress`.

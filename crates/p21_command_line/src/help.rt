@@ -1,7 +1,7 @@
 //! The texts of the help.
 
-/// The version of the program.
-pub const VERSION: &str = "0.1.0";
+/// The version of the program, and that of the form of its canonical files.
+pub const VERSION: &str = "0.1.0 (canonical form 1)";
 
 /// What stands below the help of the program.
 pub const PROGRAM: &str = "Answers go to standard output, one line of a fault to standard error.
@@ -57,12 +57,18 @@ pub const CHECK: &str =
 standard error, the first refusal and where it comes, or that of the schema:
     refused 52 NotDistinct in #1
     schema refused S5 Circular
+With --all, on standard error, a line for each refusal of a record, a name or a reference,
+and how many these are; any other refusal ends the list, as one of bytes or of the header:
+    refused 45 Count in #3
+    refused 56 Dangling in #9
+    refusals 2
 Statuses: 0 accepted; 1 refused; 2 a wrong command line; 3 out of memory, cannot open,
 read or write.
 
 Slips:
   - schema refused S2 Syntax: schema and file are exchanged; the schema stands first.
   - refused 20 Unexpected at statement 1: FILE is a schema too.
+  - refusals 3, the rest was not read: the last refusal of the list is to be mended first.
   - refused 31 SchemaName: the file names another schema than S declares.
   - From a pipe: gunzip -c part.step.gz | p21 check S /dev/stdin
 

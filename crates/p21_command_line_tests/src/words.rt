@@ -52,6 +52,14 @@ const COMMANDS: Taken = &[
         "true",
     ),
     (&["p21", "check", "s", "f"], "check", "progress", "false"),
+    (&["p21", "check", "--all", "s", "f"], "check", "all", "true"),
+    (&["p21", "check", "s", "f"], "check", "all", "false"),
+    (
+        &["p21", "check", "s", "f", "--most", "3"],
+        "check",
+        "most",
+        "3",
+    ),
 ];
 
 /// Whether the argument of a command has this value.
@@ -182,6 +190,18 @@ const MISTAKES: NotTaken = &[
     (
         &["p21", "check", "s", "f", "--progress", "--progress"],
         ErrorKind::ArgumentConflict,
+    ),
+    (
+        &["p21", "check", "s", "f", "--most"],
+        ErrorKind::InvalidValue,
+    ),
+    (
+        &["p21", "check", "s", "f", "--most", "0"],
+        ErrorKind::ValueValidation,
+    ),
+    (
+        &["p21", "canon", "s", "f", "--all"],
+        ErrorKind::UnknownArgument,
     ),
 ];
 

@@ -29,6 +29,8 @@ mod schemas;
 #[cfg(test)]
 mod sections;
 #[cfg(test)]
+mod surveyed;
+#[cfg(test)]
 mod watched;
 #[cfg(test)]
 mod write_faults;

@@ -2,7 +2,8 @@
 use crate::devices::{Behind, Full, SmallReader, SmallWriter};
 use crate::schemas::File;
 use p21_commands::{
-    canon_command, check_command, param_command, same_command, schema_command, show_command,
+    canon_command, check_all_command, check_command, param_command, same_command, schema_command,
+    show_command,
 };
 use p21_stream::Watched;
 use p21_values::Name;
@@ -132,6 +133,30 @@ pub(crate) fn check<S: Read, R: Read + Drop>(
     run
 }
 
+pub(crate) fn check_all<S: Read, R: Read + Drop>(
+    alloc: Global,
+    schema: &mut S,
+    file: R,
+    most: u64,
+    rooms: Rooms,
+) -> Run {
+    let mut schema = Watched::new(schema);
+    let mut file = Watched::new(file);
+    let mut output = Watched::new(rooms.output(alloc));
+    let mut faults = Watched::new(rooms.faults(alloc));
+    let status = check_all_command(
+        alloc,
+        &mut schema,
+        &mut file,
+        most,
+        &mut output,
+        &mut faults,
+    );
+    let mut run = Run::new(status, output.into_inner(), faults.into_inner());
+    run.failures = file.failures();
+    run
+}
+
 pub(crate) fn canon<S: Read, R: Read + Drop>(
     alloc: Global,
     schema: &mut S,
@@ -199,6 +224,8 @@ pub(crate) enum Command {
     Param,
     Schema,
     Check,
+    /// With the most refusals that are listed.
+    CheckAll(u64),
     Canon,
     Show(u64),
     /// With the second file.
@@ -243,6 +270,7 @@ pub(crate) fn leaves_of(
         Command::Param => param(alloc, &mut bytes, rooms).is(left),
         Command::Schema => schema(alloc, &mut bytes, rooms).is(left),
         Command::Check => check(alloc, &mut reader, bytes, rooms).is(left),
+        Command::CheckAll(most) => { check_all(alloc, &mut reader, bytes, most, rooms).is(left) }
         Command::Canon => canon(alloc, &mut reader, bytes, rooms).is(left),
         Command::Show(name) => show(alloc, &mut reader, bytes, name, rooms).is(left),
         Command::Same(second) => compares(alloc, declared, text, second, rooms, left),

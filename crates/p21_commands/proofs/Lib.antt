@@ -8,3 +8,4 @@ pub mod Counting
 pub mod FileFailing
 pub mod Showing
 pub mod Writing
+pub mod Surveys

@@ -10,6 +10,7 @@ pub mod Load
 pub mod Print
 pub mod Canon
 pub mod Check
+pub mod CheckAll
 pub mod Files
 pub mod Refusals
 pub mod Same

@@ -95,7 +95,7 @@ fn checked_answer_line<S: Read, R: Read>(
 }
 
 /// The line of a file that is accepted.
-fn answer_line_of(alloc: Global, accepted: &Accepted) -> Result<String, AllocError>
+pub(crate) fn answer_line_of(alloc: Global, accepted: &Accepted) -> Result<String, AllocError>
     ensures { IfOk result (λ line. string_bytes line ≡ check_answer_line (length accepted.now.kept) (length (output_text accepted.now))) }
 {
     let count = accepted.count();

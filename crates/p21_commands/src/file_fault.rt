@@ -23,7 +23,11 @@ pub(crate) fn fault_of(alloc: Global, file: &str, refusal: Refusal) -> CommandFa
 }
 
 /// The line that says why a file is refused, and where, behind a word for the file.
-fn refusal_text(alloc: Global, file: &str, refusal: Refusal) -> Result<String, AllocError>
+pub(crate) fn refusal_text(
+    alloc: Global,
+    file: &str,
+    refusal: Refusal,
+) -> Result<String, AllocError>
     ensures { IfOk result (λ line. string_bytes line ≡ refusal_line file.now refusal) }
 {
     let number = refusal.number();

@@ -4,6 +4,7 @@
 
 mod canon;
 mod check;
+mod check_all;
 mod fault;
 mod file_fault;
 mod load;
@@ -18,6 +19,7 @@ mod transfer;
 
 pub use canon::canon_command;
 pub use check::check_command;
+pub use check_all::check_all_command;
 pub use fault::{CommandFault, report};
 pub use param::param_command;
 pub use same::same_command;

@@ -1,3 +1,4 @@
+pub mod AttributeNames
 pub mod Derived
 pub mod Explicit
 pub mod Found

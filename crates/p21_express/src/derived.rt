@@ -1,10 +1,12 @@
 ghost use Rattle.std.specs.Prelude.{◌↔◌, [], ◌∷◌, IsTrue, Contains, map};
+ghost use Rattle.p21_express.specs.AttributeNames.{AreNamesOf};
 ghost use Rattle.p21_express.specs.Derived.{AddsDerivedPlaces, DerivesItself, FindsDerivedPlaces, FindsDerivedPlace};
 ghost use Rattle.p21_express_outline.specs.Outline.{digest_own_names, digest_redeclared_names};
 ghost use Rattle.p21_express_outline.specs.Redeclarations.{DigestDerivesName};
 ghost use Rattle.p21_express_syntax.specs.Views.{entity_view};
 ghost use Rattle.p21_express_graph.specs.Resolved.{IsEntity};
 
+use crate::attribute_names::AttributeNames;
 use crate::lookups::{RedeclarationTarget, redeclared_place};
 use p21_express_outline::SchemaFault;
 use p21_express_syntax::{AttributeName, Entity};
@@ -62,15 +64,17 @@ fn derives_name(schema: &Schema, declared: &[Entity], entity: EntityId, name: &[
 /// The place that a redeclaration in a DERIVE clause stands for; none where it redeclares a derived attribute.
 fn derived_place(
     schema: &Schema,
+    names: &AttributeNames,
     entity: EntityId,
     declared: &[Entity],
     supertype: &[u8],
     name: &[u8],
 ) -> Result<Option<Place>, SchemaFault>
-    requires { IsEntity schema.now entity.0 }
+    requires names { AreNamesOf schema.now names.now }
+    requires entity { IsEntity schema.now entity.0 }
     ensures { FindsDerivedPlace schema.now (map entity_view declared.now) entity.0 (supertype.now, name.now) result }
 {
-    match redeclared_place(schema, entity, supertype, name) {
+    match redeclared_place(schema, names, entity, supertype, name) {
         RedeclarationTarget::Place(place) => Ok(Some(place)),
         RedeclarationTarget::Missing(sup) => {
             if derives_name(schema, declared, sup, name) {
@@ -86,12 +90,14 @@ fn derived_place(
 /// Adds the place of an attribute of a DERIVE clause, if it redeclares one.
 fn add_derived(
     schema: &Schema,
+    names: &AttributeNames,
     entity: EntityId,
     declared: &[Entity],
     attribute: &AttributeName,
     out: &mut Vec<Place>,
 ) -> Result<(), SchemaFault>
-    requires { IsEntity schema.now entity.0 }
+    requires names { AreNamesOf schema.now names.now }
+    requires entity { IsEntity schema.now entity.0 }
     ensures { AddsDerivedPlaces schema.now (map entity_view declared.now) entity.0 (digest_redeclared_names (attribute.now ∷ [])) result out.old out.new }
 {
     match attribute {
@@ -100,7 +106,14 @@ fn add_derived(
             entity: supertype,
             name,
         } => {
-            match derived_place(schema, entity, declared, supertype.bytes(), name.bytes())? {
+            match derived_place(
+                schema,
+                names,
+                entity,
+                declared,
+                supertype.bytes(),
+                name.bytes(),
+            )? {
                 Some(place) => {
                     out.push(place)?;
                     Ok(())
@@ -120,17 +133,19 @@ fn add_derived(
 pub(crate) fn derived_of(
     alloc: Global,
     schema: &Schema,
+    names: &AttributeNames,
     entity: EntityId,
     declared: &[Entity],
-    names: &[AttributeName],
+    derived: &[AttributeName],
 ) -> Result<Vec<Place>, SchemaFault>
-    requires { IsEntity schema.now entity.0 }
-    ensures { FindsDerivedPlaces schema.now (map entity_view declared.now) entity.0 (digest_redeclared_names names.now) result }
+    requires names { AreNamesOf schema.now names.now }
+    requires entity { IsEntity schema.now entity.0 }
+    ensures { FindsDerivedPlaces schema.now (map entity_view declared.now) entity.0 (digest_redeclared_names derived.now) result }
 {
     let mut found = Vec::new(alloc);
-    for name in names {
+    for name in derived {
         let name: &AttributeName = name;
-        add_derived(schema, entity, declared, name, &mut found)?;
+        add_derived(schema, names, entity, declared, name, &mut found)?;
     }
     Ok(found)
 }

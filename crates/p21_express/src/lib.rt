@@ -2,6 +2,7 @@
 //! comes first where a text has several.
 #![tactic(auto)]
 
+mod attribute_names;
 mod checked;
 mod derived;
 mod distinct;

@@ -1,10 +1,12 @@
 ghost use Rattle.std.specs.Prelude.{◌≡◌, ◌≢◌, ◌↔◌, ℕ, IsTrue, MatchOption};
 ghost use Rattle.p21_schemas.specs.Redeclaration.{IsOwnPlace, IsPlaceOf, IsProperSupertype};
 ghost use Rattle.p21_schemas.specs.Schema as pure;
+ghost use Rattle.p21_express.specs.AttributeNames.{AreNamesOf};
 ghost use Rattle.p21_express.specs.RedeclarationTarget.{IsTargetIn, IsTargetOf};
 ghost use Rattle.p21_express_graph.specs.Resolved.{IsEntity};
 ghost use Rattle.p21_express_types.specs.Meaning.{place as place_of};
 
+use crate::attribute_names::AttributeNames;
 use p21_express_tables::Schema;
 use p21_express_types::{EntityId, Place};
 
@@ -40,29 +42,20 @@ fn proper_supertype(schema: &Schema, entity: EntityId, name: &[u8]) -> Option<En
     }
 }
 
-/// The place of this name, in upper case, that the entity declares itself.
-fn own_place(schema: &Schema, entity: EntityId, name: &[u8]) -> Option<Place>
-    requires { IsEntity schema.now entity.0 }
-    ensures { MatchOption result ((place : pure.Place) → IsOwnPlace schema.now entity.0 name.now place → ⊥) (λ place. IsOwnPlace schema.now entity.0 name.now (place_of place)) }
-{
-    let count = schema.attribute_count(entity);
-    for index in 0..count {
-        let place = Place { entity, index };
-        if schema.place_name(place) == name {
-            return Some(place);
-        }
-    }
-    None
-}
-
 /// The first place of this name in the order of the entity.
-fn first_place(schema: &Schema, entity: EntityId, name: &[u8]) -> Option<Place>
-    requires { IsEntity schema.now entity.0 }
+fn first_place(
+    schema: &Schema,
+    names: &AttributeNames,
+    entity: EntityId,
+    name: &[u8],
+) -> Option<Place>
+    requires names { AreNamesOf schema.now names.now }
+    requires entity { IsEntity schema.now entity.0 }
     ensures { MatchOption result ((place : pure.Place) → IsPlaceOf schema.now entity.0 name.now place → ⊥) (λ place. IsPlaceOf schema.now entity.0 name.now (place_of place)) }
 {
     schema.holds_together();
     for owner in schema.order_of(entity) {
-        match own_place(schema, *owner, name) {
+        match names.own_place(schema, *owner, name) {
             Some(place) => return Some(place),
             None => {}
         }
@@ -71,28 +64,38 @@ fn first_place(schema: &Schema, entity: EntityId, name: &[u8]) -> Option<Place>
 }
 
 /// Whether the entity declares another place of this name itself.
-fn has_other_own(schema: &Schema, entity: EntityId, name: &[u8], first: Place) -> bool
-    requires { IsEntity schema.now entity.0 }
+fn has_other_own(
+    schema: &Schema,
+    names: &AttributeNames,
+    entity: EntityId,
+    name: &[u8],
+    first: Place,
+) -> bool
+    requires names { AreNamesOf schema.now names.now }
+    requires entity { IsEntity schema.now entity.0 }
     ensures { IsTrue result ↔ ((place : pure.Place) × IsOwnPlace schema.now entity.0 name.now place × (place ≢ place_of first)) }
 {
-    let count = schema.attribute_count(entity);
-    for index in 0..count {
-        let place = Place { entity, index };
-        if schema.place_name(place) == name && !is_same(place, first) {
-            return true;
-        }
+    match names.own_place(schema, entity, name) {
+        Some(place) => !is_same(place, first),
+        None => false,
     }
-    false
 }
 
 /// Whether there is another place of this name in the order of the entity.
-fn has_other(schema: &Schema, entity: EntityId, name: &[u8], first: Place) -> bool
-    requires { IsEntity schema.now entity.0 }
+fn has_other(
+    schema: &Schema,
+    names: &AttributeNames,
+    entity: EntityId,
+    name: &[u8],
+    first: Place,
+) -> bool
+    requires names { AreNamesOf schema.now names.now }
+    requires entity { IsEntity schema.now entity.0 }
     ensures { IsTrue result ↔ ((place : pure.Place) × IsPlaceOf schema.now entity.0 name.now place × (place ≢ place_of first)) }
 {
     schema.holds_together();
     for owner in schema.order_of(entity) {
-        if has_other_own(schema, *owner, name, first) {
+        if has_other_own(schema, names, *owner, name, first) {
             return true;
         }
     }
@@ -107,17 +110,23 @@ pub(crate) fn is_same(place: Place, other: Place) -> bool
 }
 
 /// The place of this name that the entity declares itself, else the only one in its order.
-fn place_in(schema: &Schema, entity: EntityId, name: &[u8]) -> RedeclarationTarget
-    requires { IsEntity schema.now entity.0 }
+fn place_in(
+    schema: &Schema,
+    names: &AttributeNames,
+    entity: EntityId,
+    name: &[u8],
+) -> RedeclarationTarget
+    requires names { AreNamesOf schema.now names.now }
+    requires entity { IsEntity schema.now entity.0 }
     ensures { IsTargetIn schema.now entity.0 name.now result }
 {
-    match own_place(schema, entity, name) {
+    match names.own_place(schema, entity, name) {
         Some(own) => return RedeclarationTarget::Place(own),
         None => {}
     }
-    match first_place(schema, entity, name) {
+    match first_place(schema, names, entity, name) {
         Some(first) => {
-            if has_other(schema, entity, name, first) {
+            if has_other(schema, names, entity, name, first) {
                 RedeclarationTarget::Unclear
             } else {
                 RedeclarationTarget::Place(first)
@@ -131,16 +140,18 @@ fn place_in(schema: &Schema, entity: EntityId, name: &[u8]) -> RedeclarationTarg
 /// declares itself, else the only one of this name in its order.
 pub(crate) fn redeclared_place(
     schema: &Schema,
+    names: &AttributeNames,
     entity: EntityId,
     supertype: &[u8],
     name: &[u8],
 ) -> RedeclarationTarget
-    requires { IsEntity schema.now entity.0 }
+    requires names { AreNamesOf schema.now names.now }
+    requires entity { IsEntity schema.now entity.0 }
     ensures { IsTargetOf schema.now entity.0 supertype.now name.now result }
 {
     schema.well_formed();
     match proper_supertype(schema, entity, supertype) {
-        Some(sup) => place_in(schema, sup, name),
+        Some(sup) => place_in(schema, names, sup, name),
         None => RedeclarationTarget::Unclear,
     }
 }

@@ -1,9 +1,11 @@
 ghost use Rattle.std.specs.Prelude.{map};
 ghost use Rattle.p21_express_outline.specs.Known.{AreFew, names_of};
-ghost use Rattle.p21_express.specs.Found.{HasDistinctAttributes, RedeclarationsFound};
+ghost use Rattle.p21_express.specs.AttributeNames.{AreNamesOf};
+ghost use Rattle.p21_express.specs.Found.{RedeclarationsFound};
 ghost use Rattle.p21_express_syntax.specs.Views.{entity_view};
 ghost use Rattle.p21_express_graph.specs.Resolved.{IsEntity};
 
+use crate::attribute_names::AttributeNames;
 use crate::derived::derived_of;
 use crate::distinct::check_places;
 use crate::redeclared::redeclared_of;
@@ -24,6 +26,7 @@ use std::alloc::Global;
 pub(crate) fn redeclarations_of(
     alloc: Global,
     schema: &Schema,
+    names: &AttributeNames,
     known: &KnownNames,
     declared: &[Entity],
     entity: EntityId,
@@ -31,12 +34,12 @@ pub(crate) fn redeclarations_of(
 ) -> Result<Redeclarations, SchemaFault>
     requires few { AreFew known.now }
     requires entity { IsEntity schema.now entity.0 }
-    requires attributes_distinct { HasDistinctAttributes schema.now }
+    requires names { AreNamesOf schema.now names.now }
     ensures { RedeclarationsFound schema.now (names_of known.now) (map entity_view declared.now) entity.0 (entity_view own.now) result }
 {
     schema.well_formed();
-    let redeclared = redeclared_of(alloc, schema, known, entity, &own.explicit)?;
-    let derived = derived_of(alloc, schema, entity, declared, &own.derived)?;
+    let redeclared = redeclared_of(alloc, schema, names, known, entity, &own.explicit)?;
+    let derived = derived_of(alloc, schema, names, entity, declared, &own.derived)?;
     check_places(alloc, &redeclared, &derived)?;
     Ok(Redeclarations {
         redeclared,

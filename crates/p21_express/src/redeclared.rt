@@ -2,6 +2,7 @@ ghost use Rattle.std.specs.Prelude.{[], ◌∷◌, map};
 ghost use Rattle.p21_schemas.specs.Redeclaration.{RedeclaresPlace};
 ghost use Rattle.p21_express_outline.specs.Finding.{AddsEach, Finds, FindsEach};
 ghost use Rattle.p21_express_outline.specs.Known.{AreFew, names_of};
+ghost use Rattle.p21_express.specs.AttributeNames.{AreNamesOf};
 ghost use Rattle.p21_express.specs.Explicit.{redeclared_by};
 ghost use Rattle.p21_express_outline.specs.Outline.{digest_redeclared_explicit};
 ghost use Rattle.p21_express_outline.specs.Redeclarations.{DigestRedeclaredIs};
@@ -10,6 +11,7 @@ ghost use Rattle.p21_express_graph.specs.SchemaContents.{redeclared as redeclare
 ghost use Rattle.p21_express_graph.specs.Resolved.{IsEntity};
 ghost use Rattle.p21_express_types.specs.Meaning.{place as place_of};
 
+use crate::attribute_names::AttributeNames;
 use crate::lookups::{RedeclarationTarget, redeclared_place};
 use p21_express_graph::Redeclared;
 use p21_express_outline::{KnownNames, SchemaFault, resolve_type};
@@ -22,6 +24,7 @@ use std::alloc::Global;
 #[derive(Drop)]
 struct Redeclarer<'a> {
     schema: &'a Schema,
+    names: &'a AttributeNames,
     known: &'a KnownNames,
     entity: EntityId,
 }
@@ -29,14 +32,16 @@ struct Redeclarer<'a> {
 /// The place that `SELF\supertype.name` redeclares.
 fn named_place(
     schema: &Schema,
+    names: &AttributeNames,
     entity: EntityId,
     supertype: &[u8],
     name: &[u8],
 ) -> Result<Place, SchemaFault>
-    requires { IsEntity schema.now entity.0 }
+    requires names { AreNamesOf schema.now names.now }
+    requires entity { IsEntity schema.now entity.0 }
     ensures { Finds place_of (RedeclaresPlace schema.now entity.0 supertype.now name.now) result }
 {
-    match redeclared_place(schema, entity, supertype, name) {
+    match redeclared_place(schema, names, entity, supertype, name) {
         RedeclarationTarget::Place(place) => Ok(place),
         RedeclarationTarget::Missing(_supertype) => Err(SchemaFault::RedeclaredPlace),
         RedeclarationTarget::Unclear => Err(SchemaFault::RedeclaredPlace),
@@ -51,11 +56,18 @@ fn redeclared_as(
     name: &[u8],
     explicit: &ExplicitAttributes,
 ) -> Result<Redeclared, SchemaFault>
+    requires names { AreNamesOf redeclarer.now.schema.now redeclarer.now.names.now }
     requires few { AreFew redeclarer.now.known.now }
     requires entity { IsEntity redeclarer.now.schema.now redeclarer.now.entity.0 }
     ensures { Finds redeclared_view (DigestRedeclaredIs redeclarer.now.schema.now (names_of redeclarer.now.known.now) redeclarer.now.entity.0 ((supertype.now, name.now), explicit.now.optional, type_view explicit.now.data_type)) result }
 {
-    let place = named_place(redeclarer.schema, redeclarer.entity, supertype, name)?;
+    let place = named_place(
+        redeclarer.schema,
+        redeclarer.names,
+        redeclarer.entity,
+        supertype,
+        name,
+    )?;
     let type_use = resolve_type(alloc, redeclarer.known, &explicit.data_type)?;
     Ok(Redeclared {
         place,
@@ -72,6 +84,7 @@ fn add_redeclared(
     explicit: &ExplicitAttributes,
     out: &mut Vec<Redeclared>,
 ) -> Result<(), SchemaFault>
+    requires names { AreNamesOf redeclarer.now.schema.now redeclarer.now.names.now }
     requires few { AreFew redeclarer.now.known.now }
     requires entity { IsEntity redeclarer.now.schema.now redeclarer.now.entity.0 }
     ensures { AddsEach redeclared_view (DigestRedeclaredIs redeclarer.now.schema.now (names_of redeclarer.now.known.now) redeclarer.now.entity.0) (redeclared_by (attributes_view explicit.now) (name.now ∷ [])) result out.old out.new }
@@ -102,6 +115,7 @@ fn add_all_redeclared(
     explicit: &ExplicitAttributes,
     out: &mut Vec<Redeclared>,
 ) -> Result<(), SchemaFault>
+    requires names { AreNamesOf redeclarer.now.schema.now redeclarer.now.names.now }
     requires few { AreFew redeclarer.now.known.now }
     requires entity { IsEntity redeclarer.now.schema.now redeclarer.now.entity.0 }
     ensures { AddsEach redeclared_view (DigestRedeclaredIs redeclarer.now.schema.now (names_of redeclarer.now.known.now) redeclarer.now.entity.0) (redeclared_by (attributes_view explicit.now) explicit.now.names.items) result out.old out.new }
@@ -122,16 +136,19 @@ fn add_all_redeclared(
 pub(crate) fn redeclared_of(
     alloc: Global,
     schema: &Schema,
+    names: &AttributeNames,
     known: &KnownNames,
     entity: EntityId,
     explicit: &[ExplicitAttributes],
 ) -> Result<Vec<Redeclared>, SchemaFault>
+    requires names { AreNamesOf schema.now names.now }
     requires few { AreFew known.now }
     requires entity { IsEntity schema.now entity.0 }
     ensures { FindsEach redeclared_view (DigestRedeclaredIs schema.now (names_of known.now) entity.0) (digest_redeclared_explicit (map attributes_view explicit.now)) result }
 {
     let redeclarer = Redeclarer {
         schema,
+        names,
         known,
         entity,
     };

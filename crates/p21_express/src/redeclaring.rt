@@ -7,6 +7,7 @@ ghost use Rattle.p21_express_outline.specs.Redeclarations.{RedeclarationsAre};
 ghost use Rattle.p21_express_syntax.specs.Views.{entity_view};
 ghost use Rattle.p21_express_graph.specs.Redeclaring.{redeclaring};
 
+use crate::attribute_names::AttributeNames;
 use crate::redeclarations::redeclarations_of;
 use p21_express_graph::Redeclarations;
 use p21_express_outline::{KnownNames, SchemaFault};
@@ -28,11 +29,12 @@ pub(crate) fn all_redeclarations(
     ensures { FindsEach redeclaring (λ own found. RedeclarationsAre schema.now (names_of known.now) (map entity_view declared.now) own.0 own.1 found) (enumerate_from 0 (map entity_view declared.now)) result }
 {
     schema.holds_together();
+    let names = AttributeNames::of(alloc, schema)?;
     let mut found = Vec::new(alloc);
     for own in declared {
         let own: &Declared = own;
         let entity = EntityId(found.len() as u32);
-        found.push(redeclarations_of(alloc, schema, known, declared, entity, own)?)?;
+        found.push(redeclarations_of(alloc, schema, &names, known, declared, entity, own)?)?;
     }
     Ok(found)
 }

@@ -4,7 +4,7 @@ pub mod Above
 pub mod Ascents
 pub mod Owners
 pub mod UnchangedTables
-pub mod Deciding
+pub mod Places
 pub mod Noted
 pub mod Numbered
 pub mod RisingSets

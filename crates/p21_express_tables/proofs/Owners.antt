@@ -1,76 +1,28 @@
--- The entities that redeclare places, by the entities that declare these.
-use Rattle.std.specs.Prelude.{◌≡◌, ◌+◌, ℕ, ◌<◌, List, [], ◌∷◌, ◌++◌, take, Option, None, Some, length, map, slice_get, Contains, refl}
-use Rattle.std.specs.Option.{option_map}
-use Rattle.std.proofs.Common.{arith, ap, sym, ◌∙◌, subst, inl, inr, append_assoc, get_or}
-use Rattle.std.proofs.lemmas.List.{append-nil, map-append, take_more}
-use Rattle.std.proofs.lemmas.Bool.{cases_lt}
-use Rattle.std.proofs.lemmas.List.Elements.{Contains-append_left, Contains-append_right, Contains-append_cases}
-use Rattle.std.proofs.lemmas.Option.{slice_get-map, slice_get_within}
-use Rattle.p21_basics.proofs.Members.{Contains-none, Contains-mapped, Contains-unmapped, Each-at, Each-member}
+-- The entities that redeclare places, and where these stand in their lists.
+use Rattle.std.specs.Prelude.{◌≡◌, ◌≢◌, ◌+◌, ℕ, zero, suc, ◌<◌, List, [], ◌∷◌, ◌++◌, take, Option, None, Some, MatchOption, length, map, slice_get, Contains, refl}
+use Rattle.std.proofs.Common.{arith, ap, sym, ◌∙◌, subst, inl, inr, get_or}
+use Rattle.std.proofs.lemmas.List.{length-append, map-append, take_more}
+use Rattle.std.proofs.lemmas.Option.{slice_get_within}
+use Rattle.std.proofs.lemmas.List.Elements.{Contains-append_left, Contains-append_right, Contains-append_cases, Contains-push, Contains-push_cases}
+use Rattle.p21_basics.proofs.Members.{Contains-none, Contains-cases, Contains-found, Contains-mapped, some_is}
 use Rattle.p21_schemas.specs.PlaceType.{IsDerivedIn, IsRedeclared}
-use Rattle.p21_schemas.specs.Schema.{Schema, Place, Entity, Attribute}
-use Rattle.p21_express_graph.specs.InvertedLists.{AreInverted}
-use Rattle.p21_express_graph.specs.Resolved.{HoldsTogether, IsEntity, IsPlace, IsResolved, IsRedeclared as IsRedeclaredOf}
-use Rattle.p21_express_graph.specs.SettledOrder.{nexts_of}
-use Rattle.p21_express_graph.proofs.Gatherings.{mapped-length}
-use Rattle.p21_express_graph.proofs.Inverting.{nothing-past}
-use Rattle.p21_express_tables.specs.Redeclarers.{AreRedeclarers, RedeclaresPlace, owners_of}
+use Rattle.p21_schemas.specs.Schema.{Schema, Place, Entity, Redeclared}
+use Rattle.p21_express_types.specs.declared.number.EntityId.{EntityId}
+use Rattle.p21_express_graph.specs.Lookups.{DerivesPlace}
+use Rattle.p21_express_graph.specs.Orders.{numbers}
+use Rattle.p21_express_graph.specs.Resolved.{IsEntity}
+use Rattle.p21_express_graph.proofs.Pairs.{snoc-get}
+use Rattle.p21_express_tables.specs.Decisions.{IsRedeclaredAs, IsRedeclarer}
+use Rattle.p21_express_tables.specs.PlacePositions.{HavePositions}
+use Rattle.p21_express_tables.specs.Redeclarers.{AddsRedeclarer, ArePlacesOf, ArePlacesOfEach, AreRedeclarers, AreRedeclarersOf, RedeclaresPlace, explicit_places, places_redeclared, redeclarers_in}
+use Rattle.p21_express_tables.specs.declared.redeclarers.EntityPlaces.{EntityPlaces}
+use Rattle.p21_express_tables.specs.declared.redeclarers.Redeclarers.{Redeclarers}
+use Rattle.p21_express_tables.proofs.Places.{same-or}
 
--- the declaring entities of a schema's entities
-abbrev pub owner_lists : Schema → List (List ℕ)
-owner_lists s = map owners_of s.entities
-
--- those of one entity
-pub owners-at : (s : Schema) (e : ℕ) (x : Entity) → slice_get s.entities e ≡ Some x → nexts_of (owner_lists s) e ≡ owners_of x
-owners-at s e x at = ap (λ o. elim o [ Some nexts ↦ nexts | None ↦ [] ]) (slice_get-map owners_of s.entities e ∙ ap (option_map owners_of) at)
-
--- an entity with a list is one of the schema
-pub owner-within : (s : Schema) (e f : ℕ) → Contains (nexts_of (owner_lists s) e) f → IsEntity s e
-owner-within s e f among = elim (cases_lt e (length s.entities)) [
-  | inl h ↦ h
-  | inr h ↦
-      let P : List ℕ → Type 0 = λ fs. Contains fs f in
-      let none = nothing-past (owner_lists s) e (omega (arith, h, mapped-length owners_of s.entities)) in
-      absurd (Contains-none f (subst P none among))
-]
-
--- the entity of a place is one of the schema
-place-owner : (s : Schema) (p : Place) → IsPlace s p → IsEntity s p.entity
-place-owner s p is = by (slice_get s.entities p.entity) refl
-  where
-    by : (o : Option Entity) → slice_get s.entities p.entity ≡ o → IsEntity s p.entity
-    by None at = let P : Option Entity → Type 0 = λ o. p.index < length {A = Attribute} (elim o [ Some x ↦ x.attributes | None ↦ [] ]) in let none = subst P at is in absurd (omega (arith, none))
-    by (Some x) at = slice_get_within s.entities p.entity x at
-
--- what an entity redeclares is declared by entities of the schema
-pub owners-within : (s : Schema) → HoldsTogether s → (e f : ℕ) → Contains (nexts_of (owner_lists s) e) f → IsEntity s f
-owners-within s holds e f among = by (slice_get s.entities e) refl
-  where
-    by : (o : Option Entity) → slice_get s.entities e ≡ o → IsEntity s f
-    by None at = let P : Option Entity → Type 0 = λ o. Contains (elim (option_map owners_of o) [ Some nexts ↦ nexts | None ↦ [] ]) f in absurd (Contains-none f (subst P at (let Q : Option (List ℕ) → Type 0 = λ o. Contains (elim o [ Some nexts ↦ nexts | None ↦ [] ]) f in subst Q (slice_get-map owners_of s.entities e) among)))
-    by (Some x) at =
-        let resolved = Each-at (IsResolved s) s.entities e x holds.entities_are at in
-        let P : List ℕ → Type 0 = λ fs. Contains fs f in
-        elim (Contains-append_cases (map (λ r. r.place.entity) x.redeclared) (map (λ p. p.entity) x.derived) f (subst P (owners-at s e x at) among)) [
-          | inl h ↦ let (r, r_among, is) = Contains-unmapped (λ r. r.place.entity) x.redeclared f h in subst (IsEntity s) is (place-owner s r.place (Each-member (IsRedeclaredOf s) x.redeclared r resolved.redeclared_are r_among).0)
-          | inr h ↦ let (p, p_among, is) = Contains-unmapped (λ p. p.entity) x.derived f h in subst (IsEntity s) is (place-owner s p (Each-member (IsPlace s) x.derived p resolved.derived_are p_among))
-        ]
-
--- an entity that redeclares a place has the declaring one in its list
-pub owners-has : (s : Schema) (e : ℕ) (place : Place) → RedeclaresPlace s e place → Contains (nexts_of (owner_lists s) e) place.entity
-owners-has s e place (inl (r, ((x, at, among), is))) =
-    let P : List ℕ → Type 0 = λ fs. Contains fs place.entity in
-    let Q : Place → Type 0 = λ p. Contains (owners_of x) p.entity in
-    subst P (sym (owners-at s e x at)) (subst Q is (Contains-append_left (map (λ q. q.place.entity) x.redeclared) (map (λ p. p.entity) x.derived) r.place.entity (Contains-mapped (λ q. q.place.entity) x.redeclared r among)))
-owners-has s e place (inr (x, at, among)) =
-    let P : List ℕ → Type 0 = λ fs. Contains fs place.entity in
-    subst P (sym (owners-at s e x at)) (Contains-append_right (map (λ q. q.place.entity) x.redeclared) (map (λ p. p.entity) x.derived) place.entity (Contains-mapped (λ p. p.entity) x.derived place among))
-
-pub are-redeclarers : (s : Schema) (lists : List (List ℕ)) → AreInverted (owner_lists s) lists → AreRedeclarers s lists
-are-redeclarers s lists are = record {
-  all = λ e place is. (are.each place.entity e).1 (owners-has s e place is);
-  within = λ f e among. owner-within s e f ((are.each f e).0 among);
-}
+-- none redeclares a place for which there is no redeclarer
+pub no-redeclarer : (s : Schema) (place : Place) (found : List EntityId) → length found ≡ 0 → ((e : ℕ) → RedeclaresPlace s e place → Contains (numbers found) e) → (e : ℕ) → RedeclaresPlace s e place → ⊥
+no-redeclarer s place [] empty all e is = Contains-none e (all e is)
+no-redeclarer s place (f ∷ found) empty all e is = absurd (omega (arith, empty))
 
 -- where none redeclares a place, no entity of a set does
 module _ (s : Schema) (place : Place) (none : (e : ℕ) → RedeclaresPlace s e place → ⊥) (entities : List ℕ) where
@@ -80,12 +32,127 @@ module _ (s : Schema) (place : Place) (none : (e : ℕ) → RedeclaresPlace s e 
   pub none-redeclares : IsRedeclared s entities place → ⊥
   none-redeclares (e, r, (among, redeclares, is)) = none e (inl (r, (redeclares, is)))
 
--- one owner more
-pub owner-more : {X Y : Type 0} (number : X → ℕ) (owner : Y → ℕ) (before : List ℕ) (xs after : List X) (x : X) (ys : List Y) (k : ℕ) (d : Y) → k < length ys → after ≡ xs ++ x ∷ [] → number x ≡ owner (get_or ys k d) → map number xs ≡ before ++ map owner (take k ys)
-    → map number after ≡ before ++ map owner (take (k + 1) ys)
-owner-more number owner before xs after x ys k d below after_is is so_far =
-    ap (map number) after_is ∙ map-append number xs (x ∷ []) ∙ ap (λ ns. ns ++ number x ∷ []) so_far ∙ append_assoc before (map owner (take k ys)) (number x ∷ [])
-    ∙ ap (λ n. before ++ (map owner (take k ys) ++ n ∷ [])) is ∙ ap (λ ns. before ++ ns) (sym (ap (map owner) (take_more ys k d below) ∙ map-append owner (take k ys) (get_or ys k d ∷ [])))
+-- ---- entities that are added
 
-pub none-pushed : (ns : List ℕ) → ns ≡ ns ++ []
-none-pushed ns = sym (append-nil ns)
+pub adds-none : (e : ℕ) (all : Redeclarers) → AddsRedeclarer e [] all all
+adds-none e all = record { here = λ p among. absurd (Contains-none p among); kept = λ p f among. among; within = λ p f among. inl among }
+
+-- at some places, and at some others
+pub adds-both : (e : ℕ) (ps qs : List Place) (before now after : Redeclarers) → AddsRedeclarer e ps before now → AddsRedeclarer e qs now after → AddsRedeclarer e (ps ++ qs) before after
+adds-both e ps qs before now after first second = record {
+  here = λ p among. elim (Contains-append_cases ps qs p among) [ inl h ↦ second.kept p e (first.here p h) | inr h ↦ second.here p h ];
+  kept = λ p f among. second.kept p f (first.kept p f among);
+  within = λ p f among. elim (second.within p f among) [ inl h ↦ first.within p f h | inr h ↦ inr h ];
+}
+
+-- at one place
+pub adds-one : (e : ℕ) (p : Place) (before after : Redeclarers) → redeclarers_in after p ≡ redeclarers_in before p ++ e ∷ [] → ((q : Place) → q ≢ p → redeclarers_in after q ≡ redeclarers_in before q) → AddsRedeclarer e (p ∷ []) before after
+adds-one e p before after there others = record {
+  here = λ q among. elim (Contains-cases p [] q among) [
+    | inl same ↦ (let P : Place → Type 0 = λ r. Contains (redeclarers_in after r) e in let Q : List ℕ → Type 0 = λ fs. Contains fs e in subst P same (subst Q (sym there) (Contains-push (redeclarers_in before p) e)))
+    | inr none ↦ absurd (Contains-none q none)
+  ];
+  kept = λ q f among. let Q : List ℕ → Type 0 = λ fs. Contains fs f in elim (same-or p q) [
+    | inl same ↦
+        let P : Place → Type 0 = λ r. Contains (redeclarers_in after r) f in
+        let R : Place → Type 0 = λ r. Contains (redeclarers_in before r) f in
+        subst P (sym same) (subst Q (sym there) (Contains-append_left (redeclarers_in before p) (e ∷ []) f (subst R same among)))
+    | inr differ ↦ subst Q (sym (others q differ)) among
+  ];
+  within = λ q f among. let Q : List ℕ → Type 0 = λ fs. Contains fs f in elim (same-or p q) [
+    | inl same ↦
+        let P : Place → Type 0 = λ r. Contains (redeclarers_in after r) f in
+        let R : Place → Type 0 = λ r. Contains (redeclarers_in before r) f in
+        elim (Contains-push_cases (redeclarers_in before p) e f (subst Q there (subst P same among))) [ inl old ↦ inl (subst R (sym same) old) | inr new ↦ inr (sym new) ]
+    | inr differ ↦ inl (subst Q (others q differ) among)
+  ];
+}
+
+-- each of the entities so far has been added, and one more
+pub redeclarers-more : (xs : List Entity) (x : Entity) (before after : Redeclarers) → AreRedeclarersOf xs before → AddsRedeclarer (length xs) (places_redeclared x) before after → AreRedeclarersOf (xs ++ x ∷ []) after
+redeclarers-more xs x before after so_far adds = record {
+  all = λ e y p at among. elim (snoc-get xs x e y at) [
+    | inl old ↦ adds.kept p e (so_far.all e y p old among)
+    | inr new ↦
+        let P : ℕ → Type 0 = λ f. Contains (redeclarers_in after p) f in
+        let Q : Entity → Type 0 = λ z. Contains (places_redeclared z) p in
+        subst P (sym new.0) (adds.here p (subst Q new.1 among))
+  ];
+  within = λ e p among. let more = length-append xs (x ∷ []) in elim (adds.within p e among) [
+    | inl old ↦ (let below = so_far.within e p old in omega (arith, below, more))
+    | inr new ↦ omega (arith, new, more)
+  ];
+}
+
+pub redeclarers-none : (all : Redeclarers) → ((p : Place) → redeclarers_in all p ≡ []) → AreRedeclarersOf [] all
+redeclarers-none all none = record {
+  all = λ e x p at among. (let no : None ≡ Some x = at in cc);
+  within = λ e p among. let P : List ℕ → Type 0 = λ fs. Contains fs e in absurd (Contains-none e (subst P (none p) among));
+}
+
+pub are-redeclarers : (s : Schema) (all : Redeclarers) → AreRedeclarersOf s.entities all → AreRedeclarers s all
+are-redeclarers s all are = record { all = λ e place redeclares. by e place redeclares; within = λ e place among. are.within e place among }
+  where
+    by : (e : ℕ) (place : Place) → RedeclaresPlace s e place → Contains (redeclarers_in all place) e
+    by e place (inl (r, ((x, at, among), is))) =
+        let P : Place → Type 0 = λ q. Contains (explicit_places x) q in
+        are.all e x place at (Contains-append_left (explicit_places x) x.derived place (subst P is (Contains-mapped (λ q. q.place) x.redeclared r among)))
+    by e place (inr (x, at, among)) = are.all e x place at (Contains-append_right (explicit_places x) x.derived place among)
+
+-- ---- positions in the lists of each entity
+
+pub each-none : (of_each : List EntityPlaces) → of_each ≡ [] → ArePlacesOfEach [] of_each
+each-none of_each none = record { size = ap length none; each = λ e x places at found. (let no : None ≡ Some x = at in cc) }
+
+pub each-next : (xs : List Entity) (x : Entity) (before after : List EntityPlaces) (places : EntityPlaces) → ArePlacesOfEach xs before → ArePlacesOf x places → after ≡ before ++ places ∷ [] → ArePlacesOfEach (xs ++ x ∷ []) after
+each-next xs x before after places so_far one after_is = record {
+  size = (let long = length-append xs (x ∷ []) in let long_ = length-append before (places ∷ []) in omega (arith, ap length after_is, long, long_, so_far.size));
+  each = λ e y found at found_at. elim (snoc-get xs x e y at) [
+    | inl old ↦ elim (snoc-get before places e found (ap (λ ps. slice_get ps e) (sym after_is) ∙ found_at)) [
+      | inl h ↦ so_far.each e y found old h
+      | inr h ↦ (let below = slice_get_within xs e y old in absurd (omega (arith, below, h.0, so_far.size)))
+    ]
+    | inr new ↦ elim (snoc-get before places e found (ap (λ ps. slice_get ps e) (sym after_is) ∙ found_at)) [
+      | inl h ↦ (let below = slice_get_within before e found h in absurd (omega (arith, below, new.0, so_far.size)))
+      | inr h ↦
+          let P : EntityPlaces → Type 0 = λ ps. ArePlacesOf y ps in
+          let Q : Entity → Type 0 = λ z. ArePlacesOf z places in
+          subst P (sym h.1) (subst Q (sym new.1) one)
+    ]
+  ];
+}
+
+-- one place more of redeclarations
+pub place-next : {X Y : Type 0} (place : X → Place) (of : Y → Place) (xs after : List X) (x : X) (ys : List Y) (k : ℕ) (d : Y) → k < length ys → after ≡ xs ++ x ∷ [] → place x ≡ of (get_or ys k d) → map place xs ≡ map of (take k ys) → map place after ≡ map of (take (k + 1) ys)
+place-next place of xs after x ys k d below after_is is so_far =
+    ap (map place) after_is ∙ map-append place xs (x ∷ []) ∙ ap (λ ps. ps ++ place x ∷ []) so_far ∙ ap (λ p. map of (take k ys) ++ p ∷ []) is ∙ sym (ap (map of) (take_more ys k d below) ∙ map-append of (take k ys) (get_or ys k d ∷ []))
+
+-- ---- what is found of an entity
+
+there : {X : Type 0} (xs : List X) (k : ℕ) → k < length xs → (x : X) × (slice_get xs k ≡ Some x)
+there [] k below = absurd (omega (arith, below))
+there (x ∷ xs) zero below = (x, refl)
+there (x ∷ xs) (suc k) below = there xs k (omega (arith, below))
+
+unmapped-at : {X Y : Type 0} (f : X → Y) (xs : List X) (k : ℕ) (y : Y) → slice_get (map f xs) k ≡ Some y → (x : X) × (slice_get xs k ≡ Some x) × (f x ≡ y)
+unmapped-at f [] k y at = cc
+unmapped-at f (x ∷ xs) zero y at = (x, refl, some_is (f x) y at)
+unmapped-at f (x ∷ xs) (suc k) y at = unmapped-at f xs k y at
+
+module _ (s : Schema) (e : ℕ) (p : Place) (places : EntityPlaces) (is : IsEntity s e) (are : (x : Entity) → slice_get s.entities e ≡ Some x → ArePlacesOf x places) where
+  pub derives-option : (result : Option ℕ) → ((qs : List Place) → HavePositions places.derived qs → MatchOption result (Contains qs p → ⊥) (λ k. slice_get qs k ≡ Some p)) → MatchOption result (DerivesPlace s e p → ⊥) (λ k. DerivesPlace s e p)
+  derives-option None found = λ (x, at, among). found x.derived (are x at).derived_are among
+  derives-option (Some k) found = let (x, at) = there s.entities e is in (x, at, Contains-found x.derived k p (found x.derived (are x at).derived_are))
+
+  pub redeclares-option : (result : Option ℕ) → ((qs : List Place) → HavePositions places.redeclared qs → MatchOption result (Contains qs p → ⊥) (λ k. slice_get qs k ≡ Some p))
+      → MatchOption result (IsRedeclarer s p e → ⊥) (λ k. (r : Redeclared) × IsRedeclaredAs s e k r × (r.place ≡ p))
+  redeclares-option None found =
+      λ (r, ((x, at, among), same)). let P : Place → Type 0 = λ q. Contains (explicit_places x) q in found (explicit_places x) (are x at).explicit_are (subst P same (Contains-mapped (λ q. q.place) x.redeclared r among))
+  redeclares-option (Some k) found =
+      let (x, at) = there s.entities e is in
+      let (r, r_at, same) = unmapped-at (λ q. q.place) x.redeclared k p (found (explicit_places x) (are x at).explicit_are) in
+      (r, (x, at, r_at), same)
+
+-- an entity that redeclares a place so is one that redeclares it
+pub redeclarer-at : (s : Schema) (e : ℕ) (p : Place) (k : ℕ) (r : Redeclared) → IsRedeclaredAs s e k r → r.place ≡ p → IsRedeclarer s p e
+redeclarer-at s e p k r (x, at, r_at) same = (r, ((x, at, Contains-found x.redeclared k r r_at), same))

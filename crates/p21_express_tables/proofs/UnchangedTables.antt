@@ -1,5 +1,5 @@
 -- What is prepared without regard to redeclarations stays right once the entities redeclare something.
-use Rattle.std.specs.Prelude.{◌≡◌, ℕ, zero, suc, List, [], ◌∷◌, ◌++◌, None, Some, length, map, slice_get, refl}
+use Rattle.std.specs.Prelude.{◌≡◌, ℕ, zero, suc, Bool, List, [], ◌∷◌, ◌++◌, None, Some, length, map, slice_get, refl}
 use Rattle.std.specs.Global.{Vec}
 use Rattle.std.specs.List.{AllZip, flat_map}
 use Rattle.std.specs.Option.{option_map}
@@ -19,11 +19,11 @@ use Rattle.p21_express_graph.proofs.SameEntities.{each-same}
 use Rattle.p21_express_graph.proofs.Gatherings.{mapped-length}
 use Rattle.p21_express_graph.proofs.Naming.{named}
 use Rattle.p21_express_graph.proofs.OrderTables.{supertypes-listed}
-use Rattle.p21_express_tables.specs.OwnSets.{AreOwnSets}
+use Rattle.p21_express_tables.specs.OwnSets.{AreOwnClashes}
 use Rattle.p21_express_tables.specs.Prepared.{IsPrepared}
-use Rattle.p21_express_tables.specs.Redeclarers.{AreRedeclarers}
+use Rattle.p21_express_tables.specs.Redeclarers.{AreRedeclared}
 use Rattle.p21_express_tables.specs.RisingSets.{AreRisingSets, IsRisingSet, RisingSet}
-use Rattle.p21_express_tables.specs.declared.own_sets.OwnSet.{OwnSet}
+use Rattle.p21_express_tables.specs.declared.redeclarers.RedeclaredPlaces.{RedeclaredPlaces}
 use Rattle.p21_express_tables.specs.declared.tables.Tables.{Tables}
 
 -- ---- entities
@@ -119,25 +119,25 @@ offered-same s t same count member are = record {
 -- ---- all tables
 
 pub redeclaring-prepared : (s t : Schema) (ys : List Entity) → length s.entities ≡ length ys → t ≡ redeclaring_schema s ys
-    → (tables : Tables) (redeclarers : Vec (Vec ℕ)) (own : Vec OwnSet)
-    → IsPrepared s tables → AreRedeclarers t (lists_of redeclarers.items) → AreOwnSets t own.items
-    → IsPrepared t (record tables { redeclarers = redeclarers; own = own })
-redeclaring-prepared s t ys long same tables redeclarers own is redeclarers_are own_are =
+    → (tables : Tables) (redeclared : RedeclaredPlaces) (clashes : Vec Bool)
+    → IsPrepared s tables → AreRedeclared t redeclared → AreOwnClashes t clashes.items
+    → IsPrepared t (record tables { redeclared = redeclared; own_clashes = clashes })
+redeclaring-prepared s t ys long same tables redeclared clashes is redeclared_are clashes_are =
     let whole : Schema = redeclaring_schema s ys in
     let count : length whole.entities ≡ length s.entities = each-count s.entities ys long in
     let supertypes : supertype_lists whole ≡ supertype_lists s = each-same (λ x. x.supertypes) (λ x y. refl) s.entities ys long in
     let names : map (λ x. x.name) whole.entities ≡ map (λ x. x.name) s.entities = each-same (λ x. x.name) (λ x y. refl) s.entities ys long in
-    let P : Schema → Type 0 = λ z. AreRedeclarers z (lists_of redeclarers.items) → AreOwnSets z own.items → IsPrepared z (record tables { redeclarers = redeclarers; own = own }) in
-    subst P (sym same) (λ redeclarers_ own_. record {
+    let P : Schema → Type 0 = λ z. AreRedeclared z redeclared → AreOwnClashes z clashes.items → IsPrepared z (record tables { redeclared = redeclared; own_clashes = clashes }) in
+    subst P (sym same) (λ redeclared_ clashes_. record {
       prefixes_are = is.prefixes_are;
       orders_are = orders-same s whole count supertypes is.orders_are;
       indexes_are = is.indexes_are;
       listed_are = record { each = is.listed_are.each; rising = is.listed_are.rising };
-      redeclarers_are = redeclarers_;
+      redeclared_are = redeclared_;
       ends_are = ends-same s whole (λ x. refl) refl is.ends_are;
       entities_offered = offered-same s whole (λ x. refl) refl entity_member is.entities_offered;
       types_offered = offered-same s whole (λ x. refl) refl type_member is.types_offered;
       ranking_is = ranking-same s whole count names is.ranking_is;
       rising_are = rising_sets-same s whole count supertypes names is.rising_are;
-      own_are = own_;
-    }) redeclarers_are own_are
+      clashes_are = clashes_;
+    }) redeclared_are clashes_are

@@ -1,7 +1,7 @@
 pub mod Ascent
 pub mod Base
 pub mod Coding
-pub mod DecidedPlaces
+pub mod PlacePositions
 pub mod Decisions
 pub mod Ids
 pub mod OneOf

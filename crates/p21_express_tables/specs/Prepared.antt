@@ -8,8 +8,8 @@ use Rattle.p21_express_graph.specs.Ranking.{IsRanking}
 use Rattle.p21_express_graph.specs.DirectRenaming.{AreEnds}
 use Rattle.p21_express_graph.specs.SettledOrder.{lists_of}
 use Rattle.p21_express_tables.specs.OneOf.{AreListedIn}
-use Rattle.p21_express_tables.specs.OwnSets.{AreOwnSets}
-use Rattle.p21_express_tables.specs.Redeclarers.{AreRedeclarers}
+use Rattle.p21_express_tables.specs.OwnSets.{AreOwnClashes}
+use Rattle.p21_express_tables.specs.Redeclarers.{AreRedeclared}
 use Rattle.p21_express_tables.specs.RisingSets.{AreRisingSets}
 use Rattle.p21_express_tables.specs.declared.tables.Tables.{Tables}
 
@@ -19,10 +19,10 @@ pub record IsPrepared (s : Schema) (tables : Tables) : Type 0 where
   pub orders_are : AreOrders s (lists_in tables.orders)
   pub indexes_are : AreIndexes (number_lists tables.orders.runs.items) tables.indexes.items
   pub listed_are : AreListedIn s (lists_of tables.listed_in.items)
-  pub redeclarers_are : AreRedeclarers s (lists_of tables.redeclarers.items)
+  pub redeclared_are : AreRedeclared s tables.redeclared
   pub ends_are : AreEnds s tables.ends.items
   pub entities_offered : AreOffered s entity_member (lists_of tables.offered.entities.items)
   pub types_offered : AreOffered s type_member (lists_of tables.offered.types.items)
   pub ranking_is : IsRanking s (numbers tables.ranking.rising.items) tables.ranking.ranks.items
   pub rising_are : AreRisingSets s tables.rising_sets.items
-  pub own_are : AreOwnSets s tables.own.items
+  pub clashes_are : AreOwnClashes s tables.own_clashes.items

@@ -1,20 +1,67 @@
--- The entities that redeclare places, in a table by the entities that declare these.
-use Rattle.std.specs.Prelude.{◌⊎◌, ◌++◌, ℕ, List, map, Contains}
+-- The places that entities redeclare: for each entity where they stand in its lists, and for each place the entities.
+use Rattle.std.specs.Prelude.{◌≡◌, ◌<◌, ◌⊎◌, ◌++◌, ℕ, List, [], Option, Some, None, length, map, slice_get, Contains}
+use Rattle.std.specs.Prelude as std
+use Rattle.std.specs.declared.alloc.Global.{Global}
 use Rattle.p21_schemas.specs.Schema.{Schema, Place, Entity}
+use Rattle.p21_express_types.specs.declared.number.EntityId.{EntityId}
 use Rattle.p21_express_graph.specs.Lookups.{DerivesPlace}
+use Rattle.p21_express_graph.specs.Orders.{numbers}
 use Rattle.p21_express_graph.specs.Resolved.{IsEntity}
-use Rattle.p21_express_graph.specs.SettledOrder.{nexts_of}
 use Rattle.p21_express_tables.specs.Decisions.{IsRedeclarer}
+use Rattle.p21_express_tables.specs.PlacePositions.{HavePositions, at_place}
+use Rattle.p21_express_tables.specs.declared.redeclarers.EntityPlaces.{EntityPlaces}
+use Rattle.p21_express_tables.specs.declared.redeclarers.RedeclaredPlaces.{RedeclaredPlaces}
+use Rattle.p21_express_tables.specs.declared.redeclarers.Redeclarers.{Redeclarers}
 
 -- the entity redeclares the place, as an explicit or as a derived attribute
 abbrev pub RedeclaresPlace : Schema → ℕ → Place → Type 0
 RedeclaresPlace s e place = IsRedeclarer s place e ⊎ DerivesPlace s e place
 
--- the entities that declare the places which an entity redeclares
-abbrev pub owners_of : Entity → List ℕ
-owners_of x = map (λ r. r.place.entity) x.redeclared ++ map (λ p. p.entity) x.derived
+-- the places that an entity redeclares as explicit attributes, and all
+abbrev pub explicit_places : Entity → List Place
+explicit_places x = map (λ r. r.place) x.redeclared
 
--- the table has for each entity those that redeclare a place which it declares
-pub record AreRedeclarers (s : Schema) (lists : List (List ℕ)) : Type 0 where
-  pub all : (e : ℕ) (place : Place) → RedeclaresPlace s e place → Contains (nexts_of lists place.entity) e
-  pub within : (f e : ℕ) → Contains (nexts_of lists f) e → IsEntity s e
+abbrev pub places_redeclared : Entity → List Place
+places_redeclared x = explicit_places x ++ x.derived
+
+-- these are the positions in both lists of the entity
+pub record ArePlacesOf (x : Entity) (places : EntityPlaces) : Type 0 where
+  pub explicit_are : HavePositions places.redeclared (explicit_places x)
+  pub derived_are : HavePositions places.derived x.derived
+
+-- each entity has those of its lists
+pub record ArePlacesOfEach (entities : List Entity) (of_each : List EntityPlaces) : Type 0 where
+  pub size : length of_each ≡ length entities
+  pub each : (e : ℕ) (x : Entity) (places : EntityPlaces) → slice_get entities e ≡ Some x → slice_get of_each e ≡ Some places → ArePlacesOf x places
+
+abbrev pub listed : Option (std.Vec EntityId Global) → List ℕ
+listed None = []
+listed (Some entities) = numbers entities.items
+
+-- the entities that the table has for a place
+abbrev pub redeclarers_in : Redeclarers → Place → List ℕ
+redeclarers_in all p = listed (at_place all.of_places p)
+
+-- the table has for each place those that redeclare it
+pub record AreRedeclarers (s : Schema) (redeclarers : Redeclarers) : Type 0 where
+  pub all : (e : ℕ) (place : Place) → RedeclaresPlace s e place → Contains (redeclarers_in redeclarers place) e
+  pub within : (e : ℕ) (place : Place) → Contains (redeclarers_in redeclarers place) e → IsEntity s e
+
+-- it has none
+abbrev pub AreNone : Redeclarers → Type 0
+AreNone redeclarers = (p : Place) → redeclarers_in redeclarers p ≡ []
+
+-- the entity has been added at each of the places
+pub record AddsRedeclarer (e : ℕ) (places : List Place) (before after : Redeclarers) : Type 0 where
+  pub here : (p : Place) → Contains places p → Contains (redeclarers_in after p) e
+  pub kept : (p : Place) (f : ℕ) → Contains (redeclarers_in before p) f → Contains (redeclarers_in after p) f
+  pub within : (p : Place) (f : ℕ) → Contains (redeclarers_in after p) f → Contains (redeclarers_in before p) f ⊎ (f ≡ e)
+
+-- each of the entities has been added at the places that it redeclares
+pub record AreRedeclarersOf (entities : List Entity) (redeclarers : Redeclarers) : Type 0 where
+  pub all : (e : ℕ) (x : Entity) (p : Place) → slice_get entities e ≡ Some x → Contains (places_redeclared x) p → Contains (redeclarers_in redeclarers p) e
+  pub within : (e : ℕ) (p : Place) → Contains (redeclarers_in redeclarers p) e → e < length entities
+
+pub record AreRedeclared (s : Schema) (redeclared : RedeclaredPlaces) : Type 0 where
+  pub each_are : ArePlacesOfEach s.entities redeclared.of_each.items
+  pub redeclarers_are : AreRedeclarers s redeclared.redeclarers

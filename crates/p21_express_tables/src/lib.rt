@@ -3,11 +3,11 @@
 
 mod ascent;
 mod base;
-mod decided;
 mod holders;
 mod ids;
 mod one_of;
 mod own_sets;
+mod place_positions;
 mod place_types;
 mod redeclarers;
 mod rising;

@@ -1,24 +1,18 @@
-ghost use Rattle.std.specs.Prelude.{◌≡◌, ◌<◌, ◌↔◌, IsTrue, length, map, Contains, IfOk, OnErr, OnOk};
-ghost use Rattle.p21_schemas.specs.Schema.{Redeclared as MeantRedeclared};
+ghost use Rattle.std.specs.Prelude.{◌≡◌, ◌<◌, ◌↔◌, IsTrue, length, Contains, IfOk, OnErr, OnOk};
+ghost use Rattle.p21_schemas.specs.Schema.{Place as MeantPlace};
 ghost use Rattle.p21_schemas.specs.OneOf.{Clashes};
-ghost use Rattle.p21_schemas.specs.Order.{order};
-ghost use Rattle.p21_schemas.specs.PlaceType.{TypeAt};
-ghost use Rattle.p21_schemas.specs.Supertype.{IsA};
+ghost use Rattle.p21_schemas.specs.Order.{order, own_places};
+ghost use Rattle.p21_schemas.specs.PlaceType.{TypeAt, two_redeclarations};
 ghost use Rattle.p21_express_types.specs.Meaning.{place as place_of, place_type};
 ghost use Rattle.p21_express_graph.specs.Orders.{numbers};
-ghost use Rattle.p21_express_graph.specs.SchemaContents.{redeclared as redeclared_of};
 ghost use Rattle.p21_express_graph.specs.Resolved.{IsEntity, IsPlace};
 ghost use Rattle.p21_express_graph.specs.Rising.{IsOwnRising};
-ghost use Rattle.p21_express_tables.specs.DecidedPlaces.{AreDecided};
 ghost use Rattle.p21_express_tables.specs.Decisions.{IsDecision};
-ghost use Rattle.p21_express_tables.specs.declared.place_types.Decision.TheVariants.{Two};
-ghost use Rattle.p21_express_tables.specs.OwnSets.{HasOwnFaults, IsOpenAt, LeavesOpen};
+ghost use Rattle.p21_express_tables.specs.OwnSets.{HasOwnFaults, LeavesOpen};
 
-use crate::decided::{DecidedPlace, decision_at};
 use crate::ids::Ids;
 use crate::place_types::Decision;
 use crate::schema::Schema;
-use p21_express_graph::Redeclared;
 use p21_express_types::{EntityId, Place, PlaceType};
 use p21_values::NoMemory;
 
@@ -34,23 +28,16 @@ pub struct OwnFaults {
     pub clashes: bool,
 }
 
-/// What is known beforehand of the set of an entity and its supertypes.
-#[derive(Debug, Drop)]
-pub(crate) struct OwnSet {
-    pub(crate) faults: OwnFaults,
-    // What decides at each place that an entity of it redeclares.
-    pub(crate) decided: Vec<DecidedPlace>,
-}
-
 impl Schema {
     /// What makes the set of an entity and its supertypes no set of an instance. It takes no memory.
     pub fn own_faults(&self, entity: EntityId) -> OwnFaults
         requires { IsEntity self.now entity.0 }
         ensures { HasOwnFaults self.now entity.0 result }
     {
-        match self.tables.own.get(entity.0 as usize) {
-            Some(own) => own.faults,
-            None => self.find_own_faults(entity),
+        OwnFaults {
+            is_abstract: self.is_abstract(entity),
+            leaves_open: self.leaves_open(entity),
+            clashes: self.own_clashes(entity),
         }
     }
 
@@ -83,92 +70,56 @@ impl Schema {
         self.decided_type(place, self.own_decision(entity, place))
     }
 
-    /// What decides on that type.
+    /// What decides on that type: of the entities that redeclare the place and those of the set, the fewer are looked at.
     fn own_decision(&self, entity: EntityId, place: Place) -> Decision
         requires { IsEntity self.now entity.0 }
         ensures { IsDecision self.now (order self.now entity.0) (place_of place) result }
     {
         self.holds_together();
-        match self.tables.own.get(entity.0 as usize) {
-            Some(own) => decision_at(&own.decided, place),
-            None => self.decision(self.order_of(entity), place),
+        let redeclarers = self.redeclarers_of(place);
+        if redeclarers.is_empty() {
+            return Decision::Declared;
+        }
+        let order = self.order_of(entity);
+        if redeclarers.len() < order.len() {
+            self.decision_among(redeclarers, Some(entity), place)
+        } else {
+            self.decision_among(order, Some(entity), place)
         }
     }
 
-    /// Prepares what is known of the own sets of all entities.
-    pub(crate) fn prepare_own_sets(&mut self) -> Result<(), NoMemory>
+    /// Prepares whether the own sets of all entities clash.
+    pub(crate) fn prepare_clashes(&mut self) -> Result<(), NoMemory>
         ensures { OnOk result (self.new ≡ self.old) }
     {
         for _ in 0..self.entities() {
-            self.prepare_own_set()?;
+            self.prepare_clash()?;
         }
         Ok(())
     }
 
-    /// Prepares what is known of the own set of the next entity.
-    fn prepare_own_set(&mut self) -> Result<(), NoMemory>
+    /// Prepares whether the own set of the next entity clashes.
+    fn prepare_clash(&mut self) -> Result<(), NoMemory>
         ensures { OnOk result (self.new ≡ self.old) }
     {
         self.holds_together();
-        let number = self.tables.own.len();
+        let number = self.tables.own_clashes.len();
         if number >= self.entities() {
             return Ok(());
         }
-        let entity = EntityId(number as u32);
-        let decided = self.find_decided(entity)?;
-        let clashes = self.find_clash(self.order_of(entity))?;
-        let own = OwnSet {
-            faults: self.own_faults_with(entity, self.has_open(entity, &decided), clashes),
-            decided,
-        };
-        self.tables.own.push(own)?;
+        let clash = self.find_clash(self.order_of(EntityId(number as u32)))?;
+        self.tables.own_clashes.push(clash)?;
         Ok(())
     }
 
-    fn find_own_faults(&self, entity: EntityId) -> OwnFaults
+    /// Whether two entities of the own set stand in one ONEOF list.
+    fn own_clashes(&self, entity: EntityId) -> bool
         requires { IsEntity self.now entity.0 }
-        ensures { HasOwnFaults self.now entity.0 result }
+        ensures { IsTrue result ↔ Clashes self.now (order self.now entity.0) }
     {
-        let clashes = self.clashes(self.order_of(entity));
-        self.own_faults_with(entity, self.leaves_open(entity), clashes)
-    }
-
-    fn own_faults_with(&self, entity: EntityId, leaves_open: bool, clashes: bool) -> OwnFaults
-        requires entity { IsEntity self.now entity.0 }
-        requires open { IsTrue leaves_open ↔ LeavesOpen self.now entity.0 }
-        requires clash { IsTrue clashes ↔ Clashes self.now (order self.now entity.0) }
-        ensures { HasOwnFaults self.now entity.0 result }
-    {
-        OwnFaults {
-            is_abstract: self.is_abstract(entity),
-            leaves_open,
-            clashes,
-        }
-    }
-
-    /// Whether redeclarations leave a place of the own set open, by what decides at those that are redeclared.
-    fn has_open(&self, entity: EntityId, decided: &[DecidedPlace]) -> bool
-        requires entity { IsEntity self.now entity.0 }
-        requires decided { AreDecided self.now (order self.now entity.0) decided.now }
-        ensures { IsTrue result ↔ LeavesOpen self.now entity.0 }
-    {
-        self.holds_together();
-        for known in decided {
-            let known: &DecidedPlace = known;
-            if self.is_open(entity, known) {
-                return true;
-            }
-        }
-        false
-    }
-
-    fn is_open(&self, entity: EntityId, decided: &DecidedPlace) -> bool
-        requires { IsEntity self.now entity.0 }
-        ensures { IsTrue result ↔ (IsA self.now entity.0 (place_of decided.now.place).entity × (decided.now.decision ≡ Two)) }
-    {
-        match decided.decision {
-            Decision::Two => self.is_a(entity, decided.place.entity),
-            _ => false,
+        match self.tables.own_clashes.get(entity.0 as usize) {
+            Some(clash) => *clash,
+            None => self.clashes(self.order_of(entity)),
         }
     }
 
@@ -187,22 +138,25 @@ impl Schema {
     {
         self.holds_together();
         for owner in self.order_of(entity) {
-            if self.opens_among(entity, &self.entity_at(*owner).redeclared) {
+            if self.leaves_open_of(entity, *owner) {
                 return true;
             }
         }
         false
     }
 
-    /// Whether redeclarations leave one of these places of the own set open.
-    fn opens_among(&self, entity: EntityId, redeclared: &[Redeclared]) -> bool
+    /// Whether redeclarations leave a place open that an entity of the own set declares.
+    fn leaves_open_of(&self, entity: EntityId, owner: EntityId) -> bool
         requires entity { IsEntity self.now entity.0 }
-        requires places { (r : MeantRedeclared) → Contains (map redeclared_of redeclared.now) r → IsPlace self.now r.place }
-        ensures { IsTrue result ↔ ((r : MeantRedeclared) × Contains (map redeclared_of redeclared.now) r × IsOpenAt self.now entity.0 r.place) }
+        requires owner { IsEntity self.now owner.0 }
+        ensures { IsTrue result ↔ ((p : MeantPlace) × Contains (own_places self.now owner.0) p × TypeAt self.now (order self.now entity.0) p two_redeclarations) }
     {
-        for other in redeclared {
-            let other: &Redeclared = other;
-            if self.is_open_at(entity, other.place) {
+        for index in 0..self.attribute_count(owner) {
+            let place = Place {
+                entity: owner,
+                index,
+            };
+            if self.is_open_at(entity, place) {
                 return true;
             }
         }
@@ -210,16 +164,11 @@ impl Schema {
     }
 
     fn is_open_at(&self, entity: EntityId, place: Place) -> bool
-        requires entity { IsEntity self.now entity.0 }
-        requires place { IsPlace self.now (place_of place) }
-        ensures { IsTrue result ↔ IsOpenAt self.now entity.0 (place_of place) }
+        requires { IsEntity self.now entity.0 }
+        ensures { IsTrue result ↔ TypeAt self.now (order self.now entity.0) (place_of place) two_redeclarations }
     {
-        self.holds_together();
-        if !self.is_a(entity, place.entity) {
-            return false;
-        }
-        match self.type_at(self.order_of(entity), place) {
-            PlaceType::Two => true,
+        match self.own_decision(entity, place) {
+            Decision::Two => true,
             _ => false,
         }
     }

@@ -1,12 +1,12 @@
-ghost use Rattle.std.specs.Prelude.{◌≡◌, ◌↔◌, ℕ, List, IsTrue, map, slice_get, Contains, MatchOption, Some};
+ghost use Rattle.std.specs.Prelude.{◌≡◌, ◌↔◌, ℕ, List, IsTrue, Contains, MatchOption, IfSome, Some};
 ghost use Rattle.p21_schemas.specs.Schema.{Redeclared as MeantRedeclared};
-ghost use Rattle.p21_schemas.specs.PlaceType.{TypeAt, IsDerivedIn, IsRedeclared};
+ghost use Rattle.p21_schemas.specs.PlaceType.{TypeAt, IsDerivedIn};
 ghost use Rattle.p21_express_types.specs.Meaning.{place as place_of, place_type};
-ghost use Rattle.p21_express_graph.specs.Lookups.{AreEntities, DerivesPlace, IsBelow, RedeclaresAt};
+ghost use Rattle.p21_express_graph.specs.Lookups.{AreEntities};
 ghost use Rattle.p21_express_graph.specs.Orders.{numbers};
 ghost use Rattle.p21_express_graph.specs.SchemaContents.{redeclared as redeclared_of};
 ghost use Rattle.p21_express_graph.specs.Resolved.{IsEntity, IsPlace};
-ghost use Rattle.p21_express_tables.specs.Decisions.{IsBelowLast, IsDecision, IsLowest, IsRedeclaredAs, IsRedeclarer};
+ghost use Rattle.p21_express_tables.specs.Decisions.{AreMembers, Counts, IsBelowAll, IsBelowLast, IsDecision, IsDeriving, IsLowest, IsRedeclaredAs, IsRedeclarer, IsRedeclaring};
 
 use crate::schema::Schema;
 use p21_express_graph::Redeclared;
@@ -65,30 +65,51 @@ impl Schema {
     }
 
     /// What decides on the type at a place of an instance with these entities.
-    pub(crate) fn decision(&self, entities: &[EntityId], place: Place) -> Decision
+    fn decision(&self, entities: &[EntityId], place: Place) -> Decision
         requires { AreEntities self.now (numbers entities.now) }
         ensures { IsDecision self.now (numbers entities.now) (place_of place) result }
     {
-        if self.redeclarers_of(place.entity).is_empty() {
+        if self.redeclarers_of(place).is_empty() {
             return Decision::Declared;
         }
-        if self.is_derived_in(entities, place) {
+        self.decision_among(entities, None, place)
+    }
+
+    /// What decides on the type at a place of an instance, whose entities that redeclare the place are those of these that
+    /// count.
+    pub(crate) fn decision_among(
+        &self,
+        entities: &[EntityId],
+        own: Option<EntityId>,
+        place: Place,
+    ) -> Decision
+        requires entities { AreEntities self.now (numbers entities.now) }
+        requires own { IfSome own (λ e. IsEntity self.now e.0) }
+        ensures { (set : List ℕ) → AreMembers self.now (numbers entities.now) own (place_of place) set → IsDecision self.now set (place_of place) result }
+    {
+        if self.is_derived_in(entities, own, place) {
             return Decision::Derived;
         }
-        match self.lowest(entities, place) {
-            Some(lowest) => self.decision_by(lowest, entities, place),
+        match self.lowest(entities, own, place) {
+            Some(lowest) => self.decision_by(lowest, entities, own, place),
             None => Decision::Declared,
         }
     }
 
     /// Whether the lowest entity that redeclares a place decides.
-    fn decision_by(&self, lowest: EntityId, entities: &[EntityId], place: Place) -> Decision
+    fn decision_by(
+        &self,
+        lowest: EntityId,
+        entities: &[EntityId],
+        own: Option<EntityId>,
+        place: Place,
+    ) -> Decision
         requires entities { AreEntities self.now (numbers entities.now) }
-        requires stored { IsDerivedIn self.now (numbers entities.now) (place_of place) → ⊥ }
-        requires lowest { IsLowest self.now (numbers entities.now) (place_of place) lowest.0 }
-        ensures { IsDecision self.now (numbers entities.now) (place_of place) result }
+        requires own { IfSome own (λ e. IsEntity self.now e.0) }
+        requires lowest { IsLowest self.now (numbers entities.now) own (place_of place) lowest.0 }
+        ensures { (set : List ℕ) → AreMembers self.now (numbers entities.now) own (place_of place) set → (IsDerivedIn self.now set (place_of place) → ⊥) → IsDecision self.now set (place_of place) result }
     {
-        if !self.is_below(lowest, entities, place) {
+        if !self.is_below(lowest, entities, own, place) {
             return Decision::Two;
         }
         match self.redeclaration(lowest, place) {
@@ -97,39 +118,51 @@ impl Schema {
         }
     }
 
-    fn is_derived_in(&self, entities: &[EntityId], place: Place) -> bool
-        requires { AreEntities self.now (numbers entities.now) }
-        ensures { IsTrue result ↔ IsDerivedIn self.now (numbers entities.now) (place_of place) }
+    /// Whether an entity that counts derives a place.
+    fn is_derived_in(&self, entities: &[EntityId], own: Option<EntityId>, place: Place) -> bool
+        requires entities { AreEntities self.now (numbers entities.now) }
+        requires own { IfSome own (λ e. IsEntity self.now e.0) }
+        ensures { IsTrue result ↔ ((e : ℕ) × Contains (numbers entities.now) e × IsDeriving self.now own (place_of place) e) }
     {
         for entity in entities {
-            if self.derives(*entity, place) {
+            if self.derives(*entity, own, place) {
                 return true;
             }
         }
         false
     }
 
-    /// An entity that redeclares a place as an explicit attribute: where one of them is a subtype of all others, that one.
-    fn lowest(&self, entities: &[EntityId], place: Place) -> Option<EntityId>
-        requires { AreEntities self.now (numbers entities.now) }
-        ensures { MatchOption result (IsRedeclared self.now (numbers entities.now) (place_of place) → ⊥) (λ e. IsLowest self.now (numbers entities.now) (place_of place) e.0) }
+    /// An entity that counts and redeclares a place as an explicit attribute: where one of them is a subtype of all others,
+    /// that one.
+    fn lowest(&self, entities: &[EntityId], own: Option<EntityId>, place: Place) -> Option<EntityId>
+        requires entities { AreEntities self.now (numbers entities.now) }
+        requires own { IfSome own (λ e. IsEntity self.now e.0) }
+        ensures { MatchOption result ((e : ℕ) → Contains (numbers entities.now) e → IsRedeclaring self.now own (place_of place) e → ⊥) (λ e. IsLowest self.now (numbers entities.now) own (place_of place) e.0) }
     {
         self.holds_together();
         let mut lowest: Option<EntityId> = None;
         for entity in entities {
-            if self.redeclares_below(*entity, place, lowest) {
+            if self.redeclares_below(*entity, own, place, lowest) {
                 lowest = Some(*entity);
             }
         }
         lowest
     }
 
-    /// Whether an entity redeclares a place as an explicit attribute, and is a subtype of the last one that was found to.
-    fn redeclares_below(&self, entity: EntityId, place: Place, last: Option<EntityId>) -> bool
-        requires { IsEntity self.now entity.0 }
-        ensures { IsTrue result ↔ (IsRedeclarer self.now (place_of place) entity.0 × IsBelowLast self.now entity.0 last) }
+    /// Whether an entity counts, redeclares a place as an explicit attribute, and is a subtype of the last one that was found
+    /// to.
+    fn redeclares_below(
+        &self,
+        entity: EntityId,
+        own: Option<EntityId>,
+        place: Place,
+        last: Option<EntityId>,
+    ) -> bool
+        requires entity { IsEntity self.now entity.0 }
+        requires own { IfSome own (λ e. IsEntity self.now e.0) }
+        ensures { IsTrue result ↔ (IsRedeclaring self.now own (place_of place) entity.0 × IsBelowLast self.now entity.0 last) }
     {
-        if !self.redeclares(entity, place) {
+        if !self.redeclares(entity, own, place) {
             return false;
         }
         match last {
@@ -138,71 +171,69 @@ impl Schema {
         }
     }
 
-    /// Whether an entity is a subtype of all others that redeclare a place as an explicit attribute.
-    fn is_below(&self, entity: EntityId, entities: &[EntityId], place: Place) -> bool
+    /// Whether an entity is a subtype of all others that count and redeclare a place as an explicit attribute.
+    fn is_below(
+        &self,
+        entity: EntityId,
+        entities: &[EntityId],
+        own: Option<EntityId>,
+        place: Place,
+    ) -> bool
         requires entity { IsEntity self.now entity.0 }
         requires entities { AreEntities self.now (numbers entities.now) }
-        ensures { IsTrue result ↔ IsBelow self.now (numbers entities.now) (place_of place) entity.0 }
+        requires own { IfSome own (λ e. IsEntity self.now e.0) }
+        ensures { IsTrue result ↔ IsBelowAll self.now (numbers entities.now) own (place_of place) entity.0 }
     {
         for other in entities {
-            if self.redeclares(*other, place) && !self.is_a(entity, *other) {
+            if self.redeclares(*other, own, place) && !self.is_a(entity, *other) {
                 return false;
             }
         }
         true
     }
 
-    fn derives(&self, entity: EntityId, place: Place) -> bool
-        requires { IsEntity self.now entity.0 }
-        ensures { IsTrue result ↔ DerivesPlace self.now entity.0 (place_of place) }
+    /// Whether an entity counts, and derives a place.
+    fn derives(&self, entity: EntityId, own: Option<EntityId>, place: Place) -> bool
+        requires entity { IsEntity self.now entity.0 }
+        requires own { IfSome own (λ e. IsEntity self.now e.0) }
+        ensures { IsTrue result ↔ IsDeriving self.now own (place_of place) entity.0 }
     {
-        has_place(&self.entity_at(entity).derived, place)
+        let places = self.places_redeclared(entity);
+        match places.derived.find(place) {
+            Some(_at) => self.counts(entity, own),
+            None => false,
+        }
     }
 
-    /// Whether an entity redeclares a place as an explicit attribute.
-    fn redeclares(&self, entity: EntityId, place: Place) -> bool
-        requires { IsEntity self.now entity.0 }
-        ensures { IsTrue result ↔ IsRedeclarer self.now (place_of place) entity.0 }
+    /// Whether an entity counts, and redeclares a place as an explicit attribute.
+    fn redeclares(&self, entity: EntityId, own: Option<EntityId>, place: Place) -> bool
+        requires entity { IsEntity self.now entity.0 }
+        requires own { IfSome own (λ e. IsEntity self.now e.0) }
+        ensures { IsTrue result ↔ IsRedeclaring self.now own (place_of place) entity.0 }
     {
         match self.redeclaration(entity, place) {
-            Some(_) => true,
+            Some(_at) => self.counts(entity, own),
             None => false,
+        }
+    }
+
+    /// Whether an entity counts: all do where no entity is given, else that one and its supertypes.
+    fn counts(&self, entity: EntityId, own: Option<EntityId>) -> bool
+        requires { IfSome own (λ e. IsEntity self.now e.0) }
+        ensures { IsTrue result ↔ Counts self.now own entity.0 }
+    {
+        match own {
+            Some(own) => self.is_a(own, entity),
+            None => true,
         }
     }
 
     /// Where in its list an entity redeclares a place as an explicit attribute.
     fn redeclaration(&self, entity: EntityId, place: Place) -> Option<usize>
         requires { IsEntity self.now entity.0 }
-        ensures { MatchOption result ((r : MeantRedeclared) → RedeclaresAt self.now entity.0 (place_of place) r → ⊥) (λ at. (r : MeantRedeclared) × IsRedeclaredAs self.now entity.0 at r × (r.place ≡ place_of place)) }
+        ensures { MatchOption result (IsRedeclarer self.now (place_of place) entity.0 → ⊥) (λ at. (r : MeantRedeclared) × IsRedeclaredAs self.now entity.0 at r × (r.place ≡ place_of place)) }
     {
-        redeclaration_among(&self.entity_at(entity).redeclared, place)
+        let places = self.places_redeclared(entity);
+        places.redeclared.find(place)
     }
-}
-
-pub(crate) fn has_place(places: &[Place], place: Place) -> bool
-    ensures { IsTrue result ↔ Contains (map place_of places.now) (place_of place) }
-{
-    for other in places {
-        if is_same(*other, place) {
-            return true;
-        }
-    }
-    false
-}
-
-fn redeclaration_among(redeclared: &[Redeclared], place: Place) -> Option<usize>
-    ensures { MatchOption result ((r : MeantRedeclared) → Contains (map redeclared_of redeclared.now) r → r.place ≡ place_of place → ⊥) (λ at. (r : MeantRedeclared) × (slice_get (map redeclared_of redeclared.now) at ≡ Some r) × (r.place ≡ place_of place)) }
-{
-    for at in 0..redeclared.len() {
-        if is_same(redeclared[at].place, place) {
-            return Some(at);
-        }
-    }
-    None
-}
-
-pub(crate) fn is_same(place: Place, other: Place) -> bool
-    ensures { IsTrue result ↔ (place_of place ≡ place_of other) }
-{
-    place.entity.0 == other.entity.0 && place.index == other.index
 }

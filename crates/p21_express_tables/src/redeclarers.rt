@@ -1,83 +1,181 @@
-ghost use Rattle.std.specs.Prelude.{◌≡◌, ◌++◌, ℕ, map, Contains, IfOk, OnOk};
-ghost use Rattle.p21_schemas.specs.Schema.{Place as MeantPlace};
+ghost use Rattle.std.specs.Prelude.{◌≡◌, ◌≢◌, ◌++◌, ◌∷◌, [], ◌<◌, ◌≤◌, ◌^◌, ℕ, length, map, slice_get, Contains, IfOk, OnOk, Some};
+ghost use Rattle.p21_schemas.specs.Schema.{Entity as MeantEntity, Place as MeantPlace, Schema as Meant};
 ghost use Rattle.p21_express_types.specs.Meaning.{place as place_of};
-ghost use Rattle.p21_express_graph.specs.Orders.{numbers, number_lists};
-ghost use Rattle.p21_express_graph.specs.SchemaContents.{schema_of, entity as entity_of, redeclared as redeclared_of};
+ghost use Rattle.p21_express_graph.specs.Orders.{numbers};
+ghost use Rattle.p21_express_graph.specs.SchemaContents.{schema_of, entity as entity_of};
 ghost use Rattle.p21_express_graph.specs.Resolved.{HoldsTogether, IsEntity};
-ghost use Rattle.p21_express_graph.specs.SettledOrder.{lists_of};
-ghost use Rattle.p21_express_tables.specs.Redeclarers.{AreRedeclarers, RedeclaresPlace, owners_of};
+ghost use Rattle.p21_express_tables.specs.Redeclarers.{AddsRedeclarer, AreNone, ArePlacesOf, ArePlacesOfEach, AreRedeclared, AreRedeclarers, AreRedeclarersOf, RedeclaresPlace, places_redeclared, redeclarers_in};
 
+use crate::place_positions::{PlacePositions, places_of};
 use crate::schema::Schema;
-use p21_express_graph::inverted_lists::inverted_lists;
-use p21_express_graph::{Entity, Redeclared, SchemaContents};
+use p21_express_graph::{Entity, SchemaContents};
 use p21_express_types::{EntityId, Place};
 use p21_values::NoMemory;
 use std::alloc::Global;
+use std::collections::BTreeMap;
+
+/// The places that entities redeclare.
+#[derive(Drop)]
+pub(crate) struct RedeclaredPlaces {
+    pub(crate) of_each: Vec<EntityPlaces>,
+    pub(crate) redeclarers: Redeclarers,
+}
+
+/// Where in the lists of an entity the places stand that it redeclares, as explicit and as derived attributes.
+#[derive(Drop)]
+pub(crate) struct EntityPlaces {
+    pub(crate) redeclared: PlacePositions,
+    pub(crate) derived: PlacePositions,
+}
+
+/// For each place that is redeclared, the entities that do so.
+#[derive(Drop)]
+pub(crate) struct Redeclarers {
+    alloc: Global,
+    // By the entity that declares a place, and the number of the place there.
+    of_places: BTreeMap<(u32, u32), Vec<EntityId>>,
+}
 
 impl Schema {
-    /// The numbers of the entities that redeclare a place which an entity declares.
-    pub(crate) fn redeclarers_of(&self, entity: EntityId) -> &[usize]
-        ensures all { (e : ℕ) (place : MeantPlace) → place.entity ≡ entity.0 → RedeclaresPlace self.now e place → Contains result.now e }
-        ensures within { (e : ℕ) → Contains result.now e → IsEntity self.now e }
+    /// The entities that redeclare a place.
+    pub(crate) fn redeclarers_of(&self, place: Place) -> &[EntityId]
+        ensures all { (e : ℕ) → RedeclaresPlace self.now e (place_of place) → Contains (numbers result.now) e }
+        ensures within { (e : ℕ) → Contains (numbers result.now) e → IsEntity self.now e }
     {
-        match self.tables.redeclarers.get(entity.0 as usize) {
-            Some(numbers) => numbers,
+        self.tables.redeclared.redeclarers.of(place)
+    }
+
+    /// Where in its lists the places stand that an entity redeclares.
+    pub(crate) fn places_redeclared(&self, entity: EntityId) -> &EntityPlaces
+        requires { IsEntity self.now entity.0 }
+        ensures { (x : MeantEntity) → slice_get self.now.entities entity.0 ≡ Some x → ArePlacesOf x result.now }
+    {
+        &self.tables.redeclared.of_each[entity.0 as usize]
+    }
+}
+
+impl Redeclarers {
+    fn new(alloc: Global) -> Redeclarers
+        ensures { AreNone result }
+    {
+        Redeclarers {
+            alloc,
+            of_places: BTreeMap::new(alloc),
+        }
+    }
+
+    /// The entities that redeclare a place.
+    fn of(&self, place: Place) -> &[EntityId]
+        ensures { numbers result.now ≡ redeclarers_in self.now (place_of place) }
+    {
+        match self.of_places.get(&(place.entity.0, place.index)) {
+            Some(entities) => entities,
             None => &[],
         }
     }
+
+    /// Takes out the entities that redeclare a place.
+    fn take(&mut self, place: Place) -> Vec<EntityId>
+        ensures taken { numbers result.items ≡ redeclarers_in self.old (place_of place) }
+        ensures others { (q : MeantPlace) → q ≢ place_of place → redeclarers_in self.new q ≡ redeclarers_in self.old q }
+    {
+        match self.of_places.remove(&(place.entity.0, place.index)) {
+            Some(entities) => entities,
+            None => Vec::new(self.alloc),
+        }
+    }
+
+    /// Puts in the entities that redeclare a place.
+    fn put(&mut self, place: Place, entities: Vec<EntityId>) -> Result<(), NoMemory>
+        ensures there { OnOk result (redeclarers_in self.new (place_of place) ≡ numbers entities.items) }
+        ensures others { OnOk result ((q : MeantPlace) → q ≢ place_of place → redeclarers_in self.new q ≡ redeclarers_in self.old q) }
+    {
+        let Ok(_) = self
+            .of_places
+            .insert((place.entity.0, place.index), entities)
+        else {
+            return Err(NoMemory);
+        };
+        Ok(())
+    }
+
+    /// Adds an entity that redeclares a place.
+    fn add(&mut self, entity: EntityId, place: Place) -> Result<(), NoMemory>
+        ensures { OnOk result (AddsRedeclarer entity.0 (place_of place ∷ []) self.old self.new) }
+    {
+        let mut entities = self.take(place);
+        entities.push(entity)?;
+        self.put(place, entities)?;
+        Ok(())
+    }
+
+    /// Adds an entity that redeclares places.
+    fn add_all(&mut self, entity: EntityId, places: &[Place]) -> Result<(), NoMemory>
+        ensures { OnOk result (AddsRedeclarer entity.0 (map place_of places.now) self.old self.new) }
+    {
+        for place in places {
+            self.add(entity, *place)?;
+        }
+        Ok(())
+    }
+
+    /// Adds an entity at all places that it redeclares.
+    fn add_entity(&mut self, number: EntityId, entity: &Entity) -> Result<(), NoMemory>
+        ensures { OnOk result (AddsRedeclarer number.0 (places_redeclared (entity_of entity.now)) self.old self.new) }
+    {
+        let redeclared = places_of(self.alloc, &entity.redeclared)?;
+        self.add_all(number, &redeclared)?;
+        self.add_all(number, &entity.derived)?;
+        Ok(())
+    }
 }
 
-/// For each entity the numbers of those that redeclare a place which it declares.
-pub(crate) fn all_redeclarers(
+/// The places that the entities of a schema redeclare.
+pub(crate) fn all_redeclared(
     alloc: Global,
     parts: &SchemaContents,
-) -> Result<Vec<Vec<usize>>, NoMemory>
+) -> Result<RedeclaredPlaces, NoMemory>
     requires { HoldsTogether (schema_of parts.now) }
-    ensures { IfOk result (λ lists. AreRedeclarers (schema_of parts.now) (lists_of lists.items)) }
+    ensures { IfOk result (AreRedeclared (schema_of parts.now)) }
 {
-    let owners = all_owners(alloc, &parts.entities)?;
-    let lists = inverted_lists(alloc, parts.entities.len(), &owners)?;
-    Ok(lists)
+    let of_each = places_of_each(alloc, &parts.entities)?;
+    let redeclarers = all_redeclarers(alloc, &parts.entities)?;
+    Ok(RedeclaredPlaces {
+        of_each,
+        redeclarers,
+    })
 }
 
-/// For each entity those that declare the places which it redeclares.
-fn all_owners(alloc: Global, entities: &[Entity]) -> Result<Vec<Vec<EntityId>>, NoMemory>
-    ensures { IfOk result (λ lists. number_lists lists.items ≡ map (λ x. owners_of (entity_of x)) entities.now) }
+fn places_of_each(alloc: Global, entities: &[Entity]) -> Result<Vec<EntityPlaces>, NoMemory>
+    ensures { IfOk result (λ of_each. ArePlacesOfEach (map entity_of entities.now) of_each.items) }
 {
-    let mut lists = Vec::with_capacity(alloc, entities.len())?;
+    let mut of_each = Vec::with_capacity(alloc, entities.len())?;
     for entity in entities {
         let entity: &Entity = entity;
-        let mut owners = Vec::new(alloc);
-        push_owners(entity, &mut owners)?;
-        lists.push(owners)?;
+        of_each.push(places_of_entity(alloc, entity)?)?;
     }
-    Ok(lists)
+    Ok(of_each)
 }
 
-/// Adds the entities that declare the places which an entity redeclares.
-pub(crate) fn push_owners(entity: &Entity, owners: &mut Vec<EntityId>) -> Result<(), NoMemory>
-    ensures { OnOk result (numbers owners.new.items ≡ numbers owners.old.items ++ owners_of (entity_of entity.now)) }
+fn places_of_entity(alloc: Global, entity: &Entity) -> Result<EntityPlaces, NoMemory>
+    ensures { IfOk result (ArePlacesOf (entity_of entity.now)) }
 {
-    push_redeclared(&entity.redeclared, owners)?;
-    push_derived(&entity.derived, owners)?;
-    Ok(())
+    let places = places_of(alloc, &entity.redeclared)?;
+    let redeclared = PlacePositions::of(alloc, &places)?;
+    let derived = PlacePositions::of(alloc, &entity.derived)?;
+    Ok(EntityPlaces {
+        redeclared,
+        derived,
+    })
 }
 
-fn push_redeclared(redeclared: &[Redeclared], owners: &mut Vec<EntityId>) -> Result<(), NoMemory>
-    ensures { OnOk result (numbers owners.new.items ≡ numbers owners.old.items ++ map (λ r. r.place.entity) (map redeclared_of redeclared.now)) }
+fn all_redeclarers(alloc: Global, entities: &[Entity]) -> Result<Redeclarers, NoMemory>
+    requires { length entities.now ≤ 2 ^ 32 }
+    ensures { IfOk result (λ redeclarers. AreRedeclarersOf (map entity_of entities.now) redeclarers) }
 {
-    for other in redeclared {
-        let other: &Redeclared = other;
-        owners.push(other.place.entity)?;
+    let mut redeclarers = Redeclarers::new(alloc);
+    for number in 0..entities.len() {
+        redeclarers.add_entity(EntityId(number as u32), &entities[number])?;
     }
-    Ok(())
-}
-
-fn push_derived(derived: &[Place], owners: &mut Vec<EntityId>) -> Result<(), NoMemory>
-    ensures { OnOk result (numbers owners.new.items ≡ numbers owners.old.items ++ map (λ p. p.entity) (map place_of derived.now)) }
-{
-    for place in derived {
-        owners.push(place.entity)?;
-    }
-    Ok(())
+    Ok(redeclarers)
 }

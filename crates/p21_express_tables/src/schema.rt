@@ -12,7 +12,7 @@ ghost use Rattle.p21_express_graph.specs.SchemaContents.{schema_of, AreNamed, en
 ghost use Rattle.p21_express_graph.specs.Redeclaring.{redeclaring, redeclaring_schema};
 
 use crate::one_of::all_listed_in;
-use crate::redeclarers::all_redeclarers;
+use crate::redeclarers::all_redeclared;
 use crate::rising::all_rising_sets;
 use crate::tables::Tables;
 use p21_express_graph::{
@@ -71,12 +71,11 @@ impl Schema {
         ensures { IfOk result (λ schema. schema ≡ schema_of parts) }
     {
         let mut schema = Schema::without_own_sets(alloc, parts)?;
-        schema.prepare_own_sets()?;
+        schema.prepare_clashes()?;
         Ok(schema)
     }
 
-    /// Prepares the parts of a schema, but not the faults of the own sets of entities, nor what decides at the places that
-    /// they redeclare: that is found where it is asked for.
+    /// Prepares the parts of a schema, but not whether the own sets of entities clash: that is found where it is asked for.
     ///
     /// # Errors
     ///
@@ -91,7 +90,7 @@ impl Schema {
         let offered = all_offered(alloc, &parts)?;
         let listed_in = all_listed_in(alloc, &parts)?;
         let ends = all_ends(alloc, &parts)?;
-        let redeclarers = all_redeclarers(alloc, &parts)?;
+        let redeclared = all_redeclared(alloc, &parts)?;
         let ranking = rank_entities(alloc, &parts)?;
         let rising_sets = all_rising_sets(alloc, &parts, &orders, &ranking)?;
         let tables = Tables {
@@ -100,8 +99,8 @@ impl Schema {
             offered,
             listed_in,
             ends,
-            redeclarers,
-            own: Vec::new(alloc),
+            redeclared,
+            own_clashes: Vec::new(alloc),
             ranking,
             rising_sets,
         };
@@ -124,11 +123,11 @@ impl Schema {
         ensures { IfOk result (λ schema. schema ≡ redeclaring_schema self (map redeclaring found.items)) }
     {
         let mut schema = self.with_redeclarers(found)?;
-        schema.prepare_own_sets()?;
+        schema.prepare_clashes()?;
         Ok(schema)
     }
 
-    /// The same, but these faults and what decides aren't prepared.
+    /// The same, but whether own sets clash isn't prepared.
     fn with_redeclarers(self, found: Vec<Redeclarations>) -> Result<Schema, NoMemory>
         requires each { length self.entities ≡ length found.items }
         requires whole { HoldsTogether (redeclaring_schema self (map redeclaring found.items)) }
@@ -140,13 +139,13 @@ impl Schema {
             tables,
         } = self;
         let whole = contents_with(alloc, parts, found)?;
-        let redeclarers = all_redeclarers(alloc, &whole)?;
+        let redeclared = all_redeclared(alloc, &whole)?;
         Ok(Schema {
             alloc,
             parts: whole,
             tables: Tables {
-                redeclarers,
-                own: Vec::new(alloc),
+                redeclared,
+                own_clashes: Vec::new(alloc),
                 ..tables
             },
         })

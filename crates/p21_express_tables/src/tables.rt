@@ -1,4 +1,4 @@
-use crate::own_sets::OwnSet;
+use crate::redeclarers::RedeclaredPlaces;
 use p21_express_graph::{Index, Offered, PrefixLists, Ranking};
 use p21_express_types::EntityId;
 
@@ -13,10 +13,9 @@ pub(crate) struct Tables {
     pub(crate) listed_in: Vec<Vec<usize>>,
     // For each type the last one of those that it renames, one behind the other.
     pub(crate) ends: Vec<u32>,
-    // For each entity the numbers of those that redeclare a place which it declares, rising.
-    pub(crate) redeclarers: Vec<Vec<usize>>,
-    // What holds of the own sets of the first entities, or of all.
-    pub(crate) own: Vec<OwnSet>,
+    pub(crate) redeclared: RedeclaredPlaces,
+    // Whether the own sets clash, of the first entities or of all.
+    pub(crate) own_clashes: Vec<bool>,
     pub(crate) ranking: Ranking,
     // For each entity, it and its supertypes, rising by name, where they are 64 at most.
     pub(crate) rising_sets: Vec<Option<Vec<EntityId>>>,

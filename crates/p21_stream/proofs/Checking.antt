@@ -59,7 +59,7 @@ tokens-ended held reading live front rest tokens is laid = elim live.answered [
 
 -- ---- what was checked of them
 
-records-mean : (s : Schema) (limits : Limits) (entries : List Entry) → Each (IsFound s limits) entries → Each (λ (i : ℕ × Record). IsMeaningful s i.1) (written_in entries)
+pub records-mean : (s : Schema) (limits : Limits) (entries : List Entry) → Each (IsFound s limits) entries → Each (λ (i : ℕ × Record). IsMeaningful s i.1) (written_in entries)
 records-mean s limits entries found =
     Each-mapped (λ (i : ℕ × Record). IsMeaningful s i.1) (λ (e : Entry). (e.name, e.record_)) entries
     (Each-weaker (IsFound s limits) (λ (e : Entry). IsMeaningful s e.record_) (λ e is. (is.meant.kinds, e.meaning, is.meant.means)) entries found)

@@ -43,7 +43,7 @@ whole-accepted s formed limits held kept reading live none w served blocks are =
     let limit : (limits_of held).1 ≡ limits.file_source = ap (λ p. p.1) live.limits_are in
     keeps-accepted s formed limits reading.taken reading.given kept live.keeps w.whole.structure w.whole.text w.whole.is_file w.whole.statements_are w.found w.whole.tokens_are w.laid within (rw (← limit) short) served blocks are
 
-tokens-laid : (taken : List ℕ) (given : List Statement) (w : AreWholeStatements taken given) → Laid taken (tokens_of w.whole.structure)
+pub tokens-laid : (taken : List ℕ) (given : List Statement) (w : AreWholeStatements taken given) → Laid taken (tokens_of w.whole.structure)
 tokens-laid taken given w = subst (λ (ts : List Token). Laid taken ts) (sym w.whole.tokens_are) w.laid
 
 pub end-accepted : (s : Schema) → IsWellFormed s → (held : statements.Held) (kept : Kept) (output : Output) → statements.FinishGives held (Ok tt) → Each (λ (r : Reference). IsServedBy s kept.stored r.1) kept.waiting

@@ -69,7 +69,7 @@ pub each-byte : (buffer : List ℕ) → ((i : ℕ) → Fits w8 (slice_index_or b
 each-byte [] fits = tt
 each-byte (byte ∷ bytes) fits = ((let f = (fits 0).fits in omega arith), each-byte bytes (λ i. fits (suc i)))
 
-dead-piece : (s : Schema) (limits : Limits) (taken piece : List ℕ) (count : ℕ) → Each IsByte piece → IsDead s limits (taken ++ take count piece) → IsDead s limits (taken ++ piece)
+pub dead-piece : (s : Schema) (limits : Limits) (taken piece : List ℕ) (count : ℕ) → Each IsByte piece → IsDead s limits (taken ++ take count piece) → IsDead s limits (taken ++ piece)
 dead-piece s limits taken piece count are dead =
     let whole = take-append-drop count piece in
     let later : Each IsByte (drop count piece) = Each-back IsByte (take count piece) (drop count piece) (subst (Each IsByte) (sym whole) are) in

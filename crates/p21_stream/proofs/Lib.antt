@@ -10,3 +10,6 @@ pub mod Canonicals
 pub mod Claiming
 pub mod Feeding
 pub mod Texts
+pub mod SurveySteps
+pub mod SurveyFeeding
+pub mod SurveyEnding

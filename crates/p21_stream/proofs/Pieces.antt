@@ -26,7 +26,7 @@ use Rattle.p21_stream.specs.declared.progress.Progress.{Progress}
 
 -- ---- pieces of pieces
 
-take-add : (m k : ℕ) (l : List ℕ) → take (m + k) l ≡ take m l ++ take k (drop m l)
+pub take-add : (m k : ℕ) (l : List ℕ) → take (m + k) l ≡ take m l ++ take k (drop m l)
 take-add zero k l = let same : zero + k ≡ k = omega arith in ap (λ (n : ℕ). take n l) same
 take-add (suc m) zero [] = let same : suc m + zero ≡ suc m = omega arith in ap (λ (n : ℕ). take {A = ℕ} n []) same
 take-add (suc m) (suc k) [] = let same : suc m + suc k ≡ suc (m + suc k) = omega arith in ap (λ (n : ℕ). take {A = ℕ} n []) same
@@ -37,7 +37,7 @@ get-drop zero l = refl
 get-drop (suc m) [] = refl
 get-drop (suc m) (x ∷ xs) = get-drop m xs
 
-seen-first : (seen : Option ℕ) (m : ℕ) (l : List ℕ) → IsSeenAt seen l m → IsSeenAt seen (drop m l) 0
+pub seen-first : (seen : Option ℕ) (m : ℕ) (l : List ℕ) → IsSeenAt seen l m → IsSeenAt seen (drop m l) 0
 seen-first None m l at = tt
 seen-first (Some byte) m l at = get-drop m l ∙ at
 

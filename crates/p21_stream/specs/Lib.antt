@@ -13,6 +13,9 @@ pub mod Answers
 pub mod Claim
 pub mod Feeding
 pub mod ReaderInput
+pub mod Surveying
+pub mod SurveyReading
+pub mod Survey
 -- What the clauses of its calls cite, for callers who name this crate alone
 pub use Rattle.p21_basics.specs as p21_basics
 pub use Rattle.p21_exchange.specs as p21_exchange
@@ -33,3 +36,4 @@ pub use Rattle.p21_stream_kept.specs as p21_stream_kept
 pub use Rattle.p21_stream_io.specs as p21_stream_io
 pub use Rattle.p21_stream_store.specs as p21_stream_store
 pub use Rattle.p21_stream_output.specs as p21_stream_output
+pub use Rattle.p21_stream_survey.specs as p21_stream_survey

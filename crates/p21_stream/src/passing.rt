@@ -107,6 +107,7 @@ impl Progress {
 
 /// Finds the instance at the beginning of a piece, where it stands there whole and is usual. Its canonical line is the text
 /// then, and its references are the needs. Want of memory counts as none.
+#[inline(always)]
 pub(crate) fn find(
     schema: &Schema,
     plan: &mut Plan,
@@ -173,7 +174,7 @@ fn forget(draft: &mut Draft, needs: &mut Vec<Need>)
 
 /// The entities of a set, rising by name.
 #[inline(always)]
-fn entities_of<'a>(set: Set, plan: &'a Plan, sets: &'a Sets) -> Option<&'a [EntityId]>
+pub(crate) fn entities_of<'a>(set: Set, plan: &'a Plan, sets: &'a Sets) -> Option<&'a [EntityId]>
     ensures { (s : Meant) → IsPlanOf s plan.now → IfSome result (λ entities. HasEntities s sets.now set (ids_view entities.now)) }
 {
     match set {

@@ -281,9 +281,7 @@ fn take(
         Event::Named(part) => kept.take_heading(schema, limits, part),
         Event::Header(part) => kept.take_header(schema, limits, &part),
         Event::Instance(name, record) => {
-            let result = kept.take_instance(schema, limits, name, record, workspace);
-            workspace.trim();
-            result
+            kept.take_instance(schema, limits, name, record, workspace)
         }
     }
 }
@@ -295,7 +293,7 @@ fn take(
 /// That of the reader; then the first reference in the file that no instance serves; `NoMemory`.
 fn end(
     statements: StatementReader,
-    kept: Kept,
+    mut kept: Kept,
     statement: u64,
     schema: &Schema,
 ) -> Result<Accepted, Refusal>
@@ -308,6 +306,9 @@ fn end(
         Ok(()) => {}
         Err(fault) => return Err(refused(fault, None, statement)),
     }
+    let Ok(()) = kept.prepare_unserved(schema) else {
+        return Err(refused(Fault::NoMemory, None, statement));
+    };
     if let Some(found) = kept.first_unserved(schema) {
         return Err(unserved(found, statement));
     }

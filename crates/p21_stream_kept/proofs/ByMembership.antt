@@ -7,7 +7,8 @@ use Rattle.std.specs.Prelude.{Contains, OnOk}
 use Rattle.p21_basics.proofs.Members.{Contains-mapped}
 use Rattle.p21_claim_steps.specs.Stored.{StoredEntry}
 use Rattle.p21_stream_kept.specs.Inside.{HaveMemberships, stored_of, stored_with}
-use Rattle.p21_stream_store.specs.Memberships.{Interns, Membership}
+use Rattle.p21_stream_store.specs.Memberships.{Membership}
+use Rattle.p21_stream_store.specs.Numbering.{Interns}
 use Rattle.p21_stream_store.specs.StoredInstance as store
 
 -- a number that is given stays

@@ -27,6 +27,7 @@ use Rattle.p21_mapping_values.specs.declared.need.Need as mapping
 use Rattle.p21_schemas.specs.Schema.{Schema}
 use Rattle.p21_stream_output.specs.Output.{IsNamed}
 use Rattle.p21_stream_kept.proofs.Instances.{took-instance}
+use Rattle.p21_stream_kept.proofs.Unserved.{left-among, left-or_served}
 use Rattle.p21_stream_kept.specs.Found.{HasFound}
 use Rattle.p21_stream_kept.specs.Served.{AddsWaiting}
 use Rattle.p21_stream_kept.specs.Steps.{FitsLimits, StepGives}
@@ -67,5 +68,5 @@ took-found s limits old new n r entities needs text is none waiting adds number 
     let entry : Entry = record { name = n; record_ = r; meaning = is.meaning; needs = needs; text = text } in
     let P : List ℕ → Type 0 = λ es. IsPermutation (record { name = n; section = number; entities = es; text = text } ∷ old.stored) stored in
     let W : List Reference → Kept = λ w. record old { stored = stored; waiting = w; references = old.references + length needs; bytes = old.bytes + length text; framing = old.framing + 1 } in
-    took-instance s limits old new entry (record { meant = is.meant; printed = is.printed; within = room.0 }) none adds.added adds.are_needs adds.others_served number (sym (add-one number) ∙ last) stored
+    took-instance s limits old new entry (record { meant = is.meant; printed = is.printed; within = room.0 }) none adds.added (left-among s old.stored (λ (x : Need). x) needs adds.added adds.unserved) (left-or_served s old.stored (λ (x : Need). x) needs adds.added adds.unserved) number (sym (add-one number) ∙ last) stored
     (subst P (sym is.entities_are) permuted) room (same ∙ ap W adds.new_is)

@@ -5,6 +5,7 @@ pub mod SectionNames
 pub mod Instances
 pub mod ByMembership
 pub mod Ended
+mod Serving
 pub mod Unserved
 pub mod Finding
 pub mod Following

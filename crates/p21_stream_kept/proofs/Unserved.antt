@@ -1,10 +1,11 @@
 -- Needs that are served by what is stored, those that wait, and the first that none serves.
-use Rattle.std.proofs.Common.{◌≡◌, ◌+◌, ◌<◌, ◌⊎◌, ◌∙◌, ℕ, suc, List, [], ◌∷◌, ◌++◌, length, map, get_or, take, drop, false, Option, Some, None, inl, inr, refl, sym, ap, subst, add-one, append_assoc, append-nil}
+use Rattle.std.proofs.Common.{◌≡◌, ◌+◌, ◌<◌, ◌⊎◌, ◌∙◌, ℕ, suc, List, [], ◌∷◌, ◌++◌, length, map, get_or, take, drop, false, true, Option, Some, None, inl, inr, refl, sym, ap, subst, add-one, append_assoc, append-nil}
 use Rattle.std.proofs.Math.Seq.{drop-cons}
 use Rattle.std.proofs.lemmas.List.{map-append, take_more}
-use Rattle.std.proofs.lemmas.List.Elements.{Contains-append_left, Contains-append_right}
+use Rattle.std.proofs.lemmas.List.Elements.{Contains-append_right}
 use Rattle.std.specs.Prelude.{Contains, is_some}
-use Rattle.p21_basics.proofs.Members.{Contains-first, Each-append, Each-weaker}
+use Rattle.p21_basics.proofs.Members.{Contains-first, Contains-later, Each-weaker}
+use Rattle.std.specs.List.{AllByRecursion as Each}
 use Rattle.p21_basics.specs.Limits.{Limits}
 use Rattle.p21_claim_steps.proofs.Keeps.{keeps-unserved}
 use Rattle.p21_claim_steps.specs.Keeping.{IsServedBy, IsServedByNone, Keeps, Kept}
@@ -25,7 +26,7 @@ use Rattle.p21_mapping.specs.Checked.{needs_view}
 use Rattle.p21_mapping_values.specs.TypedView.{need_view}
 use Rattle.p21_mapping_values.specs.declared.need.Need as need
 use Rattle.p21_stream_kept.specs.declared.kept.Reference as held
-use Rattle.p21_stream_kept.specs.Served.{AddsWaiting, AnswersNeed, AnswersUnserved, IsFirstUnserved, RefusesNeed}
+use Rattle.p21_stream_kept.specs.Served.{AddsWaiting, AnswersNeed, AnswersUnserved, IsFirstUnserved, LeavesUnserved, RefusesNeed}
 use Rattle.p21_stream_store.specs.Memberships.{Membership}
 use Rattle.p21_stream_store.specs.StoredInstance as store
 use Rattle.p21_stream_store.specs.StoredInstance.{instance_names}
@@ -41,29 +42,64 @@ pub none-refused : (s : Schema) (stored : List StoredEntry) (need : Need) (answe
 none-refused s stored need None none served = served
 none-refused s stored need (Some fault) none refused = cc
 
+none-serves : (s : Schema) (stored : List StoredEntry) (need : Need) (fault : Fault) → RefusesNeed s stored need fault → IsServedByNone s stored need
+none-serves s stored need Dangling none = inl none
+none-serves s stored need WrongTarget unfit = inr unfit
+none-serves s stored need other refused = absurd refused
+
+-- what is refused is served by none
+pub some-refused : (s : Schema) (stored : List StoredEntry) (need : Need) (answer : Option Fault) → is_some answer ≡ true → AnswersNeed s stored need answer → IsServedByNone s stored need
+some-refused s stored need None some served = cc
+some-refused s stored need (Some fault) some refused = none-serves s stored need fault refused
+
 -- ---- needs that wait
+
+module _ {X : Type 0} (s : Schema) (stored : List StoredEntry) (need : X → Need) where
+  -- what is left is among them
+  pub left-among : (xs left : List X) → LeavesUnserved s stored need xs left → Each (Contains xs) left
+  left-among [] left is = subst (Each (Contains [])) (sym is) tt
+  left-among (x ∷ xs) left is = elim is [
+    | inl (served, are) ↦ Each-weaker (Contains xs) (Contains (x ∷ xs)) (λ y at. Contains-later x xs y at) left (left-among xs left are)
+    | inr (none, (rest, same, are)) ↦
+        subst (Each (Contains (x ∷ xs))) (sym same) (Contains-first x xs, Each-weaker (Contains xs) (Contains (x ∷ xs)) (λ y at. Contains-later x xs y at) rest (left-among xs rest are))
+  ]
+
+  -- each of them is left or served
+  pub left-or_served : (xs left : List X) → LeavesUnserved s stored need xs left → Each (λ (x : X). Contains left x ⊎ IsServedBy s stored (need x)) xs
+  left-or_served [] left is = tt
+  left-or_served (x ∷ xs) left is = elim is [
+    | inl (served, are) ↦ (inr served, left-or_served xs left are)
+    | inr (none, (rest, same, are)) ↦
+        let Left : List X → X → Type 0 = λ ys y. Contains ys y ⊎ IsServedBy s stored (need y) in
+        subst (λ (ys : List X). Each (Left ys) (x ∷ xs)) (sym same) (
+          inl (Contains-first x rest),
+          Each-weaker (Left rest) (Left (x ∷ rest)) (λ y it. elim it [ inl at ↦ inl (Contains-later x rest y at) | inr served ↦ inr served ]) xs (left-or_served xs rest are),
+        )
+  ]
+
+  -- what is left of the ones, and then of others
+  pub left-joined : (xs ys left more : List X) → LeavesUnserved s stored need xs left → LeavesUnserved s stored need ys more → LeavesUnserved s stored need (xs ++ ys) (left ++ more)
+  left-joined [] ys left more is later = subst (λ (l : List X). LeavesUnserved s stored need ys (l ++ more)) (sym is) later
+  left-joined (x ∷ xs) ys left more is later = elim is [
+    | inl (served, are) ↦ inl (served, left-joined xs ys left more are later)
+    | inr (none, (rest, same, are)) ↦ inr (none, (rest ++ more, ap (λ (l : List X). l ++ more) same, left-joined xs ys rest more are later))
+  ]
 
 -- a need that is served adds no reference
 pub waiting-served : (s : Schema) (stored : List StoredEntry) (holder : ℕ) (need : Need) (old : List Reference) → IsServedBy s stored need → AddsWaiting s stored holder (need ∷ []) old old
-waiting-served s stored holder need old served = record { added = []; are_needs = tt; others_served = (inr served, tt); new_is = sym (append-nil old) }
+waiting-served s stored holder need old served = record { added = []; unserved = inl (served, refl); new_is = sym (append-nil old) }
 
--- a need that waits adds one reference
-pub waiting-one : (s : Schema) (stored : List StoredEntry) (holder : ℕ) (need : Need) (old : List Reference) → AddsWaiting s stored holder (need ∷ []) old (old ++ (holder, need) ∷ [])
-waiting-one s stored holder need old = record { added = need ∷ []; are_needs = (Contains-first need [], tt); others_served = (inl (Contains-first need []), tt); new_is = refl }
+-- a need that none serves adds one reference
+pub waiting-one : (s : Schema) (stored : List StoredEntry) (holder : ℕ) (need : Need) (old : List Reference) → IsServedByNone s stored need → AddsWaiting s stored holder (need ∷ []) old (old ++ (holder, need) ∷ [])
+waiting-one s stored holder need old none = record { added = need ∷ []; unserved = inr (none, ([], refl, refl)); new_is = refl }
 
 -- the references that some needs add, and then later ones, are those that all of them add
 pub waiting-joined : (s : Schema) (stored : List StoredEntry) (holder : ℕ) (first later : List Need) (old middle new : List Reference) → AddsWaiting s stored holder first old middle → AddsWaiting s stored holder later middle new → AddsWaiting s stored holder (first ++ later) old new
 waiting-joined s stored holder first later old middle new a b =
-    let added : List Need = a.added ++ b.added in
-    let Waits : Need → Type 0 = λ x. Contains added x ⊎ IsServedBy s stored x in
     let named : Need → Reference = λ x. (holder, x) in
     record {
-      added = added;
-      are_needs = Each-append (Contains (first ++ later)) a.added b.added (Each-weaker (Contains first) (Contains (first ++ later)) (λ x among. Contains-append_left first later x among) a.added a.are_needs)
-          (Each-weaker (Contains later) (Contains (first ++ later)) (λ x among. Contains-append_right first later x among) b.added b.are_needs);
-      others_served = Each-append Waits first later
-          (Each-weaker (λ (x : Need). Contains a.added x ⊎ IsServedBy s stored x) Waits (λ x it. elim it [ inl h ↦ inl (Contains-append_left a.added b.added x h) | inr h ↦ inr h ]) first a.others_served)
-          (Each-weaker (λ (x : Need). Contains b.added x ⊎ IsServedBy s stored x) Waits (λ x it. elim it [ inl h ↦ inl (Contains-append_right a.added b.added x h) | inr h ↦ inr h ]) later b.others_served);
+      added = a.added ++ b.added;
+      unserved = left-joined s stored (λ (x : Need). x) first later a.added b.added a.unserved b.unserved;
       new_is = b.new_is ∙ ap (λ (rs : List Reference). rs ++ map named b.added) a.new_is ∙ append_assoc old (map named a.added) (map named b.added)
           ∙ ap (λ (rs : List Reference). old ++ rs) (sym (map-append named a.added b.added));
     }
@@ -90,11 +126,6 @@ unserved-here s stored holder need rest fault refused = record {
   before_served = tt;
   refused = refused;
 }
-
-none-serves : (s : Schema) (stored : List StoredEntry) (need : Need) (fault : Fault) → RefusesNeed s stored need fault → IsServedByNone s stored need
-none-serves s stored need Dangling none = inl none
-none-serves s stored need WrongTarget unfit = inr unfit
-none-serves s stored need other refused = absurd refused
 
 -- the bytes of a file with such a reference are not accepted
 pub unserved-not_accepted : (s : Schema) → IsWellFormed s → (limits : Limits) (bytes : List ℕ) (given : List Statement) (kept : Kept) → Keeps s limits given kept → (structure : Structure) → statements structure ≡ given → Laid bytes (tokens_of structure)

@@ -1,5 +1,5 @@
 -- What the fields hold, as pure data.
-use Rattle.std.specs.Prelude.{◌<◌, ◌+◌, ◌^◌, List, length, map}
+use Rattle.std.specs.Prelude.{◌<◌, ◌≤◌, ◌+◌, ◌^◌, List, length, map}
 use Rattle.p21_claim_steps.specs.Keeping.{Kept}
 use Rattle.p21_claim_steps.specs.Waiting as waiting
 use Rattle.p21_mapping_values.specs.TypedView.{need_view}
@@ -19,16 +19,18 @@ kept_of a = record {
   header = a.header.items;
   headings = a.sections;
   stored = stored_of a.memberships a.instances;
-  waiting = references_of a.waiting.items;
+  waiting = references_of a.waiting.references.items;
   references = a.references;
   bytes = a.bytes;
   framing = a.framing;
 }
 
 -- each instance has the number of a membership, each membership is of a data section, each text begins with the name of its
--- instance, and 64 bits count the bytes of all lines
+-- instance, 64 bits count the bytes of all lines, and no more references have come than may before those that wait are looked
+-- at again
 pub record IsWhole (a : Inside) : Type 0 where
   pub memberships : HaveMemberships a.memberships a.instances
   pub sections : AreOfSections (length a.sections) a.memberships
   pub named : AreNamed a.instances
   pub counted : a.bytes + a.framing < 2 ^ 64
+  pub patient : a.references ≤ a.waiting.due

@@ -1,7 +1,7 @@
 -- The needs of instances, by what is stored: those that are served, those that wait, and the first that none serves.
-use Rattle.std.specs.Prelude.{◌≡◌, ◌⊎◌, ℕ, List, ◌∷◌, ◌++◌, map, Option, Some, None, Contains}
+use Rattle.std.specs.Prelude.{◌≡◌, ◌⊎◌, ℕ, List, [], ◌∷◌, ◌++◌, map, Option, Some, None, Contains}
 use Rattle.std.specs.List.{AllByRecursion as Each}
-use Rattle.p21_claim_steps.specs.Keeping.{IsServedBy, Kept}
+use Rattle.p21_claim_steps.specs.Keeping.{IsServedBy, IsServedByNone}
 use Rattle.p21_claim_steps.specs.Stored.{StoredEntry}
 use Rattle.p21_claim_steps.specs.Waiting.{Reference}
 use Rattle.p21_files.specs.Reference.{Need, Serves}
@@ -20,23 +20,21 @@ abbrev pub AnswersNeed : Schema → List StoredEntry → Need → Option Fault �
 AnswersNeed s stored need None = IsServedBy s stored need
 AnswersNeed s stored need (Some fault) = RefusesNeed s stored need fault
 
--- the references with those that an instance adds: each of these is one of its needs, and each need is among them or served
+-- Of these, each with its need, the ones are left that none serves, in their order; an instance serves each of the others
+abbrev pub LeavesUnserved : {X : Type 0} → Schema → List StoredEntry → (X → Need) → List X → List X → Type 0
+LeavesUnserved s stored need [] left = left ≡ []
+LeavesUnserved {X} s stored need (x ∷ xs) left =
+    (IsServedBy s stored (need x) × LeavesUnserved s stored need xs left) ⊎ (IsServedByNone s stored (need x) × ((rest : List X) × (left ≡ x ∷ rest) × LeavesUnserved s stored need xs rest))
+
+-- the references that none serves are left, in their order
+abbrev pub DropsServed : Schema → List StoredEntry → List Reference → List Reference → Type 0
+DropsServed s stored old left = LeavesUnserved s stored (λ (r : Reference). r.1) old left
+
+-- the references with those that an instance adds behind them: its needs that none serves, in their order
 pub record AddsWaiting (s : Schema) (stored : List StoredEntry) (holder : ℕ) (needs : List Need) (old new : List Reference) : Type 0 where
   pub added : List Need
-  pub are_needs : Each (Contains needs) added
-  pub others_served : Each (λ (need : Need). Contains added need ⊎ IsServedBy s stored need) needs
+  pub unserved : LeavesUnserved s stored (λ (need : Need). need) needs added
   pub new_is : new ≡ old ++ map (λ (need : Need). (holder, need)) added
-
--- the references without some that are served
-pub record DropsServed (s : Schema) (stored : List StoredEntry) (old new : List Reference) : Type 0 where
-  pub are_old : Each (Contains old) new
-  pub others_served : Each (λ (r : Reference). Contains new r ⊎ IsServedBy s stored r.1) old
-
--- what is kept, without some references that are served
-pub record LeavesServed (s : Schema) (old new : Kept) : Type 0 where
-  pub waiting : List Reference
-  pub drops : DropsServed s old.stored old.waiting waiting
-  pub new_is : new ≡ record old { waiting = waiting }
 
 -- a need of this instance is refused, and those in front of it are served
 pub record IsFirstUnserved (s : Schema) (stored : List StoredEntry) (waiting : List Reference) (holder : ℕ) (fault : Fault) : Type 0 where

@@ -1,4 +1,4 @@
-ghost use Rattle.std.specs.Prelude.{◌≡◌, ◌≤◌, ◌↔◌, Contains, IfErr, IsTrue, OnErr, OnOk, map};
+ghost use Rattle.std.specs.Prelude.{◌≡◌, ◌≢◌, ◌≤◌, ◌↔◌, Contains, IfErr, IsTrue, OnErr, OnOk, map, vec_capacity};
 ghost use Rattle.p21_basics.specs.Limits.{Limits as MeantLimits};
 ghost use Rattle.p21_claim_steps.specs.Keeping.{Keeps, nothing_kept};
 ghost use Rattle.p21_claim_steps.specs.Stored.{StoredEntry};
@@ -6,11 +6,12 @@ ghost use Rattle.p21_exchange.specs.Statement.{Statement, data_start, header, in
 ghost use Rattle.p21_grammar.specs.Statements.{line_of};
 ghost use Rattle.p21_grammar_tree.specs.View.{items_of, part_view, record_view, views};
 ghost use Rattle.p21_mapping.specs.Checked.{needs_view};
-ghost use Rattle.p21_mapping_values.specs.TypedView.{ids_view};
+ghost use Rattle.p21_mapping_values.specs.TypedView.{ids_view, need_view};
 ghost use Rattle.p21_schemas.specs.Schema.{Schema as MeantSchema};
 ghost use Rattle.p21_stream_output.specs.Ending.{IsFileOfKept};
 ghost use Rattle.p21_stream_statements.specs.Source.{IsOfBytes};
-ghost use Rattle.p21_stream_kept.specs.Served.{AnswersUnserved, LeavesServed};
+ghost use Rattle.p21_stream_kept.specs.Inside.{references_of};
+ghost use Rattle.p21_stream_kept.specs.Served.{AnswersNeed, AnswersUnserved};
 ghost use Rattle.p21_stream_kept.specs.Steps.{FoundGives, StepGives, StepKeepsBound, TakesLine};
 ghost use Rattle.p21_stream_kept.specs.Taking.{Follows, FollowsFound, IsKeptOfFile};
 
@@ -19,9 +20,11 @@ use crate::end::named_sections_of;
 use crate::found::{FoundInstance, find_instance};
 use crate::schema_name::names_schema;
 use crate::sections::Sections;
-use crate::served::{add_waiting, drop_served, first_unserved};
+use crate::served::{first_unserved, learn_waiting, refusal_of};
+use crate::servers::Servers;
 use crate::shape::{heading, line_size, schema_text};
 use crate::stored::{has_instance, store};
+use crate::waiting::Waiting;
 use crate::workspace::Workspace;
 use p21_canon::write_header;
 use p21_express_tables::Schema;
@@ -44,9 +47,8 @@ pub struct Kept {
     pub(crate) sections: Sections,
     pub(crate) memberships: Memberships,
     pub(crate) instances: Instances,
-    pub(crate) waiting: Vec<Reference>,
-    // Once so many references have come, those that are served by then are dropped from the waiting ones.
-    pub(crate) patience: u64,
+    pub(crate) waiting: Waiting,
+    pub(crate) servers: Servers,
     // All references, those that don't wait among them.
     pub(crate) references: u64,
     // The bytes of the canonical lines of header records and instances, without line feeds.
@@ -65,7 +67,7 @@ impl Drop for Kept {
             memberships: _,
             instances: _,
             waiting: _,
-            patience: _,
+            servers: _,
             references: _,
             bytes: _,
             framing: _,
@@ -79,9 +81,6 @@ pub struct Reference {
     pub holder: Name,
     pub need: Need,
 }
-
-/// So many references may come, in any file, before the waiting ones are looked at again.
-const PATIENCE: u64 = 1024;
 
 impl Model for Kept {
     ghost use Rattle.p21_claim_steps.specs.Keeping.{Kept as Meant};
@@ -105,8 +104,8 @@ impl Kept {
             sections: Sections::new(alloc),
             memberships: Memberships::new(alloc),
             instances: Instances::new(alloc),
-            waiting: Vec::new(alloc),
-            patience: PATIENCE,
+            waiting: Waiting::new(alloc),
+            servers: Servers::new(alloc),
             references: 0,
             bytes: 0,
             framing: 0,
@@ -193,7 +192,7 @@ impl Kept {
     }
 
     /// Takes an instance that stands in a tree behind the statements that are kept: its record is checked, its canonical line
-    /// is kept, and so are its references to instances that haven't come or don't serve.
+    /// is kept, and so are its references to instances that haven't come or don't serve. The workspace keeps no long line.
     ///
     /// # Errors
     ///
@@ -210,6 +209,28 @@ impl Kept {
         ensures gives { StepGives schema.now limits self.old (instance name (record_view of)) result self.new }
         ensures bound { StepKeepsBound limits self.old self.new }
         ensures kind { IfErr result (λ fault. IsOfBytes fault) }
+        ensures unchanged { IfErr result (λ fault. fault ≢ Fault.NoMemory → self.new ≡ self.old) }
+        ensures short { vec_capacity workspace.new.line ≤ 65536 }
+    {
+        let result = self.take_record(schema, limits, name, of, workspace);
+        workspace.trim();
+        result
+    }
+
+    /// Takes an instance, and leaves its canonical line in the workspace.
+    fn take_record(
+        &mut self,
+        schema: &Schema,
+        limits: Limits,
+        name: Name,
+        of: Record,
+        workspace: &mut Workspace,
+    ) -> Result<(), Fault>
+        requires { Follows schema.now limits self.old (instance name (record_view of)) }
+        ensures gives { StepGives schema.now limits self.old (instance name (record_view of)) result self.new }
+        ensures bound { StepKeepsBound limits self.old self.new }
+        ensures kind { IfErr result (λ fault. IsOfBytes fault) }
+        ensures unchanged { IfErr result (λ fault. fault ≢ Fault.NoMemory → self.new ≡ self.old) }
     {
         if self.has_name(name) {
             return Err(Fault::DuplicateName);
@@ -242,6 +263,7 @@ impl Kept {
         ensures gives { FoundGives schema.now limits self.old found.now.name (ids_view found.now.entities.now) (needs_view found.now.needs.now) found.now.line.now result self.new }
         ensures bound { StepKeepsBound limits self.old self.new }
         ensures kind { IfErr result (λ fault. IsOfBytes fault) }
+        ensures unchanged { IfErr result (λ fault. fault ≢ Fault.NoMemory → self.new ≡ self.old) }
     {
         if self.has_name(found.name) {
             return Err(Fault::DuplicateName);
@@ -272,20 +294,22 @@ impl Kept {
         ensures gives { FoundGives schema.now limits self.old found.now.name (ids_view found.now.entities.now) (needs_view found.now.needs.now) found.now.line.now result self.new }
         ensures bound { StepKeepsBound limits self.old self.new }
         ensures kind { IfErr result (λ fault. IsOfBytes fault) }
+        ensures unchanged { IfErr result (λ fault. fault ≢ Fault.NoMemory → self.new ≡ self.old) }
     {
         let size = found.line.len() as u64;
         if !fits_limits(limits, self.bytes, self.framing, size) {
             return Err(Fault::CanonicalTooLong);
         }
         let section = self.sections.last();
-        let Ok(()) = add_waiting(
+        let Ok(()) = self.waiting.add(
             schema,
             &self.memberships,
             &self.instances,
+            &mut self.servers,
             found.name,
             found.needs,
-            &mut self.waiting,
-        ) else {
+        )
+        else {
             return Err(Fault::NoMemory);
         };
         let Ok(()) = store(
@@ -297,29 +321,21 @@ impl Kept {
         ) else {
             return Err(Fault::NoMemory);
         };
+        self.servers.note_size(found.entities.len());
         self.references += found.needs.len() as u64;
         self.bytes += size;
         self.framing += 1;
-        self.drop_served(schema);
-        Ok(())
-    }
-
-    /// Drops the references that are served by now, where as many have come since the last time as were left then, and 1,024 at
-    /// least. So for each that comes at most two are looked at, and in between what was left grows twofold, or by 1,024.
-    fn drop_served(&mut self, schema: &Schema)
-        ensures { LeavesServed schema.now self.old self.new }
-    {
-        let come = self.references;
-        if come < self.patience {
-            return;
-        }
-        drop_served(
+        let Ok(()) = self.waiting.look_again(
             schema,
             &self.memberships,
             &self.instances,
-            &mut self.waiting,
-        );
-        self.patience = come.saturating_add(PATIENCE.max(self.waiting.len() as u64));
+            &mut self.servers,
+            self.references,
+        )
+        else {
+            return Err(Fault::NoMemory);
+        };
+        Ok(())
     }
 
     /// The bytes of the canonical lines of header records and instances, without line feeds.
@@ -336,12 +352,50 @@ impl Kept {
         self.references
     }
 
+    /// Has it remembered which entities of large sets serve the references that wait, so that none is looked for twice.
+    ///
+    /// # Errors
+    ///
+    /// `NoMemory`, which changes nothing.
+    pub fn prepare_unserved(&mut self, schema: &Schema) -> Result<(), NoMemory>
+        ensures { self.new ≡ self.old }
+    {
+        learn_waiting(
+            schema,
+            &self.memberships,
+            &self.instances,
+            &mut self.servers,
+            self.waiting.items(),
+        )
+    }
+
     /// The first reference in the file that no instance serves, by the name of the instance that has it: `Dangling` where
     /// it names no instance, `WrongTarget` where that isn't of the type. It takes no memory.
     pub fn first_unserved(&self, schema: &Schema) -> Option<(Name, Fault)>
         ensures { AnswersUnserved schema.now self.now.stored self.now.waiting result }
     {
-        first_unserved(schema, &self.memberships, &self.instances, &self.waiting)
+        first_unserved(
+            schema,
+            &self.memberships,
+            &self.instances,
+            &self.servers,
+            self.waiting.items(),
+        )
+    }
+
+    /// The references that wait, in the order of the file. It takes no memory.
+    pub fn waiting(&self) -> &[Reference]
+        ensures { references_of result.now ≡ self.now.waiting }
+    {
+        self.waiting.items()
+    }
+
+    /// Why no instance that is kept serves a need: `Dangling` where none has its name, `WrongTarget` where the one that has it
+    /// isn't of the type. It takes no memory.
+    pub fn refusal_of(&self, schema: &Schema, need: &Need) -> Option<Fault>
+        ensures { AnswersNeed schema.now self.now.stored (need_view need.now) result }
+    {
+        refusal_of(schema, &self.memberships, &self.instances, need)
     }
 
     /// The accepted file of what is kept, where all references are served. The statements are those of a whole file, and the
@@ -362,13 +416,14 @@ impl Kept {
             memberships,
             instances,
             waiting,
-            patience: _,
+            servers,
             references: _,
             bytes,
             framing,
         } = self;
         // The references that waited have no use any more, and their room is given back before more is asked for.
         drop(waiting);
+        drop(servers);
         let parts = named_sections_of(alloc, sections.items())?;
         accepted_file(
             alloc,

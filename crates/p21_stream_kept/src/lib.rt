@@ -8,8 +8,10 @@ mod kept;
 mod schema_name;
 mod sections;
 mod served;
+mod servers;
 mod shape;
 mod stored;
+mod waiting;
 mod workspace;
 
 pub use found::FoundInstance;

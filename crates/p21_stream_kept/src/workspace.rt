@@ -28,6 +28,7 @@ impl Workspace {
     pub fn trim(&mut self)
         ensures given_back { 65536 < vec_capacity self.old.line → vec_capacity self.new.line ≡ 0 }
         ensures kept { vec_capacity self.old.line ≤ 65536 → self.new.line ≡ self.old.line }
+        ensures short { vec_capacity self.new.line ≤ 65536 }
     {
         if self.line.capacity() > LINE_ROOM {
             self.line = Vec::new(*self.line.allocator());

@@ -1,86 +1,109 @@
--- Memberships by their keys.
-use Rattle.std.proofs.Common.{◌≡◌, ◌==◌, ℕ, zero, suc, Bool, true, false, List, [], ◌∷◌, ◌++◌, length, slice_get, position, Option, Some, None, is_some, if◌then◌else◌, inl, inr, refl, sym, ap, subst, ◌∙◌}
-use Rattle.std.proofs.lemmas.List.{map-append}
-use Rattle.std.proofs.lemmas.Slice.Eq.{slice_eq-Decides}
-use Rattle.std.proofs.lemmas.Bool.Decides.{Decides-eqb}
-use Rattle.std.specs.Bool.{Decides, IsTrue}
-use Rattle.std.specs.Cmp.Lexicographic.{pointwise}
-use Rattle.std.specs.List.{list_any, Contains}
-use Rattle.std.specs.Prelude as std
-use Rattle.std.specs.declared.alloc.Global.{Global}
-use Rattle.p21_basics.proofs.Members.{Contains-mapped}
-use Rattle.p21_express_graph.proofs.Naming.{test, among, found, named, there}
-use Rattle.p21_express_types.specs.declared.number.EntityId.{EntityId}
-use Rattle.p21_stream_store.specs.Memberships.{Interns, Membership, key, keys_of, membership_of, memberships_of, numbers_of}
-use Rattle.p21_stream_store.specs.declared.memberships.Row.{Row}
+-- Memberships by the numbers of their sections and of their sets.
+use Rattle.std.proofs.Common.{◌≡◌, ◌<◌, ℕ, List, [], ◌∷◌, ◌++◌, length, get_or, slice_get, Some, None, inl, inr, refl, sym, ap, subst, ◌∙◌, arith}
+use Rattle.std.proofs.lemmas.List.{get_or_append_left, length-append, map-append}
+use Rattle.std.proofs.lemmas.Map.Lookups.{CmpEqualImpliesEq, exact_pairs, exact_unsigned}
+use Rattle.std.proofs.lemmas.Option.{get_or_from_slice_get, slice_get-get_or, slice_get_within}
+use Rattle.std.specs.BTreeMap.{BTreeMap, IsEmpty, Updates, get_by}
+use Rattle.std.specs.List.{Contains}
+use Rattle.std.specs.Ordering.{nat_cmp}
+use Rattle.p21_basics.proofs.Members.{Contains-unmapped, Each-append, Each-member, Each-weaker}
+use Rattle.p21_stream_store.proofs.Numbering.{behind, is-absent, known, mapped-at, none-numbered, one-more}
+use Rattle.p21_stream_store.specs.Memberships.{AreNumberedRows, HaveSets, Membership, by_pair, membership_in, memberships_in}
+use Rattle.p21_stream_store.specs.Numbering.{AreNumbered, AreOnce, Interns}
 
--- a stored key, as its numbers
-abbrev items_of : std.Vec ℕ Global → List ℕ
-items_of stored = stored.items
-
-same-key : (x y : Membership) → key x ≡ key y → x ≡ y
-same-key x y is =
-    let section : x.section ≡ y.section = cc in
-    let entities : x.entities ≡ y.entities = cc in
-    λ i. record { section = section i; entities = entities i }
-
--- a key that is not there passes no test
-none-passes : (keys : List (std.Vec ℕ Global)) (wanted : List ℕ) → (Contains (numbers_of keys) wanted → ⊥) → list_any (test items_of wanted) keys ≡ false
-none-passes keys wanted absent = by (list_any (test items_of wanted) keys) refl
-  where
-    by : (b : Bool) → list_any (test items_of wanted) keys ≡ b → b ≡ false
-    by true e = absurd (absent (there items_of wanted keys e))
-    by false e = refl
-
--- a key that is not there is added behind the others
-pub key-added : (keys after : List (std.Vec ℕ Global)) (stored : std.Vec ℕ Global) → (Contains (numbers_of keys) stored.items → ⊥) → after ≡ (if list_any (test items_of stored.items) keys then keys else keys ++ stored ∷ []) → after ≡ keys ++ stored ∷ []
-key-added keys after stored absent is = is ∙ ap (λ (b : Bool). if b then keys else keys ++ stored ∷ []) (none-passes keys stored.items absent)
-
--- a key that is found is that of the membership at its position
-pub found-again : (memberships : List Membership) (keys : List (std.Vec ℕ Global)) (membership : Membership) (wanted : List ℕ) (place number : ℕ) → numbers_of keys ≡ keys_of memberships → wanted ≡ key membership → Some place ≡ position (test items_of wanted) keys → number ≡ place
-    → Interns memberships membership number memberships
-found-again memberships keys membership wanted place number keyed is at same =
-    let stands : slice_get (keys_of memberships) number ≡ Some (key membership) =
-    ap (λ (ks : List (List ℕ)). slice_get ks number) (sym keyed) ∙ ap (λ (n : ℕ). slice_get (numbers_of keys) n) same ∙ found items_of wanted keys place (sym at) ∙ ap (λ (w : List ℕ). Some w) is in
-    let (x, there_, same_) = named key memberships number (key membership) stands in
-    (there_ ∙ ap (λ (y : Membership). Some y) (same-key x membership same_), inl refl)
-
--- a key that isn't found is there nowhere
-pub not-found : (keys : List (std.Vec ℕ Global)) (wanted : List ℕ) (place : Option ℕ) → place ≡ None → is_some place ≡ list_any (test items_of wanted) keys → Contains (numbers_of keys) wanted → ⊥
-not-found keys wanted place none some there_ = let t : true ≡ false = sym (among items_of wanted keys there_) ∙ sym some ∙ ap is_some none in cc
-
-get-last : {X : Type 0} (xs : List X) (x : X) (number : ℕ) → number ≡ length xs → slice_get (xs ++ x ∷ []) number ≡ Some x
-get-last [] x number is = ap (λ (n : ℕ). slice_get (x ∷ []) n) is
-get-last {X} (y ∷ xs) x number is = ap (λ (n : ℕ). slice_get (y ∷ (xs ++ x ∷ [])) n) is ∙ get-last xs x (length xs) refl
-
--- a membership is added behind the others
-pub membership-added : (memberships after : List Membership) (keys : List (std.Vec ℕ Global)) (membership : Membership) (wanted : List ℕ) (number : ℕ) → numbers_of keys ≡ keys_of memberships → wanted ≡ key membership → (Contains (numbers_of keys) wanted → ⊥)
-    → number ≡ length memberships → after ≡ memberships ++ membership ∷ [] → Interns memberships membership number after
-membership-added memberships after keys membership wanted number keyed is absent last more = (
-  ap (λ (ks : List Membership). slice_get ks number) more ∙ get-last memberships membership number last,
-  inr (more, λ there_. absent (subst (λ (ks : List (List ℕ)). Contains ks wanted) (sym keyed) (subst (λ (w : List ℕ). Contains (keys_of memberships) w) (sym is) (Contains-mapped key memberships membership there_)))),
-)
+abbrev Row : Type 0
+Row = ℕ × ℕ
 
 -- ---- rows
 
-pub count-rows : (rows : List Row) → length (memberships_of rows) ≡ length rows
-count-rows [] = refl
-count-rows (row ∷ rows) = ap (λ (n : ℕ). suc n) (count-rows rows)
+exact-rows : CmpEqualImpliesEq by_pair
+exact-rows = exact_pairs nat_cmp nat_cmp exact_unsigned exact_unsigned
 
-pub row-added : (rows after : List Row) (row : Row) → after ≡ rows ++ row ∷ [] → memberships_of after ≡ memberships_of rows ++ membership_of row.section row.entities.items ∷ []
-row-added rows after row is = ap memberships_of is ∙ map-append (λ (r : Row). membership_of r.section r.entities.items) rows (row ∷ [])
+abbrev itself : Row → Row
+itself row = row
 
--- the membership of a row that stands at a position
-pub row-at : (rows : List Row) (number : ℕ) (row : Row) (membership : Membership) → slice_get rows number ≡ Some row → membership_of row.section row.entities.items ≡ membership → slice_get (memberships_of rows) number ≡ Some membership
-row-at [] number row membership at is = cc
-row-at (r ∷ rows) zero row membership at is = let same : r ≡ row = cc in ap (λ (x : Row). Some (membership_of x.section x.entities.items)) same ∙ ap (λ (k : Membership). Some k) is
-row-at (r ∷ rows) (suc number) row membership at is = row-at rows number row membership at is
+pub no-rows : (rows : List Row) (numbers : BTreeMap Row ℕ) → rows ≡ [] → IsEmpty numbers → AreNumberedRows rows numbers
+no-rows rows numbers no_row empty = none-numbered itself by_pair exact-rows rows numbers no_row empty
 
-entity-same : (a b : EntityId) → Decides (a.0 == b.0) (a ≡ b)
-entity-same a b = (λ e. let same : a.0 ≡ b.0 = (Decides-eqb a.0 b.0).0 e in λ i. record { 0 = same i }, λ e. (Decides-eqb a.0 b.0).1 (ap (λ (x : EntityId). x.0) e))
+-- a row that is found has the number
+pub row-found : (rows : List Row) (numbers : BTreeMap Row ℕ) (row : Row) (number : ℕ) → AreNumberedRows rows numbers → get_by (by_pair row) numbers ≡ Some number → Interns rows row number rows
+row-found rows numbers row number are at = known rows row number (are.found row number at)
 
--- entities that are equal one by one make the same membership
-pub same-membership : (section other : ℕ) (entities others : List EntityId) (r : Bool) → r ≡ pointwise (λ (a b : EntityId). a.0 == b.0) entities others → section ≡ other → IsTrue r → membership_of section entities ≡ membership_of other others
-same-membership section other entities others r is same true_ =
-    let equal : entities ≡ others = (slice_eq-Decides entity-same entities others r is).0 true_ in
-    ap (λ (n : ℕ). membership_of n entities) same ∙ ap (λ (es : List EntityId). membership_of other es) equal
+-- a row that isn't found stands behind the others
+pub row-added : (rows after : List Row) (numbers : BTreeMap Row ℕ) (row : Row) (number : ℕ) → AreNumberedRows rows numbers → get_by (by_pair row) numbers ≡ None → number ≡ length rows → after ≡ rows ++ row ∷ [] → Interns rows row number after
+row-added rows after numbers row number are none last is = behind rows after row number last is (is-absent itself by_pair exact-rows rows numbers row are none)
+
+pub rows-numbered : (rows after : List Row) (numbers new : BTreeMap Row ℕ) (row : Row) (number : ℕ) → AreNumberedRows rows numbers → get_by (by_pair row) numbers ≡ None → number ≡ length rows → after ≡ rows ++ row ∷ [] → Updates by_pair numbers new row (Some number) → AreNumberedRows after new
+rows-numbered rows after numbers new row number are none last is updates =
+    let P : ℕ → Type 0 = λ n. Updates by_pair numbers new row (Some n) in
+    subst (λ (rs : List Row). AreNumbered itself by_pair rs new) (sym is) (one-more itself by_pair exact-rows rows numbers new row are none (subst P last updates))
+
+-- ---- memberships
+
+-- the membership of a row, whose set is known
+pub membership-at : (sets : List (List ℕ)) (rows : List Row) (number : ℕ) (row : Row) (membership : Membership) → slice_get rows number ≡ Some row → row.0 ≡ membership.section → slice_get sets row.1 ≡ Some membership.entities
+    → slice_get (memberships_in sets rows) number ≡ Some membership
+membership-at sets rows number row membership at section set =
+    let entities : get_or sets row.1 [] ≡ membership.entities = get_or_from_slice_get sets row.1 membership.entities [] set in
+    let same : membership_in sets row ≡ membership = λ i. record { section = section i; entities = entities i } in
+    mapped-at (membership_in sets) rows number row at ∙ ap (λ (m : Membership). Some m) same
+
+-- sets that come behind change no membership
+same-memberships : (sets more : List (List ℕ)) (rows : List Row) → HaveSets (length sets) rows → memberships_in (sets ++ more) rows ≡ memberships_in sets rows
+same-memberships sets more [] have = refl
+same-memberships sets more (row ∷ rows) have =
+    let set : get_or (sets ++ more) row.1 [] ≡ get_or sets row.1 [] = get_or_append_left sets more [] row.1 have.0 in
+    let first : membership_in (sets ++ more) row ≡ membership_in sets row = λ i. record { section = row.0; entities = set i } in
+    ap (λ (m : Membership). m ∷ memberships_in (sets ++ more) rows) first ∙ ap (λ (ms : List Membership). membership_in sets row ∷ ms) (same-memberships sets more rows have.1)
+
+module _ (sets grown : List (List ℕ)) (entities : List ℕ) (set : ℕ) (interned : Interns sets entities set grown) where
+  pub memberships-stay : (rows : List Row) → HaveSets (length sets) rows → memberships_in grown rows ≡ memberships_in sets rows
+  memberships-stay rows have = elim interned.1 [
+    | inl same ↦ ap (λ (ss : List (List ℕ)). memberships_in ss rows) same
+    | inr added ↦ ap (λ (ss : List (List ℕ)). memberships_in ss rows) added.0 ∙ same-memberships sets (entities ∷ []) rows have
+  ]
+
+  not-fewer : (many : ℕ) → many < length sets → many < length grown
+  not-fewer many below = elim interned.1 [
+    | inl same ↦ subst (λ (n : ℕ). many < n) (ap length (sym same)) below
+    | inr added ↦ (let count = ap length added.0 ∙ length-append sets (entities ∷ []) in omega (arith, below, count))
+  ]
+
+  -- each row has its set, and so has one more
+  pub sets-stay : (rows : List Row) → HaveSets (length sets) rows → HaveSets (length grown) rows
+  sets-stay rows have = Each-weaker (λ (row : Row). row.1 < length sets) (λ (row : Row). row.1 < length grown) (λ row below. not-fewer row.1 below) rows have
+
+  pub sets-more : (rows after : List Row) (section number : ℕ) → HaveSets (length sets) rows → Interns rows (section, set) number after → HaveSets (length grown) after
+  sets-more rows after section number have more = elim more.1 [
+    | inl same ↦ subst (HaveSets (length grown)) (sym same) (sets-stay rows have)
+    | inr added ↦ subst (HaveSets (length grown)) (sym added.0) (Each-append (λ (row : Row). row.1 < length grown) rows ((section, set) ∷ []) (sets-stay rows have) (slice_get_within grown set entities interned.0, tt))
+  ]
+
+  -- the number of a row is that of its membership
+  pub membership-interned : (rows after : List Row) (section number : ℕ) → AreOnce grown → HaveSets (length sets) rows → Interns rows (section, set) number after → Interns (memberships_in sets rows) (record { section = section; entities = entities }) number (memberships_in grown after)
+  membership-interned rows after section number once have more = (
+    membership-at grown after number (section, set) membership more.0 refl interned.0,
+    elim more.1 [
+      | inl same ↦ inl (ap (memberships_in grown) same ∙ memberships-stay rows have)
+      | inr added ↦ inr (is added.0, λ there. added.1 (among there))
+    ],
+  ) where
+    membership : Membership
+    membership = record { section = section; entities = entities }
+
+    its_set : get_or grown set [] ≡ entities
+    its_set = get_or_from_slice_get grown set entities [] interned.0
+
+    is : after ≡ rows ++ (section, set) ∷ [] → memberships_in grown after ≡ memberships_in sets rows ++ membership ∷ []
+    is behind_ =
+        let last : membership_in grown (section, set) ≡ membership = λ i. record { section = section; entities = its_set i } in
+        ap (memberships_in grown) behind_ ∙ map-append (membership_in grown) rows ((section, set) ∷ []) ∙ ap (λ (m : Membership). memberships_in grown rows ++ m ∷ []) last ∙ ap (λ (ms : List Membership). ms ++ membership ∷ []) (memberships-stay rows have)
+
+    among : Contains (memberships_in sets rows) membership → Contains rows (section, set)
+    among there =
+        let (row, here, same) = Contains-unmapped (membership_in grown) rows membership (subst (λ (ms : List Membership). Contains ms membership) (sym (memberships-stay rows have)) there) in
+        let within : row.1 < length grown = Each-member (λ (r : Row). r.1 < length grown) rows row (sets-stay rows have) here in
+        let at : slice_get grown row.1 ≡ Some entities = slice_get-get_or grown row.1 [] within ∙ ap (λ (m : Membership). Some m.entities) same in
+        let number_is : row.1 ≡ set = once entities row.1 set at interned.0 in
+        let row_is : row ≡ (section, set) = λ i. (ap (λ (m : Membership). m.section) same i, number_is i) in
+        subst (λ (r : Row). Contains rows r) row_is here

@@ -7,4 +7,6 @@ mod NumberLemmas
 mod SeenLemmas
 mod TextLemmas
 pub mod OrderLemmas
+mod Numbering
+mod SetNumbers
 mod Interning

@@ -5,4 +5,6 @@ pub mod Instances
 pub mod StoredInstance
 pub mod Positions
 pub mod Seen
+pub mod Numbering
+pub mod EntitySets
 pub mod Memberships

@@ -1,10 +1,12 @@
 -- Memberships of instances, each with its number.
-use Rattle.std.specs.Prelude.{◌≡◌, ◌⊎◌, ℕ, List, [], ◌∷◌, ◌++◌, map, slice_get, Some, Contains}
+use Rattle.std.specs.Prelude.{◌<◌, ℕ, List, [], map, slice_index_or}
+use Rattle.std.specs.BTreeMap.{BTreeMap}
+use Rattle.std.specs.List.{AllByRecursion as Each}
+use Rattle.std.specs.Ordering.{nat_cmp, ordering_then}
+use Rattle.std.specs.declared.cmp.Ordering.{Ordering}
 use Rattle.p21_express_types.specs.declared.number.EntityId.{EntityId}
 use Rattle.p21_mapping_values.specs.TypedView.{ids_view}
-use Rattle.p21_stream_store.specs.declared.memberships.Row.{Row}
-use Rattle.std.specs.Prelude as std
-use Rattle.std.specs.declared.alloc.Global.{Global}
+use Rattle.p21_stream_store.specs.Numbering.{AreNumbered}
 
 -- the number of the section that an instance stands in, and its set of entities
 pub record Membership : Type 0 where
@@ -14,25 +16,20 @@ pub record Membership : Type 0 where
 abbrev pub membership_of : ℕ → List EntityId → Membership
 membership_of section entities = record { section = section; entities = ids_view entities }
 
--- what the rows hold
-abbrev pub memberships_of : List Row → List Membership
-memberships_of rows = map (λ (row : Row). membership_of row.section row.entities.items) rows
+-- a membership by the number of its section and that of its set among these
+abbrev pub membership_in : List (List ℕ) → ℕ × ℕ → Membership
+membership_in sets row = record { section = row.0; entities = slice_index_or sets row.1 [] }
 
--- a membership as numbers alone
-abbrev pub key : Membership → List ℕ
-key membership = membership.section ∷ membership.entities
+abbrev pub memberships_in : List (List ℕ) → List (ℕ × ℕ) → List Membership
+memberships_in sets rows = map (membership_in sets) rows
 
-abbrev pub keys_of : List Membership → List (List ℕ)
-keys_of memberships = map key memberships
+-- by the section first
+abbrev pub by_pair : ℕ × ℕ → ℕ × ℕ → Ordering
+by_pair a b = ordering_then (nat_cmp a.0 b.0) (nat_cmp a.1 b.1)
 
--- the numbers of which the keys consist
-abbrev pub numbers_of : List (std.Vec ℕ Global) → List (List ℕ)
-numbers_of keys = map (λ (found : std.Vec ℕ Global). found.items) keys
+abbrev pub AreNumberedRows : List (ℕ × ℕ) → BTreeMap (ℕ × ℕ) ℕ → Type 0
+AreNumberedRows rows numbers = AreNumbered (λ (row : ℕ × ℕ). row) by_pair rows numbers
 
--- the keys are those of the rows, in their order
-abbrev pub AreKeyed : List Row → List (std.Vec ℕ Global) → Type 0
-AreKeyed rows keys = numbers_of keys ≡ keys_of (memberships_of rows)
-
--- A membership has this number; either it had it before, and nothing is new, or it is added behind the others, of which none is it
-abbrev pub Interns : List Membership → Membership → ℕ → List Membership → Type 0
-Interns old membership number new = (slice_get new number ≡ Some membership) × ((new ≡ old) ⊎ ((new ≡ old ++ membership ∷ []) × (Contains old membership → ⊥)))
+-- each is of one of so many sets
+abbrev pub HaveSets : ℕ → List (ℕ × ℕ) → Type 0
+HaveSets many rows = Each (λ (row : ℕ × ℕ). row.1 < many) rows

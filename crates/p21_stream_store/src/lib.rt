@@ -2,12 +2,14 @@
 //! of which is the data section that an instance stands in and its set of entities.
 #![tactic(auto)]
 
+mod entity_sets;
 mod instances;
 mod late;
 mod memberships;
 mod names;
 mod numbers;
 mod order;
+mod room;
 mod rows;
 mod runs;
 mod seen;
@@ -15,6 +17,7 @@ mod stored_texts;
 mod texts;
 mod widths;
 
+pub use entity_sets::EntitySets;
 pub use instances::Instances;
 pub use memberships::Memberships;
 pub use numbers::Numbers;

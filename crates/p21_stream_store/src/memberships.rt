@@ -1,11 +1,13 @@
-ghost use Rattle.std.specs.Prelude.{◌≡◌, ◌<◌, ◌+◌, ℕ, [], ◌∷◌, ◌++◌, length, slice_get, Some, None, Contains, IfOk, OnErr, OnOk, IfSome, IsNone, IsTrue, ◌↔◌};
+ghost use Rattle.std.specs.Prelude.{◌≡◌, ◌<◌, [], length, slice_get, Some, IfOk, IfSome, IsSome, IsTrue, OnErr};
 ghost use Rattle.p21_mapping_values.specs.TypedView.{ids_view};
-ghost use Rattle.p21_stream_store.specs.Memberships.{AreKeyed, Interns, Membership, key, membership_of, memberships_of, keys_of, numbers_of};
+ghost use Rattle.p21_stream_store.specs.Memberships.{AreNumberedRows, HaveSets, membership_of};
+ghost use Rattle.p21_stream_store.specs.Numbering.{Interns};
 
-use indexmap::IndexSet;
+use crate::entity_sets::EntitySets;
 use p21_express_types::EntityId;
 use p21_values::NoMemory;
 use std::alloc::Global;
+use std::collections::BTreeMap;
 use std::marker::Model;
 
 /// So many memberships are remembered.
@@ -14,29 +16,24 @@ const GUESSES: usize = 64;
 /// Memberships by number, each once.
 #[derive(Drop)]
 pub struct Memberships {
-    rows: Vec<Row>,
-    // Of each row its section and its entities as numbers.
-    keys: IndexSet<Vec<usize>>,
+    sets: EntitySets,
+    // Of each the number of its section, and that of its set.
+    rows: Vec<(usize, usize)>,
+    // The number of each.
+    numbers: BTreeMap<(usize, usize), usize>,
     // Memberships that were asked for, each at the index that `guess_of` says. What stands there is compared before it counts.
     guesses: [usize; GUESSES],
 }
 
-/// A membership: the number of a section, and a set of entities.
-#[derive(Drop)]
-struct Row {
-    section: usize,
-    entities: Vec<EntityId>,
-}
-
 impl Model for Memberships {
-    ghost use Rattle.std.specs.Prelude.{List};
-    ghost use Rattle.p21_stream_store.specs.Memberships.{AreKeyed, Membership, memberships_of};
+    ghost use Rattle.std.specs.Prelude.{List, length};
+    ghost use Rattle.p21_stream_store.specs.Memberships.{AreNumberedRows, HaveSets, Membership, memberships_in};
 
     ghost Value = { List Membership };
 
-    ghost view = { λ memberships. memberships_of memberships.rows.items };
+    ghost view = { λ a. memberships_in a.sets a.rows.items };
 
-    ghost invariant = { λ memberships. AreKeyed memberships.rows.items memberships.keys.keys };
+    ghost invariant = { λ a. AreNumberedRows a.rows.items a.numbers × HaveSets (length a.sets) a.rows.items };
 }
 
 impl Memberships {
@@ -45,8 +42,9 @@ impl Memberships {
         ensures { result ≡ [] }
     {
         Memberships {
+            sets: EntitySets::new(alloc),
             rows: Vec::new(alloc),
-            keys: IndexSet::new(alloc),
+            numbers: BTreeMap::new(alloc),
             guesses: [0; GUESSES],
         }
     }
@@ -56,8 +54,15 @@ impl Memberships {
         requires { number < length self.now }
         ensures { slice_get self.now number ≡ Some (membership_of result.0 result.1.now) }
     {
-        let row = &self.rows[number];
-        (row.section, &row.entities)
+        let (section, set) = self.rows[number];
+        (section, self.sets.get(set))
+    }
+
+    /// The number of the set of a membership, which stays: those with the same set have the same. It takes no memory.
+    pub fn set(&self, number: usize) -> usize
+        requires { number < length self.now }
+    {
+        self.rows[number].1
     }
 
     /// The number of a membership, which stays. A membership that isn't there yet is added behind the others.
@@ -76,10 +81,19 @@ impl Memberships {
     {
         let guess = guess_of(entities);
         let guessed = self.guesses[guess];
-        if is_at(&self.rows, guessed, section, entities) {
+        let row = row_of(&self.sets, &self.rows, guessed, entities);
+        if is_of(row, section) {
             return Ok(guessed);
         }
-        let number = intern(&mut self.rows, &mut self.keys, alloc, section, entities)?;
+        let set = match set_of(&mut self.sets, alloc, row, entities) {
+            Ok(set) => set,
+            Err(fault) => return Err(fault),
+        };
+        self.sets.are_once();
+        let number = match intern(&mut self.rows, &mut self.numbers, section, set) {
+            Ok(number) => number,
+            Err(fault) => return Err(fault),
+        };
         self.guesses[guess] = number;
         Ok(number)
     }
@@ -95,78 +109,83 @@ fn guess_of(entities: &[EntityId]) -> usize
     (first.0 as usize * 3 + last.0 as usize * 5 + entities.len()) % GUESSES
 }
 
-/// Whether this membership has this number.
-fn is_at(rows: &[Row], number: usize, section: usize, entities: &[EntityId]) -> bool
-    ensures { IsTrue result → slice_get (memberships_of rows.now) number ≡ Some (membership_of section entities.now) }
+/// The section and the set of the membership of this number, where its set has these entities.
+fn row_of(
+    sets: &EntitySets,
+    rows: &[(usize, usize)],
+    number: usize,
+    entities: &[EntityId],
+) -> Option<(usize, usize)>
+    requires { HaveSets (length sets.now) rows.now }
+    ensures row { IfSome result (λ row. slice_get rows.now number ≡ Some row) }
+    ensures set { IfSome result (λ row. slice_get sets.now row.1 ≡ Some (ids_view entities.now)) }
 {
-    match rows.get(number) {
-        Some(row) => is_membership(row, section, entities),
+    let row = *rows.get(number)?;
+    if !are_same(sets.get(row.1), entities) {
+        return None;
+    }
+    Some(row)
+}
+
+/// Whether there is a row, and it is of this section.
+fn is_of(row: Option<(usize, usize)>, section: usize) -> bool
+    ensures section { IsTrue result → IfSome row (λ row. row.0 ≡ section) }
+    ensures some { IsTrue result → IsSome row }
+{
+    match row {
+        Some((its_section, _)) => its_section == section,
         None => false,
     }
 }
 
-/// Whether a row holds this membership.
-fn is_membership(row: &Row, section: usize, entities: &[EntityId]) -> bool
-    ensures { IsTrue result → membership_of row.now.section row.now.entities.items ≡ membership_of section entities.now }
-{
-    if row.section != section {
-        return false;
-    }
-    row.entities.as_slice() == entities
-}
-
-/// The number of a membership, which is added where it isn't there yet. An `Err` changes nothing.
-fn intern(
-    rows: &mut Vec<Row>,
-    keys: &mut IndexSet<Vec<usize>>,
+/// The number of the set of these entities. It is that of the row, where there is one; else it is added, where it isn't there
+/// yet.
+fn set_of(
+    sets: &mut EntitySets,
     alloc: Global,
-    section: usize,
+    row: Option<(usize, usize)>,
     entities: &[EntityId],
 ) -> Result<usize, NoMemory>
-    requires { AreKeyed rows.old.items keys.old.keys }
-    ensures keyed { AreKeyed rows.new.items keys.new.keys }
-    ensures ok { IfOk result (λ number. Interns (memberships_of rows.old.items) (membership_of section entities.now) number (memberships_of rows.new.items)) }
-    ensures err { OnErr result (memberships_of rows.new.items ≡ memberships_of rows.old.items) }
+    requires { IfSome row (λ row. slice_get sets.old row.1 ≡ Some (ids_view entities.now)) }
+    ensures ok { IfOk result (λ set. Interns sets.old (ids_view entities.now) set sets.new) }
+    ensures err { OnErr result (sets.new ≡ sets.old) }
 {
-    let wanted = key_of(alloc, section, entities)?;
-    if let Some(place) = keys.get_index_of(&wanted) {
-        return Ok(place);
+    match row {
+        Some((_, set)) => Ok(set),
+        None => sets.add(alloc, entities),
+    }
+}
+
+/// Whether the entities are the same, one by one.
+fn are_same(entities: &[EntityId], others: &[EntityId]) -> bool
+    ensures { IsTrue result → entities.now ≡ others.now }
+{
+    entities == others
+}
+
+/// The number of a section and a set, which are added where they aren't there yet. An `Err` changes nothing.
+fn intern(
+    rows: &mut Vec<(usize, usize)>,
+    numbers: &mut BTreeMap<(usize, usize), usize>,
+    section: usize,
+    set: usize,
+) -> Result<usize, NoMemory>
+    requires { AreNumberedRows rows.old.items numbers.old }
+    ensures numbered { AreNumberedRows rows.new.items numbers.new }
+    ensures ok { IfOk result (λ number. Interns rows.old.items (section, set) number rows.new.items) }
+    ensures err { OnErr result (rows.new.items ≡ rows.old.items) }
+{
+    let row = (section, set);
+    if let Some(number) = numbers.get(&row).copied() {
+        return Ok(number);
     }
     let number = rows.len();
-    let row = Row {
-        section,
-        entities: Vec::from_slice(alloc, entities)?,
-    };
-    let Ok(()) = add_key(keys, wanted) else {
+    let Ok(()) = rows.push(row) else {
         return Err(NoMemory);
     };
-    let Ok(()) = rows.push(row) else {
-        keys.pop();
+    let Ok(_) = numbers.insert(row, number) else {
+        rows.pop();
         return Err(NoMemory);
     };
     Ok(number)
-}
-
-/// The section and the entities as numbers.
-fn key_of(alloc: Global, section: usize, entities: &[EntityId]) -> Result<Vec<usize>, NoMemory>
-    ensures { IfOk result (λ found. found.items ≡ key (membership_of section entities.now)) }
-{
-    let mut found = Vec::new(alloc);
-    found.push(section)?;
-    for entity in entities {
-        found.push(entity.0 as usize)?;
-    }
-    Ok(found)
-}
-
-/// Adds a key that isn't there yet.
-fn add_key(keys: &mut IndexSet<Vec<usize>>, wanted: Vec<usize>) -> Result<(), NoMemory>
-    requires { Contains (numbers_of keys.old.keys) wanted.items → ⊥ }
-    ensures ok { OnOk result (keys.new.keys ≡ keys.old.keys ++ wanted ∷ []) }
-    ensures err { OnErr result (keys.new.keys ≡ keys.old.keys) }
-{
-    let Ok(_) = keys.insert(wanted) else {
-        return Err(NoMemory);
-    };
-    Ok(())
 }

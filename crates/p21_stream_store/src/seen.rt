@@ -1,8 +1,9 @@
 //! Which names have come, a bit for each.
-ghost use Rattle.std.specs.Prelude.{◌≡◌, ◌≢◌, ◌<◌, ◌^◌, ℕ, length, slice_index_or, OnOk, false};
+ghost use Rattle.std.specs.Prelude.{◌≡◌, ◌≢◌, ◌<◌, ◌≤◌, ℕ, length, slice_index_or, vec_capacity, OnOk, false};
 ghost use Rattle.std.specs.Int.{bit_at};
 ghost use Rattle.p21_stream_store.specs.Seen.{MayHaveCome};
 
+use crate::room::reach;
 use p21_values::NoMemory;
 
 /// Names below this have a bit, so that the bits take a megabyte at most.
@@ -28,6 +29,7 @@ pub fn may_have_come(words: &[u64], name: u64) -> bool
 pub fn note(words: &mut Vec<u64>, name: u64) -> Result<(), NoMemory>
     ensures noted { OnOk result (MayHaveCome words.new.items name) }
     ensures others { (other : ℕ) → MayHaveCome words.old.items other → MayHaveCome words.new.items other }
+    ensures room { (m : ℕ) → vec_capacity words.old ≤ m → 131072 ≤ m → vec_capacity words.new ≤ m }
 {
     if name >= MOST {
         return Ok(());
@@ -42,14 +44,12 @@ pub fn note(words: &mut Vec<u64>, name: u64) -> Result<(), NoMemory>
 
 /// Makes a word of this number, and those in front of it, where there is none yet. No bit changes.
 fn make_word(words: &mut Vec<u64>, index: usize) -> Result<(), NoMemory>
-    requires { index < 2 ^ 32 }
+    requires { index < 131072 }
     ensures made { OnOk result (index < length words.new.items) }
     ensures same { (other : ℕ) → slice_index_or words.new.items other 0 ≡ slice_index_or words.old.items other 0 }
+    ensures room { (m : ℕ) → vec_capacity words.old ≤ m → 131072 ≤ m → vec_capacity words.new ≤ m }
 {
-    if index >= words.len() && words.resize(index + 1, 0).is_err() {
-        return Err(NoMemory);
-    }
-    Ok(())
+    reach(words, index, (MOST / WORD) as usize, 0)
 }
 
 /// Sets a bit of a word.
@@ -59,6 +59,7 @@ fn set_bit(words: &mut Vec<u64>, index: usize, bit: u64)
     ensures set { bit_at (slice_index_or words.new.items index 0) bit ≡ 1 }
     ensures bits { (other : ℕ) → bit_at (slice_index_or words.old.items index 0) other ≡ 1 → bit_at (slice_index_or words.new.items index 0) other ≡ 1 }
     ensures words { (other : ℕ) → other ≢ index → slice_index_or words.new.items other 0 ≡ slice_index_or words.old.items other 0 }
+    ensures room { vec_capacity words.new ≡ vec_capacity words.old }
 {
     words[index] |= 1 << bit;
 }

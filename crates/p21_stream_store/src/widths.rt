@@ -1,13 +1,17 @@
 //! The widths in which numbers are stored.
-ghost use Rattle.std.specs.Prelude.{◌≡◌, ◌+◌, ◌*◌, ℕ, IfSome};
+ghost use Rattle.std.specs.Prelude.{◌≡◌, ◌≤◌, ◌+◌, ◌*◌, ◌^◌, ℕ, IfSome, IsNone};
 
 /// A width in which numbers are stored.
 pub trait Width: Copy {
     ghost value: { Self → ℕ };
 
+    // It holds the numbers below this.
+    ghost bound: { ℕ };
+
     /// The number in this width, if it holds it.
     fn of(number: usize) -> Option<Self>
-        ensures { IfSome result (λ kept. value kept ≡ number) };
+        ensures some { IfSome result (λ kept. value kept ≡ number) }
+        ensures none { IsNone result → bound ≤ number };
 
     /// The number.
     fn number(self) -> usize
@@ -17,8 +21,13 @@ pub trait Width: Copy {
 impl Width for u8 {
     ghost value = { λ kept. kept };
 
+    ghost bound = { 2 ^ 8 };
+
     fn of(number: usize) -> Option<u8> {
-        u8::try_from(number).ok()
+        if number >= 1 << 8 {
+            return None;
+        }
+        Some(number as u8)
     }
 
     fn number(self) -> usize {
@@ -29,8 +38,13 @@ impl Width for u8 {
 impl Width for u16 {
     ghost value = { λ kept. kept };
 
+    ghost bound = { 2 ^ 16 };
+
     fn of(number: usize) -> Option<u16> {
-        u16::try_from(number).ok()
+        if number >= 1 << 16 {
+            return None;
+        }
+        Some(number as u16)
     }
 
     fn number(self) -> usize {
@@ -41,8 +55,13 @@ impl Width for u16 {
 impl Width for u32 {
     ghost value = { λ kept. kept };
 
+    ghost bound = { 2 ^ 32 };
+
     fn of(number: usize) -> Option<u32> {
-        u32::try_from(number).ok()
+        if number >= 1 << 32 {
+            return None;
+        }
+        Some(number as u32)
     }
 
     fn number(self) -> usize {
@@ -60,6 +79,8 @@ pub struct ThreeBytes {
 
 impl Width for ThreeBytes {
     ghost value = { λ kept. kept.low + 256 * kept.middle + 65536 * kept.high };
+
+    ghost bound = { 2 ^ 24 };
 
     fn of(number: usize) -> Option<ThreeBytes> {
         if number >= 1 << 24 {

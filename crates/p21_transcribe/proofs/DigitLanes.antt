@@ -9,7 +9,7 @@ use Rattle.p21_exchange.proofs.Forms.{NoDigitFirst}
 use Rattle.p21_tokens_automaton.proofs.Classes.{digit-decides}
 use Rattle.p21_transcribe.specs.Runs.{IsDigitRun}
 
-digits-front : (bytes : List ℕ) (n : ℕ) → ((k : ℕ) → k < n → IsDigit (get_or bytes k 0)) → AllDigits (take n bytes)
+pub digits-front : (bytes : List ℕ) (n : ℕ) → ((k : ℕ) → k < n → IsDigit (get_or bytes k 0)) → AllDigits (take n bytes)
 digits-front bytes zero h = tt
 digits-front [] (suc n) h = tt
 digits-front (b ∷ bytes) (suc n) h = (h 0 (omega arith), digits-front bytes n (λ k l. h (suc k) (omega arith)))
@@ -28,14 +28,14 @@ run_ended bytes n room h other = record { within = omega arith; digits = h; ends
 pub run_whole : (bytes : List ℕ) → AllDigits (take (length bytes) bytes) → IsDigitRun bytes (length bytes)
 run_whole bytes h = record { within = omega arith; digits = h; ends = no_digit-behind bytes (length bytes) (λ l. absurd (omega arith)) }
 
-passes : (b : ℕ) → not (is_digit b) ≡ false → IsDigit b
+pub passes : (b : ℕ) → not (is_digit b) ≡ false → IsDigit b
 passes b h = at (is_digit b) (digit-decides b).0 h
   where
     at : (t : Bool) → (t ≡ true → IsDigit b) → not t ≡ false → IsDigit b
     at true f e = f refl
     at false f e = absurd cc
 
-fails : (b : ℕ) → not (is_digit b) ≡ true → IsDigit b → ⊥
+pub fails : (b : ℕ) → not (is_digit b) ≡ true → IsDigit b → ⊥
 fails b h d = let yes = (digit-decides b).1 d in cc
 
 -- the digits before the first other byte of a row

@@ -6,11 +6,14 @@ pub mod Found
 pub mod Gaps
 pub mod ItemTokens
 pub mod KeywordTokens
+pub mod LanePlaces
 pub mod LeadingTokens
 pub mod NameTokens
 pub mod Parts
+pub mod PlacedReals
 pub mod RealTokens
 pub mod Respelling
+pub mod SecondRow
 pub mod Splits
 pub mod TextTokens
 pub mod WholeTokens

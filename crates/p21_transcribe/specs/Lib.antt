@@ -6,3 +6,4 @@ pub mod LeadingToken
 pub mod Numbers
 pub mod Respelling
 pub mod Runs
+pub mod Significands

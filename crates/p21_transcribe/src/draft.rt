@@ -11,14 +11,14 @@ use std::marker::Model;
 use std::simd::prelude::*;
 
 /// How many bytes are written at once, where fewer count.
-const WIDE: usize = 32;
+pub(crate) const WIDE: usize = 32;
 
 /// Text that is written into room of a fixed size, which is used again for the next one. Behind the text any bytes may
 /// stand.
 #[derive(Drop)]
 pub struct Draft {
-    room: Vec<u8>,
-    used: usize,
+    pub(crate) room: Vec<u8>,
+    pub(crate) used: usize,
 }
 
 impl Model for Draft {
@@ -138,7 +138,7 @@ impl Draft {
 
 /// Writes the first 32 of the bytes at a place.
 #[inline(always)]
-fn write_wide(room: &mut [u8], at: usize, bytes: &[u8])
+pub(crate) fn write_wide(room: &mut [u8], at: usize, bytes: &[u8])
     requires bytes { WIDE ≤ length bytes.now }
     requires room { at + WIDE ≤ length room.old }
     ensures front { (count : ℕ) → count ≤ WIDE → take (at + count) room.new ≡ take at room.old ++ take count bytes.now }

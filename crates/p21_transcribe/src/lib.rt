@@ -15,6 +15,7 @@ mod name;
 mod number;
 mod real;
 mod respelled_text;
+mod significand;
 mod text;
 
 pub use bits::append_bits;

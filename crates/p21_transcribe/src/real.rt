@@ -1,15 +1,18 @@
 //! Reals, and whole numbers where a NUMBER may stand (ISO 10303-21, clause 6: tokens, real and integer).
-ghost use Rattle.std.specs.Prelude.{ℕ, ◌^◌, ◌<◌, ◌≤◌, ◌++◌, length, nat_abs, take, IfNone, IfSome};
+ghost use Rattle.std.specs.Prelude.{ℕ, ℤ, ◌+◌, ◌^◌, ◌<◌, ◌≤◌, ◌++◌, length, drop, nat_abs, take, true, IfNone, IfSome};
+ghost use Rattle.p21_lanes.specs.Places.{HasPlaces};
 ghost use Rattle.p21_values.specs.Canonical.{Continues};
 ghost use Rattle.p21_values.specs.Digits.{HasNoLeadingZero};
 ghost use Rattle.p21_values.specs.RealComponents.{digits_ratio};
 ghost use Rattle.p21_transcribe.specs.Appending.{AppendsAllOrNone};
-ghost use Rattle.p21_transcribe.specs.Numbers.{AppendsNormalised, AppendsNumber, AppendsWithoutExponent, TranscribesNumber};
+ghost use Rattle.p21_transcribe.specs.Numbers.{AppendsNormalised, AppendsNumber, AppendsWithoutExponent, EndsReal, TranscribesNumber};
 ghost use Rattle.p21_transcribe.specs.Runs.{AreDigits};
+ghost use Rattle.p21_transcribe.specs.Significands.{AppendsSignificand, placed_ratio, significand};
 
 use crate::digits::{behind, digit_run, leading_zeros, split_sign};
-use crate::draft::Draft;
+use crate::draft::{Draft, WIDE};
 use crate::exponent::{append_exponent, append_minus, split_exponent};
+use p21_lanes::{Places, real_places};
 
 /// A number with more digits on one side of the point isn't usual.
 const MOST_DIGITS: usize = 65_536;
@@ -23,6 +26,20 @@ struct Digits<'a> {
 
 /// Appends the real at the front: how many bytes it has. Where a whole number may stand too, it is written as a real.
 pub fn append_real(bytes: &[u8], wholes: bool, draft: &mut Draft) -> Option<usize>
+    ensures some { IfSome result (λ count. TranscribesNumber wholes bytes.now count draft.old draft.new) }
+    ensures none { IfNone result (Continues draft.old draft.new) }
+{
+    let (negative, unsigned) = split_sign(bytes);
+    if let Some(places) = near_places(unsigned) {
+        let rest = append_near(negative, unsigned, &places, draft)?;
+        return Some(bytes.len() - rest.len());
+    }
+    append_far(bytes, wholes, draft)
+}
+
+/// The same for a real of more digits, at the end of a piece, and for a whole number.
+#[inline(never)]
+fn append_far(bytes: &[u8], wholes: bool, draft: &mut Draft) -> Option<usize>
     ensures some { IfSome result (λ count. TranscribesNumber wholes bytes.now count draft.old draft.new) }
     ensures none { IfNone result (Continues draft.old draft.new) }
 {
@@ -59,6 +76,89 @@ pub fn append_real(bytes: &[u8], wholes: bool, draft: &mut Draft) -> Option<usiz
         return None;
     }
     Some(bytes.len() - rest.len())
+}
+
+/// Where the parts of a real stand whose digits end within a row of bytes, with a row behind it in the piece.
+#[inline(always)]
+fn near_places(unsigned: &[u8]) -> Option<Places>
+    ensures places { IfSome result (λ places. HasPlaces unsigned.now 0 places.point places.end places.first places.behind) }
+    ensures room { IfSome result (λ places. WIDE + WIDE ≤ length unsigned.now) }
+{
+    if unsigned.len() < 2 * WIDE {
+        return None;
+    }
+    real_places(unsigned, 0)
+}
+
+/// Appends the real of these places: what stands behind it.
+#[inline(always)]
+fn append_near<'a>(
+    negative: bool,
+    unsigned: &'a [u8],
+    places: &Places,
+    draft: &mut Draft,
+) -> Option<&'a [u8]>
+    requires places { HasPlaces unsigned.now 0 places.now.point places.now.end places.now.first places.now.behind }
+    requires room { WIDE + WIDE ≤ length unsigned.now }
+    ensures some { IfSome result (λ rest. (k : ℤ) × EndsReal (drop places.now.end unsigned.now) k rest.now × AppendsNumber true (placed_ratio negative unsigned.now 0 places.now.point places.now.end k) draft.old draft.new) }
+    ensures within { IfSome result (λ rest. length rest.now ≤ length unsigned.now) }
+    ensures none { IfNone result (Continues draft.old draft.new) }
+{
+    let (exponent, rest) = split_exponent(&unsigned[places.end..])?;
+    if !append_placed(negative, unsigned, places, exponent, draft) {
+        return None;
+    }
+    Some(rest)
+}
+
+/// Appends the canonical spelling of the number of the digits at these places, times ten to the exponent, or a part of it; says
+/// whether it is whole.
+#[inline(always)]
+fn append_placed(
+    negative: bool,
+    unsigned: &[u8],
+    places: &Places,
+    exponent: i32,
+    draft: &mut Draft,
+) -> bool
+    requires places { HasPlaces unsigned.now 0 places.now.point places.now.end places.now.first places.now.behind }
+    requires room { WIDE + WIDE ≤ length unsigned.now }
+    requires small { nat_abs exponent < 10 ^ 6 }
+    ensures { AppendsNumber result (placed_ratio negative unsigned.now 0 places.now.point places.now.end exponent) draft.old draft.new }
+{
+    if places.behind == 0 {
+        return draft.append(b"0.");
+    }
+    let power = if places.first < places.point {
+        exponent + (places.point - places.first - 1) as i32
+    } else {
+        exponent - (places.first - places.point) as i32
+    };
+    append_at_power(negative, unsigned, places, power, draft)
+}
+
+/// Appends the digits at these places with this exponent, or a part of that; says whether it is whole. An exponent of more
+/// than two digits isn't usual.
+#[inline(always)]
+fn append_at_power(
+    negative: bool,
+    unsigned: &[u8],
+    places: &Places,
+    power: i32,
+    draft: &mut Draft,
+) -> bool
+    requires places { HasPlaces unsigned.now 0 places.now.point places.now.end places.now.first places.now.behind }
+    requires some { 0 < places.now.behind }
+    requires room { WIDE + WIDE ≤ length unsigned.now }
+    ensures { AppendsSignificand result (significand negative unsigned.now 0 places.now.point places.now.first places.now.behind) power draft.old draft.new }
+{
+    if power < -99 || power > 99 {
+        return false;
+    }
+    if !draft.append_significand(negative, unsigned, places) {
+        return false;
+    }
+    append_exponent(power, draft)
 }
 
 /// Appends the canonical spelling of the number that these digits before and behind the point stand for, times ten to the

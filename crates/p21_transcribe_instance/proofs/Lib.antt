@@ -1,3 +1,4 @@
+pub mod OwnPlaces
 pub mod Steps
 pub mod Words
 pub mod ArrangedElements

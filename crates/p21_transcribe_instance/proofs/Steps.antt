@@ -5,9 +5,9 @@ use Rattle.std.proofs.lemmas.List.{get_or_append_left, get_or-set_other, get_or-
 use Rattle.std.proofs.lemmas.Option.{get_or_from_slice_get, slice_get-get_or, slice_get-map, slice_get_within}
 use Rattle.std.proofs.Math.Seq.{get_or-append_seam}
 use Rattle.std.specs.Option.{option_map}
-use Rattle.std.specs.Prelude.{Option, Some, None, slice_get, Contains, Bool, true, false, IsTrue, ◌↔◌, Result, Ok, Err, IfOk}
+use Rattle.std.specs.Prelude.{Option, Some, None, slice_get, Contains, Bool, true, false, IsTrue, ◌↔◌}
 use denote.Ref.{Bor}
-use Rattle.p21_express_tables.proofs.OwnSets.{place-among}
+use Rattle.p21_transcribe_instance.proofs.OwnPlaces.{place-among}
 use Rattle.p21_express_graph.proofs.OrderTables.{IsA-within, are-entities, order-tells}
 use Rattle.p21_express_graph.proofs.Renaming.{comes-is}
 use Rattle.p21_express_graph.specs.DirectRenaming.{ComesTo, at_itself}
@@ -19,7 +19,6 @@ use Rattle.p21_express_tables.specs.declared.own_sets.OwnFaults.{OwnFaults}
 use Rattle.p21_express_graph.specs.Resolved.{HoldsTogether, IsEntity, IsPlace, IsTypeUse}
 use Rattle.p21_express_types.specs.Meaning.{type_use}
 use Rattle.p21_express_types.specs.declared.type_use.TypeUse as code
-use Rattle.p21_values.specs.declared.fault.NoMemory.{NoMemory}
 use Rattle.p21_schemas.specs.Order.{order}
 use Rattle.p21_schemas.specs.PlaceType.{TypeAt, two_redeclarations}
 use Rattle.p21_schemas.specs.Schema.{Place, Schema}
@@ -46,18 +45,15 @@ module _ (s : Schema) (holds : HoldsTogether s) (e : ℕ) where
 
 -- ---- what a type comes down to
 
--- a plain type that is copied
-pub reduced_type-plain : (s : Schema) → HoldsTogether s → (of : code.TypeUse) (last : Bor code.TypeUse) (base : Base) → base ≡ Plain last → HasBase s (type_use of) base → IsTypeUse s (type_use of) → (copy : Result code.TypeUse NoMemory) → IfOk copy (λ c. type_use c ≡ type_use last.now)
-    → IfOk copy (λ c. IsTypeUse s (type_use c) × ComesTo s (type_use of) (type_use c))
-reduced_type-plain s holds of last base is (found_, comes, base_is) known (Ok copy) same =
-    let plain : found_ ≡ type_use copy = (subst (IsBase s found_) is base_is).0 ∙ sym same in
+-- the type itself, where it is a plain one that was found
+pub reduced_type-plain : (s : Schema) → HoldsTogether s → (of : code.TypeUse) (last : Bor code.TypeUse) (base : Base) → base ≡ Plain last → HasBase s (type_use of) base → IsTypeUse s (type_use of) → (same : code.TypeUse) → type_use same ≡ type_use last.now → IsTypeUse s (type_use same) × ComesTo s (type_use of) (type_use same)
+reduced_type-plain s holds of last base is (found_, comes, base_is) known same says =
+    let plain : found_ ≡ type_use same = (subst (IsBase s found_) is base_is).0 ∙ sym says in
     (subst (IsTypeUse s) plain (comes-is s holds (type_use of) found_ comes known), subst (ComesTo s (type_use of)) plain comes)
-reduced_type-plain s holds of last base is has known (Err fault) same = tt
 
 -- the type itself
-pub reduced_type-same : (s : Schema) (of : code.TypeUse) → IsTypeUse s (type_use of) → (copy : Result code.TypeUse NoMemory) → IfOk copy (λ c. type_use c ≡ type_use of) → IfOk copy (λ c. IsTypeUse s (type_use c) × ComesTo s (type_use of) (type_use c))
-reduced_type-same s of known (Ok copy) same = (subst (IsTypeUse s) (sym same) known, subst (ComesTo s (type_use of)) (sym same) (at_itself (type_use of)))
-reduced_type-same s of known (Err fault) same = tt
+pub reduced_type-same : (s : Schema) (of same : code.TypeUse) → IsTypeUse s (type_use of) → type_use same ≡ type_use of → IsTypeUse s (type_use same) × ComesTo s (type_use of) (type_use same)
+reduced_type-same s of same known says = (subst (IsTypeUse s) (sym says) known, subst (ComesTo s (type_use of)) (sym says) (at_itself (type_use of)))
 
 -- ---- rows
 

@@ -12,25 +12,28 @@ use Rattle.p21_express_graph.specs.DirectRenaming.{ComesTo, at_itself, through}
 use Rattle.p21_express_tables.specs.Base.{HasBase, IsBase}
 use Rattle.p21_express_tables.specs.declared.base.Base.{Base}
 use Rattle.p21_express_tables.specs.declared.base.Base.TheVariants.{Items, Select}
-use Rattle.p21_express_graph.specs.Resolved.{IsType, IsTypeUse}
+use Rattle.p21_express_graph.specs.Resolved.{HoldsTogether, IsEntity, IsPlace, IsType, IsTypeUse}
 use Rattle.p21_express_types.specs.declared.kind.Member.{Member}
 use Rattle.p21_express_types.specs.declared.number.TypeId.{TypeId}
+use Rattle.p21_express_types.specs.declared.number.Place as code_place
 use Rattle.p21_express_types.specs.declared.type_use.TypeUse as code
 use Rattle.p21_express_types.specs.declared.number.EntityId.{EntityId}
-use Rattle.p21_express_types.specs.Meaning.{member, type_use}
+use Rattle.p21_express_types.specs.Meaning.{member, place, type_use}
 use Rattle.p21_files.specs.Reference as reference
 use Rattle.p21_files.specs.Value as meant
 use Rattle.p21_files.specs.Value.{Value}
 use Rattle.p21_files.specs.ValueText.{value_text}
 use Rattle.p21_mapping_values.specs.declared.need.Need.{Need}
-use Rattle.p21_schemas.specs.PlaceType.{PlaceType, derived_place, stored_place}
+use Rattle.p21_schemas.proofs.PlaceTypes.{TypeAt-one}
+use Rattle.p21_schemas.specs.Order.{order}
+use Rattle.p21_schemas.specs.PlaceType.{PlaceType, TypeAt, derived_place, stored_place}
 use Rattle.p21_schemas.specs.Schema as schema
 use Rattle.p21_schemas.specs.Schema.{Schema, TypeUse}
 use Rattle.p21_schemas.specs.Select.{IsSelect, Offers}
 use Rattle.p21_transcribe.specs.LeadingToken.{IsLeadingToken, Transcribes}
 use Rattle.p21_transcribe_instance.specs.Steps.{IsStepForSome, IsStepFor}
 use Rattle.p21_transcribe_instance.specs.declared.step.Step.{Step}
-use Rattle.p21_transcribe_instance.specs.declared.step.Step.TheVariants.{Derived, Stored}
+use Rattle.p21_transcribe_instance.specs.declared.step.Step.TheVariants.{Derived, Placed, Stored}
 use Rattle.p21_transcribe_instance.proofs.Laid.{laid-mark, laid-one}
 use Rattle.p21_transcribe_instance.specs.TakenValues.{IsBaseInSchema, KeepsNeeds, LaidBefore, TakesReferencesTo, TakesScalar, TakesValue, TakesWithNeeds}
 
@@ -142,6 +145,17 @@ pub step-taken : (s : Schema) (step : Step) (optional : Bool) (of : code.TypeUse
 step-taken s step optional of base bytes rest old new before after is (last, comes, base_is) takes at says =
     let says_ = subst (IsStepFor s at) is says in
     subst (λ (x : PlaceType). TakesWithNeeds s (FitsAtWithNeeds s x) 64 bytes rest old new before after) (sym says_.1) (takes says_.0 (last, comes-join s says_.0 (type_use of) last says_.3 comes, base_is))
+
+-- the place of which a step speaks is one of the schema
+pub placed-known : (s : Schema) (step : Step) (e : EntityId) (p : code_place.Place) → step ≡ Placed e p → IsStepForSome s step → IsEntity s e.0 × IsPlace s (place p)
+placed-known s step e p is (at, says) = let says_ = subst (IsStepFor s at) is says in (says_.0, says_.1)
+
+-- one type stands there
+pub placed-taken : (s : Schema) → HoldsTogether s → (step : Step) (e : EntityId) (p : code_place.Place) (found : PlaceType) (bytes rest old new : List ℕ) (before after : List Need) → step ≡ Placed e p → TypeAt s (order s e.0) (place p) found
+    → TakesWithNeeds s (FitsAtWithNeeds s found) 64 bytes rest old new before after → (at : PlaceType) → IsStepFor s at step → TakesWithNeeds s (FitsAtWithNeeds s at) 64 bytes rest old new before after
+placed-taken s holds step e p found bytes rest old new before after is found_at takes at says =
+    let same : found ≡ at = TypeAt-one s holds.supertypes_end holds.redeclares_once (order s e.0) (place p) found at found_at (subst (IsStepFor s at) is says).2 in
+    subst (λ (x : PlaceType). TakesWithNeeds s (FitsAtWithNeeds s x) 64 bytes rest old new before after) same takes
 
 pub base-select : (s : Schema) (base : Base) (t : TypeId) → base ≡ Select t → IsBaseInSchema s base → IsSelect s t.0
 base-select s base t is (type, known, (last, comes, found)) = (subst (IsBase s last) is found).1

@@ -1,5 +1,10 @@
 -- Sets of entities that instances of external mapping may have, with their simple records in the order of the canonical file.
-use Rattle.std.specs.Prelude.{◌≡◌, ◌≢◌, ℕ, List, Some, nat_eq, slice_get}
+use Rattle.std.specs.Prelude.{◌≡◌, ◌≢◌, ℕ, List, Some, map, nat_eq, slice_get}
+use Rattle.std.specs.Arc.{arc_slice_items}
+use Rattle.std.specs.declared.alloc.Global.{Global}
+use Rattle.std.specs.declared.sync.ArcSlice.{ArcSlice}
+use Rattle.p21_express_graph.specs.Orders.{numbers}
+use Rattle.p21_express_types.specs.declared.number.EntityId.{EntityId}
 use Rattle.std.specs.List.{AllByRecursion as Each, IsDistinct}
 use Rattle.p21_mapping.specs.Shape.{HasNoAbstractLeaf, IsClosed, PassesSet}
 use Rattle.p21_schemas.specs.Schema.{AreRisingByName, Schema}
@@ -17,6 +22,10 @@ pub record IsExternalSet (s : Schema) (entities : List ℕ) : Type 0 where
   pub several_leaves : HasSeveralLeaves s entities
   pub no_abstract_leaf : HasNoAbstractLeaf s entities
   pub passes : PassesSet s entities
+
+-- the entities of sets
+abbrev pub sets_of : List (ArcSlice EntityId Global) → List (List ℕ)
+sets_of sets = map (λ (set : ArcSlice EntityId Global). numbers (arc_slice_items set)) sets
 
 -- the set has this number
 abbrev pub IsNumberedSet : List (List ℕ) → ℕ → List ℕ → Type 0

@@ -2,13 +2,19 @@
 use Rattle.std.specs.Prelude.{◌≡◌, ℕ, Bool, List, [], ◌∷◌, Option, Some, None, refl}
 use Rattle.std.specs.Coded.{Coded, code_by, coded_ℕ, coded_bool, coded_list, coded_option, coded×}
 use Rattle.p21_express_tables.specs.Coding.{schema_code}
-use Rattle.p21_schemas.specs.PlaceType.{PlaceType, derived_place, stored_place, two_redeclarations}
-use Rattle.p21_schemas.specs.Schema.{Defined, Kind, Schema, TypeUse, alias, choice, items, whole}
+use Rattle.p21_schemas.specs.Schema.{Defined, Kind, Place, Schema, TypeUse, alias, choice, items, whole}
+
+-- What may stand at an attribute: `*`; a value of a type, which is OPTIONAL or not; or what may stand at a place of an instance
+-- whose set is an entity and its supertypes
+pub data PreparedStep : Type 0 where
+  derived_step : PreparedStep
+  stored_step : Bool → TypeUse → PreparedStep
+  placed_step : ℕ → Place → PreparedStep
 
 -- the entities of the set, rising by name, and what may stand at the attributes in the order of internal mapping
 pub record Prepared : Type 0 where
   pub entities : List ℕ
-  pub types : List PlaceType
+  pub steps : List PreparedStep
 
 -- ---- It is stored as numbers and lists, so that two can be told apart. Nothing that is claimed rests on that.
 
@@ -28,26 +34,26 @@ first_renamed (d ∷ ds) = renamed d.kind
 abbrev type_code : Coded TypeUse
 type_code = code_by Schema schema_code renaming (λ s. first_renamed s.types) (λ _. refl)
 
-abbrev place_cases : PlaceType → Option (Option (Bool × TypeUse))
-place_cases derived_place = None
-place_cases two_redeclarations = Some None
-place_cases (stored_place optional type) = Some (Some (optional, type))
+abbrev step_cases : PreparedStep → Option (Option (Bool × TypeUse)) × (ℕ × (ℕ × ℕ))
+step_cases derived_step = (None, (0, (0, 0)))
+step_cases (stored_step optional type) = (Some (Some (optional, type)), (0, (0, 0)))
+step_cases (placed_step e place) = (Some None, (e, (place.entity, place.index)))
 
-abbrev place_from : Option (Option (Bool × TypeUse)) → PlaceType
-place_from None = derived_place
-place_from (Some None) = two_redeclarations
-place_from (Some (Some (optional, type))) = stored_place optional type
+abbrev step_from : Option (Option (Bool × TypeUse)) × (ℕ × (ℕ × ℕ)) → PreparedStep
+step_from (None, at) = derived_step
+step_from (Some (Some (optional, type)), at) = stored_step optional type
+step_from (Some None, (e, (owner, index))) = placed_step e (record { entity = owner; index = index })
 
-pub place-back : (at : PlaceType) → place_from (place_cases at) ≡ at
-place-back derived_place = refl
-place-back two_redeclarations = refl
-place-back (stored_place optional type) = refl
+pub step-back : (step : PreparedStep) → step_from (step_cases step) ≡ step
+step-back derived_step = refl
+step-back (stored_step optional type) = refl
+step-back (placed_step e place) = refl
 
-abbrev place_code : Coded PlaceType
-place_code = code_by (Option (Option (Bool × TypeUse))) (coded_option (coded_option (coded× coded_bool type_code))) place_cases place_from place-back
+abbrev step_code : Coded PreparedStep
+step_code = code_by (Option (Option (Bool × TypeUse)) × (ℕ × (ℕ × ℕ))) (coded× (coded_option (coded_option (coded× coded_bool type_code))) (coded× coded_ℕ (coded× coded_ℕ coded_ℕ))) step_cases step_from step-back
 
 abbrev prepared_code : Coded Prepared
-prepared_code = code_by (List ℕ × List PlaceType) (coded× (coded_list coded_ℕ) (coded_list place_code)) (λ p. (p.entities, p.types)) (λ p. record { entities = p.0; types = p.1 }) (λ _. refl)
+prepared_code = code_by (List ℕ × List PreparedStep) (coded× (coded_list coded_ℕ) (coded_list step_code)) (λ p. (p.entities, p.steps)) (λ p. record { entities = p.0; steps = p.1 }) (λ _. refl)
 
 abbrev pub plan_code : Coded (List (Option Prepared))
 plan_code = coded_list (coded_option prepared_code)

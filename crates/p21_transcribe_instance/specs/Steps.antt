@@ -4,43 +4,45 @@ use Rattle.std.specs.Prelude.{◌≡◌, ℕ, List, [], ◌∷◌, Option, Some,
 use Rattle.p21_express_graph.specs.DirectRenaming.{ComesTo}
 use Rattle.p21_express_graph.specs.Orders.{numbers}
 use Rattle.p21_express_tables.specs.OwnSets.{LeavesOpen}
-use Rattle.p21_express_graph.specs.Resolved.{IsTypeUse}
+use Rattle.p21_express_graph.specs.Resolved.{IsEntity, IsPlace, IsTypeUse}
 use Rattle.p21_express_graph.specs.Rising.{IsOwnRising}
-use Rattle.p21_express_types.specs.Meaning.{type_use}
+use Rattle.p21_express_types.specs.Meaning.{place as place_of, type_use}
 use Rattle.p21_schemas.specs.OneOf.{Clashes}
 use Rattle.p21_schemas.specs.Order.{order, places}
-use Rattle.p21_schemas.specs.PlaceType.{PlaceType, TypeAt, derived_place, stored_place, two_redeclarations}
+use Rattle.p21_schemas.specs.PlaceType.{PlaceType, TypeAt, derived_place, stored_place}
 use Rattle.p21_schemas.specs.Schema.{IsAbstract, Place, Schema, TypeUse}
-use Rattle.p21_transcribe_instance.specs.Prepared.{Prepared}
+use Rattle.p21_transcribe_instance.specs.Prepared.{Prepared, PreparedStep, derived_step, placed_step, stored_step}
 use Rattle.p21_transcribe_instance.specs.declared.row.Row.{Row}
 use Rattle.p21_transcribe_instance.specs.declared.step.Step.{Step}
-use Rattle.p21_transcribe_instance.specs.declared.step.Step.TheVariants.{Derived, Stored}
+use Rattle.p21_transcribe_instance.specs.declared.step.Step.TheVariants.{Derived, Placed, Stored}
 
--- ---- steps, as types of places
+-- ---- steps, as pure data
 
--- what is prepared says what may stand at a place of this type: the type itself, or one that it comes down to
-abbrev pub Prepares : Schema → PlaceType → PlaceType → Type 0
-Prepares s at derived_place = at ≡ derived_place
-Prepares s at (stored_place optional last) = (type : TypeUse) × (at ≡ stored_place optional type) × IsTypeUse s last × ComesTo s type last
-Prepares s at two_redeclarations = ⊥
+-- what is prepared says what may stand at a place of this type: the type itself, or one that it comes down to, or a place with
+-- this type
+abbrev pub Prepares : Schema → PlaceType → PreparedStep → Type 0
+Prepares s at derived_step = at ≡ derived_place
+Prepares s at (stored_step optional last) = (type : TypeUse) × (at ≡ stored_place optional type) × IsTypeUse s last × ComesTo s type last
+Prepares s at (placed_step e place) = IsEntity s e × IsPlace s place × TypeAt s (order s e) place at
 
 -- what is prepared says what may stand at the place of an instance with this set
-abbrev pub IsPreparedAt : Schema → List ℕ → Place → PlaceType → Type 0
-IsPreparedAt s entities place type = (at : PlaceType) × TypeAt s entities place at × Prepares s at type
+abbrev pub IsPreparedAt : Schema → List ℕ → Place → PreparedStep → Type 0
+IsPreparedAt s entities place step = (at : PlaceType) × TypeAt s entities place at × Prepares s at step
 
 -- what is prepared says it of the places in turn
-abbrev pub ArePreparedAt : Schema → List ℕ → List Place → List PlaceType → Type 0
+abbrev pub ArePreparedAt : Schema → List ℕ → List Place → List PreparedStep → Type 0
 ArePreparedAt s entities [] [] = Unit {0}
-ArePreparedAt s entities [] (type ∷ types) = ⊥
+ArePreparedAt s entities [] (step ∷ steps) = ⊥
 ArePreparedAt s entities (place ∷ rest) [] = ⊥
-ArePreparedAt s entities (place ∷ rest) (type ∷ types) = IsPreparedAt s entities place type × ArePreparedAt s entities rest types
+ArePreparedAt s entities (place ∷ rest) (step ∷ steps) = IsPreparedAt s entities place step × ArePreparedAt s entities rest steps
 
 -- ---- steps of the code
 
 -- what a step stands for
-abbrev pub step_view : Step → PlaceType
-step_view Derived = derived_place
-step_view (Stored optional of) = stored_place optional (type_use of)
+abbrev pub step_view : Step → PreparedStep
+step_view Derived = derived_step
+step_view (Stored optional of) = stored_step optional (type_use of)
+step_view (Placed entity place) = placed_step entity.0 (place_of place)
 
 -- the step says what may stand at a place of this type
 abbrev pub IsStepFor : Schema → PlaceType → Step → Type 0
@@ -62,7 +64,7 @@ AreStepsAt s entities places steps = ArePreparedAt s entities places (map step_v
 
 -- what a row stands for
 abbrev pub row_view : Row → Prepared
-row_view row = record { entities = numbers row.entities.items; types = map step_view row.steps.items }
+row_view row = record { entities = numbers row.entities.items; steps = map step_view row.steps.items }
 
 -- what the rows stand for, where there are some
 abbrev pub rows_view : List (Option Row) → List (Option Prepared)
@@ -78,7 +80,7 @@ pub record MayStandAlone (s : Schema) (e : ℕ) : Type 0 where
 pub record IsRow (s : Schema) (e : ℕ) (row : Prepared) : Type 0 where
   pub may : MayStandAlone s e
   pub entities_are : IsOwnRising s e row.entities
-  pub types_are : ArePreparedAt s (order s e) (places s e) row.types
+  pub steps_are : ArePreparedAt s (order s e) (places s e) row.steps
 
 -- all that is prepared is right for the schema: it is that of the entities of these numbers
 abbrev pub IsPlanOf : Schema → List (Option Prepared) → Type 0

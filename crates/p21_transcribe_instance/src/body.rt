@@ -14,6 +14,7 @@ use p21_transcribe::Draft;
 
 /// Appends the parameters at the front in their parentheses, by what may stand at their attributes, and the `;` behind them,
 /// and adds their references: what stands behind the `;`.
+#[inline(always)]
 pub(crate) fn append_body<'a>(
     schema: &Schema,
     steps: &[Step],

@@ -1,6 +1,6 @@
 //! The statement of an instance of external mapping (ISO 10303-21, data sections; mapping of EXPRESS entity data types:
 //! external mapping).
-ghost use Rattle.std.specs.Prelude.{◌≡◌, IfNone, IfSome};
+ghost use Rattle.std.specs.Prelude.{◌≡◌, ◌+◌, ◌≤◌, IfNone, IfSome, length};
 ghost use Rattle.p21_transcribe_instance.specs.NumberedInstance.{TakesNumberedInstance};
 ghost use Rattle.p21_transcribe_instance.specs.Records.{TakesNumbered};
 ghost use Rattle.p21_transcribe_instance.specs.ExternalSet.{AreExternalSets};
@@ -18,6 +18,7 @@ use p21_mapping_values::Need;
 use p21_transcribe::Draft;
 use p21_values::Name;
 use std::alloc::Global;
+use std::sync::ArcSlice;
 
 /// An instance of external mapping that was taken: its name, the number of its set, and what stands behind its `;`.
 #[derive(Debug, Clone, Copy)]
@@ -42,6 +43,7 @@ pub fn append_external<'a>(
     ensures draft { IfNone result (Continues draft.old draft.new) }
     ensures needs { IfNone result (KeepsNeeds needs.old.items needs.new.items) }
     ensures sets { AreExternalSets schema.now sets.new }
+    ensures one { length sets.new ≤ length sets.old + 1 }
 {
     let (number, behind) = append_head(bytes, draft)?;
     let inside = append_delimiter(b'(', behind, draft)?;
@@ -67,6 +69,7 @@ fn append_records<'a>(
     ensures draft { IfNone result (Continues draft.old draft.new) }
     ensures needs { IfNone result (KeepsNeeds needs.old.items needs.new.items) }
     ensures sets { AreExternalSets schema.now sets.new }
+    ensures one { length sets.new ≤ length sets.old + 1 }
 {
     match append_by_last_set(schema, sets, bytes, draft, needs) {
         Some(found) => Some(found),
@@ -113,6 +116,7 @@ fn append_by_keywords<'a>(
     ensures draft { IfNone result (Continues draft.old draft.new) }
     ensures needs { IfNone result (KeepsNeeds needs.old.items needs.new.items) }
     ensures sets { AreExternalSets schema.now sets.new }
+    ensures one { length sets.new ≤ length sets.old + 1 }
 {
     let at = set_ahead(*needs.allocator(), schema, sets, bytes)?;
     sets.take(at);
@@ -143,14 +147,18 @@ fn append_by_set<'a>(
 #[inline(never)]
 fn set_ahead(alloc: Global, schema: &Schema, sets: &mut Sets, bytes: &[u8]) -> Option<usize>
     requires { AreExternalSets schema.now sets.old }
-    ensures { AreExternalSets schema.now sets.new }
+    ensures sets { AreExternalSets schema.now sets.new }
+    ensures one { length sets.new ≤ length sets.old + 1 }
 {
     let listed = entities_ahead(alloc, schema, bytes)?;
-    if let Some(at) = sets.find(&listed) {
+    let Ok(set) = ArcSlice::from_vec(listed) else {
+        return None;
+    };
+    if let Some(at) = sets.find(&set) {
         return if at == sets.last() { None } else { Some(at) };
     }
-    if !is_external_set(alloc, schema, &listed) {
+    if !is_external_set(alloc, schema, set.as_slice()) {
         return None;
     }
-    sets.keep(listed)
+    sets.keep(set)
 }

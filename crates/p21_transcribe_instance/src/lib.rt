@@ -28,7 +28,6 @@ mod scalar;
 mod separated_delimiter;
 mod sets;
 mod step;
-mod type_copy;
 mod value;
 
 pub use external::{External, append_external};

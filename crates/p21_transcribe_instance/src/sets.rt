@@ -1,21 +1,22 @@
 //! Sets of entities that instances of external mapping had (ISO 10303-21, mapping of EXPRESS entity data types: external
 //! mapping).
-ghost use Rattle.std.specs.Prelude.{◌≡◌, [], List, ℕ, Some, slice_get, IfSome, IsTrue};
+ghost use Rattle.std.specs.Arc.{arc_slice_items};
+ghost use Rattle.std.specs.Prelude.{◌≡◌, ◌+◌, ◌≤◌, [], List, ℕ, Some, length, slice_get, IfSome, IsTrue};
 ghost use Rattle.p21_express_graph.specs.Orders.{numbers};
 ghost use Rattle.p21_schemas.specs.Schema.{Schema as Meant};
 ghost use Rattle.p21_transcribe_instance.specs.ExternalSet.{AreExternalSets, IsExternalSet};
 
 use p21_express_types::EntityId;
-use p21_values::NoMemory;
 use std::alloc::Global;
+use std::collections::BTreeMap;
 use std::marker::Model;
-
-/// So many sets are kept at most.
-const MOST: usize = 16;
+use std::sync::ArcSlice;
 
 /// Sets of entities that were found to be ones of external mapping, so that none is looked at again for each of its instances.
 pub struct Sets {
-    all: Vec<Vec<EntityId>>,
+    all: Vec<ArcSlice<EntityId>>,
+    // The number of each. What is found so is held against the keywords of the instance.
+    numbers: BTreeMap<ArcSlice<EntityId>, usize>,
     // The number of the one that was taken last.
     last: usize,
 }
@@ -23,17 +24,21 @@ pub struct Sets {
 // Written out: crates above call it, where they would prove a derived one field by field.
 impl Drop for Sets {
     fn drop(self) {
-        let Sets { all: _, last: _ } = self;
+        let Sets {
+            all: _,
+            numbers: _,
+            last: _,
+        } = self;
     }
 }
 
 impl Model for Sets {
     ghost use Rattle.std.specs.Prelude.{List, ℕ};
-    ghost use Rattle.p21_express_graph.specs.Orders.{number_lists};
+    ghost use Rattle.p21_transcribe_instance.specs.ExternalSet.{sets_of};
 
     ghost Value = { List (List ℕ) };
 
-    ghost view = { λ sets. number_lists sets.all.items };
+    ghost view = { λ sets. sets_of sets.all.items };
 }
 
 impl Sets {
@@ -43,6 +48,7 @@ impl Sets {
     {
         Sets {
             all: Vec::new(alloc),
+            numbers: BTreeMap::new(alloc),
             last: 0,
         }
     }
@@ -53,7 +59,7 @@ impl Sets {
         ensures { IfSome result (λ set. slice_get self.now at ≡ Some (numbers set.now)) }
     {
         let set = self.all.get(at)?;
-        Some(set)
+        Some(set.as_slice())
     }
 
     /// The number of the set that was taken last, where there is one. It takes no memory.
@@ -70,42 +76,26 @@ impl Sets {
     }
 
     /// The number of a set, if it is kept. It takes no memory.
-    pub(crate) fn find(&self, entities: &[EntityId]) -> Option<usize> {
-        for at in 0..self.all.len() {
-            if are_same(&self.all[at], entities) {
-                return Some(at);
-            }
-        }
-        None
+    pub(crate) fn find(&self, set: &ArcSlice<EntityId>) -> Option<usize> {
+        self.numbers.get(set).copied()
     }
 
-    /// Keeps a set, and answers its number. Where many are kept, those are given up first. None where memory runs out.
-    pub(crate) fn keep(&mut self, set: Vec<EntityId>) -> Option<usize>
-        ensures { (s : Meant) → AreExternalSets s self.old → IsExternalSet s (numbers set.items) → AreExternalSets s self.new }
+    /// Keeps a set, and answers its number. None where memory runs out.
+    pub(crate) fn keep(&mut self, set: ArcSlice<EntityId>) -> Option<usize>
+        ensures kept { (s : Meant) → AreExternalSets s self.old → IsExternalSet s (numbers (arc_slice_items set)) → AreExternalSets s self.new }
+        ensures one { length self.new ≤ length self.old + 1 }
     {
-        self.make_room();
         let at = self.all.len();
-        match self.push(set) {
-            Ok(()) => Some(at),
+        let Ok(shared) = set.clone() else {
+            return None;
+        };
+        let Ok(()) = self.all.push(shared) else {
+            return None;
+        };
+        match self.numbers.insert(set, at) {
+            Ok(_) => Some(at),
             Err(_) => None,
         }
-    }
-
-    /// Gives up the sets, where many are kept.
-    fn make_room(&mut self)
-        ensures { (s : Meant) → AreExternalSets s self.old → AreExternalSets s self.new }
-    {
-        if self.all.len() >= MOST {
-            self.all.clear();
-        }
-    }
-
-    /// Keeps a set behind the others.
-    fn push(&mut self, set: Vec<EntityId>) -> Result<(), NoMemory>
-        ensures { (s : Meant) → AreExternalSets s self.old → IsExternalSet s (numbers set.items) → AreExternalSets s self.new }
-    {
-        self.all.push(set)?;
-        Ok(())
     }
 }
 

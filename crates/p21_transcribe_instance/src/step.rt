@@ -1,14 +1,13 @@
-ghost use Rattle.std.specs.Prelude.{List, ◌++◌, Contains, IfOk, OnOk};
+ghost use Rattle.std.specs.Prelude.{◌≡◌, List, ◌++◌, Contains, IfOk, IfSome, OnOk};
 ghost use Rattle.p21_express_graph.specs.DirectRenaming.{ComesTo};
 ghost use Rattle.p21_express_tables.specs.OwnSets.{LeavesOpen};
 ghost use Rattle.p21_express_graph.specs.Resolved.{IsEntity, IsPlace, IsTypeUse};
 ghost use Rattle.p21_express_types.specs.Meaning.{place as place_of, type_use};
 ghost use Rattle.p21_schemas.specs.Order.{order, own_places, places};
-ghost use Rattle.p21_schemas.specs.PlaceType.{TypeAt, two_redeclarations};
+ghost use Rattle.p21_schemas.specs.PlaceType.{TypeAt, stored_place, two_redeclarations};
 ghost use Rattle.p21_schemas.specs.Schema.{Place as MeantPlace};
 ghost use Rattle.p21_transcribe_instance.specs.Steps.{AreStepsAt, IsStepAt};
 
-use crate::type_copy::copied_type;
 use p21_express_tables::{Base, Schema};
 use p21_express_types::{EntityId, Place, PlaceType, TypeUse};
 use p21_values::NoMemory;
@@ -19,8 +18,11 @@ use std::alloc::Global;
 pub enum Step {
     /// `*`.
     Derived,
-    /// A value of a type that comes down to this one, or `$` where it is OPTIONAL.
+    /// A value of a type that comes down to this one, which is no aggregate, or `$` where it is OPTIONAL.
     Stored(bool, TypeUse),
+    /// What may stand at this place of an instance whose set is the entity and its supertypes. The schema says it, so that no
+    /// aggregate type is copied.
+    Placed(EntityId, Place),
 }
 
 /// What may stand at the attributes of an instance whose set is an entity and its supertypes, in the order of internal
@@ -38,17 +40,37 @@ pub(crate) fn find_steps(
     requires decided { LeavesOpen schema.now entity.0 → ⊥ }
     ensures { IfOk result (λ steps. AreStepsAt schema.now (order schema.now entity.0) (places schema.now entity.0) steps.items) }
 {
-    let mut steps = Vec::new(alloc);
     schema.holds_together();
+    let mut steps = Vec::with_capacity(alloc, place_count(schema, entity))?;
     for owner in schema.order_of(entity) {
-        push_steps(alloc, schema, entity, *owner, &mut steps)?;
+        push_steps(schema, entity, *owner, &mut steps)?;
     }
     Ok(steps)
 }
 
+/// How many attributes an instance has whose set is an entity and its supertypes.
+fn place_count(schema: &Schema, entity: EntityId) -> usize
+    requires { IsEntity schema.now entity.0 }
+{
+    schema.holds_together();
+    let mut count: usize = 0;
+    for owner in schema.order_of(entity) {
+        count = count.saturating_add(own_count(schema, entity, *owner));
+    }
+    count
+}
+
+/// How many attributes one of these entities declares itself.
+fn own_count(schema: &Schema, entity: EntityId, owner: EntityId) -> usize
+    requires entity { IsEntity schema.now entity.0 }
+    requires owner { Contains (order schema.now entity.0) owner.0 }
+{
+    schema.holds_together();
+    schema.attribute_count(owner) as usize
+}
+
 /// Adds what may stand at the attributes that one of these entities declares itself.
 fn push_steps(
-    alloc: Global,
     schema: &Schema,
     entity: EntityId,
     owner: EntityId,
@@ -66,38 +88,72 @@ fn push_steps(
             entity: owner,
             index,
         };
-        let step = step_at(alloc, schema, entity, place)?;
+        let step = step_at(schema, entity, place);
         steps.push(step)?;
     }
     Ok(())
 }
 
 /// What may stand at one of these attributes.
-fn step_at(alloc: Global, schema: &Schema, entity: EntityId, place: Place) -> Result<Step, NoMemory>
+fn step_at(schema: &Schema, entity: EntityId, place: Place) -> Step
     requires entity { IsEntity schema.now entity.0 }
     requires place { IsPlace schema.now (place_of place) }
     requires decided { TypeAt schema.now (order schema.now entity.0) (place_of place) two_redeclarations → ⊥ }
-    ensures { IfOk result (λ step. IsStepAt schema.now (order schema.now entity.0) (place_of place) step) }
+    ensures { IsStepAt schema.now (order schema.now entity.0) (place_of place) result }
 {
-    schema.holds_together();
     match schema.own_type(entity, place) {
-        PlaceType::Derived => Ok(Step::Derived),
-        PlaceType::Stored(optional, of) => Ok(Step::Stored(
-            optional,
-            reduced_type(alloc, schema, of)?,
-        )),
+        PlaceType::Derived => Step::Derived,
+        PlaceType::Stored(optional, of) => stored_step(schema, entity, place, optional, of),
         PlaceType::Two => unreachable!(),
     }
 }
 
-/// What a type comes down to, where that is no declared type; else the type.
-fn reduced_type(alloc: Global, schema: &Schema, of: &TypeUse) -> Result<TypeUse, NoMemory>
+/// What may stand at one of these attributes where it is a value of this type.
+fn stored_step(
+    schema: &Schema,
+    entity: EntityId,
+    place: Place,
+    optional: bool,
+    of: &TypeUse,
+) -> Step
+    requires entity { IsEntity schema.now entity.0 }
+    requires place { IsPlace schema.now (place_of place) }
+    requires type_at { TypeAt schema.now (order schema.now entity.0) (place_of place) (stored_place optional (type_use of.now)) }
+    ensures { IsStepAt schema.now (order schema.now entity.0) (place_of place) result }
+{
+    schema.holds_together();
+    match reduced_type(schema, of) {
+        Some(last) => Step::Stored(optional, last),
+        None => Step::Placed(entity, place),
+    }
+}
+
+/// What a type comes down to, where that is no declared type; else the type. None where it is an aggregate.
+fn reduced_type(schema: &Schema, of: &TypeUse) -> Option<TypeUse>
     requires { IsTypeUse schema.now (type_use of.now) }
-    ensures { IfOk result (λ last. IsTypeUse schema.now (type_use last) × ComesTo schema.now (type_use of.now) (type_use last)) }
+    ensures { IfSome result (λ last. IsTypeUse schema.now (type_use last) × ComesTo schema.now (type_use of.now) (type_use last)) }
 {
     schema.holds_together();
     match schema.base(of) {
-        Base::Plain(last) => copied_type(alloc, last),
-        _ => copied_type(alloc, of),
+        Base::Plain(last) => single_type(last),
+        _ => single_type(of),
+    }
+}
+
+/// A type, where it is no aggregate and so holds no other one.
+fn single_type(of: &TypeUse) -> Option<TypeUse>
+    ensures { IfSome result (λ same. type_use same ≡ type_use of.now) }
+{
+    match of {
+        TypeUse::Whole => Some(TypeUse::Whole),
+        TypeUse::Real => Some(TypeUse::Real),
+        TypeUse::Number => Some(TypeUse::Number),
+        TypeUse::Boolean => Some(TypeUse::Boolean),
+        TypeUse::Logical => Some(TypeUse::Logical),
+        TypeUse::Text(width) => Some(TypeUse::Text(*width)),
+        TypeUse::Bits(width) => Some(TypeUse::Bits(*width)),
+        TypeUse::Entity(entity) => Some(TypeUse::Entity(*entity)),
+        TypeUse::Defined(defined) => Some(TypeUse::Defined(*defined)),
+        _ => None,
     }
 }

@@ -63,6 +63,7 @@ pub(crate) fn append_value<'a>(
     ensures draft { IfNone result (Continues draft.old draft.new) }
     ensures needs { IfNone result (KeepsNeeds needs.old.items needs.new.items) }
 {
+    schema.holds_together();
     match step {
         Step::Derived => append_delimiter(b'*', bytes, draft),
         Step::Stored(optional, of) => {
@@ -74,6 +75,10 @@ pub(crate) fn append_value<'a>(
                 most: NESTING,
             };
             append_stored(&at, bytes, draft, needs)
+        }
+        Step::Placed(entity, place) => {
+            let at = schema.own_type(*entity, *place);
+            append_placed(schema, at, bytes, draft, needs)
         }
     }
 }

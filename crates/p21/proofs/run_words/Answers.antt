@@ -10,5 +10,5 @@ returns-in-Ok-try_get_matches_from c =
 pub returns-in-Err-try_get_matches_from : goal.returns-in-Err-try_get_matches_from
 returns-in-Err-try_get_matches_from c =
     let found = c.in-Err-try_get_matches_from in
-    of_error (app_of c.in-Ok.command) _ found.error c.explain.result c.in-Ok.ensures found.ensures.kinds
-    (record { known = c.explain.ensures.status; memory = c.explain.ensures.memory; shown = c.explain.ensures.shown; mistake = c.explain.ensures.mistake })
+    of_error (app_of c.in-Ok.command) _ found.error c.explain_words.result c.in-Ok.ensures found.ensures.kinds
+    (record { known = c.explain_words.ensures.status; memory = c.explain_words.ensures.memory; shown = c.explain_words.ensures.shown; mistake = c.explain_words.ensures.mistake })

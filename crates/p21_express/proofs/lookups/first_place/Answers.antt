@@ -6,8 +6,8 @@ use Rattle.p21_express_graph.proofs.Lookups.{up-to}
 use Rattle.p21_express.proofs.PlaceLemmas.{owner-within, no-owner, owner-has}
 use Rattle.p21_express.proofs.lookups.first_place.Goals as goal
 
-pub own_place-requires : goal.own_place-requires
-own_place-requires c = owner-within c.args.schema.now c.holds_together.ensures c.args.entity.0 c.requires c.order_of-owner-items.result.now c.order_of-owner-items.ensures c.loop-owner.owner-index c.loop-owner-test.true
+pub own_place-requires-clause-entity : goal.own_place-requires-clause-entity
+own_place-requires-clause-entity c = owner-within c.args.schema.now c.holds_together.ensures c.args.entity.0 c.requires.entity c.order_of-owner-items.result.now c.order_of-owner-items.ensures c.loop-owner.owner-index c.loop-owner-test.true
 
 pub returns-in-Some : goal.returns-in-Some
 returns-in-Some c = owner-has c.args.schema.now c.args.entity.0 c.args.name.now c.order_of-owner-items.result.now c.order_of-owner-items.ensures c.loop-owner.owner-index c.loop-owner-test.true (place c.in-Some.place) c.in-Some.ensures

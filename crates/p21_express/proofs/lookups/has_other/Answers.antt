@@ -7,8 +7,8 @@ use Rattle.p21_express_graph.proofs.Lookups.{up-to}
 use Rattle.p21_express.proofs.PlaceLemmas.{owner-within, no-owner, owner-has}
 use Rattle.p21_express.proofs.lookups.has_other.Goals as goal
 
-pub has_other_own-requires : goal.has_other_own-requires
-has_other_own-requires c = owner-within c.args.schema.now c.holds_together.ensures c.args.entity.0 c.requires c.order_of-owner-items.result.now c.order_of-owner-items.ensures c.loop-owner.owner-index c.loop-owner-test.true
+pub has_other_own-requires-clause-entity : goal.has_other_own-requires-clause-entity
+has_other_own-requires-clause-entity c = owner-within c.args.schema.now c.holds_together.ensures c.args.entity.0 c.requires.entity c.order_of-owner-items.result.now c.order_of-owner-items.ensures c.loop-owner.owner-index c.loop-owner-test.true
 
 pub returns-then-has_other_own : goal.returns-then-has_other_own
 returns-then-has_other_own c = (

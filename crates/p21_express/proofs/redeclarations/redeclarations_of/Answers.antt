@@ -15,7 +15,7 @@ returns-in_err-check_places c =
     let ds = c.in_ok-derived.derived.items in
     found-refused s n entities c.args.entity.0 (entity_view c.args.own.now) (IsDistinct same_place (code_places rs ds)) c.in_err-check_places.field-0.0 c.from_residual-in_err-check_places.result
     c.from_residual-in_err-check_places.ensures.0 c.from_residual-in_err-check_places.ensures.1
-    (distinct-all s c.well_formed-2.ensures.entities_distinct c.requires.attributes_distinct n entities c.args.entity.0 (entity_view c.args.own.now) rs ds (rw c.deref.ensures.value at c.in_ok-redeclared.ensures) (rw c.deref-2.ensures.value at c.in_ok-derived.ensures))
+    (distinct-all s c.well_formed-2.ensures.entities_distinct c.requires.names.distinct n entities c.args.entity.0 (entity_view c.args.own.now) rs ds (rw c.deref.ensures.value at c.in_ok-redeclared.ensures) (rw c.deref-2.ensures.value at c.in_ok-derived.ensures))
     (rw (c.deref-3.ensures.value, c.deref-4.ensures.value) at c.in_err-check_places.ensures)
 
 pub returns : goal.returns

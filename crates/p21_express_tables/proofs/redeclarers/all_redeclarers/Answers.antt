@@ -1,25 +1,32 @@
-use Rattle.std.specs.Prelude.{◌≡◌, List, ℕ, Contains, map}
-use Rattle.std.proofs.Common.{arith, ap, ◌∙◌, subst}
-use Rattle.p21_express_graph.specs.InvertedLists.{AreInverted}
-use Rattle.p21_express_graph.specs.Orders.{number_lists}
-use Rattle.p21_express_graph.specs.SchemaContents.{entity, schema_of}
-use Rattle.p21_express_graph.specs.SettledOrder.{lists_of, nexts_of}
-use Rattle.p21_express_graph.proofs.Gatherings.{mapped-length, map-map}
-use Rattle.p21_express_tables.specs.Redeclarers.{owners_of}
+use Rattle.std.specs.Prelude.{◌≡◌, ◌++◌, ◌∷◌, [], ℕ, List, length, map, take}
+use Rattle.std.proofs.Common.{arith, ap, sym, ◌∙◌, subst}
+use Rattle.std.proofs.lemmas.List.{length-take-le, take_all}
+use Rattle.p21_schemas.specs.Schema.{Entity}
+use Rattle.p21_express_graph.specs.SchemaContents.{entity}
+use Rattle.p21_express_graph.specs.declared.schema_contents.Entity.{Entity as Declared}
+use Rattle.p21_express_graph.proofs.Gatherings.{mapped-length}
+use Rattle.p21_express_graph.proofs.Lookups.{numbers-more}
+use Rattle.p21_express_tables.specs.Redeclarers.{AddsRedeclarer, AreRedeclarersOf, places_redeclared}
+use Rattle.p21_express_tables.proofs.Owners.{redeclarers-more, redeclarers-none}
 use Rattle.p21_express_tables.proofs.redeclarers.all_redeclarers.Goals as goal
-use Rattle.p21_express_tables.proofs.Owners.{are-redeclarers, owner_lists, owners-within}
 
-pub inverted_lists-requires : goal.inverted_lists-requires
-inverted_lists-requires c k e among =
-    let s = schema_of c.args.parts.now in
-    let same : number_lists c.deref-2.result.now ≡ owner_lists s = ap number_lists c.deref-2.ensures.value ∙ c.in_ok-owners.ensures ∙ ap (map (λ x. owners_of (entity x))) c.deref.ensures.value ∙ map-map owners_of entity c.args.parts.now.entities.items in
-    let P : List (List ℕ) → Type 0 = λ lists. Contains (nexts_of lists k) e in
-    let below = owners-within s c.requires k e (subst P same among) in
-    omega (arith, below, c.len.ensures, mapped-length entity c.args.parts.now.entities.items, c.args.parts.now.entities.ok.0)
+pub loop-number-init : goal.loop-number-init
+loop-number-init c = redeclarers-none c.new-redeclarers.result c.new-redeclarers.ensures
+
+pub loop-number-preserved : goal.loop-number-preserved
+loop-number-preserved c =
+    let xs : List Declared = c.args.entities.now in
+    let k : ℕ = c.loop-number.number in
+    let x : Declared = c.index-entities-number.result in
+    let below = c.loop-number-test.true in
+    let long : k ≡ length (map entity (take k xs)) = sym (mapped-length entity (take k xs) ∙ length-take-le k xs (omega (arith, below))) in
+    let P : ℕ → Type 0 = λ n. AddsRedeclarer n (places_redeclared (entity x)) c.loop-number.redeclarers c.add_entity.new.self in
+    let Q : Entity → Type 0 = λ y. AreRedeclarersOf (map entity (take k xs) ++ y ∷ []) c.add_entity.new.self in
+    let R : List Entity → Type 0 = λ es. AreRedeclarersOf es c.add_entity.new.self in
+    subst R (sym (numbers-more entity xs k x below))
+    (subst Q (ap entity c.index-entities-number.is) (redeclarers-more (map entity (take k xs)) (entity x) c.loop-number.redeclarers c.add_entity.new.self c.loop-number.invariant (subst P long c.in_ok-add_entity.ensures)))
 
 pub returns : goal.returns
 returns c =
-    let s = schema_of c.args.parts.now in
-    let same : number_lists c.deref-2.result.now ≡ owner_lists s = ap number_lists c.deref-2.ensures.value ∙ c.in_ok-owners.ensures ∙ ap (map (λ x. owners_of (entity x))) c.deref.ensures.value ∙ map-map owners_of entity c.args.parts.now.entities.items in
-    let P : List (List ℕ) → Type 0 = λ lists. AreInverted lists (lists_of c.in_ok-lists.lists.items) in
-    are-redeclarers s (lists_of c.in_ok-lists.lists.items) (subst P same c.in_ok-lists.ensures)
+    let P : List Declared → Type 0 = λ xs. AreRedeclarersOf (map entity xs) c.loop-number.redeclarers in
+    subst P (take_all c.loop-number.number c.args.entities.now (omega (arith, c.loop-number-test.false))) c.loop-number.invariant

@@ -1,11 +1,13 @@
-use Rattle.std.proofs.Common.{List, subst}
+use Rattle.std.proofs.Common.{List, subst, sym, ◌∙◌}
+use Rattle.p21_express_graph.specs.Lookups.{AreEntities}
 use Rattle.p21_express_graph.specs.Orders.{numbers}
 use Rattle.p21_express_types.specs.declared.number.EntityId.{EntityId}
 use Rattle.p21_transcribe_instance.specs.ExternalSet.{IsExternalSet}
 use Rattle.p21_transcribe_instance.proofs.external.set_ahead.Goals as goal
 
 pub is_external_set-requires : goal.is_external_set-requires
-is_external_set-requires c = rw c.deref-2.ensures.value c.in_ok-listed.ensures
+is_external_set-requires c = subst (λ (es : List EntityId). AreEntities c.args.schema.now (numbers es)) (sym (c.as_slice.ensures.value ∙ c.in-Ok.ensures)) c.in_ok-listed.ensures
 
-pub returns : goal.returns
-returns c = c.keep.ensures c.args.schema.now c.requires (subst (λ (es : List EntityId). IsExternalSet c.args.schema.now (numbers es)) c.deref-2.ensures.value (c.is_external_set.ensures c.if-not-is_external_set.false))
+pub returns-clause-sets : goal.returns-clause-sets
+returns-clause-sets c =
+    c.keep.ensures.kept c.args.schema.now c.requires (subst (λ (es : List EntityId). IsExternalSet c.args.schema.now (numbers es)) c.as_slice.ensures.value (c.is_external_set.ensures c.if-not-is_external_set.false))

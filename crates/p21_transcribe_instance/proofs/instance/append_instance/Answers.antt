@@ -17,14 +17,14 @@ append_body-requires c =
     let s = c.args.schema.now in
     let e = c.in_ok-entity.entity.0 in
     let is = c.in_ok-row.ensures s (c.is_prepared.ensures (c.in_ok-entity.ensures.plan c.requires)) in
-    row-in s e c.deref.result.now (subst (λ (steps : List Step). AreStepsAt s (order s e) (places s e) steps) (sym c.deref.ensures.value) is.types_are)
+    row-in s e c.deref.result.now (subst (λ (steps : List Step). AreStepsAt s (order s e) (places s e) steps) (sym c.deref.ensures.value) is.steps_are)
 
 pub returns-clause-some : goal.returns-clause-some
 returns-clause-some c =
     let s = c.args.schema.now in
     let e = c.in_ok-entity.entity.0 in
     let is = c.in_ok-row.ensures s (c.is_prepared.ensures (c.in_ok-entity.ensures.plan c.requires)) in
-    let are = subst (λ (steps : List Step). AreStepsAt s (order s e) (places s e) steps) (sym c.deref.ensures.value) is.types_are in
+    let are = subst (λ (steps : List Step). AreStepsAt s (order s e) (places s e) steps) (sym c.deref.ensures.value) is.steps_are in
     (numbers c.in_ok-row.row.now.entities.items, is.entities_are, instance-taken s c.well_formed-2.ensures c.holds_together.ensures c.in_ok-number.number e _ is.entities_are is.may c.deref.result.now are c.args.bytes.now _ _ _ _ _ _ _ _ _ c.in_ok-number.ensures.some c.in_ok-entity.ensures.some c.in_ok-rest.ensures.some)
 
 pub returns-in_err-number-clause-needs : goal.returns-in_err-number-clause-needs

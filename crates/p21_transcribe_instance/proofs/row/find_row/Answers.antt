@@ -8,4 +8,4 @@ use Rattle.p21_transcribe_instance.proofs.row.find_row.Goals as goal
 pub returns : goal.returns
 returns c =
     let R : List EntityId → Type 0 = λ xs. IsOwnRising c.args.schema.now c.args.entity.0 (numbers xs) in
-    record { may = c.requires.may; entities_are = subst R (sym (c.in_ok-entities.ensures.items ∙ c.items.ensures)) c.in_ok-found.ensures.ok; types_are = c.in_ok-steps.ensures }
+    record { may = c.requires.may; entities_are = subst R (sym (c.in_ok-entities.ensures.items ∙ c.items.ensures)) c.in_ok-found.ensures.ok; steps_are = c.in_ok-steps.ensures }

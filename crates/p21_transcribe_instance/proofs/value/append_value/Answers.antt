@@ -1,5 +1,6 @@
 use Rattle.p21_transcribe.proofs.Found.{none_to, some_to}
-use Rattle.p21_transcribe_instance.proofs.Values.{needs-kept, star-taken, step-known, step-taken}
+use Rattle.p21_transcribe_instance.proofs.Joining.{known-at}
+use Rattle.p21_transcribe_instance.proofs.Values.{needs-kept, placed-known, placed-taken, star-taken, step-known, step-taken}
 use Rattle.p21_transcribe_instance.proofs.value.append_value.Goals as goal
 use Rattle.p21_values.proofs.Continuing.{continues-same}
 
@@ -17,3 +18,15 @@ base_of-base-requires c = step-known c.args.schema.now c.args.step.now _ _ c.in-
 
 pub returns-in-Stored-clause-some : goal.returns-in-Stored-clause-some
 returns-in-Stored-clause-some c = some_to _ (λ rest. step-taken c.args.schema.now c.args.step.now _ _ _ c.args.bytes.now rest.now _ _ _ _ c.in-Stored.is c.base_of-base.ensures.has) c.append_stored.ensures.some
+
+pub own_type-at-requires-clause-entity : goal.own_type-at-requires-clause-entity
+own_type-at-requires-clause-entity c = (placed-known c.args.schema.now c.args.step.now _ _ c.in-Placed.is c.requires).0
+
+pub own_type-at-requires-clause-place : goal.own_type-at-requires-clause-place
+own_type-at-requires-clause-place c = (placed-known c.args.schema.now c.args.step.now _ _ c.in-Placed.is c.requires).1
+
+pub append_placed-requires : goal.append_placed-requires
+append_placed-requires c = known-at c.args.schema.now c.holds_together.ensures _ _ _ c.own_type-at.ensures
+
+pub returns-in-Placed-clause-some : goal.returns-in-Placed-clause-some
+returns-in-Placed-clause-some c = some_to _ (λ rest. placed-taken c.args.schema.now c.holds_together.ensures c.args.step.now _ _ _ c.args.bytes.now rest.now _ _ _ _ c.in-Placed.is c.own_type-at.ensures) c.append_placed.ensures.some

@@ -5,4 +5,4 @@ use Rattle.p21_express_tables.proofs.Decisions.{IsLowestSeen}
 use Rattle.p21_express_tables.proofs.schema.Schema.lowest.Given as goal
 
 abbrev pub invariant-loop-entity : goal.invariant-loop-entity
-invariant-loop-entity l = IsLowestSeen l.self (numbers l.entities) (place l.place) (numbers (take l.entity-index l.entities)) l.lowest
+invariant-loop-entity l = IsLowestSeen l.self (numbers l.entities) l.own (place l.place) (numbers (take l.entity-index l.entities)) l.lowest

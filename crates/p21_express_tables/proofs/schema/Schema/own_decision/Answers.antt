@@ -1,25 +1,33 @@
-use Rattle.std.specs.Prelude.{◌≡◌, ℕ, List, Some, length, slice_get, refl}
-use Rattle.std.proofs.Common.{subst, ap, sym, ◌∙◌}
-use Rattle.std.proofs.lemmas.Option.{slice_get_read}
+use Rattle.std.specs.Prelude.{◌≡◌, List, Some, ℕ, length}
+use Rattle.std.proofs.Common.{sym, subst, ◌∙◌}
+use Rattle.std.proofs.lemmas.Bool.{eqb-true}
 use Rattle.p21_schemas.specs.Order.{order}
-use Rattle.p21_schemas.specs.Schema.{Schema}
 use Rattle.p21_express_types.specs.Meaning.{place}
 use Rattle.p21_express_graph.specs.Orders.{numbers}
 use Rattle.p21_express_graph.proofs.Resolving.{own-entities}
-use Rattle.p21_express_tables.specs.DecidedPlaces.{AreDecided}
-use Rattle.p21_express_tables.specs.Decisions.{IsDecision}
-use Rattle.p21_express_tables.specs.declared.decided.DecidedPlace.{DecidedPlace}
+use Rattle.p21_express_tables.specs.Decisions.{AreMembers}
+use Rattle.p21_express_tables.proofs.Decisions.{members-order, members-redeclarers}
+use Rattle.p21_express_tables.proofs.Owners.{no-redeclarer, none-derives, none-redeclares}
 use Rattle.p21_express_tables.proofs.schema.Schema.own_decision.Goals as goal
 
-pub returns-in-Some : goal.returns-in-Some
-returns-in-Some c =
-    let P : Schema → Type 0 = λ s. AreDecided s (order s c.args.entity.0) c.in-Some.own.now.decided.items in
-    let Q : List DecidedPlace → Type 0 = λ ds. AreDecided c.args.self.now (order c.args.self.now c.args.entity.0) ds in
-    let at : slice_get c.self.inside.tables.own.items c.args.entity.0 ≡ Some c.in-Some.own.now = ap (λ xs. slice_get xs c.args.entity.0) (sym c.deref.ensures.value) ∙ slice_get_read c.deref.result.now (length c.deref.result.now) c.args.entity.0 c.in-Some.own.now refl c.in-Some.ensures.lookup.3.0 c.in-Some.ensures.lookup.1 in
-    c.decision_at.ensures c.args.self.now (order c.args.self.now c.args.entity.0) (subst Q (sym c.deref-in-Some.ensures.value) (subst P c.self.view_is (c.self.invariant.2.own_are c.args.entity.0 c.in-Some.own.now at).decided_are))
+pub returns-then-is_empty : goal.returns-then-is_empty
+returns-then-is_empty c =
+    let s = c.args.self.now in
+    let p = place c.args.place in
+    let own = order s c.args.entity.0 in
+    let found = c.redeclarers_of-redeclarers in
+    let none = no-redeclarer s p found.result.now (eqb-true (length found.result.now) 0 (sym c.is_empty.ensures ∙ c.if-is_empty.true)) found.ensures.all in
+    (none-derives s p none own, none-redeclares s p none own)
 
-pub decision-requires : goal.decision-requires
-decision-requires c = own-entities c.args.self.now c.holds_together.ensures c.args.entity.0 c.requires (numbers c.order_of.result.now) c.order_of.ensures
+pub decision_among-requires-else-redeclarers-order-clause-entities : goal.decision_among-requires-else-redeclarers-order-clause-entities
+decision_among-requires-else-redeclarers-order-clause-entities c = own-entities c.args.self.now c.holds_together.ensures c.args.entity.0 c.requires (numbers c.order_of-order.result.now) c.order_of-order.ensures
 
-pub returns-in-None : goal.returns-in-None
-returns-in-None c = let P : List ℕ → Type 0 = λ es. IsDecision c.args.self.now es (place c.args.place) c.decision.result in subst P c.order_of.ensures c.decision.ensures
+pub returns-then-redeclarers-order : goal.returns-then-redeclarers-order
+returns-then-redeclarers-order c =
+    c.decision_among.ensures (order c.args.self.now c.args.entity.0) (members-redeclarers c.args.self.now c.holds_together.ensures c.args.entity (place c.args.place) (numbers c.redeclarers_of-redeclarers.result.now) c.redeclarers_of-redeclarers.ensures.all)
+
+pub returns-else-redeclarers-order : goal.returns-else-redeclarers-order
+returns-else-redeclarers-order c =
+    let s = c.args.self.now in
+    let P : List ℕ → Type 0 = λ es. AreMembers s es (Some c.args.entity) (place c.args.place) (order s c.args.entity.0) in
+    c.decision_among-else-redeclarers-order.ensures (order s c.args.entity.0) (subst P (sym c.order_of-order.ensures) (members-order s c.holds_together.ensures c.args.entity (place c.args.place)))

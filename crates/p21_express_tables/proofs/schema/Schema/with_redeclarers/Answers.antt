@@ -6,14 +6,14 @@ use Rattle.p21_express_graph.specs.Redeclaring.{redeclaring, redeclaring_schema}
 use Rattle.p21_express_graph.specs.Resolved.{HoldsTogether}
 use Rattle.p21_express_graph.proofs.Gatherings.{mapped-length}
 use Rattle.p21_express_tables.proofs.UnchangedTables.{redeclaring-prepared}
-use Rattle.p21_express_tables.proofs.OwnSets.{none-own}
+use Rattle.p21_express_tables.proofs.OwnSets.{none-prepared}
 use Rattle.p21_express_tables.proofs.schema.Schema.with_redeclarers.Goals as goal
 
 pub contents_with-requires-clause-each : goal.contents_with-requires-clause-each
 contents_with-requires-clause-each c = sym (mapped-length entity c.self.inside.parts.entities.items) ∙ ap (λ s. length s.entities) c.self.view_is ∙ c.requires.each
 
-pub all_redeclarers-requires : goal.all_redeclarers-requires
-all_redeclarers-requires c = subst HoldsTogether (sym (c.in_ok-whole.ensures.value ∙ ap (λ s. redeclaring_schema s (map redeclaring c.args.found.items)) c.self.view_is)) c.requires.whole
+pub all_redeclared-requires : goal.all_redeclared-requires
+all_redeclared-requires c = subst HoldsTogether (sym (c.in_ok-whole.ensures.value ∙ ap (λ s. redeclaring_schema s (map redeclaring c.args.found.items)) c.self.view_is)) c.requires.whole
 
 pub invariant_of-result : goal.invariant_of-result
 invariant_of-result c =
@@ -24,7 +24,7 @@ invariant_of-result c =
     let whole : HoldsTogether t = subst HoldsTogether (sym (c.in_ok-whole.ensures.value ∙ ap (λ z. redeclaring_schema z ys) c.self.view_is)) c.requires.whole in (
       whole,
       c.in_ok-whole.ensures.named,
-      redeclaring-prepared s t ys long c.in_ok-whole.ensures.value _ _ _ c.self.invariant.2 c.in_ok-redeclarers.ensures (none-own t _ c.new.ensures.items),
+      redeclaring-prepared s t ys long c.in_ok-whole.ensures.value _ _ _ c.self.invariant.2 c.in_ok-redeclared.ensures (none-prepared t _ c.new.ensures.items),
     )
 
 pub returns : goal.returns

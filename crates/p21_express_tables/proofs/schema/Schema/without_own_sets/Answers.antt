@@ -7,7 +7,7 @@ use Rattle.p21_express_graph.specs.Orders.{number_lists}
 use Rattle.p21_express_graph.specs.SchemaContents.{entity, schema_of}
 use Rattle.p21_express_graph.specs.SettledOrder.{nexts_of}
 use Rattle.p21_express_graph.proofs.Gatherings.{mapped-length}
-use Rattle.p21_express_tables.proofs.OwnSets.{none-own}
+use Rattle.p21_express_tables.proofs.OwnSets.{none-prepared}
 use Rattle.p21_express_tables.proofs.schema.Schema.without_own_sets.Goals as goal
 
 pub indexes_of-requires : goal.indexes_of-requires
@@ -25,12 +25,12 @@ invariant_of-result c = (
     orders_are = c.in_ok-orders.ensures.orders;
     indexes_are = let P : List (Vec EntityId Global) → Type 0 = λ runs. AreIndexes (number_lists runs) c.in_ok-indexes.indexes.items in subst P c.deref.ensures.value c.in_ok-indexes.ensures;
     listed_are = c.in_ok-listed_in.ensures;
-    redeclarers_are = c.in_ok-redeclarers.ensures;
+    redeclared_are = c.in_ok-redeclared.ensures;
     ends_are = c.in_ok-ends.ensures;
     entities_offered = c.in_ok-offered.ensures.entities;
     types_offered = c.in_ok-offered.ensures.types;
     ranking_is = c.in_ok-ranking.ensures;
     rising_are = c.in_ok-rising_sets.ensures;
-    own_are = none-own (schema_of c.args.parts) _ c.new.ensures.items;
+    clashes_are = none-prepared (schema_of c.args.parts) _ c.new.ensures.items;
   },
 )

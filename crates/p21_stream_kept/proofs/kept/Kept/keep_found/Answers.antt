@@ -1,4 +1,4 @@
-use Rattle.std.proofs.Common.{◌≡◌, ◌+◌, ◌<◌, ◌∷◌, ℕ, List, true, ap, length, map, subst, sym, Ok, Err, arith}
+use Rattle.std.proofs.Common.{◌≡◌, ◌+◌, ◌<◌, ◌≤◌, ◌∷◌, ℕ, List, true, ap, length, map, subst, sym, Ok, Err, arith}
 use Rattle.std.proofs.lemmas.List.{length-map}
 use Rattle.std.specs.List.Sorted.{IsPermutation}
 use Rattle.std.specs.Prelude.{Contains}
@@ -9,7 +9,7 @@ use Rattle.p21_exchange.specs.Statement.{instance}
 use Rattle.p21_mapping.specs.Checked.{needs_view}
 use Rattle.p21_mapping_values.specs.TypedView.{ids_view, need_view}
 use Rattle.p21_stream_statements.specs.declared.fault.Fault.TheVariants.{CanonicalTooLong}
-use Rattle.p21_stream_kept.proofs.Dropping.{took-dropped}
+use Rattle.p21_stream_kept.proofs.Dropping.{looked, took-dropped}
 use Rattle.p21_stream_kept.proofs.Finding.{found-named, took-found}
 use Rattle.p21_stream_kept.proofs.Following.{follows-few, follows-section}
 use Rattle.p21_stream_kept.proofs.Instances.{refused-instance, stored-names}
@@ -20,12 +20,17 @@ use Rattle.p21_stream_kept.proofs.kept.Kept.keep_found.Goals as goal
 pub invariant_of-self-in_default-store : goal.invariant_of-self-in_default-store
 invariant_of-self-in_default-store c =
     let last : c.last-section.result + 1 ≡ length c.self.inside.sections = c.last-section.ensures in
-    record { memberships = c.store.ensures.memberships; sections = c.store.ensures.sections (length c.self.inside.sections) (omega (arith, last)) c.self.invariant.sections; named = c.store.ensures.named; counted = c.self.invariant.counted }
+    record { memberships = c.store.ensures.memberships; sections = c.store.ensures.sections (length c.self.inside.sections) (omega (arith, last)) c.self.invariant.sections; named = c.store.ensures.named; counted = c.self.invariant.counted; patient = subst (λ (due : ℕ). c.self.inside.references ≤ due) (sym c.add.ensures.due) c.self.invariant.patient }
 
 pub invariant_of-self-2 : goal.invariant_of-self-2
 invariant_of-self-2 c =
     let last : c.last-section.result + 1 ≡ length c.self.inside.sections = c.last-section.ensures in
-    record { memberships = c.store.ensures.memberships; sections = c.store.ensures.sections (length c.self.inside.sections) (omega (arith, last)) c.self.invariant.sections; named = c.store.ensures.named; counted = let fits = c.fits_limits.ensures.fits c.if-not-fits_limits.false in omega (arith, fits) }
+    record { memberships = c.store.ensures.memberships; sections = c.store.ensures.sections (length c.self.inside.sections) (omega (arith, last)) c.self.invariant.sections; named = c.store.ensures.named; counted = let fits = c.fits_limits.ensures.fits c.if-not-fits_limits.false in omega (arith, fits); patient = c.look_again.ensures.ahead }
+
+pub invariant_of-self-in_default-look_again : goal.invariant_of-self-in_default-look_again
+invariant_of-self-in_default-look_again c =
+    let last : c.last-section.result + 1 ≡ length c.self.inside.sections = c.last-section.ensures in
+    record { memberships = c.store.ensures.memberships; sections = c.store.ensures.sections (length c.self.inside.sections) (omega (arith, last)) c.self.invariant.sections; named = c.store.ensures.named; counted = let fits = c.fits_limits.ensures.fits c.if-not-fits_limits.false in omega (arith, fits); patient = c.look_again.ensures.ahead }
 
 pub last-section-requires : goal.last-section-requires
 last-section-requires c = subst (λ (k : Kept). 0 < length k.headings) (sym c.self.view_is) (follows-section c.args.schema.now c.args.limits c.args.self.now c.args.found.now.name c.requires.found.record_ c.requires.found.follows)
@@ -63,16 +68,18 @@ returns-clause-gives c =
     let needs = needs_view c.args.found.now.needs.now in
     let line = c.args.found.now.line.now in
     let stored : List StoredEntry = stored_of c.store.new.memberships c.store.new.instances in
-    let waiting : List Reference = references_of c.add_waiting.new.waiting.items in
+    let mid : List Reference = references_of c.add.new.self.references.items in
+    let left : List Reference = references_of c.look_again.new.self.references.items in
     let counted = ap (λ n. old.references + n) (sym (length-map c.args.found.now.needs.now need_view)) in
-    let kept : Kept = record old { stored = stored; waiting = waiting; references = old.references + length c.args.found.now.needs.now; bytes = old.bytes + length line; framing = old.framing + 1 } in
+    let kept : Kept = record old { stored = stored; waiting = mid; references = old.references + length c.args.found.now.needs.now; bytes = old.bytes + length line; framing = old.framing + 1 } in
     let N : Kept → Type 0 = λ k. Contains (map (λ (x : StoredEntry). x.name) k.stored) c.args.found.now.name → ⊥ in
     let none : N old = subst N (sym c.self.view_is) c.requires.another in
     let permuted : IsPermutation (record { name = c.args.found.now.name; section = c.last-section.result; entities = entities; text = line } ∷ old.stored) stored = c.in-Ok-store.ensures.ok in
     let last : c.last-section.result + 1 ≡ length old.headings = c.last-section.ensures in
-    let new = c.drop_served.new.self in
+    let looks = looked s stored (old.references + length c.args.found.now.needs.now) c.add.new.self.due mid left (λ h. ap references_of (c.look_again.ensures.early h)) c.look_again.ensures.left in
+    let new : Kept = record kept { waiting = left } in
     let F : Kept → Type 0 = λ k. FoundGives s c.args.limits k c.args.found.now.name entities needs line (Ok tt) new in
     subst F c.self.view_is (λ record_ is.
-    took-dropped s c.args.limits old kept new (instance c.args.found.now.name record_) c.drop_served.ensures
-    (took-found s c.args.limits old kept c.args.found.now.name record_ entities needs line is none waiting c.in-Ok.ensures c.last-section.result last stored permuted (c.fits_limits.ensures.decides.0 c.if-not-fits_limits.false)
-    (λ i. record old { stored = stored; waiting = waiting; references = counted i; bytes = old.bytes + length line; framing = old.framing + 1 })))
+    took-dropped s c.args.limits old kept left (instance c.args.found.now.name record_) looks
+    (took-found s c.args.limits old kept c.args.found.now.name record_ entities needs line is none mid c.in-Ok.ensures.ok c.last-section.result last stored permuted (c.fits_limits.ensures.decides.0 c.if-not-fits_limits.false)
+    (λ i. record old { stored = stored; waiting = mid; references = counted i; bytes = old.bytes + length line; framing = old.framing + 1 })))

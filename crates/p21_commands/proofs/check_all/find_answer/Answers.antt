@@ -1,0 +1,12 @@
+use Rattle.p21_commands.proofs.Surveys.{accepted-under, answers-refused}
+use Rattle.p21_commands.proofs.check_all.find_answer.Goals as goal
+
+pub returns-in-Accepted-clause-ok : goal.returns-in-Accepted-clause-ok
+returns-in-Accepted-clause-ok g c = record {
+  output = c.in-Accepted.accepted;
+  accepted = accepted-under _ _ _ c.in_ok-schema.schema c.usual.result c.in-Ok.found c.in-Accepted.accepted c.in_ok-schema.ensures.ok c.usual.ensures c.in-Accepted.is c.in-Ok.ensures.surveys;
+  line_is = c.in_ok-answer_line_of-in-Accepted.ensures;
+}
+
+pub returns-clause-ok : goal.returns-clause-ok
+returns-clause-ok g c = answers-refused _ _ _ c.in_ok-schema.schema c.usual.result c.in-Ok.found c.in-Refused.refusals c.in_ok-lines_of-in-Refused.field-0 c.in_ok-schema.ensures.ok c.usual.ensures c.in-Refused.is c.in-Ok.ensures.surveys c.in_ok-lines_of-in-Refused.ensures

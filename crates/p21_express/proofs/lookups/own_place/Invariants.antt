@@ -1,7 +1,0 @@
-use Rattle.std.proofs.Common.{ℕ, ◌<◌}
-use Rattle.p21_schemas.specs.Schema.{PlaceNamed}
-use Rattle.p21_express.proofs.lookups.own_place.Given as goal
-
--- none so far has the name
-abbrev pub invariant-loop-index : goal.invariant-loop-index
-invariant-loop-index l = (k : ℕ) → k < l.index → PlaceNamed l.schema (record { entity = l.entity.0; index = k }) l.name → ⊥

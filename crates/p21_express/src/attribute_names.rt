@@ -1,0 +1,118 @@
+ghost use Rattle.std.specs.Prelude.{◌≡◌, IfOk, MatchOption};
+ghost use Rattle.p21_schemas.specs.Redeclaration.{IsOwnPlace};
+ghost use Rattle.p21_schemas.specs.Schema as pure;
+ghost use Rattle.p21_express.specs.AttributeNames.{AreNamesOf, IsKept, own_names};
+ghost use Rattle.p21_express.specs.Found.{HasDistinctAttributes};
+ghost use Rattle.p21_express_graph.specs.Resolved.{IsEntity};
+ghost use Rattle.p21_express_types.specs.Meaning.{place as place_of};
+
+use p21_express_graph::Names;
+use p21_express_tables::Schema;
+use p21_express_types::{EntityId, Place};
+use p21_values::NoMemory;
+use std::alloc::Global;
+
+/// So many attributes of an entity are looked at one by one.
+const FEW: u32 = 16;
+
+/// For each entity of a schema the names of the attributes that it declares itself, where these are many.
+#[derive(Drop)]
+pub(crate) struct AttributeNames {
+    of_each: Vec<Option<Names>>,
+}
+
+impl AttributeNames {
+    pub(crate) fn of(alloc: Global, schema: &Schema) -> Result<AttributeNames, NoMemory>
+        requires { HasDistinctAttributes schema.now }
+        ensures { IfOk result (AreNamesOf schema.now) }
+    {
+        schema.holds_together();
+        let mut of_each = Vec::with_capacity(alloc, schema.entities())?;
+        for number in 0..schema.entities() {
+            let names = many_names(alloc, schema, EntityId(number as u32))?;
+            of_each.push(names)?;
+        }
+        Ok(AttributeNames { of_each })
+    }
+
+    /// The place of this name, in upper case, that an entity declares itself.
+    pub(crate) fn own_place(&self, schema: &Schema, entity: EntityId, name: &[u8]) -> Option<Place>
+        requires names { AreNamesOf schema.now self.now }
+        requires entity { IsEntity schema.now entity.0 }
+        ensures { MatchOption result ((place : pure.Place) → IsOwnPlace schema.now entity.0 name.now place → ⊥) (λ place. IsOwnPlace schema.now entity.0 name.now (place_of place)) }
+    {
+        match self.of_each.get(entity.0 as usize) {
+            Some(kept) => kept_place(schema, entity, kept, name),
+            None => listed_place(schema, entity, name),
+        }
+    }
+}
+
+/// The same, where these names are kept.
+fn kept_place(schema: &Schema, entity: EntityId, kept: &Option<Names>, name: &[u8]) -> Option<Place>
+    requires kept { IsKept schema.now entity.0 kept.now }
+    requires entity { IsEntity schema.now entity.0 }
+    ensures { MatchOption result ((place : pure.Place) → IsOwnPlace schema.now entity.0 name.now place → ⊥) (λ place. IsOwnPlace schema.now entity.0 name.now (place_of place)) }
+{
+    match kept {
+        Some(names) => place_among(schema, entity, names, name),
+        None => listed_place(schema, entity, name),
+    }
+}
+
+/// The same by the names of all attributes.
+fn place_among(schema: &Schema, entity: EntityId, names: &Names, name: &[u8]) -> Option<Place>
+    requires names { names.now ≡ own_names schema.now entity.0 }
+    requires entity { IsEntity schema.now entity.0 }
+    ensures { MatchOption result ((place : pure.Place) → IsOwnPlace schema.now entity.0 name.now place → ⊥) (λ place. IsOwnPlace schema.now entity.0 name.now (place_of place)) }
+{
+    schema.holds_together();
+    match names.position(name) {
+        Some(at) => Some(Place {
+            entity,
+            index: at as u32,
+        }),
+        None => None,
+    }
+}
+
+/// The same, one attribute after another.
+fn listed_place(schema: &Schema, entity: EntityId, name: &[u8]) -> Option<Place>
+    requires { IsEntity schema.now entity.0 }
+    ensures { MatchOption result ((place : pure.Place) → IsOwnPlace schema.now entity.0 name.now place → ⊥) (λ place. IsOwnPlace schema.now entity.0 name.now (place_of place)) }
+{
+    let count = schema.attribute_count(entity);
+    for index in 0..count {
+        let place = Place { entity, index };
+        if schema.place_name(place) == name {
+            return Some(place);
+        }
+    }
+    None
+}
+
+/// The names of an entity's attributes, where these are many.
+fn many_names(alloc: Global, schema: &Schema, entity: EntityId) -> Result<Option<Names>, NoMemory>
+    requires entity { IsEntity schema.now entity.0 }
+    requires distinct { HasDistinctAttributes schema.now }
+    ensures { IfOk result (IsKept schema.now entity.0) }
+{
+    if schema.attribute_count(entity) <= FEW {
+        return Ok(None);
+    }
+    let names = all_names(alloc, schema, entity)?;
+    Ok(Some(names))
+}
+
+/// The names of an entity's attributes.
+fn all_names(alloc: Global, schema: &Schema, entity: EntityId) -> Result<Names, NoMemory>
+    requires entity { IsEntity schema.now entity.0 }
+    requires distinct { HasDistinctAttributes schema.now }
+    ensures { IfOk result (λ names. names ≡ own_names schema.now entity.0) }
+{
+    let mut names = Names::new(alloc);
+    for index in 0..schema.attribute_count(entity) {
+        names.add(alloc, schema.place_name(Place { entity, index }))?;
+    }
+    Ok(names)
+}

@@ -1,8 +1,0 @@
-use Rattle.std.proofs.Common.{ℕ, ◌≡◌, ◌<◌, slice_index_or}
-use Rattle.p21_schemas.specs.Supertype.{IsA}
-use Rattle.p21_express_types.specs.Meaning.{place}
-use Rattle.p21_express_tables.specs.declared.place_types.Decision.TheVariants.{Declared, Two}
-use Rattle.p21_express_tables.proofs.schema.Schema.has_open.Given as goal
-
-abbrev pub invariant-loop-known : goal.invariant-loop-known
-invariant-loop-known l = (k : ℕ) → k < l.known-index → IsA l.self l.entity.0 (place (slice_index_or l.decided k record { place = record { entity = record { 0 = 0 }; index = 0 }; decision = Declared }).place).entity → (slice_index_or l.decided k record { place = record { entity = record { 0 = 0 }; index = 0 }; decision = Declared }).decision ≡ Two → ⊥

@@ -1,0 +1,4 @@
+pub mod Bits
+pub mod Showing
+pub mod Lanes
+pub mod Finding

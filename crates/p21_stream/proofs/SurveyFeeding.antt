@@ -1,0 +1,142 @@
+-- A survey that is fed what a reader gives.
+use Rattle.std.proofs.Common.{◌≡◌, ◌≢◌, ◌≤◌, ◌<◌, ◌^◌, ◌+◌, ◌-◌, ℕ, List, [], ◌∷◌, ◌++◌, length, take, drop, append_assoc, Option, None, Result, Ok, Err, inl, refl, sym, ap, subst, ◌∙◌, length-append, slice_index_or, Fits, w8, arith}
+use Rattle.std.proofs.KnownBytes.{Consumes-nil, Consumes-trans}
+use Rattle.std.proofs.lemmas.List.{take-append-drop}
+use Rattle.std.specs.Io.KnownBytes.{Consumes}
+use Rattle.std.specs.List.{AllByRecursion as Each}
+use Rattle.p21_basics.proofs.Members.{Each-back}
+use Rattle.p21_basics.specs.Digits.{IsByte}
+use Rattle.p21_basics.specs.Limits.{Limits}
+use Rattle.p21_claim.proofs.TokenPrefixes.{taken-further}
+use Rattle.p21_claim_steps.proofs.Keeps.{keeps-at_start}
+use Rattle.p21_claim_steps.specs.Keeping.{Keeps, Kept, nothing_kept}
+use Rattle.p21_exchange.specs.Statement.{Statement}
+use Rattle.p21_schemas.specs.Schema.{Schema}
+use Rattle.p21_stream_statements.specs.declared.refusal.Refusal.{Refusal}
+use Rattle.p21_stream_statements.specs.StatementReader as statements
+use Rattle.p21_stream_statements.specs.StatementReader.{StatementHistory, nothing_read}
+use Rattle.p21_stream_survey.specs.Sifting.{AreSifted, HaveNames, none}
+use Rattle.p21_stream.proofs.Feeding.{dead-piece, each-byte, refused-by}
+use Rattle.p21_stream.proofs.Within.{source-within}
+use Rattle.p21_stream.specs.Feeding.{TakesAtMost}
+use Rattle.p21_stream.specs.ReaderInput.{ConsumesAtMost}
+use Rattle.p21_stream.specs.Surveying.{HasSifted, IsUnderWay, ReadGives, StopsByBytes}
+use Rattle.p21_stream.specs.SurveyReading.{HasTaken, IsLiveBetween, IsSurveyedFrom, IsSurveyedWhole, PieceGives, StopsMore, StopsSurvey, SurveysMore}
+use Rattle.p21_stream.specs.declared.surveying.Stop.{Stop}
+use Rattle.p21_stream.specs.declared.surveying.Stop.TheVariants.{Most, Refused}
+use Rattle.p21_stream.specs.declared.surveying.Surveying.{Surveying}
+
+-- ---- a piece
+
+-- these bytes, of which none was seen behind them
+abbrev between : List ℕ → List Statement → StatementHistory
+between bytes given = record { taken = bytes; seen = None; given = given }
+
+pub piece-whole : (s : Schema) (limits : Limits) (most : ℕ) (before after : Surveying) (piece : List ℕ) → ReadGives s limits most before.statements before.sieve piece (Ok tt) after.statements after.sieve → PieceGives s limits most before piece (Ok tt) after
+piece-whole s limits most before after piece gives bytes (given, live) = gives (between bytes given) live tt
+
+-- a piece is read on from there
+pub way-between : (s : Schema) (limits : Limits) (surveying : Surveying) (piece : List ℕ) → IsLiveBetween s limits surveying → limits.file_source < 2 ^ 64 → IsUnderWay s limits surveying.statements surveying.sieve piece
+way-between s limits surveying piece (bytes, (given, live)) counted = record { reading = between bytes given; live = live; seen_at = tt; counted = counted }
+
+-- what was sifted stays sifted when bytes come
+sifted-further : (s : Schema) (limits : Limits) (bytes more : List ℕ) (refusals : List Refusal) → Each IsByte more → HasSifted s limits bytes refusals → HasSifted s limits (bytes ++ more) refusals
+sifted-further s limits bytes more refusals are has = record { given = has.given; taken = taken-further bytes more has.given are has.taken; passed = has.passed; sifted = has.sifted; kept = has.kept; keeps = has.keeps }
+
+sifted-piece : (s : Schema) (limits : Limits) (taken piece : List ℕ) (count : ℕ) (refusals : List Refusal) → Each IsByte piece → HasSifted s limits (taken ++ take count piece) refusals → HasSifted s limits (taken ++ piece) refusals
+sifted-piece s limits taken piece count refusals are has =
+    let whole = take-append-drop count piece in
+    let later : Each IsByte (drop count piece) = Each-back IsByte (take count piece) (drop count piece) (subst (Each IsByte) (sym whole) are) in
+    subst (λ (l : List ℕ). HasSifted s limits l refusals) (append_assoc taken (take count piece) (drop count piece) ∙ ap (λ (l : List ℕ). taken ++ l) whole) (sifted-further s limits (taken ++ take count piece) (drop count piece) refusals later has)
+
+pub piece-stops : (s : Schema) (limits : Limits) (most : ℕ) (before after : Surveying) (piece : List ℕ) (stop : Stop) → ((i : ℕ) → Fits w8 (slice_index_or piece i 0)) → StopsByBytes stop → ReadGives s limits most before.statements before.sieve piece (Err stop) after.statements after.sieve → PieceGives s limits most before piece (Err stop) after
+piece-stops s limits most before after piece (Refused refusal) fits of gives old new more start size from =
+    let (given, live) = from.taken in
+    let consumed = Consumes-trans start old new from.bytes piece from.consumed more in
+    let are = each-byte piece fits in (
+      refused-by s limits start new refusal.fault of (λ other.
+          let (dead, sifted) = gives other (between from.bytes given) live tt in
+          record { bytes = from.bytes ++ piece; consumed = consumed; refused = inl (dead-piece s limits from.bytes piece dead.upto are dead.dead) }),
+      λ other. (let (dead, sifted) = gives other (between from.bytes given) live tt in (from.bytes ++ piece, consumed, sifted-piece s limits from.bytes piece sifted.upto after.sieve.refusals.items are sifted.sifted)),
+    )
+piece-stops s limits most before after piece Most fits of (enough, gives) old new more start size from =
+    let (given, live) = from.taken in
+    let sifted = gives (between from.bytes given) live tt in
+    (enough, (from.bytes ++ piece, Consumes-trans start old new from.bytes piece from.consumed more, sifted-piece s limits from.bytes piece sifted.upto after.sieve.refusals.items (each-byte piece fits) sifted.sifted))
+
+-- so many bytes more
+pub surveyed-more : (s : Schema) (limits : Limits) (most : ℕ) (start old new : Option (List ℕ)) (before after : Surveying) (piece : List ℕ) (size count : ℕ) → Consumes old new piece → length piece ≡ count → PieceGives s limits most before piece (Ok tt) after → IsSurveyedFrom s limits start old before size → IsSurveyedFrom s limits start new after (size + count)
+surveyed-more s limits most start old new before after piece size count more count_is gives from = record {
+  bytes = from.bytes ++ piece;
+  consumed = Consumes-trans start old new from.bytes piece from.consumed more;
+  size_is = length-append from.bytes piece ∙ ap (λ (n : ℕ). n + length piece) from.size_is ∙ ap (λ (n : ℕ). size + n) count_is;
+  taken = gives from.bytes from.taken;
+}
+
+-- nothing is read
+pub surveyed-none : (s : Schema) (limits : Limits) (now : Option (List ℕ)) (surveying : Surveying) → statements.IsLive surveying.statements nothing_read → statements.limits_of surveying.statements ≡ (limits.record_source, limits.file_source) → surveying.sieve.kept ≡ nothing_kept → surveying.sieve.refusals.items ≡ []
+    → HaveNames surveying.sieve.names [] → IsSurveyedFrom s limits now now surveying 0
+surveyed-none s limits now surveying live are kept listed names = record {
+  bytes = [];
+  consumed = Consumes-nil now;
+  size_is = refl;
+  taken = (
+    [],
+    record {
+      reads = live;
+      limits_are = are;
+      sifts = record {
+        passed = [];
+        sifted = subst (λ (rs : List Refusal). AreSifted s [] [] rs) (sym listed) none;
+        keeps = subst (λ (k : Kept). Keeps s limits [] k) (sym kept) (keeps-at_start s limits);
+        names = subst (λ (rs : List Refusal). HaveNames surveying.sieve.names rs) (sym listed) names;
+      };
+    },
+  );
+}
+
+-- ---- the loop
+
+-- so much was surveyed, and so much may still come
+pub record InLoop (s : Schema) (limits : Limits) (start now : Option (List ℕ)) (surveying : Surveying) (most left : ℕ) : Type 0 where
+  pub size : ℕ
+  pub from : IsSurveyedFrom s limits start now surveying size
+  pub left_is : size + left ≡ most
+
+pub loop-starts : (s : Schema) (limits : Limits) (now : Option (List ℕ)) (surveying : Surveying) (most : ℕ) → IsSurveyedFrom s limits now now surveying 0 → InLoop s limits now now surveying most most
+loop-starts s limits now surveying most from = record { size = 0; from = from; left_is = omega arith }
+
+pub loop-between : (s : Schema) (limits : Limits) (start now : Option (List ℕ)) (surveying : Surveying) (most left : ℕ) → InLoop s limits start now surveying most left → (bytes : List ℕ) × HasTaken s limits surveying bytes
+loop-between s limits start now surveying most left in_loop = (in_loop.from.bytes, in_loop.from.taken)
+
+pub loop-short : (s : Schema) (limits : Limits) (start old new : Option (List ℕ)) (before after : Surveying) (most left count : ℕ) → most ≡ limits.file_source → InLoop s limits start old before most left → SurveysMore s limits old new before after count → count ≤ left
+loop-short s limits start old new before after most left count is in_loop more =
+    let from = more.along start in_loop.size in_loop.from in
+    let (given, live) = from.taken in
+    let short = source-within after.statements (between from.bytes given) live.reads in
+    let limit = ap (λ p. p.1) live.limits_are in
+    let size = from.size_is in
+    let left_is = in_loop.left_is in
+    omega (arith, short, limit, size, left_is, is)
+
+pub loop-goes_on : (s : Schema) (limits : Limits) (start old new : Option (List ℕ)) (before after : Surveying) (most left count : ℕ) → count ≤ left → InLoop s limits start old before most left → SurveysMore s limits old new before after count → InLoop s limits start new after most (left - count)
+loop-goes_on s limits start old new before after most left count short in_loop more = record {
+  size = in_loop.size + count;
+  from = more.along start in_loop.size in_loop.from;
+  left_is = let left_is = in_loop.left_is in omega (arith, left_is, short);
+}
+
+pub loop-whole : (s : Schema) (limits : Limits) (start old new : Option (List ℕ)) (before after : Surveying) (most left count : ℕ) → InLoop s limits start old before most left → SurveysMore s limits old new before after count → count ≡ 0 → IsSurveyedWhole s limits start new after
+loop-whole s limits start old new before after most left count in_loop more no_more =
+    let from = more.along start in_loop.size in_loop.from in
+    record { bytes = from.bytes; read = record { consumed = from.consumed; at_end = more.ended no_more }; taken = from.taken }
+
+pub loop-stops : (s : Schema) (limits : Limits) (asked : ℕ) (start old new : Option (List ℕ)) (before after : Surveying) (most left : ℕ) (stop : Stop) → InLoop s limits start old before most left → StopsMore s limits asked old new before after stop → StopsSurvey s limits asked start new after.sieve.refusals.items stop
+loop-stops s limits asked start old new before after most left stop in_loop stops = stops start in_loop.size in_loop.from
+
+pub loop-consumed : (s : Schema) (limits : Limits) (start old new : Option (List ℕ)) (surveying : Surveying) (most left : ℕ) → most ≡ limits.file_source → InLoop s limits start old surveying most left → TakesAtMost (left + 1) old new → ConsumesAtMost limits start new
+loop-consumed s limits start old new surveying most left is in_loop takes = (
+  in_loop.from.bytes ++ takes.0,
+  Consumes-trans start old new in_loop.from.bytes takes.0 in_loop.from.consumed takes.1,
+  (let size = in_loop.from.size_is in let left_is = in_loop.left_is in let some = takes.2 in let sum = length-append in_loop.from.bytes takes.0 in omega (arith, size, left_is, some, sum, is)),
+)

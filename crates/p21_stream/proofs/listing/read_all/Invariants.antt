@@ -1,0 +1,17 @@
+use Rattle.std.proofs.Common.{◌≡◌, ◌≤◌, ◌+◌}
+use Rattle.p21_stream.proofs.SurveyFeeding.{InLoop}
+use Rattle.p21_transcribe_instance.specs.ExternalSet.{AreExternalSets}
+use Rattle.p21_transcribe_instance.specs.Steps.{IsPlanOf}
+use Rattle.p21_stream.proofs.listing.read_all.Given as goal
+
+abbrev pub invariant-loop-count : goal.invariant-loop-count
+invariant-loop-count g l = record {
+  surveyed : InLoop l.schema l.limits (g.R.Read.remaining l.initial.reader.inner) (g.R.Read.remaining l.reader.inner) l.surveying l.limits.file_source l.left;
+  plan : IsPlanOf l.schema l.surveying.plan;
+  sets : AreExternalSets l.schema l.surveying.sets;
+  moved : l.reader.moved + l.left ≤ l.initial.reader.moved + l.limits.file_source;
+  failures : l.reader.failures ≡ l.initial.reader.failures;
+}
+
+abbrev pub decreases-loop-count : goal.decreases-loop-count
+decreases-loop-count g l = l.left

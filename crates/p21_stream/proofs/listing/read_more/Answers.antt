@@ -1,0 +1,18 @@
+use Rattle.std.proofs.Common.{arith, rules}
+use Rattle.std.proofs.lemmas.List.{length-take-le}
+use Rattle.p21_stream.proofs.SurveyEnding.{read-stops}
+use Rattle.p21_stream.proofs.SurveyFeeding.{surveyed-more}
+use Rattle.p21_stream.proofs.listing.read_more.Goals as goal
+
+pub returns-in-Err-clause-err : goal.returns-in-Err-clause-err
+returns-in-Err-clause-err g c = read-stops c.args.schema.now c.args.limits c.args.most _ _ c.args.surveying.now c.refused-refusal.result c.refused-refusal.ensures c.in-Err.ensures.bytes
+
+pub returns-in-Err-take_piece-clause-err : goal.returns-in-Err-take_piece-clause-err
+returns-in-Err-take_piece-clause-err g c = c.in-Err-take_piece.ensures.gives _ _ c.in-Ok.ensures.bytes.0
+
+pub returns-in-Ok-take_piece-clause-ok : goal.returns-in-Ok-take_piece-clause-ok
+returns-in-Ok-take_piece-clause-ok g c = record {
+  along = λ start size from.
+      surveyed-more c.args.schema.now c.args.limits c.args.most start _ _ c.args.surveying.now c.take_piece.new.surveying _ size c.in-Ok.count c.in-Ok.ensures.bytes.0 (length-take-le c.in-Ok.count c.read_piece.new.piece c.in-Ok.ensures.count.0) c.in-Ok-take_piece.ensures.gives from;
+  ended = λ none. c.in-Ok.ensures.bytes.1 none (search rules);
+}

@@ -1,0 +1,11 @@
+use Rattle.p21_stream.proofs.SurveyFeeding.{piece-stops, piece-whole, way-between}
+use Rattle.p21_stream.proofs.listing.take_piece.Goals as goal
+
+pub read-requires-clause-way : goal.read-requires-clause-way
+read-requires-clause-way c = way-between c.args.schema.now c.args.limits c.args.surveying.now c.args.piece.now c.requires.live c.requires.counted
+
+pub returns-in-Ok-clause-gives : goal.returns-in-Ok-clause-gives
+returns-in-Ok-clause-gives c = piece-whole c.args.schema.now c.args.limits c.args.most c.args.surveying.now c.read.new.self c.args.piece.now c.in-Ok.ensures.gives
+
+pub returns-in-Err-clause-gives : goal.returns-in-Err-clause-gives
+returns-in-Err-clause-gives c = piece-stops c.args.schema.now c.args.limits c.args.most c.args.surveying.now c.read.new.self c.args.piece.now c.in-Err.stop c.type_inv.piece c.in-Err.ensures.kind c.in-Err.ensures.gives

@@ -1,0 +1,260 @@
+//! All refusals of a file.
+ghost use Rattle.std.specs.Prelude.{◌≡◌, ◌≢◌, ◌≤◌, ◌<◌, ◌+◌, ◌⊎◌, ◌^◌, length, IfErr, IfOk, OnErr, OnOk};
+ghost use Rattle.p21_basics.specs.Limits.{Limits as MeantLimits};
+ghost use Rattle.p21_schemas.specs.WellFormed.{IsWellFormed};
+ghost use Rattle.p21_stream_io.specs.Watch.{one_call_more};
+ghost use Rattle.p21_stream.specs.Feeding.{TakesAtMost};
+ghost use Rattle.p21_stream.specs.ReaderInput.{ConsumesAtMost};
+ghost use Rattle.p21_stream.specs.Survey.{EndsByRead, SurveysInput};
+ghost use Rattle.p21_stream.specs.SurveyReading.{EndsWith, FinishGives, IsExtent, IsLiveBetween, IsSurveyedFrom, IsSurveyedWhole, PieceGives, StoppedGives, StopsByRead, StopsMore, StopsSurvey, SurveysMore, stop_failures};
+ghost use Rattle.p21_stream.specs.Surveying.{StopsByBytes};
+ghost use Rattle.p21_transcribe_instance.specs.ExternalSet.{AreExternalSets};
+ghost use Rattle.p21_transcribe_instance.specs.Steps.{IsPlanOf};
+
+use crate::progress::refused;
+use crate::surveying::{Stop, Surveying};
+use p21_express_tables::Schema;
+use p21_stream_io::{Watched, read_piece};
+use p21_stream_output::Accepted;
+use p21_stream_statements::{Fault, Refusal};
+use p21_values::{Limits, NoMemory};
+use std::alloc::Global;
+use std::io::Read;
+
+/// The bytes that one read may give.
+const PIECE: usize = 65_536;
+
+/// What a survey finds of a file.
+#[derive(Drop)]
+pub enum Surveyed {
+    /// Nothing is refused.
+    Accepted(Accepted),
+    /// Something is refused.
+    Refused(Refusals),
+}
+
+/// What is refused of a file.
+#[derive(Drop)]
+pub struct Refusals {
+    /// The refusals, one or more: those of the instances in the order of the file, then those of references in the same order,
+    /// or the one that ended the reading.
+    pub list: Vec<Refusal>,
+    /// How much of the file they are about.
+    pub extent: Extent,
+}
+
+/// How much of a file was surveyed.
+#[derive(Clone, Copy, Debug, PartialEq, Eq)]
+pub enum Extent {
+    /// All of it.
+    Whole,
+    /// As far as to the last refusal of the list, which ended the reading.
+    Part,
+    /// As far as to the last refusal of the list, since no more were asked for.
+    Most,
+}
+
+/// Reads a file to its end, and lists what is refused of it, up to so many refusals; one is listed where none is asked for. An
+/// instance that is refused is left out, and the reading goes on: of its references nothing is said, nor of references to
+/// its name. Every other refusal ends the reading, and is the last one; of references nothing is said then.
+///
+/// # Errors
+///
+/// `NoMemory`.
+pub fn survey<R: Read>(
+    alloc: Global,
+    schema: &Schema,
+    limits: Limits,
+    most: u64,
+    reader: &mut Watched<R>,
+) -> Result<Surveyed, NoMemory>
+    ensures surveys { IfOk result (λ found. SurveysInput schema.now limits (R.remaining reader.old.inner) (R.remaining reader.new.inner) found) }
+    ensures consumed { ConsumesAtMost limits (R.remaining reader.old.inner) (R.remaining reader.new.inner) }
+
+    ensures moved { reader.new.moved ≤ reader.old.moved + (limits.file_source + 1) }
+    ensures failed { IfOk result (λ found. (reader.new.failures ≡ reader.old.failures) ⊎ ((reader.new.failures ≡ one_call_more reader.old.failures) × EndsByRead found)) }
+    ensures failed_once { OnErr result ((reader.new.failures ≡ reader.old.failures) ⊎ (reader.new.failures ≡ one_call_more reader.old.failures)) }
+{
+    schema.well_formed();
+    let most = at_least_one(most);
+    let mut surveying = Surveying::new(alloc, limits);
+    match read_all(&mut surveying, schema, limits, most, reader) {
+        Ok(()) => finish(surveying, schema, most),
+        Err(stop) => stopped(surveying.refusals(), stop),
+    }
+}
+
+/// The number, or one for none.
+fn at_least_one(most: u64) -> u64
+    ensures { 0 < result }
+{
+    if most == 0 { 1 } else { most }
+}
+
+/// Surveys all that a reader has.
+fn read_all<R: Read>(
+    surveying: &mut Surveying,
+    schema: &Schema,
+    limits: Limits,
+    most: u64,
+    reader: &mut Watched<R>,
+) -> Result<(), Stop>
+    requires formed { IsWellFormed schema.now }
+    requires new { IsSurveyedFrom schema.now limits (R.remaining reader.old.inner) (R.remaining reader.old.inner) surveying.old 0 }
+    requires counted { limits.file_source < 2 ^ 64 }
+    requires plan { IsPlanOf schema.now surveying.old.plan }
+    requires sets { AreExternalSets schema.now surveying.old.sets }
+    ensures ok { OnOk result (IsSurveyedWhole schema.now limits (R.remaining reader.old.inner) (R.remaining reader.new.inner) surveying.new) }
+    ensures err { IfErr result (StopsSurvey schema.now limits most (R.remaining reader.old.inner) (R.remaining reader.new.inner) surveying.new.sieve.refusals.items) }
+    ensures consumed { ConsumesAtMost limits (R.remaining reader.old.inner) (R.remaining reader.new.inner) }
+
+    ensures moved { reader.new.moved ≤ reader.old.moved + (limits.file_source + 1) }
+    ensures read { OnOk result (reader.new.failures ≡ reader.old.failures) }
+    ensures failed { IfErr result (λ stop. reader.new.failures ≡ stop_failures reader.old.failures stop) }
+{
+    let mut piece = [0; PIECE];
+    let mut left = limits.file_source();
+    loop {
+        let count = match read_more(surveying, schema, limits, most, reader, &mut piece, left) {
+            Ok(count) => count,
+            Err(stop) => return Err(stop),
+        };
+        if count == 0 {
+            return Ok(());
+        }
+        left -= count;
+    }
+}
+
+/// Surveys what a reader gives at once, and says how many bytes: 0 at the end alone.
+fn read_more<R: Read>(
+    surveying: &mut Surveying,
+    schema: &Schema,
+    limits: Limits,
+    most: u64,
+    reader: &mut Watched<R>,
+    piece: &mut [u8],
+    left: u64,
+) -> Result<u64, Stop>
+    requires formed { IsWellFormed schema.now }
+    requires room { 0 < length piece.old }
+    requires counted { limits.file_source < 2 ^ 64 }
+    requires live { IsLiveBetween schema.now limits surveying.old }
+    requires plan { IsPlanOf schema.now surveying.old.plan }
+    requires sets { AreExternalSets schema.now surveying.old.sets }
+    ensures ok { IfOk result (SurveysMore schema.now limits (R.remaining reader.old.inner) (R.remaining reader.new.inner) surveying.old surveying.new) }
+    ensures err { IfErr result (StopsMore schema.now limits most (R.remaining reader.old.inner) (R.remaining reader.new.inner) surveying.old surveying.new) }
+    ensures consumed { TakesAtMost (left + 1) (R.remaining reader.old.inner) (R.remaining reader.new.inner) }
+    ensures plan { IsPlanOf schema.now surveying.new.plan }
+    ensures sets { AreExternalSets schema.now surveying.new.sets }
+
+    ensures moved { IfOk result (λ count. reader.new.moved ≤ reader.old.moved + count) }
+    ensures moved_once { reader.new.moved ≤ reader.old.moved + 1 }
+    ensures read { OnOk result (reader.new.failures ≡ reader.old.failures) }
+    ensures failed { IfErr result (λ stop. reader.new.failures ≡ stop_failures reader.old.failures stop) }
+{
+    let count = match read_piece(reader, piece, left) {
+        Ok(count) => count,
+        Err(_) => {
+            let refusal = refused(Fault::Read, None, surveying.statement);
+            return Err(Stop::Refused(refusal));
+        }
+    };
+    match take_piece(surveying, schema, limits, most, &piece[..count]) {
+        Ok(()) => Ok(count as u64),
+        Err(stop) => Err(stop),
+    }
+}
+
+/// Surveys a piece. It stands by itself since the prover knows of a parameter, and of no part of one, that it holds bytes.
+fn take_piece(
+    surveying: &mut Surveying,
+    schema: &Schema,
+    limits: Limits,
+    most: u64,
+    piece: &[u8],
+) -> Result<(), Stop>
+    requires formed { IsWellFormed schema.now }
+    requires counted { limits.file_source < 2 ^ 64 }
+    requires live { IsLiveBetween schema.now limits surveying.old }
+    requires plan { IsPlanOf schema.now surveying.old.plan }
+    requires sets { AreExternalSets schema.now surveying.old.sets }
+    ensures gives { PieceGives schema.now limits most surveying.old piece.now result surveying.new }
+    ensures kind { IfErr result StopsByBytes }
+    ensures plan { IsPlanOf schema.now surveying.new.plan }
+    ensures sets { AreExternalSets schema.now surveying.new.sets }
+{
+    match surveying.read(schema, limits, most, piece) {
+        Ok(()) => Ok(()),
+        Err(stop) => Err(stop),
+    }
+}
+
+/// The end of the bytes.
+fn finish(surveying: Surveying, schema: &Schema, most: u64) -> Result<Surveyed, NoMemory>
+    requires live { (limits : MeantLimits) × IsLiveBetween schema.now limits surveying }
+    requires most { 0 < most }
+    ensures gives { IfOk result (FinishGives schema.now surveying) }
+{
+    schema.well_formed();
+    let Surveying {
+        statements,
+        mut sieve,
+        statement,
+        ..
+    } = surveying;
+    match statements.finish() {
+        Ok(()) => {}
+        Err(fault) => return ended(sieve.into_refusals(), refused(fault, None, statement)),
+    }
+    sieve.list_unserved(schema, most)?;
+    if sieve.refusals.is_empty() {
+        let accepted = sieve.into_kept().into_accepted(statement)?;
+        return Ok(Surveyed::Accepted(accepted));
+    }
+    let extent = extent_of(sieve.refusals.len() as u64, most);
+    Ok(Surveyed::Refused(Refusals {
+        list: sieve.into_refusals(),
+        extent,
+    }))
+}
+
+/// How much of a file that was read whole is listed, by the number of the refusals and how many were asked for.
+fn extent_of(count: u64, most: u64) -> Extent
+    ensures { IsExtent result count most }
+{
+    if count < most {
+        Extent::Whole
+    } else {
+        Extent::Most
+    }
+}
+
+/// What is found where the reading stopped before the end of the bytes.
+fn stopped(list: Vec<Refusal>, stop: Stop) -> Result<Surveyed, NoMemory>
+    ensures gives { IfOk result (StoppedGives list.items stop) }
+    ensures read { IfOk result (λ found. StopsByRead stop → EndsByRead found) }
+{
+    match stop {
+        Stop::Refused(refusal) => ended(list, refusal),
+        Stop::Most => Ok(Surveyed::Refused(Refusals {
+            list,
+            extent: Extent::Most,
+        })),
+    }
+}
+
+/// What is found where a refusal ended the reading.
+fn ended(mut list: Vec<Refusal>, refusal: Refusal) -> Result<Surveyed, NoMemory>
+    ensures list { IfOk result (EndsWith list.items refusal) }
+    ensures other { OnOk result (refusal.fault ≢ Fault.NoMemory) }
+{
+    if refusal.fault == Fault::NoMemory {
+        return Err(NoMemory);
+    }
+    list.push(refusal)?;
+    Ok(Surveyed::Refused(Refusals {
+        list,
+        extent: Extent::Part,
+    }))
+}

@@ -1,0 +1,3 @@
+pub mod Sifting
+pub mod Steps
+pub mod Unserved

@@ -1,0 +1,80 @@
+//! The significand of a real, written by whole rows of bytes, of which some count.
+ghost use Rattle.std.specs.Prelude.{◌≡◌, ◌+◌, ◌<◌, ◌≤◌, [], ◌∷◌, ◌++◌, length, take, slice_index, if◌then◌else◌};
+ghost use Rattle.p21_lanes.specs.Places.{HasPlaces};
+ghost use Rattle.p21_transcribe.specs.Appending.{AppendsAllOrNone};
+ghost use Rattle.p21_transcribe.specs.Significands.{further_digits, significand};
+
+use crate::draft::{Draft, WIDE, write_wide};
+use p21_lanes::Places;
+
+/// The room that is asked for: a minus, a digit and the point, and two rows.
+const ROOM: usize = 3 * WIDE;
+
+impl Draft {
+    /// Appends a minus or none, the first digit that counts, the point, and the others that count; says whether there was
+    /// room.
+    #[inline(always)]
+    pub(crate) fn append_significand(
+        &mut self,
+        negative: bool,
+        bytes: &[u8],
+        places: &Places,
+    ) -> bool
+        requires places { HasPlaces bytes.now 0 places.now.point places.now.end places.now.first places.now.behind }
+        requires some { 0 < places.now.behind }
+        requires bytes { WIDE + WIDE ≤ length bytes.now }
+        ensures { AppendsAllOrNone result (significand negative bytes.now 0 places.now.point places.now.first places.now.behind) self.old self.new }
+    {
+        let used = self.used;
+        if self.room.len() - used < ROOM {
+            return false;
+        }
+        self.used = write_significand(negative, bytes, 0, places, &mut self.room, used);
+        true
+    }
+}
+
+/// Writes the significand at a place: where the text ends behind it.
+#[inline(always)]
+fn write_significand(
+    negative: bool,
+    bytes: &[u8],
+    at: usize,
+    places: &Places,
+    room: &mut [u8],
+    used: usize,
+) -> usize
+    requires places { HasPlaces bytes.now at places.now.point places.now.end places.now.first places.now.behind }
+    requires some { 0 < places.now.behind }
+    requires near { places.now.end < WIDE }
+    requires bytes { at + WIDE + WIDE ≤ length bytes.now }
+    requires room { used + WIDE + WIDE + WIDE ≤ length room.old }
+    ensures text { take result room.new ≡ take used room.old ++ ((if negative then 45 ∷ [] else []) ++ slice_index bytes.now (at + places.now.first) ∷ 46 ∷ further_digits bytes.now at places.now.point places.now.first places.now.behind) }
+    ensures len { length room.new ≡ length room.old }
+{
+    let first = places.first;
+    let point = places.point;
+    let behind = places.behind;
+    let out = write_front(negative, bytes[at + first], room, used);
+    write_wide(room, out, &bytes[at + first + 1..]);
+    if first < point {
+        write_wide(room, out + (point - first - 1), &bytes[at + point + 1..]);
+        return out + (behind - first - 1 - (point < behind) as usize);
+    }
+    out + (behind - first - 1)
+}
+
+/// Writes a minus or none, a digit and the point.
+#[inline(always)]
+fn write_front(negative: bool, digit: u8, room: &mut [u8], used: usize) -> usize
+    requires { used + 3 ≤ length room.old }
+    ensures text { take result room.new ≡ take used room.old ++ ((if negative then 45 ∷ [] else []) ++ digit ∷ 46 ∷ []) }
+    ensures few { result ≤ used + 3 }
+    ensures len { length room.new ≡ length room.old }
+{
+    room[used] = b'-';
+    let out = used + negative as usize;
+    room[out] = digit;
+    room[out + 1] = b'.';
+    out + 2
+}
