@@ -9,20 +9,30 @@
  * the calls alone change it: it isn't copied, written or compared. A call that hands something out lets go of what the handle
  * held before. The call that frees it leaves it empty, and an empty handle may be freed.
  *
+ * Threads. A handle is in one call at a time, whatever the call. That a handle goes from one thread to another is ordered by a
+ * lock, or by the start or the end of a thread. Different handles may be in calls of different threads at once. So each of several
+ * threads that use one schema has a handle of its own of it, by p21_schema_share, which copies nothing of the schema.
+ *
  * What a caller owes, since no call can test it: no pointer is null, also where the length is 0; a text of a length has as
- * many bytes, which don't change during the call; two handles of one call are different ones; and the handles of a schema and
- * of its sessions stay in the thread that made them.
+ * many bytes, which don't change during the call; two handles of one call are different ones; threads share no handle; and no
+ * call is made from a signal handler, or in the child of a fork of a process that has threads, unless it runs another program.
  *
  * What a call answers is a status. P21_REFUSED and P21_FAILED come with a report, and then nothing is handed out: what stood
  * in the handle or in the place of the answer is as it was.
  *
- * To link: libp21.so; or libp21_c.a and liblibc_c.a, in this order.
+ * To link: libp21.so; or libp21_c.a and liblibc_c.a, in this order. pkg-config and CMake know it as p21. C++ has p21.hpp above it.
  */
 #ifndef P21_H
 #define P21_H
 
 #include <stddef.h>
 #include <stdint.h>
+
+/* The version that this header belongs to; p21_version answers that of the library that is linked. */
+#define P21_VERSION_MAJOR 0
+#define P21_VERSION_MINOR 1
+#define P21_VERSION_PATCH 0
+#define P21_VERSION "0.1.0"
 
 #ifdef __cplusplus
 extern "C" {
@@ -81,6 +91,7 @@ typedef struct p21_report {
     uint64_t bytes;     /* how many bytes its canonical file has */
 } p21_report;
 
+/* Made from docs/FAULTS.md by tools/make-refusals, up to the mark of the end: edit the document. */
 /* The refusals of files, as docs/FAULTS.md explains them. */
 enum {
     P21_BAD_BYTE = 1,
@@ -153,6 +164,7 @@ enum {
     P21_ABSENT_SECOND_SECTION = 8,
     P21_ABSENT_NO_DATA_SECTION = 9
 };
+/* The end of what tools/make-refusals makes. */
 
 /* The parts of a version. */
 typedef struct p21_parts {
@@ -167,7 +179,13 @@ void p21_version(p21_parts *version);
 /* Hands out the schema that a text declares. P21_REFUSED: the text declares none, and the report says why. */
 uint8_t p21_schema_new(const uint8_t *text, size_t length, p21_schema *schema, p21_report *report);
 
-/* Lets go of a schema. A session over it keeps what it needs. */
+/*
+ * Hands out another handle of a schema, for another thread. Nothing of the schema is copied, and it lives until the last of its
+ * handles and sessions is let go. It has no report: P21_FAILED where there was no memory.
+ */
+uint8_t p21_schema_share(p21_schema *schema, p21_schema *shared);
+
+/* Lets go of a schema. Other handles of it, and sessions over it, keep what they need. */
 void p21_schema_free(p21_schema *schema);
 
 /*
@@ -225,5 +243,7 @@ void p21_text_free(p21_text *text);
 #ifdef __cplusplus
 }
 #endif
+
+#include "p21_refusals.h"
 
 #endif

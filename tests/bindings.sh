@@ -1,25 +1,32 @@
 #!/bin/sh
 # Tries the library for other programs: that the header declares what is exported and names the refusals as docs/FAULTS.md
-# does; that a C program that calls each function finds what it must and touches no memory that isn't its own; that no call
-# leaves a block of memory, whatever is let go first; that the structs stand as the header has them; that the programs of
-# README and docs/LIBRARY.md do what these pages say; and that the tests of the Python package pass.
+# does; that the interface is the one that is written down; that a C program that calls each function finds what it must and
+# touches no memory that isn't its own; that no call leaves a block of memory, whatever is let go first; that eight threads use
+# one schema at once; that the structs stand as the header has them; that C++ programs of two compilers find what they must, under
+# their sanitizers too; that pkg-config and CMake find the library; that the programs of README and docs/LIBRARY.md do what these
+# pages say; that mypy finds no fault in the Python package and its users' programs; and that the package's tests pass.
 #
-#   tests/bindings.sh [FOLDER]     FOLDER has libp21_c.a, liblibc_c.a, libp21.so and p21.h, as tools/build-library puts them
-#                                 there; without one they are built
+#   tests/bindings.sh [PREFIX]     what tools/build-library has put below PREFIX is tried; without one it is built
 #
-# It wants a C compiler (CC). Where there is no valgrind, or no pytest for the Python of PYTHON, what wants it is left out, the
-# last line says so, and the status is 77.
+# It wants a C compiler (CC). Where something else isn't here (valgrind, g++, clang++, libabigail, pkg-config, CMake, mypy, or
+# pytest for the Python of PYTHON, with numpy and distributed), what wants it is left out, the last line says so, and the status is
+# 77. All of these are packages of Debian, whose Python is /usr/bin/python3.
 
 root=$(cd "$(dirname -- "$(readlink -f -- "$0")")/.." && pwd) || exit
 here=$(mktemp -d) || exit
 trap 'rm -rf "$here"' EXIT
-folder=$here/built
+prefix=$here/built
 if [ $# -gt 0 ]; then
-    folder=$(readlink -f -- "$1")
+    prefix=$(readlink -f -- "$1")
 else
-    "$root/tools/build-library" "$folder" || exit
+    "$root/tools/build-library" "$prefix" || exit
 fi
-python=${PYTHON:-python3}
+shared=$prefix/lib/libp21.so
+static=$prefix/lib/libp21.a
+# The Python is that of PYTHON, or else the first one that has pytest.
+for python in ${PYTHON:-python3 /usr/bin/python3}; do
+    "$python" -m pytest --version > /dev/null 2>&1 && break
+done
 parts=0
 wrong=0
 left_out=
@@ -51,8 +58,8 @@ same_lists() {
 
 # The functions that the header declares, and those that each library exports.
 sed -n 's/^[a-z0-9_]* \(p21_[a-z_]*\)(.*/\1/p' "$root/include/p21.h" | sort > "$here/declared"
-nm -g --defined-only "$folder/libp21_c.a" | sed -n 's/.* T //p' | sort > "$here/static"
-nm -D --defined-only "$folder/libp21.so" | sed -n 's/.* T //p' | sort > "$here/shared"
+nm -g --defined-only "$static" | sed -n 's/.* T \(p21_.*\)/\1/p' | sort > "$here/static"
+nm -D --defined-only "$shared" | sed -n 's/.* T \(p21_[a-z_]*\).*/\1/p' | sort > "$here/shared"
 part 'the names of the static library' same_lists "$here/declared" "$here/static"
 part 'the names of the shared library' same_lists "$here/declared" "$here/shared"
 
@@ -67,6 +74,20 @@ sed -n 's/^### S\([0-9]*\) \([A-Za-z0-9]*\)$/\2 \1/p' "$root/docs/FAULTS.md" | w
 sed -n '/refusals of schemas/,/^};/s/^    P21_SCHEMA_\([A-Z0-9_]*\) = \([0-9]*\),\{0,1\}$/\1 \2/p' "$root/include/p21.h" | sort > "$here/found"
 part 'the refusals of schemas' same_lists "$here/wanted" "$here/found"
 
+# The interface that is written down.
+if command -v abidiff > /dev/null && command -v gcc > /dev/null; then
+    part 'the interface is the one that is written down' "$root/tests/bindings/abi.sh" "$shared"
+else
+    leave_out 'the interface that is written down' 'libabigail or gcc is not here'
+fi
+
+# The version of the header: its parts, and what they are together.
+version=$(sed -n 's/.*VERSION: &str = "\([^ "]*\).*/\1/p' "$root/crates/p21_command_line/src/help.rt")
+sed -n 's/^#define P21_VERSION_[A-Z]* \([0-9]*\)$/\1/p' "$root/include/p21.h" | paste -sd . > "$here/found"
+sed -n 's/^#define P21_VERSION "\(.*\)"$/\1/p' "$root/include/p21.h" >> "$here/found"
+printf '%s\n%s\n' "$version" "$version" > "$here/wanted"
+part 'the version of the header' same_lists "$here/wanted" "$here/found"
+
 # compile PROGRAM FILE LIBRARY..: a C program.
 compile() {
     "${CC:-cc}" -std=c11 -O1 -g -Wall -Wextra -Werror "-I$root/include" -o "$@"
@@ -74,7 +95,7 @@ compile() {
 
 # statically PROGRAM FILE: a C program over the static library.
 statically() {
-    compile "$@" "$folder/libp21_c.a" "$folder/liblibc_c.a"
+    compile "$@" "$static"
 }
 
 # says TEXT COMMAND..: the command ends well, and a line of what it prints is this text.
@@ -87,11 +108,20 @@ says() {
     [ "$status" -eq 0 ] && grep -qxF -- "$text" "$here/said"
 }
 
+# fails TEXT COMMAND..: the command ends with status 1, and a line of what it prints is this text.
+fails() {
+    text=$1
+    shift
+    "$@" > "$here/said" 2>&1
+    status=$?
+    cat "$here/said"
+    [ "$status" -eq 1 ] && grep -qxF -- "$text" "$here/said"
+}
+
 # The program that calls each function, over the static and over the shared library.
-version=$(sed -n 's/.*VERSION: &str = "\(.*\)";/\1/p' "$root/crates/p21_command_line/src/help.rt")
 calls=$root/tests/bindings/calls.c
 part 'the C program is compiled over the static library' statically "$here/static_calls" "$calls"
-part 'the C program is compiled over the shared library' compile "$here/shared_calls" "$calls" "$folder/libp21.so" "-Wl,-rpath,$folder"
+part 'the C program is compiled over the shared library' compile "$here/shared_calls" "$calls" "$shared" "-Wl,-rpath,$prefix/lib"
 part 'the C program over the static library' says "version $version" "$here/static_calls" "$root/examples"
 part 'the C program over the shared library' says "version $version" "$here/shared_calls" "$root/examples"
 if command -v valgrind > /dev/null; then
@@ -101,15 +131,28 @@ else
     leave_out 'the C program under valgrind' 'valgrind is not here'
 fi
 
+# Threads.
+threads=$root/tests/bindings/threads.c
+part 'the program of threads is compiled over the static library' statically "$here/static_threads" "$threads" -pthread
+part 'the program of threads is compiled over the shared library' compile "$here/shared_threads" "$threads" "$shared" "-Wl,-rpath,$prefix/lib" -pthread
+part 'threads over the static library' says 'each thread finds what it must' "$here/static_threads" "$root/examples"
+part 'threads of which the last lets go of the schema' says 'each thread finds what it must' "$here/static_threads" "$root/examples" early
+part 'threads over the shared library' says 'each thread finds what it must' "$here/shared_threads" "$root/examples"
+if command -v valgrind > /dev/null; then
+    part 'threads under helgrind' says 'each thread finds what it must' valgrind --tool=helgrind -q --error-exitcode=9 "$here/static_threads" "$root/examples"
+else
+    leave_out 'threads under helgrind' 'valgrind is not here'
+fi
+
 # The blocks of memory that the calls leave, counted in front of the C library, and where the structs have their fields.
 counting=$here/counting.so
 blocks=$root/tests/bindings/blocks.c
 layout=$root/tests/bindings/layout.c
 part 'what counts blocks is compiled' "${CC:-cc}" -std=c11 -O1 -Wall -Wextra -Werror -shared -fPIC -o "$counting" "$root/tests/bindings/counting.c"
 part 'the program that leaves no block is compiled over the static library' \
-    compile "$here/static_blocks" "$blocks" "$counting" "-Wl,-rpath,$here" "$folder/libp21_c.a" "$folder/liblibc_c.a"
+    compile "$here/static_blocks" "$blocks" "$counting" "-Wl,-rpath,$here" "$static"
 part 'the program that leaves no block is compiled over the shared library' \
-    compile "$here/shared_blocks" "$blocks" "$counting" "-Wl,-rpath,$here" "$folder/libp21.so" "-Wl,-rpath,$folder"
+    compile "$here/shared_blocks" "$blocks" "$counting" "-Wl,-rpath,$here" "$shared" "-Wl,-rpath,$prefix/lib"
 part 'no block is left by the static library' says 'no block is left' "$here/static_blocks" "$root/examples"
 part 'no block is left by the shared library' says 'no block is left' "$here/shared_blocks" "$root/examples"
 part 'the program over the structs is compiled' statically "$here/layout" "$layout"
@@ -129,19 +172,94 @@ fields_in_c p21_parts > "$here/declared"
 fields_in_source p21_c/src/versions.rt Version > "$here/found"
 part 'the fields of a version' same_lists "$here/declared" "$here/found"
 
-# page NUMBER: one of the programs in C of docs/LIBRARY.md.
+# C++: the program over each class of p21.hpp, by each compiler, and with its sanitizers.
+cpp() {
+    compiler=$1
+    shift
+    "$compiler" -std=c++17 -O1 -g -Wall -Wextra -Wpedantic -Wshadow -Werror "-I$prefix/include" -pthread -o "$@"
+}
+classes=$root/tests/bindings/classes.cpp
+for compiler in g++ clang++; do
+    if ! command -v "$compiler" > /dev/null; then
+        leave_out "C++ by $compiler" "$compiler is not here"
+        continue
+    fi
+    part "the C++ program is compiled by $compiler" cpp "$compiler" "$here/classes" "$classes" "$shared" "-Wl,-rpath,$prefix/lib"
+    part "the C++ program by $compiler" says 'all is as it must be' "$here/classes" "$root/examples"
+    for sanitizer in address,undefined thread; do
+        part "the C++ program is compiled by $compiler with $sanitizer" cpp "$compiler" "$here/sanitized" "$classes" "$static" "-fsanitize=$sanitizer" -fno-sanitize-recover=all
+        part "the C++ program by $compiler with $sanitizer" says 'all is as it must be' "$here/sanitized" "$root/examples"
+    done
+done
+
+# What says how to link.
+if command -v pkg-config > /dev/null; then
+    by_pkg_config() {
+        PKG_CONFIG_PATH=$prefix/lib/pkgconfig
+        export PKG_CONFIG_PATH
+        # shellcheck disable=SC2046
+        pkg-config --exact-version "$version" p21 && "${CC:-cc}" -o "$here/found" "$calls" $(pkg-config --cflags --libs p21) "-Wl,-rpath,$prefix/lib"
+    }
+    part 'a program by pkg-config is compiled' by_pkg_config
+    part 'a program by pkg-config' says "version $version" "$here/found" "$root/examples"
+else
+    leave_out 'pkg-config' 'pkg-config is not here'
+fi
+if command -v cmake > /dev/null; then
+    by_cmake() {
+        mkdir -p "$here/cmake" && cat > "$here/cmake/CMakeLists.txt" << CODE &&
+cmake_minimum_required(VERSION 3.16)
+project(own C CXX)
+find_package(p21 ${version%.*} REQUIRED)
+find_package(Threads REQUIRED)
+add_executable(calls "$calls")
+target_link_libraries(calls PRIVATE p21::p21)
+add_executable(static_calls "$calls")
+target_link_libraries(static_calls PRIVATE p21::p21_static)
+add_executable(classes "$classes")
+target_compile_features(classes PRIVATE cxx_std_17)
+target_link_libraries(classes PRIVATE p21::p21 Threads::Threads)
+CODE
+            cmake -S "$here/cmake" -B "$here/cmake/made" "-DCMAKE_PREFIX_PATH=$prefix" && cmake --build "$here/cmake/made"
+    }
+    # Another version than the one that is there isn't found.
+    other_by_cmake() {
+        sed "s/find_package(p21 ${version%.*}/find_package(p21 9.9/" "$here/cmake/CMakeLists.txt" > "$here/CMakeLists.txt" &&
+            mkdir -p "$here/other" && mv "$here/CMakeLists.txt" "$here/other" &&
+            ! cmake -S "$here/other" -B "$here/other/made" "-DCMAKE_PREFIX_PATH=$prefix"
+    }
+    part 'programs by CMake are compiled' by_cmake
+    part 'a program by CMake over the shared library' says "version $version" "$here/cmake/made/calls" "$root/examples"
+    part 'a program by CMake over the static library' says "version $version" "$here/cmake/made/static_calls" "$root/examples"
+    part 'a C++ program by CMake' says 'all is as it must be' "$here/cmake/made/classes" "$root/examples"
+    part 'another version by CMake' other_by_cmake
+else
+    leave_out 'CMake' 'cmake is not here'
+fi
+
+# page LANGUAGE NUMBER: one of the programs of docs/LIBRARY.md.
 page() {
-    awk -v number="$1" '/^```c$/ { found++; on = found == number; next } /^```$/ { on = 0 } on' "$root/docs/LIBRARY.md"
+    awk -v language="$1" -v number="$2" '$0 == "```" language { found++; on = found == number; next } /^```$/ { on = 0 } on' "$root/docs/LIBRARY.md"
 }
 receive() {
     "$here/receive" "$root/examples/product.exp" < "$root/examples/product.step"
 }
-page 1 > "$here/program.c"
-page 2 > "$here/receive.c"
+page c 1 > "$here/program.c"
+page c 2 > "$here/receive.c"
+page cpp 1 > "$here/program.cpp"
 part 'the first program of docs/LIBRARY.md is compiled' statically "$here/program" "$here/program.c"
-part 'the first program of docs/LIBRARY.md' says '#1=POINT(5.E-1,1.);' "$here/program"
+part 'the first program of docs/LIBRARY.md' says 'accepted, instances 128' "$here/program" "$root/examples/product.exp" "$root/examples/product.step"
+part 'the first program of docs/LIBRARY.md, refused' fails 'refused 45 Count in #3' "$here/program" "$root/examples/product.exp" "$root/examples/refused/Count.step"
 part 'the second program of docs/LIBRARY.md is compiled' statically "$here/receive" "$here/receive.c"
 part 'the second program of docs/LIBRARY.md' says '#1=DIMENSIONAL_EXPONENTS(1.,0.,0.);' receive
+
+if command -v g++ > /dev/null; then
+    part 'the C++ program of docs/LIBRARY.md is compiled' cpp g++ "$here/program" "$here/program.cpp" "$static"
+    part 'the C++ program of docs/LIBRARY.md' says 'accepted, instances 128' "$here/program" "$root/examples/product.exp" "$root/examples/product.step"
+    part 'the C++ program of docs/LIBRARY.md, refused' fails 'refused 45 Count in #3' "$here/program" "$root/examples/product.exp" "$root/examples/refused/Count.step"
+else
+    leave_out 'the C++ program of docs/LIBRARY.md' 'g++ is not here'
+fi
 
 # The lines of README in C, within a program that reads a schema and a file.
 {
@@ -175,11 +293,40 @@ CODE
 part 'the lines of README in C are compiled' statically "$here/lines" "$here/lines.c"
 part 'the lines of README in C' says 'accepted, instances 128' "$here/lines" "$root/examples/product.exp" "$root/examples/product.step"
 
-# The Python package. Its tests run the programs of both pages in Python.
+# The program of docs/LIBRARY.md in Rattle, in a copy of the crates, with no proof.
+if command -v rt > /dev/null; then
+    in_rattle() (
+        mkdir -p "$here/clone/.git" "$here/clone/crates" && cp "$root/HANDLES" "$root/crates.txt" "$here/clone" &&
+            (cd "$root" && tar -cf - --exclude=out --exclude=proofs --exclude=must-fail crates) | tar -xf - -C "$here/clone" &&
+            mkdir -p "$here/clone/crates/mine/src" && echo 'mine: p21_stream' >> "$here/clone/crates.txt" &&
+            page rust 1 > "$here/clone/crates/mine/src/main.rt" &&
+            cp "$root/examples/product.exp" "$root/examples/product.step" "$here/clone/crates/mine" && cd "$here/clone/crates/mine" &&
+            says 'accepted, instances 128' rt try -- product.exp product.step
+    )
+    part 'the program of docs/LIBRARY.md in Rattle' in_rattle
+else
+    leave_out 'the program of docs/LIBRARY.md in Rattle' 'rt is not in PATH'
+fi
+
+# The Python package, and a program of a user of it.
+if command -v mypy > /dev/null; then
+    checked() {
+        MYPYPATH=$root/python mypy --strict --no-error-summary "--cache-dir=$here/mypy" "$@"
+    }
+    page python 1 > "$here/program.py"
+    part 'mypy over the Python package' checked -p p21
+    part 'mypy over a program of the page and one of a user' checked "$here/program.py" "$root/tests/bindings/typed.py"
+else
+    leave_out 'mypy' 'mypy is not here'
+fi
+
+# The tests of the Python package run the programs of both pages in Python. What they lack is named.
 if "$python" -m pytest --version > /dev/null 2>&1; then
-    P21_LIBRARY=$folder/libp21.so PYTHONPATH=$root/python PYTHONDONTWRITEBYTECODE=1 \
-        part 'the Python package' "$python" -m pytest -q -p no:cacheprovider "$root/python/tests"
+    P21_LIBRARY=$shared PYTHONPATH=$root/python PYTHONDONTWRITEBYTECODE=1 \
+        part 'the Python package' "$python" -m pytest -q -rs -p no:cacheprovider "$root/python/tests"
     tail -n 1 "$here/log"
+    skipped=$(sed -n 's/^SKIPPED \[[0-9]*\] [^ ]* //p' "$here/log" | sort -u | paste -sd ,)
+    [ -z "$skipped" ] || leave_out 'tests of the Python package' "$skipped"
 else
     leave_out 'the Python package' "$python has no pytest"
 fi

@@ -70,8 +70,8 @@ expect 'a program alone' 0 'there is no README.md' "$tree/tools/install" "$here/
 files 'the files of a program alone' './bin/p21
 ./share/doc/p21/LICENSE'
 
-mkdir -p "$tree/man" "$tree/completions" "$tree/docs" "$tree/examples/refused"
-for part in README.md man/p21.1 man/p21-a.1 docs/CODE.md docs/FAULTS.md docs/RECIPES.md docs/SCHEMAS.md completions/p21.bash completions/_p21 \
+mkdir -p "$tree/man" "$tree/completions" "$tree/docs/dev" "$tree/examples/refused"
+for part in README.md man/p21.1 man/p21-a.1 docs/dev/CODE.md docs/FAULTS.md docs/RECIPES.md docs/SCHEMAS.md completions/p21.bash completions/_p21 \
     completions/p21.fish completions/p21-a.bash completions/_p21-a completions/p21-a.fish examples/one.step examples/refused/two.step \
     tools/shared.py tools/p21-a tools/p21-b; do
     echo "$part" > "$tree/$part"
@@ -160,22 +160,40 @@ expect 'the program that was built' 0 'built of p21 p21_a: check s f' "$tree/p21
 
 # A toolchain that proves the library's two crates; and a compiler and a linker that write what they are told.
 mkdir -p "$here/bin" "$here/toolchain/bin" "$here/c" "$tree/crates/p21_c/src" "$tree/include" "$tree/python/p21"
-touch "$tree/crates/p21_c/src/lib.rt" "$here/c/liblibc_c.a" "$tree/include/p21.h"
+touch "$tree/crates/p21_c/src/lib.rt" "$here/c/liblibc_c.a" "$tree/include/p21.hpp"
+echo '#define P21_VERSION "1.2.3"' > "$tree/include/p21.h"
+cp -R tools/library "$tree/tools"
 echo 'p21_c staticlib: p21_a' >> "$tree/crates.txt"
 expect 'no toolchain for the library' 127 'rt of the toolchain is not in PATH' "$tree/tools/build-library" "$here/prefix"
 printf '#!/bin/sh\nprintf "rt: %%s proved\\n" p21_a p21_c\n' > "$here/path/rt"
 printf '#!/bin/sh\n[ -z "$FAILS" ] && echo "$*" > out/libp21_c.a\n' > "$here/bin/rattle"
 printf '#!/bin/sh\necho "$*" > "$3"\n' > "$here/toolchain/bin/ld.lld"
-chmod +x "$here/path/rt" "$here/bin/rattle" "$here/toolchain/bin/ld.lld"
+printf '#!/bin/sh\nread -r create file\ncat > "$file"\n' > "$here/toolchain/bin/llvm-ar"
+chmod +x "$here/path/rt" "$here/bin/rattle" "$here/toolchain/bin/ld.lld" "$here/toolchain/bin/llvm-ar"
+ln -s "$(command -v sleep)" "$here/path/sleep"
 expect 'a library that fails' 126 'the library could not be built' env FAILS=1 "$tree/tools/build-library" "$here/prefix"
 expect 'a library' 0 "p21: p21_c is proved (2 of 2)
-$here/prefix/libp21.so" "$tree/tools/build-library" "$here/prefix"
-expect 'what it is compiled over' 0 '--extern p21_a=../p21_a/out/rlib/p21_a.rlib' cat "$here/prefix/libp21_c.a"
-expect 'what it is linked of' 0 "$tree/crates/p21_c/out/libp21_c.a" cat "$here/prefix/libp21.so"
-files 'the files of the library' './liblibc_c.a
-./libp21.so
-./libp21_c.a
-./p21.h'
+p21: making the library of what is proved, some 10 minutes
+p21: the library is made
+$here/prefix/include/p21.h" "$tree/tools/build-library" "$here/prefix"
+expect 'what it is compiled over' 0 '--extern p21_a=../p21_a/out/rlib/p21_a.rlib' cat "$tree/crates/p21_c/out/libp21_c.a"
+expect 'what the shared one is linked of' 0 "$tree/crates/p21_c/out/libp21_c.a" cat "$here/prefix/lib/libp21.so"
+expect 'the name in the shared one' 0 '-soname libp21.so.0' cat "$here/prefix/lib/libp21.so.0"
+expect 'what the static one is joined of' 0 "ADDLIB $tree/crates/p21_c/out/libp21_c.a
+ADDLIB $here/c/liblibc_c.a" cat "$here/prefix/lib/libp21.a"
+expect 'the version for pkg-config' 0 'Version: 1.2.3' cat "$here/prefix/lib/pkgconfig/p21.pc"
+expect 'the file for CMake' 0 'lib/libp21.so.1.2.3' cat "$here/prefix/lib/cmake/p21/p21Config.cmake"
+expect 'the version for CMake' 0 'PACKAGE_VERSION "1.2.3"' cat "$here/prefix/lib/cmake/p21/p21ConfigVersion.cmake"
+expect 'a library once more' 0 "$here/prefix/lib/libp21.a" env FAILS=1 "$tree/tools/build-library" "$here/prefix"
+files 'the files of the library' './include/p21.h
+./include/p21.hpp
+./lib/cmake/p21/p21Config.cmake
+./lib/cmake/p21/p21ConfigVersion.cmake
+./lib/libp21.a
+./lib/libp21.so
+./lib/libp21.so.0
+./lib/libp21.so.1.2.3
+./lib/pkgconfig/p21.pc'
 expect 'the library that was built' 0 "$tree/python/p21/libp21.so" env FAILS=1 "$tree/tools/build-library"
 touch "$tree/crates/p21_c/src/lib.rt"
 expect 'newer sources of the library' 126 'the library could not be built' env FAILS=1 "$tree/tools/build-library"

@@ -1,3 +1,4 @@
+# shellcheck shell=sh disable=SC2154
 # Builds what stands above all other crates, the program or the library for C, as the gate proves it. ./p21 and
 # tools/build-library read this file; `root` is the folder of the repository.
 
@@ -54,6 +55,17 @@ stands() {
     [ -e "$root/crates/$1/out/begun" ] && [ -z "$(newer_sources "$root/crates/$1/out/begun")" ]
 }
 
+# Says every half a minute how long something has been made of what is proved, until it is: tell_time WHAT PROCESS
+tell_time() {
+    seconds=0
+    echo "p21: making $1 of what is proved, some 10 minutes" >&2
+    while kill -0 "$2" 2> /dev/null; do
+        sleep 1
+        seconds=$((seconds + 1))
+        [ $((seconds % 30)) -ne 0 ] || echo "p21: making $1, $((seconds / 60)) min $((seconds % 60)) s" >&2
+    done
+}
+
 # Proves and builds a crate: build CRATE WHAT FILE [MAKE]
 #
 # The gate runs over a copy of the crates that it needs, without wrong bodies, as many side by side as the machine has
@@ -89,12 +101,15 @@ build() {
                 ;;
         esac
     done
-    (cd "$copy/crates/$crate" && "$make") >> "$log" 2>&1
+    (cd "$copy/crates/$crate" && "$make") >> "$log" 2>&1 &
+    [ "$make" = true ] || tell_time "$what" $!
+    wait $!
     if [ ! -f "$copy/crates/$crate/out/$file" ]; then
         rm -rf "$copy"
         tail -n 20 "$log" >&2
         return 1
     fi
+    [ "$make" = true ] || echo "p21: $what is made" >&2
     set --
     for made in "$crate" "$crate.o" "lib$crate.a"; do
         [ ! -f "$copy/crates/$crate/out/$made" ] || set -- "$@" "$made"

@@ -1,26 +1,30 @@
 """What differs in two files."""
 
 import decimal
-import pathlib
-import sys
-from types import ModuleType
-from typing import Any, Dict, Iterator, List, Optional, Tuple, Union
+from typing import Any, Dict, Iterator, List, Optional, Union
 
-from p21._files import Source, canonical, same
+from p21._files import same, texts
+from p21._html import table
 from p21._schema import Schema
+from p21._source import Source
+from p21._tools import modules
 
 
-def _tools() -> Tuple[ModuleType, ModuleType, ModuleType]:
-    """The modules of the tools, which a wheel installs beside the package, and which a clone has in its folder `tools`."""
-    tools = pathlib.Path(__file__).resolve().parents[2] / "tools"
-    sys.path.insert(0, str(tools))
-    try:
-        import p21_differences
-        import p21_schemas
-        import p21_sets
-    finally:
-        sys.path.remove(str(tools))
-    return p21_differences, p21_schemas, p21_sets
+class Differences(List[Dict[str, Any]]):
+    """What differs in two files: the objects that ``p21-diff --format json`` prints, the verdict last."""
+
+    @property
+    def verdict(self) -> Dict[str, Any]:
+        """The last object: whether the files are the same, and how much differs."""
+        return self[-1]
+
+    def __repr__(self) -> str:
+        return f"<p21.Differences: {self.verdict['verdict']}, {len(self) - 1} listed>"
+
+    def _repr_html_(self) -> str:
+        head = ("kind", "instance", "entity", "attribute", "before", "after")
+        rows = [(it["kind"], it.get("a") or it.get("b"), it.get("entity"), it.get("attribute"), it.get("before"), it.get("after")) for it in self[:-1]]
+        return table(head, [*rows, (self.verdict["verdict"],)])
 
 
 def diff(
@@ -31,29 +35,36 @@ def diff(
     names: bool = False,
     data: bool = False,
     tolerance: Optional[Union[str, float, decimal.Decimal]] = None,
-) -> List[Dict[str, Any]]:
-    """What differs in two files: the objects that ``p21-diff --format json`` prints, the verdict last.
+) -> Differences:
+    """What differs in two files: a list of the objects that ``p21-diff --format json`` prints, the verdict last. It is unproved
+    Python over canonical files.
 
     Args:
         names: compare up to the names of instances.
         data: compare the data without the header.
         tolerance: leave out reals that are within it, absolute or relative.
 
-    Raises: as ``check``; ``ValueError`` where the tolerance isn't a number of 0 or more.
+    Raises: as ``same``; ``ValueError`` where the tolerance isn't a number of 0 or more.
+
+    >>> found = p21.diff(schema, point, moved)
+    >>> found
+    <p21.Differences: different, 1 listed>
+    >>> found[0]["entity"], found[0]["attribute"], found[0]["before"], found[0]["after"]
+    ('POINT', 'Y', '1.', '3.')
     """
     near = None if tolerance is None else decimal.Decimal(str(tolerance))
     if near is not None and (not near.is_finite() or near < 0):
         raise ValueError("p21: a tolerance is a number of 0 or more")
-    differences, schemas, sets_module = _tools()
-    outline = schemas.Outline(schema._text)
+    differences, schemas, sets_module = modules()
+    outline = schemas.Outline(schema.text)
     sets = sets_module.Sets(outline)
-    texts = canonical(schema, first), canonical(schema, second)
+    both = texts(schema, first, second)
 
     def is_second(pieces: Iterator[bytes]) -> bool:
-        return same(schema, b"".join(pieces), texts[1])
+        return same(schema, b"".join(pieces), both[1])
 
     rules = differences.Rules(sets.attributes(), sets if names else None, near, True)
-    files = differences.Files(rules, texts, data, is_second)
-    found: List[Dict[str, Any]] = [difference.object() for difference in files.counted()]
+    files = differences.Files(rules, both, data, is_second)
+    found = Differences(difference.object() for difference in files.counted())
     found.append(files.object(files.verdict()))
     return found

@@ -1,89 +1,36 @@
-"""Refusals, with the names that the program prints."""
+"""Refusals: their numbers, and the exceptions that say why and where."""
 
-from typing import Optional
+from typing import Optional, Union
 
-FILES = {
-    1: "BadByte",
-    2: "OpenString",
-    3: "OpenComment",
-    4: "BadDirective",
-    5: "BadCodePoint",
-    6: "NotUtf8",
-    7: "BadNumber",
-    8: "NumberRange",
-    9: "BadBinary",
-    10: "NameRange",
-    11: "BadName",
-    20: "Unexpected",
-    21: "TooDeep",
-    22: "RecordTooLong",
-    23: "FileTooLong",
-    24: "EndsEarly",
-    25: "AfterEnd",
-    26: "LeftOut",
-    27: "CanonicalTooLong",
-    30: "HeaderShape",
-    31: "SchemaName",
-    32: "SectionShape",
-    33: "SectionTwice",
-    40: "DuplicateName",
-    41: "UnknownEntity",
-    42: "Abstract",
-    43: "PartMissing",
-    44: "PartTwice",
-    45: "Count",
-    46: "Missing",
-    47: "StarNotDerived",
-    48: "DerivedNotStar",
-    49: "WrongKind",
-    50: "Width",
-    51: "Bounds",
-    52: "NotDistinct",
-    53: "UnknownItem",
-    54: "SelectType",
-    55: "TwoRedeclarations",
-    56: "Dangling",
-    57: "WrongTarget",
-    58: "OneOf",
-    90: "NoMemory",
-}
-
-# What is left out, where the number is that of LeftOut.
-ABSENT = {
-    1: "UserKeyword",
-    2: "Scope",
-    3: "ConstantName",
-    4: "ValueName",
-    5: "Anchor",
-    6: "Reference",
-    7: "Signature",
-    8: "SecondSection",
-    9: "NoDataSection",
-}
-
-SCHEMAS = {
-    1: "Token",
-    2: "Syntax",
-    3: "Duplicate",
-    4: "UnknownName",
-    5: "Circular",
-    6: "LeftOut",
-    7: "Bounds",
-    8: "RedeclaredPlace",
-    9: "TooLarge",
-}
+from p21._html import table
+from p21._numbers import ABSENT, RefusalNumber, SchemaRefusalNumber
+from p21._texts import FILES, SCHEMAS, Words
 
 
 class Refused(Exception):
     """A file is refused.
 
     Attributes:
-        number: the number of the refusal, which docs/FAULTS.md explains.
+        number: the number of the refusal, a ``RefusalNumber``.
         name: its name, as ``NotDistinct`` or ``LeftOut(Scope)``.
         statement: the number of the statement where it is refused, counted from 1, if a statement is named.
         instance: the name of the instance in which it is refused, if an instance is named.
-        which: for ``same``, whether the ``first`` or the ``second`` file is refused.
+        which: for ``same`` and ``diff``, whether the ``first`` or the ``second`` file is refused.
+        sentence: what that means, in a sentence.
+        advice: what it mostly comes from and what to do about it, as docs/FAULTS.md says.
+
+    >>> try:
+    ...     p21.check(schema, point.replace(b"0.50,", b""))
+    ... except p21.Refused as refusal:
+    ...     print(refusal)
+    ...     print(refusal.sentence)
+    ...     print(refusal.number == p21.RefusalNumber.COUNT, refusal.instance)
+    refused 45 Count in #1
+    The record has another number of values than the entity.
+    True 1
     """
+
+    number: Union[RefusalNumber, SchemaRefusalNumber]
 
     def __init__(
         self,
@@ -94,11 +41,31 @@ class Refused(Exception):
         which: Optional[str] = None,
     ) -> None:
         super().__init__(number, name, statement, instance, which)
-        self.number = number
+        self.number = self._numbered(number)
         self.name = name
         self.statement = statement
         self.instance = instance
         self.which = which
+
+    @staticmethod
+    def _numbered(number: int) -> Union[RefusalNumber, SchemaRefusalNumber]:
+        return RefusalNumber(number)
+
+    def _words(self) -> Words:
+        return FILES[int(self.number)]
+
+    @property
+    def sentence(self) -> str:
+        """What the refusal means, in a sentence."""
+        return self._words().sentence
+
+    @property
+    def advice(self) -> str:
+        """What it mostly comes from and what to do about it."""
+        return self._words().advice
+
+    def _shown(self) -> str:
+        return str(int(self.number))
 
     def __str__(self) -> str:
         front = f"{self.which}: " if self.which else ""
@@ -107,15 +74,58 @@ class Refused(Exception):
             place = f" in #{self.instance}"
         elif self.statement is not None:
             place = f" at statement {self.statement}"
-        return f"{front}refused {self.number} {self.name}{place}"
+        return f"{front}refused {self._shown()} {self.name}{place}"
+
+    def __repr__(self) -> str:
+        return f"<p21.{type(self).__name__}: {self}: {self.sentence}>"
+
+    def _repr_html_(self) -> str:
+        rows = [("refused", f"{self._shown()} {self.name}"), ("what it means", self.sentence), ("what to do", self.advice)]
+        if self.instance is not None:
+            rows.insert(1, ("instance", f"#{self.instance}"))
+        if self.statement is not None:
+            rows.insert(1, ("statement", str(self.statement)))
+        if self.which is not None:
+            rows.insert(1, ("file", self.which))
+        return table(None, rows)
 
 
 class SchemaRefused(Refused):
-    """A text declares no schema that is read. The number is that of S1 to S9."""
+    """A text declares no schema that is read. The number is a ``SchemaRefusalNumber``: one of S1 to S9.
+
+    >>> try:
+    ...     p21.Schema("SCHEMA s; END_SCHEMA")
+    ... except p21.SchemaRefused as refusal:
+    ...     print(refusal, "-", refusal.sentence)
+    schema refused S2 Syntax - No declaration goes on so.
+    """
 
     def __init__(self, number: int, name: str) -> None:
         super().__init__(number, name)
         self.args = (number, name)
 
+    @staticmethod
+    def _numbered(number: int) -> Union[RefusalNumber, SchemaRefusalNumber]:
+        return SchemaRefusalNumber(number)
+
+    def _words(self) -> Words:
+        return SCHEMAS[int(self.number)]
+
+    def _shown(self) -> str:
+        return f"S{int(self.number)}"
+
     def __str__(self) -> str:
-        return f"schema refused S{self.number} {self.name}"
+        return f"schema refused {self._shown()} {self.name}"
+
+
+def file_refusal(number: int, absent: int, statement: Optional[int], instance: Optional[int], which: Optional[str]) -> Refused:
+    """The refusal of a file."""
+    name = FILES[number].name
+    if number == RefusalNumber.LEFT_OUT:
+        name = f"{name}({ABSENT[absent]})"
+    return Refused(number, name, statement, instance, which)
+
+
+def schema_refusal(number: int) -> SchemaRefused:
+    """The refusal of a schema."""
+    return SchemaRefused(number, SCHEMAS[number].name)

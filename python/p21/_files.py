@@ -1,46 +1,42 @@
 """Files, read whole."""
 
 import ctypes
-import os
-import pathlib
-from typing import NamedTuple, Union
+import hashlib
+from typing import NamedTuple, Tuple, cast
 
-from p21._library import LIBRARY, Buffer, Handle, ReportStruct, judge, passed, taken
+from p21._buffers import Passed
+from p21._faults import Refused
+from p21._html import table
+from p21._library import LIBRARY, Handle, ReportStruct, judge, taken
 from p21._schema import Schema
-
-Source = Union[str, "os.PathLike[str]", Buffer]
-"""A file: its path, or its bytes."""
-
-
-class Report(NamedTuple):
-    """What is told of an accepted file."""
-
-    instances: int
-    """How many instances it has."""
-    canonical_bytes: int
-    """How many bytes its canonical file has."""
+from p21._session import Report, accept, refused_as
+from p21._source import Buffer, Source, is_buffer, is_path
 
 
-def read(source: Source) -> Buffer:
-    """The bytes of a file."""
-    if isinstance(source, (bytes, bytearray, memoryview)):
-        return source
-    return pathlib.Path(source).read_bytes()
+def _is_in_memory(source: Source) -> bool:
+    return not is_path(source) and is_buffer(source)
 
 
 def check(schema: Schema, source: Source) -> Report:
-    """Whether a file is accepted under a schema.
+    """Whether a file is accepted under a schema, with its counts.
+
+    A path and an open file are read piece by piece; an object with a buffer is read where it lies.
 
     Raises:
         Refused: it isn't.
         MemoryError: there is no memory.
         OSError: the path can't be read.
-        ValueError: the schema is closed.
+        ValueError: the schema is closed, or the path is the text of a file.
+
+    >>> p21.check(schema, point)
+    Report(instances=1, canonical_bytes=169)
     """
-    at, length, _keep = passed(read(source))
+    if not _is_in_memory(source):
+        with accept(schema, source) as accepted:
+            return accepted.report
     report = ReportStruct()
-    with schema._lock:
-        judge(LIBRARY.p21_check(schema._open(), at, length, report), report)
+    with schema._shared() as handle, Passed(cast(Buffer, source)) as (at, length):
+        judge(LIBRARY.p21_check(handle, at, length, report), report)
     return Report(report.instances, report.bytes)
 
 
@@ -48,25 +44,77 @@ def canonical(schema: Schema, source: Source) -> bytes:
     """The canonical file of a file: one text for each meaning.
 
     Raises: as ``check``.
+
+    >>> print(p21.canonical(schema, point).decode().splitlines()[7])
+    #1=POINT(5.E-1,1.);
     """
-    at, length, _keep = passed(read(source))
+    if not _is_in_memory(source):
+        with accept(schema, source) as accepted:
+            return accepted.canonical()
     text = Handle()
     report = ReportStruct()
-    with schema._lock:
-        judge(LIBRARY.p21_canonical(schema._open(), at, length, text, report), report)
+    with schema._shared() as handle, Passed(cast(Buffer, source)) as (at, length):
+        judge(LIBRARY.p21_canonical(handle, at, length, text, report), report)
     return taken(text)
+
+
+def texts(schema: Schema, first: Source, second: Source) -> Tuple[bytes, bytes]:
+    """The canonical files of two files. The second is looked at where the first is accepted."""
+    found = []
+    for which, source in (("first", first), ("second", second)):
+        try:
+            found.append(canonical(schema, source))
+        except Refused as refusal:
+            raise refused_as(which, refusal) from None
+    return found[0], found[1]
 
 
 def same(schema: Schema, first: Source, second: Source) -> bool:
     """Whether two files mean the same under a schema.
 
     Raises: as ``check``; ``Refused.which`` says which file is refused. The second is looked at where the first is accepted.
+
+    >>> p21.same(schema, point, point.replace(b"0.50", b"5.E-1")), p21.same(schema, point, moved)
+    (True, False)
     """
-    first_at, first_length, _keep = passed(read(first))
-    second_at, second_length, _keep_too = passed(read(second))
+    if not (_is_in_memory(first) and _is_in_memory(second)):
+        one, other = texts(schema, first, second)
+        return one == other
     answer = ctypes.c_uint8()
     report = ReportStruct()
-    with schema._lock:
-        status = LIBRARY.p21_same(schema._open(), first_at, first_length, second_at, second_length, answer, report)
-        judge(status, report, of_two=True)
+    with schema._shared() as handle, Passed(cast(Buffer, first)) as one_text, Passed(cast(Buffer, second)) as other_text:
+        judge(LIBRARY.p21_same(handle, *one_text, *other_text, answer, report), report, of_two=True)
     return answer.value == 1
+
+
+class Hash(NamedTuple):
+    """The hash of a file's meaning, as ``p21-table`` prints it."""
+
+    sha256: str
+    """The SHA-256 of the canonical file, or of its data, in hexadecimal digits."""
+    instances: int
+    """How many instances the file has."""
+
+    def _repr_html_(self) -> str:
+        return table(None, [("SHA-256", self.sha256), ("instances", self.instances)])
+
+
+# The end of the header section in a canonical file.
+_HEADER_END = b"\nENDSEC;\n"
+
+
+def hash(schema: Schema, source: Source, data: bool = False) -> Hash:
+    """The hash of what a file means: that of its canonical file, so that equal hashes are those of equal meanings.
+
+    Args:
+        data: hash the data without the header, in which two exports of one model mostly differ.
+
+    Raises: as ``check``.
+
+    >>> p21.hash(schema, point).sha256[:16], p21.hash(schema, point, data=True).sha256[:16]
+    ('790561ecd9ac6c14', '087be9e3cdad9279')
+    """
+    with accept(schema, source) as accepted:
+        text, report = accepted.canonical(), accepted.report
+    start = text.index(_HEADER_END) + len(_HEADER_END) if data else 0
+    return Hash(hashlib.sha256(memoryview(text)[start:]).hexdigest(), report.instances)

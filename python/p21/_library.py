@@ -3,16 +3,13 @@
 import ctypes
 import os
 import pathlib
-from typing import Any, Tuple, Union
+from typing import Any
 
-from p21._faults import ABSENT, FILES, SCHEMAS, Refused, SchemaRefused
+from p21._faults import file_refusal, schema_refusal
 
 DONE, REFUSED, MISUSED, FAILED = 0, 1, 2, 3
 SCHEMA, FILE, SECOND = 1, 2, 3
 STATEMENT, INSTANCE = 1, 2
-LEFT_OUT = 26
-
-Buffer = Union[bytes, bytearray, memoryview]
 
 
 class Handle(ctypes.Structure):
@@ -49,6 +46,7 @@ def _path() -> str:
 def _declared() -> Any:
     path = _path()
     try:
+        # The interpreter's lock is let go for the time of each call.
         library = ctypes.CDLL(path)
     except OSError as error:
         raise ImportError(
@@ -59,6 +57,7 @@ def _declared() -> Any:
     text = [ctypes.c_void_p, ctypes.c_size_t]
     calls = {
         "p21_schema_new": (text + [handle, report], ctypes.c_uint8),
+        "p21_schema_share": ([handle, handle], ctypes.c_uint8),
         "p21_schema_free": ([handle], None),
         "p21_check": ([handle] + text + [report], ctypes.c_uint8),
         "p21_canonical": ([handle] + text + [handle, report], ctypes.c_uint8),
@@ -84,21 +83,14 @@ LIBRARY = _declared()
 
 
 def version() -> str:
-    """The version of the library, as ``0.1.0``."""
+    """The version of the library.
+
+    >>> p21.version()
+    '0.1.0'
+    """
     parts = VersionStruct()
     LIBRARY.p21_version(parts)
     return f"{parts.major}.{parts.minor}.{parts.patch}"
-
-
-def passed(text: Buffer) -> Tuple[Any, int, Any]:
-    """Where a text lies and how long it is, and what has to live as long as the call. Bytes aren't copied."""
-    if isinstance(text, bytes):
-        return ctypes.cast(ctypes.c_char_p(text), ctypes.c_void_p), len(text), text
-    view = memoryview(text).cast("B")
-    if view.readonly or not view.nbytes:
-        return passed(bytes(view))
-    array = (ctypes.c_uint8 * view.nbytes).from_buffer(view)
-    return ctypes.cast(array, ctypes.c_void_p), view.nbytes, array
 
 
 def judge(status: int, report: ReportStruct, of_two: bool = False) -> None:
@@ -110,13 +102,10 @@ def judge(status: int, report: ReportStruct, of_two: bool = False) -> None:
     if status == MISUSED:
         raise ValueError("p21: a handle doesn't hold what the call wants")
     if report.subject == SCHEMA:
-        raise SchemaRefused(report.number, SCHEMAS[report.number])
-    name = FILES[report.number]
-    if report.number == LEFT_OUT:
-        name = f"{name}({ABSENT[report.absent]})"
-    raise Refused(
+        raise schema_refusal(report.number)
+    raise file_refusal(
         report.number,
-        name,
+        report.absent,
         statement=report.at if report.place == STATEMENT else None,
         instance=report.at if report.place == INSTANCE else None,
         which=("second" if report.subject == SECOND else "first") if of_two else None,

@@ -1,33 +1,67 @@
 """Schemas."""
 
+import contextlib
+import functools
+import os
+import pathlib
+import re
 import threading
 from types import TracebackType
-from typing import Optional, Type, Union
+from typing import Any, Iterator, Optional, Tuple, Type, Union
 
-from p21._library import LIBRARY, Buffer, Handle, ReportStruct, judge, passed
+from p21._buffers import Passed, bytes_of
+from p21._library import FAILED, LIBRARY, Handle, ReportStruct, judge
+from p21._source import Buffer, Path
+
+# So many schemas that came from other processes are kept, so that each is read once.
+KEPT = 8
 
 
 class Schema:
     """The schema that an EXPRESS text declares.
 
     Args:
-        text: the text, as a ``str`` or as bytes.
+        text: the text, as a ``str`` or as bytes. ``Schema.read`` reads a file.
 
     Raises:
         SchemaRefused: the text declares no schema that is read.
+        ValueError: the text is the path of a file.
         MemoryError: there is no memory.
 
-    It is let go by ``close``, at the end of a ``with``, or with the last name of it. Sessions over it go on.
+    Threads may share it and use it at once. It pickles by its text, so that processes get it, each of which reads it once. It
+    is let go by ``close``, at the end of a ``with``, or with the last name of it. Sessions over it go on.
+
+    >>> p21.Schema("SCHEMA s; ENTITY point; x, y : REAL; END_ENTITY; END_SCHEMA;")
+    <p21.Schema s, 60 bytes>
+    >>> p21.Schema("product.exp")
+    Traceback (most recent call last):
+    ValueError: p21: this is the path of a schema, and no text: p21.Schema.read('product.exp') reads the file
     """
 
     def __init__(self, text: Union[str, Buffer]) -> None:
         self._handle = Handle()
-        # The last name of a session may be lost in another thread.
         self._lock = threading.RLock()
-        self._text = text.encode() if isinstance(text, str) else bytes(text)
-        at, length, _keep = passed(self._text)
+        refuse_path(text)
+        self._text = text.encode() if isinstance(text, str) else bytes_of(text)
         report = ReportStruct()
-        judge(LIBRARY.p21_schema_new(at, length, self._handle, report), report)
+        with Passed(self._text) as (at, length):
+            judge(LIBRARY.p21_schema_new(at, length, self._handle, report), report)
+
+    @classmethod
+    def read(cls, path: Path) -> "Schema":
+        """The schema that the text in a file declares.
+
+        Raises: as ``Schema``; ``OSError`` where the file can't be read.
+
+        >>> p21.Schema.read("examples/product.exp")
+        <p21.Schema product_model, 6319 bytes>
+        """
+        return cls(pathlib.Path(path).read_bytes())
+
+    @property
+    def text(self) -> bytes:
+        """The text that it was read from."""
+        return self._text
 
     @property
     def closed(self) -> bool:
@@ -39,22 +73,68 @@ class Schema:
         with self._lock:
             LIBRARY.p21_schema_free(self._handle)
 
-    def _open(self) -> Handle:
-        if self.closed:
-            raise ValueError("p21: the schema is closed")
-        return self._handle
+    def _share(self, shared: Handle) -> None:
+        """Hands out another handle of it, which is the caller's own."""
+        with self._lock:
+            if self.closed:
+                raise ValueError("p21: the schema is closed")
+            if LIBRARY.p21_schema_share(self._handle, shared) == FAILED:
+                raise MemoryError("p21: out of memory")
+
+    @contextlib.contextmanager
+    def _shared(self) -> Iterator[Handle]:
+        """A handle of its own for a call, so that calls of several threads run at once."""
+        handle = Handle()
+        self._share(handle)
+        try:
+            yield handle
+        finally:
+            LIBRARY.p21_schema_free(handle)
 
     def __enter__(self) -> "Schema":
         return self
 
-    def __exit__(
-        self,
-        kind: Optional[Type[BaseException]],
-        error: Optional[BaseException],
-        trace: Optional[TracebackType],
-    ) -> None:
+    def __exit__(self, kind: Optional[Type[BaseException]], error: Optional[BaseException], trace: Optional[TracebackType]) -> None:
         self.close()
 
     def __del__(self) -> None:
         if hasattr(self, "_lock"):
             self.close()
+
+    def __reduce__(self) -> Tuple[Any, ...]:
+        return _of_pickle, (self._text,)
+
+    def __repr__(self) -> str:
+        return f"<p21.Schema {name_in(self._text)}, {'closed' if self.closed else f'{len(self._text)} bytes'}>"
+
+
+@functools.lru_cache(maxsize=KEPT)
+def _kept(text: bytes) -> Schema:
+    """A schema that came from another process, read once."""
+    return Schema(text)
+
+
+def _of_pickle(text: bytes) -> Schema:
+    """The schema of a pickle: another handle of the one that is kept of this text."""
+    schema = Schema.__new__(Schema)
+    schema._handle, schema._lock, schema._text = Handle(), threading.RLock(), text
+    _kept(text)._share(schema._handle)
+    return schema
+
+
+def name_in(text: bytes) -> str:
+    """The name that stands behind SCHEMA in a text that declares one."""
+    plain = re.sub(rb"\(\*.*?\*\)|--[^\n]*", b" ", text, flags=re.S)
+    found = re.search(rb"\bSCHEMA\s+(\w+)", plain, re.I)
+    return found[1].decode("ascii", "replace") if found else "?"
+
+
+def refuse_path(text: Union[str, Buffer, Path]) -> None:
+    """Catches a path that is given for a text: no text of a schema is without a semicolon, and each path that is one has an
+    ending, a folder in front or a file behind it."""
+    if isinstance(text, os.PathLike):
+        raise ValueError(f"p21: this is the path of a schema, and no text: p21.Schema.read({os.fspath(text)!r}) reads the file")
+    if isinstance(text, str) and text.strip() and len(text) < 4096 and not set(text) & set(";\n\0"):
+        looks = re.search(r"\.(exp|express|txt)\Z", text, re.I) or os.sep in text
+        if looks or os.path.exists(text):
+            raise ValueError(f"p21: this is the path of a schema, and no text: p21.Schema.read({text!r}) reads the file")

@@ -1,19 +1,41 @@
 """Files that come in pieces."""
 
+import threading
 from types import TracebackType
-from typing import Optional, Type
+from typing import Any, NamedTuple, NoReturn, Optional, Type
 
-from p21._files import Report
-from p21._library import FAILED, LIBRARY, REFUSED, Buffer, Handle, ReportStruct, judge, passed, taken
-from p21._schema import Schema
+from p21._buffers import Passed
+from p21._html import table
+from p21._library import FAILED, LIBRARY, REFUSED, Handle, ReportStruct, judge, taken
+from p21._schema import Schema, name_in
+from p21._source import Buffer, Source, pieces
+
+
+class Report(NamedTuple):
+    """What is told of an accepted file.
+
+    >>> instances, canonical_bytes = p21.check(schema, point)
+    >>> instances, canonical_bytes
+    (1, 169)
+    """
+
+    instances: int
+    """How many instances it has."""
+    canonical_bytes: int
+    """How many bytes its canonical file has."""
+
+    def _repr_html_(self) -> str:
+        return table(None, [("accepted, instances", self.instances), ("canonical bytes", self.canonical_bytes)])
 
 
 class _Held:
-    """A handle that is let go by ``close``, at the end of a ``with``, or with the last name of what has it."""
+    """A handle that is let go by ``close``, at the end of a ``with``, or with the last name of what has it. One call of it runs
+    at a time, in whatever thread."""
 
-    def __init__(self, schema: Schema, handle: Handle) -> None:
-        self._schema = schema
+    def __init__(self, handle: Handle, schema: str) -> None:
+        self._lock = threading.RLock()
         self._handle = handle
+        self._schema = schema
 
     @property
     def closed(self) -> bool:
@@ -22,7 +44,7 @@ class _Held:
 
     def close(self) -> None:
         """Lets go of it. A second time nothing happens."""
-        with self._schema._lock:
+        with self._lock:
             LIBRARY.p21_session_free(self._handle)
 
     def _open(self) -> Handle:
@@ -30,17 +52,15 @@ class _Held:
             raise ValueError("p21: the session is closed")
         return self._handle
 
-    def __exit__(
-        self,
-        kind: Optional[Type[BaseException]],
-        error: Optional[BaseException],
-        trace: Optional[TracebackType],
-    ) -> None:
+    def __exit__(self, kind: Optional[Type[BaseException]], error: Optional[BaseException], trace: Optional[TracebackType]) -> None:
         self.close()
 
     def __del__(self) -> None:
-        if hasattr(self, "_handle"):
+        if hasattr(self, "_lock"):
             self.close()
+
+    def __reduce__(self) -> NoReturn:
+        raise TypeError(f"p21: a {type(self).__name__} isn't pickled: send the file, and its canonical file back")
 
 
 class Accepted(_Held):
@@ -48,10 +68,14 @@ class Accepted(_Held):
 
     Attributes:
         report: its counts.
+
+    >>> with p21.accept(schema, point) as accepted:
+    ...     print(accepted.report.instances, accepted.line(1))
+    1 b'#1=POINT(5.E-1,1.);'
     """
 
-    def __init__(self, schema: Schema, handle: Handle, report: Report) -> None:
-        super().__init__(schema, handle)
+    def __init__(self, handle: Handle, schema: str, report: Report) -> None:
+        super().__init__(handle, schema)
         self.report = report
 
     def __enter__(self) -> "Accepted":
@@ -67,7 +91,7 @@ class Accepted(_Held):
         if not 0 <= name < 2**64:
             return None
         text = Handle()
-        with self._schema._lock:
+        with self._lock:
             status = LIBRARY.p21_accepted_line(self._open(), name, text)
         if status == REFUSED:
             return None
@@ -80,9 +104,16 @@ class Accepted(_Held):
         Raises: as ``line``.
         """
         text = Handle()
-        with self._schema._lock:
+        with self._lock:
             judge(LIBRARY.p21_accepted_write(self._open(), text), ReportStruct())
         return taken(text)
+
+    def __repr__(self) -> str:
+        counts = f"{self.report.instances} instances, {self.report.canonical_bytes} canonical bytes"
+        return f"<p21.Accepted under {self._schema}, {'closed' if self.closed else counts}>"
+
+    def _repr_html_(self) -> str:
+        return self.report._repr_html_()
 
 
 class Session(_Held):
@@ -94,31 +125,38 @@ class Session(_Held):
     Raises:
         MemoryError: there is no memory.
         ValueError: the schema is closed.
+
+    >>> with p21.Session(schema) as session:
+    ...     session.feed(point[:100])
+    ...     session.feed(point[100:])
+    ...     print(session.finish().report.canonical_bytes)
+    169
     """
 
     def __init__(self, schema: Schema) -> None:
         handle = Handle()
-        with schema._lock:
-            status = LIBRARY.p21_session_new(schema._open(), handle)
+        with schema._shared() as shared:
+            status = LIBRARY.p21_session_new(shared, handle)
         if status == FAILED:
             raise MemoryError("p21: out of memory")
-        super().__init__(schema, handle)
+        super().__init__(handle, name_in(schema.text))
+        self._fed = 0
 
     def __enter__(self) -> "Session":
         return self
 
     def feed(self, piece: Buffer) -> None:
-        """Takes the next piece.
+        """Takes the next piece: any object with a buffer. It isn't copied, and not kept.
 
         Raises:
             Refused: nothing that is accepted begins so. Each later call raises the same.
             MemoryError: there is no memory.
             ValueError: it is closed, or ended.
         """
-        at, length, _keep = passed(piece)
         report = ReportStruct()
-        with self._schema._lock:
+        with Passed(piece) as (at, length), self._lock:
             judge(LIBRARY.p21_session_feed(self._open(), at, length, report), report)
+            self._fed += length
 
     def finish(self) -> Accepted:
         """The end of the file. The session is closed by it.
@@ -129,8 +167,32 @@ class Session(_Held):
             ValueError: it is closed, or ended.
         """
         report = ReportStruct()
-        with self._schema._lock:
+        with self._lock:
             judge(LIBRARY.p21_session_finish(self._open(), report), report)
             handle = Handle(self._handle.inside)
             self._handle.inside = None
-        return Accepted(self._schema, handle, Report(report.instances, report.bytes))
+        return Accepted(handle, self._schema, Report(report.instances, report.bytes))
+
+    def __repr__(self) -> str:
+        return f"<p21.Session under {self._schema}, {'closed' if self.closed else f'{self._fed} bytes taken'}>"
+
+
+def accept(schema: Schema, source: Source) -> Accepted:
+    """Reads a file, and gives it as an accepted one, of which single statements can be asked for.
+
+    Raises: as ``check``.
+
+    >>> p21.accept(schema, point)
+    <p21.Accepted under s, 1 instances, 169 canonical bytes>
+    """
+    with Session(schema) as session:
+        for piece in pieces(source):
+            session.feed(piece)
+        return session.finish()
+
+
+def refused_as(which: str, refusal: Any) -> Any:
+    """The refusal of one of two files."""
+    refusal.which = which
+    refusal.args = (*refusal.args[:4], which)
+    return refusal

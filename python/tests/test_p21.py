@@ -14,6 +14,7 @@ import textwrap
 
 import p21
 import p21._faults as faults
+import p21._texts as words
 import pytest
 
 ROOT = pathlib.Path(__file__).resolve().parents[2]
@@ -383,9 +384,13 @@ def test_what_is_forgotten():
 def test_names():
     page = (ROOT / "docs" / "FAULTS.md").read_text()
     files = {int(number): name for number, name in re.findall(r"^### (\d+) (\w+)$", page, re.M)}
-    assert {number: files[number] for number in faults.FILES} == faults.FILES
-    assert set(files) - set(faults.FILES) == {12, 13, 91, 92}
-    assert {int(number): name for number, name in re.findall(r"^### S(\d) (\w+)$", page, re.M)} == faults.SCHEMAS
+    assert {number: files[number] for number in words.FILES} == {number: it.name for number, it in words.FILES.items()}
+    assert set(files) - set(words.FILES) == {12, 13, 91, 92}
+    schemas = {int(number): name for number, name in re.findall(r"^### S(\d) (\w+)$", page, re.M)}
+    assert schemas == {number: it.name for number, it in words.SCHEMAS.items()}
+    for numbers, names in ((p21.RefusalNumber, words.FILES), (p21.SchemaRefusalNumber, words.SCHEMAS)):
+        upper = {number: re.sub(r"(?<=[a-z0-9])(?=[A-Z])", "_", it.name).upper() for number, it in names.items()}
+        assert upper == {int(number): number.name for number in numbers}
     named = re.findall(r"`(\w+)`", " ".join(re.findall(r"^\| (`\w+`(?:, `\w+`)*) \|", page.split("### 26 LeftOut")[1].split("###")[0], re.M)))
     assert named == list(faults.ABSENT.values())
 
@@ -403,8 +408,8 @@ def output_of(program, folder):
 
 def test_library_page():
     page = (ROOT / "docs" / "LIBRARY.md").read_text()
-    program, printed = re.search(r"^```python\n(.*?)^```\n\nprints (.*?)\. ", page, re.M | re.S).groups()
-    assert output_of(program, ROOT) == re.findall(r"`([^`]+)`", printed)
+    program, printed = re.search(r"^```python\n(.*?)^```\n\nprints\n\n```\n(.*?)^```", page, re.M | re.S).groups()
+    assert output_of(program, ROOT) == printed.splitlines()
 
 
 def test_readme(tmp_path):

@@ -17,7 +17,8 @@ extern long counting_taken(void);
 extern long counting_refused(void);
 extern void counting_refuse(long);
 
-#define HANDLES 5
+#define HANDLES 6
+#define ORDERS 720
 #define LARGEST 65536
 
 /* A text that was read before anything is counted. */
@@ -68,6 +69,7 @@ static void note_live(void) {
 /* One handle of each sort, in each state in which it holds something. */
 typedef struct held {
     p21_schema schema;
+    p21_schema shared;
     p21_session under_way;
     p21_session accepted;
     p21_text file;
@@ -76,6 +78,7 @@ typedef struct held {
 
 static void fill(held *of, p21_report *report) {
     judge(p21_schema_new(product_schema.at, product_schema.length, &of->schema, report) == P21_DONE, "a schema is read");
+    judge(p21_schema_share(&of->schema, &of->shared) == P21_DONE, "a schema is shared");
     judge(p21_session_new(&of->schema, &of->under_way) == P21_DONE, "a session begins");
     judge(p21_session_feed(&of->under_way, product.at, product.length / 2, report) == P21_DONE, "half a file is taken");
     judge(p21_session_new(&of->schema, &of->accepted) == P21_DONE, "another session begins");
@@ -92,12 +95,15 @@ static void let_go(held *of, int handle) {
         p21_schema_free(&of->schema);
         break;
     case 1:
-        p21_session_free(&of->under_way);
+        p21_schema_free(&of->shared);
         break;
     case 2:
-        p21_session_free(&of->accepted);
+        p21_session_free(&of->under_way);
         break;
     case 3:
+        p21_session_free(&of->accepted);
+        break;
+    case 4:
         p21_text_free(&of->file);
         break;
     default:
@@ -107,7 +113,7 @@ static void let_go(held *of, int handle) {
 
 /* The order of this number of those in which all handles can be let go. */
 static void order_of(int number, int order[HANDLES]) {
-    int left[HANDLES] = {0, 1, 2, 3, 4};
+    int left[HANDLES] = {0, 1, 2, 3, 4, 5};
     for (int i = 0; i < HANDLES; i++) {
         int at = number % (HANDLES - i);
         number /= HANDLES - i;
@@ -117,17 +123,17 @@ static void order_of(int number, int order[HANDLES]) {
 }
 
 static void test_orders(void) {
-    for (int number = 0; number < 120; number++) {
+    for (int number = 0; number < ORDERS; number++) {
         long before = counting_live();
         int order[HANDLES];
         order_of(number, order);
-        held of = {P21_EMPTY, P21_EMPTY, P21_EMPTY, P21_EMPTY, P21_EMPTY};
+        held of = {P21_EMPTY, P21_EMPTY, P21_EMPTY, P21_EMPTY, P21_EMPTY, P21_EMPTY};
         p21_report report;
         fill(&of, &report);
         for (int i = 0; i < HANDLES; i++) {
             long held_still = counting_live();
             let_go(&of, order[i]);
-            /* What a schema has stays while a session over it lives. */
+            /* What a schema has stays while another handle of it, or a session over it, lives. */
             judge(counting_live() < held_still, "what is let go is freed");
             let_go(&of, order[i]);
         }
@@ -138,12 +144,12 @@ static void test_orders(void) {
 /* Each call that hands something out lets go of what the handle held: whatever that was. */
 static void test_replaced(void) {
     for (int kind = 0; kind < HANDLES; kind++) {
-        for (int call = 0; call < 5; call++) {
+        for (int call = 0; call < 6; call++) {
             long before = counting_live();
-            held of = {P21_EMPTY, P21_EMPTY, P21_EMPTY, P21_EMPTY, P21_EMPTY};
+            held of = {P21_EMPTY, P21_EMPTY, P21_EMPTY, P21_EMPTY, P21_EMPTY, P21_EMPTY};
             p21_report report;
             fill(&of, &report);
-            void *handles[HANDLES] = {&of.schema, &of.under_way, &of.accepted, &of.file, &of.line};
+            void *handles[HANDLES] = {&of.schema, &of.shared, &of.under_way, &of.accepted, &of.file, &of.line};
             p21_schema schema = P21_EMPTY;
             judge(p21_schema_new(product_schema.at, product_schema.length, &schema, &report) == P21_DONE, "a schema is read");
             p21_session accepted = P21_EMPTY;
@@ -163,6 +169,9 @@ static void test_replaced(void) {
                 break;
             case 3:
                 status = p21_accepted_write(&accepted, handles[kind]);
+                break;
+            case 4:
+                status = p21_schema_share(&schema, handles[kind]);
                 break;
             default:
                 status = p21_accepted_line(&accepted, 1, handles[kind]);
@@ -230,7 +239,7 @@ static bool is_done(held *of, p21_report *report) {
     size_t length = sizeof small_file - 1;
     uint8_t same;
     return p21_schema_new(text_at(small_schema), sizeof small_schema - 1, &of->schema, report) == P21_DONE &&
-           p21_check(&of->schema, file, length, report) == P21_DONE && p21_canonical(&of->schema, file, length, &of->file, report) == P21_DONE &&
+           p21_schema_share(&of->schema, &of->shared) == P21_DONE && p21_check(&of->shared, file, length, report) == P21_DONE && p21_canonical(&of->schema, file, length, &of->file, report) == P21_DONE &&
            p21_same(&of->schema, file, length, file, length, &same, report) == P21_DONE && p21_session_new(&of->schema, &of->under_way) == P21_DONE &&
            p21_session_feed(&of->under_way, file, length / 2, report) == P21_DONE && p21_session_new(&of->schema, &of->accepted) == P21_DONE &&
            p21_session_feed(&of->accepted, file, length, report) == P21_DONE && p21_session_finish(&of->accepted, report) == P21_DONE &&
@@ -238,7 +247,7 @@ static bool is_done(held *of, p21_report *report) {
 }
 
 static void test_want_of_memory(void) {
-    held whole = {P21_EMPTY, P21_EMPTY, P21_EMPTY, P21_EMPTY, P21_EMPTY};
+    held whole = {P21_EMPTY, P21_EMPTY, P21_EMPTY, P21_EMPTY, P21_EMPTY, P21_EMPTY};
     p21_report report;
     long begun = counting_taken();
     judge(is_done(&whole, &report), "each call over the small file");
@@ -249,7 +258,7 @@ static void test_want_of_memory(void) {
     judge(many > 100, "the calls take memory");
     for (long number = 1; number <= many; number++) {
         long before = counting_live();
-        held of = {P21_EMPTY, P21_EMPTY, P21_EMPTY, P21_EMPTY, P21_EMPTY};
+        held of = {P21_EMPTY, P21_EMPTY, P21_EMPTY, P21_EMPTY, P21_EMPTY, P21_EMPTY};
         counting_refuse(number);
         is_done(&of, &report);
         counting_refuse(0);
@@ -259,6 +268,29 @@ static void test_want_of_memory(void) {
         judge(counting_live() == before, "no block is left where memory was refused");
     }
     judge(counting_refused() == many, "each allocation was refused once");
+}
+
+/* A schema that isn't shared for want of memory: the answer says so, and both handles are as they were. */
+static void test_unshared(void) {
+    p21_schema schema = P21_EMPTY;
+    p21_schema shared = P21_EMPTY;
+    p21_report report;
+    judge(p21_schema_new(product_schema.at, product_schema.length, &schema, &report) == P21_DONE, "a schema is read");
+    long begun = counting_taken();
+    judge(p21_schema_share(&schema, &shared) == P21_DONE, "a schema is shared");
+    long many = counting_taken() - begun;
+    judge(many > 0, "sharing takes memory");
+    for (long number = 1; number <= many; number++) {
+        void *inside = shared.inside;
+        long before = counting_live();
+        counting_refuse(number);
+        judge(p21_schema_share(&schema, &shared) == P21_FAILED, "want of memory is answered");
+        counting_refuse(0);
+        judge(shared.inside == inside && counting_live() == before, "a handle that was to get something is as it was");
+        judge(p21_check(&schema, product.at, product.length, &report) == P21_DONE, "a schema that wasn't shared");
+    }
+    p21_schema_free(&schema);
+    p21_schema_free(&shared);
 }
 
 int main(int count, char **words) {
@@ -275,6 +307,7 @@ int main(int count, char **words) {
     test_orders();
     test_replaced();
     test_want_of_memory();
+    test_unshared();
     judge(most_live > 0, "blocks are counted");
     puts(wrong ? "something is wrong" : "no block is left");
     return wrong;

@@ -217,9 +217,43 @@ static void test_refused_session(p21_schema *schema, bytes refused) {
     p21_session_free(&session);
 }
 
+/* Another handle of a schema, which outlives the first one. */
+static void test_shared(bytes express, bytes product) {
+    p21_schema schema = P21_EMPTY;
+    p21_schema shared = P21_EMPTY;
+    p21_schema none = P21_EMPTY;
+    p21_report report;
+    judge(p21_schema_new(express.at, express.length, &schema, &report) == P21_DONE, "a schema is read");
+    judge(p21_schema_share(&schema, &shared) == P21_DONE && shared.inside != NULL && shared.inside != schema.inside, "a schema is shared");
+    judge(p21_check(&schema, product.at, product.length, &report) == P21_DONE && has_counts(&report, 128, 4872), "the first handle of a schema");
+    p21_schema_free(&schema);
+    judge(p21_check(&shared, product.at, product.length, &report) == P21_DONE && has_counts(&report, 128, 4872), "the handle that is left");
+    judge(p21_schema_share(&none, &shared) == P21_MISUSED && p21_check(&shared, product.at, product.length, &report) == P21_DONE,
+          "nothing is shared of an empty handle, and the other stays as it was");
+    p21_schema_free(&shared);
+    judge(schema.inside == NULL && shared.inside == NULL && p21_check(&shared, product.at, product.length, &report) == P21_MISUSED,
+          "both are let go");
+}
+
+/* The refusals in words. */
+static void test_words(void) {
+    judge(strcmp(p21_refusal_name(P21_NOT_DISTINCT), "NotDistinct") == 0 && strcmp(p21_schema_refusal_name(P21_SCHEMA_CIRCULAR), "Circular") == 0,
+          "the names of refusals");
+    judge(strcmp(p21_refusal_sentence(P21_COUNT), "The record has another number of values than the entity.") == 0 &&
+              strcmp(p21_schema_refusal_sentence(P21_SCHEMA_SYNTAX), "No declaration goes on so.") == 0,
+          "their sentences");
+    judge(p21_refusal_name(0) == NULL && p21_refusal_sentence(91) == NULL && p21_schema_refusal_name(10) == NULL &&
+              p21_schema_refusal_sentence(0) == NULL,
+          "numbers that no call answers");
+    for (unsigned number = 0; number < 256; number++) {
+        judge((p21_refusal_name((uint8_t)number) == NULL) == (p21_refusal_sentence((uint8_t)number) == NULL), "a name and no sentence");
+    }
+}
+
 /* Handles that hold nothing, or something else. */
 static void test_misuse(p21_schema *schema, bytes file) {
     p21_schema none = P21_EMPTY;
+    p21_schema none_other = P21_EMPTY;
     p21_session session = P21_EMPTY;
     p21_text text = P21_EMPTY;
     p21_report report;
@@ -229,6 +263,8 @@ static void test_misuse(p21_schema *schema, bytes file) {
     judge(p21_check(&none, file.at, file.length, &report) == P21_MISUSED && is_quiet(&report), "no schema to check by");
     judge(p21_canonical(&none, file.at, file.length, &text, &report) == P21_MISUSED && text.inside == NULL, "no schema to write by");
     judge(p21_same(&none, file.at, file.length, file.at, file.length, &same, &report) == P21_MISUSED && same == 7, "no schema to compare by");
+    judge(p21_schema_share(&none, &none_other) == P21_MISUSED && none_other.inside == NULL, "no schema to share");
+    judge(p21_schema_share((p21_schema *)&session, &none_other) == P21_MISUSED, "a session is no schema to share");
     judge(p21_session_new(&none, &session) == P21_MISUSED && session.inside == NULL, "no schema to begin by");
     judge(p21_session_feed(&session, file.at, file.length, &report) == P21_MISUSED, "no session to feed");
     judge(p21_session_finish(&session, &report) == P21_MISUSED, "no session to end");
@@ -260,7 +296,9 @@ int main(int count, char **words) {
     test_version();
     test_schemas();
     judge(p21_schema_new(express.at, express.length, &schema, &report) == P21_DONE && is_quiet(&report), "a schema is read");
+    test_shared(express, product);
     free(express.at);
+    test_words();
     test_refusals(words[1], &schema);
     test_files(&schema, product, other, changed, refused);
     test_session(&schema, product, 1);

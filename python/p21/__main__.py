@@ -1,0 +1,23 @@
+"""The program and its tools: ``python3 -m p21 check S FILE``, ``python3 -m p21 where S FILE``."""
+
+import os
+import sys
+from typing import NoReturn
+
+from p21 import _tools
+
+
+def main() -> NoReturn:
+    """Runs the program in place of this process, or the tool of which the first word is the name."""
+    words = sys.argv[1:]
+    try:
+        known = _tools.program()
+        command = [*_tools.tool(words[0]), *words[1:]] if words and words[0] in _tools.TOOLS else [known, *words]
+    except FileNotFoundError as error:
+        sys.exit(str(error))
+    os.environ["P21"] = known
+    os.execv(command[0], command)
+
+
+if __name__ == "__main__":
+    main()

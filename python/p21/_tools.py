@@ -1,0 +1,95 @@
+"""The program and the tools beside it, which a wheel installs with the package, and which a clone has."""
+
+import contextlib
+import importlib
+import os
+import pathlib
+import shutil
+import subprocess
+import sys
+import sysconfig
+import tempfile
+from types import ModuleType
+from typing import Iterator, List, Optional, Sequence, Tuple, cast
+
+from p21._schema import Schema
+from p21._source import Path, Source, is_path, pieces
+
+_CLONE = pathlib.Path(__file__).resolve().parents[2]
+_TOOLS = _CLONE / "tools"
+TOOLS = ("where", "diff", "renumber", "table", "adapt")
+
+
+def _is_clone() -> bool:
+    return (_CLONE / "crates.txt").is_file()
+
+
+def modules() -> Tuple[ModuleType, ModuleType, ModuleType]:
+    """The modules of the tools that tell what differs in two files."""
+    sys.path.insert(0, str(_TOOLS))
+    try:
+        names = ("p21_differences", "p21_schemas", "p21_sets")
+        differences, schemas, sets = map(importlib.import_module, names)
+    finally:
+        sys.path.remove(str(_TOOLS))
+    return differences, schemas, sets
+
+
+def _folders() -> Iterator[pathlib.Path]:
+    """Where a wheel may have put its programs."""
+    yield pathlib.Path(sysconfig.get_path("scripts"))
+    yield pathlib.Path(sys.executable).parent
+    user = sysconfig.get_path("scripts", f"{os.name}_user")
+    yield pathlib.Path(user)
+    # Below the folder of pip install --target.
+    yield pathlib.Path(__file__).resolve().parents[1] / "bin"
+
+
+def _found(name: str, in_clone: pathlib.Path) -> Optional[str]:
+    """A program of this name: in a clone its own, else the one that was installed with this package, or one in the path."""
+    if _is_clone():
+        return str(in_clone) if in_clone.is_file() else None
+    installed = (folder / name for folder in _folders())
+    return next((str(path) for path in installed if path.is_file()), None) or shutil.which(name)
+
+
+def program() -> str:
+    """The program: ``$P21``, or that of the clone, or the one that is installed with this package."""
+    found = os.environ.get("P21") or _found("p21", _CLONE / "crates/p21/out/p21")
+    if found is None:
+        raise FileNotFoundError("p21: the program is not here: the wheel has it, and ./p21 builds it in a clone; P21 names another one")
+    return found
+
+
+def tool(name: str) -> List[str]:
+    """The words that run a tool, as ``where``."""
+    found = _found(f"p21-{name}", _TOOLS / f"p21-{name}")
+    if found is None:
+        raise FileNotFoundError(f"p21: p21-{name} is not here: the wheel has it")
+    return [sys.executable, found]
+
+
+def run(words: Sequence[str]) -> "subprocess.CompletedProcess[bytes]":
+    """What a program or a tool answers."""
+    environment = dict(os.environ, P21=program(), PYTHONIOENCODING="utf-8")
+    return subprocess.run(words, env=environment, stdin=subprocess.DEVNULL, stdout=subprocess.PIPE, stderr=subprocess.PIPE, check=False)
+
+
+@contextlib.contextmanager
+def as_paths(schema: Schema, source: Source) -> Iterator[Tuple[str, str]]:
+    """The text of a schema and a file as paths. What is no path is written to a file for the time of a ``with``."""
+    with tempfile.TemporaryDirectory(prefix="p21-") as folder:
+        schema_path = os.path.join(folder, "schema.exp")
+        with open(schema_path, "wb") as file:
+            file.write(schema.text)
+        if is_path(source):
+            # A path that can't be read is an OSError, as in every other call.
+            with open(cast(Path, source), "rb"):
+                pass
+            yield schema_path, os.fspath(cast(Path, source))
+            return
+        path = os.path.join(folder, "file.step")
+        with open(path, "wb") as file:
+            for piece in pieces(source):
+                file.write(memoryview(piece))  # type: ignore[arg-type]
+        yield schema_path, path

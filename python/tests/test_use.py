@@ -1,0 +1,457 @@
+"""The package as it is used: what a file may be given as, threads and processes, notebooks, and what the tools answer."""
+
+import array
+import concurrent.futures
+import doctest
+import gzip
+import hashlib
+import importlib
+import io
+import json
+import mmap
+import multiprocessing
+import os
+import pathlib
+import pickle
+import pkgutil
+import re
+import subprocess
+import sys
+import threading
+import time
+import tracemalloc
+
+import p21
+import pytest
+
+ROOT = pathlib.Path(__file__).resolve().parents[2]
+EXAMPLES = ROOT / "examples"
+PRODUCT = EXAMPLES / "product.step"
+COUNTS = (128, 4872)
+POINTS = "SCHEMA s; ENTITY point; x, y : REAL; END_ENTITY; END_SCHEMA;"
+HEAD = b"ISO-10303-21;HEADER;FILE_DESCRIPTION((''),'2;1');FILE_NAME('','',(''),(''),'','','');FILE_SCHEMA(('S'));ENDSEC;DATA;\n"
+
+
+@pytest.fixture(scope="module")
+def product():
+    return p21.Schema.read(EXAMPLES / "product.exp")
+
+
+def many_points(count):
+    """A file of so many points."""
+    return HEAD + b"".join(b"#%d=POINT(%d.5,-%d.25E2);\n" % (name, name, name) for name in range(1, count + 1)) + b"ENDSEC;END-ISO-10303-21;\n"
+
+
+@pytest.fixture(scope="module")
+def program():
+    """The program that the tools run: $P21, or that of the clone."""
+    found = os.environ.get("P21") or str(ROOT / "crates/p21/out/p21")
+    if not os.path.isfile(found):
+        pytest.skip("the program is not built")
+    os.environ["P21"] = found
+    return found
+
+
+# --- What a file and a schema may be given as ---
+
+
+def given_as(kind, tmp_path):
+    """The same file in another way."""
+    text = PRODUCT.read_bytes()
+    if kind == "mmap":
+        with open(PRODUCT, "rb") as file:
+            return mmap.mmap(file.fileno(), 0, access=mmap.ACCESS_READ)
+    if kind == "numpy":
+        return pytest.importorskip("numpy").frombuffer(text, dtype="uint8")
+    if kind == "numpy of words":
+        padded = text + b" " * (-len(text) % 8)
+        return pytest.importorskip("numpy").frombuffer(padded, dtype="uint64").reshape(2, -1) if len(padded) % 16 == 0 else pytest.importorskip("numpy").frombuffer(padded + b" " * 8, dtype="uint64").reshape(2, -1)
+    if kind == "gzip":
+        (tmp_path / "product.step.gz").write_bytes(gzip.compress(text))
+        return gzip.open(tmp_path / "product.step.gz")
+    return {
+        "str": lambda: str(PRODUCT),
+        "path": lambda: PRODUCT,
+        "bytes": lambda: text,
+        "bytearray": lambda: bytearray(text),
+        "memoryview": lambda: memoryview(text),
+        "memoryview to write": lambda: memoryview(bytearray(text)),
+        "array": lambda: array.array("B", text),
+        "BytesIO": lambda: io.BytesIO(text),
+        "open file": lambda: open(PRODUCT, "rb"),
+        "raw file": lambda: open(PRODUCT, "rb", buffering=0),
+    }[kind]()
+
+
+KINDS = [
+    *("str", "path", "bytes", "bytearray", "memoryview", "memoryview to write", "array", "BytesIO", "open file", "raw file", "mmap"),
+    *("numpy", "numpy of words", "gzip"),
+]
+
+
+@pytest.mark.parametrize("kind", KINDS)
+def test_a_file_in_each_way(product, tmp_path, kind):
+    canonical = p21.canonical(product, PRODUCT)
+    assert p21.check(product, given_as(kind, tmp_path)) == COUNTS
+    assert p21.canonical(product, given_as(kind, tmp_path)) == canonical
+    assert p21.same(product, given_as(kind, tmp_path), EXAMPLES / "product-other.step")
+    assert p21.same(product, (EXAMPLES / "product-other.step").read_bytes(), given_as(kind, tmp_path))
+    assert not p21.same(product, given_as(kind, tmp_path), (EXAMPLES / "product-changed.step").read_bytes())
+    assert p21.hash(product, given_as(kind, tmp_path)).sha256 == hashlib.sha256(canonical).hexdigest()
+
+
+def test_what_is_no_file(product):
+    for wrong, error, words in (
+        (PRODUCT.read_text(), ValueError, "a str is the path of a file"),
+        ("ISO-10303-21;HEADER;", ValueError, "a str is the path of a file"),
+        (7, TypeError, "and no int"),
+        (None, TypeError, "and no NoneType"),
+        (io.StringIO("ISO"), TypeError, "open it for bytes"),
+        (memoryview(b"IxSxOx")[::2], BufferError, "don't lie one behind the other"),
+        (EXAMPLES / "none.step", FileNotFoundError, "none.step"),
+        (EXAMPLES, IsADirectoryError, "examples"),
+    ):
+        for call in (p21.check, p21.canonical, p21.hash):
+            with pytest.raises(error, match=words):
+                call(product, wrong)
+        with pytest.raises(error, match=words):
+            p21.same(product, PRODUCT, wrong)
+
+
+def test_buffers_are_not_copied(tmp_path):
+    path = tmp_path / "points.step"
+    path.write_bytes(many_points(200_000))
+    size = path.stat().st_size
+    assert size > 5_000_000
+    schema = p21.Schema(POINTS)
+    with open(path, "rb") as file, mmap.mmap(file.fileno(), 0, access=mmap.ACCESS_READ) as data:
+        for source in (data, memoryview(data), path, file):
+            tracemalloc.start()
+            assert p21.check(schema, source).instances == 200_000
+            _, most = tracemalloc.get_traced_memory()
+            tracemalloc.stop()
+            assert most < size / 2, type(source)
+
+
+def test_a_buffer_is_held_while_a_call_runs():
+    data = bytearray(b"ISO")
+    session = p21.Session(p21.Schema(POINTS))
+    session.feed(data)
+    # It isn't held any more: a bytearray that is can't grow.
+    data += b"-10303-21;"
+    with pytest.raises(p21.Refused):
+        session.feed(b"\xff")
+    data += b"more"
+
+
+def test_pipes(product):
+    reading, writing = os.pipe()
+    threading.Thread(target=lambda: (os.write(writing, PRODUCT.read_bytes()), os.close(writing))).start()
+    with open(reading, "rb") as file:
+        assert p21.check(product, file) == COUNTS
+
+
+def test_schemas_by_text_and_path(product, tmp_path):
+    text = (EXAMPLES / "product.exp").read_text()
+    for given in (text, text.encode(), bytearray(text.encode()), memoryview(text.encode())):
+        with p21.Schema(given) as schema:
+            assert schema.text == text.encode()
+            assert p21.check(schema, PRODUCT) == COUNTS
+    assert p21.check(p21.Schema.read(str(EXAMPLES / "product.exp")), PRODUCT) == COUNTS
+    (tmp_path / "odd name").write_text(POINTS)
+    for path in ("product.exp", "some/where.exp", "AP203.EXP", EXAMPLES / "product.exp", str(EXAMPLES / "product.exp"), str(tmp_path / "odd name")):
+        with pytest.raises(ValueError) as found:
+            p21.Schema(path)
+        assert str(found.value) == f"p21: this is the path of a schema, and no text: p21.Schema.read({os.fspath(path)!r}) reads the file"
+    for wrong in ("", "SCHEMA s", "(* not closed", "a word"):
+        with pytest.raises(p21.SchemaRefused):
+            p21.Schema(wrong)
+    with pytest.raises(FileNotFoundError):
+        p21.Schema.read(tmp_path / "none.exp")
+    with pytest.raises(TypeError):
+        p21.Schema(7)
+
+
+# --- Refusals ---
+
+
+def test_what_a_refusal_says(product):
+    with pytest.raises(p21.Refused) as found:
+        p21.check(product, EXAMPLES / "refused" / "Count.step")
+    refusal = found.value
+    assert refusal.number is p21.RefusalNumber.COUNT and refusal.number == 45 and f"{refusal.number}" == "45"
+    assert refusal.sentence == "The record has another number of values than the entity."
+    assert refusal.advice.endswith("Mostly the file was written for another edition of the schema.")
+    assert repr(refusal) == "<p21.Refused: refused 45 Count in #3: The record has another number of values than the entity.>"
+    assert "<td" in refusal._repr_html_() and "#3" in refusal._repr_html_()
+    with pytest.raises(p21.SchemaRefused) as found:
+        p21.Schema("SCHEMA s; USE FROM t; END_SCHEMA;")
+    assert found.value.number is p21.SchemaRefusalNumber.LEFT_OUT and found.value.number != p21.RefusalNumber.LEFT_OUT
+    assert found.value.sentence == "A form of EXPRESS that is not read." and "EXTENSIBLE" in found.value.advice
+
+
+def test_each_refusal_has_words():
+    for number in p21.RefusalNumber:
+        refusal = p21.Refused(number, "Name")
+        assert refusal.sentence.endswith(".") and len(refusal.advice) > 20 and "    " not in refusal.advice
+    for number in p21.SchemaRefusalNumber:
+        refusal = p21.SchemaRefused(number, "Name")
+        assert refusal.sentence.endswith(".") and len(refusal.advice) > 20
+
+
+@pytest.mark.parametrize(
+    "refusal",
+    [p21.Refused(45, "Count", instance=3), p21.Refused(26, "LeftOut(Scope)", statement=8, which="second"), p21.SchemaRefused(5, "Circular")],
+)
+def test_refusals_pickle(refusal):
+    copy = pickle.loads(pickle.dumps(refusal))
+    assert (type(copy), str(copy), vars(copy)) == (type(refusal), str(refusal), vars(refusal))
+
+
+def test_which_of_two(product):
+    refused = EXAMPLES / "refused" / "Count.step"
+    for make in (lambda path: path, lambda path: path.read_bytes(), lambda path: open(path, "rb")):
+        for first, second, which in ((refused, PRODUCT, "first"), (PRODUCT, refused, "second"), (refused, refused, "first")):
+            for call in (p21.same, p21.diff):
+                with pytest.raises(p21.Refused) as found:
+                    call(product, make(first), make(second))
+                assert found.value.which == which and str(found.value) == f"{which}: refused 45 Count in #3"
+                assert pickle.loads(pickle.dumps(found.value)).which == which
+
+
+# --- Threads and processes ---
+
+
+def test_threads_share_a_schema(product):
+    canonical = p21.canonical(product, PRODUCT)
+
+    def work(number):
+        for _ in range(5):
+            assert p21.check(product, PRODUCT.read_bytes()) == COUNTS
+            assert p21.canonical(product, EXAMPLES / "product-other.step") == canonical
+            with p21.accept(product, PRODUCT) as accepted:
+                assert accepted.line(1) == b"#1=DIMENSIONAL_EXPONENTS(1.,0.,0.);"
+            with pytest.raises(p21.Refused):
+                p21.check(product, EXAMPLES / "refused" / "Count.step")
+        return number
+
+    with concurrent.futures.ThreadPoolExecutor(8) as pool:
+        assert list(pool.map(work, range(16))) == list(range(16))
+
+
+def test_threads_feed_one_session(product):
+    """Pieces of one session from several threads: one call runs at a time, so that nothing breaks."""
+    session = p21.Session(product)
+    with concurrent.futures.ThreadPoolExecutor(8) as pool:
+        list(pool.map(lambda _: session.feed(b"   "), range(400)))
+    session.feed(PRODUCT.read_bytes())
+    assert session.finish().report == COUNTS
+
+
+def test_a_session_goes_to_another_thread(product):
+    session = p21.Session(product)
+    thread = threading.Thread(target=session.feed, args=(PRODUCT.read_bytes(),))
+    thread.start()
+    thread.join()
+    assert session.finish().report == COUNTS
+
+
+def test_a_schema_that_is_closed_while_it_is_used():
+    schema = p21.Schema(POINTS)
+    begun = threading.Event()
+    text = many_points(100_000)
+
+    def work():
+        begun.set()
+        return p21.check(schema, text).instances
+
+    with concurrent.futures.ThreadPoolExecutor(1) as pool:
+        found = pool.submit(work)
+        begun.wait()
+        time.sleep(0.01)
+        schema.close()
+        # It was begun in time, or finds the schema closed.
+        try:
+            assert found.result() == 100_000
+        except ValueError:
+            pass
+
+
+def test_the_interpreter_goes_on_while_a_call_runs():
+    """While a call runs, other threads run Python: the calling thread alone waits."""
+    schema, text = p21.Schema(POINTS), many_points(300_000)
+    done = threading.Event()
+    counted = 0
+
+    def work():
+        p21.check(schema, text)
+        done.set()
+
+    thread = threading.Thread(target=work)
+    thread.start()
+    while not done.is_set():
+        counted += 1
+        time.sleep(0)
+    thread.join()
+    assert counted > 20
+
+
+@pytest.mark.skipif(len(os.sched_getaffinity(0)) < 2, reason="there is one processor")
+def test_two_threads_are_faster_than_one():
+    schema, text = p21.Schema(POINTS), many_points(400_000)
+    check = lambda _: p21.check(schema, text)
+
+    def seconds(threads):
+        with concurrent.futures.ThreadPoolExecutor(threads) as pool:
+            begun = time.perf_counter()
+            list(pool.map(check, range(4)))
+            return time.perf_counter() - begun
+
+    # A machine that does other work may be slow in one of the tries.
+    found = []
+    for _ in range(8):
+        found.append((seconds(1), seconds(2)))
+        if found[-1][1] < 0.8 * found[-1][0]:
+            return
+    pytest.fail(f"seconds of one thread and of two: {found}")
+
+
+def counts_of(job):
+    """The work of a process: a schema and a path come to it."""
+    schema, path = job
+    return p21.check(schema, path)
+
+
+@pytest.mark.parametrize("method", ["spawn", "forkserver"])
+def test_processes(product, method):
+    with concurrent.futures.ProcessPoolExecutor(2, mp_context=multiprocessing.get_context(method)) as pool:
+        assert list(pool.map(counts_of, [(product, PRODUCT)] * 6)) == [COUNTS] * 6
+        with pytest.raises(p21.Refused) as found:
+            pool.submit(p21.check, product, EXAMPLES / "refused" / "Count.step").result()
+        assert str(found.value) == "refused 45 Count in #3"
+
+
+def test_schemas_pickle(product):
+    for _ in range(3):
+        copy = pickle.loads(pickle.dumps(product))
+        assert p21.check(copy, PRODUCT) == COUNTS and copy.text == product.text
+        copy.close()
+        assert copy.closed and not product.closed
+    with pytest.raises(TypeError):
+        pickle.dumps(p21.Session(product))
+
+
+# --- The recipes of docs/LIBRARY.md ---
+
+
+def recipe(title):
+    """The program that the page has below a title, and what it prints."""
+    page = (ROOT / "docs" / "LIBRARY.md").read_text()
+    part = page.split(f"\n#### {title}\n")[1].split("\n#### ")[0]
+    return re.search(r"```python\n(.*?)```\n\nprints\n\n```\n(.*?)```", part, re.S).groups()
+
+
+@pytest.mark.parametrize("title", ["Many files in threads", "Many files in processes", "Many files with Dask"])
+def test_recipes(title, tmp_path):
+    if "Dask" in title:
+        pytest.importorskip("distributed")
+    program, printed = recipe(title)
+    (tmp_path / "program.py").write_text(program)
+    (tmp_path / "examples").symlink_to(EXAMPLES)
+    environment = dict(os.environ, PYTHONPATH=str(ROOT / "python"), PYTHONDONTWRITEBYTECODE="1")
+    run = subprocess.run([sys.executable, "program.py"], cwd=tmp_path, env=environment, stdout=subprocess.PIPE, stderr=subprocess.PIPE, text=True)
+    assert (run.stdout, run.returncode) == (printed, 0), run.stderr
+
+
+# --- Notebooks, help and types ---
+
+
+def test_what_a_notebook_shows(product):
+    assert repr(product) == "<p21.Schema product_model, 6319 bytes>"
+    with p21.Session(product) as session:
+        session.feed(b"ISO")
+        assert repr(session) == "<p21.Session under product_model, 3 bytes taken>"
+    assert repr(session) == "<p21.Session under product_model, closed>"
+    with p21.accept(product, PRODUCT) as accepted:
+        assert repr(accepted) == "<p21.Accepted under product_model, 128 instances, 4872 canonical bytes>"
+        assert accepted._repr_html_() == accepted.report._repr_html_()
+    assert repr(accepted) == "<p21.Accepted under product_model, closed>"
+    found = p21.diff(product, PRODUCT, EXAMPLES / "product-changed.step")
+    assert repr(found) == "<p21.Differences: different, 1 listed>"
+    assert re.findall(r"<td[^>]*>(.*?)</td>", found._repr_html_())[:4] == ["changed", "24", "CARTESIAN_POINT", "COORDINATES"]
+    assert "&lt;" in p21.Refused(1, "<", statement=1)._repr_html_()
+    assert p21.Schema("(* SCHEMA no; *) schema -- x\n yes; END_SCHEMA;").__repr__().startswith("<p21.Schema yes,")
+
+
+def test_help(program):
+    schema = p21.Schema(POINTS)
+    point = HEAD.replace(b"\n", b"") + b"#1=POINT(0.50,1.E0);ENDSEC;END-ISO-10303-21;"
+    names = dict(p21=p21, schema=schema, point=point, moved=point.replace(b"1.E0", b"3."))
+    folder, tried = os.getcwd(), 0
+    os.chdir(ROOT)
+    try:
+        for module in [p21, *(importlib.import_module(f"p21.{it.name}") for it in pkgutil.iter_modules(p21.__path__) if it.name != "__main__")]:
+            found = doctest.testmod(module, extraglobs={**names, **vars(module)} if module is not p21 else None)
+            assert found.failed == 0, module.__name__
+            tried += found.attempted
+    finally:
+        os.chdir(folder)
+    assert tried >= 30
+    documented = [name for name in p21.__all__ if ">>>" in (getattr(p21, name).__doc__ or "")]
+    assert set(p21.__all__) - set(documented) <= {"Buffer", "Source", "Report", "Hash", "Differences", "Place", "Survey", "survey", "accept"}
+
+
+# --- What the tools answer ---
+
+
+def test_hashes(product, program):
+    names = ["product.step", "product-other.step", "product-changed.step"]
+    for data in (False, True):
+        words = [sys.executable, ROOT / "tools/p21-table", *(["--data"] if data else []), "--format", "json", EXAMPLES / "product.exp"]
+        rows = subprocess.run([*words, *(EXAMPLES / name for name in names)], stdout=subprocess.PIPE, check=True).stdout.splitlines()
+        for name, row in zip(names, map(json.loads, rows)):
+            assert p21.hash(product, EXAMPLES / name, data=data) == (row["sha256"], row["instances"]), name
+
+
+def test_where(product, program):
+    path = EXAMPLES / "refused" / "Count.step"
+    for source in (path, path.read_bytes(), open(path, "rb")):
+        place = p21.where(product, source)
+        assert (place.number, place.name, place.instance, place.line, place.column) == (p21.RefusalNumber.COUNT, "Count", 3, 11, 31)
+        assert place.attribute == "AXIS2_PLACEMENT_3D.REF_DIRECTION" and "REF_DIRECTION" in place._repr_html_()
+        assert str(place).startswith("11:31: refused 45 Count in #3; ")
+    place = p21.where(product, b"")
+    assert (place.answer, place.statement, place.instance) == ("refused 24 EndsEarly at statement 1", 1, None)
+    assert p21.where(product, PRODUCT) is None
+    with pytest.raises(FileNotFoundError):
+        p21.where(product, EXAMPLES / "none.step")
+
+
+def test_survey(product, program):
+    said = subprocess.run([program, "check", "--all", EXAMPLES / "product.exp", PRODUCT], stdout=subprocess.PIPE, stderr=subprocess.PIPE)
+    if said.returncode == 2:
+        with pytest.raises(OSError, match="--all"):
+            p21.survey(product, PRODUCT)
+        pytest.skip("the program has no check --all")
+    assert p21.survey(product, PRODUCT) == p21.Survey([], True)
+    text = many_points(5).replace(b"#2=POINT(2.5,", b"#2=POINT(").replace(b"#4=POINT(4.5,", b"#4=POINT(4,")
+    schema = p21.Schema(POINTS)
+    found = p21.survey(schema, text)
+    assert [str(it) for it in found.refusals] == ["refused 45 Count in #2", "refused 49 WrongKind in #4"] and found.is_whole
+    assert found.refusals[1].sentence == "The value is of another kind than its type."
+    found = p21.survey(schema, text, most=1)
+    assert [str(it) for it in found.refusals] == ["refused 45 Count in #2"] and not found.is_whole
+    found = p21.survey(schema, text[:-20])
+    assert [it.number for it in found.refusals][-1] == p21.RefusalNumber.ENDS_EARLY and not found.is_whole
+    with pytest.raises(FileNotFoundError):
+        p21.survey(schema, EXAMPLES / "none.step")
+
+
+def test_the_program_by_its_module(program):
+    environment = dict(os.environ, PYTHONPATH=str(ROOT / "python"))
+    run = lambda *words: subprocess.run([sys.executable, "-m", "p21", *words], cwd=ROOT, env=environment, stdout=subprocess.PIPE, stderr=subprocess.PIPE, text=True)
+    done = run("check", "examples/product.exp", "examples/product.step")
+    assert (done.stdout, done.returncode) == ("accepted, instances 128, canonical bytes 4872\n", 0)
+    done = run("where", "examples/product.exp", "examples/refused/Count.step")
+    assert done.stdout.startswith("refused 45 Count in #3\n") and done.returncode == 1
+    assert run("nothing").returncode == 2

@@ -1,0 +1,117 @@
+/*
+ * Eight threads use one schema at once: each by a handle of its own, with files, sessions and further handles. Run under helgrind it
+ * shows that no thread writes what another one reads. Helgrind takes no order from an atomic number, as that by which the handles of a
+ * schema are counted: so there the first handle is let go last, when all threads have ended. With `early` it is let go first, and the
+ * last of the threads lets go of the schema. It prints what is wrong; the status is 1 where something is.
+ *
+ *   threads FOLDER [early]      FOLDER is `examples`
+ */
+#include <pthread.h>
+#include <stdbool.h>
+#include <stdio.h>
+#include <stdlib.h>
+#include <string.h>
+
+#include "p21.h"
+
+#define THREADS 8
+#define ROUNDS 3
+#define LARGEST 65536
+
+/* A text that is read before any thread is started. */
+typedef struct bytes {
+    uint8_t at[LARGEST];
+    size_t length;
+} bytes;
+
+static bytes express, product, other, refused;
+
+/* A thread, with its own handle of the schema and how many of its calls found what they must. */
+typedef struct worker {
+    pthread_t thread;
+    p21_schema schema;
+    int right;
+} worker;
+
+static void read_into(bytes *into, const char *folder, const char *name) {
+    char path[4096];
+    snprintf(path, sizeof path, "%s/%s", folder, name);
+    FILE *file = fopen(path, "rb");
+    if (file == NULL) {
+        perror(path);
+        exit(2);
+    }
+    into->length = fread(into->at, 1, LARGEST, file);
+    fclose(file);
+}
+
+/* Is the first statement behind a session the one that it must be? */
+static bool has_line(p21_session *session) {
+    static const char wanted[] = "#1=DIMENSIONAL_EXPONENTS(1.,0.,0.);";
+    p21_text line = P21_EMPTY;
+    const uint8_t *at;
+    size_t length;
+    bool has = p21_accepted_line(session, 1, &line) == P21_DONE && p21_text_bytes(&line, &at, &length) == P21_DONE &&
+               length == sizeof wanted - 1 && memcmp(at, wanted, length) == 0;
+    p21_text_free(&line);
+    return has;
+}
+
+static void *work(void *given) {
+    worker *own = given;
+    for (int round = 0; round < ROUNDS; round++) {
+        p21_report report;
+        p21_schema shared = P21_EMPTY;
+        p21_session session = P21_EMPTY;
+        p21_text text = P21_EMPTY;
+        uint8_t same = 9;
+        own->right += p21_check(&own->schema, product.at, product.length, &report) == P21_DONE && report.instances == 128;
+        own->right += p21_check(&own->schema, refused.at, refused.length, &report) == P21_REFUSED && report.number == P21_COUNT;
+        own->right += p21_same(&own->schema, product.at, product.length, other.at, other.length, &same, &report) == P21_DONE && same == 1;
+        own->right += p21_schema_share(&own->schema, &shared) == P21_DONE;
+        own->right += p21_canonical(&shared, other.at, other.length, &text, &report) == P21_DONE && report.bytes == 4872;
+        own->right += p21_session_new(&shared, &session) == P21_DONE;
+        p21_schema_free(&shared);
+        own->right += p21_session_feed(&session, product.at, product.length, &report) == P21_DONE;
+        own->right += p21_session_finish(&session, &report) == P21_DONE && has_line(&session);
+        p21_session_free(&session);
+        p21_text_free(&text);
+    }
+    p21_schema_free(&own->schema);
+    return NULL;
+}
+
+int main(int count, char **words) {
+    bool is_early = count == 3 && strcmp(words[2], "early") == 0;
+    if (count != 2 && !is_early) {
+        fprintf(stderr, "usage: threads FOLDER [early]\n");
+        return 2;
+    }
+    read_into(&express, words[1], "product.exp");
+    read_into(&product, words[1], "product.step");
+    read_into(&other, words[1], "product-other.step");
+    read_into(&refused, words[1], "refused/Count.step");
+    static worker workers[THREADS];
+    p21_report report;
+    p21_schema schema = P21_EMPTY;
+    int right = p21_schema_new(express.at, express.length, &schema, &report) == P21_DONE;
+    for (int i = 0; i < THREADS; i++) {
+        right += p21_schema_share(&schema, &workers[i].schema) == P21_DONE;
+    }
+    if (is_early) {
+        p21_schema_free(&schema);
+    }
+    for (int i = 0; i < THREADS; i++) {
+        right += pthread_create(&workers[i].thread, NULL, work, &workers[i]) == 0;
+    }
+    for (int i = 0; i < THREADS; i++) {
+        right += pthread_join(workers[i].thread, NULL) == 0;
+    }
+    p21_schema_free(&schema);
+    for (int i = 0; i < THREADS; i++) {
+        right += workers[i].right == 8 * ROUNDS && workers[i].schema.inside == NULL;
+    }
+    bool is_right = right == 1 + 4 * THREADS;
+    puts(is_right ? "each thread finds what it must" : "wrong: a call finds something else");
+    return is_right ? 0 : 1;
+}
