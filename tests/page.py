@@ -19,6 +19,7 @@ import sys
 
 import fuzz
 from plain import commands
+from renaming import shuffled
 from tooling import ROOT, Tests, file_of
 from web import browser, firefox, making
 
@@ -26,12 +27,14 @@ CASES = 300
 ANSWER = """(() => {
     const answer = document.getElementById("answer");
     const texts = (within, selector) => [...within.querySelectorAll(selector)].map((found) => found.textContent);
-    if (answer.hidden || answer.children.length === 0) return null;
+    if (answer.hidden || answer.children.length === 0 || !answer.hasAttribute("data-whole")) return null;
     return {
         verdict: texts(answer, ".verdict")[0],
         files: [...answer.querySelectorAll(".file")].map((file) => ({
             name: file.dataset.name,
-            line: texts(file, ".line")[0],
+            line: texts(file, ".line")[0] ?? texts(file, ".lines")[0].split("\\n")[0],
+            count: texts(file, ".count")[0] ?? null,
+            by: texts(file, ".by, .change"),
             canonical: texts(file, ".canonical")[0] ?? null,
             lines: texts(file, ".lines")[0]?.split("\\n") ?? null,
         })),
@@ -40,6 +43,26 @@ ANSWER = """(() => {
     };
 })()"""
 SAID = "document.getElementById('said').textContent"
+# The texts whose contrast to what is behind them is less than 4.5, by the rule of the WCAG.
+FAINT = """(() => {
+    const linear = (part) => part <= 0.03928 ? part / 12.92 : ((part + 0.055) / 1.055) ** 2.4;
+    const parts = (colour) => colour.match(/[\\d.]+/g).map(Number);
+    const light = ([red, green, blue]) => 0.2126 * linear(red / 255) + 0.7152 * linear(green / 255) + 0.0722 * linear(blue / 255);
+    const behind = (found) => {
+        for (let at = found; at; at = at.parentElement) {
+            const colour = parts(getComputedStyle(at).backgroundColor);
+            if (colour.length === 3 || colour[3] === 1) return colour;
+        }
+        return [255, 255, 255];
+    };
+    const texts = [...document.body.querySelectorAll("*")].filter((found) => found.checkVisibility()
+        && [...found.childNodes].some((node) => node.nodeType === 3 && node.textContent.trim()));
+    const contrast = (found) => {
+        const both = [light(parts(getComputedStyle(found).color)), light(behind(found))].sort((one, other) => other - one);
+        return (both[0] + 0.05) / (both[1] + 0.05);
+    };
+    return texts.filter((found) => contrast(found) < 4.5).map((found) => found.textContent);
+})()"""
 
 
 class Page:
@@ -80,7 +103,7 @@ class Page:
         wanted = {"line": (output + error).rstrip("\n"), "canonical": canonical if status == 0 else None}
         found = {key: shown[key] for key in wanted}
         if places:
-            wanted["lines"] = self.tool("p21-where", schema, file) if status != 0 else None
+            wanted["lines"] = self.tool("p21-where", "--all", schema, file) if status != 0 else None
             found["lines"] = shown["lines"]
         self.tests.judge(f"{name}, {file}", wanted, found)
 
@@ -132,6 +155,127 @@ def chance(page):
         if len(texts) == 3:
             page.judge_pair(f"case {number}", shown, *names, differ=number % 20 == 3)
     page.tests.judge("some of the cases are refused", True, CASES // 10 < refused < CASES)
+
+
+def many(page):
+    """Files with several refusals: their lines are those of p21-where, and they are counted, grouped and opened."""
+    demo = "demo.exp"
+    shutil.copy(ROOT / "examples" / demo, page.folder)
+    broken = ["POINT($,1.,'two');", "POINT($,1.);", "NOTHING();", "CLOUD((#999),(),(TALLY(1)));"]
+    named = [("PRODUCT_MODEL", "DEMO")]
+    for count in (2, 4, 30):
+        rows = [f"#{number}={broken[number % len(broken)]}" for number in range(1, count + 1)]
+        page.tests.make("many.step", file_of("\n".join(rows), named))
+        shown = page.dropped(demo, "many.step")["files"][0]
+        page.judge_file(f"{count} refusals", shown, demo, "many.step")
+        page.tests.judge(f"{count} refusals, counted", f"{count} refusals of {min(count, 4)} kinds", shown["count"])
+    kinds = page.browser.ask("[...document.querySelectorAll('.kind > summary .times')].map((found) => found.textContent)")
+    page.tests.judge("how often each kind comes", ["8 times", "8 times", "7 times", "7 times"], kinds)
+    rows = [f"#{number}=POINT($,1.,'two');" for number in range(1, 401)]
+    page.tests.make("many.step", file_of("\n".join(rows), named))
+    shown = page.dropped(demo, "many.step")["files"][0]
+    page.judge_file("400 refusals", shown, demo, "many.step")
+    ask = page.browser.ask
+    count_rows = "document.querySelectorAll('.refusals > li').length"
+    page.tests.judge("rows at first", 20, ask(count_rows))
+    ask("document.querySelector('.more').click()")
+    page.tests.judge("rows behind the button", 220, ask(count_rows))
+    page.tests.judge("focus on the first new row", "#21", ask("document.activeElement.querySelector('code').textContent"))
+    ask("document.querySelector('.more').click()")
+    page.tests.judge("all rows", [400, True], [ask(count_rows), ask("document.querySelector('.more').hidden")])
+    last = "document.querySelector('.refusals > li:last-child > details')"
+    page.browser.press("Tab", 9)
+    ask(f"{last}.querySelector('summary').focus()")
+    page.browser.press("Enter", 13, "\r")
+    page.browser.wait(f"{last}.open && {last}.querySelector('mark') !== null")
+    found = ask(f"['.where', 'mark'].map((part) => {last}.querySelector(part).textContent)")
+    page.tests.judge("an opened row", ["line 407, column 17", "'two'"], found)
+
+
+def stopped_on_the_way(page):
+    """Many refusals by a large schema: the answer comes before all places are found, and stays where the search is stopped."""
+    demo = (ROOT / "examples" / "demo.exp").read_text()
+    fillers = "".join(f"ENTITY filler_{number} SUBTYPE OF (shape); a, b : OPTIONAL REAL; END_ENTITY;\n" for number in range(6000))
+    end = demo.rindex("END_SCHEMA")
+    page.tests.make("large.exp", demo[:end] + fillers + demo[end:])
+    rows = [f"#{number}=POINT($,1.,'two');" for number in range(1, 5001)]
+    page.tests.make("stopped.step", file_of("\n".join(rows), [("PRODUCT_MODEL", "DEMO")]))
+    ask, bar = page.browser.ask, "document.getElementById('progress').value"
+    page.browser.drop([page.folder / "large.exp", page.folder / "stopped.step"])
+    page.browser.wait(f"document.querySelectorAll('.refusals .where').length === 20 && {bar} > 0 && {bar} < 5000")
+    said = ask("document.getElementById('doing').textContent")
+    wanted = r"stopped\.step: looking for the places of 5,000 refusals, [\d,]+ found"
+    page.tests.judge("how many places are found", True, re.fullmatch(wanted, said) is not None)
+    ask("document.getElementById('stop').click()")
+    page.tests.judge("stopped on the way", "Stopped. Start again", ask(SAID))
+    lines = ask("document.querySelector('.lines').textContent.split('\\n')")
+    page.tests.judge("what was found stays", lines[:6], page.tool("p21-where", "large.exp", "stopped.step")[:6])
+    shown = page.dropped("product.exp", "product.step")
+    page.judge_file("behind it", shown["files"][0], "product.exp", "product.step")
+
+
+def up_to_names(page):
+    """A file that is renumbered, and one in which a value is changed besides."""
+    text = (page.folder / "product.step").read_bytes()
+    page.tests.make("renumbered.step", shuffled(text, 1)[0])
+    page.tests.make("changed.step", shuffled((page.folder / "product-changed.step").read_bytes(), 2)[0])
+    for file, said in (("renumbered.step", True), ("changed.step", False)):
+        shown = page.dropped("product.exp", "product.step", file)
+        page.judge_pair(f"{file} by names", shown, "product.exp", "product.step", file)
+        words = "Up to the names of their instances the files are the same."
+        page.tests.judge(f"{file}: what is said", said, words in shown["verdict"])
+        page.browser.ask("document.querySelector('[name=way][value=shapes]').click()")
+        shown = page.browser.wait(ANSWER)
+        known = page.browser.ask("document.querySelector('.known').textContent")
+        lines = page.tool("p21-diff", "--names", "product.exp", "product.step", file)
+        page.tests.judge(f"{file} up to names", lines, [*shown["differences"], known])
+
+
+def large_up_to_names(page):
+    """Files that aren't compared up to names before that is asked for."""
+    rows = "\n".join(f"#{number}=POINT($,{number}.,1.);" for number in range(1, 40001))
+    text = file_of(rows, [("PRODUCT_MODEL", "DEMO")])
+    page.tests.make("points.step", text)
+    page.tests.make("renumbered.step", shuffled(text.encode(), 1)[0])
+    shown = page.dropped("demo.exp", "points.step", "renumbered.step")
+    page.tests.judge("it isn't said unasked", True, re.fullmatch("Different[\\d,]+ differences.", shown["verdict"]) is not None)
+    page.browser.ask("document.querySelector('[name=way][value=shapes]').click()")
+    shown = page.browser.wait(f"document.querySelector('.known') !== null && {ANSWER}", 120)
+    known = page.browser.ask("document.querySelector('.known').textContent")
+    page.tests.judge("it is said where it is asked for", "same up to names: 40000 pairs, checked one by one", known)
+
+
+def shelf(page):
+    """Several schemas and aliases: each file is checked by the schema that it names."""
+    folder = page.folder / "shelf"
+    folder.mkdir()
+    for name in ("product.exp", "demo.exp"):
+        shutil.copy(ROOT / "examples" / name, folder)
+        shutil.copy(ROOT / "examples" / name, page.folder)
+    page.tests.make("demo.step", file_of("#1=POINT($,1.,2.);", [("PRODUCT_MODEL", "Demo { 1 0 }")]))
+    page.tests.make("other.step", file_of("", [("PRODUCT_MODEL", "OTHER")]))
+    given = ["product.exp", "demo.exp"]
+    shown = page.dropped(*given, "product.step", "demo.step")
+    page.tests.judge("two schemas", ["by product.exp", "by demo.exp"], [by for file in shown["files"] for by in file["by"]])
+    for file, schema in zip(shown["files"], given):
+        page.judge_file("by a shelf", file, schema, file["name"])
+    page.tests.judge("they aren't compared", True, "aren’t compared" in shown["verdict"])
+    shown = page.dropped(*given, "product.step", "product-other.step")
+    page.judge_pair("two files by a shelf", shown, "product.exp", "product.step", "product-other.step")
+    shown = page.dropped(*given, "other.step")
+    page.tests.judge("no such schema", "no schema OTHER on the shelf", shown["files"][0]["line"])
+    page.tests.make("aliases", "AUTOMOTIVE_DESIGN = product.exp\n")
+    shown = page.dropped(*given, "aliases", "SchemaName.step")
+    shutil.copy(page.folder / "aliases", folder)
+    tool = page.tool("p21-where", "--schemas", "shelf", "SchemaName.step")
+    page.tests.judge("an alias", tool, [shown["files"][0]["line"]])
+    change = "product.exp:1: SCHEMA product_model -> SCHEMA AUTOMOTIVE_DESIGN"
+    page.tests.judge("its change", ["by product.exp", change], shown["files"][0]["by"])
+    page.tests.make("aliases", "DEMO = product.exp\n")
+    page.browser.drop([page.folder / name for name in (*given, "aliases")])
+    page.browser.wait(f"{SAID} === 'There is no answer: demo.exp and product.exp both serve DEMO.'")
+    page.browser.drop([folder])
+    page.browser.wait(f"{SAID} === 'shelf is a folder: drop the files that are in it.'")
 
 
 def others(page):
@@ -193,7 +337,15 @@ def people(page):
     tests.judge("what is said", "Same. Both files hold the same model.", tab.ask(SAID))
     tab.press("Tab", 9)
     tab.press(" ", 32, " ")
-    tab.wait(f"{SAID} === 'Different. 1 difference.'")
+    tab.wait(f"{SAID} === 'Different. 1 difference.' && {ANSWER}")
+    for _ in range(30):
+        tab.press("Tab", 9)
+        if tab.ask("document.activeElement.name === 'way'"):
+            break
+    tab.press("ArrowRight", 39)
+    tab.wait("document.querySelector('.known') !== null")
+    known = tab.ask("document.querySelector('.known').textContent")
+    tests.judge("an arrow compares up to names", "different: 1 changed, 0 came, 0 went", known)
     nodes = tab.call("Accessibility.getFullAXTree")["nodes"]
     named = [(node["role"]["value"], node.get("name", {}).get("value")) for node in nodes if not node["ignored"]]
     for role, name in (
@@ -203,14 +355,21 @@ def people(page):
         ("heading", "Different"),
         ("button", "Take product.step away"),
         ("button", "Save as text"),
+        ("group", "Instances are told"),
+        ("radio", "by their names"),
     ):
         tests.judge(f"a reader hears {role} {name}", True, (role, name) in named)
     unnamed = [role for role, name in named if role in ("button", "textbox", "link", "progressbar", "region") and not name]
     tests.judge("what has no name", [], unnamed)
-    for width in (320, 390, 1280):
-        tab.look(width=width)
-        fits = tab.ask("document.documentElement.scrollWidth <= innerWidth")
-        tests.judge(f"nothing stands beside a width of {width}", True, fits)
+    for files in (["product.exp", "product.step", "product-changed.step"], ["demo.exp", "many.step"]):
+        page.dropped(*files)
+        for width in (320, 390, 1280):
+            tab.look(width=width)
+            fits = tab.ask("document.documentElement.scrollWidth <= innerWidth")
+            tests.judge(f"nothing stands beside a width of {width}, {files[-1]}", True, fits)
+        for dark in (False, True):
+            tab.look(dark=dark)
+            tests.judge(f"what is hard to read, {files[-1]}, {'dark' if dark else 'light'}", [], tab.ask(FAINT))
     tab.look()
     version = page.program("--version")[0].strip()
     tests.judge("the version", version, tab.ask("document.getElementById('version').textContent"))
@@ -298,7 +457,8 @@ def main():
     page.path = path
     page.is_unproved = "unproved" in said
     try:
-        for group in (examples, chance, others, large, people, network, in_firefox, want_of_memory, without_memory):
+        groups = [examples, chance, many, stopped_on_the_way, up_to_names, large_up_to_names, shelf, others, large, people, network, in_firefox]
+        for group in (*groups, want_of_memory, without_memory):
             group(page)
     finally:
         page.browser.close()

@@ -1,6 +1,6 @@
 #!/usr/bin/env python3
 """Runs the module of the page in Node: over the rows of tests/program.sh, with a memory that can't grow, and its scripts over
-the refused texts that tools/p21-where is tested by.
+the refused texts that tools/p21-where is tested by, over files that differ as p21-diff tells it, and over shelves of schemas.
 
 P21 names another program than ./p21. The status is 77 where there is no Node that has 64-bit WebAssembly memory.
 """
@@ -15,10 +15,19 @@ import shutil
 import subprocess
 import sys
 
+import release
 import texts
+import tools_names
 import tools_where
+from renaming import shuffled
 from web import making
 from tooling import ROOT, SCHEMA, Tests, file_of
+
+sys.path.insert(0, str(ROOT / "tools"))
+import p21_reading  # pylint: disable=wrong-import-position
+import p21_shelf  # pylint: disable=wrong-import-position
+
+PAIRS = 100
 
 
 def as_program(tests, node, module, name="p21"):
@@ -81,44 +90,172 @@ def refused_texts(tests):
 
 def places(tests, node):
     """What the page says of refused texts is what tools/p21-where prints, line by line, with the same status."""
-    given = refused_texts(tests)
+    given = refused_texts(tests) + list(broken_files(tests))
     command = [*node, "tests/web/where.mjs", str(making.MODULE)]
     done = subprocess.run(command, input=json.dumps(given), capture_output=True, text=True, check=True)
-    for paths, found in zip(given, json.loads(done.stdout), strict=True):
+    for paths, (*found, of_all) in zip(given, json.loads(done.stdout), strict=True):
         output, error, status = tests.run(paths)
         tests.judge(" ".join(paths), [output.splitlines(), status], found if not error else error)
+        if of_all is not None:
+            output, error, _ = tests.run(["--all", *paths])
+            tests.judge(f"all of {' '.join(paths)}", output.splitlines(), of_all if not error else error)
+
+
+def broken_files(tests):
+    """Files with many refusals, of one kind and of several, in the order of the file and in references."""
+    chance = random.Random("broken")
+    broken = [
+        "POINT($,1.);",
+        "POINT($,1.,2);",
+        "POINT($,'a',2.);",
+        "POINT(1.,2.);",
+        "NOTHING(1.);",
+        "CLOUD((#1,#{other},#{none},#{none}),(),(TALLY(1)));",
+        "CLOUD((#{other}),((1.,2)),(TALLY(1)));",
+        "MARKED(#{other},.RED.);",
+        "MARKED($,.BLUE.);",
+        "(MARKED(.RED.)POINT(1.,2)SHAPE($));",
+        "CLOUD((),(),(#{other},#{none},#1));",
+        "CLOUD((),(),(DISTANCE(1.),DISTANCE(10.E-1)));",
+        "POINT($,1.,2.);",
+    ]
+    name = 2**64 - 3
+    long_names = f"#{name}=POINT($,1.,2.);\n#{name + 1}=POINT($,1.,'a');\n#0{name}=ORIGIN($,*,1.);"
+    yield [tools_where.DEMO, tests.make("long_names.step", file_of(long_names, [("PRODUCT_MODEL", "DEMO")]))]
+    for number in range(20):
+        count = chance.randint(2, 40)
+        rows = []
+        for name in range(1, count + 1):
+            row = chance.choice(broken).replace("#{other}", f"#{chance.randint(1, count)}").replace("#{none}", f"#{count + 99}")
+            rows.append(f"#{name if chance.random() < 0.9 else chance.randint(1, count)}={row}")
+        if number % 5 == 4:
+            rows.append("#9=POINT($,1.,p);")
+        yield [tools_where.DEMO, tests.make(f"broken{number}.step", file_of("\n".join(rows), [("PRODUCT_MODEL", "DEMO")]))]
+
+
+def pairs_of_files(tests):
+    """Schemas with two files each: the examples, files of which the right answer is known, and files that are made by chance and
+    renumbered, changed or not."""
+    steps = ["examples/product.step", "examples/product-other.step", "examples/product-changed.step"]
+    for first in steps:
+        for second in steps:
+            yield [SCHEMA, first, second]
+    for number, (_, first, second, *_) in enumerate(tools_names.ROWS):
+        yield tools_names.SCHEMA, tools_names.file_of(first), shuffled(tools_names.file_of(second), number)[0]
+    for seed in range(PAIRS):
+        chance = random.Random(f"pair {seed}")
+        records = tools_names.by_chance(seed, chance.randint(1, 60), seed % 2 == 0)
+        changed = dict(records)
+        for name in chance.sample(list(records), min(len(records), chance.randint(0, 3))):
+            changed[name] = tools_names.Maker(chance, len(records), True).record(name)
+        for name in chance.sample(list(records), min(len(records) - 1, chance.choice([0, 0, 1]))):
+            if not any(re.search(rf"#{name}\b", record) for record in changed.values()):
+                del changed[name]
+        yield tools_names.SCHEMA, tools_names.file_of(records), shuffled(tools_names.file_of(changed), seed)[0]
+
+
+def differences(tests, node):
+    """What differs by names and up to names is what p21-diff prints."""
+    tests.tool = "p21-diff"
+    given = []
+    for number, (schema, *files) in enumerate(pairs_of_files(tests)):
+        texts_of = (file if isinstance(file, str) else tests.make(f"pair{number}.{at}.step", file) for at, file in enumerate(files))
+        given.append([schema, *texts_of])
+    accepted = [paths for paths in given if all(is_accepted(tests, paths[0], path) for path in paths[1:])]
+    tests.judge("most pairs are accepted", True, 2 * len(accepted) > len(given))
+    command = [*node, "tests/web/differences.mjs", str(making.MODULE)]
+    done = subprocess.run(command, input=json.dumps(accepted), capture_output=True, text=True, check=True)
+    for paths, found in zip(accepted, json.loads(done.stdout), strict=True):
+        for key, options in (("lines", []), ("upToNames", ["--names"])):
+            output, _, _ = tests.run([*options, *paths])
+            tests.judge(" ".join([*options, *paths]), output.splitlines(), found[key])
+    tests.tool = "p21-where"
+
+
+def is_accepted(tests, schema, path):
+    """Is a file accepted?"""
+    return subprocess.run([tests.program, "check", schema, path], capture_output=True, check=False).returncode == 0
+
+
+def shelves(tests, node):
+    """What serves a name on a shelf, or what is wrong with it, is what the tools say."""
+    product, demo = (pathlib.Path("examples", name).read_text() for name in ("product.exp", "demo.exp"))
+    both = {"product.exp": product, "demo.exp": demo}
+    given = [
+        (both, None),
+        (both, "# one schema by two names\n\nautomotive_design = product.exp\n"),
+        ({"product.exp": "-- a remark\n" + product, "demo.exp": demo}, "A = demo.exp\r\nB=product.exp"),
+        ({**both, "a.exp": product}, None),
+        (both, "DEMO = product.exp\n"),
+        (both, "# a\nA: demo.exp\n"),
+        (both, "A = none.exp"),
+        ({**both, "empty.exp": ""}, None),
+    ]
+    names = ["PRODUCT_MODEL", "DEMO", "AUTOMOTIVE_DESIGN", "A", "B", "OTHER", None]
+    rows = [{"listings": listings, "aliases": aliases, "names": names} for listings, aliases in given]
+    command = [*node, "tests/web/shelf.mjs"]
+    done = subprocess.run(command, input=json.dumps(rows), capture_output=True, text=True, check=True)
+    for number, ((listings, aliases), found) in enumerate(zip(given, json.loads(done.stdout), strict=True)):
+        folder = tests.here / f"shelf{number}"
+        folder.mkdir()
+        for name, text in listings.items():
+            (folder / name).write_text(text, newline="")
+        if aliases is not None:
+            (folder / "aliases").write_text(aliases, newline="")
+        tests.judge(f"shelf {number}", of_shelf(folder, names), found)
+
+
+def of_shelf(folder, names):
+    """What the tools say of a shelf, without the folder in front of names."""
+    try:
+        shelf = p21_shelf.Shelf(folder)
+    except p21_reading.Trouble as trouble:
+        return str(trouble).replace(f"{folder}/", "")
+    served = [shelf.serving(name) for name in names]
+    paths = [each and (each.listing, each.change, pathlib.Path(each.path).read_text()) for each in served]
+    return [each and [pathlib.Path(each[0]).name, each[1].replace(f"{folder}/", ""), each[2]] for each in paths]
 
 
 def marks(tests, _):
-    """The page is marked as unproved unless the gate built the program and no source is newer. Tried in a copy of the
-    repository, with a file in place of the program."""
+    """The page is marked as unproved unless the record of the build says that the gate passed these sources. Tried in a copy of
+    the repository, with files in place of what is built."""
     copy = tests.here / "copy"
     for part in ("crates", "tools", "web", "examples"):
-        shutil.copytree(ROOT / part, copy / part, ignore=shutil.ignore_patterns("out", "must-fail"))
-    shutil.copy(ROOT / "crates.txt", copy)
+        shutil.copytree(ROOT / part, copy / part, ignore=shutil.ignore_patterns("must-fail", "__pycache__"))
+    for part in ("crates.txt", "HANDLES"):
+        shutil.copy(ROOT / part, copy)
     out = copy / "crates" / "p21" / "out"
+    shutil.rmtree(out, ignore_errors=True)
     out.mkdir()
-    source = copy / "crates" / "p21_values" / "src" / "lib.rt"
-    begun = source.stat().st_mtime + 3600
 
-    def said():
-        words = [copy / "tools" / "build-page", "--module", making.MODULE, tests.here / "marked.html"]
-        line = subprocess.run(words, check=True, capture_output=True, text=True).stdout
+    def said(*words):
+        command = [copy / "tools" / "build-page", *words, tests.here / "marked.html"]
+        line = subprocess.run(command, check=True, capture_output=True, text=True, env={**os.environ, "P21_KEEP": "1"}).stdout
         is_marked = "const isProved = false;" in (tests.here / "marked.html").read_text()
-        return "unproved" in line, is_marked
+        return line.strip().partition("marked as unproved: ")[2], is_marked
 
-    tests.judge("without a program", (True, True), said())
-    for name in ("p21", "begun"):
-        (out / name).touch()
-    for path in copy.rglob("*"):
-        os.utime(path, (begun - 60, begun - 60))
-    os.utime(out / "begun", (begun, begun))
-    tests.judge("with a program that is newer", (False, False), said())
+    tests.judge("without a record", ("there is no crates/p21/out/record", True), said())
+    for name in ("p21", "p21.o"):
+        (out / name).write_text(name)
+    record = release.true_record(copy, "p21")
+
+    def recorded(lines):
+        (out / "record").write_text("\n".join(lines) + "\n")
+        return said()
+
+    tests.judge("with a whole record", ("", False), recorded(record))
+    own = "is a module of its own"
+    tests.judge("with another module", (True, True), ((found := said("--module", making.MODULE))[0].endswith(own), found[1]))
+    failed = [line.replace("passed, 0 failed", "passed, 1 failed") for line in record]
+    tests.judge("with a gate that failed", ("the gate ended with", True), ((found := recorded(failed))[0][:19], found[1]))
+    without = [line for line in record if line != "proved p21_stream"]
+    tests.judge("with a crate unproved", ("the gate proved nothing of p21_stream", True), recorded(without))
+    source = copy / "crates" / "p21_values" / "src" / "lib.rt"
     checksum = [copy / "tools" / "build-page", "--sources"]
     before = subprocess.run(checksum, check=True, capture_output=True, text=True).stdout
     source.write_text(source.read_text() + "\n")
-    os.utime(source, (begun + 60, begun + 60))
-    tests.judge("with a source that is newer", (True, True), said())
+    os.utime(source, (0, 0))
+    tests.judge("with another source", ("the sources below p21 aren't those that were proved", True), recorded(record))
     after = subprocess.run(checksum, check=True, capture_output=True, text=True).stdout
     tests.judge("another checksum of other sources", True, re.fullmatch(r"[0-9a-f]{64}\n", after) is not None and before != after)
 
@@ -129,7 +266,7 @@ def main():
         making.skipped("there is no Node with 64-bit WebAssembly memory")
     tests = Tests("p21-where")
     making.make_page(tests.here / "p21.html")
-    for group in (marks, program_rows, want_of_memory, places):
+    for group in (marks, program_rows, want_of_memory, places, differences, shelves):
         group(tests, node)
     tests.end()
 

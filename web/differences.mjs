@@ -1,10 +1,16 @@
 // What differs in the meaning of two STEP files, as tools/p21-diff tells it: by header parameters, instances and attributes.
+// Instances are told by their names, or up to names by a pairing.
 
+import { Graph, elementsOf, renamedFile, renamedText, sectionsOf, sortedText } from "./models.mjs";
+import { NONE, SAME, DIFFERENT, UNDECIDED, fitsWhole, pairing } from "./pairing.mjs";
+import { joined } from "./program.mjs";
 import { namesOfValues, readParts, shortened, textOf } from "./reading.mjs";
+import { nestingOf } from "./sets.mjs";
 
 const LINE_END = 10;
 const EQUALS = 0x3d;
 const ENDSEC = [..."ENDSEC;"].map((sign) => sign.charCodeAt(0));
+const FRONT = "ISO-10303-21;\nHEADER;\n";
 const HEADER_NAMES = new Map([
   ["FILE_DESCRIPTION", ["description", "implementation_level"]],
   [
@@ -13,6 +19,9 @@ const HEADER_NAMES = new Map([
   ],
   ["FILE_SCHEMA", ["schema_identifiers"]],
 ]);
+const [CHANGED, CAME, WENT] = ["changed", "came", "went"];
+// No file has a name so great.
+const NO_NAME = 2n ** 64n;
 
 // --- Canonical files ---
 
@@ -35,34 +44,27 @@ function* lines(bytes, start) {
 
 /** The records of the header, which begin with the third line. */
 function header(bytes) {
-  return [...lines(bytes, "ISO-10303-21;\nHEADER;\n".length)].map(textOf);
+  return [...lines(bytes, FRONT.length)].map(textOf);
 }
 
-/**
- * The line that begins each data section, with the place behind it. A section begins behind the line that ends the one before;
- * no string of a canonical file has a line end.
- */
-function sections(bytes) {
-  const found = new Map();
-  let at = 0;
-  for (let end = bytes.indexOf(LINE_END); end >= 0; end = bytes.indexOf(LINE_END, at)) {
-    if (bytes[at] === 0x44) found.set(textOf(bytes.subarray(at, end)), end + 1);
-    at = end + 1;
-  }
-  return found;
+/** What stands in front of the data sections. */
+function frontOf(bytes) {
+  const records = [...lines(bytes, FRONT.length)];
+  const end = records.reduce((sum, record) => sum + record.length + 1, FRONT.length);
+  return bytes.subarray(0, end + "ENDSEC;\n".length);
 }
 
 /** The instances of a section, whose names rise: the name, the line that begins the section, and the statement. */
-function* ofSection(bytes, section, start) {
+function* ofSection(bytes, { heading, start }) {
   for (const line of lines(bytes, start)) {
     const name = BigInt(textOf(line.subarray(1, line.indexOf(EQUALS))));
-    yield { name, section, line };
+    yield { name, section: heading, line };
   }
 }
 
 /** The instances of all sections by rising names. */
 function* instances(bytes) {
-  const waiting = [...sections(bytes)].map(([section, start]) => ofSection(bytes, section, start));
+  const waiting = sectionsOf(bytes).map((section) => ofSection(bytes, section));
   const heads = waiting.map((section) => section.next().value);
   for (;;) {
     let least = -1;
@@ -97,86 +99,292 @@ function commonFront(first, second) {
   return count;
 }
 
-/** Gathers what differs: what it is about, the text of either file or of one alone, and whether it stands in the header. */
-class Differences {
-  constructor(attributes, heard) {
+/** The entity of an instance's line, or those of its parts. */
+function entityOf(line) {
+  return readParts(line)
+    .map(({ key }) => key)
+    .join("+");
+}
+
+/**
+ * The differences of two records or lines, one after the other. Each has what happened (changed, came or went), to what (a
+ * header, a section, an instance or its section), the names of the instance in the first and in the second file, its entity and
+ * attribute, and the texts of either file or of one alone.
+ */
+class Comparison {
+  constructor(attributes, sets = null) {
     this.attributes = attributes;
-    this.heard = heard;
-    this.isHeader = false;
-    this.found = [];
+    this.sets = sets;
   }
 
-  say(what, ...texts) {
-    const at = texts.length > 1 ? commonFront(...texts) : 0;
-    this.found.push({ what, texts: texts.map((text) => shortened(text, at)), isHeader: this.isHeader });
+  /** What changed in a pair. */
+  change({ what, names }, entity, attribute, ...texts) {
+    const at = commonFront(...texts);
+    return { kind: CHANGED, what, names, entity, attribute, texts: texts.map((text) => shortened(text, at)) };
   }
 
-  /** A text that stands in one of the files alone. */
-  either(first, second, what = "") {
-    this.say(`only in ${first === null ? "B" : "A"}${what}`, first ?? second);
+  /** A line that stands in one of the files alone. */
+  either(what, names, [first, second]) {
+    const entity = what === "instance" ? entityOf(first ?? second) : null;
+    return { kind: first === null ? CAME : WENT, what, names, entity, attribute: null, texts: [shortened(first ?? second, 0)] };
   }
 
   /** The records of two headers, one beside the other. */
-  headers(first, second) {
-    this.isHeader = true;
+  *headers(first, second) {
+    const names = [null, null];
     for (let at = 0; at < Math.max(first.length, second.length); at++) {
-      const [one, other] = [first[at] ?? null, second[at] ?? null];
-      if (one === null || other === null) this.either(one, other, ", header");
-      else if (one !== other) this.records("header ", HEADER_NAMES, one, other);
+      const both = [first[at] ?? null, second[at] ?? null];
+      if (both.includes(null)) yield this.either("header", names, both);
+      else if (both[0] !== both[1]) yield* this.records({ what: "header", names }, HEADER_NAMES, both);
     }
-    this.isHeader = false;
   }
 
   /** The lines that begin data sections. */
-  sections(first, second) {
-    const alone = [...first.keys(), ...second.keys()].filter((heading) => first.has(heading) !== second.has(heading));
-    for (const heading of alone.sort()) this.say(`only in ${first.has(heading) ? "A" : "B"}`, heading);
-  }
-
-  /** The instances of two files. */
-  instances(first, second) {
-    let count = 0;
-    for (const [one, other] of pairs(first, second)) {
-      if (++count % 10_000 === 0) this.heard(count);
-      if (!one || !other) {
-        this.either(one && textOf(one.line), other && textOf(other.line));
-        continue;
-      }
-      if (one.section !== other.section) this.say(`changed #${one.name}, its section`, one.section, other.section);
-      if (!equalBytes(one.line, other.line)) {
-        this.records(`#${one.name} `, this.attributes, textOf(one.line), textOf(other.line));
-      }
+  *sections(first, second) {
+    const [one, other] = [first, second].map((bytes) => new Set(sectionsOf(bytes).map(({ heading }) => heading)));
+    for (const heading of [...one, ...other].filter((found) => one.has(found) !== other.has(found)).sort()) {
+      yield this.either("section", [null, null], one.has(heading) ? [heading, null] : [null, heading]);
     }
   }
 
-  /** Two records: each value that differs where they have the same keywords, else the whole. */
-  records(what, attributes, first, second) {
-    const [one, other] = [readParts(first), readParts(second)];
+  /** Two sections of an instance. */
+  *section(pair, first, second) {
+    if (first !== second) yield this.change({ ...pair, what: "section of" }, null, null, first, second);
+  }
+
+  /**
+   * Two records by their lines: each value that differs where they have the same keywords, else the whole. `mapped` is the first
+   * one with the names of the second file.
+   */
+  *records(pair, attributes, texts, mapped = texts[0]) {
+    const [one, other, renamed] = [...texts, mapped].map(readParts);
     const shape = (parts) => JSON.stringify(parts.map(({ key, values }) => [key, values.length]));
+    const keys = one.map(({ key }) => key);
     if (shape(one) !== shape(other)) {
-      this.say(`changed ${what.trim()}`, first, second);
+      yield this.change(pair, keys.join("+"), null, ...texts);
       return;
     }
-    one.forEach((part, number) => {
-      namesOfValues(attributes, part, one.length === 1).forEach((name, at) => {
-        const [value, another] = [part.values[at], other[number].values[at]];
-        const texts = [first.slice(value.start, value.end), second.slice(another.start, another.end)];
-        if (texts[0] !== texts[1]) this.say(`changed ${what}${part.key}.${name}`, ...texts);
-      });
-    });
+    for (const [number, part] of one.entries()) {
+      const names = namesOfValues(attributes, part, one.length === 1);
+      const nestings = this.sets && attributes === this.attributes ? this.sets.ofPart(part.key, keys) : [];
+      for (const [at, name] of names.entries()) {
+        const value = (parts, text) => text.slice(parts[number].values[at].start, parts[number].values[at].end);
+        const [was, is, meant] = [value(one, texts[0]), value(other, texts[1]), value(renamed, mapped)];
+        if (!this.isEqual(meant, is, nestings[at] ?? null)) yield this.change(pair, part.key, name, was, is);
+      }
+    }
+  }
+
+  /** Are two values the same, up to names in sets of any order? */
+  isEqual(first, second, nesting) {
+    if (first === second) return true;
+    if (!this.sets || !first.includes("#") || !second.includes("#")) return false;
+    const around = nestingOf(false, nesting);
+    const [one, other] = [first, second].map((text) => sortedText(this.sets, elementsOf(text), around));
+    return one === other;
   }
 }
 
-/** What differs between two canonical files, by the attributes of their schema. `heard` is told how many instances are done. */
-export function differencesOf(attributes, first, second, heard = () => {}) {
-  const differences = new Differences(attributes, heard);
-  differences.headers(header(first), header(second));
-  differences.sections(sections(first), sections(second));
-  differences.instances(instances(first), instances(second));
-  return differences.found;
+/** What differs in instances of equal names, and those of names that one file alone has. */
+function* byNames(comparison, first, second, heard) {
+  let count = 0;
+  for (const [one, other] of pairs(instances(first), instances(second))) {
+    if (++count % 10_000 === 0) heard(count);
+    const names = [one?.name ?? null, other?.name ?? null];
+    const texts = [one, other].map((found) => found && textOf(found.line));
+    if (!one || !other) {
+      yield comparison.either("instance", names, texts);
+      continue;
+    }
+    const pair = { what: "instance", names };
+    yield* comparison.section(pair, one.section, other.section);
+    if (texts[0] !== texts[1]) yield* comparison.records(pair, comparison.attributes, texts);
+  }
+}
+
+// --- Up to names ---
+
+/** Two files of which the names of instances don't count, with a pairing of their instances. */
+class UpToNames {
+  constructor(comparison, first, second, heard) {
+    this.comparison = comparison;
+    this.graph = new Graph(comparison.sets);
+    for (const bytes of [first, second]) this.graph.add(bytes, heard);
+    this.graph.close();
+    this.pairing = pairing(this.graph);
+    this.headings = [first, second].map(sectionsOf);
+  }
+
+  /** The names of paired instances, by rising names of the first file. */
+  pairs() {
+    const { graph, pairing } = this;
+    const paired = this.nodes(0).filter((node) => pairing.partner[node] !== NONE);
+    return new Map(paired.map((node) => [graph.names[node], graph.names[pairing.partner[node]]]));
+  }
+
+  /** The instances of a file by rising names. */
+  nodes(side) {
+    const { first, end } = this.graph.sides[side];
+    const order = Array.from({ length: end - first }, (_, at) => first + at);
+    const name = (node) => this.graph.names[node];
+    const isLess = (one, other) => name(one).length - name(other).length || (name(one) < name(other) ? -1 : 1);
+    return this.headings[side].length > 1 ? order.sort(isLess) : order;
+  }
+
+  /** What differs in the instances: of the first file by its names, then what came by the second's. */
+  *differences() {
+    const { graph, comparison } = this;
+    const { partner } = this.pairing;
+    for (const node of this.nodes(0)) {
+      if (partner[node] === NONE) yield comparison.either("instance", [graph.names[node], null], [graph.line(node), null]);
+      else if (!fitsWhole(graph, partner, node)) yield* this.changed(node, partner[node]);
+    }
+    for (const node of this.nodes(1)) {
+      if (partner[node] === NONE) yield comparison.either("instance", [null, graph.names[node]], [null, graph.line(node)]);
+    }
+  }
+
+  /** The line that begins the section of an instance. */
+  section(node) {
+    const side = node < this.graph.sides[0].end ? 0 : 1;
+    return this.headings[side].findLast(({ start }) => start <= this.graph.places[node]).heading;
+  }
+
+  /** What differs in a pair. */
+  *changed(node, other) {
+    const { graph, comparison } = this;
+    const pair = { what: "instance", names: [graph.names[node], graph.names[other]] };
+    const texts = [graph.line(node), graph.line(other)];
+    yield* comparison.section(pair, this.section(node), this.section(other));
+    yield* comparison.records(pair, comparison.attributes, texts, this.renamed(node, texts[0]));
+  }
+
+  /**
+   * The text of an instance of the first file, with the names of the second where there is a partner. One without a partner gets
+   * a name that is too great for any file.
+   */
+  renamed(node, text) {
+    const { graph } = this;
+    const { partner } = this.pairing;
+    const named = new Map([[graph.names[node], graph.names[node]]]);
+    for (const ref of this.instancesBelow(node)) {
+      const name = graph.names[ref];
+      named.set(name, partner[ref] === NONE ? String(NO_NAME + BigInt(name)) : graph.names[partner[ref]]);
+    }
+    return renamedText(text, (name) => named.get(name));
+  }
+
+  /** The instances that a node refers to, in elements of its sets too. */
+  *instancesBelow(node) {
+    const waiting = [...this.graph.refs(node)];
+    while (waiting.length > 0) {
+      const ref = waiting.pop();
+      if (ref < this.graph.count) yield ref;
+      else waiting.push(...this.graph.refs(ref));
+    }
+  }
+}
+
+// --- Both ---
+
+/** How many instances changed, came and went; what isn't an instance is counted too. */
+class Counts {
+  constructor() {
+    this.changed = this.came = this.went = 0;
+    this.last = null;
+  }
+
+  /** The next difference. Those of one instance stand one behind the other, and count once. */
+  add({ kind, what, names }) {
+    const isInstance = what === "instance" || what === "section of";
+    const now = `${kind} ${names.join()}`;
+    if (isInstance && now === this.last) return;
+    this.last = isInstance ? now : null;
+    this[kind]++;
+  }
+}
+
+/** The differences of two files as they are shown: the first ones, and the lines of all. */
+class Found {
+  constructor(most) {
+    this.most = most;
+    this.counts = new Counts();
+    this.count = 0;
+    this.inHeader = 0;
+    this.shown = [];
+    this.lines = [];
+  }
+
+  add(difference) {
+    this.count++;
+    this.counts.add(difference);
+    this.inHeader += Number(difference.what === "header");
+    if (this.shown.length < this.most) this.shown.push({ what: whatOf(difference), texts: difference.texts });
+    this.lines.push(lineOfDifference(difference));
+  }
+}
+
+/** What differs between two canonical files by the names of instances. */
+export function differencesOf(attributes, first, second, most, heard = () => {}) {
+  const comparison = new Comparison(attributes);
+  const found = new Found(most);
+  for (const difference of comparison.headers(header(first), header(second))) found.add(difference);
+  for (const difference of comparison.sections(first, second)) found.add(difference);
+  for (const difference of byNames(comparison, first, second, heard)) found.add(difference);
+  return found;
+}
+
+/**
+ * What differs between two canonical files up to the names of instances, with a last line that says what is known. `isSame` says
+ * of two files whether the program says that they are the same.
+ */
+export function differencesUpToNames(attributes, sets, first, second, most, isSame, heard = () => {}) {
+  const comparison = new Comparison(attributes, sets);
+  const upToNames = new UpToNames(comparison, first, second, heard);
+  const found = new Found(most);
+  for (const difference of comparison.headers(header(first), header(second))) found.add(difference);
+  for (const difference of comparison.sections(first, second)) found.add(difference);
+  for (const difference of upToNames.differences()) found.add(difference);
+  const { verdict, ambiguous } = upToNames.pairing;
+  const names = upToNames.pairs();
+  let word = verdict === SAME && found.count > 0 ? DIFFERENT : verdict;
+  if (word === SAME) {
+    const renamed = joined(renamedFile(first, (name) => names.get(name), frontOf(second)));
+    if (!isSame(renamed, second)) word = UNDECIDED;
+  }
+  return { ...found, word, verdict: verdictLine(word, found.counts, names.size, ambiguous) };
+}
+
+/** So many of something, in words. */
+function many(count, word) {
+  return `${count} ${word}${count === 1 ? "" : "s"}`;
+}
+
+/** What is known of two files up to names, as the last line of p21-diff. */
+function verdictLine(word, { changed, came, went }, pairs, ambiguous) {
+  const counts = `${changed} changed, ${came} came, ${went} went`;
+  const said = {
+    [SAME]: `same up to names: ${many(pairs, "pair")}, checked one by one`,
+    [DIFFERENT]: `different: ${counts}`,
+    [UNDECIDED]: `not decided: ${counts}; no pairing without a difference was found, and none is ruled out`,
+  }[word];
+  return ambiguous > 0 ? `${said}; ${many(ambiguous, "pair")} chosen where others could be` : said;
+}
+
+/** The names of an instance. */
+function namesOf([first, second]) {
+  return first === null || second === null || first === second ? `#${first ?? second}` : `#${first}/#${second}`;
+}
+
+/** What a difference is about. */
+function whatOf({ kind, what, names, entity, attribute }) {
+  if (kind !== CHANGED) return `only in ${kind === CAME ? "B" : "A"}${what === "header" ? ", header" : ""}`;
+  if (what === "section of") return `changed ${namesOf(names)}, its section`;
+  const where = attribute === null ? "" : ` ${entity}.${attribute}`;
+  return `changed ${what === "header" ? "header" : namesOf(names)}${where}`;
 }
 
 /** The line of a difference, as p21-diff prints it. */
-export function lineOfDifference({ what, texts }) {
-  return `${what}: ${texts.join(" -> ")}`;
+export function lineOfDifference(difference) {
+  return `${whatOf(difference)}: ${difference.texts.join(" -> ")}`;
 }

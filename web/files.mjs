@@ -4,9 +4,10 @@
 // is found by asking it about files that are made for the purpose: of a statement that is cut, or of an instance in which a
 // value is replaced by one that is refused by another number.
 
+import { oneByOne, together } from "./asking.mjs";
 import { alike } from "./likeness.mjs";
 import { Text } from "./program.mjs";
-import { bytesOf, lexemes, lineNumber, listing, readParts, textOf } from "./reading.mjs";
+import { Lines, brief, bytesOf, lexemes, lineNumber, listed, listing, readParts, textOf } from "./reading.mjs";
 import { Outline, firstCount } from "./schemas.mjs";
 
 const QUOTE = 0x27;
@@ -19,6 +20,11 @@ const HASH = 0x23;
 const OF_BYTES = [1, 4, 5, 6, 7, 9, 10, 11];
 const OF_END = [2, 3, 24];
 const OF_WHOLE = [22, 23, 25, 27, 32];
+// These look at what an instance refers to.
+const OF_REFERENCES = [45, 56, 57];
+// Of these one instance, or one name, may have several.
+const OF_SEVERAL = [40, 56, 57];
+const REFUSED = /^refused (\d+) \S.*? (?:at statement (\d+)|in #(\d+))/;
 const WANTED = {
   25: "nothing but blanks and remarks behind END-ISO-10303-21;",
   32: "DATA; or DATA('name',('SCHEMA'));",
@@ -55,6 +61,22 @@ const SIGNS = ["(", ")", ",", "=", ";"];
 const WORDS = ["ISO-10303-21", "HEADER", "ENDSEC", "DATA", "END-ISO-10303-21"];
 const FIRST_WORD = /^[!#]?[\w-]*/;
 const DANGLING = `#${2n ** 64n - 1n}`;
+// So many ways in which values may stand for attributes are tried, and texts of so many bytes.
+const MOST_WAYS = 100;
+const LONGEST = 1 << 20;
+
+/** The refusals of a file by the lines of the program, each of which knows how many that are alike stand in front of it. */
+export function refusalsOf(given, lines) {
+  const before = new Map();
+  return lines.map((line) => {
+    const refused = new RefusedFile(given, line);
+    if (refused.instance === null || !OF_SEVERAL.includes(refused.number)) return refused;
+    const key = `${refused.number} ${refused.instance}`;
+    refused.before = before.get(key) ?? 0;
+    before.set(key, refused.before + 1);
+    return refused;
+  });
+}
 
 // --- Statements ---
 
@@ -138,6 +160,16 @@ function nameOf(bytes, statement) {
   return end > statement.start + 1 ? plainName(textOf(bytes.subarray(statement.start + 1, end))) : null;
 }
 
+/** The number that is the name of an instance, rounded above 2^53; -1 where the statement is none. */
+function numberOfName(bytes, statement) {
+  if (bytes[statement.start] !== HASH) return -1;
+  let number = 0;
+  let end = statement.start + 1;
+  for (; bytes[end] >= 0x30 && bytes[end] <= 0x39; end++) number = 10 * number + bytes[end] - 0x30;
+  if (number <= Number.MAX_SAFE_INTEGER) return end > statement.start + 1 ? number : -1;
+  return Number(nameOf(bytes, statement));
+}
+
 /** The digits of a name without zeros in front. */
 function plainName(digits) {
   return digits.replace(/^0+(?=\d)/, "");
@@ -145,60 +177,174 @@ function plainName(digits) {
 
 // --- Refusals ---
 
-/** A file that the program refuses by a number: at a statement, or in an instance. */
-export class RefusedFile {
-  constructor(program, schema, named, bytes, line) {
-    const [, number, statement, instance] = /^refused (\d+) \S+ (?:at statement (\d+)|in #(\d+))/.exec(line);
+/** A file that is refused and its schema, which is called `named`: what all of its refusals share. */
+export class GivenFile {
+  constructor(program, schema, named, bytes, looksForAll = false) {
     this.program = program;
     this.schema = schema;
     this.named = named;
     this.bytes = bytes;
-    this.number = Number(number);
-    this.statement = statement ? Number(statement) : null;
-    this.instance = instance ?? null;
+    this.looksForAll = looksForAll;
     this.listing = listing(program, schema);
-    this.known = null;
-  }
-
-  /** The declarations of the schema. */
-  get outline() {
-    this.known ??= new Outline(this.schema.bytes);
-    return this.known;
-  }
-
-  // What the program says
-
-  /** The number by which a text is refused, 0 where it is accepted. */
-  answer(text) {
-    const files = { schema: this.schema, file: new Text(bytesOf(text)) };
-    const { error } = this.program.run(["check", "--", "schema", "file"], files);
-    return Number(/^refused (\d+)/.exec(error)?.[1] ?? 0);
-  }
-
-  /** The number by which a file of these instances is refused. */
-  answerOf(...instances) {
-    const header = `FILE_DESCRIPTION($,$);FILE_NAME($,$,$,$,$,$,$);FILE_SCHEMA(('${this.listing.name}'));`;
-    return this.answer(`ISO-10303-21;HEADER;${header}ENDSEC;DATA;\n${instances.join("\n")}\nENDSEC;END-ISO-10303-21;`);
-  }
-
-  // Where it is
-
-  /** The place where the file is refused, and the statement that it stands in; null where it can't be told. */
-  place() {
-    if (this.statement === null) return this.placeInInstance();
-    const front = [];
-    let number = 0;
-    for (const statement of statements(this.bytes)) {
-      number++;
-      if (number === this.statement) return { statement, place: this.placeInStatement(front.join(""), statement) };
-      if (this.bytes[statement.start] !== HASH) front.push(this.text(statement));
-    }
-    return null;
+    this.outline = new Outline(schema.bytes);
+    this.known = new Map();
+    this.numbered = new Map();
+    this.lines = new Lines(bytes);
   }
 
   /** The text of a statement. */
   text(statement) {
     return textOf(this.bytes.subarray(statement.start, statement.end));
+  }
+
+  /** The schema with entities that have these attributes, P21_WHERE0 and so on. */
+  schemaWith(made) {
+    const entities = made.map((attributes, at) => ` ENTITY p21_where${at}; ${attributes} END_ENTITY; `);
+    return new Text(bytesOf(this.outline.withEntities(entities.join(""))));
+  }
+
+  /** A file of these instances. */
+  withInstances(instances) {
+    const header = `FILE_DESCRIPTION($,$);FILE_NAME($,$,$,$,$,$,$);FILE_SCHEMA(('${this.listing.name}'));`;
+    return `ISO-10303-21;HEADER;${header}ENDSEC;DATA;\n${instances.join("\n")}\nENDSEC;END-ISO-10303-21;`;
+  }
+
+  /** Looks for all instances of these names at once. */
+  want(names) {
+    const wanted = new Set([...names].filter((name) => !this.known.has(name)));
+    if (wanted.size === 0) return;
+    for (const name of wanted) this.known.set(name, []);
+    // Most names are told by their numbers; only long ones, which are rounded, may have one number.
+    const numbers = new Set([...wanted].map(Number));
+    for (const statement of statements(this.bytes)) {
+      if (!numbers.has(numberOfName(this.bytes, statement))) continue;
+      const name = nameOf(this.bytes, statement);
+      if (wanted.has(name)) this.known.get(name).push({ name, statement });
+    }
+  }
+
+  /** Looks for the statements of these numbers at once, each with the text of those before it that aren't instances. */
+  wantStatements(numbers) {
+    const wanted = new Set(numbers.filter((number) => !this.numbered.has(number)));
+    const front = [];
+    let number = 0;
+    for (const statement of wanted.size > 0 ? statements(this.bytes) : []) {
+      number++;
+      if (wanted.delete(number)) this.numbered.set(number, { statement, front: front.join("") });
+      if (wanted.size === 0) return;
+      if (this.bytes[statement.start] !== HASH) front.push(this.text(statement));
+    }
+    for (const missing of wanted) this.numbered.set(missing, null);
+  }
+
+  /** The statement of a number with the text before it, or null where there is none. */
+  statementOf(number) {
+    this.wantStatements([number]);
+    return this.numbered.get(number);
+  }
+
+  /** The place of a refusal, and its statement; null where that can't be told. Each question is a run of the program. */
+  placeOf(refused) {
+    const first = ({ text, others, attributes }) => {
+      const instances = [...others].filter(([name]) => name !== refused.instance).map(([, found]) => found);
+      const schema = attributes ? this.schemaWith([attributes]) : this.schema;
+      return [refused.answer(this.withInstances([text, ...instances]), schema)];
+    };
+    return oneByOne(refused.place(), first);
+  }
+
+  /** The places of many refusals, as the program lists them, in their order. */
+  placesOf(refusals) {
+    this.wantAll(refusals);
+    return together(
+      this,
+      refusals.map((refused) => refused.place()),
+    );
+  }
+
+  /** Looks for all statements and instances that these refusals are about, and for those that they refer to. */
+  wantAll(refusals) {
+    this.wantStatements(refusals.map(({ statement }) => statement).filter((number) => number !== null));
+    const about = refusals.filter(({ instance }) => instance !== null);
+    this.want(about.map(({ instance }) => instance));
+    const texts = about
+      .filter(({ number }) => OF_REFERENCES.includes(number))
+      .map(({ instance }) => this.known.get(instance)[0]?.statement)
+      .filter((statement) => statement && statement.end - statement.start <= LONGEST)
+      .map((statement) => this.text(statement));
+    this.want(texts.flatMap((text) => referencesIn(text, readParts(text)).map(({ target }) => target)));
+  }
+
+  /** The texts of the instances of these names; of a name that several have all of them. */
+  textsOf(names) {
+    const found = new Map();
+    for (const { name, statement } of this.statementsOf(names)) {
+      found.set(name, [...(found.has(name) ? [found.get(name)] : []), this.text(statement)].join("\n"));
+    }
+    return found;
+  }
+
+  /** The statements of the instances of these names, in the order of the file. */
+  statementsOf(names) {
+    this.want(names);
+    const found = [...names].flatMap((name) => this.known.get(name));
+    return found.sort((one, other) => one.statement.start - other.statement.start);
+  }
+}
+
+/**
+ * A refusal of a file by a number: at a statement, or in an instance. Of those that are alike by number and instance it is the
+ * one with so many in front of it.
+ */
+export class RefusedFile {
+  constructor(given, line, before = 0) {
+    const [, number, statement, instance] = REFUSED.exec(line);
+    this.given = given;
+    this.before = before;
+    this.bytes = given.bytes;
+    this.listing = given.listing;
+    this.outline = given.outline;
+    this.number = Number(number);
+    this.statement = statement ? Number(statement) : null;
+    this.instance = instance ?? null;
+    // Which attributes of the part with too few values have none.
+    this.missing = [];
+  }
+
+  // What the program says
+
+  /** The number by which a text is refused, 0 where it is accepted and null where nothing is said of it. */
+  answer(text, schema = this.given.schema) {
+    const { error, status } = this.given.program.run(["check", "--", "schema", "file"], { schema, file: new Text(bytesOf(text)) });
+    const found = /^refused (\d+)/.exec(error);
+    return found ? Number(found[1]) : status === 0 ? 0 : null;
+  }
+
+  /**
+   * Asks by which numbers an instance is refused, whose text this is, in a file that has others too, by their names; where one
+   * refusal is looked for it is the first number alone, which is 0 where there is none.
+   */
+  *numbersOf(text, others = new Map()) {
+    return (yield [{ text, others, attributes: null }])[0];
+  }
+
+  /** Asks whether an instance, whose text this is, is refused by another number, or not at all. */
+  *isRefusedOtherwise(text) {
+    return !(yield* this.numbersOf(text)).includes(this.number);
+  }
+
+  // Where it is
+
+  /** The place where the file is refused, and the statement that it stands in; null where it can't be told. */
+  *place() {
+    if (this.statement === null) return yield* this.placeInInstance();
+    const found = this.given.statementOf(this.statement);
+    return found && { statement: found.statement, place: this.placeInStatement(found.front, found.statement) };
+  }
+
+  /** The text of a statement. */
+  text(statement) {
+    return this.given.text(statement);
   }
 
   // At a statement
@@ -243,7 +389,7 @@ export class RefusedFile {
     }
     if (this.answer(`${front}${text.slice(0, at)} `) !== this.number) at++;
     const word = lexemes(text.slice(0, at)).at(-1);
-    const wanted = this.number === 20 ? this.wanted(front, text.slice(0, word.start)) : null;
+    const wanted = this.number === 20 && word.start < LONGEST ? this.wanted(front, text.slice(0, word.start)) : null;
     return placeOf(word.start, word.end, wanted ? [`wanted here: ${wanted}`] : []);
   }
 
@@ -251,7 +397,7 @@ export class RefusedFile {
   wanted(front, before) {
     const couldStand = (token) => {
       const answer = this.answer(`${front}${before} ${token} `);
-      return answer === 0 || answer === 24 || answer >= 30;
+      return answer === 0 || answer === 24 || (answer ?? 0) >= 30;
     };
     let values = VALUES.filter(([, token]) => couldStand(token)).map(([words]) => words);
     if (values.length === VALUES.length) values = ["a value"];
@@ -266,7 +412,7 @@ export class RefusedFile {
   /** The record of the header, or the parameter in it, that has another form than it must have. */
   placeInHeader(front, text) {
     const key = FIRST_WORD.exec(text)[0];
-    if (this.statement - 3 >= HEADER.length) return placeOf(0, key.length, [`${key} stands a second time`]);
+    if (this.statement - 3 >= HEADER.length) return placeOf(0, key.length, [`${brief(key)} stands a second time`]);
     const [name, parameters] = HEADER[this.statement - 3];
     const shape = `wanted here: ${name}(${parameters.map(([, form]) => form).join(", ")})`;
     if (key !== name) return placeOf(0, Math.max(key.length, 1), [shape]);
@@ -275,8 +421,8 @@ export class RefusedFile {
     const many = parameters.length > 1 ? "s" : "";
     const counts = `${name} has ${parameters.length} parameter${many}, and here are ${values.length}`;
     if (values.length < parameters.length) {
-      const missing = parameters.slice(values.length).map(([parameter]) => parameter);
-      return placeOf(part.end, part.end + 1, [`${counts}; without one: ${missing.join(", ")}`, shape]);
+      const missing = listed(parameters.slice(values.length).map(([parameter]) => parameter));
+      return placeOf(part.end, part.end + 1, [`${counts}; without one: ${missing}`, shape]);
     }
     if (values.length > parameters.length) {
       const value = values[parameters.length];
@@ -296,7 +442,7 @@ export class RefusedFile {
   placeOfSchema(text) {
     const value = readParts(text)[0].values.at(-1).inner[0];
     const named = /^[A-Za-z0-9_]*/.exec(text.slice(value.start + 1))[0];
-    const notes = [`the file is of ${named || "(no name)"}, the schema text of ${this.listing.name}`];
+    const notes = [`the file is of ${brief(named) || "(no name)"}, the schema text of ${this.listing.name}`];
     if (/^[A-Za-z]\w*$/.test(named)) {
       notes.push("where both are one schema by two names, this makes a schema text of the file's name:");
       notes.push(`  ${this.renaming(named)}`);
@@ -311,58 +457,50 @@ export class RefusedFile {
     let old = text.slice(word.start, name.end);
     if (!/^\w+ \w+$/.test(old)) old = text.slice(name.start, name.end);
     const line = lineNumber(this.outline.bytes, name.start);
-    const made = this.named.split("/").at(-1) === "renamed.exp" ? "renamed-again.exp" : "renamed.exp";
-    return `sed '${line}s/${old}/${old.replace(/\w+$/, named)}/' ${quoted(this.named)} > ${made}`;
+    const schema = this.given.named;
+    const made = schema.split("/").at(-1) === "renamed.exp" ? "renamed-again.exp" : "renamed.exp";
+    return `sed '${line}s/${old}/${old.replace(/\w+$/, named)}/' ${quoted(schema)} > ${made}`;
   }
 
   // In an instance
 
   /** The place in the instance that is refused, and its statement. */
-  placeInInstance() {
-    const found = this.statementsOf(new Set([this.instance]));
+  *placeInInstance() {
+    const found = this.given.statementsOf([this.instance]);
     if (found.length === 0) return null;
-    const [first, second] = found.map(({ statement }) => statement);
-    if (this.number === 40 && second) {
+    const first = found[0].statement;
+    if (this.number === 40) {
+      const second = found[1 + this.before]?.statement;
+      if (!second) return null;
       const end = second.start + /^#\d+/.exec(this.text(second))[0].length;
-      const line = lineNumber(this.bytes, first.start);
+      const line = this.given.lines.number(first.start);
       return { statement: second, place: placeOf(second.start, end, [`#${this.instance} stands in line ${line} too`]) };
     }
     const text = this.text(first);
-    return { statement: first, place: moved(this.placeInRecord(text, readParts(text)), first.start) };
-  }
-
-  /** The statements of the instances of these names. */
-  statementsOf(names) {
-    const found = [];
-    for (const statement of statements(this.bytes)) {
-      const name = nameOf(this.bytes, statement);
-      if (name !== null && names.has(name)) found.push({ name, statement });
-    }
-    return found;
+    return { statement: first, place: moved(yield* this.placeInRecord(text, readParts(text)), first.start) };
   }
 
   /** The place in the text of an instance. */
-  placeInRecord(text, parts) {
-    const forNumber = {
+  *placeInRecord(text, parts) {
+    const known = {
       41: this.unknownEntity,
       42: this.abstract,
       43: this.partMissing,
       44: this.partTwice,
-      45: this.count,
       55: this.redeclaredTwice,
       56: this.dangling,
-      57: this.wrongTarget,
       58: this.oneOf,
-    };
-    const found = (forNumber[this.number] ?? this.value).call(this, text, parts);
+    }[this.number];
+    const asked = { 45: this.count, 57: this.wrongTarget }[this.number] ?? this.value;
+    const found = known ? known.call(this, text, parts) : yield* asked.call(this, text, parts);
     return found ?? ofKey(parts[0]);
   }
 
   /** The first keyword that the schema doesn't have. */
   unknownEntity(_, parts) {
     const part = parts.find(({ key }) => !this.listing.attributes.has(key));
-    const near = alike(part.key, this.listing.attributes.keys());
-    const notes = [`the schema ${this.listing.name} has no entity ${part.key}`];
+    const near = alike(brief(part.key), this.listing.attributes.keys());
+    const notes = [`the schema ${this.listing.name} has no entity ${brief(part.key)}`];
     return ofKey(part, near.length > 0 ? [...notes, `entities with a like name: ${near.join(", ")}`] : notes);
   }
 
@@ -373,7 +511,7 @@ export class RefusedFile {
       const hasBelow = names.some((name) => name !== part.key && this.outline.closure([name]).has(part.key));
       if (!this.listing.abstract.has(part.key) || hasBelow) continue;
       const subtypes = [...this.outline.entities.keys()].filter((name) => this.outline.supertypes(name).includes(part.key));
-      return ofKey(part, [`its subtypes: ${subtypes.slice(0, 8).join(", ")}${subtypes.length > 8 ? " .." : ""}`]);
+      return ofKey(part, [`its subtypes: ${listed(subtypes)}`]);
     }
     return null;
   }
@@ -383,7 +521,7 @@ export class RefusedFile {
     const names = parts.map(({ key }) => key);
     for (const part of parts) {
       const missing = [...this.outline.closure([part.key])].filter((name) => !names.includes(name)).sort();
-      if (missing.length > 0) return ofKey(part, [`a supertype without a part: ${missing.join(", ")}`]);
+      if (missing.length > 0) return ofKey(part, [`a supertype without a part: ${listed(missing)}`]);
     }
     return null;
   }
@@ -394,21 +532,57 @@ export class RefusedFile {
     return ofKey(parts.find(({ key }, at) => keys.indexOf(key) < at));
   }
 
-  /** The first value too many, or the `)` before which one is missing. */
-  count(_, parts) {
+  /**
+   * The first value too many, or where one is missing: where the types of the attributes leave one place alone, this is it,
+   * and else the `)` behind the values.
+   */
+  *count(text, parts) {
     for (const part of parts) {
-      const names = this.places(part, parts.length === 1).map(({ attribute }) => attribute);
-      const given = part.values.length;
-      const counts = `${part.key} has ${names.length} attributes, and here are ${given} values`;
-      if (given > names.length) {
-        const value = part.values[names.length];
+      const places = this.places(part, parts.length === 1);
+      const [wanted, count] = [places.length, part.values.length];
+      const counts = `${part.key} has ${wanted} attributes, and here are ${count} values`;
+      if (count > wanted) {
+        const value = part.values[wanted];
         return placeOf(value.start, value.end, [counts]);
       }
-      if (given < names.length) {
-        return placeOf(part.end, part.end + 1, [`${counts}; without one: ${names.slice(given).join(", ")}`]);
+      if (count < wanted) {
+        const missing = yield* this.missingIn(text, part, places, parts.length === 1);
+        this.missing = missing ?? places.map((_, at) => at).slice(count);
+        const [first] = this.missing;
+        const start = first < count ? part.values[first].start : part.end;
+        const names = this.missing.map((at) => places[at].attribute);
+        return placeOf(start, start + 1, [`${counts}; without one: ${listed(names)}`]);
       }
     }
     return null;
+  }
+
+  /**
+   * Which attributes of a part have no value, where all others can have the values that are there in one way alone, and null
+   * else. Each way is tried by an entity whose attributes are all optional.
+   */
+  *missingIn(text, part, places, isAlone) {
+    const count = part.values.length;
+    if (!isAlone || waysOf(places.length, count) > MOST_WAYS || part.end - part.start > LONGEST) return null;
+    const derived = this.listing.attributes.get(part.key).map((name) => name === "*");
+    const types = places.map((place) => this.outline.typeOf([part.key], place));
+    const attributes = types.map((type, number) => `a${number} : OPTIONAL ${type};`).join("");
+    const values = part.values.map((value) => text.slice(value.start, value.end));
+    const references = new Set(referencesIn(text, [part]).map(({ target }) => target));
+    references.delete(this.instance);
+    const others = this.given.textsOf(references);
+    const ways = [];
+    for (const missing of combinations(places.length, places.length - count)) {
+      const left = values.values();
+      const row = places.map((_, at) => (missing.includes(at) ? "$" : left.next().value));
+      const isWrong = (value, at) => !missing.includes(at) && at < derived.length && (value === "*") !== derived[at];
+      if (row.some(isWrong)) continue;
+      const written = row.map((value) => (value === "*" ? "$" : value)).join(",");
+      ways.push({ missing, text: `#${this.instance}=P21_WHERE0(${written});`, others, attributes });
+    }
+    const answers = yield ways;
+    const found = ways.filter((_, at) => [0, 56].includes(answers[at][0] ?? 0));
+    return found.length === 1 ? found[0].missing : null;
   }
 
   /** What the values of a part stand for: all attributes of the entity, or among other parts those of its own. */
@@ -426,10 +600,10 @@ export class RefusedFile {
       const name = words[4].text;
       by.set(name, (by.get(name) ?? new Set()).add(entity));
     }
-    const twice = [...by].filter(([, found]) => found.size > 1);
+    const twice = [...by].filter(([, found]) => found.size > 1).slice(0, 8);
     return ofKey(
       parts[0],
-      twice.map(([name, found]) => `${name} is declared anew by ${[...found].sort().join(" and ")}`),
+      twice.map(([name, found]) => `${name} is declared anew by ${listed([...found].sort(), " and ")}`),
     );
   }
 
@@ -447,73 +621,100 @@ export class RefusedFile {
 
   // References
 
-  /** The first reference to an instance that isn't in the file. */
+  /** The reference to an instance that isn't in the file. */
   dangling(text, parts) {
     const references = referencesIn(text, parts);
-    const there = new Set(this.statementsOf(new Set(references.map(({ target }) => target))).map(({ name }) => name));
-    const { target, value } = references.find((found) => !there.has(found.target));
-    return placeOf(value.start, value.end, [`the file has no #${target}`]);
+    const there = new Set(this.given.statementsOf(new Set(references.map(({ target }) => target))).map(({ name }) => name));
+    const found = references.filter(({ target }) => !there.has(target))[this.before];
+    return found ? placeOf(found.value.start, found.value.end, [`the file has no #${found.target}`]) : null;
   }
 
   /**
-   * The first reference to an instance of another entity than is wanted. Found by references into nothing, which are refused
-   * by another number: all but those behind the place.
+   * The reference to an instance of another entity than is wanted. Found by references into nothing, which are refused by
+   * another number: all but those behind the place.
    */
-  wrongTarget(text, parts) {
-    const references = referencesIn(text, parts);
-    const targets = new Map();
-    for (const { name, statement } of this.statementsOf(new Set(references.map(({ target }) => target)))) {
-      targets.set(name, this.text(statement));
-    }
-    const others = [...targets].filter(([name]) => name !== this.instance).map(([, found]) => found);
-    const isRefusedElsewhere = (value) => this.answerOf(replaced(text, value, DANGLING), ...others) !== this.number;
-    const value = lastOf(
-      references.map((found) => found.value),
-      isRefusedElsewhere,
-    );
+  *wrongTarget(text, parts) {
+    const all = referencesIn(text, parts);
+    const targets = this.given.textsOf(new Set(all.map(({ target }) => target)));
+    // Several references may be refused, and those into nothing are, wherever they stand.
+    const references = this.given.looksForAll ? all.filter(({ target }) => targets.has(target)) : all;
+    const whole = this.given.looksForAll ? yield* this.numbersOf(text, targets) : [this.number];
+    const at = [...whole.keys()].filter((number) => whole[number] === this.number)[this.before];
+    if (at === undefined) return null;
+    const front = whole.slice(0, at + 1).join();
+    const numbersOf = (value) => this.numbersOf(replaced(text, value, DANGLING), targets);
+    const values = references.map((found) => found.value);
+    const value = yield* lastOf(values, function* isRefusedElsewhere(each) {
+      return (yield* numbersOf(each)).slice(0, at + 1).join() !== front;
+    });
     if (!value) return null;
     const { target } = references.find((found) => found.value === value);
     const keys = readParts(targets.get(target)).map(({ key }) => key);
-    return placeOf(value.start, value.end, [`#${target} is a ${keys.join(" and ")}`]);
+    return placeOf(value.start, value.end, [`#${target} is a ${listed(keys, " and ")}`]);
   }
 
   // Values
 
   /** The value that is refused. */
-  value(text, parts) {
+  *value(text, parts) {
     let values = parts.flatMap((part) => part.values);
-    if (this.number === 48) return this.notDerived(text, values);
-    const signs = this.number === 49 || this.number === 54 ? ["*", "$"] : ["P21_WHERE(1)"];
-    const isRefusedElsewhere = (value) => signs.some((sign) => this.answerOf(replaced(text, value, sign)) !== this.number);
+    if (this.number === 48) return yield* this.notDerived(text, values);
     let found = null;
-    for (let next = lastOf(values, isRefusedElsewhere); next; next = lastOf(values, isRefusedElsewhere)) {
+    for (;;) {
+      const next = yield* this.lastRefused(text, values);
+      if (!next) break;
       found = next;
       values = this.number === 52 ? [] : next.inner;
     }
     if (!found) return null;
-    return (this.number === 52 && equalElements(text, found)) || placeOf(found.start, found.end);
+    return (this.number === 52 && (yield* this.equalElements(text, found))) || placeOf(found.start, found.end);
+  }
+
+  /**
+   * Of some values the last one that is looked at before the instance is refused: one of another kind in its place is refused
+   * by another number.
+   */
+  *lastRefused(text, values) {
+    const signs = this.number === 49 || this.number === 54 ? ["*", "$"] : ["P21_WHERE(1)"];
+    const isRefusedBy = (value, sign) => this.isRefusedOtherwise(replaced(text, value, sign));
+    return yield* lastOf(values, function* isRefusedElsewhere(value) {
+      for (const sign of signs) if (yield* isRefusedBy(value, sign)) return true;
+      return false;
+    });
   }
 
   /** The first value that isn't `*` where the schema derives one: with `*` in its place it isn't refused for that. */
-  notDerived(text, values) {
-    const isDerived = (value) =>
-      text.slice(value.start, value.end) !== "*" && this.answerOf(replaced(text, value, "*")) !== 47;
-    const value = values.find(isDerived);
-    return value ? placeOf(value.start, value.end, ["the schema derives this value"]) : null;
+  *notDerived(text, values) {
+    for (const value of values) {
+      if (text.slice(value.start, value.end) === "*") continue;
+      const numbers = yield* this.numbersOf(replaced(text, value, "*"));
+      if (!numbers.includes(47)) return placeOf(value.start, value.end, ["the schema derives this value"]);
+    }
+    return null;
+  }
+
+  /** The second of two elements that look the same, in a list or in the one of its elements that is looked at last. */
+  *equalElements(text, value) {
+    for (let within = value; within && within.inner.length > 0; ) {
+      const last = yield* this.lastRefused(text, within.inner);
+      const found = !last || last === within.inner.at(-1) ? firstRepeated(text, within.inner) : null;
+      if (found) return found;
+      within = last;
+    }
+    return null;
   }
 }
 
-/** The second of two elements that look the same, in a list or a list of it. */
-function equalElements(text, value) {
-  for (const element of value.inner) {
-    const found = equalElements(text, element);
-    if (found) return found;
-  }
+/** The first of some elements that looks like one before it. */
+function firstRepeated(text, elements) {
   const seen = new Map();
-  for (const element of value.inner) {
+  for (const element of elements) {
     const meant = meaning(text, element);
     const first = seen.get(meant);
-    if (first) return placeOf(element.start, element.end, [`the same as ${text.slice(first.start, first.end)}`]);
+    if (first) {
+      const like = text.slice(first.start, Math.min(first.end, first.start + 240));
+      return placeOf(element.start, element.end, [`the same as ${brief(like)}`]);
+    }
     seen.set(meant, element);
   }
   return null;
@@ -563,9 +764,16 @@ function replaced(text, value, by) {
 }
 
 /** The last of the values of which something is true that is true of those before it; null where it's true of none. */
-function lastOf(values, isTrue) {
-  if (values.length === 0 || !isTrue(values[0])) return null;
-  return values[firstCount(values.length, (count) => count === values.length || !isTrue(values[count])) - 1];
+function* lastOf(values, isTrue) {
+  if (values.length === 0 || !(yield* isTrue(values[0]))) return null;
+  let low = 0;
+  let high = values.length;
+  while (high - low > 1) {
+    const middle = Math.floor((low + high) / 2);
+    if (yield* isTrue(values[middle])) low = middle;
+    else high = middle;
+  }
+  return values[low];
 }
 
 /** The references of an instance in their order, each with the name that it says. */
@@ -579,6 +787,21 @@ function referencesIn(text, parts) {
     waiting.push(...[...value.inner].reverse());
   }
   return found;
+}
+
+/** In how many ways so many of some things can be taken. */
+function waysOf(things, taken) {
+  let ways = 1;
+  for (let number = 1; number <= taken; number++) ways = (ways * (things - taken + number)) / number;
+  return ways;
+}
+
+/** The ways in which so many of the numbers below a count can be taken, in their order. */
+function* combinations(count, taken, first = 0) {
+  if (taken === 0) yield [];
+  for (let at = first; taken > 0 && at <= count - taken; at++) {
+    for (const others of combinations(count, taken - 1, at + 1)) yield [at, ...others];
+  }
 }
 
 /** A byte by its number, and the sign that it is. */

@@ -3,10 +3,22 @@
 import { hasWideMemory, kindOf, namedSchema } from "./kinds.mjs";
 
 const FRONT = 1 << 16;
+// So many schemas have a row each; of more there is one list that opens.
+const FEW_SCHEMAS = 3;
+// So many refusals are shown open, so many have all of their kinds open, and of so many kinds the first refusal is; of a kind so
+// many have a row at first.
+const FEW_REFUSALS = 5;
+const SOME_REFUSALS = 30;
+const FEW_KINDS = 3;
+const FIRST_ROWS = 20;
+const MORE_ROWS = 200;
+// So many refusals are shown as text; all can be saved.
+const MOST_TEXTS = 1000;
 const COMPARISONS = {
   "A block, written in two ways": ["product.step", "product-other.step"],
   "The block with one coordinate changed": ["product.step", "product-changed.step"],
   "One file alone": ["product.step"],
+  "A file with many faults": ["product-broken.step"],
 };
 const WORDS = {
   "out of memory": "The browser gave the program no more memory.",
@@ -14,7 +26,7 @@ const WORDS = {
 };
 const examples = __EXAMPLES__;
 const isProved = __PROVED__;
-const chosen = { schema: null, first: null, second: null };
+const chosen = { schemas: [], aliases: null, first: null, second: null };
 const at = (id) => document.getElementById(id);
 let worker = null;
 
@@ -52,10 +64,10 @@ function sized(bytes) {
   return `${(bytes / size).toFixed(bytes < 10 * size ? 1 : 0)} ${unit}`;
 }
 
-/** A button that saves bytes as a file of this name. */
-function saving(text, bytes, name) {
+/** A button that saves what a function gives as a file of this name. */
+function saving(text, bytesOf, name) {
   return button(text, () => {
-    const link = element("a", { href: URL.createObjectURL(bytes), download: name });
+    const link = element("a", { href: URL.createObjectURL(bytesOf()), download: name });
     link.click();
     setTimeout(() => URL.revokeObjectURL(link.href), 60_000);
   });
@@ -63,26 +75,48 @@ function saving(text, bytes, name) {
 
 // --- Files ---
 
-/** Puts a file into a slot, or none, and shows it there. */
-function put(slot, file) {
-  chosen[slot] = file;
+/** Shows what a slot has, below its field: rows of a file or of something else, each with what takes it away. */
+function fill(slot, rows) {
   const place = document.querySelector(`[data-slot=${slot}]`);
-  place.classList.toggle("full", file !== null);
-  const shown = place.querySelector(".chosen");
-  shown.replaceChildren();
-  if (!file) {
-    at(slot).value = "";
-    return;
-  }
+  place.classList.toggle("full", rows.length > 0);
+  place.querySelector(".chosen").replaceChildren(...rows.map((row) => element("div", { class: "row" }, ...row)));
+  if (rows.length === 0) at(slot).value = "";
+}
+
+/** A button that takes something away from a slot. */
+function removing(slot, what, action) {
   const taken = () => {
-    put(slot, null);
+    action();
     at(slot).focus();
     begin();
   };
-  shown.append(
-    element("span", {}, element("strong", {}, file.name), ` ${sized(file.size)}`),
-    button("×", taken, { class: "remove", "aria-label": `Take ${file.name} away`, title: "Take away" }),
-  );
+  return button("×", taken, { class: "remove", "aria-label": `Take ${what} away`, title: "Take away" });
+}
+
+/** The name and the size of a file. */
+function titled(file) {
+  return element("span", {}, element("strong", {}, file.name), " ", element("span", { class: "size" }, sized(file.size)));
+}
+
+/** Puts a STEP file into its slot, or none. */
+function put(slot, file) {
+  chosen[slot] = file;
+  fill(slot, file ? [[titled(file), removing(slot, file.name, () => put(slot, null))]] : []);
+}
+
+/** Puts schemas into their slot, and the text of aliases. */
+function putSchemas(schemas, aliases = null) {
+  chosen.schemas = schemas;
+  chosen.aliases = aliases;
+  const without = (file) => putSchemas(chosen.schemas.filter((each) => each !== file), chosen.aliases);
+  const rows = schemas.map((file) => [titled(file), removing("schema", file.name, () => without(file))]);
+  if (schemas.length > FEW_SCHEMAS) {
+    const names = element("ul", {}, ...schemas.map(({ name }) => element("li", {}, name)));
+    const all = element("details", {}, element("summary", {}, counted(schemas.length, "schema")), names);
+    rows.splice(0, rows.length, [all, removing("schema", "all schemas", () => putSchemas([]))]);
+  }
+  if (aliases) rows.push([titled(aliases), removing("schema", aliases.name, () => putSchemas(chosen.schemas))]);
+  fill("schema", rows);
 }
 
 /** How a file begins, as a text; nothing where it can't be read. */
@@ -94,13 +128,20 @@ async function frontOf(file) {
   }
 }
 
+/** Is it the text that says what else the schemas of a shelf serve? */
+function isAliases({ name }) {
+  return /^aliases(?:\.txt)?$/i.test(name);
+}
+
 /** Puts dropped files where they belong: by what they are, and otherwise where they were dropped. */
 async function sort(files, slot) {
   const kinds = await Promise.all(files.map(async (file) => kindOf(await frontOf(file))));
   const isSchema = (file, number) => (kinds[number] ? kinds[number] === "schema" : slot === "schema" || /\.exp$/i.test(file.name));
-  const schemas = files.filter(isSchema);
-  const steps = files.filter((file, number) => !isSchema(file, number));
-  if (schemas.length > 0) put("schema", schemas[0]);
+  const aliases = files.find((file, number) => !kinds[number] && isAliases(file)) ?? null;
+  const schemas = files.filter((file, number) => file !== aliases && isSchema(file, number));
+  const steps = files.filter((file, number) => file !== aliases && !isSchema(file, number));
+  if (schemas.length > 0) putSchemas(schemas, aliases);
+  else if (aliases) putSchemas(chosen.schemas, aliases);
   if (steps.length === 1) {
     const free = chosen.first && !chosen.second && schemas.length === 0 ? "second" : "first";
     const wanted = slot === "first" || slot === "second" ? slot : free;
@@ -110,8 +151,8 @@ async function sort(files, slot) {
     put("first", steps[0]);
     put("second", steps[1]);
   }
-  const left = [...schemas.slice(1), ...steps.slice(2)].map((file) => file.name);
-  begin(left.length > 0 ? `Left out: ${left.join(", ")}. One schema and two files are looked at. ` : "");
+  const left = steps.slice(2).map((file) => file.name);
+  begin(left.length > 0 ? `Left out: ${left.join(", ")}. Two files are looked at. ` : "");
 }
 
 /** Says something in a sentence, to be read and heard. */
@@ -133,8 +174,8 @@ function example(name) {
 }
 
 /** Puts an example into the slots. */
-function show(names) {
-  put("schema", example("product.exp"));
+function showExample(names) {
+  putSchemas([example("product.exp")]);
   put("first", example(names[0]));
   put("second", names[1] ? example(names[1]) : null);
   begin();
@@ -172,26 +213,28 @@ function started(job, heard) {
 }
 
 /** Starts over with what is chosen. */
-function begin(said = "") {
+function begin(said = "", upToNames = false) {
   stop();
   at("answer").hidden = true;
+  at("answer").removeAttribute("data-whole");
   say(said);
   if (!module) return;
   const files = [chosen.first, chosen.second].filter((file) => file !== null);
-  if (!chosen.schema) {
+  if (chosen.schemas.length === 0) {
     if (files.length > 0) sayWanted(files[0], said);
     return;
   }
-  progress({ name: files[0]?.name ?? chosen.schema.name });
-  const mine = started({ schema: chosen.schema, files }, (message) => {
+  progress({ name: files[0]?.name ?? chosen.schemas[0].name });
+  const job = { schemas: chosen.schemas, aliases: chosen.aliases, files, upToNames };
+  const mine = started(job, (message) => {
     if (worker !== mine) return;
-    if (message.progress) {
-      progress(message.progress);
-      return;
-    }
-    stop();
+    if (message.trouble || message.isWhole) stop();
+    if (message.progress) progress(message.progress);
     if (message.trouble) say(`There is no answer: ${message.trouble}.`);
-    else shown(message.answer, said);
+    if (message.answer) show(message.answer, said, upToNames);
+    if (message.places) shownPlaces(message.places);
+    at("answer").toggleAttribute("data-whole", message.isWhole === true);
+    if (message.isWhole) shownLines();
   });
   worker = mine;
   setTimeout(() => worker === mine && showWork(said), 150);
@@ -206,57 +249,79 @@ function showWork(said) {
 /** Says of a file without a schema which one is wanted. */
 async function sayWanted(file, said) {
   const name = namedSchema(await frontOf(file));
-  if (chosen.schema) return;
+  if (chosen.schemas.length > 0) return;
   say(said, name ? `Now the schema is wanted: ${file.name} names ${name}.` : "Now the schema is wanted, an EXPRESS text.");
 }
 
 /** Shows how far the job is. */
-function progress({ name, done, size, looks, compares }) {
+function progress({ name, done, size, placed, of, compares }) {
   const bar = at("progress");
-  if (size && done < size) {
-    bar.max = size;
-    bar.value = done;
-    at("doing").textContent = `${name}: ${sized(done)} of ${sized(size)}`;
-    return;
-  }
-  bar.removeAttribute("value");
-  if (looks) at("doing").textContent = `${name}: looking for the place`;
+  const [part, whole] = of > 1 ? [placed, of] : [done, size];
+  if (whole && part < whole) {
+    bar.max = whole;
+    bar.value = part;
+  } else bar.removeAttribute("value");
+  const found = () => `${counted(of, "refusal")}, ${placed.toLocaleString("en")} found`;
+  if (of > 1) at("doing").textContent = `${name}: looking for the places of ${found()}`;
+  else if (of) at("doing").textContent = `${name}: looking for the place`;
   else if (compares) at("doing").textContent = `Comparing, ${name}`;
+  else if (size && done < size) at("doing").textContent = `${name}: ${sized(done)} of ${sized(size)}`;
   else at("doing").textContent = name;
 }
 
 // --- Answers ---
 
+// What is shown: of each file what the worker said of it, and what shows a refusal of it and its text.
+let files = [];
+
 /** Shows an answer, and says it in a sentence. */
-function shown(answer, said) {
+function show(answer, said, upToNames) {
   const { title, more, mood } = summary(answer);
-  const files = answer.files.length > 0 ? answer.files : [answer.schema];
+  files = answer.files.length > 0 ? answer.files : answer.schemas;
   at("answer").replaceChildren(
     element("div", { class: `verdict ${mood}` }, element("h2", { id: "verdict" }, title), more && element("p", {}, more)),
-    ...(answer.differences ? [differences(answer.differences, answer.files)] : []),
-    ...files.map(ofFile),
+    ...(answer.differences ? [differences(answer.differences, answer.files, upToNames)] : []),
+    ...files.map((file) => ofFile(file, answer.explained)),
   );
   at("answer").hidden = false;
   at("verdict").scrollIntoView({ block: "nearest" });
-  const refused = files.filter(({ accepted }) => !accepted).map(({ name, line }) => `${name}: ${line}.`);
+  const refused = files.filter(({ accepted }) => !accepted).map(heardOf);
   const sentence = said + [`${title}.`, more, ...refused].filter(Boolean).join(" ");
   if (said) say(sentence);
   else hear(sentence);
 }
 
+/** What is said to a screen reader of a file that isn't accepted. */
+function heardOf({ name, line, refusals }) {
+  return `${name}: ${refusals.length > 1 ? `${counted(refusals.length, "refusal")}, first ${line}` : line}.`;
+}
+
 /** An answer in a few words: how it ends, what else there is to say, and whether that is good. */
-function summary({ schema, files, verdict, differences }) {
-  if (!schema.accepted) return { title: failed(schema), more: schema.name, mood: "bad" };
-  if (files.length === 0) return { title: "The schema is read", more: "Now a STEP file is wanted.", mood: "good" };
-  if (verdict === "same") return { title: "Same", more: "Both files hold the same model.", mood: "good" };
-  if (verdict === "different") {
-    const only = differences.onlyHeader ? " All of them stand in the header: the data is the same." : "";
-    return { title: "Different", more: `${counted(differences.count, "difference")}.${only}`, mood: "other" };
+function summary({ schemas, files, verdict, differences }) {
+  const bad = schemas.find(({ accepted }) => !accepted);
+  if (bad) return { title: failed(bad), more: bad.name, mood: "bad" };
+  if (files.length === 0) {
+    const title = schemas.length > 1 ? "The schemas are read" : "The schema is read";
+    return { title, more: "Now a STEP file is wanted.", mood: "good" };
   }
+  if (verdict === "same") return { title: "Same", more: "Both files hold the same model.", mood: "good" };
+  const apart = "The files are of two schemas, so they aren’t compared.";
+  if (verdict === "apart") return { title: "Accepted", more: apart, mood: "other" };
+  if (verdict === "different") return { title: "Different", more: summaryOfDifferences(differences), mood: "other" };
   const refused = files.filter(({ accepted }) => !accepted);
   if (refused.length === 0) return { title: "Accepted", more: files[0].name, mood: "good" };
   const more = refused.length === 2 ? "Neither file is accepted." : "One of the files is accepted, and one isn’t.";
-  return { title: failed(refused[0]), more: files.length === 1 ? null : more, mood: "bad" };
+  const { refusals } = refused[0];
+  const count = refusals.length > 1 ? `${counted(refusals.length, "refusal")}.` : null;
+  return { title: failed(refused[0]), more: files.length === 1 ? count : more, mood: "bad" };
+}
+
+/** How many differences there are, and what else is known of them. */
+function summaryOfDifferences({ count, onlyHeader, upToNames }) {
+  const said = [`${counted(count, "difference")}.`];
+  if (onlyHeader) said.push("All of them stand in the header: the data is the same.");
+  else if (upToNames?.word === "same") said.push("Up to the names of their instances the files are the same.");
+  return said.join(" ");
 }
 
 /** How an answer is called that isn't one of acceptance. */
@@ -264,18 +329,18 @@ function failed({ status, line }) {
   return status === 1 ? "Refused" : WORDS[line] ? line[0].toUpperCase() + line.slice(1) : "No answer";
 }
 
-/** What the program says of a file. */
-function ofFile(answer) {
-  const heading = element("h3", {}, answer.name);
-  const made = element("div", { class: "file", "data-name": answer.name }, heading);
-  if (answer.accepted) {
-    made.append(element("code", { class: "line" }, answer.line));
-    if (answer.canonical) made.append(canonical(answer));
-    else made.append(element("p", {}, `${counted(answer.entities, "entity").replace("entitys", "entities")}.`));
-  } else {
-    made.append(element("ol", { class: "refusals" }, ...answer.refusals.map(ofRefusal)));
-    made.append(fold("As text", element("pre", { class: "lines", tabindex: "0" }, answer.lines.join("\n"))));
+/** What the program says of a file or a schema. */
+function ofFile(answer, explained) {
+  const made = element("div", { class: "file", "data-name": answer.name }, element("h3", {}, answer.name));
+  if (answer.schema) made.append(element("p", { class: "by" }, "by ", element("strong", {}, answer.schema)));
+  if (answer.change) made.append(element("p", { class: "change" }, element("code", {}, answer.change)));
+  if (!answer.accepted) {
+    made.append(...ofRefusals(answer, explained));
+    return made;
   }
+  made.append(element("code", { class: "line" }, answer.line));
+  if (answer.canonical) made.append(canonical(answer));
+  else made.append(element("p", {}, `${counted(answer.entities, "entity").replace("entitys", "entities")}.`));
   return made;
 }
 
@@ -288,36 +353,156 @@ function fold(title, ...inner) {
 function canonical({ name, canonical }) {
   const isWhole = canonical.shown.length === canonical.size;
   const note = isWhole ? null : hint(`The first ${sized(canonical.shown.length)} of ${sized(canonical.size)}.`);
-  const text = element("pre", { class: "long canonical", tabindex: "0", "aria-label": "canonical file" }, canonical.shown);
-  const saved = saving("Save the canonical file", canonical.whole, name.replace(/(\.\w+)?$/, ".canonical.step"));
+  const attributes = { class: "long canonical", tabindex: "0", role: "region", "aria-label": "canonical file" };
+  const text = element("pre", attributes, canonical.shown);
+  const saved = saving("Save the canonical file", () => canonical.whole, name.replace(/(\.\w+)?$/, ".canonical.step"));
   return fold("Canonical file", hint("One text for each meaning: to hash, sign, archive or compare."), saved, note, text);
 }
 
-/** A refusal: the program's line, the place, what there is to say of it, and what it means. */
-function ofRefusal({ line, place, attributes, looks, explained }) {
-  const made = element("li", {}, element("h4", {}, element("code", { class: "line" }, line)));
-  if (WORDS[line]) made.append(element("p", {}, WORDS[line]));
-  if (place) made.append(...ofPlace(place));
-  if (looks) made.append(element("p", { class: "looks" }, looks));
-  made.append(...attributes.map(ofAttributes));
-  if (explained) {
-    const means = fold("What it means, and what to do", ...paragraphs(explained));
-    means.open = true;
-    made.append(means);
+/** The refusals of a file, one alone in full, and several by their kinds. */
+function ofRefusals(answer, explained) {
+  const { refusals } = answer;
+  answer.rows = new Map();
+  answer.text = element("pre", { class: "lines", tabindex: "0", role: "region", "aria-label": `${answer.name}, as text` });
+  const whole = () => new Blob([`${linesOf(answer, refusals.length).join("\n")}\n`], { type: "text/plain" });
+  const isLong = refusals.length > MOST_TEXTS;
+  const saved = refusals.length > 1 ? saving("Save as text", whole, `${answer.name}.txt`) : null;
+  const note = isLong ? hint(`The first ${MOST_TEXTS} of ${counted(refusals.length, "refusal")}.`) : null;
+  const text = fold("As text", ...[saved, note, answer.text].filter(Boolean));
+  const rest = answer.rest ? element("p", { class: "rest" }, `${answer.rest[0].toUpperCase()}${answer.rest.slice(1)}.`) : null;
+  if (refusals.length === 1) {
+    const row = element("div", { class: "refusal" });
+    const show = () => row.replaceChildren(...ofRefusal(answer.refusals[0], "h4"));
+    show();
+    answer.rows.set(0, { show });
+    return [row, rest, ...meaning(explained[numberOf(refusals[0])], true), text].filter(Boolean);
   }
+  const kinds = Map.groupBy(refusals.keys(), (at) => kindOfRefusal(refusals[at]));
+  const count = `${counted(refusals.length, "refusal")}${kinds.size > 1 ? ` of ${kinds.size} kinds` : ""}`;
+  const isFew = refusals.length <= FEW_REFUSALS;
+  const made = [...kinds].map(([kind, places]) => ofKind(answer, kind, places, explained[kind.split(" ")[0]], isFew, kinds.size));
+  const last = answer.unplaced?.toLocaleString("en");
+  const unplaced = answer.unplaced > 0 ? hint(`The places of the last ${last} aren’t looked for.`) : null;
+  return [element("p", { class: "count" }, count), rest, unplaced, ...made, text].filter(Boolean);
+}
+
+/** The number of a refusal, as a word; nothing of another line. */
+function numberOf({ line }) {
+  return /refused (S?\d+) /.exec(line)?.[1] ?? null;
+}
+
+/** The number and the name of a refusal; the whole of another line. */
+function kindOfRefusal({ line }) {
+  return /refused (S?\d+ .*?)(?: in #\d+| at statement \d+)?$/.exec(line)?.[1] ?? line;
+}
+
+/** What a refusal means, and what to do. */
+function meaning(explained, isOpen) {
+  if (!explained) return [];
+  const means = fold("What it means, and what to do", ...paragraphs(explained.text));
+  means.open = isOpen;
+  means.classList.add("means");
+  return [means];
+}
+
+/** The refusals of one kind, each of which opens and closes. Rows that aren't shown yet come by a button. */
+function ofKind(answer, kind, places, explained, isFew, countOfKinds) {
+  const times = places.length === 1 ? "once" : `${places.length.toLocaleString("en")} times`;
+  const about = explained?.about ? element("span", { class: "about" }, explained.about) : null;
+  const name = element("h4", {}, element("code", {}, kind));
+  const title = element("summary", {}, name, " ", element("span", { class: "times" }, times), " ", about);
+  const list = element("ol", { class: "refusals" });
+  const made = element("details", { class: "kind" }, title, ...meaning(explained, false), list);
+  made.open = answer.refusals.length <= SOME_REFUSALS || countOfKinds <= FEW_KINDS;
+  const isFirstOpen = countOfKinds <= FEW_KINDS;
+  let shownRows = 0;
+  const more = button("", () => add(MORE_ROWS), { class: "more" });
+  const add = (count) => {
+    const isOpen = (at) => isFew || (isFirstOpen && at === places[0]);
+    const rows = places.slice(shownRows, shownRows + count).map((at) => ofRow(answer, at, isOpen(at)));
+    list.append(...rows);
+    if (shownRows > 0) rows[0].querySelector("summary").focus();
+    shownRows += rows.length;
+    const left = places.length - shownRows;
+    more.hidden = left === 0;
+    more.textContent = `Show ${Math.min(left, MORE_ROWS).toLocaleString("en")} more of ${places.length.toLocaleString("en")}`;
+  };
+  add(FIRST_ROWS);
+  made.append(more);
   return made;
 }
 
+/** A refusal of several: a row that says where it is, which opens to the whole. */
+function ofRow(answer, at, isOpen) {
+  const title = element("summary", {});
+  const whole = element("div", { class: "refusal" });
+  const row = element("details", {}, title, whole);
+  row.open = isOpen;
+  const open = () => row.open && whole.replaceChildren(...ofRefusal(answer.refusals[at], null));
+  const show = () => {
+    title.replaceChildren(...titleOf(answer.refusals[at]));
+    open();
+  };
+  show();
+  row.addEventListener("toggle", open);
+  answer.rows.set(at, { show });
+  return element("li", {}, row);
+}
+
+/** What the row of a refusal says: the instance or statement, where it is, and what is wrong in a few words. */
+function titleOf(refusal) {
+  const { line, place } = refusal;
+  const name = / (?:in )?(#\d+|at statement \d+)$/.exec(line)?.[1] ?? line;
+  if (!place) return [element("code", {}, name)];
+  const where = element("span", { class: "where" }, `line ${place.line}, column ${place.column}`);
+  const note = element("span", { class: "first-note" }, place.notes[0] ?? markedText(refusal));
+  return [element("code", {}, name), " ", where, " ", note];
+}
+
+/** What is refused at a place, in a few words: the attribute with its value, or the text that is marked. */
+function markedText({ place, attributes }) {
+  for (const { entity, rows } of attributes) {
+    const row = rows.find(({ isMarked }) => isMarked);
+    if (row) return `${entity}.${row.name} is ${row.value}`;
+  }
+  return place.mark;
+}
+
+/** A refusal: the program's line, the place, and what there is to say of it. Of several the row has the line. */
+function ofRefusal({ line, place, attributes, looks }, heading) {
+  const made = [element(heading ?? "p", { class: "said" }, element("code", { class: "line" }, line))];
+  if (WORDS[line]) made.push(element("p", {}, WORDS[line]));
+  if (place) made.push(...(heading ? [hint(`line ${place.line}, column ${place.column}`)] : []), ...ofPlace(place));
+  if (looks) made.push(element("p", { class: "looks" }, looks));
+  return [...made, ...attributes.map(ofAttributes)];
+}
+
+/** Shows the places of refusals that were found behind the answer. */
+function shownPlaces(found) {
+  for (const { file, at: number, report } of found) {
+    files[file].refusals[number] = report;
+    files[file].rows.get(number)?.show();
+  }
+}
+
+/** Shows the refusals of each file as text, as the tools print them. */
+function shownLines() {
+  for (const answer of files) if (answer.text) answer.text.textContent = linesOf(answer, MOST_TEXTS).join("\n");
+}
+
+/** The lines of so many refusals, and behind the last one that of the count. */
+function linesOf({ refusals, count }, most) {
+  const lines = refusals.slice(0, most).flatMap((refusal) => refusal.lines);
+  return count && most >= refusals.length ? [...lines, count] : lines;
+}
+
 /** The line at which a file is refused, with the place marked. */
-function ofPlace({ line, column, front, mark, back, notes }) {
+function ofPlace({ line, front, mark, back, notes }) {
   const text = element("span", {}, front, element("mark", {}, mark), back);
-  const found = [
-    hint(`line ${line}, column ${column}`),
-    element("pre", { class: "place" }, element("span", { class: "number", "aria-hidden": "true" }, String(line)), text),
-  ];
+  const number = element("span", { class: "number", "aria-hidden": "true" }, String(line));
   // What is indented is a command line.
   const ofNote = (note) => (note.startsWith("  ") ? element("pre", {}, note.trim()) : element("p", { class: "note" }, note));
-  return [...found, ...notes.map(ofNote)];
+  return [element("pre", { class: "place" }, number, text), ...notes.map(ofNote)];
 }
 
 /** The attributes of a part beside its values. */
@@ -333,12 +518,11 @@ function ofAttributes({ entity, rows }) {
   return element("table", {}, element("caption", {}, entity), element("tbody", {}, ...made));
 }
 
-/** What the program says of a refusal at length: paragraphs, and behind them the example that it begins with. */
+/** What the program says of a refusal at length: an example, with which the paragraphs begin, and what it means. */
 function paragraphs(text) {
   const blocks = text.trimEnd().split(/\n\n+/).slice(1);
-  const end = blocks.findIndex((block) => /(?:^|: )`(?:schema )?refused [^`]*`$/.test(block)) + 1;
-  const example = end > 0 ? [hint("A text that is refused so:"), ...blocks.slice(0, end).map(ofBlock)] : [];
-  return [...blocks.slice(end).map(ofBlock), ...example];
+  const hasExample = blocks.some((block) => /(?:^|: )`(?:schema )?refused [^`]*`$/.test(block));
+  return [...(hasExample ? [hint("For example, this is refused so:")] : []), ...blocks.map(ofBlock)];
 }
 
 /** A text that is indented, or a paragraph with words of code between backticks. */
@@ -348,13 +532,31 @@ function ofBlock(block) {
   return element("p", {}, ...parts.map((part, number) => (number % 2 ? element("code", {}, part) : part)));
 }
 
-/** What differs between two files. */
-function differences({ count, shown, text }, files) {
-  const saved = saving("Save as text", text, "differences.txt");
-  const made = element("div", { class: "differences" }, element("h3", {}, "What differs"), saved);
-  if (shown.length < count) made.append(hint(`The first ${shown.length} of ${counted(count, "difference")}.`));
-  made.append(element("ol", {}, ...shown.map((difference) => ofDifference(difference, files))));
-  return made;
+/** What differs between two files: by the names of instances, and up to names. */
+function differences(found, files, upToNames) {
+  const list = element("div", {});
+  const show = (way) => list.replaceChildren(...listOfDifferences(way === "names" ? found : found.upToNames, files));
+  const ways = { names: "by their names", shapes: "by what they say, whatever their names are" };
+  const choices = Object.entries(ways).map(([way, text]) => {
+    const input = element("input", { type: "radio", name: "way", value: way });
+    input.checked = (way === "shapes") === upToNames;
+    input.addEventListener("change", () => {
+      if (way === "names" || found.upToNames) show(way);
+      else begin("", true);
+    });
+    return element("label", {}, input, ` ${text}`);
+  });
+  const asked = element("fieldset", { class: "ways" }, element("legend", {}, "Instances are told"), ...choices);
+  show(upToNames ? "shapes" : "names");
+  return element("div", { class: "differences" }, element("h3", {}, "What differs"), asked, list);
+}
+
+/** A list of differences. */
+function listOfDifferences({ count, shown, text, verdict }, files) {
+  const made = [saving("Save as text", () => text, "differences.txt")];
+  if (verdict) made.unshift(element("p", { class: "known" }, verdict));
+  if (shown.length < count) made.push(hint(`The first ${shown.length} of ${counted(count, "difference")}.`));
+  return [...made, element("ol", {}, ...shown.map((difference) => ofDifference(difference, files)))];
 }
 
 function ofDifference({ what, texts }, files) {
@@ -382,7 +584,15 @@ function markedPair(first, second) {
 
 // --- What people do ---
 
-for (const slot of Object.keys(chosen)) {
+at("schema").addEventListener("change", ({ target }) => {
+  const given = [...target.files];
+  const aliases = given.find(isAliases) ?? null;
+  const schemas = given.filter((file) => file !== aliases);
+  if (given.length > 0) putSchemas(schemas.length > 0 ? schemas : chosen.schemas, aliases);
+  begin();
+});
+
+for (const slot of ["first", "second"]) {
   at(slot).addEventListener("change", ({ target }) => {
     if (target.files.length > 0) put(slot, target.files[0]);
     begin();
@@ -411,14 +621,15 @@ addEventListener("drop", (event) => {
 
 at("stop").addEventListener("click", () => {
   stop();
+  shownLines();
   const again = button("Start again", () => begin());
   say("Stopped. ", again);
   again.focus();
 });
 
-for (const [title, names] of Object.entries(COMPARISONS)) at("comparisons").append(button(title, () => show(names)));
+for (const [title, names] of Object.entries(COMPARISONS)) at("comparisons").append(button(title, () => showExample(names)));
 for (const name of Object.keys(examples).filter((found) => found.startsWith("refused/"))) {
-  at("refused").append(button(name.slice("refused/".length, -".step".length), () => show([name])));
+  at("refused").append(button(name.slice("refused/".length, -".step".length), () => showExample([name])));
 }
 
 at("checksum").textContent = __CHECKSUM__;

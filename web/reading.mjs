@@ -3,6 +3,11 @@
 import { Trouble } from "./program.mjs";
 
 const PIECE = 1 << 14;
+const STRETCH = 1 << 16;
+const LINE_FEED = 10;
+const ESCAPES = { "\n": "\\n", "\r": "\\r", "\t": "\\t" };
+// Of names so many are listed.
+const MOST_LISTED = 8;
 
 /** A text of bytes as a string with a character for each. */
 export function textOf(bytes) {
@@ -23,8 +28,9 @@ export function bytesOf(text) {
 /** The characters of a text in UTF-8; what a byte stands for that belongs to none says `otherwise`. */
 export function characters(text, otherwise) {
   const found = [];
+  const byteAt = (at) => text.charCodeAt(at);
   for (let at = 0; at < text.length; ) {
-    const size = sizeOfCharacter(text, at);
+    const size = sizeOfCharacter(byteAt, at);
     found.push(size ? decoded(text, at, size) : otherwise(text.charCodeAt(at)));
     at += size || 1;
   }
@@ -37,16 +43,24 @@ function decoded(text, at, size) {
   return new TextDecoder("utf-8", { ignoreBOM: true }).decode(bytesOf(text.slice(at, at + size)));
 }
 
+/** How many characters stand in a part of a text; each byte that belongs to none is one. */
+function countCharacters(bytes, start, end) {
+  const byteAt = (at) => (at < end ? bytes[at] : 0);
+  let count = 0;
+  for (let at = start; at < end; count++) at += sizeOfCharacter(byteAt, at) || 1;
+  return count;
+}
+
 /** How many bytes the character at a place has, or 0 where none begins. */
-function sizeOfCharacter(text, at) {
-  const first = text.charCodeAt(at);
+function sizeOfCharacter(byteAt, at) {
+  const first = byteAt(at);
   if (first < 0x80) return 1;
   if (first < 0xc2 || first > 0xf4) return 0;
   const size = first < 0xe0 ? 2 : first < 0xf0 ? 3 : 4;
   const least = { 0xe0: 0xa0, 0xf0: 0x90 }[first] ?? 0x80;
   const most = { 0xed: 0x9f, 0xf4: 0x8f }[first] ?? 0xbf;
   for (let behind = 1; behind < size; behind++) {
-    const byte = text.charCodeAt(at + behind);
+    const byte = byteAt(at + behind);
     if (!(byte >= (behind === 1 ? least : 0x80) && byte <= (behind === 1 ? most : 0xbf))) return 0;
   }
   return size;
@@ -161,9 +175,50 @@ function readValue(words) {
 
 /** The number of the line in which a place stands. */
 export function lineNumber(bytes, at) {
-  let number = 1;
-  for (let end = bytes.indexOf(10); end >= 0 && end < at; end = bytes.indexOf(10, end + 1)) number++;
-  return number;
+  return 1 + countLineEnds(bytes, 0, at);
+}
+
+/** How many line ends stand in a part of a text. */
+function countLineEnds(bytes, start, end) {
+  let count = 0;
+  for (let at = bytes.indexOf(LINE_FEED, start); at >= 0 && at < end; at = bytes.indexOf(LINE_FEED, at + 1)) count++;
+  return count;
+}
+
+/** The lines and columns of places in a text, of which many are asked for, mostly in their order. */
+export class Lines {
+  constructor(bytes) {
+    this.bytes = bytes;
+    // How many lines end in front of each stretch of the text.
+    this.marks = null;
+    this.last = { line: 0, column: 1, at: 0 };
+  }
+
+  /** The number of the line in which a place stands. */
+  number(at) {
+    if (!this.marks) {
+      this.marks = [0];
+      for (let start = 0; start < this.bytes.length; start += STRETCH) {
+        const stretch = this.bytes.subarray(start, start + STRETCH);
+        this.marks.push(this.marks.at(-1) + countLineEnds(stretch, 0, stretch.length));
+      }
+    }
+    const stretch = Math.floor(at / STRETCH);
+    const start = stretch * STRETCH;
+    return 1 + this.marks[stretch] + countLineEnds(this.bytes.subarray(start, start + STRETCH), 0, at - start);
+  }
+
+  /** The line and the column of a place, which is in characters. */
+  place(at) {
+    const line = this.number(at);
+    if (line !== this.last.line || at < this.last.at) {
+      const start = at > 0 ? this.bytes.lastIndexOf(LINE_FEED, at - 1) + 1 : 0;
+      this.last = { line, column: 1, at: start };
+    }
+    const column = this.last.column + countCharacters(this.bytes, this.last.at, at);
+    this.last = { line, column, at };
+    return { line, column };
+  }
 }
 
 /** The text around a place; `..` stands for what is left out. */
@@ -176,9 +231,29 @@ export function shortened(text, at, width = 100) {
   return front + signs.slice(start, start + width).join("") + back;
 }
 
+/** A text on one line, with characters that can't be shown by their numbers. */
+export function shown(text) {
+  return text.replace(/(?! )[\p{C}\p{Z}]/gu, shownCharacter);
+}
+
+function shownCharacter(sign) {
+  const code = sign.codePointAt(0);
+  const [letter, digits] = code < 0x100 ? ["x", 2] : code < 0x10000 ? ["u", 4] : ["U", 8];
+  return ESCAPES[sign] ?? `\\${letter}${code.toString(16).padStart(digits, "0")}`;
+}
+
 /** Bytes as a text on one line, with signs that can't be shown by their numbers. */
 export function clean(text) {
-  const numbered = (sign) => `\\x${sign.codePointAt(0).toString(16).padStart(2, "0")}`;
-  const line = characters(text, (byte) => `\\x${byte.toString(16)}`).join("").replace(/[ \t\r\n]+/g, " ");
-  return line.replace(/(?! )[\p{C}\p{Z}]/gu, numbered);
+  return shown(characters(text, (byte) => `\\x${byte.toString(16)}`).join("").replace(/[ \t\r\n]+/g, " "));
+}
+
+/** A word of a text on one line, of which the end may be left out. */
+export function brief(text) {
+  return shown(shortened(text, 0, 60));
+}
+
+/** Some names, of which those behind the first are left out. */
+export function listed(names, between = ", ") {
+  const first = names.slice(0, MOST_LISTED).map(brief);
+  return first.join(between) + (names.length > MOST_LISTED ? " .." : "");
 }

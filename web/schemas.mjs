@@ -4,7 +4,7 @@
 // or changed: cut behind a word, with some declarations replaced by empty ones of the same name, or without redeclarations.
 
 import { Text } from "./program.mjs";
-import { bytesOf, lineNumber, textOf } from "./reading.mjs";
+import { brief, bytesOf, lineNumber, textOf } from "./reading.mjs";
 
 const SCHEMA_LEXEME = new RegExp(
   [
@@ -18,6 +18,9 @@ const SCHEMA_LEXEME = new RegExp(
 const REMARK_MARK = /\(\*|\*\)/g;
 const STRAY = " \x80";
 const TEXT_LIMIT = 16_777_216;
+// So many texts are said of an attribute, and of each so many bytes.
+const MOST_TEXTS = 8;
+const LONGEST_TEXT = 4096;
 const DECLARATIONS = ["ENTITY", "TYPE", "FUNCTION", "PROCEDURE", "RULE", "CONSTANT", "SUBTYPE_CONSTRAINT"];
 const ONLY_ONEOF = /\bSUPERTYPE OF \( ONEOF \( ([\w ,]+) \) \)/;
 const SUBTYPE_OF = /\bSUBTYPE OF \( ([\w ,]+) \)$/;
@@ -67,6 +70,12 @@ function texts(words) {
 function namesIn(statement) {
   const found = texts(statement);
   return found.slice(0, Math.max(found.indexOf(":"), 0));
+}
+
+/** What stands between the commas in front of the `:` of a statement, as words: of an inherited attribute the first five. */
+function itemsIn(statement) {
+  const items = namesIn(statement).join(" ").split(" , ");
+  return items.map((item) => item.split(" ").slice(0, 5)).filter(([first]) => first !== "");
 }
 
 /** The names in the heading of an entity behind SUBTYPE OF, and those of a ONEOF with nothing beside it, as words. */
@@ -274,16 +283,48 @@ export class Outline {
    */
   explained(entities, { entity: declaring, attribute }) {
     const others = [...this.closure(entities)].filter((entity) => entity !== declaring).sort();
-    const found = [declaring, ...others].flatMap((entity) => this.declared(entity, declaring, attribute));
+    const found = [];
+    for (const entity of [declaring, ...others]) {
+      found.push(...this.declared(entity, declaring, attribute));
+      if (found.length >= MOST_TEXTS) break;
+    }
     for (let at = 0; at < found.length; at++) {
       const named = found[at].slice(found[at].search(/[:=]/) + 1);
-      if (found.length >= 8 || /^ (?:SELECT|ENUMERATION)\b/i.test(named)) continue;
+      if (found.length >= MOST_TEXTS || /^ (?:SELECT|ENUMERATION)\b/i.test(named)) continue;
       const types = (named.toUpperCase().match(/\w+/g) ?? []).filter((word) => this.types.has(word));
       const bodies = types.map((word) => this.body(this.types.get(word)));
       const known = new Set(found);
       found.push(...bodies.filter((body) => !known.has(body)));
     }
     return found;
+  }
+
+  /**
+   * The type of an attribute in an instance of these entities, as its text: where several declare it anew, that of the one that
+   * is furthest below.
+   */
+  typeOf(entities, { entity: declaring, attribute }) {
+    let found = "REAL";
+    const order = entities.flatMap((entity) => this.order(entity));
+    for (const entity of [declaring, ...order.filter((name) => name !== declaring)]) {
+      for (const { words } of this.statements(this.entities.get(entity))) {
+        for (const item of itemsIn(words)) {
+          const isOwn = item.length === 1 && entity === declaring;
+          if (item.at(-1) !== attribute || !(isOwn || (item.length > 1 && item[0] === "SELF"))) continue;
+          const type = texts(words).slice(texts(words).indexOf(":") + 1, -1);
+          found = type.slice(Number(type[0] === "OPTIONAL")).join(" ").split(" : = ")[0];
+        }
+      }
+    }
+    return found;
+  }
+
+  /** The text with entities in front of its first declaration, or where that is of constants behind the `;` of its heading. */
+  withEntities(entities) {
+    const [first] = this.declarations;
+    const heading = this.words.find(({ text }) => text === ";");
+    const at = first && first.kind !== "CONSTANT" ? first.words[0].start : heading.end;
+    return this.text.slice(0, at) + entities + this.text.slice(at);
   }
 
   /** The statements of an entity that declare an attribute, or declare it anew or derive it. */
@@ -305,7 +346,7 @@ export class Outline {
 
   /** The text from a word to another, on one line. */
   plain(first, last) {
-    return this.text.slice(first.start, last.end).replace(/[\t-\r\x1c-\x20\x85\xa0]+/g, " ");
+    return this.text.slice(first.start, Math.min(last.end, first.start + LONGEST_TEXT)).replace(/[\t-\r\x1c-\x20\x85\xa0]+/g, " ");
   }
 }
 
@@ -375,7 +416,7 @@ export class RefusedSchema {
   notesOn(word) {
     const holds = ({ words }) => words[0].start <= word.start && word.start <= words.at(-1).end;
     const found = this.outline.declarations.findLast(holds);
-    return found ? [`in ${found.kind} ${found.name}, ${this.line(found.words[0])}`] : [];
+    return found ? [`in ${found.kind} ${brief(found.name)}, ${this.line(found.words[0])}`] : [];
   }
 
   /** The line in which a word stands. */
@@ -410,7 +451,8 @@ export class RefusedSchema {
     const others = declarations.filter((other) => other.name === found.name && other !== found && isKept(other));
     if (this.number === 3 && !word && others.length === 0) return this.placeOfRedeclaration();
     word ??= found.words[1];
-    const notes = others.map((other) => `${other.kind} ${other.name} stands in ${this.line(other.words[0])} too`);
+    const said = (other) => `${other.kind} ${brief(other.name)} stands in ${this.line(other.words[0])} too`;
+    const notes = others.slice(0, MOST_TEXTS).map(said);
     return { start: word.start, end: word.end, notes: [...this.notesOn(word), ...(this.number === 3 ? notes : [])] };
   }
 

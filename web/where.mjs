@@ -1,8 +1,8 @@
 // Where a file or a schema text is refused, as tools/p21-where shows it: as a report for the page, and as its lines.
 
-import { RefusedFile } from "./files.mjs";
+import { GivenFile, RefusedFile, refusalsOf } from "./files.mjs";
 import { SCHEMA_TEXT, STEP_FILE } from "./kinds.mjs";
-import { characters, clean, lineNumber, readParts, shortened, textOf } from "./reading.mjs";
+import { Lines, clean, readParts, shortened, shown, textOf } from "./reading.mjs";
 import { RefusedSchema, numberOf } from "./schemas.mjs";
 
 // What a text is that begins so, and what to do with it.
@@ -16,6 +16,10 @@ const LOOKS = [
   [/^\x89HDF/, "this is STEP in its binary form, and not clear text"],
 ];
 const SCHEMA_LOOKS = [[STEP_FILE, "this is a STEP file: are schema and file exchanged?"], ...LOOKS];
+// Of an instance so many parts are shown, so many values that stand for no attribute, and so many attributes explained.
+const MOST_PARTS = 100;
+const MOST_SURPLUS = 8;
+const MOST_EXPLAINED = 8;
 const FILE_LOOKS = [[SCHEMA_TEXT, "this is a schema text: are schema and file exchanged?"], ...LOOKS];
 
 /** What the text looks like where it is none of the expected kind. */
@@ -24,26 +28,29 @@ function looksOf(bytes, looks) {
   return looks.find(([pattern]) => pattern.test(front))?.[1] ?? null;
 }
 
-/** The column of a place, in characters; each byte that belongs to none is one. */
-function column(bytes, at) {
-  const start = at > 0 ? bytes.lastIndexOf(10, at - 1) + 1 : 0;
-  return characters(textOf(bytes.subarray(start, at)), () => " ").length + 1;
-}
-
 /** A place by its line and column, the text from `start` to `end` around it, and what there is to say of it. */
-function shownPlace(bytes, start, end, place) {
+function shownPlace(lines, start, end, place) {
+  const { bytes } = lines;
   const marked = Math.min(place.end, place.start + 60);
   const last = marked === place.end ? Math.min(end, place.end + 60) : marked;
   const text = (from, to) => clean(textOf(bytes.subarray(Math.max(from, 0), Math.max(to, 0))));
   const cut = place.start - 60 > start;
   return {
-    line: lineNumber(bytes, place.start),
-    column: column(bytes, place.start),
+    ...lines.place(place.start),
     front: (cut ? ".. " : "") + text(Math.max(start, place.start - 60), place.start),
     mark: text(place.start, marked),
     back: text(marked, last) + (last < end ? " .." : ""),
-    notes: place.notes,
+    notes: place.notes.map(shown),
   };
+}
+
+/** A value on one line, or of a long one what stands around a place in it. */
+function excerpt(text, value, at) {
+  const start = Math.max(value.start, at - 2048);
+  const end = Math.min(value.end, Math.max(at, value.start) + 2048);
+  const line = shortened(clean(text.slice(start, end)), Math.max(at, start) - start, 60);
+  const front = start > value.start && !line.startsWith(".. ") ? ".. " : "";
+  return front + line + (end < value.end && !line.endsWith(" ..") ? " .." : "");
 }
 
 /** The attributes of an instance beside its values. Marked are the one at the place, and each that has no value. */
@@ -51,46 +58,83 @@ function shownAttributes(refused, statement, place) {
   const text = refused.text(statement);
   const at = place.start - statement.start;
   const parts = readParts(text);
-  const keys = parts.map(({ key }) => key);
-  const known = parts.filter(({ key }) => refused.listing.attributes.has(key));
-  return known.map((part) => ({
-    entity: part.key,
-    rows: rowsOf(refused, part, parts.length === 1).map(({ entity, attribute, value }) => {
-      const isMarked = !value || (value.start <= at && at < value.end);
-      const written = value ? clean(text.slice(value.start, value.end)) : "(no value)";
-      const explained = isMarked && entity ? refused.outline.explained(keys, { entity, attribute }) : [];
-      return {
-        name: attribute,
-        value: shortened(written, value ? at - value.start : 0, 60),
-        isMarked,
-        explained: explained.map((line) => shortened(line, 0)),
-      };
-    }),
-  }));
+  const first = parts.slice(0, MOST_PARTS).filter(({ key }) => refused.listing.attributes.has(key));
+  const keys = first.map(({ key }) => key);
+  let left = MOST_EXPLAINED;
+  const found = first.map((part) => {
+    const rows = shownPart(refused, text, keys, part, at, left);
+    left -= rows.filter(({ isExplained }) => isExplained).length;
+    return { entity: part.key, rows };
+  });
+  return parts.length > MOST_PARTS ? [...found, { entity: "..", rows: [] }] : found;
+}
+
+/** The rows of a part of an instance with these keywords. At most so many are explained. */
+function shownPart(refused, text, keys, part, at, most) {
+  let explained = 0;
+  const rows = rowsOf(refused, part, keys.length === 1);
+  const surplus = rows.filter(({ entity }) => !entity).length - MOST_SURPLUS;
+  const found = rows.slice(0, surplus > 0 ? -surplus : undefined).map(({ entity, attribute, value }) => {
+    const isMarked = !value || (refused.missing.length === 0 && value.start <= at && at < value.end);
+    const isExplained = isMarked && entity !== null && explained < most;
+    explained += Number(isExplained);
+    const lines = isExplained ? refused.outline.explained(keys, { entity, attribute }) : [];
+    return {
+      name: attribute,
+      value: value ? excerpt(text, value, at) : "(no value)",
+      isMarked,
+      isExplained,
+      explained: lines.map((line) => shown(shortened(line, 0))),
+    };
+  });
+  return surplus > 0 ? [...found, { name: "..", value: "", isMarked: false, isExplained: false, explained: [] }] : found;
 }
 
 /** Each attribute of a part with its value, and values without an attribute behind them. */
 function rowsOf(refused, part, alone) {
-  const places = refused.places(part, alone);
-  const count = Math.max(places.length, part.values.length);
-  return Array.from({ length: count }, (_, at) => ({
-    ...(places[at] ?? { entity: null, attribute: "(none)" }),
-    value: part.values[at] ?? null,
-  }));
+  const values = part.values.values();
+  const next = () => values.next().value ?? null;
+  const rows = refused.places(part, alone).map((place, at) => ({ ...place, value: refused.missing.includes(at) ? null : next() }));
+  return [...rows, ...[...values].map((value) => ({ entity: null, attribute: "(none)", value }))];
 }
 
 /** What there is to say of a schema text that is refused by this line. */
 export function whereInSchema(program, schema, line) {
   const refused = new RefusedSchema(program, schema.bytes, numberOf(line));
   const place = refused.place();
-  const shown = place && shownPlace(schema.bytes, ...refused.around(place), place);
+  const shown = place && shownPlace(new Lines(schema.bytes), ...refused.around(place), place);
   return { line, place: shown, attributes: [], looks: looksOf(schema.bytes, SCHEMA_LOOKS) };
 }
 
 /** What there is to say of a file that is refused by this line, under a schema that is called `named`. */
 export function whereInFile(program, schema, named, bytes, line) {
-  const refused = new RefusedFile(program, schema, named, bytes, line);
-  const found = refused.place();
+  const given = new GivenFile(program, schema, named, bytes);
+  const refused = new RefusedFile(given, line);
+  return whereRefused(line, refused, given.placeOf(refused));
+}
+
+/** What there is to say of each refusal of a file, of which these are the lines of `check --all`. */
+export function* whereAll(given, lines) {
+  const refusals = refusalsOf(given, lines);
+  let at = 0;
+  for (const found of given.placesOf(refusals)) {
+    yield whereIfTold(lines[at], refusals[at], found);
+    at++;
+  }
+}
+
+/** The same of one, without its place where that can't be told. */
+function whereIfTold(line, refused, found) {
+  try {
+    return whereRefused(line, refused, found);
+  } catch {
+    return { line, place: null, attributes: [], looks: null };
+  }
+}
+
+/** What there is to say of one refusal of a file, of which this is the line, and which stands at a place. */
+function whereRefused(line, refused, found) {
+  const { bytes } = refused.given;
   const looks = refused.statement === 1 ? looksOf(bytes, FILE_LOOKS) : null;
   if (!found?.place) return { line, place: null, attributes: [], looks };
   const { statement, place } = found;
@@ -99,7 +143,7 @@ export function whereInFile(program, schema, named, bytes, line) {
   const hasAttributes = refused.instance !== null && refused.number !== 40;
   return {
     line,
-    place: shownPlace(bytes, start, statement.end, place),
+    place: shownPlace(refused.given.lines, start, statement.end, place),
     attributes: hasAttributes ? shownAttributes(refused, statement, place) : [],
     looks,
   };
@@ -126,11 +170,11 @@ function placeLines(place, name) {
 }
 
 function attributeLines({ entity, rows }) {
-  const width = Math.max(0, ...rows.filter(({ name }) => name !== "(none)").map(({ name }) => name.length));
+  const width = Math.max(0, ...rows.filter(({ name }) => /^\w/.test(name)).map(({ name }) => name.length));
   return [
     `  ${entity}`,
     ...rows.flatMap(({ name, value, isMarked, explained }) => [
-      `  ${isMarked ? ">" : " "} ${name.padEnd(width)}  ${value}`,
+      `  ${isMarked ? ">" : " "} ${name.padEnd(width)}  ${value}`.trimEnd(),
       ...explained.map((line) => `    ${" ".repeat(width)}  ${line}`),
     ]),
   ];

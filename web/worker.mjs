@@ -1,15 +1,26 @@
-// One job in a thread of its own: what the program says of a schema and of one or two files, and what there is to say of it.
+// One job in a thread of its own: what the program says of schemas and of one or two files, and what there is to say of it.
 //
 // The page starts a worker for each job, and ends it to stop the job. Without a schema, the job is to say the version.
 
-import { differencesOf, equalBytes, lineOfDifference } from "./differences.mjs";
+import { differencesOf, differencesUpToNames, equalBytes } from "./differences.mjs";
+import { GivenFile } from "./files.mjs";
 import { Program, Text, Trouble } from "./program.mjs";
 import { listing, textOf } from "./reading.mjs";
-import { linesOf, whereInFile, whereInSchema } from "./where.mjs";
+import { Outline } from "./schemas.mjs";
+import { Sets } from "./sets.mjs";
+import { Shelf, nameIn } from "./shelf.mjs";
+import { linesOf, whereAll, whereInFile, whereInSchema } from "./where.mjs";
 
 const READ_AT_ONCE = 1 << 22;
 const SHOWN_CANONICAL = 1 << 17;
 const SHOWN_DIFFERENCES = 1000;
+// Two canonical files of so many bytes together are compared up to names without being asked.
+const SMALL_ENOUGH = 1 << 21;
+// Of so many refusals of a file the places are looked for. Those that are found in so many milliseconds come with the answer.
+const MOST_PLACES = 5000;
+const FIRST_PLACES = 300;
+const BETWEEN_MESSAGES = 100;
+const COUNT_LINE = /^refusals \d+(?:, (.*))?$/;
 
 /** A file of the person at the page, of which a piece is kept at a time. */
 class DroppedFile {
@@ -39,12 +50,6 @@ class DroppedFile {
   }
 }
 
-/** What the program says of a refusal at length: the text that it prints, and its number and name. */
-function explained(program, line) {
-  const number = /refused (S?\d+) /.exec(line)?.[1];
-  return number ? textOf(program.run(["faults", number]).output) : null;
-}
-
 /** What there is to say of a place, or null where that can't be told. */
 function placed(tell) {
   try {
@@ -54,11 +59,20 @@ function placed(tell) {
   }
 }
 
-/** A line that isn't an answer: a refusal with its place and what it means, or that something failed. */
-function refusal(program, line, status, tell, name) {
-  const report = (status === 1 && placed(tell)) || { line, place: null, attributes: [], looks: null };
-  const refusals = [{ ...report, explained: explained(program, line) }];
-  return { accepted: false, line, status, refusals, name, lines: linesOf(report, name) };
+/** A line without its place. */
+function withoutPlace(line) {
+  return { line, place: null, attributes: [], looks: null };
+}
+
+/** A report with its lines, as the tools print them. */
+function withLines(report, name) {
+  return { ...report, lines: linesOf(report, name) };
+}
+
+/** A line that isn't an answer, and of a file the line with the count. */
+function notAccepted(name, status, reports, count = null) {
+  const rest = COUNT_LINE.exec(count)?.[1] ?? null;
+  return { accepted: false, name, line: reports[0].line, status, refusals: reports, count, rest };
 }
 
 /** Counts the instances of a canonical file: the lines that begin with `#`. */
@@ -68,46 +82,83 @@ function countInstances(bytes) {
   return count;
 }
 
-/** The job: a schema, and none, one or two files, each with its name. */
+/** Differences as they go to the page. */
+function sentDifferences({ count, inHeader, shown, lines, word, verdict }) {
+  const text = new Blob([lines.map((line) => `${line}\n`).join("")], { type: "text/plain" });
+  return { count, shown, text, word, verdict, onlyHeader: count > 0 && count === inHeader };
+}
+
+/** The job: schemas, maybe with aliases, and none, one or two files, each with its name. */
 class Job {
-  constructor(program, { schema, files }, say) {
+  constructor(program, { schemas, aliases, files, upToNames }, say) {
     this.program = program;
-    this.schemaName = schema.name;
-    this.files = files;
+    this.files = files.map((file) => ({ name: file.name, text: new DroppedFile(file) }));
+    this.upToNames = upToNames;
     this.say = say;
-    this.schema = new Text(new DroppedFile(schema).bytes);
-    this.last = 0;
+    const listings = schemas.map((file) => ({ name: file.name, text: new Text(new DroppedFile(file).bytes) }));
+    this.served = { ...listings[0], change: null };
+    this.listings = listings;
+    this.shelf = null;
+    if (listings.length > 1 || aliases) {
+      this.shelf = new Shelf(listings, aliases && { name: aliases.name, text: textOf(new DroppedFile(aliases).bytes) });
+    }
+    this.schemas = new Map();
+    this.explanations = new Map();
+    this.heardAt = 0;
   }
 
   /** Says how far a file is read, some ten times a second. */
   heard(name, done, size) {
-    if (done < size && performance.now() - this.last < 100) return;
-    this.last = performance.now();
+    if (done < size && performance.now() - this.heardAt < BETWEEN_MESSAGES) return;
+    this.heardAt = performance.now();
     this.say({ progress: { name, done, size } });
   }
 
-  /** What the program says of the schema: how many entities it has, or where it is refused. */
-  ofSchema() {
-    const answer = this.program.run(["schema", "--", "schema"], { schema: this.schema });
-    if (answer.status !== 0) return this.schemaRefused(answer);
-    const entities = textOf(answer.output).trimEnd().split("\n").length - 1;
-    return { accepted: true, name: this.schemaName, entities, line: textOf(answer.output).split("\n", 1)[0] };
+  /** What the program says of each refusal, by its number: in a sentence, and at length. */
+  explained(numbers) {
+    for (const number of numbers) {
+      if (this.explanations.has(number)) continue;
+      const text = textOf(this.program.run(["faults", number]).output);
+      const listed = textOf(this.program.run(["faults"]).output);
+      const about = new RegExp(`^ +${number} (\\S+) +(.*)$`, "m").exec(listed);
+      this.explanations.set(number, { name: about?.[1] ?? "", about: about?.[2] ?? "", text });
+    }
+    return Object.fromEntries(this.explanations);
   }
 
-  schemaRefused({ error, status }) {
-    const tell = () => whereInSchema(this.program, this.schema, error);
-    return refusal(this.program, error, status, tell, this.schemaName);
+  // Schemas
+
+  /** What the program says of a schema: how many entities it has, or where it is refused. */
+  ofSchema({ name, text }) {
+    if (!this.schemas.has(text)) this.schemas.set(text, this.readSchema(name, text));
+    return this.schemas.get(text);
   }
+
+  readSchema(name, schema) {
+    const { output, error, status } = this.program.run(["schema", "--", "schema"], { schema });
+    if (status === 0) {
+      const [line, ...entities] = textOf(output).trimEnd().split("\n");
+      return { accepted: true, name, entities: entities.length, line };
+    }
+    const report = (status === 1 && placed(() => whereInSchema(this.program, schema, error))) || withoutPlace(error);
+    return notAccepted(name, status, [withLines(report, name)]);
+  }
+
+  // Files
 
   /** What the program says of a file: its canonical file, or where it is refused. */
-  ofFile(given) {
-    const file = new DroppedFile(given);
-    const heard = (path, done) => path === "file" && this.heard(given.name, done, file.size);
-    const answer = this.program.run(["canon", "--", "schema", "file"], { schema: this.schema, file }, heard);
-    if (answer.status === 0) return this.accepted(given.name, answer.output);
-    this.say({ progress: { name: given.name, looks: true } });
-    const tell = () => whereInFile(this.program, this.schema, this.schemaName, file.bytes, answer.error);
-    return refusal(this.program, answer.error, answer.status, tell, given.name);
+  ofFile({ name, text: file }) {
+    const served = this.shelf ? this.shelf.serving(nameIn(file)) : this.served;
+    if (!served) return notAccepted(name, 3, [withLines(withoutPlace(`no schema ${nameIn(file)} on the shelf`), name)]);
+    const said = { schema: this.shelf && served.name, change: served.change, served };
+    const schema = this.ofSchema(served);
+    if (!schema.accepted) return { ...schema, ...said };
+    const heard = (path, done) => path === "file" && this.heard(name, done, file.size);
+    const files = { schema: served.text, file };
+    const { output, error, status } = this.program.run(["canon", "--", "schema", "file"], files, heard);
+    if (status === 0) return { ...this.accepted(name, output), ...said };
+    if (status !== 1) return { ...notAccepted(name, status, [withLines(withoutPlace(error), name)]), ...said };
+    return { ...this.refused(name, files, error, heard), ...said, file };
   }
 
   accepted(name, canonical) {
@@ -115,37 +166,114 @@ class Job {
     return { accepted: true, name, line, canonical };
   }
 
-  /** What differs between two files that are accepted. */
-  differences(first, second) {
-    const { attributes } = listing(this.program, this.schema);
-    const heard = (count) => this.say({ progress: { name: `instance ${count}`, compares: true } });
-    const found = differencesOf(attributes, first.canonical, second.canonical, heard);
-    return {
-      count: found.length,
-      shown: found.slice(0, SHOWN_DIFFERENCES),
-      onlyHeader: found.length > 0 && found.every(({ isHeader }) => isHeader),
-      text: new Blob([found.map((difference) => `${lineOfDifference(difference)}\n`).join("")], { type: "text/plain" }),
-    };
+  /** Every refusal of a file, still without its place; the first one alone where there is no list, as for want of memory. */
+  refused(name, files, error, heard) {
+    const lines = this.program.run(["check", "--all", "--", "schema", "file"], files, heard).error.split("\n");
+    const count = lines.pop();
+    const isAll = COUNT_LINE.test(count);
+    const reports = (isAll ? lines : [error]).map((line) => ({ ...withoutPlace(line), lines: [line] }));
+    const unplaced = Math.max(0, reports.length - MOST_PLACES);
+    return { ...notAccepted(name, 1, reports, isAll ? count : null), isAll, unplaced };
   }
 
-  /** The answer to the whole job. */
+  /** The places of all refusals, one after the other, each with the number of its file and its own. */
+  *places(answers) {
+    for (const [file, answer] of answers.entries()) {
+      if (!answer.file) continue;
+      this.say({ progress: { name: answer.name, placed: 0, of: answer.refusals.length } });
+      const { name } = answer;
+      const reports = placed(() => this.reports(answer)) ?? [].values();
+      for (let at = 0; ; at++) {
+        const step = placed(() => reports.next());
+        if (!step || step.done) break;
+        yield { file, at, report: withLines(step.value, name) };
+      }
+    }
+  }
+
+  /** The reports of a file's refusals, one after the other. */
+  reports({ served, refusals, file, isAll, line }) {
+    if (!isAll) return [whereInFile(this.program, served.text, served.name, file.bytes, line)].values();
+    const lines = refusals.slice(0, MOST_PLACES).map((refusal) => refusal.line);
+    const given = new GivenFile(this.program, served.text, served.name, file.bytes, true);
+    return whereAll(
+      given,
+      lines.filter((each) => each.startsWith("refused")),
+    );
+  }
+
+  // Differences
+
+  /** What differs between two files that are accepted. */
+  differences(first, second) {
+    const { attributes } = listing(this.program, first.served.text);
+    const canonical = [first.canonical, second.canonical];
+    const heard = (count) => this.say({ progress: { name: `instance ${count}`, compares: true } });
+    const found = sentDifferences(differencesOf(attributes, ...canonical, SHOWN_DIFFERENCES, heard));
+    const isSmall = canonical[0].length + canonical[1].length <= SMALL_ENOUGH;
+    if (!isSmall && !this.upToNames) return { ...found, upToNames: null };
+    const sets = new Sets(new Outline(first.served.text.bytes));
+    const isSame = (one, other) => {
+      const files = { schema: first.served.text, first: new Text(one), second: new Text(other) };
+      return this.program.run(["same", "--", "schema", "first", "second"], files).status === 0;
+    };
+    const upToNames = differencesUpToNames(attributes, sets, ...canonical, SHOWN_DIFFERENCES, isSame, heard);
+    return { ...found, upToNames: sentDifferences(upToNames) };
+  }
+
+  // The answer
+
+  /** The answer to the whole job, in which refusals have no places yet. */
   answer() {
-    const schema = this.ofSchema();
-    if (!schema.accepted || this.files.length === 0) return { schema, files: [], verdict: null };
-    const files = this.files.map((file) => this.ofFile(file));
+    const schemas = this.shelf && this.files.length > 0 ? [] : this.listings.map((each) => this.ofSchema(each));
+    const isRead = schemas.every(({ accepted }) => accepted);
+    const files = isRead ? this.files.map((file) => this.ofFile(file)) : [];
     const [first, second] = files;
-    const compared = second && first.accepted && second.accepted;
+    const areAccepted = second !== undefined && first.accepted && second.accepted;
+    const compared = areAccepted && first.served.text === second.served.text;
     const isSame = compared && equalBytes(first.canonical, second.canonical);
-    const verdict = compared ? (isSame ? "same" : "different") : null;
+    const verdict = compared ? (isSame ? "same" : "different") : areAccepted ? "apart" : null;
     const differences = compared && !isSame ? this.differences(first, second) : null;
-    return { schema, files: files.map(sendable), verdict, differences };
+    return { schemas, files, verdict, differences };
+  }
+
+  /** Does the job: says the answer, and behind it the places that aren't found yet. */
+  run() {
+    const answer = this.answer();
+    const refused = [...answer.schemas, ...answer.files].flatMap(({ refusals }) => refusals ?? []);
+    const numbers = refused.map(({ line }) => /refused (S?\d+) /.exec(line)?.[1]).filter(Boolean);
+    const explained = this.explained(new Set(numbers));
+    const begun = performance.now();
+    let saidAt = null;
+    let waiting = [];
+    for (const found of this.places(answer.files)) {
+      const { name, refusals } = answer.files[found.file];
+      const now = performance.now();
+      if (saidAt === null) {
+        refusals[found.at] = found.report;
+        if (now - begun <= FIRST_PLACES) continue;
+        this.say({ answer: sendable(answer, explained), isWhole: false });
+      } else {
+        waiting.push(found);
+        if (now - saidAt <= BETWEEN_MESSAGES) continue;
+        this.say({ places: waiting, progress: { name, placed: found.at + 1, of: refusals.length } });
+        waiting = [];
+      }
+      saidAt = now;
+    }
+    if (saidAt === null) this.say({ answer: sendable(answer, explained), isWhole: true });
+    else this.say({ places: waiting, isWhole: true });
   }
 }
 
-/** An answer as it goes to the page: of a canonical file the beginning, and the whole to be saved. */
-function sendable(answer) {
-  if (!answer.accepted) return answer;
-  const { canonical, ...rest } = answer;
+/** An answer as it goes to the page. */
+function sendable(answer, explained) {
+  return { ...answer, explained, files: answer.files.map(sendableFile) };
+}
+
+/** What is said of a file: of a canonical file the beginning, and the whole to be saved. */
+function sendableFile({ canonical, served, file, ...rest }) {
+  if (!rest.accepted) return rest;
   const shown = canonical.subarray(0, SHOWN_CANONICAL);
   const end = shown.length < canonical.length ? shown.lastIndexOf(10) + 1 : shown.length;
   const whole = new Blob([canonical], { type: "text/plain" });
@@ -157,7 +285,7 @@ if (typeof WorkerGlobalScope !== "undefined") {
     const say = (message) => self.postMessage(message);
     try {
       const program = new Program(data.module);
-      if (data.schema) say({ answer: new Job(program, data, say).answer() });
+      if (data.schemas) new Job(program, data, say).run();
       else say({ version: textOf(program.run(["--version"]).output).trim() });
     } catch (error) {
       say({ trouble: error instanceof Trouble ? error.message : `${error.name}: ${error.message}` });

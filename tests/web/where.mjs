@@ -1,9 +1,10 @@
-// What the page says of refused texts: where.mjs MODULE reads a list of [SCHEMA] and [SCHEMA, FILE] as JSON, and writes the
-// lines and the status for each.
+// What the page says of refused texts: where.mjs MODULE reads a list of [SCHEMA] and [SCHEMA, FILE] as JSON, and writes for each
+// the lines and the status, and of a file the lines of all of its refusals.
 
 import fs from "node:fs";
+import { GivenFile } from "../../web/files.mjs";
 import { Program, Text } from "../../web/program.mjs";
-import { linesOf, whereInFile, whereInSchema } from "../../web/where.mjs";
+import { linesOf, whereAll, whereInFile, whereInSchema } from "../../web/where.mjs";
 
 const program = new Program(new WebAssembly.Module(fs.readFileSync(process.argv[2])));
 const text = (path) => new Text(new Uint8Array(fs.readFileSync(path)));
@@ -15,9 +16,19 @@ function report(schemaPath, path) {
   const words = file ? ["check", "--", "schema", "file"] : ["schema", "--", "schema"];
   const { output, error, status } = program.run(words, { schema, file });
   const said = error || new TextDecoder().decode(output).split("\n")[0];
-  if (/^schema refused/.test(error)) return [linesOf(whereInSchema(program, schema, error), schemaPath), status];
-  if (!/^refused/.test(error)) return [[said], status];
-  return [linesOf(whereInFile(program, schema, schemaPath, file.bytes, error), path), status];
+  if (/^schema refused/.test(error)) return [linesOf(whereInSchema(program, schema, error), schemaPath), status, null];
+  if (!/^refused/.test(error)) return [[said], status, null];
+  const lines = linesOf(whereInFile(program, schema, schemaPath, file.bytes, error), path);
+  return [lines, status, allOf(schema, schemaPath, file, path)];
+}
+
+/** The lines of all refusals of a file. */
+function allOf(schema, schemaPath, file, path) {
+  const { error } = program.run(["check", "--all", "--", "schema", "file"], { schema, file });
+  const lines = error.split("\n");
+  const count = lines.pop();
+  const given = new GivenFile(program, schema, schemaPath, file.bytes, true);
+  return [...whereAll(given, lines)].flatMap((found) => linesOf(found, path)).concat(count);
 }
 
 process.stdout.write(JSON.stringify(JSON.parse(fs.readFileSync(0)).map((given) => report(...given))));

@@ -1,0 +1,701 @@
+// Pairs the instances of two files whatever their names are. As in tools/p21_pairing.py.
+//
+// Instances are told apart by what they say and refer to (from below) and by what refers to them (from above), until nothing
+// changes: colour refinement. Two files can't be the same where a colour has more members in one of them. Where each colour
+// has one member in each, or where choosing one pair after another never runs into a contradiction, there is a pairing, which
+// whoever says "the same" has to check. Files that differ are paired from what is alike in them outwards.
+
+import { APART } from "./models.mjs";
+
+export const NONE = -1;
+const MOST_ROUNDS = 40;
+// What is compared of nodes without a partner: whether they say the same, and the pairs above and below them.
+const CONTEXTS = [
+  [true, true, true],
+  [true, false, true],
+  [true, true, false],
+  [false, true, true],
+  [false, false, true],
+  [false, true, false],
+];
+export const SAME = "same";
+export const DIFFERENT = "different";
+export const UNDECIDED = "undecided";
+
+/** Numbers in their order. */
+function rising(numbers) {
+  return numbers.sort((one, other) => one - other);
+}
+
+/** Pairs of numbers in their order. */
+function risingPairs(pairs) {
+  return pairs.sort((one, other) => one[0] - other[0] || one[1] - other[1]);
+}
+
+/** The list behind a key, which is made where there is none. */
+function listOf(groups, key) {
+  if (!groups.has(key)) groups.set(key, []);
+  return groups.get(key);
+}
+
+/** The two lists behind a key, one for each file. */
+function listsOf(groups, key) {
+  if (!groups.has(key)) groups.set(key, [[], []]);
+  return groups.get(key);
+}
+
+/** The number of a key, which gets the next one where it has none. */
+function numbered(numbers, key) {
+  const known = numbers.get(key);
+  if (known !== undefined) return known;
+  numbers.set(key, numbers.size);
+  return numbers.size - 1;
+}
+
+/** Nodes that wait, of which the first comes next. */
+class Waiting {
+  constructor() {
+    this.items = [];
+    this.next = 0;
+  }
+
+  get isEmpty() {
+    return this.next === this.items.length;
+  }
+
+  add(item) {
+    this.items.push(item);
+  }
+
+  take() {
+    const item = this.items[this.next++];
+    if (this.next > 1024 && 2 * this.next > this.items.length) {
+      this.items = this.items.slice(this.next);
+      this.next = 0;
+    }
+    return item;
+  }
+}
+
+// --- Colours ---
+
+/** The nodes that reach no cycle, each behind those that it refers to. */
+function orderOf(graph) {
+  const waiting = new Int32Array(graph.length);
+  const order = [];
+  for (let node = 0; node < graph.length; node++) {
+    waiting[node] = graph.starts[node + 1] - graph.starts[node];
+    if (waiting[node] === 0) order.push(node);
+  }
+  for (let at = 0; at < order.length; at++) {
+    for (const edge of graph.referrers(order[at])) {
+      const source = graph.sources[edge];
+      if (--waiting[source] === 0) order.push(source);
+    }
+  }
+  return order;
+}
+
+/** What a node says, or what else is known of it, and what it refers to. */
+function keyBelow(graph, node, base, colours) {
+  const refs = graph.refs(node);
+  const labels = graph.labels.get(graph.shapes[node]);
+  const found = Array.from(refs, (ref) => colours[ref]);
+  if (!labels) return [base[node], ...found].join();
+  return [base[node], ...risingPairs(found.map((colour, at) => [labels[at], colour])).map(([, colour]) => colour)].join();
+}
+
+/**
+ * A colour for each node by what is known of it, mostly what it says, and what it refers to; of nodes that reach a cycle, as
+ * far as a few steps tell.
+ */
+function coloursBelow(graph, order, base) {
+  const colours = new Int32Array(graph.length).fill(NONE);
+  const numbers = new Map();
+  for (const node of order) colours[node] = numbered(numbers, keyBelow(graph, node, base, colours));
+  const cyclic = [];
+  colours.forEach((colour, node) => colour === NONE && cyclic.push(node));
+  let count = 0;
+  for (let round = 0; round < 8; round++) {
+    const keys = cyclic.map((node) => `${NONE},${keyBelow(graph, node, base, colours)}`);
+    cyclic.forEach((node, at) => {
+      colours[node] = numbered(numbers, keys[at]);
+    });
+    const found = new Set(cyclic.map((node) => colours[node])).size;
+    if (found === count) break;
+    count = found;
+  }
+  return colours;
+}
+
+/** Finer colours, by what refers to a node too. Of nodes that reach a cycle they are those from below. */
+function coloursAbove(graph, order, below) {
+  const numbers = new Map();
+  const colours = new Int32Array(graph.length).fill(NONE);
+  const isAcyclic = new Uint8Array(graph.length);
+  for (const node of order) isAcyclic[node] = 1;
+  for (let node = 0; node < graph.length; node++) {
+    if (!isAcyclic[node]) colours[node] = numbered(numbers, `${NONE},${below[node]}`);
+  }
+  for (let at = order.length - 1; at >= 0; at--) {
+    const node = order[at];
+    const pairs = Array.from(graph.referrers(node), (edge) => [colours[graph.sources[edge]], graph.label(edge)]);
+    colours[node] = numbered(numbers, `${below[node]};${risingPairs(pairs).join(";")}`);
+  }
+  return colours;
+}
+
+/** Has a colour more members in one of the files? */
+function isUnbalanced(graph, colours) {
+  const found = new Int32Array(colours.reduce((most, colour) => Math.max(most, colour), -1) + 1);
+  colours.forEach((colour, node) => {
+    found[colour] += graph.isFirst(node) ? 1 : -1;
+  });
+  return found.some((balance) => balance !== 0);
+}
+
+/** Nodes of both files that are the only ones with their number, of those that are given. */
+function alone(graph, numbers, nodes) {
+  const size = numbers.reduce((most, number) => Math.max(most, number), -1) + 1;
+  const counts = new Float64Array(size);
+  const found = [new Int32Array(size), new Int32Array(size)];
+  for (const node of nodes) {
+    const isFirst = graph.isFirst(node);
+    counts[numbers[node]] += isFirst ? 1 : APART;
+    found[isFirst ? 0 : 1][numbers[node]] = node;
+  }
+  const pairs = [];
+  counts.forEach((count, number) => count === APART + 1 && pairs.push([found[0][number], found[1][number]]));
+  return pairs;
+}
+
+// --- Classes of both files, split until nothing changes ---
+
+/**
+ * Classes of nodes with as many members in the one file as in the other: in each file those of a class stand side by side. A
+ * split is kept, so that it can be taken back.
+ */
+class Classes {
+  constructor(graph, groups) {
+    this.graph = graph;
+    this.members = [[], []];
+    this.at = new Int32Array(graph.length).fill(NONE);
+    this.of = new Int32Array(graph.length).fill(NONE);
+    this.first = [];
+    this.size = [];
+    this.splits = [];
+    this.isWaiting = [];
+    this.waiting = [];
+    this.visits = 0;
+    for (const pair of groups) {
+      this.first.push(this.members[0].length);
+      this.size.push(pair[0].length);
+      pair.forEach((nodes, side) => {
+        for (const node of nodes) {
+          this.at[node] = this.members[side].length;
+          this.of[node] = this.first.length - 1;
+          this.members[side].push(node);
+        }
+      });
+      this.isWaiting.push(false);
+    }
+  }
+
+  /** The members of a class. */
+  nodes(number) {
+    const end = this.first[number] + this.size[number];
+    return this.members.flatMap((members) => members.slice(this.first[number], end));
+  }
+
+  /** A class by which others are still to be split. */
+  wait(number) {
+    if (this.isWaiting[number]) return;
+    this.isWaiting[number] = true;
+    this.waiting.push(number);
+  }
+
+  /** Makes classes of groups of members that are not all of a class. False where a group has more nodes of one file. */
+  split(number, groups) {
+    let made = [];
+    for (const group of groups) {
+      const firsts = group.filter((node) => this.graph.isFirst(node));
+      if (2 * firsts.length !== group.length) return false;
+      made.push(
+        this.take(
+          number,
+          firsts,
+          group.filter((node) => !this.graph.isFirst(node)),
+        ),
+      );
+    }
+    if (!this.isWaiting[number]) {
+      made.push(number);
+      const largest = made.reduce((best, each) => (this.size[each] > this.size[best] ? each : best));
+      made = made.filter((each) => each !== largest);
+    }
+    for (const each of made) this.wait(each);
+    return true;
+  }
+
+  /** A class of these members of another one. */
+  take(number, ...groups) {
+    const end = this.first[number] + this.size[number];
+    groups.forEach((group, side) => {
+      const members = this.members[side];
+      group.forEach((node, step) => {
+        const place = end - 1 - step;
+        const last = members[place];
+        members[place] = node;
+        members[this.at[node]] = last;
+        this.at[last] = this.at[node];
+        this.at[node] = place;
+        this.of[node] = this.first.length;
+      });
+    });
+    this.size[number] -= groups[0].length;
+    this.first.push(this.first[number] + this.size[number]);
+    this.size.push(groups[0].length);
+    this.isWaiting.push(false);
+    this.splits.push(number);
+    return this.first.length - 1;
+  }
+
+  /** Takes all splits back but the first ones. */
+  takeBack(count) {
+    for (const number of this.waiting) this.isWaiting[number] = false;
+    this.waiting = [];
+    while (this.splits.length > count) {
+      const number = this.splits.pop();
+      for (const node of this.nodes(this.first.length - 1)) this.of[node] = number;
+      this.size[number] += this.size.pop();
+      this.first.pop();
+      this.isWaiting.pop();
+    }
+  }
+
+  /** Splits classes until nothing changes. False where no pairing can be. */
+  refine() {
+    while (this.waiting.length > 0) {
+      const number = this.waiting.pop();
+      this.isWaiting[number] = false;
+      const nodes = this.nodes(number);
+      if (!this.splitBy(this.above(nodes)) || !this.splitBy(this.below(nodes))) return false;
+    }
+    return true;
+  }
+
+  /** Who refers to these nodes, with the places. */
+  above(nodes) {
+    const found = new Map();
+    for (const node of nodes) {
+      for (const edge of this.graph.referrers(node)) {
+        this.visits++;
+        const source = this.graph.sources[edge];
+        if (this.of[source] !== NONE) listOf(found, source).push(this.graph.label(edge));
+      }
+    }
+    return found;
+  }
+
+  /** What these nodes refer to, with the places. */
+  below(nodes) {
+    const found = new Map();
+    for (const node of nodes) {
+      const labels = this.graph.placesOf(node);
+      this.graph.refs(node).forEach((target, at) => {
+        this.visits++;
+        if (this.of[target] !== NONE) listOf(found, target).push(labels[at]);
+      });
+    }
+    return found;
+  }
+
+  /** Splits classes by places, and by whether a member has any. */
+  splitBy(places) {
+    const groups = new Map();
+    for (const [node, labels] of places) {
+      const number = this.of[node];
+      if (!groups.has(number)) groups.set(number, new Map());
+      listOf(groups.get(number), rising(labels).join()).push(node);
+    }
+    for (const [number, byPlaces] of groups) {
+      const found = [...byPlaces.values()].sort((one, other) => one.length - other.length);
+      if (found.reduce((sum, { length }) => sum + length, 0) === 2 * this.size[number]) found.pop();
+      if (found.length > 0 && !this.split(number, found)) return false;
+    }
+    return true;
+  }
+}
+
+/** Splits each class once by all colours around its members. */
+function roundOf(graph, classes, colours) {
+  const count = classes.first.length;
+  for (let number = 0; number < count; number++) {
+    const groups = new Map();
+    for (const node of classes.nodes(number)) {
+      const labels = graph.placesOf(node);
+      const above = Array.from(graph.referrers(node), (edge) => [colours[graph.sources[edge]], graph.label(edge)]);
+      const below = Array.from(graph.refs(node), (ref, at) => [labels[at], colours[ref]]);
+      listOf(groups, `${risingPairs(above).join(";")}|${risingPairs(below).join(";")}`).push(node);
+    }
+    const found = [...groups.values()].sort((one, other) => one.length - other.length);
+    found.pop();
+    if (found.length > 0 && !classes.split(number, found)) return false;
+  }
+  return true;
+}
+
+/** A pair that was chosen of a class with several members, and what else could be chosen. */
+class Choice {
+  constructor(classes, number) {
+    this.mark = classes.splits.length;
+    this.number = number;
+    this.first = classes.members[0][classes.first[number]];
+    this.second = classes.members[1][classes.first[number]];
+    this.others = null;
+  }
+
+  /** Goes on to another pair, behind one with which there is no pairing. */
+  next(classes) {
+    classes.takeBack(this.mark);
+    if (!this.others) {
+      const begin = classes.first[this.number];
+      const members = classes.members[1].slice(begin, begin + classes.size[this.number]);
+      this.others = members.filter((node) => node !== this.second);
+    }
+    if (this.others.length === 0) return false;
+    this.second = this.others.pop();
+    return true;
+  }
+
+  /** Makes a class of the pair, and splits what follows from it. */
+  take(classes) {
+    classes.wait(classes.take(this.number, [this.first], [this.second]));
+    return classes.refine();
+  }
+}
+
+/** Chooses pairs until each class has one. Says what is known, and how many pairs were chosen. */
+function search(classes) {
+  const choices = [];
+  const most = classes.visits + 20 * classes.graph.targets.length + 100_000;
+  for (let at = 0; ; ) {
+    while (at < classes.first.length && classes.size[at] === 1) at++;
+    if (at === classes.first.length) return { verdict: SAME, chosen: choices.length };
+    choices.push(new Choice(classes, at));
+    while (!choices.at(-1).take(classes)) {
+      if (classes.visits > most) return { verdict: UNDECIDED, chosen: choices.length };
+      while (!choices.at(-1).next(classes)) {
+        choices.pop();
+        if (choices.length === 0) return { verdict: DIFFERENT, chosen: 0 };
+      }
+      at = choices.at(-1).number;
+    }
+  }
+}
+
+/** A pairing of files whose colours have equally many members, if one is found. */
+function paired(graph, colours) {
+  const partner = new Int32Array(graph.length).fill(NONE);
+  for (const [first, second] of alone(graph, colours, colours.keys())) {
+    partner[first] = second;
+    partner[second] = first;
+  }
+  const groups = new Map();
+  colours.forEach((colour, node) => {
+    if (partner[node] === NONE) listsOf(groups, colour)[graph.isFirst(node) ? 0 : 1].push(node);
+  });
+  const classes = new Classes(graph, groups.values());
+  if (!roundOf(graph, classes, colours) || !classes.refine()) return { verdict: DIFFERENT, partner, chosen: 0 };
+  const { verdict, chosen } = search(classes);
+  if (verdict === SAME) {
+    classes.members[0].forEach((first, at) => {
+      const second = classes.members[1][at];
+      partner[first] = second;
+      partner[second] = first;
+    });
+  }
+  return { verdict, partner, chosen };
+}
+
+/** Does a node say what its partner says, and refer to the partners of what it refers to? */
+function fits(graph, partner, node) {
+  const other = partner[node];
+  if (other === NONE || graph.shapes[node] !== graph.shapes[other]) return false;
+  const mapped = Array.from(graph.refs(node), (ref) => partner[ref]);
+  const refs = graph.refs(other);
+  if (mapped.length === refs.length && mapped.every((ref, at) => ref === refs[at])) return true;
+  const labels = graph.labels.get(graph.shapes[node]);
+  const sorted = (nodes) => risingPairs(Array.from(nodes, (ref, at) => [labels[at], ref])).join(";");
+  return labels !== undefined && sorted(mapped) === sorted(refs);
+}
+
+/** Does an instance fit its partner, with the elements of its sets that are nodes of their own? */
+export function fitsWhole(graph, partner, node) {
+  const waiting = [node];
+  while (waiting.length > 0) {
+    const each = waiting.pop();
+    if (!fits(graph, partner, each)) return false;
+    for (const ref of graph.refs(each)) if (ref >= graph.count) waiting.push(ref);
+  }
+  return true;
+}
+
+/** Is each node of the first file paired with one that fits, and each of the second with one? */
+function isPairing(graph, partner) {
+  let firsts = 0;
+  for (let node = 0; node < graph.length; node++) firsts += Number(graph.isFirst(node));
+  if (2 * firsts !== graph.length) return false;
+  for (let node = 0; node < graph.length; node++) {
+    if (graph.isFirst(node) && !(fits(graph, partner, node) && partner[partner[node]] === node)) return false;
+  }
+  return true;
+}
+
+// --- Files that differ ---
+
+/** Pairs what is alike in two files that differ, and from pair to pair what stands at the same place. */
+class Matching {
+  constructor(graph, below, colours) {
+    this.graph = graph;
+    this.below = below;
+    this.colours = colours;
+    this.partner = new Int32Array(graph.length).fill(NONE);
+    this.fresh = new Waiting();
+    this.later = [new Waiting(), new Waiting()];
+    this.last = new Waiting();
+    this.ambiguous = 0;
+  }
+
+  /** Pairs two nodes, where both are free and of one entity. */
+  pair(node, other) {
+    const { graph, partner } = this;
+    if (partner[node] !== NONE || partner[other] !== NONE || graph.kind(node) !== graph.kind(other)) return false;
+    partner[node] = other;
+    partner[other] = node;
+    this.fresh.add(node);
+    return true;
+  }
+
+  /** Those without a partner. */
+  free(nodes) {
+    return [...nodes].filter((node) => this.partner[node] === NONE);
+  }
+
+  /** The nodes without a partner. */
+  unpaired() {
+    return this.free(this.partner.keys());
+  }
+
+  /** Nodes of both files that are the only ones with their key. */
+  alone(nodes, keyOf) {
+    const groups = new Map();
+    for (const node of nodes) {
+      const key = keyOf(node);
+      if (key !== null) listOf(groups, key).push(node);
+    }
+    const isPair = (group) => group.length === 2 && this.graph.isFirst(group[0]) && !this.graph.isFirst(group[1]);
+    return [...groups.values()].filter(isPair);
+  }
+
+  /** Pairs what can be paired. */
+  run() {
+    for (const numbers of [this.colours, this.below, this.graph.shapes]) {
+      for (const [node, other] of alone(this.graph, numbers, this.unpaired())) this.pair(node, other);
+    }
+    this.spread();
+    this.byContexts();
+    // Parts that nothing else refers to, and that are the same as a whole, must not be mixed with others.
+    this.byKey((node) => this.colours[node], true);
+    while (!this.last.isEmpty) this.choose(...this.last.take());
+    this.byContexts();
+    this.byRank();
+  }
+
+  /** From each new pair to those around it; pairs with less in common come later. */
+  spread() {
+    for (;;) {
+      if (!this.fresh.isEmpty) {
+        const node = this.fresh.take();
+        this.downwards(node, this.partner[node]);
+        this.upwards(node, this.partner[node]);
+        continue;
+      }
+      const waiting = this.later.find(({ isEmpty }) => !isEmpty);
+      if (!waiting) return;
+      this.pair(...waiting.take());
+    }
+  }
+
+  /** A pair that stands at the same place of a pair: taken at once where it says the same, else later. */
+  offer(node, other) {
+    const { graph, below, later } = this;
+    if (below[node] === below[other]) this.pair(node, other);
+    else if (graph.shapes[node] === graph.shapes[other]) later[0].add([node, other]);
+    else if (graph.kind(node) === graph.kind(other)) later[1].add([node, other]);
+  }
+
+  /** What a pair refers to. */
+  downwards(node, other) {
+    const { graph, partner } = this;
+    const [refs, others] = [graph.refs(node), graph.refs(other)];
+    const isPaired = (ref) => partner[ref] !== NONE;
+    if (refs.every(isPaired) || others.every(isPaired)) return;
+    const labels = graph.labels.get(graph.shapes[node]);
+    if (graph.shapes[node] === graph.shapes[other] && !labels) {
+      refs.forEach((ref, at) => {
+        if (partner[ref] === NONE && partner[others[at]] === NONE) this.offer(ref, others[at]);
+      });
+      return;
+    }
+    const groups = new Map();
+    [node, other].forEach((ofNode, side) => {
+      const places = graph.placesOf(ofNode);
+      graph.refs(ofNode).forEach((ref, at) => listsOf(groups, places[at])[side].push(ref));
+    });
+    for (const [mine, theirs] of groups.values()) this.members(this.free(new Set(mine)), this.free(new Set(theirs)));
+  }
+
+  /** What stands at one place of a pair: pairs what says the same, then what alone is alike. */
+  members(mine, theirs) {
+    if (mine.length === 1 && theirs.length === 1) {
+      this.offer(mine[0], theirs[0]);
+      return;
+    }
+    const keys = [(node) => this.below[node], (node) => this.graph.shapes[node], (node) => this.graph.kind(node)];
+    let left = [mine, theirs];
+    for (const [number, keyOf] of keys.entries()) {
+      left = left.map((nodes) => this.free(nodes));
+      if (left.some(({ length }) => length === 0)) return;
+      const groups = new Map();
+      left.forEach((nodes, side) => {
+        for (const node of nodes) listsOf(groups, keyOf(node))[side].push(node);
+      });
+      for (const [one, another] of groups.values()) {
+        if (one.length === 1 && another.length === 1) this.offer(one[0], another[0]);
+        else if (number === 0) one.slice(0, another.length).forEach((each, at) => this.last.add([each, another[at]]));
+      }
+    }
+  }
+
+  /** What refers to a pair, where one node alone does it at a place. */
+  upwards(node, other) {
+    const { graph, partner } = this;
+    const groups = new Map();
+    for (const [side, ofNode] of [node, other].entries()) {
+      const free = graph.referrers(ofNode).filter((edge) => partner[graph.sources[edge]] === NONE);
+      if (free.length === 0) return;
+      for (const edge of free) {
+        const source = graph.sources[edge];
+        listsOf(groups, `${graph.label(edge)},${graph.shapes[source]}`)[side].push(source);
+      }
+    }
+    for (const [mine, theirs] of groups.values()) {
+      if (mine.length === 1 && theirs.length === 1) this.offer(mine[0], theirs[0]);
+      else if (mine.length === theirs.length) this.members([...new Set(mine)], [...new Set(theirs)]);
+    }
+  }
+
+  // What is left over
+
+  /** The pairs around a node, by their nodes of the first file; null where there is none. */
+  context(node, isAbove, isBelow) {
+    const { graph, partner } = this;
+    const around = [];
+    if (isAbove) for (const edge of graph.referrers(node)) around.push([-1 - graph.label(edge), graph.sources[edge]]);
+    if (isBelow) {
+      const labels = graph.placesOf(node);
+      graph.refs(node).forEach((ref, at) => around.push([labels[at], ref]));
+    }
+    let count = 0;
+    const found = [];
+    for (const [label, other] of around) {
+      if (partner[other] !== NONE) {
+        count++;
+        found.push([label, graph.isFirst(other) ? other : partner[other]]);
+      } else if (isBelow && label >= 0) {
+        found.push([label, NONE]);
+      }
+    }
+    return count > 0 ? risingPairs(found).join(";") : null;
+  }
+
+  /** Pairs by what is around nodes, for so many rounds. */
+  byContexts() {
+    for (let round = 0; round < MOST_ROUNDS; round++) if (!this.byContext()) return;
+  }
+
+  /** Pairs nodes that alone have the same pairs around them. Says whether there were any. */
+  byContext() {
+    const left = this.unpaired();
+    let isFound = false;
+    for (const [isShape, isAbove, isBelow] of CONTEXTS) {
+      const keyOf = (node) => {
+        const context = this.context(node, isAbove, isBelow);
+        return context && `${isShape ? this.graph.shapes[node] : this.graph.kind(node)}|${context}`;
+      };
+      for (const [node, other] of this.alone(this.free(left), keyOf)) isFound = this.pair(node, other) || isFound;
+      this.spread();
+      if (isFound) return true;
+    }
+    return isFound;
+  }
+
+  /** Pairs what is left over and alike in the order of the files, and counts such pairs where others could be made. */
+  byRank() {
+    this.byKey((node) => `${this.below[node]}|${this.context(node, true, false)}`, true);
+    this.byKey((node) => this.below[node], true);
+    this.byKey((node) => `${this.graph.shapes[node]}|${this.context(node, true, false)}`, false);
+    this.byKey((node) => `${this.graph.kind(node)}|${this.context(node, true, false)}`, false);
+  }
+
+  /** Pairs what has equal keys in the order of the files, as far as there are any, or just where there are equally many. */
+  byKey(keyOf, isAny) {
+    const groups = new Map();
+    for (const node of this.unpaired()) listsOf(groups, keyOf(node))[this.graph.isFirst(node) ? 0 : 1].push(node);
+    for (const [mine, theirs] of groups.values()) if (isAny || mine.length === theirs.length) this.inOrder(mine, theirs);
+  }
+
+  /** Pairs nodes of which none fits better than another. */
+  inOrder(mine, theirs) {
+    if (mine.length === 1 && theirs.length === 1) {
+      this.pair(mine[0], theirs[0]);
+      this.spread();
+      return;
+    }
+    mine.slice(0, theirs.length).forEach((node, at) => this.choose(node, theirs[at]));
+  }
+
+  /** A pair where others could be. */
+  choose(node, other) {
+    if (!this.pair(node, other)) return;
+    this.ambiguous += Number(node < this.graph.count);
+    this.spread();
+  }
+}
+
+// --- Both ---
+
+/**
+ * A pairing of the two files of a graph: for each node its partner or -1, how many pairs could be others as well, and whether
+ * the files are known to be the same up to names, known to differ, or neither. One of files that are the same is still to be
+ * checked.
+ */
+export function pairing(graph) {
+  const order = orderOf(graph);
+  const below = coloursBelow(graph, order, graph.shapes);
+  const colours = coloursAbove(graph, order, below);
+  let verdict = DIFFERENT;
+  if (!isUnbalanced(graph, colours)) {
+    const found = paired(graph, colours);
+    if (found.verdict === SAME && isPairing(graph, found.partner)) {
+      return { partner: found.partner, ambiguous: found.chosen, verdict: SAME };
+    }
+    verdict = found.verdict === SAME ? (found.chosen > 0 ? UNDECIDED : DIFFERENT) : found.verdict;
+  }
+  // A part that nothing refers to may hang on parts that differ: what is known from above is carried down once more.
+  const matching = new Matching(graph, below, coloursAbove(graph, order, coloursBelow(graph, order, colours)));
+  matching.run();
+  if (verdict === UNDECIDED && isPairing(graph, matching.partner)) verdict = SAME;
+  return { partner: matching.partner, ambiguous: matching.ambiguous, verdict };
+}
