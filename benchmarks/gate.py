@@ -1,5 +1,5 @@
 #!/usr/bin/env python3
-"""Runs the gate from nothing over a clone of what is committed, and writes docs/GATE.md: what each crate's proof, tests
+"""Runs the gate from nothing over a clone of what is committed, and writes docs/dev/GATE.md: what each crate's proof, tests
 and wrong bodies cost.
 
 Times are processor seconds, read from /proc each second, so each check loses half a second at its end. Nothing else
@@ -97,7 +97,7 @@ def write(sums, clock, last, edits):
     for crate, costs in sorted(sums.items(), key=lambda it: -sum(it[1].values())):
         lines.append(row(f"`{crate}`", costs, edits.get(crate, 0)))
     lines.append(row("all", total, sum(edits.values())))
-    with open(f"{ROOT}/docs/GATE.md", "w") as file:
+    with open(f"{ROOT}/docs/dev/GATE.md", "w") as file:
         print("\n".join(lines), file=file)
 
 
@@ -126,7 +126,7 @@ def main():
     last = text(log).decode(errors="replace").rstrip().rpartition("\n")[2]
     write(watch.table(), clock, last, edits_in(folder))
     shutil.rmtree(clone)
-    print(f"{last}; {clock:.0f} s; docs/GATE.md is written")
+    print(f"{last}; {clock:.0f} s; docs/dev/GATE.md is written")
 
 
 if __name__ == "__main__":

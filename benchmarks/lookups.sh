@@ -7,7 +7,7 @@
 benchmarks=$(dirname -- "$(readlink -f -- "$0")")
 "$benchmarks/build.sh" lookups p21_express p21_express_tables p21_express_graph p21_express_types || exit
 
-PYTHONDONTWRITEBYTECODE=1 PYTHONPATH=$benchmarks exec python3 - "$benchmarks/out" <<'PROGRAM'
+PYTHONDONTWRITEBYTECODE=1 PYTHONPATH=$benchmarks exec python3 - "$benchmarks/out" <<'SCRIPT'
 import os
 import sys
 import tempfile
@@ -33,4 +33,4 @@ with tempfile.TemporaryDirectory() as folder:
     print("|---|---|")
     for name in ("is_a", "place_name", "own_type"):
         print(f"| `{name}` | {(least([PROGRAM, path, name]) - nothing) * 1e9 / LOOKUPS:.1f} |")
-PROGRAM
+SCRIPT

@@ -6,7 +6,7 @@
 root=$(dirname -- "$(dirname -- "$(readlink -f -- "$0")")")
 "$root/p21" --help > /dev/null || exit
 
-exec python3 - "$root/crates/p21/out/p21" <<'PROGRAM'
+exec python3 - "$root/crates/p21/out/p21" <<'SCRIPT'
 import os
 import subprocess
 import sys
@@ -61,4 +61,4 @@ with tempfile.TemporaryDirectory() as folder:
         print(
             f"| {digits:,} | {p21 * 1e3:.1f} | {sha * 1e3:.1f} | {ratio:.1f} | {peak / 1e6:.1f} | {peak / digits:.1f} |"
         )
-PROGRAM
+SCRIPT

@@ -4,7 +4,7 @@ _p21_diff() {
     local word=${COMP_WORDS[COMP_CWORD]}
     COMPREPLY=()
     case ${COMP_WORDS[COMP_CWORD - 1]}:$word in
-        *:-*) COMPREPLY=($(compgen -W '--help --data --full --names --pairing --stat --tolerance --format' -- "$word")) ;;
+        *:-*) COMPREPLY=($(compgen -W '--help --schemas --data --full --names --pairing --stat --tolerance --format' -- "$word")) ;;
     esac
     case ${COMP_WORDS[COMP_CWORD - 1]} in
         --tolerance) compopt +o default ;;

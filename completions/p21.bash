@@ -11,7 +11,7 @@ _p21() {
     case ${COMP_WORDS[1]} in
         param) words='--help' ;;
         schema) words='--help' ;;
-        check) words='--progress --help' ;;
+        check) words='--all --most --progress --help' ;;
         canon) words='--progress --help' ;;
         show) words='--name --help' ;;
         same) words='--progress --help' ;;

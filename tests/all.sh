@@ -6,10 +6,11 @@
 #   tests/all.sh [PART..]     PART is the path of a script below tests, as hostile/devices.sh; all parts without one
 #
 # The environment variable P21 names the program; without it, it is the one that ./p21 builds where it is missing or old.
-# Seven parts want `rt`: bindings.sh builds the library for C and Python where it is missing or old, release.py links a program,
+# Seven parts want `rt`: bindings.sh builds the library for C, C++ and Python where it is missing or old, release.py links a program,
 # page.py and page_module.py build the page where it is missing or old, hostile/calls.py builds a program of the libraries
 # without a proof, and fail_alloc.sh and want_of_memory.sh try tests. page.py wants Chromium, and page_module.py Node with
-# 64-bit WebAssembly memory. clusters.py wants root, and Slurm and Dask of Debian.
+# 64-bit WebAssembly memory. clusters.py wants root, and Slurm and Dask of Debian, lint.sh its pyflakes3, mypy and shellcheck, and
+# tools_sarif.py its python3-sarif-python-om.
 
 root=$(cd "$(dirname -- "$(readlink -f -- "$0")")/.." && pwd) || exit
 "${P21:-$root/p21}" --version > /dev/null || exit
@@ -37,8 +38,8 @@ run() {
 }
 
 if [ "$#" -eq 0 ]; then
-    set -- program.sh texts.py canonical_form.py definitions.py edits.py wrong_bodies.sh refusals.py patterns.py library.py \
-        install.sh pages.sh bindings.sh release.py page.py page_module.py
+    set -- lint.sh program.sh texts.py canonical_form.py definitions.py edits.py wrong_bodies.sh refusals.py patterns.py library.py \
+        copies.py install.sh pages.sh bindings.sh release.py page.py page_module.py every_refusal.py
     for tools in tools_*.py; do
         [ ! -e "$tools" ] || set -- "$@" "$tools"
     done

@@ -94,6 +94,8 @@ def version(tests):
     tests.judge("the version of the form", {VERSION}, found)
     said = re.findall(r"^FORM = (\d+)$", (ROOT / "tools" / "p21_manifest.py").read_text(encoding="utf-8"), re.M)
     tests.judge("the version that tables and manifests name", [VERSION], said)
+    line = subprocess.run([tests.program, "--version"], capture_output=True, check=True, text=True).stdout
+    tests.judge("the version that the program names", [VERSION], re.findall(r"^p21 \S+ \(canonical form (\d+)\)$", line, re.M))
 
 
 def main():

@@ -1,12 +1,14 @@
 #!/usr/bin/env python3
 """Whether each name in the tables of rules of docs/DEFINITIONS.md is there: definitions, examples and laws, functions and
-types of the code, tests, and wrong bodies; and each call, clause and file in the tables of promises of docs/CONTRACTS.md.
+types of the code, tests, and wrong bodies; and each call, clause and file in the tables of promises of docs/CONTRACTS.md;
+whether docs/CALLS.md is what tools/make-contracts makes of the sources; and whether each page of docs that a file names is there.
 The status is 1 where one isn't, or where a rule has no code but has a test or a wrong body.
 """
 
 import functools
 import pathlib
 import re
+import runpy
 import sys
 
 ROOT = pathlib.Path(__file__).resolve().parent.parent
@@ -152,10 +154,24 @@ def check(page, found, missing):
     return count, failed
 
 
+def missing_pages():
+    """The pages of docs that a file names and that aren't there, each with the file."""
+    places = ("*.md", "docs/**/*.md", "tests/**/*", "tools/**/*", "benchmarks/**/*", "include/*", "python/**/*.py", "web/*.mjs")
+    for path in sorted(path for place in places for path in ROOT.glob(place) if path.is_file() and "corpus" not in path.parts):
+        for page in sorted(set(re.findall(rb"\bdocs/[\w/]+\.md", path.read_bytes()))):
+            if not (ROOT / page.decode()).exists():
+                yield f"{path.relative_to(ROOT)}: there is no {page.decode()}"
+
+
 def main():
     rules, missing_rules = check("DEFINITIONS.md", rows("DEFINITIONS.md", "Rules", "Rule"), missing_in_rule)
     promises, missing = check("CONTRACTS.md", rows("CONTRACTS.md", "By promise", "Promise"), missing_in_promise)
-    failed = missing_rules + missing
+    is_old = runpy.run_path(str(ROOT / "tools" / "make-contracts"))["page"]() != (ROOT / "docs" / "CALLS.md").read_text()
+    if is_old:
+        print("docs/CALLS.md is not what the sources say: tools/make-contracts makes it")
+    unknown = list(missing_pages())
+    print("".join(f"{line}\n" for line in unknown), end="")
+    failed = missing_rules + missing + is_old + len(unknown)
     print(f"{rules} rules, {promises} promises, {failed} failed")
     return int(failed > 0 or rules == 0 or promises == 0)
 

@@ -2,7 +2,7 @@
 """Holds two readings of the same texts against one another: the program, and the plain one in tests/plain.
 
 Each case is one run of one command on texts that are made by chance, from rows, by rules, and by changes of both. What
-both write and the status must be equal. A case is fixed by the seed and its number: `--only NUMBER` runs one alone. The
+both write and the status must be equal, and the first of all refusals the one that `check` answers. A case is fixed by the seed and its number: `--only NUMBER` runs one alone. The
 status is 1 where the readings differ; the texts of the first such case are then kept, and named.
 """
 
@@ -31,7 +31,7 @@ def arguments():
     parser.add_argument("--cases", type=int, default=10_000, help="how many cases")
     parser.add_argument("--first", type=int, default=0, help="the number of the first case")
     parser.add_argument("--only", type=int, default=None, help="run this case alone, and print it")
-    parser.add_argument("--kinds", default="param,schema,file,same", help="the kinds of cases")
+    parser.add_argument("--kinds", default="param,schema,file,same,all", help="the kinds of cases")
     parser.add_argument("--keep", default=None, help="where the texts of a difference are kept")
     return parser.parse_args()
 
@@ -58,11 +58,15 @@ class Program:
     def answer(self, command, texts, options):
         """What the program writes to both streams, and its status; a signal is a status below 0."""
         paths = [self.file(name, text) for name, text in zip(names_of(command), texts)]
-        line = [self.path, command, *paths, *options]
+        line = [self.path, *WORDS.get(command, [command]), *paths, *options]
         child = os.posix_spawn(self.path, line, os.environ, file_actions=self.actions)
         status = os.waitstatus_to_exitcode(os.waitpid(child, 0)[1])
         output, error = (pathlib.Path(stream).read_bytes().decode("utf-8", "replace") for stream in self.streams)
         return output, error, status
+
+
+# The words of a command that is not its own word.
+WORDS = {"check_all": ["check", "--all"]}
 
 
 def names_of(command):
@@ -133,6 +137,15 @@ class Cases:
             options = ["--name", str(chance.choice([*names, 1, 2**64 - 1]))]
         return command, [schema, text], options
 
+    def all(self, chance):
+        """A file with several changes, of which every refusal is wanted, or so many of them."""
+        schema, found = self.one_file(chance)
+        text = found if isinstance(found, bytes) else found.write(chance)
+        for _ in range(chance.choice([0, 1, 1, 2, 3, 5])):
+            text = mutate.inside(chance, text) if chance.random() < 0.9 else mutate.file(chance, text)
+        options = ["--most", str(chance.choice([1, 2, 3, 5]))] if chance.random() < 0.2 else []
+        return "check_all", [schema, text], options
+
     def same(self, chance):
         """Two files: one spelled twice, two of one schema, or one of which something is changed."""
         schema, found = self.one_file(chance)
@@ -168,19 +181,29 @@ def shown(case, answers):
 def kept(case, keep):
     """Keeps the texts of a case, and says with which command line it is run."""
     command, texts, options = case
+    words = " ".join(WORDS.get(command, [command]))
     folder = pathlib.Path(keep or tempfile.mkdtemp(prefix="fuzz-difference-"))
     folder.mkdir(parents=True, exist_ok=True)
     paths = []
     for name, text in zip(names_of(command), texts):
         (folder / name).write_bytes(text)
         paths.append(str(folder / name))
-    print(f"kept: {command} {' '.join(paths)} {' '.join(options)}")
+    print(f"kept: {words} {' '.join(paths)} {' '.join(options)}")
 
 
 def plain_answer(plain, case):
     """The answer of the plain reading."""
     command, texts, options = case
     return getattr(plain, command)(*texts, *(int(x) for x in options[1:]))
+
+
+def begins_alike(program, case, answer):
+    """Whether the first line of all refusals is the one that `check` answers; true of every other command."""
+    command, texts, _ = case
+    if command != "check_all":
+        return True
+    output, error, status = program.answer("check", texts, [])
+    return (output, error.split("\n")[0], status) == (answer[0], answer[1].split("\n")[0], answer[2])
 
 
 def run(given, program, cases, plain):
@@ -197,7 +220,7 @@ def run(given, program, cases, plain):
         counts[outcome(answers[0])] += 1
         if given.only is not None:
             shown(case, answers)
-        if answers[0] != answers[1]:
+        if answers[0] != answers[1] or not begins_alike(program, case, answers[0]):
             differ += 1
             print(f"difference in case {number} of seed {given.seed}")
             shown(case, answers)

@@ -7,7 +7,7 @@
 here=$(dirname -- "$(readlink -f -- "$0")")/..
 "$here/benchmarks/build.sh" parsing p21_grammar p21_tokens p21_values || exit
 
-PYTHONDONTWRITEBYTECODE=1 PYTHONPATH=$here/benchmarks exec python3 - "$here/benchmarks/out/parsing" <<'PROGRAM'
+PYTHONDONTWRITEBYTECODE=1 PYTHONPATH=$here/benchmarks exec python3 - "$here/benchmarks/out/parsing" <<'SCRIPT'
 import os
 import subprocess
 import sys
@@ -44,4 +44,4 @@ with tempfile.TemporaryDirectory() as folder:
         print(f"{name}: {'as it must be' if right else run}, {ratio:.1f} bytes of memory for one of the text")
         failed = failed or not right
 sys.exit(failed)
-PROGRAM
+SCRIPT

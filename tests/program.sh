@@ -20,6 +20,7 @@ expect() {
     wrong=
     [ "$status" -eq "$2" ] || wrong="status $status, not $2"
     [ "$(cat "$here/output")" = "$3" ] || wrong="$wrong; output: $(cat "$here/output")"
+    # shellcheck disable=SC2254 # what is wanted is a pattern
     case $(cat "$here/error") in
         $4) ;;
         *) wrong="$wrong; error: $(cat "$here/error")" ;;
@@ -131,6 +132,52 @@ expect 'a file refused in an instance' 1 '' 'refused 40 DuplicateName in #1'
 run check "$demo" "$here/nothing"
 expect 'a file refused at a statement' 1 '' 'refused 24 EndsEarly at statement 1'
 
+# Instances with references that nothing serves, or that are not judged; a name that is given twice; and one whose first instance is refused.
+file '#1=POINT($,1.,1.);' '#2=POINT($,1.);' '#3=CLOUD((#1,#2,#9),(),(TALLY(1)));' '#1=POINT($,2.,2.);' '#4=CLOUD((#3),(),(TALLY(1)));' \
+    '#2=POINT($,1.,1.);' '#5=CLOUD((#6),(),(TALLY(1)));' > "$here/several"
+file '#1=POINT($,1.);' '#2=POINT($,1.,1.);;' > "$here/broken"
+
+run check --all "$demo" "$here/point"
+expect 'every refusal of a file that has none' 0 'accepted, instances 1, canonical bytes 171' ''
+
+run check --all "$demo" "$here/several"
+expect 'every refusal of a file' 1 '' 'refused 45 Count in #2
+refused 40 DuplicateName in #1
+refused 40 DuplicateName in #2
+refused 56 Dangling in #3
+refused 57 WrongTarget in #4
+refused 56 Dangling in #5
+refusals 6'
+
+run check --all --most 3 "$demo" "$here/several"
+expect 'three refusals' 1 '' 'refused 45 Count in #2
+refused 40 DuplicateName in #1
+refused 40 DuplicateName in #2
+refusals 3, no more were looked for'
+
+run check --most 5 "$demo" "$here/several"
+expect 'five refusals, two of them of references' 1 '' 'refused 45 Count in #2
+refused 40 DuplicateName in #1
+refused 40 DuplicateName in #2
+refused 56 Dangling in #3
+refused 57 WrongTarget in #4
+refusals 5, no more were looked for'
+
+run check --all "$demo" "$here/broken"
+expect 'a refusal that ends the reading' 1 '' 'refused 45 Count in #1
+refused 20 Unexpected at statement 10
+refusals 2, the rest was not read'
+
+run check --all "$demo" "$here"
+expect 'every refusal of a folder' 3 '' 'read fault
+refusals 0, the rest was not read'
+
+run check --all "$here/schema" "$here/point"
+expect 'every refusal, with a schema that is refused' 1 '' 'schema refused S2 Syntax'
+
+run check --most 0 "$demo" "$here/several"
+expect 'no refusals asked for' 2 '' "error: invalid value '0' for '--most <N>'*"
+
 # The large run: 100,000 points.
 file "$(seq 100000 | sed 's/.*/#&=POINT($,1.,1.);/')" > "$here/large"
 run check "$demo" "$here/large"
@@ -182,10 +229,13 @@ expect 'no instance of the last number' 1 '' 'no #18446744073709551615'
 run show "$demo" "$here/twice" --name 1
 expect 'an instance of a refused file' 1 '' 'refused 40 DuplicateName in #1'
 
-for number in '#2' 18446744073709551616 -1 +2 2. two ''; do
+for number in '#2' 18446744073709551616 +2 2. two ''; do
     run show "$demo" "$here/point" --name "$number"
-    expect "the number '$number'" 2 '' '*--name*'
+    expect "the number '$number'" 2 '' '*--name*18 for #18'
 done
+
+run show "$demo" "$here/point" --name -1
+expect 'a number like an option' 2 '' '*--name*'
 
 run show "$demo" "$here/point"
 expect 'no number' 2 '' '*--name*'
@@ -218,7 +268,7 @@ run same "$demo" "$here/none" "$here/absent"
 expect 'a first file that is not there' 3 '' "cannot open $here/none"
 
 run --version
-expect 'the version' 0 'p21 0.1.0' ''
+expect 'the version' 0 'p21 0.1.0 (canonical form 1)' ''
 
 # The toolchain that README names is the one that is here.
 if command -v rt > /dev/null && ! grep -qF "The toolchain \`$(rt version)\`" README.md; then

@@ -14,7 +14,7 @@ import subprocess
 import sys
 import tempfile
 
-from tooling import ROOT, Tests
+from tooling import Tests
 
 PACKAGES = ("assimp", "gmsh", "opencascade")
 SOURCES = "deb-src http://deb.debian.org/debian bookworm main\n"

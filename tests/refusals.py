@@ -1,10 +1,11 @@
 #!/usr/bin/env python3
-"""Whether each refusal has one number and one name wherever these are written by hand. The list of docs/FAULTS.md, from which
-tools/make-refusals makes what the program says of them, is compared with the titles of its sections and with what the pages
-show, with the code (crates/*/src/fault.rt) and the definitions that its contracts cite (crates/*/specs/Fault.antt), and
-with include/p21.h, python/p21/_faults.py and tests/plain/refusal.py. So are the names and numbers of what is left out, by the
-table in the section of LeftOut. The sentence of each fault of each crate is compared with tests/sentences.txt. The status is
-1 where one differs, is missing or isn't listed.
+"""Whether each refusal has one number, one name and one sentence. What tools/make-refusals makes of docs/FAULTS.md has to be as it
+makes it. The list there is compared with the titles of its sections and with what the pages show, with the code
+(crates/*/src/fault.rt) and with the definitions that its contracts cite (crates/*/specs/Fault.antt); so are the names and numbers
+of what is left out, by their table there and by the section of LeftOut; the sentence of each fault of each crate, by the table of
+sentences; and what tools/p21_files.py and web/files.mjs say was wanted. A test of the gate (crates/p21_stream_part_tests) runs the
+code on each row of the table of sentences, but can't see that a fault has no row. The status is 1 where something differs, is
+missing or isn't listed.
 """
 
 import pathlib
@@ -13,7 +14,7 @@ import runpy
 import sys
 
 ROOT = pathlib.Path(__file__).resolve().parent.parent
-PAGES = ["README.md", "examples/README.md", *(f"docs/{path.name}" for path in sorted((ROOT / "docs").glob("*.md")))]
+PAGES = ["README.md", "examples/README.md", *(path.relative_to(ROOT).as_posix() for path in sorted((ROOT / "docs").rglob("*.md")))]
 HELP = "crates/p21_command_line/src/help.rt"
 CODE = {
     "files": ("p21_values", "p21_tokens", "p21_grammar", "p21_mapping_faults", "p21_stream_statements"),
@@ -22,12 +23,9 @@ CODE = {
 
 # An attribute of thiserror with its text, and below it the fault: a case of an enumeration, or a type of its own.
 SENTENCE = re.compile(r'#\[error\("([^"]*)"\)\]\n\s*(?:pub struct )?(\w+)')
-SENTENCES = "tests/sentences.txt"
-
-# What a place doesn't have: what the program alone says, or the library of values; and, in the plain reader, limits and the
-# machine.
-NO_CALL_ANSWERS = {"12", "13", "91", "92"}
-NOT_PLAIN = {"13", "22", "27", "90", "91", "92"}
+# Faults that print what they hold.
+HOLDS = "{0}"
+MADE = runpy.run_path(str(ROOT / "tools" / "make-refusals"))
 
 
 def read(name):
@@ -46,11 +44,6 @@ def left_out():
     return {name for row in re.findall(r"^\| (`[^|]*) \|", section, re.M) for name in re.findall(r"`(\w+)`", row)}
 
 
-def camel(name):
-    """A constant's words as one name."""
-    return "".join(word.capitalize() for word in name.split("_"))
-
-
 def pairs_of(numbers, names):
     """Numbers and names by case as pairs; the name of what is left out is that of its case."""
     for case, number in numbers:
@@ -65,12 +58,6 @@ def pairs_in_code(crate):
     text = read(f"crates/{crate}/specs/Fault.antt")
     names = dict(re.findall(r'^fault_name (\w+) = codes "(\w+)"$', text, re.M))
     yield "specs/Fault.antt", list(pairs_of(re.findall(r"^fault_number \(?(\w+)(?: \w+\))? = (\d+)$", text, re.M), names))
-
-
-def constants(title):
-    """The constants of an enumeration of include/p21.h below a title, without their prefix."""
-    block = re.search(rf"/\* {title}.*?\*/\nenum \{{\n(.*?)\}};", read("include/p21.h"), re.S)[1]
-    return re.findall(r"P21_(?:SCHEMA_(?!NAME\b)|ABSENT_)?(\w+) = (\d+)", block)
 
 
 def schemas(pairs):
@@ -97,17 +84,6 @@ def places():
         wanted = files if kind == "files" else of_schemas | {"90"}
         for file, pairs in together.items():
             yield f"{file} of the crates of {kind}", pairs, wanted
-    header = [(number, camel(name)) for name, number in constants("The refusals of files")]
-    yield "include/p21.h", header, files - NO_CALL_ANSWERS
-    header = [(number, camel(name)) for name, number in constants("The refusals of schemas")]
-    yield "include/p21.h, schemas", schemas(header), of_schemas
-    python = runpy.run_path(str(ROOT / "python/p21/_faults.py"))
-    plain = runpy.run_path(str(ROOT / "tests/plain/refusal.py"))
-    numbered = lambda table: [(str(number), name) for number, name in table.items()]
-    yield "python/p21/_faults.py, FILES", numbered(python["FILES"]), files - NO_CALL_ANSWERS
-    yield "python/p21/_faults.py, SCHEMAS", schemas(numbered(python["SCHEMAS"])), of_schemas
-    yield "tests/plain/refusal.py, NAMES", numbered(plain["NAMES"]), files - NOT_PLAIN
-    yield "tests/plain/refusal.py, SCHEMA_NAMES", schemas(numbered(plain["SCHEMA_NAMES"])), of_schemas
 
 
 def absent_places():
@@ -124,29 +100,44 @@ def absent_numbers():
     yield "crates/p21_c_answers/src/answers.rt", {name: number for name, number in re.findall(r"Absent::(\w+) => (\d+),", code)}
     specs = read("crates/p21_c_answers/specs/Answers.antt")
     yield "crates/p21_c_answers/specs/Answers.antt", dict(re.findall(r"^absent_number_of (\w+) = (\d+)$", specs, re.M))
-    yield "include/p21.h, what is left out", {camel(name): number for name, number in constants("What is left out")}
-    python = runpy.run_path(str(ROOT / "python/p21/_faults.py"))
-    yield "python/p21/_faults.py, ABSENT", {name: str(number) for number, name in python["ABSENT"].items()}
 
 
 def sentences():
-    """The sentence of each fault of the code, by its crate, its enumeration and its case."""
+    """The sentence of each fault of the code, by its type and its case."""
     for path in sorted(ROOT.glob("crates/*/src/**/*.rt")):
         enumeration = ""
-        for line in re.split(r"^(?=pub enum )", path.read_text(), flags=re.M):
-            enumeration = (re.findall(r"^pub enum (\w+)", line) or [enumeration])[0]
-            for sentence, case in SENTENCE.findall(line):
-                fault = case if f"struct {case}" in line else f"{enumeration}::{case}"
-                yield f"{path.parts[len(ROOT.parts) + 1]} {fault}", sentence
+        for part in re.split(r"^(?=pub enum )", path.read_text(), flags=re.M):
+            enumeration = (re.findall(r"^pub enum (\w+)", part) or [enumeration])[0]
+            for sentence, case in SENTENCE.findall(part):
+                if sentence != HOLDS:
+                    yield case if f"struct {case}" in part else f"{enumeration}::{case}", sentence
 
 
-def wrong_in_sentences():
-    """What differs from the table of sentences."""
-    known = dict(line.split(": ", 1) for line in read(SENTENCES).splitlines())
+def wrong_in_sentences(refusals):
+    """What differs from the table of sentences, and the rows there that the list doesn't have."""
+    known = {fault: said.sentence for said in refusals.said for fault in said.faults}
     found = dict(sentences())
     for fault in sorted(known.keys() | found.keys()):
         if known.get(fault) != found.get(fault):
-            yield f"{fault}: the code says {found.get(fault)!r}, and {SENTENCES} {known.get(fault)!r}"
+            yield f"{fault}: the code says {found.get(fault)!r}, and docs/FAULTS.md {known.get(fault)!r}"
+    numbers = {said.number for said in refusals.said}
+    yield from (f"docs/FAULTS.md: {number} in one of the list and the sentences" for number in sorted(numbers ^ refusals.names.keys()))
+
+
+def wrong_in_wanted():
+    """What the tool and the page of the browser say was wanted, where it is one sentence, and docs/FAULTS.md doesn't say."""
+    page = read("docs/FAULTS.md").replace("`", "")
+    for place in ("tools/p21_files.py", "web/files.mjs"):
+        rows = re.findall(r'^ +(\d+): "([^"]*)",$', re.search(r"WANTED\b[^\n]* = \{\n(.*?)\}", read(place), re.S)[1], re.M)
+        yield from (f"{place}: {number}: docs/FAULTS.md doesn't say {wanted!r}" for number, wanted in rows if wanted not in page)
+        yield from ([] if rows else [f"{place}: no sentence of what was wanted"])
+
+
+def stale():
+    """What isn't as tools/make-refusals makes it."""
+    for name, text in MADE["sources"](read("docs/FAULTS.md")).items():
+        if read(name) != text:
+            yield f"{name} is not what docs/FAULTS.md says: tools/make-refusals makes it"
 
 
 def wrong_in_places():
@@ -163,20 +154,21 @@ def wrong_in_places():
             yield f"{title}: {number} {'is missing' if number in wanted else 'should not be there'}"
 
 
-def wrong_in_absent():
-    """What differs from the table of what is left out, and from the first place that has numbers."""
-    known = left_out()
+def wrong_in_absent(refusals):
+    """What differs from the table of the numbers of what is left out."""
+    known = refusals.absent
+    yield from (f"docs/FAULTS.md: {name} stands in one of its two tables" for name in sorted(known.keys() ^ left_out()))
     for title, pairs in absent_places():
         yield from (f"{title}: {case} is named {name}" for case, name in pairs if case != name)
-        yield from (f"{title}: {name} stands in one of it and docs/FAULTS.md" for name in sorted(known ^ {it for it, _ in pairs}))
-    first, numbers = next(absent_numbers())
+        yield from (f"{title}: {name} stands in one of it and docs/FAULTS.md" for name in sorted(known.keys() ^ {it for it, _ in pairs}))
     for title, found in absent_numbers():
-        yield from (f"{title}: {name} stands in one of it and docs/FAULTS.md" for name in sorted(known ^ set(found)))
-        yield from (f"{title}: {name} is {number}, and in {first} {numbers.get(name)}" for name, number in found.items() if numbers.get(name) != number)
+        yield from (f"{title}: {name} stands in one of it and docs/FAULTS.md" for name in sorted(known.keys() ^ found.keys()))
+        yield from (f"{title}: {name} is {number}, and there {known[name]}" for name, number in found.items() if number != known.get(name))
 
 
 def main():
-    wrong = [*wrong_in_places(), *wrong_in_absent(), *wrong_in_sentences()]
+    refusals = MADE["refusals_of"](read("docs/FAULTS.md"))
+    wrong = [*stale(), *wrong_in_places(), *wrong_in_absent(refusals), *wrong_in_sentences(refusals), *wrong_in_wanted()]
     for line in wrong:
         print(line)
     count, absent = len(listed()), len(left_out())

@@ -337,9 +337,27 @@ def debian(parts, folder, given):
     return root
 
 
+def program_in_c(parts, release, folder):
+    """The first program in C of docs/LIBRARY.md is compiled over the library in the tarball, by the lines of that page."""
+    if not all(map(shutil.which, ("cc", "pkg-config"))):
+        parts.leave_out("a program in C over the tarball", "there is no cc, or no pkg-config")
+        return
+    page = (ROOT / "docs/LIBRARY.md").read_text().partition("\n### C\n")[2]
+    folder.mkdir()
+    (folder / "program.c").write_text(re.search(r"^```c\n(.*?)^```", page, re.M | re.S)[1])
+    lines = textwrap.dedent(re.search(r"(?:^    .*\n)+", page[page.index("    export PKG_CONFIG_PATH") :], re.M)[0])
+    must("tar", "xzf", next(release.glob("*.tar.gz")), "-C", folder)
+    prefix = next(folder.glob("p21-*"))
+    (folder / "examples").symlink_to(ROOT / "examples")
+    output = here(folder, lines.replace("PREFIX", str(prefix)))
+    parts.judge("a program in C over the tarball", (0, "accepted, instances 128"), output)
+
+
 def packages_here(parts, release, folder):
     """The packages that need no root, on this system."""
     tried(parts, "here", here, release, folder / "here-tar", "tar.gz")
+    if list(release.glob("*.whl")):
+        program_in_c(parts, release, folder / "here-c")
     if not list(release.glob("*.whl")):
         return
     if run("/usr/bin/python3", "-c", "import ensurepip", env=SYSTEM)[0] != 0:

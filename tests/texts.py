@@ -44,7 +44,7 @@ def answer(arguments):
 
 def pages():
     """The pages that show command lines."""
-    return [ROOT / "README.md", ROOT / "examples" / "README.md", *sorted((ROOT / "docs").glob("*.md"))]
+    return [ROOT / "README.md", ROOT / "examples" / "README.md", *sorted((ROOT / "docs").rglob("*.md"))]
 
 
 def shown():

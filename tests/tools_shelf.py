@@ -1,6 +1,6 @@
 #!/usr/bin/env python3
-"""Runs p21-table and p21-where with a folder of schemas, over the examples and files that are made. P21 names another program
-than ./p21."""
+"""Runs p21-table, p21-where and p21-diff with a folder of schemas, over the examples and files that are made. P21 names another
+program than ./p21."""
 
 import hashlib
 import json
@@ -64,9 +64,10 @@ def variable(tests, folder):
     """P21_SCHEMAS names the folder where the first name is no schema."""
     os.environ["P21_SCHEMAS"] = folder
     output, error, status = tests.run(["--format", "tsv", "examples/product.step"])
-    tests.judge("the variable", (HEAD, True, 0), (output.splitlines()[0], "\nby " in error, status))
+    folders = {os.path.dirname(line.split("\t")[4]) for line in output.splitlines()[1:]}
+    tests.judge("the variable", ({folder}, True, 0), (folders, "\nby " in error, status))
     output, error, status = tests.run(["--format", "tsv", SCHEMA, "examples/product.step"])
-    tests.judge("a schema that is named", ("file\tanswer\tinstances\tsha256", False, 0), (output.splitlines()[0], "\nby " in error, status))
+    tests.judge("a schema that is named", (SCHEMA, False, 0), (output.splitlines()[1].split("\t")[4], "\nby " in error, status))
     del os.environ["P21_SCHEMAS"]
 
 
@@ -87,6 +88,38 @@ def places(tests, folder):
     two = ["--format", "lines", "--schemas", folder, count, "examples/refused/SchemaName.step"]
     found = "45 Count in #3: AXIS2_PLACEMENT_3D has 4 attributes, and here are 3 values; without one: REF_DIRECTION"
     tests.expect("several files", two, 1, [f"{count}:11:31: {found}"], change)
+    tests.tool = "p21-table"
+
+
+def differences(tests, folder):
+    """p21-diff finds the schema that the first file names."""
+    tests.tool = "p21-diff"
+    first, second = "examples/product.step", "examples/product-changed.step"
+    line = "changed #24 CARTESIAN_POINT.COORDINATES: (8.E1,5.E1,1.25E1) -> (8.E1,5.E1,1.225E1)"
+    tests.expect("by the folder", ["--schemas", folder, first, second], 1, [line])
+    demo = [tests.make(f"{name}.step", file_of(f"#1=POINT($,1.,{name}.);", [("PRODUCT_MODEL", "DEMO")])) for name in "12"]
+    tests.expect("by another listing", [*demo, "--schemas", folder], 1, ["changed #1 POINT.Y: 1. -> 2."])
+    with open(first, "rb") as file:
+        found = tests.run(["--schemas", folder, "-", second], file.read())
+    tests.judge("from a pipe", (f"{line}\n", "", 1), found)
+    os.environ["P21_SCHEMAS"] = folder
+    tests.expect("by the variable", [first, second], 1, [line])
+    tests.expect("a schema that is named, with the variable", [SCHEMA, first, second], 1, [line])
+    del os.environ["P21_SCHEMAS"]
+    change = f"{folder}/product.exp:1: SCHEMA product_model -> SCHEMA AUTOMOTIVE_DESIGN"
+    alias = "examples/refused/SchemaName.step"
+    tests.expect("an alias", ["--schemas", folder, alias, alias], 0, [], change)
+    other = tests.make("other.step", file_of("", [("PRODUCT_MODEL", "OTHER")]))
+    line = f"p21-diff: {other}: no schema OTHER on the shelf {folder}"
+    tests.expect("no such schema", ["--schemas", folder, other, first], 2, [], line)
+    line = f"p21-diff: {demo[0]}: refused 31 SchemaName at statement 5"
+    tests.expect("files of two schemas", ["--schemas", folder, first, demo[0]], 2, [], line)
+    for name, given, end in [
+        ("no schema", [first, second], "a schema is wanted in front of two files, or a folder by --schemas or P21_SCHEMAS"),
+        ("a schema beside the folder", ["--schemas", folder, SCHEMA, first, second], "with --schemas there is no S"),
+    ]:
+        output, error, status = tests.run(given)
+        tests.judge(name, ("", f"p21-diff: error: {end}", 2), (output, error.splitlines()[-1], status))
     tests.tool = "p21-table"
 
 
@@ -125,6 +158,7 @@ def main():
     tables(tests, folder)
     variable(tests, folder)
     places(tests, folder)
+    differences(tests, folder)
     refused(tests)
     tests.end()
 

@@ -14,7 +14,7 @@ sys.path.insert(0, str(ROOT / "tools"))
 
 BLOCK = "5d11fa2abae65fa2bff1265d357ae88c5adf85242cd77e53a1c8b9877eff411c"
 CHANGED = "2c7249104ea26fc6fa7c66495f8df8c2bf8f9ed06ab1ca0553e38d142f7e1c20"
-HEAD = "file\tanswer\tinstances\tsha256"
+HEAD = "file\tanswer\tinstances\tsha256\tschema\tschema_sha256\tform"
 
 # Of each example the answer, how many instances it has, and its hash, as `p21 canon .. | sha256sum` has it.
 EXAMPLES = [
@@ -47,9 +47,14 @@ passed over: 4 files with other endings: 2 .exp, 1 .md, 1 .txt
 the same: examples/product-other.step examples/product.step"""
 
 
-def tsv(row):
+def by(schema, sha256):
+    """What stands behind a row: the schema, its hash, and the version of the form where there is a hash of a canonical file."""
+    return schema, hashlib.sha256((ROOT / schema).read_bytes()).hexdigest(), 1 if sha256 else None
+
+
+def tsv(row, schema=SCHEMA):
     """A row as a line with tabs."""
-    return "\t".join("" if field is None else str(field) for field in row)
+    return "\t".join("" if field is None else str(field) for field in (*row, *by(schema, row[3])))
 
 
 def examples(tests):
@@ -58,8 +63,8 @@ def examples(tests):
     for jobs in ("1", "5"):
         tests.expect(f"tabs, -j {jobs}", ["--format", "tsv", "-j", jobs, SCHEMA, "examples"], 1, lines, SUMMARY)
     output, error, status = tests.run(["--format", "json", SCHEMA, "examples"])
-    found = [tuple(json.loads(line).values())[:4] for line in output.splitlines()]
-    tests.judge("JSON", (EXAMPLES, SUMMARY + "\n", 1), (found, error, status))
+    found = [tuple(json.loads(line).values())[:7] for line in output.splitlines()]
+    tests.judge("JSON", ([(*row, *by(SCHEMA, row[3])) for row in EXAMPLES], SUMMARY + "\n", 1), (found, error, status))
     output, error, status = tests.run([SCHEMA, "examples"])
     wanted = [f"{file:35}  {answer:40}  {count or '-':>9}  {sha or '-'}" for file, answer, count, sha in EXAMPLES]
     tests.judge("text", (wanted, SUMMARY + "\n", 1), (output.splitlines(), error, status))
@@ -102,7 +107,7 @@ def schemas(tests):
     ]
     given = ["--format", "tsv", "--schema", "examples/demo.exp", "--schema", SCHEMA, SCHEMA, *(row[0] for row in rows)]
     summary = "3 files, 1 accepted, 2 not\n     1 refused 49 WrongKind\n     1 refused 31 SchemaName"
-    tests.expect("several schemas", given, 1, [HEAD, *map(tsv, rows)], summary)
+    tests.expect("several schemas", given, 1, [HEAD, *map(tsv, rows, [SCHEMA, "examples/demo.exp", SCHEMA])], summary)
     given = ["--schema", "examples/product.step", SCHEMA, demo]
     refused = "p21-table: examples/product.step: schema refused S2 Syntax"
     tests.expect("a further schema that is refused", given, 2, [], refused)
@@ -181,16 +186,17 @@ def headers(tests):
 def pipes(tests):
     """The schema or a file from a pipe, and a file as standard input."""
     step = ROOT / "examples" / "product.step"
-    line = f"{{}}\taccepted\t128\t{BLOCK}"
+    digest = by(SCHEMA, BLOCK)[1]
+    line = f"{{}}\taccepted\t128\t{BLOCK}\t{{}}\t{digest}\t1"
     summary = "1 file, 1 accepted, 0 not\n"
     output, error, status = tests.run(["--format", "tsv", "/dev/stdin", str(step)], (ROOT / SCHEMA).read_bytes())
-    tests.judge("a schema from a pipe", (f"{HEAD}\n{line.format(step)}\n", summary, 0), (output, error, status))
-    wanted = (f"{HEAD}\n{line.format('/dev/stdin')}\n", summary, 0)
+    tests.judge("a schema from a pipe", (f"{HEAD}\n{line.format(step, '/dev/stdin')}\n", summary, 0), (output, error, status))
+    wanted = (f"{HEAD}\n{line.format('/dev/stdin', SCHEMA)}\n", summary, 0)
     given = ["--format", "tsv", SCHEMA, "/dev/stdin"]
     tests.judge("a file from a pipe", wanted, tests.run(given, step.read_bytes()))
     with step.open("rb") as file:
         tests.judge("a file as standard input", wanted, tests.run(given, file=file))
-    wanted = (f"{HEAD}\n{line.format('-')}\n", summary, 0)
+    wanted = (f"{HEAD}\n{line.format('-', SCHEMA)}\n", summary, 0)
     tests.judge("standard input as -", wanted, tests.run(["--format", "tsv", SCHEMA, "-"], step.read_bytes()))
 
 

@@ -11,10 +11,11 @@ import random
 import re
 import subprocess
 import sys
+import time
 import urllib.parse
 
 import texts
-from tooling import ROOT, SCHEMA, Tests, file_of
+from tooling import MOST_SECONDS, ROOT, SCHEMA, Tests, file_of
 
 sys.path.insert(0, str(ROOT / "tools"))
 
@@ -430,6 +431,26 @@ def expected(tests):
         tests.judge(name, (found, wanted, "", 1), (row["found"], row["expected"], error, status))
 
 
+# What is said of the texts of docs/FAULTS.md stands there in the section of the refusal, and so do these words.
+IN_SECTIONS = {
+    20: [words for words, _ in [*files.VALUES, *files.SIGNS]] + ["a value", "a keyword"],
+    25: [files.WANTED[25]],
+    30: [files.TEXT, files.TEXTS, files.ONE_TEXT, "parameter 3 of FILE_NAME, author"]
+    + [name for name, parameters in files.HEADER for name in (name, *(parameter for parameter, _ in parameters))],
+    31: [FAULTS["31 SchemaName"][2]],
+    32: files.WANTED[32].split(" or "),
+    45: [FAULTS["45 Count"][2]],
+}
+
+
+def documented(tests):
+    """Each refusal's own section says what was wanted in the words that are printed."""
+    sections = re.split(r"^### (\d+) \w+\n", pathlib.Path("docs/FAULTS.md").read_text(encoding="utf-8"), flags=re.M)
+    said = dict(zip(map(int, sections[1::2]), sections[2::2]))
+    for number, phrases in IN_SECTIONS.items():
+        tests.judge(f"section {number}", [], [words for words in phrases if words not in said[number]])
+
+
 # Instances with a value too few: what stands behind it, and which attribute is said to have none.
 MISSING = [
     ("a value in front of a list", SCHEMA, "#1=CARTESIAN_POINT(«(»80.,50.));", "NAME"),
@@ -446,6 +467,152 @@ def missing(tests):
         output, error, status = tests.run([schema, tests.make("missing.step", text)])
         line, found, mark, note = parts(output)
         tests.judge(name, (place, marked, wanted, "", 1), (found, mark, note.rpartition(": ")[2], error, status))
+
+
+# Instances of the schema DEMO with several refusals. Each place stands between « and »; the refusals are in the order of the list:
+# those of records, then those of references, each with the number of its place in the text.
+SEVERAL = [
+    (
+        "records and references",
+        "#1=POINT($,1.,«2»);\n«#1»=POINT($,1.,2.);\n#2=«SPHERE»(#9);\n#3=POINT($,1.«)»;\n"
+        "#4=CLOUD((«#6»,#5,«#7»,«#8»,#2),((1.,«2»)),());\n#5=CLOUD((#11,«#12»,«#13»),(),(«#14»,TALLY(1),«#15»));\n"
+        "«#1»=POINT($,1.,2.);\n#11=POINT($,1.,1.);\n#13=MARKED($,.RED.);\n#15=MARKED($,«.BLUE.»);\n#16=CLOUD((«#13»,«#17»),(),(#11));",
+        [(49, "#1", 0), (40, "#1", 1), (41, "#2", 2), (45, "#3", 3), (49, "#4", 7), (40, "#1", 12), (53, "#15", 13)]
+        + [(56, "#5", 8), (57, "#5", 9), (56, "#5", 10), (57, "#16", 14), (56, "#16", 15)],
+        "refusals 12",
+    ),
+    (
+        "references that are all of one number",
+        "#1=CLOUD((«#2»,#3,«#4»),(),(«#4»,#3,«#2»));\n#2=MARKED($,.RED.);\n#3=POINT($,1.,1.);\n#4=CLOUD((«#1»),(),(TALLY(1)));",
+        [(57, "#1", 0), (57, "#1", 1), (57, "#1", 2), (57, "#1", 3), (57, "#4", 4)],
+        "refusals 5",
+    ),
+    (
+        "one that ends the reading",
+        "#1=POINT($,1.,«2»);\n#2=POINT($,1.,#9);\n#3=POINT($,1.,2.) «#4»=POINT($,1.,3);",
+        [(49, "#1", 0), (49, "#2", None), (20, "at statement 10", 1)],
+        "refusals 3, the rest was not read",
+    ),
+    (
+        "lists in lists, and types",
+        "#1=CLOUD((),((1.,«2»),(3,4)),(TALLY(1)));\n#2=CLOUD((),(),(TALLY(1),«TALLY(01)»));\n#3=CLOUD((),(),(DISTANCE(«1»)));\n"
+        "#4=(ORIGIN()POINT(«1.»,2.)SHAPE($));\n#5=ORIGIN($,*,«*»);\n#6=(POINT(1.«)»SHAPE($));\n#7=«SHAPE»($);\n#8=(«POINT»(1.,2.));",
+        [(49, "#1", 0), (52, "#2", 1), (49, "#3", 2), (48, "#4", 3), (47, "#5", 4), (45, "#6", 5), (42, "#7", 6), (43, "#8", 7)],
+        "refusals 8",
+    ),
+]
+
+
+def several(tests):
+    """All refusals of files, each at its place, and how many."""
+    for name, instances, refusals, count in SEVERAL:
+        front, *rest = re.split("[«»]", file_of(instances, [("PRODUCT_MODEL", "DEMO")]))
+        places = []
+        for marked, behind in zip(rest[::2], rest[1::2]):
+            places.append((front.count("\n") + 1, len(front) - front.rfind("\n"), marked))
+            front += marked + behind
+        path = tests.make("several.step", front)
+        output, error, status = tests.run(["--all", "--format", "json", DEMO, path])
+        rows = [json.loads(line) for line in output.splitlines()]
+        found = [(row["number"], row["instance"] or f"at statement {row['statement']}") for row in rows]
+        tests.judge(f"{name}: the refusals", ([refusal[:2] for refusal in refusals], "", 1), (found, error, status))
+        for row, (number, instance, place) in zip(rows, refusals):
+            at = row["line"], row["column"], row["found"] if number not in (40, 45) else places[place][2]
+            tests.judge(f"{name}: {number} {instance}", at if place is None else places[place], at)
+        rests = [None] * (len(refusals) - 1) + [count.partition(", ")[2] or None]
+        tests.judge(f"{name}: the rest", rests, [row["rest"] for row in rows])
+        lines = tests.run(["--all", DEMO, path])[0].splitlines()
+        said = [line for line in lines if line.startswith("refus")]
+        tests.judge(f"{name}: the lines", ([row["answer"] for row in rows], count), (said[:-1], lines[-1]))
+        output, error, status = tests.run(["--all", "--most", "2", "--format", "lines", DEMO, path])
+        lines = output.splitlines()
+        tests.judge(f"{name}: two of them", (2, True, "", 1), (len(lines), lines[1].endswith("; no more were looked for"), error, status))
+
+
+def first_of_all(tests):
+    """The first of all refusals is the one that is shown alone, with all that is said of it."""
+    paths = ["examples/refused", "examples/product.step", f"{tests.here}/none"]
+    for number, (_, instances) in enumerate(VALUES):
+        paths.append(tests.make(f"value{number}.step", unmarked(file_of(instances, [("PRODUCT_MODEL", "DEMO")]))[0]))
+    alone = tests.run(["--format", "json", "--schema", DEMO, SCHEMA, *paths])
+    together = tests.run(["--all", "--format", "json", "--schema", DEMO, SCHEMA, *paths])
+    rows = {row["file"]: row for row in map(json.loads, reversed(together[0].splitlines()))}
+    for row in map(json.loads, alone[0].splitlines()):
+        tests.judge(f"the first of all in {row['file']}", row, {**rows.pop(row["file"]), "rest": None})
+    tests.judge("files with refusals", (set(), alone[1:]), (set(rows), together[1:]))
+    lines = tests.run(["--all", SCHEMA, "examples/refused"])[0].splitlines()
+    counts = [line.partition(": ")[0] for line in lines if re.search(r": refusals 1(, the rest was not read)?$", line)]
+    tests.judge("a folder alone", [f"examples/refused/{name}.step" for name in sorted(REFUSED)], counts)
+    found = tests.run(["--most", "1", DEMO, f"{tests.here}/several.step"])
+    tests.judge("--most alone", tests.run(["--all", "--most", "1", DEMO, f"{tests.here}/several.step"]), found)
+    for most in ("0", "-1", "x", ""):
+        output, error, status = tests.run(["--all", f"--most={most}", SCHEMA, "examples/refused/Count.step"])
+        tests.judge(f"--most {most}", ("", 2), (output, status))
+    log = json.loads(tests.run(["--all", "--format", "sarif", DEMO, f"{tests.here}/several.step"])[0])
+    results = log["runs"][0]["results"]
+    rules = {rule["id"] for rule in log["runs"][0]["tool"]["driver"]["rules"]}
+    found = wrong_in(log, "log"), len(results), {result["ruleId"] for result in results} - rules
+    tests.judge("SARIF, all", ([], len(SEVERAL[-1][2]), set()), found)
+
+
+# Of so many points of a file each second one is wrong.
+MANY = 800
+
+
+def many(tests):
+    """A file with hundreds of refusals: each at the coordinate that is wrong, in one run of few seconds."""
+    chance = random.Random("many")
+    instances, places = [], []
+    for number in range(1, MANY + 1):
+        values = [f"{chance.randrange(1000)}." for _ in range(3)]
+        front = f"#{number}=CARTESIAN_POINT('',("
+        if number % 2:
+            at = chance.randrange(3)
+            places.append((7 + number, len(front) + 1 + sum(len(value) + 1 for value in values[:at])))
+            values[at] = values[at].rstrip(".")
+        instances.append(f"{front}{','.join(values)}));")
+    path = tests.make("many.step", file_of("\n".join(instances)))
+    begun = time.monotonic()
+    output, error, status = tests.run(["--all", "--format", "json", SCHEMA, path])
+    took = time.monotonic() - begun
+    found = [(row["line"], row["column"]) for row in map(json.loads, output.splitlines())]
+    tests.judge("many refusals", (places, "", 1), (found, error, status))
+    tests.judge(f"many refusals: {took:.1f} s", True, took < 60)
+
+
+# A file of so many bytes with one refusal takes at most so many times what `sha256sum` takes.
+LARGE, MOST_TIMES = 144_000_000, 4
+
+
+def speed(tests):
+    """The time for a large file with one refusal near its end, beside that of sha256sum in the same run; the best of three."""
+    point = "#%d=CARTESIAN_POINT('',(%d.,0.,0.));"
+    block = "\n".join(point % (number, number) for number in range(10_000_000, 10_001_000))
+    count = LARGE // len(block)
+    blocks = (block.replace("#1000", f"#{number:04}") for number in range(1001, 1001 + count))
+    data = file_of("MARK").partition("MARK")
+    path = tests.here / "large.step"
+    with open(path, "w") as file:
+        file.write(data[0])
+        file.writelines(f"{text}\n" for text in blocks)
+        file.write("#1=CARTESIAN_POINT('',(80,0.,0.));" + data[2])
+    best = {}
+    for _ in range(3):
+        for name, command in [
+            ("sha256sum", ["sha256sum", path]),
+            ("alone", ["tools/p21-where", "--format", "lines", SCHEMA, path]),
+            ("all", ["tools/p21-where", "--all", "--format", "lines", SCHEMA, path]),
+        ]:
+            begun = time.monotonic()
+            output = subprocess.run(command, capture_output=True, check=False, text=True).stdout
+            best[name] = min(best.get(name, MOST_SECONDS), time.monotonic() - begun)
+            if name != "sha256sum":
+                tests.judge(f"a large file, {name}", f"{path}:{count * 1000 + 8}:24: 49 WrongKind in #1", output.rpartition(": CARTESIAN")[0])
+    for name in ("alone", "all"):
+        times = best[name] / best["sha256sum"]
+        tests.judge(f"a large file, {name}: {times:.1f} times the time of sha256sum", True, times <= MOST_TIMES)
+    print(f"p21-where, a file of {path.stat().st_size // 10**6} MB: " + ", ".join(f"{name} {took:.2f} s" for name, took in best.items()))
+    path.unlink()
 
 
 # What SARIF 2.1.0 demands of each object of a log: the properties that must be there, and of each that may be there its kind.
@@ -559,9 +726,26 @@ def seeking(tests):
             wanted = [(name, start) for name, start in names if name in (1, 3, 5)]
             tests.judge(f"instances {number}", wanted, list(sought.defined(data, {1, 3, 5, 9})))
             tests.judge(f"an instance {number}", [row for row in names if row[0] == 2], list(sought.defined(data, {2})))
+            for name in sorted({name for name, _ in names}):
+                tests.judge(f"#{name} at once {number}", [row for row in names if row[0] == name], sought.found_at_once(data, name))
             sections = [it.start for it in found if data[it.start : it.end] == b"ENDSEC;"]
             tests.judge(f"sections {number}", sections, list(sought.sections(data, len(data))))
         sought.PIECE = kept
+
+
+def columns(tests):
+    """Lines and columns of places in any order are those that counting from the beginning gives."""
+    chance = random.Random("columns")
+    kept, reading.PIECE = reading.PIECE, 7
+    for number in range(200):
+        text = "".join(chance.choice(["a", "\u00fc", "\n", "x\U0001f600", "'"]) for _ in range(chance.randrange(1, 60)))
+        data, lines = text.encode("utf-8"), reading.Lines(text.encode("utf-8"))
+        for _ in range(12):
+            front = text[: chance.randrange(len(text) + 1)]
+            wanted = front.count("\n") + 1, len(front) - front.rfind("\n")
+            tests.judge(f"columns {number}", wanted, lines.place(len(front.encode("utf-8"))))
+        tests.judge(f"lines {number}", data.count(b"\n") + 1, lines.number(len(data)))
+    reading.PIECE = kept
 
 
 # A schema whose sets hold lists, in which elements may be equal.
@@ -690,7 +874,7 @@ def limits(tests):
 def main():
     tests = Tests("p21-where")
     groups = [faults, refused, values, schemas, attributes, explained, hints, kinds, others, renaming, changed]
-    for group in [*groups, expected, missing, forms, seeking, equals, strange, controls, limits, memory]:
+    for group in [*groups, expected, documented, missing, forms, several, first_of_all, many, seeking, columns, equals, strange, controls, limits, memory, speed]:
         group(tests)
     tests.end()
 

@@ -16,7 +16,6 @@ import itertools
 import pathlib
 import random
 import re
-import shutil
 import sys
 import tempfile
 

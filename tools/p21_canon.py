@@ -4,10 +4,10 @@ import mmap
 import os
 import re
 import tempfile
-from typing import BinaryIO, Dict, Iterator, Tuple
+from typing import BinaryIO, Dict, Iterator, Optional, Tuple
 
 import p21_reading as reading
-from p21_files import shown
+from p21_reading import shown
 
 
 def handed(path: str) -> str:
@@ -24,12 +24,13 @@ def handed(path: str) -> str:
     return str(reading.lasting(path))
 
 
-def canonical(program: str, schema: str, path: str) -> mmap.mmap:
-    """The canonical file of a file."""
+def canonical(program: str, schema: str, path: str, named: Optional[str] = None) -> mmap.mmap:
+    """The canonical file of a file, which a refusal names by its path, or as it is named here."""
     with tempfile.TemporaryFile() as output:
         answer = reading.run(program, "canon", schema, handed(path), output=output)
         if answer.status != 0:
-            raise reading.Trouble(f"{shown(path)}: {shown(reading.with_reason(answer.error, path))}")
+            named = path if named is None else named
+            raise reading.Trouble(f"{shown(named)}: {shown(reading.with_reason(answer.error, schema, named))}")
         return mmap.mmap(output.fileno(), 0, access=mmap.ACCESS_READ)
 
 
@@ -39,17 +40,17 @@ def write_pairs(file: BinaryIO, pairs: Iterator[Tuple[int, int]]) -> None:
         file.write(b"#%d\t#%d\n" % (first, second))
 
 
-def read_pairs(path: str) -> Dict[bytes, bytes]:
-    """Reads a pairing: the second name of each first one."""
+def read_pairs(named: str) -> Dict[bytes, bytes]:
+    """Reads a pairing, which `-` has from standard input: the second name of each first one."""
     found: Dict[bytes, bytes] = {}
-    with open(path, "rb") as file:
+    with open(reading.lasting(named), "rb") as file:
         for number, line in enumerate(file, 1):
             names = re.fullmatch(rb"#(0|[1-9]\d{0,19})\t#(0|[1-9]\d{0,19})\n?", line)
             if names is None:
-                raise reading.Trouble(f"{shown(path)}: line {number} has not two names")
+                raise reading.Trouble(f"{shown(named)}: line {number} has not two names")
             if names[1] in found:
-                raise reading.Trouble(f"{shown(path)}: #{names[1].decode()} stands twice")
+                raise reading.Trouble(f"{shown(named)}: #{names[1].decode()} stands twice")
             found[names[1]] = names[2]
     if len(set(found.values())) < len(found):
-        raise reading.Trouble(f"{shown(path)}: two instances have one new name")
+        raise reading.Trouble(f"{shown(named)}: two instances have one new name")
     return found

@@ -4,7 +4,7 @@ import decimal
 import heapq
 import itertools
 import re
-from typing import Any, Callable, Dict, Iterable, Iterator, List, NamedTuple, Optional, Tuple
+from typing import Any, Callable, Dict, Iterable, Iterator, List, Mapping, NamedTuple, Optional, Sequence, Tuple
 
 import p21_models as models
 import p21_pairing
@@ -116,7 +116,7 @@ class Rules(NamedTuple):
     """What counts in a comparison: the names of attributes by entity, the sets of the schema where names don't count, the
     tolerance; and whether texts are kept whole."""
 
-    attributes: Dict[str, List[str]]
+    attributes: Mapping[str, Sequence[str]]
     sets: Optional[p21_sets.Sets]
     tolerance: Optional[decimal.Decimal]
     is_full: bool
@@ -178,7 +178,7 @@ class Comparison:
             yield self.either("section", (None, None), (line, None) if heading in headings[0] else (None, line))
 
     def records(
-        self, pair: Pair, attributes: Dict[str, List[str]], lines: Tuple[Stretch, Stretch]
+        self, pair: Pair, attributes: Mapping[str, Sequence[str]], lines: Tuple[Stretch, Stretch]
     ) -> Iterator[Difference]:
         """Two records: each value that differs where they have the same keywords, else the whole."""
         parts = parts_of(pair.first), parts_of(pair.second), parts_of(pair.mapped or pair.first)

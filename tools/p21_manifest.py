@@ -9,7 +9,7 @@ import hashlib
 import json
 import os
 import re
-from typing import NamedTuple, Optional
+from typing import Any, Callable, Dict, Iterator, NamedTuple, Optional, Sequence, Tuple
 
 import p21_reading as reading
 
@@ -34,12 +34,14 @@ class Entry(NamedTuple):
     answer: str
 
 
+# What makes the entry of a file, or None where it can't be read.
+EntryFor = Callable[[str], Optional[Entry]]
 # What verifying says of a file, from the best to the worst, and the status that it leads to.
 AS_IT_WAS, SAME_MEANING, NEW, CHANGED, MISSING = "as it was", "other bytes of the same meaning", "new", "changed", "missing"
 STATUS = {AS_IT_WAS: 0, SAME_MEANING: 0, NEW: 1, CHANGED: 1, MISSING: 1}
 
 
-def hash_of(path):
+def hash_of(path: str) -> Tuple[int, str]:
     """The size and the SHA-256 of a file's bytes, which are read in pieces."""
     found, size = hashlib.sha256(), 0
     with open(path, "rb", buffering=0) as file:
@@ -52,17 +54,17 @@ def hash_of(path):
 # --- The text of a manifest ---
 
 
-def head_line():
+def head_line() -> str:
     """The first line."""
     return json.dumps(HEAD)
 
 
-def line_of(entry):
+def line_of(entry: Entry) -> str:
     """The line of an entry. Bytes of a path that are no UTF-8 are kept."""
     return json.dumps(entry._asdict())
 
 
-def entries_of(path, unfinished=False):
+def entries_of(path: str, unfinished: bool = False) -> Dict[str, Entry]:
     """The entries of a manifest by their paths. The last line of an unfinished one may be cut, and is left out then."""
     with open(path, encoding="utf-8", errors="surrogateescape") as file:
         text = file.read()
@@ -87,7 +89,7 @@ def entries_of(path, unfinished=False):
     return found
 
 
-def parsed(line):
+def parsed(line: str) -> Any:
     """The object of a line, or None."""
     try:
         return json.loads(line)
@@ -95,7 +97,7 @@ def parsed(line):
         return None
 
 
-def check_head(path, value):
+def check_head(path: str, value: Any) -> None:
     """Is it the first line of a manifest whose hashes are of the form that is known here?"""
     if not isinstance(value, dict) or value.get("p21_manifest") != HEAD["p21_manifest"]:
         raise reading.Trouble(f"{path}:1: no manifest of p21-table")
@@ -103,7 +105,7 @@ def check_head(path, value):
         raise reading.Trouble(f"{path}:1: its hashes are of form {value.get('canonical_form')}, those of this program of {FORM}")
 
 
-def entry_of(value):
+def entry_of(value: Any) -> Optional[Entry]:
     """The entry that an object is, or None."""
     if not isinstance(value, dict) or set(value) != set(Entry._fields):
         return None
@@ -112,7 +114,7 @@ def entry_of(value):
     return entry if is_right and isinstance(entry.bytes, int) else None
 
 
-def kept_of(path):
+def kept_of(path: str) -> Optional[Dict[str, Entry]]:
     """The entries that an interrupted run has written; the text is cut behind the last whole line. None without a file."""
     if not os.path.exists(path):
         return None
@@ -126,13 +128,13 @@ def kept_of(path):
 # --- BagIt ---
 
 
-def bagit_line(entry):
+def bagit_line(entry: Entry) -> str:
     """The line of a file in a manifest of BagIt, in which line ends and % in paths are numbers."""
     path = re.sub("[%\r\n]", lambda found: f"%{ord(found[0]):02X}", entry.path)
     return f"{entry.sha256}  {path}"
 
 
-def bagit_of(path):
+def bagit_of(path: str) -> Optional[Dict[str, str]]:
     """The SHA-256 of each path of a manifest of BagIt, or None where the text is none."""
     found = {}
     with open(path, encoding="utf-8", errors="surrogateescape") as file:
@@ -148,7 +150,7 @@ def bagit_of(path):
 # --- Verifying ---
 
 
-def why(was, now):
+def why(was: Entry, now: Entry) -> str:
     """What changed, in words."""
     if was.schema_sha256 != now.schema_sha256:
         return f"the listing of its schema, which is {now.schema} now: {now.answer}"
@@ -159,13 +161,13 @@ def why(was, now):
     return "the header alone" if was.data_sha256 == now.data_sha256 else "the data"
 
 
-def verified(manifest, files, entry_for):
+def verified(manifest: str, files: Sequence[str], entry_for: EntryFor) -> Iterator[Tuple[str, str, str]]:
     """Of each file of a manifest, and of each given one that isn't in it, what is said of it and why. `entry_for` makes the entry
     of a file; it is asked only where bytes differ, and answers None where the file can't be read."""
     bagit = bagit_of(manifest)
     if bagit is not None:
         folder = os.path.dirname(manifest)
-        was = {os.path.join(folder, path): Entry(path, 0, digest, *[None] * 6, "") for path, digest in bagit.items()}
+        was = {os.path.join(folder, path): of_bagit(path, digest) for path, digest in bagit.items()}
     else:
         was = entries_of(manifest)
     for path, entry in was.items():
@@ -175,12 +177,17 @@ def verified(manifest, files, entry_for):
             yield path, NEW, ""
 
 
-def found_of(path, entry, entry_for, has_meaning):
+def of_bagit(path: str, digest: str) -> Entry:
+    """The entry of a file of which the bytes alone are known."""
+    return Entry(path, 0, digest, None, None, FORM, None, None, None, "")
+
+
+def found_of(path: str, entry: Entry, entry_for: EntryFor, has_meaning: bool) -> Tuple[str, str]:
     """What is said of a file of a manifest, and why."""
     try:
         size, digest = hash_of(path)
     except OSError as error:
-        return MISSING, error.strerror
+        return MISSING, error.strerror or "it can't be read"
     if digest == entry.sha256:
         return AS_IT_WAS, ""
     if not has_meaning:
@@ -196,20 +203,19 @@ def found_of(path, entry, entry_for, has_meaning):
 class Written:
     """A manifest that is being written: each entry stands in it as soon as it is there."""
 
-    def __init__(self, path, resume):
-        self.kept = kept_of(path) if resume else None
+    def __init__(self, path: str, resume: bool) -> None:
+        self.kept: Dict[str, Entry] = (kept_of(path) or {}) if resume else {}
         if not resume and os.path.lexists(path):
             raise reading.Trouble(f"{path} is there already: --resume goes on with it")
         self.file = open(path, "a", encoding="utf-8", errors="surrogateescape", newline="\n")
         if os.path.getsize(path) == 0:
             self.write(head_line())
-        self.kept = self.kept or {}
 
-    def write(self, line):
+    def write(self, line: str) -> None:
         """A line, which is there even where the next moment ends this process."""
         self.file.write(f"{line}\n")
         self.file.flush()
 
-    def add(self, entry):
+    def add(self, entry: Entry) -> None:
         """The entry of a further file."""
         self.write(line_of(entry))

@@ -2,12 +2,12 @@
 
 import html
 import re
-from typing import Any, Dict, Iterable, Iterator, List, NamedTuple, Optional, Set, Tuple
+from typing import Any, Dict, Iterable, Iterator, List, Mapping, NamedTuple, Optional, Sequence, Set, Tuple
 
 import p21_models as models
 from p21_differences import CAME, CHANGED, WENT, Counts, Difference
-from p21_files import shown
-from p21_models import Stretch, key_of, parts_of, record_of, stretch_of, values_of
+from p21_reading import shown
+from p21_models import key_of, parts_of, record_of, stretch_of, values_of
 
 MOST_INSTANCES = 2_000
 MOST_AROUND = 4_000
@@ -125,7 +125,7 @@ def coordinates(line: Optional[bytes]) -> Optional[Tuple[float, ...]]:
 class Page:
     """Takes the differences of two files, and writes the page."""
 
-    def __init__(self, first: str, second: str, data: Tuple[models.Text, models.Text], attributes: Dict[str, List[str]]) -> None:
+    def __init__(self, first: str, second: str, data: Tuple[models.Text, models.Text], attributes: Mapping[str, Sequence[str]]) -> None:
         self.paths = (first, second)
         self.data = data
         self.attributes = attributes

@@ -7,7 +7,7 @@ may be of any size and hold anything: it is read where it lies, and what is foun
 
 import argparse
 import array
-import collections.abc
+import codecs
 import contextlib
 import itertools
 import mmap
@@ -20,13 +20,41 @@ import signal
 import subprocess
 import sys
 import tempfile
-from typing import NamedTuple
+from typing import (
+    IO,
+    Any,
+    Callable,
+    Dict,
+    Generator,
+    Hashable,
+    Iterable,
+    Iterator,
+    List,
+    Mapping,
+    Match,
+    NamedTuple,
+    NoReturn,
+    Optional,
+    Pattern,
+    Sequence,
+    Set,
+    Tuple,
+    TypeVar,
+    Union,
+    overload,
+)
 
 HERE = pathlib.Path(__file__).resolve().parent
+# A text as it lies in memory or in a file.
+Text = Union[bytes, bytearray, mmap.mmap]
+Piece = Union[bytes, bytearray, memoryview]
 PIECE = 1 << 20
 FURTHER = "a further schema, for files that name another one; may be given several times"
 # So many bytes are copied of what is no plain file, as a pipe or a device.
 MOST_COPIED = 1 << 30
+
+
+Found = TypeVar("Found")
 
 
 class Trouble(Exception):
@@ -46,12 +74,12 @@ class Answer(NamedTuple):
 ESCAPES = {"\n": "\\n", "\r": "\\r", "\t": "\\t"}
 
 
-def shown(text):
+def shown(text: str) -> str:
     """A text on one line, with characters that a terminal doesn't show, and bytes that are none, by their numbers."""
     return text if text.isprintable() else "".join(map(shown_character, text))
 
 
-def shown_character(character):
+def shown_character(character: str) -> str:
     """A character, or its number where it isn't shown."""
     code = ord(character)
     if character.isprintable():
@@ -62,7 +90,7 @@ def shown_character(character):
     return ESCAPES.get(character, form)
 
 
-def quoted(name):
+def quoted(name: str) -> str:
     """A name of a file as a word of a shell."""
     if name.isprintable():
         return shlex.quote(name)
@@ -73,24 +101,24 @@ def quoted(name):
 class Arguments(argparse.ArgumentParser):
     """A command line, whose words are shown where one is wrong, and whose help fails where it can't be written."""
 
-    def print_help(self, file=None):
+    def print_help(self, file: Optional[IO[str]] = None) -> None:
         print(self.format_help(), end="", file=file)
 
-    def error(self, message):
+    def error(self, message: str) -> NoReturn:
         super().error(shown(message))
 
-    def parse(self):
+    def parse(self) -> argparse.Namespace:
         """The command line. Options may stand among the names of files."""
         return self.parse_intermixed_args()
 
 
-def ended(tool, status, work):
+def ended(tool: str, status: int, work: Callable[[], int]) -> int:
     """The status of a tool's work. Where it can't be done, or its output can't be written, a line says why, and this is the
     status."""
     signal.signal(signal.SIGPIPE, signal.SIG_DFL)
     signal.signal(signal.SIGINT, signal.SIG_DFL)
     for stream in (sys.stdout, sys.stderr):
-        stream.reconfigure(errors="backslashreplace")
+        stream.reconfigure(errors="backslashreplace")  # type: ignore[attr-defined]
     try:
         try:
             return work()
@@ -98,17 +126,24 @@ def ended(tool, status, work):
             sys.stdout.flush()
     except (Trouble, OSError) as trouble:
         with contextlib.suppress(OSError):
-            print(f"{tool}: {shown(str(trouble))}", file=sys.stderr, flush=True)
+            print(f"{tool}: {shown(told(trouble))}", file=sys.stderr, flush=True)
         # What waits to be written would fail again at the end.
         for stream in (sys.stdout, sys.stderr):
             os.dup2(os.open(os.devnull, os.O_WRONLY), stream.fileno())
         return status
 
 
+def told(trouble: BaseException) -> str:
+    """What keeps a tool from its answer, as a line."""
+    if isinstance(trouble, OSError) and isinstance(trouble.filename, str):
+        return f"cannot open {trouble.filename}: {why_not(trouble.filename) or trouble.strerror}"
+    return str(trouble)
+
+
 # --- The program ---
 
 
-def find_program():
+def find_program() -> str:
     """The program: $P21, or the one of this repository, or the one that is installed with the tools, or the one in the path.
 
     That of the repository is built first, where it is missing or old. What is installed stands in the folder of programs above
@@ -121,10 +156,10 @@ def find_program():
         subprocess.run([repository / "p21", "--version"], stdout=subprocess.DEVNULL, check=True)
         return str(repository / "crates" / "p21" / "out" / "p21")
     installed = (HERE.parent.parent / "bin" / "p21", pathlib.Path(sys.argv[0]).parent / "p21")
-    return next((str(path) for path in installed if path.is_file()), None) or shutil.which("p21") or "p21"
+    return next((str(path) for path in installed if path.is_file()), shutil.which("p21") or "p21")
 
 
-def line_of(error, status):
+def line_of(error: bytes, status: int) -> str:
     """What the program wrote to its second stream, without the last line end, and the signal that ended it."""
     line = error.decode("utf-8", "surrogateescape")
     line = line[:-1] if line.endswith("\n") else line
@@ -136,7 +171,7 @@ FOLDER = "it is a folder"
 ENDINGS = (".step", ".stp", ".p21", ".ifc", ".spf")
 
 
-def below(path):
+def below(path: str) -> Tuple[List[str], List[str]]:
     """The path itself, which may be `-` for standard input, or for a folder the STEP files below it in the order of their
     names; and the endings of all others."""
     if not os.path.isdir(path):
@@ -149,7 +184,7 @@ def below(path):
 nothing = contextlib.nullcontext
 
 
-def why_not(path):
+def why_not(path: str) -> Optional[str]:
     """Why a file can't be read, or None where that isn't known."""
     if path == "-":
         return None
@@ -166,7 +201,7 @@ def why_not(path):
         return error.strerror
 
 
-def with_reason(line, *paths):
+def with_reason(line: str, *paths: str) -> str:
     """The answer of the program, and where it could not open or read one of these files the reason."""
     if not line.startswith(("cannot open ", "read fault")):
         return line
@@ -174,7 +209,7 @@ def with_reason(line, *paths):
     return f"{line}: {reason}" if reason else line
 
 
-def lasting(path):
+def lasting(path: str) -> str:
     """The path, or that of a descriptor which the program inherits: of the file, where its name isn't UTF-8, or else of a
     copy, where the program could not read it again and again. That is so of a pipe, and of what this process has open, as
     /dev/stdin, which `-` stands for. A copy is gone when this process ends."""
@@ -192,7 +227,7 @@ def lasting(path):
         return inherited(os.dup(copy.fileno()))
 
 
-def is_text(path):
+def is_text(path: str) -> bool:
     """Is a name UTF-8, as the program wants it?"""
     try:
         path.encode("utf-8")
@@ -201,7 +236,7 @@ def is_text(path):
     return True
 
 
-def copy_of(file, copy, path):
+def copy_of(file: IO[bytes], copy: IO[bytes], path: str) -> None:
     """Copies what has no size that is known, and maybe no end."""
     left = MOST_COPIED
     while piece := file.read(min(PIECE, left + 1)):
@@ -211,14 +246,14 @@ def copy_of(file, copy, path):
         copy.write(piece)
 
 
-def inherited(descriptor):
+def inherited(descriptor: int) -> str:
     """The path of a descriptor in a program that inherits it."""
     os.set_inheritable(descriptor, True)
     return f"/dev/fd/{descriptor}"
 
 
 @contextlib.contextmanager
-def opened(path):
+def opened(path: str) -> Iterator[str]:
     """What `lasting` answers, for as long as a `with` block runs."""
     found = lasting(path)
     try:
@@ -228,29 +263,36 @@ def opened(path):
             os.close(int(found.rpartition("/")[2]))
 
 
-def text_of(path):
+def text_of(path: str) -> Text:
     """The bytes of a file. Those of a plain one aren't read before they are looked at."""
     with open(path, "rb") as file:
         size = os.fstat(file.fileno()).st_size
         return mmap.mmap(file.fileno(), 0, access=mmap.ACCESS_READ) if size else b""
 
 
-def words_of(program, command, *paths):
-    """The command line of a command over these paths, of which one may begin with a dash."""
-    return [program, command, "--", *paths]
+def words_of(program: str, command: str, *paths: str, options: Sequence[str] = ()) -> List[str]:
+    """The command line of a command with some options over these paths, of which one may begin with a dash."""
+    return [program, command, *options, "--", *paths]
 
 
-def run(program, command, *paths, text=None, output=subprocess.PIPE):
+def run(
+    program: str,
+    command: str,
+    *paths: str,
+    options: Sequence[str] = (),
+    text: Optional[Iterable[Piece]] = None,
+    output: Union[int, IO[bytes]] = subprocess.PIPE,
+) -> Answer:
     """The answer of a command of the program over these paths. A text, in pieces, is given to it as /dev/stdin."""
     with contextlib.ExitStack() as stack:
-        given = subprocess.DEVNULL
+        given: Union[int, IO[bytes]] = subprocess.DEVNULL
         if text is not None:
             given = stack.enter_context(tempfile.TemporaryFile())
             given.writelines(text)
             given.seek(0)
         try:
             done = subprocess.run(
-                words_of(program, command, *paths),
+                words_of(program, command, *paths, options=options),
                 check=False,
                 stdin=given,
                 stdout=output,
@@ -265,7 +307,7 @@ def run(program, command, *paths, text=None, output=subprocess.PIPE):
 REFUSAL = re.compile(r"(?:schema )?refused (S?\d+) (\w+(?:\(\w+\))?)(?: at statement (\d+)| in (#\d+))?")
 
 
-def refusal(line):
+def refusal(line: str) -> Dict[str, Any]:
     """The parts of a refusal: its number, which of a schema text is a word as S4, its name, and the statement or the name of
     the instance. All are None where nothing is refused."""
     found = REFUSAL.match(line)
@@ -278,7 +320,7 @@ def refusal(line):
     }
 
 
-def first_that_names(answers, line_of_answer):
+def first_that_names(answers: Iterable[Found], line_of_answer: Callable[[Found], str]) -> Optional[Found]:
     """Of the answers about a file by one schema after the other: the first one by a schema that the file names, or else the
     first of all."""
     first = None
@@ -293,98 +335,96 @@ class Listing(NamedTuple):
     """What `p21 schema` prints: the schema's name, each entity's attributes in order, and which entities are abstract."""
 
     name: str
-    attributes: collections.abc.Mapping
-    abstract: set
+    attributes: Mapping[str, List[str]]
+    abstract: Set[str]
 
 
-class Attributes(collections.abc.Mapping):
+class Attributes(Mapping[str, List[str]]):
     """The attributes of each entity, which are read from the listing where they are asked for."""
 
-    def __init__(self, text):
+    def __init__(self, text: Text) -> None:
         self.text = text
-        self.places = {}
+        self.places: Dict[str, int] = {}
 
-    def __getitem__(self, name):
+    def __getitem__(self, name: str) -> List[str]:
         place = self.places[name]
         listed = self.text[place : self.text.find(b")", place)].decode("ascii")
         return listed.split(",") if listed else []
 
-    def __contains__(self, name):
+    def __contains__(self, name: object) -> bool:
         return name in self.places
 
-    def __iter__(self):
+    def __iter__(self) -> Iterator[str]:
         return iter(self.places)
 
-    def __len__(self):
+    def __len__(self) -> int:
         return len(self.places)
 
 
 LISTED = re.compile(rb"\n(ABSTRACT )?(\w+)\(")
 
 
-def listing(program, schema, named):
+def listing(program: str, schema: str, named: str) -> Listing:
     """The listing of a schema, which the command line names so. It may be longer than the schema by far."""
     with tempfile.TemporaryFile() as output:
         answer = run(program, "schema", schema, output=output)
         if answer.status != 0:
             raise Trouble(f"{named}: {with_reason(answer.error, named)}")
         text = mmap.mmap(output.fileno(), 0, access=mmap.ACCESS_READ)
-    found = Listing(text[: text.find(b"\n")].split()[1].decode("ascii"), Attributes(text), set())
+    attributes = Attributes(text)
+    found = Listing(text[: text.find(b"\n")].split()[1].decode("ascii"), attributes, set())
     for entity in LISTED.finditer(text):
         name = entity[2].decode("ascii")
-        found.attributes.places[name] = entity.end()
+        attributes.places[name] = entity.end()
         if entity[1]:
             found.abstract.add(name)
     return found
 
 
-def names_of_values(attributes, part, alone):
-    """The names of the attributes for which the values of a part stand.
-
-    An instance of one part has the values of all attributes. One of several has those that the entity itself declares,
-    which are the last ones.
-    """
-    names = attributes.get(part.key, [])
-    if not alone:
-        names = names[max(len(names) - len(part.values), 0) :]
-    surplus = len(part.values) - len(names)
-    return names[: len(part.values)] + ["?"] * surplus
-
-
 # --- Rows of things in a text ---
 
 
-class Row(collections.abc.Sequence):
+class Row(Sequence[Found]):
     """Things that stand one behind the other in a text, each read again where it is asked for: of so many only the place of
     each 64th is kept."""
 
     STEP = 64
 
-    def __init__(self, places, thing, first):
+    def __init__(self, places: Callable[[int], Iterable[int]], thing: Callable[[int], Found], first: int) -> None:
         """`places` has the places of all things from a given one on, and `thing` is that at a place."""
         self.places = places
         self.thing = thing
         self.first = first
         self.marks = array.array("Q")
-        self.count = 0
-        for self.count, place in enumerate(places(first), 1):
-            if self.count % self.STEP == 1:
+        self.length = 0
+        for self.length, place in enumerate(places(first), 1):
+            if self.length % self.STEP == 1:
                 self.marks.append(place)
 
-    def __len__(self):
-        return self.count
+    def __len__(self) -> int:
+        return self.length
 
-    def __getitem__(self, at):
-        at += self.count if at < 0 else 0
-        if not 0 <= at < self.count:
+    @overload
+    def __getitem__(self, at: int) -> Found:
+        ...
+
+    @overload
+    def __getitem__(self, at: slice) -> List[Found]:
+        ...
+
+    def __getitem__(self, at: Union[int, slice]) -> Union[Found, List[Found]]:
+        if isinstance(at, slice):
+            return [self[number] for number in range(*at.indices(self.length))]
+        at += self.length if at < 0 else 0
+        if not 0 <= at < self.length:
             raise IndexError(at)
         return self.thing(next(itertools.islice(self.places(self.marks[at // self.STEP]), at % self.STEP, None)))
 
-    def __iter__(self):
+    def __iter__(self) -> Iterator[Found]:
         return map(self.thing, self.places(self.first))
 
 
-def first_repeated(items, size):
+def first_repeated(items: Callable[[], Iterable[Tuple[Hashable, Found]]], size: int) -> Optional[Tuple[Found, Found]]:
     """The first of some items whose key another one has before it, with that one; or None. `items` gives them anew, as pairs
     of a key and an item. It takes about `size` bytes, whatever the items are.
 
@@ -393,8 +433,8 @@ def first_repeated(items, size):
     marked = bytearray(size + 8)
     suspects, taken = set(), 0
 
-    def confirmed():
-        known = {}
+    def confirmed() -> Optional[Tuple[Found, Found]]:
+        known: Dict[Hashable, Found] = {}
         for key, item in itertools.islice(items(), taken):
             if hash(key) % bits in suspects:
                 if key in known:
@@ -416,6 +456,13 @@ def first_repeated(items, size):
     return confirmed() if suspects else None
 
 
+def matched(pattern: Pattern[bytes], text: Union[Text, Piece], at: int, end: int = sys.maxsize) -> Match[bytes]:
+    """What a pattern finds at a place, where it finds something."""
+    found = pattern.match(text, at, end)
+    assert found
+    return found
+
+
 # --- Statements ---
 
 BLANKS = re.compile(rb"[\0- \x7f]*")
@@ -429,21 +476,21 @@ REFERENCE = re.compile(rb"#\d+")
 HIDDEN = re.compile(rb"['\"]|/\*")
 
 
-def end_of_string(text, start):
+def end_of_string(text: Text, start: int) -> Optional[int]:
     """The place behind the string that begins here, or None where it is open."""
     found = IN_STRING.search(text, start + 1)
     while found and found[0] != b"'":
         found = IN_STRING.search(text, found.end())
-    return found and found.end()
+    return found.end() if found else None
 
 
-def end_of_remark(text, start):
+def end_of_remark(text: Text, start: int) -> Optional[int]:
     """The place behind the remark that begins here, or None where it is open."""
     end = text.find(b"*/", start + 2)
     return None if end < 0 else end + 2
 
 
-def end_of_binary(text, start):
+def end_of_binary(text: Text, start: int) -> Optional[int]:
     """The place behind the binary that begins here, or None where it is open."""
     end = text.find(b'"', start + 1)
     return None if end < 0 else end + 1
@@ -452,7 +499,7 @@ def end_of_binary(text, start):
 HIDING = {b"'": end_of_string, b"/*": end_of_remark, b'"': end_of_binary}
 
 
-def outside(pattern, text, start):
+def outside(pattern: Pattern[bytes], text: Text, start: Optional[int]) -> Iterator[Match[bytes]]:
     """What a pattern finds from a place on that stands in no string, binary or remark.
 
     The text is looked at in pieces, so that no more of it is passed over than is asked for. Each ends behind a sign, since
@@ -474,21 +521,21 @@ def outside(pattern, text, start):
         size *= 2
 
 
-def behind_blanks(text, at):
+def behind_blanks(text: Text, at: int) -> int:
     """The place behind blanks and remarks."""
-    at = BLANKS.match(text, at).end()
+    at = matched(BLANKS, text, at).end()
     while text[at : at + 2] == b"/*":
         end = end_of_remark(text, at)
         if end is None:
             return at
-        at = BLANKS.match(text, end).end()
+        at = matched(BLANKS, text, end).end()
     return at
 
 
-def lexemes(text, start, end):
+def lexemes(text: Text, start: int, end: int) -> Iterator[Tuple[int, int]]:
     """The places of the words and signs of a part of a text."""
     while start < end:
-        found = LEXEME.match(text, start, end)
+        found = matched(LEXEME, text, start, end)
         start = found.end()
         if found[1] is not None:
             yield found.span()
@@ -502,12 +549,12 @@ def lexemes(text, start, end):
 class Value(NamedTuple):
     """A parameter by its place in a text."""
 
-    text: bytes
+    text: Text
     start: int
     end: int
 
     @property
-    def inner(self):
+    def inner(self) -> Sequence["Value"]:
         """The elements of a list, or the one value of a typed parameter; none of any other."""
         if self.text[self.end - 1 : self.end] != b")":
             return ()
@@ -519,11 +566,11 @@ class Part(NamedTuple):
 
     key: str
     start: int
-    values: Row
+    values: Row[Value]
     end: int
 
 
-def closing(text, opening):
+def closing(text: Text, opening: int) -> int:
     """The place of the `)` that ends what a `(` begins."""
     depth = 0
     for found in outside(PARENTHESIS, text, opening):
@@ -533,7 +580,7 @@ def closing(text, opening):
     raise ValueError("the text ends inside a statement")
 
 
-def signs_in_list(text, sign):
+def signs_in_list(text: Text, sign: int) -> Generator[int, None, int]:
     """The place of the sign before each value of a list, from a `(` or a `,` on. It answers that of the `)` behind the list."""
     if text[sign] == ord("(") and text[behind_blanks(text, sign + 1)] == ord(")"):
         return closing(text, sign)
@@ -549,7 +596,7 @@ def signs_in_list(text, sign):
             yield found.start()
 
 
-def signs_in_parts(text, at):
+def signs_in_parts(text: Text, at: int) -> Iterator[int]:
     """The same of all parts, from the keyword of one on, or from a sign."""
     if text[at] not in b"(,":
         at = next(outside(SIGN, text, at)).start()
@@ -561,7 +608,7 @@ def signs_in_parts(text, at):
         at = found.start()
 
 
-def value_behind(text, sign):
+def value_behind(text: Text, sign: int) -> Value:
     """The value behind a `(` or a `,`."""
     start = end = behind_blanks(text, sign + 1)
     found = next(outside(SIGN, text, start))
@@ -572,35 +619,35 @@ def value_behind(text, sign):
     return Value(text, start, end)
 
 
-def values_of(text, opening):
+def values_of(text: Text, opening: int) -> Row[Value]:
     """The values in the parentheses that a `(` begins."""
     return Row(lambda sign: signs_in_list(text, sign), lambda sign: value_behind(text, sign), opening)
 
 
-def values_of_all(text, parts):
+def values_of_all(text: Text, parts: Sequence[Part]) -> Row[Value]:
     """The values of all parts, one behind the other."""
     start = parts[0].start
     return Row(lambda sign: signs_in_parts(text, sign), lambda sign: value_behind(text, sign), start)
 
 
-def references_of(text, parts):
+def references_of(text: Text, parts: Sequence[Part]) -> Row[Value]:
     """The references of an instance in their order."""
 
-    def places(place):
+    def places(place: int) -> Iterator[int]:
         return (found.start() for found in outside(REFERENCE, text, place))
 
-    return Row(places, lambda place: Value(text, *REFERENCE.match(text, place).span()), parts[0].start)
+    return Row(places, lambda place: Value(text, *matched(REFERENCE, text, place).span()), parts[0].start)
 
 
-def read_parts(text, start=0):
+def read_parts(text: Text, start: int = 0) -> Sequence[Part]:
     """The parts of the instance or header record that begins here, of which the text has its right parentheses."""
     start = behind_blanks(text, start)
     if text[start : start + 1] == b"#":
-        start = behind_blanks(text, behind_blanks(text, REFERENCE.match(text, start).end()) + 1)
+        start = behind_blanks(text, behind_blanks(text, matched(REFERENCE, text, start).end()) + 1)
     if text[start : start + 1] != b"(":
         return [part_at(text, start)]
 
-    def places(place):
+    def places(place: int) -> Iterator[int]:
         while text[place : place + 1] not in (b")", b""):
             yield place
             place = behind_blanks(text, closing(text, next(outside(SIGN, text, place)).start()) + 1)
@@ -608,7 +655,7 @@ def read_parts(text, start=0):
     return Row(places, lambda place: part_at(text, place), behind_blanks(text, start + 1))
 
 
-def part_at(text, start):
+def part_at(text: Text, start: int) -> Part:
     """A keyword and the values in parentheses behind it."""
     _, end = next(lexemes(text, start, len(text)))
     opening = behind_blanks(text, end)
@@ -618,12 +665,51 @@ def part_at(text, start):
 # --- Texts for people ---
 
 
-def line_number(text, at):
+def line_number(text: Text, at: int) -> int:
     """The number of the line in which a place stands."""
-    return 1 + sum(text[start : min(start + PIECE, at)].count(b"\n") for start in range(0, at, PIECE))
+    return 1 + line_ends(text, 0, at)
 
 
-def shortened(text, at, width=100):
+def line_ends(text: Text, start: int, end: int) -> int:
+    """How many lines end in a part of a text."""
+    return sum(text[at : min(at + PIECE, end)].count(b"\n") for at in range(start, end, PIECE))
+
+
+class Lines:
+    """The lines and columns of places in a text, of which no part is counted again for each place."""
+
+    def __init__(self, text: Text) -> None:
+        self.text = text
+        # How many lines end in front of each piece of the text.
+        self.ends = array.array("Q", [0])
+        self.last, self.column = 0, 1
+
+    def number(self, at: int) -> int:
+        """The number of the line in which a place stands."""
+        while len(self.ends) <= at // PIECE:
+            start = PIECE * (len(self.ends) - 1)
+            self.ends.append(self.ends[-1] + line_ends(self.text, start, start + PIECE))
+        piece = at // PIECE
+        return 1 + self.ends[piece] + line_ends(self.text, PIECE * piece, at)
+
+    def place(self, at: int) -> Tuple[int, int]:
+        """The line of a place, and its column in characters; each byte that belongs to none is one."""
+        start = self.text.rfind(b"\n", self.last if self.last <= at else 0, at) + 1
+        if start or self.last > at:
+            self.last, self.column = start, 1
+        self.column += characters(self.text, self.last, at)
+        self.last = at
+        return self.number(at), self.column
+
+
+def characters(text: Text, start: int, end: int) -> int:
+    """How many characters a part of a text has. Each byte that belongs to none is one."""
+    decode = codecs.getincrementaldecoder("utf-8")("surrogateescape").decode
+    pieces = (text[at : min(at + PIECE, end)] for at in range(start, end, PIECE))
+    return sum(len(decode(piece)) for piece in pieces) + len(decode(b"", True))
+
+
+def shortened(text: str, at: int, width: int = 100) -> Tuple[str, int]:
     """The text around a place, and where the place then is; `..` stands for what is left out."""
     if len(text) <= width:
         return text, at

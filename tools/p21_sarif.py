@@ -3,25 +3,27 @@
 import os
 import re
 import urllib.parse
+from typing import Any, Callable, Dict, Sequence, Tuple
 
 import p21_reading as reading
 
+Json = Dict[str, Any]
 SCHEMA = "https://docs.oasis-open.org/sarif/sarif/v2.1.0/errata01/os/schemas/sarif-schema-2.1.0.json"
 
 
-def uri_of(file):
+def uri_of(file: str) -> str:
     """The name of a file as a reference: relative where the name is, with each byte that has no place there by its number."""
     escaped = urllib.parse.quote(os.fsencode(file))
     return f"file://{escaped}" if os.path.isabs(file) else escaped
 
 
-def refusals(program):
+def refusals(program: str) -> Dict[str, Tuple[str, str]]:
     """The name and the sentence of each refusal by its number, as `p21 faults` lists them."""
     listed = reading.run(program, "faults").output.decode("utf-8")
     return {number: (name, about) for number, name, about in re.findall(r"^ +(S?\d+) (\w+) +(.*)$", listed, re.M)}
 
 
-def rule_of(number, about):
+def rule_of(number: str, about: Tuple[str, str]) -> Json:
     """A refusal as a rule."""
     name, sentence = about
     return {
@@ -33,12 +35,12 @@ def rule_of(number, about):
     }
 
 
-def result_of(row, index, message):
+def result_of(row: Json, index: int, message: str) -> Json:
     """A refusal as a result, by the row that p21-where makes of it."""
-    place = {"artifactLocation": {"uri": uri_of(row["file"])}}
+    place: Json = {"artifactLocation": {"uri": uri_of(row["file"])}}
     if row["line"]:
         place["region"] = {"startLine": row["line"], "startColumn": row["column"]}
-    location = {"physicalLocation": place}
+    location: Json = {"physicalLocation": place}
     if row["instance"]:
         named = {"name": row["instance"], "kind": "object"}
         if row["attribute"]:
@@ -55,19 +57,19 @@ def result_of(row, index, message):
     }
 
 
-def notification_of(row):
+def notification_of(row: Json) -> Json:
     """A file that could not be read."""
     where = {"physicalLocation": {"artifactLocation": {"uri": uri_of(row["file"])}}}
     return {"level": "error", "message": {"text": row["answer"]}, "locations": [where]}
 
 
-def log_of(program, rows, message_of, status):
+def log_of(program: str, rows: Sequence[Json], message_of: Callable[[Json], str], status: int) -> Json:
     """The log of a run over all files, by the rows of those that aren't accepted."""
     known = refusals(program)
     refused = [row for row in rows if row["number"] is not None]
     numbers = list(dict.fromkeys(str(row["number"]) for row in refused))
-    version = reading.run(program, "--version").output.decode("ascii").split()[-1]
-    invocation = {"executionSuccessful": len(refused) == len(rows), "exitCode": status}
+    version = reading.run(program, "--version").output.decode("ascii").split()[1]
+    invocation: Json = {"executionSuccessful": len(refused) == len(rows), "exitCode": status}
     if len(refused) < len(rows):
         invocation["toolExecutionNotifications"] = [notification_of(row) for row in rows if row["number"] is None]
     run = {

@@ -11,9 +11,10 @@ import functools
 import itertools
 import re
 import subprocess
-from typing import NamedTuple, Optional
+from typing import Callable, Deque, Iterable, Iterator, List, NamedTuple, Optional, Sequence, Set, Tuple
 
 import p21_reading as reading
+from p21_reading import Piece, Text
 
 LEXEME = re.compile(
     rb"[\0- \x7f]+|--[^\n]*|(?P<remark>\(\*)|(?P<string>')"
@@ -37,6 +38,12 @@ NO_NAMES = set(
 )
 
 
+# An attribute: the entity that declares it, and its name.
+Attribute = Tuple[str, str]
+# What stands in a heading before and behind some names.
+Around = Tuple[Sequence[str], Sequence[str]]
+
+
 class Word(NamedTuple):
     """A word, a number, a string or a sign, in upper case, with its place."""
 
@@ -49,11 +56,11 @@ class Word(NamedTuple):
 class Stretch:
     """A stretch of a text from a word to another: a declaration, or a statement of one. It gives its words."""
 
-    text: bytes
+    text: Text
     start: int
     end: int
 
-    def __iter__(self):
+    def __iter__(self) -> Iterator[Word]:
         return words_of(self.text, self.start, self.end)
 
 
@@ -66,17 +73,17 @@ class Declaration(NamedTuple):
     whole: Stretch
 
     @property
-    def words(self):
+    def words(self) -> Iterator[Word]:
         """Its words, one after the other."""
         return iter(self.whole)
 
     @property
-    def start(self):
+    def start(self) -> int:
         """Where it begins."""
         return self.whole.start
 
     @property
-    def end(self):
+    def end(self) -> int:
         """Where it ends."""
         return self.whole.end
 
@@ -87,17 +94,17 @@ class Place(NamedTuple):
 
     start: int
     end: int
-    notes: list
+    notes: List[str]
     expected: Optional[str] = None
     found: Optional[str] = None
 
 
-def words_of(text, start=0, end=None):
+def words_of(text: Text, start: Optional[int] = 0, end: Optional[int] = None) -> Iterator[Word]:
     """The words of a text, or of a part of it that begins and ends with a word, up to the first byte, string or remark that
     makes none."""
     end = len(text) if end is None else end
     while start is not None and start < end:
-        found = LEXEME.match(text, start)
+        found = reading.matched(LEXEME, text, start)
         start = found.end()
         if found["word"]:
             yield Word(found["word"].decode("latin-1").upper(), found.start(), start)
@@ -111,17 +118,18 @@ def words_of(text, start=0, end=None):
             return
 
 
-def stray_of(text, start):
+def stray_of(text: Text, start: int) -> Optional[int]:
     """Behind the last word of a text: where a byte, a string or a remark stands that makes no word, or None."""
     while start < len(text):
-        found = LEXEME.match(text, start)
-        start = end_of_remark(text, found.start()) if found["remark"] else found.end()
-        if start is None or found["other"] or found["string"]:
+        found = reading.matched(LEXEME, text, start)
+        end = end_of_remark(text, found.start()) if found["remark"] else found.end()
+        if end is None or found["other"] or found["string"]:
             return found.start()
+        start = end
     return None
 
 
-def end_of_string(text, start):
+def end_of_string(text: Text, start: int) -> Optional[int]:
     """The place behind a string, in which two apostrophes are one, or None where it doesn't end."""
     end = text.find(b"'", start + 1)
     while end >= 0 and text[end + 1 : end + 2] == b"'":
@@ -129,7 +137,7 @@ def end_of_string(text, start):
     return None if end < 0 else end + 1
 
 
-def end_of_remark(text, start):
+def end_of_remark(text: Text, start: int) -> Optional[int]:
     """The place behind a remark, in which others may stand, or None where it doesn't end."""
     depth = 0
     for mark in REMARK_MARK.finditer(text, start):
@@ -139,27 +147,31 @@ def end_of_remark(text, start):
     return None
 
 
-def is_name(word):
+def is_name(word: Word) -> bool:
     """Could the word be a name?"""
     return word.text[:1].isalpha() and word.text not in NO_NAMES
+
+
+# What gives some words, as often as it is asked.
+Words = Callable[[], Iterable[Word]]
 
 
 class Outline:
     """The declarations of a schema text. No schema has more of them than a text may have, and one that is refused for the
     number has one more."""
 
-    def __init__(self, text):
+    def __init__(self, text: Text) -> None:
         self.text = text
         self.declarations = list(itertools.islice(self.declared(), MOST_DECLARATIONS + 1))
         self.entities = {found.name: found for found in self.declarations if found.kind == "ENTITY"}
         self.types = {found.name: found for found in self.declarations if found.kind == "TYPE"}
 
     @property
-    def words(self):
+    def words(self) -> Iterator[Word]:
         """All words of the text, one after the other."""
         return words_of(self.text)
 
-    def declared(self):
+    def declared(self) -> Iterator[Declaration]:
         """Each declaration. It ends one word behind its `END_`.., and one of a function or procedure may hold others."""
         words = self.words
         for word in words:
@@ -167,31 +179,32 @@ class Outline:
             if kind not in DECLARATIONS:
                 continue
             nested = kind in ("FUNCTION", "PROCEDURE")
-            named, last, depth, count = None, word, 1, 1
+            named: Optional[Word] = None
+            last, depth, count = word, 1, 1
             for count, last in enumerate(words, 2):
                 named = named or last
                 if depth == 0:
                     break
                 depth += (nested and last.text == kind) - (last.text == f"END_{kind}")
-            if count > 2:
+            if named and count > 2:
                 yield Declaration(kind, named.text, named, Stretch(self.text, word.start, last.end))
 
-    def source(self, declaration):
+    def source(self, declaration: Declaration) -> memoryview:
         """The text of a declaration."""
         return memoryview(self.text)[declaration.start : declaration.end]
 
-    def listed(self, name, around):
+    def listed(self, name: str, around: Around) -> List[str]:
         """The entities that stand in a list of the heading of an entity, each once."""
         words = names_between(self.entities[name], around)
         found = (self.entities[word.text].name for word in words() if word.text in self.entities) if words else ()
         return list(dict.fromkeys(found))
 
     @functools.lru_cache(maxsize=None)
-    def supertypes(self, name):
+    def supertypes(self, name: str) -> List[str]:
         """The entities of which an entity says that it is a subtype."""
         return self.listed(name, OF_SUBTYPE)
 
-    def closure(self, names):
+    def closure(self, names: Iterable[str]) -> Set[str]:
         """These entities with all of their supertypes."""
         found = set()
         waiting = [name for name in names if name in self.entities]
@@ -202,11 +215,11 @@ class Outline:
                 waiting += self.supertypes(name)
         return found
 
-    def oneof(self, name):
+    def oneof(self, name: str) -> List[str]:
         """The entities of the ONEOF that an entity states and nothing beside it."""
         return self.listed(name, OF_ONEOF)
 
-    def statements(self, declaration):
+    def statements(self, declaration: Declaration) -> Iterator[Tuple[str, Stretch]]:
         """Each statement between the heading and the end of a declaration, with the word of its group in front of it."""
         words = declaration.words
         for word in words:
@@ -222,14 +235,14 @@ class Outline:
                 yield group, Stretch(self.text, first.start, word.end)
                 first = None
 
-    def redeclarations(self):
+    def redeclarations(self) -> Iterator[Tuple[Declaration, Stretch]]:
         """Each statement that declares inherited attributes anew, or derives one."""
         for entity in self.entities.values():
             for group, statement in self.statements(entity):
                 if group in ("", "DERIVE") and is_anew(statement):
                     yield entity, statement
 
-    def repeated(self, declaration):
+    def repeated(self, declaration: Declaration) -> Optional[Word]:
         """The second of two equal names among the attributes of an entity, or in a list of a declaration."""
         if declaration.kind == "ENTITY":
             listed = (names_between(declaration, around) for around in (OF_SUBTYPE, OF_ONEOF))
@@ -244,13 +257,13 @@ class Outline:
                 return found[1]
         return None
 
-    def new_names(self, declaration):
+    def new_names(self, declaration: Declaration) -> Iterator[Word]:
         """The names that an entity gives to attributes of its own."""
         for group, statement in self.statements(declaration):
             if group in ("", "DERIVE") and not is_anew(statement):
                 yield from names_in(statement)
 
-    def unknown(self, declaration):
+    def unknown(self, declaration: Declaration) -> Optional[Word]:
         """The first name in a declaration that is declared nowhere, or not as what it has to be."""
         if declaration.kind == "TYPE":
             body, behind = itertools.islice(declaration.words, 3, 5)
@@ -260,8 +273,8 @@ class Outline:
                 return None
             words = itertools.islice(declaration.words, 3, None)
             return self.undeclared(itertools.takewhile(lambda word: word.text not in GROUPS, words))
-        for words in filter(None, (names_between(declaration, around) for around in (OF_ONEOF, OF_SUBTYPE))):
-            for word in words():
+        for names in filter(None, (names_between(declaration, around) for around in (OF_ONEOF, OF_SUBTYPE))):
+            for word in names():
                 if word.text != "," and word.text not in self.entities:
                     return word
         for group, statement in self.statements(declaration):
@@ -271,18 +284,18 @@ class Outline:
                 return found
         return None
 
-    def undeclared(self, words):
+    def undeclared(self, words: Iterable[Word]) -> Optional[Word]:
         """The first of these words that is a name and declared nowhere."""
         names = (word for word in words if is_name(word))
         return next((word for word in names if word.text not in self.entities and word.text not in self.types), None)
 
-    def own_attributes(self, name):
+    def own_attributes(self, name: str) -> Iterator[str]:
         """The names of the explicit attributes that an entity declares itself, redeclarations apart."""
         for group, statement in self.statements(self.entities[name]):
             if group == "":
                 yield from (item[0].text for item in items_in(statement) if len(item) == 1)
 
-    def order(self, name):
+    def order(self, name: str) -> List[str]:
         """An entity behind its supertypes, each with those of its own in front of it, and each once."""
         found = {}
         seen = set()
@@ -296,11 +309,11 @@ class Outline:
                 waiting += [above for above in reversed(self.supertypes(top)) if above not in seen]
         return list(found)
 
-    def places(self, name):
+    def places(self, name: str) -> Iterator[Attribute]:
         """The attributes for which an instance of an entity has values, each with the entity that declares it."""
         return ((entity, attribute) for entity in self.order(name) for attribute in self.own_attributes(entity))
 
-    def explained(self, entities, place):
+    def explained(self, entities: Iterable[str], place: Attribute) -> List[str]:
         """The texts that say what stands at a place in an instance of these entities: where it is declared, where it is
         declared anew or derived, and the types that are named there, one behind the other."""
         declaring, attribute = place
@@ -315,13 +328,13 @@ class Outline:
             if len(found) >= MOST_TEXTS:
                 break
         for text in found:
-            named = re.split("[:=]", text, 1)[-1]
-            if len(found) < MOST_TEXTS and not re.match(r" (?:SELECT|ENUMERATION)\b", named, re.I):
-                types = [self.types[word] for word in re.findall(r"\w+", named.upper()) if word in self.types]
+            behind = re.split("[:=]", text, 1)[-1]
+            if len(found) < MOST_TEXTS and not re.match(r" (?:SELECT|ENUMERATION)\b", behind, re.I):
+                types = [self.types[word] for word in re.findall(r"\w+", behind.upper()) if word in self.types]
                 found += [body for body in map(self.body, types) if body not in found]
         return found
 
-    def type_of(self, entities, place):
+    def type_of(self, entities: Iterable[str], place: Attribute) -> str:
         """The type of an attribute in an instance of these entities, as its text: where several declare it anew, that of the
         one that is furthest below."""
         declaring, attribute = place
@@ -337,25 +350,25 @@ class Outline:
                         found = " ".join(words).partition(" : = ")[0]
         return found
 
-    def body(self, declaration):
+    def body(self, declaration: Declaration) -> str:
         """The text of a type without its words around."""
         return self.plain(declaration.named.start, next(word.end for word in declaration.words if word.text == ";"))
 
-    def plain(self, start, end):
+    def plain(self, start: int, end: int) -> str:
         """A part of the text on one line, of which only the beginning is said where it is long."""
         return " ".join(self.text[start : min(end, start + LONGEST_TEXT)].decode("latin-1").split())
 
 
-def heading_of(declaration):
+def heading_of(declaration: Declaration) -> Iterator[Word]:
     """The words of a declaration up to its first `;`."""
     return itertools.takewhile(lambda word: word.text != ";", declaration.words)
 
 
-def names_between(declaration, around):
+def names_between(declaration: Declaration, around: Around) -> Optional[Words]:
     """The words in the heading of a declaration between some words and others: what gives them, or None."""
     front, back = around
     heading = heading_of(declaration)
-    last = collections.deque(maxlen=len(front))
+    last: Deque[str] = collections.deque(maxlen=len(front))
     start = 0
     while list(last) != front:
         word = next(heading, None)
@@ -369,22 +382,24 @@ def names_between(declaration, around):
     return lambda: itertools.takewhile(lambda word: word.text != ")", itertools.islice(declaration.words, start, None))
 
 
-def names_in(statement):
+def names_in(statement: Stretch) -> Iterator[Word]:
     """What stands in front of the `:` of a statement; nothing where it has none."""
     return itertools.takewhile(lambda word: word.text != ":", statement) if has_colon(statement) else iter(())
 
 
-def type_in(statement):
+def type_in(statement: Stretch) -> Iterator[Word]:
     """What stands behind the `:` of a statement; all of it where it has none."""
-    return itertools.dropwhile(lambda word: word.text != ":", statement) if has_colon(statement) else iter(statement)
+    if not has_colon(statement):
+        return iter(statement)
+    return itertools.dropwhile(lambda word: word.text != ":", statement)
 
 
-def has_colon(statement):
+def has_colon(statement: Stretch) -> bool:
     """Is there a `:` in a statement?"""
     return any(word.text == ":" for word in statement)
 
 
-def items_in(statement):
+def items_in(statement: Stretch) -> Iterator[List[Word]]:
     """What stands between the commas in front of the `:` of a statement: a word, or the words that name an inherited
     attribute. Of more words the first ones."""
     for is_comma, words in itertools.groupby(names_in(statement), lambda word: word.text == ","):
@@ -392,12 +407,12 @@ def items_in(statement):
             yield list(itertools.islice(words, 5))
 
 
-def is_anew(statement):
+def is_anew(statement: Stretch) -> bool:
     """Does a statement declare inherited attributes anew?"""
     return any(word.text == "SELF" for word in names_in(statement))
 
 
-def owners_in(statement):
+def owners_in(statement: Stretch) -> Iterator[Word]:
     """The word behind the one behind each SELF: the entity whose attribute is declared anew."""
     before, last = "", ""
     for word in statement:
@@ -412,22 +427,22 @@ def owners_in(statement):
 class Refused:
     """A schema text that the program refuses by a number."""
 
-    def __init__(self, program, text, number):
+    def __init__(self, program: str, text: Text, number: int) -> None:
         self.program = program
         self.number = number
         self.text = text
 
     @functools.cached_property
-    def outline(self):
+    def outline(self) -> Outline:
         """The declarations of the text."""
         return Outline(self.text)
 
-    def answers(self, *pieces):
+    def answers(self, *pieces: Piece) -> bool:
         """Is a text, which is these pieces, refused by the same number?"""
         found = reading.run(self.program, "schema", "/dev/stdin", text=pieces, output=subprocess.DEVNULL)
         return number_of(found.error) == self.number
 
-    def place(self):
+    def place(self) -> Optional[Place]:
         """The place where the text is refused, or None where it can't be told."""
         if len(self.text) > TEXT_LIMIT:
             return Place(TEXT_LIMIT, TEXT_LIMIT, [f"a schema text has at most {TEXT_LIMIT} bytes"])
@@ -435,7 +450,7 @@ class Refused:
             return self.place_of_byte()
         return self.place_of_word() or self.place_in_whole()
 
-    def around(self, place):
+    def around(self, place: Place) -> Tuple[int, int]:
         """The declaration that a place stands in, or the line, by its start and end."""
         for found in self.outline.declarations if len(self.text) <= TEXT_LIMIT else ():
             if found.start <= place.start <= found.end:
@@ -444,7 +459,7 @@ class Refused:
         end = self.text.find(b"\n", place.start)
         return start, end if end >= 0 else len(self.text)
 
-    def place_of_byte(self):
+    def place_of_byte(self) -> Optional[Place]:
         """The byte, the string or the remark that makes no word."""
         last = collections.deque(self.outline.words, 1)
         start = stray_of(self.text, last[0].end if last else 0)
@@ -455,7 +470,7 @@ class Refused:
             end += 1
         return Place(start, end, [])
 
-    def place_of_word(self):
+    def place_of_word(self) -> Optional[Place]:
         """The first word behind which the text is refused even where it is cut there.
 
         A byte that no word has is put behind the cut: it is refused by another number, but only where the words in front
@@ -467,7 +482,7 @@ class Refused:
             0,
         )
 
-        def is_refused(count):
+        def is_refused(count: int) -> bool:
             return self.answers(memoryview(self.text)[: words[count - 1].end], STRAY)
 
         if not words or not is_refused(len(words)):
@@ -476,18 +491,18 @@ class Refused:
         word = words[first_count(len(words), is_refused) - 1]
         return Place(word.start, word.end, self.notes_on(word))
 
-    def notes_on(self, word):
+    def notes_on(self, word: Word) -> List[str]:
         """In which declaration a word stands."""
         for found in reversed(self.outline.declarations):
             if found.start <= word.start <= found.end:
                 return [f"in {found.kind} {brief(found.name)}, {self.line(found.start)}"]
         return []
 
-    def line(self, start):
+    def line(self, start: int) -> str:
         """The line in which a place stands."""
         return f"line {reading.line_number(self.text, start)}"
 
-    def place_in_whole(self):
+    def place_in_whole(self) -> Optional[Place]:
         """The place of a refusal that comes of several declarations."""
         if self.number == 6:
             return self.place_of_renamed_select()
@@ -497,7 +512,7 @@ class Refused:
             return None
         declarations = self.outline.declarations
 
-        def is_refused(count):
+        def is_refused(count: int) -> bool:
             sources = map(self.outline.source, declarations[:count])
             others = map(empty, declarations[count:] if self.number != 3 else ())
             pieces = itertools.chain.from_iterable((b"\n", source) for source in itertools.chain(sources, others))
@@ -514,7 +529,7 @@ class Refused:
         notes = [f"{other.kind} {brief(other.name)} stands in {self.line(other.start)} too" for other in others[:MOST_TEXTS]]
         return Place(word.start, word.end, self.notes_on(word) + (notes if self.number == 3 else []))
 
-    def place_of_renamed_select(self):
+    def place_of_renamed_select(self) -> Optional[Place]:
         """The first type that is just the name of a select."""
         for found in self.outline.types.values():
             body, behind = itertools.islice(found.words, 3, 5)
@@ -523,13 +538,13 @@ class Refused:
                     return Place(body.start, body.end, self.notes_on(body))
         return None
 
-    def place_of_redeclaration(self):
+    def place_of_redeclaration(self) -> Optional[Place]:
         """The first statement with which the text is refused, where those behind it are blanked."""
         places = array.array("Q")
         for _, statement in self.outline.redeclarations():
             places.extend((statement.start, statement.end))
 
-        def is_refused(count):
+        def is_refused(count: int) -> bool:
             text = bytearray(self.text)
             for start, end in zip(places[2 * count :: 2], places[2 * count + 1 :: 2]):
                 text[start:end] = b" " * (end - start)
@@ -541,18 +556,18 @@ class Refused:
         return Place(start, end, self.notes_on(next(words_of(self.text, start))))
 
 
-def number_of(line):
+def number_of(line: str) -> int:
     """The number behind the S of a schema's refusal; 0 where the line is none."""
     found = re.match(r"schema refused S(\d)", line)
     return int(found[1]) if found else 0
 
 
-def brief(text):
+def brief(text: str) -> str:
     """A word of a text on one line, of which the end may be left out."""
     return reading.shown(reading.shortened(text, 0, 60)[0])
 
 
-def first_count(count, is_true):
+def first_count(count: int, is_true: Callable[[int], bool]) -> int:
     """The least number from 1 to a count of which something is true that stays true for all greater ones."""
     low, high = 0, count
     while high - low > 1:
@@ -561,12 +576,12 @@ def first_count(count, is_true):
     return high
 
 
-def is_kept(declaration):
+def is_kept(declaration: Declaration) -> bool:
     """Is it a declaration of an entity or a type?"""
     return declaration.kind in ("ENTITY", "TYPE")
 
 
-def empty(declaration):
+def empty(declaration: Declaration) -> bytes:
     """A declaration of the same name with nothing in it."""
     name = declaration.name.encode("ascii")
     if declaration.kind == "ENTITY":

@@ -11,14 +11,15 @@ import pathlib
 import re
 import tempfile
 import threading
-from typing import NamedTuple
+from typing import Dict, List, NamedTuple, Optional, Tuple
 
 import p21_files
 import p21_reading as reading
 import p21_schemas
 
 ALIASES = "aliases"
-OPTION = "a folder of schemas, each found by what a file names; in place of S. P21_SCHEMAS names one too"
+VARIABLE = "P21_SCHEMAS"
+OPTION = f"a folder of schemas, each found by what a file names; in place of S. {VARIABLE} names one too"
 ALIAS = re.compile(r"(\w+)\s*=\s*(\S.*)", re.A)
 NAME = re.compile(rb"[A-Za-z0-9_]*")
 # The header is looked for in so many bytes.
@@ -35,15 +36,15 @@ class Served(NamedTuple):
     change: str
 
 
-def folder_of(option, first):
+def folder_of(option: Optional[str], first: Optional[str]) -> Optional[str]:
     """The folder that the option names, or else P21_SCHEMAS where the first name of the command line is no schema; or None."""
     if option is not None:
         return option
-    folder = os.environ.get("P21_SCHEMAS") or None
+    folder = os.environ.get(VARIABLE) or None
     return folder if folder and (first is None or not is_schema(first)) else None
 
 
-def is_schema(path):
+def is_schema(path: str) -> bool:
     """Does a file begin as a schema does?"""
     if not os.path.isfile(path):
         return False
@@ -52,7 +53,7 @@ def is_schema(path):
     return first is not None and first.text == "SCHEMA"
 
 
-def name_in(path):
+def name_in(path: str) -> Optional[str]:
     """The name of the schema that a STEP file names, in capitals; None where no such name is found."""
     if not os.path.isfile(path) and not path.startswith("/dev/fd/"):
         return None
@@ -63,10 +64,10 @@ def name_in(path):
             text = data[statement.start : statement.end]
             if text.startswith(b"FILE_SCHEMA"):
                 value = reading.read_parts(text)[0].values[0].inner[0]
-                return NAME.match(text, value.start + 1)[0].decode("ascii").upper() or None
+                return reading.matched(NAME, text, value.start + 1)[0].decode("ascii").upper() or None
             if text.startswith((b"ENDSEC", b"#")):
                 return None
-    except (OSError, ValueError, IndexError, StopIteration, AttributeError):
+    except (OSError, ValueError, IndexError, StopIteration, AssertionError):
         pass
     return None
 
@@ -74,13 +75,13 @@ def name_in(path):
 class Shelf:
     """The listings of a folder, by the names that they serve."""
 
-    def __init__(self, folder):
+    def __init__(self, folder: str) -> None:
         self.folder = pathlib.Path(folder)
         self.copies = tempfile.TemporaryDirectory()
         self.lock = threading.Lock()
-        self.found = {}
-        self.places = {}
-        self.listings = {}
+        self.found: Dict[Optional[str], Served] = {}
+        self.places: Dict[pathlib.Path, Tuple[p21_schemas.Word, p21_schemas.Word]] = {}
+        self.listings: Dict[str, pathlib.Path] = {}
         if not self.folder.is_dir():
             raise reading.Trouble(f"{folder} is no folder of schemas")
         for path in sorted(path for path in self.folder.iterdir() if path.suffix.lower() == ".exp"):
@@ -90,7 +91,7 @@ class Shelf:
         if not self.listings:
             raise reading.Trouble(f"{folder} has no listing whose name ends in .exp")
 
-    def name_behind(self, path):
+    def name_behind(self, path: pathlib.Path) -> str:
         """The name behind SCHEMA, whose place in the text is kept."""
         text = path.read_bytes()
         words = p21_schemas.words_of(text)
@@ -100,13 +101,13 @@ class Shelf:
         self.places[path] = first, name
         return name.text
 
-    def keep(self, name, path):
+    def keep(self, name: str, path: pathlib.Path) -> None:
         """Keeps by which listing a name is served. Two can't serve one name."""
         if name in self.listings and self.listings[name] != path:
             raise reading.Trouble(f"{self.listings[name]} and {path} both serve {name}")
         self.listings[name] = path
 
-    def read_aliases(self):
+    def read_aliases(self) -> None:
         """What else the listings serve."""
         path = self.folder / ALIASES
         if not path.is_file():
@@ -116,12 +117,12 @@ class Shelf:
             if not line or line.startswith("#"):
                 continue
             found = ALIAS.fullmatch(line)
-            listing = found and self.folder / found[2]
-            if listing not in self.places:
+            listing = self.folder / found[2] if found else None
+            if found is None or listing is None or listing not in self.places:
                 raise reading.Trouble(f"{path}:{number}: no NAME = LISTING of this folder: {line}")
             self.keep(found[1].upper(), listing)
 
-    def serving(self, name):
+    def serving(self, name: Optional[str]) -> Optional[Served]:
         """The listing that serves a name, or None; where a file has no name that is found, the first one of all, by which the
         program says what is wrong with the file."""
         path = self.listings[min(self.listings)] if name is None else self.listings.get(name)
@@ -132,7 +133,7 @@ class Shelf:
                 self.found[name] = self.served(name, path)
             return self.found[name]
 
-    def served(self, name, path):
+    def served(self, name: Optional[str], path: pathlib.Path) -> Served:
         """A listing by a name, and where it isn't its own, a copy with that name."""
         text = path.read_bytes()
         digest = hashlib.sha256(text).hexdigest()
@@ -145,6 +146,6 @@ class Shelf:
         line = reading.line_number(text, old.start)
         return Served(str(copy), str(path), digest, f"{path}:{line}: {heading} -> {first.text} {name}")
 
-    def changes(self):
+    def changes(self) -> List[str]:
         """The changes that were made in copies, in the order of the names."""
         return [served.change for _, served in sorted(self.found.items(), key=lambda item: item[0] or "") if served.change]

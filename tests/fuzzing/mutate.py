@@ -99,6 +99,18 @@ def statements_of(chance, text):
     return b";".join(found)
 
 
+def inside(chance, text):
+    """One change that mostly leaves the statements of a file as they are: of a parameter, or of a name."""
+    if chance.random() < 0.6:
+        return parameters_of(chance, text)
+    names = list(re.finditer(rb"#[0-9]+", text))
+    if not names:
+        return text
+    at, other = chance.choice(names), chance.choice(names)
+    new = chance.choice([other[0], other[0], b"#%d" % chance.randrange(1, 2**20)])
+    return text[: at.start()] + new + text[at.end() :]
+
+
 def file(chance, text):
     """A file with one to three changes."""
     for _ in range(chance.choice([1, 1, 1, 2, 3])):

@@ -29,6 +29,13 @@ ONE_FILE = [
     )
 ]
 REFUSED = [["check", "demo.exp", "twice"], ["schema", "point"], ["check", "point", "point"]]
+EVERY_REFUSAL = [
+    ["check", "--all", "demo.exp", "several"],
+    ["check", "--all", "--most", "2", "demo.exp", "several"],
+    ["check", "--all", "demo.exp", "twice"],
+    ["check", "--all", "demo.exp", "point"],
+    ["check", "--all", "point", "point"],
+]
 TWO_FILES = [
     ["same", "demo.exp", *files]
     for files in (
@@ -61,6 +68,7 @@ PARTS = {
     "schema": SCHEMAS,
     "check, canon, show": ONE_FILE,
     "refusals": REFUSED,
+    "every refusal": EVERY_REFUSAL,
     "same": TWO_FILES,
     "help and usage": WORDS,
 }
@@ -80,6 +88,12 @@ MANY_RISING = file_of(
 )
 LONGER = [["canon", "demo.exp", "many"], ["same", "demo.exp", "many", "many.rising"]]
 
+# A file of records and names that are refused, and of references that nothing serves or that aren't judged.
+SEVERAL = file_of(
+    "#1=POINT($,1.,1.);\n#2=POINT($,1.);\n#3=CLOUD((#1,#2,#9),(),(TALLY(1)));\n#1=POINT($,2.,2.);\n#4=CLOUD((#3),(),(TALLY(1)));\n"
+    + "".join(f"#{k}=POINT($,1.);\n#{k + 100}=CLOUD((#{k + 200}),(),(TALLY(1)));\n" for k in range(10, 30))
+)
+
 
 INSTANCES = "of instances taken straight from their bytes"
 SUGGESTIONS = "of words like a mistaken one"
@@ -94,7 +108,7 @@ def excuse(functions):
     """
     if functions[0].startswith("strsim::chars_of"):
         return SUGGESTIONS
-    if functions[0] == "p21_stream::read::feed" or any(name.startswith("p21_transcribe") for name in functions):
+    if functions[0] in ("p21_stream::read::feed", "p21_stream::listing::take_piece") or any(name.startswith("p21_transcribe") for name in functions):
         return INSTANCES
     return None
 
@@ -179,6 +193,7 @@ def main():
         write_all(rigged)
         rigged.write("many", MANY)
         rigged.write("many.rising", MANY_RISING)
+        rigged.write("several", SEVERAL)
         refusing = Refusing(rigged, tally)
         in_turn(rigged, refusing, sys.argv[1:])
         if not sys.argv[1:]:

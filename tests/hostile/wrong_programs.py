@@ -69,6 +69,15 @@ EDITS = [
         "p21_automaton_tests::runs::finds_blanks",
     ),
     Edit(
+        "definitions.py",
+        [],
+        "a call says of itself what the page of calls doesn't",
+        "crates/p21_values/src/text.rt",
+        "/// How many characters the text has.",
+        "/// How many letters the text has.",
+        "docs/CALLS.md is not what the sources say",
+    ),
+    Edit(
         "edits.py",
         [],
         "the code has no longer the text that a wrong body of the gate turns",
@@ -84,7 +93,16 @@ EDITS = [
         "include/p21.h",
         "P21_NOT_DISTINCT = 52,",
         "P21_NOT_DISTINCT = 59,",
-        "include/p21.h: 59 NotDistinct",
+        "include/p21.h is not what docs/FAULTS.md says",
+    ),
+    Edit(
+        "copies.py",
+        [],
+        "a crate of tests has another schema DEMO than the others",
+        "crates/p21_record_tests/src/tests/schemas.rt",
+        "values : LIST [1:3] OF UNIQUE item;",
+        "values : LIST [1:4] OF UNIQUE item;",
+        "schemas.rt: DEMO is not examples/demo.exp",
     ),
     Edit(
         "library.py",

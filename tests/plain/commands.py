@@ -1,7 +1,7 @@
 """The commands: what is written to standard output and to standard error, and the status."""
 
 from . import canonical
-from .files import read_file
+from .files import read_file, survey_file
 from .refusal import Refused, RefusedFile, RefusedSchema
 from .schema import read_schema
 from .tokens import canonical_param
@@ -43,13 +43,26 @@ def schema(found):
     return answered(*found.listing())
 
 
-@of_files
-def check(found, file):
+def accepted(found, meaning):
     """How many instances a file has, and how long its canonical file is."""
-    meaning = read_file(found, file)
     return answered(
         f"accepted, instances {len(meaning.instances)}, canonical bytes {len(canonical.file(found, meaning))}"
     )
+
+
+@of_files
+def check(found, file):
+    """The answer for a file that is accepted."""
+    return accepted(found, read_file(found, file))
+
+
+@of_files
+def check_all(found, file, most=None):
+    """The same; or a line for each refusal, and their count."""
+    refusals, behind, meaning = survey_file(found, file, most)
+    if not refusals:
+        return accepted(found, meaning)
+    return refused("\n".join([*map(str, refusals), f"refusals {len(refusals)}{behind}"]))
 
 
 @of_files

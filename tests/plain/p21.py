@@ -27,16 +27,22 @@ def arguments():
             command_line.add_argument(name, type=pathlib.Path)
         if command == "show":
             command_line.add_argument("--name", type=int, required=True)
+        if command == "check":
+            command_line.add_argument("--all", action="store_true")
+            command_line.add_argument("--most", type=int)
     return parser.parse_args()
 
 
 def main():
     """Reads the files, runs the command and writes its answer."""
     given = vars(arguments())
-    command = getattr(commands, given.pop("command"))
-    name = given.pop("name", None)
+    command = given.pop("command")
+    option = given.pop("name", None)
+    every, most = given.pop("all", False), given.pop("most", None)
+    if every or most is not None:
+        command, option = "check_all", most
     texts = [path.read_bytes() for path in given.values()]
-    output, error, status = command(*texts, *([] if name is None else [name]))
+    output, error, status = getattr(commands, command)(*texts, *([] if option is None else [option]))
     sys.stdout.write(output)
     sys.stderr.write(error)
     return status

@@ -1,5 +1,6 @@
 """Refusals: docs/FAULTS.md has a section for each."""
 
+# Made from docs/FAULTS.md by tools/make-refusals, up to the mark of the end: edit the document.
 NAMES = {
     1: "BadByte",
     2: "OpenString",
@@ -55,6 +56,7 @@ SCHEMA_NAMES = {
     8: "RedeclaredPlace",
     9: "TooLarge",
 }
+# The end of what tools/make-refusals makes.
 
 
 class Refused(Exception):

@@ -19,7 +19,7 @@ import tarfile
 import tempfile
 import time
 import zipfile
-from typing import NamedTuple
+from typing import Any, Dict, Iterable, Mapping, NamedTuple, Tuple
 
 ABOUT = "says whether two STEP files (ISO 10303-21) hold the same model"
 MAINTAINER = "The authors of p21 <p21@localhost>"
@@ -36,6 +36,8 @@ License: Apache-2.0
  The text of the license stands in /usr/share/common-licenses/Apache-2.0. The libraries that are linked into the
  program have licenses of their own, MIT or Apache-2.0: /usr/share/doc/p21/licenses has their texts.
 """
+# The system keeps a list of shared libraries.
+TRIGGERS = "activate-noawait ldconfig\n"
 # Python keeps what it compiles of the tools beside them.
 BEFORE_REMOVAL = """\
 #!/bin/sh
@@ -52,12 +54,16 @@ class Entry(NamedTuple):
     leads_to: str = ""
 
 
-def zipped(content):
+# The files of a package by their names.
+Entries = Mapping[str, Entry]
+
+
+def zipped(content: bytes) -> bytes:
     """The bytes, compressed by gzip without a time."""
     return gzip.compress(content, 9, mtime=0)
 
 
-def tar(path, top, entries, when):
+def tar(path: pathlib.Path, top: str, entries: Entries, when: int) -> None:
     """A tar archive below one folder."""
     plain = io.BytesIO()
     with tarfile.open(fileobj=plain, mode="w", format=tarfile.USTAR_FORMAT) as archive:
@@ -71,7 +77,7 @@ def tar(path, top, entries, when):
     path.write_bytes(zipped(plain.getvalue()))
 
 
-def debian_entries(entries):
+def debian_entries(entries: Entries) -> Dict[str, Entry]:
     """The files as Debian has them: completions of zsh where its zsh looks, manual pages packed, and the license told."""
     found = {}
     for name, entry in entries.items():
@@ -84,7 +90,7 @@ def debian_entries(entries):
     return dict(sorted(found.items()))
 
 
-def deb(path, version, entries, when):
+def deb(path: pathlib.Path, version: str, entries: Entries, when: int) -> None:
     """A package of Debian."""
     size = sum(-(-len(entry.content) // 1024) for entry in entries.values())
     control = f"""\
@@ -100,7 +106,7 @@ Description: {ABOUT}
  p21 reads a STEP file in clear text against its EXPRESS schema, checks every
  instance, and gives the canonical file: one text for each meaning. p21-where,
  p21-diff and p21-table show where a file is refused, what differs in two, and
- what holds of many.
+ what holds of many. The library for C and C++ is in it too.
 """
     sums = "".join(f"{hashlib.md5(entry.content).hexdigest()}  {name}\n" for name, entry in entries.items() if not entry.leads_to)
     about = {
@@ -108,6 +114,8 @@ Description: {ABOUT}
         "DEBIAN/md5sums": Entry(sums.encode()),
         "DEBIAN/prerm": Entry(BEFORE_REMOVAL.encode(), True),
     }
+    if "usr/lib/libp21.so" in entries:
+        about["DEBIAN/triggers"] = Entry(TRIGGERS.encode())
     with tempfile.TemporaryDirectory() as place:
         folder = pathlib.Path(place) / "package"
         for name, entry in {**entries, **about}.items():
@@ -122,11 +130,13 @@ Description: {ABOUT}
             directory.chmod(0o755)
         # dpkg-deb takes this time for what is newer.
         times = {**os.environ, "SOURCE_DATE_EPOCH": str(when)}
-        words = ["dpkg-deb", "--root-owner-group", "-Zgzip", "-z9", "--build", folder, path]
+        words = ["dpkg-deb", "--root-owner-group", "-Zgzip", "-z9", "--build", str(folder), str(path)]
         subprocess.run(words, env=times, stdout=subprocess.DEVNULL, check=True)
 
 
-def wheel_entries(version, settings, root, entries, library):
+def wheel_entries(
+    version: str, settings: Mapping[str, Any], root: pathlib.Path, entries: Entries, library: pathlib.Path
+) -> Dict[str, Entry]:
     """The files of a wheel: the Python package of a repository with the library in it; the program and the tools as scripts,
     and what the tools share as modules; and what goes to `share`."""
     dist, data = f"p21-{version}.dist-info", f"p21-{version}.data"
@@ -158,14 +168,14 @@ def wheel_entries(version, settings, root, entries, library):
     }
     wheel = [("Wheel-Version", "1.0"), ("Generator", "tools/make-release"), ("Root-Is-Purelib", "false")]
     wheel += [("Tag", f"py3-none-{platform}") for platform in PLATFORMS]
-    readme = (root / "README.md").read_text()
+    readme = (root / "python/README.md").read_text()
     found[f"{dist}/LICENSE"] = Entry((root / "LICENSE").read_bytes())
     found[f"{dist}/METADATA"] = Entry(message(about.items(), readme))
     found[f"{dist}/WHEEL"] = Entry(message(wheel))
     return {**found, f"{dist}/RECORD": Entry(listing(found, f"{dist}/RECORD"))}
 
 
-def message(fields, text=""):
+def message(fields: Iterable[Tuple[str, str]], text: str = "") -> bytes:
     """Fields as the files of a wheel have them."""
     found = email.message.EmailMessage(policy=email.policy.EmailPolicy(utf8=True, max_line_length=None))
     for name, value in fields:
@@ -173,7 +183,7 @@ def message(fields, text=""):
     return f"{found}\n{text}".replace("\n\n\n", "\n\n", 1).encode()
 
 
-def listing(entries, own):
+def listing(entries: Entries, own: str) -> bytes:
     """The list of a wheel: each file with its checksum and size, and the list itself with neither."""
     text = io.StringIO()
     rows = csv.writer(text, lineterminator="\n")
@@ -184,7 +194,7 @@ def listing(entries, own):
     return text.getvalue().encode()
 
 
-def wheel(path, entries, when):
+def wheel(path: pathlib.Path, entries: Entries, when: int) -> None:
     """A wheel."""
     with zipfile.ZipFile(path, "w") as archive:
         for name, entry in entries.items():

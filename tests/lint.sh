@@ -1,0 +1,44 @@
+#!/bin/sh
+# Holds the scripts against Debian's checkers: pyflakes3 over all Python, mypy --strict over the tools, whose functions all have
+# type hints, and shellcheck over all scripts of a shell. The tools run on Python 3.8; what makes a release has no such promise,
+# and is checked as for the Python that is here. Without one of the three the part is skipped.
+
+cd "$(dirname -- "$(readlink -f -- "$0")")/.." || exit
+for checker in pyflakes3 mypy shellcheck; do
+    if ! command -v "$checker" > /dev/null; then
+        echo "skipped: there is no $checker, which Debian has as a package of that name"
+        exit 77
+    fi
+done
+failed=0
+
+# with FIRST_LINE FOLDER..: the files below these folders that begin so, but for what is made.
+with() {
+    pattern=$1
+    shift
+    find "$@" -type f -not -path '*/out/*' -not -path '*/__pycache__/*' -exec awk -v pattern="$pattern" '
+        FNR == 1 && $0 ~ pattern { print FILENAME }
+        { nextfile }
+    ' {} + | sort
+}
+
+python=$({ with '^#!.*python' tools tests benchmarks; find tools tests benchmarks python -name '*.py'; } | sort -u)
+echo "$python" | xargs -d '\n' pyflakes3 || failed=1
+
+MYPYPATH=tools
+MYPY_CACHE_DIR=$(mktemp -d) || exit
+export MYPYPATH MYPY_CACHE_DIR
+trap 'rm -rf "$MYPY_CACHE_DIR"' EXIT
+mypy --strict --no-error-summary --python-version 3.8 --scripts-are-modules tools/*.py tools/p21-* || failed=1
+for tool in $(with '^#!.*python' tools); do
+    case $tool in
+        tools/p21-*) ;;
+        *) mypy --strict --no-error-summary --scripts-are-modules "$tool" || failed=1 ;;
+    esac
+done
+
+{ with '^#!.*(sh|bash)$' tools tests benchmarks .ci p21; echo tools/building.sh; } |
+    xargs -d '\n' shellcheck --severity=warning || failed=1
+
+[ "$failed" -eq 0 ] && echo "lint: $(echo "$python" | wc -l) files of Python, and all scripts of a shell"
+exit "$failed"

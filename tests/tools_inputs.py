@@ -1,0 +1,91 @@
+#!/usr/bin/env python3
+"""Runs the tools with standard input in place of each of their files, and with files that can't be read. P21 names another
+program than ./p21."""
+
+import os
+import pathlib
+import pwd
+import subprocess
+
+from tooling import ROOT, SCHEMA, Tests
+
+BLOCK, CHANGED, COUNT = "examples/product.step", "examples/product-changed.step", "examples/refused/Count.step"
+# Each tool with its files, and the words in front of them.
+RUNS = [
+    ("p21-where", [], [SCHEMA, COUNT]),
+    ("p21-where", ["--format", "json"], [SCHEMA, COUNT]),
+    ("p21-diff", [], [SCHEMA, BLOCK, CHANGED]),
+    ("p21-diff", ["--names"], [SCHEMA, BLOCK, CHANGED]),
+    ("p21-renumber", [], [SCHEMA, BLOCK, "{here}/pairs"]),
+    ("p21-table", ["--format", "tsv"], [SCHEMA, BLOCK]),
+    ("p21-table", ["--names", "--format", "tsv"], [SCHEMA, BLOCK]),
+    ("p21-table", ["--format", "tsv", SCHEMA, "--files-from"], ["{here}/list"]),
+    ("p21-adapt", [], [SCHEMA]),
+]
+# What is said of a file that isn't there and of a folder, where the program opens it and where the tool does.
+NOT_THERE, FOLDER = "cannot open {}: there is no such file", ("read fault: it is a folder", "cannot open {}: it is a folder")
+
+
+def inputs(tests):
+    """What is read from standard input is read as the file of that text, but for its name."""
+    tests.make("pairs", "#1\t#71\n")
+    tests.make("list", f"{BLOCK}\n{CHANGED}\n")
+    for tool, words, names in RUNS:
+        tests.tool = tool
+        names = [name.format(here=tests.here) for name in names]
+        wanted = tests.run([*words, *names])
+        for at, name in enumerate(names):
+            given = [*names[:at], "-", *names[at + 1 :]]
+            output, error, status = tests.run([*words, *given], pathlib.Path(name).read_bytes())
+            # The name stands in front of a place and in a row.
+            shown = tuple(text if name not in text else text.replace(name, "-") for text in wanted[:2])
+            title = f"{tool} {' '.join(words)} with file {at + 1} from standard input"
+            tests.judge(title, (*shown, wanted[2]), (output, error, status))
+
+
+def reasons(tests):
+    """What can't be read is named, with the reason."""
+    for tool, words, names in RUNS:
+        tests.tool = tool
+        names = [name.format(here=tests.here) for name in names]
+        for at in range(len(names)):
+            for missing, lines in ((f"{tests.here}/none", [NOT_THERE]), (str(tests.here), FOLDER)):
+                if missing == str(tests.here) and at > 0 and (tool == "p21-table" or "json" in words):
+                    # The folder stands for the files below it.
+                    continue
+                output, error, status = tests.run([*words, *names[:at], missing, *names[at + 1 :]])
+                said = (output + error).replace("read fault\n  {0} is a folder".format(missing), "read fault: it is a folder")
+                said = said.replace(f"cannot open {missing}\n  {missing}: there", f"cannot open {missing}: there")
+                is_said = any(line.format(missing) in said for line in lines)
+                name = f"{tool} {' '.join(words)}, {missing} as file {at + 1}"
+                tests.judge(name, (True, True), (is_said, status in (2, 3)))
+
+
+def forbidden(tests):
+    """A file that may not be read, by a user who isn't root."""
+    path = tests.make("secret.step", "")
+    os.chmod(path, 0)
+    os.chmod(tests.here, 0o755)
+    given = {}
+    if os.geteuid() == 0:
+        nobody = pwd.getpwnam("nobody")
+        given = {"user": nobody.pw_uid, "group": nobody.pw_gid}
+        if not all(os.access(folder, os.X_OK) and folder.stat().st_mode & 1 for folder in [ROOT, *ROOT.parents]):
+            return
+    done = subprocess.run(["tools/p21-table", SCHEMA, path], capture_output=True, check=False, text=True, **given)
+    found = done.stdout.split("  ")[:2], done.returncode
+    tests.judge("a file that may not be read", ([path, f"cannot open {path}: it may not be read"], 3), found)
+
+
+def main():
+    tests = Tests("p21-where")
+    os.environ.pop("P21_SCHEMAS", None)
+    inputs(tests)
+    reasons(tests)
+    forbidden(tests)
+    tests.tool = "the tools' inputs"
+    tests.end()
+
+
+if __name__ == "__main__":
+    main()

@@ -1,0 +1,64 @@
+"""What is built of a crate, and whether it is known to be what the gate proved of the sources: by the record that the build
+leaves in `out/record` (tools/building.sh)."""
+
+import hashlib
+import pathlib
+import re
+from typing import Dict, List, NamedTuple, Optional, Tuple, Union
+
+ROOT = pathlib.Path(__file__).resolve().parent.parent.parent
+BUILT: Dict[str, Tuple[pathlib.Path, ...]] = {
+    "p21": (ROOT / "crates/p21/out/p21", ROOT / "crates/p21/out/p21.o"),
+    "p21_c": (ROOT / "crates/p21_c/out/libp21_c.a",),
+}
+
+
+class Record(NamedTuple):
+    """What is known of a build: the toolchain, a checksum of the sources, the crates that the gate proved and how it ended,
+    and the checksums of the files that were built."""
+
+    toolchain: Optional[str]
+    sources: Optional[str]
+    proved: List[str]
+    gate: Optional[str]
+    files: Dict[str, str]
+
+
+def sum_of(content: Union[bytes, pathlib.Path]) -> str:
+    """The checksum of bytes, or of a file."""
+    return hashlib.sha256(content if isinstance(content, bytes) else content.read_bytes()).hexdigest()
+
+
+def shown(path: pathlib.Path) -> str:
+    """The path as it is called below the top of the repository."""
+    return str(path.relative_to(ROOT))
+
+
+def record_of(crate: str) -> Optional[Record]:
+    """What was noted when a crate was built, or None."""
+    path = ROOT / "crates" / crate / "out" / "record"
+    if not path.is_file():
+        return None
+    rows = [line.split(" ", 1) for line in path.read_text().splitlines()]
+    only = {word: text for word, text in rows if word in ("toolchain", "sources", "gate")}
+    files = {name: digest for digest, name in (text.split() for word, text in rows if word == "file")}
+    proved = [text for word, text in rows if word == "proved"]
+    return Record(only.get("toolchain"), only.get("sources"), proved, only.get("gate"), files)
+
+
+def why_unproved(crate: str, needed: List[str], sources: str, toolchain: str) -> Optional[str]:
+    """Why what is built of a crate isn't known to be what the gate proved of these sources, as a phrase, or None."""
+    record = record_of(crate)
+    if not record:
+        return f"there is no crates/{crate}/out/record"
+    for path in BUILT[crate]:
+        if not path.is_file() or record.files.get(path.name) != sum_of(path):
+            return f"{shown(path)} isn't the one that was built"
+    if record.sources != sources:
+        return f"the sources below {crate} aren't those that were proved"
+    if record.toolchain != toolchain:
+        return f"{crate} was built by {record.toolchain}"
+    if not re.fullmatch(r"\d+ passed, 0 failed", record.gate or ""):
+        return f"the gate ended with `{record.gate}`"
+    unproved = [name for name in needed if name not in record.proved]
+    return f"the gate proved nothing of {unproved[0]}" if unproved else None
