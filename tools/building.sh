@@ -48,6 +48,30 @@ record() (
     cd "$out" && sha256sum "$@" | sed 's/^/file /'
 )
 
+# Compiles a crate, in its folder, over the libraries that the gate has left around it; the compiler proves the crate itself once
+# more: compile_again CRATE SOURCE OUTPUT WORD..
+compile_again() {
+    compiled=$1 source=$2 output=$3
+    shift 3
+    kit=$(dirname -- "$(dirname -- "$(readlink -f -- "$(command -v rt)")")")
+    for name in $(needed_crates "$compiled"); do
+        [ "$name" = "$compiled" ] || set -- "$@" -L "dependency=../$name/out/rlib"
+    done
+    for name in $(sed -n "s/^${compiled}[ :].*: *//p; s/^${compiled}: *//p" "$root/crates.txt"); do
+        rlib=../$name/out/rlib/$name.rlib
+        [ -d "$rlib" ] || rlib=$kit/rlibs/$name.rlib
+        set -- "$@" --extern "$name=$rlib"
+    done
+    mkdir -p out && "$kit/bin/rattle" build --crate-name "$compiled" --extern "std=$kit/rlibs/std.rlib" -L "dependency=$kit/rlibs" "$@" \
+        --antt-project "$kit/rattle/logic/antt-project.json" --logic-built "$kit/logic_built" --jobs 2 \
+        --toolchain "$kit/toolchain" --backend llvm -o "$output" "$source"
+}
+
+# Compiles the object code of the program, in its folder, where the gate kept the program from an earlier run and so left none.
+object_of_program() {
+    [ -f out/p21.o ] || compile_again p21 src/main.rt out/p21.o
+}
+
 # Whether the file that was built of a crate is used as it stands: stands CRATE FILE
 stands() {
     [ -f "$root/crates/$1/out/$2" ] || return
