@@ -97,18 +97,21 @@ SEVERAL = file_of(
 
 INSTANCES = "of instances taken straight from their bytes"
 SUGGESTIONS = "of words like a mistaken one"
+# The loops of a piece: that of a file, and that of a survey, which may be compiled into its command.
+LOOPS = ("p21_stream::read::feed", "p21_stream::listing::take_piece", "p21::commands::run_check")
 
 
 def excuse(functions):
     """Why an allocation that these functions asked for, the innermost first, may be refused unseen; none where it may not.
 
     An instance is taken straight from its bytes (p21_transcribe*) or else token by token, and parts of the first way are
-    compiled into the loop of a piece. For words like a mistaken one `clap` collects letters, and where that finds no room
+    compiled into the loop of a piece, where a list that grows there is the innermost. For words like a mistaken one `clap` collects letters, and where that finds no room
     it asks for less; only wrong command lines come there.
     """
-    if functions[0].startswith("strsim::chars_of"):
+    asking = next((name for name in functions if not name.startswith("std_alloc::vec::Vec::grow_amortized")), "")
+    if asking.startswith("strsim::chars_of"):
         return SUGGESTIONS
-    if functions[0] in ("p21_stream::read::feed", "p21_stream::listing::take_piece") or any(name.startswith("p21_transcribe") for name in functions):
+    if asking in LOOPS or any(name.startswith("p21_transcribe") for name in functions):
         return INSTANCES
     return None
 
