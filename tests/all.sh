@@ -1,7 +1,8 @@
 #!/bin/sh
 # Runs all tests that stand beside the gate, one part behind the other, and prints a line for each: whether it passed, the
-# seconds that it took, and the last line that it wrote. The whole of what a part wrote follows where it failed. A part that
-# lacks what it needs, or some of it, ends with status 77 and says in its last line what is missing: it is counted as skipped.
+# seconds that it took, those of a processor, and the last line that it wrote. The whole of what a part wrote follows where it
+# failed. A part that lacks what it needs, or some of it, ends with status 77 and says in its last line what is missing: it is
+# counted as skipped.
 #
 #   tests/all.sh [PART..]     PART is the path of a script below tests, as hostile/devices.sh; all parts without one
 #
@@ -19,21 +20,31 @@ export P21
 export PYTHONDONTWRITEBYTECODE=1
 cd "$root/tests" || exit
 log=$(mktemp) || exit
-trap 'rm -f "$log"' EXIT
+taken=$(mktemp) || exit
+trap 'rm -f "$log" "$taken"' EXIT
 passed=0 failed=0 skipped=0
+started=$(date +%s)
+
+# seconds: those of a processor that all parts had taken when `times` was last written down. A shell below this one doesn't know.
+seconds() {
+    awk 'NR == 2 { gsub(/[ms]/, " "); printf "%d", $1 * 60 + $2 + $3 * 60 + $4 }' "$taken"
+}
 
 # run SCRIPT ARGUMENTS: runs a part.
 run() {
     part=$1
     shift
     begun=$(date +%s)
+    times > "$taken"
+    before=$(seconds)
     "./$part" "$@" > "$log" 2>&1
     case $? in
         0) how=passed passed=$((passed + 1)) ;;
         77) how=skipped skipped=$((skipped + 1)) ;;
         *) how=FAILED failed=$((failed + 1)) ;;
     esac
-    echo "$part: $how, $(($(date +%s) - begun)) s: $(tail -n 1 "$log" | cut -c 1-120)"
+    times > "$taken"
+    echo "$part: $how, $(($(date +%s) - begun)) s, $(($(seconds) - before)) of a processor: $(tail -n 1 "$log" | cut -c 1-120)"
     [ "$how" != FAILED ] || cat "$log"
 }
 
@@ -55,5 +66,6 @@ for part in "$@"; do
         *) run "$part" ;;
     esac
 done
-echo "$passed passed, $failed failed, $skipped skipped"
+times > "$taken"
+echo "$passed passed, $failed failed, $skipped skipped, $(($(date +%s) - started)) s, $(seconds) of a processor"
 [ "$failed" -eq 0 ]

@@ -8,11 +8,15 @@
 #
 #   tests/bindings.sh [PREFIX]     what tools/build-library has put below PREFIX is tried; without one it is built
 #
-# It wants a C compiler (CC). Where something else isn't here (valgrind, g++, clang++, libabigail, pkg-config, CMake, mypy, or
+# It wants a C compiler (CC) and, without PREFIX, `rt`. Where something else isn't here (valgrind, g++, clang++, libabigail, pkg-config, CMake, mypy, or
 # pytest for the Python of PYTHON, with numpy and distributed), what wants it is left out, the last line says so, and the status is
 # 77. All of these are packages of Debian, whose Python is /usr/bin/python3.
 
 root=$(cd "$(dirname -- "$(readlink -f -- "$0")")/.." && pwd) || exit
+if [ $# -eq 0 ] && ! command -v rt > /dev/null; then
+    echo 'skipped: there is no rt, which builds the library'
+    exit 77
+fi
 here=$(mktemp -d) || exit
 trap 'rm -rf "$here"' EXIT
 prefix=$here/built

@@ -4,6 +4,10 @@
 # an answer for want of memory is a failure, says which do. It takes some three minutes.
 
 root=$(cd "$(dirname -- "$(readlink -f -- "$0")")/.." && pwd) || exit
+if ! command -v rt > /dev/null; then
+    echo 'skipped: there is no rt'
+    exit 77
+fi
 here=$(mktemp -d) || exit
 trap 'rm -rf "$here"' EXIT
 tests=$root/crates/p21_value_tests/src/tests/want_of_memory.rt

@@ -6,7 +6,7 @@ and p21-diff print. Then it is used as people do: with a keyboard, on a phone, w
 with a memory that can't grow, and in a browser that has no 64-bit memory. Where there is a Firefox, the examples are opened
 in it too.
 
-P21 names another program than ./p21. The status is 77 where there is no Chromium.
+P21 names another program than ./p21. The status is 77 where there is no Chromium or no Firefox, or no `rt`, which makes the page.
 """
 
 import pathlib
@@ -18,6 +18,7 @@ import subprocess
 import sys
 
 import fuzz
+import needs
 from plain import commands
 from renaming import shuffled
 from tooling import ROOT, Tests, file_of
@@ -425,7 +426,6 @@ def without_memory(page):
 def in_firefox(page):
     """The examples in Firefox, where it is: files are chosen there, and the answers are those of the program."""
     if not firefox.found():
-        print("there is no Firefox")
         return
     chromium, page.browser = page.browser, firefox.Firefox()
     try:
@@ -449,7 +449,8 @@ def in_firefox(page):
 
 def main():
     if not browser.found():
-        making.skipped("there is no Chromium")
+        needs.skipped("there is no Chromium")
+    needs.wanted("rt")
     tests = Tests("page")
     path = tests.here / "p21.html"
     said = making.make_page(path)
@@ -462,7 +463,7 @@ def main():
             group(page)
     finally:
         page.browser.close()
-    tests.end()
+    tests.end("" if firefox.found() else "the examples in Firefox (there is none)")
 
 
 if __name__ == "__main__":

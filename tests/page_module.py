@@ -2,7 +2,8 @@
 """Runs the module of the page in Node: over the rows of tests/program.sh, with a memory that can't grow, and its scripts over
 the refused texts that tools/p21-where is tested by, over files that differ as p21-diff tells it, and over shelves of schemas.
 
-P21 names another program than ./p21. The status is 77 where there is no Node that has 64-bit WebAssembly memory.
+P21 names another program than ./p21. The status is 77 where there is no Node that has 64-bit WebAssembly memory, or no
+`rt`, which makes the page.
 """
 
 import json
@@ -15,6 +16,7 @@ import shutil
 import subprocess
 import sys
 
+import needs
 import release
 import texts
 import tools_names
@@ -263,7 +265,8 @@ def marks(tests, _):
 def main():
     node = making.node()
     if not node:
-        making.skipped("there is no Node with 64-bit WebAssembly memory")
+        needs.skipped("there is no Node with 64-bit WebAssembly memory")
+    needs.wanted("rt")
     tests = Tests("p21-where")
     making.make_page(tests.here / "p21.html")
     for group in (marks, program_rows, want_of_memory, places, differences, shelves):

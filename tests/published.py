@@ -11,14 +11,13 @@ import os
 import pathlib
 import shutil
 import subprocess
-import sys
 import tempfile
 
+import needs
 from tooling import Tests
 
 PACKAGES = ("assimp", "gmsh", "opencascade")
 SOURCES = "deb-src http://deb.debian.org/debian bookworm main\n"
-SKIPPED = 77
 AP203, IFC = "schema_ap203e2_mim_lf.exp", "schema_ifc2x3.exp"
 ENDINGS = ("*.step", "*.stp", "*.ifc", f"*/{AP203}", f"*/{IFC}")
 
@@ -136,8 +135,7 @@ def main():
     with tempfile.TemporaryDirectory() as made:
         folder = pathlib.Path(kept or made).resolve()
         if not unpacked(folder) and not (fetched(folder) and unpacked(folder)):
-            print(f"skipped: {' '.join(PACKAGES)} can't be fetched from {SOURCES.split()[1]}")
-            sys.exit(SKIPPED)
+            needs.skipped(f"{' '.join(PACKAGES)} can't be fetched from {SOURCES.split()[1]}")
         answers(tests, folder, shelf(tests, folder))
     tests.end()
 

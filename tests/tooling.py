@@ -7,6 +7,8 @@ import sys
 import tempfile
 import time
 
+import needs
+
 ROOT = pathlib.Path(__file__).resolve().parent.parent
 SCHEMA = "examples/product.exp"
 # A tool that takes longer never ends.
@@ -89,7 +91,8 @@ class Tests:
         lines = [text.format(here=self.here) + "\n" if text else "" for text in ("\n".join(output), error)]
         self.judge(name, (*lines, status), self.run(arguments))
 
-    def end(self):
-        """Says how many rows passed, and ends with status 0 or 1."""
-        print(f"{self.tool}: {self.passed} passed, {self.failed} failed")
-        sys.exit(int(self.failed > 0))
+    def end(self, left_out=""):
+        """Says how many rows passed, and what was left out for want of something, and ends with status 0, 1 or that of a test that
+        is skipped."""
+        print(f"{self.tool}: {self.passed} passed, {self.failed} failed" + (f"; left out: {left_out}" if left_out else ""))
+        sys.exit(1 if self.failed else needs.SKIPPED if left_out else 0)

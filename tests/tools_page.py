@@ -81,7 +81,6 @@ def looked_at(tests):
     tests.judge("nothing is asked of a network", [], re.findall(r"https?:|src=|@import|url\(", page))
     tests.judge("the name of the file", True, "&lt;b&gt;delivery &amp; \\x1b.step" in page)
     if CHROMIUM is None:
-        print("there is no chromium: the page isn't looked at")
         return
     stepped = tests.make("page.html", page.replace("</body>", STEPS))
     done = browsed(stepped, "--dump-dom", "--enable-logging=stderr", "--window-size=1200,900")
@@ -129,7 +128,7 @@ def main():
     if CHROMIUM is not None:
         narrow(tests)
     many(tests)
-    tests.end()
+    tests.end("" if CHROMIUM else "the page in a browser (no Chromium)")
 
 
 if __name__ == "__main__":

@@ -8,6 +8,7 @@ Without that package the part is skipped. P21 names another program than ./p21.
 import json
 import sys
 
+import needs
 from tooling import SCHEMA, Tests
 
 try:
@@ -20,7 +21,6 @@ except ImportError:
     except ImportError:
         sarif_om = None
 
-SKIPPED = 77
 # The class of the object, or of the objects of the list, that a property holds; by the class that the property is of.
 INSIDE = {
     ("SarifLog", "runs"): "Run",
@@ -63,8 +63,7 @@ def read(kind, value):
 
 def main():
     if sarif_om is None:
-        print("skipped: there is no sarif_om, which Debian has in python3-sarif-python-om")
-        return SKIPPED
+        needs.skipped("there is no sarif_om, which Debian has in python3-sarif-python-om")
     tests = Tests("p21-where")
     files = ["examples/refused", "examples/product.step", f"{tests.here}/none"]
     output, _, status = tests.run(["--format", "sarif", SCHEMA, *files])
@@ -86,8 +85,7 @@ def main():
         except (AssertionError, TypeError):
             tests.judge(name, "refused", "refused")
     tests.end()
-    return 0
 
 
 if __name__ == "__main__":
-    sys.exit(main())
+    main()

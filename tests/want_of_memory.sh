@@ -10,6 +10,10 @@
 # gate has no part in them.
 
 root=$(cd "$(dirname -- "$(readlink -f -- "$0")")/.." && pwd) || exit
+if ! command -v rt > /dev/null; then
+    echo 'skipped: there is no rt'
+    exit 77
+fi
 here=$(mktemp -d) || exit
 trap 'rm -rf "$here"' EXIT
 before=${1:-0}

@@ -12,7 +12,6 @@ counted.
 
 import os
 import pathlib
-import shutil
 import sys
 import tempfile
 
@@ -20,10 +19,10 @@ ROOT = pathlib.Path(__file__).resolve().parent.parent
 sys.path.insert(0, str(ROOT / "benchmarks"))
 
 import models  # noqa: E402
+import needs  # noqa: E402
 import ways  # noqa: E402
 
 COUNT = 6_000
-SKIPPED = 77
 OF_POINTS, OF_OTHERS = 99.9, 99.5
 
 
@@ -39,14 +38,11 @@ def shares(folder):
 
 
 def main():
-    if not shutil.which("valgrind"):
-        print("skipped: valgrind isn't there")
-        return SKIPPED
+    needs.wanted("valgrind")
     failed = count = 0
     with tempfile.TemporaryDirectory() as folder:
         if not ways.is_counted(folder):
-            print("skipped: the program has the functions inlined that are counted")
-            return SKIPPED
+            needs.skipped("the program has the functions inlined that are counted")
         for name, (straight, by_tokens), bound in shares(folder):
             share = 100 * straight / max(straight + by_tokens, 1)
             count += 1

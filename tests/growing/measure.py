@@ -24,7 +24,9 @@ import tempfile
 import time
 from collections import namedtuple
 
-import inputs
+sys.path.append(str(pathlib.Path(__file__).resolve().parents[1]))
+import inputs  # noqa: E402
+import needs  # noqa: E402
 
 ROOT = pathlib.Path(__file__).resolve().parent.parent.parent
 PROGRAM = os.environ.get("P21", str(ROOT / "p21"))
@@ -217,7 +219,7 @@ def main():
     marks, counts, begun = [], {"good": 0, "open": 0, "failed": 0}, time.monotonic()
     with tempfile.TemporaryDirectory() as folder:
         launcher = f"{folder}/alone"
-        subprocess.run([os.environ.get("CC", "cc"), "-O2", pathlib.Path(__file__).with_name("alone.c"), "-o", launcher], check=True)
+        subprocess.run([needs.compiler(), "-O2", pathlib.Path(__file__).with_name("alone.c"), "-o", launcher], check=True)
         a_byte = seconds_of_sha(launcher)
         print(f"sha256sum: {a_byte * 1e9:.2f} ns a byte, so at most {SHA_TIMES * a_byte * 1e6:.2f} s a megabyte", flush=True)
         for row in [known[name] for name in given.names] or ROWS:

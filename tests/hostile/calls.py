@@ -18,7 +18,7 @@ import sys
 import tempfile
 
 from cases import CALLED, CALLED_CANONICAL, DEMO, HEAD, ROOT
-from rigged import Answer, Rigged, Tally
+from rigged import Answer, Rigged, Tally, needs
 
 HERE = pathlib.Path(__file__).resolve().parent
 SOURCE = HERE / "calls.rattle"
@@ -88,6 +88,7 @@ def without_memory(rigged, tally, call):
 
 
 def main():
+    needs.wanted("rt")
     tally = Tally()
     with tempfile.TemporaryDirectory() as folder, Rigged(program(pathlib.Path(folder))) as rigged:
         for call in sys.argv[1:] or calls():

@@ -13,6 +13,9 @@ import sys
 import tempfile
 import time
 
+sys.path.append(str(pathlib.Path(__file__).resolve().parents[1]))
+import needs  # noqa: E402
+
 ROOT = pathlib.Path(__file__).resolve().parents[2]
 
 Answer = collections.namedtuple("Answer", "status output error")
@@ -40,8 +43,7 @@ class Rigged:
         self.folder = pathlib.Path(tempfile.mkdtemp(prefix="hostile-", dir=memory))
         self.library = self.folder / "failing.so"
         source = pathlib.Path(__file__).with_name("failing.c")
-        compiler = os.environ.get("CC", "cc")
-        subprocess.run([compiler, "-O2", "-shared", "-fPIC", source, "-o", self.library], check=True)
+        subprocess.run([needs.compiler(), "-O2", "-shared", "-fPIC", source, "-o", self.library], check=True)
         self.counts = self.folder / "counts"
         self.streams = [self.folder / "output", self.folder / "error"]
 

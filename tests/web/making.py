@@ -4,20 +4,12 @@ import os
 import pathlib
 import shutil
 import subprocess
-import sys
 
 ROOT = pathlib.Path(__file__).resolve().parent.parent.parent
 MODULE = ROOT / "web" / "out" / "p21.wasm"
 NODE_FLAG = "--experimental-wasm-memory64"
 WIDE_MEMORY = "WebAssembly.validate(Uint8Array.of(0, 0x61, 0x73, 0x6d, 1, 0, 0, 0, 5, 3, 1, 4, 1))"
-SKIPPED = 77
 MEMORY_SECTION = 5
-
-
-def skipped(why):
-    """Ends the test as one that can't run here."""
-    print(f"skipped: {why}")
-    sys.exit(SKIPPED)
 
 
 def make_page(path, module=None):
