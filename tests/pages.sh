@@ -42,10 +42,18 @@ offers p21-table --format t 'text tsv'
 offers p21-table --jobs 1 ''
 offers p21-table --schema a ''
 
+# leave_out PROGRAM: it isn't here, which is said once.
+leave_out() {
+    case "$left_out " in
+        *" $1 "*) ;;
+        *) left_out="$left_out $1" ;;
+    esac
+}
+
 # reads PROGRAM WORDS..: the program finds nothing wrong.
 reads() {
     if ! command -v "$1" > /dev/null; then
-        left_out="$left_out $1"
+        leave_out "$1"
         return
     fi
     if wrong=$("$@" 2>&1) && [ -z "$wrong" ]; then
@@ -72,7 +80,7 @@ shows() {
     text=$1
     shift
     if ! command -v "$1" > /dev/null; then
-        left_out="$left_out $1"
+        leave_out "$1"
     elif "$@" 2>&1 | grep -qF -- "$text"; then
         echo "shown by $1: $text"
     else
