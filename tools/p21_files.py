@@ -362,7 +362,7 @@ class Refused:
             return Place(0, max(len(key), 1), [f"wanted here: {shape}"], shape)
         part = reading.read_parts(text)[0]
         values = part.values
-        counts = f"{name} has {len(parameters)} parameter{'s' * (len(parameters) > 1)}, and here are {len(values)}"
+        counts = f"{name} has {counted(len(parameters), 'parameter')}, and here {'is' if len(values) == 1 else 'are'} {len(values)}"
         if len(values) < len(parameters):
             missing = listed(parameter for parameter, _ in parameters[len(values) :])
             return Place(part.end, part.end + 1, [f"{counts}; without one: {missing}", f"wanted here: {shape}"], shape)
@@ -453,7 +453,7 @@ class Refused:
             below = [name for name in names - {part.key} if part.key in self.outline.closure([name])]
             if part.key in self.listing.abstract and not below:
                 subtypes = [name for name in self.outline.entities if part.key in self.outline.supertypes(name)]
-                return of_key(part, [f"its subtypes: {listed(subtypes)}"])
+                return of_key(part, [f"{brief(part.key)} is abstract; its subtypes: {listed(subtypes)}"])
         return None
 
     def part_missing(self, _: bytes, parts: Sequence[Part]) -> Optional[Place]:
@@ -470,7 +470,7 @@ class Refused:
         keys = set()
         for part in parts:
             if part.key in keys:
-                return of_key(part, [])
+                return of_key(part, [f"{brief(part.key)} has a part already"])
             keys.add(part.key)
         return None
 
@@ -480,8 +480,8 @@ class Refused:
         for part in parts:
             places = list(self.places(part, len(parts) == 1))
             wanted, count = len(places), len(part.values)
-            counts = f"{part.key} has {wanted} attributes, and here are {count} values"
-            said = {"expected": f"{wanted} value{'s' * (wanted != 1)}", "found": f"{count} value{'s' * (count != 1)}"}
+            said = {"expected": counted(wanted, "value"), "found": counted(count, "value")}
+            counts = f"{part.key} has {counted(wanted, 'attribute')}, and here {'is' if count == 1 else 'are'} {said['found']}"
             if count > wanted:
                 value = part.values[wanted]
                 return Place(value.start, value.end, [counts], **said)
@@ -617,8 +617,8 @@ class Refused:
         target = target_of(value) if value else None
         if value is None or target is None:
             return None
-        keys = (part.key for part in reading.read_parts(others[target]))
-        return Place(value.start, value.end, [f"#{target} is a {listed(keys, ' and ')}"])
+        keys = [part.key for part in reading.read_parts(others[target])]
+        return Place(value.start, value.end, [f"#{target} is of the {'entity' if len(keys) == 1 else 'entities'} {listed(keys, ' and ')}"])
 
     # Values
 
@@ -653,7 +653,7 @@ class Refused:
         """The first value that isn't `*` where the schema derives one: with `*` in its place it isn't refused for that."""
         for value in values:
             if text[value.start : value.end] != b"*" and 47 not in self.numbers_of(*replaced(text, value, b"*")):
-                return Place(value.start, value.end, ["the schema derives this value"])
+                return Place(value.start, value.end, ["the schema derives this value: only * may stand here"], expected='"*"')
         return None
 
     def equal_elements(self, text: bytes, value: Value) -> Optional[Place]:
@@ -673,6 +673,11 @@ class Refused:
                     return Place(second.start, second.end, [f"the same as {brief(like)}"])
             inside = last
         return None
+
+
+def counted(number: int, word: str) -> str:
+    """So many of what a word says."""
+    return f"{number} {word}{'s' * (number != 1)}"
 
 
 def moved(place: Place, by: int) -> Place:

@@ -418,8 +418,7 @@ export class RefusedFile {
     if (key !== name) return placeOf(0, Math.max(key.length, 1), [shape]);
     const [part] = readParts(text);
     const { values } = part;
-    const many = parameters.length > 1 ? "s" : "";
-    const counts = `${name} has ${parameters.length} parameter${many}, and here are ${values.length}`;
+    const counts = `${name} has ${counted(parameters.length, "parameter")}, and here ${values.length === 1 ? "is" : "are"} ${values.length}`;
     if (values.length < parameters.length) {
       const missing = listed(parameters.slice(values.length).map(([parameter]) => parameter));
       return placeOf(part.end, part.end + 1, [`${counts}; without one: ${missing}`, shape]);
@@ -511,7 +510,7 @@ export class RefusedFile {
       const hasBelow = names.some((name) => name !== part.key && this.outline.closure([name]).has(part.key));
       if (!this.listing.abstract.has(part.key) || hasBelow) continue;
       const subtypes = [...this.outline.entities.keys()].filter((name) => this.outline.supertypes(name).includes(part.key));
-      return ofKey(part, [`its subtypes: ${listed(subtypes)}`]);
+      return ofKey(part, [`${brief(part.key)} is abstract; its subtypes: ${listed(subtypes)}`]);
     }
     return null;
   }
@@ -529,7 +528,8 @@ export class RefusedFile {
   /** The second part of an entity. */
   partTwice(_, parts) {
     const keys = parts.map(({ key }) => key);
-    return ofKey(parts.find(({ key }, at) => keys.indexOf(key) < at));
+    const second = parts.find(({ key }, at) => keys.indexOf(key) < at);
+    return ofKey(second, [`${brief(second.key)} has a part already`]);
   }
 
   /**
@@ -540,7 +540,7 @@ export class RefusedFile {
     for (const part of parts) {
       const places = this.places(part, parts.length === 1);
       const [wanted, count] = [places.length, part.values.length];
-      const counts = `${part.key} has ${wanted} attributes, and here are ${count} values`;
+      const counts = `${part.key} has ${counted(wanted, "attribute")}, and here ${count === 1 ? "is" : "are"} ${counted(count, "value")}`;
       if (count > wanted) {
         const value = part.values[wanted];
         return placeOf(value.start, value.end, [counts]);
@@ -650,7 +650,7 @@ export class RefusedFile {
     if (!value) return null;
     const { target } = references.find((found) => found.value === value);
     const keys = readParts(targets.get(target)).map(({ key }) => key);
-    return placeOf(value.start, value.end, [`#${target} is a ${listed(keys, " and ")}`]);
+    return placeOf(value.start, value.end, [`#${target} is of the ${keys.length === 1 ? "entity" : "entities"} ${listed(keys, " and ")}`]);
   }
 
   // Values
@@ -688,7 +688,7 @@ export class RefusedFile {
     for (const value of values) {
       if (text.slice(value.start, value.end) === "*") continue;
       const numbers = yield* this.numbersOf(replaced(text, value, "*"));
-      if (!numbers.includes(47)) return placeOf(value.start, value.end, ["the schema derives this value"]);
+      if (!numbers.includes(47)) return placeOf(value.start, value.end, ["the schema derives this value: only * may stand here"]);
     }
     return null;
   }
@@ -746,6 +746,11 @@ function ratio(written) {
 /** A place by its start and end, with what there is to say of it. */
 function placeOf(start, end, notes = []) {
   return { start, end, notes };
+}
+
+/** So many of what a word says. */
+function counted(number, word) {
+  return `${number} ${word}${number === 1 ? "" : "s"}`;
 }
 
 /** A place in a part of a text as a place in the text. */

@@ -20,6 +20,8 @@ const SCHEMA_LOOKS = [[STEP_FILE, "this is a STEP file: are schema and file exch
 const MOST_PARTS = 100;
 const MOST_SURPLUS = 8;
 const MOST_EXPLAINED = 8;
+// Of a declaration so many signs: a SELECT of many entities has its place.
+const MOST_OF_DECLARATION = 400;
 const FILE_LOOKS = [[SCHEMA_TEXT, "this is a schema text: are schema and file exchanged?"], ...LOOKS];
 
 /** What the text looks like where it is none of the expected kind. */
@@ -84,7 +86,7 @@ function shownPart(refused, text, keys, part, at, most) {
       value: value ? excerpt(text, value, at) : "(no value)",
       isMarked,
       isExplained,
-      explained: lines.map((line) => shown(shortened(line, 0))),
+      explained: lines.map((line) => shown(shortened(line, 0, MOST_OF_DECLARATION))),
     };
   });
   return surplus > 0 ? [...found, { name: "..", value: "", isMarked: false, isExplained: false, explained: [] }] : found;
