@@ -4,15 +4,18 @@
 The listings, AP203 edition 2 and IFC2X3, and a building come from Debian's source package assimp, and further files from gmsh
 and opencascade. They are fetched by apt-get with a sources list of its own, into a folder that is gone at the end; P21_SOURCES
 names another one, which is kept and used again. Where they can't be had, the status is 77: skipped. What is tested is which
-edits are made, that both copies are read, and the answer about each file. P21 names another program than ./p21.
+edits are made, that both copies are read, the answer about each file, and for twenty files that are broken as careless exporters
+break them (careless.py) that one run finds all faults at their places. P21 names another program than ./p21.
 """
 
 import os
 import pathlib
+import re
 import shutil
 import subprocess
 import tempfile
 
+import careless
 import needs
 from tooling import Tests
 
@@ -129,6 +132,24 @@ def answers(tests, folder, made):
     print(error, end="")
 
 
+def broken(tests, folder, made):
+    """The faults of each broken file, in one run."""
+    tests.tool = "p21-where"
+    paths = {path.name: path for path in sorted(folder.rglob("*")) if path.suffix in (".step", ".ifc")}
+    files = {name: paths[name].read_bytes() for name in (careless.ANGLED, careless.PERIODIC, careless.SCREW, careless.RODS, careless.HOUSE)}
+    count = 0
+    for habit in careless.EXPORTERS:
+        text, faults = careless.exported(habit, files)
+        path = tests.make("broken.step", text)
+        output, _, status = tests.run(["--all", "--format", "lines", "--schemas", str(made), path])
+        lines = output.splitlines()
+        places = [re.match(r".*?:(\d+):(\d+): (\d+) ", line) for line in lines]
+        found = [tuple(map(int, place.groups())) for place in places if place]
+        tests.judge(habit, (sorted(faults), 1, len(faults)), (sorted(found), status, len(lines)))
+        count += len(faults)
+    print(f"{len(careless.EXPORTERS)} broken files with {count} faults")
+
+
 def main():
     tests = Tests("p21-adapt")
     kept = os.environ.get("P21_SOURCES")
@@ -136,7 +157,9 @@ def main():
         folder = pathlib.Path(kept or made).resolve()
         if not unpacked(folder) and not (fetched(folder) and unpacked(folder)):
             needs.skipped(f"{' '.join(PACKAGES)} can't be fetched from {SOURCES.split()[1]}")
-        answers(tests, folder, shelf(tests, folder))
+        made = shelf(tests, folder)
+        answers(tests, folder, made)
+        broken(tests, folder, made)
     tests.end()
 
 
