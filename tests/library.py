@@ -2,7 +2,7 @@
 """Checks that docs/LIBRARY.md shows the examples in Rattle word for word.
 
 Above each block stands the name of its file: `crates/NAME/FILE` or `crates.txt`. A file of a crate is shown whole, and each
-file of the examples is, but for lists of files (`Lib.antt`) and the crate that runs them. Of crates.txt lines are shown.
+file of the examples is, but for lists of files (`lib.rt`, `Lib.antt`). Of crates.txt lines are shown.
 The status is 1 where the page shows something else. With --write the blocks are put there anew from the files.
 """
 
@@ -22,13 +22,10 @@ def shown(name):
 
 def examples():
     """The files of the examples that the page shows."""
-    for folder in sorted((ROOT / "crates").glob("p21_example_*")):
-        if folder.name == "p21_example_tests":
-            continue
-        for path in sorted(folder.rglob("*")):
-            name = path.relative_to(ROOT).as_posix()
-            if path.is_file() and "/out/" not in name and path.suffix in (".rt", ".antt") and path.name != "Lib.antt":
-                yield name
+    for path in sorted((ROOT / "crates" / "p21_examples").rglob("*")):
+        name = path.relative_to(ROOT).as_posix()
+        if path.is_file() and "/out/" not in name and path.suffix in (".rt", ".antt") and path.stem.lower() != "lib":
+            yield name
 
 
 def wrong(page):

@@ -1,5 +1,5 @@
 //! Tests of the commands: worked texts and files over readers and writers in memory, each with both outputs and the exit
-//! status. It holds no other code.
+//! status; and command lines with what they give, and mistakes in them. It holds no other code.
 #![tactic(auto)]
 
 #[cfg(test)]
@@ -32,5 +32,7 @@ mod sections;
 mod surveyed;
 #[cfg(test)]
 mod watched;
+#[cfg(test)]
+mod words;
 #[cfg(test)]
 mod write_faults;

@@ -74,12 +74,3 @@ first-or_accepted Unread schema first_old first_new second_old second_new s limi
 -- a write fault leaves a part of the answer
 pub answer-fails : (IsAnswer IsRefusal : List ℕ → Type 0) (old new : Option (List ℕ)) (line : List ℕ) (fault : CommandFault) → IsAnswer line → AppendsPartOf old new line → fault ≡ Write → FailsBy IsAnswer IsRefusal old new fault
 answer-fails IsAnswer IsRefusal old new line fault is part same = subst (FailsBy IsAnswer IsRefusal old new) (sym same) (record { line = line; is_line = is; part = part })
-
--- a refusal that is written leaves the output as it was
-pub refusal-kept : (IsAnswer IsRefusal : List ℕ → Type 0) (output_old output_new faults_old faults_new : Option (List ℕ)) (faults : Failures) (fault : CommandFault) (status : ℕ) → FailsBy IsAnswer IsRefusal output_old output_new fault
-    → Reports fault status faults_old faults_new faults → status ≡ refused → Keeps output_old output_new
-refusal-kept IsAnswer IsRefusal output_old output_new faults_old faults_new faults (Refused line) status f r e = f.1
-refusal-kept IsAnswer IsRefusal output_old output_new faults_old faults_new faults NoMemory status f r e = f
-refusal-kept IsAnswer IsRefusal output_old output_new faults_old faults_new faults Read status f r e = f
-refusal-kept IsAnswer IsRefusal output_old output_new faults_old faults_new faults Write status f (inl r) e = cc (r.0, e)
-refusal-kept IsAnswer IsRefusal output_old output_new faults_old faults_new faults Write status f (inr r) e = cc (r.0, e)

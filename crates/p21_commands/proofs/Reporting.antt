@@ -1,16 +1,25 @@
 -- What a report says by its status, for any answers and refusals.
 use Rattle.std.specs.Prelude.{Result, Ok, Err, OnOk, OnErr, IfErr}
-use Rattle.std.specs.Io.KnownBytes.{Appends}
+use Rattle.std.specs.Io.KnownBytes.{Appends, Keeps}
 use Rattle.std.proofs.Common.{◌≡◌, ◌≢◌, ℕ, List, [], ◌∷◌, ◌++◌, Option, inl, inr, refl, sym, subst, string_bytes}
-use Rattle.p21_commands.specs.Command.{Fails, FailsBy}
+use Rattle.p21_commands.specs.Command.{Ends, Fails, FailsBy, written_by}
 use Rattle.p21_commands.specs.Failures.{Failures, FailedBy, NoneFailed}
 use Rattle.p21_commands.specs.Fault.{Reports, fault_status}
 use Rattle.p21_commands.specs.Status.{done, failed, refused}
 use Rattle.p21_commands.specs.Transfer.{Writes}
 use Rattle.p21_stream_io.specs.Transfer.{AppendsPartOf}
 use Rattle.p21_commands.specs.declared.fault.CommandFault.{CommandFault}
-use Rattle.p21_commands.specs.declared.fault.CommandFault.TheVariants.{Refused, Write}
+use Rattle.p21_commands.specs.declared.fault.CommandFault.TheVariants.{Refused, NoMemory, Read, Write}
 use Rattle.p21_commands.proofs.Failing.{none_more}
+
+-- a refusal that is written leaves the output as it was
+pub refusal-kept : (IsAnswer IsRefusal : List ℕ → Type 0) (output_old output_new faults_old faults_new : Option (List ℕ)) (faults : Failures) (fault : CommandFault) (status : ℕ) → FailsBy IsAnswer IsRefusal output_old output_new fault
+    → Reports fault status faults_old faults_new faults → status ≡ refused → Keeps output_old output_new
+refusal-kept IsAnswer IsRefusal output_old output_new faults_old faults_new faults (Refused line) status f r e = f.1
+refusal-kept IsAnswer IsRefusal output_old output_new faults_old faults_new faults NoMemory status f r e = f
+refusal-kept IsAnswer IsRefusal output_old output_new faults_old faults_new faults Read status f r e = f
+refusal-kept IsAnswer IsRefusal output_old output_new faults_old faults_new faults Write status f (inl r) e = cc (r.0, e)
+refusal-kept IsAnswer IsRefusal output_old output_new faults_old faults_new faults Write status f (inr r) e = cc (r.0, e)
 
 module _ (faults_old faults_new : Option (List ℕ)) (faults : Failures) where
   pub not_done : (fault : CommandFault) (status : ℕ) → Reports fault status faults_old faults_new faults → status ≡ done → ⊥
@@ -41,6 +50,39 @@ module _ (faults_old faults_new : Option (List ℕ)) (faults : Failures) where
     pub failure_reported : (readers : List Failures) (output : Failures) (fault : CommandFault) (status : ℕ) → FailsBy IsAnswer IsRefusal output_old output_new fault → FailedBy readers (output ∷ []) fault
         → Reports fault status faults_old faults_new faults → status ≡ failed → Fails IsAnswer IsRefusal output_old output_new faults_old faults_new readers output faults
     failure_reported readers output fault status f b r e = record { fault = fault; fails_by = f; failed_by = b; reports = subst (λ (s : ℕ). Reports fault s faults_old faults_new faults) e r }
+
+-- ---- how a command ends
+
+module _ (IsAnswer IsRefusal : List ℕ → Type 0) (readers : List Failures) (output_old output_new faults_old faults_new : Option (List ℕ)) (output faults : Failures) where
+  pub ends-answered : Writes IsAnswer output_old output_new → Keeps faults_old faults_new → NoneFailed (readers ++ output ∷ faults ∷ [])
+      → Ends IsAnswer IsRefusal readers (written_by output_old output_new output) (written_by faults_old faults_new faults) done
+  ends-answered writes keeps none = record {
+    status = inl refl;
+    answered = λ e. writes;
+    silent = λ e. keeps;
+    refused = λ e. cc e;
+    unwritten = λ e. cc e;
+    failed = λ e. cc e;
+    unfailed = λ e. none;
+  }
+
+  pub ends-reported : (fault : CommandFault) (status : ℕ) → FailsBy IsAnswer IsRefusal output_old output_new fault → FailedBy readers (output ∷ []) fault → Reports fault status faults_old faults_new faults
+      → Ends IsAnswer IsRefusal readers (written_by output_old output_new output) (written_by faults_old faults_new faults) status
+  ends-reported fault status f b r = record {
+    status = inr (reported_status fault status r);
+    answered = λ e. absurd (not_done faults_old faults_new faults fault status r e);
+    silent = λ e. absurd (not_done faults_old faults_new faults fault status r e);
+    refused = refusal_written faults_old faults_new faults IsAnswer IsRefusal output_old output_new fault status f r;
+    unwritten = refusal-kept IsAnswer IsRefusal output_old output_new faults_old faults_new faults fault status f r;
+    failed = failure_reported faults_old faults_new faults IsAnswer IsRefusal output_old output_new readers output fault status f b r;
+    unfailed = unfailed faults_old faults_new faults readers output fault status b r;
+  }
+    where
+      reported_status : (fault : CommandFault) (status : ℕ) → Reports fault status faults_old faults_new faults → (status ≡ refused) ⊎ (status ≡ failed)
+      reported_status (Refused line) status (inl r) = inl r.0
+      reported_status (Refused line) status (inr r) = inr r.0
+      reported_status fault status (inl r) = inr r.0
+      reported_status fault status (inr r) = inr r.0
 
 -- ---- an answer that is written
 

@@ -1,10 +1,8 @@
 //! The command `canon`.
-ghost use Rattle.std.specs.Prelude.{◌≡◌, ◌⊎◌, IfErr, OnOk, ◌≢◌, [], ◌∷◌};
-ghost use Rattle.std.specs.Io.KnownBytes.{Keeps};
+ghost use Rattle.std.specs.Prelude.{IfErr, OnOk, [], ◌∷◌};
 ghost use Rattle.p21_basics.specs.Limits.{usual};
-ghost use Rattle.p21_commands.specs.Command.{Fails, FailsBy};
+ghost use Rattle.p21_commands.specs.Command.{Ends, FailsBy, written_by};
 ghost use Rattle.p21_commands.specs.Failures.{FailedBy, NoneFailed, failures_of};
-ghost use Rattle.p21_commands.specs.Status.{done, failed, refused};
 ghost use Rattle.p21_commands.specs.Transfer as text;
 ghost use Rattle.p21_commands.specs.Transfer.{Writes};
 ghost use Rattle.p21_commands.specs.Canon.{IsCanonicalUnder};
@@ -29,22 +27,12 @@ pub fn canon_command<S: Read, R: Read, W: Write, F: Write>(
     output: &mut Watched<W>,
     faults: &mut Watched<F>,
 ) -> u8
-    ensures status { (result ≡ done) ⊎ (result ≡ refused) ⊎ (result ≡ failed) }
     ensures consumed_schema { text.ConsumesAtMost (S.remaining schema.old.inner) (S.remaining schema.new.inner) }
     ensures consumed_file { ConsumesAtMost usual (R.remaining file.old.inner) (R.remaining file.new.inner) }
-
-    ensures answered { result ≡ done → Writes (IsCanonicalUnder (S.remaining schema.old.inner) (R.remaining file.old.inner) (R.remaining file.new.inner)) (W.contents output.old.inner) (W.contents output.new.inner) }
-    ensures silent { result ≡ done → Keeps (F.contents faults.old.inner) (F.contents faults.new.inner) }
-
-    ensures refused { result ≡ refused
-        → Writes (IsRefusedUnder (S.remaining schema.old.inner) (R.remaining file.old.inner) (R.remaining file.new.inner)) (F.contents faults.old.inner) (F.contents faults.new.inner) }
-    ensures unwritten { result ≡ refused → Keeps (W.contents output.old.inner) (W.contents output.new.inner) }
-
-    ensures failed { result ≡ failed
-        → Fails (IsCanonicalUnder (S.remaining schema.old.inner) (R.remaining file.old.inner) (R.remaining file.new.inner)) (IsRefusedUnder (S.remaining schema.old.inner) (R.remaining file.old.inner) (R.remaining file.new.inner))
-        (W.contents output.old.inner) (W.contents output.new.inner) (F.contents faults.old.inner) (F.contents faults.new.inner)
-        (failures_of schema.old schema.new ∷ failures_of file.old file.new ∷ []) (failures_of output.old output.new) (failures_of faults.old faults.new) }
-    ensures unfailed { result ≢ failed → NoneFailed (failures_of schema.old schema.new ∷ failures_of file.old file.new ∷ failures_of output.old output.new ∷ failures_of faults.old faults.new ∷ []) }
+    ensures ends { Ends (IsCanonicalUnder (S.remaining schema.old.inner) (R.remaining file.old.inner) (R.remaining file.new.inner))
+        (IsRefusedUnder (S.remaining schema.old.inner) (R.remaining file.old.inner) (R.remaining file.new.inner)) (failures_of schema.old schema.new ∷ failures_of file.old file.new ∷ [])
+        (written_by (W.contents output.old.inner) (W.contents output.new.inner) (failures_of output.old output.new))
+        (written_by (F.contents faults.old.inner) (F.contents faults.new.inner) (failures_of faults.old faults.new)) result }
 {
     match write_canonical(alloc, schema, file, output) {
         Ok(()) => DONE,

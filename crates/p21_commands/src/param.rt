@@ -1,11 +1,9 @@
 //! The command `param`.
-ghost use Rattle.std.specs.Prelude.{◌≡◌, ◌≢◌, ◌⊎◌, [], ◌∷◌, IfErr, IfOk, MatchResult, OnOk, string_bytes};
-ghost use Rattle.std.specs.Io.KnownBytes.{Keeps};
-ghost use Rattle.p21_commands.specs.Command.{Fails, FailsBy};
+ghost use Rattle.std.specs.Prelude.{◌≡◌, [], ◌∷◌, IfErr, IfOk, MatchResult, OnOk, string_bytes};
+ghost use Rattle.p21_commands.specs.Command.{Ends, FailsBy, written_by};
 ghost use Rattle.p21_commands.specs.Failures.{FailedBy, NoneFailed, failures_of};
 ghost use Rattle.p21_commands.specs.Param.{IsAnswerLine, IsAnswered, IsParamRefused, IsRefusalLine, refusal_line};
 ghost use Rattle.p21_commands.specs.Refusing.{RefusesBy};
-ghost use Rattle.p21_commands.specs.Status.{done, failed, refused};
 ghost use Rattle.p21_commands.specs.Transfer.{ConsumesAtMost, Writes};
 
 use crate::fault::{CommandFault, report};
@@ -24,23 +22,11 @@ pub fn param_command<R: Read, W: Write, F: Write>(
     output: &mut Watched<W>,
     faults: &mut Watched<F>,
 ) -> u8
-    ensures status { (result ≡ done) ⊎ (result ≡ refused) ⊎ (result ≡ failed) }
     ensures consumed { ConsumesAtMost (R.remaining input.old.inner) (R.remaining input.new.inner) }
-
-    ensures answered { result ≡ done
-        → Writes (IsAnswered (R.remaining input.old.inner)) (W.contents output.old.inner) (W.contents output.new.inner) }
-    ensures silent { result ≡ done → Keeps (F.contents faults.old.inner) (F.contents faults.new.inner) }
-
-    ensures refused { result ≡ refused
-        → Writes (IsParamRefused (R.remaining input.old.inner)) (F.contents faults.old.inner) (F.contents faults.new.inner) }
-    ensures unwritten { result ≡ refused → Keeps (W.contents output.old.inner) (W.contents output.new.inner) }
-
-    ensures failed { result ≡ failed
-        → Fails (IsAnswered (R.remaining input.old.inner)) (IsParamRefused (R.remaining input.old.inner))
-        (W.contents output.old.inner) (W.contents output.new.inner) (F.contents faults.old.inner) (F.contents faults.new.inner)
-        (failures_of input.old input.new ∷ []) (failures_of output.old output.new) (failures_of faults.old faults.new) }
-    ensures unfailed { result ≢ failed
-        → NoneFailed (failures_of input.old input.new ∷ failures_of output.old output.new ∷ failures_of faults.old faults.new ∷ []) }
+    ensures ends { Ends (IsAnswered (R.remaining input.old.inner))
+        (IsParamRefused (R.remaining input.old.inner)) (failures_of input.old input.new ∷ [])
+        (written_by (W.contents output.old.inner) (W.contents output.new.inner) (failures_of output.old output.new))
+        (written_by (F.contents faults.old.inner) (F.contents faults.new.inner) (failures_of faults.old faults.new)) result }
 {
     match write_param(alloc, input, output) {
         Ok(()) => DONE,

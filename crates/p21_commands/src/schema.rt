@@ -1,9 +1,7 @@
 //! The command `schema`.
-ghost use Rattle.std.specs.Prelude.{◌≡◌, ◌≢◌, ◌⊎◌, [], ◌∷◌, IfErr, IfOk, OnOk};
-ghost use Rattle.std.specs.Io.KnownBytes.{Keeps};
-ghost use Rattle.p21_commands.specs.Command.{Fails, FailsBy};
+ghost use Rattle.std.specs.Prelude.{◌≡◌, [], ◌∷◌, IfErr, IfOk, OnOk};
+ghost use Rattle.p21_commands.specs.Command.{Ends, FailsBy, written_by};
 ghost use Rattle.p21_commands.specs.Failures.{FailedBy, NoneFailed, failures_of};
-ghost use Rattle.p21_commands.specs.Status.{done, failed, refused};
 ghost use Rattle.p21_commands.specs.Transfer.{ConsumesAtMost, Writes};
 ghost use Rattle.p21_commands.specs.Load.{IsSchemaRefused, RefusesRead};
 ghost use Rattle.p21_commands.specs.Print.{IsPrinted};
@@ -25,23 +23,11 @@ pub fn schema_command<S: Read, W: Write, F: Write>(
     output: &mut Watched<W>,
     faults: &mut Watched<F>,
 ) -> u8
-    ensures status { (result ≡ done) ⊎ (result ≡ refused) ⊎ (result ≡ failed) }
     ensures consumed { ConsumesAtMost (S.remaining reader.old.inner) (S.remaining reader.new.inner) }
-
-    ensures answered { result ≡ done
-        → Writes (IsPrinted (S.remaining reader.old.inner)) (W.contents output.old.inner) (W.contents output.new.inner) }
-    ensures silent { result ≡ done → Keeps (F.contents faults.old.inner) (F.contents faults.new.inner) }
-
-    ensures refused { result ≡ refused
-        → Writes (IsSchemaRefused (S.remaining reader.old.inner)) (F.contents faults.old.inner) (F.contents faults.new.inner) }
-    ensures unwritten { result ≡ refused → Keeps (W.contents output.old.inner) (W.contents output.new.inner) }
-
-    ensures failed { result ≡ failed
-        → Fails (IsPrinted (S.remaining reader.old.inner)) (IsSchemaRefused (S.remaining reader.old.inner))
-        (W.contents output.old.inner) (W.contents output.new.inner) (F.contents faults.old.inner) (F.contents faults.new.inner)
-        (failures_of reader.old reader.new ∷ []) (failures_of output.old output.new) (failures_of faults.old faults.new) }
-    ensures unfailed { result ≢ failed
-        → NoneFailed (failures_of reader.old reader.new ∷ failures_of output.old output.new ∷ failures_of faults.old faults.new ∷ []) }
+    ensures ends { Ends (IsPrinted (S.remaining reader.old.inner))
+        (IsSchemaRefused (S.remaining reader.old.inner)) (failures_of reader.old reader.new ∷ [])
+        (written_by (W.contents output.old.inner) (W.contents output.new.inner) (failures_of output.old output.new))
+        (written_by (F.contents faults.old.inner) (F.contents faults.new.inner) (failures_of faults.old faults.new)) result }
 {
     match write_schema(alloc, reader, output) {
         Ok(()) => DONE,

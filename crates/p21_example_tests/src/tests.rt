@@ -1,6 +1,4 @@
-use p21_example_canonical::{Problem, canonical_under};
-use p21_example_same::hold_the_same;
-use p21_example_session::{Budget, Stopped, receive};
+use p21_examples::{Budget, Problem, Stopped, canonical_under, hold_the_same, receive};
 use p21_stream::{Limits, Schema, read_schema};
 use std::alloc::Global;
 use std::io::{self, Read};

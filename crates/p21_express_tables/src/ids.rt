@@ -4,12 +4,12 @@ use p21_express_types::EntityId;
 use std::marker::Model;
 
 /// Entities in a row: those that a schema keeps, or others.
-#[derive(Drop)]
+#[derive(Debug, Drop)]
 pub struct Ids<'a> {
     held: Held<'a>,
 }
 
-#[derive(Drop)]
+#[derive(Debug, Drop)]
 enum Held<'a> {
     Kept(&'a [EntityId]),
     Own(Vec<EntityId>),

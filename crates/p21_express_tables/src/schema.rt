@@ -22,6 +22,7 @@ use p21_express_graph::{
 use p21_express_types::{EntityId, Member, Place, TypeId, TypeKind};
 use p21_values::NoMemory;
 use std::alloc::Global;
+use std::fmt;
 use std::marker::Model;
 
 /// A schema with all names resolved (ISO 10303-11), prepared for look-ups.
@@ -39,6 +40,13 @@ impl Drop for Schema {
             parts: _,
             tables: _,
         } = self;
+    }
+}
+
+impl fmt::Debug for Schema {
+    fn fmt<W: fmt::Write>(&self, f: &mut fmt::Formatter<W>) -> fmt::Result {
+        let entities = self.entities();
+        write!(f, "Schema {{ entities: {entities} }}")
     }
 }
 

@@ -17,7 +17,7 @@ pub enum Line {
 }
 
 /// A statement (ISO 10303-21, formal definition of the exchange structure).
-#[derive(Drop)]
+#[derive(Debug, Drop)]
 pub enum Event {
     Section(Line),
     /// `DATA` of a section with a name: the keyword, with the name, and a list of the one schema text.

@@ -11,6 +11,7 @@ use crate::fault::GrammarFault;
 use crate::machine::Machine;
 use p21_tokens::Token;
 use std::alloc::Global;
+use std::fmt;
 use std::marker::Model;
 
 /// Takes tokens one by one, and answers each statement with its `;`.
@@ -28,6 +29,13 @@ impl Drop for Parser {
             depth: _,
             refused: _,
         } = self;
+    }
+}
+
+impl fmt::Debug for Parser {
+    fn fmt<W: fmt::Write>(&self, f: &mut fmt::Formatter<W>) -> fmt::Result {
+        let depth = self.depth();
+        write!(f, "Parser {{ depth: {depth} }}")
     }
 }
 

@@ -4,14 +4,14 @@ ghost use Rattle.p21_grammar_tree.specs.View.{items_of};
 use p21_values::{Bits, Decimal, Name, Text, Whole, Word};
 
 /// A keyword; a user-defined one is kept without its `!`.
-#[derive(Drop)]
+#[derive(Debug, Drop)]
 pub struct Key {
     pub user: bool,
     pub word: Word,
 }
 
 /// A parameter (ISO 10303-21, formal definition of the exchange structure: parameter).
-#[derive(Drop)]
+#[derive(Debug, Drop)]
 #[cycle(param)]
 pub enum Param {
     /// `$`, no value.
@@ -32,7 +32,7 @@ pub enum Param {
 }
 
 /// Parameters in a row, which contracts see as the list `items_of`.
-#[derive(Drop)]
+#[derive(Debug, Drop)]
 #[cycle(param)]
 pub struct Params {
     all: Vec<Param>,

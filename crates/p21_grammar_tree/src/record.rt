@@ -4,14 +4,14 @@ use crate::param::{Key, Params};
 use std::marker::Model;
 
 /// A simple record (ISO 10303-21, formal definition of the exchange structure: simple record): a keyword and its parameters.
-#[derive(Drop)]
+#[derive(Debug, Drop)]
 pub struct Part {
     pub key: Key,
     pub params: Params,
 }
 
 /// Simple records in a row, one at least.
-#[derive(Drop)]
+#[derive(Debug, Drop)]
 pub struct Parts {
     all: Vec<Part>,
 }
@@ -62,7 +62,7 @@ impl Parts {
 
 /// The record of an instance (ISO 10303-21, formal definition of the exchange structure: records of internal and external
 /// mapping).
-#[derive(Drop)]
+#[derive(Debug, Drop)]
 pub enum Record {
     /// A simple record: internal mapping.
     Simple(Part),

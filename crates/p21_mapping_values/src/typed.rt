@@ -6,14 +6,14 @@ use std::marker::Model;
 
 /// What the record of an instance means: its set of entities, rising by keyword, and for each of them the values of the
 /// places that it declares.
-#[derive(Drop)]
+#[derive(Debug, Drop)]
 pub struct Typed<'a> {
     pub parts: Ids<'a>,
     pub values: Rows,
 }
 
 /// Rows of values, one behind the other.
-#[derive(Drop)]
+#[derive(Debug, Drop)]
 pub struct Rows {
     rows: Vec<Values>,
 }

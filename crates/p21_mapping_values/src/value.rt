@@ -5,7 +5,7 @@ use p21_values::{Bits, Decimal, Name, Text, Whole, Word};
 
 /// A value of an attribute: `Number` at a NUMBER, `Item` at an enumeration, BOOLEAN or LOGICAL, `Derived` at a derived
 /// attribute, `Missing` where there is none. A tagged value keeps the type that its keyword names.
-#[derive(Drop)]
+#[derive(Debug, Drop)]
 #[cycle(value)]
 pub enum Value {
     Whole(Whole),
@@ -25,7 +25,7 @@ pub enum Value {
 }
 
 /// Values in a row.
-#[derive(Drop)]
+#[derive(Debug, Drop)]
 #[cycle(value)]
 pub struct Values {
     all: Vec<Value>,

@@ -25,7 +25,7 @@ use std::io::Read;
 const PIECE: usize = 65_536;
 
 /// What a survey finds of a file.
-#[derive(Drop)]
+#[derive(Debug, Drop)]
 pub enum Surveyed {
     /// Nothing is refused.
     Accepted(Accepted),
@@ -34,7 +34,7 @@ pub enum Surveyed {
 }
 
 /// What is refused of a file.
-#[derive(Drop)]
+#[derive(Debug, Drop)]
 pub struct Refusals {
     /// The refusals, one or more: those of the instances in the order of the file, then those of references in the same order,
     /// or the one that ended the reading.

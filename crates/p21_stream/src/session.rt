@@ -11,6 +11,7 @@ use p21_stream_output::Accepted;
 use p21_stream_statements::{Fault, Refusal};
 use p21_values::Limits;
 use std::alloc::Global;
+use std::fmt;
 use std::marker::Model;
 
 /// Reads a file that comes in pieces of any size, checks it against a schema, and keeps its canonical lines.
@@ -28,6 +29,13 @@ impl Drop for Session<'_> {
             limits: _,
             progress: _,
         } = self;
+    }
+}
+
+impl fmt::Debug for Session<'_> {
+    fn fmt<W: fmt::Write>(&self, f: &mut fmt::Formatter<W>) -> fmt::Result {
+        let held = self.held();
+        write!(f, "Session {{ held: {held:?} }}")
     }
 }
 

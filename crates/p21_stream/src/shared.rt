@@ -1,15 +1,18 @@
-ghost use Rattle.std.specs.Prelude.{◌≡◌, IfErr, Some};
+ghost use Rattle.std.specs.Prelude.{◌≡◌, ◌≤◌, IfErr, Some};
 ghost use Rattle.p21_stream_statements.specs.Source.{IsOfBytes};
 ghost use Rattle.p21_stream.specs.Held.{limits_of, refusal_of, schema_of};
-ghost use Rattle.p21_stream.specs.Histories.{FeedChecks, FeedGives, FeedNeedsNoMemory, FinishGives, KeepsSchema, RefusesAgain, RefusesAtEnd, Stands, nothing_taken};
+ghost use Rattle.p21_stream.specs.Histories.{FeedChecks, FeedGives, FeedNeedsNoMemory, FinishGives, HoldsFor, KeepsSchema, RefusesAgain, RefusesAtEnd, Stands, nothing_taken};
+ghost use Rattle.p21_stream.specs.Inside.{held_of};
 ghost use Rattle.std.specs.Arc.{arc_value};
 
-use crate::progress::Progress;
+use crate::held::Held;
+use crate::progress::{Progress, refused};
 use p21_express_tables::Schema;
 use p21_stream_output::Accepted;
-use p21_stream_statements::Refusal;
+use p21_stream_statements::{Fault, Refusal};
 use p21_values::Limits;
 use std::alloc::Global;
+use std::fmt;
 use std::marker::Model;
 use std::sync::Arc;
 
@@ -29,6 +32,13 @@ impl Drop for SharedSession {
             limits: _,
             progress: _,
         } = self;
+    }
+}
+
+impl fmt::Debug for SharedSession {
+    fn fmt<W: fmt::Write>(&self, f: &mut fmt::Formatter<W>) -> fmt::Result {
+        let held = self.held();
+        write!(f, "SharedSession {{ held: {held:?} }}")
     }
 }
 
@@ -82,6 +92,22 @@ impl SharedSession {
         self.progress.feed(&self.schema, limits, piece)
     }
 
+    /// What is held of the bytes taken. It takes no memory.
+    pub fn held(&self) -> Held
+        ensures held { HoldsFor self.now (held_of result) }
+        ensures pending { result.pending ≤ (limits_of self.now).record_source }
+        ensures depth { result.depth ≤ 64 }
+        ensures kept { result.kept ≤ (limits_of self.now).file_canonical }
+        ensures needs { result.needs ≤ (limits_of self.now).file_source }
+    {
+        Held {
+            pending: self.progress.statements.pending(),
+            depth: self.progress.statements.depth(),
+            kept: self.progress.kept.size(),
+            needs: self.progress.kept.references(),
+        }
+    }
+
     /// The end of the file. It takes memory for the order of the instances, and gives up what only the check needs.
     ///
     /// # Errors
@@ -99,5 +125,12 @@ impl SharedSession {
             progress,
         } = self;
         progress.finish(&schema)
+    }
+
+    /// A refusal at the open statement, for what is no fault of a byte. It takes no memory.
+    pub fn refusal(&self, fault: Fault) -> Refusal
+        ensures fault { result.fault ≡ fault }
+    {
+        refused(fault, None, self.progress.statement)
     }
 }

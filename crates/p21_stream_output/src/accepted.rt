@@ -14,6 +14,7 @@ use p21_stream_io::Watched;
 use p21_stream_statements::{At, Fault, Refusal};
 use p21_stream_store::{Instances, Numbers};
 use p21_values::Name;
+use std::fmt;
 use std::io::Write;
 use std::marker::Model;
 
@@ -45,6 +46,14 @@ impl Drop for Accepted {
             len: _,
             statement: _,
         } = self;
+    }
+}
+
+impl fmt::Debug for Accepted {
+    fn fmt<W: fmt::Write>(&self, f: &mut fmt::Formatter<W>) -> fmt::Result {
+        let count = self.count();
+        let len = self.len();
+        write!(f, "Accepted {{ count: {count}, len: {len} }}")
     }
 }
 

@@ -4,6 +4,8 @@ ghost use Rattle.p21_stream_statements.specs.Fault.{fault_number, fault_name};
 
 use crate::fault::Fault;
 use p21_values::Name;
+use std::fmt;
+use thiserror::Error;
 
 /// Where a file is refused: the number of the open statement, counted from 1, or an instance.
 #[derive(Clone, Copy, Debug, PartialEq, Eq)]
@@ -13,10 +15,20 @@ pub enum At {
 }
 
 /// Why a file is refused, and where.
-#[derive(Clone, Copy, Debug, PartialEq, Eq)]
+#[derive(Clone, Copy, Debug, PartialEq, Eq, Error)]
+#[error("{fault} {at}")]
 pub struct Refusal {
     pub fault: Fault,
     pub at: At,
+}
+
+impl fmt::Display for At {
+    fn fmt<W: fmt::Write>(&self, f: &mut fmt::Formatter<W>) -> fmt::Result {
+        match self {
+            At::Statement(number) => write!(f, "at statement {number}"),
+            At::Instance(Name(number)) => write!(f, "in #{number}"),
+        }
+    }
 }
 
 impl Refusal {

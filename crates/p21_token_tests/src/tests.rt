@@ -1,8 +1,11 @@
+mod actions;
 mod behind;
 mod file;
 mod limits;
 mod param;
+mod runs;
 mod texts;
+mod transcribed;
 
 use p21_tokens::{Absent, Canonical, Lexer, Limits, Token, TokenFault};
 use std::alloc::Global;

@@ -27,6 +27,7 @@ use crate::within::{at_most, whole_characters};
 use p21_tokens_automaton::{Action, Mode, NameMode, Run, Single, advance, blanks, run_of};
 use p21_values::{Limits, Text};
 use std::alloc::Global;
+use std::fmt;
 use std::marker::Model;
 
 /// Reads tokens from bytes that come in pieces of any size.
@@ -66,6 +67,13 @@ impl Drop for Lexer {
             file_limit: _,
             refused: _,
         } = self;
+    }
+}
+
+impl fmt::Debug for Lexer {
+    fn fmt<W: fmt::Write>(&self, f: &mut fmt::Formatter<W>) -> fmt::Result {
+        let pending = self.pending();
+        write!(f, "Lexer {{ pending: {pending} }}")
     }
 }
 

@@ -217,3 +217,35 @@ fn first_misplaced() -> &'static str {
 fn names_instances_for_faults_of_instances(rt: HostRuntime) {
     assert_eq!(rt; first_misplaced(), "none");
 }
+
+/// Refusals, each with what it prints.
+const PRINTED: &[(Fault, At, &str)] = &[
+    (
+        Fault::DuplicateName,
+        At::Instance(Name(18_446_744_073_709_551_615)),
+        "an instance of a name that another one has in #18446744073709551615",
+    ),
+    (
+        Fault::SchemaName,
+        At::Statement(5),
+        "not the name of the schema at statement 5",
+    ),
+];
+
+fn first_printed_otherwise(alloc: Global) -> &'static str {
+    for (fault, at, text) in PRINTED {
+        let refusal = Refusal {
+            fault: *fault,
+            at: *at,
+        };
+        if !prints(alloc, &refusal, text) {
+            return text;
+        }
+    }
+    "none"
+}
+
+#[test]
+fn prints_refusals(rt: HostRuntime) {
+    assert_eq!(rt; first_printed_otherwise(rt.alloc()), "none");
+}

@@ -1,8 +1,9 @@
 //! What a session holds.
 use super::files::{BACK, FRONT, SHAPES};
 use super::{Rows, Wrong, check};
-use p21_stream::{Fault, Limits, Schema, Session};
+use p21_stream::{At, Fault, Limits, Schema, Session, SharedSession, read_schema};
 use std::alloc::Global;
+use std::sync::Arc;
 
 /// Pieces one after another, each with what a session holds behind it: the token bytes of the open statement, the open
 /// lists, the bytes kept and the references.
@@ -112,4 +113,33 @@ const REFUSED: Refused = &[(FRONT, [35, 35, 1000, 1000])];
 #[test]
 fn holds_little_behind_a_refusal(rt: HostRuntime) {
     check(&rt, rt.alloc(), SHAPES, Rows::HeldRefused(REFUSED));
+}
+
+/// A session that owns its schema with others, where the schema is read and finds memory.
+fn shared_session(alloc: Global, limits: Limits) -> Option<SharedSession> {
+    let schema = read_schema(alloc, SHAPES.as_bytes()).ok()?;
+    let schema = Arc::new(alloc, schema).ok()?;
+    Some(SharedSession::new(alloc, schema, limits))
+}
+
+/// Whether a session holds this behind a piece, and names the open statement for other faults.
+fn shares_holding(session: &mut SharedSession, piece: &str, wanted: [u64; 4], at: u64) -> bool {
+    let is_fed = session.feed(piece.as_bytes()).is_ok();
+    let held = session.held();
+    is_fed
+        && [held.pending, held.depth, held.kept, held.needs] == wanted
+        && session.refusal(Fault::Read).at == At::Statement(at)
+}
+
+#[test]
+fn holds_a_cloud_with_a_shared_schema(rt: HostRuntime) {
+    let is_right = match shared_session(rt.alloc(), Limits::usual()) {
+        Some(mut session) => {
+            shares_holding(&mut session, FRONT, [0, 0, 87, 0], 8)
+                && shares_holding(&mut session, "#1=CLOUD((#2),((", [16, 2, 87, 0], 8)
+                && shares_holding(&mut session, "1.)),(TALLY(1)));", [0, 0, 120, 1], 9)
+        }
+        None => false,
+    };
+    assert!(rt; is_right);
 }

@@ -1,16 +1,16 @@
-use Rattle.std.proofs.Common.{[], ◌∷◌}
+use Rattle.std.proofs.Common.{[], ◌∷◌, ◌++◌, refl}
+use Rattle.std.proofs.KnownBytes.{Keeps-refl}
 use Rattle.p21_commands.specs.Failures.{failures_of}
-use Rattle.p21_commands.proofs.Reporting.{failure_reported, not_done, refusal_written, unfailed}
+use Rattle.p21_commands.proofs.Failing.{none_more}
+use Rattle.p21_commands.proofs.Reporting.{ends-answered, ends-reported}
 use Rattle.p21_commands.proofs.check.check_command.Goals as goal
 
-pub returns-in-Err-clause-answered : goal.returns-in-Err-clause-answered
-returns-in-Err-clause-answered g c e = absurd (not_done _ _ _ _ _ c.report.ensures e)
+pub returns-in-Ok-clause-ends : goal.returns-in-Ok-clause-ends
+returns-in-Ok-clause-ends g c =
+    let readers = failures_of c.args.schema.now c.write_check.new.schema ∷ failures_of c.args.file.now c.write_check.new.file ∷ [] in
+    let output = failures_of c.args.output.now c.write_check.new.output in
+    let faults = failures_of c.args.faults.now c.args.faults.now in
+    ends-answered _ _ readers _ _ _ _ output faults c.write_check.ensures.ok (Keeps-refl _) (none_more (readers ++ output ∷ []) (faults ∷ []) c.write_check.ensures.unfailed (refl, tt))
 
-pub returns-in-Err-clause-refused : goal.returns-in-Err-clause-refused
-returns-in-Err-clause-refused g c = refusal_written _ _ _ _ _ _ _ _ _ c.in-Err.ensures.err c.report.ensures
-
-pub returns-in-Err-clause-failed : goal.returns-in-Err-clause-failed
-returns-in-Err-clause-failed g c = failure_reported _ _ _ _ _ _ _ _ _ _ _ c.in-Err.ensures.err c.in-Err.ensures.failed c.report.ensures
-
-pub returns-in-Err-clause-unfailed : goal.returns-in-Err-clause-unfailed
-returns-in-Err-clause-unfailed g c = unfailed _ _ _ (failures_of c.args.schema.now c.write_check.new.schema ∷ failures_of c.args.file.now c.write_check.new.file ∷ []) _ _ _ c.in-Err.ensures.failed c.report.ensures
+pub returns-in-Err-clause-ends : goal.returns-in-Err-clause-ends
+returns-in-Err-clause-ends g c = ends-reported _ _ (failures_of c.args.schema.now c.write_check.new.schema ∷ failures_of c.args.file.now c.write_check.new.file ∷ []) _ _ _ _ _ _ _ _ c.in-Err.ensures.err c.in-Err.ensures.failed c.report.ensures

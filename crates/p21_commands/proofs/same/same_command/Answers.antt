@@ -2,9 +2,8 @@ use Rattle.std.proofs.Common.{[], ◌∷◌, inl, inr, subst}
 use Rattle.std.proofs.KnownBytes.{Keeps-refl}
 use Rattle.p21_commands.specs.Failures.{failures_of}
 use Rattle.p21_commands.specs.Transfer.{Writes}
-use Rattle.p21_commands.proofs.Reporting.{failure_reported, not_done, refusal_written, unfailed}
+use Rattle.p21_commands.proofs.Reporting.{failure_reported, not_done, refusal-kept, refusal_written, unfailed}
 use Rattle.p21_commands.specs.Same.{IsAnswered, IsCompared, IsRefused, read_of}
-use Rattle.p21_commands.proofs.Comparing.{refusal-kept}
 use Rattle.p21_commands.proofs.same.same_command.Goals as goal
 
 pub returns-in-Err-clause-answered : goal.returns-in-Err-clause-answered

@@ -1,3 +1,0 @@
-mod actions;
-mod runs;
-mod transcribed;

@@ -1,2 +1,0 @@
--- What is known of two readers that are compared.
-pub mod Answer

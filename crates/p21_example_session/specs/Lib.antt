@@ -1,2 +1,0 @@
--- What is received of a file.
-pub mod Receiving
