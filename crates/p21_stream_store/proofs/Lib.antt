@@ -5,6 +5,8 @@ mod StoredTextLemmas
 mod NameLemmas
 mod NumberLemmas
 mod SeenLemmas
+mod NotedLemmas
+mod RoomLemmas
 mod TextLemmas
 pub mod OrderLemmas
 mod Numbering

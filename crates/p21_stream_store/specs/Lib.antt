@@ -1,9 +1,10 @@
 -- What is stored of the instances that were taken.
 pub mod Texts
 pub mod Blocks
-pub mod Instances
+pub mod NamedLines
 pub mod StoredInstance
 pub mod Positions
+pub mod Noted
 pub mod Seen
 pub mod Numbering
 pub mod EntitySets

@@ -1,53 +1,41 @@
 //! The instances that a session has taken.
-ghost use Rattle.std.specs.Prelude.{◌≡◌, ◌<◌, ℕ, List, [], ◌∷◌, ◌++◌, length, slice_get, Contains, IfSome, IsNone, IsPermutation, IsTrue, OnErr, OnOk, Some};
-ghost use Rattle.std.specs.List.Sorted.{IsStrictlyIncreasing};
+ghost use Rattle.std.specs.Prelude.{◌≡◌, ◌<◌, ℕ, List, [], ◌∷◌, length, slice_get, Contains, IfOk, IfSome, IsNone, IsPermutation, OnErr, OnOk, Some};
+ghost use Rattle.std.specs.List.{range_with_len};
+ghost use Rattle.std.specs.List.Sorted.{IsNonDecreasingBy};
 ghost use Rattle.p21_stream_store.specs.StoredInstance.{StoredInstance, stored_instance, instance_names, name_at};
 
-use crate::late::LateNames;
-use crate::names::{is_above, position_in};
+use crate::named_lines::NamedLines;
+use crate::noted::{make_place, note_membership, noted_membership};
 use crate::numbers::Numbers;
-use crate::seen::{may_have_come, note};
-use crate::stored_texts::StoredTexts;
 use p21_values::NoMemory;
 use std::alloc::Global;
 use std::marker::Model;
 
-/// Instances by name, each with its canonical text and the number of its membership. Those whose names rise, as in nearly
-/// every file, are stored in their order and take no index; a name that is below one in front of it stands in a table or a
-/// tree.
+/// Instances by name, each with its canonical text and the number of its membership.
 pub struct Instances {
-    // A bit for each small name that has come.
-    seen: Vec<u64>,
-    pub(crate) rising: Numbers,
-    texts_of_rising: StoredTexts,
-    pub(crate) late: LateNames,
-    texts_of_late: StoredTexts,
+    lines: NamedLines,
+    // At each small name one more than the number of its membership, if that is noted, or 0.
+    noted: Vec<u8>,
 }
 
 // Written out: crates above call it, where they would prove a derived one field by field.
 impl Drop for Instances {
     fn drop(self) {
-        let Instances {
-            seen: _,
-            rising: _,
-            texts_of_rising: _,
-            late: _,
-            texts_of_late: _,
-        } = self;
+        let Instances { lines: _, noted: _ } = self;
     }
 }
 
 impl Model for Instances {
     ghost use Rattle.std.specs.Prelude.{List};
+    ghost use Rattle.p21_stream_store.specs.Noted.{AreNoted};
+    ghost use Rattle.p21_stream_store.specs.Positions.{position_marked};
     ghost use Rattle.p21_stream_store.specs.StoredInstance.{StoredInstance};
 
     ghost Value = { List StoredInstance };
 
-    ghost use Rattle.p21_stream_store.specs.Instances.{IsSound, all_instances};
+    ghost view = { λ a. a.lines };
 
-    ghost view = { all_instances };
-
-    ghost invariant = { IsSound };
+    ghost invariant = { λ a. AreNoted (position_marked a.noted.items) a.lines };
 }
 
 impl Instances {
@@ -56,11 +44,8 @@ impl Instances {
         ensures { result ≡ [] }
     {
         Instances {
-            seen: Vec::new(alloc),
-            rising: Numbers::new(alloc),
-            texts_of_rising: StoredTexts::new(alloc),
-            late: LateNames::new(alloc),
-            texts_of_late: StoredTexts::new(alloc),
+            lines: NamedLines::new(alloc),
+            noted: Vec::new(alloc),
         }
     }
 
@@ -68,7 +53,7 @@ impl Instances {
     pub fn len(&self) -> usize
         ensures { result ≡ length self.now }
     {
-        self.rising.count() + self.late.len()
+        self.lines.len()
     }
 
     /// The name, the number of the membership and the canonical text of the instance at a position. The positions are counted
@@ -77,13 +62,7 @@ impl Instances {
         requires { place < length self.now }
         ensures { slice_get self.now place ≡ Some (stored_instance result.0 (result.1, result.2.now)) }
     {
-        let first = self.texts_of_rising.len();
-        if place < first {
-            let (membership, text) = self.texts_of_rising.get(place);
-            return (self.rising.get(place) as u64, membership, text);
-        }
-        let (membership, text) = self.texts_of_late.get(place - first);
-        (self.late.get(place - first).unwrap_or(0), membership, text)
+        self.lines.get(place)
     }
 
     /// The number of the membership of the instance at a position.
@@ -91,29 +70,27 @@ impl Instances {
         requires { place < length self.now }
         ensures { (found : StoredInstance) × (slice_get self.now place ≡ Some found) × (found.membership ≡ result) }
     {
-        let first = self.texts_of_rising.len();
-        if place < first {
-            return self.texts_of_rising.membership(place);
-        }
-        self.texts_of_late.membership(place - first)
+        self.lines.membership_at(place)
     }
 
-    /// The name of the instance at a position, 0 where there is none.
-    pub(crate) fn name_at(&self, place: usize) -> u64
-        ensures { result ≡ name_at self.now place }
+    /// The canonical text of the instance at a position, without a look at its name and its membership.
+    pub fn text(&self, place: usize) -> &[u8]
+        requires { place < length self.now }
+        ensures { (found : StoredInstance) × (slice_get self.now place ≡ Some found) × (found.text ≡ result.now) }
     {
-        let first = self.rising.len();
-        if place < first {
-            return self.rising.get(place) as u64;
-        }
-        self.late.get(place - first).unwrap_or(0)
+        self.lines.text(place)
     }
 
-    /// Whether the names rise from position to position, as where none came late.
-    pub(crate) fn is_rising(&self) -> bool
-        ensures { IsTrue result → IsStrictlyIncreasing (instance_names self.now) }
+    /// The positions of all instances by rising names. Names that rose as they came take no memory; others cost no sort.
+    ///
+    /// # Errors
+    ///
+    /// `NoMemory`.
+    pub fn order(&self, alloc: Global) -> Result<Numbers, NoMemory>
+        ensures places { IfOk result (λ order. IsPermutation (range_with_len 0 (length self.now)) order) }
+        ensures rises { IfOk result (λ order. IsNonDecreasingBy (name_at self.now) order) }
     {
-        self.late.len() == 0
+        self.lines.order(alloc)
     }
 
     /// The number of the membership and the canonical text of the instance of this name, if there is one. A name that rises
@@ -122,39 +99,19 @@ impl Instances {
         ensures some { IfSome result (λ found. Contains self.now (record { name = name; membership = found.0; text = found.1.now })) }
         ensures none { IsNone result → Contains (instance_names self.now) name → ⊥ }
     {
-        if !may_have_come(&self.seen, name) {
-            return None;
-        }
-        if is_above(&self.rising, name) {
-            return None;
-        }
-        if let Some(place) = self.late.position_of(name) {
-            return Some(self.texts_of_late.get(place));
-        }
-        match position_in(&self.rising, name) {
-            Some(place) => Some(self.texts_of_rising.get(place)),
-            None => None,
-        }
+        self.lines.find(name)
     }
 
-    /// The number of the membership of the instance of this name, if there is one. A name that rises costs no search.
+    /// The number of the membership of the instance of this name, if there is one. A small name costs no search, nor does one
+    /// that rises.
     pub fn membership_of(&self, name: u64) -> Option<usize>
         ensures some { IfSome result (λ membership. (text : List ℕ) × Contains self.now (record { name = name; membership = membership; text = text })) }
         ensures none { IsNone result → Contains (instance_names self.now) name → ⊥ }
     {
-        if !may_have_come(&self.seen, name) {
-            return None;
+        if let Some(membership) = noted_membership(&self.noted, name) {
+            return Some(membership);
         }
-        if is_above(&self.rising, name) {
-            return None;
-        }
-        if let Some(place) = self.late.position_of(name) {
-            return Some(self.texts_of_late.membership(place));
-        }
-        match position_in(&self.rising, name) {
-            Some(place) => Some(self.texts_of_rising.membership(place)),
-            None => None,
-        }
+        self.lines.membership_of(name)
     }
 
     /// Adds an instance whose name no instance has yet, with the number of its membership and its canonical text.
@@ -167,79 +124,14 @@ impl Instances {
         ensures ok { OnOk result (IsPermutation (record { name = name; membership = membership; text = text.now } ∷ self.old) self.new) }
         ensures err { OnErr result (self.new ≡ self.old) }
     {
-        let Ok(()) = note(&mut self.seen, name) else {
+        let count = self.lines.len();
+        let Ok(()) = make_place(&mut self.noted, name, count) else {
             return Err(NoMemory);
         };
-        if is_above(&self.rising, name) {
-            let Ok(()) = add_rising(
-                &mut self.rising,
-                &mut self.texts_of_rising,
-                name,
-                membership,
-                text,
-            ) else {
-                return Err(NoMemory);
-            };
-            return Ok(());
-        }
-        let Ok(()) = add_late(
-            &mut self.late,
-            &mut self.texts_of_late,
-            name,
-            membership,
-            text,
-        ) else {
+        let Ok(()) = self.lines.push(name, membership, text) else {
             return Err(NoMemory);
         };
+        note_membership(&mut self.noted, name, membership);
         Ok(())
-    }
-}
-
-/// Adds a name with its membership and its text. An `Err` changes nothing.
-fn add_rising(
-    names: &mut Numbers,
-    lines: &mut StoredTexts,
-    name: u64,
-    membership: usize,
-    text: &[u8],
-) -> Result<(), NoMemory>
-    ensures names { OnOk result (names.new ≡ names.old ++ name ∷ []) }
-    ensures lines { OnOk result (lines.new ≡ lines.old ++ (membership, text.now) ∷ []) }
-    ensures err { OnErr result ((names.new ≡ names.old) × (lines.new ≡ lines.old)) }
-{
-    let Ok(()) = names.push(name as usize) else {
-        return Err(NoMemory);
-    };
-    match lines.push(membership, text) {
-        Ok(()) => Ok(()),
-        Err(fault) => {
-            names.pop();
-            Err(fault)
-        }
-    }
-}
-
-/// Adds a name that isn't there yet, with its membership and its text. An `Err` changes nothing.
-fn add_late(
-    names: &mut LateNames,
-    lines: &mut StoredTexts,
-    name: u64,
-    membership: usize,
-    text: &[u8],
-) -> Result<(), NoMemory>
-    requires { Contains names.old name → ⊥ }
-    ensures names { OnOk result (names.new ≡ names.old ++ name ∷ []) }
-    ensures lines { OnOk result (lines.new ≡ lines.old ++ (membership, text.now) ∷ []) }
-    ensures err { OnErr result ((names.new ≡ names.old) × (lines.new ≡ lines.old)) }
-{
-    let Ok(()) = names.push(name) else {
-        return Err(NoMemory);
-    };
-    match lines.push(membership, text) {
-        Ok(()) => Ok(()),
-        Err(fault) => {
-            names.pop();
-            Err(fault)
-        }
     }
 }

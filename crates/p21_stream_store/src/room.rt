@@ -1,9 +1,8 @@
-//! Lists that grow to an index, with room for no more elements than are stated. The contracts of the library bound the room
-//! of a list from below alone, apart from one that is made with room for so many.
-ghost use Rattle.std.specs.Prelude.{◌≡◌, ◌<◌, ◌≤◌, ℕ, length, slice_index_or, vec_capacity, IfOk, OnErr, OnOk};
+//! Lists that grow to an index, with room for no more elements than are stated. Of the library's calls `reserve_exact` and
+//! `push_reserved` say how much room a list has at most; a `push` may make as much as it likes.
+ghost use Rattle.std.specs.Prelude.{◌≡◌, ◌+◌, ◌<◌, ◌≤◌, ℕ, length, slice_index_or, vec_capacity, vec_len, OnErr, OnOk};
 
 use p21_values::NoMemory;
-use std::alloc::Global;
 
 /// Adds elements of this value until there is one at an index, where there is none yet; and further ones, so that a list grows
 /// twofold. It gets room for no more elements than the most.
@@ -17,9 +16,11 @@ pub fn reach<T: Copy>(list: &mut Vec<T>, index: usize, most: usize, fill: T) -> 
     if index < list.len() {
         return Ok(());
     }
-    let count = wider_count(list.len(), index, most);
-    let wider = widened(*list.allocator(), list.as_slice(), count, fill)?;
-    *list = wider;
+    let more = wider_count(list.len(), index, most) - list.len();
+    let Ok(()) = list.reserve_exact(more) else {
+        return Err(NoMemory);
+    };
+    fill_up(list, more, fill);
     Ok(())
 }
 
@@ -37,19 +38,14 @@ fn wider_count(count: usize, index: usize, most: usize) -> usize
     if twice > index { twice } else { index + 1 }
 }
 
-/// These elements, and behind them so many of this value that there are `count`. There is room for no more.
-fn widened<T: Copy>(alloc: Global, list: &[T], count: usize, fill: T) -> Result<Vec<T>, NoMemory>
-    requires { length list.now ≤ count }
-    ensures count { IfOk result (λ wider. length wider.items ≡ count) }
-    ensures same { IfOk result (λ wider. (other : ℕ) → slice_index_or wider.items other fill ≡ slice_index_or list.now other fill) }
-    ensures room { IfOk result (λ wider. vec_capacity wider ≤ count) }
+/// Adds so many elements of this value, for which there is room.
+fn fill_up<T: Copy>(list: &mut Vec<T>, more: usize, fill: T)
+    requires { vec_len list.old + more ≤ vec_capacity list.old }
+    ensures count { vec_len list.new ≡ vec_len list.old + more }
+    ensures same { (other : ℕ) → slice_index_or list.new.items other fill ≡ slice_index_or list.old.items other fill }
+    ensures room { vec_capacity list.new ≡ vec_capacity list.old }
 {
-    let mut wider = Vec::with_capacity(alloc, count)?;
-    wider.extend_from_slice(list)?;
-    wider.resize(count, fill)?;
-    // It has the room that it was made with.
-    if wider.capacity() > count {
-        return Err(NoMemory);
+    for _ in 0..more {
+        list.push_reserved(fill);
     }
-    Ok(wider)
 }

@@ -59,6 +59,14 @@ impl StoredTexts {
         self.memberships.get(index)
     }
 
+    /// The text of an instance, by its index.
+    pub fn text(&self, index: usize) -> &[u8]
+        requires { index < length self.now }
+        ensures { (membership : ℕ) × (slice_get self.now index ≡ Some (membership, result.now)) }
+    {
+        self.texts.get(index)
+    }
+
     /// Adds a text with the number of its membership.
     ///
     /// # Errors
