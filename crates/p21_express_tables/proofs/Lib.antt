@@ -6,6 +6,7 @@ pub mod Owners
 pub mod UnchangedTables
 pub mod Places
 pub mod Noted
+pub mod HeldLists
 pub mod Numbered
 pub mod RisingSets
 pub mod OneOfLists

@@ -8,8 +8,9 @@ ghost use Rattle.p21_express_graph.specs.Orders.{numbers};
 ghost use Rattle.p21_express_graph.specs.Resolved.{IsEntity, IsPlace};
 ghost use Rattle.p21_express_graph.specs.Rising.{IsOwnRising};
 ghost use Rattle.p21_express_tables.specs.Decisions.{IsDecision};
-ghost use Rattle.p21_express_tables.specs.OwnSets.{HasOwnFaults, LeavesOpen};
+ghost use Rattle.p21_express_tables.specs.OwnSets.{AreOwnClashes, HasOwnFaults, LeavesOpen};
 
+use crate::holders::Holders;
 use crate::ids::Ids;
 use crate::place_types::Decision;
 use crate::schema::Schema;
@@ -92,24 +93,21 @@ impl Schema {
     pub(crate) fn prepare_clashes(&mut self) -> Result<(), NoMemory>
         ensures { OnOk result (self.new ≡ self.old) }
     {
-        for _ in 0..self.entities() {
-            self.prepare_clash()?;
-        }
+        self.tables.own_clashes = self.all_own_clashes()?;
         Ok(())
     }
 
-    /// Prepares whether the own set of the next entity clashes.
-    fn prepare_clash(&mut self) -> Result<(), NoMemory>
-        ensures { OnOk result (self.new ≡ self.old) }
+    /// Whether the own set of each entity clashes.
+    fn all_own_clashes(&self) -> Result<Vec<bool>, NoMemory>
+        ensures { IfOk result (λ clashes. AreOwnClashes self.now clashes.items) }
     {
         self.holds_together();
-        let number = self.tables.own_clashes.len();
-        if number >= self.entities() {
-            return Ok(());
+        let mut holders = Holders::new(self.alloc, self.one_of_lists())?;
+        let mut clashes = Vec::with_capacity(self.alloc, self.entities())?;
+        for number in 0..self.entities() {
+            clashes.push(self.find_own_clash(EntityId(number as u32), &mut holders))?;
         }
-        let clash = self.find_clash(self.order_of(EntityId(number as u32)))?;
-        self.tables.own_clashes.push(clash)?;
-        Ok(())
+        Ok(clashes)
     }
 
     /// Whether two entities of the own set stand in one ONEOF list.

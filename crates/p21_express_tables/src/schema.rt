@@ -365,6 +365,13 @@ impl Schema {
         !self.tables.offered.entities[of.0 as usize].is_empty()
     }
 
+    /// How many ONEOF lists there are.
+    pub(crate) fn one_of_lists(&self) -> usize
+        ensures { result ≡ length self.now.one_of_lists }
+    {
+        self.parts.one_of_lists.len()
+    }
+
     /// The entity of this number.
     pub(crate) fn entity_at(&self, entity: EntityId) -> &Entity
         requires { IsEntity self.now entity.0 }
