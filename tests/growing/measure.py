@@ -108,7 +108,6 @@ OPEN = {
     "colliding_attributes": Open(28.6, 0.4, 0.64, "4.4 s, 14 MB"),
     "colliding_items": Open(28.0, 0.4, 0.64, "4.3 s, 12 MB"),
     "colliding_entities": Open(10.5, 0.6, 0.96, "2.3 s, 30 MB"),
-    "deep_attributes_in_use": Open(8.5, 16.8, 3.35, "6.1 s, 2596 MB"),
     "parts_that_redeclare": Open(50.1, 0.5, 1.35, "15.1 s, 35 MB"),
     "wide_subtypes": Open(1.1, 3.8, 0.99, "3.8 s, 2702 MB"),
     "redeclared_by_many": Open(0.9, 3.7, 1.55, "3.1 s, 2710 MB"),
