@@ -110,7 +110,6 @@ OPEN = {
     "colliding_attributes": Open(28.6, 0.4, 0.64, "4.4 s, 14 MB"),
     "colliding_items": Open(28.0, 0.4, 0.64, "4.3 s, 12 MB"),
     "colliding_entities": Open(10.5, 0.6, 0.96, "2.3 s, 30 MB"),
-    "deep_attributes_in_use": Open(8.5, 16.8, 3.35, "6.1 s, 2596 MB"),
     "parts_that_redeclare": Open(50.1, 0.5, 1.35, "15.1 s, 35 MB"),
     "wide_subtypes": Open(1.1, 3.8, 0.99, "3.8 s, 2702 MB"),
     "redeclared_by_many": Open(0.9, 3.7, 1.55, "3.1 s, 2710 MB"),
@@ -125,7 +124,7 @@ OPEN = {
     "owners_by_a_lower_name": Open(13.0, 0.7, 0.94, "2.8 s, 34 MB"),
     "deep_attributes": Open(2.2, 4.9, 0.71, "0.4 s, 175 MB"),
     "oneof_lists_above_many": Open(17.2, 0.5, 1.56, "5.9 s, 35 MB"),
-    "sets_32_deep": Open(6.1, 0.7, 0.86, "1.2 s, 30 MB"),
+    "sets_32_deep": Open(1.4, 0.7, 0.86, "0.4 s, 31 MB"),
     "layers_that_share_all": Open(2.5, 2.6, 4.30, "6.3 s, 1362 MB"),
 }
 

@@ -1,5 +1,5 @@
 -- Values of one type are distinct exactly if their texts are.
-use Rattle.std.proofs.Common.{◌≡◌, ◌≢◌, ◌∙◌, ◌↔◌, sym, ap, refl, subst, inl, inr, ℕ, ◌+◌, ◌<◌, ◌≤◌, Bool, true, List, [], ◌∷◌, ◌++◌, length, map, take, get_or, IsTrue, Contains, append_assoc}
+use Rattle.std.proofs.Common.{◌≡◌, ◌≢◌, ◌∙◌, ◌↔◌, sym, ap, refl, subst, inl, inr, arith, ℕ, ◌+◌, ◌<◌, ◌≤◌, Bool, true, List, [], ◌∷◌, ◌++◌, length, map, take, get_or, IsTrue, Contains, append_assoc}
 use Rattle.std.proofs.lemmas.List.{map-append, take_all, take_more}
 use Rattle.p21_basics.proofs.Members.{Contains-none, Contains-first, Contains-later, Contains-cases}
 use Rattle.p21_claim_values.proofs.OfType.{OfType, EachOf, of_none, of_next, of_empty, missing-of_none}
@@ -89,3 +89,9 @@ module _ (s : Schema) (distinct : HasDistinctTypes s) where
       let all = ap (λ (ys : List Value). present_texts s (views ys)) (take_all i vs above) in
       let same : split_texts bytes long ≡ present_texts s (views vs) = ap (λ (ys : List ℕ). split_texts ys long) e ∙ ap (split_texts (joined (present_texts s (views (take i vs))))) f ∙ split_texts-joined (present_texts s (views (take i vs))) ∙ all in
       (λ is_true. values-differ optional type (views vs) each (subst NoneTwice same (h.0 is_true)), λ differ. h.1 (subst NoneTwice (sym same) (texts-differ optional type (views vs) each differ)))
+
+-- where there is one at most
+pub few-differ : (vs : List Value) → length vs < 2 → AreDistinct (views vs)
+few-differ [] few = tt
+few-differ (v ∷ []) few = (λ some among. elim among [ ], tt)
+few-differ (v ∷ w ∷ vs) few = absurd (omega (arith, few))

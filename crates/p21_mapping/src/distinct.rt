@@ -46,6 +46,9 @@ fn are_different(alloc: Global, schema: &Schema, values: &[Value]) -> Result<boo
     requires known { HaveKnownTypes schema.now (views values.now) }
     ensures { IfOk result (λ different. IsTrue different ↔ AreDistinct (views values.now)) }
 {
+    if values.len() < 2 {
+        return Ok(true);
+    }
     schema.well_formed();
     let mut bytes = Vec::new(alloc);
     let mut lengths = Vec::with_capacity(alloc, values.len())?;

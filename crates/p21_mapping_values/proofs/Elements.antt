@@ -1,15 +1,18 @@
 -- The texts of values in a row, as they are written one after the other.
-use Rattle.std.proofs.Common.{◌≡◌, ◌==◌, ℕ, zero, suc, ◌+◌, ◌-◌, ◌<◌, ◌≤◌, false, List, [], ◌∷◌, ◌++◌, length, map, take, sum, get_or, refl, ap, sym, ◌∙◌, subst, arith, rules, append_assoc, length-append}
+use Rattle.std.proofs.Common.{◌≡◌, ◌==◌, Result, Ok, Err, ℕ, zero, suc, ◌+◌, ◌-◌, ◌<◌, ◌≤◌, false, List, [], ◌∷◌, ◌++◌, length, map, take, sum, get_or, refl, ap, sym, ◌∙◌, subst, arith, rules, append_assoc, length-append}
 use Rattle.std.proofs.lemmas.List.{append-nil, take_all, take_more, map-append}
 use Rattle.std.proofs.Math.Seq.{take-append_seam, drop-append_seam}
 use Rattle.std.specs.List.{fold}
+use Rattle.std.specs.Result.{OnErr}
 use Rattle.p21_schemas.specs.Schema.{Schema}
+use Rattle.p21_files.specs.Sorting.{sort_texts}
 use Rattle.p21_files.specs.ValueText.{value_text, value_texts, with_commas, with_commas_between}
 use Rattle.p21_mapping_values.specs.declared.value.Value.{Value}
 use Rattle.p21_mapping_values.specs.View.{view, views}
 use Rattle.p21_mapping_values.specs.KnownTypes.{HasKnownTypes, HaveKnownTypes}
 use Rattle.p21_mapping_values.specs.SplitTexts.{element_text, joined, split_texts}
 use Rattle.p21_values.specs.Canonical.{Continues}
+use Rattle.p21_values.proofs.Continuing.{continues-same}
 use Rattle.p21_files.proofs.Commas.{with_commas-push}
 
 -- the text of each value
@@ -82,7 +85,21 @@ lengths_next s xs i x bytes more long longer n is low e f g h =
     let all = ap (map (λ (t : List ℕ). length t)) (texts-more s xs i x is low) ∙ map-append (λ (t : List ℕ). length t) (texts s (take i xs)) (value_text s (view x) ∷ []) in
     rw (h, e, all, count) refl
 
+-- one at most is in order
+pub few-in_order : (s : Schema) (xs : List Value) → length xs < 2 → sort_texts (texts s xs) ≡ texts s xs
+few-in_order s [] few = refl
+few-in_order s (x ∷ []) few = refl
+few-in_order s (x ∷ y ∷ ys) few = absurd (omega (arith, few))
+
 -- ---- what a refusal leaves
+
+pub err-same : {T E : Type 0} (r : Result T E) (xs ys : List ℕ) → ys ≡ xs → OnErr r (Continues xs ys)
+err-same (Ok x) xs ys is = tt
+err-same (Err x) xs ys is = continues-same xs ys is
+
+pub err-unchanged : {T E : Type 0} (r : Result T E) (xs ys : List ℕ) → OnErr r (ys ≡ xs) → OnErr r (Continues xs ys)
+err-unchanged (Ok x) xs ys is = tt
+err-unchanged (Err x) xs ys is = continues-same xs ys is
 
 -- behind what was written already
 pub continues_on : (old first second out new : List ℕ) → out ≡ (old ++ first) ++ second → Continues out new → Continues old new

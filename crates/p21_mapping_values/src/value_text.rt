@@ -100,14 +100,17 @@ fn append_element(
     append_value(schema, value, out)
 }
 
-/// Appends the texts of values as a list in rising order. A refusal leaves `out` as it was.
+/// Appends the texts of values as a list in rising order, or a part of it where memory runs out. A single one is in order.
 #[cycle(append)]
 fn append_unordered(schema: &Schema, values: &[Value], out: &mut Vec<u8>) -> Result<(), NoMemory>
     requires { HaveKnownTypes schema.now (views values.now) }
     ensures ok { OnOk result (out.new.items ≡ out.old.items ++ list_text (sort_texts (value_texts schema.now (views values.now)))) }
     ensures spelled { OnOk result (AreSpelled schema.now (views values.now)) }
-    ensures err { OnErr result (out.new.items ≡ out.old.items) }
+    ensures err { OnErr result (Continues out.old.items out.new.items) }
 {
+    if values.len() < 2 {
+        return append_list(schema, values, out);
+    }
     let alloc = *out.allocator();
     let mut bytes = Vec::new(alloc);
     let mut lengths = Vec::with_capacity(alloc, values.len())?;

@@ -1,8 +1,11 @@
-use Rattle.std.proofs.Common.{◌∙◌}
+use Rattle.std.proofs.Common.{◌∙◌, arith, refl}
 use Rattle.std.proofs.lemmas.Result.{IfOk-weaker}
 use Rattle.p21_mapping_values.proofs.Elements.{fits_bytes, known_at}
-use Rattle.p21_mapping.proofs.Differing.{bytes-more, differ-by_texts, lengths-more}
+use Rattle.p21_mapping.proofs.Differing.{bytes-more, differ-by_texts, few-differ, lengths-more}
 use Rattle.p21_mapping.proofs.distinct.are_different.Goals as goal
+
+pub returns-then-values-lt2 : goal.returns-then-values-lt2
+returns-then-values-lt2 c = (λ yes. few-differ c.args.values.now (omega (arith, c.if-values-lt2.true)), λ differ. refl)
 
 pub append_present-requires : goal.append_present-requires
 append_present-requires c = known_at c.args.schema.now c.args.values.now _ _ c.value-item.is c.loop-value-test.true c.requires.known

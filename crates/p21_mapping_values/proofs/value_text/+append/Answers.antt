@@ -1,4 +1,4 @@
-use Rattle.std.proofs.Common.{◌≡◌, ap, ◌∙◌, rules}
+use Rattle.std.proofs.Common.{◌≡◌, ap, ◌∙◌, arith, refl, rules}
 use Rattle.p21_files.specs.Value.{typed}
 use Rattle.p21_mapping_values.specs.declared.value.Value.{Value}
 use Rattle.std.proofs.lemmas.Result.{err_from_is_err_and}
@@ -6,7 +6,7 @@ use Rattle.p21_mapping_values.proofs.SpelledScalars.{bits-spelled, name-spelled,
 use Rattle.p21_mapping_values.proofs.WrittenParams.{on_any}
 use Rattle.p21_mapping_values.proofs.Views.{view-Bits, view-Number, view-Real, view-Reference, view-Tagged, view-Text, view-Whole}
 use Rattle.p21_mapping_values.specs.View.{view}
-use Rattle.p21_mapping_values.proofs.Elements.{continues_on, continues_same, element_next, fits_bytes, joined_next, known_at, lengths_next, split_texts_are}
+use Rattle.p21_mapping_values.proofs.Elements.{continues_on, continues_same, element_next, err-same, err-unchanged, few-in_order, fits_bytes, joined_next, known_at, lengths_next, split_texts_are}
 use Rattle.p21_mapping_values.proofs.Spelled.{spelled-all, spelled-by, spelled-more, tagged-text}
 use denote.Param.Weighed.{at_most}
 use Rattle.p21_mapping_values.proofs.value.Value.TheLaws.{the_size}
@@ -38,6 +38,18 @@ pub append_list-returns-in_err-push-2-clause-err : goal.append_list-returns-in_e
 append_list-returns-in_err-push-2-clause-err t c =
     let p = err_from_is_err_and c.from_residual-in_err-push-2.result c.from_residual-in_err-push-2.ensures.1 in
     rw p.1 (continues_same _ _ _ _ _ c.loop-i.invariant.text c.in_err-push-2.ensures.items)
+
+pub append_unordered-returns-then-values-lt2-clause-ok : goal.append_unordered-returns-then-values-lt2-clause-ok
+append_unordered-returns-then-values-lt2-clause-ok t c = rw (few-in_order c.args.schema.now c.args.values.now (omega (arith, c.if-values-lt2.true))) c.append_list.ensures.ok
+
+pub append_unordered-returns-in_err-append_value-clause-err : goal.append_unordered-returns-in_err-append_value-clause-err
+append_unordered-returns-in_err-append_value-clause-err t c = err-same _ _ _ refl
+
+pub append_unordered-returns-in_err-push-clause-err : goal.append_unordered-returns-in_err-push-clause-err
+append_unordered-returns-in_err-push-clause-err t c = err-same _ _ _ refl
+
+pub append_unordered-returns-clause-err : goal.append_unordered-returns-clause-err
+append_unordered-returns-clause-err t c = err-unchanged _ _ _ c.append_rising.ensures.err
 
 pub append_unordered-append_value-requires : goal.append_unordered-append_value-requires
 append_unordered-append_value-requires t c =
