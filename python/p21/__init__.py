@@ -30,9 +30,10 @@ environment variable P21_LIBRARY says, and else beside this file. ``python3 -m p
 """
 
 from p21._diff import Differences, diff
-from p21._faults import Refused, RefusalNumber, SchemaRefusalNumber, SchemaRefused
+from p21._faults import Refused, SchemaRefused
 from p21._files import Hash, canonical, check, hash, same
 from p21._library import version
+from p21._numbers import RefusalNumber, SchemaRefusalNumber
 from p21._schema import Schema
 from p21._session import Accepted, Report, Session, accept
 from p21._source import Buffer, Source

@@ -4,8 +4,8 @@ import dataclasses
 import json
 from typing import Any, Dict, List, Optional
 
-from p21._faults import RefusalNumber
 from p21._html import table
+from p21._numbers import RefusalNumber
 from p21._schema import Schema
 from p21._source import Source
 from p21._tools import as_paths, run, tool

@@ -25,7 +25,7 @@ pub use p21_express::{Schema, SchemaFault, read_schema};
 pub use p21_grammar::GrammarFault;
 pub use p21_mapping_faults::CheckFault;
 pub use p21_stream_io::{ReadFault, Watched, WriteFault};
-pub use p21_stream_output::Accepted;
+pub use p21_stream_output::{Accepted, Cursor};
 pub use p21_stream_statements::{At, Fault, Refusal, StatementReader};
 pub use p21_tokens::{Absent, TokenFault};
 pub use p21_values::{Limits, Name, NoMemory};

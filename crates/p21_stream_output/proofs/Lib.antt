@@ -11,3 +11,4 @@ pub mod StoredPositions
 pub mod Zipped
 pub mod Whole
 pub mod Written
+pub mod Reading

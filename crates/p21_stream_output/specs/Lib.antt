@@ -7,3 +7,4 @@ pub mod Filing
 pub mod Writing
 pub mod Spelled
 pub mod Ending
+pub mod Reading

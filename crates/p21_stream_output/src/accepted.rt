@@ -1,6 +1,7 @@
 ghost use Rattle.std.specs.Prelude.{◌≡◌, ◌↔◌, ℕ, length, Contains, IfErr, IfSome, IsNone, IsTrue, OnErr, OnOk};
 ghost use Rattle.std.specs.Io.KnownBytes.{Appends};
 ghost use Rattle.p21_stream_output.specs.Output.{HasLines, IsLineOf, output_text};
+ghost use Rattle.p21_stream_output.specs.Reading.{Takes, rest_at, start};
 ghost use Rattle.p21_stream_output.specs.Stored.{HavePositions, output_of};
 ghost use Rattle.p21_stream_io.specs.Transfer.{AppendsPartOf};
 ghost use Rattle.p21_stream_io.specs.Watch.{one_call_more};
@@ -9,6 +10,7 @@ ghost use Rattle.p21_stream_statements.specs.declared.refusal.At.TheVariants as 
 ghost use Rattle.p21_stream_store.specs.StoredInstance.{StoredInstance, instance_names};
 
 use crate::compare::is_file;
+use crate::cursor::{Cursor, Parts};
 use crate::output::write_file;
 use p21_stream_io::Watched;
 use p21_stream_statements::{At, Fault, Refusal};
@@ -143,6 +145,21 @@ impl Accepted {
                 at: At::Statement(self.statement),
             }),
         }
+    }
+
+    /// Reads on in the canonical file from where a cursor stands: fills a buffer as far as the file goes, moves the cursor behind
+    /// what it put there, and says how many bytes that are. There are none only where the file is at its end or the buffer has no
+    /// room. `Cursor::start` stands at the beginning, and each reading has a cursor of its own. It takes no memory.
+    pub fn read(&self, cursor: &mut Cursor, buffer: &mut [u8]) -> usize
+        ensures takes { Takes (rest_at self.now cursor.old) (rest_at self.now cursor.new) buffer.old buffer.new result }
+        ensures whole { rest_at self.now start ≡ output_text self.now }
+    {
+        let parts = Parts {
+            header: &self.header,
+            sections: &self.sections,
+            instances: &self.instances,
+        };
+        parts.fill(cursor, buffer)
     }
 
     /// Whether a text is the canonical file. It takes no memory.
