@@ -182,11 +182,12 @@ pub(crate) fn drop_served(
 /// So many references may have room in any file.
 const ROOM: usize = 2048;
 
-/// Gives back the room that is for no reference, where there is much room.
+/// Gives back the room that is for no reference, where there is much room and less than a quarter of it is used. So room that
+/// was given back isn't asked for again by the next references that wait.
 fn give_back(waiting: &mut Vec<Reference>)
     ensures { waiting.new.items ≡ waiting.old.items }
 {
-    if waiting.capacity() > ROOM {
+    if waiting.capacity() > ROOM && waiting.capacity() / 4 > waiting.len() {
         waiting.shrink_to_fit();
     }
 }
