@@ -5,6 +5,7 @@
 mod accepted;
 mod compare;
 mod ending;
+mod fetching;
 mod filing;
 mod named_sections;
 mod output;
