@@ -62,10 +62,14 @@ def falling(n, folder):
     return check_demo(folder, (POINT % k for k in range(n, 0, -1)))
 
 
-def shuffled(n, folder):
+def shuffled_names(n):
     names = list(range(1, n + 1))
     random.Random(1).shuffle(names)
-    return check_demo(folder, (POINT % k for k in names))
+    return names
+
+
+def shuffled(n, folder):
+    return check_demo(folder, (POINT % k for k in shuffled_names(n)))
 
 
 def colliding(n, folder):
@@ -435,6 +439,9 @@ LINES = {
     "large_names_falling": lambda n: ("#%d=C();" % (10**9 + n - k) for k in range(n)),
     "late_names_below_a_large_one": lambda n: ["#18446744073709551615=C();\n", *("#%d=C();\n" % (max(262144, 16 * k) - 1 - (k if k * 16 < 262144 else 0)) for k in range(1, n))],
     "late_names_without_gaps": lambda n: ["#%d=C();\n" % (n + 1), *("#%d=C();\n" % k for k in range(n))],
+    "small_names_below_the_largest": lambda n: ["#18446744073709551615=C();\n", *("#%d=C();\n" % k for k in shuffled_names(n))],
+    "names_far_apart_falling": lambda n: ("#%d=C();\n" % (4096 * (n - k)) for k in range(n)),
+    "names_far_apart_in_no_order": lambda n: ("#%d=C();\n" % (4096 * k) for k in shuffled_names(n)),
     "lists_of_lists": lambda n: ["#1=D((" + ",".join(["((1,1),(1,1))"] * n) + "));\n"],
     "empty_lists": lambda n: ["#1=D((" + ",".join(["()"] * n) + "));\n"],
     "lists_of_empty_lists": lambda n: ["#1=D((" + ",".join(["(())"] * n) + "));\n"],

@@ -182,13 +182,14 @@ pub(crate) fn drop_served(
 /// So many references may have room in any file.
 const ROOM: usize = 2048;
 
-/// Gives back the room that is for no reference, where there is much room and less than a quarter of it is used. So room that
-/// was given back isn't asked for again by the next references that wait.
+/// Gives back room where there is much, and less than half of it is used. Half as much again as is used stays, so that the next
+/// references that wait don't ask for it anew.
 fn give_back(waiting: &mut Vec<Reference>)
     ensures { waiting.new.items ≡ waiting.old.items }
 {
-    if waiting.capacity() > ROOM && waiting.capacity() / 4 > waiting.len() {
-        waiting.shrink_to_fit();
+    let used = waiting.len();
+    if waiting.capacity() > ROOM && waiting.capacity() / 2 > used {
+        waiting.shrink_to(used + used / 2);
     }
 }
 

@@ -104,8 +104,7 @@ fn behind_lines<'a>(
     let mut left = text;
     for index in 0..instance_positions.len() {
         let place = instance_positions.get(index);
-        let (_, _, line) = instances.get(place);
-        let Some(rest) = behind_line(left, line) else {
+        let Some(rest) = behind_line(left, instances.text(place)) else {
             return None;
         };
         left = rest;

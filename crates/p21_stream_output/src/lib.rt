@@ -6,6 +6,7 @@ mod accepted;
 mod compare;
 mod cursor;
 mod ending;
+mod fetching;
 mod filing;
 mod named_sections;
 mod output;
