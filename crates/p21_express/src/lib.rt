@@ -9,6 +9,7 @@ mod distinct;
 mod duplicates;
 mod first;
 mod lookups;
+mod named_owners;
 mod places;
 mod redeclarations;
 mod redeclared;
