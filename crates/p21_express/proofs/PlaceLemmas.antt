@@ -1,17 +1,18 @@
 -- Places and proper supertypes by their names.
-use Rattle.std.specs.Prelude.{◌≡◌, ◌≢◌, ◌↔◌, ℕ, ◌<◌, ◌≤◌, ◌+◌, ◌^◌, Bool, true, false, not, IsTrue, List, [], ◌∷◌, ◌++◌, Option, None, Some, length, map, take, drop, slice_get, Contains, refl}
+use Rattle.std.specs.Prelude.{◌≡◌, ◌≢◌, ◌↔◌, ℕ, ◌<◌, ◌≤◌, ◌+◌, ◌^◌, Bool, true, false, not, IsTrue, List, [], ◌∷◌, ◌++◌, Option, None, Some, length, map, take, slice_get, Contains, refl, Result, Ok, Err, IfOk, MatchOption}
+use Rattle.std.specs.List.{IsDistinct}
+use Rattle.std.specs.Str.{bytes_eq}
 use Rattle.std.proofs.Common.{arith, ap, sym, ◌∙◌, subst, inl, inr, get_or}
 use Rattle.std.proofs.lemmas.Bool.{cases_eq}
-use Rattle.std.proofs.lemmas.List.{length-take-le, take-append-drop}
 use Rattle.std.proofs.lemmas.Option.{get_or_from_slice_get, slice_get_within}
-use Rattle.p21_basics.proofs.Members.{Contains-at, Contains-one_of, Contains-flat_map, Each-at, at-front}
+use Rattle.p21_basics.proofs.Members.{Contains-one_of, Contains-flat_map, Each-at}
 use Rattle.p21_schemas.specs.Order.{order, own_places}
 use Rattle.p21_schemas.specs.Redeclaration.{IsOwnPlace, IsPlaceOf, IsProperSupertype, RedeclaresPlace, HasNoPlace}
 use Rattle.p21_schemas.specs.Schema.{Schema, Place, Attribute, Entity, EntityNamed, PlaceNamed, attributes_of}
 use Rattle.p21_schemas.specs.Supertype.{IsA}
 use Rattle.p21_schemas.specs.WellFormed.{HasDistinctEntities}
 use Rattle.p21_schemas.proofs.Orders.{order-has, order_within-self, order_within-only}
-use Rattle.p21_express.specs.AttributeNames.{own_names}
+use Rattle.p21_express.specs.AttributeNames.{IsKept, own_names}
 use Rattle.p21_express.specs.Candidates.{AreCandidates, IsPlaceAbove}
 use Rattle.p21_express.specs.Found.{HasDistinctAttributes}
 use Rattle.p21_express.specs.NamedOwners.{HasOwners}
@@ -19,7 +20,6 @@ use Rattle.p21_express.specs.RedeclarationTarget.{IsPlaceIn, IsTargetIn, IsMissi
 use Rattle.p21_express.specs.declared.lookups.RedeclarationTarget.{RedeclarationTarget}
 use Rattle.p21_express.specs.declared.lookups.RedeclarationTarget.TheVariants as sought
 use Rattle.p21_express_graph.specs.Orders.{numbers}
-use Rattle.p21_express_graph.specs.Names.{Adds}
 use Rattle.p21_express_graph.specs.Resolved.{HoldsTogether, IsResolved}
 use Rattle.p21_express_graph.proofs.Gatherings.{numbered-at}
 use Rattle.p21_express_graph.proofs.Lookups.{each-number, numbers-more}
@@ -27,10 +27,6 @@ use Rattle.p21_express_graph.proofs.Naming.{named, unnamed}
 use Rattle.p21_express_graph.proofs.OrderTables.{IsA-within, are-entities}
 use Rattle.p21_express_types.specs.declared.number.EntityId.{EntityId}
 use Rattle.p21_schemas.proofs.OwnPlaces.{own_places-within, own_places-has}
-
--- what stands in the front of a list stands in the list
-front-taken : {X : Type 0} (xs : List X) (k j : ℕ) (x : X) → slice_get (take k xs) j ≡ Some x → slice_get xs j ≡ Some x
-front-taken xs k j x at = ap (λ ys. slice_get ys j) (sym (take-append-drop k xs)) ∙ at-front (take k xs) (drop k xs) j x at
 
 -- an attribute by its entity and its number
 abbrev pub at_index : ℕ → ℕ → Place
@@ -175,19 +171,15 @@ few-attributes s holds e = by (slice_get s.entities e) refl
     by None at = let P : Option Entity → Type 0 = λ o. length {A = Attribute} (elim o [ Some x ↦ x.attributes | None ↦ [] ]) < 2 ^ 32 in subst P (sym at) (omega arith)
     by (Some x) at = let P : Option Entity → Type 0 = λ o. length {A = Attribute} (elim o [ Some x ↦ x.attributes | None ↦ [] ]) < 2 ^ 32 in subst P (sym at) (Each-at (IsResolved s) s.entities e x holds.entities_are at).few
 
--- one name more of the attributes, which is new
-module _ (s : Schema) (distinct : HasDistinctAttributes s) (e k : ℕ) (below : k < length (attributes_of s e)) (name : List ℕ) (named_ : PlaceNamed s (at_index e k) name) where
-  pub name-next : (new : Bool) (names after : List (List ℕ)) → names ≡ map (λ a. a.name) (take k (attributes_of s e)) → Adds names name new after → after ≡ map (λ a. a.name) (take (k + 1) (attributes_of s e))
-  name-next true names after names_are (after_is, absent) =
-      let (x, at, is) = named_ in
-      let read : get_or (attributes_of s e) k x ≡ x = get_or_from_slice_get (attributes_of s e) k x x at in
-      after_is ∙ ap (λ ns. ns ++ name ∷ []) names_are ∙ ap (λ n. map (λ a. a.name) (take k (attributes_of s e)) ++ n ∷ []) (sym is ∙ ap (λ a. a.name) (sym read)) ∙ sym (numbers-more (λ a. a.name) (attributes_of s e) k x below)
-  name-next false names after names_are (after_is, there) =
-      let P : List (List ℕ) → Type 0 = λ ns. Contains ns name in
-      let (j, at) = Contains-at (map (λ a. a.name) (take k (attributes_of s e))) name (subst P names_are there) in
-      let (x, x_at, is) = named (λ a. a.name) (take k (attributes_of s e)) j name at in
-      let inside = slice_get_within (take k (attributes_of s e)) j x x_at in
-      let long = length-take-le k (attributes_of s e) (omega (arith, below)) in
-      let own : IsOwnPlace s e name (at_index e j) = (refl, (x, front-taken (attributes_of s e) k j x x_at, is)) in
-      let same : j ≡ k = ap (λ p. p.index) (distinct e name (at_index e j) (at_index e k) own (refl, named_)) in
-      absurd (omega (arith, inside, long, same))
+-- one name more of the attributes
+pub name-next : (s : Schema) (e k : ℕ) → k < length (attributes_of s e) → (name : List ℕ) → PlaceNamed s (at_index e k) name → (names after : List (List ℕ)) → names ≡ map (λ a. a.name) (take k (attributes_of s e)) → after ≡ names ++ name ∷ []
+    → after ≡ map (λ a. a.name) (take (k + 1) (attributes_of s e))
+name-next s e k below name (x, at, is) names after names_are after_is =
+    let read : get_or (attributes_of s e) k x ≡ x = get_or_from_slice_get (attributes_of s e) k x x at in
+    after_is ∙ ap (λ ns. ns ++ name ∷ []) names_are ∙ ap (λ n. map (λ a. a.name) (take k (attributes_of s e)) ++ n ∷ []) (sym is ∙ ap (λ a. a.name) (sym read)) ∙ sym (numbers-more (λ a. a.name) (attributes_of s e) k x below)
+
+-- names that are kept where they are different
+pub kept-names : {E : Type 0} (s : Schema) (e : ℕ) (listed : List (List ℕ)) (result : Result (Option (List (List ℕ))) E) → listed ≡ own_names s e → IfOk result (λ found. MatchOption found (IsDistinct bytes_eq listed → ⊥) (λ names. names ≡ listed)) → IfOk result (IsKept s e)
+kept-names s e listed (Ok (Some names)) are is = is ∙ are
+kept-names s e listed (Ok None) are is = tt
+kept-names s e listed (Err fault) are is = tt

@@ -102,26 +102,23 @@ fn listed_place(schema: &Schema, entity: EntityId, name: &[u8]) -> Option<Place>
 
 /// The names of an entity's attributes, where these are many.
 fn many_names(alloc: Global, schema: &Schema, entity: EntityId) -> Result<Option<Names>, NoMemory>
-    requires entity { IsEntity schema.now entity.0 }
-    requires distinct { HasDistinctAttributes schema.now }
+    requires { IsEntity schema.now entity.0 }
     ensures { IfOk result (IsKept schema.now entity.0) }
 {
     if schema.attribute_count(entity) <= FEW {
         return Ok(None);
     }
-    let names = all_names(alloc, schema, entity)?;
-    Ok(Some(names))
+    all_names(alloc, schema, entity)
 }
 
 /// The names of an entity's attributes.
-fn all_names(alloc: Global, schema: &Schema, entity: EntityId) -> Result<Names, NoMemory>
-    requires entity { IsEntity schema.now entity.0 }
-    requires distinct { HasDistinctAttributes schema.now }
-    ensures { IfOk result (λ names. names ≡ own_names schema.now entity.0) }
+fn all_names(alloc: Global, schema: &Schema, entity: EntityId) -> Result<Option<Names>, NoMemory>
+    requires { IsEntity schema.now entity.0 }
+    ensures { IfOk result (IsKept schema.now entity.0) }
 {
-    let mut names = Names::new(alloc);
+    let mut names = Vec::new(alloc);
     for index in 0..schema.attribute_count(entity) {
-        names.add(alloc, schema.place_name(Place { entity, index }))?;
+        names.push(schema.place_name(Place { entity, index }))?;
     }
-    Ok(names)
+    Names::of(alloc, &names)
 }

@@ -1,51 +1,40 @@
-use p21_express_graph::Names;
+use p21_express_graph::are_distinct;
 use p21_express_syntax::{AttributeName, Body, Declarations, DefinedType, Entity};
 use p21_values::{NoMemory, Word};
 use std::alloc::Global;
 
-/// Adds names, and says whether one of them was there.
-fn adds_twice(alloc: Global, names: &mut Names, words: &[Word]) -> Result<bool, NoMemory> {
-    for word in words {
-        let word: &Word = word;
-        if !names.add(alloc, word.bytes())? {
-            return Ok(true);
-        }
-    }
-    Ok(false)
-}
-
 /// Whether a name stands twice in a list.
 fn has_twice(alloc: Global, words: &[Word]) -> Result<bool, NoMemory> {
-    let mut names = Names::new(alloc);
-    adds_twice(alloc, &mut names, words)
+    let mut names = Vec::with_capacity(alloc, words.len())?;
+    for word in words {
+        let word: &Word = word;
+        names.push(word.bytes())?;
+    }
+    Ok(!are_distinct(alloc, &names)?)
 }
 
-/// The same for new attributes.
-fn adds_own_twice(
-    alloc: Global,
-    names: &mut Names,
-    attributes: &[AttributeName],
-) -> Result<bool, NoMemory> {
+/// Adds the names of new attributes.
+pub(crate) fn add_own<'a>(
+    names: &mut Vec<&'a [u8]>,
+    attributes: &'a [AttributeName],
+) -> Result<(), NoMemory> {
     for attribute in attributes {
         let attribute: &AttributeName = attribute;
         if let AttributeName::Own(name) = attribute {
-            if !names.add(alloc, name.bytes())? {
-                return Ok(true);
-            }
+            names.push(name.bytes())?;
         }
     }
-    Ok(false)
+    Ok(())
 }
 
 /// Whether two new attributes of an entity have one name.
 fn declares_twice(alloc: Global, entity: &Entity) -> Result<bool, NoMemory> {
-    let mut names = Names::new(alloc);
+    let mut names = Vec::new(alloc);
     for explicit in &entity.explicit {
-        if adds_own_twice(alloc, &mut names, &explicit.names)? {
-            return Ok(true);
-        }
+        add_own(&mut names, &explicit.names)?;
     }
-    adds_own_twice(alloc, &mut names, &entity.derived)
+    add_own(&mut names, &entity.derived)?;
+    Ok(!are_distinct(alloc, &names)?)
 }
 
 /// Whether an entity names something twice.
@@ -68,18 +57,34 @@ fn type_has_twice(alloc: Global, defined: &DefinedType) -> Result<bool, NoMemory
     }
 }
 
-/// Whether entities or types have one name, or a list of names has one twice.
-pub(crate) fn has_duplicate(alloc: Global, declarations: &Declarations) -> Result<bool, NoMemory> {
-    let mut names = Names::new(alloc);
+/// Whether two entities or types have one name.
+fn declared_twice(alloc: Global, declarations: &Declarations) -> Result<bool, NoMemory> {
+    let mut names = Vec::new(alloc);
     for entity in &declarations.entities {
         let entity: &Entity = entity;
-        if !names.add(alloc, entity.name.bytes())? || entity_has_twice(alloc, entity)? {
+        names.push(entity.name.bytes())?;
+    }
+    for defined in &declarations.types {
+        let defined: &DefinedType = defined;
+        names.push(defined.name.bytes())?;
+    }
+    Ok(!are_distinct(alloc, &names)?)
+}
+
+/// Whether entities or types have one name, or a list of names has one twice.
+pub(crate) fn has_duplicate(alloc: Global, declarations: &Declarations) -> Result<bool, NoMemory> {
+    if declared_twice(alloc, declarations)? {
+        return Ok(true);
+    }
+    for entity in &declarations.entities {
+        let entity: &Entity = entity;
+        if entity_has_twice(alloc, entity)? {
             return Ok(true);
         }
     }
     for defined in &declarations.types {
         let defined: &DefinedType = defined;
-        if !names.add(alloc, defined.name.bytes())? || type_has_twice(alloc, defined)? {
+        if type_has_twice(alloc, defined)? {
             return Ok(true);
         }
     }

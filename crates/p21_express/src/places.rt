@@ -1,60 +1,60 @@
-use indexmap::IndexSet;
+use crate::duplicates::add_own;
+use crate::unknown::entity_names;
 use p21_express_graph::Names;
 use p21_express_syntax::{AttributeName, Declarations, Entity};
 use p21_values::{NoMemory, Word};
 use std::alloc::Global;
+use std::collections::BTreeSet;
 
 /// The new explicit attributes of each entity, by their names, and the names of the entities.
 #[derive(Drop)]
 struct Attributes {
     entities: Names,
-    of_each: Vec<Names>,
+    of_each: Vec<Option<Names>>,
 }
 
-/// A new explicit attribute: its entity, and its number there.
-#[derive(Clone, Copy, PartialEq, Eq, Hash)]
-struct Found {
-    entity: usize,
-    index: usize,
-}
+/// A new explicit attribute: the number of its entity, and its own there.
+type Found = (usize, usize);
 
-fn own_names(alloc: Global, entity: &Entity) -> Result<Names, NoMemory> {
-    let mut names = Names::new(alloc);
+/// The names of the new explicit attributes of an entity, where none stands twice.
+fn own_names(alloc: Global, entity: &Entity) -> Result<Option<Names>, NoMemory> {
+    let mut names = Vec::new(alloc);
     for explicit in &entity.explicit {
-        for name in &explicit.names {
-            let name: &AttributeName = name;
-            if let AttributeName::Own(name) = name {
-                names.add(alloc, name.bytes())?;
-            }
-        }
+        add_own(&mut names, &explicit.names)?;
     }
-    Ok(names)
+    Names::of(alloc, &names)
 }
 
-fn own_attributes(alloc: Global, declarations: &Declarations) -> Result<Attributes, NoMemory> {
-    let mut entities = Names::new(alloc);
-    let mut of_each = Vec::new(alloc);
+/// The attributes of all entities, where none of these stands twice.
+fn own_attributes(
+    alloc: Global,
+    declarations: &Declarations,
+) -> Result<Option<Attributes>, NoMemory> {
+    let Some(entities) = entity_names(alloc, &declarations.entities)? else {
+        return Ok(None);
+    };
+    let mut of_each = Vec::with_capacity(alloc, declarations.entities.len())?;
     for entity in &declarations.entities {
         let entity: &Entity = entity;
-        entities.add(alloc, entity.name.bytes())?;
         of_each.push(own_names(alloc, entity)?)?;
     }
-    Ok(Attributes { entities, of_each })
+    Ok(Some(Attributes { entities, of_each }))
 }
 
 impl Attributes {
     fn own(&self, entity: usize, name: &[u8]) -> Option<Found> {
         match self.of_each.get(entity) {
-            Some(names) => {
+            Some(Some(names)) => {
                 let index = names.position(name)?;
-                Some(Found { entity, index })
+                Some((entity, index))
             }
+            Some(None) => None,
             None => None,
         }
     }
 
     /// The only attribute of this name among those of some entities.
-    fn only(&self, entities: &IndexSet<usize>, name: &[u8]) -> Option<Found> {
+    fn only(&self, entities: &[usize], name: &[u8]) -> Option<Found> {
         let mut only = None;
         for entity in entities {
             if let Some(found) = self.own(*entity, name) {
@@ -68,16 +68,39 @@ impl Attributes {
     }
 }
 
+/// Entities in the order in which they are reached, each once.
+#[derive(Drop)]
+struct Reached {
+    listed: Vec<usize>,
+    all: BTreeSet<usize>,
+}
+
+impl Reached {
+    fn new(alloc: Global) -> Reached {
+        Reached {
+            listed: Vec::new(alloc),
+            all: BTreeSet::new(alloc),
+        }
+    }
+
+    fn add(&mut self, entity: usize) -> Result<(), NoMemory> {
+        if self.all.insert(entity)? {
+            self.listed.push(entity)?;
+        }
+        Ok(())
+    }
+}
+
 /// Adds the entities of names that aren't among the others.
 fn add_supertypes(
     names: &Names,
     supertypes: &[Word],
-    reached: &mut IndexSet<usize>,
+    reached: &mut Reached,
 ) -> Result<(), NoMemory> {
     for name in supertypes {
         let name: &Word = name;
         if let Some(entity) = names.position(name.bytes()) {
-            reached.insert_full(entity)?;
+            reached.add(entity)?;
         }
     }
     Ok(())
@@ -89,11 +112,11 @@ fn with_supertypes(
     names: &Names,
     entities: &[Entity],
     entity: usize,
-) -> Result<IndexSet<usize>, NoMemory> {
-    let mut reached = IndexSet::new(alloc);
-    reached.insert_full(entity)?;
+) -> Result<Reached, NoMemory> {
+    let mut reached = Reached::new(alloc);
+    reached.add(entity)?;
     for at in 0..entities.len() {
-        let Some(next) = reached.get_index(at) else {
+        let Some(next) = reached.listed.get(at) else {
             return Ok(reached);
         };
         if let Some(declared) = entities.get(*next) {
@@ -118,7 +141,7 @@ fn redeclared(
         return Ok(Some(own));
     }
     let reached = with_supertypes(alloc, &attributes.entities, entities, entity)?;
-    Ok(attributes.only(&reached, name.bytes()))
+    Ok(attributes.only(&reached.listed, name.bytes()))
 }
 
 /// Adds the attributes that names redeclare, and says whether one of them was there.
@@ -127,14 +150,13 @@ fn adds_twice(
     attributes: &Attributes,
     entities: &[Entity],
     names: &[AttributeName],
-    places: &mut IndexSet<Found>,
+    places: &mut BTreeSet<Found>,
 ) -> Result<bool, NoMemory> {
     for name in names {
         let name: &AttributeName = name;
         if let AttributeName::Redeclared { entity, name } = name {
             if let Some(found) = redeclared(alloc, attributes, entities, entity, name)? {
-                let (_at, new) = places.insert_full(found)?;
-                if !new {
+                if !places.insert(found)? {
                     return Ok(true);
                 }
             }
@@ -150,7 +172,7 @@ fn entity_redeclares_twice(
     entities: &[Entity],
     entity: &Entity,
 ) -> Result<bool, NoMemory> {
-    let mut places = IndexSet::new(alloc);
+    let mut places = BTreeSet::new(alloc);
     for explicit in &entity.explicit {
         if adds_twice(alloc, attributes, entities, &explicit.names, &mut places)? {
             return Ok(true);
@@ -159,12 +181,14 @@ fn entity_redeclares_twice(
     adds_twice(alloc, attributes, entities, &entity.derived, &mut places)
 }
 
-/// Whether an entity of the schema redeclares an attribute twice.
+/// Whether an entity of the schema redeclares an attribute twice, where no name stands twice.
 pub(crate) fn redeclares_twice(
     alloc: Global,
     declarations: &Declarations,
 ) -> Result<bool, NoMemory> {
-    let attributes = own_attributes(alloc, declarations)?;
+    let Some(attributes) = own_attributes(alloc, declarations)? else {
+        return Ok(false);
+    };
     for entity in &declarations.entities {
         let entity: &Entity = entity;
         if entity_redeclares_twice(alloc, &attributes, &declarations.entities, entity)? {

@@ -13,16 +13,35 @@ struct Declared {
     types: Names,
 }
 
-fn all_declared(alloc: Global, declarations: &Declarations) -> Result<Declared, NoMemory> {
-    let mut entities = Names::new(alloc);
-    for entity in &declarations.entities {
-        entities.add(alloc, entity.name.bytes())?;
+/// The names of declarations, where none stands twice.
+fn all_declared(alloc: Global, declarations: &Declarations) -> Result<Option<Declared>, NoMemory> {
+    let Some(entities) = entity_names(alloc, &declarations.entities)? else {
+        return Ok(None);
+    };
+    let Some(types) = type_names(alloc, &declarations.types)? else {
+        return Ok(None);
+    };
+    Ok(Some(Declared { entities, types }))
+}
+
+/// The names of entities, where none stands twice.
+pub(crate) fn entity_names(alloc: Global, entities: &[Entity]) -> Result<Option<Names>, NoMemory> {
+    let mut names = Vec::with_capacity(alloc, entities.len())?;
+    for entity in entities {
+        let entity: &Entity = entity;
+        names.push(entity.name.bytes())?;
     }
-    let mut types = Names::new(alloc);
-    for defined in &declarations.types {
-        types.add(alloc, defined.name.bytes())?;
+    Names::of(alloc, &names)
+}
+
+/// The names of types, where none stands twice.
+fn type_names(alloc: Global, types: &[DefinedType]) -> Result<Option<Names>, NoMemory> {
+    let mut names = Vec::with_capacity(alloc, types.len())?;
+    for defined in types {
+        let defined: &DefinedType = defined;
+        names.push(defined.name.bytes())?;
     }
-    Ok(Declared { entities, types })
+    Names::of(alloc, &names)
 }
 
 impl Declared {
@@ -119,12 +138,14 @@ impl Declared {
     }
 }
 
-/// Whether a name isn't declared, or not as what it must be.
+/// Whether a name isn't declared, or not as what it must be, in declarations where none stands twice.
 pub(crate) fn has_unknown_name(
     alloc: Global,
     declarations: &Declarations,
 ) -> Result<bool, NoMemory> {
-    let declared = all_declared(alloc, declarations)?;
+    let Some(declared) = all_declared(alloc, declarations)? else {
+        return Ok(false);
+    };
     for entity in &declarations.entities {
         let entity: &Entity = entity;
         if !declared.has_names_of(entity) {

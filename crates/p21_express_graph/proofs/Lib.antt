@@ -11,6 +11,7 @@ pub mod Renaming
 pub mod Resolving
 pub mod Walks
 pub mod Pairs
+pub mod RankedNames
 pub mod RisingNames
 pub mod Ends
 pub mod ByRank

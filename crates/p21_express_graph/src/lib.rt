@@ -19,7 +19,7 @@ mod settle;
 pub use collected_lists::{is_among, rising_numbers};
 pub use direct_renaming::{all_ends, declared};
 pub use indexes::{Index, indexes_of};
-pub use names::Names;
+pub use names::{Names, are_distinct};
 pub use offered::{Offered, all_offered, type_lists};
 pub use orders::{all_orders, numbers_of};
 pub use prefixes::{PrefixLists, RunPrefix};

@@ -1,14 +1,14 @@
--- Names that are added, each once.
+-- Names that are gathered, and names that are different.
 use Rattle.std.specs.Prelude.{◌≡◌, ℕ, zero, suc, ◌+◌, ◌<◌, true, false, Bool, List, [], ◌∷◌, ◌++◌, length, map, drop, take, Some, slice_get, Contains, Result, Ok, Err, refl}
 use Rattle.std.specs.List.{IsDistinct, flat_map}
 use Rattle.std.specs.Result.{IsErr, IsErrAnd}
 use Rattle.std.specs.Str.{bytes_eq}
-use Rattle.std.proofs.Common.{arith, ap, sym, ◌∙◌, subst, get_or, append_assoc}
+use Rattle.std.proofs.Common.{Bor, arith, ap, sym, ◌∙◌, subst, get_or, append_assoc}
 use Rattle.std.proofs.lemmas.List.{map-append}
 use Rattle.std.proofs.lemmas.Option.{slice_get_within, slice_get-get_or}
 use Rattle.std.proofs.lemmas.Slice.Eq.{bytes_eq-Decides}
 use Rattle.p21_basics.proofs.Members.{Contains-first, Contains-later, Contains-at, Contains-found, Contains-mapped, Each-front, Each-append, Each-member, Each-of_members, Each-weaker, at-front, at-behind}
-use Rattle.p21_express_outline.specs.Finding.{AddsNames, DecidesClaim, RefusalShows}
+use Rattle.p21_express_outline.specs.Finding.{RefusalShows}
 use Rattle.p21_express_outline.specs.declared.fault.SchemaFault.{SchemaFault}
 use Rattle.p21_express_outline.specs.Known.{AreOthers, KnowsNames, names_of}
 use Rattle.p21_express_outline.specs.declared.names.KnownNames.{KnownNames}
@@ -18,6 +18,7 @@ use Rattle.p21_express_syntax.specs.declared.schema.Declarations.{Declarations}
 use Rattle.p21_express_outline.proofs.Zips.{map-twice}
 use Rattle.p21_express_syntax.specs.declared.attributes.ExplicitAttributes.{ExplicitAttributes}
 use Rattle.p21_express_syntax.specs.declared.defined_type.DefinedType.{DefinedType}
+use Rattle.p21_express_graph.specs.Rising.{texts_of}
 use Rattle.p21_express_graph.proofs.Lookups.{take-snoc}
 use Rattle.p21_express_syntax.specs.declared.attributes.AttributeName.{AttributeName}
 use Rattle.p21_express_syntax.specs.declared.attributes.AttributeName.TheVariants.{Own, Redeclared}
@@ -27,25 +28,6 @@ use Rattle.p21_express_outline.proofs.OneOutline.{own_names-append}
 apart : (b : Bool) → (b ≡ true → ⊥) → b ≡ false
 apart true none = absurd (none refl)
 apart false none = refl
-
--- a name that isn't there may stand last
-pub distinct-more : (names : List (List ℕ)) (name : List ℕ) → IsDistinct bytes_eq names → (Contains names name → ⊥) → IsDistinct bytes_eq (names ++ name ∷ [])
-unfolding IsDistinct
-distinct-more [] name distinct none = (tt, tt)
-distinct-more (x ∷ xs) name distinct none =
-    let differ : bytes_eq x name ≡ false = apart (bytes_eq x name) (λ h. let same : x ≡ name = (bytes_eq-Decides x name).0 h in let P : List ℕ → Type 0 = λ z. Contains (z ∷ xs) name in none (subst P (sym same) (Contains-first name xs))) in
-    (Each-append (λ y. bytes_eq x y ≡ false) xs (name ∷ []) distinct.0 (differ, tt), distinct-more xs name distinct.1 (λ among. none (Contains-later x xs name among)))
-
--- and one that is there may not
-pub distinct-twice : (names : List (List ℕ)) (name : List ℕ) → Contains names name → IsDistinct bytes_eq (names ++ name ∷ []) → ⊥
-distinct-twice names name among distinct =
-    let (k, at) = Contains-at names name among in
-    let below = within names k name at in
-    let same = distinct-at (names ++ name ∷ []) distinct k (length names + 0) name (at-front names (name ∷ []) k name at) (at-behind names (name ∷ []) 0 name refl) in
-    omega (arith, below, same)
-  where
-    within : (names : List (List ℕ)) (k : ℕ) (name : List ℕ) → slice_get names k ≡ Some name → k < length names
-    within names k name at = slice_get_within names k name at
 
 -- names in front of others are different
 pub distinct-front : (xs ys : List (List ℕ)) → IsDistinct bytes_eq (xs ++ ys) → IsDistinct bytes_eq xs
@@ -60,31 +42,22 @@ drop-next {X} (x ∷ xs) (suc k) d below =
     let next : suc k + 1 ≡ suc (k + 1) = omega arith in
     let P : ℕ → Type 0 = λ j. drop k xs ≡ get_or xs k d ∷ drop j (x ∷ xs) in subst P (sym next) (drop-next xs k d (omega (arith, below)))
 
--- what is added so far, and what is left of it
-pub record Adding (old now left all : List (List ℕ)) : Type 0 where
-  pub joined : now ++ left ≡ old ++ all
-  pub distinct : IsDistinct bytes_eq old → IsDistinct bytes_eq now
+-- names behind those that are there, and what is left of all
+pub adding-more : (now left all some new rest : List (List ℕ)) → now ++ left ≡ all → left ≡ some ++ rest → new ≡ now ++ some → new ++ rest ≡ all
+adding-more now left all some new rest joined left_is new_is = ap (λ ns. ns ++ rest) new_is ∙ append_assoc now some rest ∙ ap (λ ns. now ++ ns) (sym left_is) ∙ joined
 
-pub adding-more : (old now left all some new rest : List (List ℕ)) → Adding old now left all → left ≡ some ++ rest → (new ≡ now ++ some) × (IsDistinct bytes_eq now → IsDistinct bytes_eq new) → Adding old new rest all
-adding-more old now left all some new rest adding left_is (new_is, distinct) = record {
-  joined = ap (λ ns. ns ++ rest) new_is ∙ append_assoc now some rest ∙ ap (λ ns. now ++ ns) (sym left_is) ∙ adding.joined;
-  distinct = λ h. distinct (adding.distinct h);
-}
+-- the text of a word more
+pub text-more : (names new : List (Bor (List ℕ))) (text : Bor (List ℕ)) (name : List ℕ) → new ≡ names ++ text ∷ [] → text.now ≡ name → texts_of new ≡ texts_of names ++ name ∷ []
+text-more names new text name new_is is = ap texts_of new_is ∙ map-append (λ t. t.now) names (text ∷ []) ∙ ap (λ n. texts_of names ++ n ∷ []) is
 
-pub adding-twice : (old now left all some rest : List (List ℕ)) → Adding old now left all → left ≡ some ++ rest → (IsDistinct bytes_eq (now ++ some) → ⊥) → IsDistinct bytes_eq (old ++ all) → ⊥
-adding-twice old now left all some rest adding left_is none distinct =
-    none (distinct-front (now ++ some) rest (subst (IsDistinct bytes_eq) (sym adding.joined ∙ ap (λ ns. now ++ ns) left_is ∙ sym (append_assoc now some rest)) distinct))
-
-pub checked : (words : List (List ℕ)) (result : Result (Unit {0}) SchemaFault) (new : List (List ℕ)) → AddsNames [] words result new → DecidesClaim (IsDistinct bytes_eq words) result
-unfolding IsDistinct
-checked words (Ok u) new adds = subst (IsDistinct bytes_eq) adds.0 (adds.1 tt)
-checked words (Err fault) new adds = adds
-
--- a refusal at the first of what is left is one of all
-pub adding-refused : (old now left all some rest : List (List ℕ)) (fault : SchemaFault) (result : Result (Unit {0}) SchemaFault) (new : List (List ℕ)) → IsErr result → IsErrAnd result (λ found. found ≡ fault) → Adding old now left all → left ≡ some ++ rest
-    → RefusalShows fault (IsDistinct bytes_eq (now ++ some) → ⊥) → AddsNames old all result new
-adding-refused old now left all some rest fault (Ok u) new is_err is adding left_is refused = cc
-adding-refused old now left all some rest fault (Err found) new is_err is adding left_is refused = λ other distinct. adding-twice old now left all some rest adding left_is (refused (λ h. other (is ∙ h))) distinct
+-- the texts of so many names and one more
+pub texts-next : {X : Type 0} (name_of : X → List ℕ) (xs : List X) (k : ℕ) (x : X) (names new : List (Bor (List ℕ))) (text : Bor (List ℕ)) → k < length xs → x ≡ get_or xs k x → texts_of names ≡ map name_of (take k xs) → new ≡ names ++ text ∷ [] → text.now ≡ name_of x
+    → texts_of new ≡ map name_of (take (k + 1) xs)
+texts-next name_of xs k x names new text below is so_far new_is named =
+    let next : k + 1 ≡ suc k = omega arith in
+    text-more names new text (name_of x) new_is named
+    ∙ ap (λ ns. ns ++ name_of x ∷ []) so_far
+    ∙ sym (ap (map name_of) (ap (λ j. take j xs) next ∙ take-snoc xs k x below ∙ ap (λ y. take k xs ++ y ∷ []) (sym is)) ∙ map-append name_of (take k xs) (x ∷ []))
 
 pub own-first : (x : AttributeName) (xs : List AttributeName) → digest_own_names (x ∷ xs) ≡ digest_own_names (x ∷ []) ++ digest_own_names xs
 own-first (Own name) xs = refl
@@ -100,17 +73,6 @@ explicit_names explicit = digest_own_names (flat_map (λ d. d.names) (map attrib
 
 pub explicit-first : (xs : List ExplicitAttributes) (k : ℕ) (x : ExplicitAttributes) → k < length xs → x ≡ get_or xs k x → explicit_names (drop k xs) ≡ digest_own_names x.names.items ++ explicit_names (drop (k + 1) xs)
 explicit-first xs k x below is = ap explicit_names (drop-at xs k x below is) ∙ own_names-append x.names.items (flat_map (λ d. d.names) (map attributes_view (drop (k + 1) xs)))
-
--- names behind names from nothing
-pub checked-two : (first second : List (List ℕ)) (now : List (List ℕ)) (result : Result (Unit {0}) SchemaFault) (new : List (List ℕ)) → now ≡ [] ++ first → (IsDistinct bytes_eq [] → IsDistinct bytes_eq now) → AddsNames now second result new → DecidesClaim (IsDistinct bytes_eq (first ++ second)) result
-unfolding IsDistinct
-checked-two first second now (Ok u) new is distinct adds = subst (IsDistinct bytes_eq) (adds.0 ∙ ap (λ ns. ns ++ second) is) (adds.1 (distinct tt))
-checked-two first second now (Err fault) new is distinct adds = λ other h. adds other (subst (IsDistinct bytes_eq) (ap (λ ns. ns ++ second) (sym is)) h)
-
--- a refusal handed on by `?`
-pub checked-refused : (claim less : Type 0) (fault : SchemaFault) (result : Result (Unit {0}) SchemaFault) → IsErr result → IsErrAnd result (λ found. found ≡ fault) → (claim → less) → RefusalShows fault (less → ⊥) → DecidesClaim claim result
-checked-refused claim less fault (Ok u) is_err is so refused = cc
-checked-refused claim less fault (Err found) is_err is so refused = λ other h. refused (λ e. other (is ∙ e)) (so h)
 
 pub others-more : (names : List (List ℕ)) (xs : List DefinedType) (k : ℕ) (x : DefinedType) → k < length xs → x ≡ get_or xs k x → AreOthers names (map (λ y. y.name) (take k xs)) → (Contains names x.name → ⊥) → AreOthers names (map (λ y. y.name) (take (k + 1) xs))
 others-more names xs k x below is so_far none =
@@ -163,24 +125,23 @@ AreApartIn d = IsDistinct bytes_eq ((digest_names (schema_view d)).entities ++ (
 names-are : (d : Declarations) → (digest_names (schema_view d)).entities ++ (digest_names (schema_view d)).types ≡ entity_names d ++ type_names d
 names-are d = ap (λ ns. ns ++ (digest_names (schema_view d)).types) (map-twice entity_view (λ x. x.name) d.entities.items) ∙ ap (λ ns. entity_names d ++ ns) (map-twice defined_view (λ x. x.name) d.types.items)
 
-pub entities-apart : (d : Declarations) → AreApartIn d → IsDistinct bytes_eq ([] ++ entity_names d)
+pub entities-apart : (d : Declarations) → AreApartIn d → IsDistinct bytes_eq (entity_names d)
 entities-apart d distinct = distinct-front (entity_names d) (type_names d) (subst (IsDistinct bytes_eq) (names-are d) distinct)
 
-pub types-apart : (d : Declarations) → AreApartIn d → IsDistinct bytes_eq ([] ++ type_names d)
+pub types-apart : (d : Declarations) → AreApartIn d → IsDistinct bytes_eq (type_names d)
 types-apart d distinct = distinct-back (entity_names d) (type_names d) (subst (IsDistinct bytes_eq) (names-are d) distinct)
 
-pub others-apart : (d : Declarations) (names : List (List ℕ)) → names ≡ [] ++ entity_names d → AreApartIn d → AreOthers names (type_names d)
+pub others-apart : (d : Declarations) (names : List (List ℕ)) → names ≡ entity_names d → AreApartIn d → AreOthers names (type_names d)
 others-apart d names is distinct =
     let P : List (List ℕ) → Type 0 = λ ns. AreOthers ns (type_names d) in
     subst P (sym is) (distinct-others (entity_names d) (type_names d) (subst (IsDistinct bytes_eq) (names-are d) distinct))
 
-pub known-found : (d : Declarations) (entities types : List (List ℕ)) → entities ≡ [] ++ entity_names d → (IsDistinct bytes_eq [] → IsDistinct bytes_eq entities) → types ≡ [] ++ type_names d → (IsDistinct bytes_eq [] → IsDistinct bytes_eq types) → AreOthers entities (type_names d)
+pub known-found : (d : Declarations) (entities types : List (List ℕ)) → (entities ≡ entity_names d) × IsDistinct bytes_eq (entity_names d) → (types ≡ type_names d) × IsDistinct bytes_eq (type_names d) → AreOthers entities (type_names d)
     → (names_of (record { entities = entities; types = types }) ≡ digest_names (schema_view d)) × AreApartIn d
-unfolding IsDistinct
-known-found d entities types entities_are distinct types_are distinct_ others =
+known-found d entities types (entities_are, distinct) (types_are, distinct_) others =
     let f : List (List ℕ) → Named = λ ns. record { entities = ns; types = types } in
     let g : List (List ℕ) → Named = λ ns. record { entities = (digest_names (schema_view d)).entities; types = ns } in
     let P : List (List ℕ) → Type 0 = λ ns. AreOthers ns (type_names d) in (
       ap f (entities_are ∙ sym (map-twice entity_view (λ x. x.name) d.entities.items)) ∙ ap g (types_are ∙ sym (map-twice defined_view (λ x. x.name) d.types.items)),
-      subst (IsDistinct bytes_eq) (sym (names-are d)) (distinct-joined (entity_names d) (type_names d) (subst (IsDistinct bytes_eq) entities_are (distinct tt)) (subst (IsDistinct bytes_eq) types_are (distinct_ tt)) (subst P entities_are others)),
+      subst (IsDistinct bytes_eq) (sym (names-are d)) (distinct-joined (entity_names d) (type_names d) distinct distinct_ (subst P entities_are others)),
     )

@@ -29,7 +29,7 @@ abbrev pub AddsEach : {A B X Z : Type 0} → (A → B) → (X → B → Type 0) 
 AddsEach {A} {B} view Is xs (Ok u) old new = (ys : List B) × (map view new.items ≡ map view old.items ++ ys) × AllZip Is xs ys
 AddsEach {A} {B} view Is xs (Err fault) old new = RefusalShows fault ((ys : List B) → AllZip Is xs ys → ⊥)
 
--- names were added, each once, or one of them is twice
-abbrev pub AddsNames : List (List ℕ) → List (List ℕ) → Result (Unit {0}) SchemaFault → List (List ℕ) → Type 0
-AddsNames old added (Ok u) new = (new ≡ old ++ added) × (IsDistinct bytes_eq old → IsDistinct bytes_eq new)
-AddsNames old added (Err fault) new = RefusalShows fault (IsDistinct bytes_eq (old ++ added) → ⊥)
+-- the names, which are listed once each, or one of them is listed twice
+abbrev pub KeepsNames : List (List ℕ) → Result (List (List ℕ)) SchemaFault → Type 0
+KeepsNames listed (Ok names) = (names ≡ listed) × IsDistinct bytes_eq listed
+KeepsNames listed (Err fault) = RefusalShows fault (IsDistinct bytes_eq listed → ⊥)

@@ -1,15 +1,16 @@
-ghost use Rattle.std.specs.Prelude.{◌≡◌, [], ◌∷◌, map};
+ghost use Rattle.std.specs.Prelude.{◌≡◌, ◌++◌, [], ◌∷◌, map, IfOk, OnOk};
 ghost use Rattle.std.specs.List.{IsDistinct, flat_map};
 ghost use Rattle.std.specs.Str.{bytes_eq};
-ghost use Rattle.p21_express_outline.specs.Finding.{AddsNames, DecidesClaim};
+ghost use Rattle.p21_express_graph.specs.Rising.{texts_of};
+ghost use Rattle.p21_express_outline.specs.Finding.{DecidesClaim, KeepsNames};
 ghost use Rattle.p21_express_outline.specs.Known.{AreOthers, KnowsNames};
 ghost use Rattle.p21_express_outline.specs.Outline.{attribute_names, digest_names, digest_own_names};
 ghost use Rattle.p21_express_syntax.specs.Views.{attributes_view, entity_view, schema_view};
 
 use crate::fault::SchemaFault;
-use p21_express_graph::Names;
+use p21_express_graph::{Names, are_distinct};
 use p21_express_syntax::{AttributeName, Declarations, DefinedType, Entity, ExplicitAttributes};
-use p21_values::Word;
+use p21_values::{NoMemory, Word};
 use std::alloc::Global;
 
 /// The names of the entities and of the types of a schema, each in the order of the declarations.
@@ -19,97 +20,107 @@ pub struct KnownNames {
     pub types: Names,
 }
 
-/// Adds a name that isn't there.
-fn add_name(alloc: Global, names: &mut Names, name: &[u8]) -> Result<(), SchemaFault>
-    ensures { AddsNames names.old (name.now ∷ []) result names.new }
+/// No name is listed twice.
+fn check_once(alloc: Global, names: &[&[u8]]) -> Result<(), SchemaFault>
+    ensures { DecidesClaim (IsDistinct bytes_eq (texts_of names.now)) result }
 {
-    if names.add(alloc, name)? {
+    if are_distinct(alloc, names)? {
         Ok(())
     } else {
         Err(SchemaFault::Duplicate)
     }
 }
 
-/// Adds names, each once.
-fn add_words(alloc: Global, names: &mut Names, words: &[Word]) -> Result<(), SchemaFault>
-    ensures { AddsNames names.old words.now result names.new }
+/// These names, no two of which are equal.
+fn distinct_names(alloc: Global, names: &[&[u8]]) -> Result<Names, SchemaFault>
+    ensures { KeepsNames (texts_of names.now) result }
 {
+    let found = Names::of(alloc, names)?;
+    match found {
+        Some(kept) => Ok(kept),
+        None => Err(SchemaFault::Duplicate),
+    }
+}
+
+/// The characters of words.
+fn texts(alloc: Global, words: &[Word]) -> Result<Vec<&[u8]>, NoMemory>
+    ensures { IfOk result (λ names. texts_of names.items ≡ words.now) }
+{
+    let mut names = Vec::with_capacity(alloc, words.len())?;
     for word in words {
         let word: &Word = word;
-        add_name(alloc, names, word.bytes())?;
+        names.push(word.bytes())?;
     }
-    Ok(())
+    Ok(names)
 }
 
 /// No name stands twice in a list.
 pub(crate) fn check_distinct(alloc: Global, words: &[Word]) -> Result<(), SchemaFault>
     ensures { DecidesClaim (IsDistinct bytes_eq words.now) result }
 {
-    let mut names = Names::new(alloc);
-    add_words(alloc, &mut names, words)
+    let names = texts(alloc, words)?;
+    check_once(alloc, &names)
 }
 
-/// Adds the names of entities, each once.
-fn add_entities(alloc: Global, names: &mut Names, entities: &[Entity]) -> Result<(), SchemaFault>
-    ensures { AddsNames names.old (map (λ x. x.name) entities.now) result names.new }
+/// The names of entities, no two of which are equal.
+fn entity_names(alloc: Global, entities: &[Entity]) -> Result<Names, SchemaFault>
+    ensures { KeepsNames (map (λ x. x.name) entities.now) result }
 {
+    let mut names = Vec::with_capacity(alloc, entities.len())?;
     for entity in entities {
         let entity: &Entity = entity;
-        add_name(alloc, names, entity.name.bytes())?;
+        names.push(entity.name.bytes())?;
     }
-    Ok(())
+    distinct_names(alloc, &names)
 }
 
-/// Adds the names of types, each once.
-fn add_types(alloc: Global, names: &mut Names, types: &[DefinedType]) -> Result<(), SchemaFault>
-    ensures { AddsNames names.old (map (λ x. x.name) types.now) result names.new }
+/// The names of types, no two of which are equal.
+fn type_names(alloc: Global, types: &[DefinedType]) -> Result<Names, SchemaFault>
+    ensures { KeepsNames (map (λ x. x.name) types.now) result }
 {
+    let mut names = Vec::with_capacity(alloc, types.len())?;
     for defined in types {
         let defined: &DefinedType = defined;
-        add_name(alloc, names, defined.name.bytes())?;
+        names.push(defined.name.bytes())?;
     }
-    Ok(())
+    distinct_names(alloc, &names)
 }
 
-/// Adds the names of new attributes, each once.
-fn add_own_names(
-    alloc: Global,
-    names: &mut Names,
-    attributes: &[AttributeName],
-) -> Result<(), SchemaFault>
-    ensures { AddsNames names.old (digest_own_names attributes.now) result names.new }
+/// Adds the names of new attributes.
+fn add_own_names<'a>(
+    names: &mut Vec<&'a [u8]>,
+    attributes: &'a [AttributeName],
+) -> Result<(), NoMemory>
+    ensures { OnOk result (texts_of names.new.items ≡ texts_of names.old.items ++ digest_own_names attributes.now) }
 {
     for attribute in attributes {
-        let attribute: &AttributeName = attribute;
-        add_own_name(alloc, names, attribute)?;
+        add_own_name(names, attribute)?;
     }
     Ok(())
 }
 
-fn add_own_name(
-    alloc: Global,
-    names: &mut Names,
-    attribute: &AttributeName,
-) -> Result<(), SchemaFault>
-    ensures { AddsNames names.old (digest_own_names (attribute.now ∷ [])) result names.new }
+fn add_own_name<'a>(names: &mut Vec<&'a [u8]>, attribute: &'a AttributeName) -> Result<(), NoMemory>
+    ensures { OnOk result (texts_of names.new.items ≡ texts_of names.old.items ++ digest_own_names (attribute.now ∷ [])) }
 {
     match attribute {
-        AttributeName::Own(name) => add_name(alloc, names, name.bytes()),
+        AttributeName::Own(name) => {
+            names.push(name.bytes())?;
+            Ok(())
+        }
         AttributeName::Redeclared { .. } => Ok(()),
     }
 }
 
-/// Adds the names of all new explicit attributes, each once.
-fn add_explicit_names(
-    alloc: Global,
-    names: &mut Names,
-    explicit: &[ExplicitAttributes],
-) -> Result<(), SchemaFault>
-    ensures { AddsNames names.old (digest_own_names (flat_map (λ d. d.names) (map attributes_view explicit.now))) result names.new }
+/// Adds the names of all new explicit attributes.
+fn add_explicit_names<'a>(
+    names: &mut Vec<&'a [u8]>,
+    explicit: &'a [ExplicitAttributes],
+) -> Result<(), NoMemory>
+    ensures { OnOk result (texts_of names.new.items ≡ texts_of names.old.items ++ digest_own_names (flat_map (λ d. d.names) (map attributes_view explicit.now))) }
 {
     for attributes in explicit {
         let attributes: &ExplicitAttributes = attributes;
-        add_own_names(alloc, names, &attributes.names)?;
+        add_own_names(names, &attributes.names)?;
     }
     Ok(())
 }
@@ -118,9 +129,10 @@ fn add_explicit_names(
 pub(crate) fn check_attribute_names(alloc: Global, entity: &Entity) -> Result<(), SchemaFault>
     ensures { DecidesClaim (IsDistinct bytes_eq (attribute_names (entity_view entity.now))) result }
 {
-    let mut names = Names::new(alloc);
-    add_explicit_names(alloc, &mut names, &entity.explicit)?;
-    add_own_names(alloc, &mut names, &entity.derived)
+    let mut names = Vec::new(alloc);
+    add_explicit_names(&mut names, &entity.explicit)?;
+    add_own_names(&mut names, &entity.derived)?;
+    check_once(alloc, &names)
 }
 
 /// No type has the name of an entity.
@@ -145,10 +157,8 @@ fn check_apart(entities: &Names, types: &[DefinedType]) -> Result<(), SchemaFaul
 pub fn known_names(alloc: Global, declarations: &Declarations) -> Result<KnownNames, SchemaFault>
     ensures { KnowsNames (digest_names (schema_view declarations.now)) result }
 {
-    let mut entities = Names::new(alloc);
-    add_entities(alloc, &mut entities, &declarations.entities)?;
-    let mut types = Names::new(alloc);
-    add_types(alloc, &mut types, &declarations.types)?;
+    let entities = entity_names(alloc, &declarations.entities)?;
+    let types = type_names(alloc, &declarations.types)?;
     check_apart(&entities, &declarations.types)?;
     Ok(KnownNames { entities, types })
 }

@@ -1,34 +1,44 @@
 use super::*;
-use p21_express_graph::Names;
+use p21_express_graph::{Names, are_distinct};
 
-/// Names one after another, and whether each is new.
-const ADDED: &[(&str, bool)] = &[
-    ("SHAPE", true),
-    ("POINT", true),
-    ("SHAPE", false),
-    ("MARKED", true),
+/// Lists of names, each with what it shows, and whether none is listed twice.
+const LISTS: &[(&str, &[&[u8]], bool)] = &[
+    ("no name", &[], true),
+    ("one name", &[b"SHAPE"], true),
+    ("three names", &[b"SHAPE", b"POINT", b"MARKED"], true),
+    ("beginnings", &[b"SHAPE", b"SHAPES", b"SHAP"], true),
+    ("twice apart", &[b"SHAPE", b"POINT", b"SHAPE"], false),
+    ("twice at the end", &[b"POINT", b"MARKED", b"MARKED"], false),
 ];
+
+/// Different names.
+const LISTED: &[&[u8]] = &[b"SHAPE", b"POINT", b"SHAPES", b"MARKED"];
 
 /// Names, and their places among those.
 const PLACES: &[(&str, Option<usize>)] = &[
     ("SHAPE", Some(0)),
     ("POINT", Some(1)),
-    ("MARKED", Some(2)),
+    ("SHAPES", Some(2)),
+    ("MARKED", Some(3)),
     ("CLOUD", None),
+    ("SHAP", None),
+    ("ZONE", None),
+    ("", None),
 ];
 
-fn adds(alloc: Global, names: &mut Names, name: &str, new: bool) -> bool {
-    match names.add(alloc, name.as_bytes()) {
-        Ok(added) => added == new,
-        Err(_) => false,
+/// Whether such a list is told to have no name twice, and whether its names are kept just then.
+fn tells(alloc: Global, listed: &[&[u8]], distinct: bool) -> bool {
+    match (are_distinct(alloc, listed), Names::of(alloc, listed)) {
+        (Ok(told), Ok(names)) => told == distinct && names.is_some() == distinct,
+        _ => false,
     }
 }
 
-/// Adds the names: the first that is new or not, otherwise than its row says.
-fn first_added_otherwise(alloc: Global, names: &mut Names) -> &'static str {
-    for (name, new) in ADDED {
-        if !adds(alloc, names, name, *new) {
-            return name;
+/// The first list that is told otherwise than its row says.
+fn first_told_otherwise(alloc: Global) -> &'static str {
+    for (shown, listed, distinct) in LISTS {
+        if !tells(alloc, listed, *distinct) {
+            return shown;
         }
     }
     "none"
@@ -43,9 +53,20 @@ fn first_misplaced(names: &Names) -> &'static str {
     "none"
 }
 
+/// The first of the names that is placed otherwise than its row says.
+fn first_misplaced_of(alloc: Global) -> &'static str {
+    match Names::of(alloc, LISTED) {
+        Ok(Some(names)) => first_misplaced(&names),
+        _ => "kept",
+    }
+}
+
 #[test]
-fn names_in_the_order_in_which_they_are_added(rt: HostRuntime) {
-    let mut names = Names::new(rt.alloc());
-    passes(&rt, first_added_otherwise(rt.alloc(), &mut names));
-    passes(&rt, first_misplaced(&names));
+fn names_listed_twice_are_told(rt: HostRuntime) {
+    passes(&rt, first_told_otherwise(rt.alloc()));
+}
+
+#[test]
+fn names_stand_in_the_order_in_which_they_are_listed(rt: HostRuntime) {
+    passes(&rt, first_misplaced_of(rt.alloc()));
 }

@@ -1,7 +1,8 @@
 use Rattle.std.proofs.Common.{◌≡◌, map, take}
+use Rattle.p21_express_graph.specs.Rising.{texts_of}
 use Rattle.p21_schemas.specs.Schema.{attributes_of}
 use Rattle.p21_express.proofs.attribute_names.all_names.Given as goal
 
 -- the names so far
 abbrev pub invariant-loop-index : goal.invariant-loop-index
-invariant-loop-index l = l.names ≡ map (λ a. a.name) (take l.index (attributes_of l.schema l.entity.0))
+invariant-loop-index l = texts_of l.names.items ≡ map (λ a. a.name) (take l.index (attributes_of l.schema l.entity.0))
