@@ -1,6 +1,4 @@
 pub mod AttributeNames
-pub mod NamedOwners
-pub mod Candidates
 pub mod Derived
 pub mod Explicit
 pub mod Found

@@ -6,9 +6,7 @@ ghost use Rattle.p21_express.specs.Found.{HasDistinctAttributes};
 ghost use Rattle.p21_express_graph.specs.Resolved.{IsEntity};
 ghost use Rattle.p21_express_types.specs.Meaning.{place as place_of};
 
-use crate::named_owners::NamedOwners;
 use p21_express_graph::Names;
-use p21_express_syntax::Entity;
 use p21_express_tables::Schema;
 use p21_express_types::{EntityId, Place};
 use p21_values::NoMemory;
@@ -17,31 +15,24 @@ use std::alloc::Global;
 /// So many attributes of an entity are looked at one by one.
 const FEW: u32 = 16;
 
-/// For each entity of a schema the names of the attributes that it declares itself, where these are many; and for each name
-/// that is redeclared the entities that declare an attribute of it.
+/// For each entity of a schema the names of the attributes that it declares itself, where these are many.
 #[derive(Drop)]
 pub(crate) struct AttributeNames {
     of_each: Vec<Option<Names>>,
-    pub(crate) owners: NamedOwners,
 }
 
 impl AttributeNames {
-    pub(crate) fn of(
-        alloc: Global,
-        schema: &Schema,
-        declared: &[Entity],
-    ) -> Result<AttributeNames, NoMemory>
+    pub(crate) fn of(alloc: Global, schema: &Schema) -> Result<AttributeNames, NoMemory>
         requires { HasDistinctAttributes schema.now }
         ensures { IfOk result (AreNamesOf schema.now) }
     {
         schema.holds_together();
-        let owners = NamedOwners::of(alloc, schema, declared)?;
         let mut of_each = Vec::with_capacity(alloc, schema.entities())?;
         for number in 0..schema.entities() {
             let names = many_names(alloc, schema, EntityId(number as u32))?;
             of_each.push(names)?;
         }
-        Ok(AttributeNames { of_each, owners })
+        Ok(AttributeNames { of_each })
     }
 
     /// The place of this name, in upper case, that an entity declares itself.

@@ -9,7 +9,6 @@ mod distinct;
 mod duplicates;
 mod first;
 mod lookups;
-mod named_owners;
 mod places;
 mod redeclarations;
 mod redeclared;

@@ -29,7 +29,7 @@ pub(crate) fn all_redeclarations(
     ensures { FindsEach redeclaring (λ own found. RedeclarationsAre schema.now (names_of known.now) (map entity_view declared.now) own.0 own.1 found) (enumerate_from 0 (map entity_view declared.now)) result }
 {
     schema.holds_together();
-    let names = AttributeNames::of(alloc, schema, declared)?;
+    let names = AttributeNames::of(alloc, schema)?;
     let mut found = Vec::new(alloc);
     for own in declared {
         let own: &Declared = own;
