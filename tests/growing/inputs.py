@@ -291,6 +291,13 @@ def wide_subtypes(n, folder):
     return Input(check(folder, [*entities(names), below_all("z", names), *lower], []), pairs=n * n)
 
 
+def wide_subtypes_behind_their_own(n, folder):
+    """Subtypes of one that has many supertypes, each first of another one of its own."""
+    names = numbered("e", n)
+    lower = ("ENTITY x%d; END_ENTITY;\nENTITY y%d SUBTYPE OF (x%d, z); END_ENTITY;\n" % (k, k, k) for k in range(n))
+    return Input(check(folder, [*entities(names), below_all("z", names), *lower], []), pairs=n * n)
+
+
 def redeclared_fan(n, folder):
     names = ",".join("a%d" % k for k in range(n))
     anew = "".join("SELF\\b.a%d : REAL;" % k for k in range(n))

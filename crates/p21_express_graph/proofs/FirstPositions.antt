@@ -1,15 +1,16 @@
 -- The first places of numbers in runs.
-use Rattle.std.specs.Prelude.{◌≡◌, ◌↔◌, ℕ, zero, suc, ◌+◌, ◌<◌, ◌≤◌, List, [], ◌∷◌, ◌++◌, Some, length, map, take, slice_get, slice_set, Contains}
+use Rattle.std.specs.Prelude.{◌≡◌, ◌↔◌, ℕ, zero, suc, ◌+◌, ◌<◌, ◌≤◌, Bool, true, false, List, [], ◌∷◌, ◌++◌, Some, length, map, take, slice_get, slice_set, Contains}
 use Rattle.std.proofs.Common.{arith, ap, sym, ◌∙◌, subst, inl, inr, get_or}
 use Rattle.std.proofs.lemmas.Bool.{cases_eq, cases_lt}
 use Rattle.std.proofs.lemmas.List.{get_or-map, get_or-set_other, get_or-set_same}
 use Rattle.std.proofs.lemmas.List.Elements.{Contains-get_or}
-use Rattle.std.proofs.lemmas.Option.{same_Some, slice_get_within}
+use Rattle.std.proofs.lemmas.Option.{same_Some, slice_get-get_or, slice_get_within}
 use Rattle.p21_basics.proofs.Members.{Contains-at, Contains-found, Contains-none, Contains-cases, Contains-later}
 use Rattle.p21_express_graph.specs.CollectedLists.{IsRisingOf}
 use Rattle.p21_express_graph.specs.Indexes.{HaveFirstPositions, IsFirstAt, IsIndex}
 use Rattle.p21_express_graph.specs.SettledOrder.{nexts_of}
 use Rattle.p21_express_graph.specs.declared.indexes.Index.{Index}
+use Rattle.p21_express_graph.specs.declared.prefixes.RunPrefix.{RunPrefix}
 use Rattle.p21_express_graph.proofs.Gatherings.{mapped-length}
 use Rattle.p21_express_graph.proofs.Pairs.{snoc-get}
 
@@ -84,12 +85,38 @@ module _ (run numbers places : List ℕ) (is : IsIndex run numbers places) (numb
 
 -- ---- one index more
 
-pub index-more : (runs : List (List ℕ)) (indexes after : List Index) (index : Index) → after ≡ indexes ++ index ∷ [] → ((r : ℕ) (x : Index) → slice_get indexes r ≡ Some x → IsIndex (nexts_of runs r) x.numbers.items x.places.items)
-    → IsIndex (nexts_of runs (length indexes)) index.numbers.items index.places.items → (r : ℕ) (x : Index) → slice_get after r ≡ Some x → IsIndex (nexts_of runs r) x.numbers.items x.places.items
-index-more runs indexes after index after_is are is r x at = elim (snoc-get indexes index r x (ap (λ xs. slice_get xs r) (sym after_is) ∙ at)) [
+-- a run that is marked has its index
+abbrev pub IsIndexWhere : List (List ℕ) → List Bool → ℕ → Index → Type 0
+IsIndexWhere runs used r x = get_or used r false ≡ true → IsIndex (nexts_of runs r) x.numbers.items x.places.items
+
+pub index-more : (runs : List (List ℕ)) (used : List Bool) (indexes after : List Index) (index : Index) → after ≡ indexes ++ index ∷ [] → ((r : ℕ) (x : Index) → slice_get indexes r ≡ Some x → IsIndexWhere runs used r x)
+    → IsIndexWhere runs used (length indexes) index → (r : ℕ) (x : Index) → slice_get after r ≡ Some x → IsIndexWhere runs used r x
+index-more runs used indexes after index after_is are is r x at = elim (snoc-get indexes index r x (ap (λ xs. slice_get xs r) (sym after_is) ∙ at)) [
   | inl old ↦ are r x old
   | inr new ↦
-      let P : ℕ → Type 0 = λ n. IsIndex (nexts_of runs n) x.numbers.items x.places.items in
-      let Q : Index → Type 0 = λ i. IsIndex (nexts_of runs (length indexes)) i.numbers.items i.places.items in
+      let P : ℕ → Type 0 = λ n. IsIndexWhere runs used n x in
+      let Q : Index → Type 0 = λ i. IsIndexWhere runs used (length indexes) i in
       subst P (sym new.0) (subst Q (sym new.1) is)
 ]
+
+-- ---- runs that are marked
+
+-- the runs of the first fronts are marked
+abbrev pub AreMarked : List RunPrefix → ℕ → List Bool → Type 0
+AreMarked fronts count used = (k : ℕ) (front : RunPrefix) → k < count → slice_get fronts k ≡ Some front → get_or used front.run false ≡ true
+
+pub mark-more : (fronts : List RunPrefix) (count : ℕ) (used : List Bool) (d : RunPrefix) → count < length fronts → (get_or fronts count d).run < length used → AreMarked fronts count used → AreMarked fronts (count + 1) (slice_set used (get_or fronts count d).run true)
+mark-more fronts count used d low below are k front k_low at = elim (cases_eq front.run (get_or fronts count d).run) [
+  | inl same ↦ ap (λ r. get_or (slice_set used (get_or fronts count d).run true) r false) same ∙ get_or-set_same used (get_or fronts count d).run true false below
+  | inr other ↦ get_or-set_other used (get_or fronts count d).run front.run true false other ∙ are k front (elim (cases_eq k count) [
+    | inl last ↦
+        let P : ℕ → Type 0 = λ n. slice_get fronts n ≡ Some front in
+        let here : Some (get_or fronts count d) ≡ Some front = sym (slice_get-get_or fronts count d low) ∙ subst P last at in
+        let same : get_or fronts count d ≡ front = cc in
+        absurd (other (ap (λ f. f.run) (sym same)))
+    | inr before ↦ omega (arith, k_low, lt-from k count k_low before)
+  ]) at
+]
+  where
+    lt-from : (k count : ℕ) → k < count + 1 → (k ≡ count → ⊥) → k < count
+    lt-from k count low differ = elim (cases_lt k count) [ inl h ↦ h | inr h ↦ absurd (differ (omega (arith, h, low))) ]

@@ -1,3 +1,4 @@
+pub mod FrontsAbove
 pub mod Closures
 pub mod Collecting
 pub mod Gatherings

@@ -1,3 +1,4 @@
+pub mod Above
 pub mod CollectedLists
 pub mod Gathering
 pub mod Lookups

@@ -6,7 +6,6 @@ use p21_express_types::EntityId;
 use p21_values::NoMemory;
 use std::alloc::Global;
 use std::marker::Model;
-use std::mem;
 
 /// Entities of a number of them, each once, in the order in which they were added.
 #[derive(Drop)]
@@ -74,11 +73,13 @@ impl GatheredEntities {
         Ok(())
     }
 
-    /// Takes the entities out.
-    pub(crate) fn take(&mut self) -> Vec<EntityId>
-        ensures taken { map (λ e. e.0) result.items ≡ self.old.numbers }
-        ensures left { self.new ≡ record { count = self.old.count; numbers = [] } }
+    /// Takes the entities out, in a list without spare room.
+    pub(crate) fn take(&mut self) -> Result<Vec<EntityId>, NoMemory>
+        ensures taken { IfOk result (λ taken. map (λ e. e.0) taken.items ≡ self.old.numbers) }
+        ensures left { OnOk result (self.new ≡ record { count = self.old.count; numbers = [] }) }
     {
-        mem::replace(&mut self.all, Vec::new(self.alloc))
+        let taken = Vec::from_slice(self.alloc, &self.all)?;
+        self.all.clear();
+        Ok(taken)
     }
 }

@@ -1,10 +1,11 @@
-ghost use Rattle.std.specs.Prelude.{◌≡◌, ◌↔◌, ◌<◌, ℕ, List, length, map, slice_index_or, take, Contains, IfOk, IsTrue};
+ghost use Rattle.std.specs.Prelude.{◌≡◌, ◌↔◌, ◌<◌, ℕ, List, Some, length, map, slice_get, slice_index_or, take, true, Contains, IfOk, IsTrue};
 ghost use Rattle.p21_express_graph.specs.Prefixes.{AreBelow};
-ghost use Rattle.p21_express_graph.specs.Indexes.{HaveFirstPositions, AreIndexes, IsIndex};
+ghost use Rattle.p21_express_graph.specs.Indexes.{AreIndexes, AreUsed, HaveFirstPositions, IsIndex};
 ghost use Rattle.p21_express_graph.specs.Orders.{numbers, number_lists};
 
 use crate::collected_lists::rising_numbers;
 use crate::orders::numbers_of;
+use crate::prefixes::RunPrefix;
 use p21_express_types::EntityId;
 use p21_values::NoMemory;
 use std::alloc::Global;
@@ -16,7 +17,7 @@ pub struct Index {
     pub places: Vec<usize>,
 }
 
-/// The indexes of runs whose entities are so many.
+/// The indexes of runs whose entities are so many. A run that none of the fronts is of has an empty one.
 ///
 /// # Errors
 ///
@@ -25,17 +26,53 @@ pub fn indexes_of(
     alloc: Global,
     count: usize,
     runs: &[Vec<EntityId>],
+    fronts: &[RunPrefix],
 ) -> Result<Vec<Index>, NoMemory>
-    requires { AreBelow count (number_lists runs.now) }
-    ensures { IfOk result (λ indexes. AreIndexes (number_lists runs.now) indexes.items) }
+    requires below { AreBelow count (number_lists runs.now) }
+    requires within { (k : ℕ) (front : RunPrefix) → slice_get fronts.now k ≡ Some front → front.run < length runs.now }
+    ensures { IfOk result (λ indexes. AreIndexes (number_lists runs.now) fronts.now indexes.items) }
 {
+    let used = used_runs(alloc, runs.len(), fronts)?;
     let mut places = vec![in alloc; 0; count]?;
     let mut indexes = Vec::with_capacity(alloc, runs.len())?;
     for at in 0..runs.len() {
-        let index = index_of(alloc, &runs[at], &mut places)?;
+        let index = index_where(alloc, used[at], &runs[at], &mut places)?;
         indexes.push(index)?;
     }
     Ok(indexes)
+}
+
+/// For each of so many runs, whether one of the fronts is of it.
+fn used_runs(alloc: Global, count: usize, fronts: &[RunPrefix]) -> Result<Vec<bool>, NoMemory>
+    requires { (k : ℕ) (front : RunPrefix) → slice_get fronts.now k ≡ Some front → front.run < count }
+    ensures size { IfOk result (λ used. length used.items ≡ count) }
+    ensures used { IfOk result (λ used. AreUsed fronts.now used.items) }
+{
+    let mut used = vec![in alloc; false; count]?;
+    for front in fronts {
+        used[front.run] = true;
+    }
+    Ok(used)
+}
+
+/// The index of a run that is used, or an empty one.
+fn index_where(
+    alloc: Global,
+    used: bool,
+    run: &[EntityId],
+    places: &mut Vec<usize>,
+) -> Result<Index, NoMemory>
+    requires { (e : ℕ) → Contains (numbers run.now) e → e < length places.old.items }
+    ensures size { length places.new.items ≡ length places.old.items }
+    ensures index { IfOk result (λ index. used ≡ true → IsIndex (numbers run.now) index.numbers.items index.places.items) }
+{
+    if used {
+        return index_of(alloc, run, places);
+    }
+    Ok(Index {
+        numbers: Vec::new(alloc),
+        places: Vec::new(alloc),
+    })
 }
 
 /// The index of a run; its places are noted on the way.

@@ -2,6 +2,7 @@
 //! names, the orders of supertypes, circles and closures, what types rename, and what each select offers.
 #![tactic(auto)]
 
+mod above;
 mod collected_lists;
 mod direct_renaming;
 mod gathered;
@@ -16,6 +17,7 @@ mod redeclaring;
 mod schema_contents;
 mod settle;
 
+pub use above::fronts_above;
 pub use collected_lists::{is_among, rising_numbers};
 pub use direct_renaming::{all_ends, declared};
 pub use indexes::{Index, indexes_of};

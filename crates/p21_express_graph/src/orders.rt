@@ -75,12 +75,14 @@ fn orders(alloc: Global, parts: &SchemaContents, listed: &[u32]) -> Result<Prefi
     for number in listed {
         let supertypes = supertypes_of(parts, *number);
         gather(supertypes, EntityId(*number), &orders, &mut gathered)?;
-        orders.put(*number, gathered.take(), supertypes)?;
+        let list = gathered.take()?;
+        orders.put(*number, list, supertypes)?;
     }
     Ok(orders)
 }
 
-fn supertypes_of(parts: &SchemaContents, entity: u32) -> &[EntityId]
+/// The direct supertypes of an entity, as listed.
+pub(crate) fn supertypes_of(parts: &SchemaContents, entity: u32) -> &[EntityId]
     requires { entity < length (schema_of parts.now).entities }
     ensures { numbers result.now ≡ supertypes (schema_of parts.now) entity }
 {

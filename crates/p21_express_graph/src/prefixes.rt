@@ -54,7 +54,8 @@ impl PrefixLists {
         self.prefixes[number as usize]
     }
 
-    fn run(&self, run: usize) -> &[EntityId]
+    /// The entities of a run.
+    pub(crate) fn run(&self, run: usize) -> &[EntityId]
         requires { run < length self.now.runs.items }
         ensures { numbers result.now ≡ nexts_of (number_lists self.now.runs.items) run }
     {
@@ -153,7 +154,7 @@ fn empty_prefixes(alloc: Global, count: usize) -> Result<Vec<RunPrefix>, NoMemor
 }
 
 /// Whether a list begins with a run.
-fn begins_with(list: &[EntityId], run: &[EntityId]) -> bool
+pub(crate) fn begins_with(list: &[EntityId], run: &[EntityId]) -> bool
     ensures { IsTrue result → BeginsWith (numbers list.now) (numbers run.now) }
 {
     if list.len() < run.len() {

@@ -40,6 +40,7 @@ pub with-clashes : (s : Schema) (tables : Tables) (clashes : Vec Bool) → IsPre
 with-clashes s tables clashes is are = record {
   prefixes_are = is.prefixes_are;
   orders_are = is.orders_are;
+  above_are = is.above_are;
   indexes_are = is.indexes_are;
   listed_are = is.listed_are;
   redeclared_are = is.redeclared_are;

@@ -131,6 +131,7 @@ redeclaring-prepared s t ys long same tables redeclared clashes is redeclared_ar
     subst P (sym same) (λ redeclared_ clashes_. record {
       prefixes_are = is.prefixes_are;
       orders_are = orders-same s whole count supertypes is.orders_are;
+      above_are = is.above_are;
       indexes_are = is.indexes_are;
       listed_are = record { each = is.listed_are.each; rising = is.listed_are.rising };
       redeclared_are = redeclared_;

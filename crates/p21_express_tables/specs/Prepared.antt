@@ -1,5 +1,6 @@
 -- The tables that are prepared for the look-ups of a schema.
 use Rattle.p21_schemas.specs.Schema.{Schema, entity_member, type_member}
+use Rattle.p21_express_graph.specs.Above.{AreAbove}
 use Rattle.p21_express_graph.specs.Prefixes.{AreRunPrefixes, lists_in}
 use Rattle.p21_express_graph.specs.Indexes.{AreIndexes}
 use Rattle.p21_express_graph.specs.Offered.{AreOffered}
@@ -17,7 +18,8 @@ use Rattle.p21_express_tables.specs.declared.tables.Tables.{Tables}
 pub record IsPrepared (s : Schema) (tables : Tables) : Type 0 where
   pub prefixes_are : AreRunPrefixes tables.orders
   pub orders_are : AreOrders s (lists_in tables.orders)
-  pub indexes_are : AreIndexes (number_lists tables.orders.runs.items) tables.indexes.items
+  pub above_are : AreAbove tables.orders tables.above.items
+  pub indexes_are : AreIndexes (number_lists tables.orders.runs.items) tables.above.items tables.indexes.items
   pub listed_are : AreListedIn s (lists_of tables.listed_in.items)
   pub redeclared_are : AreRedeclared s tables.redeclared
   pub ends_are : AreEnds s tables.ends.items

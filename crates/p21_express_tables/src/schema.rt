@@ -17,7 +17,7 @@ use crate::rising::all_rising_sets;
 use crate::tables::Tables;
 use p21_express_graph::{
     Attribute, Defined, Entity, Redeclarations, SchemaContents, all_ends, all_offered, all_orders,
-    contents_with, indexes_of, is_among, rank_entities,
+    contents_with, fronts_above, indexes_of, is_among, rank_entities,
 };
 use p21_express_types::{EntityId, Member, Place, TypeId, TypeKind};
 use p21_values::NoMemory;
@@ -94,7 +94,8 @@ impl Schema {
         ensures { IfOk result (λ schema. schema ≡ schema_of parts) }
     {
         let orders = all_orders(alloc, &parts)?;
-        let indexes = indexes_of(alloc, parts.entities.len(), &orders.runs)?;
+        let above = fronts_above(alloc, &parts, &orders)?;
+        let indexes = indexes_of(alloc, parts.entities.len(), &orders.runs, &above)?;
         let offered = all_offered(alloc, &parts)?;
         let listed_in = all_listed_in(alloc, &parts)?;
         let ends = all_ends(alloc, &parts)?;
@@ -103,6 +104,7 @@ impl Schema {
         let rising_sets = all_rising_sets(alloc, &parts, &orders, &ranking)?;
         let tables = Tables {
             orders,
+            above,
             indexes,
             offered,
             listed_in,
@@ -227,7 +229,10 @@ impl Schema {
         ensures { IsTrue result ↔ IsA self.now sub.0 sup.0 }
     {
         self.holds_together();
-        let front = self.tables.orders.prefix_of(sub.0);
+        if sub.0 == sup.0 {
+            return true;
+        }
+        let front = self.tables.above[sub.0 as usize];
         self.tables.indexes[front.run].has(sup.0, front.size)
     }
 

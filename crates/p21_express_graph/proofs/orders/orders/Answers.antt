@@ -72,8 +72,8 @@ loop-number-preserved c =
     let lists : List (List ℕ) = lists_in c.loop-number.orders in
     let at : slice_get c.args.listed.now c.loop-number.number-index ≡ Some e = slice_get-get_or c.args.listed.now c.loop-number.number-index 0 c.loop-number-test.true in
     let so_far = c.loop-number.invariant.0 in
-    let gathered : numbers c.take.result.items ≡ order s e =
-    c.take.ensures.taken
+    let gathered : numbers c.in_ok-list.list.items ≡ order s e =
+    c.in_ok-list.ensures.taken
     ∙ ap (λ g. g.numbers) c.in_ok-gather.ensures
     ∙ ap (λ xs. add_firsts xs (flat_map (nexts_of lists) (numbers c.supertypes_of-supertypes.result.now) ++ e ∷ [])) (ap (λ g. g.numbers) c.loop-number.invariant.1)
     ∙ ap (λ xs. add_firsts [] (flat_map (nexts_of lists) xs ++ e ∷ [])) c.supertypes_of-supertypes.ensures
@@ -82,9 +82,9 @@ loop-number-preserved c =
     let Q : ℕ → Type 0 = λ n. AreSoFar s (slice_set lists e (order s e)) (take n c.args.listed.now) in
     let next : c.loop-number.number-index + 1 ≡ suc c.loop-number.number-index = omega arith in (
       subst P (sym (c.in_ok-put.ensures.lists ∙ ap (slice_set lists e) gathered)) (subst Q (sym next) (so-far-more s c.requires.holds c.args.listed.now c.requires.settled_order lists c.loop-number.number-index e at so_far)),
-      c.take.ensures.left ∙ ap (λ n. record { count = n; numbers = [] }) (ap (λ g. g.count) c.in_ok-gather.ensures ∙ ap (λ g. g.count) c.loop-number.invariant.1),
+      c.in_ok-list.ensures.left ∙ ap (λ n. record { count = n; numbers = [] }) (ap (λ g. g.count) c.in_ok-gather.ensures ∙ ap (λ g. g.count) c.loop-number.invariant.1),
       c.in_ok-put.ensures.prefixes,
-      c.in_ok-put.ensures.below (length s.entities) c.loop-number.invariant.3 (own-entities s c.requires.holds e (is-entity s c.requires.holds c.args.listed.now c.requires.settled_order lists c.loop-number.number-index e at so_far) (numbers c.take.result.items) gathered),
+      c.in_ok-put.ensures.below (length s.entities) c.loop-number.invariant.3 (own-entities s c.requires.holds e (is-entity s c.requires.holds c.args.listed.now c.requires.settled_order lists c.loop-number.number-index e at so_far) (numbers c.in_ok-list.list.items) gathered),
     )
 
 pub returns-clause-orders : goal.returns-clause-orders

@@ -1,20 +1,27 @@
-use Rattle.std.specs.Prelude.{List, Vec, Contains}
-use Rattle.std.proofs.Common.{arith, subst}
+use Rattle.std.specs.Prelude.{◌≡◌, List, Some, Vec, length, slice_get, Contains}
+use Rattle.std.proofs.Common.{arith, ap, subst}
 use Rattle.std.specs.declared.alloc.Global.{Global}
 use Rattle.p21_express_types.specs.declared.number.EntityId.{EntityId}
 use Rattle.p21_express_graph.specs.Indexes.{AreIndexes}
 use Rattle.p21_express_graph.specs.Orders.{number_lists}
 use Rattle.p21_express_graph.specs.SchemaContents.{entity, schema_of}
 use Rattle.p21_express_graph.specs.SettledOrder.{nexts_of}
+use Rattle.p21_express_graph.specs.declared.prefixes.RunPrefix.{RunPrefix}
 use Rattle.p21_express_graph.proofs.Gatherings.{mapped-length}
 use Rattle.p21_express_tables.proofs.OwnSets.{none-prepared}
 use Rattle.p21_express_tables.proofs.schema.Schema.without_own_sets.Goals as goal
 
-pub indexes_of-requires : goal.indexes_of-requires
-indexes_of-requires c r e among =
+pub indexes_of-requires-clause-below : goal.indexes_of-requires-clause-below
+indexes_of-requires-clause-below c r e among =
     let P : List (Vec EntityId Global) → Type 0 = λ runs. Contains (nexts_of (number_lists runs) r) e in
     let below = c.in_ok-orders.ensures.below r e (subst P c.deref.ensures.value among) in
     omega (arith, below, c.len.ensures, mapped-length entity c.args.parts.entities.items, c.args.parts.entities.ok.0)
+
+pub indexes_of-requires-clause-within : goal.indexes_of-requires-clause-within
+indexes_of-requires-clause-within c k front at =
+    let P : List RunPrefix → Type 0 = λ fronts. slice_get fronts k ≡ Some front in
+    let has = c.in_ok-above.ensures.each k front (subst P c.deref-2.ensures.value at) in
+    omega (arith, has.0, ap length c.deref.ensures.value)
 
 pub invariant_of-result : goal.invariant_of-result
 invariant_of-result c = (
@@ -23,7 +30,11 @@ invariant_of-result c = (
   record {
     prefixes_are = c.in_ok-orders.ensures.prefixes;
     orders_are = c.in_ok-orders.ensures.orders;
-    indexes_are = let P : List (Vec EntityId Global) → Type 0 = λ runs. AreIndexes (number_lists runs) c.in_ok-indexes.indexes.items in subst P c.deref.ensures.value c.in_ok-indexes.ensures;
+    above_are = c.in_ok-above.ensures;
+    indexes_are =
+        let P : List (Vec EntityId Global) → Type 0 = λ runs. AreIndexes (number_lists runs) c.deref-2.result.now c.in_ok-indexes.indexes.items in
+        let Q : List RunPrefix → Type 0 = λ fronts. AreIndexes (number_lists c.in_ok-orders.orders.runs.items) fronts c.in_ok-indexes.indexes.items in
+        subst Q c.deref-2.ensures.value (subst P c.deref.ensures.value c.in_ok-indexes.ensures);
     listed_are = c.in_ok-listed_in.ensures;
     redeclared_are = c.in_ok-redeclared.ensures;
     ends_are = c.in_ok-ends.ensures;
