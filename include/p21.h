@@ -14,8 +14,9 @@
  * threads that use one schema has a handle of its own of it, by p21_schema_share, which copies nothing of the schema.
  *
  * What a caller owes, since no call can test it: no pointer is null, also where the length is 0; a text of a length has as
- * many bytes, which don't change during the call; two handles of one call are different ones; threads share no handle; and no
- * call is made from a signal handler, or in the child of a fork of a process that has threads, unless it runs another program.
+ * many bytes, which don't change during the call; a buffer has as many bytes as its room; what a call writes lies apart from all
+ * else that it is passed; two handles of one call are different ones; threads share no handle; and no call is made from a signal
+ * handler, or in the child of a fork of a process that has threads, unless it runs another program.
  *
  * What a call answers is a status. P21_REFUSED and P21_FAILED come with a report, and then nothing is handed out: what stood
  * in the handle or in the place of the answer is as it was.
@@ -55,6 +56,19 @@ typedef struct p21_text {
 
 /* A handle that holds nothing. */
 #define P21_EMPTY { NULL }
+
+/*
+ * Where a reading of a canonical file stands. It begins as P21_START, and p21_accepted_read alone changes it. It holds nothing: it
+ * may be copied, and thrown away.
+ */
+typedef struct p21_cursor {
+    size_t part;
+    size_t line;
+    size_t byte;
+} p21_cursor;
+
+/* A cursor at the beginning. */
+#define P21_START { 0, 0, 0 }
 
 /* Statuses. */
 enum {
@@ -233,6 +247,16 @@ uint8_t p21_accepted_line(p21_session *session, uint64_t name, p21_text *text);
 
 /* Hands out the canonical file of an accepted one. It has no report. */
 uint8_t p21_accepted_write(p21_session *session, p21_text *text);
+
+/*
+ * Reads on in the canonical file of an accepted one: fills a buffer as far as the file goes, moves the cursor behind what it put
+ * there, and writes how many bytes these are. So what was read with a cursor is always the beginning of the canonical file; each
+ * call adds as many bytes as the buffer has room for; and a count below `room`, 0 where nothing was left, says that all of it
+ * was read. The rest of the buffer stays as it was, and none of it is read, so it needs no bytes in it before. Several cursors read
+ * one file side by side, and one that begins as P21_START again reads it from the beginning. The call takes no memory: it is never
+ * P21_FAILED, and has no report.
+ */
+uint8_t p21_accepted_read(p21_session *session, p21_cursor *cursor, uint8_t *buffer, size_t room, size_t *count);
 
 /* Writes where the bytes of a text lie, and how many they are. They stay there until the text is let go; they are read only. */
 uint8_t p21_text_bytes(p21_text *text, const uint8_t **bytes, size_t *length);

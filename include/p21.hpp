@@ -182,6 +182,16 @@ public:
         return made;
     }
 
+    /* The next bytes of the canonical file, as many as there is room for: how many these are, and 0 where nothing is left. */
+    std::size_t read(void *buffer, std::size_t room) {
+        std::uint8_t none = 0;
+        std::size_t count = 0;
+        detail::judge(p21_accepted_read(handle_.get(), &cursor_, room > 0 ? static_cast<std::uint8_t *>(buffer) : &none, room, &count));
+        return count;
+    }
+    /* Has `read` begin again. */
+    void rewind() noexcept { cursor_ = P21_START; }
+
     /* The canonical file. */
     text canonical() {
         text made;
@@ -194,6 +204,7 @@ private:
     accepted(detail::session_handle &&handle, counts found) noexcept : handle_(std::move(handle)), counts_(found) {}
 
     detail::session_handle handle_;
+    p21_cursor cursor_ = P21_START;
     counts counts_;
 };
 

@@ -31,24 +31,28 @@ _view_of.restype = ctypes.c_int
 _release = ctypes.pythonapi.PyBuffer_Release
 _release.argtypes = [ctypes.POINTER(_View)]
 _release.restype = None
-# Bytes one behind the other, of whatever items they are.
+# Bytes one behind the other, of whatever items they are; and such as may be written.
 _PLAIN = 0
+_WRITABLE = 1
 # No pointer of a call is null, also where there are no bytes.
 _NOTHING = ctypes.create_string_buffer(1)
 
 
 class Passed:
     """The bytes of an object for the time of a ``with``: where they lie, and how many they are. So long the object can't be
-    resized or closed."""
+    resized or closed. Where they are to be written, an object that is read only is refused as a BufferError."""
 
-    def __init__(self, source: Buffer) -> None:
+    def __init__(self, source: Buffer, written: bool = False) -> None:
         self._source = source
         self._view = _View()
+        self._flags = _WRITABLE if written else _PLAIN
 
     def __enter__(self) -> Tuple[ctypes.c_void_p, int]:
         try:
-            _view_of(self._source, self._view, _PLAIN)
+            _view_of(self._source, self._view, self._flags)
         except BufferError as error:
+            if self._flags == _WRITABLE:
+                raise BufferError(f"p21: nothing can be put into this {type(self._source).__name__}: it is read only, or in several places") from error
             raise BufferError(f"p21: the bytes of this {type(self._source).__name__} don't lie one behind the other: pass a copy of it") from error
         return ctypes.c_void_p(self._view.buf or ctypes.addressof(_NOTHING)), int(self._view.len)
 

@@ -38,6 +38,12 @@ class VersionStruct(ctypes.Structure):
     _fields_ = [("major", ctypes.c_uint32), ("minor", ctypes.c_uint32), ("patch", ctypes.c_uint32)]
 
 
+class CursorStruct(ctypes.Structure):
+    """Where a reading of a canonical file stands: at the beginning, where all is zero."""
+
+    _fields_ = [("part", ctypes.c_size_t), ("line", ctypes.c_size_t), ("byte", ctypes.c_size_t)]
+
+
 def _path() -> str:
     named = os.environ.get("P21_LIBRARY")
     return named if named else str(pathlib.Path(__file__).resolve().parent / "libp21.so")
@@ -68,6 +74,10 @@ def _declared() -> Any:
         "p21_session_free": ([handle], None),
         "p21_accepted_line": ([handle, ctypes.c_uint64, handle], ctypes.c_uint8),
         "p21_accepted_write": ([handle, handle], ctypes.c_uint8),
+        "p21_accepted_read": (
+            [handle, ctypes.POINTER(CursorStruct)] + text + [ctypes.POINTER(ctypes.c_size_t)],
+            ctypes.c_uint8,
+        ),
         "p21_text_bytes": ([handle, ctypes.POINTER(ctypes.c_void_p), ctypes.POINTER(ctypes.c_size_t)], ctypes.c_uint8),
         "p21_text_free": ([handle], None),
         "p21_version": ([ctypes.POINTER(VersionStruct)], None),

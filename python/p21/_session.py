@@ -1,14 +1,19 @@
 """Files that come in pieces."""
 
+import ctypes
+import io
 import threading
 from types import TracebackType
 from typing import Any, NamedTuple, NoReturn, Optional, Type
 
 from p21._buffers import Passed
 from p21._html import table
-from p21._library import FAILED, LIBRARY, REFUSED, Handle, ReportStruct, judge, taken
+from p21._library import FAILED, LIBRARY, REFUSED, CursorStruct, Handle, ReportStruct, judge, taken
 from p21._schema import Schema, name_in
 from p21._source import Buffer, Source, pieces
+
+# So many bytes of a canonical file are read at once.
+PIECE = 65536
 
 
 class Report(NamedTuple):
@@ -72,6 +77,8 @@ class Accepted(_Held):
     >>> with p21.accept(schema, point) as accepted:
     ...     print(accepted.report.instances, accepted.line(1))
     1 b'#1=POINT(5.E-1,1.);'
+
+    Where it is closed, so are the files that ``open`` gave.
     """
 
     def __init__(self, handle: Handle, schema: str, report: Report) -> None:
@@ -108,12 +115,47 @@ class Accepted(_Held):
             judge(LIBRARY.p21_accepted_write(self._open(), text), ReportStruct())
         return taken(text)
 
+    def open(self) -> io.BufferedReader:
+        """The canonical file, as a binary file that is read piece by piece or line by line. So it needn't be in memory as a whole
+        once more. Each such file begins at the beginning, and several are read side by side.
+
+        Raises: its calls raise ValueError where this is closed.
+
+        >>> accepted = p21.accept(schema, point)
+        >>> with accepted.open() as file:
+        ...     print(file.readline(), len(file.read()))
+        b'ISO-10303-21;\\n' 155
+        """
+        return io.BufferedReader(_Reading(self), PIECE)
+
+    def _read(self, cursor: CursorStruct, buffer: Buffer) -> int:
+        """Fills a buffer with what stands behind a cursor, and moves that on."""
+        count = ctypes.c_size_t()
+        with Passed(buffer, written=True) as (at, length), self._lock:
+            judge(LIBRARY.p21_accepted_read(self._open(), cursor, at, length, count), ReportStruct())
+        return count.value
+
     def __repr__(self) -> str:
         counts = f"{self.report.instances} instances, {self.report.canonical_bytes} canonical bytes"
         return f"<p21.Accepted under {self._schema}, {'closed' if self.closed else counts}>"
 
     def _repr_html_(self) -> str:
         return self.report._repr_html_()
+
+
+class _Reading(io.RawIOBase):
+    """The canonical file of an accepted one."""
+
+    def __init__(self, accepted: Accepted) -> None:
+        super().__init__()
+        self._accepted = accepted
+        self._cursor = CursorStruct()
+
+    def readable(self) -> bool:
+        return True
+
+    def readinto(self, buffer: Any) -> int:
+        return self._accepted._read(self._cursor, buffer)
 
 
 class Session(_Held):

@@ -15,6 +15,7 @@ import pathlib
 import pickle
 import pkgutil
 import re
+import shutil
 import subprocess
 import sys
 import threading
@@ -217,6 +218,42 @@ def test_which_of_two(product):
                     call(product, make(first), make(second))
                 assert found.value.which == which and str(found.value) == f"{which}: refused 45 Count in #3"
                 assert pickle.loads(pickle.dumps(found.value)).which == which
+
+
+# --- A canonical file piece by piece ---
+
+
+def test_a_canonical_file_is_read(product, tmp_path):
+    whole = p21.canonical(product, PRODUCT)
+    with p21.accept(product, PRODUCT) as accepted:
+        for size in (1, 7, 4096, len(whole), len(whole) + 1):
+            with accepted.open() as file:
+                assert b"".join(iter(lambda: file.read(size), b"")) == whole
+        with accepted.open() as file, open(tmp_path / "copy", "wb") as copy:
+            shutil.copyfileobj(file, copy, 100)
+        assert (tmp_path / "copy").read_bytes() == whole == accepted.open().read()
+        assert list(accepted.open()) == whole.splitlines(keepends=True)
+        room = bytearray(b"." * 20)
+        with accepted.open() as file:
+            assert file.raw.readinto(room) == 20 and room == whole[:20]
+            assert file.raw.readinto(memoryview(room)[:3]) == 3 and room == whole[20:23] + whole[3:20]
+            assert file.raw.readinto(array.array("I", [0])) == 4 and file.raw.readinto(bytearray()) == 0
+            with pytest.raises(BufferError, match="it is read only"):
+                file.raw.readinto(b"read only")
+            assert file.raw.readall() == whole[27:] and file.raw.readinto(room) == 0
+        assert file.closed
+
+
+def test_canonical_files_are_read_side_by_side(product):
+    whole = p21.canonical(product, PRODUCT)
+    with p21.accept(product, PRODUCT) as accepted:
+        with concurrent.futures.ThreadPoolExecutor(8) as pool:
+            assert list(pool.map(lambda _: accepted.open().read(), range(32))) == [whole] * 32
+        first, second = accepted.open(), accepted.open()
+        assert first.read(100) + second.read(10) + first.read() == whole[:100] + whole[:10] + whole[100:]
+        left = second.raw
+    with pytest.raises(ValueError, match="closed"):
+        left.readinto(bytearray(9))
 
 
 # --- Threads and processes ---

@@ -27,7 +27,7 @@ library=$1
 # The header's functions with empty bodies.
 {
     echo '#include "p21.h"'
-    sed -n '/^[a-z].*p21_[a-z_]*(/,/);$/p' "$include/p21.h" | sed '/^void /s/);$/) {}/; s/);$/) { return 0; }/'
+    sed -n '/^[a-z].*p21_[a-z_]*(/{:more;/);$/!{N;b more;};p;}' "$include/p21.h" | sed '/^void /s/);$/) {}/; s/);$/) { return 0; }/'
 } > "$work/empty.c"
 echo 'P21_0 { global: p21_*; local: *; };' > "$work/exported"
 gcc -std=c11 -g -O0 -w -fno-eliminate-unused-debug-types -shared -fPIC -fdebug-prefix-map="$work=." -fdebug-prefix-map="$include=." -I "$include" \

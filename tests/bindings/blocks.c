@@ -233,6 +233,19 @@ static void test_others(void) {
     judge(counting_live() == before, "a schema is freed");
 }
 
+/* Is the canonical file of an accepted one read by a small buffer? */
+static bool is_read(p21_session *accepted) {
+    p21_cursor cursor = P21_START;
+    uint8_t buffer[7];
+    size_t count;
+    do {
+        if (p21_accepted_read(accepted, &cursor, buffer, sizeof buffer, &count) != P21_DONE) {
+            return false;
+        }
+    } while (count > 0);
+    return true;
+}
+
 /* Each call once over a small file, until one of them has no memory. */
 static bool is_done(held *of, p21_report *report) {
     const uint8_t *file = text_at(small_file);
@@ -243,7 +256,8 @@ static bool is_done(held *of, p21_report *report) {
            p21_same(&of->schema, file, length, file, length, &same, report) == P21_DONE && p21_session_new(&of->schema, &of->under_way) == P21_DONE &&
            p21_session_feed(&of->under_way, file, length / 2, report) == P21_DONE && p21_session_new(&of->schema, &of->accepted) == P21_DONE &&
            p21_session_feed(&of->accepted, file, length, report) == P21_DONE && p21_session_finish(&of->accepted, report) == P21_DONE &&
-           p21_accepted_write(&of->accepted, &of->file) == P21_DONE && p21_accepted_line(&of->accepted, 1, &of->line) == P21_DONE;
+           p21_accepted_write(&of->accepted, &of->file) == P21_DONE && p21_accepted_line(&of->accepted, 1, &of->line) == P21_DONE &&
+           is_read(&of->accepted);
 }
 
 static void test_want_of_memory(void) {
@@ -293,6 +307,22 @@ static void test_unshared(void) {
     p21_schema_free(&shared);
 }
 
+/* A canonical file is read piece by piece where there is no memory at all. */
+static void test_reading(void) {
+    held of = {P21_EMPTY, P21_EMPTY, P21_EMPTY, P21_EMPTY, P21_EMPTY, P21_EMPTY};
+    p21_report report;
+    fill(&of, &report);
+    long taken = counting_taken();
+    long before = counting_live();
+    counting_refuse(1);
+    judge(is_read(&of.accepted), "a canonical file is read without memory");
+    counting_refuse(0);
+    judge(counting_taken() == taken && counting_live() == before, "and no memory is asked for");
+    for (int handle = 0; handle < HANDLES; handle++) {
+        let_go(&of, handle);
+    }
+}
+
 int main(int count, char **words) {
     if (count != 2) {
         fprintf(stderr, "usage: blocks FOLDER\n");
@@ -308,6 +338,7 @@ int main(int count, char **words) {
     test_replaced();
     test_want_of_memory();
     test_unshared();
+    test_reading();
     judge(most_live > 0, "blocks are counted");
     puts(wrong ? "something is wrong" : "no block is left");
     return wrong;

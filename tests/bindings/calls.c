@@ -205,6 +205,85 @@ static void test_session(p21_schema *schema, bytes file, size_t size) {
     p21_text_free(&text);
 }
 
+/* The canonical file of an accepted one by a buffer of a size, and once more. */
+static void test_reading(p21_schema *schema, bytes file, size_t size) {
+    p21_session session = P21_EMPTY;
+    p21_text whole = P21_EMPTY;
+    p21_report report;
+    judge(p21_session_new(schema, &session) == P21_DONE && p21_session_feed(&session, file.at, file.length, &report) == P21_DONE, "a file is taken");
+    const p21_cursor start = P21_START;
+    p21_cursor cursor = start;
+    uint8_t one = 7;
+    size_t count = 7;
+    judge(p21_accepted_read(&session, &cursor, &one, 1, &count) == P21_MISUSED && one == 7 && count == 7 && memcmp(&cursor, &start, sizeof start) == 0,
+          "nothing is read of a session that hasn't ended, and all stays as it was");
+    judge(p21_session_finish(&session, &report) == P21_DONE && p21_accepted_write(&session, &whole) == P21_DONE, "a session ends");
+    const uint8_t *at = NULL;
+    size_t length = 0;
+    judge(p21_text_bytes(&whole, &at, &length) == P21_DONE && length == report.bytes, "the canonical file at once");
+    uint8_t *buffer = malloc(size);
+    if (buffer == NULL) {
+        exit(2);
+    }
+    for (int turn = 0; turn < 2; turn++) {
+        cursor = start;
+        p21_cursor other = P21_START;
+        size_t read = 0;
+        do {
+            size_t wanted = length - read < size ? length - read : size;
+            /* Nothing is put into no room, nor behind what is put; and another cursor reads on by itself. */
+            memset(buffer, 0xA5, size);
+            judge(p21_accepted_read(&session, &cursor, buffer, 0, &count) == P21_DONE && count == 0 && buffer[0] == 0xA5, "no room");
+            judge(p21_accepted_read(&session, &cursor, buffer, size, &count) == P21_DONE && count == wanted, "as many bytes as there is room for");
+            judge(memcmp(buffer, at + read, count) == 0, "and these are the next ones of the canonical file");
+            judge(count == size || buffer[count] == 0xA5, "the rest of the buffer stays as it was");
+            judge(p21_accepted_read(&session, &other, &one, 1, &count) == P21_DONE, "another cursor");
+            read += wanted;
+        } while (read < length);
+        judge(p21_accepted_read(&session, &cursor, buffer, size, &count) == P21_DONE && count == 0, "nothing is left, and none is put");
+        size_t turns = (length + size - 1) / size;
+        p21_cursor same = other;
+        judge(turns == length || (p21_accepted_read(&session, &other, &one, 1, &count) == P21_DONE && count == 1 && one == at[turns]),
+              "the other cursor stands where it read to");
+        judge(turns == length || (p21_accepted_read(&session, &same, &one, 1, &count) == P21_DONE && count == 1 && one == at[turns]), "and its copy too");
+    }
+    free(buffer);
+    p21_text_free(&whole);
+    p21_session_free(&session);
+    count = 7;
+    judge(p21_accepted_read(&session, &cursor, &one, 1, &count) == P21_MISUSED && count == 7, "nothing is read of what was let go");
+}
+
+/* Cursors of any numbers read some end of the canonical file, or nothing. */
+static void test_cursors(p21_schema *schema, bytes file) {
+    static const size_t numbers[] = {0, 1, 2, 3, 4, 5, 17, 127, 128, 129, 130, SIZE_MAX / 2, SIZE_MAX - 1, SIZE_MAX};
+    enum { COUNT = sizeof numbers / sizeof numbers[0] };
+    p21_session session = P21_EMPTY;
+    p21_text whole = P21_EMPTY;
+    p21_report report;
+    judge(p21_session_new(schema, &session) == P21_DONE && p21_session_feed(&session, file.at, file.length, &report) == P21_DONE &&
+              p21_session_finish(&session, &report) == P21_DONE && p21_accepted_write(&session, &whole) == P21_DONE,
+          "a file is accepted");
+    const uint8_t *at = NULL;
+    size_t length = 0;
+    judge(p21_text_bytes(&whole, &at, &length) == P21_DONE, "its canonical file");
+    uint8_t *buffer = malloc(length);
+    if (buffer == NULL) {
+        exit(2);
+    }
+    for (size_t i = 0; i < COUNT * COUNT * COUNT; i++) {
+        p21_cursor cursor = {numbers[i / (COUNT * COUNT)], numbers[i / COUNT % COUNT], numbers[i % COUNT]};
+        size_t count = length + 1;
+        judge(p21_accepted_read(&session, &cursor, buffer, length, &count) == P21_DONE && count <= length &&
+                  memcmp(buffer, at + (length - count), count) == 0,
+              "a cursor of any numbers");
+        judge(p21_accepted_read(&session, &cursor, buffer, length, &count) == P21_DONE && count == 0, "behind which nothing is left then");
+    }
+    free(buffer);
+    p21_text_free(&whole);
+    p21_session_free(&session);
+}
+
 static void test_refused_session(p21_schema *schema, bytes refused) {
     p21_session session = P21_EMPTY;
     p21_report report;
@@ -269,6 +348,10 @@ static void test_misuse(p21_schema *schema, bytes file) {
     judge(p21_session_feed(&session, file.at, file.length, &report) == P21_MISUSED, "no session to feed");
     judge(p21_session_finish(&session, &report) == P21_MISUSED, "no session to end");
     judge(p21_accepted_line(&session, 1, &text) == P21_MISUSED, "no file to look into");
+    p21_cursor cursor = P21_START;
+    uint8_t byte = 7;
+    judge(p21_accepted_read(&session, &cursor, &byte, 1, &length) == P21_MISUSED && byte == 7 && length == 7, "no file to read on in");
+    judge(p21_accepted_read((p21_session *)schema, &cursor, &byte, 1, &length) == P21_MISUSED && byte == 7 && length == 7, "a schema is no file");
     judge(p21_text_bytes(&text, &at, &length) == P21_MISUSED && at == file.at && length == 7, "no text");
     judge(p21_check((p21_schema *)&session, file.at, file.length, &report) == P21_MISUSED, "an empty session is no schema");
     judge(p21_session_new(schema, &session) == P21_DONE, "a session begins");
@@ -303,6 +386,11 @@ int main(int count, char **words) {
     test_files(&schema, product, other, changed, refused);
     test_session(&schema, product, 1);
     test_session(&schema, other, 4096);
+    test_reading(&schema, product, 1);
+    test_reading(&schema, other, 7);
+    test_reading(&schema, product, 4872);
+    test_reading(&schema, product, 65536);
+    test_cursors(&schema, product);
     test_refused_session(&schema, refused);
     test_misuse(&schema, product);
 

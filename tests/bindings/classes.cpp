@@ -97,6 +97,13 @@ static void test_sessions(const p21::schema &schema, const std::string &product)
     p21::accepted accepted = session.finish();
     judge(accepted.size().instances == 128, "the counts behind a session");
     judge(accepted.canonical().view() == schema.canonical(product).view(), "the canonical file behind a session");
+    for (const std::size_t room : {std::size_t(1), std::size_t(100), std::size_t(10000)}) {
+        accepted.rewind();
+        std::string read, buffer(room, ' ');
+        while (const std::size_t count = accepted.read(buffer.data(), buffer.size())) read.append(buffer, 0, count);
+        judge(read == accepted.canonical().view(), "the canonical file piece by piece");
+        judge(accepted.read(buffer.data(), buffer.size()) == 0 && accepted.read(nullptr, 0) == 0, "behind which nothing is left");
+    }
     judge(accepted.line(1)->view() == "#1=DIMENSIONAL_EXPONENTS(1.,0.,0.);", "a statement");
     judge(!accepted.line(1000), "no such instance");
     judge(is_misused([&] { session.feed("X"); }) && is_misused([&] { session.finish(); }), "a session that ended");

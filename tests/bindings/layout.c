@@ -149,6 +149,34 @@ static void test_handles(p21_schema *schema, const uint8_t *express, size_t expr
     }
 }
 
+/* A cursor that stands behind the last instance, and one that stands at the end. */
+static void test_cursor(p21_schema *schema, const uint8_t *file, size_t length) {
+    static const char end[] = "END-ISO-10303-21;\n";
+    static uint8_t buffer[LARGEST];
+    p21_session session = P21_EMPTY;
+    p21_report report;
+    judge(p21_session_new(schema, &session) == P21_DONE && p21_session_feed(&session, file, length, &report) == P21_DONE &&
+              p21_session_finish(&session, &report) == P21_DONE && report.bytes < LARGEST,
+          "the file is accepted");
+    const size_t behind = (size_t)report.bytes - (sizeof end - 1);
+    const p21_cursor start = P21_START;
+    for (size_t i = 0; i < sizeof fillings; i++) {
+        place of;
+        size_t count = 0;
+        fill(&of, fillings[i]);
+        memcpy(of.at, &start, sizeof start);
+        p21_cursor *cursor = (p21_cursor *)of.at;
+        judge(p21_accepted_read(&session, cursor, buffer, behind, &count) == P21_DONE && count == behind, "all but the end");
+        const field fields[] = {FIELD(p21_cursor, part, 1), FIELD(p21_cursor, line, 128), FIELD(p21_cursor, byte, cursor->byte)};
+        judge(cursor->byte > 8 && cursor->byte < behind && has_fields(&of, fillings[i], fields, 3, sizeof(p21_cursor)), "the fields of a cursor");
+        judge(p21_accepted_read(&session, cursor, buffer, LARGEST, &count) == P21_DONE && count == sizeof end - 1 && memcmp(buffer, end, count) == 0,
+              "the end");
+        const field last[] = {FIELD(p21_cursor, part, 2), FIELD(p21_cursor, line, 0), FIELD(p21_cursor, byte, sizeof end - 1)};
+        judge(has_fields(&of, fillings[i], last, 3, sizeof(p21_cursor)), "the fields of a cursor at the end");
+    }
+    p21_session_free(&session);
+}
+
 static size_t read_into(uint8_t *into, const char *folder, const char *name) {
     char path[4096];
     snprintf(path, sizeof path, "%s/%s", folder, name);
@@ -177,6 +205,7 @@ int main(int count, char **words) {
     test_version(major, minor, patch);
     test_refused(&schema, file, length);
     test_accepted(&schema, file, length);
+    test_cursor(&schema, file, length);
     test_handles(&schema, express, express_length, file, length);
     p21_schema_free(&schema);
     puts(wrong ? "something is wrong" : "all stands where the header has it");

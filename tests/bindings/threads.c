@@ -57,6 +57,17 @@ static bool has_line(p21_session *session) {
     return has;
 }
 
+/* Is the canonical file behind a session read whole, by a small buffer? */
+static bool is_read(p21_session *session) {
+    p21_cursor cursor = P21_START;
+    uint8_t buffer[100];
+    size_t count = sizeof buffer, whole = 0;
+    while (count > 0 && p21_accepted_read(session, &cursor, buffer, sizeof buffer, &count) == P21_DONE) {
+        whole += count;
+    }
+    return count == 0 && whole == 4872;
+}
+
 static void *work(void *given) {
     worker *own = given;
     for (int round = 0; round < ROUNDS; round++) {
@@ -73,7 +84,7 @@ static void *work(void *given) {
         own->right += p21_session_new(&shared, &session) == P21_DONE;
         p21_schema_free(&shared);
         own->right += p21_session_feed(&session, product.at, product.length, &report) == P21_DONE;
-        own->right += p21_session_finish(&session, &report) == P21_DONE && has_line(&session);
+        own->right += p21_session_finish(&session, &report) == P21_DONE && has_line(&session) && is_read(&session);
         p21_session_free(&session);
         p21_text_free(&text);
     }

@@ -39,10 +39,12 @@ def first_line(schema: p21.Schema, path: Path) -> str:
             session.feed(piece)
         with session.finish() as accepted:
             line: Optional[bytes] = accepted.line(1)
+            with accepted.open() as canonical:
+                first: bytes = canonical.readline()
     place: Optional[p21.Place] = p21.where(schema, path)
     differences: p21.Differences = p21.diff(schema, path, path, data=True)
     digest: str = p21.hash(schema, path, data=True).sha256
-    return f"{line!r} {place} {differences.verdict['verdict']} {digest} {len(p21.survey(schema, path))}"
+    return f"{line!r} {first!r} {place} {differences.verdict['verdict']} {digest} {len(p21.survey(schema, path))}"
 
 
 if __name__ == "__main__":

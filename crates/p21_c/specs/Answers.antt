@@ -13,6 +13,8 @@ use Rattle.p21_files.specs.Accepted.{IsAccepted}
 use Rattle.p21_schemas.specs.Schema.{Schema}
 use Rattle.p21_stream.specs.Answers.{IsOnlyCanonicalFile}
 use Rattle.p21_stream_output.specs.Output.{Output, output_text}
+use Rattle.p21_stream_output.specs.Reading.{Takes, rest_at, start}
+use Rattle.p21_stream_output.specs.declared.cursor.Cursor.{Cursor}
 use Rattle.p21_stream_statements.specs.Source.{IsOfBytes}
 use Rattle.p21_stream_statements.specs.declared.fault.Fault.TheVariants.{NoMemory}
 use Rattle.p21_stream_statements.specs.declared.refusal.Refusal.{Refusal}
@@ -148,6 +150,13 @@ MakesLine (Some output) name status made =
 abbrev pub MakesFile : Option Output → ℕ → Option Content → Type 0
 MakesFile None status made = (made ≡ None) × (status ≡ misused)
 MakesFile (Some output) status made = (HoldsText made (output_text output) × (status ≡ done)) ⊎ ((made ≡ None) × (status ≡ failed))
+
+-- a buffer takes as many bytes as it has room for of what stands behind a cursor in the canonical file; behind a cursor that
+-- begins stands the whole of it
+abbrev pub ReadsFile : Option Output → ℕ → Cursor → Cursor → List ℕ → List ℕ → ℕ → ℕ → Type 0
+ReadsFile None status cursor_old cursor_new old new count_old count_new = (status ≡ misused) × (cursor_new ≡ cursor_old) × (new ≡ old) × (count_new ≡ count_old)
+ReadsFile (Some output) status cursor_old cursor_new old new count_old count_new =
+    (status ≡ done) × Takes (rest_at output cursor_old) (rest_at output cursor_new) old new count_new × (rest_at output start ≡ output_text output)
 
 -- ---- texts
 

@@ -1,6 +1,6 @@
 //! Sessions, and the accepted files that they end in.
 ghost use Rattle.std.specs.Prelude.{◌≡◌, None};
-ghost use Rattle.p21_c.specs.Answers.{Feeds, Finishes, HoldsMade, MakesFile, MakesLine, MakesSession, feed_answer};
+ghost use Rattle.p21_c.specs.Answers.{Feeds, Finishes, HoldsMade, MakesFile, MakesLine, MakesSession, ReadsFile, feed_answer};
 ghost use Rattle.p21_c.specs.Contents.{output_in, schema_in, session_in, boxed_content};
 
 use crate::components::Handle;
@@ -12,6 +12,7 @@ use p21_c_answers::{
     Answer, DONE, FAILED, FILE, MISUSED, REFUSED, Report, accepted, done, misused, refused,
 };
 use p21_stream::SharedSession;
+use p21_stream_output::Cursor;
 use p21_stream_statements::Refusal;
 use p21_values::{Limits, Name};
 use std::alloc::Global;
@@ -93,6 +94,24 @@ pub extern "C" fn p21_accepted_write(alloc: Global, session: &mut Handle, text: 
     let (made, status) = file(alloc, &content);
     session.put(alloc, content);
     text.hand(alloc, made);
+    status
+}
+
+/// Reads on in the canonical file from where a cursor stands: fills a buffer as far as the file goes.
+#[unsafe(no_mangle)]
+pub extern "C" fn p21_accepted_read(
+    alloc: Global,
+    session: &mut Handle,
+    cursor: &mut Cursor,
+    buffer: &mut [u8],
+    count: &mut usize,
+) -> u8
+    ensures reads { ReadsFile (output_in session.old.value) result cursor.old cursor.new buffer.old buffer.new count.old count.new }
+    ensures session { session.new.value ≡ session.old.value }
+{
+    let content = session.take(alloc);
+    let status = read(&content, cursor, buffer, count);
+    session.put(alloc, content);
     status
 }
 
@@ -179,4 +198,15 @@ fn file(alloc: Global, held: &Holding) -> (Holding, u8)
         Some(content) => (Some(content), DONE),
         None => (None, FAILED),
     }
+}
+
+/// Reads on in the accepted file that is held.
+fn read(held: &Holding, cursor: &mut Cursor, buffer: &mut [u8], count: &mut usize) -> u8
+    ensures { ReadsFile (output_in (boxed_content held.now)) result cursor.old cursor.new buffer.old buffer.new count.old count.new }
+{
+    let Some(output) = accepted_of(held) else {
+        return MISUSED;
+    };
+    *count = output.read(cursor, buffer);
+    DONE
 }
