@@ -9,9 +9,8 @@
 # The environment variable P21 names the program; without it, it is the one that ./p21 builds where it is missing or old.
 # Seven parts want `rt`: bindings.sh builds the library for C, C++ and Python where it is missing or old, release.py links a program,
 # page.py and page_module.py build the page where it is missing or old, hostile/calls.py builds a program of the libraries
-# without a proof, and fail_alloc.sh and want_of_memory.sh try tests. page.py wants Chromium, and page_module.py Node with
-# 64-bit WebAssembly memory. clusters.py wants root, and Slurm and Dask of Debian, lint.sh its pyflakes3, mypy and shellcheck, and
-# tools_sarif.py its python3-sarif-python-om.
+# without a proof, and fail_alloc.sh and want_of_memory.sh try tests. What else the parts want, and how long they take, is said at
+# the end of tests/README.md.
 
 root=$(cd "$(dirname -- "$(readlink -f -- "$0")")/.." && pwd) || exit
 "${P21:-$root/p21}" --version > /dev/null || exit

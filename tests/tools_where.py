@@ -818,7 +818,7 @@ def memory(tests):
     ]
     for name, made in rows:
         sizes, peaks = [], []
-        for count in (200_000, 600_000):
+        for count in (100_000, 300_000):
             path = tests.make("long.step", file_of(made(count), [("PRODUCT_MODEL", "S")]))
             sizes.append(pathlib.Path(path).stat().st_size / 1e6)
             peaks.append(tests.peak([schema, path]))
@@ -826,7 +826,7 @@ def memory(tests):
         tests.judge(f"memory, {name}: {grown:.1f} bytes a byte", True, grown <= MOST_MEMORY)
     for name, made in (("words", lambda n: ";" * n), ("names", lambda n: ",".join(f"a{k}" for k in range(n // 4)) + ",a1 : REAL;")):
         sizes, peaks = [], []
-        for count in (200_000, 800_000):
+        for count in (100_000, 400_000):
             path = tests.make("long.exp", f"SCHEMA s; ENTITY a; {made(count)} END_ENTITY; END_SCHEMA;")
             sizes.append(pathlib.Path(path).stat().st_size / 1e6)
             peaks.append(tests.peak([path]))

@@ -4,6 +4,8 @@ import bisect
 import re
 import subprocess
 
+from rigged import needs
+
 
 class Symbols:
     """The functions of a program, by the places of their calls: those that the compiler left in it."""
@@ -11,6 +13,7 @@ class Symbols:
     SHOWN = 4
 
     def __init__(self, program):
+        needs.wanted("nm", "objdump")
         listed = subprocess.run(["nm", "-n", program], capture_output=True, text=True, check=True).stdout
         self.functions = [(int(place, 16), name) for place, name in re.findall(r"^(\w+) [tT] (.*)$", listed, re.M)]
         code = subprocess.run(["objdump", "-d", "--no-show-raw-insn", program], capture_output=True, text=True, check=True)
