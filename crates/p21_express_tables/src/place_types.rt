@@ -12,6 +12,9 @@ use crate::schema::Schema;
 use p21_express_graph::Redeclared;
 use p21_express_types::{EntityId, Place, PlaceType};
 
+/// So many entities are asked for a place, one after another.
+const FEW: usize = 1;
+
 /// What decides on the type at a place of an instance.
 #[derive(Clone, Copy, Debug, Drop)]
 pub(crate) enum Decision {
@@ -64,12 +67,13 @@ impl Schema {
         &self.entity_at(entity).redeclared[at]
     }
 
-    /// What decides on the type at a place of an instance with these entities.
+    /// What decides on the type at a place of an instance with these entities. Where they are few, what each redeclares is
+    /// looked up, and not the place.
     fn decision(&self, entities: &[EntityId], place: Place) -> Decision
         requires { AreEntities self.now (numbers entities.now) }
         ensures { IsDecision self.now (numbers entities.now) (place_of place) result }
     {
-        if self.redeclarers_of(place).is_empty() {
+        if entities.len() > FEW && self.redeclarers_of(place).is_empty() {
             return Decision::Declared;
         }
         self.decision_among(entities, None, place)

@@ -37,8 +37,9 @@ pub(crate) struct Redeclarers {
 }
 
 impl Schema {
-    /// The entities that redeclare a place.
-    pub(crate) fn redeclarers_of(&self, place: Place) -> &[EntityId]
+    /// The entities that redeclare a place, as an explicit or as a derived attribute (ISO 10303-11, Attribute redeclaration).
+    /// It takes no memory.
+    pub fn redeclarers_of(&self, place: Place) -> &[EntityId]
         ensures all { (e : ℕ) → RedeclaresPlace self.now e (place_of place) → Contains (numbers result.now) e }
         ensures within { (e : ℕ) → Contains (numbers result.now) e → IsEntity self.now e }
     {

@@ -1,6 +1,7 @@
 pub mod Respelled
 pub mod GrownLists
 pub mod Shapes
+pub mod Redeclaring
 pub mod OwnSets
 mod Placing
 pub mod BaseKinds

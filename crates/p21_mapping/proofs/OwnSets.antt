@@ -1,12 +1,12 @@
 -- What holds of the closure of an entity holds of each list with the same members.
 use Rattle.std.specs.Prelude.{ℕ, List}
-use Rattle.std.proofs.Common.{inl, inr}
 use Rattle.p21_basics.proofs.Members.{Contains-flat_map, Contains-one_of, Each-of_members}
 use Rattle.p21_exchange.specs.Record.{Part, simple}
 use Rattle.p21_express_tables.specs.OwnSets.{LeavesOpen}
 use Rattle.p21_express_graph.specs.Resolved.{HoldsTogether}
 use Rattle.p21_files.specs.Meaning.{HasPlaceTypes, NamesEntity}
 use Rattle.p21_files.specs.RecordPlaces.{IsEntitySetOf}
+use Rattle.p21_mapping.proofs.Redeclaring.{type-there}
 use Rattle.p21_mapping.proofs.Shapes.{leaf-breaks, set-refuses, simple-leaf, simple-set}
 use Rattle.p21_express_graph.specs.Rising.{HaveSame}
 use Rattle.p21_mapping.specs.declared.shape.Listed.{Listed}
@@ -16,8 +16,8 @@ use Rattle.p21_mapping_faults.specs.declared.fault.CheckFault.{CheckFault}
 use Rattle.p21_mapping_faults.specs.declared.fault.CheckFault.TheVariants.{Abstract, OneOf, TwoRedeclarations}
 use Rattle.p21_schemas.specs.OneOf.{Clashes}
 use Rattle.p21_schemas.specs.Order.{order, own_places}
-use Rattle.p21_schemas.specs.PlaceType.{PlaceType, TypeAt, derived_place, stored_place, two_redeclarations, IsDerivedIn, IsRedeclared, Decides}
-use Rattle.p21_schemas.specs.Schema.{Schema, Place, Redeclared}
+use Rattle.p21_schemas.specs.PlaceType.{PlaceType, TypeAt, two_redeclarations}
+use Rattle.p21_schemas.specs.Schema.{Schema, Place}
 use Rattle.p21_schemas.specs.WellFormed.{HasDistinctEntities}
 
 -- an entity whose closure the set is, is one of the schema
@@ -34,31 +34,9 @@ same-turned es fs same f = ((same f).1, (same f).0)
 clashes-same : (s : Schema) (es fs : List ℕ) → HaveSame es fs → Clashes s es → Clashes s fs
 clashes-same s es fs same (listed, is, (e, f, e_listed, f_listed, differ, e_among, f_among)) = (listed, is, (e, f, e_listed, f_listed, differ, (same e).0 e_among, (same f).0 f_among))
 
-module _ (s : Schema) (es fs : List ℕ) (same : HaveSame es fs) (place : Place) where
-  derived-there : IsDerivedIn s es place → IsDerivedIn s fs place
-  derived-there (e, x, among, at, derives) = (e, x, (same e).0 among, at, derives)
-
-  derived-here : IsDerivedIn s fs place → IsDerivedIn s es place
-  derived-here (e, x, among, at, derives) = (e, x, (same e).1 among, at, derives)
-
-  redeclared-there : IsRedeclared s es place → IsRedeclared s fs place
-  redeclared-there (e, r, (among, redeclares, is)) = (e, r, ((same e).0 among, redeclares, is))
-
-  redeclared-here : IsRedeclared s fs place → IsRedeclared s es place
-  redeclared-here (e, r, (among, redeclares, is)) = (e, r, ((same e).1 among, redeclares, is))
-
-  decides-there : (r : Redeclared) → Decides s es place r → Decides s fs place r
-  decides-there r (e, (among, redeclares, is), below) = (e, ((same e).0 among, redeclares, is), λ f other (f_among, f_redeclares, f_is). below f other ((same f).1 f_among, f_redeclares, f_is))
-
-  decides-here : (r : Redeclared) → Decides s fs place r → Decides s es place r
-  decides-here r (e, (among, redeclares, is), below) = (e, ((same e).1 among, redeclares, is), λ f other (f_among, f_redeclares, f_is). below f other ((same f).0 f_among, f_redeclares, f_is))
-
-  -- the type at a place depends on the members alone
-  pub type-same : (at : PlaceType) → TypeAt s es place at → TypeAt s fs place at
-  type-same derived_place is = derived-there is
-  type-same (stored_place optional type) (stored, inl (r, decides, is_optional, is_type)) = (λ derived. stored (derived-here derived), inl (r, decides-there r decides, is_optional, is_type))
-  type-same (stored_place optional type) (stored, inr (none, declared)) = (λ derived. stored (derived-here derived), inr (λ redeclared. none (redeclared-here redeclared), declared))
-  type-same two_redeclarations (stored, some, none) = (λ derived. stored (derived-here derived), redeclared-there some, λ r decides. none r (decides-here r decides))
+-- the type at a place depends on the members alone
+pub type-same : (s : Schema) (es fs : List ℕ) → HaveSame es fs → (place : Place) (at : PlaceType) → TypeAt s es place at → TypeAt s fs place at
+type-same s es fs same place at is = type-there s es fs place (λ e redeclares. same e) at is
 
 module _ (s : Schema) (e : ℕ) where
   open-place : LeavesOpen s e → HasOpenPlace s (order s e)

@@ -1,3 +1,4 @@
+pub mod Redeclaring
 pub mod Positions
 pub mod Shape
 pub mod Aggregate

@@ -1,4 +1,4 @@
-ghost use Rattle.std.specs.Prelude.{MatchResult};
+ghost use Rattle.std.specs.Prelude.{◌≡◌, IfOk, MatchResult};
 ghost use Rattle.p21_express_graph.specs.Orders.{numbers};
 ghost use Rattle.p21_express_graph.specs.Resolved.{HoldsTogether};
 ghost use Rattle.p21_grammar_tree.specs.View.{record_view};
@@ -11,12 +11,14 @@ ghost use Rattle.p21_schemas.specs.WellFormed.{IsWellFormed};
 
 use crate::arranged_rows::arranged_rows;
 use crate::fitted::{EntitySet, complex_rows, simple_rows};
+use crate::positions::Positions;
 use crate::shape::{Shape, shape_of};
 use p21_express_tables::Schema;
 use p21_express_types::EntityId;
 use p21_grammar_tree::Record;
 use p21_mapping_faults::CheckFault;
 use p21_mapping_values::{Need, Rows, Typed, Values};
+use p21_values::NoMemory;
 use std::alloc::Global;
 
 /// Checks a record against a schema, and moves its texts, numbers and names into the typed record that it means (ISO
@@ -58,14 +60,18 @@ fn check_with_shape<'a>(
     let Shape { listed, entities } = shape;
     let in_order = listed.entities(schema);
     let mut needs = Vec::new(alloc);
-    let set = EntitySet {
-        schema,
-        own: listed.own(),
-        entities: entities.items(),
-    };
-    let rows = match rows_of(alloc, &set, in_order, of, &mut needs) {
-        Ok(rows) => rows,
-        Err(fault) => return Err(fault),
+    let rows = {
+        let own = listed.own();
+        let positions = set_positions(alloc, own, entities.items())?;
+        let set = EntitySet {
+            schema,
+            own,
+            entities: positions,
+        };
+        match rows_of(alloc, &set, in_order, of, &mut needs) {
+            Ok(rows) => rows,
+            Err(fault) => return Err(fault),
+        }
     };
     let values = arranged_rows(alloc, entities.items(), in_order, rows)?;
     let typed = Typed {
@@ -73,6 +79,20 @@ fn check_with_shape<'a>(
         values: Rows::from_vec(values),
     };
     Ok((typed, needs))
+}
+
+/// The positions of the entities of a set. Those of a closure are looked for nowhere.
+fn set_positions<'a>(
+    alloc: Global,
+    own: Option<EntityId>,
+    entities: &'a [EntityId],
+) -> Result<Positions<'a>, NoMemory>
+    ensures { IfOk result (λ positions. positions ≡ numbers entities.now) }
+{
+    match own {
+        Some(_) => Ok(Positions::unkept(entities)),
+        None => Positions::of(alloc, entities),
+    }
 }
 
 /// The values of the places of each entity, in the order of the record.
@@ -85,9 +105,9 @@ fn rows_of(
 ) -> Result<Vec<Values>, CheckFault>
     requires holds { HoldsTogether set.now.schema.now }
     requires formed { IsWellFormed set.now.schema.now }
-    requires own { IsOwnClosure set.now.schema.now set.now.own (numbers set.now.entities.now) }
-    requires shape { HasShape set.now.schema.now (record_view of) (numbers listed.now) (numbers set.now.entities.now) }
-    ensures { MatchResult result (λ rows. HasRows set.now.schema.now (record_view of) (numbers listed.now) (numbers set.now.entities.now) (rows_view rows.items) (needs_view needs.old.items) (needs_view needs.new.items)) (Refuses set.now.schema.now (record_view of)) }
+    requires own { IsOwnClosure set.now.schema.now set.now.own set.now.entities }
+    requires shape { HasShape set.now.schema.now (record_view of) (numbers listed.now) set.now.entities }
+    ensures { MatchResult result (λ rows. HasRows set.now.schema.now (record_view of) (numbers listed.now) set.now.entities (rows_view rows.items) (needs_view needs.old.items) (needs_view needs.new.items)) (Refuses set.now.schema.now (record_view of)) }
 {
     match of {
         Record::Simple(part) => {

@@ -1,4 +1,4 @@
-ghost use Rattle.std.specs.Prelude.{◌≡◌, ◌≤◌, [], length, map, reverse, MatchResult};
+ghost use Rattle.std.specs.Prelude.{◌≡◌, ◌≤◌, [], length, map, reverse, IfOk, MatchResult};
 ghost use Rattle.std.specs.List.{AllByRecursion as Each, flat_map, zip};
 ghost use Rattle.p21_express_graph.specs.Lookups.{AreEntities};
 ghost use Rattle.p21_express_graph.specs.Orders.{numbers};
@@ -16,12 +16,15 @@ ghost use Rattle.p21_schemas.specs.Order.{own_places};
 ghost use Rattle.p21_schemas.specs.PlaceType.{TypeAt, two_redeclarations};
 ghost use Rattle.p21_schemas.specs.Schema.{attributes_of};
 
+use crate::among::type_among;
 use crate::place::fit_place;
+use crate::positions::Positions;
 use p21_express_tables::Schema;
 use p21_express_types::{EntityId, Place, PlaceType};
 use p21_grammar_tree::{Param, Part};
 use p21_mapping_faults::CheckFault;
 use p21_mapping_values::{Need, Value, Values};
+use p21_values::NoMemory;
 use std::alloc::Global;
 
 /// The set of entities of a record, in a schema.
@@ -30,19 +33,23 @@ pub(crate) struct EntitySet<'a> {
     pub schema: &'a Schema,
     /// The entity whose closure it is, where that is known.
     pub own: Option<EntityId>,
-    pub entities: &'a [EntityId],
+    pub entities: Positions<'a>,
 }
 
 /// What may stand at a place of a set of entities. Where the set is the closure of one, this is known beforehand.
-fn type_here<'a>(set: &EntitySet<'a>, place: Place) -> PlaceType<'a>
-    requires own { IsOwnClosure set.now.schema.now set.now.own (numbers set.now.entities.now) }
-    requires entities { AreEntities set.now.schema.now (numbers set.now.entities.now) }
+fn type_here<'a>(
+    alloc: Global,
+    set: &EntitySet<'a>,
+    place: Place,
+) -> Result<PlaceType<'a>, NoMemory>
+    requires own { IsOwnClosure set.now.schema.now set.now.own set.now.entities }
+    requires entities { AreEntities set.now.schema.now set.now.entities }
     requires place { IsPlace set.now.schema.now (place_of place) }
-    ensures { TypeAt set.now.schema.now (numbers set.now.entities.now) (place_of place) (place_type result) }
+    ensures { IfOk result (λ at. TypeAt set.now.schema.now set.now.entities (place_of place) (place_type at)) }
 {
     match set.own {
-        Some(entity) => set.schema.own_type(entity, place),
-        None => set.schema.type_at(set.entities, place),
+        Some(entity) => Ok(set.schema.own_type(entity, place)),
+        None => type_among(alloc, set.schema, &set.entities, place),
     }
 }
 
@@ -54,14 +61,14 @@ fn fit_here(
     param: Param,
     needs: &mut Vec<Need>,
 ) -> Result<Value, CheckFault>
-    requires own { IsOwnClosure set.now.schema.now set.now.own (numbers set.now.entities.now) }
-    requires entities { AreEntities set.now.schema.now (numbers set.now.entities.now) }
+    requires own { IsOwnClosure set.now.schema.now set.now.own set.now.entities }
+    requires entities { AreEntities set.now.schema.now set.now.entities }
     requires place { IsPlace set.now.schema.now (place_of place) }
-    requires decided { TypeAt set.now.schema.now (numbers set.now.entities.now) (place_of place) two_redeclarations → ⊥ }
-    ensures { MatchResult result (λ found. FitsHere set.now.schema.now (numbers set.now.entities.now) (place_of place) (tree param) (view found) (needs_view needs.old.items) (needs_view needs.new.items)) (RefusesHere set.now.schema.now (numbers set.now.entities.now) (place_of place) (tree param)) }
+    requires decided { TypeAt set.now.schema.now set.now.entities (place_of place) two_redeclarations → ⊥ }
+    ensures { MatchResult result (λ found. FitsHere set.now.schema.now set.now.entities (place_of place) (tree param) (view found) (needs_view needs.old.items) (needs_view needs.new.items)) (RefusesHere set.now.schema.now set.now.entities (place_of place) (tree param)) }
 {
     set.schema.holds_together();
-    let at = type_here(set, place);
+    let at = type_here(alloc, set, place)?;
     let found = fit_place(alloc, set.schema, at, param, needs);
     found
 }
@@ -75,12 +82,12 @@ pub(crate) fn fit_row(
     params: &mut Vec<Param>,
     needs: &mut Vec<Need>,
 ) -> Result<Values, CheckFault>
-    requires own { IsOwnClosure set.now.schema.now set.now.own (numbers set.now.entities.now) }
-    requires entities { AreEntities set.now.schema.now (numbers set.now.entities.now) }
+    requires own { IsOwnClosure set.now.schema.now set.now.own set.now.entities }
+    requires entities { AreEntities set.now.schema.now set.now.entities }
     requires owner { IsEntity set.now.schema.now owner.0 }
-    requires decided { HasPlaceTypes set.now.schema.now (numbers set.now.entities.now) owner.0 }
+    requires decided { HasPlaceTypes set.now.schema.now set.now.entities owner.0 }
     requires enough { length (attributes_of set.now.schema.now owner.0) ≤ length (reverse params.old.items) }
-    ensures { MatchResult result (λ values. TakesRow set.now.schema.now (numbers set.now.entities.now) owner.0 (left_views params.old.items) (left_views params.new.items) (map view (list_of values)) (needs_view needs.old.items) (needs_view needs.new.items)) (RefusesRow set.now.schema.now (numbers set.now.entities.now) owner.0 (left_views params.old.items)) }
+    ensures { MatchResult result (λ values. TakesRow set.now.schema.now set.now.entities owner.0 (left_views params.old.items) (left_views params.new.items) (map view (list_of values)) (needs_view needs.old.items) (needs_view needs.new.items)) (RefusesRow set.now.schema.now set.now.entities owner.0 (left_views params.old.items)) }
 {
     let count = set.schema.attribute_count(owner);
     let mut values = Vec::with_capacity(alloc, count as usize)?;
@@ -108,12 +115,12 @@ pub(crate) fn simple_rows(
     params: Vec<Param>,
     needs: &mut Vec<Need>,
 ) -> Result<Vec<Values>, CheckFault>
-    requires own { IsOwnClosure set.now.schema.now set.now.own (numbers set.now.entities.now) }
-    requires entities { AreEntities set.now.schema.now (numbers set.now.entities.now) }
+    requires own { IsOwnClosure set.now.schema.now set.now.own set.now.entities }
+    requires entities { AreEntities set.now.schema.now set.now.entities }
     requires listed { AreEntities set.now.schema.now (numbers listed.now) }
-    requires decided { Each (HasPlaceTypes set.now.schema.now (numbers set.now.entities.now)) (numbers listed.now) }
+    requires decided { Each (HasPlaceTypes set.now.schema.now set.now.entities) (numbers listed.now) }
     requires each { length params.items ≡ length (flat_map (own_places set.now.schema.now) (numbers listed.now)) }
-    ensures { MatchResult result (λ rows. TakesRows set.now.schema.now (numbers set.now.entities.now) (numbers listed.now) (param_views params.items) [] (rows_view rows.items) (needs_view needs.old.items) (needs_view needs.new.items)) (RefusesAmong set.now.schema.now (numbers set.now.entities.now) (zip (flat_map (own_places set.now.schema.now) (numbers listed.now)) (param_views params.items))) }
+    ensures { MatchResult result (λ rows. TakesRows set.now.schema.now set.now.entities (numbers listed.now) (param_views params.items) [] (rows_view rows.items) (needs_view needs.old.items) (needs_view needs.new.items)) (RefusesAmong set.now.schema.now set.now.entities (zip (flat_map (own_places set.now.schema.now) (numbers listed.now)) (param_views params.items))) }
 {
     let mut left = params;
     left.reverse();
@@ -135,12 +142,12 @@ pub(crate) fn complex_rows(
     parts: Vec<Part>,
     needs: &mut Vec<Need>,
 ) -> Result<Vec<Values>, CheckFault>
-    requires own { IsOwnClosure set.now.schema.now set.now.own (numbers set.now.entities.now) }
-    requires entities { AreEntities set.now.schema.now (numbers set.now.entities.now) }
-    requires decided { Each (HasPlaceTypes set.now.schema.now (numbers set.now.entities.now)) (numbers listed.now) }
+    requires own { IsOwnClosure set.now.schema.now set.now.own set.now.entities }
+    requires entities { AreEntities set.now.schema.now set.now.entities }
+    requires decided { Each (HasPlaceTypes set.now.schema.now set.now.entities) (numbers listed.now) }
     requires named { AreNamed set.now.schema.now (part_views parts.items) (numbers listed.now) }
     requires counts { HasCounts set.now.schema.now (complex (part_views parts.items)) }
-    ensures { MatchResult result (λ rows. TakesParts set.now.schema.now (numbers set.now.entities.now) (numbers listed.now) (part_views parts.items) [] (rows_view rows.items) (needs_view needs.old.items) (needs_view needs.new.items)) (RefusesPart set.now.schema.now (numbers set.now.entities.now) (part_views parts.items)) }
+    ensures { MatchResult result (λ rows. TakesParts set.now.schema.now set.now.entities (numbers listed.now) (part_views parts.items) [] (rows_view rows.items) (needs_view needs.old.items) (needs_view needs.new.items)) (RefusesPart set.now.schema.now set.now.entities (part_views parts.items)) }
 {
     let mut left = parts.into_iter();
     let mut rows = Vec::with_capacity(alloc, listed.len())?;

@@ -5,6 +5,7 @@
 #![tactic(auto)]
 
 mod aggregate;
+mod among;
 mod arranged_rows;
 mod bounds;
 mod by_reference;

@@ -1,43 +1,66 @@
-ghost use Rattle.std.specs.Prelude.{◌≡◌, ◌↔◌, ℕ, length, IsTrue, MatchBool, Contains};
+ghost use Rattle.std.specs.Prelude.{◌≡◌, ◌↔◌, ℕ, length, IfOk, IsTrue, MatchBool, Contains};
 ghost use Rattle.std.specs.List.{AllByRecursion as Each, AllZip, flat_map};
 ghost use Rattle.p21_express_graph.specs.Lookups.{AreEntities};
 ghost use Rattle.p21_express_graph.specs.Orders.{numbers};
 ghost use Rattle.p21_express_graph.specs.Resolved.{IsEntity};
+ghost use Rattle.p21_express_types.specs.Meaning.{place_type};
 ghost use Rattle.p21_files.specs.Meaning.{HasPlaceTypes};
 ghost use Rattle.p21_grammar_tree.specs.View.{part_views};
 ghost use Rattle.p21_schemas.specs.Order.{own_places};
+ghost use Rattle.p21_schemas.specs.PlaceType.{two_redeclarations};
 ghost use Rattle.p21_mapping.specs.Shape.{HasOpenPlace, HasOpenPlaceOf, HasCount, HasOtherCount};
 
+use crate::among::type_among;
+use crate::positions::Positions;
 use p21_express_tables::Schema;
 use p21_express_types::{EntityId, Place, PlaceType};
 use p21_grammar_tree::Part;
+use p21_values::NoMemory;
+use std::alloc::Global;
 
 /// Whether redeclarations leave a place of a set of entities open (ISO 10303-11, Attribute redeclaration).
-pub(crate) fn has_open_place(schema: &Schema, entities: &[EntityId]) -> bool
-    requires { AreEntities schema.now (numbers entities.now) }
-    ensures { MatchBool result (HasOpenPlace schema.now (numbers entities.now)) (Each (HasPlaceTypes schema.now (numbers entities.now)) (numbers entities.now)) }
+pub(crate) fn has_open_place(
+    alloc: Global,
+    schema: &Schema,
+    set: &Positions<'_>,
+) -> Result<bool, NoMemory>
+    requires { AreEntities schema.now set.now }
+    ensures { IfOk result (λ found. MatchBool found (HasOpenPlace schema.now set.now) (Each (HasPlaceTypes schema.now set.now) set.now)) }
 {
+    let entities = set.entities();
     for entity in entities {
-        if has_open_place_of(schema, entities, *entity) {
-            return true;
+        let found = has_open_place_of(alloc, schema, set, *entity)?;
+        if found {
+            return Ok(true);
         }
     }
-    false
+    Ok(false)
 }
 
-fn has_open_place_of(schema: &Schema, entities: &[EntityId], entity: EntityId) -> bool
-    requires entities { AreEntities schema.now (numbers entities.now) }
+fn has_open_place_of(
+    alloc: Global,
+    schema: &Schema,
+    set: &Positions<'_>,
+    entity: EntityId,
+) -> Result<bool, NoMemory>
+    requires set { AreEntities schema.now set.now }
     requires entity { IsEntity schema.now entity.0 }
-    ensures { MatchBool result (HasOpenPlaceOf schema.now (numbers entities.now) entity.0) (HasPlaceTypes schema.now (numbers entities.now) entity.0) }
+    ensures { IfOk result (λ found. MatchBool found (HasOpenPlaceOf schema.now set.now entity.0) (HasPlaceTypes schema.now set.now entity.0)) }
 {
     for index in 0..schema.attribute_count(entity) {
-        match schema.type_at(entities, Place { entity, index }) {
-            PlaceType::Two => return true,
-            PlaceType::Derived => {}
-            PlaceType::Stored(_, _) => {}
+        let at = type_among(alloc, schema, set, Place { entity, index })?;
+        if is_open(&at) {
+            return Ok(true);
         }
     }
-    false
+    Ok(false)
+}
+
+/// Whether redeclarations leave a place open.
+fn is_open(at: &PlaceType<'_>) -> bool
+    ensures { IsTrue result ↔ (place_type at.now ≡ two_redeclarations) }
+{
+    matches!(at, PlaceType::Two)
 }
 
 /// Whether there are as many parameters as places of all the entities.

@@ -54,6 +54,16 @@ impl<'a> Positions<'a> {
         })
     }
 
+    /// The same where few positions are looked for: none is kept. It takes no memory.
+    pub(crate) fn unkept(entities: &'a [EntityId]) -> Positions<'a>
+        ensures { result ≡ numbers entities.now }
+    {
+        Positions {
+            entities,
+            places: None,
+        }
+    }
+
     /// The entities in their order. It takes no memory.
     pub fn entities(&self) -> &[EntityId]
         ensures { numbers result.now ≡ self.now }

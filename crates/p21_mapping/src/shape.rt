@@ -134,7 +134,7 @@ fn complex_shape<'a>(
     if found {
         return Err(CheckFault::Abstract);
     }
-    match check_set(schema, &entities) {
+    match check_set(alloc, schema, &entities) {
         Ok(()) => {}
         Err(fault) => return Err(fault),
     }
@@ -171,7 +171,7 @@ pub fn check_members(alloc: Global, schema: &Schema, listed: &[EntityId]) -> Res
 /// # Errors
 ///
 /// In this order: `OneOf`, `TwoRedeclarations`. `NoMemory`.
-pub fn check_set(schema: &Schema, entities: &[EntityId]) -> Result<(), CheckFault>
+pub fn check_set(alloc: Global, schema: &Schema, entities: &[EntityId]) -> Result<(), CheckFault>
     requires { AreEntities schema.now (numbers entities.now) }
     ensures { MatchResult result (λ _. PassesSet schema.now (numbers entities.now)) (RefusesSet schema.now (numbers entities.now)) }
 {
@@ -179,7 +179,9 @@ pub fn check_set(schema: &Schema, entities: &[EntityId]) -> Result<(), CheckFaul
     if clashes {
         return Err(CheckFault::OneOf);
     }
-    if has_open_place(schema, entities) {
+    let positions = Positions::of(alloc, entities)?;
+    let found = has_open_place(alloc, schema, &positions)?;
+    if found {
         return Err(CheckFault::TwoRedeclarations);
     }
     Ok(())

@@ -46,7 +46,7 @@ fn check_external_set(
     if found {
         return Ok(false);
     }
-    check_set(schema, listed)?;
+    check_set(alloc, schema, listed)?;
     Ok(true)
 }
 

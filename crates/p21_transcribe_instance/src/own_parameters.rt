@@ -21,6 +21,9 @@ use p21_express_types::{EntityId, Place};
 use p21_mapping_values::Need;
 use p21_transcribe::{Draft, behind_separators};
 
+/// In a set of more entities a redeclared attribute is left to those who read the instance token by token.
+const FEW: usize = 16;
+
 /// An entity, and how many attributes it declares itself.
 #[derive(Clone, Copy)]
 struct Owner {
@@ -111,7 +114,15 @@ fn append_parameter_at<'a>(
     ensures draft { IfNone result (Continues draft.old draft.new) }
     ensures needs { IfNone result (KeepsNeeds needs.old.items needs.new.items) }
 {
+    if is_dear(schema, set, place) {
+        return None;
+    }
     schema.holds_together();
     let at = schema.type_at(set, place);
     append_placed(schema, at, behind_separators(bytes), draft, needs)
+}
+
+/// Whether a walk through many entities would say what may stand at a place.
+fn is_dear(schema: &Schema, set: &[EntityId], place: Place) -> bool {
+    set.len() > FEW && !schema.redeclarers_of(place).is_empty()
 }

@@ -1,6 +1,6 @@
 use Rattle.std.specs.Prelude.{List, [], nat_eq}
 use Rattle.std.specs.List.{IsDistinct}
-use Rattle.std.proofs.Common.{sym, ◌∙◌, subst}
+use Rattle.std.proofs.Common.{ap, sym, ◌∙◌, subst}
 use Rattle.p21_basics.proofs.Shuffles.{none_twice-distinct}
 use Rattle.p21_express_graph.specs.Orders.{numbers}
 use Rattle.p21_express_types.specs.declared.number.EntityId.{EntityId}
@@ -32,7 +32,7 @@ arranged_rows-requires-clause-differ c =
 
 pub arranged_rows-requires-clause-each : goal.arranged_rows-requires-clause-each
 arranged_rows-requires-clause-each c =
-    rows-count c.args.schema.now (record_view c.args.of) (numbers c.entities-in_order.result.now) (numbers c.items.result.now) c.in-Ok.rows.items (needs_view c.new-needs.result.items) (needs_view c.rows_of.new.needs.items) c.in-Ok.ensures
+    rows-count c.args.schema.now (record_view c.args.of) (numbers c.entities-in_order.result.now) c.in_ok-positions.positions c.in-Ok.rows.items (needs_view c.new-needs.result.items) (needs_view c.rows_of.new.needs.items) c.in-Ok.ensures
     ∙ numbers-length c.entities-in_order.result.now
 
 pub returns : goal.returns
@@ -44,10 +44,10 @@ returns c =
     let rows = rows_view c.in-Ok.rows.items in
     let needs = needs_view c.rows_of.new.needs.items in
     let arranged = rows_view c.in_ok-values.values.items in
-    let at_listed : HasRows s of listed (numbers c.items.result.now) rows (needs_view c.new-needs.result.items) needs =
-    subst (λ ls. HasRows s of ls (numbers c.items.result.now) rows (needs_view c.new-needs.result.items) needs) c.entities-in_order.ensures c.in-Ok.ensures in
+    let at_listed : HasRows s of listed c.in_ok-positions.positions rows (needs_view c.new-needs.result.items) needs =
+    subst (λ ls. HasRows s of ls c.in_ok-positions.positions rows (needs_view c.new-needs.result.items) needs) c.entities-in_order.ensures c.in-Ok.ensures in
     let at_set : HasRows s of listed entities rows (needs_view c.new-needs.result.items) needs =
-    subst (λ xs. HasRows s of listed (numbers xs) rows (needs_view c.new-needs.result.items) needs) c.items.ensures at_listed in
+    subst (λ es. HasRows s of listed es rows (needs_view c.new-needs.result.items) needs) (c.in_ok-positions.ensures ∙ ap numbers c.items.ensures) at_listed in
     let has : HasRows s of listed entities rows (needs_view []) needs = subst (λ xs. HasRows s of listed entities rows (needs_view xs) needs) c.new-needs.ensures.items at_set in
     let arranged_listed : AreArranged listed rows (numbers c.items-2.result.now) arranged =
     subst (λ ls. AreArranged ls rows (numbers c.items-2.result.now) arranged) c.entities-in_order.ensures c.in_ok-values.ensures in

@@ -1,8 +1,7 @@
-use Rattle.p21_express_graph.specs.Orders.{numbers}
 use Rattle.p21_express_types.specs.Meaning.{place, place_type}
 use Rattle.p21_grammar_tree.specs.View.{view}
 use Rattle.p21_mapping.proofs.Here.{here}
 use Rattle.p21_mapping.proofs.fitted.fit_here.Goals as goal
 
 pub returns : goal.returns
-returns c = here c.args.set.now.schema.now (numbers c.args.set.now.entities.now) (place c.args.place) (place_type c.type_here-at.result) (view c.args.param) c.args.needs.now.items c.fit_place-found.new.needs.items c.fit_place-found.result c.type_here-at.ensures c.fit_place-found.ensures
+returns c = here c.args.set.now.schema.now c.args.set.now.entities (place c.args.place) (place_type c.in_ok-at.at) (view c.args.param) c.args.needs.now.items c.fit_place-found.new.needs.items c.fit_place-found.result c.in_ok-at.ensures c.fit_place-found.ensures

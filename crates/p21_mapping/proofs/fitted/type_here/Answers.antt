@@ -1,6 +1,5 @@
 use Rattle.std.specs.Prelude.{Option}
 use Rattle.std.proofs.Common.{subst}
-use Rattle.p21_express_graph.specs.Orders.{numbers}
 use Rattle.p21_express_types.specs.declared.number.EntityId.{EntityId}
 use Rattle.p21_express_types.specs.Meaning.{place, place_type}
 use Rattle.p21_mapping.proofs.fitted.type_here.Goals as goal
@@ -10,5 +9,5 @@ use Rattle.p21_schemas.specs.Order.{order}
 
 pub returns-in-Some : goal.returns-in-Some
 returns-in-Some c =
-    let P : Option EntityId → Type 0 = λ own. IsOwnClosure c.args.set.now.schema.now own (numbers c.args.set.now.entities.now) in
-    type-same c.args.set.now.schema.now (order c.args.set.now.schema.now c.in-Some.entity.0) (numbers c.args.set.now.entities.now) (subst P c.in-Some.is c.requires.own).1 (place c.args.place) (place_type c.own_type.result) c.own_type.ensures
+    let P : Option EntityId → Type 0 = λ own. IsOwnClosure c.args.set.now.schema.now own c.args.set.now.entities in
+    type-same c.args.set.now.schema.now (order c.args.set.now.schema.now c.in-Some.entity.0) c.args.set.now.entities (subst P c.in-Some.is c.requires.own).1 (place c.args.place) (place_type c.own_type.result) c.own_type.ensures
