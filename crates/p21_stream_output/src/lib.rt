@@ -5,7 +5,6 @@
 mod accepted;
 mod compare;
 mod ending;
-mod fetching;
 mod filing;
 mod named_sections;
 mod output;
