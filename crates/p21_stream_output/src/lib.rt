@@ -6,7 +6,6 @@ mod accepted;
 mod compare;
 mod cursor;
 mod ending;
-mod fetching;
 mod filing;
 mod named_sections;
 mod output;

@@ -7,7 +7,6 @@ ghost use Rattle.p21_stream_io.specs.Transfer.{AppendsAllBut, AppendsPartOf};
 ghost use Rattle.p21_stream_io.specs.Watch.{one_call_more};
 
 use crate::accepted::Section;
-use crate::fetching::{fetched_at, line_at};
 use p21_stream_io::{Waiting, Watched, WriteFault};
 use p21_stream_store::{Instances, Numbers};
 use std::io::Write;
@@ -47,11 +46,9 @@ fn put_lines<W: Write>(
     ensures written { OnOk result (writer.new.failures ≡ writer.old.failures) }
     ensures failed { OnErr result (writer.new.failures ≡ one_call_more writer.old.failures) }
 {
-    let mut fetched = false;
     for index in 0..instance_positions.len() {
-        fetched = fetched_at(instances, instance_positions, index, fetched);
         let place = instance_positions.get(index);
-        let Ok(()) = put_line(waiting, writer, line_at(instances, place, fetched)) else {
+        let Ok(()) = put_line(waiting, writer, instances.text(place)) else {
             return Err(WriteFault);
         };
     }
