@@ -48,6 +48,13 @@ pub laid-shorter : (bytes rest : List ℕ) (ts : List Token) → LaidBefore byte
 laid-shorter bytes rest [] e = omega (arith, ap length e)
 laid-shorter bytes rest (t ∷ ts) (gap, spelling, behind, e, separates, spells, followed, laid) = omega (arith, ap length e, length-append gap (spelling ++ behind), length-append spelling behind, laid-shorter behind rest ts laid)
 
+-- what stands behind tokens ends the bytes
+pub laid-end : (bytes rest : List ℕ) (ts : List Token) → LaidBefore bytes ts rest → (front : List ℕ) × (bytes ≡ front ++ rest)
+laid-end bytes rest [] e = ([], e)
+laid-end bytes rest (t ∷ ts) (gap, spelling, behind, e, separates, spells, followed, laid) =
+    let (front, is) = laid-end behind rest ts laid in
+    (gap ++ (spelling ++ front), e ∙ ap (λ (x : List ℕ). gap ++ (spelling ++ x)) is ∙ sym (append_assoc gap (spelling ++ front) rest ∙ ap (λ (x : List ℕ). gap ++ x) (append_assoc spelling front rest)))
+
 -- ---- tokens behind separators
 
 separated : (gap other : List ℕ) → IsSeparatorText gap → IsSeparatorText other → IsSeparatorText (gap ++ other)

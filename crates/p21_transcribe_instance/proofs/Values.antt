@@ -1,5 +1,5 @@
 -- Values that are taken, by what may stand there.
-use Rattle.std.proofs.Common.{◌≡◌, ◌∙◌, ℕ, ◌≤◌, Bool, true, List, [], ◌∷◌, ◌++◌, drop, refl, sym, subst, arith, Option, Some, None, Contains, IfNone}
+use Rattle.std.proofs.Common.{◌≡◌, ◌∙◌, ℕ, ◌-◌, ◌≤◌, length, Bool, true, List, [], ◌∷◌, ◌++◌, drop, refl, sym, subst, arith, Option, Some, None, Contains, IfNone}
 use Rattle.std.proofs.lemmas.List.{append-nil}
 use denote.Ref.{Bor}
 use Rattle.p21_claim_values.specs.Needs.{FitsAtWithNeeds, FitsWithNeeds, with_chosen_instance, with_dollar, with_fit, with_instance, with_item, with_star, with_underlying}
@@ -34,8 +34,9 @@ use Rattle.p21_transcribe.specs.LeadingToken.{IsLeadingToken, Transcribes}
 use Rattle.p21_transcribe_instance.specs.Steps.{IsStepForSome, IsStepFor}
 use Rattle.p21_transcribe_instance.specs.declared.step.Step.{Step}
 use Rattle.p21_transcribe_instance.specs.declared.step.Step.TheVariants.{Derived, Placed, Stored}
-use Rattle.p21_transcribe_instance.proofs.Laid.{laid-mark, laid-one}
-use Rattle.p21_transcribe_instance.specs.TakenValues.{IsBaseInSchema, KeepsNeeds, LaidBefore, TakesReferencesTo, TakesScalar, TakesValue, TakesWithNeeds}
+use Rattle.p21_transcribe.proofs.Splits.{behind-count}
+use Rattle.p21_transcribe_instance.proofs.Laid.{laid-end, laid-mark, laid-one, laid-shorter}
+use Rattle.p21_transcribe_instance.specs.TakenValues.{IsBaseInSchema, KeepsNeeds, LaidBefore, TakesFront, TakesReferencesTo, TakesScalar, TakesValue, TakesWithNeeds}
 
 -- a parameter of one token
 token-value : (s : Schema) (F : Param → Value → Type 0) (one : token.Token) (p : Param) (v : Value) (bytes rest : List ℕ) (count : ℕ) (old new : List ℕ) → IsLeadingToken bytes count one → rest ≡ drop count bytes → param_tokens p ≡ one ∷ [] → depth p ≡ 0 → F p v → new ≡ old ++ value_text s v
@@ -52,10 +53,12 @@ token-value s F one p v bytes rest count old new stands e tokens flat fits text 
 pub scalar-value : (s : Schema) (type : TypeUse) (bytes rest : List ℕ) (count : ℕ) (old new : List ℕ) → rest ≡ drop count bytes → TakesScalar type bytes count old new → TakesValue s (λ p v. FitsWithNeeds s type p v []) 0 bytes rest old new
 scalar-value s type bytes rest count old new e h = token-value s (λ p v. FitsWithNeeds s type p v []) h.token h.parameter h.value bytes rest count old new h.stands e h.tokens_are h.flat (h.fits s) (h.text_is s)
 
-pub item-value : (s : Schema) (t : ℕ) (words : List (List ℕ)) (word : List ℕ) (bytes rest : List ℕ) (count : ℕ) (old new : List ℕ) → schema.kind_of s t ≡ Some (schema.items words) → rest ≡ drop count bytes → Contains words word → Transcribes bytes count (token.item word) old new
-    → TakesValue s (λ p v. FitsWithNeeds s (schema.defined t) p v []) 0 bytes rest old new
-item-value s t words word bytes rest count old new is e among h =
-    token-value s (λ p v. FitsWithNeeds s (schema.defined t) p v []) (token.item word) (parameter.item word) (meant.item word) bytes rest count old new h.stands e refl refl (with_item t words word is among) h.appended
+pub item-front : (words known : List (List ℕ)) (bytes : List ℕ) (count : ℕ) (old new : List ℕ) → known ≡ words → (word : List ℕ) × Contains known word × Transcribes bytes count (token.item word) old new
+    → (count ≤ length bytes) × ((s : Schema) (t : ℕ) → schema.kind_of s t ≡ Some (schema.items words) → TakesValue s (λ p v. FitsWithNeeds s (schema.defined t) p v []) 0 bytes (drop count bytes) old new)
+item-front words known bytes count old new same (word, among, h) = (
+  h.stands.within,
+  λ s t is. token-value s (λ p v. FitsWithNeeds s (schema.defined t) p v []) (token.item word) (parameter.item word) (meant.item word) bytes (drop count bytes) count old new h.stands refl refl refl (with_item t words word is (subst (λ (ws : List (List ℕ)). Contains ws word) same among)) h.appended,
+)
 
 -- a value that needs nothing
 pub needs-nothing : (s : Schema) (F : Param → Value → List reference.Need → Type 0) (most : ℕ) (bytes rest old new : List ℕ) (needs : List Need) → TakesValue s (λ p v. F p v []) most bytes rest old new → TakesWithNeeds s F most bytes rest old new needs needs
@@ -77,14 +80,32 @@ fits-as s F G most more bytes rest old new before after wider follows h = record
   };
 }
 
+-- ---- how many bytes a value has
+
+-- by what stands behind it
+pub taken-front : (s : Schema) (F : Param → Value → List reference.Need → Type 0) (most : ℕ) (bytes rest old new : List ℕ) (before after : List Need) → TakesWithNeeds s F most bytes rest old new before after
+    → TakesFront s F most bytes (length bytes - length rest) old new before after
+taken-front s F most bytes rest old new before after h =
+    let (front, is) = laid-end bytes rest (param_tokens h.takes.parameter) h.takes.laid in
+    (omega arith, subst (λ (x : List ℕ). TakesWithNeeds s F most bytes x old new before after) (sym (behind-count bytes front rest is)) h)
+
+-- what stands behind so many
+pub rest-taken : (s : Schema) (F : Param → Value → List reference.Need → Type 0) (most : ℕ) (bytes rest : List ℕ) (count : ℕ) (old new : List ℕ) (before after : List Need) → rest ≡ drop count bytes → TakesWithNeeds s F most bytes (drop count bytes) old new before after
+    → TakesWithNeeds s F most bytes rest old new before after
+rest-taken s F most bytes rest count old new before after e h = subst (λ (x : List ℕ). TakesWithNeeds s F most bytes x old new before after) (sym e) h
+
+-- no more bytes stand behind it
+pub taken-shorter : (s : Schema) (F : Param → Value → List reference.Need → Type 0) (most : ℕ) (bytes rest old new : List ℕ) (before after : List Need) → TakesWithNeeds s F most bytes rest old new before after → length rest ≤ length bytes
+taken-shorter s F most bytes rest old new before after h = laid-shorter bytes rest (param_tokens h.takes.parameter) h.takes.laid
+
 -- ---- references
 
-pub name-taken : (s : Schema) (type : TypeUse) (wanted : Member) (bytes rest : List ℕ) (count n : ℕ) (old new : List ℕ) (before after : List Need) → rest ≡ drop count bytes → Transcribes bytes count (token.name n) old new
-    → after ≡ before ++ record { target = n; wanted = wanted } ∷ [] → TakesReferencesTo s type (member wanted) → TakesWithNeeds s (FitsWithNeeds s type) 0 bytes rest old new before after
-name-taken s type wanted bytes rest count n old new before after e h pushed takes = record {
+pub name-taken : (s : Schema) (type : TypeUse) (wanted : Member) (bytes : List ℕ) (count n : ℕ) (old new : List ℕ) (before after : List Need) → Transcribes bytes count (token.name n) old new
+    → after ≡ before ++ record { target = n; wanted = wanted } ∷ [] → TakesReferencesTo s type (member wanted) → TakesWithNeeds s (FitsWithNeeds s type) 0 bytes (drop count bytes) old new before after
+name-taken s type wanted bytes count n old new before after h pushed takes = record {
   added = record { target = n; wanted = wanted } ∷ [];
   needs_are = pushed;
-  takes = token-value s (λ p v. FitsWithNeeds s type p v (record { target = n; wanted = member wanted } ∷ [])) (token.name n) (parameter.name n) (meant.reference n) bytes rest count old new h.stands e refl refl (takes n) h.appended;
+  takes = token-value s (λ p v. FitsWithNeeds s type p v (record { target = n; wanted = member wanted } ∷ [])) (token.name n) (parameter.name n) (meant.reference n) bytes (drop count bytes) count old new h.stands refl refl refl (takes n) h.appended;
 }
 
 pub entity-at : (u : code.TypeUse) (e : EntityId) (bytes rest old new : List ℕ) (before after : List Need) → u ≡ code.Entity e → ((s : Schema) (type : TypeUse) → TakesReferencesTo s type (schema.entity_member e.0) → TakesWithNeeds s (FitsWithNeeds s type) 0 bytes rest old new before after) → (s : Schema)
@@ -94,6 +115,10 @@ entity-at u e bytes rest old new before after is h s = h s (type_use u) (subst (
 pub chosen-at : (s : Schema) (t : ℕ) (bytes rest old new : List ℕ) (before after : List Need) → (e : ℕ) × Offers s t (schema.entity_member e) → ((other : Schema) (type : TypeUse) → TakesReferencesTo other type (schema.type_member t) → TakesWithNeeds other (FitsWithNeeds other type) 0 bytes rest old new before after)
     → TakesWithNeeds s (FitsWithNeeds s (schema.defined t)) 0 bytes rest old new before after
 chosen-at s t bytes rest old new before after (e, offers) h = h s (schema.defined t) (λ n. with_chosen_instance t n e offers)
+
+pub chosen-front : (s : Schema) (t : ℕ) (bytes : List ℕ) (count : ℕ) (old new : List ℕ) (before after : List Need) → (e : ℕ) × Offers s t (schema.entity_member e)
+    → (count ≤ length bytes) × ((other : Schema) (type : TypeUse) → TakesReferencesTo other type (schema.type_member t) → TakesWithNeeds other (FitsWithNeeds other type) 0 bytes (drop count bytes) old new before after) → TakesFront s (FitsWithNeeds s (schema.defined t)) 0 bytes count old new before after
+chosen-front s t bytes count old new before after offers (within, h) = (within, chosen-at s t bytes (drop count bytes) old new before after offers h)
 
 pub select-known : (s : Schema) (t : ℕ) → IsSelect s t → IsType s t
 select-known s t (members, is) = type-is s t (schema.choice members) is
@@ -185,6 +210,9 @@ select-at s base t most bytes rest old new before after same h type is = subst (
 -- as deep as it may be
 pub no-deeper : (s : Schema) (F : Param → Value → List reference.Need → Type 0) (most : ℕ) (bytes rest old new : List ℕ) (before after : List Need) → TakesWithNeeds s F 0 bytes rest old new before after → TakesWithNeeds s F most bytes rest old new before after
 no-deeper s F most bytes rest old new before after h = fits-as s F F 0 most bytes rest old new before after (omega arith) (λ p v needs fits. fits) h
+
+pub front-deep : (s : Schema) (F : Param → Value → List reference.Need → Type 0) (most : ℕ) (bytes : List ℕ) (count : ℕ) (old new : List ℕ) (before after : List Need) → TakesFront s F 0 bytes count old new before after → TakesFront s F most bytes count old new before after
+front-deep s F most bytes count old new before after (within, h) = (within, no-deeper s F most bytes (drop count bytes) old new before after h)
 
 pub plain-deep : (s : Schema) (u : code.TypeUse) (most : ℕ) (bytes rest old new : List ℕ) (before after : List Need) → ((other : Schema) → TakesWithNeeds other (FitsWithNeeds other (type_use u)) 0 bytes rest old new before after) → TakesWithNeeds s (FitsWithNeeds s (type_use u)) most bytes rest old new before after
 plain-deep s u most bytes rest old new before after h = no-deeper s (FitsWithNeeds s (type_use u)) most bytes rest old new before after (h s)

@@ -1,5 +1,5 @@
 -- Values that are taken straight from their bytes.
-use Rattle.std.specs.Prelude.{◌≡◌, ℕ, ◌≤◌, List, [], ◌∷◌, ◌++◌, codes, map}
+use Rattle.std.specs.Prelude.{◌≡◌, ℕ, ◌≤◌, List, [], ◌∷◌, ◌++◌, codes, drop, length, map}
 use Rattle.p21_claim_values.specs.Needs.{FitsWithNeeds}
 use Rattle.p21_exchange.specs.Nesting.{depth}
 use Rattle.p21_exchange.specs.Parameter as parameter
@@ -41,6 +41,10 @@ pub record TakesWithNeeds (s : Schema) (Fits : Param → Value → List meant.Ne
   pub added : List Need
   pub needs_are : after ≡ before ++ added
   pub takes : TakesValue s (λ p v. Fits p v (map need_view added)) most bytes rest old new
+
+-- the same of a parameter that so many bytes at the front are
+abbrev pub TakesFront : (s : Schema) (Fits : Param → Value → List meant.Need → Type 0) (most : ℕ) (bytes : List ℕ) (count : ℕ) (old new : List ℕ) (before after : List Need) → Type 0
+TakesFront s Fits most bytes count old new before after = (count ≤ length bytes) × TakesWithNeeds s Fits most bytes (drop count bytes) old new before after
 
 -- the same of a parameter in parentheses, which are appended with it
 pub record TakesEnclosed (s : Schema) (Fits : Param → Value → List meant.Need → Type 0) (most : ℕ) (bytes rest old new : List ℕ) (before after : List Need) : Type 0 where

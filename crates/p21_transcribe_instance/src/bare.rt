@@ -25,7 +25,10 @@ pub(crate) fn append_plain<'a>(
     ensures needs { IfNone result (needs.new.items ≡ needs.old.items) }
 {
     match of {
-        TypeUse::Entity(entity) => append_reference(Member::Entity(*entity), bytes, draft, needs),
+        TypeUse::Entity(entity) => {
+            let count = append_reference(Member::Entity(*entity), bytes, draft, needs)?;
+            Some(&bytes[count..])
+        }
         _ => append_scalar(of, bytes, draft),
     }
 }

@@ -3,7 +3,7 @@ ghost use Rattle.std.specs.Prelude.{◌≡◌, IfNone, IfSome};
 ghost use Rattle.p21_claim_values.specs.Needs.{FitsWithNeeds};
 ghost use Rattle.p21_schemas.specs.Schema.{TypeNamed, defined, type_member};
 ghost use Rattle.p21_schemas.specs.Select.{IsSelect, Offers};
-ghost use Rattle.p21_transcribe_instance.specs.TakenValues.{TakesKeyword, TakesWithNeeds};
+ghost use Rattle.p21_transcribe_instance.specs.TakenValues.{TakesFront, TakesKeyword};
 ghost use Rattle.p21_values.specs.Canonical.{Continues};
 
 use crate::reference::append_reference;
@@ -12,16 +12,16 @@ use p21_express_types::{Member, TypeId};
 use p21_mapping_values::Need;
 use p21_transcribe::{Draft, append_keyword};
 
-/// A reference, at a select that offers an entity: what stands behind it.
-pub(crate) fn append_chosen<'a>(
+/// A reference, at a select that offers an entity: how many bytes it has.
+pub(crate) fn append_chosen(
     schema: &Schema,
     select: TypeId,
-    bytes: &'a [u8],
+    bytes: &[u8],
     draft: &mut Draft,
     needs: &mut Vec<Need>,
-) -> Option<&'a [u8]>
+) -> Option<usize>
     requires { IsSelect schema.now select.0 }
-    ensures some { IfSome result (λ rest. TakesWithNeeds schema.now (FitsWithNeeds schema.now (defined select.0)) 0 bytes.now rest.now draft.old draft.new needs.old.items needs.new.items) }
+    ensures some { IfSome result (λ count. TakesFront schema.now (FitsWithNeeds schema.now (defined select.0)) 0 bytes.now count draft.old draft.new needs.old.items needs.new.items) }
     ensures draft { IfNone result (Continues draft.old draft.new) }
     ensures needs { IfNone result (needs.new.items ≡ needs.old.items) }
 {

@@ -119,7 +119,9 @@ fn append_parameter_at<'a>(
     }
     schema.holds_together();
     let at = schema.type_at(set, place);
-    append_placed(schema, at, behind_separators(bytes), draft, needs)
+    let front = behind_separators(bytes);
+    let count = append_placed(schema, at, front, draft, needs)?;
+    Some(&front[count..])
 }
 
 /// Whether a walk through many entities would say what may stand at a place.

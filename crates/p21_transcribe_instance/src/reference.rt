@@ -1,5 +1,5 @@
 //! References (ISO 10303-21, mapping of EXPRESS entity data types and of selects).
-ghost use Rattle.std.specs.Prelude.{◌≡◌, IfNone, IfSome};
+ghost use Rattle.std.specs.Prelude.{◌≡◌, ◌≤◌, length, IfNone, IfSome, drop};
 ghost use Rattle.p21_claim_values.specs.Needs.{FitsWithNeeds};
 ghost use Rattle.p21_express_types.specs.Meaning.{member};
 ghost use Rattle.p21_schemas.specs.Schema.{Schema as Meant, TypeUse};
@@ -11,15 +11,15 @@ use p21_mapping_values::Need;
 use p21_transcribe::{Draft, append_name};
 use p21_values::Name;
 
-/// Appends the name of an instance at the front, and adds what the instance has to be: what stands behind it.
-#[inline(never)]
-pub(crate) fn append_reference<'a>(
+/// Appends the name of an instance at the front, and adds what the instance has to be: how many bytes the name has.
+#[inline(always)]
+pub(crate) fn append_reference(
     wanted: Member,
-    bytes: &'a [u8],
+    bytes: &[u8],
     draft: &mut Draft,
     needs: &mut Vec<Need>,
-) -> Option<&'a [u8]>
-    ensures some { IfSome result (λ rest. (s : Meant) (type : TypeUse) → TakesReferencesTo s type (member wanted) → TakesWithNeeds s (FitsWithNeeds s type) 0 bytes.now rest.now draft.old draft.new needs.old.items needs.new.items) }
+) -> Option<usize>
+    ensures some { IfSome result (λ count. (count ≤ length bytes.now) × ((s : Meant) (type : TypeUse) → TakesReferencesTo s type (member wanted) → TakesWithNeeds s (FitsWithNeeds s type) 0 bytes.now (drop count bytes.now) draft.old draft.new needs.old.items needs.new.items)) }
     ensures draft { IfNone result (Continues draft.old draft.new) }
     ensures needs { IfNone result (needs.new.items ≡ needs.old.items) }
 {
@@ -31,5 +31,5 @@ pub(crate) fn append_reference<'a>(
     let Ok(()) = needs.push(need) else {
         return None;
     };
-    Some(&bytes[count..])
+    Some(count)
 }

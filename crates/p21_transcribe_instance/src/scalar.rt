@@ -1,5 +1,5 @@
 //! Scalars, which need no instance (ISO 10303-21, mapping of EXPRESS simple data types and of enumerations).
-ghost use Rattle.std.specs.Prelude.{◌≡◌, ℕ, [], IfNone, IfSome, Some};
+ghost use Rattle.std.specs.Prelude.{◌≡◌, ◌≤◌, ℕ, [], length, IfNone, IfSome, Some, drop};
 ghost use Rattle.p21_claim_values.specs.Needs.{FitsWithNeeds};
 ghost use Rattle.p21_express_types.specs.Meaning.{type_use, width_option};
 ghost use Rattle.p21_schemas.specs.Schema as schema;
@@ -29,22 +29,17 @@ pub(crate) fn append_scalar<'a>(
     Some(&bytes[count..])
 }
 
-/// Appends the item at the front, at an enumeration with these items: what stands behind it.
+/// Appends the item at the front, at an enumeration with these items: how many bytes it has.
 #[inline(never)]
-pub(crate) fn append_listed<'a>(
-    words: &Words,
-    bytes: &'a [u8],
-    draft: &mut Draft,
-) -> Option<&'a [u8]>
-    ensures some { IfSome result (λ rest. (s : schema.Schema) (t : ℕ) → schema.kind_of s t ≡ Some (schema.items words.now) → TakesValue s (λ p v. FitsWithNeeds s (schema.defined t) p v []) 0 bytes.now rest.now draft.old draft.new) }
+pub(crate) fn append_listed(words: &Words, bytes: &[u8], draft: &mut Draft) -> Option<usize>
+    ensures some { IfSome result (λ count. (count ≤ length bytes.now) × ((s : schema.Schema) (t : ℕ) → schema.kind_of s t ≡ Some (schema.items words.now) → TakesValue s (λ p v. FitsWithNeeds s (schema.defined t) p v []) 0 bytes.now (drop count bytes.now) draft.old draft.new)) }
     ensures none { IfNone result (draft.new ≡ draft.old) }
 {
     let known = words.items();
     if known.len() > MOST_ITEMS {
         return None;
     }
-    let count = append_item(bytes, known, draft)?;
-    Some(&bytes[count..])
+    append_item(bytes, known, draft)
 }
 
 /// Appends the scalar at the front, at a simple type: how many bytes it has.
@@ -66,7 +61,7 @@ fn append_simple(of: &TypeUse, bytes: &[u8], draft: &mut Draft) -> Option<usize>
 }
 
 /// Appends the string at the front, if the width allows its characters: how many bytes it has.
-#[inline(never)]
+#[inline(always)]
 fn append_string(width: Option<Width>, bytes: &[u8], draft: &mut Draft) -> Option<usize>
     ensures some { IfSome result (λ count. TakesScalar (schema.text (width_option width)) bytes.now count draft.old draft.new) }
     ensures none { IfNone result (Continues draft.old draft.new) }

@@ -9,7 +9,7 @@ ghost use Rattle.p21_schemas.specs.Schema.{TypeUse as MeantType, defined};
 ghost use Rattle.p21_schemas.specs.Select.{IsSelect};
 ghost use Rattle.p21_transcribe_instance.specs.Steps.{IsStepForSome, IsStepFor};
 ghost use Rattle.p21_transcribe_instance.specs.Elements.{AddsLength, IsAggregateOf, TakesElements};
-ghost use Rattle.p21_transcribe_instance.specs.TakenValues.{IsBaseInSchema, IsKnownAt, KeepsNeeds, TakesEnclosed, TakesWithNeeds};
+ghost use Rattle.p21_transcribe_instance.specs.TakenValues.{IsBaseInSchema, IsKnownAt, KeepsNeeds, TakesEnclosed, TakesFront, TakesWithNeeds};
 ghost use Rattle.p21_values.specs.Canonical.{Continues};
 
 use crate::aggregate::{are_compared, element_of};
@@ -78,13 +78,33 @@ pub(crate) fn append_value<'a>(
         }
         Step::Placed(entity, place) => {
             let at = schema.own_type(*entity, *place);
-            append_placed(schema, at, bytes, draft, needs)
+            let count = append_placed(schema, at, bytes, draft, needs)?;
+            Some(&bytes[count..])
         }
     }
 }
 
-/// The same, by the type of the place. None where redeclarations leave that open.
-pub(crate) fn append_placed<'a>(
+/// The same, by the type of the place: how many bytes the value has. None where redeclarations leave the type open.
+#[inline(never)]
+pub(crate) fn append_placed(
+    schema: &Schema,
+    at: PlaceType<'_>,
+    bytes: &[u8],
+    draft: &mut Draft,
+    needs: &mut Vec<Need>,
+) -> Option<usize>
+    requires { IsKnownAt schema.now (place_type at) }
+    ensures some { IfSome result (λ count. TakesFront schema.now (FitsAtWithNeeds schema.now (place_type at.entry)) 64 bytes.now count draft.old draft.new needs.old.items needs.new.items) }
+    ensures draft { IfNone result (Continues draft.old draft.new) }
+    ensures needs { IfNone result (KeepsNeeds needs.old.items needs.new.items) }
+{
+    let rest = append_at(schema, at, bytes, draft, needs)?;
+    Some(bytes.len() - rest.len())
+}
+
+/// The same: what stands behind the value.
+#[inline(always)]
+fn append_at<'a>(
     schema: &Schema,
     at: PlaceType<'_>,
     bytes: &'a [u8],
@@ -161,31 +181,40 @@ fn append_present<'a>(
     ensures needs { IfNone result (KeepsNeeds needs.old.items needs.new.items) }
 {
     match base {
-        Base::Select(select) => append_choice(schema, *select, most, bytes, draft, needs),
+        Base::Select(select) => {
+            let count = append_choice(schema, *select, most, bytes, draft, needs)?;
+            Some(&bytes[count..])
+        }
         Base::Plain(of) => append_undeclared(schema, of, most, bytes, draft, needs),
-        Base::Items(words) => append_listed(words, bytes, draft),
+        Base::Items(words) => {
+            let count = append_listed(words, bytes, draft)?;
+            Some(&bytes[count..])
+        }
     }
 }
 
-/// What a select offers: a reference, or a typed parameter.
+/// What a select offers, a reference or a typed parameter: how many bytes it has.
 #[inline(never)]
 #[cycle(append)]
-fn append_choice<'a>(
+fn append_choice(
     schema: &Schema,
     select: TypeId,
     most: usize,
-    bytes: &'a [u8],
+    bytes: &[u8],
     draft: &mut Draft,
     needs: &mut Vec<Need>,
-) -> Option<&'a [u8]>
+) -> Option<usize>
     requires { IsSelect schema.now select.0 }
-    ensures some { IfSome result (λ rest. TakesWithNeeds schema.now (FitsWithNeeds schema.now (defined select.0)) most bytes.now rest.now draft.old draft.new needs.old.items needs.new.items) }
+    ensures some { IfSome result (λ count. TakesFront schema.now (FitsWithNeeds schema.now (defined select.0)) most bytes.now count draft.old draft.new needs.old.items needs.new.items) }
     ensures draft { IfNone result (Continues draft.old draft.new) }
     ensures needs { IfNone result (KeepsNeeds needs.old.items needs.new.items) }
 {
     match bytes.first() {
         Some(b'#') => append_chosen(schema, select, bytes, draft, needs),
-        _ => append_typed(schema, select, most, bytes, draft, needs),
+        _ => {
+            let rest = append_typed(schema, select, most, bytes, draft, needs)?;
+            Some(bytes.len() - rest.len())
+        }
     }
 }
 
@@ -259,26 +288,27 @@ fn append_undeclared<'a>(
                 optional,
                 element,
             };
-            append_aggregate(schema, &aggregate, most, bytes, draft, needs)
+            let count = append_aggregate(schema, &aggregate, most, bytes, draft, needs)?;
+            Some(&bytes[count..])
         }
         None => append_plain(of, bytes, draft, needs),
     }
 }
 
-/// An aggregate.
+/// An aggregate: how many bytes it has.
 #[inline(never)]
 #[cycle(append)]
-fn append_aggregate<'a>(
+fn append_aggregate(
     schema: &Schema,
     aggregate: &Aggregate<'_>,
     most: usize,
-    bytes: &'a [u8],
+    bytes: &[u8],
     draft: &mut Draft,
     needs: &mut Vec<Need>,
-) -> Option<&'a [u8]>
+) -> Option<usize>
     requires known { HoldsTogether schema.now → IsTypeUse schema.now (type_use aggregate.now.of.now) }
     requires elements { IsAggregateOf (type_use aggregate.now.of.now) aggregate.now.optional (type_use aggregate.now.element.now) }
-    ensures some { IfSome result (λ rest. TakesWithNeeds schema.now (FitsWithNeeds schema.now (type_use aggregate.now.of.now)) most bytes.now rest.now draft.old draft.new needs.old.items needs.new.items) }
+    ensures some { IfSome result (λ count. TakesFront schema.now (FitsWithNeeds schema.now (type_use aggregate.now.of.now)) most bytes.now count draft.old draft.new needs.old.items needs.new.items) }
     ensures draft { IfNone result (Continues draft.old draft.new) }
     ensures needs { IfNone result (KeepsNeeds needs.old.items needs.new.items) }
 {
@@ -294,7 +324,8 @@ fn append_aggregate<'a>(
         base: &base,
         most: most - 1,
     };
-    append_counted(&at, aggregate.of, bytes, draft, needs, &mut lengths)
+    let rest = append_counted(&at, aggregate.of, bytes, draft, needs, &mut lengths)?;
+    Some(bytes.len() - rest.len())
 }
 
 /// An aggregate with this at its places, in parentheses. How long its elements are is kept where they are compared.

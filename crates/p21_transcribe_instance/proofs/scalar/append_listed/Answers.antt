@@ -1,8 +1,6 @@
-use Rattle.p21_basics.proofs.Members.{rest_is}
-use Rattle.p21_transcribe_instance.proofs.Values.{item-value}
+use Rattle.p21_transcribe.proofs.Found.{some_to}
+use Rattle.p21_transcribe_instance.proofs.Values.{item-front}
 use Rattle.p21_transcribe_instance.proofs.scalar.append_listed.Goals as goal
 
 pub returns-clause-some : goal.returns-clause-some
-returns-clause-some c = λ s t is.
-    let (word, among, h) = c.in_ok-count.ensures.some in
-    item-value s t _ word c.args.bytes.now _ c.in_ok-count.count _ _ is (rest_is c.args.bytes.now c.in_ok-count.count) (rw c.items-known.ensures at among) h
+returns-clause-some c = some_to _ (λ count. item-front c.args.words.now c.items-known.result.now c.args.bytes.now count _ _ c.items-known.ensures) c.append_item.ensures.some

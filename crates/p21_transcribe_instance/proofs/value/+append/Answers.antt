@@ -1,10 +1,11 @@
 use Rattle.std.proofs.Common.{◌+◌, ◌-◌, [], ◌∷◌, refl, arith}
+use Rattle.p21_basics.proofs.Members.{rest_is}
 use Rattle.p21_express_graph.proofs.Lookups.{type-named}
 use Rattle.p21_transcribe.proofs.Found.{none_to, some_to}
 use Rattle.p21_transcribe.proofs.Parts.{goes-on, stays-behind}
 use Rattle.p21_transcribe_instance.proofs.Elements.{aggregate-at, aggregate-taken, along-ends, along-first, along-needs, along-next, along-text, close-refused, compared-as, element-known, element-refused, element-shorter, elements-held, elements-refused, next-shorter, no-elements, plain-known, start-within, undeclared-at}
 use Rattle.p21_transcribe_instance.proofs.Typed.{enclosed-refused, enclosed-taken, typed-taken}
-use Rattle.p21_transcribe_instance.proofs.Values.{base-select, item-deep, left-out, needs-kept, needs-same, no-deeper, plain-deep, select-at, stored-taken}
+use Rattle.p21_transcribe_instance.proofs.Values.{base-select, front-deep, item-deep, left-out, needs-kept, needs-same, plain-deep, rest-taken, select-at, stored-taken, taken-front, taken-shorter}
 use Rattle.p21_express_types.specs.Meaning.{type_use}
 use Rattle.p21_transcribe_instance.proofs.value.+append.Goals as goal
 use Rattle.p21_transcribe_instance.proofs.Stepping.{needs-join}
@@ -22,8 +23,9 @@ append_stored-returns-in-None-clause-draft t c = rw c.in-None.ensures.none at c.
 pub append_present-append_choice-requires : goal.append_present-append_choice-requires
 append_present-append_choice-requires t c = (omega arith, base-select c.args.schema.now c.args.base.now _ c.in-Select.is c.requires)
 
-pub append_present-returns-in-Select-clause-some : goal.append_present-returns-in-Select-clause-some
-append_present-returns-in-Select-clause-some t c = some_to _ (λ rest. select-at c.args.schema.now c.args.base.now _ c.args.most c.args.bytes.now rest.now _ _ _ _ c.in-Select.is) c.append_choice.ensures.some
+pub append_present-returns-in_ok-count-in-Select-clause-some : goal.append_present-returns-in_ok-count-in-Select-clause-some
+append_present-returns-in_ok-count-in-Select-clause-some t c = λ type is.
+    rest-taken c.args.schema.now _ c.args.most c.args.bytes.now _ c.in_ok-count-in-Select.count _ _ _ _ (rest_is c.args.bytes.now c.in_ok-count-in-Select.count) (select-at c.args.schema.now c.args.base.now _ c.args.most c.args.bytes.now _ _ _ _ _ c.in-Select.is c.in_ok-count-in-Select.ensures.some.1 type is)
 
 pub append_present-append_undeclared-requires : goal.append_present-append_undeclared-requires
 append_present-append_undeclared-requires t c = (omega arith, plain-known c.args.schema.now c.args.base.now _ c.in-Plain.is c.requires)
@@ -31,19 +33,20 @@ append_present-append_undeclared-requires t c = (omega arith, plain-known c.args
 pub append_present-returns-in-Plain-clause-some : goal.append_present-returns-in-Plain-clause-some
 append_present-returns-in-Plain-clause-some t c = some_to _ (λ rest. undeclared-at c.args.schema.now c.args.base.now _ c.args.most c.args.bytes.now rest.now _ _ _ _ c.in-Plain.is) c.append_undeclared.ensures.some
 
-pub append_present-returns-in-Items-clause-some : goal.append_present-returns-in-Items-clause-some
-append_present-returns-in-Items-clause-some t c = some_to _ (λ rest. item-deep c.args.schema.now c.args.base.now _ c.args.most c.args.bytes.now rest.now _ _ _ c.in-Items.is) c.append_listed.ensures.some
-
-pub append_present-returns-in-Items-clause-draft : goal.append_present-returns-in-Items-clause-draft
-append_present-returns-in-Items-clause-draft t c = none_to _ (continues-same _ _) c.append_listed.ensures.none
-
-pub append_present-returns-in-Items-clause-needs : goal.append_present-returns-in-Items-clause-needs
-append_present-returns-in-Items-clause-needs t c = needs-kept c.append_listed.result c.args.needs.now.items
+pub append_present-returns-in_ok-count-in-Items-clause-some : goal.append_present-returns-in_ok-count-in-Items-clause-some
+append_present-returns-in_ok-count-in-Items-clause-some t c = λ type is.
+    rest-taken c.args.schema.now _ c.args.most c.args.bytes.now _ c.in_ok-count-in-Items.count _ _ _ _ (rest_is c.args.bytes.now c.in_ok-count-in-Items.count) (item-deep c.args.schema.now c.args.base.now _ c.args.most c.args.bytes.now _ _ _ _ c.in-Items.is c.in_ok-count-in-Items.ensures.some.1 type is)
 
 -- ---- selects
 
 pub append_choice-returns-in-Some-eq35-clause-some : goal.append_choice-returns-in-Some-eq35-clause-some
-append_choice-returns-in-Some-eq35-clause-some t c = some_to _ (λ rest. no-deeper c.args.schema.now _ c.args.most c.args.bytes.now rest.now _ _ _ _) c.append_chosen.ensures.some
+append_choice-returns-in-Some-eq35-clause-some t c = some_to _ (λ count. front-deep c.args.schema.now _ c.args.most c.args.bytes.now count _ _ _ _) c.append_chosen.ensures.some
+
+pub append_choice-overflow_sub-result : goal.append_choice-overflow_sub-result
+append_choice-overflow_sub-result t c = taken-shorter c.args.schema.now _ c.args.most c.args.bytes.now _ _ _ _ _ c.in_ok-rest-in_default.ensures.some
+
+pub append_choice-returns-in_ok-rest-in_default-clause-some : goal.append_choice-returns-in_ok-rest-in_default-clause-some
+append_choice-returns-in_ok-rest-in_default-clause-some t c = taken-front c.args.schema.now _ c.args.most c.args.bytes.now _ _ _ _ _ c.in_ok-rest-in_default.ensures.some
 
 pub append_choice-returns-in-Some-eq35-clause-needs : goal.append_choice-returns-in-Some-eq35-clause-needs
 append_choice-returns-in-Some-eq35-clause-needs t c = none_to _ (needs-same _ _) c.append_chosen.ensures.needs
@@ -106,7 +109,12 @@ append_aggregate-append_counted-requires t c = (omega arith, (c.base_of-base.ens
 
 pub append_aggregate-returns-clause-some : goal.append_aggregate-returns-clause-some
 append_aggregate-returns-clause-some t c =
-    some_to _ (λ rest. aggregate-at c.args.schema.now (type_use c.args.aggregate.now.of.now) c.args.aggregate.now.optional (type_use c.args.aggregate.now.element.now) c.base_of-base.result c.args.most (c.args.most - 1 + 1) c.args.bytes.now rest.now _ _ _ _ (omega arith) c.requires.elements c.base_of-base.ensures.has) c.append_counted.ensures.some
+    taken-front c.args.schema.now _ c.args.most c.args.bytes.now _ _ _ _ _
+    (aggregate-at c.args.schema.now (type_use c.args.aggregate.now.of.now) c.args.aggregate.now.optional (type_use c.args.aggregate.now.element.now) c.base_of-base.result c.args.most (c.args.most - 1 + 1) c.args.bytes.now _ _ _ _ _ (omega arith) c.requires.elements c.base_of-base.ensures.has c.in_ok-rest.ensures.some)
+
+pub append_aggregate-overflow_sub-result : goal.append_aggregate-overflow_sub-result
+append_aggregate-overflow_sub-result t c =
+    taken-shorter c.args.schema.now _ _ c.args.bytes.now _ _ _ _ _ (c.in_ok-rest.ensures.some (type_use c.args.aggregate.now.element.now) c.requires.elements c.base_of-base.ensures.has)
 
 -- ---- the elements of an aggregate
 

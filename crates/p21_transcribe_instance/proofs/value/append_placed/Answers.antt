@@ -1,13 +1,8 @@
-use Rattle.p21_transcribe.proofs.Found.{none_to, some_to}
-use Rattle.p21_transcribe_instance.proofs.Values.{needs-kept, star-at}
+use Rattle.p21_transcribe_instance.proofs.Values.{taken-front, taken-shorter}
 use Rattle.p21_transcribe_instance.proofs.value.append_placed.Goals as goal
-use Rattle.p21_values.proofs.Continuing.{continues-same}
 
-pub returns-in-Derived-clause-some : goal.returns-in-Derived-clause-some
-returns-in-Derived-clause-some c = rw c.in-Derived.is (some_to _ (λ rest. star-at c.args.schema.now c.args.bytes.now rest.now _ _ _) c.append_delimiter.ensures.some)
+pub returns-clause-some : goal.returns-clause-some
+returns-clause-some c = taken-front c.args.schema.now _ 64 c.args.bytes.now _ _ _ _ _ c.in_ok-rest.ensures.some
 
-pub returns-in-Derived-clause-draft : goal.returns-in-Derived-clause-draft
-returns-in-Derived-clause-draft c = none_to _ (continues-same _ _) c.append_delimiter.ensures.none
-
-pub returns-in-Derived-clause-needs : goal.returns-in-Derived-clause-needs
-returns-in-Derived-clause-needs c = needs-kept c.append_delimiter.result c.args.needs.now.items
+pub overflow_sub-result : goal.overflow_sub-result
+overflow_sub-result c = taken-shorter c.args.schema.now _ 64 c.args.bytes.now _ _ _ _ _ c.in_ok-rest.ensures.some

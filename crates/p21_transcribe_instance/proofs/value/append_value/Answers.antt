@@ -1,6 +1,7 @@
+use Rattle.p21_basics.proofs.Members.{rest_is}
 use Rattle.p21_transcribe.proofs.Found.{none_to, some_to}
 use Rattle.p21_transcribe_instance.proofs.Joining.{known-at}
-use Rattle.p21_transcribe_instance.proofs.Values.{needs-kept, placed-known, placed-taken, star-taken, step-known, step-taken}
+use Rattle.p21_transcribe_instance.proofs.Values.{needs-kept, placed-known, placed-taken, rest-taken, star-taken, step-known, step-taken}
 use Rattle.p21_transcribe_instance.proofs.value.append_value.Goals as goal
 use Rattle.p21_values.proofs.Continuing.{continues-same}
 
@@ -28,5 +29,7 @@ own_type-at-requires-clause-place c = (placed-known c.args.schema.now c.args.ste
 pub append_placed-requires : goal.append_placed-requires
 append_placed-requires c = known-at c.args.schema.now c.holds_together.ensures _ _ _ c.own_type-at.ensures
 
-pub returns-in-Placed-clause-some : goal.returns-in-Placed-clause-some
-returns-in-Placed-clause-some c = some_to _ (λ rest. placed-taken c.args.schema.now c.holds_together.ensures c.args.step.now _ _ _ c.args.bytes.now rest.now _ _ _ _ c.in-Placed.is c.own_type-at.ensures) c.append_placed.ensures.some
+pub returns-in_ok-count-in-Placed-clause-some : goal.returns-in_ok-count-in-Placed-clause-some
+returns-in_ok-count-in-Placed-clause-some c =
+    placed-taken c.args.schema.now c.holds_together.ensures c.args.step.now _ _ _ c.args.bytes.now _ _ _ _ _ c.in-Placed.is c.own_type-at.ensures
+    (rest-taken c.args.schema.now _ 64 c.args.bytes.now _ c.in_ok-count-in-Placed.count _ _ _ _ (rest_is c.args.bytes.now c.in_ok-count-in-Placed.count) c.in_ok-count-in-Placed.ensures.some.1)
