@@ -218,27 +218,30 @@ fn names_instances_for_faults_of_instances(rt: HostRuntime) {
     assert_eq!(rt; first_misplaced(), "none");
 }
 
-/// Refusals, each with what it prints.
-const PRINTED: &[(Fault, At, &str)] = &[
+/// Faults, each with whether the number is that of an instance, or else of a statement, and what the refusal prints.
+const PRINTED: &[(Fault, bool, u64, &str)] = &[
     (
         Fault::DuplicateName,
-        At::Instance(Name(18_446_744_073_709_551_615)),
+        true,
+        18_446_744_073_709_551_615,
         "an instance of a name that another one has in #18446744073709551615",
     ),
     (
         Fault::SchemaName,
-        At::Statement(5),
+        false,
+        5,
         "not the name of the schema at statement 5",
     ),
 ];
 
 fn first_printed_otherwise(alloc: Global) -> &'static str {
-    for (fault, at, text) in PRINTED {
-        let refusal = Refusal {
-            fault: *fault,
-            at: *at,
+    for (fault, at_instance, number, text) in PRINTED {
+        let at = if *at_instance {
+            At::Instance(Name(*number))
+        } else {
+            At::Statement(*number)
         };
-        if !prints(alloc, &refusal, text) {
+        if !prints(alloc, &Refusal { fault: *fault, at }, text) {
             return text;
         }
     }
