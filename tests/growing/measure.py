@@ -108,9 +108,6 @@ ROWS = [
 # Seen with an unproved build that is as fast as the proved one within a tenth (benchmarks/unproved.py --as-proved).
 OPEN = {
     "chain_that_redeclares": Open(9.8, 1.2, 0.56, "5.4 s, 134 MB"),
-    "colliding_attributes": Open(28.6, 0.4, 0.64, "4.4 s, 14 MB"),
-    "colliding_items": Open(28.0, 0.4, 0.64, "4.3 s, 12 MB"),
-    "colliding_entities": Open(10.5, 0.6, 0.96, "2.3 s, 30 MB"),
     "owners_by_a_lower_name_each": Open(1.8, 1.0, 1.46, "6.4 s, 709 MB"),
     "wide_subtypes_behind_their_own": Open(2.1, 3.7, 1.41, "7.8 s, 2663 MB"),
     "large_sets_in_turn": Open(3.4, 0.2, 2.50, "1.9 s, 15 MB"),
