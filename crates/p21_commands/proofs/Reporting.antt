@@ -1,7 +1,7 @@
 -- What a report says by its status, for any answers and refusals.
 use Rattle.std.specs.Prelude.{Result, Ok, Err, OnOk, OnErr, IfErr}
 use Rattle.std.specs.Io.KnownBytes.{Appends, Keeps}
-use Rattle.std.proofs.Common.{◌≡◌, ◌≢◌, ℕ, List, [], ◌∷◌, ◌++◌, Option, inl, inr, refl, sym, subst, string_bytes}
+use Rattle.std.proofs.Common.{◌≡◌, ◌≢◌, ◌⊎◌, ℕ, List, [], ◌∷◌, ◌++◌, Option, inl, inr, refl, sym, subst, string_bytes}
 use Rattle.p21_commands.specs.Command.{Ends, Fails, FailsBy, written_by}
 use Rattle.p21_commands.specs.Failures.{Failures, FailedBy, NoneFailed}
 use Rattle.p21_commands.specs.Fault.{Reports, fault_status}
