@@ -396,7 +396,7 @@ def test_names():
 
 
 def test_version():
-    assert p21.version() == re.search(r'VERSION: &str = "(.*)"', (ROOT / "crates/p21_command_line/src/help.rt").read_text())[1]
+    assert p21.version() == re.search(r'VERSION: &str = "([0-9.]+)', (ROOT / "crates/p21_command_line/src/help.rt").read_text())[1]
 
 
 def output_of(program, folder):
