@@ -24,7 +24,7 @@ CODE = {
 # An attribute of thiserror with its text, and below it the fault: a case of an enumeration, or a type of its own.
 SENTENCE = re.compile(r'#\[error\("([^"]*)"\)\]\n\s*(?:pub struct )?(\w+)')
 # Faults that print what they hold.
-HOLDS = "{0}"
+HOLDS = ("{0}", "{fault} {at}")
 MADE = runpy.run_path(str(ROOT / "tools" / "make-refusals"))
 
 
@@ -109,7 +109,7 @@ def sentences():
         for part in re.split(r"^(?=pub enum )", path.read_text(), flags=re.M):
             enumeration = (re.findall(r"^pub enum (\w+)", part) or [enumeration])[0]
             for sentence, case in SENTENCE.findall(part):
-                if sentence != HOLDS:
+                if sentence not in HOLDS:
                     yield case if f"struct {case}" in part else f"{enumeration}::{case}", sentence
 
 
