@@ -5,7 +5,7 @@
 # Needs rt and python3.
 
 benchmarks=$(dirname -- "$(readlink -f -- "$0")")
-"$benchmarks/build.sh" lookups p21_express p21_express_tables p21_express_graph p21_express_types || exit
+"$benchmarks/build.sh" lookups p21_express p21_express_tables p21_express_graph || exit
 
 PYTHONDONTWRITEBYTECODE=1 PYTHONPATH=$benchmarks exec python3 - "$benchmarks/out" <<'SCRIPT'
 import os

@@ -9,14 +9,16 @@
  * the calls alone change it: it isn't copied, written or compared. A call that hands something out lets go of what the handle
  * held before. The call that frees it leaves it empty, and an empty handle may be freed.
  *
- * Threads. A handle is in one call at a time, whatever the call. That a handle goes from one thread to another is ordered by a
- * lock, or by the start or the end of a thread. Different handles may be in calls of different threads at once. So each of several
- * threads that use one schema has a handle of its own of it, by p21_schema_share, which copies nothing of the schema.
+ * Threads. A call that takes a handle as `const` only reads it: any number of threads may be in such calls with one handle at
+ * once, with no lock. A call that takes it otherwise changes it, and has it alone: it is in no other call meanwhile, and a lock,
+ * or the start or the end of a thread, orders that call and those before and behind it. Different handles may be in calls of
+ * different threads at once.
  *
  * What a caller owes, since no call can test it: no pointer is null, also where the length is 0; a text of a length has as
  * many bytes, which don't change during the call; a buffer has as many bytes as its room; what a call writes lies apart from all
- * else that it is passed; two handles of one call are different ones; threads share no handle; and no call is made from a signal
- * handler, or in the child of a fork of a process that has threads, unless it runs another program.
+ * else that it is passed; two handles of one call are different ones; nobody frees or changes a handle while another call has it;
+ * and no call is made from a signal handler, or in the child of a fork of a process that has threads, unless it runs another
+ * program.
  *
  * What a call answers is a status. P21_REFUSED and P21_FAILED come with a report, and then nothing is handed out: what stood
  * in the handle or in the place of the answer is as it was.
@@ -194,10 +196,10 @@ void p21_version(p21_parts *version);
 uint8_t p21_schema_new(const uint8_t *text, size_t length, p21_schema *schema, p21_report *report);
 
 /*
- * Hands out another handle of a schema, for another thread. Nothing of the schema is copied, and it lives until the last of its
- * handles and sessions is let go. It has no report: P21_FAILED where there was no memory.
+ * Hands out another handle of a schema, so that whoever has one may free it. Nothing of the schema is copied, and it lives until
+ * the last of its handles and sessions is let go. It has no report: P21_FAILED where there was no memory.
  */
-uint8_t p21_schema_share(p21_schema *schema, p21_schema *shared);
+uint8_t p21_schema_share(const p21_schema *schema, p21_schema *shared);
 
 /* Lets go of a schema. Other handles of it, and sessions over it, keep what they need. */
 void p21_schema_free(p21_schema *schema);
@@ -206,23 +208,23 @@ void p21_schema_free(p21_schema *schema);
  * Whether a file is accepted under a schema. P21_DONE: it is, and the report has its counts. P21_REFUSED: it isn't. The file
  * isn't copied.
  */
-uint8_t p21_check(p21_schema *schema, const uint8_t *file, size_t length, p21_report *report);
+uint8_t p21_check(const p21_schema *schema, const uint8_t *file, size_t length, p21_report *report);
 
 /*
  * Hands out the canonical file of a file. P21_DONE: the report has the counts. P21_REFUSED: the file isn't accepted. The file
  * isn't copied.
  */
-uint8_t p21_canonical(p21_schema *schema, const uint8_t *file, size_t length, p21_text *text, p21_report *report);
+uint8_t p21_canonical(const p21_schema *schema, const uint8_t *file, size_t length, p21_text *text, p21_report *report);
 
 /*
  * Whether two files mean the same: `same` is 1 or 0. P21_REFUSED: one of them isn't accepted, and `subject` says which; the
  * second is read where the first is accepted. They aren't copied.
  */
-uint8_t p21_same(p21_schema *schema, const uint8_t *first, size_t first_length, const uint8_t *second, size_t second_length,
+uint8_t p21_same(const p21_schema *schema, const uint8_t *first, size_t first_length, const uint8_t *second, size_t second_length,
                  uint8_t *same, p21_report *report);
 
 /* Hands out a session over a schema. It has no report: P21_FAILED where there was no memory. */
-uint8_t p21_session_new(p21_schema *schema, p21_session *session);
+uint8_t p21_session_new(const p21_schema *schema, p21_session *session);
 
 /*
  * Feeds a session the next piece of a file, of any length. P21_REFUSED: nothing that is accepted begins so; the session then
@@ -243,10 +245,10 @@ void p21_session_free(p21_session *session);
  * Hands out the canonical statement of an instance of an accepted file, without a line feed. P21_REFUSED: there is no
  * instance of this name. It has no report.
  */
-uint8_t p21_accepted_line(p21_session *session, uint64_t name, p21_text *text);
+uint8_t p21_accepted_line(const p21_session *session, uint64_t name, p21_text *text);
 
 /* Hands out the canonical file of an accepted one. It has no report. */
-uint8_t p21_accepted_write(p21_session *session, p21_text *text);
+uint8_t p21_accepted_write(const p21_session *session, p21_text *text);
 
 /*
  * Reads on in the canonical file of an accepted one: fills a buffer as far as the file goes, moves the cursor behind what it put
@@ -256,10 +258,10 @@ uint8_t p21_accepted_write(p21_session *session, p21_text *text);
  * one file side by side, and one that begins as P21_START again reads it from the beginning. The call takes no memory: it is never
  * P21_FAILED, and has no report.
  */
-uint8_t p21_accepted_read(p21_session *session, p21_cursor *cursor, uint8_t *buffer, size_t room, size_t *count);
+uint8_t p21_accepted_read(const p21_session *session, p21_cursor *cursor, uint8_t *buffer, size_t room, size_t *count);
 
 /* Writes where the bytes of a text lie, and how many they are. They stay there until the text is let go; they are read only. */
-uint8_t p21_text_bytes(p21_text *text, const uint8_t **bytes, size_t *length);
+uint8_t p21_text_bytes(const p21_text *text, const uint8_t **bytes, size_t *length);
 
 /* Lets go of a text. */
 void p21_text_free(p21_text *text);

@@ -5,17 +5,15 @@
  *     std::cout << schema.check(file).instances << '\n';
  *     std::cout << schema.canonical(file).view();
  *
- * A text is a std::string_view, or a pointer and a length; none is copied, and none is kept. What is refused is thrown as
- * p21::refused, want of memory as std::bad_alloc, and a call on what was moved away or ended as std::logic_error. Several threads
- * may use one schema at once, and a copy of it is the same schema; any other object is in one call at a time.
+ * A text is a std::string_view, or a pointer and a length; none is copied, and none is kept. What is refused is thrown
+ * as p21::refused, want of memory as std::bad_alloc, and a call on what was moved away or ended as std::logic_error.
+ * Any number of threads may be in const calls of one object at once. A copy of a schema is the same schema.
  */
 #ifndef P21_HPP
 #define P21_HPP
 
 #include <cstddef>
 #include <cstdint>
-#include <memory>
-#include <mutex>
 #include <new>
 #include <optional>
 #include <stdexcept>
@@ -30,7 +28,8 @@ namespace p21 {
 /* A schema or a file is refused; what() is the line that the program prints, and of two files says which. */
 class refused : public std::runtime_error {
 public:
-    explicit refused(const p21_report &report, const char *which = "") : std::runtime_error(line_of(report, which)), report_(report) {}
+    explicit refused(const p21_report &report, const std::string &which = "")
+        : std::runtime_error(which + line_of(report)), report_(report) {}
 
     const p21_report &report() const noexcept { return report_; }
     bool is_schema() const noexcept { return report_.subject == P21_SCHEMA; }
@@ -46,9 +45,9 @@ private:
     static const char *name_of(const p21_report &report) noexcept {
         return report.subject == P21_SCHEMA ? p21_schema_refusal_name(report.number) : p21_refusal_name(report.number);
     }
-    static std::string line_of(const p21_report &report, const char *which) {
-        const bool of_schema = report.subject == P21_SCHEMA;
-        std::string line = std::string(which) + (of_schema ? "schema refused S" : "refused ") + std::to_string(report.number) + ' ' + name_of(report);
+    static std::string line_of(const p21_report &report) {
+        std::string line = report.subject == P21_SCHEMA ? "schema refused S" : "refused ";
+        line += std::to_string(report.number) + ' ' + name_of(report);
         if (report.place == P21_INSTANCE) line += " in #" + std::to_string(report.at);
         if (report.place == P21_STATEMENT) line += " at statement " + std::to_string(report.at);
         return line;
@@ -60,9 +59,9 @@ private:
     p21_report report_;
 };
 
-/* Handles, what is passed to calls, and what they answer. */
 namespace detail {
 
+/* A handle of C that is let go with its holder. */
 template <typename Handle, void (*Free)(Handle *)> class holder {
 public:
     holder() noexcept = default;
@@ -72,29 +71,35 @@ public:
         return *this;
     }
     ~holder() { Free(&handle_); }
+
     Handle *get() noexcept { return &handle_; }
+    const Handle *get() const noexcept { return &handle_; }
 
 private:
     Handle handle_ = P21_EMPTY;
 };
 
-using schema_handle = holder<p21_schema, p21_schema_free>;
-using session_handle = holder<p21_session, p21_session_free>;
-using text_handle = holder<p21_text, p21_text_free>;
-
 /* No pointer of a call is null. */
-inline const std::uint8_t *at(std::string_view text) noexcept { return reinterpret_cast<const std::uint8_t *>(text.data() ? text.data() : ""); }
-
-inline void judge(std::uint8_t status, const p21_report &report = {}, bool of_two = false) {
-    if (status == P21_FAILED) throw std::bad_alloc();
-    if (status == P21_MISUSED) throw std::logic_error("p21: this object holds nothing any more");
-    if (status == P21_REFUSED) throw refused(report, !of_two ? "" : report.subject == P21_SECOND ? "second: " : "first: ");
+inline const std::uint8_t *at(std::string_view text) noexcept {
+    return reinterpret_cast<const std::uint8_t *>(text.data() ? text.data() : "");
 }
 
-struct shared_schema {
-    std::mutex one_at_a_time;
-    schema_handle handle;
-};
+inline std::string_view view(const void *at, std::size_t length) noexcept {
+    return {static_cast<const char *>(at), length};
+}
+
+inline void judge(std::uint8_t status, const p21_report &report = {}, const char *which = "") {
+    if (status == P21_FAILED) throw std::bad_alloc();
+    if (status == P21_MISUSED) throw std::logic_error("p21: this object holds nothing any more");
+    if (status == P21_REFUSED) throw refused(report, which);
+}
+
+/* Makes a call of C whose last parameter is a report. */
+template <typename Call, typename... Given> p21_report call(Call function, Given... given) {
+    p21_report report;
+    judge(function(given..., &report), report);
+    return report;
+}
 
 } // namespace detail
 
@@ -105,130 +110,110 @@ struct counts {
 };
 
 /* Bytes that the library handed out: a canonical file, or a statement of one without a line feed. */
-class text {
+class text : public detail::holder<p21_text, p21_text_free> {
 public:
     std::string_view view() const {
         const std::uint8_t *at = nullptr;
         std::size_t length = 0;
-        detail::judge(p21_text_bytes(handle_.get(), &at, &length));
-        return {reinterpret_cast<const char *>(at), length};
+        detail::judge(p21_text_bytes(get(), &at, &length));
+        return detail::view(at, length);
     }
-    p21_text *handle() noexcept { return handle_.get(); }
-
-private:
-    mutable detail::text_handle handle_;
 };
 
 /* The schema that an EXPRESS text declares. */
-class schema {
+class schema : public detail::holder<p21_schema, p21_schema_free> {
 public:
-    explicit schema(std::string_view express) : shared_(std::make_shared<detail::shared_schema>()) {
-        p21_report report;
-        detail::judge(p21_schema_new(detail::at(express), express.size(), shared_->handle.get(), &report), report);
+    explicit schema(std::string_view express) {
+        detail::call(p21_schema_new, detail::at(express), express.size(), get());
     }
-    schema(const void *express, std::size_t length) : schema(std::string_view(static_cast<const char *>(express), length)) {}
+    schema(const void *express, std::size_t length) : schema(detail::view(express, length)) {}
+    schema(schema &&other) noexcept = default;
+    schema(const schema &other) : holder() { detail::judge(p21_schema_share(other.get(), get())); }
+    schema &operator=(schema other) noexcept {
+        holder::operator=(std::move(other));
+        return *this;
+    }
 
     /* Whether a file is accepted: its counts, or p21::refused. */
     counts check(std::string_view file) const {
-        p21_report report;
-        detail::judge(p21_check(own().get(), detail::at(file), file.size(), &report), report);
+        const p21_report report = detail::call(p21_check, get(), detail::at(file), file.size());
         return {report.instances, report.bytes};
     }
-    counts check(const void *file, std::size_t length) const { return check({static_cast<const char *>(file), length}); }
+    counts check(const void *file, std::size_t length) const { return check(detail::view(file, length)); }
 
     /* The canonical file of a file. */
     text canonical(std::string_view file) const {
         text made;
-        p21_report report;
-        detail::judge(p21_canonical(own().get(), detail::at(file), file.size(), made.handle(), &report), report);
+        detail::call(p21_canonical, get(), detail::at(file), file.size(), made.get());
         return made;
     }
-    text canonical(const void *file, std::size_t length) const { return canonical({static_cast<const char *>(file), length}); }
+    text canonical(const void *file, std::size_t length) const { return canonical(detail::view(file, length)); }
 
     /* Whether two files mean the same. */
     bool same(std::string_view first, std::string_view second) const {
         std::uint8_t answer = 0;
         p21_report report;
-        detail::judge(p21_same(own().get(), detail::at(first), first.size(), detail::at(second), second.size(), &answer, &report), report, true);
+        const std::uint8_t status = p21_same(get(), detail::at(first), first.size(), detail::at(second), second.size(),
+                                             &answer, &report);
+        detail::judge(status, report, report.subject == P21_SECOND ? "second: " : "first: ");
         return answer == 1;
     }
-
-private:
-    friend class session;
-
-    /* A handle of this call's own. */
-    detail::schema_handle own() const {
-        if (!shared_) detail::judge(P21_MISUSED);
-        detail::schema_handle handle;
-        const std::lock_guard<std::mutex> guard(shared_->one_at_a_time);
-        detail::judge(p21_schema_share(shared_->handle.get(), handle.get()));
-        return handle;
-    }
-
-    std::shared_ptr<detail::shared_schema> shared_;
 };
 
 /* An accepted file. */
-class accepted {
+class accepted : public detail::holder<p21_session, p21_session_free> {
 public:
     counts size() const noexcept { return counts_; }
 
     /* The canonical statement of the instance of this name, if there is one. */
-    std::optional<text> line(std::uint64_t name) {
+    std::optional<text> line(std::uint64_t name) const {
         text made;
-        const std::uint8_t status = p21_accepted_line(handle_.get(), name, made.handle());
+        const std::uint8_t status = p21_accepted_line(get(), name, made.get());
         if (status == P21_REFUSED) return std::nullopt;
         detail::judge(status);
         return made;
     }
 
-    /* The next bytes of the canonical file, as many as there is room for: how many these are, and 0 where nothing is left. */
+    /* The canonical file. */
+    text canonical() const {
+        text made;
+        detail::judge(p21_accepted_write(get(), made.get()));
+        return made;
+    }
+
+    /* The next bytes of the canonical file, as many as there is room for: how many these are, 0 where none is left. */
     std::size_t read(void *buffer, std::size_t room) {
         std::uint8_t none = 0;
         std::size_t count = 0;
-        detail::judge(p21_accepted_read(handle_.get(), &cursor_, room > 0 ? static_cast<std::uint8_t *>(buffer) : &none, room, &count));
+        std::uint8_t *at = room > 0 ? static_cast<std::uint8_t *>(buffer) : &none;
+        detail::judge(p21_accepted_read(get(), &cursor_, at, room, &count));
         return count;
     }
     /* Has `read` begin again. */
     void rewind() noexcept { cursor_ = P21_START; }
 
-    /* The canonical file. */
-    text canonical() {
-        text made;
-        detail::judge(p21_accepted_write(handle_.get(), made.handle()));
-        return made;
-    }
-
 private:
     friend class session;
-    accepted(detail::session_handle &&handle, counts found) noexcept : handle_(std::move(handle)), counts_(found) {}
+    accepted(holder &&handle, counts found) noexcept : holder(std::move(handle)), counts_(found) {}
 
-    detail::session_handle handle_;
     p21_cursor cursor_ = P21_START;
     counts counts_;
 };
 
 /* Reads a file that comes in pieces of any size. */
-class session {
+class session : public detail::holder<p21_session, p21_session_free> {
 public:
-    explicit session(const schema &under) { detail::judge(p21_session_new(under.own().get(), handle_.get())); }
+    explicit session(const schema &under) { detail::judge(p21_session_new(under.get(), get())); }
 
     /* The next piece; p21::refused where nothing that is accepted begins so. */
-    void feed(std::string_view piece) {
-        p21_report report;
-        detail::judge(p21_session_feed(handle_.get(), detail::at(piece), piece.size(), &report), report);
-    }
-    void feed(const void *piece, std::size_t length) { feed({static_cast<const char *>(piece), length}); }
+    void feed(std::string_view piece) { detail::call(p21_session_feed, get(), detail::at(piece), piece.size()); }
+    void feed(const void *piece, std::size_t length) { feed(detail::view(piece, length)); }
 
     /* The end of the file. The session holds nothing any more. */
     accepted finish() {
-        p21_report report;
-        detail::judge(p21_session_finish(handle_.get(), &report), report);
-        return accepted(std::exchange(handle_, detail::session_handle()), {report.instances, report.bytes});
+        const p21_report report = detail::call(p21_session_finish, get());
+        return {std::move(*this), {report.instances, report.bytes}};
     }
-
-private:
-    detail::session_handle handle_;
 };
 
 /* The version of the library that is linked, as "0.1.0". */

@@ -170,7 +170,7 @@ fields_in_source() {
     sed -n "/^#\[repr(C)\]/,/^}/{/pub struct $2 {/,/^}/{s/^    pub \([a-z]*\): u\([0-9]*\),\$/\1 uint\2_t/p;s/^    pub \([a-z]*\): usize,\$/\1 size_t/p}}" "$root/crates/$1"
 }
 fields_in_c p21_report > "$here/declared"
-fields_in_source p21_c_answers/src/answers.rt Report > "$here/found"
+fields_in_source p21_c/src/answers.rt Report > "$here/found"
 part 'the fields of a report' same_lists "$here/declared" "$here/found"
 fields_in_c p21_parts > "$here/declared"
 fields_in_source p21_c/src/versions.rt Version > "$here/found"

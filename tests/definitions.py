@@ -1,10 +1,13 @@
 #!/usr/bin/env python3
 """Whether each name in the tables of rules of docs/DEFINITIONS.md is there: definitions, examples and laws, functions and
-types of the code, tests, and wrong bodies; and each call, clause and file in the tables of promises of docs/CONTRACTS.md;
+types of the code, tests, wrong bodies, and what the plain reading has of a rule; whether each function of the plain reading that
+refuses something stands there; and each call, clause and file in the tables of promises of docs/CONTRACTS.md;
 whether docs/CALLS.md is what tools/make-contracts makes of the sources; and whether each page of docs that a file names is there.
-The status is 1 where one isn't, or where a rule has no code but has a test or a wrong body.
+The status is 1 where one isn't, where a rule has no code but has a test or a wrong body, where the scanner of tokens carries
+out a rule and its row names no function of it, or where nothing of the plain reading carries a rule and no reason is said.
 """
 
+import ast
 import functools
 import pathlib
 import re
@@ -13,8 +16,12 @@ import sys
 
 ROOT = pathlib.Path(__file__).resolve().parent.parent
 CRATES = ROOT / "crates"
-DEFINITIONS = ("p21_basics", "p21_exchange", "p21_schemas", "p21_files")
-COLUMNS = ["Rule", "Definition", "Example or law", "Code", "Test", "Wrong body"]
+DEFINITIONS = ("p21_spec_basics", "p21_spec_exchange", "p21_spec_schema", "p21_spec_file")
+COLUMNS = ["Rule", "Definition", "Example or law", "Code", "Test", "Wrong body", "Plain reading"]
+# Where the table of tokens has a further column: behind the code, what scans the token where it stands whole
+WHOLE = COLUMNS.index("Code") + 1
+SCANNER = "p21_scan"
+PLAIN = ROOT / "tests" / "plain"
 NAME = re.compile(r"(?:(?:(?P<crate>p21\w+)/)?(?P<file>[A-Z]\w*)\.)?(?P<name>[\w-]+)")
 
 
@@ -86,17 +93,77 @@ def missing_edits(cell):
             yield text
 
 
+def definitions_in(cell):
+    """The definitions of a cell as (FILE, NAME). One without a file is in the file named last."""
+    file = None
+    for text in quoted(cell):
+        if name := NAME.fullmatch(text):
+            file = name["file"] or file
+            yield file, name["name"]
+
+
+@functools.cache
+def scanned_definitions():
+    """The definitions of tokens that the scanner's contracts and lemmas speak of, as (FILE, NAME)."""
+    imports = re.findall(r"\buse Rattle\.p21_spec_exchange\.specs\.(\w+)\.\{([^}]*)\}", sources_in(CRATES / SCANNER))
+    return {(file, name) for file, names in imports for name in names.split(", ")}
+
+
+def missing_in_whole(whole, definition):
+    """What is wrong in the cell that names the scanner's functions: a rule that the scanner carries out has one."""
+    yield from missing_items(whole, "fn")
+    if not quoted(whole) and not scanned_definitions().isdisjoint(definitions_in(definition)):
+        yield f"no function of {SCANNER}"
+    yield from (text for text in quoted(whole) if not text.startswith(f"{SCANNER}::"))
+
+
+@functools.cache
+def items_of_plain():
+    """Whatever the plain reading has a name for, as MODULE.NAME, with whether it is a function that refuses something."""
+    found = {}
+    for path in sorted(PLAIN.glob("*.py")):
+        for node in ast.walk(ast.parse(path.read_text())):
+            if isinstance(node, (ast.FunctionDef, ast.ClassDef)):
+                refuses = isinstance(node, ast.FunctionDef) and any(is_refusal(within) for within in ast.walk(node))
+                found[f"{path.stem}.{node.name}"] = refuses
+            elif isinstance(node, ast.Assign):
+                found |= {f"{path.stem}.{target.id}": False for target in node.targets if isinstance(target, ast.Name)}
+    return found
+
+
+def is_refusal(node):
+    """Whether a statement raises a refusal with a number that stands there."""
+    return isinstance(node, ast.Raise) and any(isinstance(it, ast.Constant) and isinstance(it.value, int) for it in ast.walk(node))
+
+
+def missing_in_plain(cell):
+    """The names of a cell that the plain reading hasn't; a cell without names says in parentheses why."""
+    yield from (text for text in quoted(cell) if text not in items_of_plain())
+    if not quoted(cell) and not re.fullmatch(r"- \(.+\)", cell):
+        yield f"no reason why nothing of the plain reading carries it: {cell}"
+
+
+def unnamed_in_plain(found):
+    """The functions of the plain reading that refuse something, and that no row names."""
+    named = {text for _, cells in found for text in quoted(cells[-1])}
+    return [name for name, refuses in items_of_plain().items() if refuses and name not in named]
+
+
 def missing_in_rule(cells):
     """What is wrong in the row of a rule."""
+    if len(cells) == len(COLUMNS) + 1:
+        yield from missing_in_whole(cells[WHOLE], cells[COLUMNS.index("Definition")])
+        cells = cells[:WHOLE] + cells[WHOLE + 1 :]
     if len(cells) != len(COLUMNS):
         yield f"{len(cells)} cells"
         return
-    _, definition, example, code, test, wrong = cells
+    _, definition, example, code, test, wrong, plain = cells
     yield from missing_statements(definition, "specs")
     yield from missing_statements(outside(example), "proofs")
     yield from missing_items(code, "fn|struct|enum|trait")
     yield from missing_items(test, "fn")
     yield from missing_edits(wrong)
+    yield from missing_in_plain(plain)
     if code == "-" and (test, wrong) != ("-", "-"):
         yield "a test or a wrong body without code"
 
@@ -164,14 +231,17 @@ def missing_pages():
 
 
 def main():
-    rules, missing_rules = check("DEFINITIONS.md", rows("DEFINITIONS.md", "Rules", "Rule"), missing_in_rule)
+    found = list(rows("DEFINITIONS.md", "Rules", "Rule"))
+    rules, missing_rules = check("DEFINITIONS.md", found, missing_in_rule)
+    unnamed = unnamed_in_plain(found)
+    print("".join(f"tests/plain: no rule of docs/DEFINITIONS.md names {name}\n" for name in unnamed), end="")
     promises, missing = check("CONTRACTS.md", rows("CONTRACTS.md", "By promise", "Promise"), missing_in_promise)
     is_old = runpy.run_path(str(ROOT / "tools" / "make-contracts"))["page"]() != (ROOT / "docs" / "CALLS.md").read_text()
     if is_old:
         print("docs/CALLS.md is not what the sources say: tools/make-contracts makes it")
     unknown = list(missing_pages())
     print("".join(f"{line}\n" for line in unknown), end="")
-    failed = missing_rules + missing + is_old + len(unknown)
+    failed = missing_rules + len(unnamed) + missing + is_old + len(unknown)
     print(f"{rules} rules, {promises} promises, {failed} failed")
     return int(failed > 0 or rules == 0 or promises == 0)
 

@@ -1,5 +1,5 @@
 #!/bin/sh
-# Runs the tests of p21_value_tests for want of memory with the first allocation of each refused, then with the second, and
+# Runs the tests of p21_test_values for want of memory with the first allocation of each refused, then with the second, and
 # so on, and stops at the first test that doesn't pass. It ends where no test meets a refusal: a copy of the tests, in which
 # an answer for want of memory is a failure, says which do. It takes some three minutes.
 
@@ -10,7 +10,7 @@ if ! command -v rt > /dev/null; then
 fi
 here=$(mktemp -d) || exit
 trap 'rm -rf "$here"' EXIT
-tests=$root/crates/p21_value_tests/src/tests/want_of_memory.rt
+tests=$root/crates/p21_test_values/src/tests/want_of_memory.rt
 
 # A repository of the crates, and one more with these tests alone.
 (cd "$root" && tar -cf - --exclude=out --exclude=must-fail crates crates.txt HANDLES) | tar -xf - -C "$here" || exit

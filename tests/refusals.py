@@ -3,7 +3,7 @@
 makes it. The list there is compared with the titles of its sections and with what the pages show, with the code
 (crates/*/src/fault.rt) and with the definitions that its contracts cite (crates/*/specs/Fault.antt); so are the names and numbers
 of what is left out, by their table there and by the section of LeftOut; the sentence of each fault of each crate, by the table of
-sentences; and what tools/p21_files.py and web/files.mjs say was wanted. A test of the gate (crates/p21_stream_part_tests) runs the
+sentences; and what tools/p21_files.py and web/files.mjs say was wanted. A test of the gate (crates/p21_test_stream_parts) runs the
 code on each row of the table of sentences, but can't see that a fault has no row. The status is 1 where something differs, is
 missing or isn't listed.
 """
@@ -17,7 +17,7 @@ ROOT = pathlib.Path(__file__).resolve().parent.parent
 PAGES = ["README.md", "examples/README.md", *(path.relative_to(ROOT).as_posix() for path in sorted((ROOT / "docs").rglob("*.md")))]
 HELP = "crates/p21_command_line/src/help.rt"
 CODE = {
-    "files": ("p21_values", "p21_tokens", "p21_grammar", "p21_mapping_faults", "p21_stream_statements"),
+    "files": ("p21_values", "p21_tokens", "p21_grammar", "p21_grammar_tree", "p21_stream_statements"),
     "schemas": ("p21_express_lexemes", "p21_express_outline"),
 }
 
@@ -96,10 +96,10 @@ def absent_places():
 
 def absent_numbers():
     """Each place that has numbers of what is left out."""
-    code = read("crates/p21_c_answers/src/answers.rt")
-    yield "crates/p21_c_answers/src/answers.rt", {name: number for name, number in re.findall(r"Absent::(\w+) => (\d+),", code)}
-    specs = read("crates/p21_c_answers/specs/Answers.antt")
-    yield "crates/p21_c_answers/specs/Answers.antt", dict(re.findall(r"^absent_number_of (\w+) = (\d+)$", specs, re.M))
+    code = read("crates/p21_c/src/answers.rt")
+    yield "crates/p21_c/src/answers.rt", {name: number for name, number in re.findall(r"Absent::(\w+) => (\d+),", code)}
+    specs = read("crates/p21_c/specs/Reports.antt")
+    yield "crates/p21_c/specs/Reports.antt", dict(re.findall(r"^absent_number_of (\w+) = (\d+)$", specs, re.M))
 
 
 def sentences():

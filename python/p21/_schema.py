@@ -83,7 +83,7 @@ class Schema:
 
     @contextlib.contextmanager
     def _shared(self) -> Iterator[Handle]:
-        """A handle of its own for a call, so that calls of several threads run at once."""
+        """A handle of its own for a call, so that no thread lets go of it meanwhile."""
         handle = Handle()
         self._share(handle)
         try:

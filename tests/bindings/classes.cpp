@@ -88,6 +88,9 @@ static void test_schemas(const p21::schema &schema, const std::string &product) 
     const p21::schema moved = std::move(copy);
     judge(moved.check(product).instances == 128, "a schema that was moved");
     judge(is_misused([&] { copy.check(product); }), "what was moved away"); // NOLINT
+    judge(is_misused([&] { p21::schema of_nothing = copy; }), "a copy of what was moved away");
+    copy = moved;
+    judge(copy.check(product).instances == 128 && moved.check(product).instances == 128, "a schema that was assigned");
 }
 
 static void test_sessions(const p21::schema &schema, const std::string &product) {
@@ -112,10 +115,13 @@ static void test_sessions(const p21::schema &schema, const std::string &product)
     judge(line_of([&] { dead.finish(); }) == "refused 1 BadByte at statement 1", "its end");
 }
 
-/* Threads that use one schema at once, each some files, sessions and copies. */
+/* Threads that use one schema and one accepted file at once, each some files, sessions and copies. */
 static void test_threads(const p21::schema &schema, const std::string &product, const std::string &other) {
     std::vector<std::thread> threads;
     std::vector<int> right(8);
+    p21::session first(schema);
+    first.feed(product);
+    const p21::accepted accepted = first.finish();
     for (int &count : right) {
         threads.emplace_back([&] {
             const p21::schema own = schema;
@@ -125,11 +131,13 @@ static void test_threads(const p21::schema &schema, const std::string &product, 
                 count += schema.check(product).instances == 128;
                 count += own.same(product, other);
                 count += session.finish().canonical().view() == own.canonical(other).view();
+                count += accepted.line(1)->view() == "#1=DIMENSIONAL_EXPONENTS(1.,0.,0.);";
+                count += accepted.canonical().view().size() == 4872;
             }
         });
     }
     for (std::thread &thread : threads) thread.join();
-    for (int count : right) judge(count == 12, "what a thread finds");
+    for (int count : right) judge(count == 20, "what a thread finds");
 }
 
 int main(int count, char **words) {

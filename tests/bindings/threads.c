@@ -1,8 +1,10 @@
 /*
- * Eight threads use one schema at once: each by a handle of its own, with files, sessions and further handles. Run under helgrind it
- * shows that no thread writes what another one reads. Helgrind takes no order from an atomic number, as that by which the handles of a
- * schema are counted: so there the first handle is let go last, when all threads have ended. With `early` it is let go first, and the
- * last of the threads lets go of the schema. It prints what is wrong; the status is 1 where something is.
+ * Eight threads use one handle of a schema at once, with no lock: for files, for sessions and for further handles, which each
+ * thread frees as it goes. Then all of them read one accepted file at once. Run under helgrind it shows that no thread writes what
+ * another one reads. Helgrind takes no order from an atomic number, as that by which the handles of a schema are counted: so there
+ * the first handle is let go last, when all threads have ended. With `early` each thread has a handle of its own, the first one is
+ * let go before they start, and the last of the threads lets go of the schema. It prints what is wrong; the status is 1 where
+ * something is.
  *
  *   threads FOLDER [early]      FOLDER is `examples`
  */
@@ -26,10 +28,12 @@ typedef struct bytes {
 
 static bytes express, product, other, refused;
 
-/* A thread, with its own handle of the schema and how many of its calls found what they must. */
+/* A thread, with the handles that it uses, one of its own, and how many of its calls found what they must. */
 typedef struct worker {
     pthread_t thread;
-    p21_schema schema;
+    const p21_schema *schema;
+    const p21_session *accepted;
+    p21_schema own;
     int right;
 } worker;
 
@@ -46,7 +50,7 @@ static void read_into(bytes *into, const char *folder, const char *name) {
 }
 
 /* Is the first statement behind a session the one that it must be? */
-static bool has_line(p21_session *session) {
+static bool has_line(const p21_session *session) {
     static const char wanted[] = "#1=DIMENSIONAL_EXPONENTS(1.,0.,0.);";
     p21_text line = P21_EMPTY;
     const uint8_t *at;
@@ -58,7 +62,7 @@ static bool has_line(p21_session *session) {
 }
 
 /* Is the canonical file behind a session read whole, by a small buffer? */
-static bool is_read(p21_session *session) {
+static bool is_read(const p21_session *session) {
     p21_cursor cursor = P21_START;
     uint8_t buffer[100];
     size_t count = sizeof buffer, whole = 0;
@@ -69,26 +73,27 @@ static bool is_read(p21_session *session) {
 }
 
 static void *work(void *given) {
-    worker *own = given;
+    worker *its = given;
     for (int round = 0; round < ROUNDS; round++) {
         p21_report report;
         p21_schema shared = P21_EMPTY;
         p21_session session = P21_EMPTY;
         p21_text text = P21_EMPTY;
         uint8_t same = 9;
-        own->right += p21_check(&own->schema, product.at, product.length, &report) == P21_DONE && report.instances == 128;
-        own->right += p21_check(&own->schema, refused.at, refused.length, &report) == P21_REFUSED && report.number == P21_COUNT;
-        own->right += p21_same(&own->schema, product.at, product.length, other.at, other.length, &same, &report) == P21_DONE && same == 1;
-        own->right += p21_schema_share(&own->schema, &shared) == P21_DONE;
-        own->right += p21_canonical(&shared, other.at, other.length, &text, &report) == P21_DONE && report.bytes == 4872;
-        own->right += p21_session_new(&shared, &session) == P21_DONE;
+        its->right += p21_check(its->schema, product.at, product.length, &report) == P21_DONE && report.instances == 128;
+        its->right += p21_check(its->schema, refused.at, refused.length, &report) == P21_REFUSED && report.number == P21_COUNT;
+        its->right += p21_same(its->schema, product.at, product.length, other.at, other.length, &same, &report) == P21_DONE && same == 1;
+        its->right += p21_canonical(its->schema, other.at, other.length, &text, &report) == P21_DONE && report.bytes == 4872;
+        its->right += p21_schema_share(its->schema, &shared) == P21_DONE;
+        its->right += p21_session_new(round == 0 ? its->schema : &shared, &session) == P21_DONE;
         p21_schema_free(&shared);
-        own->right += p21_session_feed(&session, product.at, product.length, &report) == P21_DONE;
-        own->right += p21_session_finish(&session, &report) == P21_DONE && has_line(&session) && is_read(&session);
+        its->right += p21_session_feed(&session, product.at, product.length, &report) == P21_DONE;
+        its->right += p21_session_finish(&session, &report) == P21_DONE && has_line(&session) && is_read(&session);
+        its->right += has_line(its->accepted) && is_read(its->accepted);
         p21_session_free(&session);
         p21_text_free(&text);
     }
-    p21_schema_free(&own->schema);
+    p21_schema_free(&its->own);
     return NULL;
 }
 
@@ -105,9 +110,15 @@ int main(int count, char **words) {
     static worker workers[THREADS];
     p21_report report;
     p21_schema schema = P21_EMPTY;
+    p21_session accepted = P21_EMPTY;
     int right = p21_schema_new(express.at, express.length, &schema, &report) == P21_DONE;
+    right += p21_session_new(&schema, &accepted) == P21_DONE;
+    right += p21_session_feed(&accepted, product.at, product.length, &report) == P21_DONE;
+    right += p21_session_finish(&accepted, &report) == P21_DONE;
     for (int i = 0; i < THREADS; i++) {
-        right += p21_schema_share(&schema, &workers[i].schema) == P21_DONE;
+        workers[i].schema = is_early ? &workers[i].own : &schema;
+        workers[i].accepted = &accepted;
+        right += !is_early || p21_schema_share(&schema, &workers[i].own) == P21_DONE;
     }
     if (is_early) {
         p21_schema_free(&schema);
@@ -119,10 +130,11 @@ int main(int count, char **words) {
         right += pthread_join(workers[i].thread, NULL) == 0;
     }
     p21_schema_free(&schema);
+    p21_session_free(&accepted);
     for (int i = 0; i < THREADS; i++) {
-        right += workers[i].right == 8 * ROUNDS && workers[i].schema.inside == NULL;
+        right += workers[i].right == 9 * ROUNDS && workers[i].own.inside == NULL;
     }
-    bool is_right = right == 1 + 4 * THREADS;
+    bool is_right = right == 4 + 4 * THREADS;
     puts(is_right ? "each thread finds what it must" : "wrong: a call finds something else");
     return is_right ? 0 : 1;
 }

@@ -2,6 +2,7 @@
 
 from . import canonical
 from .files import read_file, survey_file
+from .limits import USUAL
 from .refusal import Refused, RefusedFile, RefusedSchema
 from .schema import read_schema
 from .tokens import canonical_param
@@ -51,9 +52,9 @@ def accepted(found, meaning):
 
 
 @of_files
-def check(found, file):
+def check(found, file, limits=USUAL):
     """The answer for a file that is accepted."""
-    return accepted(found, read_file(found, file))
+    return accepted(found, read_file(found, file, limits))
 
 
 @of_files

@@ -3,7 +3,9 @@
 import re
 from dataclasses import dataclass, field
 
-from .grammar import Instance, Parser, Part, Section
+from . import canonical
+from .grammar import Instance, Line, Parser, Part, Section
+from .limits import USUAL
 from .records import Check, is_served
 from .refusal import Refused, RefusedFile
 from .tokens import tokens
@@ -27,17 +29,20 @@ def names_schema(text, schema):
 
 
 class Reading:
-    """The reading of one file. `needs` are its references in their order, each with the instance that holds it."""
+    """The reading of one file. `needs` are its references in their order, each with the instance that holds it; `length` is
+    how long the canonical lines of the statements are, each with its LF."""
 
-    def __init__(self, schema):
+    def __init__(self, schema, limits=USUAL):
         self.schema = schema
+        self.limits = limits
         self.meaning = FileMeaning()
         self.section = None
         self.needs = []
+        self.length = 0
 
     def read(self, data):
         """The meaning of a file. A refusal names the statement that is open, or the instance that breaks a rule."""
-        parser = Parser(tokens(data))
+        parser = Parser(tokens(data, self.limits))
         try:
             for statement in parser.statements():
                 self.statement(statement)
@@ -59,9 +64,21 @@ class Reading:
                 self.named_section(statement)
             case Instance():
                 self.instance(statement)
-            case ("DATA;",):
-                self.section = None
-                self.meaning.sections.add(None)
+            case Line():
+                self.line(statement)
+
+    def line(self, line):
+        """A line that begins or ends a section or the file; with one of them a section without a name begins."""
+        if line.text == canonical.section_line(None):
+            self.section = None
+            self.meaning.sections.add(None)
+        self.within(line.text)
+
+    def within(self, text):
+        """A canonical line is within the limit on lines, and all of them with their LFs within that on canonical files."""
+        self.length += len(text) + 1
+        if len(text) > self.limits.canonical_record or self.length > self.limits.canonical_file:
+            raise Refused(27)
 
     def header_record(self, part):
         """A header record is kept as it is; FILE_SCHEMA names the schema."""
@@ -70,6 +87,7 @@ class Reading:
             if not names_schema(text, self.schema):
                 raise Refused(31)
         self.meaning.header.append(part)
+        self.within(canonical.header_record(part))
 
     def named_section(self, section):
         """A data section with a name: its text names the schema, and its name is another one than those before."""
@@ -79,6 +97,7 @@ class Reading:
             raise Refused(33)
         self.section = section
         self.meaning.sections.add(section)
+        self.within(canonical.section_line(section))
 
     def instance(self, statement):
         """An instance: its name is another one than those before in the whole file, and its record has a meaning."""
@@ -91,11 +110,12 @@ class Reading:
             raise RefusedFile(refused, f"in #{statement.name}") from None
         self.meaning.instances[statement.name] = (self.section, meaning)
         self.needs += [(statement.name, need) for need in check.needs]
+        self.within(canonical.instance(self.schema, statement.name, meaning))
 
 
-def read_file(schema, data):
-    """The meaning of a file under a schema."""
-    return Reading(schema).read(data)
+def read_file(schema, data, limits=USUAL):
+    """The meaning of a file under a schema, within limits."""
+    return Reading(schema, limits).read(data)
 
 
 class Survey(Reading):
@@ -109,7 +129,7 @@ class Survey(Reading):
 
     def read(self, data):
         """What is said behind the count of the refusals: nothing where all of the file was read."""
-        parser = Parser(tokens(data))
+        parser = Parser(tokens(data, self.limits))
         try:
             for statement in parser.statements():
                 self.statement(statement)

@@ -1,12 +1,14 @@
 """Tokens: which bytes spell which token, and at which byte a text is refused.
 
 A refusal comes at the first byte with which no token goes on. A token that only the byte behind it ends is given before
-that byte is looked at, so that what is wrong with the token comes before what is wrong with the byte.
+that byte is looked at, so that what is wrong with the token comes before what is wrong with the byte. What the limits say of
+a byte comes before all else that is wrong with it.
 """
 
 from typing import NamedTuple
 
 from . import scalars
+from .limits import USUAL
 from .refusal import Refused
 
 DIGITS = b"0123456789"
@@ -29,11 +31,13 @@ class Token(NamedTuple):
 
 
 class Front:
-    """The bytes of a text and how many of them are read."""
+    """The bytes of a text and how many of them are read; `open` are those of tokens of the statement that is open."""
 
-    def __init__(self, data):
+    def __init__(self, data, limits):
         self.data = data
+        self.limits = limits
         self.at = 0
+        self.open = 0
 
     def next(self):
         """The next byte, without reading it; an empty byte string, which is among any bytes, does not stand for the end."""
@@ -44,54 +48,78 @@ class Front:
         byte = self.next()
         return byte is not None and byte in among
 
-    def take(self, among, fault, at_end=24):
+    def within(self, counts=True):
+        """The next byte is within the limit on files and, where it counts as a byte of a token, within that on statements."""
+        if self.at >= self.limits.file:
+            raise Refused(23)
+        if counts and self.open >= self.limits.record:
+            raise Refused(22)
+
+    def go(self, counts=True):
+        """Reads over the next byte."""
+        self.within(counts)
+        self.at += 1
+        self.open += counts
+
+    def refused(self, *fault, counts=True):
+        """The refusal of the next byte."""
+        self.within(counts)
+        return Refused(*fault)
+
+    def take(self, among, fault, at_end=24, counts=True):
         """The next byte, which is one of these; another one is refused, and so is the end."""
         byte = self.next()
         if byte is None:
             raise Refused(at_end)
         if byte not in among:
-            raise Refused(fault)
-        self.at += 1
+            raise self.refused(fault, counts=counts)
+        self.go(counts)
         return byte.decode("latin-1")
 
-    def run(self, among):
+    def run(self, among, counts=True):
         """The bytes from here on that are among these, possibly none."""
         start = self.at
         while self.is_at(among):
-            self.at += 1
+            self.go(counts)
         return self.data[start : self.at].decode("latin-1")
 
 
-def tokens(data):
-    """The tokens of a text, one after another, between any separators."""
-    front = Front(data)
+def tokens(data, limits=USUAL):
+    """The tokens of a text, one after another, between any separators. With a `;` a statement ends."""
+    front = Front(data, limits)
     while True:
         separators(front)
         if front.next() is None:
             return
         kind, value, waits = token(front)
+        if kind == ";":
+            front.open = 0
         yield Token(kind, value, waits and front.next() is None)
 
 
 def separators(front):
-    """Reads over bytes 00 to 20 and 7F, and comments: `/*`, any bytes, and the first `*/` behind them."""
+    """Reads over bytes 00 to 20 and 7F, and comments: `/*`, any bytes, and the first `*/` behind them. None of these bytes
+    counts as one of a token, nor does one behind a `/` that begins no comment."""
     while True:
-        front.run(SEPARATORS)
+        front.run(SEPARATORS, counts=False)
         if not front.is_at(b"/"):
             return
-        front.at += 1
-        front.take(b"*", 1)
+        front.go(counts=False)
+        front.take(b"*", 1, counts=False)
         end = front.data.find(b"*/", front.at)
+        behind = len(front.data) if end < 0 else end + 2
+        if behind > front.limits.file:
+            raise Refused(23)
         if end < 0:
             raise Refused(3)
-        front.at = end + 2
+        front.at = behind
 
 
 def token(front):
     """The token that begins here: its kind, its meaning, and whether it is known only by the byte behind it."""
     byte = front.next()
     if byte in b"(),;=$*":
-        front.at += 1
+        front.go()
         sign = byte.decode("ascii")
         return sign, (sign,), False
     if byte in LETTERS:
@@ -100,25 +128,25 @@ def token(front):
         return number(front)
     match byte:
         case b"!":
-            front.at += 1
+            front.go()
             return user_keyword(front)
         case b".":
-            front.at += 1
+            front.go()
             return item(front)
         case b'"':
-            front.at += 1
+            front.go()
             return binary(front)
         case b"#":
-            front.at += 1
+            front.go()
             return name(front)
         case b"'":
-            front.at += 1
+            front.go()
             return text(front)
         case b"&":
-            raise Refused(26, "Scope")
+            raise front.refused(26, "Scope")
         case b"@":
-            raise Refused(26, "ValueName")
-    raise Refused(1)
+            raise front.refused(26, "ValueName")
+    raise front.refused(1)
 
 
 def keyword(front):
@@ -127,11 +155,11 @@ def keyword(front):
     if front.is_at(b"-"):
         whole = {"ISO": "ISO-10303-21", "END": "END-ISO-10303-21"}.get(word)
         if whole is None:
-            raise Refused(1)
+            raise front.refused(1)
         for byte in whole[len(word) :]:
             front.take(byte.encode("ascii"), 1)
         if front.is_at(KEYWORD_BYTES):
-            raise Refused(1)
+            raise front.refused(1)
         return ("Begin" if word == "ISO" else "Finish"), None, True
     return "keyword", word, True
 
@@ -140,7 +168,7 @@ def user_keyword(front):
     """`!` and a keyword; no hyphen stands behind it."""
     word = front.take(LETTERS, 1) + front.run(KEYWORD_BYTES)
     if front.is_at(b"-"):
-        raise Refused(1)
+        raise front.refused(1)
     return "user keyword", word, True
 
 
@@ -159,11 +187,11 @@ def number(front):
     in_front = front.take(DIGITS, 7) + front.run(DIGITS)
     if not front.is_at(b"."):
         return "whole", scalars.whole(sign, in_front), True
-    front.at += 1
+    front.go()
     behind = front.run(DIGITS)
     exponent_sign = exponent = ""
     if front.is_at(b"E"):
-        front.at += 1
+        front.go()
         if front.is_at(b"+-"):
             exponent_sign = front.take(b"+-", 7)
         exponent = front.take(DIGITS, 7) + front.run(DIGITS)
@@ -173,7 +201,7 @@ def number(front):
 def name(front):
     """`#` and digits for a number up to 2^64 - 1; the digit that passes it is refused. Behind `#` a letter is a constant's."""
     if front.is_at(LETTERS):
-        raise Refused(26, "ConstantName")
+        raise front.refused(26, "ConstantName")
     number = int(front.take(DIGITS, 11))
     while front.is_at(DIGITS):
         number = 10 * number + int(front.take(DIGITS, 11))
@@ -191,8 +219,8 @@ def binary(front):
         if len(digits) == 1 and int(digits, 16) >> (4 - int(padding)):
             raise Refused(9)
     if padding != "0" and not digits:
-        raise Refused(9)
-    front.at += 1
+        raise front.refused(9)
+    front.go()
     return "bits", ("bits", padding + digits), False
 
 
@@ -204,20 +232,20 @@ def text(front):
         if byte is None:
             raise Refused(2)
         if byte in IGNORED:
-            front.at += 1
+            front.go()
         elif byte >= b"\x80":
             characters += utf8(front)
         elif byte == b"'":
-            front.at += 1
+            front.go()
             if not front.is_at(b"'"):
                 return "text", ("text", characters), True
-            front.at += 1
+            front.go()
             characters += "'"
         elif byte == b"\\":
-            front.at += 1
+            front.go()
             characters += directive(front)
         else:
-            front.at += 1
+            front.go()
             characters += byte.decode("ascii")
 
 
@@ -240,12 +268,12 @@ def utf8(front):
     first = front.data[start]
     for firsts, follow, seconds in UTF8:
         if first in firsts:
-            front.at += 1
+            front.go()
             front.take(bytes(seconds), 6, at_end=2)
             for _ in range(follow - 1):
                 front.take(bytes(range(0x80, 0xC0)), 6, at_end=2)
             return front.data[start : front.at].decode("utf-8")
-    raise Refused(6)
+    raise front.refused(6)
 
 
 def in_directive(front, among):
@@ -303,8 +331,8 @@ def extended2(front):
             characters += chr(unit)
         if front.is_at(b"\\"):
             if high is not None:
-                raise Refused(5)
-            front.at += 1
+                raise front.refused(5)
+            front.go()
             end_extended(front)
             return characters
 
@@ -318,7 +346,7 @@ def extended4(front):
             raise Refused(5)
         characters += chr(unit)
         if front.is_at(b"\\"):
-            front.at += 1
+            front.go()
             end_extended(front)
             return characters
 

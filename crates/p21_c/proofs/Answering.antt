@@ -1,14 +1,14 @@
 -- What a schema's text and a file's text give.
 use Rattle.std.proofs.Common.{◌≡◌, ℕ, List, Option, Ok, Bool, IsTrue, None, Some, ◌↔◌, refl, sym, subst, ◌∙◌, inl, inr}
-use Rattle.p21_basics.specs.Limits.{Limits, usual}
+use Rattle.p21_spec_basics.specs.Limits.{Limits, usual}
 use Rattle.p21_c.specs.Answers.{ChecksFile, Compares, IsAcceptedText, StoresSchema, MakesCanonical, MakesSchema, RefusesText}
-use Rattle.p21_c_answers.specs.Answers.{accepted_answer, done_answer, refused_answer, file_subject, second_subject}
+use Rattle.p21_c.specs.Reports.{accepted_answer, done_answer, refused_answer, file_subject, second_subject}
 use Rattle.p21_c.specs.Contents.{HoldsText}
-use Rattle.p21_c_answers.specs.declared.answers.Answer.{Answer}
+use Rattle.p21_c.specs.declared.answers.Answer.{Answer}
 use Rattle.p21_c.specs.declared.contents.Content.{Content}
 use Rattle.p21_express.specs.ReadSchema.{SchemaRead}
-use Rattle.p21_schemas.specs.Schema.{Schema}
-use Rattle.p21_files.specs.Accepted.{IsAccepted}
+use Rattle.p21_spec_schema.specs.Schema.{Schema}
+use Rattle.p21_spec_file.specs.Accepted.{IsAccepted}
 use Rattle.p21_stream.specs.Answers.{IsOnlyCanonicalFile}
 use Rattle.p21_stream.specs.Claim.{Claim}
 use Rattle.p21_stream_output.specs.Output.{Output, output_text}

@@ -3,14 +3,14 @@ use Rattle.std.specs.Prelude.{◌≡◌, ◌≢◌, ◌↔◌, ◌⊎◌, ℕ, B
 use Rattle.std.specs.Global.{Vec}
 use Rattle.std.specs.Vec.{vec_ptr}
 use denote.RawPtr.{Ptr}
-use Rattle.p21_basics.specs.Limits.{usual}
+use Rattle.p21_spec_basics.specs.Limits.{usual}
 use Rattle.p21_c.specs.Contents.{HoldsText, handed_content, output_in, schema_in, session_in}
 use Rattle.p21_c.specs.declared.contents.Content.{Content}
-use Rattle.p21_claim.specs.CanonicalLaws.{MeanTheSame}
+use Rattle.p21_spec_laws.specs.CanonicalLaws.{MeanTheSame}
 use Rattle.p21_express.specs.ReadSchema.{SchemaRead}
 use Rattle.p21_express_outline.specs.declared.fault.SchemaFault.{SchemaFault}
-use Rattle.p21_files.specs.Accepted.{IsAccepted}
-use Rattle.p21_schemas.specs.Schema.{Schema}
+use Rattle.p21_spec_file.specs.Accepted.{IsAccepted}
+use Rattle.p21_spec_schema.specs.Schema.{Schema}
 use Rattle.p21_stream.specs.Answers.{IsOnlyCanonicalFile}
 use Rattle.p21_stream_output.specs.Output.{Output, output_text}
 use Rattle.p21_stream_output.specs.Reading.{Takes, rest_at, start}
@@ -22,8 +22,8 @@ use Rattle.p21_stream.specs.Canonical.{IsCanonicalOutput}
 use Rattle.p21_stream.specs.Held.{SessionHeld, limits_of, refusal_of, schema_of}
 use Rattle.p21_stream.specs.Histories.{FeedChecks, FeedGives, FeedNeedsNoMemory, FinishGives, KeepsSchema, RefusesAgain, RefusesAtEnd, Stands, nothing_taken}
 use Rattle.p21_stream_store.specs.StoredInstance.{instance_names}
-use Rattle.p21_c_answers.specs.Answers.{done, refused, misused, failed, file_subject, second_subject, done_answer, misused_answer, no_memory_answer, accepted_answer, refused_answer, schema_refused_answer}
-use Rattle.p21_c_answers.specs.declared.answers.Answer.{Answer}
+use Rattle.p21_c.specs.Reports.{done, refused, misused, failed, file_subject, second_subject, done_answer, misused_answer, no_memory_answer, accepted_answer, refused_answer, schema_refused_answer}
+use Rattle.p21_c.specs.declared.answers.Answer.{Answer}
 
 -- ---- what is handed out
 

@@ -5,7 +5,7 @@ use Rattle.p21_c.specs.declared.contents.Content.{Content}
 use Rattle.p21_c.specs.declared.contents.Content.TheVariants as content
 use Rattle.p21_c.specs.declared.contents.Taken.{Taken}
 use Rattle.p21_c.specs.declared.contents.Taken.TheVariants as taken
-use Rattle.p21_schemas.specs.Schema.{Schema}
+use Rattle.p21_spec_schema.specs.Schema.{Schema}
 use Rattle.p21_stream_output.specs.Output.{Output}
 use Rattle.p21_stream.specs.Held.{SessionHeld}
 

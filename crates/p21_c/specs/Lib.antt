@@ -2,3 +2,4 @@
 pub mod Answers
 pub mod Contents
 pub mod Owned
+pub mod Reports

@@ -1,6 +1,6 @@
 //! A file in memory, read under a schema.
 ghost use Rattle.std.specs.Prelude.{IfErr, IfOk};
-ghost use Rattle.p21_basics.specs.Limits.{usual};
+ghost use Rattle.p21_spec_basics.specs.Limits.{usual};
 ghost use Rattle.p21_c.specs.Answers.{IsAcceptedText, RefusesText};
 ghost use Rattle.p21_stream.specs.Claim.{Claim};
 

@@ -1,6 +1,6 @@
 //! What a handle of C holds.
-ghost use Rattle.std.specs.Prelude.{◌≡◌, IfSome, MatchOption, None, Some};
-ghost use Rattle.p21_c.specs.Contents.{TakesSession, output_in, schema_in, text_in, boxed_content};
+ghost use Rattle.std.specs.Prelude.{◌≡◌, IfSome, Some};
+ghost use Rattle.p21_c.specs.Contents.{TakesSession, boxed_content};
 ghost use Rattle.p21_c.specs.declared.contents.Content.TheVariants as content;
 
 use p21_express_tables::Schema;
@@ -38,45 +38,6 @@ fn replaced(mut held: Box<Content, Global>, content: Content) -> Box<Content, Gl
 {
     let _ = Box::replace(&mut held, content);
     held
-}
-
-/// The schema that is held.
-pub(crate) fn schema_of(held: &Holding) -> Option<&Arc<Schema, Global>>
-    ensures { MatchOption result (schema_in (boxed_content held.now) ≡ None) (λ shared. schema_in (boxed_content held.now) ≡ Some shared.now.value) }
-{
-    let Some(content) = held else {
-        return None;
-    };
-    match content.as_ref() {
-        Content::Schema(schema) => Some(schema),
-        _ => None,
-    }
-}
-
-/// The accepted file that is held.
-pub(crate) fn accepted_of(held: &Holding) -> Option<&Accepted>
-    ensures { MatchOption result (output_in (boxed_content held.now) ≡ None) (λ accepted. output_in (boxed_content held.now) ≡ Some accepted.now) }
-{
-    let Some(content) = held else {
-        return None;
-    };
-    match content.as_ref() {
-        Content::Accepted(accepted) => Some(accepted),
-        _ => None,
-    }
-}
-
-/// The text that is held.
-pub(crate) fn text_of(held: &Holding) -> Option<&Vec<u8>>
-    ensures { MatchOption result (text_in (boxed_content held.now) ≡ None) (λ text. text_in (boxed_content held.now) ≡ Some text.now) }
-{
-    let Some(content) = held else {
-        return None;
-    };
-    match content.as_ref() {
-        Content::Text(text) => Some(text),
-        _ => None,
-    }
 }
 
 /// A session, and the block that it leaves; or what was held, where that is no session.

@@ -4,27 +4,20 @@ ghost use Rattle.p21_c.specs.Answers.{ChecksFile, Compares, HoldsMade, MakesCano
 ghost use Rattle.p21_c.specs.Contents.{schema_in, boxed_content};
 
 use crate::accepting::{accept_text, claim_under};
+use crate::answers::{Answer, FILE, Report, SECOND, accepted, done, misused, no_memory, refused};
 use crate::components::Handle;
-use crate::contents::{Holding, schema_of};
+use crate::contents::Holding;
+use crate::lent::Lent;
 use crate::texts::{file_of, text_of};
-use p21_c_answers::{Answer, FILE, Report, SECOND, accepted, done, misused, no_memory, refused};
 use p21_express_tables::Schema;
 use std::alloc::Global;
 
 /// Whether a file is accepted under a schema. It isn't copied.
 #[unsafe(no_mangle)]
-pub extern "C" fn p21_check(
-    alloc: Global,
-    schema: &mut Handle,
-    file: &[u8],
-    report: &mut Report,
-) -> u8
-    ensures checks { ChecksFile (schema_in schema.old.value) file.now (record { status = result; report = report.new }) }
-    ensures schema { schema.new.value ≡ schema.old.value }
+pub extern "C" fn p21_check(alloc: Global, schema: &Lent, file: &[u8], report: &mut Report) -> u8
+    ensures { ChecksFile (schema_in schema.now.value) file.now (record { status = result; report = report.new }) }
 {
-    let content = schema.take(alloc);
-    let answer = check(alloc, &content, file);
-    schema.put(alloc, content);
+    let answer = check(alloc, schema, file);
     *report = answer.report;
     answer.status
 }
@@ -33,17 +26,14 @@ pub extern "C" fn p21_check(
 #[unsafe(no_mangle)]
 pub extern "C" fn p21_canonical(
     alloc: Global,
-    schema: &mut Handle,
+    schema: &Lent,
     file: &[u8],
     text: &mut Handle,
     report: &mut Report,
 ) -> u8
-    ensures canonical { HoldsMade (MakesCanonical (schema_in schema.old.value) file.now (record { status = result; report = report.new })) text.old.value text.new.value }
-    ensures schema { schema.new.value ≡ schema.old.value }
+    ensures { HoldsMade (MakesCanonical (schema_in schema.now.value) file.now (record { status = result; report = report.new })) text.old.value text.new.value }
 {
-    let content = schema.take(alloc);
-    let (made, answer) = canonical(alloc, &content, file);
-    schema.put(alloc, content);
+    let (made, answer) = canonical(alloc, schema, file);
     text.hand(alloc, made);
     *report = answer.report;
     answer.status
@@ -53,28 +43,25 @@ pub extern "C" fn p21_canonical(
 #[unsafe(no_mangle)]
 pub extern "C" fn p21_same(
     alloc: Global,
-    schema: &mut Handle,
+    schema: &Lent,
     first: &[u8],
     second: &[u8],
     same: &mut u8,
     report: &mut Report,
 ) -> u8
-    ensures same { TellsAnswer (Compares (schema_in schema.old.value) first.now second.now (record { status = result; report = report.new })) same.old same.new }
-    ensures schema { schema.new.value ≡ schema.old.value }
+    ensures { TellsAnswer (Compares (schema_in schema.now.value) first.now second.now (record { status = result; report = report.new })) same.old same.new }
 {
-    let content = schema.take(alloc);
-    let (told_answer, answer) = compare(alloc, &content, first, second);
-    schema.put(alloc, content);
+    let (told_answer, answer) = compare(alloc, schema, first, second);
     tell(told_answer, same);
     *report = answer.report;
     answer.status
 }
 
 /// Whether a file is accepted under the schema that is held.
-fn check(alloc: Global, held: &Holding, file: &[u8]) -> Answer
-    ensures { ChecksFile (schema_in (boxed_content held.now)) file.now result }
+fn check(alloc: Global, schema: &Lent, file: &[u8]) -> Answer
+    ensures { ChecksFile (schema_in schema.now.value) file.now result }
 {
-    let Some(schema) = schema_of(held) else {
+    let Some(schema) = schema.schema() else {
         return misused();
     };
     match accept_text(alloc, schema, file) {
@@ -84,10 +71,10 @@ fn check(alloc: Global, held: &Holding, file: &[u8]) -> Answer
 }
 
 /// The canonical file of a file.
-fn canonical(alloc: Global, held: &Holding, file: &[u8]) -> (Holding, Answer)
-    ensures { MakesCanonical (schema_in (boxed_content held.now)) file.now result.1 (boxed_content result.0) }
+fn canonical(alloc: Global, schema: &Lent, file: &[u8]) -> (Holding, Answer)
+    ensures { MakesCanonical (schema_in schema.now.value) file.now result.1 (boxed_content result.0) }
 {
-    let Some(schema) = schema_of(held) else {
+    let Some(schema) = schema.schema() else {
         return (None, misused());
     };
     let output = match accept_text(alloc, schema, file) {
@@ -101,10 +88,10 @@ fn canonical(alloc: Global, held: &Holding, file: &[u8]) -> (Holding, Answer)
 }
 
 /// Whether two files mean the same under the schema that is held.
-fn compare(alloc: Global, held: &Holding, first: &[u8], second: &[u8]) -> (Option<bool>, Answer)
-    ensures { Compares (schema_in (boxed_content held.now)) first.now second.now result.1 result.0 }
+fn compare(alloc: Global, schema: &Lent, first: &[u8], second: &[u8]) -> (Option<bool>, Answer)
+    ensures { Compares (schema_in schema.now.value) first.now second.now result.1 result.0 }
 {
-    let Some(schema) = schema_of(held) else {
+    let Some(schema) = schema.schema() else {
         return (None, misused());
     };
     compare_under(alloc, schema, first, second)

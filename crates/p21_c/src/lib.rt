@@ -3,10 +3,12 @@
 #![tactic(auto)]
 
 mod accepting;
+mod answers;
 mod components;
 mod contents;
 mod files;
 mod handles;
+mod lent;
 mod schemas;
 mod sessions;
 mod texts;

@@ -3,9 +3,10 @@ ghost use Rattle.std.specs.Prelude.{◌≡◌, None, Some};
 ghost use Rattle.p21_c.specs.Answers.{HoldsMade, SharesSchema, StoresSchema, MakesSchema};
 ghost use Rattle.p21_c.specs.Contents.{boxed_content, schema_in};
 
+use crate::answers::{Answer, DONE, FAILED, MISUSED, Report, done, no_memory, schema_refused};
 use crate::components::Handle;
-use crate::contents::{Content, Holding, boxed, schema_of};
-use p21_c_answers::{Answer, DONE, FAILED, MISUSED, Report, done, no_memory, schema_refused};
+use crate::contents::{Content, Holding, boxed};
+use crate::lent::Lent;
 use p21_express::read_schema;
 use p21_express_tables::Schema;
 use std::alloc::Global;
@@ -27,15 +28,12 @@ pub extern "C" fn p21_schema_new(
     answer.status
 }
 
-/// Hands out another handle of a schema, which isn't copied, so that each of several threads has one.
+/// Hands out another handle of a schema, which isn't copied. Either of the two may be freed first.
 #[unsafe(no_mangle)]
-pub extern "C" fn p21_schema_share(alloc: Global, schema: &mut Handle, shared: &mut Handle) -> u8
-    ensures shared { HoldsMade (SharesSchema (schema_in schema.old.value) result) shared.old.value shared.new.value }
-    ensures schema { schema.new.value ≡ schema.old.value }
+pub extern "C" fn p21_schema_share(alloc: Global, schema: &Lent, shared: &mut Handle) -> u8
+    ensures { HoldsMade (SharesSchema (schema_in schema.now.value) result) shared.old.value shared.new.value }
 {
-    let content = schema.take(alloc);
-    let (made, status) = share(alloc, &content);
-    schema.put(alloc, content);
+    let (made, status) = share(alloc, schema);
     shared.hand(alloc, made);
     status
 }
@@ -73,10 +71,10 @@ fn store_schema(alloc: Global, schema: Schema) -> (Holding, Answer)
 }
 
 /// The schema that is held, shared.
-fn share(alloc: Global, held: &Holding) -> (Holding, u8)
-    ensures { SharesSchema (schema_in (boxed_content held.now)) result.1 (boxed_content result.0) }
+fn share(alloc: Global, schema: &Lent) -> (Holding, u8)
+    ensures { SharesSchema (schema_in schema.now.value) result.1 (boxed_content result.0) }
 {
-    let Some(schema) = schema_of(held) else {
+    let Some(schema) = schema.schema() else {
         return (None, MISUSED);
     };
     let Ok(schema) = Arc::try_clone(schema) else {

@@ -3,14 +3,13 @@ ghost use Rattle.std.specs.Prelude.{◌≡◌, None};
 ghost use Rattle.p21_c.specs.Answers.{Feeds, Finishes, HoldsMade, MakesFile, MakesLine, MakesSession, ReadsFile, feed_answer};
 ghost use Rattle.p21_c.specs.Contents.{output_in, schema_in, session_in, boxed_content};
 
-use crate::components::Handle;
-use crate::contents::{
-    Content, Holding, Taken, accepted_of, boxed, put_accepted, put_session, schema_of, take_session,
-};
-use crate::texts::{copy_of, file_of};
-use p21_c_answers::{
+use crate::answers::{
     Answer, DONE, FAILED, FILE, MISUSED, REFUSED, Report, accepted, done, misused, refused,
 };
+use crate::components::Handle;
+use crate::contents::{Content, Holding, Taken, boxed, put_accepted, put_session, take_session};
+use crate::lent::Lent;
+use crate::texts::{copy_of, file_of};
 use p21_stream::SharedSession;
 use p21_stream_output::Cursor;
 use p21_stream_statements::Refusal;
@@ -20,13 +19,10 @@ use std::sync::Arc;
 
 /// Hands out a session over a schema.
 #[unsafe(no_mangle)]
-pub extern "C" fn p21_session_new(alloc: Global, schema: &mut Handle, session: &mut Handle) -> u8
-    ensures session { HoldsMade (MakesSession (schema_in schema.old.value) result) session.old.value session.new.value }
-    ensures schema { schema.new.value ≡ schema.old.value }
+pub extern "C" fn p21_session_new(alloc: Global, schema: &Lent, session: &mut Handle) -> u8
+    ensures { HoldsMade (MakesSession (schema_in schema.now.value) result) session.old.value session.new.value }
 {
-    let content = schema.take(alloc);
-    let (made, status) = begin(alloc, &content);
-    schema.put(alloc, content);
+    let (made, status) = begin(alloc, schema);
     session.hand(alloc, made);
     status
 }
@@ -70,29 +66,23 @@ pub extern "C" fn p21_session_free(alloc: Global, session: &mut Handle)
 #[unsafe(no_mangle)]
 pub extern "C" fn p21_accepted_line(
     alloc: Global,
-    session: &mut Handle,
+    session: &Lent,
     name: u64,
     text: &mut Handle,
 ) -> u8
-    ensures line { HoldsMade (MakesLine (output_in session.old.value) name result) text.old.value text.new.value }
-    ensures session { session.new.value ≡ session.old.value }
+    ensures { HoldsMade (MakesLine (output_in session.now.value) name result) text.old.value text.new.value }
 {
-    let content = session.take(alloc);
-    let (made, status) = line(alloc, &content, name);
-    session.put(alloc, content);
+    let (made, status) = line(alloc, session, name);
     text.hand(alloc, made);
     status
 }
 
 /// Hands out the canonical file.
 #[unsafe(no_mangle)]
-pub extern "C" fn p21_accepted_write(alloc: Global, session: &mut Handle, text: &mut Handle) -> u8
-    ensures file { HoldsMade (MakesFile (output_in session.old.value) result) text.old.value text.new.value }
-    ensures session { session.new.value ≡ session.old.value }
+pub extern "C" fn p21_accepted_write(alloc: Global, session: &Lent, text: &mut Handle) -> u8
+    ensures { HoldsMade (MakesFile (output_in session.now.value) result) text.old.value text.new.value }
 {
-    let content = session.take(alloc);
-    let (made, status) = file(alloc, &content);
-    session.put(alloc, content);
+    let (made, status) = file(alloc, session);
     text.hand(alloc, made);
     status
 }
@@ -100,26 +90,25 @@ pub extern "C" fn p21_accepted_write(alloc: Global, session: &mut Handle, text: 
 /// Reads on in the canonical file from where a cursor stands: fills a buffer as far as the file goes.
 #[unsafe(no_mangle)]
 pub extern "C" fn p21_accepted_read(
-    alloc: Global,
-    session: &mut Handle,
+    session: &Lent,
     cursor: &mut Cursor,
     buffer: &mut [u8],
     count: &mut usize,
 ) -> u8
-    ensures reads { ReadsFile (output_in session.old.value) result cursor.old cursor.new buffer.old buffer.new count.old count.new }
-    ensures session { session.new.value ≡ session.old.value }
+    ensures { ReadsFile (output_in session.now.value) result cursor.old cursor.new buffer.old buffer.new count.old count.new }
 {
-    let content = session.take(alloc);
-    let status = read(&content, cursor, buffer, count);
-    session.put(alloc, content);
-    status
+    let Some(output) = session.accepted() else {
+        return MISUSED;
+    };
+    *count = output.read(cursor, buffer);
+    DONE
 }
 
 /// A session over the schema that is held.
-fn begin(alloc: Global, held: &Holding) -> (Holding, u8)
-    ensures { MakesSession (schema_in (boxed_content held.now)) result.1 (boxed_content result.0) }
+fn begin(alloc: Global, schema: &Lent) -> (Holding, u8)
+    ensures { MakesSession (schema_in schema.now.value) result.1 (boxed_content result.0) }
 {
-    let Some(schema) = schema_of(held) else {
+    let Some(schema) = schema.schema() else {
         return (None, MISUSED);
     };
     let Ok(schema) = Arc::try_clone(schema) else {
@@ -172,10 +161,10 @@ fn finish(held: Holding) -> (Holding, Answer)
 }
 
 /// The statement of an instance of the accepted file that is held.
-fn line(alloc: Global, held: &Holding, name: u64) -> (Holding, u8)
-    ensures { MakesLine (output_in (boxed_content held.now)) name result.1 (boxed_content result.0) }
+fn line(alloc: Global, session: &Lent, name: u64) -> (Holding, u8)
+    ensures { MakesLine (output_in session.now.value) name result.1 (boxed_content result.0) }
 {
-    let Some(output) = accepted_of(held) else {
+    let Some(output) = session.accepted() else {
         return (None, MISUSED);
     };
     let Some(line) = output.line(Name(name)) else {
@@ -188,25 +177,14 @@ fn line(alloc: Global, held: &Holding, name: u64) -> (Holding, u8)
 }
 
 /// The accepted file that is held.
-fn file(alloc: Global, held: &Holding) -> (Holding, u8)
-    ensures { MakesFile (output_in (boxed_content held.now)) result.1 (boxed_content result.0) }
+fn file(alloc: Global, session: &Lent) -> (Holding, u8)
+    ensures { MakesFile (output_in session.now.value) result.1 (boxed_content result.0) }
 {
-    let Some(output) = accepted_of(held) else {
+    let Some(output) = session.accepted() else {
         return (None, MISUSED);
     };
     match file_of(alloc, output) {
         Some(content) => (Some(content), DONE),
         None => (None, FAILED),
     }
-}
-
-/// Reads on in the accepted file that is held.
-fn read(held: &Holding, cursor: &mut Cursor, buffer: &mut [u8], count: &mut usize) -> u8
-    ensures { ReadsFile (output_in (boxed_content held.now)) result cursor.old cursor.new buffer.old buffer.new count.old count.new }
-{
-    let Some(output) = accepted_of(held) else {
-        return MISUSED;
-    };
-    *count = output.read(cursor, buffer);
-    DONE
 }

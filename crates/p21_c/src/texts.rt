@@ -4,28 +4,25 @@ ghost use Rattle.p21_c.specs.Answers.{ShowsText};
 ghost use Rattle.p21_c.specs.Contents.{HoldsText, text_in, boxed_content};
 ghost use Rattle.p21_stream_output.specs.Output.{output_text};
 
+use crate::answers::{DONE, MISUSED};
 use crate::components::Handle;
-use crate::contents::{Content, Holding, boxed, text_of as held_text};
-use p21_c_answers::{DONE, MISUSED};
+use crate::contents::{Content, Holding, boxed};
+use crate::lent::Lent;
 use p21_stream_io::Watched;
 use p21_stream_output::Accepted;
 use std::alloc::Global;
 
 /// Where the bytes of a text lie, and how many they are. They stay there until the text is let go.
 #[unsafe(no_mangle)]
-pub extern "C" fn p21_text_bytes(
-    alloc: Global,
-    text: &mut Handle,
-    at: &mut *const u8,
-    length: &mut usize,
-) -> u8
-    ensures shows { ShowsText (text_in text.old.value) result at.old at.new length.old length.new }
-    ensures text { text.new.value ≡ text.old.value }
+pub extern "C" fn p21_text_bytes(text: &Lent, at: &mut *const u8, length: &mut usize) -> u8
+    ensures { ShowsText (text_in text.now.value) result at.old at.new length.old length.new }
 {
-    let content = text.take(alloc);
-    let status = show(&content, at, length);
-    text.put(alloc, content);
-    status
+    let Some(text) = text.text() else {
+        return MISUSED;
+    };
+    *at = text.as_ptr();
+    *length = text.len();
+    DONE
 }
 
 /// Lets go of a text.
@@ -34,18 +31,6 @@ pub extern "C" fn p21_text_free(alloc: Global, text: &mut Handle)
     ensures { text.new.value ≡ None }
 {
     text.put(alloc, None);
-}
-
-/// Where the bytes of the text that is held lie, and how many they are.
-fn show(held: &Holding, at: &mut *const u8, length: &mut usize) -> u8
-    ensures { ShowsText (text_in (boxed_content held.now)) result at.old at.new length.old length.new }
-{
-    let Some(text) = held_text(held) else {
-        return MISUSED;
-    };
-    *at = text.as_ptr();
-    *length = text.len();
-    DONE
 }
 
 /// The canonical file of an accepted one.

@@ -3,15 +3,15 @@ use Rattle.std.proofs.Common.{◌≡◌, ◌≢◌, ℕ, suc, ◌≤◌, Bool, t
 use Rattle.std.specs.List.{filter, flat_map}
 use Rattle.std.specs.Prelude.{nat_eq, not, cond}
 use Rattle.std.proofs.lemmas.Bool.{eq-eqb}
-use Rattle.p21_basics.proofs.Members.{Contains-none, Contains-first, Contains-later, Contains-cases, Contains-unfiltered}
-use Rattle.p21_basics.proofs.Shuffles.{AreMembers, NoneTwice, Taken, taken_first, taken_later, Contains-taken, Taken-other, distinct-none_twice}
-use Rattle.p21_claim_values.proofs.Leaves.{leaf-closure}
-use Rattle.p21_files.specs.CanonicalRecord.{HasOneLeaf}
-use Rattle.p21_schemas.proofs.Orders.{order-has, order-is, order_within-only}
-use Rattle.p21_schemas.specs.Order.{first_occurrences, order}
-use Rattle.p21_schemas.specs.Schema.{Schema}
-use Rattle.p21_schemas.specs.Supertype.{supertypes_of}
-use Rattle.p21_schemas.specs.WellFormed.{IsWellFormed}
+use Rattle.p21_spec_basics.proofs.Members.{Contains-none, Contains-first, Contains-later, Contains-cases, Contains-unfiltered}
+use Rattle.p21_spec_basics.proofs.Shuffles.{AreMembers, NoneTwice, Taken, taken_first, taken_later, Contains-taken, Taken-other, distinct-none_twice}
+use Rattle.p21_spec_laws.proofs.Leaves.{leaf-closure}
+use Rattle.p21_spec_file.specs.CanonicalRecord.{HasOneLeaf}
+use Rattle.p21_spec_schema.proofs.Orders.{order-has, order-is, order_within-only}
+use Rattle.p21_spec_schema.specs.Order.{first_occurrences, order}
+use Rattle.p21_spec_schema.specs.Schema.{Schema}
+use Rattle.p21_spec_schema.specs.Supertype.{supertypes_of}
+use Rattle.p21_spec_schema.specs.WellFormed.{IsWellFormed}
 use Rattle.p21_canon.specs.StatementTexts.{IsClosedSet, IsClosureOf}
 
 -- ---- lists of one length

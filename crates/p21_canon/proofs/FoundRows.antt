@@ -4,23 +4,23 @@ use Rattle.std.proofs.lemmas.Bool.{eq-eqb, ne_eqb}
 use Rattle.std.proofs.lemmas.Grind.{flat_map-append}
 use Rattle.std.proofs.lemmas.List.{length-map, map-append, take_more}
 use Rattle.std.proofs.lemmas.Option.{slice_get-map, slice_get_read}
-use Rattle.std.specs.List.{AllByRecursion as Each}
+use Rattle.std.specs.List.{AllByRecursion as Each, IsDistinct}
 use Rattle.std.specs.Option.{option_map}
 use Rattle.std.specs.Result.{OnErr}
 use Rattle.p21_values.specs.Canonical.{Continues}
 use Rattle.std.specs.Prelude.{if◌then◌else◌, nat_eq, slice_get}
 use Rattle.std.proofs.lemmas.Slice.Zip.{AllZip-long}
-use Rattle.p21_basics.proofs.Members.{AllZip-member, Each-append, Each-at}
+use Rattle.p21_spec_basics.proofs.Members.{AllZip-member, Each-append, Each-at}
 use Rattle.p21_canon.proofs.Records.{closed-set}
 use Rattle.p21_canon.specs.Meant.{IsMeant}
 use Rattle.p21_canon.specs.StatementTexts.{AreSpelledParts, HasRows, IsClosedSet, IsFirstAt, IsSpelledPart, part_text, parts_text, row_among, row_of, rows_texts, still_first, texts_behind}
 use Rattle.p21_mapping_values.specs.Row.{separator}
 use Rattle.p21_express_graph.proofs.Lookups.{numbers-more, unnumbered}
 use Rattle.p21_express_graph.specs.Orders.{numbers}
-use Rattle.p21_express_types.specs.declared.number.EntityId.{EntityId}
-use Rattle.p21_files.specs.Meaning.{HasOwnCount, Typed}
-use Rattle.p21_files.specs.Value as meant
-use Rattle.p21_files.specs.ValueText.{value_text, value_texts, with_commas, with_commas_between}
+use Rattle.p21_express_graph.specs.declared.number.EntityId.{EntityId}
+use Rattle.p21_spec_file.specs.Meaning.{HasOwnCount, Typed}
+use Rattle.p21_spec_file.specs.Value as meant
+use Rattle.p21_spec_file.specs.ValueText.{value_text, value_texts, with_commas, with_commas_between}
 use Rattle.p21_mapping_values.proofs.Elements.{texts, texts-more}
 use Rattle.p21_mapping_values.specs.KnownTypes.{HaveKnownTypes}
 use Rattle.p21_mapping_values.specs.Spelled.{AreSpelled}
@@ -28,9 +28,9 @@ use Rattle.p21_mapping_values.specs.declared.value.Value.{Value}
 use Rattle.p21_mapping_values.specs.declared.value.Values.{Values}
 use Rattle.p21_mapping_values.specs.TypedView.{rows_view}
 use Rattle.p21_mapping_values.specs.View.{list_of, view, views}
-use Rattle.p21_schemas.specs.Order.{order}
-use Rattle.p21_schemas.specs.Schema.{EntityNamed, Schema}
-use Rattle.p21_files.proofs.Commas.{with_commas-push}
+use Rattle.p21_spec_schema.specs.Order.{order}
+use Rattle.p21_spec_schema.specs.Schema.{EntityNamed, Schema}
+use Rattle.p21_spec_file.proofs.Commas.{with_commas-push}
 
 -- ---- what a refusal leaves
 
@@ -60,6 +60,7 @@ meant-rows s m is =
     let means = is.means.means in
     record {
       entities_are = λ e among. (let (name, at, named) = AllZip-member (EntityNamed s) m.entities means.rising.0 e means.rising.1 among in found-low s.entities e named.0 named.1);
+      distinct = (closed-set s is.means.kinds is.record_ m is.means.means).distinct;
       long = sym (AllZip-long (HasOwnCount s) m.entities m.values means.own_counts);
       known = is.types_known;
     }
@@ -68,6 +69,19 @@ pub meant-closed : (s : Schema) (m : Typed) → IsMeant s m → IsClosedSet s m.
 meant-closed s m is = closed-set s is.means.kinds is.record_ m is.means.means
 
 -- ---- a row by its entity
+
+-- in a list where none is twice, each place of a number is its first
+pub only-first : (xs : List ℕ) (k x : ℕ) → IsDistinct nat_eq xs → slice_get xs k ≡ Some x → IsFirstAt xs x k
+unfolding IsDistinct
+only-first [] k x distinct at = cc
+only-first (y ∷ ys) zero x distinct at = (at, λ j below. absurd (omega (arith, below)))
+only-first (y ∷ ys) (suc k) x distinct at = (at, none_before y ys k x (Each-at (λ z. nat_eq y z ≡ false) ys k x distinct.0 at) (only-first ys k x distinct.1 at).1)
+  where
+    none_before : (z : ℕ) (zs : List ℕ) (i u : ℕ) → nat_eq z u ≡ false → ((j : ℕ) → j < i → slice_get zs j ≢ Some u) → (j : ℕ) → j < suc i → slice_get (z ∷ zs) j ≢ Some u
+    none_before z zs i u other none zero below h =
+        let same : z ≡ u = (let g : Some z ≡ Some u = h in cc) in
+        let equal = eq-eqb z u same in cc
+    none_before z zs i u other none (suc j) below h = none j (omega (arith, below)) h
 
 later-none : (x : EntityId) (xs : List EntityId) (k e : ℕ) → x.0 ≢ e → ((j : ℕ) → j < k → slice_get (numbers xs) j ≢ Some e) → (j : ℕ) → j < suc k → slice_get (numbers (x ∷ xs)) j ≢ Some e
 later-none x xs k e other none zero below h = other (let g : Some x.0 ≡ Some e = h in cc)

@@ -3,10 +3,10 @@ use Rattle.std.proofs.Common.{◌≡◌, ◌+◌, ◌<◌, ◌≤◌, ◌==◌, 
 use Rattle.std.proofs.lemmas.Bool.Decides.{nat_tests}
 use Rattle.std.proofs.lemmas.Grind.{flat_map-append}
 use Rattle.std.proofs.lemmas.List.{append-nil, take_all, take_more}
-use Rattle.p21_exchange.specs.CanonicalText.{param_text, tokens_text}
-use Rattle.p21_exchange.specs.Parameter.{list, more_tokens, param_tokens, params_tokens}
-use Rattle.p21_exchange.specs.Spelling.{spelling}
-use Rattle.p21_exchange.specs.Token.{Token, comma, right}
+use Rattle.p21_spec_exchange.specs.CanonicalText.{param_text, tokens_text}
+use Rattle.p21_spec_exchange.specs.Parameter.{list, more_tokens, param_tokens, params_tokens}
+use Rattle.p21_spec_exchange.specs.Spelling.{spelling}
+use Rattle.p21_spec_exchange.specs.Token.{Token, comma, right}
 use Rattle.p21_values.specs.Canonical.{Continues}
 use Rattle.p21_mapping_values.specs.Row.{separator}
 use Rattle.p21_grammar_tree.specs.declared.param.Param.{Param}

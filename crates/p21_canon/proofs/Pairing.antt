@@ -1,9 +1,9 @@
 -- Values pair off exactly if there are as many and each is as often in one as in the other.
 use Rattle.std.proofs.Common.{◌≡◌, ◌≢◌, ℕ, suc, refl, ap, sym, ◌∙◌, subst, arith}
-use Rattle.p21_files.specs.Value.{Value, Values, no_values, value, count}
-use Rattle.p21_files.specs.SameValue.{Same, SamePaired, both_empty, paired, Without, without_first, without_later}
-use Rattle.p21_files.proofs.Sameness.{Same-reflexive, Same-symmetric}
-use Rattle.p21_files.proofs.Transitive.{Same-transitive}
+use Rattle.p21_spec_file.specs.Value.{Value, Values, no_values, value, count}
+use Rattle.p21_spec_file.specs.SameValue.{Same, SamePaired, both_empty, paired, Without, without_first, without_later}
+use Rattle.p21_spec_file.proofs.Sameness.{Same-reflexive, Same-symmetric}
+use Rattle.p21_spec_file.proofs.Transitive.{Same-transitive}
 use Rattle.p21_canon.specs.Occurrences.{Occurs, nowhere, once_more, not_here}
 
 -- the value is as often in one as in the other

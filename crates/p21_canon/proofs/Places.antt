@@ -3,26 +3,26 @@ use Rattle.std.proofs.Common.{◌≡◌, ℕ, zero, suc, ◌+◌, ◌<◌, Bool,
 use Rattle.std.specs.List.{AllZip, flat_map, zip}
 use Rattle.std.specs.Prelude.{if◌then◌else◌}
 use Rattle.std.proofs.lemmas.Bool.{eq-eqb, ne_eqb, cases_eq}
-use Rattle.p21_basics.proofs.Members.{AllZip-beside, AllZip-second_member, Contains-cases, Contains-first, Contains-flat_map, Contains-later, Contains-none}
-use Rattle.p21_basics.proofs.Shuffles.{NoneTwice}
-use Rattle.p21_claim_values.proofs.CanonicalParam.{canonical_params}
-use Rattle.p21_claim_values.proofs.Existence.{canonical_value, canonical-is}
-use Rattle.p21_claim_values.proofs.Printing.{at-fits, canonical_typed, has-canonical_value}
-use Rattle.p21_claim_values.proofs.RecordOnce.{value-once}
-use Rattle.p21_exchange.specs.Parameter.{Param, Params, no_params, param, params_of}
-use Rattle.p21_exchange.specs.Record.{Record, simple, complex}
+use Rattle.p21_spec_basics.proofs.Members.{AllZip-beside, AllZip-second_member, Contains-cases, Contains-first, Contains-flat_map, Contains-later, Contains-none}
+use Rattle.p21_spec_basics.proofs.Shuffles.{NoneTwice}
+use Rattle.p21_spec_laws.proofs.CanonicalParam.{canonical_params}
+use Rattle.p21_spec_laws.proofs.Existence.{canonical_value, canonical-is}
+use Rattle.p21_spec_laws.proofs.Printing.{at-fits, canonical_typed, has-canonical_value}
+use Rattle.p21_spec_laws.proofs.RecordOnce.{value-once}
+use Rattle.p21_spec_exchange.specs.Parameter.{Param, Params, no_params, param, params_of}
+use Rattle.p21_spec_exchange.specs.Record.{Record, simple, complex}
 use Rattle.p21_express_graph.proofs.Lookups.{own-places-are}
 use Rattle.p21_express_graph.specs.Lookups.{places_from}
-use Rattle.p21_files.proofs.OneMeaning.{rising-none_twice}
-use Rattle.p21_files.specs.CanonicalRecord.{AreCanonicalAt}
-use Rattle.p21_files.specs.Fits.{FitsAt}
-use Rattle.p21_files.specs.Meaning.{FitPlaces, FitsPlace, HasOwnCount, HasValueAt, HasValues, PartMeans, RecordMeans, Typed}
-use Rattle.p21_files.specs.Reference.{EntitySets}
-use Rattle.p21_files.specs.Value.{Value, Values, no_values, value, count, value_at}
-use Rattle.p21_schemas.proofs.Orders.{order-has}
-use Rattle.p21_schemas.specs.Order.{order, own_places, places}
-use Rattle.p21_schemas.specs.Schema.{Place, Schema, attributes_of}
-use Rattle.p21_schemas.specs.WellFormed.{IsWellFormed}
+use Rattle.p21_spec_file.proofs.OneMeaning.{rising-none_twice}
+use Rattle.p21_spec_file.specs.CanonicalRecord.{AreCanonicalAt}
+use Rattle.p21_spec_file.specs.Fits.{FitsAt}
+use Rattle.p21_spec_file.specs.Meaning.{FitPlaces, FitsPlace, HasOwnCount, HasValueAt, HasValues, PartMeans, RecordMeans, Typed}
+use Rattle.p21_spec_file.specs.Reference.{EntitySets}
+use Rattle.p21_spec_file.specs.Value.{Value, Values, no_values, value, count, value_at}
+use Rattle.p21_spec_schema.proofs.Orders.{order-has}
+use Rattle.p21_spec_schema.specs.Order.{order, own_places, places}
+use Rattle.p21_spec_schema.specs.Schema.{Place, Schema, attributes_of}
+use Rattle.p21_spec_schema.specs.WellFormed.{IsWellFormed}
 use Rattle.p21_canon.specs.StatementTexts.{row_among, row_of}
 
 -- ---- a parameter at each place

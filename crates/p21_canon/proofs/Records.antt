@@ -1,29 +1,29 @@
 -- The canonical record of a meaning means it, and is canonical.
 use Rattle.std.proofs.Common.{◌≡◌, ℕ, ◌<◌, List, [], ◌∷◌, length, Option, Some, None, Contains, arith, refl, ap, sym, subst, ◌∙◌, inl, inr}
 use Rattle.std.specs.List.{AllZip, zip, AllByRecursion as Each}
-use Rattle.p21_basics.proofs.Members.{AllZip-member, Contains-cases, Contains-first, Contains-later, Contains-none}
-use Rattle.p21_basics.proofs.Shuffles.{none_twice-distinct}
-use Rattle.p21_claim_values.proofs.CanonicalParam.{canonical_params}
-use Rattle.p21_claim_values.proofs.Leaves.{closure-leaf}
-use Rattle.p21_claim_values.proofs.Printing.{canonical_typed, means-with}
-use Rattle.p21_claim_values.proofs.RecordOnce.{words}
-use Rattle.p21_claim_values.proofs.PrintingParts.{first-entity}
-use Rattle.p21_claim_values.proofs.Rising.{strict-rises}
-use Rattle.p21_exchange.specs.Parameter.{key_of, params_of}
-use Rattle.p21_exchange.specs.Record.{Part, Record, simple, complex}
-use Rattle.p21_files.proofs.OneMeaning.{rising-none_twice}
-use Rattle.p21_files.specs.CanonicalRecord.{AreTextsRising, HasOneLeaf, IsCanonicalPart, IsCanonicalRecord}
-use Rattle.p21_files.specs.Meaning.{HasOwnCount, NamesEntity, PartMeans, RecordMeans, Typed}
-use Rattle.p21_files.specs.Reference.{EntitySets}
-use Rattle.p21_files.specs.Value.{Values}
-use Rattle.p21_schemas.proofs.Orders.{order_within-only}
-use Rattle.p21_schemas.specs.Order.{order}
-use Rattle.p21_schemas.specs.Schema.{Entity, EntityNamed, Schema}
-use Rattle.p21_schemas.specs.Supertype.{InClosure, itself}
-use Rattle.p21_schemas.specs.WellFormed.{IsWellFormed}
+use Rattle.p21_spec_basics.proofs.Members.{AllZip-member, Contains-cases, Contains-first, Contains-later, Contains-none}
+use Rattle.p21_spec_basics.proofs.Shuffles.{none_twice-distinct}
+use Rattle.p21_spec_laws.proofs.CanonicalParam.{canonical_params}
+use Rattle.p21_spec_laws.proofs.Leaves.{closure-leaf}
+use Rattle.p21_spec_laws.proofs.Printing.{canonical_typed, means-with}
+use Rattle.p21_spec_laws.proofs.RecordOnce.{words}
+use Rattle.p21_spec_laws.proofs.PrintingParts.{first-entity}
+use Rattle.p21_spec_laws.proofs.RisingTexts.{strict-rises}
+use Rattle.p21_spec_exchange.specs.Parameter.{key_of, params_of}
+use Rattle.p21_spec_exchange.specs.Record.{Part, Record, simple, complex}
+use Rattle.p21_spec_file.proofs.OneMeaning.{rising-none_twice}
+use Rattle.p21_spec_file.specs.CanonicalRecord.{AreTextsRising, HasOneLeaf, IsCanonicalPart, IsCanonicalRecord}
+use Rattle.p21_spec_file.specs.Meaning.{HasOwnCount, NamesEntity, PartMeans, RecordMeans, Typed}
+use Rattle.p21_spec_file.specs.Reference.{EntitySets}
+use Rattle.p21_spec_file.specs.Value.{Values}
+use Rattle.p21_spec_schema.proofs.Orders.{order_within-only}
+use Rattle.p21_spec_schema.specs.Order.{order}
+use Rattle.p21_spec_schema.specs.Schema.{Entity, EntityNamed, Schema}
+use Rattle.p21_spec_schema.specs.Supertype.{InClosure, itself}
+use Rattle.p21_spec_schema.specs.WellFormed.{IsWellFormed}
 use Rattle.p21_canon.proofs.Places.{row-stands, rows_params, rows-stand}
 use Rattle.p21_canon.specs.StatementTexts.{IsClosedSet, IsClosureOf, entity_name}
-use Rattle.p21_schemas.proofs.PlaceTypes.{IsA-transitive}
+use Rattle.p21_spec_schema.proofs.PlaceTypes.{IsA-transitive}
 
 -- ---- names
 

@@ -1,8 +1,8 @@
 -- Rows of values, one element after the other.
 use Rattle.std.proofs.Common.{◌≡◌, ◌↔◌, ℕ, zero, suc, ◌+◌, ◌<◌, ◌≤◌, List, [], ◌∷◌, length, get_or, drop, refl, ap, sym, subst, arith, add-one}
-use Rattle.p21_files.specs.Value as meant
-use Rattle.p21_files.specs.Value.{count, no_values}
-use Rattle.p21_files.specs.SameValue.{Same, Among, here, there, EachAmong, none_left, each_next, SameInOrder, both_end, both_next}
+use Rattle.p21_spec_file.specs.Value as meant
+use Rattle.p21_spec_file.specs.Value.{count, no_values}
+use Rattle.p21_spec_file.specs.SameValue.{Same, Among, here, there, EachAmong, none_left, each_next, SameInOrder, both_end, both_next}
 use Rattle.p21_mapping_values.specs.declared.value.Value.{Value}
 use Rattle.p21_mapping_values.specs.View.{view, views}
 use Rattle.p21_canon.specs.Occurrences.{Occurs, nowhere, once_more, not_here}

@@ -1,8 +1,8 @@
 -- Sameness by the kinds of the two values.
 use Rattle.std.proofs.Common.{◌≡◌, ◌↔◌, Bool, IsTrue, refl, sym, subst}
-use Rattle.p21_exchange.specs.Number.{SameRatio, ratio_of}
-use Rattle.p21_files.specs.Value.{Value, whole, real, number, text, bits, item, reference, derived, missing, list, array, set, bag, typed}
-use Rattle.p21_files.specs.SameValue.{Same, same_wholes, same_reals, same_numbers, same_texts, same_bits, same_items, same_references, both_derived, both_missing, same_lists, same_arrays, same_sets, same_bags, same_typed, SameInOrder, EachAmong, SamePaired}
+use Rattle.p21_spec_exchange.specs.Number.{SameRatio, ratio_of}
+use Rattle.p21_spec_file.specs.Value.{Value, whole, real, number, text, bits, item, reference, derived, missing, list, array, set, bag, typed}
+use Rattle.p21_spec_file.specs.SameValue.{Same, same_wholes, same_reals, same_numbers, same_texts, same_bits, same_items, same_references, both_derived, both_missing, same_lists, same_arrays, same_sets, same_bags, same_typed, SameInOrder, EachAmong, SamePaired}
 
 -- what makes two values the same
 abbrev pub SameShape : Value → Value → Type 0

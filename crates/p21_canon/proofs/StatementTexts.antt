@@ -2,26 +2,26 @@
 use Rattle.std.proofs.Common.{◌≡◌, ℕ, List, [], ◌∷◌, ◌++◌, codes, map, refl, ap, sym, ◌∙◌}
 use Rattle.std.proofs.lemmas.List.{map-append}
 use Rattle.std.specs.List.{flat_map, AllByRecursion as Each}
-use Rattle.p21_basics.proofs.Members.{Each-append}
-use Rattle.p21_claim_values.proofs.CanonicalParam.{canonical_params, texts-of, value_texts-are}
-use Rattle.p21_claim_values.proofs.OfType.{AreWritten}
-use Rattle.p21_claim_values.proofs.ParamTexts.{list-is, tokens_text-append}
-use Rattle.p21_claim_values.proofs.Printing.{part-said}
-use Rattle.p21_claim_values.specs.Written.{IsWrittenStatement}
-use Rattle.p21_exchange.specs.Token.{IsSpelled}
-use Rattle.p21_exchange.specs.CanonicalText.{param_text, param_texts, statement_text, tokens_text}
-use Rattle.p21_exchange.specs.Parameter.{Param, Params, key_of, params_of}
-use Rattle.p21_exchange.specs.Record.{Record, part_tokens, record_tokens}
-use Rattle.p21_exchange.specs.Spelling.{name_spelling}
-use Rattle.p21_exchange.specs.Statement.{instance}
-use Rattle.p21_exchange.specs.Token as token
-use Rattle.p21_files.specs.Meaning.{Typed}
-use Rattle.p21_files.specs.Value.{Values}
-use Rattle.p21_files.specs.ValueText.{list_text, value_texts}
+use Rattle.p21_spec_basics.proofs.Members.{Each-append}
+use Rattle.p21_spec_laws.proofs.CanonicalParam.{canonical_params, texts-of, value_texts-are}
+use Rattle.p21_spec_laws.proofs.OfType.{AreWritten}
+use Rattle.p21_spec_laws.proofs.ParamTexts.{list-is, tokens_text-append}
+use Rattle.p21_spec_laws.proofs.Printing.{part-said}
+use Rattle.p21_spec_laws.specs.Written.{IsWrittenStatement}
+use Rattle.p21_spec_exchange.specs.Token.{IsSpelled}
+use Rattle.p21_spec_exchange.specs.CanonicalText.{param_text, param_texts, statement_text, tokens_text}
+use Rattle.p21_spec_exchange.specs.Parameter.{Param, Params, key_of, params_of}
+use Rattle.p21_spec_exchange.specs.Record.{Record, part_tokens, record_tokens}
+use Rattle.p21_spec_exchange.specs.Spelling.{name_spelling}
+use Rattle.p21_spec_exchange.specs.Statement.{instance}
+use Rattle.p21_spec_exchange.specs.Token as token
+use Rattle.p21_spec_file.specs.Meaning.{Typed}
+use Rattle.p21_spec_file.specs.Value.{Values}
+use Rattle.p21_spec_file.specs.ValueText.{list_text, value_texts}
 use Rattle.p21_mapping_values.proofs.Spelled.{all-written}
 use Rattle.p21_mapping_values.specs.Spelled.{AreSpelled}
-use Rattle.p21_schemas.specs.Order.{order}
-use Rattle.p21_schemas.specs.Schema.{Schema}
+use Rattle.p21_spec_schema.specs.Order.{order}
+use Rattle.p21_spec_schema.specs.Schema.{Schema}
 use Rattle.p21_canon.proofs.Places.{rows_params}
 use Rattle.p21_canon.proofs.Records.{external, internal, part_for, parts_for}
 use Rattle.p21_canon.specs.StatementTexts.{AreSpelledParts, entity_name, part_text, parts_text, row_of, rows_texts, statement_of}

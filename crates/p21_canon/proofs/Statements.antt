@@ -3,28 +3,28 @@ use Rattle.std.proofs.Common.{◌≡◌, ℕ, List, [], ◌∷◌, ◌++◌, ◌
 use Rattle.std.specs.List.{AllByRecursion as Each}
 use Rattle.std.specs.Result.{OnOk}
 use Rattle.p21_mapping_values.proofs.SpelledScalars.{name-spelled}
-use Rattle.p21_exchange.specs.Spelling.{name_spelling}
-use Rattle.p21_basics.proofs.Members.{Each-front}
-use Rattle.p21_claim_values.proofs.CanonicalLaid.{laid-each_spelled, statement_laid}
-use Rattle.p21_claim_values.proofs.Printing.{canonical-same_typed, canonical_typed}
-use Rattle.p21_claim_values.proofs.RecordOnce.{record-once}
-use Rattle.p21_claim_values.specs.Written.{IsWrittenStatement}
-use Rattle.p21_exchange.specs.Token.{IsSpelled}
-use Rattle.p21_exchange.specs.CanonicalText.{statement_text}
-use Rattle.p21_exchange.specs.Laying.{Laid}
-use Rattle.p21_exchange.specs.Record.{Record, record_tokens}
-use Rattle.p21_exchange.specs.Statement.{instance, statement_tokens}
-use Rattle.p21_exchange.specs.Token as token
-use Rattle.p21_files.proofs.SameFiles.{SameTyped-symmetric, SameTyped-transitive}
-use Rattle.p21_files.specs.CanonicalRecord.{HasOneLeaf}
-use Rattle.p21_files.specs.CanonicalTexts.{IsInstanceText}
-use Rattle.p21_files.specs.Meaning.{RecordMeans, Typed}
-use Rattle.p21_files.specs.Reference.{EntitySets}
-use Rattle.p21_files.specs.SameFile.{SameTyped}
+use Rattle.p21_spec_exchange.specs.Spelling.{name_spelling}
+use Rattle.p21_spec_basics.proofs.Members.{Each-front}
+use Rattle.p21_spec_laws.proofs.CanonicalLaid.{laid-each_spelled, statement_laid}
+use Rattle.p21_spec_laws.proofs.Printing.{canonical-same_typed, canonical_typed}
+use Rattle.p21_spec_laws.proofs.RecordOnce.{record-once}
+use Rattle.p21_spec_laws.specs.Written.{IsWrittenStatement}
+use Rattle.p21_spec_exchange.specs.Token.{IsSpelled}
+use Rattle.p21_spec_exchange.specs.CanonicalText.{statement_text}
+use Rattle.p21_spec_exchange.specs.Laying.{Laid}
+use Rattle.p21_spec_exchange.specs.Record.{Record, record_tokens}
+use Rattle.p21_spec_exchange.specs.Statement.{instance, statement_tokens}
+use Rattle.p21_spec_exchange.specs.Token as token
+use Rattle.p21_spec_file.proofs.SameFiles.{SameTyped-symmetric, SameTyped-transitive}
+use Rattle.p21_spec_file.specs.CanonicalRecord.{HasOneLeaf}
+use Rattle.p21_spec_file.specs.CanonicalTexts.{IsInstanceText}
+use Rattle.p21_spec_file.specs.Meaning.{RecordMeans, Typed}
+use Rattle.p21_spec_file.specs.Reference.{EntitySets}
+use Rattle.p21_spec_file.specs.SameFile.{SameTyped}
 use Rattle.p21_mapping_values.specs.Spelled.{AreSpelled}
-use Rattle.p21_schemas.specs.Order.{order}
-use Rattle.p21_schemas.specs.Schema.{Schema}
-use Rattle.p21_schemas.specs.WellFormed.{IsWellFormed}
+use Rattle.p21_spec_schema.specs.Order.{order}
+use Rattle.p21_spec_schema.specs.Schema.{Schema}
+use Rattle.p21_spec_schema.specs.WellFormed.{IsWellFormed}
 use Rattle.p21_canon.proofs.StatementTexts.{external-said, external-text, internal-said, internal-text}
 use Rattle.p21_canon.proofs.Records.{external, external-canonical, external-means, internal, internal-canonical, internal-means}
 use Rattle.p21_canon.specs.Meant.{IsMeant}

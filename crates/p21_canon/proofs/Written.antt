@@ -1,8 +1,8 @@
 -- Parameters in a row whose tokens have spellings.
 use Rattle.std.proofs.Common.{◌≡◌, ℕ, ◌+◌, ◌<◌, ◌≤◌, List, [], ◌∷◌, ◌++◌, length, take, get_or, ap, sym, ◌∙◌, subst}
 use Rattle.std.proofs.lemmas.List.{take_all, take_more}
-use Rattle.p21_claim_values.proofs.OfType.{AreWritten}
-use Rattle.p21_claim_values.specs.Written.{IsWritten}
+use Rattle.p21_spec_laws.proofs.OfType.{AreWritten}
+use Rattle.p21_spec_laws.specs.Written.{IsWritten}
 use Rattle.p21_grammar_tree.specs.declared.param.Param.{Param}
 use Rattle.p21_grammar_tree.specs.View.{view, views}
 

@@ -1,7 +1,7 @@
 -- How often a value is among values.
 use Rattle.std.specs.Prelude.{ℕ, zero, suc}
-use Rattle.p21_files.specs.Value.{Value, Values, no_values, value}
-use Rattle.p21_files.specs.SameValue.{Same}
+use Rattle.p21_spec_file.specs.Value.{Value, Values, no_values, value}
+use Rattle.p21_spec_file.specs.SameValue.{Same}
 
 -- the value is the same as so many of the elements
 pub data Occurs (v : Value) : Values → ℕ → Type 0 where

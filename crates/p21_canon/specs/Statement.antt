@@ -1,15 +1,15 @@
 -- The canonical statement of an instance (this project's own choice among the forms that the internal and external
 -- mapping of ISO 10303-21 allow).
 use Rattle.std.specs.Prelude.{◌≡◌, ◌++◌, ℕ, List}
-use Rattle.p21_exchange.specs.CanonicalText.{statement_text}
-use Rattle.p21_exchange.specs.Laying.{Laid}
-use Rattle.p21_exchange.specs.Record.{Record}
-use Rattle.p21_exchange.specs.Statement.{instance, statement_tokens}
-use Rattle.p21_files.specs.CanonicalRecord.{IsCanonicalRecord}
-use Rattle.p21_files.specs.Meaning.{RecordMeans, Typed}
-use Rattle.p21_files.specs.Reference.{EntitySets}
-use Rattle.p21_files.specs.SameFile.{SameTyped}
-use Rattle.p21_schemas.specs.Schema.{Schema}
+use Rattle.p21_spec_exchange.specs.CanonicalText.{statement_text}
+use Rattle.p21_spec_exchange.specs.Laying.{Laid}
+use Rattle.p21_spec_exchange.specs.Record.{Record}
+use Rattle.p21_spec_exchange.specs.Statement.{instance, statement_tokens}
+use Rattle.p21_spec_file.specs.CanonicalRecord.{IsCanonicalRecord}
+use Rattle.p21_spec_file.specs.Meaning.{RecordMeans, Typed}
+use Rattle.p21_spec_file.specs.Reference.{EntitySets}
+use Rattle.p21_spec_file.specs.SameFile.{SameTyped}
+use Rattle.p21_spec_schema.specs.Schema.{Schema}
 
 -- The text is that of one statement with this name, whose tokens are laid in it. Its record is canonical, and it means the
 -- same as this, whatever the other instances are: it means it among those where some record means this

@@ -1,14 +1,14 @@
 -- What a canonical statement is put together from.
 use Rattle.std.specs.Prelude.{◌≡◌, ◌≢◌, ◌↔◌, ◌<◌, ℕ, length, Bool, true, false, List, [], ◌∷◌, ◌++◌, codes, Contains, Some, None, slice_get, nat_eq, if◌then◌else◌}
 use Rattle.std.specs.List.{flat_map, IsDistinct, AllByRecursion as Each}
-use Rattle.p21_files.specs.Meaning.{Typed}
-use Rattle.p21_files.specs.Value.{Values, no_values}
-use Rattle.p21_files.specs.ValueText.{list_text, value_texts, with_commas, with_commas_between}
-use Rattle.p21_schemas.specs.Schema.{Schema}
-use Rattle.p21_schemas.specs.Supertype.{InClosure, IsA}
-use Rattle.p21_exchange.specs.Token.{IsSpelled}
-use Rattle.p21_exchange.specs.Spelling.{name_spelling}
-use Rattle.p21_exchange.specs.Token as token
+use Rattle.p21_spec_file.specs.Meaning.{Typed}
+use Rattle.p21_spec_file.specs.Value.{Values, no_values}
+use Rattle.p21_spec_file.specs.ValueText.{list_text, value_texts, with_commas, with_commas_between}
+use Rattle.p21_spec_schema.specs.Schema.{Schema}
+use Rattle.p21_spec_schema.specs.Supertype.{InClosure, IsA}
+use Rattle.p21_spec_exchange.specs.Token.{IsSpelled}
+use Rattle.p21_spec_exchange.specs.Spelling.{name_spelling}
+use Rattle.p21_spec_exchange.specs.Token as token
 use Rattle.p21_express_graph.specs.Lookups.{AreEntities}
 use Rattle.p21_mapping_values.specs.KnownTypes.{HaveKnownTypes}
 use Rattle.p21_mapping_values.specs.Spelled.{AreSpelled}
@@ -73,9 +73,10 @@ pub record IsClosedSet (s : Schema) (entities : List ℕ) : Type 0 where
 abbrev pub IsClosureOf : Schema → List ℕ → ℕ → Type 0
 IsClosureOf s entities e = (f : ℕ) → Contains entities f ↔ IsA s e f
 
--- each is an entity of the schema, has a row, and each type in the rows is one of the schema
+-- each is an entity of the schema, none is there twice, each has a row, and each type in the rows is one of the schema
 pub record HasRows (s : Schema) (meaning : Typed) : Type 0 where
   pub entities_are : AreEntities s meaning.entities
+  pub distinct : IsDistinct nat_eq meaning.entities
   pub long : length meaning.entities ≡ length meaning.values
   pub known : Each (HaveKnownTypes s) meaning.values
 

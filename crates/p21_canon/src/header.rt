@@ -1,12 +1,12 @@
 //! The canonical text of a header record, and of the record that begins a named data section.
 ghost use Rattle.std.specs.Prelude.{◌≡◌, ◌++◌, OnErr, OnOk};
-ghost use Rattle.p21_claim_values.specs.Written.{IsWritten, IsWrittenStatement};
-ghost use Rattle.p21_exchange.specs.Token.{IsSpelled};
-ghost use Rattle.p21_exchange.specs.CanonicalText.{param_text, statement_text};
-ghost use Rattle.p21_exchange.specs.Laying.{Laid};
-ghost use Rattle.p21_exchange.specs.Parameter.{key_token, list, typed};
-ghost use Rattle.p21_exchange.specs.Spelling.{spelling};
-ghost use Rattle.p21_exchange.specs.Statement.{header, statement_tokens};
+ghost use Rattle.p21_spec_laws.specs.Written.{IsWritten, IsWrittenStatement};
+ghost use Rattle.p21_spec_exchange.specs.Token.{IsSpelled};
+ghost use Rattle.p21_spec_exchange.specs.CanonicalText.{param_text, statement_text};
+ghost use Rattle.p21_spec_exchange.specs.Laying.{Laid};
+ghost use Rattle.p21_spec_exchange.specs.Parameter.{key_token, list, typed};
+ghost use Rattle.p21_spec_exchange.specs.Spelling.{spelling};
+ghost use Rattle.p21_spec_exchange.specs.Statement.{header, statement_tokens};
 ghost use Rattle.p21_values.specs.Canonical.{Continues};
 ghost use Rattle.p21_grammar_tree.specs.View.{key_view, part_view, view, views};
 

@@ -1,20 +1,21 @@
-ghost use Rattle.std.specs.Prelude.{◌≡◌, ◌++◌, ℕ, codes, length, Contains, IfOk, OnErr, OnOk};
-ghost use Rattle.std.specs.List.{AllByRecursion as Each};
-ghost use Rattle.p21_canon.specs.StatementTexts.{AreSpelledParts, HasRows, IsClosureOf, IsFirstAt, IsSpelledPart, entity_name, part_text, parts_text, row_of, rows_texts, still_first, texts_behind};
-ghost use Rattle.p21_exchange.specs.Token.{IsSpelled, keyword};
+ghost use Rattle.std.specs.Prelude.{◌≡◌, ◌++◌, ℕ, codes, length, nat_eq, Contains, IfOk, OnErr, OnOk};
+ghost use Rattle.std.specs.List.{AllByRecursion as Each, IsDistinct};
+ghost use Rattle.p21_canon.specs.StatementTexts.{AreSpelledParts, HasRows, IsClosureOf, IsSpelledPart, entity_name, part_text, parts_text, row_of, rows_texts, still_first, texts_behind};
+ghost use Rattle.p21_spec_exchange.specs.Token.{IsSpelled, keyword};
 ghost use Rattle.p21_express_graph.specs.Lookups.{AreEntities};
 ghost use Rattle.p21_express_graph.specs.Orders.{numbers};
 ghost use Rattle.p21_express_graph.specs.Resolved.{IsEntity};
-ghost use Rattle.p21_files.specs.ValueText.{value_texts, with_commas_between};
-ghost use Rattle.p21_schemas.specs.Order.{order};
+ghost use Rattle.p21_spec_file.specs.ValueText.{value_texts, with_commas_between};
+ghost use Rattle.p21_spec_schema.specs.Order.{order};
 ghost use Rattle.p21_mapping_values.specs.KnownTypes.{HaveKnownTypes};
 ghost use Rattle.p21_mapping_values.specs.Spelled.{AreSpelled};
 ghost use Rattle.p21_mapping_values.specs.TypedView.{ids_view, rows_view, typed_view};
 ghost use Rattle.p21_mapping_values.specs.View.{views};
 ghost use Rattle.p21_values.specs.Canonical.{Continues};
 
+use crate::position::position_of;
+use p21_express_graph::EntityId;
 use p21_express_tables::Schema;
-use p21_express_types::EntityId;
 use p21_mapping_values::{Typed, Value, Values, append_byte, append_separator, write_value};
 use p21_values::{Canonical, NoMemory};
 
@@ -105,33 +106,22 @@ fn append_rows(
 {
     let mut first = true;
     for entity in entities {
-        let values = row(typed, *entity);
+        let values = row(schema, typed, *entity);
         first = append_values(schema, values, first, out)?;
     }
     Ok(())
 }
 
 /// The values beside an entity.
-fn row<'a>(typed: &'a Typed<'_>, entity: EntityId) -> &'a [Value]
+fn row<'a>(schema: &Schema, typed: &'a Typed<'_>, entity: EntityId) -> &'a [Value]
+    requires entities { AreEntities schema.now (ids_view typed.now.parts) }
+    requires distinct { IsDistinct nat_eq (ids_view typed.now.parts) }
     requires long { length typed.now.parts ≡ length typed.now.values }
     requires member { Contains (ids_view typed.now.parts) entity.0 }
     ensures { views result.now ≡ row_of (typed_view typed.now) entity.0 }
 {
-    let at = first_position_of(typed.parts.items(), entity);
+    let at = position_of(schema, typed.parts.items(), entity);
     typed.values.items()[at].items()
-}
-
-/// Where an entity stands first.
-fn first_position_of(entities: &[EntityId], entity: EntityId) -> usize
-    requires { Contains (numbers entities.now) entity.0 }
-    ensures { IsFirstAt (numbers entities.now) entity.0 result }
-{
-    for i in 0..entities.len() {
-        if entities[i].0 == entity.0 {
-            return i;
-        }
-    }
-    unreachable!()
 }
 
 /// Appends the record of external mapping and its `;`, or a part of it where memory runs out.

@@ -1,6 +1,6 @@
 //! The plain comparison of two values of attributes: the definition of sameness, as code.
 ghost use Rattle.std.specs.Prelude.{◌↔◌, IsTrue};
-ghost use Rattle.p21_files.specs.SameValue.{Among, EachAmong, Same, SameInOrder, SamePaired};
+ghost use Rattle.p21_spec_file.specs.SameValue.{Among, EachAmong, Same, SameInOrder, SamePaired};
 ghost use Rattle.p21_mapping_values.specs.View.{view, views};
 ghost use Rattle.p21_canon.specs.Occurrences.{Occurs};
 

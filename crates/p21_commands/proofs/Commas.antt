@@ -6,9 +6,9 @@ use Rattle.std.proofs.lemmas.List.{append-nil, map-append}
 use Rattle.std.proofs.lemmas.Grind.{flat_map-append}
 use Rattle.p21_express_outline.proofs.Finding.{AllZip-append}
 use Rattle.p21_express_graph.proofs.Lookups.{take-snoc}
-use Rattle.p21_files.specs.ValueText.{with_commas, with_commas_between}
-use Rattle.p21_schemas.specs.Schema.{Place}
-use Rattle.p21_files.proofs.Commas.{with_commas-push}
+use Rattle.p21_spec_file.specs.ValueText.{with_commas, with_commas_between}
+use Rattle.p21_spec_schema.specs.Schema.{Place}
+use Rattle.p21_spec_file.proofs.Commas.{with_commas-push}
 
 pub others-more : {X : Type 0} (f : X → Place) (R : Place → List ℕ → Type 0) (xs : List X) (k : ℕ) (d : X) (old now new : List ℕ) → k < length xs → ((words : List (List ℕ)) × AllZip R (map f (take k xs)) words × (now ≡ old ++ with_commas words))
     → ((word : List ℕ) × R (f (get_or xs k d)) word × (new ≡ now ++ (codes "," ++ word))) → (words : List (List ℕ)) × AllZip R (map f (take (k + 1) xs)) words × (new ≡ old ++ with_commas words)

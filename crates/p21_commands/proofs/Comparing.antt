@@ -1,10 +1,7 @@
 -- What `p21 same` says of two files.
-use Rattle.std.specs.Io.KnownBytes.{Keeps}
 use Rattle.std.proofs.Common.{◌≡◌, ◌⊎◌, ℕ, Bool, List, Option, inl, inr, subst, sym, string_bytes}
 use Rattle.std.proofs.KnownBytes.{Keeps-refl}
-use Rattle.p21_basics.specs.Limits.{Limits, usual}
-use Rattle.p21_commands.specs.Failures.{Failures}
-use Rattle.p21_commands.specs.Fault.{Reports}
+use Rattle.p21_spec_basics.specs.Limits.{Limits, usual}
 use Rattle.p21_commands.specs.Status.{refused}
 use Rattle.p21_stream_io.specs.Transfer.{AppendsPartOf}
 use Rattle.p21_commands.specs.declared.fault.CommandFault.{CommandFault}
@@ -15,7 +12,7 @@ use Rattle.p21_commands.specs.Same.{IsAnswered, IsCompared, IsFirstAccepted, IsR
 use Rattle.p21_commands.proofs.FileFailing.{file-refused, not-written, refused-of}
 use Rattle.p21_commands.specs.Command.{FailsBy}
 use Rattle.p21_commands.specs.Load.{DeclaresRead}
-use Rattle.p21_schemas.specs.Schema.{Schema}
+use Rattle.p21_spec_schema.specs.Schema.{Schema}
 use Rattle.p21_stream.specs.Answers.{Compares, FailsToCompare, IfFirst, IsCanonicalOfRead}
 use Rattle.p21_stream.specs.declared.comparing.Which.{Which}
 use Rattle.p21_stream.specs.declared.comparing.Which.TheVariants.{First, Second}

@@ -1,14 +1,14 @@
 -- Which calls failed where a file is refused, by what a command answers to the refusal.
 use Rattle.std.proofs.Common.{◌≡◌, ◌∙◌, ℕ, List, [], ◌∷◌, Option, Result, Ok, Err, IfErr, inl, ap, refl, sym, subst}
 use Rattle.std.specs.Prelude.{OnErr, OnOk}
-use Rattle.p21_basics.specs.Limits.{Limits}
+use Rattle.p21_spec_basics.specs.Limits.{Limits}
 use Rattle.p21_commands.specs.Failures.{Failures, FailedBy, NoneFailed}
 use Rattle.p21_commands.specs.declared.fault.CommandFault.{CommandFault}
 use Rattle.p21_commands.specs.declared.fault.CommandFault.TheVariants.{Refused, NoMemory, Read, Write}
 use Rattle.p21_commands.proofs.Failing.{after_reading, before_reading}
 use Rattle.p21_commands.specs.Refusals.{IsFaultOf, IsNoDevice}
 use Rattle.p21_commands.proofs.FileFailing.{not-written, of-no_device}
-use Rattle.p21_schemas.specs.Schema.{Schema}
+use Rattle.p21_spec_schema.specs.Schema.{Schema}
 use Rattle.p21_stream.specs.Answers.{FailsToCompare, first_failures, second_failures}
 use Rattle.p21_stream.specs.ReaderInput.{RefusesRead, read_failures, write_failures}
 use Rattle.p21_stream.specs.declared.comparing.Which.{Which}

@@ -1,12 +1,12 @@
 -- What a command says where its file is refused.
 use Rattle.std.proofs.Common.{◌≡◌, ℕ, List, [], Option, inr, subst, string_bytes}
-use Rattle.p21_basics.specs.Limits.{Limits, usual}
+use Rattle.p21_spec_basics.specs.Limits.{Limits, usual}
 use Rattle.p21_commands.specs.declared.fault.CommandFault.{CommandFault}
 use Rattle.p21_commands.specs.declared.fault.CommandFault.TheVariants.{Refused, NoMemory, Read, Write}
 use Rattle.p21_commands.specs.Files.{IsFileRefused, RefusesUnder}
 use Rattle.p21_commands.specs.Refusals.{IsFaultOf, IsNoDevice, IsOfFile, refusal_line}
 use Rattle.p21_commands.specs.Load.{DeclaresRead}
-use Rattle.p21_schemas.specs.Schema.{Schema}
+use Rattle.p21_spec_schema.specs.Schema.{Schema}
 use Rattle.p21_stream.specs.ReaderInput.{IsRefused, RefusesRead}
 use Rattle.p21_stream_statements.specs.declared.fault.Fault.{Fault}
 use Rattle.p21_stream_statements.specs.declared.fault.Fault.TheVariants as file

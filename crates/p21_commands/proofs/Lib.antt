@@ -9,3 +9,4 @@ pub mod FileFailing
 pub mod Showing
 pub mod Writing
 pub mod Surveys
+pub mod Checking

@@ -1,12 +1,12 @@
 -- What a survey of a file has to say.
 use Rattle.std.proofs.Common.{◌≡◌, ℕ, List, Option, subst}
-use Rattle.p21_basics.specs.Limits.{Limits, usual}
+use Rattle.p21_spec_basics.specs.Limits.{Limits, usual}
 use Rattle.p21_commands.specs.CheckAll.{Answers, IsSurveyed, ListsRefusals}
 use Rattle.p21_commands.specs.Files.{IsAcceptedUnder}
 use Rattle.p21_commands.specs.Load.{DeclaresRead}
 use Rattle.p21_commands.specs.declared.check_all.Answer.{Answer}
 use Rattle.p21_commands.specs.declared.check_all.Answer.TheVariants.{Accepted, Refused, Unread}
-use Rattle.p21_schemas.specs.Schema.{Schema}
+use Rattle.p21_spec_schema.specs.Schema.{Schema}
 use Rattle.p21_stream.specs.Survey.{SurveysInput}
 use Rattle.p21_stream.specs.declared.listing.Refusals.{Refusals}
 use Rattle.p21_stream.specs.declared.listing.Surveyed.{Surveyed}

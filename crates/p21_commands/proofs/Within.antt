@@ -1,11 +1,11 @@
 -- What an entity has places of are places of the schema.
 use Rattle.std.specs.Prelude.{ℕ, ◌<◌, length, Contains}
 use Rattle.std.proofs.Common.{subst}
-use Rattle.p21_basics.proofs.Members.{Contains-one_of}
-use Rattle.p21_schemas.specs.Order.{order, places, own_places}
-use Rattle.p21_schemas.specs.Schema.{Schema, Place, attributes_of}
+use Rattle.p21_spec_basics.proofs.Members.{Contains-one_of}
+use Rattle.p21_spec_schema.specs.Order.{order, places, own_places}
+use Rattle.p21_spec_schema.specs.Schema.{Schema, Place, attributes_of}
 use Rattle.p21_express_graph.specs.Resolved.{IsPlace}
-use Rattle.p21_schemas.proofs.OwnPlaces.{own_places-within}
+use Rattle.p21_spec_schema.proofs.OwnPlaces.{own_places-within}
 
 pub places-within : (s : Schema) (e : ℕ) (place : Place) → Contains (places s e) place → IsPlace s place
 places-within s e place among =

@@ -1,7 +1,7 @@
 -- What `p21 canon` says where it gives no canonical file.
 use Rattle.std.specs.Io.KnownBytes.{Keeps}
 use Rattle.std.proofs.Common.{◌≡◌, ℕ, List, [], Option, inr, subst, string_bytes}
-use Rattle.p21_basics.specs.Limits.{Limits, usual}
+use Rattle.p21_spec_basics.specs.Limits.{Limits, usual}
 use Rattle.p21_commands.specs.Transfer.{Writes}
 use Rattle.p21_commands.specs.declared.fault.CommandFault.{CommandFault}
 use Rattle.p21_commands.specs.declared.fault.CommandFault.TheVariants as command
@@ -11,7 +11,7 @@ use Rattle.p21_commands.specs.Refusals.{IsFaultOf, IsNoDevice}
 use Rattle.p21_commands.proofs.FileFailing.{file-refused, of-no_device}
 use Rattle.p21_commands.specs.Command.{FailsBy}
 use Rattle.p21_commands.specs.Load.{DeclaresRead}
-use Rattle.p21_schemas.specs.Schema.{Schema}
+use Rattle.p21_spec_schema.specs.Schema.{Schema}
 use Rattle.p21_stream.specs.Answers.{FailsToWrite, IsWritten}
 use Rattle.p21_stream.specs.ReaderInput.{RefusesRead}
 use Rattle.p21_stream_statements.specs.declared.fault.Fault.{Fault}

@@ -1,14 +1,14 @@
 -- What `p21 check --all` answers. The words of its lines are tested.
 use Rattle.std.specs.Prelude.{Option, ◌⊎◌, ℕ, List, string_bytes}
 use Rattle.std.specs.Io.KnownBytes.{Keeps}
-use Rattle.p21_basics.specs.Limits.{usual}
+use Rattle.p21_spec_basics.specs.Limits.{usual}
 use Rattle.p21_commands.specs.Check.{IsChecked}
 use Rattle.p21_commands.specs.Load.{DeclaresRead, IsSchemaRefused}
 use Rattle.p21_commands.specs.declared.check_all.Answer.{Answer}
 use Rattle.p21_commands.specs.declared.check_all.Answer.TheVariants.{Accepted, Refused, Unread}
 use Rattle.p21_commands.specs.declared.fault.CommandFault.{CommandFault}
 use Rattle.p21_commands.specs.declared.fault.CommandFault.TheVariants as command
-use Rattle.p21_schemas.specs.Schema.{Schema}
+use Rattle.p21_spec_schema.specs.Schema.{Schema}
 use Rattle.p21_stream.specs.Survey.{SurveysInput}
 use Rattle.p21_stream.specs.declared.listing.Refusals.{Refusals}
 use Rattle.p21_stream.specs.declared.listing.Surveyed.TheVariants as surveyed

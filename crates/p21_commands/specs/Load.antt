@@ -7,8 +7,8 @@ use Rattle.p21_commands.specs.declared.fault.CommandFault.TheVariants.{Refused, 
 use Rattle.p21_express_outline.specs.Fault.{fault_number, fault_name}
 use Rattle.p21_express_outline.specs.declared.fault.SchemaFault.{SchemaFault}
 use Rattle.p21_express_outline.specs.declared.fault.SchemaFault.TheVariants as schema_fault
-use Rattle.p21_schemas.specs.Declared.{Declares}
-use Rattle.p21_schemas.specs.Schema.{Schema}
+use Rattle.p21_spec_schema.specs.Declared.{Declares}
+use Rattle.p21_spec_schema.specs.Schema.{Schema}
 
 -- `schema refused SNUMBER NAME` and a line feed
 abbrev pub refusal_line : SchemaFault → List ℕ

@@ -2,10 +2,10 @@
 use Rattle.std.specs.Prelude.{Option, ◌≡◌, ◌⊎◌, ℕ, List, [], ◌++◌, codes, length}
 use Rattle.std.specs.List.{AllZip, flat_map, range_with_len}
 use Rattle.p21_commands.specs.Load.{DeclaresRead}
-use Rattle.p21_files.specs.ValueText.{list_text}
-use Rattle.p21_schemas.specs.Order.{order, places}
-use Rattle.p21_schemas.specs.PlaceType.{IsDerivedIn}
-use Rattle.p21_schemas.specs.Schema.{Schema, Place, EntityNamed, PlaceNamed, IsAbstract}
+use Rattle.p21_spec_file.specs.ValueText.{list_text}
+use Rattle.p21_spec_schema.specs.Order.{order, places}
+use Rattle.p21_spec_schema.specs.PlaceType.{IsDerivedIn}
+use Rattle.p21_spec_schema.specs.Schema.{Schema, Place, EntityNamed, PlaceNamed, IsAbstract}
 
 -- the name of a place, or `*` where it is derived in the entity's own set
 abbrev pub IsPlaceWord : Schema → ℕ → Place → List ℕ → Type 0

@@ -1,10 +1,10 @@
 -- What `p21 same` writes.
 use Rattle.std.specs.Prelude.{Option, ◌≡◌, ◌⊎◌, ℕ, Bool, true, false, List, codes}
 use Rattle.std.specs.Io.KnownBytes.{Keeps}
-use Rattle.p21_basics.specs.Limits.{usual}
+use Rattle.p21_spec_basics.specs.Limits.{usual}
 use Rattle.p21_commands.specs.Files.{IsFileRefused}
 use Rattle.p21_commands.specs.Load.{DeclaresRead, IsSchemaRefused}
-use Rattle.p21_schemas.specs.Schema.{Schema}
+use Rattle.p21_spec_schema.specs.Schema.{Schema}
 use Rattle.p21_stream.specs.Answers.{Compares, IsCanonicalOfRead}
 use Rattle.p21_stream.specs.declared.comparing.Which.{Which}
 use Rattle.p21_stream.specs.declared.comparing.Which.TheVariants.{First, Second}

@@ -1,6 +1,6 @@
 //! The command `check`.
-ghost use Rattle.std.specs.Prelude.{◌≡◌, IfErr, IfOk, OnOk, string_bytes, length, [], ◌∷◌};
-ghost use Rattle.p21_basics.specs.Limits.{usual};
+ghost use Rattle.std.specs.Prelude.{◌≡◌, IfErr, IfOk, OnOk, string_bytes, [], ◌∷◌};
+ghost use Rattle.p21_spec_basics.specs.Limits.{usual};
 ghost use Rattle.p21_commands.specs.Command.{Ends, FailsBy, written_by};
 ghost use Rattle.p21_commands.specs.Failures.{FailedBy, NoneFailed, failures_of};
 ghost use Rattle.p21_commands.specs.Transfer as text;
@@ -8,13 +8,12 @@ ghost use Rattle.p21_commands.specs.Transfer.{Writes};
 ghost use Rattle.p21_commands.specs.Check.{IsChecked, check_answer_line};
 ghost use Rattle.p21_commands.specs.Files.{IsRefusedUnder, RefusesUnder};
 ghost use Rattle.p21_stream.specs.ReaderInput.{ConsumesAtMost};
-ghost use Rattle.p21_stream_output.specs.Output.{output_text};
 
+use crate::count_under::count_under;
 use crate::fault::{CommandFault, report};
-use crate::read_under::read_under;
 use crate::status::DONE;
 use crate::transfer::write_whole;
-use p21_stream::{Accepted, Watched};
+use p21_stream::Watched;
 use std::alloc::{AllocError, Global};
 use std::io::{Read, Write};
 
@@ -74,18 +73,20 @@ fn checked_answer_line<S: Read, R: Read>(
     ensures read { OnOk result (NoneFailed (failures_of schema.old schema.new ∷ failures_of file.old file.new ∷ [])) }
     ensures failed { IfErr result (FailedBy (failures_of schema.old schema.new ∷ failures_of file.old file.new ∷ []) []) }
 {
-    let accepted = read_under(alloc, schema, file)?;
-    match answer_line_of(alloc, &accepted) {
+    let counted = count_under(alloc, schema, file)?;
+    match answer_line_of(alloc, counted.instances, counted.bytes) {
         Ok(line) => Ok(line),
         Err(AllocError) => Err(CommandFault::NoMemory),
     }
 }
 
-/// The line of a file that is accepted.
-pub(crate) fn answer_line_of(alloc: Global, accepted: &Accepted) -> Result<String, AllocError>
-    ensures { IfOk result (λ line. string_bytes line ≡ check_answer_line (length accepted.now.kept) (length (output_text accepted.now))) }
+/// The line of a file that is accepted, by how many instances it has and how many bytes its canonical file.
+pub(crate) fn answer_line_of(
+    alloc: Global,
+    instances: u64,
+    bytes: u64,
+) -> Result<String, AllocError>
+    ensures { IfOk result (λ line. string_bytes line ≡ check_answer_line instances bytes) }
 {
-    let count = accepted.count();
-    let len = accepted.len();
-    format!(in alloc; "accepted, instances {count}, canonical bytes {len}\n")
+    format!(in alloc; "accepted, instances {instances}, canonical bytes {bytes}\n")
 }

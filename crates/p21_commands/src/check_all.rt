@@ -1,7 +1,7 @@
 //! The command `check --all`.
 ghost use Rattle.std.specs.Prelude.{◌≡◌, ◌⊎◌, IfErr, IfOk};
 ghost use Rattle.std.specs.Io.KnownBytes.{Keeps};
-ghost use Rattle.p21_basics.specs.Limits.{usual};
+ghost use Rattle.p21_spec_basics.specs.Limits.{usual};
 ghost use Rattle.p21_commands.specs.Check.{IsChecked};
 ghost use Rattle.p21_commands.specs.CheckAll.{Answers, AnswersNothing, IsListedUnder, ListsRefusals};
 ghost use Rattle.p21_commands.specs.Status.{done, failed, refused};
@@ -85,7 +85,10 @@ fn find_answer<S: Read, R: Read>(
         return Err(CommandFault::NoMemory);
     };
     match found {
-        Surveyed::Accepted(accepted) => Ok(Answer::Accepted(answer_line_of(alloc, &accepted)?)),
+        Surveyed::Accepted(accepted) => {
+            let line = answer_line_of(alloc, accepted.count(), accepted.len())?;
+            Ok(Answer::Accepted(line))
+        }
         Surveyed::Refused(refusals) => Ok(lines_of(alloc, &refusals)?),
     }
 }

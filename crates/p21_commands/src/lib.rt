@@ -5,6 +5,7 @@
 mod canon;
 mod check;
 mod check_all;
+mod count_under;
 mod fault;
 mod file_fault;
 mod load;

@@ -4,7 +4,7 @@ ghost use Rattle.p21_commands.specs.Failures.{FailedBy, failures_of};
 ghost use Rattle.p21_commands.specs.Transfer.{ConsumesAtMost};
 ghost use Rattle.p21_commands.specs.Load.{DeclaresRead, IsRefusalLine, RefusesRead, refusal_line};
 ghost use Rattle.p21_commands.specs.Refusing.{RefusesBy};
-ghost use Rattle.p21_schemas.specs.Declared.{Declares};
+ghost use Rattle.p21_spec_schema.specs.Declared.{Declares};
 
 use crate::fault::CommandFault;
 use crate::transfer::read_text;

@@ -3,13 +3,13 @@ ghost use Rattle.std.specs.Prelude.{◌≡◌, ◌++◌, List, ℕ, Contains, If
 ghost use Rattle.std.specs.List.{AllZip};
 ghost use Rattle.p21_commands.specs.Print.{IsEntityLine, IsEntityPrefix, IsPlaceWord, IsSchemaText};
 ghost use Rattle.p21_express_graph.specs.Resolved.{IsEntity, IsPlace};
-ghost use Rattle.p21_express_types.specs.Meaning.{place as place_of};
-ghost use Rattle.p21_files.specs.ValueText.{list_text, with_commas, with_commas_between};
-ghost use Rattle.p21_schemas.specs.Order.{places};
-ghost use Rattle.p21_schemas.specs.Schema.{Place as MeantPlace};
+ghost use Rattle.p21_express_graph.specs.Meaning.{place as place_of};
+ghost use Rattle.p21_spec_file.specs.ValueText.{list_text, with_commas, with_commas_between};
+ghost use Rattle.p21_spec_schema.specs.Order.{places};
+ghost use Rattle.p21_spec_schema.specs.Schema.{Place as MeantPlace};
 
+use p21_express_graph::{EntityId, Place, PlaceType};
 use p21_express_tables::Schema;
-use p21_express_types::{EntityId, Place, PlaceType};
 use p21_values::NoMemory;
 use std::alloc::Global;
 

@@ -1,6 +1,6 @@
 //! A file read under a schema.
 ghost use Rattle.std.specs.Prelude.{◌≡◌, [], ◌∷◌, IfErr, IfOk, OnOk};
-ghost use Rattle.p21_basics.specs.Limits.{usual};
+ghost use Rattle.p21_spec_basics.specs.Limits.{usual};
 ghost use Rattle.p21_commands.specs.Failures.{FailedBy, NoneFailed, failures_of};
 ghost use Rattle.p21_commands.specs.Transfer as text;
 ghost use Rattle.p21_commands.specs.Files.{IsAcceptedUnder, RefusesUnder};

@@ -1,7 +1,7 @@
 //! The command `same`.
 ghost use Rattle.std.specs.Prelude.{◌≡◌, ◌⊎◌, IfErr, IfOk, true, false, ◌≢◌, [], ◌∷◌, OnOk};
 ghost use Rattle.std.specs.Io.KnownBytes.{Keeps};
-ghost use Rattle.p21_basics.specs.Limits.{usual};
+ghost use Rattle.p21_spec_basics.specs.Limits.{usual};
 ghost use Rattle.p21_commands.specs.Command.{Fails, FailsBy};
 ghost use Rattle.p21_commands.specs.Failures.{FailedBy, NoneFailed, failures_of};
 ghost use Rattle.p21_commands.specs.Status.{done, failed, refused};

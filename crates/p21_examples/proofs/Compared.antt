@@ -1,15 +1,14 @@
 -- What a comparison says of readers whose bytes are known.
-use Rattle.std.proofs.Common.{◌≡◌, ◌↔◌, ◌⊎◌, ℕ, Bool, IsTrue, List, ◌++◌, Option, None, Some, sym, ap, ◌∙◌, append-nil, subst}
-use Rattle.std.specs.Io.KnownBytes.{Consumes, IsAtEnd}
+use Rattle.std.proofs.Common.{◌≡◌, ◌↔◌, ℕ, Bool, IsTrue, List, ◌++◌, Option, None, Some, sym, ap, ◌∙◌, append-nil, subst}
 use Rattle.p21_examples.specs.Comparing.{IsRefused, IsRefusedOf, TellsSame}
 use Rattle.p21_stream.specs.Answers.{Compares, FailsToCompare}
 use Rattle.p21_stream.specs.Claim.{Claim}
 use Rattle.p21_stream.specs.ReaderInput.{IsReadWhole, RefusesRead}
 use Rattle.p21_stream.specs.declared.comparing.Which.{Which}
 use Rattle.p21_stream.specs.declared.comparing.Which.TheVariants.{First, Second}
-use Rattle.p21_stream.specs.p21_basics.Limits.{Limits}
-use Rattle.p21_stream.specs.p21_claim.CanonicalLaws.{MeanTheSame}
-use Rattle.p21_stream.specs.p21_schemas.Schema.{Schema}
+use Rattle.p21_stream.specs.p21_spec_basics.Limits.{Limits}
+use Rattle.p21_stream.specs.p21_spec_laws.CanonicalLaws.{MeanTheSame}
+use Rattle.p21_stream.specs.p21_spec_schema.Schema.{Schema}
 use Rattle.p21_stream.specs.declared.Fault.{Fault}
 
 -- a reader that was read to its end gave what it had

@@ -1,16 +1,16 @@
 -- What the claim says of a session that refuses what a source gave.
-use Rattle.std.proofs.Common.{◌≡◌, ◌≢◌, ◌⊎◌, ℕ, List, ◌++◌, append_assoc, Option, Err, inl, inr, subst, slice_index_or, Fits, w8}
+use Rattle.std.proofs.Common.{◌≢◌, ◌⊎◌, ℕ, List, ◌++◌, append_assoc, Option, Err, inl, inr, subst, slice_index_or, Fits, w8}
 use Rattle.p21_examples.specs.Receiving.{IsReceived}
-use Rattle.p21_stream.specs.p21_files.Accepted.{IsAccepted, IsDead}
+use Rattle.p21_stream.specs.p21_spec_file.Accepted.{IsAccepted, IsDead}
 use Rattle.p21_stream.specs.Claim.{Claim, IsFailure, IsOpen}
 use Rattle.p21_stream.specs.declared.Fault.{Fault}
-use Rattle.p21_stream.specs.declared.Fault.TheVariants.{NoMemory, Read, Write}
+use Rattle.p21_stream.specs.declared.Fault.TheVariants.{NoMemory}
 use Rattle.p21_stream.specs.Held.{SessionHeld}
 use Rattle.p21_stream.specs.Histories.{FeedGives, FinishGives, SessionHistory}
-use Rattle.p21_stream.specs.p21_basics.Limits.{Limits}
+use Rattle.p21_stream.specs.p21_spec_basics.Limits.{Limits}
 use Rattle.p21_stream.specs.ReaderInput.{IsOfBytes, IsRefused}
 use Rattle.p21_stream.specs.declared.Refusal.{Refusal}
-use Rattle.p21_stream.specs.p21_schemas.Schema.{Schema}
+use Rattle.p21_stream.specs.p21_spec_schema.Schema.{Schema}
 use Rattle.p21_stream.proofs.Feeding.{each-byte}
 
 -- a fault of bytes other than want of memory is no failure

@@ -2,12 +2,12 @@
 use Rattle.std.specs.Prelude.{◌≢◌, ℕ, List}
 use Rattle.p21_examples.specs.declared.canonical.Problem.{Problem}
 use Rattle.p21_examples.specs.declared.canonical.Problem.TheVariants.{OfSchema, OfFile}
-use Rattle.p21_stream.specs.p21_files.Accepted.{IsAccepted}
+use Rattle.p21_stream.specs.p21_spec_file.Accepted.{IsAccepted}
 use Rattle.p21_stream.specs.Answers.{IsOnlyCanonicalFile}
-use Rattle.p21_stream.specs.p21_schemas.Declared.{Declares}
+use Rattle.p21_stream.specs.p21_spec_schema.Declared.{Declares}
 use Rattle.p21_stream.specs.declared.Fault.TheVariants as file_fault
-use Rattle.p21_stream.specs.p21_basics.Limits.{Limits}
-use Rattle.p21_stream.specs.p21_schemas.Schema.{Schema}
+use Rattle.p21_stream.specs.p21_spec_basics.Limits.{Limits}
+use Rattle.p21_stream.specs.p21_spec_schema.Schema.{Schema}
 use Rattle.p21_stream.specs.declared.SchemaFault.TheVariants as schema_fault
 
 -- the text declares a schema, and this is the canonical file under it

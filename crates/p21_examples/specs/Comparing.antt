@@ -1,13 +1,13 @@
 -- What is known of two readers that are compared, where their bytes are known, as those of memory are.
 use Rattle.std.specs.Prelude.{◌≡◌, ◌↔◌, ◌⊎◌, ℕ, Bool, IsTrue, List, Option, Some}
 use Rattle.std.specs.List.{AllByRecursion as Each}
-use Rattle.p21_stream.specs.p21_files.Accepted.{IsAccepted}
-use Rattle.p21_stream.specs.p21_claim.CanonicalLaws.{MeanTheSame}
+use Rattle.p21_stream.specs.p21_spec_file.Accepted.{IsAccepted}
+use Rattle.p21_stream.specs.p21_spec_laws.CanonicalLaws.{MeanTheSame}
 use Rattle.p21_stream.specs.Claim.{IsFailure}
-use Rattle.p21_stream.specs.p21_basics.Digits.{IsByte}
+use Rattle.p21_stream.specs.p21_spec_basics.Digits.{IsByte}
 use Rattle.p21_stream.specs.declared.Fault.{Fault}
-use Rattle.p21_stream.specs.p21_basics.Limits.{Limits}
-use Rattle.p21_stream.specs.p21_schemas.Schema.{Schema}
+use Rattle.p21_stream.specs.p21_spec_basics.Limits.{Limits}
+use Rattle.p21_stream.specs.p21_spec_schema.Schema.{Schema}
 use Rattle.p21_stream.specs.declared.comparing.Which.{Which}
 use Rattle.p21_stream.specs.declared.comparing.Which.TheVariants.{First, Second}
 

@@ -6,14 +6,14 @@ use Rattle.p21_examples.specs.declared.session.Stopped.{Stopped}
 use Rattle.p21_examples.specs.declared.session.Stopped.TheVariants.{Refused, TooLarge}
 use Rattle.p21_stream.specs.Claim.{IsOpen}
 use Rattle.p21_stream.specs.declared.Fault.TheVariants.{NoMemory}
-use Rattle.p21_stream.specs.p21_files.Held.{IsHeld}
+use Rattle.p21_stream.specs.p21_spec_file.Held.{IsHeld}
 use Rattle.p21_stream.specs.Held.{SessionHeld}
 use Rattle.p21_stream.specs.declared.Held.{Held}
 use Rattle.p21_stream.specs.Histories.{SessionHistory}
 use Rattle.p21_stream.specs.Inside.{held_of}
-use Rattle.p21_stream.specs.p21_basics.Limits.{Limits}
+use Rattle.p21_stream.specs.p21_spec_basics.Limits.{Limits}
 use Rattle.p21_stream.specs.ReaderInput.{IsRefused}
-use Rattle.p21_stream.specs.p21_schemas.Schema.{Schema}
+use Rattle.p21_stream.specs.p21_spec_schema.Schema.{Schema}
 
 -- the source gave some bytes, and the session stands for them
 pub record IsFed (s : Schema) (limits : Limits) (start now : Option (List ℕ)) (session : SessionHeld) : Type 0 where

@@ -3,7 +3,7 @@
 ghost use Rattle.std.specs.Prelude.{◌≢◌, ◌≤◌, ◌↔◌, ◌++◌, IfErr, IfOk, IsTrue, Ok, OnOk};
 ghost use Rattle.p21_examples.specs.Receiving.{IsReceived, Stops};
 ghost use Rattle.p21_stream.specs.Claim.{IsOpen};
-ghost use Rattle.p21_stream.specs.p21_files.Accepted.{IsDead};
+ghost use Rattle.p21_stream.specs.p21_spec_file.Accepted.{IsDead};
 ghost use Rattle.p21_stream.specs.Histories.{FeedGives, KeepsSchema, SessionHistory, nothing_taken};
 ghost use Rattle.p21_stream.specs.ReaderInput.{IsAcceptedInput};
 

@@ -3,14 +3,14 @@ use Rattle.std.specs.Prelude.{◌≡◌, ℕ, suc, ◌+◌, ◌<◌, ◌≤◌, 
 use Rattle.std.specs.List.{flat_map}
 use Rattle.std.proofs.Common.{arith, ap, subst, inl, inr}
 use Rattle.std.proofs.lemmas.List.{length-append, length-map}
-use Rattle.p21_basics.proofs.Members.{Contains-none, Contains-cases}
-use Rattle.p21_schemas.specs.EntityDeclaration.{AttributeName, own, redeclared, ExplicitAttributes, EntityDeclaration, attribute_lexemes, explicit_lexemes, derive_lexemes, subtype_lexemes, rules_lexemes, entity_lexemes}
-use Rattle.p21_schemas.specs.Express.{Lexeme, identifier, digits, simple_string, encoded_string, symbol, SpellsLexeme, quote_twice}
-use Rattle.p21_schemas.specs.ExpressLaying.{LaidLexemes}
-use Rattle.p21_schemas.specs.SchemaDeclaration.{Declaration, entity, defined, read_over, SchemaDeclaration, entities_of, declaration_lexemes, schema_lexemes, version_lexemes}
-use Rattle.p21_schemas.specs.Separated.{comma_separated}
-use Rattle.p21_schemas.specs.SupertypeConstraint.{constraint_lexemes}
-use Rattle.p21_schemas.specs.WrittenType.{word, symbols, optional_word, type_lexemes}
+use Rattle.p21_spec_basics.proofs.Members.{Contains-none, Contains-cases}
+use Rattle.p21_spec_schema.specs.EntityDeclaration.{AttributeName, own, redeclared, ExplicitAttributes, EntityDeclaration, attribute_lexemes, explicit_lexemes, derive_lexemes, subtype_lexemes, rules_lexemes, entity_lexemes}
+use Rattle.p21_spec_schema.specs.Express.{Lexeme, identifier, digits, simple_string, encoded_string, symbol, SpellsLexeme, quote_twice}
+use Rattle.p21_spec_schema.specs.ExpressLaying.{LaidLexemes}
+use Rattle.p21_spec_schema.specs.SchemaDeclaration.{Declaration, entity, defined, read_over, SchemaDeclaration, entities_of, declaration_lexemes, schema_lexemes, version_lexemes}
+use Rattle.p21_spec_schema.specs.Separated.{comma_separated}
+use Rattle.p21_spec_schema.specs.SupertypeConstraint.{constraint_lexemes}
+use Rattle.p21_spec_schema.specs.WrittenType.{word, symbols, optional_word, type_lexemes}
 use Rattle.p21_express_outline.specs.Outline.{digest_own_explicit, digest_own_names}
 use Rattle.p21_express_syntax.specs.Digesting.{name_digest, attributes_digest}
 use Rattle.p21_express_syntax.specs.ReadDeclarations.{IsTextOf}

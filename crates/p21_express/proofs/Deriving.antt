@@ -5,11 +5,11 @@ use Rattle.std.proofs.Common.{arith, ap, sym, ◌∙◌, subst, inl, inr, get_or
 use Rattle.std.proofs.lemmas.List.{append-nil, length-map, map-append}
 use Rattle.std.proofs.lemmas.List.Elements.{Contains-append_left, Contains-append_right, Contains-append_cases}
 use Rattle.std.proofs.lemmas.Option.{slice_get_within}
-use Rattle.p21_schemas.specs.Redeclaration.{IsProperSupertype, RedeclaresPlace, HasNoPlace}
-use Rattle.p21_schemas.specs.Schema as pure
-use Rattle.p21_schemas.specs.Schema.{Schema}
-use Rattle.p21_express_types.specs.Meaning.{place as place_of}
-use Rattle.p21_express_types.specs.declared.number.Place.{Place}
+use Rattle.p21_spec_schema.specs.Redeclaration.{IsProperSupertype, RedeclaresPlace, HasNoPlace}
+use Rattle.p21_spec_schema.specs.Schema as pure
+use Rattle.p21_spec_schema.specs.Schema.{Schema}
+use Rattle.p21_express_graph.specs.Meaning.{place as place_of}
+use Rattle.p21_express_graph.specs.declared.number.Place.{Place}
 use Rattle.p21_express_syntax.specs.Digest.{EntityDigest}
 use Rattle.p21_express_syntax.specs.declared.attributes.AttributeName.{AttributeName}
 use Rattle.p21_express_syntax.specs.declared.entity.Entity.{Entity}

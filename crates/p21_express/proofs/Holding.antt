@@ -6,14 +6,14 @@ use Rattle.std.proofs.Common.{arith, ap, sym, ◌∙◌, subst, inl, inr}
 use Rattle.std.proofs.lemmas.List.{length-map}
 use Rattle.std.proofs.lemmas.Option.{slice_get_within}
 use Rattle.std.proofs.lemmas.Slice.Zip.{AllZip-long}
-use Rattle.p21_basics.proofs.Members.{Contains-none, Contains-found, Contains-unmapped, Each-of_members, Each-member, AllZip-member, AllZip-second_member}
-use Rattle.p21_schemas.specs.Schema as schema
-use Rattle.p21_schemas.specs.Schema.{Schema, TypeUse, Member, entity_member, type_member, Kind, Redeclared, Place, Entity, Defined}
-use Rattle.p21_schemas.specs.Declared.{HasNoCircle, HasSupertype, Renames, HasSelect}
-use Rattle.p21_schemas.specs.SchemaDeclaration.{SchemaDeclaration, entities_of}
-use Rattle.p21_schemas.specs.Redeclaration.{RedeclaresPlace}
-use Rattle.p21_schemas.specs.WellFormed.{RedeclaresOnce}
-use Rattle.p21_schemas.proofs.DeclaredSchemas.{distinct_names-entities, distinct_names-types, declared-redeclares_once}
+use Rattle.p21_spec_basics.proofs.Members.{Contains-none, Contains-found, Contains-unmapped, Each-of_members, Each-member, AllZip-member, AllZip-second_member}
+use Rattle.p21_spec_schema.specs.Schema as schema
+use Rattle.p21_spec_schema.specs.Schema.{Schema, TypeUse, Member, entity_member, type_member, Kind, Redeclared, Place, Entity, Defined}
+use Rattle.p21_spec_schema.specs.Declared.{HasNoCircle, HasSupertype, Renames, HasSelect}
+use Rattle.p21_spec_schema.specs.SchemaDeclaration.{SchemaDeclaration, entities_of}
+use Rattle.p21_spec_schema.specs.Redeclaration.{RedeclaresPlace}
+use Rattle.p21_spec_schema.specs.WellFormed.{RedeclaresOnce}
+use Rattle.p21_spec_schema.proofs.DeclaredSchemas.{distinct_names-entities, distinct_names-types, declared-redeclares_once}
 use Rattle.p21_express.specs.ReadSchema.{AreOfText, IsBareSchema}
 use Rattle.p21_express.proofs.Counted.{few-attributes}
 use Rattle.p21_express.proofs.Outlines.{outline-few}

@@ -4,13 +4,13 @@ use Rattle.std.specs.List.{IsDistinct, list_any}
 use Rattle.std.proofs.Common.{arith, ap, sym, ◌∙◌, subst, get_or}
 use Rattle.std.proofs.lemmas.Bool.{eq-eqb, eqb-true, and_parts, not-false}
 use Rattle.std.proofs.lemmas.List.{map-append, take-append-drop}
-use Rattle.p21_basics.proofs.Members.{Each-back, Each-mapped, Each-unmapped}
-use Rattle.p21_schemas.specs.DeclaredEntity.{same_place}
+use Rattle.p21_spec_basics.proofs.Members.{Each-back, Each-mapped, Each-unmapped}
+use Rattle.p21_spec_schema.specs.DeclaredEntity.{same_place}
 use Rattle.p21_express_outline.proofs.Adding.{drop-next}
 use Rattle.p21_express_outline.proofs.Finding.{take-all}
 use Rattle.p21_express_graph.proofs.Lookups.{take-snoc}
-use Rattle.p21_express_types.specs.Meaning.{place as place_of}
-use Rattle.p21_express_types.specs.declared.number.Place.{Place}
+use Rattle.p21_express_graph.specs.Meaning.{place as place_of}
+use Rattle.p21_express_graph.specs.declared.number.Place.{Place}
 
 -- a place as a key
 abbrev pub key : Place → ℕ × ℕ

@@ -2,6 +2,7 @@ pub mod Deriving
 pub mod Explicit
 pub mod Keys
 pub mod PlaceLemmas
+pub mod OwnerLists
 pub mod Resolving
 pub mod Counted
 pub mod Holding

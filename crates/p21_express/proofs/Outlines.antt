@@ -5,13 +5,13 @@ use Rattle.std.proofs.Common.{arith, ap, sym, ◌∙◌, subst, inl, inr}
 use Rattle.std.proofs.lemmas.List.{length-map}
 use Rattle.std.proofs.lemmas.Option.{slice_get_within}
 use Rattle.std.proofs.lemmas.Slice.Zip.{AllZip-long}
-use Rattle.p21_basics.proofs.Members.{Contains-none, Contains-found, AllZip-member, AllZip-second_member}
-use Rattle.p21_schemas.specs.Schema as schema
-use Rattle.p21_schemas.specs.Schema.{Schema, TypeUse, Kind, Entity, Defined}
-use Rattle.p21_schemas.specs.Declared.{Declares, HasNoCircle, HasSupertype, Renames, HasSelect, most_declarations}
-use Rattle.p21_schemas.specs.SchemaDeclaration.{SchemaDeclaration, entities_of, types_of}
-use Rattle.p21_schemas.specs.Supertype.{supertypes_of}
-use Rattle.p21_schemas.specs.WellFormed.{AreEntities}
+use Rattle.p21_spec_basics.proofs.Members.{Contains-none, Contains-found, AllZip-member, AllZip-second_member}
+use Rattle.p21_spec_schema.specs.Schema as schema
+use Rattle.p21_spec_schema.specs.Schema.{Schema, TypeUse, Kind, Entity, Defined}
+use Rattle.p21_spec_schema.specs.Declared.{Declares, HasNoCircle, HasSupertype, Renames, HasSelect, most_declarations}
+use Rattle.p21_spec_schema.specs.SchemaDeclaration.{SchemaDeclaration, entities_of, types_of}
+use Rattle.p21_spec_schema.specs.Supertype.{supertypes_of}
+use Rattle.p21_spec_schema.specs.WellFormed.{AreEntities}
 use Rattle.p21_express.specs.ReadSchema.{AreOfText, DeclareNoSchema, OutlineChecked, SchemaRead}
 use Rattle.p21_express_outline.specs.Chains.{AreTypes}
 use Rattle.p21_express_lexemes.specs.declared.fault.SyntaxFault.{SyntaxFault}

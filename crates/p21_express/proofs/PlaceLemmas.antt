@@ -5,15 +5,17 @@ use Rattle.std.specs.Str.{bytes_eq}
 use Rattle.std.proofs.Common.{arith, ap, sym, ◌∙◌, subst, inl, inr, get_or}
 use Rattle.std.proofs.lemmas.Bool.{cases_eq}
 use Rattle.std.proofs.lemmas.Option.{get_or_from_slice_get, slice_get_within}
-use Rattle.p21_basics.proofs.Members.{Contains-one_of, Contains-flat_map, Each-at}
-use Rattle.p21_schemas.specs.Order.{order, own_places}
-use Rattle.p21_schemas.specs.Redeclaration.{IsOwnPlace, IsPlaceOf, IsProperSupertype, RedeclaresPlace, HasNoPlace}
-use Rattle.p21_schemas.specs.Schema.{Schema, Place, Attribute, Entity, EntityNamed, PlaceNamed, attributes_of}
-use Rattle.p21_schemas.specs.Supertype.{IsA}
-use Rattle.p21_schemas.specs.WellFormed.{HasDistinctEntities}
-use Rattle.p21_schemas.proofs.Orders.{order_within-self, order_within-only}
+use Rattle.p21_spec_basics.proofs.Members.{Contains-one_of, Contains-flat_map, Each-at}
+use Rattle.p21_spec_schema.specs.Order.{order, own_places}
+use Rattle.p21_spec_schema.specs.Redeclaration.{IsOwnPlace, IsPlaceOf, IsProperSupertype, RedeclaresPlace, HasNoPlace}
+use Rattle.p21_spec_schema.specs.Schema.{Schema, Place, Attribute, Entity, EntityNamed, PlaceNamed, attributes_of}
+use Rattle.p21_spec_schema.specs.Supertype.{IsA}
+use Rattle.p21_spec_schema.specs.WellFormed.{HasDistinctEntities}
+use Rattle.p21_spec_schema.proofs.Orders.{order-has, order_within-self, order_within-only}
 use Rattle.p21_express.specs.AttributeNames.{IsKept, own_names}
+use Rattle.p21_express.specs.Candidates.{AreCandidates, IsPlaceAbove}
 use Rattle.p21_express.specs.Found.{HasDistinctAttributes}
+use Rattle.p21_express.specs.NamedOwners.{HasOwners}
 use Rattle.p21_express.specs.RedeclarationTarget.{IsPlaceIn, IsTargetIn, IsMissing, IsTargetOf}
 use Rattle.p21_express.specs.declared.lookups.RedeclarationTarget.{RedeclarationTarget}
 use Rattle.p21_express.specs.declared.lookups.RedeclarationTarget.TheVariants as sought
@@ -23,8 +25,8 @@ use Rattle.p21_express_graph.proofs.Gatherings.{numbered-at}
 use Rattle.p21_express_graph.proofs.Lookups.{each-number, numbers-more}
 use Rattle.p21_express_graph.proofs.Naming.{named, unnamed}
 use Rattle.p21_express_graph.proofs.OrderTables.{IsA-within, are-entities}
-use Rattle.p21_express_types.specs.declared.number.EntityId.{EntityId}
-use Rattle.p21_schemas.proofs.OwnPlaces.{own_places-within, own_places-has}
+use Rattle.p21_express_graph.specs.declared.number.EntityId.{EntityId}
+use Rattle.p21_spec_schema.proofs.OwnPlaces.{own_places-within, own_places-has}
 
 -- an attribute by its entity and its number
 abbrev pub at_index : ℕ → ℕ → Place
@@ -108,29 +110,33 @@ pub several : (s : Schema) (e : ℕ) (name : List ℕ) (first : Place) → ((pla
 several s e name first none is (other, is_other, differ) place (inl own) = none place own
 several s e name first none is (other, is_other, differ) place (inr (no_own, of, only)) = differ (only other is_other ∙ sym (only first is))
 
--- ---- loops over the order of an entity
+-- ---- entities among which the places of a name are looked for
 
-pub owner-within : (s : Schema) → HoldsTogether s → (e : ℕ) → e < length s.entities → (owners : List EntityId) → numbers owners ≡ order s e → (k : ℕ) → k < length owners → (get_or owners k record { 0 = 0 }).0 < length s.entities
-owner-within s holds e within owners same k below =
-    let f : ℕ = (get_or owners k record { 0 = 0 }).0 in
-    let P : List ℕ → Type 0 = λ xs. Contains xs f in
-    IsA-within s (are-entities s holds) e f (order_within-only s (length s.entities) e f (subst P same (numbered-at (λ x. x.0) owners k record { 0 = 0 } below))) within
+-- the entities of an order are such
+pub order-candidates : (s : Schema) → HoldsTogether s → (e : ℕ) (name : List ℕ) (owners : List EntityId) → e < length s.entities → numbers owners ≡ order s e → AreCandidates s e name (numbers owners)
+order-candidates s holds e name owners within same = record {
+  all = λ f place in_order own. (let P : List ℕ → Type 0 = λ xs. Contains xs f in subst P (sym same) in_order);
+  within = λ f among. (let P : List ℕ → Type 0 = λ xs. Contains xs f in IsA-within s (are-entities s holds) e f (order_within-only s (length s.entities) e f (subst P same among)) within);
+}
 
--- none of them declares such a place itself
-pub no-owner : (s : Schema) (e : ℕ) (name : List ℕ) (Is : Place → Type 0) (owners : List EntityId) → numbers owners ≡ order s e → (n : ℕ) → length owners ≤ n
-    → ((k : ℕ) → k < n → (place : Place) → IsOwnPlace s (get_or owners k record { 0 = 0 }).0 name place → Is place → ⊥) → (place : Place) → IsPlaceOf s e name place → Is place → ⊥
-no-owner s e name Is owners same n all none place of is =
+-- and so are all that declare an attribute of the name
+pub owner-candidates : (s : Schema) (e : ℕ) (name : List ℕ) (owners : List ℕ) → HasOwners s name owners → AreCandidates s e name owners
+owner-candidates s e name owners are = record { all = λ f place in_order own. are.all f place own; within = are.within }
+
+pub candidate-within : (s : Schema) (e : ℕ) (name : List ℕ) (owners : List EntityId) → AreCandidates s e name (numbers owners) → (k : ℕ) → k < length owners → (get_or owners k record { 0 = 0 }).0 < length s.entities
+candidate-within s e name owners are k below = are.within (get_or owners k record { 0 = 0 }).0 (numbered-at (λ x. x.0) owners k record { 0 = 0 } below)
+
+-- none of them has such a place
+pub no-candidate : (s : Schema) (e : ℕ) (name : List ℕ) (Is : Place → Type 0) (owners : List EntityId) → AreCandidates s e name (numbers owners) → (n : ℕ) → length owners ≤ n
+    → ((k : ℕ) → k < n → (place : Place) → IsPlaceAbove s e (get_or owners k record { 0 = 0 }).0 name place → Is place → ⊥) → (place : Place) → IsPlaceOf s e name place → Is place → ⊥
+no-candidate s e name Is owners are n all none place of is =
     let (f, in_order, own) = place-owner s e name place of in
-    let P : List ℕ → Type 0 = λ xs. Contains xs f in
-    let Q : ℕ → Type 0 = λ g. IsOwnPlace s g name place → ⊥ in
-    each-number (λ x. x.0) record { 0 = 0 } Q owners f (λ k below own_. none k (omega (arith, below, all)) place own_ is) (subst P (sym same) in_order) own
+    let Q : ℕ → Type 0 = λ g. IsPlaceAbove s e g name place → ⊥ in
+    each-number (λ x. x.0) record { 0 = 0 } Q owners f (λ k below above. none k (omega (arith, below, all)) place above is) (are.all f place in_order own) (order_within-only s (length s.entities) e f in_order, own)
 
--- a place that an entity of the order declares
-pub owner-has : (s : Schema) (e : ℕ) (name : List ℕ) (owners : List EntityId) → numbers owners ≡ order s e → (k : ℕ) → k < length owners → (place : Place) → IsOwnPlace s (get_or owners k record { 0 = 0 }).0 name place → IsPlaceOf s e name place
-owner-has s e name owners same k below place own =
-    let f : ℕ = (get_or owners k record { 0 = 0 }).0 in
-    let P : List ℕ → Type 0 = λ xs. Contains xs f in
-    owner-place s e f name place (subst P same (numbered-at (λ x. x.0) owners k record { 0 = 0 } below)) own
+-- a place that the entity or a supertype of it declares
+pub above-has : (s : Schema) → HoldsTogether s → (e f : ℕ) (name : List ℕ) (place : Place) → IsPlaceAbove s e f name place → IsPlaceOf s e name place
+above-has s holds e f name place (is_a, own) = owner-place s e f name place (order-has s (are-entities s holds) holds.supertypes_end e f is_a) own
 
 -- two places that aren't different are one
 pub place-one : (p q : Place) → (p ≢ q → ⊥) → p ≡ q
@@ -142,10 +148,10 @@ place-one p q none = elim (cases_eq p.entity q.entity) [
   | inr differ ↦ absurd (none (λ same. differ (ap (λ z. z.entity) same)))
 ]
 
--- whether there is another place of the name beside one that the entity declares
-pub other-of : (s : Schema) → HasDistinctAttributes s → (e : ℕ) (name : List ℕ) (place first : Place) (same : Bool) → IsOwnPlace s e name place → (IsTrue same ↔ (place ≡ first)) → IsTrue (not same) ↔ ((p : Place) × IsOwnPlace s e name p × (p ≢ first))
-other-of s distinct e name place first true own is = (λ no. let t : false ≡ true = no in cc, λ (p, p_own, differ). absurd (differ (distinct e name p place p_own own ∙ is.0 refl)))
-other-of s distinct e name place first false own is = (λ yes. (place, own, λ same. let t : false ≡ true = is.1 same in cc), λ other. refl)
+-- whether there is another place of the name beside one that the owner declares
+pub other-of : (s : Schema) → HasDistinctAttributes s → (e f : ℕ) (name : List ℕ) (place first : Place) (same : Bool) → IsPlaceAbove s e f name place → (IsTrue same ↔ (place ≡ first)) → IsTrue (not same) ↔ ((p : Place) × IsPlaceAbove s e f name p × (p ≢ first))
+other-of s distinct e f name place first true (is_a, own) is = (λ no. let t : false ≡ true = no in cc, λ (p, above, differ). absurd (differ (distinct f name p place above.1 own ∙ is.0 refl)))
+other-of s distinct e f name place first false above is = (λ yes. (place, above, λ same. let t : false ≡ true = is.1 same in cc), λ other. refl)
 
 -- the names of all attributes of an entity find each of them
 module _ (s : Schema) (e : ℕ) (names : List (List ℕ)) (are : names ≡ own_names s e) (name : List ℕ) where

@@ -5,10 +5,10 @@ use Rattle.std.specs.declared.alloc.Global.{Global}
 use Rattle.std.specs.List.{AllZip, IsDistinct}
 use Rattle.std.specs.Result.{IsErr, IsErrAnd}
 use Rattle.std.proofs.Common.{ap, sym, ◌∙◌, subst}
-use Rattle.p21_schemas.specs.DeclaredEntity.{same_place}
-use Rattle.p21_schemas.specs.Schema as pure
-use Rattle.p21_schemas.specs.Schema.{Schema, Place, Entity}
-use Rattle.p21_schemas.specs.WellFormed.{HasDistinctEntities}
+use Rattle.p21_spec_schema.specs.DeclaredEntity.{same_place}
+use Rattle.p21_spec_schema.specs.Schema as pure
+use Rattle.p21_spec_schema.specs.Schema.{Schema, Place, Entity}
+use Rattle.p21_spec_schema.specs.WellFormed.{HasDistinctEntities}
 use Rattle.p21_express_outline.specs.Finding.{RefusalShows}
 use Rattle.p21_express_outline.specs.declared.fault.SchemaFault.{SchemaFault}
 use Rattle.p21_express.specs.Found.{HasDistinctAttributes, RedeclarationsFound}
@@ -20,8 +20,8 @@ use Rattle.p21_express_outline.proofs.Zips.{AllZip-one_mapped, map-twice}
 use Rattle.p21_express_syntax.specs.Digest.{EntityDigest}
 use Rattle.p21_express_graph.specs.SchemaContents.{redeclared}
 use Rattle.p21_express_graph.specs.declared.schema_contents.Redeclared.{Redeclared}
-use Rattle.p21_express_types.specs.Meaning.{place}
-use Rattle.p21_express_types.specs.declared.number.Place as code
+use Rattle.p21_express_graph.specs.Meaning.{place}
+use Rattle.p21_express_graph.specs.declared.number.Place as code
 
 abbrev places_in : List pure.Redeclared → List Place → List Place
 places_in rs ds = map (λ r. r.place) rs ++ ds

@@ -8,7 +8,7 @@ use Rattle.std.proofs.Math.ListN.{get_or-map}
 use Rattle.std.proofs.lemmas.List.{length-map}
 use Rattle.std.proofs.lemmas.List.FromFn.{length-enumerate_from, get_or-enumerate_from}
 use Rattle.std.proofs.lemmas.Slice.Zip.{AllZip-long}
-use Rattle.p21_schemas.specs.Schema.{Schema, Entity}
+use Rattle.p21_spec_schema.specs.Schema.{Schema, Entity}
 use Rattle.p21_express.specs.ReadSchema.{IsBareSchema, DeclareNoSchema, BareRead, SchemaDeclared}
 use Rattle.p21_express.proofs.Outlines.{supertypes-same, renaming-same, no_select-same, selects-same}
 use Rattle.p21_express_outline.proofs.Finding.{each-refused, take-all, zip-more}
@@ -30,7 +30,7 @@ use Rattle.p21_express_graph.specs.SchemaContents.{redeclared}
 use Rattle.p21_express_graph.specs.Redeclaring.{redeclaring, redeclaring_as, redeclaring_each, redeclaring_schema}
 use Rattle.p21_express_graph.specs.declared.schema_contents.Redeclarations.{Redeclarations}
 use Rattle.p21_express_graph.proofs.SameEntities.{each-same}
-use Rattle.p21_express_types.specs.Meaning.{place}
+use Rattle.p21_express_graph.specs.Meaning.{place}
 
 -- ---- entities, each with what another one redeclares
 

@@ -5,10 +5,10 @@ use Rattle.p21_express_outline.specs.declared.fault.SchemaFault.{SchemaFault}
 use Rattle.p21_express_outline.specs.Outline.{digest_own_names}
 use Rattle.p21_express_outline.specs.Redeclarations.{DigestDerivedAre}
 use Rattle.p21_express_syntax.specs.Digest.{EntityDigest}
-use Rattle.p21_express_types.specs.Meaning.{place as place_of}
-use Rattle.p21_express_types.specs.declared.number.Place.{Place}
-use Rattle.p21_schemas.specs.Schema as pure
-use Rattle.p21_schemas.specs.Schema.{Schema}
+use Rattle.p21_express_graph.specs.Meaning.{place as place_of}
+use Rattle.p21_express_graph.specs.declared.number.Place.{Place}
+use Rattle.p21_spec_schema.specs.Schema as pure
+use Rattle.p21_spec_schema.specs.Schema.{Schema}
 
 -- the entity of this number derives a new attribute of this name itself
 abbrev pub DerivesItself : List EntityDigest → ℕ → List ℕ → Type 0

@@ -1,7 +1,7 @@
 -- What is found of the redeclarations of an entity.
 use Rattle.std.specs.Prelude.{◌≡◌, ℕ, List, map, Result, Ok, Err}
-use Rattle.p21_schemas.specs.Redeclaration.{IsOwnPlace}
-use Rattle.p21_schemas.specs.Schema.{Schema, Place, Entity}
+use Rattle.p21_spec_schema.specs.Redeclaration.{IsOwnPlace}
+use Rattle.p21_spec_schema.specs.Schema.{Schema, Place, Entity}
 use Rattle.p21_express_outline.specs.Finding.{RefusalShows}
 use Rattle.p21_express_outline.specs.declared.fault.SchemaFault.{SchemaFault}
 use Rattle.p21_express_graph.specs.declared.schema_contents.Redeclarations.{Redeclarations}
@@ -9,7 +9,7 @@ use Rattle.p21_express_outline.specs.Outline.{Named}
 use Rattle.p21_express_outline.specs.Redeclarations.{RedeclarationsAre}
 use Rattle.p21_express_syntax.specs.Digest.{EntityDigest}
 use Rattle.p21_express_graph.specs.SchemaContents.{redeclared}
-use Rattle.p21_express_types.specs.Meaning.{place}
+use Rattle.p21_express_graph.specs.Meaning.{place}
 
 -- no two attributes that an entity declares itself have one name
 abbrev pub HasDistinctAttributes : Schema → Type 0

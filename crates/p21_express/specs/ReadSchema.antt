@@ -1,8 +1,8 @@
 -- What is read of a schema text, step by step.
 use Rattle.std.specs.Prelude.{◌≡◌, ℕ, List, Result, Ok, Err}
-use Rattle.p21_schemas.specs.Declared.{Declares, HasNoCircle, HasSupertype, Renames, HasSelect}
-use Rattle.p21_schemas.specs.Schema.{Schema}
-use Rattle.p21_schemas.specs.SchemaDeclaration.{SchemaDeclaration}
+use Rattle.p21_spec_schema.specs.Declared.{Declares, HasNoCircle, HasSupertype, Renames, HasSelect}
+use Rattle.p21_spec_schema.specs.Schema.{Schema}
+use Rattle.p21_spec_schema.specs.SchemaDeclaration.{SchemaDeclaration}
 use Rattle.p21_express_outline.specs.Finding.{RefusalShows}
 use Rattle.p21_express_outline.specs.declared.fault.SchemaFault.{SchemaFault}
 use Rattle.p21_express_outline.specs.Bare.{bare}

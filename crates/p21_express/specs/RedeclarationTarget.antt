@@ -1,9 +1,9 @@
 -- What `SELF\supertype.name` stands for (ISO 10303-11, Attribute redeclaration).
 use Rattle.std.specs.Prelude.{◌≡◌, ◌⊎◌, ℕ, List}
-use Rattle.p21_schemas.specs.Redeclaration.{IsProperSupertype, IsOwnPlace, IsPlaceOf, RedeclaresPlace, HasNoPlace}
-use Rattle.p21_schemas.specs.Schema as pure
-use Rattle.p21_schemas.specs.Schema.{Schema}
-use Rattle.p21_express_types.specs.Meaning.{place as place_of}
+use Rattle.p21_spec_schema.specs.Redeclaration.{IsProperSupertype, IsOwnPlace, IsPlaceOf, RedeclaresPlace, HasNoPlace}
+use Rattle.p21_spec_schema.specs.Schema as pure
+use Rattle.p21_spec_schema.specs.Schema.{Schema}
+use Rattle.p21_express_graph.specs.Meaning.{place as place_of}
 use Rattle.p21_express.specs.declared.lookups.RedeclarationTarget.{RedeclarationTarget}
 use Rattle.p21_express.specs.declared.lookups.RedeclarationTarget.TheVariants.{Place, Missing, Unclear}
 

@@ -1,38 +1,46 @@
 ghost use Rattle.std.specs.Prelude.{◌≡◌, IfOk, MatchOption};
-ghost use Rattle.p21_schemas.specs.Redeclaration.{IsOwnPlace};
-ghost use Rattle.p21_schemas.specs.Schema as pure;
+ghost use Rattle.p21_spec_schema.specs.Redeclaration.{IsOwnPlace};
+ghost use Rattle.p21_spec_schema.specs.Schema as pure;
 ghost use Rattle.p21_express.specs.AttributeNames.{AreNamesOf, IsKept, own_names};
 ghost use Rattle.p21_express.specs.Found.{HasDistinctAttributes};
 ghost use Rattle.p21_express_graph.specs.Resolved.{IsEntity};
-ghost use Rattle.p21_express_types.specs.Meaning.{place as place_of};
+ghost use Rattle.p21_express_graph.specs.Meaning.{place as place_of};
 
-use p21_express_graph::Names;
+use crate::named_owners::NamedOwners;
+use p21_express_graph::{EntityId, Names, Place};
+use p21_express_syntax::Entity;
 use p21_express_tables::Schema;
-use p21_express_types::{EntityId, Place};
 use p21_values::NoMemory;
 use std::alloc::Global;
 
 /// So many attributes of an entity are looked at one by one.
-const FEW: u32 = 16;
+const MOST_ATTRIBUTES_IN_TURN: u32 = 16;
 
-/// For each entity of a schema the names of the attributes that it declares itself, where these are many.
+/// For each entity of a schema the names of the attributes that it declares itself, where these are many; and for each name
+/// that is redeclared the entities that declare an attribute of it.
 #[derive(Drop)]
 pub(crate) struct AttributeNames {
     of_each: Vec<Option<Names>>,
+    pub(crate) owners: NamedOwners,
 }
 
 impl AttributeNames {
-    pub(crate) fn of(alloc: Global, schema: &Schema) -> Result<AttributeNames, NoMemory>
+    pub(crate) fn of(
+        alloc: Global,
+        schema: &Schema,
+        declared: &[Entity],
+    ) -> Result<AttributeNames, NoMemory>
         requires { HasDistinctAttributes schema.now }
         ensures { IfOk result (AreNamesOf schema.now) }
     {
         schema.holds_together();
+        let owners = NamedOwners::of(alloc, schema, declared)?;
         let mut of_each = Vec::with_capacity(alloc, schema.entities())?;
         for number in 0..schema.entities() {
             let names = many_names(alloc, schema, EntityId(number as u32))?;
             of_each.push(names)?;
         }
-        Ok(AttributeNames { of_each })
+        Ok(AttributeNames { of_each, owners })
     }
 
     /// The place of this name, in upper case, that an entity declares itself.
@@ -96,7 +104,7 @@ fn many_names(alloc: Global, schema: &Schema, entity: EntityId) -> Result<Option
     requires { IsEntity schema.now entity.0 }
     ensures { IfOk result (IsKept schema.now entity.0) }
 {
-    if schema.attribute_count(entity) <= FEW {
+    if schema.attribute_count(entity) <= MOST_ATTRIBUTES_IN_TURN {
         return Ok(None);
     }
     all_names(alloc, schema, entity)

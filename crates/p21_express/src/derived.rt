@@ -8,10 +8,10 @@ ghost use Rattle.p21_express_graph.specs.Resolved.{IsEntity};
 
 use crate::attribute_names::AttributeNames;
 use crate::lookups::{RedeclarationTarget, redeclared_place};
+use p21_express_graph::{EntityId, Place};
 use p21_express_outline::SchemaFault;
 use p21_express_syntax::{AttributeName, Entity};
 use p21_express_tables::Schema;
-use p21_express_types::{EntityId, Place};
 use std::alloc::Global;
 
 /// Whether an attribute is a new one of this name.

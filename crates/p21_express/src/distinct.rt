@@ -1,13 +1,12 @@
 ghost use Rattle.std.specs.Prelude.{◌≡◌, ◌++◌, IfOk, map};
 ghost use Rattle.std.specs.List.{IsDistinct};
-ghost use Rattle.p21_schemas.specs.DeclaredEntity.{same_place};
+ghost use Rattle.p21_spec_schema.specs.DeclaredEntity.{same_place};
 ghost use Rattle.p21_express_outline.specs.Finding.{DecidesClaim};
-ghost use Rattle.p21_express_types.specs.Meaning.{place as place_of};
+ghost use Rattle.p21_express_graph.specs.Meaning.{place as place_of};
 
 use indexmap::IndexSet;
-use p21_express_graph::Redeclared;
+use p21_express_graph::{Place, Redeclared};
 use p21_express_outline::SchemaFault;
-use p21_express_types::Place;
 use p21_values::NoMemory;
 use std::alloc::Global;
 

@@ -9,6 +9,7 @@ mod distinct;
 mod duplicates;
 mod first;
 mod lookups;
+mod named_owners;
 mod places;
 mod redeclarations;
 mod redeclared;
@@ -16,10 +17,10 @@ mod redeclaring;
 mod schema_reader;
 mod unknown;
 
-pub use p21_express_outline::SchemaFault;
-pub use p21_express_tables::Schema;
-pub use p21_express_types::{
+pub use p21_express_graph::{
     EntityId, Member, Members, Place, PlaceType, TypeId, TypeKind, TypeUse, Width, Words,
 };
+pub use p21_express_outline::SchemaFault;
+pub use p21_express_tables::Schema;
 pub use p21_values::NoMemory;
 pub use schema_reader::read_schema;

@@ -1,14 +1,16 @@
 ghost use Rattle.std.specs.Prelude.{◌≡◌, ◌≢◌, ◌↔◌, ℕ, IsTrue, MatchOption};
-ghost use Rattle.p21_schemas.specs.Redeclaration.{IsOwnPlace, IsPlaceOf, IsProperSupertype};
-ghost use Rattle.p21_schemas.specs.Schema as pure;
+ghost use Rattle.p21_spec_schema.specs.Redeclaration.{IsOwnPlace, IsPlaceOf, IsProperSupertype};
+ghost use Rattle.p21_spec_schema.specs.Schema as pure;
 ghost use Rattle.p21_express.specs.AttributeNames.{AreNamesOf};
+ghost use Rattle.p21_express.specs.Candidates.{AreCandidates, IsPlaceAbove};
 ghost use Rattle.p21_express.specs.RedeclarationTarget.{IsTargetIn, IsTargetOf};
+ghost use Rattle.p21_express_graph.specs.Orders.{numbers};
 ghost use Rattle.p21_express_graph.specs.Resolved.{IsEntity};
-ghost use Rattle.p21_express_types.specs.Meaning.{place as place_of};
+ghost use Rattle.p21_express_graph.specs.Meaning.{place as place_of};
 
 use crate::attribute_names::AttributeNames;
+use p21_express_graph::{EntityId, Place};
 use p21_express_tables::Schema;
-use p21_express_types::{EntityId, Place};
 
 /// What `SELF\supertype.name` stands for in an entity (ISO 10303-11, Attribute redeclaration).
 #[derive(Clone, Copy, Debug, Drop)]
@@ -42,7 +44,52 @@ fn proper_supertype(schema: &Schema, entity: EntityId, name: &[u8]) -> Option<En
     }
 }
 
-/// The first place of this name in the order of the entity.
+/// Entities among which are all of the order of an entity that declare an attribute of this name.
+fn candidates<'a>(
+    schema: &'a Schema,
+    names: &'a AttributeNames,
+    entity: EntityId,
+    name: &[u8],
+) -> &'a [EntityId]
+    requires names { AreNamesOf schema.now names.now }
+    requires entity { IsEntity schema.now entity.0 }
+    ensures { AreCandidates schema.now entity.0 name.now (numbers result.now) }
+{
+    schema.holds_together();
+    let order = schema.order_of(entity);
+    match names.owners.find(schema, name) {
+        Some(owners) => {
+            if owners.len() < order.len() {
+                owners
+            } else {
+                order
+            }
+        }
+        None => order,
+    }
+}
+
+/// The place of this name that an owner declares itself, if that is the entity or a supertype of it.
+fn place_above(
+    schema: &Schema,
+    names: &AttributeNames,
+    entity: EntityId,
+    owner: EntityId,
+    name: &[u8],
+) -> Option<Place>
+    requires names { AreNamesOf schema.now names.now }
+    requires entity { IsEntity schema.now entity.0 }
+    requires owner { IsEntity schema.now owner.0 }
+    ensures { MatchOption result ((place : pure.Place) → IsPlaceAbove schema.now entity.0 owner.0 name.now place → ⊥) (λ place. IsPlaceAbove schema.now entity.0 owner.0 name.now (place_of place)) }
+{
+    if schema.is_a(entity, owner) {
+        names.own_place(schema, owner, name)
+    } else {
+        None
+    }
+}
+
+/// A place of this name in the order of the entity.
 fn first_place(
     schema: &Schema,
     names: &AttributeNames,
@@ -54,8 +101,8 @@ fn first_place(
     ensures { MatchOption result ((place : pure.Place) → IsPlaceOf schema.now entity.0 name.now place → ⊥) (λ place. IsPlaceOf schema.now entity.0 name.now (place_of place)) }
 {
     schema.holds_together();
-    for owner in schema.order_of(entity) {
-        match names.own_place(schema, *owner, name) {
+    for owner in candidates(schema, names, entity, name) {
+        match place_above(schema, names, entity, *owner, name) {
             Some(place) => return Some(place),
             None => {}
         }
@@ -63,19 +110,21 @@ fn first_place(
     None
 }
 
-/// Whether the entity declares another place of this name itself.
-fn has_other_own(
+/// Whether an owner that is the entity or a supertype of it declares another place of this name itself.
+fn has_other_above(
     schema: &Schema,
     names: &AttributeNames,
     entity: EntityId,
+    owner: EntityId,
     name: &[u8],
     first: Place,
 ) -> bool
     requires names { AreNamesOf schema.now names.now }
     requires entity { IsEntity schema.now entity.0 }
-    ensures { IsTrue result ↔ ((place : pure.Place) × IsOwnPlace schema.now entity.0 name.now place × (place ≢ place_of first)) }
+    requires owner { IsEntity schema.now owner.0 }
+    ensures { IsTrue result ↔ ((place : pure.Place) × IsPlaceAbove schema.now entity.0 owner.0 name.now place × (place ≢ place_of first)) }
 {
-    match names.own_place(schema, entity, name) {
+    match place_above(schema, names, entity, owner, name) {
         Some(place) => !is_same(place, first),
         None => false,
     }
@@ -94,8 +143,8 @@ fn has_other(
     ensures { IsTrue result ↔ ((place : pure.Place) × IsPlaceOf schema.now entity.0 name.now place × (place ≢ place_of first)) }
 {
     schema.holds_together();
-    for owner in schema.order_of(entity) {
-        if has_other_own(schema, names, *owner, name, first) {
+    for owner in candidates(schema, names, entity, name) {
+        if has_other_above(schema, names, entity, *owner, name, first) {
             return true;
         }
     }

@@ -1,5 +1,5 @@
 ghost use Rattle.std.specs.Prelude.{[], ◌∷◌, map};
-ghost use Rattle.p21_schemas.specs.Redeclaration.{RedeclaresPlace};
+ghost use Rattle.p21_spec_schema.specs.Redeclaration.{RedeclaresPlace};
 ghost use Rattle.p21_express_outline.specs.Finding.{AddsEach, Finds, FindsEach};
 ghost use Rattle.p21_express_outline.specs.Known.{AreFew, names_of};
 ghost use Rattle.p21_express.specs.AttributeNames.{AreNamesOf};
@@ -9,15 +9,14 @@ ghost use Rattle.p21_express_outline.specs.Redeclarations.{DigestRedeclaredIs};
 ghost use Rattle.p21_express_syntax.specs.Views.{attributes_view, type_view};
 ghost use Rattle.p21_express_graph.specs.SchemaContents.{redeclared as redeclared_view};
 ghost use Rattle.p21_express_graph.specs.Resolved.{IsEntity};
-ghost use Rattle.p21_express_types.specs.Meaning.{place as place_of};
+ghost use Rattle.p21_express_graph.specs.Meaning.{place as place_of};
 
 use crate::attribute_names::AttributeNames;
 use crate::lookups::{RedeclarationTarget, redeclared_place};
-use p21_express_graph::Redeclared;
+use p21_express_graph::{EntityId, Place, Redeclared};
 use p21_express_outline::{KnownNames, SchemaFault, resolve_type};
 use p21_express_syntax::{AttributeName, ExplicitAttributes};
 use p21_express_tables::Schema;
-use p21_express_types::{EntityId, Place};
 use std::alloc::Global;
 
 /// An entity that redeclares: its schema, in which nothing is redeclared yet, and the names that the text declares.

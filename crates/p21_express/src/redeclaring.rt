@@ -9,11 +9,10 @@ ghost use Rattle.p21_express_graph.specs.Redeclaring.{redeclaring};
 
 use crate::attribute_names::AttributeNames;
 use crate::redeclarations::redeclarations_of;
-use p21_express_graph::Redeclarations;
+use p21_express_graph::{EntityId, Redeclarations};
 use p21_express_outline::{KnownNames, SchemaFault};
 use p21_express_syntax::Entity as Declared;
 use p21_express_tables::Schema;
-use p21_express_types::EntityId;
 use std::alloc::Global;
 
 /// What each entity redeclares, in a schema in which nothing is redeclared.
@@ -29,7 +28,7 @@ pub(crate) fn all_redeclarations(
     ensures { FindsEach redeclaring (λ own found. RedeclarationsAre schema.now (names_of known.now) (map entity_view declared.now) own.0 own.1 found) (enumerate_from 0 (map entity_view declared.now)) result }
 {
     schema.holds_together();
-    let names = AttributeNames::of(alloc, schema)?;
+    let names = AttributeNames::of(alloc, schema, declared)?;
     let mut found = Vec::new(alloc);
     for own in declared {
         let own: &Declared = own;

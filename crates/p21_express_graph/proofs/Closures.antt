@@ -1,11 +1,12 @@
 -- Entities and their supertypes, in tables.
 use Rattle.std.specs.Prelude.{◌≡◌, ◌↔◌, ◌⊎◌, ℕ, suc, ◌+◌, ◌<◌, List, [], ◌∷◌, ◌++◌, Some, None, length, map, slice_get, take, Contains, refl}
+use Rattle.std.specs.List.Sorted.{IsStrictlyIncreasing}
 use Rattle.std.proofs.Common.{arith, ap, sym, ◌∙◌, subst, inl, inr, get_or, length-append}
 use Rattle.std.proofs.lemmas.List.{map-append}
 use Rattle.std.proofs.lemmas.Option.{slice_get_read}
-use Rattle.p21_schemas.specs.Order.{order}
-use Rattle.p21_schemas.specs.Schema.{Schema}
-use Rattle.p21_schemas.specs.Supertype.{IsA}
+use Rattle.p21_spec_schema.specs.Order.{order}
+use Rattle.p21_spec_schema.specs.Schema.{Schema}
+use Rattle.p21_spec_schema.specs.Supertype.{IsA}
 use Rattle.p21_express_graph.specs.Above.{AreAbove}
 use Rattle.p21_express_graph.specs.CollectedLists.{IsRisingOf, AreRisingOf}
 use Rattle.p21_express_graph.specs.Prefixes.{list_of, lists_in}
@@ -13,7 +14,7 @@ use Rattle.p21_express_graph.specs.Indexes.{AreIndexes, IsIndex}
 use Rattle.p21_express_graph.specs.Orders.{AreOrders, number_lists, numbers}
 use Rattle.p21_express_graph.specs.Resolved.{HoldsTogether, IsEntity}
 use Rattle.p21_express_graph.specs.SettledOrder.{nexts_of}
-use Rattle.p21_express_graph.specs.declared.prefixes.RunPrefix.{RunPrefix}
+use Rattle.p21_express_graph.specs.declared.above.Above.{Above}
 use Rattle.p21_express_graph.specs.declared.prefixes.PrefixLists.{PrefixLists}
 use Rattle.p21_express_graph.specs.declared.indexes.Index.{Index}
 use Rattle.p21_express_graph.proofs.SharedRuns.{snoc-at}
@@ -53,28 +54,31 @@ order-listed inside s lists e same are is_entity =
     let P : Schema → Type 0 = λ z. AreOrders z lists in
     ap (λ o. elim o [ Some nexts ↦ nexts | None ↦ [] ]) ((subst P same are).each e is_entity)
 
-module _ (inside s : Schema) (all : PrefixLists) (fronts : List RunPrefix) (indexes : List Index) (e : ℕ) (same : inside ≡ s) (are : AreOrders inside (lists_in all)) (above : AreAbove all fronts) (indexed : AreIndexes (number_lists all.runs.items) fronts indexes) (is_entity : IsEntity s e) where
+module _ (inside s : Schema) (all : PrefixLists) (listed : List Above) (indexes : List Index) (e : ℕ) (same : inside ≡ s) (are : AreOrders inside (lists_in all)) (listed_are : AreAbove all listed) (indexed : AreIndexes (number_lists all.runs.items) listed indexes) (is_entity : IsEntity s e) where
   are_in : AreOrders s (lists_in all)
   are_in = let P : Schema → Type 0 = λ z. AreOrders z (lists_in all) in subst P same are
 
   pub entity-has_prefix : e < length all.prefixes.items
   entity-has_prefix = omega (arith, is_entity, are_in.size, mapped-length (list_of (number_lists all.runs.items)) all.prefixes.items)
 
-  pub entity-has_above : e < length fronts
-  entity-has_above = omega (arith, entity-has_prefix, above.size)
+  pub entity-has_above : e < length listed
+  entity-has_above = omega (arith, entity-has_prefix, listed_are.size)
 
-  module _ (front : RunPrefix) (front_at : slice_get fronts e ≡ Some front) where
-    pub index-within : front.run < length indexes
-    index-within = omega (arith, (above.each e front front_at).0, mapped-length (λ x. numbers x.items) all.runs.items, indexed.size)
+  module _ (above : Above) (above_at : slice_get listed e ≡ Some above) where
+    pub index-within : above.front.run < length indexes
+    index-within = omega (arith, (listed_are.each e above above_at).within.0, indexed.size)
 
-    -- the front and the entity are just the entity and its supertypes
-    pub above-tells : HoldsTogether s → (f : ℕ) → (Contains (take front.size (nexts_of (number_lists all.runs.items) front.run)) f ⊎ (f ≡ e)) ↔ IsA s e f
+    pub others-rising : IsStrictlyIncreasing above.others.items
+    others-rising = (listed_are.each e above above_at).rising
+
+    -- the front, the others and the entity are just the entity and its supertypes
+    pub above-tells : HoldsTogether s → (f : ℕ) → (Contains (take above.front.size (nexts_of (number_lists all.runs.items) above.front.run)) f ⊎ (Contains above.others.items f ⊎ (f ≡ e))) ↔ IsA s e f
     above-tells holds f =
-        let (has, got) = (above.each e front front_at).1 f in
+        let (has, got) = (listed_are.each e above above_at).same f in
         let P : List ℕ → Type 0 = λ fs. Contains fs f in
         let is_order : nexts_of (lists_in all) e ≡ order s e = order-listed s s (lists_in all) e refl are_in is_entity in
         let (is, among) = order-tells s holds e f in
         (λ either. is (subst P is_order (got either)), λ is_a. has (subst P (sym is_order) (among is_a)))
 
-    pub index-known : (index : Index) → index ≡ get_or indexes front.run index → IsIndex (nexts_of (number_lists all.runs.items) front.run) index.numbers.items index.places.items
-    index-known index index_is = indexed.each e front index front_at (slice_get_read indexes (length indexes) front.run index refl index-within index_is)
+    pub index-known : (index : Index) → index ≡ get_or indexes above.front.run index → IsIndex (nexts_of (number_lists all.runs.items) above.front.run) index.numbers.items index.places.items
+    index-known index index_is = indexed.each e above index above_at (slice_get_read indexes (length indexes) above.front.run index refl index-within index_is)

@@ -13,8 +13,8 @@ use Rattle.std.proofs.lemmas.List.Kept.{Contains-dedup_nat, Contains-from_dedup}
 use Rattle.std.proofs.lemmas.List.Sorted.{searched, Contains-permutation, IsPermutation-sym}
 use Rattle.std.proofs.lemmas.Map.Keys.{IsStrictlyIncreasing-dedup}
 use Rattle.std.proofs.lemmas.List.{length-set}
-use Rattle.p21_basics.proofs.Members.{Contains-none, Contains-found, Contains-flat_map, Contains-one_of}
-use Rattle.p21_basics.proofs.RisingLists.{never-fall}
+use Rattle.p21_spec_basics.proofs.Members.{Contains-none, Contains-found, Contains-flat_map, Contains-one_of}
+use Rattle.p21_spec_basics.proofs.RisingLists.{never-fall}
 use Rattle.p21_express_graph.specs.CollectedLists.{Collects, of_own, of_next, IsRisingOf, AreCollected}
 use Rattle.p21_express_graph.specs.SettledOrder.{nexts_of, IsNext, IsSettledOrder}
 use Rattle.p21_express_graph.proofs.OrderTables.{set-same, set-other, take-more}

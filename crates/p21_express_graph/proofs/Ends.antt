@@ -3,10 +3,10 @@ use Rattle.std.specs.Prelude.{◌≡◌, ℕ, suc, List, [], Some, length, slice
 use Rattle.std.proofs.Common.{arith, ap, sym, ◌∙◌, subst, inl, inr, get_or}
 use Rattle.std.proofs.lemmas.Bool.{cases_eq}
 use Rattle.std.proofs.lemmas.List.{get_or-set_other, get_or-set_same, length-set, length-map}
-use Rattle.p21_basics.proofs.Members.{Contains-none, Contains-first, Contains-cases}
-use Rattle.p21_schemas.specs.Declared.{HasNoCircle, Renames}
-use Rattle.p21_schemas.specs.Schema as schema
-use Rattle.p21_schemas.specs.Schema.{Schema, TypeUse, Kind, defined, alias, kind_of}
+use Rattle.p21_spec_basics.proofs.Members.{Contains-none, Contains-first, Contains-cases}
+use Rattle.p21_spec_schema.specs.Declared.{HasNoCircle, Renames}
+use Rattle.p21_spec_schema.specs.Schema as schema
+use Rattle.p21_spec_schema.specs.Schema.{Schema, TypeUse, Kind, defined, alias, kind_of}
 use Rattle.p21_express_graph.specs.DirectRenaming.{at_itself, through, IsPlain, AreEnds, IsEnd, RenamesNone, renamed_by, direct_renaming}
 use Rattle.p21_express_graph.specs.Resolved.{HoldsTogether, IsType}
 use Rattle.p21_express_graph.specs.SettledOrder.{AreWithin, IsNext, IsSettledOrder}

@@ -5,12 +5,12 @@ use Rattle.std.proofs.lemmas.Bool.{cases_eq, cases_lt}
 use Rattle.std.proofs.lemmas.List.{get_or-map, get_or-set_other, get_or-set_same}
 use Rattle.std.proofs.lemmas.List.Elements.{Contains-get_or}
 use Rattle.std.proofs.lemmas.Option.{same_Some, slice_get-get_or, slice_get_within}
-use Rattle.p21_basics.proofs.Members.{Contains-at, Contains-found, Contains-none, Contains-cases, Contains-later}
+use Rattle.p21_spec_basics.proofs.Members.{Contains-at, Contains-found, Contains-none, Contains-cases, Contains-later, some_is}
 use Rattle.p21_express_graph.specs.CollectedLists.{IsRisingOf}
 use Rattle.p21_express_graph.specs.Indexes.{HaveFirstPositions, IsFirstAt, IsIndex}
 use Rattle.p21_express_graph.specs.SettledOrder.{nexts_of}
 use Rattle.p21_express_graph.specs.declared.indexes.Index.{Index}
-use Rattle.p21_express_graph.specs.declared.prefixes.RunPrefix.{RunPrefix}
+use Rattle.p21_express_graph.specs.declared.above.Above.{Above}
 use Rattle.p21_express_graph.proofs.Gatherings.{mapped-length}
 use Rattle.p21_express_graph.proofs.Pairs.{snoc-get}
 
@@ -102,18 +102,17 @@ index-more runs used indexes after index after_is are is r x at = elim (snoc-get
 -- ---- runs that are marked
 
 -- the runs of the first fronts are marked
-abbrev pub AreMarked : List RunPrefix → ℕ → List Bool → Type 0
-AreMarked fronts count used = (k : ℕ) (front : RunPrefix) → k < count → slice_get fronts k ≡ Some front → get_or used front.run false ≡ true
+abbrev pub AreMarked : List Above → ℕ → List Bool → Type 0
+AreMarked all count used = (k : ℕ) (above : Above) → k < count → slice_get all k ≡ Some above → get_or used above.front.run false ≡ true
 
-pub mark-more : (fronts : List RunPrefix) (count : ℕ) (used : List Bool) (d : RunPrefix) → count < length fronts → (get_or fronts count d).run < length used → AreMarked fronts count used → AreMarked fronts (count + 1) (slice_set used (get_or fronts count d).run true)
-mark-more fronts count used d low below are k front k_low at = elim (cases_eq front.run (get_or fronts count d).run) [
-  | inl same ↦ ap (λ r. get_or (slice_set used (get_or fronts count d).run true) r false) same ∙ get_or-set_same used (get_or fronts count d).run true false below
-  | inr other ↦ get_or-set_other used (get_or fronts count d).run front.run true false other ∙ are k front (elim (cases_eq k count) [
+pub mark-more : (all : List Above) (count : ℕ) (used : List Bool) (next : Above) → slice_get all count ≡ Some next → next.front.run < length used → AreMarked all count used → AreMarked all (count + 1) (slice_set used next.front.run true)
+mark-more all count used next next_at below are k above k_low at = elim (cases_eq above.front.run next.front.run) [
+  | inl same ↦ ap (λ r. get_or (slice_set used next.front.run true) r false) same ∙ get_or-set_same used next.front.run true false below
+  | inr other ↦ get_or-set_other used next.front.run above.front.run true false other ∙ are k above (elim (cases_eq k count) [
     | inl last ↦
-        let P : ℕ → Type 0 = λ n. slice_get fronts n ≡ Some front in
-        let here : Some (get_or fronts count d) ≡ Some front = sym (slice_get-get_or fronts count d low) ∙ subst P last at in
-        let same : get_or fronts count d ≡ front = cc in
-        absurd (other (ap (λ f. f.run) (sym same)))
+        let P : ℕ → Type 0 = λ n. slice_get all n ≡ Some above in
+        let same : next ≡ above = some_is next above (sym next_at ∙ subst P last at) in
+        absurd (other (ap (λ x. x.front.run) (sym same)))
     | inr before ↦ omega (arith, k_low, lt-from k count k_low before)
   ]) at
 ]

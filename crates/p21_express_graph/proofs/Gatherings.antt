@@ -9,8 +9,8 @@ use Rattle.std.specs.Option.{option_map}
 use Rattle.std.proofs.lemmas.Bool.{cases_eq, eqb-true, ne_eqb}
 use Rattle.std.proofs.lemmas.List.{get_or-set_other, get_or-set_same, map-append}
 use Rattle.std.proofs.lemmas.List.Elements.{Contains-get_or}
-use Rattle.p21_basics.proofs.Members.{Contains-none, Contains-later, Contains-cases, Contains-found, Contains-at, Contains-mapped}
-use Rattle.p21_schemas.specs.Order.{first_occurrences}
+use Rattle.p21_spec_basics.proofs.Members.{Contains-none, Contains-later, Contains-cases, Contains-found, Contains-at, Contains-mapped}
+use Rattle.p21_spec_schema.specs.Order.{first_occurrences}
 use Rattle.p21_express_graph.specs.Gathering.{add_first, add_firsts, HaveTheirPositions}
 use Rattle.p21_express_graph.proofs.Walks.{snoc_cases}
 

@@ -16,6 +16,10 @@ pub mod RankedNames
 pub mod RisingNames
 pub mod Ends
 pub mod ByRank
+pub mod Outside
+pub mod SharedFronts
 pub mod SharedRuns
 pub mod FirstPositions
 pub mod SameEntities
+pub mod AddedOrders
+pub mod TextSets

@@ -7,14 +7,14 @@ use Rattle.std.proofs.lemmas.Bool.{cases_lt}
 use Rattle.std.proofs.lemmas.List.{map-append}
 use Rattle.std.proofs.lemmas.Option.{slice_get-map, slice_get_read, slice_get_within}
 use Rattle.std.proofs.lemmas.List.Elements.{Contains-append_cases}
-use Rattle.p21_basics.proofs.Members.{Contains-none, Contains-cases, AllZip-member}
-use Rattle.p21_schemas.specs.Schema.{Schema, Place, Attribute, attributes_of, AreRisingByName, EntityNamed, TypeNamed}
-use Rattle.p21_schemas.specs.Supertype.{IsLeaf, LeavesAmong, no_more, leaf_next, other_next}
-use Rattle.p21_schemas.specs.Order.{own_places}
+use Rattle.p21_spec_basics.proofs.Members.{Contains-none, Contains-cases, AllZip-member}
+use Rattle.p21_spec_schema.specs.Schema.{Schema, Place, Attribute, attributes_of, AreRisingByName, EntityNamed, TypeNamed}
+use Rattle.p21_spec_schema.specs.Supertype.{IsLeaf, LeavesAmong, no_more, leaf_next, other_next}
+use Rattle.p21_spec_schema.specs.Order.{own_places}
 use Rattle.p21_express_graph.specs.Lookups.{places_from, AreEntities}
 use Rattle.p21_express_graph.specs.Orders.{numbers}
 use Rattle.p21_express_graph.specs.Resolved.{IsEntity, IsType}
-use Rattle.p21_express_types.specs.declared.number.EntityId.{EntityId}
+use Rattle.p21_express_graph.specs.declared.number.EntityId.{EntityId}
 
 -- a number that stands at no index is none of them
 pub unnumbered : {X Y : Type 0} (number : X → Y) (d : X) (xs : List X) (x : Y) → ((k : ℕ) → k < length xs → number (get_or xs k d) ≡ x → ⊥) → Contains (map number xs) x → ⊥

@@ -2,9 +2,9 @@
 use Rattle.std.specs.Prelude.{◌≡◌, ℕ, zero, suc, ◌<◌, ◌^◌, List, [], ◌∷◌, map, slice_get, Some, Contains, refl}
 use Rattle.std.proofs.Common.{arith, subst}
 use Rattle.std.proofs.lemmas.Option.{slice_get_within}
-use Rattle.p21_schemas.specs.Schema.{Schema, Entity, Defined}
+use Rattle.p21_spec_schema.specs.Schema.{Schema, Entity, Defined}
 use Rattle.p21_express_graph.specs.Resolved.{HoldsTogether}
-use Rattle.p21_basics.proofs.Members.{Contains-mapped, Contains-found}
+use Rattle.p21_spec_basics.proofs.Members.{Contains-mapped, Contains-found}
 
 module _ {X : Type 0} (name_of : X → List ℕ) where
   -- the thing of a number has the name of that number

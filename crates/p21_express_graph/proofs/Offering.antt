@@ -5,11 +5,11 @@ use Rattle.std.specs.List.Sorted.{IsStrictlyIncreasing}
 use Rattle.std.proofs.Common.{arith, ap, sym, ◌∙◌, subst, inl, inr, get_or}
 use Rattle.std.proofs.lemmas.Bool.{eq-eqb, ne_eqb}
 use Rattle.std.proofs.lemmas.List.{map-append}
-use Rattle.p21_basics.proofs.Members.{Contains-none, Contains-first, Contains-later, Contains-cases}
-use Rattle.p21_schemas.specs.Declared.{HasNoCircle, HasSelect}
-use Rattle.p21_schemas.specs.Schema.{Schema, Member, entity_member, type_member, Kind, alias, items, choice, Defined, kind_of}
-use Rattle.p21_schemas.specs.Select.{Offers, offered, offered_within, IsNoSelect, IsSelect}
-use Rattle.p21_express_types.specs.Meaning.{kind}
+use Rattle.p21_spec_basics.proofs.Members.{Contains-none, Contains-first, Contains-later, Contains-cases}
+use Rattle.p21_spec_schema.specs.Declared.{HasNoCircle, HasSelect}
+use Rattle.p21_spec_schema.specs.Schema.{Schema, Member, entity_member, type_member, Kind, alias, items, choice, Defined, kind_of}
+use Rattle.p21_spec_schema.specs.Select.{Offers, offered, offered_within, IsNoSelect, IsSelect}
+use Rattle.p21_express_graph.specs.Meaning.{kind}
 use Rattle.p21_express_graph.specs.SchemaContents.{defined}
 use Rattle.p21_express_graph.specs.declared.schema_contents.Defined.{Defined as Declared}
 use Rattle.p21_express_graph.specs.CollectedLists.{Collects, of_own, of_next, AreCollected}

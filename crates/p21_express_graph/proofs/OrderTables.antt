@@ -6,13 +6,13 @@ use Rattle.std.specs.Option.{option_map}
 use Rattle.std.proofs.lemmas.Bool.{cases_eq}
 use Rattle.std.proofs.lemmas.Option.{slice_get-map}
 use Rattle.std.proofs.lemmas.List.{length-map, length-set}
-use Rattle.p21_basics.proofs.Members.{Contains-none, Contains-later, Contains-cases, Contains-found, Each-member, Each-at, flat_map-same}
-use Rattle.p21_schemas.specs.Schema.{Schema, Entity}
-use Rattle.p21_schemas.specs.Supertype.{IsA, itself, above, supertypes_of}
-use Rattle.p21_schemas.specs.Order.{order, first_occurrences}
-use Rattle.p21_schemas.specs.Declared.{HasNoCircle, HasSupertype}
-use Rattle.p21_schemas.proofs.Orders.{order-is, order-has, order_within-only}
-use Rattle.p21_schemas.specs.WellFormed.{AreEntities}
+use Rattle.p21_spec_basics.proofs.Members.{Contains-none, Contains-later, Contains-cases, Contains-found, Each-member, Each-at, flat_map-same}
+use Rattle.p21_spec_schema.specs.Schema.{Schema, Entity}
+use Rattle.p21_spec_schema.specs.Supertype.{IsA, itself, above, supertypes_of}
+use Rattle.p21_spec_schema.specs.Order.{order, first_occurrences}
+use Rattle.p21_spec_schema.specs.Declared.{HasNoCircle, HasSupertype}
+use Rattle.p21_spec_schema.proofs.Orders.{order-is, order-has, order_within-only}
+use Rattle.p21_spec_schema.specs.WellFormed.{AreEntities}
 use Rattle.p21_express_graph.specs.SettledOrder.{nexts_of, IsNext, IsSettledOrder, AreWithin}
 use Rattle.p21_express_graph.specs.Gathering.{add_first, add_firsts}
 use Rattle.p21_express_graph.specs.Resolved.{HoldsTogether, IsEntity}

@@ -3,7 +3,7 @@ use Rattle.std.specs.Prelude.{◌≡◌, ◌⊎◌, ◌+◌, ◌<◌, ℕ, zero,
 use Rattle.std.specs.List.{AllZip}
 use Rattle.std.proofs.Common.{arith, ap, sym, ◌∙◌, subst, inl, inr, get_or}
 use Rattle.std.proofs.lemmas.List.{map-append, take_more}
-use Rattle.p21_basics.proofs.Members.{Contains-first, Contains-later, AllZip-turned}
+use Rattle.p21_spec_basics.proofs.Members.{Contains-first, Contains-later, AllZip-turned}
 
 -- what stands in a list with one more behind it
 pub snoc-get : {X : Type 0} (xs : List X) (z : X) (k : ℕ) (x : X) → slice_get (xs ++ z ∷ []) k ≡ Some x → (slice_get xs k ≡ Some x) ⊎ ((k ≡ length xs) × (x ≡ z))

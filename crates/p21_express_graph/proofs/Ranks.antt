@@ -1,10 +1,10 @@
 -- A way along which ranks fall is no longer than there are numbers.
 use Rattle.std.specs.Prelude.{ℕ, suc, ◌+◌, ◌<◌, ◌≤◌, Bool, List, [], ◌∷◌, length}
 use Rattle.std.proofs.Common.{arith}
-use Rattle.p21_schemas.specs.Declared.{HasNoCircle}
+use Rattle.p21_spec_schema.specs.Declared.{HasNoCircle}
 use Rattle.p21_express_graph.specs.SettledOrder.{IsNext}
 use Rattle.p21_express_graph.specs.Walk.{IsWay}
-use Rattle.p21_schemas.proofs.Orders.{count_below, count_below-le, count_below-rises_past}
+use Rattle.p21_spec_schema.proofs.Orders.{count_below, count_below-le, count_below-rises_past}
 
 pub lower-less : (rank : ℕ → ℕ) (f n : ℕ) → f < n → count_below rank (rank f) n < n
 lower-less rank f n below = omega (arith, count_below-rises_past rank f (suc (rank f)) n below (omega arith), count_below-le rank (suc (rank f)) n)

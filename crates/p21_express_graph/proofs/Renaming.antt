@@ -1,7 +1,7 @@
 -- Types that rename others, one behind the other.
 use Rattle.std.specs.Prelude.{◌≡◌, ℕ, Some, refl}
 use Rattle.std.proofs.Common.{sym, subst}
-use Rattle.p21_schemas.specs.Schema.{Schema, TypeUse, defined, alias, kind_of}
+use Rattle.p21_spec_schema.specs.Schema.{Schema, TypeUse, defined, alias, kind_of}
 use Rattle.p21_express_graph.specs.DirectRenaming.{ComesTo, at_itself, through}
 use Rattle.p21_express_graph.specs.Resolved.{HoldsTogether, IsTypeUse}
 use Rattle.p21_express_graph.proofs.Resolving.{alias-is}

@@ -2,11 +2,11 @@
 use Rattle.std.specs.Prelude.{◌≡◌, ℕ, Bool, List, [], Some, None, Option, slice_get, Contains, refl}
 use Rattle.std.proofs.Common.{subst, inl, inr}
 use Rattle.std.proofs.lemmas.Option.{slice_get_within}
-use Rattle.p21_basics.proofs.Members.{Each-member, Each-at}
-use Rattle.p21_schemas.specs.Schema.{Schema, TypeUse, Kind, alias, choice, Member, Place, Attribute, Entity, Defined, kind_of}
-use Rattle.p21_schemas.specs.PlaceType.{stored_place, TypeAt}
-use Rattle.p21_schemas.specs.WellFormed.{AreListedEntities, IsWellFormed}
-use Rattle.p21_schemas.specs.Order.{order}
+use Rattle.p21_spec_basics.proofs.Members.{Each-member, Each-at}
+use Rattle.p21_spec_schema.specs.Schema.{Schema, TypeUse, Kind, alias, choice, Member, Place, Attribute, Entity, Defined, kind_of}
+use Rattle.p21_spec_schema.specs.PlaceType.{stored_place, TypeAt}
+use Rattle.p21_spec_schema.specs.WellFormed.{AreListedEntities, IsWellFormed}
+use Rattle.p21_spec_schema.specs.Order.{order}
 use Rattle.p21_express_graph.specs.Lookups.{AreEntities}
 use Rattle.p21_express_graph.specs.Resolved.{HoldsTogether, IsEntity, IsType, IsTypeUse, IsMember, IsKind, IsResolved, IsAttribute, IsRedeclared}
 use Rattle.p21_express_graph.proofs.OrderTables.{IsA-within, are-entities, order-tells}

@@ -6,7 +6,7 @@ use Rattle.std.proofs.lemmas.Bool.{cases_eq}
 use Rattle.std.proofs.lemmas.List.{length-set, take-append-le, take_all}
 use Rattle.std.proofs.lemmas.Option.{slice_get-map}
 use Rattle.std.specs.Option.{option_map}
-use Rattle.p21_basics.proofs.Members.{Contains-none, Each-at, Each-weaker}
+use Rattle.p21_spec_basics.proofs.Members.{Contains-none, Each-at, Each-weaker, some_is}
 use Rattle.p21_express_graph.specs.Prefixes.{AreBelow, BeginsWith, IsEmptyPrefix, IsRunPrefix, list_of}
 use Rattle.p21_express_graph.specs.SettledOrder.{nexts_of}
 use Rattle.p21_express_graph.specs.declared.prefixes.RunPrefix.{RunPrefix}
@@ -44,12 +44,15 @@ prefix-list runs prefixes number front at = ap (λ o. elim o [ Some nexts ↦ ne
 
 -- ---- a list more
 
-get-set : (prefixes : List RunPrefix) (number k : ℕ) (new front : RunPrefix) → slice_get (slice_set prefixes number new) k ≡ Some front → (front ≡ new) ⊎ (slice_get prefixes k ≡ Some front)
-get-set [] number k new front at = inr at
-get-set (f ∷ prefixes) zero zero new front at = let same : new ≡ front = cc in inl (sym same)
-get-set (f ∷ prefixes) zero (suc k) new front at = inr at
-get-set (f ∷ prefixes) (suc number) zero new front at = inr at
-get-set (f ∷ prefixes) (suc number) (suc k) new front at = get-set prefixes number k new front at
+pub set-get : {X : Type 0} (xs : List X) (number k : ℕ) (new x : X) → slice_get (slice_set xs number new) k ≡ Some x → ((k ≡ number) × (x ≡ new)) ⊎ (slice_get xs k ≡ Some x)
+set-get [] number k new x at = inr at
+set-get (y ∷ xs) zero zero new x at = inl (refl, sym (some_is new x at))
+set-get (y ∷ xs) zero (suc k) new x at = inr at
+set-get (y ∷ xs) (suc number) zero new x at = inr at
+set-get (y ∷ xs) (suc number) (suc k) new x at = elim (set-get xs number k new x at) [
+  | inl h ↦ inl (ap suc h.0, h.1)
+  | inr old ↦ inr old
+]
 
 -- each list of these runs stands in others too
 abbrev pub AreUnchanged : List (List ℕ) → List (List ℕ) → Type 0
@@ -61,8 +64,8 @@ IsNew after new list = (new.run < length after) × (nexts_of after new.run ≡ l
 
 module _ (runs after : List (List ℕ)) (prefixes : List RunPrefix) (number : ℕ) (new : RunPrefix) (list : List ℕ) (are : AreWithin runs prefixes) (kept : AreUnchanged runs after) (is : IsNew after new list) where
   pub put-within : AreWithin after (slice_set prefixes number new)
-  put-within k front at = elim (get-set prefixes number k new front at) [
-    | inl same ↦ let P : RunPrefix → Type 0 = λ f. IsRunPrefix after f in subst P (sym same) (is.0, omega (arith, is.2, ap length is.1))
+  put-within k front at = elim (set-get prefixes number k new front at) [
+    | inl same ↦ let P : RunPrefix → Type 0 = λ f. IsRunPrefix after f in subst P (sym same.1) (is.0, omega (arith, is.2, ap length is.1))
     | inr old ↦ let (below, within) = are k front old in let (r_below, s_within, _) = kept front.run front.size below within in (r_below, s_within)
   ]
 

@@ -7,8 +7,8 @@ use Rattle.std.proofs.lemmas.List.{take-append-le, reverse-append, length-revers
 use Rattle.std.proofs.lemmas.List.Elements.{Contains-append_left, Contains-append_right, Contains-append_cases}
 use Rattle.std.proofs.Math.Seq.{take-append_seam}
 use Rattle.std.specs.Option.{option_map}
-use Rattle.p21_schemas.specs.Declared.{HasNoCircle}
-use Rattle.p21_basics.proofs.Members.{Contains-none, Contains-cases}
+use Rattle.p21_spec_schema.specs.Declared.{HasNoCircle}
+use Rattle.p21_spec_basics.proofs.Members.{Contains-none, Contains-cases}
 use Rattle.p21_express_graph.specs.SettledOrder.{IsNext, IsSettledOrder, AreWithin, nexts_of}
 use Rattle.p21_express_graph.specs.Walk.{IsDone, IsOpen, IsWay, LeadsTo, Walks, open_count, work}
 use Rattle.p21_express_graph.proofs.Ranks.{way_short}

@@ -1,8 +1,8 @@
 -- Types that rename others, and for each type the last one of those that it renames, one behind the other (ISO 10303-11,
 -- Defined data type).
 use Rattle.std.specs.Prelude.{◌≡◌, ℕ, List, [], ◌∷◌, Some, length, slice_index_or}
-use Rattle.p21_schemas.specs.Schema as schema
-use Rattle.p21_schemas.specs.Schema.{Schema, TypeUse, Kind, defined, alias, kind_of}
+use Rattle.p21_spec_schema.specs.Schema as schema
+use Rattle.p21_spec_schema.specs.Schema.{Schema, TypeUse, Kind, defined, alias, kind_of}
 use Rattle.p21_express_graph.specs.Resolved.{IsType}
 
 -- from type to type, each the declaration of the one before, one comes to the last

@@ -2,8 +2,8 @@
 use Rattle.std.specs.Prelude.{◌≡◌, ℕ, ◌<◌, ◌≤◌, Bool, true, false, List, Some, length, slice_get, slice_index_or}
 use Rattle.p21_express_graph.specs.CollectedLists.{IsRisingOf}
 use Rattle.p21_express_graph.specs.SettledOrder.{nexts_of}
+use Rattle.p21_express_graph.specs.declared.above.Above.{Above}
 use Rattle.p21_express_graph.specs.declared.indexes.Index.{Index}
-use Rattle.p21_express_graph.specs.declared.prefixes.RunPrefix.{RunPrefix}
 
 -- the number stands at the place, and at none before it
 abbrev pub IsFirstAt : List ℕ → ℕ → ℕ → Type 0
@@ -19,11 +19,11 @@ pub record IsIndex (run numbers places : List ℕ) : Type 0 where
   pub size : length places ≡ length numbers
   pub first : (k : ℕ) → k < length numbers → IsFirstAt run (slice_index_or numbers k 0) (slice_index_or places k 0)
 
--- the runs of fronts are marked
-abbrev pub AreUsed : List RunPrefix → List Bool → Type 0
-AreUsed fronts used = (k : ℕ) (front : RunPrefix) → slice_get fronts k ≡ Some front → slice_index_or used front.run false ≡ true
+-- the runs of which fronts are taken are marked
+abbrev pub AreUsed : List Above → List Bool → Type 0
+AreUsed all used = (k : ℕ) (above : Above) → slice_get all k ≡ Some above → slice_index_or used above.front.run false ≡ true
 
--- each run that a front is of has its index
-pub record AreIndexes (runs : List (List ℕ)) (fronts : List RunPrefix) (indexes : List Index) : Type 0 where
+-- each run of which a front is taken has its index
+pub record AreIndexes (runs : List (List ℕ)) (all : List Above) (indexes : List Index) : Type 0 where
   pub size : length runs ≤ length indexes
-  pub each : (k : ℕ) (front : RunPrefix) (index : Index) → slice_get fronts k ≡ Some front → slice_get indexes front.run ≡ Some index → IsIndex (nexts_of runs front.run) index.numbers.items index.places.items
+  pub each : (k : ℕ) (above : Above) (index : Index) → slice_get all k ≡ Some above → slice_get indexes above.front.run ≡ Some index → IsIndex (nexts_of runs above.front.run) index.numbers.items index.places.items

@@ -17,3 +17,6 @@ pub mod Ranking
 pub mod Redeclaring
 pub mod Prefixes
 pub mod Indexes
+pub mod Closed
+pub mod Meaning
+pub mod TextSet

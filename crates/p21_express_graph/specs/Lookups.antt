@@ -1,8 +1,8 @@
 -- Words of look-ups over lists of entities.
 use Rattle.std.specs.Prelude.{◌≡◌, ℕ, zero, suc, ◌+◌, List, [], ◌∷◌, Some, slice_get, Contains}
-use Rattle.p21_schemas.specs.Schema.{Schema, Place, Entity, Redeclared}
-use Rattle.p21_schemas.specs.Supertype.{IsA}
-use Rattle.p21_schemas.specs.PlaceType.{Redeclares, IsRedeclaredIn}
+use Rattle.p21_spec_schema.specs.Schema.{Schema, Place, Entity, Redeclared}
+use Rattle.p21_spec_schema.specs.Supertype.{IsA}
+use Rattle.p21_spec_schema.specs.PlaceType.{Redeclares, IsRedeclaredIn}
 use Rattle.p21_express_graph.specs.Resolved.{IsEntity}
 
 -- all are entities of the schema

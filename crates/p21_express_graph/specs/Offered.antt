@@ -1,8 +1,8 @@
 -- What selects offer, in tables: for each type a list of entities, and one of types that are no selects.
 use Rattle.std.specs.Prelude.{◌≡◌, ◌↔◌, ℕ, Bool, true, false, cond, List, [], ◌∷◌, Option, Some, length, Contains}
 use Rattle.std.specs.List.Sorted.{IsStrictlyIncreasing}
-use Rattle.p21_schemas.specs.Schema.{Schema, Member, entity_member, type_member, Kind, choice, kind_of}
-use Rattle.p21_schemas.specs.Select.{Offers}
+use Rattle.p21_spec_schema.specs.Schema.{Schema, Member, entity_member, type_member, Kind, choice, kind_of}
+use Rattle.p21_spec_schema.specs.Select.{Offers}
 use Rattle.p21_express_graph.specs.Resolved.{IsType}
 use Rattle.p21_express_graph.specs.SettledOrder.{nexts_of}
 

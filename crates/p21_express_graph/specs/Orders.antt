@@ -2,9 +2,9 @@
 use Rattle.std.specs.Prelude.{◌≡◌, ℕ, ◌<◌, List, Some, length, map, slice_get}
 use Rattle.std.specs.Prelude as std
 use Rattle.std.specs.declared.alloc.Global.{Global}
-use Rattle.p21_schemas.specs.Schema.{Schema}
-use Rattle.p21_schemas.specs.Order.{order}
-use Rattle.p21_express_types.specs.declared.number.EntityId.{EntityId}
+use Rattle.p21_spec_schema.specs.Schema.{Schema}
+use Rattle.p21_spec_schema.specs.Order.{order}
+use Rattle.p21_express_graph.specs.declared.number.EntityId.{EntityId}
 
 -- the numbers of entities
 abbrev pub numbers : List EntityId → List ℕ

@@ -1,10 +1,10 @@
 -- What entities redeclare, put into them.
 use Rattle.std.specs.Prelude.{false, List, [], map}
 use Rattle.std.specs.List.{zip}
-use Rattle.p21_schemas.specs.Schema as pure
+use Rattle.p21_spec_schema.specs.Schema as pure
 use Rattle.p21_express_graph.specs.declared.schema_contents.Redeclarations.{Redeclarations}
 use Rattle.p21_express_graph.specs.SchemaContents.{redeclared}
-use Rattle.p21_express_types.specs.Meaning.{place}
+use Rattle.p21_express_graph.specs.Meaning.{place}
 
 -- an entity of which no more is known than what it redeclares
 abbrev pub redeclaring : Redeclarations → pure.Entity

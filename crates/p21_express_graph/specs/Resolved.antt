@@ -2,9 +2,9 @@
 -- chain comes back (ISO 10303-11, Scope and visibility).
 use Rattle.std.specs.Prelude.{ℕ, ◌+◌, ◌<◌, ◌≤◌, ◌^◌, length}
 use Rattle.std.specs.List.{AllByRecursion as Each}
-use Rattle.p21_schemas.specs.Schema.{Schema, TypeUse, entity, defined, array, list, set, bag, Member, entity_member, type_member, Kind, alias, items, choice, Place, Attribute, Redeclared, Entity, attributes_of}
-use Rattle.p21_schemas.specs.Declared.{HasNoCircle, HasSupertype, Renames, HasSelect, most_declarations}
-use Rattle.p21_schemas.specs.WellFormed.{HasDistinctEntities, HasDistinctTypes, RedeclaresOnce}
+use Rattle.p21_spec_schema.specs.Schema.{Schema, TypeUse, entity, defined, array, list, set, bag, Member, entity_member, type_member, Kind, alias, items, choice, Place, Attribute, Redeclared, Entity, attributes_of}
+use Rattle.p21_spec_schema.specs.Declared.{HasNoCircle, HasSupertype, Renames, HasSelect, most_declarations}
+use Rattle.p21_spec_schema.specs.WellFormed.{HasDistinctEntities, HasDistinctTypes, RedeclaresOnce}
 
 -- the number is that of an entity
 abbrev pub IsEntity : Schema → ℕ → Type 0

@@ -1,8 +1,8 @@
 -- The schema that is made of parts. A contract speaks of the schema of a `Schema` by its model: where `schema : &Schema`,
 -- `schema.now` is that schema of the definitions.
 use Rattle.std.specs.Prelude.{◌≡◌, map}
-use Rattle.p21_schemas.specs.Schema as pure
-use Rattle.p21_express_types.specs.Meaning.{place, type_use, kind}
+use Rattle.p21_spec_schema.specs.Schema as pure
+use Rattle.p21_express_graph.specs.Meaning.{place, type_use, kind}
 use Rattle.p21_express_graph.specs.declared.schema_contents.Attribute.{Attribute}
 use Rattle.p21_express_graph.specs.declared.schema_contents.Redeclared.{Redeclared}
 use Rattle.p21_express_graph.specs.declared.schema_contents.Entity.{Entity}

@@ -1,6 +1,6 @@
 -- Where a walk of the program stands, and what a step of it comes to.
 use Rattle.std.specs.Prelude.{ℕ, ◌<◌, List, length, reverse}
-use Rattle.p21_schemas.specs.Declared.{HasNoCircle}
+use Rattle.p21_spec_schema.specs.Declared.{HasNoCircle}
 use Rattle.p21_express_graph.specs.SettledOrder.{IsNext, IsSettledOrder}
 use Rattle.p21_express_graph.specs.Walk.{Walks, work}
 use Rattle.p21_express_graph.specs.declared.settle.Walk.{Walk}

@@ -1,4 +1,4 @@
-ghost use Rattle.std.specs.Prelude.{◌≡◌, ◌<◌, ℕ, length, Contains, IfOk, IfSome, IsTrue};
+ghost use Rattle.std.specs.Prelude.{◌≡◌, ◌<◌, [], ℕ, length, Contains, IfOk, IfSome, IsTrue};
 ghost use Rattle.p21_express_graph.specs.Above.{AreAbove, EndsFront, HasAbove};
 ghost use Rattle.p21_express_graph.specs.Orders.{AreOrders, number_lists, numbers};
 ghost use Rattle.p21_express_graph.specs.Prefixes.{AreRunPrefixes, lists_in};
@@ -6,37 +6,65 @@ ghost use Rattle.p21_express_graph.specs.Resolved.{HoldsTogether};
 ghost use Rattle.p21_express_graph.specs.SchemaContents.{schema_of};
 ghost use Rattle.p21_express_graph.specs.SettledOrder.{nexts_of};
 
+use crate::number::EntityId;
 use crate::orders::supertypes_of;
 use crate::prefixes::{PrefixLists, RunPrefix, begins_with};
 use crate::schema_contents::SchemaContents;
-use p21_express_types::EntityId;
+use crate::sharing::share_fronts;
 use p21_values::NoMemory;
 use std::alloc::Global;
 
-/// For each entity a front of a run that has its proper supertypes, and no other entity but itself. Entities with the same
-/// supertypes share it, whatever runs their orders are.
+/// What has the proper supertypes of an entity, and no other entity but itself: a front of a run, and those outside of it,
+/// rising.
+#[derive(Drop)]
+pub struct Above {
+    pub front: RunPrefix,
+    pub others: Vec<u32>,
+}
+
+/// What has the proper supertypes of each entity. Entities with the same supertypes share a front, whatever runs their orders
+/// are; one with many supertypes shares that of a supertype, where few are outside of it.
 ///
 /// # Errors
 ///
 /// `NoMemory`.
-pub fn fronts_above(
+pub fn all_above(
     alloc: Global,
     parts: &SchemaContents,
     orders: &PrefixLists,
-) -> Result<Vec<RunPrefix>, NoMemory>
+) -> Result<Vec<Above>, NoMemory>
     requires holds { HoldsTogether (schema_of parts.now) }
     requires prefixes { AreRunPrefixes orders.now }
     requires orders { AreOrders (schema_of parts.now) (lists_in orders.now) }
-    ensures { IfOk result (λ fronts. AreAbove orders.now fronts.items) }
+    ensures { IfOk result (λ all. AreAbove orders.now all.items) }
+{
+    let mut all = fronts_above(alloc, parts, orders)?;
+    share_fronts(alloc, parts, orders, &mut all)?;
+    Ok(all)
+}
+
+/// The same, with all of them in the fronts.
+fn fronts_above(
+    alloc: Global,
+    parts: &SchemaContents,
+    orders: &PrefixLists,
+) -> Result<Vec<Above>, NoMemory>
+    requires holds { HoldsTogether (schema_of parts.now) }
+    requires prefixes { AreRunPrefixes orders.now }
+    requires orders { AreOrders (schema_of parts.now) (lists_in orders.now) }
+    ensures { IfOk result (λ all. AreAbove orders.now all.items) }
 {
     let count = parts.entities.len();
-    let mut fronts = Vec::with_capacity(alloc, count)?;
+    let mut all = Vec::with_capacity(alloc, count)?;
     for number in 0..count {
         let entity = EntityId(number as u32);
         let front = front_above(orders, entity, supertypes_of(parts, entity.0));
-        fronts.push(front)?;
+        all.push(Above {
+            front,
+            others: Vec::new(alloc),
+        })?;
     }
-    Ok(fronts)
+    Ok(all)
 }
 
 /// The front that has the proper supertypes of an entity: one of the run of its first supertype, where that begins with its
@@ -46,7 +74,7 @@ fn front_above(orders: &PrefixLists, entity: EntityId, supertypes: &[EntityId]) 
     requires there { entity.0 < length orders.now.prefixes.items }
     requires supertypes { (e : ℕ) → Contains (numbers supertypes.now) e → e < length orders.now.prefixes.items }
     requires itself { Contains (nexts_of (lists_in orders.now) entity.0) entity.0 }
-    ensures { HasAbove orders.now entity.0 result }
+    ensures { HasAbove orders.now entity.0 result [] }
 {
     let own = orders.prefix_of(entity.0);
     match run_above(orders, entity, supertypes) {

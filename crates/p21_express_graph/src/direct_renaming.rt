@@ -1,15 +1,17 @@
 ghost use Rattle.std.specs.Prelude.{◌≡◌, ℕ, length, map, slice_index_or, IfOk, MatchOption, Some};
-ghost use Rattle.p21_schemas.specs.Declared.{Renames};
-ghost use Rattle.p21_schemas.specs.Schema.{alias, defined, kind_of};
-ghost use Rattle.p21_express_types.specs.Meaning.{kind as kind_meant, type_use};
+ghost use Rattle.p21_spec_schema.specs.Declared.{Renames};
+ghost use Rattle.p21_spec_schema.specs.Schema.{alias, defined, kind_of};
+ghost use Rattle.p21_express_graph.specs.Meaning.{kind as kind_meant, type_use};
 ghost use Rattle.p21_express_graph.specs.DirectRenaming.{IsPlain, AreEnds, IsEnd, RenamesNone, direct_renaming as renamed_in};
 ghost use Rattle.p21_express_graph.specs.SchemaContents.{schema_of};
 ghost use Rattle.p21_express_graph.specs.Resolved.{HoldsTogether, IsType};
 ghost use Rattle.p21_express_graph.specs.SettledOrder.{IsSettledOrder, lists_of};
 
+use crate::kind::TypeKind;
+use crate::number::TypeId;
 use crate::schema_contents::{Defined, SchemaContents};
 use crate::settle::settled_order;
-use p21_express_types::{TypeId, TypeKind, TypeUse};
+use crate::type_use::TypeUse;
 use p21_values::NoMemory;
 use std::alloc::Global;
 

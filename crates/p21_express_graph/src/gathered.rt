@@ -1,8 +1,8 @@
-ghost use Rattle.std.specs.Prelude.{◌≡◌, ◌<◌, ℕ, [], length, map, nat_eq, Contains, IfOk, OnOk};
+ghost use Rattle.std.specs.Prelude.{◌≡◌, ◌<◌, ℕ, [], length, map, nat_eq, Contains, IfOk, IsTrue, OnOk};
 ghost use Rattle.std.specs.List.{list_any};
 ghost use Rattle.p21_express_graph.specs.Gathering.{add_first, add_firsts};
 
-use p21_express_types::EntityId;
+use crate::number::EntityId;
 use p21_values::NoMemory;
 use std::alloc::Global;
 use std::marker::Model;
@@ -46,6 +46,19 @@ impl GatheredEntities {
             Some(found) => found.0 == entity.0,
             None => false,
         }
+    }
+
+    /// Whether each of the entities is there.
+    pub(crate) fn has_all(&self, entities: &[EntityId]) -> bool
+        requires { (e : ℕ) → Contains (map (λ x. x.0) entities.now) e → e < self.now.count }
+        ensures { IsTrue result → (e : ℕ) → Contains (map (λ x. x.0) entities.now) e → Contains self.now.numbers e }
+    {
+        for entity in entities {
+            if !self.has(*entity) {
+                return false;
+            }
+        }
+        true
     }
 
     /// Adds an entity, unless it is there.

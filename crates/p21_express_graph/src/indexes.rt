@@ -3,10 +3,10 @@ ghost use Rattle.p21_express_graph.specs.Prefixes.{AreBelow};
 ghost use Rattle.p21_express_graph.specs.Indexes.{AreIndexes, AreUsed, HaveFirstPositions, IsIndex};
 ghost use Rattle.p21_express_graph.specs.Orders.{numbers, number_lists};
 
+use crate::above::Above;
 use crate::collected_lists::rising_numbers;
+use crate::number::EntityId;
 use crate::orders::numbers_of;
-use crate::prefixes::RunPrefix;
-use p21_express_types::EntityId;
 use p21_values::NoMemory;
 use std::alloc::Global;
 
@@ -17,7 +17,7 @@ pub struct Index {
     pub places: Vec<usize>,
 }
 
-/// The indexes of runs whose entities are so many. A run that none of the fronts is of has an empty one.
+/// The indexes of runs whose entities are so many. A run of which no front is taken has an empty one.
 ///
 /// # Errors
 ///
@@ -26,13 +26,13 @@ pub fn indexes_of(
     alloc: Global,
     count: usize,
     runs: &[Vec<EntityId>],
-    fronts: &[RunPrefix],
+    all: &[Above],
 ) -> Result<Vec<Index>, NoMemory>
     requires below { AreBelow count (number_lists runs.now) }
-    requires within { (k : ℕ) (front : RunPrefix) → slice_get fronts.now k ≡ Some front → front.run < length runs.now }
-    ensures { IfOk result (λ indexes. AreIndexes (number_lists runs.now) fronts.now indexes.items) }
+    requires within { (k : ℕ) (above : Above) → slice_get all.now k ≡ Some above → above.front.run < length runs.now }
+    ensures { IfOk result (λ indexes. AreIndexes (number_lists runs.now) all.now indexes.items) }
 {
-    let used = used_runs(alloc, runs.len(), fronts)?;
+    let used = used_runs(alloc, runs.len(), all)?;
     let mut places = vec![in alloc; 0; count]?;
     let mut indexes = Vec::with_capacity(alloc, runs.len())?;
     for at in 0..runs.len() {
@@ -42,15 +42,16 @@ pub fn indexes_of(
     Ok(indexes)
 }
 
-/// For each of so many runs, whether one of the fronts is of it.
-fn used_runs(alloc: Global, count: usize, fronts: &[RunPrefix]) -> Result<Vec<bool>, NoMemory>
-    requires { (k : ℕ) (front : RunPrefix) → slice_get fronts.now k ≡ Some front → front.run < count }
+/// For each of so many runs, whether a front is taken of it.
+fn used_runs(alloc: Global, count: usize, all: &[Above]) -> Result<Vec<bool>, NoMemory>
+    requires { (k : ℕ) (above : Above) → slice_get all.now k ≡ Some above → above.front.run < count }
     ensures size { IfOk result (λ used. length used.items ≡ count) }
-    ensures used { IfOk result (λ used. AreUsed fronts.now used.items) }
+    ensures used { IfOk result (λ used. AreUsed all.now used.items) }
 {
     let mut used = vec![in alloc; false; count]?;
-    for front in fronts {
-        used[front.run] = true;
+    for above in all {
+        let above: &Above = above;
+        used[above.front.run] = true;
     }
     Ok(used)
 }
@@ -91,7 +92,7 @@ fn index_of(alloc: Global, run: &[EntityId], places: &mut Vec<usize>) -> Result<
 }
 
 /// Notes for each entity of a run the first place where it stands there.
-fn note_positions(run: &[EntityId], places: &mut Vec<usize>)
+pub(crate) fn note_positions(run: &[EntityId], places: &mut Vec<usize>)
     requires { (e : ℕ) → Contains (numbers run.now) e → e < length places.old.items }
     ensures size { length places.new.items ≡ length places.old.items }
     ensures first { HaveFirstPositions (numbers run.now) places.new.items 0 }

@@ -1,15 +1,15 @@
 ghost use Rattle.std.specs.Prelude.{◌≡◌, ◌↔◌, IfOk, IsTrue, map};
-ghost use Rattle.p21_schemas.specs.Schema.{entity_member, type_member, kind_of};
-ghost use Rattle.p21_schemas.specs.Select.{IsSelect};
-ghost use Rattle.p21_express_types.specs.Meaning.{member as member_of, kind as kind_meant};
+ghost use Rattle.p21_spec_schema.specs.Schema.{entity_member, type_member, kind_of};
+ghost use Rattle.p21_spec_schema.specs.Select.{IsSelect};
+ghost use Rattle.p21_express_graph.specs.Meaning.{member as member_of, kind as kind_meant};
 ghost use Rattle.p21_express_graph.specs.Offered.{AreOffered, entity_numbers as entities_among, is_choice, members_of, plain_numbers as plain_among, type_numbers as types_among};
 ghost use Rattle.p21_express_graph.specs.SchemaContents.{schema_of};
 ghost use Rattle.p21_express_graph.specs.Resolved.{HoldsTogether, IsType, IsMember};
 ghost use Rattle.p21_express_graph.specs.SettledOrder.{lists_of};
 
 use crate::collected_lists::collected_lists;
+use crate::kind::{Member, TypeKind};
 use crate::schema_contents::{Defined, SchemaContents};
-use p21_express_types::{Member, TypeKind};
 use p21_values::NoMemory;
 use std::alloc::Global;
 

@@ -1,11 +1,11 @@
 ghost use Rattle.std.specs.Prelude.{◌≡◌, ◌<◌, ◌≤◌, [], ℕ, Some, length, slice_get, slice_set, take, Contains, IfOk, IfSome, IsTrue, OnOk};
 ghost use Rattle.std.specs.List.{AllByRecursion as Each};
-ghost use Rattle.p21_express_graph.specs.Prefixes.{AreBelow, AreRunPrefixes, BeginsWith, IsEmptyPrefix, StayBelow, lists_in};
+ghost use Rattle.p21_express_graph.specs.Prefixes.{AreBelow, AreRunPrefixes, BeginsWith, IsEmptyPrefix, IsRunPrefix, StayBelow, list_of, lists_in};
 ghost use Rattle.p21_express_graph.specs.Orders.{numbers, number_lists};
 ghost use Rattle.p21_express_graph.specs.SettledOrder.{nexts_of};
 
 use crate::collected_lists::empty_lists;
-use p21_express_types::EntityId;
+use crate::number::EntityId;
 use p21_values::NoMemory;
 use std::alloc::Global;
 
@@ -42,7 +42,14 @@ impl PrefixLists {
         requires there { number < length self.now.prefixes.items }
         ensures { numbers result.now ≡ nexts_of (lists_in self.now) number }
     {
-        let front = self.prefix_of(number);
+        self.front(self.prefix_of(number))
+    }
+
+    /// The entities of a front.
+    pub(crate) fn front(&self, front: RunPrefix) -> &[EntityId]
+        requires { IsRunPrefix (number_lists self.now.runs.items) front }
+        ensures { numbers result.now ≡ list_of (number_lists self.now.runs.items) front }
+    {
         first_of(self.run(front.run), front.size)
     }
 

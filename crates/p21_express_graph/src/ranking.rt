@@ -1,14 +1,14 @@
 ghost use Rattle.std.specs.Prelude.{◌≡◌, ◌<◌, ◌^◌, ℕ, List, Some, length, map, slice_get, slice_index_or, Contains, IfOk};
 ghost use Rattle.std.specs.List.{AllZip};
-ghost use Rattle.p21_schemas.specs.Schema.{EntityNamed};
+ghost use Rattle.p21_spec_schema.specs.Schema.{EntityNamed};
 ghost use Rattle.p21_express_graph.specs.Orders.{numbers};
 ghost use Rattle.p21_express_graph.specs.SchemaContents.{schema_of, AreNamed};
 ghost use Rattle.p21_express_graph.specs.Ranking.{IsRanking};
 ghost use Rattle.p21_express_graph.specs.Resolved.{HoldsTogether};
 ghost use Rattle.p21_express_graph.specs.Rising.{texts_of};
 
+use crate::number::EntityId;
 use crate::schema_contents::{Entity, SchemaContents};
-use p21_express_types::EntityId;
 use p21_values::NoMemory;
 use std::alloc::Global;
 

@@ -1,5 +1,7 @@
+use crate::kind::TypeKind;
 use crate::names::Names;
-use p21_express_types::{EntityId, Place, TypeKind, TypeUse};
+use crate::number::{EntityId, Place};
+use crate::type_use::TypeUse;
 use p21_values::Word;
 
 /// An explicit attribute (ISO 10303-11, Explicit attribute).

@@ -1,5 +1,5 @@
 ghost use Rattle.std.specs.Prelude.{◌≡◌, ◌<◌, ◌^◌, ℕ, length, Contains, reverse, IfOk, MatchOption, [], ◌∷◌};
-ghost use Rattle.p21_schemas.specs.Declared.{HasNoCircle};
+ghost use Rattle.p21_spec_schema.specs.Declared.{HasNoCircle};
 ghost use Rattle.p21_express_graph.specs.SettledOrder.{AreWithin, IsNext, IsSettledOrder, lists_of};
 ghost use Rattle.p21_express_graph.specs.Walk.{IsDone, IsOpen};
 ghost use Rattle.p21_express_graph.specs.Walking.{WalksAlong, StepsTo, left};

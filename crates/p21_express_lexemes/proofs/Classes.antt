@@ -2,9 +2,9 @@
 use Rattle.std.proofs.Common.{◌≡◌, ◌≢◌, ℕ, ◌≤◌, true, false, inl, inr, arith}
 use Rattle.std.proofs.lemmas.Bool.{false_from_ne_true}
 use Rattle.std.proofs.lemmas.Bool.Decides.{nat_tests}
-use Rattle.p21_basics.specs.Digits.{IsDigit}
-use Rattle.p21_schemas.specs.Express.{IsLetter, IsIdentifierByte}
-use Rattle.p21_schemas.specs.Remark.{blank, IsSeparator}
+use Rattle.p21_spec_basics.specs.Digits.{IsDigit}
+use Rattle.p21_spec_schema.specs.Express.{IsLetter, IsIdentifierByte}
+use Rattle.p21_spec_schema.specs.Remark.{blank, IsSeparator}
 use Rattle.p21_express_lexemes.specs.Bytes.{is_of}
 use Rattle.p21_express_lexemes.specs.declared.bytes.Class.TheVariants.{Blank, Letter, Digit, IdentifierByte, Encoded, SymbolByte}
 

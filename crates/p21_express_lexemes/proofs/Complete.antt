@@ -3,10 +3,10 @@ use Rattle.std.proofs.Common.{◌≡◌, ◌≢◌, ℕ, zero, suc, ◌<◌, tru
 use Rattle.std.specs.List.{flat_map, AllByRecursion as Each}
 use Rattle.std.proofs.lemmas.Bool.{cases_eq, ne_eqb, and_left, and_right, cases_Bool, eqb-true}
 use Rattle.std.proofs.lemmas.Bool.Decides.{nat_tests}
-use Rattle.p21_basics.specs.Digits.{IsDigit, AllDigits}
-use Rattle.p21_schemas.specs.Express.{Lexeme, identifier, digits, simple_string, encoded_string, symbol, IsLetter, IsIdentifierByte, SpellsLexeme, quote_twice, upper}
-use Rattle.p21_schemas.specs.ExpressLaying.{LexemeIsFollowed, LaidLexemes}
-use Rattle.p21_schemas.specs.Remark.{Mark, opening_mark, closing_mark, remark_byte, mark_bytes, DoesNotBeginWith, AreMarks, ClosesAtLastMark, Separator, blank, embedded_remark, tail_remark, IsSeparator, separator_bytes, IsSeparatorText, IsLastSeparatorText}
+use Rattle.p21_spec_basics.specs.Digits.{IsDigit, AllDigits}
+use Rattle.p21_spec_schema.specs.Express.{Lexeme, identifier, digits, simple_string, encoded_string, symbol, IsLetter, IsIdentifierByte, SpellsLexeme, quote_twice, upper}
+use Rattle.p21_spec_schema.specs.ExpressLaying.{LexemeIsFollowed, LaidLexemes}
+use Rattle.p21_spec_schema.specs.Remark.{Mark, opening_mark, closing_mark, remark_byte, mark_bytes, DoesNotBeginWith, AreMarks, ClosesAtLastMark, Separator, blank, embedded_remark, tail_remark, IsSeparator, separator_bytes, IsSeparatorText, IsLastSeparatorText}
 use Rattle.p21_express_lexemes.specs.Bytes.{is_of, begins, begins_of, begins_both, front, behind}
 use Rattle.p21_express_lexemes.specs.Skipping.{between, line, remark, skip}
 use Rattle.p21_express_lexemes.specs.FirstLexeme.{found, ended, quoted, after, unquote, simple_of, encoded_of, lexeme_of, first_lexeme_within, first_lexeme_of}

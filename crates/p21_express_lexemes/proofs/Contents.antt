@@ -3,9 +3,9 @@ use Rattle.std.proofs.Common.{◌≡◌, ℕ, inl, inr, List, [], ◌∷◌, map
 use Rattle.std.specs.List.{AllByRecursion as Each}
 use Rattle.std.proofs.lemmas.Bool.Decides.{nat_tests}
 use Rattle.std.specs.Borrow.{Bor}
-use Rattle.p21_basics.specs.Digits.{AllDigits}
-use Rattle.p21_exchange.specs.Keyword.{IsUpper, IsKeywordByte, IsKeyword}
-use Rattle.p21_schemas.specs.Express.{Lexeme, identifier, digits, IsLetter, IsIdentifierByte, IsIdentifier, upper, SpellsLexeme}
+use Rattle.p21_spec_basics.specs.Digits.{AllDigits}
+use Rattle.p21_spec_exchange.specs.Keyword.{IsUpper, IsKeywordByte, IsKeyword}
+use Rattle.p21_spec_schema.specs.Express.{Lexeme, identifier, digits, IsLetter, IsIdentifierByte, IsIdentifier, upper, SpellsLexeme}
 use Rattle.p21_express_lexemes.specs.Skipping.{between, skip}
 use Rattle.p21_express_lexemes.specs.FirstLexeme.{found, lexeme_of, first_lexeme_within, first_lexeme_of}
 use Rattle.p21_express_lexemes.specs.Meaning.{IsFirstLexeme}

@@ -1,7 +1,7 @@
 -- The lexeme that begins with a byte, by its kind.
 use Rattle.std.proofs.Common.{◌≡◌, ℕ, true, false, List, [], ◌∷◌, ◌==◌, map, length, drop, get_or, refl, arith}
 use Rattle.std.proofs.lemmas.Bool.Decides.{nat_tests}
-use Rattle.p21_schemas.specs.Express.{identifier, digits, encoded_string, symbol, upper}
+use Rattle.p21_spec_schema.specs.Express.{identifier, digits, encoded_string, symbol, upper}
 use Rattle.p21_express_lexemes.specs.Bytes.{is_of, begins, begins_of, front, behind}
 use Rattle.p21_express_lexemes.specs.FirstLexeme.{found, ended, wrong, unquote, simple_of, encoded_of, lexeme_at, lexeme_of}
 use Rattle.p21_express_lexemes.specs.declared.bytes.Class.TheVariants.{Letter, Digit, IdentifierByte, Encoded, SymbolByte}

@@ -1,7 +1,7 @@
 -- The lexemes of a text are one list.
 use Rattle.std.proofs.Common.{◌≡◌, ℕ, zero, suc, ◌<◌, ◌≤◌, List, [], ◌∷◌, length, length-append, Option, Some, None, refl, ap, sym, subst, ◌∙◌, arith}
-use Rattle.p21_schemas.specs.Express.{Lexeme, identifier, digits, simple_string, encoded_string, symbol, SpellsLexeme}
-use Rattle.p21_schemas.specs.ExpressLaying.{LaidLexemes}
+use Rattle.p21_spec_schema.specs.Express.{Lexeme, identifier, digits, simple_string, encoded_string, symbol, SpellsLexeme}
+use Rattle.p21_spec_schema.specs.ExpressLaying.{LaidLexemes}
 use Rattle.p21_express_lexemes.specs.Skipping.{between, skip}
 use Rattle.p21_express_lexemes.specs.FirstLexeme.{FirstLexeme as PureFirstLexeme, found, ended, wrong, lexeme_of, first_lexeme_within, first_lexeme_of}
 use Rattle.p21_express_lexemes.specs.Meaning.{IsFirstLexeme}

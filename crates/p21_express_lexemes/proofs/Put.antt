@@ -1,7 +1,7 @@
 -- Lexemes in front of what is left.
 use Rattle.std.proofs.Common.{◌≡◌, ℕ, List, [], ◌∷◌, ◌++◌, Some, refl, ap, sym, ◌∙◌}
-use Rattle.p21_schemas.specs.Express.{Lexeme}
-use Rattle.p21_schemas.specs.ExpressLaying.{LaidLexemes}
+use Rattle.p21_spec_schema.specs.Express.{Lexeme}
+use Rattle.p21_spec_schema.specs.ExpressLaying.{LaidLexemes}
 use Rattle.p21_express_lexemes.specs.Lexemes.{lexemes_of, as_items}
 use Rattle.p21_express_lexemes.specs.Taking.{Items, put}
 use Rattle.p21_express_lexemes.proofs.Once.{laid_all, all_laid}

@@ -1,6 +1,6 @@
 -- A run that is read over, lexeme by lexeme.
 use Rattle.std.proofs.Common.{◌≡◌, ℕ, zero, suc, ◌+◌, ◌-◌, ◌<◌, Bool, true, false, List, [], ◌∷◌, ◌++◌, length, Option, Some, None, refl, ap, sym, ◌∙◌, append_assoc, arith}
-use Rattle.p21_schemas.specs.Express.{Lexeme}
+use Rattle.p21_spec_schema.specs.Express.{Lexeme}
 use Rattle.p21_express_lexemes.specs.Taking.{Items}
 use Rattle.p21_express_lexemes.specs.Runs.{HasAdvanced, first_is, with_first, run_of, RunRead, WasTaken}
 

@@ -3,11 +3,11 @@ use Rattle.std.proofs.Common.{◌≡◌, ℕ, zero, suc, ◌+◌, ◌≤◌, Boo
 use Rattle.std.specs.List.{count_by}
 use Rattle.std.proofs.lemmas.Bool.{cases_Bool, eqb-true}
 use Rattle.std.proofs.lemmas.List.Sums.{sum_by-cons}
-use Rattle.p21_schemas.specs.Run.{is_symbol, none}
-use Rattle.p21_schemas.specs.Express.{Lexeme, identifier, digits, simple_string, encoded_string, symbol}
+use Rattle.p21_spec_schema.specs.Run.{is_symbol, none}
+use Rattle.p21_spec_schema.specs.Express.{Lexeme, identifier, digits, simple_string, encoded_string, symbol}
 use Rattle.p21_express_lexemes.specs.Taking.{Items, put}
 use Rattle.p21_express_lexemes.specs.Runs.{AreApart, with_first, run_of, HasRun, RunRead}
-use Rattle.p21_basics.proofs.Members.{some_pair_is}
+use Rattle.p21_spec_basics.proofs.Members.{some_pair_is}
 
 -- a run within so many open ones
 pub record IsRunIn (opens closes : Lexeme → Bool) (depth : ℕ) (run : List Lexeme) : Type 0 where

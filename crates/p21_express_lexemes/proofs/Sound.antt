@@ -3,10 +3,10 @@ use Rattle.std.proofs.Common.{◌≡◌, ◌≢◌, ℕ, zero, suc, ◌<◌, ◌
 use Rattle.std.specs.List.{flat_map, AllByRecursion as Each}
 use Rattle.std.proofs.lemmas.Bool.{cases_Bool, eqb-true, eqb-false, and_parts, and_cases, both_ways}
 use Rattle.std.proofs.lemmas.Bool.Decides.{nat_tests}
-use Rattle.p21_basics.specs.Digits.{AllDigits}
-use Rattle.p21_schemas.specs.Express.{Lexeme, identifier, digits, simple_string, encoded_string, symbol, IsIdentifierByte, SpellsLexeme, quote_twice, upper}
-use Rattle.p21_schemas.specs.ExpressLaying.{LexemeIsFollowed, LaidLexemes}
-use Rattle.p21_schemas.specs.Remark.{Mark, opening_mark, closing_mark, remark_byte, mark_bytes, DoesNotBeginWith, AreMarks, ClosesAtLastMark, Separator, blank, embedded_remark, tail_remark, IsSeparator, separator_bytes, IsSeparatorText, IsLastSeparatorText}
+use Rattle.p21_spec_basics.specs.Digits.{AllDigits}
+use Rattle.p21_spec_schema.specs.Express.{Lexeme, identifier, digits, simple_string, encoded_string, symbol, IsIdentifierByte, SpellsLexeme, quote_twice, upper}
+use Rattle.p21_spec_schema.specs.ExpressLaying.{LexemeIsFollowed, LaidLexemes}
+use Rattle.p21_spec_schema.specs.Remark.{Mark, opening_mark, closing_mark, remark_byte, mark_bytes, DoesNotBeginWith, AreMarks, ClosesAtLastMark, Separator, blank, embedded_remark, tail_remark, IsSeparator, separator_bytes, IsSeparatorText, IsLastSeparatorText}
 use Rattle.p21_express_lexemes.specs.Bytes.{is_of, begins, begins_of, begins_both, front, behind}
 use Rattle.p21_express_lexemes.specs.Skipping.{Gap, between, opened, closed, dash, line, remark, closing, skip}
 use Rattle.p21_express_lexemes.specs.FirstLexeme.{found, ended, wrong, Quoted, quoted, unquoted, after, unquote, simple_of, encoded_of, lexeme_at, lexeme_of, first_lexeme_within, first_lexeme_of}

@@ -1,7 +1,7 @@
 -- What is taken from the lexemes that are left, by the reader's answer at the front.
 use Rattle.std.proofs.Common.{◌≡◌, ℕ, List, [], ◌∷◌, Option, Some, None, ap, sym, ◌∙◌}
 use Rattle.std.specs.Borrow.{Bor}
-use Rattle.p21_schemas.specs.Express.{Lexeme as ExpressLexeme}
+use Rattle.p21_spec_schema.specs.Express.{Lexeme as ExpressLexeme}
 use Rattle.p21_express_lexemes.specs.FirstLexeme.{first_lexeme_of}
 use Rattle.p21_express_lexemes.specs.Meaning.{Means, IsFirstLexeme}
 use Rattle.p21_express_lexemes.specs.Lexemes.{lexemes_of}

@@ -7,7 +7,7 @@ use Rattle.p21_express_lexemes.specs.Words.{is_among, all_bytes_seen}
 use Rattle.std.specs.Str.{bytes_eq}
 use Rattle.std.proofs.lemmas.Bool.{and_left, and_right, ne_eqb, eq-eqb}
 use Rattle.std.proofs.lemmas.Bool.Decides.{nat_tests}
-use Rattle.p21_schemas.specs.Express.{upper}
+use Rattle.p21_spec_schema.specs.Express.{upper}
 
 pub same_length : (bytes word : List ℕ) → (length bytes == length word) ≡ false → bytes_eq (map upper bytes) word ≡ false
 same_length [] [] h = cc

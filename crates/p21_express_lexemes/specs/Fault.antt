@@ -1,7 +1,7 @@
 -- The refusals of a schema text before its names are resolved: their numbers and names, and which one a lexeme shows that
 -- the grammar doesn't have where it stands (this project's own).
 use Rattle.std.specs.Prelude.{ℕ, Bool, List, [], ◌∷◌, codes, Some, None, ◌||◌, ◌==◌, if◌then◌else◌}
-use Rattle.p21_schemas.specs.Express.{Lexeme, identifier, symbol}
+use Rattle.p21_spec_schema.specs.Express.{Lexeme, identifier, symbol}
 use Rattle.p21_express_lexemes.specs.Taking.{Items}
 use Rattle.p21_express_lexemes.specs.Words.{is_among, is_reserved}
 use Rattle.p21_express_lexemes.specs.declared.fault.Wanted.{Wanted}

@@ -1,6 +1,6 @@
 -- The lexemes of bytes, one by one: plain functions between the code and the definitions, which nobody has to believe.
 use Rattle.std.specs.Prelude.{ℕ, Bool, true, false, ◌==◌, List, [], ◌∷◌, ◌++◌, map, Option, Some, None, if◌then◌else◌}
-use Rattle.p21_schemas.specs.Express.{Lexeme, identifier, digits, simple_string, encoded_string, symbol, upper}
+use Rattle.p21_spec_schema.specs.Express.{Lexeme, identifier, digits, simple_string, encoded_string, symbol, upper}
 use Rattle.p21_express_lexemes.specs.Bytes.{is_of, front, behind}
 use Rattle.p21_express_lexemes.specs.Skipping.{between, skip}
 use Rattle.p21_express_lexemes.specs.declared.bytes.Class.TheVariants.{Letter, Digit, IdentifierByte, Encoded, SymbolByte}

@@ -1,7 +1,7 @@
 -- What an answer of the reader says of the lexemes that are laid in a text.
 use Rattle.std.specs.Prelude.{◌≡◌, ℕ, List, [], ◌∷◌}
-use Rattle.p21_schemas.specs.Express.{Lexeme as ExpressLexeme}
-use Rattle.p21_schemas.specs.ExpressLaying.{LaidLexemes}
+use Rattle.p21_spec_schema.specs.Express.{Lexeme as ExpressLexeme}
+use Rattle.p21_spec_schema.specs.ExpressLaying.{LaidLexemes}
 use Rattle.p21_express_lexemes.specs.Meaning.{Means}
 use Rattle.p21_express_lexemes.specs.declared.lexeme.FirstLexeme.{FirstLexeme}
 use Rattle.p21_express_lexemes.specs.declared.lexeme.FirstLexeme.TheVariants.{Found, Ended, Wrong}

@@ -1,6 +1,6 @@
 -- All lexemes of a text, in order: a plain function between the code and the definitions, which nobody has to believe.
 use Rattle.std.specs.Prelude.{ℕ, zero, suc, List, [], ◌∷◌, length, map, Option, Some, None}
-use Rattle.p21_schemas.specs.Express.{Lexeme}
+use Rattle.p21_spec_schema.specs.Express.{Lexeme}
 use Rattle.p21_express_lexemes.specs.FirstLexeme.{FirstLexeme, found, ended, wrong, first_lexeme_of}
 
 abbrev pub items : FirstLexeme → (List ℕ → List (Option Lexeme)) → List (Option Lexeme)

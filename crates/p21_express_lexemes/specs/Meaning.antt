@@ -1,6 +1,6 @@
 -- What a lexeme of the reader stands for.
 use Rattle.std.specs.Prelude.{◌≡◌, ℕ, List, map}
-use Rattle.p21_schemas.specs.Express.{Lexeme as ExpressLexeme, identifier, digits, simple_string, encoded_string, symbol, upper}
+use Rattle.p21_spec_schema.specs.Express.{Lexeme as ExpressLexeme, identifier, digits, simple_string, encoded_string, symbol, upper}
 use Rattle.p21_express_lexemes.specs.FirstLexeme.{FirstLexeme as PureFirstLexeme, found, ended, wrong}
 use Rattle.p21_express_lexemes.specs.declared.lexeme.Lexeme.{Lexeme}
 use Rattle.p21_express_lexemes.specs.declared.lexeme.Lexeme.TheVariants.{Identifier, Digits, SimpleString, EncodedString, Symbol}

@@ -1,7 +1,7 @@
 -- Runs that are read over: a plain function between the code and the definitions, which nobody has to believe.
 use Rattle.std.specs.Prelude.{◌≡◌, ℕ, zero, suc, Bool, true, false, List, [], ◌∷◌, ◌++◌, Option, Some, None, Result, Ok, Err, if◌then◌else◌}
-use Rattle.p21_schemas.specs.Express.{Lexeme}
-use Rattle.p21_schemas.specs.Run.{IsRun, is_word, is_symbol, none}
+use Rattle.p21_spec_schema.specs.Express.{Lexeme}
+use Rattle.p21_spec_schema.specs.Run.{IsRun, is_word, is_symbol, none}
 use Rattle.p21_express_lexemes.specs.Meaning.{Means}
 use Rattle.p21_express_lexemes.specs.Taking.{Items, put, RefusalShows}
 use Rattle.p21_express_lexemes.specs.declared.fault.SyntaxFault.{SyntaxFault}

@@ -6,7 +6,7 @@ use Rattle.std.specs.Str.{bytes_eq}
 use Rattle.p21_express_lexemes.specs.declared.fault.SyntaxFault.{SyntaxFault}
 use Rattle.p21_express_lexemes.specs.declared.fault.SyntaxFault.TheVariants.{NoMemory}
 use Rattle.p21_express_lexemes.specs.Words.{is_reserved}
-use Rattle.p21_schemas.specs.Express.{Lexeme, identifier, digits, simple_string, symbol, upper}
+use Rattle.p21_spec_schema.specs.Express.{Lexeme, identifier, digits, simple_string, symbol, upper}
 
 -- the lexemes that are left; a None stands where the text goes wrong
 abbrev pub Items : Type 0

@@ -1,6 +1,6 @@
 -- What a test of a lexeme says.
 use Rattle.std.specs.Prelude.{◌≡◌, Bool, Option, Some, None, if◌then◌else◌}
-use Rattle.p21_schemas.specs.Express.{Lexeme as ExpressLexeme}
+use Rattle.p21_spec_schema.specs.Express.{Lexeme as ExpressLexeme}
 use Rattle.p21_express_lexemes.specs.Meaning.{Means}
 use Rattle.p21_express_lexemes.specs.Taking.{Items, with_rest}
 use Rattle.p21_express_lexemes.specs.declared.fault.SyntaxFault.{SyntaxFault}

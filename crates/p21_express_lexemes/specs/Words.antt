@@ -2,7 +2,7 @@
 use Rattle.std.specs.Prelude.{ℕ, Bool, false, ◌||◌, List, [], ◌∷◌}
 use Rattle.std.specs.Borrow.{Bor}
 use Rattle.std.specs.Str.{bytes_eq}
-use Rattle.p21_schemas.specs.ReservedWord.{reserved_words}
+use Rattle.p21_spec_schema.specs.ReservedWord.{reserved_words}
 
 -- the name is one of the words
 abbrev pub is_among : List (List ℕ) → List ℕ → Bool

@@ -30,7 +30,7 @@ pub(crate) fn is_of(class: Class, byte: u8) -> bool
     }
 }
 
-ghost use Rattle.p21_basics.specs.Digits.{is_digit};
+ghost use Rattle.p21_spec_basics.specs.Digits.{is_digit};
 ghost use Rattle.p21_express_lexemes.specs.Bytes.{is_letter, is_symbol};
 
 fn is_letter(byte: u8) -> bool

@@ -1,6 +1,6 @@
 ghost use Rattle.std.specs.Prelude.{◌≡◌, ℕ, List, MatchOption};
-ghost use Rattle.p21_schemas.specs.Express.{Lexeme as ExpressLexeme};
-ghost use Rattle.p21_schemas.specs.ExpressLaying.{LaidLexemes};
+ghost use Rattle.p21_spec_schema.specs.Express.{Lexeme as ExpressLexeme};
+ghost use Rattle.p21_spec_schema.specs.ExpressLaying.{LaidLexemes};
 ghost use Rattle.p21_express_lexemes.specs.Laid.{ReadsFirstLexeme};
 ghost use Rattle.p21_express_lexemes.specs.Meaning.{IsFirstLexeme};
 ghost use Rattle.p21_express_lexemes.specs.FirstLexeme.{first_lexeme_of, lexeme_of, unquote, quoted, unquoted};

@@ -1,8 +1,8 @@
 ghost use Rattle.std.specs.Prelude.{List, ℕ, ◌≡◌, ◌↔◌, ◌≤◌, ◌<◌, ◌^◌, [], length, map, IsTrue, IfSome, IfOk, if◌then◌else◌};
-ghost use Rattle.p21_basics.specs.Digits.{AllDigits};
-ghost use Rattle.p21_exchange.specs.Keyword.{IsKeyword};
-ghost use Rattle.p21_schemas.specs.Express.{Lexeme as ExpressLexeme, upper};
-ghost use Rattle.p21_schemas.specs.ExpressLaying.{LaidLexemes};
+ghost use Rattle.p21_spec_basics.specs.Digits.{AllDigits};
+ghost use Rattle.p21_spec_exchange.specs.Keyword.{IsKeyword};
+ghost use Rattle.p21_spec_schema.specs.Express.{Lexeme as ExpressLexeme, upper};
+ghost use Rattle.p21_spec_schema.specs.ExpressLaying.{LaidLexemes};
 ghost use Rattle.p21_express_lexemes.specs.Fault.{refusal_of, shown_by, left_out_words, is_operator};
 ghost use Rattle.p21_express_lexemes.specs.Lexemes.{lexemes_of};
 ghost use Rattle.p21_express_lexemes.specs.Runs.{WasTaken as MarkedWasTaken, HasAdvanced, IsMarked, marks};

@@ -1,6 +1,6 @@
 ghost use Rattle.std.specs.Prelude.{◌≡◌, map};
 ghost use Rattle.std.specs.Str.{bytes_eq};
-ghost use Rattle.p21_schemas.specs.Express.{upper};
+ghost use Rattle.p21_spec_schema.specs.Express.{upper};
 ghost use Rattle.p21_express_lexemes.specs.Fault.{left_out_words};
 ghost use Rattle.p21_express_lexemes.specs.Words.{is_among, is_reserved, all_bytes_seen};
 

@@ -1,5 +1,5 @@
 -- Names that are gathered, and names that are different.
-use Rattle.std.specs.Prelude.{◌≡◌, ℕ, zero, suc, ◌+◌, ◌<◌, true, false, Bool, List, [], ◌∷◌, ◌++◌, length, map, drop, take, Some, slice_get, Contains, Result, Ok, Err, refl}
+use Rattle.std.specs.Prelude.{◌≡◌, ℕ, zero, suc, ◌+◌, ◌<◌, true, false, Bool, List, [], ◌∷◌, ◌++◌, length, map, drop, take, Some, Contains, Result, Ok, Err, refl}
 use Rattle.std.specs.List.{IsDistinct, flat_map}
 use Rattle.std.specs.Result.{IsErr, IsErrAnd}
 use Rattle.std.specs.Str.{bytes_eq}
@@ -7,7 +7,7 @@ use Rattle.std.proofs.Common.{Bor, arith, ap, sym, ◌∙◌, subst, get_or, app
 use Rattle.std.proofs.lemmas.List.{map-append}
 use Rattle.std.proofs.lemmas.Option.{slice_get_within, slice_get-get_or}
 use Rattle.std.proofs.lemmas.Slice.Eq.{bytes_eq-Decides}
-use Rattle.p21_basics.proofs.Members.{Contains-first, Contains-later, Contains-at, Contains-found, Contains-mapped, Each-front, Each-append, Each-member, Each-of_members, Each-weaker, at-front, at-behind}
+use Rattle.p21_spec_basics.proofs.Members.{Contains-first, Contains-later, Contains-at, Contains-found, Contains-mapped, Each-front, Each-append, Each-member, Each-of_members, Each-weaker, at-front, at-behind}
 use Rattle.p21_express_outline.specs.Finding.{RefusalShows}
 use Rattle.p21_express_outline.specs.declared.fault.SchemaFault.{SchemaFault}
 use Rattle.p21_express_outline.specs.Known.{AreOthers, KnowsNames, names_of}

@@ -6,10 +6,10 @@ use Rattle.std.specs.Option.{option_map}
 use Rattle.std.proofs.Common.{ap, sym, ◌∙◌, subst, inl, inr}
 use Rattle.std.proofs.lemmas.List.{length-map}
 use Rattle.std.proofs.lemmas.Option.{slice_get-map}
-use Rattle.p21_schemas.specs.Schema.{Schema, Place, Entity, Attribute, EntityNamed, PlaceNamed, attributes_of, attribute_at}
-use Rattle.p21_schemas.specs.Supertype.{supertypes_of, IsA, itself, above}
-use Rattle.p21_schemas.specs.Order.{order_within, order, own_places, places, first_occurrences}
-use Rattle.p21_schemas.specs.Redeclaration.{IsProperSupertype, IsOwnPlace, IsPlaceOf, RedeclaresPlace, HasNoPlace}
+use Rattle.p21_spec_schema.specs.Schema.{Schema, Place, Entity, Attribute, EntityNamed, PlaceNamed, attributes_of, attribute_at}
+use Rattle.p21_spec_schema.specs.Supertype.{supertypes_of, IsA, itself, above}
+use Rattle.p21_spec_schema.specs.Order.{order_within, order, own_places, places, first_occurrences}
+use Rattle.p21_spec_schema.specs.Redeclaration.{IsProperSupertype, IsOwnPlace, IsPlaceOf, RedeclaresPlace, HasNoPlace}
 use Rattle.p21_express_syntax.specs.Digest.{EntityDigest}
 use Rattle.p21_express_outline.specs.Bare.{bare_entity, bare}
 use Rattle.p21_express_outline.specs.Outline.{Named, digest_redeclared_explicit}

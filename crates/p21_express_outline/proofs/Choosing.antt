@@ -2,8 +2,8 @@
 use Rattle.std.specs.Prelude.{◌≡◌, ℕ, List, Result, Ok, Err}
 use Rattle.std.proofs.Common.{arith, sym, subst}
 use Rattle.std.proofs.lemmas.List.{length-map}
-use Rattle.p21_schemas.specs.Schema.{Schema}
-use Rattle.p21_schemas.specs.Declared.{HasNoCircle, HasSelect}
+use Rattle.p21_spec_schema.specs.Schema.{Schema}
+use Rattle.p21_spec_schema.specs.Declared.{HasNoCircle, HasSelect}
 use Rattle.p21_express_outline.specs.Chains.{AreMembers}
 use Rattle.p21_express_outline.specs.Finding.{DecidesClaim}
 use Rattle.p21_express_outline.specs.declared.fault.SchemaFault.{SchemaFault}

@@ -3,15 +3,15 @@ use Rattle.std.specs.Prelude.{◌≡◌, ℕ, ◌≤◌, Bool, List, [], ◌∷�
 use Rattle.std.specs.List.{AllZip, flat_map, IsDistinct, AllByRecursion as Each}
 use Rattle.std.specs.Str.{bytes_eq}
 use Rattle.std.proofs.Common.{ap, sym, ◌∙◌, subst}
-use Rattle.p21_basics.proofs.Members.{Each-member, Contains-one_of, Contains-unmapped}
-use Rattle.p21_schemas.specs.EntityDeclaration as written
-use Rattle.p21_schemas.specs.EntityDeclaration.{own, redeclared, DerivedAttribute, EntityDeclaration, ExplicitAttributes}
-use Rattle.p21_schemas.specs.Schema.{Schema, Entity, Place}
-use Rattle.p21_schemas.specs.SupertypeConstraint.{one_of, other_run, SupertypeConstraint, no_constraint, abstract_entity, abstract_supertype, abstract_supertype_of, supertype_of}
-use Rattle.p21_schemas.specs.WrittenType.{WrittenType, nesting}
-use Rattle.p21_schemas.specs.DeclaredEntity.{DeclaresEntity, DeclaresAttribute, DeclaresRedeclared, DerivesName, DeclaresDerived, no_more, a_place, no_place, names_of, derived_names, own_names, redeclared_names, own_explicit, redeclared_explicit, is_abstract_by}
-use Rattle.p21_schemas.specs.DeclaredType.{deepest_nesting}
-use Rattle.p21_schemas.specs.DeclaredOneOf.{one_of_names, all_one_of_names}
+use Rattle.p21_spec_basics.proofs.Members.{Each-member, Contains-one_of, Contains-unmapped}
+use Rattle.p21_spec_schema.specs.EntityDeclaration as written
+use Rattle.p21_spec_schema.specs.EntityDeclaration.{own, redeclared, DerivedAttribute, EntityDeclaration, ExplicitAttributes}
+use Rattle.p21_spec_schema.specs.Schema.{Schema, Entity, Place}
+use Rattle.p21_spec_schema.specs.SupertypeConstraint.{one_of, other_run, SupertypeConstraint, no_constraint, abstract_entity, abstract_supertype, abstract_supertype_of, supertype_of}
+use Rattle.p21_spec_schema.specs.WrittenType.{WrittenType, nesting}
+use Rattle.p21_spec_schema.specs.DeclaredEntity.{DeclaresEntity, DeclaresAttribute, DeclaresRedeclared, DerivesName, DeclaresDerived, no_more, a_place, no_place, names_of, derived_names, own_names, redeclared_names, own_explicit, redeclared_explicit, is_abstract_by}
+use Rattle.p21_spec_schema.specs.DeclaredType.{deepest_nesting}
+use Rattle.p21_spec_schema.specs.DeclaredOneOf.{one_of_names, all_one_of_names}
 use Rattle.p21_express_syntax.specs.Digest.{TypeDigest, EntityDigest}
 use Rattle.p21_express_syntax.specs.Digesting.{type_digest, name_digest, attributes_digest, constraint_digest, derived_digests, entity_digest}
 use Rattle.p21_express_syntax.specs.Within.{HasNumbers}

@@ -2,13 +2,13 @@
 use Rattle.std.specs.Prelude.{◌≡◌, ℕ, List, Option, Some, None, slice_get, Contains, refl}
 use Rattle.std.specs.List.{AllZip}
 use Rattle.std.proofs.Common.{ap, sym, ◌∙◌, subst}
-use Rattle.p21_basics.proofs.Members.{Contains-at, Contains-found, AllZip-second_member}
-use Rattle.p21_schemas.specs.TypeDeclaration as written
-use Rattle.p21_schemas.specs.TypeDeclaration.{TypeDeclaration, Body}
-use Rattle.p21_schemas.specs.Schema as schema
-use Rattle.p21_schemas.specs.Schema.{Schema, TypeUse, Member, entity_member, type_member, Kind, alias, items, choice, Defined, kind_of}
-use Rattle.p21_schemas.specs.Select.{IsSelect}
-use Rattle.p21_schemas.specs.DefinedType.{MemberNamed, MayBeUnderlying, DeclaresKind, is_alias, is_items, is_choice, DeclaresType}
+use Rattle.p21_spec_basics.proofs.Members.{Contains-at, Contains-found, AllZip-second_member}
+use Rattle.p21_spec_schema.specs.TypeDeclaration as written
+use Rattle.p21_spec_schema.specs.TypeDeclaration.{TypeDeclaration, Body}
+use Rattle.p21_spec_schema.specs.Schema as schema
+use Rattle.p21_spec_schema.specs.Schema.{Schema, TypeUse, Member, entity_member, type_member, Kind, alias, Defined, kind_of}
+use Rattle.p21_spec_schema.specs.Select.{IsSelect}
+use Rattle.p21_spec_schema.specs.DefinedType.{MemberNamed, MayBeUnderlying, DeclaresKind, is_alias, is_items, is_choice, DeclaresType}
 use Rattle.p21_express_syntax.specs.Digesting.{body_digest, defined_type_digest}
 use Rattle.p21_express_syntax.specs.Within.{IsBodyWithin, IsDefinedWithin}
 use Rattle.p21_express_outline.specs.DeclaredBy.{RenamesNoSelect}

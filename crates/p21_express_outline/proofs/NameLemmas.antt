@@ -4,11 +4,11 @@ use Rattle.std.specs.List.{IsDistinct}
 use Rattle.std.specs.Str.{bytes_eq}
 use Rattle.std.proofs.Common.{arith, ap, sym, ◌∙◌, subst}
 use Rattle.std.proofs.lemmas.Option.{slice_get_within}
-use Rattle.p21_basics.proofs.Members.{Each-at, at-front, at-behind}
-use Rattle.p21_schemas.specs.Schema.{Schema, EntityNamed, TypeNamed}
+use Rattle.p21_spec_basics.proofs.Members.{Each-at, at-front, at-behind}
+use Rattle.p21_spec_schema.specs.Schema.{Schema, EntityNamed, TypeNamed}
 use Rattle.p21_express_outline.specs.Outline.{Named, named, IsNamed}
 use Rattle.p21_express_outline.proofs.Zips.{at-mapped, mapped-at}
-use Rattle.p21_basics.proofs.Comparing.{bytes_eq-apart}
+use Rattle.p21_spec_basics.proofs.Comparing.{bytes_eq-apart}
 
 -- the names of a schema
 pub record HasNames (s : Schema) (n : Named) : Type 0 where

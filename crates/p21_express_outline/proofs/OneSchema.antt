@@ -2,13 +2,13 @@
 use Rattle.std.specs.Prelude.{◌≡◌, ◌⊎◌, ℕ, zero, suc, ◌+◌, length, Bool, List, [], ◌∷◌, map, Option, Some, None, slice_get, Contains, refl}
 use Rattle.std.specs.List.{flat_map, enumerate_from}
 use Rattle.std.proofs.Common.{arith, ap, sym, ◌∙◌, subst, inl, inr}
-use Rattle.p21_basics.proofs.Members.{Contains-flat_map, Contains-first, Contains-later, Contains-found, AllZip-second_member, at-front}
-use Rattle.p21_schemas.specs.Schema as schema
-use Rattle.p21_schemas.specs.Schema.{Schema, Place, Entity, Attribute, Redeclared, Defined, EntityNamed, attributes_of, attribute_at}
-use Rattle.p21_schemas.specs.Order.{order, own_places}
-use Rattle.p21_schemas.specs.Redeclaration.{IsProperSupertype, IsOwnPlace, IsPlaceOf, RedeclaresPlace, HasNoPlace}
-use Rattle.p21_schemas.specs.WellFormed.{HasDistinctEntities}
-use Rattle.p21_schemas.proofs.Orders.{order_within-self}
+use Rattle.p21_spec_basics.proofs.Members.{Contains-flat_map, Contains-first, Contains-later, Contains-found, AllZip-second_member, at-front}
+use Rattle.p21_spec_schema.specs.Schema as schema
+use Rattle.p21_spec_schema.specs.Schema.{Schema, Place, Entity, Attribute, Redeclared, attributes_of, attribute_at}
+use Rattle.p21_spec_schema.specs.Order.{order, own_places}
+use Rattle.p21_spec_schema.specs.Redeclaration.{IsProperSupertype, IsOwnPlace, IsPlaceOf, RedeclaresPlace, HasNoPlace}
+use Rattle.p21_spec_schema.specs.WellFormed.{HasDistinctEntities}
+use Rattle.p21_spec_schema.proofs.Orders.{order_within-self}
 use Rattle.p21_express_syntax.specs.Digest.{TypeDigest, EntityDigest, SchemaDigest}
 use Rattle.p21_express_syntax.specs.Digesting.{schema_digest}
 use Rattle.p21_express_syntax.proofs.SchemasRead.{one_digest}

@@ -6,8 +6,8 @@ use Rattle.std.specs.List.{AllZip, IsDistinct}
 use Rattle.std.specs.Result.{IsErr, IsErrAnd}
 use Rattle.std.specs.Str.{bytes_eq}
 use Rattle.std.proofs.Common.{ap, sym, ◌∙◌, subst}
-use Rattle.p21_schemas.specs.Schema as pure
-use Rattle.p21_schemas.specs.Schema.{Schema}
+use Rattle.p21_spec_schema.specs.Schema as pure
+use Rattle.p21_spec_schema.specs.Schema.{Schema}
 use Rattle.p21_express_outline.specs.Entities.{EntityFound}
 use Rattle.p21_express_outline.specs.Finding.{RefusalShows}
 use Rattle.p21_express_outline.specs.Known.{names_of}
@@ -22,7 +22,7 @@ use Rattle.p21_express_graph.specs.SchemaContents.{entity, defined}
 use Rattle.p21_express_graph.specs.declared.schema_contents.SchemaContents.{SchemaContents}
 use Rattle.p21_express_graph.specs.declared.schema_contents.Entity.{Entity}
 use Rattle.p21_express_graph.specs.declared.schema_contents.Defined.{Defined}
-use Rattle.p21_express_types.specs.declared.number.EntityId.{EntityId}
+use Rattle.p21_express_graph.specs.declared.number.EntityId.{EntityId}
 
 -- entities without what they redeclare
 pub bare-found : (n : Named) (xs : List EntityDigest) (ys : List pure.Entity) → AllZip (EntityOutline n) xs ys → AllZip (EntityFound n) xs (map bare_entity ys)

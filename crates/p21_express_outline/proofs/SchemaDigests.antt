@@ -5,18 +5,18 @@ use Rattle.std.specs.Str.{bytes_eq}
 use Rattle.std.proofs.Common.{arith, ap, sym, ◌∙◌, subst}
 use Rattle.std.proofs.lemmas.List.{length-map}
 use Rattle.std.proofs.lemmas.Slice.Zip.{AllZip-long}
-use Rattle.p21_basics.proofs.Members.{Each-member, Each-of_members, Each-weaker, Contains-first, Contains-flat_map, AllZip-member}
-use Rattle.p21_schemas.specs.EntityDeclaration as written
-use Rattle.p21_schemas.specs.EntityDeclaration.{EntityDeclaration, ExplicitAttributes, IsEntityDeclaration, AreExplicit}
-use Rattle.p21_schemas.specs.TypeDeclaration.{TypeDeclaration}
-use Rattle.p21_schemas.specs.SchemaDeclaration as declaration
-use Rattle.p21_schemas.specs.SchemaDeclaration.{Declaration, SchemaDeclaration, IsDeclaration, IsSchemaDeclaration, entities_of, types_of}
-use Rattle.p21_schemas.specs.WrittenType.{WrittenType}
-use Rattle.p21_schemas.specs.Schema.{Schema, Entity}
-use Rattle.p21_schemas.specs.Declared.{DeclaresSchema, Declares}
-use Rattle.p21_schemas.specs.DeclaredEntity.{DeclaresEntity, DeclaresAttribute, DeclaresRedeclared, own_names, redeclared_names, own_explicit, redeclared_explicit}
-use Rattle.p21_schemas.specs.DeclaredOneOf.{DeclaresOneOf, all_one_of_names}
-use Rattle.p21_schemas.specs.DefinedType.{DeclaresType}
+use Rattle.p21_spec_basics.proofs.Members.{Each-member, Each-of_members, Each-weaker, Contains-first, Contains-flat_map, AllZip-member}
+use Rattle.p21_spec_schema.specs.EntityDeclaration as written
+use Rattle.p21_spec_schema.specs.EntityDeclaration.{EntityDeclaration, ExplicitAttributes, IsEntityDeclaration, AreExplicit}
+use Rattle.p21_spec_schema.specs.TypeDeclaration.{TypeDeclaration}
+use Rattle.p21_spec_schema.specs.SchemaDeclaration as declaration
+use Rattle.p21_spec_schema.specs.SchemaDeclaration.{Declaration, SchemaDeclaration, IsDeclaration, IsSchemaDeclaration, entities_of, types_of}
+use Rattle.p21_spec_schema.specs.WrittenType.{WrittenType}
+use Rattle.p21_spec_schema.specs.Schema.{Schema, Entity}
+use Rattle.p21_spec_schema.specs.Declared.{DeclaresSchema, Declares}
+use Rattle.p21_spec_schema.specs.DeclaredEntity.{DeclaresEntity, DeclaresAttribute, DeclaresRedeclared, own_names, redeclared_names, own_explicit, redeclared_explicit}
+use Rattle.p21_spec_schema.specs.DeclaredOneOf.{DeclaresOneOf, all_one_of_names}
+use Rattle.p21_spec_schema.specs.DefinedType.{DeclaresType}
 use Rattle.p21_express_syntax.specs.Digesting.{entity_digest, defined_type_digest, schema_digest}
 use Rattle.p21_express_syntax.specs.ReadDeclarations.{IsTextOf}
 use Rattle.p21_express_syntax.specs.Within.{HasNumbers, AreAttributesWithin, IsEntityWithin, IsDefinedWithin, IsSchemaWithin}

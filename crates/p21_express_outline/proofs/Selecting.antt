@@ -3,19 +3,19 @@ use Rattle.std.specs.Prelude.{◌≡◌, ◌↔◌, ℕ, suc, ◌<◌, ◌≤◌
 use Rattle.std.specs.Option.{option_map}
 use Rattle.std.proofs.Common.{arith, ap, sym, ◌∙◌, subst, get_or}
 use Rattle.std.proofs.lemmas.Option.{slice_get-get_or, slice_get-map, slice_get_within, get_or_from_slice_get}
-use Rattle.p21_basics.proofs.Members.{Contains-at}
-use Rattle.p21_schemas.specs.Schema as schema
-use Rattle.p21_schemas.specs.Schema.{Kind, Defined, kind_of}
-use Rattle.p21_schemas.specs.Declared.{Renames}
-use Rattle.p21_schemas.specs.Select.{IsSelect}
+use Rattle.p21_spec_basics.proofs.Members.{Contains-at}
+use Rattle.p21_spec_schema.specs.Schema as schema
+use Rattle.p21_spec_schema.specs.Schema.{Kind, Defined, kind_of}
+use Rattle.p21_spec_schema.specs.Declared.{Renames}
+use Rattle.p21_spec_schema.specs.Select.{IsSelect}
 use Rattle.p21_express_outline.proofs.Settling.{kind-renamed}
 use Rattle.p21_express_outline.proofs.Zips.{at-mapped, mapped-at}
 use Rattle.p21_express_graph.specs.SchemaContents.{schema_of, defined}
 use Rattle.p21_express_graph.specs.declared.schema_contents.Defined.{Defined as Declared}
 use Rattle.p21_express_graph.specs.declared.schema_contents.SchemaContents.{SchemaContents}
-use Rattle.p21_express_types.specs.Meaning.{kind, member}
-use Rattle.p21_express_types.specs.declared.kind.Member.{Member}
-use Rattle.p21_express_types.specs.declared.kind.TypeKind.TheVariants.{Choice}
+use Rattle.p21_express_graph.specs.Meaning.{kind, member}
+use Rattle.p21_express_graph.specs.declared.kind.Member.{Member}
+use Rattle.p21_express_graph.specs.declared.kind.TypeKind.TheVariants.{Choice}
 use Rattle.p21_express_graph.specs.DirectRenaming.{direct_renaming}
 use Rattle.p21_express_graph.proofs.Ends.{in-renamed}
 

@@ -5,18 +5,18 @@ use Rattle.std.proofs.Common.{arith, ap, sym, ◌∙◌, subst, inl, inr}
 use Rattle.std.proofs.lemmas.Bool.{cases_eq, eq-eqb, ne_eqb}
 use Rattle.std.proofs.lemmas.List.{length-map}
 use Rattle.std.proofs.lemmas.Option.{slice_get-map, slice_get_within}
-use Rattle.p21_basics.proofs.Members.{Contains-none, Contains-first, Contains-cases}
-use Rattle.p21_schemas.specs.Schema as schema
-use Rattle.p21_schemas.specs.Schema.{Schema, Kind, Defined}
-use Rattle.p21_schemas.specs.Declared.{HasNoCircle, HasSupertype, Renames}
-use Rattle.p21_schemas.specs.WellFormed.{AreEntities}
+use Rattle.p21_spec_basics.proofs.Members.{Contains-none, Contains-first, Contains-cases}
+use Rattle.p21_spec_schema.specs.Schema as schema
+use Rattle.p21_spec_schema.specs.Schema.{Schema, Kind, Defined}
+use Rattle.p21_spec_schema.specs.Declared.{HasNoCircle, HasSupertype, Renames}
+use Rattle.p21_spec_schema.specs.WellFormed.{AreEntities}
 use Rattle.p21_express_outline.specs.Chains.{AreTypes}
 use Rattle.p21_express_outline.specs.Finding.{DecidesClaim}
 use Rattle.p21_express_outline.specs.declared.fault.SchemaFault.{SchemaFault}
 use Rattle.p21_express_outline.proofs.Zips.{map-twice}
 use Rattle.p21_express_graph.specs.SchemaContents.{defined}
 use Rattle.p21_express_graph.specs.declared.schema_contents.Defined.{Defined as Declared}
-use Rattle.p21_express_types.specs.Meaning.{kind}
+use Rattle.p21_express_graph.specs.Meaning.{kind}
 use Rattle.p21_express_graph.specs.Orders.{supertype_lists}
 use Rattle.p21_express_graph.specs.SettledOrder.{IsNext, IsSettledOrder, AreWithin}
 use Rattle.p21_express_graph.proofs.OrderTables.{supertypes-listed, no-circle}

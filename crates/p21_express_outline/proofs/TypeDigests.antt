@@ -1,12 +1,12 @@
 -- A type that is written, and what is kept of it.
 use Rattle.std.specs.Prelude.{◌≡◌, ℕ, Option, Some, None, refl}
 use Rattle.std.proofs.Common.{ap, sym, ◌∙◌, subst, inl, inr}
-use Rattle.p21_basics.specs.Digits.{number}
-use Rattle.p21_schemas.specs.WrittenType as written
-use Rattle.p21_schemas.specs.WrittenType.{WrittenType, integer_type, real_type, number_type, boolean_type, logical_type, string_type, binary_type, named_type, array_type, list_type, set_type, bag_type, Bounds, UpperBound, bounded, unbounded}
-use Rattle.p21_schemas.specs.Schema as schema
-use Rattle.p21_schemas.specs.Schema.{Schema, TypeUse}
-use Rattle.p21_schemas.specs.DeclaredType.{DenotesType, is_integer, is_real, is_number, is_boolean, is_logical, is_string, is_binary, is_entity, is_defined, is_array, is_list, is_set, is_bag, DenotesWidth, DenotesBounds, DenotesUpperBound}
+use Rattle.p21_spec_basics.specs.Digits.{number}
+use Rattle.p21_spec_schema.specs.WrittenType as written
+use Rattle.p21_spec_schema.specs.WrittenType.{WrittenType, integer_type, real_type, number_type, boolean_type, logical_type, string_type, binary_type, named_type, array_type, list_type, set_type, bag_type, Bounds, UpperBound, bounded, unbounded}
+use Rattle.p21_spec_schema.specs.Schema as schema
+use Rattle.p21_spec_schema.specs.Schema.{Schema, TypeUse}
+use Rattle.p21_spec_schema.specs.DeclaredType.{DenotesType, is_integer, is_real, is_number, is_boolean, is_logical, is_string, is_binary, is_entity, is_defined, is_array, is_list, is_set, is_bag, DenotesWidth, DenotesBounds, DenotesUpperBound}
 use Rattle.p21_express_syntax.specs.Digest.{TypeDigest}
 use Rattle.p21_express_syntax.specs.Digesting.{type_digest, width_digest, high_digest, range_digest, array_high}
 use Rattle.p21_express_syntax.specs.Within.{HasNumbers}

@@ -3,7 +3,7 @@ use Rattle.std.specs.Prelude.{◌≡◌, ℕ, zero, suc, ◌+◌, List, [], ◌�
 use Rattle.std.specs.List.{AllZip, enumerate_from, flat_map, AllByRecursion as Each}
 use Rattle.std.proofs.Common.{ap, sym, ◌∙◌}
 use Rattle.std.proofs.lemmas.List.{map-append}
-use Rattle.p21_basics.proofs.Members.{Contains-first, Contains-later}
+use Rattle.p21_spec_basics.proofs.Members.{Contains-first, Contains-later}
 
 pub AllZip-weaker : {X Y : Type 0} (P Q : X → Y → Type 0) → (xs : List X) (ys : List Y) → ((x : X) (y : Y) → Contains xs x → Contains ys y → P x y → Q x y) → AllZip P xs ys → AllZip Q xs ys
 AllZip-weaker P Q [] [] weaker all = tt

@@ -1,6 +1,6 @@
 -- A schema without its redeclarations.
 use Rattle.std.specs.Prelude.{[], map}
-use Rattle.p21_schemas.specs.Schema.{Schema, Entity}
+use Rattle.p21_spec_schema.specs.Schema.{Schema, Entity}
 
 abbrev pub bare_entity : Entity → Entity
 bare_entity x = record { name = x.name; is_abstract = x.is_abstract; supertypes = x.supertypes; attributes = x.attributes; redeclared = []; derived = [] }

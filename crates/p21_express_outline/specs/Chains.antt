@@ -1,8 +1,8 @@
 -- The numbers to which types lead.
 use Rattle.std.specs.Prelude.{◌≡◌, ℕ, ◌<◌, List, Some, length, Contains}
-use Rattle.p21_schemas.specs.Schema as schema
-use Rattle.p21_schemas.specs.Schema.{Schema, Member, kind_of}
-use Rattle.p21_schemas.specs.Declared.{Renames}
+use Rattle.p21_spec_schema.specs.Schema as schema
+use Rattle.p21_spec_schema.specs.Schema.{Schema, Member, kind_of}
+use Rattle.p21_spec_schema.specs.Declared.{Renames}
 
 -- each of them is a type of the schema
 abbrev pub AreTypes : Schema → Type 0

@@ -1,9 +1,9 @@
 -- The schema that kept declarations declare: all that a schema declaration says of it.
 use Rattle.std.specs.Prelude.{◌≡◌, ℕ, List}
 use Rattle.std.specs.List.{AllZip, enumerate_from}
-use Rattle.p21_schemas.specs.Schema.{Schema}
-use Rattle.p21_schemas.specs.Select.{IsSelect}
-use Rattle.p21_schemas.specs.Declared.{HasNoCircle, HasSupertype, Renames, HasSelect, Declares}
+use Rattle.p21_spec_schema.specs.Schema.{Schema}
+use Rattle.p21_spec_schema.specs.Select.{IsSelect}
+use Rattle.p21_spec_schema.specs.Declared.{HasNoCircle, HasSupertype, Renames, HasSelect, Declares}
 use Rattle.p21_express_syntax.specs.Digest.{SchemaDigest}
 use Rattle.p21_express_outline.specs.Outline.{IsOutline, digest_names}
 use Rattle.p21_express_outline.specs.Redeclarations.{RedeclarationsAre}

@@ -2,7 +2,7 @@
 use Rattle.std.specs.Prelude.{◌≡◌, ℕ, ◌+◌, ◌≤◌, List, ◌++◌, length, Contains, Result, Ok, Err}
 use Rattle.std.specs.List.{IsDistinct, AllByRecursion as Each}
 use Rattle.std.specs.Str.{bytes_eq}
-use Rattle.p21_schemas.specs.Declared.{most_declarations}
+use Rattle.p21_spec_schema.specs.Declared.{most_declarations}
 use Rattle.p21_express_outline.specs.Finding.{RefusalShows}
 use Rattle.p21_express_outline.specs.declared.fault.SchemaFault.{SchemaFault}
 use Rattle.p21_express_outline.specs.declared.names.KnownNames.{KnownNames}

@@ -1,10 +1,10 @@
 -- What kept declarations redeclare, in a schema whose order and places are known.
 use Rattle.std.specs.Prelude.{◌≡◌, ℕ, Bool, List, [], ◌∷◌, ◌++◌, map, Some, slice_get, Contains}
 use Rattle.std.specs.List.{AllZip, IsDistinct}
-use Rattle.p21_schemas.specs.Schema.{Schema, Place, Redeclared, Entity}
-use Rattle.p21_schemas.specs.Supertype.{IsA}
-use Rattle.p21_schemas.specs.Redeclaration.{IsProperSupertype, RedeclaresPlace, HasNoPlace}
-use Rattle.p21_schemas.specs.DeclaredEntity.{same_place}
+use Rattle.p21_spec_schema.specs.Schema.{Schema, Place, Redeclared, Entity}
+use Rattle.p21_spec_schema.specs.Supertype.{IsA}
+use Rattle.p21_spec_schema.specs.Redeclaration.{IsProperSupertype, RedeclaresPlace, HasNoPlace}
+use Rattle.p21_spec_schema.specs.DeclaredEntity.{same_place}
 use Rattle.p21_express_syntax.specs.Digest.{TypeDigest, EntityDigest}
 use Rattle.p21_express_outline.specs.Outline.{Named, DigestTypeIs, digest_own_names, digest_redeclared_names, digest_redeclared_explicit}
 

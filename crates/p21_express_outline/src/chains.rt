@@ -1,5 +1,5 @@
 ghost use Rattle.std.specs.Prelude.{◌<◌, ◌^◌, length};
-ghost use Rattle.p21_schemas.specs.Declared.{HasNoCircle};
+ghost use Rattle.p21_spec_schema.specs.Declared.{HasNoCircle};
 ghost use Rattle.p21_express_outline.specs.Finding.{DecidesClaim};
 ghost use Rattle.p21_express_graph.specs.SettledOrder.{AreWithin, IsNext, lists_of};
 

@@ -4,15 +4,14 @@ ghost use Rattle.p21_express_outline.specs.Known.{AreDifferent, AreFew, names_of
 ghost use Rattle.p21_express_outline.specs.Outline.{IsNoEntity, DigestKindIs, TypeOutline};
 ghost use Rattle.p21_express_syntax.specs.Views.{body_view, defined_view};
 ghost use Rattle.p21_express_graph.specs.SchemaContents.{defined as defined_of};
-ghost use Rattle.p21_express_types.specs.Meaning.{kind, type_use};
+ghost use Rattle.p21_express_graph.specs.Meaning.{kind, type_use};
 
 use crate::fault::SchemaFault;
 use crate::lists::{copied, members_named};
 use crate::names::{KnownNames, check_distinct};
 use crate::types::resolve_type;
-use p21_express_graph::Defined;
+use p21_express_graph::{Defined, Members, TypeKind, TypeUse, Words};
 use p21_express_syntax::{Body, DefinedType};
-use p21_express_types::{Members, TypeKind, TypeUse, Words};
 use p21_values::{NoMemory, Word};
 use std::alloc::Global;
 

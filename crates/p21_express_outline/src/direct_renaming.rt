@@ -1,16 +1,15 @@
 ghost use Rattle.std.specs.Prelude.{◌≡◌, ◌≤◌, IfOk, length, map};
-ghost use Rattle.p21_schemas.specs.Declared.{HasNoCircle, Renames, most_declarations};
+ghost use Rattle.p21_spec_schema.specs.Declared.{HasNoCircle, Renames, most_declarations};
 ghost use Rattle.p21_express_outline.specs.Chains.{AreTypes};
 ghost use Rattle.p21_express_graph.specs.DirectRenaming.{direct_renaming, renamed_by};
 ghost use Rattle.p21_express_outline.specs.Finding.{DecidesClaim};
 ghost use Rattle.p21_express_graph.specs.SchemaContents.{schema_of};
 ghost use Rattle.p21_express_graph.specs.SettledOrder.{lists_of};
-ghost use Rattle.p21_express_types.specs.Meaning.{kind as kind_of, type_use};
+ghost use Rattle.p21_express_graph.specs.Meaning.{kind as kind_of, type_use};
 
 use crate::chains::check_ends;
 use crate::fault::SchemaFault;
-use p21_express_graph::{Defined, SchemaContents};
-use p21_express_types::{TypeKind, TypeUse};
+use p21_express_graph::{Defined, SchemaContents, TypeKind, TypeUse};
 use p21_values::NoMemory;
 use std::alloc::Global;
 

@@ -2,11 +2,11 @@ ghost use Rattle.std.specs.Prelude.{◌≡◌, IfOk};
 ghost use Rattle.p21_express_outline.specs.Finding.{Finds, FindsEach};
 ghost use Rattle.p21_express_outline.specs.Known.{AreFew, names_of};
 ghost use Rattle.p21_express_outline.specs.Outline.{IsNamed, MemberIs};
-ghost use Rattle.p21_express_types.specs.Meaning.{member};
+ghost use Rattle.p21_express_graph.specs.Meaning.{member};
 
 use crate::fault::SchemaFault;
 use crate::names::KnownNames;
-use p21_express_types::{EntityId, Member, TypeId};
+use p21_express_graph::{EntityId, Member, TypeId};
 use p21_values::{NoMemory, Word};
 use std::alloc::Global;
 

@@ -4,16 +4,15 @@ ghost use Rattle.p21_express_outline.specs.Known.{AreFew, names_of};
 ghost use Rattle.p21_express_outline.specs.Outlined.{OutlineFound, list_of};
 ghost use Rattle.p21_express_outline.specs.Outline.{DigestOneOfIs, digest_one_of_lists, one_of_list};
 ghost use Rattle.p21_express_syntax.specs.Views.{entity_view, schema_view, some_list};
-ghost use Rattle.p21_schemas.specs.Declared.{most_declarations};
+ghost use Rattle.p21_spec_schema.specs.Declared.{most_declarations};
 
 use crate::defined::resolve_types;
 use crate::entity::resolve_entities;
 use crate::fault::SchemaFault;
 use crate::lists::{copied, entities_named};
 use crate::names::{KnownNames, check_distinct, known_names};
-use p21_express_graph::SchemaContents;
+use p21_express_graph::{EntityId, SchemaContents};
 use p21_express_syntax::{Declarations, Entity};
-use p21_express_types::EntityId;
 use p21_values::Word;
 use std::alloc::Global;
 

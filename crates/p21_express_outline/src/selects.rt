@@ -1,14 +1,13 @@
 ghost use Rattle.std.specs.Prelude.{◌↔◌, ◌≤◌, ℕ, IsTrue, Contains, length};
-ghost use Rattle.p21_schemas.specs.Declared.{most_declarations};
-ghost use Rattle.p21_schemas.specs.Select.{IsSelect};
+ghost use Rattle.p21_spec_schema.specs.Declared.{most_declarations};
+ghost use Rattle.p21_spec_schema.specs.Select.{IsSelect};
 ghost use Rattle.p21_express_outline.specs.Finding.{DecidesClaim};
 ghost use Rattle.p21_express_outline.specs.DeclaredBy.{RenamesNoSelect};
 ghost use Rattle.p21_express_graph.specs.SchemaContents.{schema_of};
 
 use crate::direct_renaming::renamed_of;
 use crate::fault::SchemaFault;
-use p21_express_graph::{Defined, SchemaContents};
-use p21_express_types::TypeKind;
+use p21_express_graph::{Defined, SchemaContents, TypeKind};
 use std::alloc::Global;
 
 /// Whether a type is a select.

@@ -1,6 +1,6 @@
 ghost use Rattle.std.specs.Prelude.{◌≡◌, ◌≤◌, IfOk, length, map};
-ghost use Rattle.p21_schemas.specs.Declared.{HasNoCircle, HasSupertype, most_declarations};
-ghost use Rattle.p21_schemas.specs.WellFormed.{AreEntities};
+ghost use Rattle.p21_spec_schema.specs.Declared.{HasNoCircle, HasSupertype, most_declarations};
+ghost use Rattle.p21_spec_schema.specs.WellFormed.{AreEntities};
 ghost use Rattle.p21_express_outline.specs.Finding.{DecidesClaim};
 ghost use Rattle.p21_express_graph.specs.Orders.{numbers};
 ghost use Rattle.p21_express_graph.specs.SchemaContents.{schema_of};
@@ -8,8 +8,7 @@ ghost use Rattle.p21_express_graph.specs.SettledOrder.{lists_of};
 
 use crate::chains::check_ends;
 use crate::fault::SchemaFault;
-use p21_express_graph::{Entity, SchemaContents};
-use p21_express_types::EntityId;
+use p21_express_graph::{Entity, EntityId, SchemaContents};
 use p21_values::NoMemory;
 use std::alloc::Global;
 

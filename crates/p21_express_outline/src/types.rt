@@ -4,12 +4,12 @@ ghost use Rattle.p21_express_outline.specs.Known.{AreFew, names_of};
 ghost use Rattle.p21_express_outline.specs.Outline.{SimpleIs, DigestTypeIs, aggregate_of, aggregates_of, width_of};
 ghost use Rattle.p21_express_syntax.specs.Views.{type_view};
 ghost use Rattle.p21_express_syntax.specs.declared.types.SimpleType.TheVariants as simple;
-ghost use Rattle.p21_express_types.specs.Meaning.{type_use, width_option};
+ghost use Rattle.p21_express_graph.specs.Meaning.{type_use, width_option};
 
 use crate::fault::SchemaFault;
 use crate::names::KnownNames;
+use p21_express_graph::{EntityId, TypeId, TypeUse, Width};
 use p21_express_syntax::{Aggregate, DataType, SimpleType, Width as WrittenWidth};
-use p21_express_types::{EntityId, TypeId, TypeUse, Width};
 use p21_values::NoMemory;
 use std::alloc::Global;
 

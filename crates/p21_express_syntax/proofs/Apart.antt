@@ -4,8 +4,8 @@ use Rattle.p21_express_lexemes.specs.Taking.{Items}
 use Rattle.p21_express_syntax.specs.Declaring.{has_nothing_left}
 use Rattle.std.specs.Str.{bytes_eq}
 use Rattle.std.proofs.lemmas.Slice.Eq.{bytes_eq-Decides}
-use Rattle.p21_schemas.specs.Express.{identifier, digits, simple_string, encoded_string, symbol}
-use Rattle.p21_schemas.specs.Run.{is_word}
+use Rattle.p21_spec_schema.specs.Express.{identifier, digits, simple_string, encoded_string, symbol}
+use Rattle.p21_spec_schema.specs.Run.{is_word}
 use Rattle.p21_express_lexemes.specs.Runs.{AreApart}
 
 words_apart : (v w : List ℕ) → bytes_eq w v ≡ false → AreApart (is_word v) (is_word w)

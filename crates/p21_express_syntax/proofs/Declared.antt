@@ -1,15 +1,15 @@
 -- Declarations that were read are written so.
 use Rattle.std.proofs.Common.{◌≡◌, ℕ, Bool, true, false, List, [], ◌∷◌, ◌++◌, map, codes, Option, Some, None, IfSome, refl, ap, sym, ◌∙◌, lit<}
 use Rattle.std.specs.List.{Contains, flat_map, AllByRecursion as Each}
-use Rattle.p21_schemas.specs.Express.{Lexeme, identifier, symbol}
-use Rattle.p21_schemas.specs.ReservedWord.{AreNames}
-use Rattle.p21_schemas.specs.Run.{IsRun, is_word, is_symbol, none}
-use Rattle.p21_schemas.specs.WrittenType.{word, symbols}
-use Rattle.p21_schemas.specs.Separated.{names_lexemes}
-use Rattle.p21_schemas.specs.SupertypeConstraint.{SupertypeExpression, one_of, other_run, SupertypeConstraint, no_constraint, abstract_entity, abstract_supertype, abstract_supertype_of, supertype_of, one_of_lexemes, expression_lexemes, supertype_of_lexemes, constraint_lexemes, IsOneOf, IsExpression, IsConstraint}
-use Rattle.p21_schemas.specs.EntityDeclaration.{ExplicitAttributes, DerivedAttribute, Rules, EntityDeclaration, explicit_lexemes, derived_lexemes, subtype_lexemes, derive_lexemes, rules_lexemes, entity_lexemes, AreExplicit, IsDerived, AreRules, IsEntityDeclaration}
-use Rattle.p21_schemas.specs.TypeDeclaration as type_declaration
-use Rattle.p21_schemas.specs.TypeDeclaration.{TypeDeclaration, body_lexemes, where_lexemes, type_declaration_lexemes, IsBody, IsTypeDeclaration}
+use Rattle.p21_spec_schema.specs.Express.{Lexeme, identifier, symbol}
+use Rattle.p21_spec_schema.specs.ReservedWord.{AreNames}
+use Rattle.p21_spec_schema.specs.Run.{IsRun, is_word, is_symbol, none}
+use Rattle.p21_spec_schema.specs.WrittenType.{word, symbols}
+use Rattle.p21_spec_schema.specs.Separated.{names_lexemes}
+use Rattle.p21_spec_schema.specs.SupertypeConstraint.{SupertypeExpression, one_of, other_run, SupertypeConstraint, no_constraint, abstract_entity, abstract_supertype, abstract_supertype_of, supertype_of, one_of_lexemes, expression_lexemes, supertype_of_lexemes, constraint_lexemes, IsOneOf, IsExpression, IsConstraint}
+use Rattle.p21_spec_schema.specs.EntityDeclaration.{ExplicitAttributes, DerivedAttribute, Rules, EntityDeclaration, explicit_lexemes, derived_lexemes, subtype_lexemes, derive_lexemes, rules_lexemes, entity_lexemes, AreExplicit, IsDerived, AreRules, IsEntityDeclaration}
+use Rattle.p21_spec_schema.specs.TypeDeclaration as type_declaration
+use Rattle.p21_spec_schema.specs.TypeDeclaration.{TypeDeclaration, body_lexemes, where_lexemes, type_declaration_lexemes, IsBody, IsTypeDeclaration}
 use Rattle.p21_express_lexemes.specs.Runs.{behind_run}
 use Rattle.p21_express_lexemes.specs.Taking.{Items, put, take_symbol, take_word, take_name}
 use Rattle.p21_express_lexemes.proofs.Put.{put-append}
@@ -26,7 +26,7 @@ use Rattle.p21_express_syntax.proofs.ListsRead.{names_read}
 use Rattle.p21_express_syntax.proofs.Repeated.{many_is}
 use Rattle.p21_express_syntax.proofs.Sounding.{OfSome, of_some, of_bind, of_choose, some_of, symbol_taken, word_taken, name_taken, Written}
 use Rattle.p21_express_syntax.proofs.TypesSound.{over, type_is}
-use Rattle.p21_schemas.specs.DeclaredEntity.{names_of as names_written}
+use Rattle.p21_spec_schema.specs.DeclaredEntity.{names_of as names_written}
 
 -- ---- supertype constraints
 

@@ -1,15 +1,15 @@
 -- Declarations are read where they are written.
 use Rattle.std.proofs.Common.{◌≡◌, ℕ, zero, suc, List, [], ◌∷◌, ◌++◌, length, length-append, codes, Option, Some, None, IfSome, refl, ap, sym, subst, ◌∙◌, lit<, arith}
 use Rattle.std.specs.List.{Contains, flat_map, AllByRecursion as Each}
-use Rattle.p21_schemas.specs.Express.{Lexeme, identifier, symbol}
-use Rattle.p21_schemas.specs.ReservedWord.{IsName, AreNames}
-use Rattle.p21_schemas.specs.Run.{IsRun, is_word, is_symbol, none}
-use Rattle.p21_schemas.specs.WrittenType.{WrittenType, integer_type, real_type, number_type, boolean_type, logical_type, string_type, binary_type, named_type, array_type, list_type, set_type, bag_type, type_lexemes, IsWrittenType}
-use Rattle.p21_schemas.specs.SupertypeConstraint.{SupertypeExpression, one_of, other_run, SupertypeConstraint, no_constraint, abstract_entity, abstract_supertype, abstract_supertype_of, supertype_of, one_of_lexemes, expression_lexemes, constraint_lexemes, IsExpression, IsConstraint}
-use Rattle.p21_schemas.specs.EntityDeclaration.{ExplicitAttributes, DerivedAttribute, Rules, EntityDeclaration, explicit_lexemes, derived_lexemes, subtype_lexemes, derive_lexemes, rules_lexemes, entity_lexemes, AreExplicit, IsDerived, AreRules}
-use Rattle.p21_schemas.specs.TypeDeclaration as type_declaration
-use Rattle.p21_schemas.specs.TypeDeclaration.{TypeDeclaration, body_lexemes, where_lexemes, type_declaration_lexemes, IsBody, IsTypeDeclaration}
-use Rattle.p21_schemas.proofs.OneOfReadings.{expression-is_run}
+use Rattle.p21_spec_schema.specs.Express.{Lexeme, identifier, symbol}
+use Rattle.p21_spec_schema.specs.ReservedWord.{IsName, AreNames}
+use Rattle.p21_spec_schema.specs.Run.{IsRun, is_word, is_symbol, none}
+use Rattle.p21_spec_schema.specs.WrittenType.{WrittenType, integer_type, real_type, number_type, boolean_type, logical_type, string_type, binary_type, named_type, array_type, list_type, set_type, bag_type, type_lexemes, IsWrittenType}
+use Rattle.p21_spec_schema.specs.SupertypeConstraint.{SupertypeExpression, one_of, other_run, SupertypeConstraint, no_constraint, abstract_entity, abstract_supertype, abstract_supertype_of, supertype_of, one_of_lexemes, expression_lexemes, constraint_lexemes, IsExpression, IsConstraint}
+use Rattle.p21_spec_schema.specs.EntityDeclaration.{ExplicitAttributes, DerivedAttribute, Rules, EntityDeclaration, explicit_lexemes, derived_lexemes, subtype_lexemes, derive_lexemes, rules_lexemes, entity_lexemes, AreExplicit, IsDerived, AreRules}
+use Rattle.p21_spec_schema.specs.TypeDeclaration as type_declaration
+use Rattle.p21_spec_schema.specs.TypeDeclaration.{TypeDeclaration, body_lexemes, where_lexemes, type_declaration_lexemes, IsBody}
+use Rattle.p21_spec_schema.proofs.OneOfReadings.{expression-is_run}
 use Rattle.p21_express_lexemes.specs.Words.{is_reserved}
 use Rattle.p21_express_lexemes.specs.Runs.{behind_run}
 use Rattle.p21_express_lexemes.specs.Taking.{Items, put, take_symbol, take_word, take_name}
@@ -26,8 +26,8 @@ use Rattle.p21_express_syntax.proofs.Repeated.{many_read}
 use Rattle.p21_express_syntax.proofs.Sounding.{of_some, name_read, name_apart}
 use Rattle.p21_express_syntax.proofs.TypesRead.{type_read}
 use Rattle.p21_express_syntax.proofs.TypesSound.{over}
-use Rattle.p21_schemas.specs.DeclaredEntity.{names_of}
-use Rattle.p21_basics.proofs.Members.{some_pair_is}
+use Rattle.p21_spec_schema.specs.DeclaredEntity.{names_of}
+use Rattle.p21_spec_basics.proofs.Members.{some_pair_is}
 
 -- ---- supertype constraints
 

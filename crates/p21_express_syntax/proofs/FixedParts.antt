@@ -1,12 +1,12 @@
 -- Parts of declarations, each fixed by its lexemes: what stands there is compared part by part, from the front.
 use Rattle.std.proofs.Common.{◌≡◌, ℕ, Bool, true, false, List, [], ◌∷◌, ◌++◌, codes, Option, Some, None, IfSome, refl, ap, sym, subst, ◌∙◌, lit<, arith}
 use Rattle.std.specs.List.{Contains, flat_map, AllByRecursion as Each}
-use Rattle.p21_schemas.specs.Express.{Lexeme, identifier, symbol}
-use Rattle.p21_schemas.specs.ReservedWord.{reserved_words, IsName, AreNames}
-use Rattle.p21_schemas.specs.Run.{IsRun, is_symbol, none}
-use Rattle.p21_schemas.specs.WrittenType.{WrittenType, optional_word}
-use Rattle.p21_schemas.specs.SupertypeConstraint.{SupertypeExpression, one_of, other_run, SupertypeConstraint, no_constraint, abstract_entity, abstract_supertype, abstract_supertype_of, supertype_of, expression_lexemes, constraint_lexemes, IsExpression, IsConstraint}
-use Rattle.p21_schemas.specs.EntityDeclaration.{AttributeName, own, redeclared, ExplicitAttributes, DerivedAttribute, attribute_lexemes, explicit_lexemes, derived_lexemes, subtype_lexemes, IsAttributeName, AreExplicit, IsDerived}
+use Rattle.p21_spec_schema.specs.Express.{Lexeme, identifier, symbol}
+use Rattle.p21_spec_schema.specs.ReservedWord.{reserved_words, IsName, AreNames}
+use Rattle.p21_spec_schema.specs.Run.{IsRun, is_symbol, none}
+use Rattle.p21_spec_schema.specs.WrittenType.{WrittenType, optional_word}
+use Rattle.p21_spec_schema.specs.SupertypeConstraint.{SupertypeExpression, one_of, other_run, SupertypeConstraint, no_constraint, abstract_entity, abstract_supertype, abstract_supertype_of, supertype_of, expression_lexemes, constraint_lexemes, IsExpression, IsConstraint}
+use Rattle.p21_spec_schema.specs.EntityDeclaration.{AttributeName, own, redeclared, ExplicitAttributes, DerivedAttribute, attribute_lexemes, explicit_lexemes, derived_lexemes, subtype_lexemes, IsAttributeName, AreExplicit, IsDerived}
 use Rattle.p21_express_lexemes.specs.Runs.{AreApart, run_of}
 use Rattle.p21_express_lexemes.specs.Taking.{Items, put, take_symbol, take_word, take_name}
 use Rattle.p21_express_lexemes.proofs.Put.{put-append}
@@ -21,7 +21,7 @@ use Rattle.p21_express_syntax.proofs.Sounding.{name_read, name_apart}
 use Rattle.p21_express_syntax.proofs.TypesRead.{type_first}
 use Rattle.p21_express_syntax.proofs.TypesSound.{over}
 use Rattle.p21_express_syntax.proofs.TypeTrees.{one_type}
-use Rattle.p21_basics.proofs.Members.{some_pair_is}
+use Rattle.p21_spec_basics.proofs.Members.{some_pair_is}
 
 -- ---- what stands first
 

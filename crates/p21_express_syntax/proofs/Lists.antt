@@ -3,13 +3,13 @@ use Rattle.std.proofs.Common.{◌≡◌, ℕ, ◌<◌, Bool, true, List, [], ◌
 use Rattle.std.specs.List.{flat_map, AllByRecursion as Each}
 use Rattle.std.proofs.lemmas.Bool.{eqb-true}
 use Rattle.std.proofs.lemmas.Slice.Eq.{bytes_eq-Decides}
-use Rattle.p21_schemas.specs.Express.{Lexeme, identifier, digits, simple_string, encoded_string, symbol}
-use Rattle.p21_schemas.specs.ReservedWord.{IsName, AreNames}
-use Rattle.p21_schemas.specs.WrittenType.{WrittenType, word, symbols, optional_word, type_lexemes}
-use Rattle.p21_schemas.specs.Separated.{comma_separated, names_lexemes}
-use Rattle.p21_schemas.specs.EntityDeclaration as written
-use Rattle.p21_schemas.specs.EntityDeclaration.{own, redeclared, attribute_lexemes, IsAttributeName, ExplicitAttributes, explicit_lexemes, AreExplicit, DerivedAttribute, derived_lexemes, IsDerived}
-use Rattle.p21_schemas.specs.Run.{IsRun, is_word, is_symbol, none}
+use Rattle.p21_spec_schema.specs.Express.{Lexeme, identifier, digits, simple_string, encoded_string, symbol}
+use Rattle.p21_spec_schema.specs.ReservedWord.{IsName, AreNames}
+use Rattle.p21_spec_schema.specs.WrittenType.{WrittenType, word, symbols, optional_word, type_lexemes}
+use Rattle.p21_spec_schema.specs.Separated.{comma_separated, names_lexemes}
+use Rattle.p21_spec_schema.specs.EntityDeclaration as written
+use Rattle.p21_spec_schema.specs.EntityDeclaration.{own, redeclared, attribute_lexemes, IsAttributeName, ExplicitAttributes, explicit_lexemes, AreExplicit, derived_lexemes, IsDerived}
+use Rattle.p21_spec_schema.specs.Run.{IsRun, is_word, is_symbol, none}
 use Rattle.p21_express_lexemes.specs.Runs.{AreApart, behind_run, run_of, left_of}
 use Rattle.p21_express_lexemes.specs.Taking.{Items, put, take_symbol, take_word, take_name}
 use Rattle.p21_express_lexemes.proofs.Put.{put-append}

@@ -1,15 +1,15 @@
 -- Lists of names and of attributes are read where they are written.
 use Rattle.std.proofs.Common.{◌≡◌, ℕ, Bool, true, false, List, [], ◌∷◌, map, codes, Option, Some, None, refl, ap, ◌∙◌, lit<, arith}
 use Rattle.std.specs.List.{flat_map, AllByRecursion as Each}
-use Rattle.p21_schemas.specs.Express.{Lexeme, identifier, symbol}
-use Rattle.p21_schemas.specs.ReservedWord.{IsName, AreNames}
-use Rattle.p21_schemas.specs.WrittenType.{word}
-use Rattle.p21_schemas.specs.Separated.{names_lexemes}
+use Rattle.p21_spec_schema.specs.Express.{Lexeme, identifier, symbol}
+use Rattle.p21_spec_schema.specs.ReservedWord.{IsName, AreNames}
+use Rattle.p21_spec_schema.specs.WrittenType.{word}
+use Rattle.p21_spec_schema.specs.Separated.{names_lexemes}
 use Rattle.p21_express_lexemes.specs.Taking.{Items, put, take_symbol, take_word, take_name}
-use Rattle.p21_schemas.specs.Run.{IsRun, is_symbol, none}
-use Rattle.p21_schemas.specs.WrittenType.{WrittenType, optional_word, type_lexemes}
-use Rattle.p21_schemas.specs.EntityDeclaration as written
-use Rattle.p21_schemas.specs.EntityDeclaration.{own, redeclared, attribute_lexemes, IsAttributeName, ExplicitAttributes, explicit_lexemes, AreExplicit, DerivedAttribute, derived_lexemes, IsDerived}
+use Rattle.p21_spec_schema.specs.Run.{IsRun, is_symbol, none}
+use Rattle.p21_spec_schema.specs.WrittenType.{WrittenType, optional_word, type_lexemes}
+use Rattle.p21_spec_schema.specs.EntityDeclaration as written
+use Rattle.p21_spec_schema.specs.EntityDeclaration.{own, redeclared, attribute_lexemes, IsAttributeName, ExplicitAttributes, explicit_lexemes, DerivedAttribute, derived_lexemes, IsDerived}
 use Rattle.p21_express_lexemes.specs.Runs.{AreApart, behind_run, left_of}
 use Rattle.p21_express_lexemes.proofs.Running.{runs, nothing_apart}
 use Rattle.p21_express_syntax.specs.Declaring.{comma_name_of, names_from, names_of, redeclared_at, attribute_of, comma_attribute_of, attributes_from, attributes_behind, explicit_of, derived_behind, derived_of, step_bind}

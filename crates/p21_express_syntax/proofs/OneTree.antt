@@ -2,14 +2,14 @@
 use Rattle.std.proofs.Common.{◌≡◌, ℕ, zero, suc, ◌+◌, ◌≤◌, Bool, true, false, ◌&&◌, List, [], ◌∷◌, codes, Option, Some, None, IfSome, refl, ap, sym, subst, ◌∙◌, arith}
 use Rattle.std.specs.List.{Contains, AllByRecursion as Each}
 use Rattle.std.specs.Prelude.{if◌then◌else◌}
-use Rattle.p21_schemas.specs.Express.{Lexeme, identifier, simple_string, symbol}
-use Rattle.p21_schemas.specs.ExpressLaying.{LaidLexemes}
-use Rattle.p21_schemas.specs.Run.{IsRun, is_word, none}
-use Rattle.p21_schemas.specs.WrittenType.{nesting}
-use Rattle.p21_schemas.specs.SupertypeConstraint.{SupertypeConstraint}
-use Rattle.p21_schemas.specs.EntityDeclaration.{ExplicitAttributes, DerivedAttribute, Rules, EntityDeclaration, explicit_lexemes, derived_lexemes, derive_lexemes, rules_lexemes, entity_lexemes, AreExplicit, IsDerived, AreRules, IsEntityDeclaration}
-use Rattle.p21_schemas.specs.TypeDeclaration.{Body, enumeration, select, underlying, TypeDeclaration, body_lexemes, where_lexemes, type_declaration_lexemes, IsBody, IsTypeDeclaration}
-use Rattle.p21_schemas.specs.SchemaDeclaration.{ReadOver, Declaration, entity, defined, read_over, SchemaDeclaration, read_over_lexemes, declaration_lexemes, version_lexemes, schema_lexemes, read_over_words, IsReadOver, IsDeclaration, IsSchemaDeclaration}
+use Rattle.p21_spec_schema.specs.Express.{Lexeme, identifier, simple_string, symbol}
+use Rattle.p21_spec_schema.specs.ExpressLaying.{LaidLexemes}
+use Rattle.p21_spec_schema.specs.Run.{IsRun, is_word, none}
+use Rattle.p21_spec_schema.specs.WrittenType.{nesting}
+use Rattle.p21_spec_schema.specs.SupertypeConstraint.{SupertypeConstraint}
+use Rattle.p21_spec_schema.specs.EntityDeclaration.{ExplicitAttributes, DerivedAttribute, Rules, EntityDeclaration, explicit_lexemes, derived_lexemes, derive_lexemes, rules_lexemes, entity_lexemes, AreExplicit, IsDerived, AreRules, IsEntityDeclaration}
+use Rattle.p21_spec_schema.specs.TypeDeclaration.{Body, enumeration, select, underlying, TypeDeclaration, body_lexemes, where_lexemes, type_declaration_lexemes, IsBody, IsTypeDeclaration}
+use Rattle.p21_spec_schema.specs.SchemaDeclaration.{ReadOver, Declaration, entity, defined, read_over, SchemaDeclaration, read_over_lexemes, declaration_lexemes, version_lexemes, schema_lexemes, read_over_words, IsReadOver, IsDeclaration, IsSchemaDeclaration}
 use Rattle.p21_express_lexemes.specs.Runs.{AreApart}
 use Rattle.p21_express_lexemes.specs.Taking.{Items, put, take_word, take_name}
 use Rattle.p21_express_lexemes.specs.Words.{is_reserved}
@@ -26,8 +26,8 @@ use Rattle.p21_express_syntax.proofs.TypesSound.{over}
 use Rattle.p21_express_syntax.proofs.TypeTrees.{type_at, type_back}
 use Rattle.std.specs.Str.{bytes_eq}
 use Rattle.p21_express_syntax.proofs.FixedParts.{none_is, first_same, behind, words_same, IsFixed, AllBegin, many_fixed, run_fixed, constraint_fixed, supertypes_fixed, explicit_fixed, explicit_begins, derived_fixed, derived_begins, begins_attribute}
-use Rattle.p21_basics.proofs.Comparing.{bytes_eq-apart}
-use Rattle.p21_basics.proofs.Members.{some_pair_is}
+use Rattle.p21_spec_basics.proofs.Comparing.{bytes_eq-apart}
+use Rattle.p21_spec_basics.proofs.Members.{some_pair_is}
 
 -- ---- the end of an entity
 

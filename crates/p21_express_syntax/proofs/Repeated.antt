@@ -1,7 +1,7 @@
 -- Things of one kind, one behind the other, whatever they are and whatever is kept of them.
 use Rattle.std.proofs.Common.{◌≡◌, ℕ, zero, suc, ◌+◌, ◌<◌, List, [], ◌∷◌, ◌++◌, map, length, Option, Some, None, refl, ap, sym, ◌∙◌, append_assoc, append-nil, arith}
 use Rattle.std.specs.List.{flat_map, AllByRecursion as Each}
-use Rattle.p21_schemas.specs.Express.{Lexeme}
+use Rattle.p21_spec_schema.specs.Express.{Lexeme}
 use Rattle.p21_express_lexemes.specs.Taking.{Items, put}
 use Rattle.p21_express_lexemes.proofs.Put.{put-append}
 use Rattle.p21_express_syntax.specs.Many.{Step, with_items, many_from_step, many_within, many_of}

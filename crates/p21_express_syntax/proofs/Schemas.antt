@@ -2,10 +2,10 @@
 use Rattle.std.proofs.Common.{◌≡◌, ℕ, ◌+◌, ◌<◌, ◌≤◌, Bool, true, false, ◌&&◌, List, [], ◌∷◌, map, length, codes, Option, Some, None, refl, ap, sym, ◌∙◌, lit<, arith}
 use Rattle.std.specs.List.{Contains, flat_map, AllByRecursion as Each}
 use Rattle.std.proofs.lemmas.List.{length-map}
-use Rattle.p21_schemas.specs.Express.{Lexeme, identifier, symbol}
-use Rattle.p21_schemas.specs.Run.{IsRun, is_word, none}
-use Rattle.p21_schemas.specs.SchemaDeclaration as written
-use Rattle.p21_schemas.specs.SchemaDeclaration.{Declaration, SchemaDeclaration, read_over, read_over_lexemes, declaration_lexemes, version_lexemes, schema_lexemes, read_over_words, IsDeclaration, IsSchemaDeclaration, entities_of, types_of}
+use Rattle.p21_spec_schema.specs.Express.{Lexeme, identifier, symbol}
+use Rattle.p21_spec_schema.specs.Run.{IsRun, is_word, none}
+use Rattle.p21_spec_schema.specs.SchemaDeclaration as written
+use Rattle.p21_spec_schema.specs.SchemaDeclaration.{Declaration, SchemaDeclaration, read_over, read_over_lexemes, declaration_lexemes, version_lexemes, schema_lexemes, read_over_words, IsDeclaration, IsSchemaDeclaration, entities_of, types_of}
 use Rattle.p21_express_lexemes.specs.Runs.{AreApart, behind_run}
 use Rattle.p21_express_lexemes.specs.Taking.{Items, put, take_symbol, take_word, take_simple_string, take_name}
 use Rattle.p21_express_lexemes.proofs.Put.{put-append}
@@ -23,7 +23,7 @@ use Rattle.p21_express_syntax.proofs.Lists.{run_written, word_only}
 use Rattle.p21_express_syntax.proofs.Repeated.{Shortens, StepWritten, step_written, many_is, written_shortens}
 use Rattle.p21_express_syntax.proofs.Sounding.{OfSome, of_some, of_bind, of_choose, some_of, symbol_taken, word_taken, string_taken, name_taken, le_of, Written}
 use Rattle.p21_express_syntax.proofs.TypesSound.{over}
-use Rattle.p21_schemas.specs.Declared.{most_declarations}
+use Rattle.p21_spec_schema.specs.Declared.{most_declarations}
 
 -- ---- declarations
 

@@ -1,10 +1,10 @@
 -- Whole schemas are read where they are written; what the reader of a text owes.
 use Rattle.std.proofs.Common.{◌≡◌, ℕ, zero, suc, ◌<◌, ◌≤◌, Bool, true, false, ◌&&◌, List, [], ◌∷◌, map, length, codes, Option, Some, None, Result, Ok, Err, refl, ap, sym, subst, ◌∙◌, arith}
 use Rattle.std.specs.List.{Contains, flat_map, AllByRecursion as Each}
-use Rattle.p21_schemas.specs.Express.{Lexeme, identifier, symbol}
-use Rattle.p21_schemas.specs.Run.{IsRun, is_word, none}
-use Rattle.p21_schemas.specs.SchemaDeclaration as written
-use Rattle.p21_schemas.specs.SchemaDeclaration.{Declaration, SchemaDeclaration, read_over, declaration_lexemes, version_lexemes, schema_lexemes, read_over_words, IsDeclaration, entities_of, types_of}
+use Rattle.p21_spec_schema.specs.Express.{Lexeme, identifier, symbol}
+use Rattle.p21_spec_schema.specs.Run.{IsRun, is_word, none}
+use Rattle.p21_spec_schema.specs.SchemaDeclaration as written
+use Rattle.p21_spec_schema.specs.SchemaDeclaration.{Declaration, SchemaDeclaration, read_over, declaration_lexemes, version_lexemes, schema_lexemes, read_over_words, IsDeclaration, entities_of, types_of}
 use Rattle.p21_express_lexemes.specs.Lexemes.{lexemes_of}
 use Rattle.p21_express_lexemes.specs.Runs.{AreApart}
 use Rattle.p21_express_lexemes.specs.Taking.{Items, put, take_symbol, take_word, take_simple_string}
@@ -28,9 +28,9 @@ use Rattle.p21_express_syntax.proofs.Repeated.{many_read}
 use Rattle.p21_express_syntax.proofs.Schemas.{declaration_digest, IsOne, IsSchema, put_over, put_schema, declaration_shortens, entities_are, types_are, count_is, schema_is}
 use Rattle.p21_express_syntax.proofs.Sounding.{of_some, name_read, of_le}
 use Rattle.p21_express_syntax.proofs.TypesSound.{over}
-use Rattle.p21_schemas.specs.Declared.{most_declarations}
-use Rattle.p21_basics.proofs.Members.{some_is}
-use Rattle.p21_basics.specs.Limits.{text_limit}
+use Rattle.p21_spec_schema.specs.Declared.{most_declarations}
+use Rattle.p21_spec_basics.proofs.Members.{some_is}
+use Rattle.p21_spec_basics.specs.Limits.{text_limit}
 
 -- ---- declarations that are read over
 

@@ -6,13 +6,13 @@ use Rattle.std.proofs.lemmas.Bool.Decides.{nat_tests}
 use Rattle.std.proofs.lemmas.Slice.Eq.{bytes_eq-Decides}
 use Rattle.std.proofs.Common.{◌<◌, zero, suc, length, get_or}
 use Rattle.std.specs.List.{Contains}
-use Rattle.p21_schemas.specs.Express.{Lexeme, identifier, digits, simple_string, encoded_string, symbol}
-use Rattle.p21_schemas.specs.ReservedWord.{reserved_words, IsName}
-use Rattle.p21_schemas.specs.WrittenType.{optional_word}
+use Rattle.p21_spec_schema.specs.Express.{Lexeme, identifier, digits, simple_string, encoded_string, symbol}
+use Rattle.p21_spec_schema.specs.ReservedWord.{reserved_words, IsName}
+use Rattle.p21_spec_schema.specs.WrittenType.{optional_word}
 use Rattle.p21_express_lexemes.specs.Taking.{Items, put, take_symbol, take_word, take_simple_string, take_digits, take_name}
 use Rattle.p21_express_lexemes.specs.Words.{is_among, is_reserved}
 use Rattle.p21_express_syntax.specs.DataTypes.{bind, choose, guard, flag_of}
-use Rattle.p21_basics.proofs.Members.{some_is, some_pair_is}
+use Rattle.p21_spec_basics.proofs.Members.{some_is, some_pair_is}
 
 -- if something was read, this holds of it
 abbrev pub OfSome : {A : Type 0} → Option A → (A → Type 0) → Type 0

@@ -1,8 +1,8 @@
 -- The tree of a type is fixed by its lexemes: a reader of them, of which nobody must believe anything, reads back the type.
 use Rattle.std.proofs.Common.{◌≡◌, ℕ, zero, suc, ◌+◌, ◌<◌, Bool, true, false, List, ◌++◌, codes, Option, Some, None, refl, ap, sym, ◌∙◌, lit<, arith}
-use Rattle.p21_schemas.specs.Express.{identifier, digits, symbol}
-use Rattle.p21_schemas.specs.ReservedWord.{IsName}
-use Rattle.p21_schemas.specs.WrittenType.{Width, UpperBound, bounded, unbounded, Bounds, WrittenType, integer_type, real_type, number_type, boolean_type, logical_type, string_type, binary_type, named_type, array_type, list_type, set_type, bag_type, word, optional_word, precision_lexemes, width_lexemes, upper_bound_lexemes, bounds_lexemes, type_lexemes, IsWrittenType, nesting}
+use Rattle.p21_spec_schema.specs.Express.{identifier, digits, symbol}
+use Rattle.p21_spec_schema.specs.ReservedWord.{IsName}
+use Rattle.p21_spec_schema.specs.WrittenType.{Width, UpperBound, bounded, unbounded, Bounds, WrittenType, integer_type, real_type, number_type, boolean_type, logical_type, string_type, binary_type, named_type, array_type, list_type, set_type, bag_type, word, optional_word, precision_lexemes, width_lexemes, upper_bound_lexemes, bounds_lexemes, type_lexemes, IsWrittenType, nesting}
 use Rattle.p21_express_lexemes.specs.Taking.{Items, put, take_symbol, take_word, take_digits, take_name}
 use Rattle.p21_express_lexemes.proofs.Put.{put-append}
 use Rattle.p21_express_syntax.specs.DataTypes.{bind, choose, flag_of, kind_of}
@@ -11,7 +11,7 @@ use Rattle.p21_express_syntax.specs.declared.types.Kind.TheVariants as kind
 use Rattle.p21_express_syntax.proofs.Sounding.{name_read, name_apart}
 use Rattle.p21_express_syntax.proofs.TypesSound.{over, kind_word, three, four, five, put_bounds, put_width}
 use Rattle.p21_express_syntax.proofs.TypesRead.{Ends, type_first, no_bracket}
-use Rattle.p21_basics.proofs.Members.{some_pair_is}
+use Rattle.p21_spec_basics.proofs.Members.{some_pair_is}
 
 -- ---- bounds and widths
 

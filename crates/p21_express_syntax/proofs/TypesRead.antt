@@ -1,10 +1,10 @@
 -- What a type is written with is read.
 use Rattle.std.proofs.Common.{◌≡◌, ℕ, zero, suc, ◌≤◌, Bool, true, false, List, ◌++◌, codes, Option, Some, None, refl, ap, sym, subst, ◌∙◌, lit<, arith}
-use Rattle.p21_basics.specs.Digits.{number}
-use Rattle.p21_schemas.specs.Express.{identifier, digits, symbol}
-use Rattle.p21_schemas.specs.ReservedWord.{IsName}
-use Rattle.p21_schemas.specs.DeclaredType.{DenotesUpperBound, DenotesBounds}
-use Rattle.p21_schemas.specs.WrittenType.{Width as WrittenWidth, UpperBound, bounded, unbounded, Bounds, WrittenType, integer_type, real_type, number_type, boolean_type, logical_type, string_type, binary_type, named_type, array_type, list_type, set_type, bag_type, word, optional_word, precision_lexemes, width_lexemes, upper_bound_lexemes, bounds_lexemes, type_lexemes, IsWrittenType, nesting}
+use Rattle.p21_spec_basics.specs.Digits.{number}
+use Rattle.p21_spec_schema.specs.Express.{identifier, digits, symbol}
+use Rattle.p21_spec_schema.specs.ReservedWord.{IsName}
+use Rattle.p21_spec_schema.specs.DeclaredType.{DenotesUpperBound, DenotesBounds}
+use Rattle.p21_spec_schema.specs.WrittenType.{Width as WrittenWidth, UpperBound, bounded, unbounded, Bounds, WrittenType, integer_type, real_type, number_type, boolean_type, logical_type, string_type, binary_type, named_type, array_type, list_type, set_type, bag_type, word, optional_word, precision_lexemes, width_lexemes, upper_bound_lexemes, bounds_lexemes, type_lexemes, IsWrittenType, nesting}
 use Rattle.p21_express_lexemes.specs.Taking.{Items, put, take_symbol, take_word, take_digits}
 use Rattle.p21_express_lexemes.proofs.Put.{put-append}
 use Rattle.p21_express_syntax.specs.Digest.{TypeDigest}

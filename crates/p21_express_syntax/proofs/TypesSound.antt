@@ -1,10 +1,10 @@
 -- A type that was read is written so.
 use Rattle.std.proofs.Common.{◌≡◌, ℕ, zero, suc, ◌<◌, ◌≤◌, Bool, true, false, nat_le, ◌&&◌, List, ◌∷◌, ◌++◌, codes, Option, Some, None, refl, ap, sym, ◌∙◌, arith}
 use Rattle.std.proofs.lemmas.Bool.{and_parts}
-use Rattle.p21_basics.specs.Digits.{number}
-use Rattle.p21_schemas.specs.Express.{Lexeme, identifier, digits, symbol}
-use Rattle.p21_schemas.specs.DeclaredType.{DenotesUpperBound}
-use Rattle.p21_schemas.specs.WrittenType.{UpperBound, bounded, unbounded, Bounds, WrittenType, integer_type, real_type, number_type, boolean_type, logical_type, string_type, binary_type, named_type, array_type, list_type, set_type, bag_type, word, optional_word, precision_lexemes, width_lexemes, upper_bound_lexemes, bounds_lexemes, type_lexemes, IsWrittenType, nesting}
+use Rattle.p21_spec_basics.specs.Digits.{number}
+use Rattle.p21_spec_schema.specs.Express.{Lexeme, identifier, digits, symbol}
+use Rattle.p21_spec_schema.specs.DeclaredType.{DenotesUpperBound}
+use Rattle.p21_spec_schema.specs.WrittenType.{UpperBound, bounded, unbounded, Bounds, WrittenType, integer_type, real_type, number_type, boolean_type, logical_type, string_type, binary_type, named_type, array_type, list_type, set_type, bag_type, word, optional_word, precision_lexemes, width_lexemes, upper_bound_lexemes, bounds_lexemes, type_lexemes, IsWrittenType, nesting}
 use Rattle.p21_express_lexemes.specs.Taking.{Items, put, take_symbol, take_word, take_digits, take_name}
 use Rattle.p21_express_lexemes.proofs.Put.{put-append}
 use Rattle.p21_express_syntax.specs.Digest.{TypeDigest}

@@ -2,7 +2,7 @@
 use Rattle.std.proofs.Common.{◌≡◌, ℕ, ◌+◌, ◌<◌, List, [], ◌∷◌, ◌++◌, map, take, length, get_or, set, ap, sym, ◌∙◌}
 use Rattle.std.proofs.lemmas.List.{take_more, take_more_set}
 use Rattle.std.proofs.lemmas.List.{map-append}
-use Rattle.p21_schemas.specs.Express.{upper}
+use Rattle.p21_spec_schema.specs.Express.{upper}
 
 -- one byte more
 pub one_more : (place name : List ℕ) (i byte : ℕ) → i < length place → i < length name → byte ≡ upper (get_or name i 0) → take i place ≡ map upper (take i name)

@@ -1,7 +1,7 @@
 -- Data types read from the lexemes that are left, as far as they are kept: plain functions between the code and the
 -- definitions, which nobody has to believe.
 use Rattle.std.specs.Prelude.{◌≡◌, ℕ, zero, suc, Bool, true, false, nat_le, ◌&&◌, List, [], ◌∷◌, codes, Option, Some, None, Result, Ok, Err}
-use Rattle.p21_basics.specs.Digits.{number}
+use Rattle.p21_spec_basics.specs.Digits.{number}
 use Rattle.p21_express_lexemes.specs.Taking.{Items, RefusalShows, take_symbol, take_word, take_digits, take_name}
 use Rattle.p21_express_lexemes.specs.declared.fault.SyntaxFault.{SyntaxFault}
 use Rattle.p21_express_syntax.specs.Digest.{TypeDigest}
@@ -13,7 +13,7 @@ use Rattle.p21_express_syntax.specs.declared.types.Range.{Range}
 use Rattle.p21_express_syntax.specs.declared.types.SimpleType.{SimpleType}
 use Rattle.p21_express_syntax.specs.declared.types.SimpleType.TheVariants as simple
 use Rattle.p21_express_syntax.specs.declared.types.Width.{Width}
-use Rattle.p21_schemas.specs.DeclaredType.{largest_bound}
+use Rattle.p21_spec_schema.specs.DeclaredType.{largest_bound}
 
 abbrev pub identity : {A : Type 0} → A → A
 identity x = x

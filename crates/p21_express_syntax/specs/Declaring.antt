@@ -1,8 +1,8 @@
 -- Declarations read from the lexemes that are left, as far as they are kept: plain functions between the code and the
 -- definitions, which nobody has to believe.
 use Rattle.std.specs.Prelude.{◌≡◌, ℕ, ◌+◌, Bool, true, false, nat_le, List, [], ◌∷◌, ◌++◌, codes, length, Option, Some, None, Result, Ok, Err, Vec, if◌then◌else◌}
-use Rattle.p21_schemas.specs.Express.{Lexeme}
-use Rattle.p21_schemas.specs.Run.{is_word, is_symbol, none}
+use Rattle.p21_spec_schema.specs.Express.{Lexeme}
+use Rattle.p21_spec_schema.specs.Run.{is_word, is_symbol, none}
 use Rattle.p21_express_lexemes.specs.Runs.{behind_run}
 use Rattle.p21_express_lexemes.specs.Taking.{Items, RefusalShows, take_symbol, take_word, take_simple_string, take_name}
 use Rattle.p21_express_lexemes.specs.declared.fault.SyntaxFault.{SyntaxFault}
@@ -13,7 +13,7 @@ use Rattle.p21_express_syntax.specs.declared.attributes.AttributeName.{Attribute
 use Rattle.p21_express_syntax.specs.declared.schema.PassedWord.{PassedWord}
 use Rattle.p21_express_syntax.specs.declared.schema.PassedWord.TheVariants as word
 use Rattle.p21_express_syntax.specs.declared.attributes.AttributeName.TheVariants.{Own, Redeclared}
-use Rattle.p21_schemas.specs.Declared.{most_declarations}
+use Rattle.p21_spec_schema.specs.Declared.{most_declarations}
 
 -- what goes on with one, if one stands there
 abbrev pub step_bind : {A B : Type 0} → Option (Option (A × Items)) → (A → Items → Option (B × Items)) → Option (Option (B × Items))

@@ -1,13 +1,13 @@
 -- The digest of a schema declaration: what is kept of it.
 use Rattle.std.specs.Prelude.{ℕ, true, false, List, [], map, Option, Some, None}
-use Rattle.p21_basics.specs.Digits.{number}
-use Rattle.p21_schemas.specs.WrittenType.{Width as WrittenWidth, UpperBound, bounded, unbounded, Bounds, WrittenType, integer_type, real_type, number_type, boolean_type, logical_type, string_type, binary_type, named_type, array_type, list_type, set_type, bag_type}
-use Rattle.p21_schemas.specs.SupertypeConstraint.{SupertypeExpression, one_of, other_run, SupertypeConstraint, no_constraint, abstract_entity, abstract_supertype, abstract_supertype_of, supertype_of}
-use Rattle.p21_schemas.specs.EntityDeclaration as written
-use Rattle.p21_schemas.specs.EntityDeclaration.{own, redeclared, DerivedAttribute, EntityDeclaration}
-use Rattle.p21_schemas.specs.TypeDeclaration as written_type
-use Rattle.p21_schemas.specs.TypeDeclaration.{TypeDeclaration}
-use Rattle.p21_schemas.specs.SchemaDeclaration.{SchemaDeclaration, entities_of, types_of}
+use Rattle.p21_spec_basics.specs.Digits.{number}
+use Rattle.p21_spec_schema.specs.WrittenType.{Width as WrittenWidth, UpperBound, bounded, unbounded, Bounds, WrittenType, integer_type, real_type, number_type, boolean_type, logical_type, string_type, binary_type, named_type, array_type, list_type, set_type, bag_type}
+use Rattle.p21_spec_schema.specs.SupertypeConstraint.{SupertypeExpression, one_of, other_run, SupertypeConstraint, no_constraint, abstract_entity, abstract_supertype, abstract_supertype_of, supertype_of}
+use Rattle.p21_spec_schema.specs.EntityDeclaration as written
+use Rattle.p21_spec_schema.specs.EntityDeclaration.{own, redeclared, DerivedAttribute, EntityDeclaration}
+use Rattle.p21_spec_schema.specs.TypeDeclaration as written_type
+use Rattle.p21_spec_schema.specs.TypeDeclaration.{TypeDeclaration}
+use Rattle.p21_spec_schema.specs.SchemaDeclaration.{SchemaDeclaration, entities_of, types_of}
 use Rattle.p21_express_syntax.specs.Digest.{TypeDigest, AttributesDigest, ConstraintDigest, EntityDigest, BodyDigest, enumeration, select, underlying, DefinedTypeDigest, SchemaDigest}
 use Rattle.p21_express_syntax.specs.declared.attributes.AttributeName.{AttributeName}
 use Rattle.p21_express_syntax.specs.declared.attributes.AttributeName.TheVariants.{Own, Redeclared}
@@ -16,7 +16,7 @@ use Rattle.p21_express_syntax.specs.declared.types.Range.{Range}
 use Rattle.p21_express_syntax.specs.declared.types.SimpleType.{SimpleType}
 use Rattle.p21_express_syntax.specs.declared.types.SimpleType.TheVariants as simple
 use Rattle.p21_express_syntax.specs.declared.types.Width.{Width}
-use Rattle.p21_schemas.specs.DeclaredEntity.{names_of}
+use Rattle.p21_spec_schema.specs.DeclaredEntity.{names_of}
 use Rattle.p21_express_syntax.specs.DataTypes.{around}
 
 abbrev pub width_digest : Option WrittenWidth → Option Width

@@ -1,14 +1,14 @@
 -- What the reader of a schema text owes.
 use Rattle.std.specs.Prelude.{◌≡◌, ℕ, ◌≤◌, List, length, Result, Ok, Err}
-use Rattle.p21_schemas.specs.ExpressLaying.{LaidLexemes}
-use Rattle.p21_schemas.specs.SchemaDeclaration.{SchemaDeclaration, schema_lexemes, IsSchemaDeclaration}
+use Rattle.p21_spec_schema.specs.ExpressLaying.{LaidLexemes}
+use Rattle.p21_spec_schema.specs.SchemaDeclaration.{SchemaDeclaration, schema_lexemes, IsSchemaDeclaration}
 use Rattle.p21_express_lexemes.specs.Taking.{RefusalShows}
 use Rattle.p21_express_lexemes.specs.declared.fault.SyntaxFault.{SyntaxFault}
 use Rattle.p21_express_syntax.specs.Digesting.{schema_digest}
 use Rattle.p21_express_syntax.specs.Views.{schema_view}
 use Rattle.p21_express_syntax.specs.Within.{IsSchemaWithin}
 use Rattle.p21_express_syntax.specs.declared.schema.Declarations.{Declarations}
-use Rattle.p21_basics.specs.Limits.{text_limit}
+use Rattle.p21_spec_basics.specs.Limits.{text_limit}
 
 -- the text is a schema declaration within the limits
 pub record IsTextOf (x : SchemaDeclaration) (text : List ℕ) : Type 0 where

@@ -6,7 +6,7 @@ use Rattle.p21_express_syntax.specs.Declaring.{DeclarationDigest, digest_of, beg
 use Rattle.p21_express_syntax.specs.Digest.{SchemaDigest}
 use Rattle.p21_express_syntax.specs.Views.{schema_view}
 use Rattle.p21_express_syntax.specs.declared.schema.Declarations.{Declarations}
-use Rattle.p21_schemas.specs.Declared.{most_declarations}
+use Rattle.p21_spec_schema.specs.Declared.{most_declarations}
 
 abbrev pub DeclarationsRead : List ℕ → Result Declarations SyntaxFault → Option (List DeclarationDigest × Items) → Items → Type 0
 DeclarationsRead name (Ok declarations) read new = (ds : List DeclarationDigest) × (read ≡ Some (ds, new)) × (schema_view declarations ≡ digest_of name ds)

@@ -2,13 +2,13 @@
 -- nesting of aggregates, widths and bounds.
 use Rattle.std.specs.Prelude.{ℕ, ◌+◌, ◌≤◌, length, Option, Some}
 use Rattle.std.specs.List.{AllByRecursion as Each}
-use Rattle.p21_schemas.specs.Schema as schema
-use Rattle.p21_schemas.specs.WrittenType.{Width, Bounds, WrittenType, string_type, binary_type, array_type, list_type, set_type, bag_type, nesting}
-use Rattle.p21_schemas.specs.DeclaredType.{DenotesWidth, DenotesBounds, deepest_nesting}
-use Rattle.p21_schemas.specs.EntityDeclaration.{ExplicitAttributes, EntityDeclaration}
-use Rattle.p21_schemas.specs.TypeDeclaration.{Body, enumeration, select, underlying, TypeDeclaration}
-use Rattle.p21_schemas.specs.SchemaDeclaration.{SchemaDeclaration, entities_of, types_of}
-use Rattle.p21_schemas.specs.Declared.{most_declarations}
+use Rattle.p21_spec_schema.specs.Schema as schema
+use Rattle.p21_spec_schema.specs.WrittenType.{Width, Bounds, WrittenType, string_type, binary_type, array_type, list_type, set_type, bag_type, nesting}
+use Rattle.p21_spec_schema.specs.DeclaredType.{DenotesWidth, DenotesBounds, deepest_nesting}
+use Rattle.p21_spec_schema.specs.EntityDeclaration.{ExplicitAttributes, EntityDeclaration}
+use Rattle.p21_spec_schema.specs.TypeDeclaration.{Body, enumeration, select, underlying, TypeDeclaration}
+use Rattle.p21_spec_schema.specs.SchemaDeclaration.{SchemaDeclaration, entities_of, types_of}
+use Rattle.p21_spec_schema.specs.Declared.{most_declarations}
 
 abbrev pub HasWidth : Option Width → Type 0
 HasWidth written = (width : Option schema.Width) × DenotesWidth written width

@@ -1,5 +1,5 @@
 ghost use Rattle.std.specs.Prelude.{◌≡◌, codes};
-ghost use Rattle.p21_schemas.specs.Run.{is_word, none};
+ghost use Rattle.p21_spec_schema.specs.Run.{is_word, none};
 ghost use Rattle.p21_express_lexemes.specs.Taking.{TakesExpected, ReadBy};
 ghost use Rattle.p21_express_syntax.specs.Declaring.{body_of, type_end, defined_at, names_of};
 ghost use Rattle.p21_express_syntax.specs.Views.{list_view, body_view, defined_view};

@@ -1,5 +1,5 @@
 ghost use Rattle.std.specs.Prelude.{◌≡◌, codes};
-ghost use Rattle.p21_schemas.specs.Run.{is_word, is_symbol, none};
+ghost use Rattle.p21_spec_schema.specs.Run.{is_word, is_symbol, none};
 ghost use Rattle.p21_express_lexemes.specs.Taking.{TakesExpected, ReadBy, WasTaken};
 ghost use Rattle.p21_express_syntax.specs.Declaring.{one_of_of, expression_of, abstract_at, constraint_of, supertypes_of, derive_of, take_rules, entity_end, entity_at, constraint_with, OneOfRead};
 ghost use Rattle.p21_express_syntax.specs.Many.{many_of};

@@ -1,6 +1,6 @@
 ghost use Rattle.std.specs.Prelude.{◌≡◌, ◌≤◌, IfOk, map, length, take};
-ghost use Rattle.p21_exchange.specs.Keyword.{IsKeyword};
-ghost use Rattle.p21_schemas.specs.Express.{upper};
+ghost use Rattle.p21_spec_exchange.specs.Keyword.{IsKeyword};
+ghost use Rattle.p21_spec_schema.specs.Express.{upper};
 ghost use Rattle.p21_express_lexemes.specs.Taking.{ReadBy, RefusalShows, take_name};
 ghost use Rattle.p21_express_syntax.specs.Declaring.{comma_name_of, names_from, names_of};
 ghost use Rattle.p21_express_syntax.specs.Many.{StepRead};
@@ -20,17 +20,17 @@ pub(crate) fn read_name(alloc: Global, lexemes: &mut Lexemes) -> Result<Word, Sy
 }
 
 /// The longest names that are put into upper case without memory.
-const SHORT: usize = 24;
+const LONGEST_IN_PLACE: usize = 24;
 
 /// An identifier in upper case.
 pub(crate) fn word_of(alloc: Global, name: &[u8]) -> Result<Word, SyntaxFault>
     requires { IsKeyword (map upper name.now) }
     ensures { IsWordOf (map upper name.now) result }
 {
-    if name.len() > SHORT {
+    if name.len() > LONGEST_IN_PLACE {
         return long_word_of(alloc, name);
     }
-    let mut place = [0u8; SHORT];
+    let mut place = [0u8; LONGEST_IN_PLACE];
     let mut count = 0;
     while count < name.len() {
         place[count] = upper(name[count]);

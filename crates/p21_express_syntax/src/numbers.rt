@@ -1,8 +1,8 @@
 ghost use Rattle.std.specs.Prelude.{◌≡◌, ◌<◌, ◌≤◌, MatchOption};
-ghost use Rattle.p21_basics.specs.Digits.{AllDigits, number};
+ghost use Rattle.p21_spec_basics.specs.Digits.{AllDigits, number};
 
 /// The number that digits stand for, leading zeros included, if it is 4294967295 at most.
-#[tactic(auto, using(p21_values::proofs::DigitRuns::digit_at))]
+#[tactic(auto, using(p21_scan::proofs::DigitRuns::digit_at))]
 pub(crate) fn number_of(digits: &[u8]) -> Option<u32>
     requires { AllDigits digits.now }
     ensures { MatchOption result (4294967295 < number digits.now) (λ n. n ≡ number digits.now) }

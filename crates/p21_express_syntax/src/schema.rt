@@ -1,5 +1,5 @@
 ghost use Rattle.std.specs.Prelude.{◌≡◌, ◌+◌, ◌≤◌, ◌<◌, codes, length};
-ghost use Rattle.p21_schemas.specs.Run.{is_word, none};
+ghost use Rattle.p21_spec_schema.specs.Run.{is_word, none};
 ghost use Rattle.p21_express_lexemes.specs.Lexemes.{lexemes_of};
 ghost use Rattle.p21_express_lexemes.specs.Runs.{AreApart, marks};
 ghost use Rattle.p21_express_lexemes.specs.Taking.{TakesExpected};

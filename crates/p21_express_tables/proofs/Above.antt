@@ -2,8 +2,8 @@
 use Rattle.std.specs.Prelude.{◌↔◌, ℕ, List, Contains}
 use Rattle.std.proofs.Common.{sym, inl, inr}
 use Rattle.std.proofs.lemmas.Bool.{cases_eq}
-use Rattle.p21_schemas.specs.Schema.{Schema}
-use Rattle.p21_schemas.specs.Supertype.{IsLeaf}
+use Rattle.p21_spec_schema.specs.Schema.{Schema}
+use Rattle.p21_spec_schema.specs.Supertype.{IsLeaf}
 use Rattle.p21_express_tables.specs.Above.{AreAbove}
 
 -- proper supertypes in rising order

@@ -6,11 +6,11 @@ use Rattle.std.proofs.lemmas.Bool.{cases_lt}
 use Rattle.std.proofs.lemmas.List.{append-nil, get_or_default, length-append}
 use Rattle.std.proofs.lemmas.List.Elements.{Contains-append_left, Contains-push, Contains-push_cases}
 use Rattle.std.proofs.lemmas.Option.{slice_get_within}
-use Rattle.p21_basics.proofs.Members.{Contains-at, Contains-found, Contains-none}
-use Rattle.p21_schemas.specs.Declared.{HasNoCircle, HasSupertype}
-use Rattle.p21_schemas.specs.Schema.{Schema}
-use Rattle.p21_schemas.specs.Supertype.{IsA, itself, above}
-use Rattle.p21_schemas.proofs.PlaceTypes.{IsA-antisymmetric, IsA-transitive}
+use Rattle.p21_spec_basics.proofs.Members.{Contains-at, Contains-found, Contains-none}
+use Rattle.p21_spec_schema.specs.Declared.{HasNoCircle, HasSupertype}
+use Rattle.p21_spec_schema.specs.Schema.{Schema}
+use Rattle.p21_spec_schema.specs.Supertype.{IsA, itself, above}
+use Rattle.p21_spec_schema.proofs.PlaceTypes.{IsA-antisymmetric, IsA-transitive}
 use Rattle.p21_express_graph.specs.Walk.{IsDone, IsOpen, open_count}
 use Rattle.p21_express_graph.proofs.Walks.{set_count, set_keeps, set_length, set_only}
 use Rattle.p21_express_tables.specs.Above.{AreAbove}

@@ -2,13 +2,13 @@
 use Rattle.std.specs.Prelude.{◌≡◌, ℕ, ◌⊎◌, List, [], ◌∷◌, ◌++◌, Option, Some, None, MatchOption, Contains, slice_get, refl}
 use Rattle.std.proofs.Common.{ap, sym, ◌∙◌, subst, inl, inr}
 use Rattle.std.proofs.lemmas.List.Elements.{Contains-append_cases}
-use Rattle.p21_basics.proofs.Members.{Contains-none, Contains-cases, Contains-found}
-use Rattle.p21_schemas.specs.Order.{order}
-use Rattle.p21_schemas.specs.PlaceType.{two_redeclarations, TypeAt, IsDerivedIn, IsRedeclared, IsRedeclaredIn, Decides}
-use Rattle.p21_schemas.specs.Schema.{Schema, Place, Redeclared}
-use Rattle.p21_schemas.specs.Supertype.{IsA}
-use Rattle.p21_schemas.proofs.PlaceTypes.{IsA-antisymmetric}
-use Rattle.p21_express_types.specs.declared.number.EntityId.{EntityId}
+use Rattle.p21_spec_basics.proofs.Members.{Contains-none, Contains-cases, Contains-found}
+use Rattle.p21_spec_schema.specs.Order.{order}
+use Rattle.p21_spec_schema.specs.PlaceType.{two_redeclarations, TypeAt, IsDerivedIn, IsRedeclared, IsRedeclaredIn, Decides}
+use Rattle.p21_spec_schema.specs.Schema.{Schema, Place, Redeclared}
+use Rattle.p21_spec_schema.specs.Supertype.{IsA}
+use Rattle.p21_spec_schema.proofs.PlaceTypes.{IsA-antisymmetric}
+use Rattle.p21_express_graph.specs.declared.number.EntityId.{EntityId}
 use Rattle.p21_express_graph.specs.Resolved.{HoldsTogether}
 use Rattle.p21_express_graph.proofs.OrderTables.{order-tells}
 use Rattle.p21_express_tables.specs.Decisions.{AreMembers, IsBelowAll, IsBelowLast, IsDecision, IsDeriving, IsLowest, IsRedeclaredAs, IsRedeclaring}

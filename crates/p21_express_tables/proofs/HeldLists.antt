@@ -6,7 +6,7 @@ use Rattle.std.proofs.lemmas.Bool.{cases_eq}
 use Rattle.std.proofs.lemmas.Bool.Decides.{nat_tests}
 use Rattle.std.proofs.lemmas.List.{length-set}
 use Rattle.std.proofs.lemmas.Option.{slice_get_within}
-use Rattle.p21_schemas.specs.Schema.{Schema}
+use Rattle.p21_spec_schema.specs.Schema.{Schema}
 use Rattle.p21_express_tables.specs.NotedEntities.{IsNone, NoneFrom, NoneNoted, Notes, NotesSet, holder_of, noted_in}
 use Rattle.p21_express_tables.specs.OneOf.{IsListedIn}
 use Rattle.p21_express_tables.specs.declared.holders.Holder.{Holder}

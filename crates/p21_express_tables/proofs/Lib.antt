@@ -10,3 +10,5 @@ pub mod HeldLists
 pub mod Numbered
 pub mod RisingSets
 pub mod OneOfLists
+pub mod OnlyRedeclarers
+pub mod Fronts

@@ -5,12 +5,12 @@ use Rattle.std.specs.Ordering.{nat_cmp}
 use Rattle.std.proofs.Common.{arith, ap, sym, ◌∙◌, subst, inl, inr}
 use Rattle.std.proofs.lemmas.Bool.{cases_eq}
 use Rattle.std.proofs.lemmas.List.Elements.{Contains-append_left, Contains-push, Contains-push_cases}
-use Rattle.p21_basics.proofs.Members.{Contains-none, Contains-at, Contains-cases, Contains-found, Contains-later}
-use Rattle.p21_schemas.specs.OneOf.{Clashes}
-use Rattle.p21_schemas.specs.Schema.{Schema}
+use Rattle.p21_spec_basics.proofs.Members.{Contains-none, Contains-at, Contains-cases, Contains-found, Contains-later}
+use Rattle.p21_spec_schema.specs.OneOf.{Clashes}
+use Rattle.p21_spec_schema.specs.Schema.{Schema}
 use Rattle.p21_express_tables.specs.NotedEntities.{AreNoted}
 use Rattle.p21_express_tables.specs.OneOf.{ClashesWith, IsListedIn}
-use Rattle.p21_basics.proofs.Comparing.{is_at-other}
+use Rattle.p21_spec_basics.proofs.Comparing.{is_at-other}
 
 pub noted_none : (s : Schema) (find : ℕ → Option ℕ) → ((k : ℕ) → find k ≡ None) → AreNoted s [] find
 noted_none s find none = record {

@@ -3,11 +3,11 @@ use Rattle.std.specs.Prelude.{◌≡◌, ℕ, ◌<◌, Bool, List, [], length, C
 use Rattle.std.specs.Global.{Vec}
 use Rattle.std.proofs.Common.{arith, ap, sym}
 use Rattle.std.proofs.lemmas.Option.{slice_get_within}
-use Rattle.p21_basics.proofs.Members.{Contains-flat_map, Contains-one_of}
-use Rattle.p21_schemas.specs.Order.{order, own_places}
-use Rattle.p21_schemas.specs.PlaceType.{TypeAt, two_redeclarations}
-use Rattle.p21_schemas.specs.Schema.{Schema, Place, attributes_of}
-use Rattle.p21_schemas.proofs.OwnPlaces.{own_places-within}
+use Rattle.p21_spec_basics.proofs.Members.{Contains-flat_map, Contains-one_of}
+use Rattle.p21_spec_schema.specs.Order.{order, own_places}
+use Rattle.p21_spec_schema.specs.PlaceType.{TypeAt, two_redeclarations}
+use Rattle.p21_spec_schema.specs.Schema.{Schema, Place, attributes_of}
+use Rattle.p21_spec_schema.proofs.OwnPlaces.{own_places-within}
 use Rattle.p21_express_tables.specs.Decisions.{IsDecision}
 use Rattle.p21_express_tables.specs.OwnSets.{AreOwnClashes, LeavesOpen}
 use Rattle.p21_express_tables.specs.Prepared.{IsPrepared}

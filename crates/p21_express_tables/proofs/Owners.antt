@@ -4,10 +4,10 @@ use Rattle.std.proofs.Common.{arith, ap, sym, ◌∙◌, subst, inl, inr, get_or
 use Rattle.std.proofs.lemmas.List.{length-append, map-append, take_more}
 use Rattle.std.proofs.lemmas.Option.{slice_get_within}
 use Rattle.std.proofs.lemmas.List.Elements.{Contains-append_left, Contains-append_right, Contains-append_cases, Contains-push, Contains-push_cases}
-use Rattle.p21_basics.proofs.Members.{Contains-none, Contains-cases, Contains-found, Contains-mapped, some_is}
-use Rattle.p21_schemas.specs.PlaceType.{IsDerivedIn, IsRedeclared}
-use Rattle.p21_schemas.specs.Schema.{Schema, Place, Entity, Redeclared}
-use Rattle.p21_express_types.specs.declared.number.EntityId.{EntityId}
+use Rattle.p21_spec_basics.proofs.Members.{Contains-none, Contains-cases, Contains-found, Contains-mapped, some_is}
+use Rattle.p21_spec_schema.specs.PlaceType.{IsDerivedIn, IsRedeclared}
+use Rattle.p21_spec_schema.specs.Schema.{Schema, Place, Entity, Redeclared}
+use Rattle.p21_express_graph.specs.declared.number.EntityId.{EntityId}
 use Rattle.p21_express_graph.specs.Lookups.{DerivesPlace}
 use Rattle.p21_express_graph.specs.Orders.{numbers}
 use Rattle.p21_express_graph.specs.Resolved.{IsEntity}

@@ -1,15 +1,15 @@
 -- Maps by places.
-use Rattle.std.specs.Prelude.{◌≡◌, ◌≢◌, ◌⊎◌, ◌+◌, ℕ, Bool, true, false, List, [], ◌∷◌, ◌++◌, Option, None, Some, MatchOption, length, slice_get, Contains, refl}
-use Rattle.std.specs.BTreeMap.{BTreeMap, Updates, get, is_at}
+use Rattle.std.specs.Prelude.{◌≡◌, ◌≢◌, ◌⊎◌, ◌+◌, ℕ, true, false, List, [], ◌∷◌, ◌++◌, Option, None, Some, MatchOption, length, slice_get, Contains, refl}
+use Rattle.std.specs.BTreeMap.{BTreeMap, Updates, is_at}
 use Rattle.std.specs.Ordering.{is_eq, nat_cmp, ordering_then}
 use Rattle.std.specs.declared.cmp.Ordering.{Ordering}
 use Rattle.std.specs.declared.cmp.Ordering.TheVariants.{Less, Equal, Greater}
-use Rattle.std.proofs.Common.{arith, ap, sym, ◌∙◌, subst, inl, inr}
+use Rattle.std.proofs.Common.{arith, ap, sym, ◌∙◌, inl, inr}
 use Rattle.std.proofs.lemmas.Bool.{cases_eq}
 use Rattle.std.proofs.lemmas.List.Elements.{Contains-push_cases}
-use Rattle.p21_basics.proofs.Comparing.{is_at-other}
-use Rattle.p21_basics.proofs.Members.{Contains-none, at-behind, at-front}
-use Rattle.p21_schemas.specs.Schema.{Place}
+use Rattle.p21_spec_basics.proofs.Comparing.{is_at-other}
+use Rattle.p21_spec_basics.proofs.Members.{Contains-none, at-behind, at-front}
+use Rattle.p21_spec_schema.specs.Schema.{Place}
 use Rattle.p21_express_tables.specs.PlacePositions.{FindsPlaces, at_place, pair_cmp}
 
 then-first : (a o : Ordering) → is_eq a ≡ false → is_eq (ordering_then a o) ≡ false

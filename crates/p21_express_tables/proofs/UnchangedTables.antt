@@ -5,16 +5,16 @@ use Rattle.std.specs.List.{AllZip, flat_map}
 use Rattle.std.specs.Option.{option_map}
 use Rattle.std.proofs.Common.{arith, ap, sym, ◌∙◌, subst}
 use Rattle.std.proofs.lemmas.Option.{slice_get-map}
-use Rattle.p21_schemas.specs.Order.{order, order_within, first_occurrences}
-use Rattle.p21_schemas.specs.Schema.{Schema, Entity, TypeUse, Member, entity_member, type_member, EntityNamed, kind_of}
-use Rattle.p21_schemas.specs.Select.{IsNoSelect, Offers, offered, offered_within}
-use Rattle.p21_schemas.specs.Supertype.{supertypes_of}
+use Rattle.p21_spec_schema.specs.Order.{order, order_within, first_occurrences}
+use Rattle.p21_spec_schema.specs.Schema.{Schema, Entity, TypeUse, Member, entity_member, type_member, EntityNamed, kind_of}
+use Rattle.p21_spec_schema.specs.Select.{IsNoSelect, Offers, offered, offered_within}
+use Rattle.p21_spec_schema.specs.Supertype.{supertypes_of}
 use Rattle.p21_express_graph.specs.DirectRenaming.{ComesTo, at_itself, through, AreEnds}
 use Rattle.p21_express_graph.specs.Offered.{AreOffered}
 use Rattle.p21_express_graph.specs.Orders.{AreOrders, numbers, supertype_lists}
 use Rattle.p21_express_graph.specs.Ranking.{IsRanking}
 use Rattle.p21_express_graph.specs.Redeclaring.{redeclaring_each, redeclaring_schema}
-use Rattle.p21_express_graph.specs.SettledOrder.{lists_of, nexts_of}
+use Rattle.p21_express_graph.specs.SettledOrder.{nexts_of}
 use Rattle.p21_express_graph.proofs.SameEntities.{each-same}
 use Rattle.p21_express_graph.proofs.Gatherings.{mapped-length}
 use Rattle.p21_express_graph.proofs.Naming.{named}

@@ -1,7 +1,7 @@
 -- Proper supertypes of entities.
 use Rattle.std.specs.Prelude.{◌≢◌, ◌↔◌, ℕ, List, Contains}
-use Rattle.p21_schemas.specs.Schema.{Schema}
-use Rattle.p21_schemas.specs.Supertype.{IsA}
+use Rattle.p21_spec_schema.specs.Schema.{Schema}
+use Rattle.p21_spec_schema.specs.Supertype.{IsA}
 
 -- the second is a direct or indirect supertype of the first
 abbrev pub IsAbove : Schema → ℕ → ℕ → Type 0

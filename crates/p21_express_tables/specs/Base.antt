@@ -1,8 +1,8 @@
 -- What a type comes down to where a declared type just renames another one (ISO 10303-11, Defined data type).
 use Rattle.std.specs.Prelude.{◌≡◌, ℕ, Some}
-use Rattle.p21_schemas.specs.Schema.{Schema, TypeUse, defined, items, kind_of}
-use Rattle.p21_schemas.specs.Select.{IsSelect}
-use Rattle.p21_express_types.specs.Meaning.{type_use}
+use Rattle.p21_spec_schema.specs.Schema.{Schema, TypeUse, defined, items, kind_of}
+use Rattle.p21_spec_schema.specs.Select.{IsSelect}
+use Rattle.p21_express_graph.specs.Meaning.{type_use}
 use Rattle.p21_express_graph.specs.DirectRenaming.{ComesTo, IsPlain}
 use Rattle.p21_express_tables.specs.declared.base.Base.{Base}
 use Rattle.p21_express_tables.specs.declared.base.Base.TheVariants.{Plain, Items, Select}

@@ -2,7 +2,7 @@
 use Rattle.std.specs.Prelude.{◌≡◌, ℕ, Bool, List, [], ◌∷◌, Option, Some, None, ◌⊎◌, refl}
 use Rattle.std.proofs.Common.{ap, inl, inr}
 use Rattle.std.specs.Coded.{Coded, code_by, coded_ℕ, coded_bool, coded_list, coded_option, coded×, coded⊎}
-use Rattle.p21_schemas.specs.Schema.{Place, Width, TypeUse, whole, real, number, boolean, logical, text, bits, entity, defined, array, list, set, bag, Member, entity_member, type_member, Kind, alias, items, choice, Attribute, Redeclared, Entity, Defined, Schema}
+use Rattle.p21_spec_schema.specs.Schema.{Place, Width, TypeUse, whole, real, number, boolean, logical, text, bits, entity, defined, array, list, set, bag, Member, entity_member, type_member, Kind, alias, items, choice, Attribute, Redeclared, Entity, Defined, Schema}
 
 abbrev place_code : Coded Place
 place_code = code_by (ℕ × ℕ) (coded× coded_ℕ coded_ℕ) (λ p. (p.entity, p.index)) (λ p. record { entity = p.0; index = p.1 }) (λ _. refl)

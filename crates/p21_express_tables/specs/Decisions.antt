@@ -1,9 +1,9 @@
 -- What decides on the type at a place of a set of entities.
 use Rattle.std.specs.Prelude.{◌≡◌, ◌⊎◌, ℕ, List, Option, Some, None, slice_get, Contains}
-use Rattle.p21_schemas.specs.Schema.{Schema, Place, Entity, Redeclared as MeantRedeclared}
-use Rattle.p21_schemas.specs.PlaceType.{two_redeclarations, TypeAt, IsDerivedIn, IsRedeclared, Decides}
-use Rattle.p21_schemas.specs.Supertype.{IsA}
-use Rattle.p21_express_types.specs.declared.number.EntityId.{EntityId}
+use Rattle.p21_spec_schema.specs.Schema.{Schema, Place, Entity, Redeclared as MeantRedeclared}
+use Rattle.p21_spec_schema.specs.PlaceType.{two_redeclarations, TypeAt, IsDerivedIn, IsRedeclared, Decides}
+use Rattle.p21_spec_schema.specs.Supertype.{IsA}
+use Rattle.p21_express_graph.specs.declared.number.EntityId.{EntityId}
 use Rattle.p21_express_graph.specs.Lookups.{DerivesPlace, RedeclaresAt}
 use Rattle.p21_express_tables.specs.declared.place_types.Decision.{Decision}
 use Rattle.p21_express_tables.specs.declared.place_types.Decision.TheVariants.{Declared, Derived, Redeclared, Two}

@@ -1,6 +1,6 @@
 -- Entities in a row, wherever they lie.
 use Rattle.std.specs.Prelude.{List}
-use Rattle.p21_express_types.specs.declared.number.EntityId.{EntityId}
+use Rattle.p21_express_graph.specs.declared.number.EntityId.{EntityId}
 use Rattle.p21_express_tables.specs.declared.ids.Held.{Held}
 use Rattle.p21_express_tables.specs.declared.ids.Held.TheVariants.{Kept, Own}
 

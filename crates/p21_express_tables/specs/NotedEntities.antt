@@ -1,6 +1,6 @@
 -- The ONEOF lists in which entities stand, each with the entity that was noted at it.
 use Rattle.std.specs.Prelude.{◌≡◌, ◌≢◌, ◌≤◌, ℕ, List, Option, None, Some, length, nat_eq, slice_get, Contains, if◌then◌else◌}
-use Rattle.p21_schemas.specs.Schema.{Schema}
+use Rattle.p21_spec_schema.specs.Schema.{Schema}
 use Rattle.p21_express_tables.specs.OneOf.{IsListedIn}
 use Rattle.p21_express_tables.specs.declared.holders.Holder.{Holder}
 

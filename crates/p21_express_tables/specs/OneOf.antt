@@ -1,7 +1,7 @@
 -- The ONEOF lists of a schema, by their numbers.
 use Rattle.std.specs.Prelude.{◌≡◌, ◌≢◌, ◌↔◌, ℕ, List, Some, slice_get, Contains}
 use Rattle.std.specs.List.Sorted.{IsStrictlyIncreasing}
-use Rattle.p21_schemas.specs.Schema.{Schema}
+use Rattle.p21_spec_schema.specs.Schema.{Schema}
 use Rattle.p21_express_graph.specs.SettledOrder.{nexts_of}
 
 -- the list of this number has the entity

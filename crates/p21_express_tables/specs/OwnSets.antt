@@ -1,9 +1,9 @@
 -- What holds of the set that an entity and its supertypes make.
 use Rattle.std.specs.Prelude.{◌≡◌, ◌↔◌, ℕ, Bool, IsTrue, List, Some, slice_get, Contains}
-use Rattle.p21_schemas.specs.Schema.{Schema, Place, IsAbstract}
-use Rattle.p21_schemas.specs.OneOf.{Clashes}
-use Rattle.p21_schemas.specs.Order.{order, places}
-use Rattle.p21_schemas.specs.PlaceType.{two_redeclarations, TypeAt}
+use Rattle.p21_spec_schema.specs.Schema.{Schema, Place, IsAbstract}
+use Rattle.p21_spec_schema.specs.OneOf.{Clashes}
+use Rattle.p21_spec_schema.specs.Order.{order, places}
+use Rattle.p21_spec_schema.specs.PlaceType.{two_redeclarations, TypeAt}
 use Rattle.p21_express_tables.specs.declared.own_sets.OwnFaults.{OwnFaults}
 
 -- redeclarations leave the place of the set open

@@ -3,7 +3,7 @@ use Rattle.std.specs.Prelude.{◌≡◌, ℕ, List, Option, Some, None, slice_ge
 use Rattle.std.specs.BTreeMap.{BTreeMap, get}
 use Rattle.std.specs.Ordering.{nat_cmp, ordering_then}
 use Rattle.std.specs.declared.cmp.Ordering.{Ordering}
-use Rattle.p21_schemas.specs.Schema.{Place}
+use Rattle.p21_spec_schema.specs.Schema.{Place}
 use Rattle.p21_express_tables.specs.declared.place_positions.PlacePositions.{PlacePositions}
 
 -- by the first number, then by the second

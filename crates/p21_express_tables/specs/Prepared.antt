@@ -1,5 +1,5 @@
 -- The tables that are prepared for the look-ups of a schema.
-use Rattle.p21_schemas.specs.Schema.{Schema, entity_member, type_member}
+use Rattle.p21_spec_schema.specs.Schema.{Schema, entity_member, type_member}
 use Rattle.p21_express_graph.specs.Above.{AreAbove}
 use Rattle.p21_express_graph.specs.Prefixes.{AreRunPrefixes, lists_in}
 use Rattle.p21_express_graph.specs.Indexes.{AreIndexes}

@@ -2,8 +2,8 @@
 use Rattle.std.specs.Prelude.{◌≡◌, ◌<◌, ◌⊎◌, ◌++◌, ℕ, List, [], Option, Some, None, length, map, slice_get, Contains}
 use Rattle.std.specs.Prelude as std
 use Rattle.std.specs.declared.alloc.Global.{Global}
-use Rattle.p21_schemas.specs.Schema.{Schema, Place, Entity}
-use Rattle.p21_express_types.specs.declared.number.EntityId.{EntityId}
+use Rattle.p21_spec_schema.specs.Schema.{Schema, Place, Entity}
+use Rattle.p21_express_graph.specs.declared.number.EntityId.{EntityId}
 use Rattle.p21_express_graph.specs.Lookups.{DerivesPlace}
 use Rattle.p21_express_graph.specs.Orders.{numbers}
 use Rattle.p21_express_graph.specs.Resolved.{IsEntity}

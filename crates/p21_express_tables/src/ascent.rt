@@ -1,7 +1,7 @@
 ghost use Rattle.std.specs.Prelude.{◌≡◌, ◌↔◌, ◌⊎◌, ◌<◌, [], ℕ, length, Contains, IfOk, OnOk};
 ghost use Rattle.std.specs.List.Sorted.{IsStrictlyIncreasing};
-ghost use Rattle.p21_schemas.specs.Declared.{HasSupertype};
-ghost use Rattle.p21_schemas.specs.Supertype.{IsA, supertypes_of};
+ghost use Rattle.p21_spec_schema.specs.Declared.{HasSupertype};
+ghost use Rattle.p21_spec_schema.specs.Supertype.{IsA, supertypes_of};
 ghost use Rattle.p21_express_graph.specs.Lookups.{AreEntities};
 ghost use Rattle.p21_express_graph.specs.Orders.{numbers};
 ghost use Rattle.p21_express_graph.specs.Resolved.{IsEntity};
@@ -9,8 +9,7 @@ ghost use Rattle.p21_express_tables.specs.Above.{AreAbove};
 ghost use Rattle.p21_express_tables.specs.Ascent.{Ascends, AscendsFurther};
 
 use crate::schema::Schema;
-use p21_express_graph::rising_numbers;
-use p21_express_types::EntityId;
+use p21_express_graph::{EntityId, rising_numbers};
 use p21_values::NoMemory;
 use std::alloc::Global;
 

@@ -1,12 +1,11 @@
-ghost use Rattle.p21_schemas.specs.Schema.{defined};
-ghost use Rattle.p21_express_types.specs.Meaning.{type_use};
+ghost use Rattle.p21_spec_schema.specs.Schema.{defined};
+ghost use Rattle.p21_express_graph.specs.Meaning.{type_use};
 ghost use Rattle.p21_express_graph.specs.DirectRenaming.{IsEnd};
 ghost use Rattle.p21_express_graph.specs.Resolved.{IsType, IsTypeUse};
 ghost use Rattle.p21_express_tables.specs.Base.{HasBase};
 
 use crate::schema::Schema;
-use p21_express_graph::declared;
-use p21_express_types::{TypeId, TypeKind, TypeUse, Words};
+use p21_express_graph::{TypeId, TypeKind, TypeUse, Words, declared};
 
 /// What a type comes down to where declared types just rename others (ISO 10303-11, Defined data type).
 #[derive(Debug, Drop)]

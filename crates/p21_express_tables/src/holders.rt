@@ -2,21 +2,21 @@ ghost use Rattle.std.specs.Prelude.{◌≡◌, ◌≢◌, ◌↔◌, ◌++◌, �
 ghost use Rattle.std.specs.List.{AllByRecursion as Each};
 ghost use Rattle.std.specs.BTreeMap.{get};
 ghost use Rattle.std.specs.Ordering.{nat_cmp};
-ghost use Rattle.p21_schemas.specs.OneOf.{Clashes};
-ghost use Rattle.p21_schemas.specs.Order.{order};
+ghost use Rattle.p21_spec_schema.specs.OneOf.{Clashes};
+ghost use Rattle.p21_spec_schema.specs.Order.{order};
 ghost use Rattle.p21_express_graph.specs.Orders.{numbers};
 ghost use Rattle.p21_express_graph.specs.Resolved.{IsEntity};
 ghost use Rattle.p21_express_tables.specs.NotedEntities.{AreNoted, IsNone, NoneNoted, Notes, NotesSet, noted_in};
 ghost use Rattle.p21_express_tables.specs.OneOf.{ClashesWith};
 
 use crate::schema::Schema;
-use p21_express_types::EntityId;
+use p21_express_graph::EntityId;
 use p21_values::NoMemory;
 use std::alloc::Global;
 use std::collections::BTreeMap;
 
 /// So many entities are looked at in pairs.
-const FEW: usize = 16;
+const MOST_IN_PAIRS: usize = 16;
 
 /// For each ONEOF list the entity that was noted there last.
 #[derive(Drop)]
@@ -99,7 +99,7 @@ impl Schema {
     pub fn find_clash(&self, entities: &[EntityId]) -> Result<bool, NoMemory>
         ensures { IfOk result (λ clash. IsTrue clash ↔ Clashes self.now (numbers entities.now)) }
     {
-        if entities.len() <= FEW {
+        if entities.len() <= MOST_IN_PAIRS {
             return Ok(self.clashes(entities));
         }
         self.find_noted(entities)

@@ -1,6 +1,6 @@
 ghost use Rattle.std.specs.Prelude.{◌≡◌};
 
-use p21_express_types::EntityId;
+use p21_express_graph::EntityId;
 use std::marker::Model;
 
 /// Entities in a row: those that a schema keeps, or others.
@@ -17,7 +17,7 @@ enum Held<'a> {
 
 impl<'a> Model for Ids<'a> {
     ghost use Rattle.std.specs.Prelude.{List};
-    ghost use Rattle.p21_express_types.specs.declared.number.EntityId.{EntityId};
+    ghost use Rattle.p21_express_graph.specs.declared.number.EntityId.{EntityId};
     ghost use Rattle.p21_express_tables.specs.Ids.{held_items};
 
     ghost Value = { List EntityId };

@@ -1,20 +1,22 @@
-ghost use Rattle.std.specs.Prelude.{◌≡◌, ◌<◌, ◌↔◌, IsTrue, length, Contains, IfOk, OnErr, OnOk};
-ghost use Rattle.p21_schemas.specs.Schema.{Place as MeantPlace};
-ghost use Rattle.p21_schemas.specs.OneOf.{Clashes};
-ghost use Rattle.p21_schemas.specs.Order.{order, own_places};
-ghost use Rattle.p21_schemas.specs.PlaceType.{TypeAt, two_redeclarations};
-ghost use Rattle.p21_express_types.specs.Meaning.{place as place_of, place_type};
+ghost use Rattle.std.specs.Prelude.{◌≡◌, ◌<◌, ◌↔◌, ℕ, IsTrue, length, Contains, IfOk, OnErr, OnOk};
+ghost use Rattle.p21_spec_schema.specs.Schema.{Place as MeantPlace};
+ghost use Rattle.p21_spec_schema.specs.OneOf.{Clashes};
+ghost use Rattle.p21_spec_schema.specs.Order.{order, own_places};
+ghost use Rattle.p21_spec_schema.specs.PlaceType.{TypeAt, two_redeclarations};
+ghost use Rattle.p21_spec_schema.specs.Supertype.{IsA};
+ghost use Rattle.p21_express_graph.specs.Meaning.{place as place_of, place_type};
 ghost use Rattle.p21_express_graph.specs.Orders.{numbers};
 ghost use Rattle.p21_express_graph.specs.Resolved.{IsEntity, IsPlace};
 ghost use Rattle.p21_express_graph.specs.Rising.{IsOwnRising};
 ghost use Rattle.p21_express_tables.specs.Decisions.{IsDecision};
 ghost use Rattle.p21_express_tables.specs.OwnSets.{AreOwnClashes, HasOwnFaults, LeavesOpen};
+ghost use Rattle.p21_express_tables.specs.Redeclarers.{RedeclaresPlace};
 
 use crate::holders::Holders;
 use crate::ids::Ids;
 use crate::place_types::Decision;
 use crate::schema::Schema;
-use p21_express_types::{EntityId, Place, PlaceType};
+use p21_express_graph::{EntityId, Place, PlaceType};
 use p21_values::NoMemory;
 
 /// What makes the set of an entity and its supertypes no set of an instance.
@@ -81,12 +83,57 @@ impl Schema {
         if redeclarers.is_empty() {
             return Decision::Declared;
         }
+        if redeclarers.len() == 1 {
+            return self.decision_of_one(entity, redeclarers[0], place);
+        }
         let order = self.order_of(entity);
         if redeclarers.len() < order.len() {
             self.decision_among(redeclarers, Some(entity), place)
         } else {
             self.decision_among(order, Some(entity), place)
         }
+    }
+
+    /// The same where no other entity redeclares the place.
+    fn decision_of_one(&self, entity: EntityId, only: EntityId, place: Place) -> Decision
+        requires entity { IsEntity self.now entity.0 }
+        requires only_is { IsEntity self.now only.0 }
+        requires only { (e : ℕ) → RedeclaresPlace self.now e (place_of place) → e ≡ only.0 }
+        ensures { IsDecision self.now (order self.now entity.0) (place_of place) result }
+    {
+        self.holds_together();
+        if !self.descends(entity, only) {
+            return Decision::Declared;
+        }
+        if self.derives(only, None, place) {
+            return Decision::Derived;
+        }
+        match self.redeclaration(only, place) {
+            Some(at) => Decision::Redeclared(only, at),
+            None => Decision::Declared,
+        }
+    }
+
+    /// Whether an entity is another one or a subtype of it. Where the order of the one begins with that of the other, no
+    /// supertype is looked up.
+    fn descends(&self, entity: EntityId, other: EntityId) -> bool
+        requires entity { IsEntity self.now entity.0 }
+        requires other { IsEntity self.now other.0 }
+        ensures { IsTrue result ↔ IsA self.now entity.0 other.0 }
+    {
+        self.begins_with(entity, other) || self.is_a(entity, other)
+    }
+
+    /// Whether the orders of two entities are fronts of one run, that of the other one no longer.
+    fn begins_with(&self, entity: EntityId, other: EntityId) -> bool
+        requires entity { IsEntity self.now entity.0 }
+        requires other { IsEntity self.now other.0 }
+        ensures { IsTrue result → IsA self.now entity.0 other.0 }
+    {
+        self.holds_together();
+        let whole = self.tables.orders.prefix_of(entity.0);
+        let front = self.tables.orders.prefix_of(other.0);
+        front.run == whole.run && front.size <= whole.size
     }
 
     /// Prepares whether the own sets of all entities clash.

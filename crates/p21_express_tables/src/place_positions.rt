@@ -1,11 +1,10 @@
 ghost use Rattle.std.specs.Prelude.{◌≡◌, ◌++◌, List, map, slice_get, Contains, IfOk, OnOk, MatchOption, Some};
-ghost use Rattle.p21_schemas.specs.Schema.{Place as MeantPlace};
-ghost use Rattle.p21_express_types.specs.Meaning.{place as place_of};
+ghost use Rattle.p21_spec_schema.specs.Schema.{Place as MeantPlace};
+ghost use Rattle.p21_express_graph.specs.Meaning.{place as place_of};
 ghost use Rattle.p21_express_graph.specs.SchemaContents.{redeclared as redeclared_of};
 ghost use Rattle.p21_express_tables.specs.PlacePositions.{HavePositions};
 
-use p21_express_graph::Redeclared;
-use p21_express_types::Place;
+use p21_express_graph::{Place, Redeclared};
 use p21_values::NoMemory;
 use std::alloc::Global;
 use std::collections::BTreeMap;

@@ -1,7 +1,7 @@
 ghost use Rattle.std.specs.Prelude.{◌≡◌, ◌↔◌, ℕ, List, IsTrue, Contains, MatchOption, IfSome, Some};
-ghost use Rattle.p21_schemas.specs.Schema.{Redeclared as MeantRedeclared};
-ghost use Rattle.p21_schemas.specs.PlaceType.{TypeAt, IsDerivedIn};
-ghost use Rattle.p21_express_types.specs.Meaning.{place as place_of, place_type};
+ghost use Rattle.p21_spec_schema.specs.Schema.{Redeclared as MeantRedeclared};
+ghost use Rattle.p21_spec_schema.specs.PlaceType.{TypeAt, IsDerivedIn};
+ghost use Rattle.p21_express_graph.specs.Meaning.{place as place_of, place_type};
 ghost use Rattle.p21_express_graph.specs.Lookups.{AreEntities};
 ghost use Rattle.p21_express_graph.specs.Orders.{numbers};
 ghost use Rattle.p21_express_graph.specs.SchemaContents.{redeclared as redeclared_of};
@@ -9,11 +9,10 @@ ghost use Rattle.p21_express_graph.specs.Resolved.{IsEntity, IsPlace};
 ghost use Rattle.p21_express_tables.specs.Decisions.{AreMembers, Counts, IsBelowAll, IsBelowLast, IsDecision, IsDeriving, IsLowest, IsRedeclaredAs, IsRedeclarer, IsRedeclaring};
 
 use crate::schema::Schema;
-use p21_express_graph::Redeclared;
-use p21_express_types::{EntityId, Place, PlaceType};
+use p21_express_graph::{EntityId, Place, PlaceType, Redeclared};
 
 /// So many entities are asked for a place, one after another.
-const FEW: usize = 1;
+const MOST_ASKED_FOR_A_PLACE: usize = 1;
 
 /// What decides on the type at a place of an instance.
 #[derive(Clone, Copy, Debug, Drop)]
@@ -73,7 +72,7 @@ impl Schema {
         requires { AreEntities self.now (numbers entities.now) }
         ensures { IsDecision self.now (numbers entities.now) (place_of place) result }
     {
-        if entities.len() > FEW && self.redeclarers_of(place).is_empty() {
+        if entities.len() > MOST_ASKED_FOR_A_PLACE && self.redeclarers_of(place).is_empty() {
             return Decision::Declared;
         }
         self.decision_among(entities, None, place)
@@ -197,7 +196,7 @@ impl Schema {
     }
 
     /// Whether an entity counts, and derives a place.
-    fn derives(&self, entity: EntityId, own: Option<EntityId>, place: Place) -> bool
+    pub(crate) fn derives(&self, entity: EntityId, own: Option<EntityId>, place: Place) -> bool
         requires entity { IsEntity self.now entity.0 }
         requires own { IfSome own (λ e. IsEntity self.now e.0) }
         ensures { IsTrue result ↔ IsDeriving self.now own (place_of place) entity.0 }
@@ -233,7 +232,7 @@ impl Schema {
     }
 
     /// Where in its list an entity redeclares a place as an explicit attribute.
-    fn redeclaration(&self, entity: EntityId, place: Place) -> Option<usize>
+    pub(crate) fn redeclaration(&self, entity: EntityId, place: Place) -> Option<usize>
         requires { IsEntity self.now entity.0 }
         ensures { MatchOption result (IsRedeclarer self.now (place_of place) entity.0 → ⊥) (λ at. (r : MeantRedeclared) × IsRedeclaredAs self.now entity.0 at r × (r.place ≡ place_of place)) }
     {

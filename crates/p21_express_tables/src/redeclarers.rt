@@ -1,6 +1,6 @@
 ghost use Rattle.std.specs.Prelude.{◌≡◌, ◌≢◌, ◌++◌, ◌∷◌, [], ◌<◌, ◌≤◌, ◌^◌, ℕ, length, map, slice_get, Contains, IfOk, OnOk, Some};
-ghost use Rattle.p21_schemas.specs.Schema.{Entity as MeantEntity, Place as MeantPlace, Schema as Meant};
-ghost use Rattle.p21_express_types.specs.Meaning.{place as place_of};
+ghost use Rattle.p21_spec_schema.specs.Schema.{Entity as MeantEntity, Place as MeantPlace, Schema as Meant};
+ghost use Rattle.p21_express_graph.specs.Meaning.{place as place_of};
 ghost use Rattle.p21_express_graph.specs.Orders.{numbers};
 ghost use Rattle.p21_express_graph.specs.SchemaContents.{schema_of, entity as entity_of};
 ghost use Rattle.p21_express_graph.specs.Resolved.{HoldsTogether, IsEntity};
@@ -8,8 +8,7 @@ ghost use Rattle.p21_express_tables.specs.Redeclarers.{AddsRedeclarer, AreNone, 
 
 use crate::place_positions::{PlacePositions, places_of};
 use crate::schema::Schema;
-use p21_express_graph::{Entity, SchemaContents};
-use p21_express_types::{EntityId, Place};
+use p21_express_graph::{Entity, EntityId, Place, SchemaContents};
 use p21_values::NoMemory;
 use std::alloc::Global;
 use std::collections::BTreeMap;

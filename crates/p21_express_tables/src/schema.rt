@@ -1,12 +1,12 @@
 ghost use Rattle.std.specs.Prelude.{◌≡◌, ◌↔◌, ℕ, IsTrue, length, map, ◌++◌, slice_get, Contains, MatchOption, IfOk, OnOk, Some};
-ghost use Rattle.p21_schemas.specs.Schema.{EntityNamed, TypeNamed, PlaceNamed, IsAbstract, entity_member, kind_of, attribute_at, attributes_of};
-ghost use Rattle.p21_schemas.specs.Select.{Offers};
-ghost use Rattle.p21_schemas.specs.Supertype.{IsA, AreLeaves};
-ghost use Rattle.p21_schemas.specs.WellFormed.{IsWellFormed};
+ghost use Rattle.p21_spec_schema.specs.Schema.{EntityNamed, TypeNamed, PlaceNamed, IsAbstract, entity_member, kind_of, attribute_at, attributes_of};
+ghost use Rattle.p21_spec_schema.specs.Select.{Offers};
+ghost use Rattle.p21_spec_schema.specs.Supertype.{IsA, AreLeaves};
+ghost use Rattle.p21_spec_schema.specs.WellFormed.{IsWellFormed};
 ghost use Rattle.p21_express_graph.specs.Lookups.{AreEntities};
-ghost use Rattle.p21_schemas.specs.Order.{order, places, own_places};
+ghost use Rattle.p21_spec_schema.specs.Order.{order, places, own_places};
 ghost use Rattle.p21_express_graph.specs.Orders.{numbers};
-ghost use Rattle.p21_express_types.specs.Meaning.{place as place_of, kind, member as member_of};
+ghost use Rattle.p21_express_graph.specs.Meaning.{place as place_of, kind, member as member_of};
 ghost use Rattle.p21_express_graph.specs.Resolved.{HoldsTogether, IsEntity, IsType, IsPlace};
 ghost use Rattle.p21_express_graph.specs.SchemaContents.{schema_of, AreNamed, entity as entity_of, attribute as attribute_of, defined as defined_of};
 ghost use Rattle.p21_express_graph.specs.Redeclaring.{redeclaring, redeclaring_schema};
@@ -16,10 +16,10 @@ use crate::redeclarers::all_redeclared;
 use crate::rising::all_rising_sets;
 use crate::tables::Tables;
 use p21_express_graph::{
-    Attribute, Defined, Entity, Redeclarations, SchemaContents, all_ends, all_offered, all_orders,
-    contents_with, fronts_above, indexes_of, is_among, rank_entities,
+    Attribute, Defined, Entity, EntityId, Member, Place, Redeclarations, SchemaContents, TypeId,
+    TypeKind, all_above, all_ends, all_offered, all_orders, contents_with, indexes_of, is_among,
+    rank_entities,
 };
-use p21_express_types::{EntityId, Member, Place, TypeId, TypeKind};
 use p21_values::NoMemory;
 use std::alloc::Global;
 use std::fmt;
@@ -51,7 +51,7 @@ impl fmt::Debug for Schema {
 }
 
 impl Model for Schema {
-    ghost use Rattle.p21_schemas.specs.Schema.{Schema as Meant};
+    ghost use Rattle.p21_spec_schema.specs.Schema.{Schema as Meant};
     ghost use Rattle.p21_express_tables.specs.Coding.{schema_code};
 
     ghost Value = { Meant };
@@ -94,7 +94,7 @@ impl Schema {
         ensures { IfOk result (λ schema. schema ≡ schema_of parts) }
     {
         let orders = all_orders(alloc, &parts)?;
-        let above = fronts_above(alloc, &parts, &orders)?;
+        let above = all_above(alloc, &parts, &orders)?;
         let indexes = indexes_of(alloc, parts.entities.len(), &orders.runs, &above)?;
         let offered = all_offered(alloc, &parts)?;
         let listed_in = all_listed_in(alloc, &parts)?;
@@ -232,8 +232,11 @@ impl Schema {
         if sub.0 == sup.0 {
             return true;
         }
-        let front = self.tables.above[sub.0 as usize];
-        self.tables.indexes[front.run].has(sup.0, front.size)
+        let above = &self.tables.above[sub.0 as usize];
+        if self.tables.indexes[above.front.run].has(sup.0, above.front.size) {
+            return true;
+        }
+        is_among(&above.others, sup.0)
     }
 
     /// The order of an entity in an instance (ISO 10303-21, Mapping of EXPRESS entity data types: internal mapping).

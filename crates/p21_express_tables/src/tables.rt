@@ -1,14 +1,13 @@
 use crate::redeclarers::RedeclaredPlaces;
-use p21_express_graph::{Index, Offered, PrefixLists, Ranking, RunPrefix};
-use p21_express_types::EntityId;
+use p21_express_graph::{Above, EntityId, Index, Offered, PrefixLists, Ranking};
 
 /// The tables that are prepared for the look-ups of a schema.
 #[derive(Drop)]
 pub(crate) struct Tables {
     pub(crate) orders: PrefixLists,
-    // Of each entity, the front that has its proper supertypes.
-    pub(crate) above: Vec<RunPrefix>,
-    // Of each run of the orders that such a front is of.
+    // Of each entity, what has its proper supertypes.
+    pub(crate) above: Vec<Above>,
+    // Of each run of the orders of which a front is taken there.
     pub(crate) indexes: Vec<Index>,
     pub(crate) offered: Offered,
     // For each entity the numbers of the ONEOF lists with it, rising.

@@ -1,8 +1,8 @@
-ghost use Rattle.p21_schemas.specs.Schema.{EntityNamed, TypeNamed};
+ghost use Rattle.p21_spec_schema.specs.Schema.{EntityNamed, TypeNamed};
 ghost use Rattle.p21_express_graph.specs.Resolved.{IsEntity, IsType};
 
 use crate::schema::Schema;
-use p21_express_types::{EntityId, TypeId};
+use p21_express_graph::{EntityId, TypeId};
 use p21_values::Word;
 
 impl Schema {

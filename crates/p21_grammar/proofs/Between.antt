@@ -5,14 +5,14 @@ use Rattle.std.specs.Option.{is_some}
 use Rattle.std.specs.Prelude.{◌↔◌, IsTrue}
 use Rattle.std.specs.List.{flat_map, AllByRecursion as Each}
 use Rattle.std.proofs.lemmas.Grind.{flat_map-append}
-use Rattle.p21_basics.specs.History.{first_refusal}
-use Rattle.p21_exchange.proofs.Semicolons.{Each-append, statements-end}
-use Rattle.p21_exchange.specs.DataSection.{unnamed, named}
-use Rattle.p21_exchange.specs.OpenNesting.{IsDepth}
-use Rattle.p21_exchange.specs.Parameter.{key_token, params_tokens}
-use Rattle.p21_exchange.specs.Record.{Record}
-use Rattle.p21_exchange.specs.Statement.{Statement, begin, header_start, section_end, data_start, finish, statement_tokens}
-use Rattle.p21_exchange.specs.Token.{Token, left}
+use Rattle.p21_spec_basics.specs.History.{first_refusal}
+use Rattle.p21_spec_exchange.proofs.Semicolons.{Each-append, statements-end}
+use Rattle.p21_spec_exchange.specs.DataSection.{unnamed, named}
+use Rattle.p21_spec_exchange.specs.OpenNesting.{IsDepth}
+use Rattle.p21_spec_exchange.specs.Parameter.{key_token, params_tokens}
+use Rattle.p21_spec_exchange.specs.Record.{Record}
+use Rattle.p21_spec_exchange.specs.Statement.{Statement, begin, header_start, section_end, data_start, finish, statement_tokens}
+use Rattle.p21_spec_exchange.specs.Token.{Token, left}
 use Rattle.p21_grammar.proofs.Holding.{held_at, history-ran, walk-append}
 use Rattle.p21_grammar.proofs.Theorems.{given_first, begin_file}
 use Rattle.p21_grammar.proofs.Walks.{unnamed-walk, named-walk, instances-sound}

@@ -1,14 +1,14 @@
 -- How many lists and typed parameters are open behind the tokens that are held.
 use Rattle.std.proofs.Common.{◌≡◌, ℕ, ◌+◌, ◌-◌, ◌≤◌, suc, Bool, true, false, List, [], ◌∷◌, ◌++◌, length, refl, ap, sym, ◌∙◌, arith, append_assoc, subst}
 use Rattle.std.specs.List.{flat_map}
-use Rattle.p21_exchange.proofs.Parentheses.{lefts-append, rights-append, IsBalanced, params-balanced, param-balanced, parts-balanced}
-use Rattle.p21_exchange.specs.DataSection.{unnamed, named, data_part}
-use Rattle.p21_exchange.specs.OpenNesting.{left_count, right_count, open_depth}
-use Rattle.p21_exchange.specs.Parameter.{Key, Params, no_params, param, key_token, param_tokens, params_tokens}
-use Rattle.p21_exchange.specs.Record.{Part, Record, simple, complex, part_tokens, record_tokens}
-use Rattle.p21_exchange.specs.Statement.{SectionLine, begin, header_start, section_end, data_start, finish}
-use Rattle.p21_exchange.specs.Token as token
-use Rattle.p21_exchange.specs.Token.{Token}
+use Rattle.p21_spec_exchange.proofs.Parentheses.{lefts-append, rights-append, IsBalanced, params-balanced, param-balanced, parts-balanced}
+use Rattle.p21_spec_exchange.specs.DataSection.{unnamed, named, data_part}
+use Rattle.p21_spec_exchange.specs.OpenNesting.{left_count, right_count, open_depth}
+use Rattle.p21_spec_exchange.specs.Parameter.{Key, Params, no_params, param, key_token, param_tokens, params_tokens}
+use Rattle.p21_spec_exchange.specs.Record.{Part, Record, simple, complex, part_tokens, record_tokens}
+use Rattle.p21_spec_exchange.specs.Statement.{SectionLine, begin, header_start, section_end, data_start, finish}
+use Rattle.p21_spec_exchange.specs.Token as token
+use Rattle.p21_spec_exchange.specs.Token.{Token}
 use Rattle.p21_grammar.proofs.Follows.{IsNested, IsFine, room-of}
 use Rattle.p21_grammar.specs.Runs.{ready_tokens, head_tokens, opening_tokens, row_tokens, stack_tokens, pending}
 use Rattle.p21_grammar.specs.Machine.{Head, bare, simply, among, Opening, part_row, list_row, typed_row, Open, open_at, Spot, idle, line, named as name_taken, equal, inside, keyed, next, word, behind, record_end, instance_end, depth_of}

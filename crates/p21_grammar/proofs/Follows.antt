@@ -6,14 +6,14 @@ use Rattle.std.proofs.lemmas.Slice.Eq.{bytes_eq-Decides}
 use Rattle.std.specs.Prelude.{if◌then◌else◌, nat_lt, codes}
 use Rattle.std.specs.List.{flat_map, AllByRecursion as Each}
 use Rattle.std.specs.Str.{bytes_eq}
-use Rattle.p21_exchange.specs.DataSection.{unnamed, heading_of}
-use Rattle.p21_exchange.specs.Grammar.{IsShallowPart}
-use Rattle.p21_exchange.specs.Nesting.{depth, params_depth}
-use Rattle.p21_exchange.specs.Parameter.{Key, key_of, Param, dollar, star, whole, real, text, name, item, bits, list, typed, Params, no_params, param, key_token, param_tokens, params_tokens, more_tokens}
-use Rattle.p21_exchange.specs.Record.{Part, Record, parts_of, part_tokens}
-use Rattle.p21_exchange.specs.Statement.{SectionLine, Statement, section, header, instance, header_start, section_end, data_start, section_tokens, statement_tokens}
-use Rattle.p21_exchange.specs.Token as token
-use Rattle.p21_exchange.specs.Token.{Token}
+use Rattle.p21_spec_exchange.specs.DataSection.{unnamed, heading_of}
+use Rattle.p21_spec_exchange.specs.Grammar.{IsShallowPart}
+use Rattle.p21_spec_exchange.specs.Nesting.{depth, params_depth}
+use Rattle.p21_spec_exchange.specs.Parameter.{Key, key_of, Param, dollar, star, whole, real, text, name, item, bits, list, typed, Params, no_params, param, key_token, param_tokens, params_tokens, more_tokens}
+use Rattle.p21_spec_exchange.specs.Record.{Part, Record, parts_of, part_tokens}
+use Rattle.p21_spec_exchange.specs.Statement.{SectionLine, Statement, section, header, instance, header_start, section_end, data_start, section_tokens, statement_tokens}
+use Rattle.p21_spec_exchange.specs.Token as token
+use Rattle.p21_spec_exchange.specs.Token.{Token}
 use Rattle.p21_grammar.specs.Machine.{Head, bare, simply, among, Opening, part_row, list_row, typed_row, Open, open_at, Spot, idle, line, named as name_taken, equal, inside, keyed, next, word, behind, record_end, instance_end, Move, go, emit, refuse, ended, step, push, pushed, put, enter, close, close_typed, close_empty, closed_part, comma, at_next, at_keyed, end_keyword, end_heading, end_record, at_idle}
 use Rattle.p21_grammar.specs.Stage.{is_in_header, after, after_heading}
 use Rattle.p21_grammar.specs.Shape.{is_key, is_heading}
@@ -24,7 +24,7 @@ use Rattle.p21_grammar.specs.declared.stage.Stage.{Stage}
 use Rattle.p21_grammar.specs.declared.stage.Stage.TheVariants.{Start, Begun, Description, FileName, FileSchema, Further, Headed, Unnamed, Named, BehindUnnamed, BehindNamed, Ended}
 use Rattle.p21_grammar.proofs.Shapes.{key-is, heading-tokens}
 use Rattle.p21_grammar.specs.Runs.{ready_tokens, head_tokens, opening_tokens, row_tokens, stack_tokens, filled_tokens, pending}
-use Rattle.p21_basics.proofs.Members.{Each-append}
+use Rattle.p21_spec_basics.proofs.Members.{Each-append}
 
 -- where a parameter may begin: a typed parameter has none yet
 abbrev pub IsReady : Open → Type 0

@@ -2,11 +2,11 @@
 use Rattle.std.proofs.Common.{arith, ◌≡◌, ℕ, ◌≤◌, List, [], ◌∷◌, ◌++◌, Option, Some, None, Result, Ok, Err, refl, ap, sym, ◌∙◌, append_assoc, subst}
 use Rattle.std.proofs.lemmas.List.{append-nil}
 use Rattle.std.specs.List.{flat_map, AllByRecursion as Each}
-use Rattle.p21_basics.specs.History.{empty, extended, first_refusal}
-use Rattle.p21_exchange.proofs.Semicolons.{Each-append, statements-end}
-use Rattle.p21_exchange.specs.OpenNesting.{IsDepth}
-use Rattle.p21_exchange.specs.Statement.{Statement, statement_tokens}
-use Rattle.p21_exchange.specs.Token.{Token}
+use Rattle.p21_spec_basics.specs.History.{empty, extended, first_refusal}
+use Rattle.p21_spec_exchange.proofs.Semicolons.{Each-append, statements-end}
+use Rattle.p21_spec_exchange.specs.OpenNesting.{IsDepth}
+use Rattle.p21_spec_exchange.specs.Statement.{Statement, statement_tokens}
+use Rattle.p21_spec_exchange.specs.Token.{Token}
 use Rattle.p21_grammar.proofs.Depths.{pending-depth, depth-within}
 use Rattle.p21_grammar.proofs.Led.{IsGood, Kept, step-kept, step-blamed, led}
 use Rattle.p21_grammar.proofs.RunsStatements.{ok-same, run-statements}

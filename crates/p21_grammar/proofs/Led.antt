@@ -5,16 +5,16 @@ use Rattle.std.proofs.lemmas.List.{append-nil}
 use Rattle.std.specs.Prelude.{if◌then◌else◌, nat_lt, codes}
 use Rattle.std.specs.List.{flat_map, AllByRecursion as Each}
 use Rattle.std.specs.Str.{bytes_eq}
-use Rattle.p21_exchange.proofs.Semicolons.{Each-append}
-use Rattle.p21_exchange.specs.DataSection.{unnamed, named, heading_of}
-use Rattle.p21_exchange.specs.Grammar.{IsNoUserKeyword}
-use Rattle.p21_exchange.specs.Header.{IsNoInstanceName}
-use Rattle.p21_exchange.specs.OpenNesting.{IsNoSemicolon}
-use Rattle.p21_exchange.specs.Parameter.{Key, Param, name, list, typed, Params, no_params, param}
-use Rattle.p21_exchange.specs.Record.{Part, Record, part_tokens, record_tokens}
-use Rattle.p21_exchange.specs.Statement.{SectionLine, Statement, section, header, instance, section_end, data_start, statement_tokens}
-use Rattle.p21_exchange.specs.Token as token
-use Rattle.p21_exchange.specs.Token.{Token}
+use Rattle.p21_spec_exchange.proofs.Semicolons.{Each-append}
+use Rattle.p21_spec_exchange.specs.DataSection.{unnamed, named, heading_of}
+use Rattle.p21_spec_exchange.specs.Grammar.{IsNoUserKeyword}
+use Rattle.p21_spec_exchange.specs.Header.{IsNoInstanceName}
+use Rattle.p21_spec_exchange.specs.OpenNesting.{IsNoSemicolon}
+use Rattle.p21_spec_exchange.specs.Parameter.{Key, Param, name, list, typed, Params, no_params, param}
+use Rattle.p21_spec_exchange.specs.Record.{Part, Record, part_tokens, record_tokens}
+use Rattle.p21_spec_exchange.specs.Statement.{SectionLine, Statement, section, header, instance, section_end, data_start, statement_tokens}
+use Rattle.p21_spec_exchange.specs.Token as token
+use Rattle.p21_spec_exchange.specs.Token.{Token}
 use Rattle.p21_grammar.specs.Machine.{depth_of, user_keyword_fault, other_section_fault, fault_behind_end, Head, bare, simply, among, Opening, part_row, list_row, typed_row, Open, open_at, Spot, idle, line, named as name_taken, equal, inside, keyed, next, word, behind, record_end, instance_end, Move, go, emit, refuse, ended, step, put, put_back, enter, close, close_typed, close_empty, comma, at_next, close_records, at_keyed, end_keyword, end_heading, end_record, at_idle}
 use Rattle.p21_grammar.specs.Stage.{is_in_header, is_in_data, shaped, after, after_heading, then_walk, walk}
 use Rattle.p21_grammar.specs.Shape.{is_key, is_heading, is_file_description, is_file_name, is_file_schema, is_further}

@@ -3,12 +3,12 @@ use Rattle.std.proofs.Common.{◌≡◌, ℕ, ◌+◌, ◌<◌, ◌≤◌, Bool,
 use Rattle.std.proofs.lemmas.Bool.{lt-ltb}
 use Rattle.std.specs.Prelude.{if◌then◌else◌}
 use Rattle.std.specs.List.{AllByRecursion as Each}
-use Rattle.p21_exchange.specs.Grammar.{IsNoUserKeyword}
-use Rattle.p21_exchange.specs.Header.{IsNoInstanceName}
-use Rattle.p21_exchange.specs.Nesting.{depth, params_depth}
-use Rattle.p21_exchange.specs.Parameter.{Key, Param, dollar, star, whole, real, text, name, item, bits, list, typed, Params, no_params, param, key_token, param_tokens, params_tokens, more_tokens}
-use Rattle.p21_exchange.specs.Token as token
-use Rattle.p21_exchange.specs.Token.{Token}
+use Rattle.p21_spec_exchange.specs.Grammar.{IsNoUserKeyword}
+use Rattle.p21_spec_exchange.specs.Header.{IsNoInstanceName}
+use Rattle.p21_spec_exchange.specs.Nesting.{depth, params_depth}
+use Rattle.p21_spec_exchange.specs.Parameter.{Key, Param, dollar, star, whole, real, text, name, item, bits, list, typed, Params, no_params, param, key_token, param_tokens, params_tokens, more_tokens}
+use Rattle.p21_spec_exchange.specs.Token as token
+use Rattle.p21_spec_exchange.specs.Token.{Token}
 use Rattle.p21_tokens_automaton.specs.declared.mode.Absent.TheVariants.{UserKeyword}
 use Rattle.p21_grammar.specs.Machine.{Opening, part_row, list_row, typed_row, Open, open_at, next, word, behind, go, refuse, push, enter, close}
 use Rattle.p21_grammar.specs.Stage.{is_in_header}

@@ -2,13 +2,13 @@
 use Rattle.std.proofs.Common.{◌≡◌, ℕ, Bool, true, false, List, [], ◌∷◌, ◌++◌, Option, Some, None, Result, Ok, Err, refl, ap, sym, ◌∙◌, arith, append_assoc, subst}
 use Rattle.std.proofs.lemmas.List.{append-nil}
 use Rattle.std.specs.List.{flat_map, AllByRecursion as Each}
-use Rattle.p21_exchange.specs.DataSection.{unnamed, named}
-use Rattle.p21_exchange.specs.Grammar.{IsNoUserKeyword, IsShallowPart, IsDataRecord}
-use Rattle.p21_exchange.specs.Parameter.{key_token, params_tokens}
-use Rattle.p21_exchange.specs.Record.{Part, Record, simple, complex, part_tokens, record_tokens}
-use Rattle.p21_exchange.specs.Statement.{SectionLine, Statement, section, header, instance, begin, header_start, section_end, data_start, finish, statement_tokens}
-use Rattle.p21_exchange.specs.Token as token
-use Rattle.p21_exchange.specs.Token.{Token}
+use Rattle.p21_spec_exchange.specs.DataSection.{unnamed, named}
+use Rattle.p21_spec_exchange.specs.Grammar.{IsNoUserKeyword, IsShallowPart, IsDataRecord}
+use Rattle.p21_spec_exchange.specs.Parameter.{key_token, params_tokens}
+use Rattle.p21_spec_exchange.specs.Record.{Part, Record, simple, complex, part_tokens, record_tokens}
+use Rattle.p21_spec_exchange.specs.Statement.{SectionLine, Statement, section, header, instance, begin, header_start, section_end, data_start, finish, statement_tokens}
+use Rattle.p21_spec_exchange.specs.Token as token
+use Rattle.p21_spec_exchange.specs.Token.{Token}
 use Rattle.p21_grammar.specs.Machine.{Head, bare, simply, among, part_row, idle, named as name_taken, equal, inside, keyed, instance_end, emit, ended, at_idle, at_header, end_record, closed_part}
 use Rattle.p21_grammar.specs.Stage.{is_in_header, after, after_line, after_part, then_walk, walk}
 use Rattle.p21_grammar.specs.declared.fault.GrammarFault.{GrammarFault}

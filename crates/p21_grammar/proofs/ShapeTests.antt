@@ -4,7 +4,7 @@ use native.Mathlib.Numerals.{unary_clauses}
 use Rattle.std.specs.Prelude.{◌&&◌}
 use Rattle.p21_grammar_tree.specs.declared.param.Param.{Param}
 use Rattle.p21_grammar_tree.specs.View.{view, views}
-use Rattle.p21_exchange.specs.Header.{HeaderType}
+use Rattle.p21_spec_exchange.specs.Header.{HeaderType}
 use Rattle.p21_grammar.specs.Shape.{is_text, is_of_type, is_text_or_unset, are_texts, have_types, is_schema_row, is_only_schema, is_name_and_schema}
 
 pub texts_from : (ps : List Param) (k : ℕ) (p : Param) → k < length ps → are_texts (views (drop k ps)) ≡ (is_text_or_unset (view (get_or ps k p)) && are_texts (views (drop (k + 1) ps)))

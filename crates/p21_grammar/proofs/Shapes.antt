@@ -4,13 +4,13 @@ use Rattle.std.proofs.lemmas.Bool.{and_parts, not-true}
 use Rattle.std.proofs.lemmas.Slice.Eq.{bytes_eq-Decides}
 use Rattle.std.specs.Prelude.{◌≢◌, ◌&&◌, not, codes}
 use Rattle.std.specs.List.{AllZip, AllByRecursion as Each}
-use Rattle.p21_exchange.specs.DataSection.{named, data_part, heading_of}
-use Rattle.p21_exchange.specs.Header.{HeaderType, string, strings, IsTextOrUnset, IsOfType, IsHeaderRecord, IsFileSchema, IsFurtherRecord, IsNoInstanceName}
-use Rattle.p21_exchange.specs.Parameter.{Key, key_of, Param, dollar, text, list, Params, no_params, param, listed, key_token, param_tokens, params_tokens, more_tokens}
-use Rattle.p21_exchange.specs.Record.{Part, part_tokens}
-use Rattle.p21_exchange.specs.Statement.{data_start, section_tokens}
-use Rattle.p21_exchange.specs.Token as token
-use Rattle.p21_exchange.proofs.Semicolons.{Each-append}
+use Rattle.p21_spec_exchange.specs.DataSection.{named, data_part, heading_of}
+use Rattle.p21_spec_exchange.specs.Header.{HeaderType, string, strings, IsTextOrUnset, IsOfType, IsHeaderRecord, IsFileSchema, IsFurtherRecord, IsNoInstanceName}
+use Rattle.p21_spec_exchange.specs.Parameter.{Key, key_of, Param, dollar, text, list, Params, no_params, param, listed, key_token, param_tokens, params_tokens, more_tokens}
+use Rattle.p21_spec_exchange.specs.Record.{Part, part_tokens}
+use Rattle.p21_spec_exchange.specs.Statement.{data_start, section_tokens}
+use Rattle.p21_spec_exchange.specs.Token as token
+use Rattle.p21_spec_exchange.proofs.Semicolons.{Each-append}
 use Rattle.p21_grammar.specs.Shape.{is_key, is_text, is_text_or_unset, are_texts, are_strings, is_of_type, have_types, is_schema_row, is_schema, is_only_schema, is_name_and_schema, is_file_schema, is_further, is_heading}
 
 key-cases : (wanted : List ℕ) (user : Bool) (w : List ℕ) → is_key wanted (record { user = user; word = w }) ≡ true → ◌≡◌ {A = Key} (record { user = user; word = w }) (key_of wanted)

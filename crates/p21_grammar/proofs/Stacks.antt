@@ -1,11 +1,11 @@
 -- Open rows of parameters, as they lie in memory.
 use Rattle.std.proofs.Common.{◌≡◌, ◌+◌, ◌<◌, List, [], ◌∷◌, ◌++◌, length, refl, ap, arith}
-use Rattle.p21_exchange.specs.Parameter.{param}
+use Rattle.p21_spec_exchange.specs.Parameter.{param}
 use Rattle.p21_grammar_tree.specs.declared.param.Param.{Param}
 use Rattle.p21_grammar_tree.specs.declared.record.Part.{Part}
 use Rattle.p21_grammar_tree.specs.View.{view, views, part_view, part_views}
 use Rattle.p21_grammar_tree.proofs.Views.{view-Dollar, view-Star, view-Whole, view-Real, view-Text, view-Name, view-Item, view-Bits, view-List, view-Tagged}
-use Rattle.p21_exchange.specs.Parameter.{Key}
+use Rattle.p21_spec_exchange.specs.Parameter.{Key}
 use Rattle.p21_grammar.specs.Machine.{Open, Opening, open_at, open_of, onto, stack_of, push, refuse, close_typed, close_empty}
 use Rattle.p21_grammar.specs.declared.fault.GrammarFault.TheVariants.{Unexpected}
 use Rattle.p21_grammar.specs.declared.stage.Stage.{Stage}

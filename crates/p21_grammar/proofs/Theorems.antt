@@ -3,10 +3,10 @@ use Rattle.std.proofs.Common.{◌≡◌, ℕ, List, [], ◌∷◌, ◌++◌, Opt
 use Rattle.std.proofs.lemmas.List.{append-nil}
 use Rattle.std.specs.List.{flat_map, AllByRecursion as Each}
 use Rattle.std.proofs.lemmas.Grind.{flat_map-append}
-use Rattle.p21_exchange.specs.Grammar.{IsFile}
-use Rattle.p21_exchange.specs.Statement.{Statement, statement_tokens}
-use Rattle.p21_exchange.specs.Structure.{Structure, statements, tokens_of}
-use Rattle.p21_exchange.specs.Token.{Token}
+use Rattle.p21_spec_exchange.specs.Grammar.{IsFile}
+use Rattle.p21_spec_exchange.specs.Statement.{Statement, statement_tokens}
+use Rattle.p21_spec_exchange.specs.Structure.{Structure, statements, tokens_of}
+use Rattle.p21_spec_exchange.specs.Token.{Token}
 use Rattle.p21_grammar.proofs.RunsStatements.{run-statements, with_first_statements-none, with_first_statements-append}
 use Rattle.p21_grammar.proofs.Walks.{file-walk, file-sound, led-file, ended-file}
 use Rattle.p21_grammar.specs.Histories.{AreGivenFirst, BeginsFile, IsWholeFile, BeginNoFile}

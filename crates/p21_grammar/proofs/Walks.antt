@@ -3,15 +3,15 @@ use Rattle.std.proofs.Common.{◌≡◌, ℕ, Bool, true, false, List, [], ◌�
 use Rattle.std.proofs.lemmas.List.{append-nil}
 use Rattle.std.specs.Prelude.{codes}
 use Rattle.std.specs.List.{flat_map, AllByRecursion as Each}
-use Rattle.p21_exchange.proofs.Semicolons.{Each-append}
-use Rattle.p21_exchange.proofs.SectionOrder.{instance_of, sections_with}
-use Rattle.p21_exchange.specs.DataSection.{Heading, unnamed, named, DataSection, headings, instances_in, IsNamed, AreHeadings}
-use Rattle.p21_exchange.specs.Grammar.{IsShallowPart, IsDataRecord, IsFile}
-use Rattle.p21_exchange.specs.Header.{string, strings, IsFileDescription, IsFileName, IsFileSchema, IsFurtherRecord}
-use Rattle.p21_exchange.specs.Parameter.{key_of, dollar, no_params, param}
-use Rattle.p21_exchange.specs.Record.{Part, Record}
-use Rattle.p21_exchange.specs.Statement.{SectionLine, Statement, section, header, instance, begin, header_start, section_end, data_start, finish}
-use Rattle.p21_exchange.specs.Structure.{Structure, section_statements, statements}
+use Rattle.p21_spec_exchange.proofs.Semicolons.{Each-append}
+use Rattle.p21_spec_exchange.proofs.SectionOrder.{instance_of, sections_with}
+use Rattle.p21_spec_exchange.specs.DataSection.{Heading, unnamed, named, DataSection, headings, instances_in, IsNamed, AreHeadings}
+use Rattle.p21_spec_exchange.specs.Grammar.{IsShallowPart, IsDataRecord, IsFile}
+use Rattle.p21_spec_exchange.specs.Header.{string, strings, IsFileDescription, IsFileName, IsFileSchema, IsFurtherRecord}
+use Rattle.p21_spec_exchange.specs.Parameter.{key_of, dollar, no_params, param}
+use Rattle.p21_spec_exchange.specs.Record.{Part, Record}
+use Rattle.p21_spec_exchange.specs.Statement.{SectionLine, Statement, section, header, instance, begin, header_start, section_end, data_start, finish}
+use Rattle.p21_spec_exchange.specs.Structure.{Structure, section_statements, statements}
 use Rattle.p21_grammar.specs.Stage.{after, after_line, after_part, shaped, then_walk, walk}
 use Rattle.p21_grammar.specs.Shape.{is_file_description, is_file_name, is_file_schema, is_further}
 use Rattle.p21_grammar.specs.declared.fault.GrammarFault.{GrammarFault}

@@ -2,10 +2,10 @@
 -- definition of the exchange structure; data sections).
 use Rattle.std.specs.Prelude.{◌≡◌, ℕ, true, List, [], map, None}
 use Rattle.std.specs.List.{flat_map, AllByRecursion as Each}
-use Rattle.p21_basics.specs.History.{extended}
-use Rattle.p21_exchange.specs.Grammar.{IsDataRecord}
-use Rattle.p21_exchange.specs.Record.{Record}
-use Rattle.p21_exchange.specs.Statement.{Statement, instance, statement_tokens}
+use Rattle.p21_spec_basics.specs.History.{extended}
+use Rattle.p21_spec_exchange.specs.Grammar.{IsDataRecord}
+use Rattle.p21_spec_exchange.specs.Record.{Record}
+use Rattle.p21_spec_exchange.specs.Statement.{Statement, instance, statement_tokens}
 use Rattle.p21_grammar.specs.Held.{Held}
 use Rattle.p21_grammar.specs.Histories.{GrammarHistory, BeginsFile, Stands, Answers}
 use Rattle.p21_grammar.specs.Stage.{is_in_data}

@@ -1,6 +1,6 @@
 -- What a parser holds between two calls.
 use Rattle.std.specs.Prelude.{ℕ, List, Option}
-use Rattle.p21_exchange.specs.Token.{Token}
+use Rattle.p21_spec_exchange.specs.Token.{Token}
 use Rattle.p21_grammar.specs.declared.fault.GrammarFault.{GrammarFault}
 use Rattle.p21_grammar.specs.declared.stage.Stage.{Stage}
 

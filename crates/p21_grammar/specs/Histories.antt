@@ -2,13 +2,13 @@
 -- structure).
 use Rattle.std.specs.Prelude.{◌≡◌, ℕ, List, [], ◌∷◌, ◌++◌, Option, Some, None, Result, Ok, Err}
 use Rattle.std.specs.List.{flat_map, AllByRecursion as Each}
-use Rattle.p21_basics.specs.History.{History, extended}
-use Rattle.p21_exchange.specs.DataSection.{data_part}
-use Rattle.p21_exchange.specs.Grammar.{IsFile}
-use Rattle.p21_exchange.specs.OpenNesting.{IsDepth}
-use Rattle.p21_exchange.specs.Statement.{Statement, statement_tokens}
-use Rattle.p21_exchange.specs.Structure.{Structure, statements, tokens_of, AreFirstStatements}
-use Rattle.p21_exchange.specs.Token.{Token, left}
+use Rattle.p21_spec_basics.specs.History.{History, extended}
+use Rattle.p21_spec_exchange.specs.DataSection.{data_part}
+use Rattle.p21_spec_exchange.specs.Grammar.{IsFile}
+use Rattle.p21_spec_exchange.specs.OpenNesting.{IsDepth}
+use Rattle.p21_spec_exchange.specs.Statement.{Statement, statement_tokens}
+use Rattle.p21_spec_exchange.specs.Structure.{Structure, statements, tokens_of, AreFirstStatements}
+use Rattle.p21_spec_exchange.specs.Token.{Token, left}
 use Rattle.p21_grammar.specs.Held.{Held}
 use Rattle.p21_grammar.specs.Sound.{IsSound}
 use Rattle.p21_grammar.specs.Stage.{walk}

@@ -1,12 +1,12 @@
 -- What a parser does with a token, over trees of the definitions: for private clauses.
 use Rattle.std.specs.Prelude.{◌≡◌, ◌≢◌, ℕ, Bool, true, false, if◌then◌else◌, nat_lt, List, [], ◌∷◌, ◌++◌, length, Option, Some, None, Result, Ok, Err, codes}
 use Rattle.std.specs.Str.{bytes_eq}
-use Rattle.p21_exchange.specs.DataSection.{unnamed, heading_of}
-use Rattle.p21_exchange.specs.Parameter.{Key, key_of, Param, dollar, star, whole, real, text, name, item, bits, list, typed, Params, no_params, param}
-use Rattle.p21_exchange.specs.Record.{Part, Record, simple, complex}
-use Rattle.p21_exchange.specs.Statement.{SectionLine, Statement, section, header, instance, begin, header_start, section_end, data_start, finish}
-use Rattle.p21_exchange.specs.Token as token
-use Rattle.p21_exchange.specs.Token.{Token}
+use Rattle.p21_spec_exchange.specs.DataSection.{unnamed, heading_of}
+use Rattle.p21_spec_exchange.specs.Parameter.{Key, key_of, Param, dollar, star, whole, real, text, name, item, bits, list, typed, Params, no_params, param}
+use Rattle.p21_spec_exchange.specs.Record.{Part, Record, simple, complex}
+use Rattle.p21_spec_exchange.specs.Statement.{SectionLine, Statement, section, header, instance, begin, header_start, section_end, data_start, finish}
+use Rattle.p21_spec_exchange.specs.Token as token
+use Rattle.p21_spec_exchange.specs.Token.{Token}
 use Rattle.p21_grammar_tree.specs.View.{key_view, part_view, part_views, record_view, views}
 use Rattle.p21_tokens_automaton.specs.declared.mode.Absent.TheVariants as absent
 use Rattle.p21_grammar.specs.Stage.{after, after_heading, is_in_header, is_in_data}

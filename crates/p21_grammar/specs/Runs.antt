@@ -1,10 +1,10 @@
 -- A parser over many tokens, and the tokens that it holds: for private clauses.
 use Rattle.std.specs.Prelude.{List, [], ◌∷◌, ◌++◌, Option, Some, None}
 use Rattle.std.specs.List.{flat_map}
-use Rattle.p21_exchange.specs.Parameter.{Params, no_params, param, key_token, param_tokens, params_tokens}
-use Rattle.p21_exchange.specs.Record.{part_tokens, record_tokens}
-use Rattle.p21_exchange.specs.Statement.{Statement, section_tokens}
-use Rattle.p21_exchange.specs.Token.{Token, name, equals, left, comma}
+use Rattle.p21_spec_exchange.specs.Parameter.{Params, no_params, param, key_token, param_tokens, params_tokens}
+use Rattle.p21_spec_exchange.specs.Record.{part_tokens, record_tokens}
+use Rattle.p21_spec_exchange.specs.Statement.{Statement, section_tokens}
+use Rattle.p21_spec_exchange.specs.Token.{Token, name, equals, left, comma}
 use Rattle.p21_grammar.specs.Machine.{Head, bare, simply, among, Opening, part_row, list_row, typed_row, Open, open_at, Spot, idle, line, named, equal, inside, keyed, next, word, behind, record_end, instance_end, Move, go, emit, refuse, step}
 use Rattle.p21_grammar.specs.declared.stage.Stage.{Stage}
 

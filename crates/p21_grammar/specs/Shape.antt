@@ -1,9 +1,9 @@
 -- Tests of the records of the header section, and of the beginning of a data section with a name.
 use Rattle.std.specs.Prelude.{ℕ, Bool, true, false, ◌&&◌, not, if◌then◌else◌, List, [], ◌∷◌, codes}
 use Rattle.std.specs.Str.{bytes_eq}
-use Rattle.p21_exchange.specs.Header.{HeaderType, string, strings}
-use Rattle.p21_exchange.specs.Parameter.{Key, Param, dollar, text, list, Params, no_params, param}
-use Rattle.p21_exchange.specs.Record.{Part}
+use Rattle.p21_spec_exchange.specs.Header.{HeaderType, string, strings}
+use Rattle.p21_spec_exchange.specs.Parameter.{Key, Param, dollar, text, list, Params, no_params, param}
+use Rattle.p21_spec_exchange.specs.Record.{Part}
 
 abbrev pub is_key : List ℕ → Key → Bool
 is_key word key = if key.user then false else bytes_eq key.word word

@@ -1,8 +1,8 @@
 -- How far the statements of a file have come (ISO 10303-21, formal definition of the exchange structure).
 use Rattle.std.specs.Prelude.{Bool, true, false, List, [], ◌∷◌, Result, Ok, Err}
-use Rattle.p21_exchange.specs.DataSection.{unnamed, named}
-use Rattle.p21_exchange.specs.Record.{Part}
-use Rattle.p21_exchange.specs.Statement.{SectionLine, begin, header_start, section_end, data_start, finish, Statement, section, header, instance}
+use Rattle.p21_spec_exchange.specs.DataSection.{unnamed, named}
+use Rattle.p21_spec_exchange.specs.Record.{Part}
+use Rattle.p21_spec_exchange.specs.Statement.{SectionLine, begin, header_start, section_end, data_start, finish, Statement, section, header, instance}
 use Rattle.p21_tokens_automaton.specs.declared.mode.Absent.TheVariants.{SecondSection}
 use Rattle.p21_grammar.specs.Shape.{is_file_description, is_file_name, is_file_schema, is_further}
 use Rattle.p21_grammar.specs.declared.fault.GrammarFault.{GrammarFault}

@@ -1,7 +1,7 @@
 -- The statements of the definitions that events stand for.
 use Rattle.std.specs.Prelude.{List, [], ◌∷◌, Option, Some, None}
-use Rattle.p21_exchange.specs.DataSection.{unnamed, heading_of}
-use Rattle.p21_exchange.specs.Statement as meaning
+use Rattle.p21_spec_exchange.specs.DataSection.{unnamed, heading_of}
+use Rattle.p21_spec_exchange.specs.Statement as meaning
 use Rattle.p21_grammar_tree.specs.View.{items_of, part_view, record_view, views}
 use Rattle.p21_grammar.specs.declared.event.Event.{Event}
 use Rattle.p21_grammar.specs.declared.event.Event.TheVariants.{Section, Named, Header, Instance}

@@ -1,12 +1,12 @@
 ghost use Rattle.std.specs.Prelude.{◌≡◌, ◌↔◌, [], IfOk, IfErr, IsTrue, true};
-ghost use Rattle.p21_exchange.specs.Parameter.{key_of, no_params};
-ghost use Rattle.p21_exchange.specs.Statement.{section, header, instance};
+ghost use Rattle.p21_spec_exchange.specs.Parameter.{key_of, no_params};
+ghost use Rattle.p21_spec_exchange.specs.Statement.{section, header, instance};
 ghost use Rattle.p21_grammar.specs.Stage.{after, is_in_data};
 ghost use Rattle.p21_grammar.specs.Machine.{open_of, opening_of, stack_of, closed_part, put_back, close_typed, spot_of, head_of, step, enter, close, close_empty, comma, put, at_next, at_behind, at_word, at_line, at_named, at_equal, at_inside, at_keyed, at_record_end, at_instance_end, end_keyword, end_record, at_idle, at_start, at_begun, at_header, at_headed, at_data, at_behind_unnamed, at_behind_named, at_end, misplaced_fault, misplaced_param_fault, other_section_fault, idle, next, go, refuse, part_row, open_at, depth_of, ended, end_heading, close_records, at_data_keyword, MakesMove, AnswersMove, RefusesMove};
 ghost use Rattle.p21_grammar.specs.HeadingShape.{HasHeadingShape};
 ghost use Rattle.p21_grammar.specs.Statements.{line_of};
 ghost use Rattle.p21_grammar_tree.specs.View.{key_view, part_view, part_views, record_view, view, views};
-ghost use Rattle.p21_exchange.specs.Token as token;
+ghost use Rattle.p21_spec_exchange.specs.Token as token;
 ghost use Rattle.p21_tokens.specs.Token.{meant};
 ghost use Rattle.p21_grammar.specs.declared.stage.Stage.TheVariants.{Start, Ended};
 ghost use Rattle.p21_grammar.specs.declared.fault.GrammarFault.TheVariants.{NoMemory};
@@ -25,7 +25,7 @@ use std::mem;
 const NESTING: usize = 64;
 
 /// Where fewer parameters stand in the rows around a list, it keeps its room for more.
-const FEW: usize = 8;
+const FEW_AROUND_A_LIST: usize = 8;
 
 /// Deeper than this it keeps none.
 const SHALLOW: usize = 4;
@@ -159,7 +159,7 @@ fn trimmed_params(alloc: Global, params: Vec<Param>, more: u8) -> Result<Vec<Par
     if params.capacity() - count <= usize::from(more) {
         return Ok(params);
     }
-    if count <= FEW {
+    if count <= FEW_AROUND_A_LIST {
         return in_block_with_room(alloc, params, count + usize::from(more));
     }
     params.shrink_to_fit();
@@ -222,7 +222,7 @@ fn are_many(around: &[Row]) -> bool {
     if around.len() > SHALLOW {
         return true;
     }
-    let mut few = FEW;
+    let mut few = FEW_AROUND_A_LIST;
     for row in around {
         let row: &Row = row;
         let count = row.params.len();

@@ -1,6 +1,6 @@
 ghost use Rattle.std.specs.Prelude.{◌≡◌, ◌≤◌, ◌↔◌, IsTrue, true, Some, None, Err, IfErr, IfOk};
-ghost use Rattle.p21_basics.specs.History.{StandsForEmptyHistory};
-ghost use Rattle.p21_exchange.specs.OpenNesting.{IsDepth};
+ghost use Rattle.p21_spec_basics.specs.History.{StandsForEmptyHistory};
+ghost use Rattle.p21_spec_exchange.specs.OpenNesting.{IsDepth};
 ghost use Rattle.p21_grammar.specs.Between.{IsBetweenInstances, StandsForMore};
 ghost use Rattle.p21_grammar.specs.Histories.{GrammarHistory, Stands, TakeGives, FinishGives, HasHeadingForm, RefusalIsKnown, RefusesAgain};
 ghost use Rattle.p21_grammar.specs.declared.fault.GrammarFault.{GrammarFault};

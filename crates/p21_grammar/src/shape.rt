@@ -1,6 +1,6 @@
 ghost use Rattle.std.specs.Prelude.{◌≡◌, [], ◌∷◌};
 ghost use Rattle.std.specs.Str.{bytes_eq};
-ghost use Rattle.p21_exchange.specs.Header.{string, strings};
+ghost use Rattle.p21_spec_exchange.specs.Header.{string, strings};
 ghost use Rattle.p21_grammar_tree.specs.View.{items_of, key_view, part_view, view, views};
 ghost use Rattle.p21_grammar.specs.Shape.{is_key, is_text, is_text_or_unset, are_texts, are_strings, have_types, is_schema, is_schema_row, is_only_schema, is_name_and_schema, is_file_description, is_file_name, is_file_schema, is_further, is_heading};
 

@@ -1,6 +1,6 @@
 ghost use Rattle.std.specs.Prelude.{◌≡◌, ℕ};
-ghost use Rattle.p21_exchange.specs.Record.{Record};
-ghost use Rattle.p21_exchange.specs.Statement.{section, header, instance, section_end};
+ghost use Rattle.p21_spec_exchange.specs.Record.{Record};
+ghost use Rattle.p21_spec_exchange.specs.Statement.{section, header, instance, section_end};
 ghost use Rattle.p21_grammar.specs.Stage.{after, after_heading, is_in_header, is_in_data};
 ghost use Rattle.p21_grammar.specs.Statements.{line_of};
 ghost use Rattle.p21_grammar_tree.specs.View.{part_view};

@@ -1,7 +1,7 @@
 -- The views of parameters by their kinds, for the proofs of callers.
 use Rattle.std.proofs.Common.{◌≡◌, ℕ, ℤ, Bool, List, rules, Box, Global}
-use Rattle.p21_exchange.specs.Number.{Decimal}
-use Rattle.p21_exchange.specs.Parameter as meaning
+use Rattle.p21_spec_exchange.specs.Number.{Decimal}
+use Rattle.p21_spec_exchange.specs.Parameter as meaning
 use Rattle.p21_grammar_tree.specs.declared.param.Key.{Key}
 use Rattle.p21_grammar_tree.specs.declared.param.Param.{Param}
 use Rattle.p21_grammar_tree.specs.declared.param.Param as param

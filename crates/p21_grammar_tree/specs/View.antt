@@ -1,7 +1,7 @@
 -- The trees of the definitions that the trees of the code stand for.
 use Rattle.std.specs.Prelude.{List, map}
-use Rattle.p21_exchange.specs.Parameter as meaning
-use Rattle.p21_exchange.specs.Record as meaning_record
+use Rattle.p21_spec_exchange.specs.Parameter as meaning
+use Rattle.p21_spec_exchange.specs.Record as meaning_record
 use Rattle.p21_grammar_tree.specs.declared.param.Key.{Key}
 use Rattle.p21_grammar_tree.specs.declared.param.Param.{Param, fold-Param}
 use Rattle.p21_grammar_tree.specs.declared.param.Param.TheOpen.{Param-F}
@@ -9,7 +9,7 @@ use Rattle.p21_grammar_tree.specs.declared.param.Params.{Params, Params-F}
 use Rattle.p21_grammar_tree.specs.declared.record.Part.{Part}
 use Rattle.p21_grammar_tree.specs.declared.record.Record.{Record}
 use Rattle.p21_grammar_tree.specs.declared.record.Record.TheVariants.{Simple, Complex}
-use Rattle.p21_exchange.specs.Parameter.{params_of}
+use Rattle.p21_spec_exchange.specs.Parameter.{params_of}
 
 abbrev pub key_view : Key → meaning.Key
 key_view key = record { user = key.user; word = key.word }

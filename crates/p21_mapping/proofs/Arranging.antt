@@ -6,12 +6,12 @@ use Rattle.std.proofs.Common.{arith, ap, sym, ◌∙◌, subst, inl, inr, get_or
 use Rattle.std.proofs.lemmas.List.{take_all}
 use Rattle.std.proofs.lemmas.List.Elements.{Contains-append_left, Contains-append_right}
 use Rattle.std.proofs.lemmas.Option.{slice_get-map}
-use Rattle.p21_basics.proofs.Members.{Contains-cases, Contains-first, Contains-later, Contains-found}
-use Rattle.p21_basics.proofs.Shuffles.{NoneTwice, distinct-none_twice}
+use Rattle.p21_spec_basics.proofs.Members.{Contains-cases, Contains-first, Contains-later, Contains-found}
+use Rattle.p21_spec_basics.proofs.Shuffles.{NoneTwice, distinct-none_twice}
 use Rattle.p21_express_graph.proofs.Lookups.{numbers-more}
 use Rattle.p21_express_graph.specs.Orders.{numbers}
-use Rattle.p21_express_types.specs.declared.number.EntityId.{EntityId}
-use Rattle.p21_files.specs.Value.{Values}
+use Rattle.p21_express_graph.specs.declared.number.EntityId.{EntityId}
+use Rattle.p21_spec_file.specs.Value.{Values}
 use Rattle.p21_mapping.specs.ArrangedRows.{AreArranged, ArrangedSoFar}
 use Rattle.p21_express_graph.proofs.Pairs.{AllZip-more}
 use Rattle.p21_mapping.proofs.GrownLists.{mapped-at}

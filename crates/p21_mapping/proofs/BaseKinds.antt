@@ -1,20 +1,20 @@
 -- The kinds of parameters that a base takes.
 use Rattle.std.proofs.Common.{◌≡◌, ◌≢◌, ◌∙◌, sym, refl, subst, ℕ, ℤ, Bool, List, Option, Some}
-use Rattle.p21_claim_values.proofs.OfType.{offers-select}
-use Rattle.p21_exchange.specs.Number.{Decimal}
-use Rattle.p21_exchange.specs.Parameter as parameter
-use Rattle.p21_exchange.specs.Parameter.{Param, Params, Key, key_of}
+use Rattle.p21_spec_laws.proofs.OfType.{offers-select}
+use Rattle.p21_spec_exchange.specs.Number.{Decimal}
+use Rattle.p21_spec_exchange.specs.Parameter as parameter
+use Rattle.p21_spec_exchange.specs.Parameter.{Param, key_of}
 use Rattle.p21_express_tables.specs.Base.{IsBase}
 use Rattle.p21_express_graph.specs.DirectRenaming.{IsPlain}
 use Rattle.p21_express_tables.specs.declared.base.Base.{Base}
 use Rattle.p21_express_tables.specs.declared.base.Base.TheVariants.{Plain, Items, Select}
-use Rattle.p21_express_types.specs.declared.type_use.TypeUse as code
-use Rattle.p21_express_types.specs.declared.type_use.Width.{Width}
-use Rattle.p21_express_types.specs.Meaning.{type_use}
-use Rattle.p21_files.specs.ParameterKind.{TakesKind, takes_whole, takes_real, takes_number, takes_whole_number, takes_boolean, takes_logical, takes_text, takes_binary, takes_instance, takes_underlying, takes_item, takes_chosen_instance, takes_chosen_type, takes_array, takes_list, takes_set, takes_bag}
-use Rattle.p21_schemas.specs.Schema as schema
-use Rattle.p21_schemas.specs.Schema.{Schema, TypeUse, entity_member, type_member, alias, items, choice, TypeNamed, kind_of}
-use Rattle.p21_schemas.specs.Select.{IsSelect, Offers}
+use Rattle.p21_express_graph.specs.declared.type_use.TypeUse as code
+use Rattle.p21_express_graph.specs.declared.type_use.Width.{Width}
+use Rattle.p21_express_graph.specs.Meaning.{type_use}
+use Rattle.p21_spec_file.specs.ParameterKind.{TakesKind, takes_whole, takes_real, takes_number, takes_whole_number, takes_boolean, takes_logical, takes_text, takes_binary, takes_instance, takes_underlying, takes_item, takes_chosen_instance, takes_chosen_type, takes_array, takes_list, takes_set, takes_bag}
+use Rattle.p21_spec_schema.specs.Schema as schema
+use Rattle.p21_spec_schema.specs.Schema.{Schema, TypeUse, entity_member, type_member, alias, items, choice, TypeNamed, kind_of}
+use Rattle.p21_spec_schema.specs.Select.{IsSelect, Offers}
 
 -- a type that is no declared one takes a parameter of this kind
 abbrev pub TakesPlainly : TypeUse → Param → Type 0

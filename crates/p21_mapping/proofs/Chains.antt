@@ -1,29 +1,29 @@
 -- What holds at the type that renamed types come to holds at those.
 use Rattle.std.proofs.Common.{◌≡◌, sym, refl, subst, inl, inr, ℕ, Bool, true, List, [], Result, Ok, Err}
-use Rattle.p21_claim_values.proofs.OfType.{OfType, of_alias}
-use Rattle.p21_claim_values.specs.Needs.{FitsWithNeeds, FitsAtWithNeeds, with_underlying, with_star, with_dollar, with_fit}
-use Rattle.p21_exchange.specs.Parameter as parameter
-use Rattle.p21_exchange.specs.Parameter.{Param}
+use Rattle.p21_spec_laws.proofs.OfType.{OfType, of_alias}
+use Rattle.p21_spec_laws.specs.Needs.{FitsWithNeeds, FitsAtWithNeeds, with_underlying, with_star, with_dollar, with_fit}
+use Rattle.p21_spec_exchange.specs.Parameter as parameter
+use Rattle.p21_spec_exchange.specs.Parameter.{Param}
 use Rattle.p21_express_graph.proofs.Renaming.{comes-is}
 use Rattle.p21_express_graph.specs.DirectRenaming.{ComesTo, at_itself, through}
 use Rattle.p21_express_tables.specs.Base.{HasBase}
 use Rattle.p21_express_tables.specs.declared.base.Base.{Base}
 use Rattle.p21_express_graph.specs.Resolved.{HoldsTogether, IsTypeUse}
-use Rattle.p21_files.specs.BrokenValue.{BreaksAt, BreaksWithin, BreaksAtPlace, in_underlying, itself, stored, IsLeftOut}
-use Rattle.p21_files.specs.Reference as reference
-use Rattle.p21_files.specs.Value as meant
+use Rattle.p21_spec_file.specs.BrokenValue.{BreaksAt, BreaksWithin, BreaksAtPlace, in_underlying, itself, stored, IsLeftOut}
+use Rattle.p21_spec_file.specs.Reference as reference
+use Rattle.p21_spec_file.specs.Value as meant
 use Rattle.p21_mapping.proofs.Outcomes.{answers-to}
 use Rattle.p21_mapping.specs.Choosing.{IsBaseIn}
 use Rattle.p21_mapping.specs.Outcome.{ElementOrBreaks, FitsAlone, FitsFrom, FitsOrBreaks, FitsPlaceOrBreaks, IsElementOf, IsValueAt, IsValueOf}
 use Rattle.p21_mapping_values.specs.KnownTypes.{HasKnownTypes}
 use Rattle.p21_mapping_values.proofs.Views.{view-Missing, view-Derived}
-use Rattle.p21_mapping_faults.specs.declared.fault.CheckFault.{CheckFault}
+use Rattle.p21_grammar_tree.specs.declared.fault.CheckFault.{CheckFault}
 use Rattle.p21_mapping_values.specs.declared.need.Need.{Need}
 use Rattle.p21_mapping_values.specs.declared.value.Value.{Value}
 use Rattle.p21_mapping_values.specs.declared.value.Value as value
 use Rattle.p21_mapping_values.specs.View.{view}
-use Rattle.p21_schemas.specs.PlaceType.{derived_place, stored_place}
-use Rattle.p21_schemas.specs.Schema.{Schema, TypeUse}
+use Rattle.p21_spec_schema.specs.PlaceType.{derived_place, stored_place}
+use Rattle.p21_spec_schema.specs.Schema.{Schema, TypeUse}
 use Rattle.std.proofs.lemmas.List.{append-nil}
 
 comes-fits : (s : Schema) (type last : TypeUse) (p : Param) (v : meant.Value) (needs : List reference.Need) → ComesTo s type last → FitsWithNeeds s last p v needs → FitsWithNeeds s type p v needs

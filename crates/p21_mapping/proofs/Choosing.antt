@@ -2,32 +2,32 @@
 use Rattle.std.proofs.Common.{◌≡◌, ◌∙◌, sym, ap, subst, ℕ, ◌<◌, ◌^◌, List, [], ◌∷◌, ◌++◌, Ok, Err, Some, None}
 use denote.Ref.{Bor}
 use Rattle.p21_mapping_values.proofs.SpelledScalars.{name-spelled}
-use Rattle.p21_claim_values.proofs.OfType.{of_entity, of_chosen_instance, offers-select}
-use Rattle.p21_claim_values.specs.Needs.{with_instance, with_chosen_instance}
-use Rattle.p21_exchange.specs.Parameter as parameter
-use Rattle.p21_exchange.specs.Parameter.{Param, Key}
+use Rattle.p21_spec_laws.proofs.OfType.{of_entity, of_chosen_instance, offers-select}
+use Rattle.p21_spec_laws.specs.Needs.{with_instance, with_chosen_instance}
+use Rattle.p21_spec_exchange.specs.Parameter as parameter
+use Rattle.p21_spec_exchange.specs.Parameter.{Param, Key}
 use Rattle.p21_express_tables.specs.Base.{IsBase}
 use Rattle.p21_express_tables.specs.declared.base.Base.{Base}
 use Rattle.p21_express_tables.specs.declared.base.Base.TheVariants.{Plain, Select}
-use Rattle.p21_express_types.specs.declared.kind.Member.{Member}
-use Rattle.p21_express_types.specs.declared.kind.Member.TheVariants as wanted
-use Rattle.p21_express_types.specs.declared.number.EntityId.{EntityId}
-use Rattle.p21_express_types.specs.declared.number.TypeId.{TypeId}
-use Rattle.p21_express_types.specs.declared.type_use.TypeUse as code
-use Rattle.p21_express_types.specs.Meaning.{type_use}
-use Rattle.p21_files.specs.Value as meant
+use Rattle.p21_express_graph.specs.declared.kind.Member.{Member}
+use Rattle.p21_express_graph.specs.declared.kind.Member.TheVariants as wanted
+use Rattle.p21_express_graph.specs.declared.number.EntityId.{EntityId}
+use Rattle.p21_express_graph.specs.declared.number.TypeId.{TypeId}
+use Rattle.p21_express_graph.specs.declared.type_use.TypeUse as code
+use Rattle.p21_express_graph.specs.Meaning.{type_use}
+use Rattle.p21_spec_file.specs.Value as meant
 use Rattle.p21_mapping.proofs.Outcomes.{broken, value-means}
 use Rattle.p21_mapping.proofs.BaseKinds.{TakesAt, base-takes}
 use Rattle.p21_mapping.specs.Choosing.{DecidesKey, DecidesName, WantsMember}
 use Rattle.p21_mapping.specs.Outcome.{FitsFrom, IsKindFault}
 use Rattle.p21_mapping_values.proofs.Views.{view-Reference}
-use Rattle.p21_mapping_faults.specs.declared.fault.CheckFault.{CheckFault}
+use Rattle.p21_grammar_tree.specs.declared.fault.CheckFault.{CheckFault}
 use Rattle.p21_mapping_values.specs.declared.need.Need.{Need}
 use Rattle.p21_mapping_values.specs.declared.value.Value as value
-use Rattle.p21_schemas.specs.Schema as schema
-use Rattle.p21_schemas.specs.Schema.{Schema, TypeUse, Defined, entity_member, type_member, TypeNamed}
-use Rattle.p21_schemas.specs.Select.{Offers}
-use Rattle.p21_schemas.specs.WellFormed.{HasDistinctTypes}
+use Rattle.p21_spec_schema.specs.Schema as schema
+use Rattle.p21_spec_schema.specs.Schema.{Schema, TypeUse, Defined, entity_member, type_member, TypeNamed}
+use Rattle.p21_spec_schema.specs.Select.{Offers}
+use Rattle.p21_spec_schema.specs.WellFormed.{HasDistinctTypes}
 
 -- ---- names
 

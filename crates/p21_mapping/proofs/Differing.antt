@@ -1,21 +1,21 @@
 -- Values of one type are distinct exactly if their texts are.
 use Rattle.std.proofs.Common.{◌≡◌, ◌≢◌, ◌∙◌, ◌↔◌, sym, ap, refl, subst, inl, inr, arith, ℕ, ◌+◌, ◌<◌, ◌≤◌, Bool, true, List, [], ◌∷◌, ◌++◌, length, map, take, get_or, IsTrue, Contains, append_assoc}
 use Rattle.std.proofs.lemmas.List.{map-append, take_all, take_more}
-use Rattle.p21_basics.proofs.Members.{Contains-none, Contains-first, Contains-later, Contains-cases}
-use Rattle.p21_claim_values.proofs.OfType.{OfType, EachOf, of_none, of_next, of_empty, missing-of_none}
-use Rattle.p21_claim_values.proofs.SameFromTexts.{same-from_text}
-use Rattle.p21_claim_values.proofs.TextsFromSame.{text-from_same, same-missing}
-use Rattle.p21_files.specs.SameValue.{Among, here, there, AreDistinct}
-use Rattle.p21_files.specs.Value as meant
-use Rattle.p21_files.specs.Value.{Values, no_values, value, missing}
-use Rattle.p21_files.specs.ValueText.{value_text}
+use Rattle.p21_spec_basics.proofs.Members.{Contains-none, Contains-first, Contains-later, Contains-cases}
+use Rattle.p21_spec_laws.proofs.OfType.{OfType, EachOf, of_none, of_next, of_empty, missing-of_none}
+use Rattle.p21_spec_laws.proofs.SameFromTexts.{same-from_text}
+use Rattle.p21_spec_laws.proofs.TextsFromSame.{text-from_same, same-missing}
+use Rattle.p21_spec_file.specs.SameValue.{Among, here, there, AreDistinct}
+use Rattle.p21_spec_file.specs.Value as meant
+use Rattle.p21_spec_file.specs.Value.{Values, value, missing}
+use Rattle.p21_spec_file.specs.ValueText.{value_text}
 use Rattle.p21_mapping.specs.PresentTexts.{one, present_texts}
 use Rattle.p21_mapping_values.proofs.Elements.{split_texts-joined}
 use Rattle.p21_mapping_values.specs.SplitTexts.{NoneTwice, joined, split_texts, lengths_of}
 use Rattle.p21_mapping_values.specs.declared.value.Value.{Value}
 use Rattle.p21_mapping_values.specs.View.{row_of_values, view, views}
-use Rattle.p21_schemas.specs.Schema.{Schema, TypeUse}
-use Rattle.p21_schemas.specs.WellFormed.{HasDistinctTypes}
+use Rattle.p21_spec_schema.specs.Schema.{Schema, TypeUse}
+use Rattle.p21_spec_schema.specs.WellFormed.{HasDistinctTypes}
 
 -- ---- texts one behind the other
 

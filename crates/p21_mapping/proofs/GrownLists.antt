@@ -6,8 +6,8 @@ use Rattle.std.proofs.lemmas.List.{append-nil, length-append, take_more}
 use Rattle.std.proofs.lemmas.Option.{slice_get-get_or, slice_get-map}
 use Rattle.std.specs.Option.{option_map}
 use Rattle.std.proofs.lemmas.Grind.{flat_map-append}
-use Rattle.p21_basics.proofs.Members.{Contains-found, Contains-none, Contains-first, Contains-later, Contains-cases}
-use Rattle.p21_basics.proofs.Shuffles.{NoneTwice}
+use Rattle.p21_spec_basics.proofs.Members.{Contains-found, Contains-none, Contains-first, Contains-later, Contains-cases}
+use Rattle.p21_spec_basics.proofs.Shuffles.{NoneTwice}
 use Rattle.p21_express_graph.proofs.Lookups.{numbers-more}
 use Rattle.p21_express_graph.proofs.Pairs.{AllZip-more}
 

@@ -2,23 +2,23 @@
 use Rattle.std.specs.Prelude.{◌≡◌, ℕ, suc, ◌<◌, ◌≤◌, List, [], ◌∷◌, length, Result, Ok, Err, MatchResult, refl}
 use Rattle.std.proofs.Common.{arith, ap, sym, ◌∙◌}
 use Rattle.std.proofs.lemmas.List.{map-append}
-use Rattle.p21_exchange.specs.Parameter.{Param, listed}
+use Rattle.p21_spec_exchange.specs.Parameter.{Param, listed}
 use Rattle.p21_grammar_tree.specs.declared.record.Part as tree
 use Rattle.p21_grammar_tree.specs.View.{items_of, part_view}
-use Rattle.p21_files.specs.Reference as reference
-use Rattle.p21_files.specs.Value as meant
+use Rattle.p21_spec_file.specs.Reference as reference
+use Rattle.p21_spec_file.specs.Value as meant
 use Rattle.p21_grammar_tree.specs.declared.param.Param.{Param as Parameter}
 use Rattle.p21_mapping.proofs.RowLists.{row-left}
 use Rattle.p21_mapping.specs.Rows.{FitsHere, RefusesHere, RowSoFar, param_views}
 use Rattle.p21_mapping.specs.Outcome.{FitsPlaceOrBreaks, needs_view}
-use Rattle.p21_mapping_faults.specs.declared.fault.CheckFault.{CheckFault}
+use Rattle.p21_grammar_tree.specs.declared.fault.CheckFault.{CheckFault}
 use Rattle.p21_mapping_values.specs.declared.need.Need.{Need}
 use Rattle.p21_mapping_values.specs.declared.value.Value.{Value}
 use Rattle.p21_mapping_values.specs.TypedView.{need_view}
 use Rattle.p21_mapping_values.specs.View.{view}
-use Rattle.p21_schemas.specs.PlaceType.{PlaceType, TypeAt}
-use Rattle.p21_schemas.specs.Schema.{Schema, Place, attributes_of}
-use Rattle.p21_exchange.proofs.Parameters.{listed-params}
+use Rattle.p21_spec_schema.specs.PlaceType.{PlaceType, TypeAt}
+use Rattle.p21_spec_schema.specs.Schema.{Schema, Place, attributes_of}
+use Rattle.p21_spec_exchange.proofs.Parameters.{listed-params}
 
 pub here : (s : Schema) (entities : List ℕ) (place : Place) (at : PlaceType) (p : Param) (old new : List Need) (result : Result Value CheckFault) → TypeAt s entities place at → FitsPlaceOrBreaks s at p old result new
     → MatchResult result (λ found. FitsHere s entities place p (view found) (needs_view old) (needs_view new)) (RefusesHere s entities place p)

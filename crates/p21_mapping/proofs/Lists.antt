@@ -3,24 +3,24 @@ use Rattle.std.proofs.Common.{◌≡◌, ◌≢◌, ◌∙◌, sym, ap, refl, su
 use Rattle.std.proofs.lemmas.List.{append-nil, map-append, reverse-append, reverse-reverse}
 use denote.Param.Weighed.{at_most, most}
 use denote.Ref.{Bor}
-use Rattle.p21_basics.proofs.Members.{Contains-none, Contains-first, Contains-later, Contains-cases, some_pair_is}
-use Rattle.p21_claim_values.proofs.Needs.{assignment, each-servable, served-each}
-use Rattle.p21_claim_values.proofs.OfType.{OfType, EachOf, of_none, of_next, of_empty, of_array, of_list, of_set, of_bag, of_chosen_type, offers-select}
-use Rattle.p21_claim_values.specs.Needs.{FitsWithNeeds, FitEachWithNeeds, FitsAtWithNeeds, with_none, with_next, with_empty, with_dollar, with_fit, with_array, with_list, with_set, with_bag, with_chosen_type}
-use Rattle.p21_exchange.specs.Parameter as parameter
-use Rattle.p21_exchange.specs.Parameter.{Param, Params, Key, no_params, param, listed, key_of}
+use Rattle.p21_spec_basics.proofs.Members.{Contains-none, Contains-first, Contains-later, Contains-cases, some_pair_is}
+use Rattle.p21_spec_laws.proofs.Needs.{assignment, each-servable, served-each}
+use Rattle.p21_spec_laws.proofs.OfType.{OfType, EachOf, of_none, of_next, of_empty, of_array, of_list, of_set, of_bag, of_chosen_type, offers-select}
+use Rattle.p21_spec_laws.specs.Needs.{FitsWithNeeds, FitEachWithNeeds, FitsAtWithNeeds, with_none, with_next, with_empty, with_dollar, with_fit, with_array, with_list, with_set, with_bag, with_chosen_type}
+use Rattle.p21_spec_exchange.specs.Parameter as parameter
+use Rattle.p21_spec_exchange.specs.Parameter.{Param, Params, Key, no_params, param, listed, key_of}
 use Rattle.p21_express_tables.specs.Base.{IsBase}
 use Rattle.p21_express_tables.specs.declared.base.Base.{Base}
 use Rattle.p21_express_tables.specs.declared.base.Base.TheVariants.{Plain}
 use Rattle.p21_express_graph.specs.Resolved.{IsTypeUse, IsType}
-use Rattle.p21_express_types.specs.declared.number.TypeId.{TypeId}
-use Rattle.p21_express_types.specs.declared.type_use.TypeUse as code
-use Rattle.p21_express_types.specs.Meaning.{type_use}
-use Rattle.p21_files.specs.BrokenValue.{BreaksWithin, BreaksAtPlace, out_of_bounds, not_distinct, in_element, in_chosen, stored}
-use Rattle.p21_files.specs.ParameterKind.{AllowsCount, IsUnique, element_type}
-use Rattle.p21_files.specs.Reference as reference
-use Rattle.p21_files.specs.Value as meant
-use Rattle.p21_files.specs.Value.{Values, no_values, value, count}
+use Rattle.p21_express_graph.specs.declared.number.TypeId.{TypeId}
+use Rattle.p21_express_graph.specs.declared.type_use.TypeUse as code
+use Rattle.p21_express_graph.specs.Meaning.{type_use}
+use Rattle.p21_spec_file.specs.BrokenValue.{BreaksWithin, BreaksAtPlace, out_of_bounds, not_distinct, in_element, in_chosen, stored}
+use Rattle.p21_spec_file.specs.ParameterKind.{AllowsCount, IsUnique, element_type}
+use Rattle.p21_spec_file.specs.Reference as reference
+use Rattle.p21_spec_file.specs.Value as meant
+use Rattle.p21_spec_file.specs.Value.{Values, no_values, value, count}
 use Rattle.p21_grammar_tree.specs.declared.param.Param as tree
 use Rattle.p21_grammar_tree.specs.View as tree_view
 use Rattle.p21_mapping.proofs.BaseKinds.{TakesPlainly}
@@ -28,19 +28,19 @@ use Rattle.p21_mapping.specs.Aggregate.{aggregate_value}
 use Rattle.p21_mapping.specs.Choosing.{DecidesKey, IsBaseIn}
 use Rattle.p21_mapping.specs.Outcome.{AreElementsOf, BreaksAmong, FitsFrom, FitsOrBreaks, Found, IsElementOf, IsKindFault, IsValueOf, KeepsUnique, needs_view}
 use Rattle.p21_mapping.proofs.Outcomes.{broken, value-means}
-use Rattle.p21_mapping_faults.specs.Fault.{fault_number}
+use Rattle.p21_grammar_tree.specs.Fault.{fault_number}
 use Rattle.p21_mapping_values.specs.KnownTypes.{HasKnownTypes, HaveKnownTypes}
 use Rattle.p21_mapping_values.proofs.Views.{view-Tagged}
-use Rattle.p21_mapping_faults.specs.declared.fault.CheckFault.{CheckFault}
-use Rattle.p21_mapping_faults.specs.declared.fault.CheckFault.TheVariants as fault
+use Rattle.p21_grammar_tree.specs.declared.fault.CheckFault.{CheckFault}
+use Rattle.p21_grammar_tree.specs.declared.fault.CheckFault.TheVariants as fault
 use Rattle.p21_mapping_values.specs.declared.need.Need.{Need}
 use Rattle.p21_mapping_values.specs.declared.value.Value.{Value}
 use Rattle.p21_mapping_values.specs.declared.value.Value as code_value
 use Rattle.p21_mapping_values.specs.TypedView.{need_view}
 use Rattle.p21_mapping_values.specs.View.{view, views}
-use Rattle.p21_schemas.specs.PlaceType.{stored_place}
-use Rattle.p21_schemas.specs.Schema as schema
-use Rattle.p21_schemas.specs.Schema.{Schema, TypeUse, type_member}
+use Rattle.p21_spec_schema.specs.PlaceType.{stored_place}
+use Rattle.p21_spec_schema.specs.Schema as schema
+use Rattle.p21_spec_schema.specs.Schema.{Schema, TypeUse, type_member}
 
 -- ---- an element more
 

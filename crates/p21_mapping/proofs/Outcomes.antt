@@ -2,31 +2,31 @@
 use Rattle.std.proofs.Common.{◌≡◌, ◌≢◌, ◌∙◌, sym, refl, subst, ℕ, List, [], Result, Ok, Err, Option}
 use Rattle.std.proofs.lemmas.List.{append-nil}
 use denote.Ref.{Bor}
-use Rattle.p21_claim_values.proofs.OfType.{OfType}
-use Rattle.p21_claim_values.specs.Needs.{FitsWithNeeds}
-use Rattle.p21_exchange.specs.Parameter as parameter
-use Rattle.p21_exchange.specs.Parameter.{Param}
+use Rattle.p21_spec_laws.proofs.OfType.{OfType}
+use Rattle.p21_spec_laws.specs.Needs.{FitsWithNeeds}
+use Rattle.p21_spec_exchange.specs.Parameter as parameter
+use Rattle.p21_spec_exchange.specs.Parameter.{Param}
 use Rattle.p21_express_tables.specs.Base.{IsBase}
 use Rattle.p21_express_graph.specs.DirectRenaming.{IsPlain}
 use Rattle.p21_express_tables.specs.declared.base.Base.{Base}
 use Rattle.p21_express_tables.specs.declared.base.Base.TheVariants.{Plain, Items, Select}
-use Rattle.p21_express_types.specs.declared.type_use.TypeUse as code
-use Rattle.p21_express_types.specs.Meaning.{type_use}
-use Rattle.p21_files.specs.BrokenValue.{BreaksAt, wrong_kind, select_type, itself, UsesSelect, IsOfWrongKind}
-use Rattle.p21_files.specs.Reference as reference
-use Rattle.p21_files.specs.Value as meant
-use Rattle.p21_express_types.specs.declared.number.TypeId.{TypeId}
+use Rattle.p21_express_graph.specs.declared.type_use.TypeUse as code
+use Rattle.p21_express_graph.specs.Meaning.{type_use}
+use Rattle.p21_spec_file.specs.BrokenValue.{BreaksAt, wrong_kind, select_type, itself, UsesSelect, IsOfWrongKind}
+use Rattle.p21_spec_file.specs.Reference as reference
+use Rattle.p21_spec_file.specs.Value as meant
+use Rattle.p21_express_graph.specs.declared.number.TypeId.{TypeId}
 use Rattle.p21_mapping.proofs.BaseKinds.{TakesAt, TakesPlainly, base-takes}
 use Rattle.p21_mapping.specs.Outcome.{Answers, FitsAlone, FitsOrBreaks, IsKindFault, IsValueOf, RefusesItem, needs_view}
 use Rattle.p21_mapping_values.specs.KnownTypes.{HasKnownTypes}
-use Rattle.p21_mapping_faults.specs.declared.fault.CheckFault.{CheckFault}
-use Rattle.p21_mapping_faults.specs.declared.fault.CheckFault.TheVariants as fault
+use Rattle.p21_grammar_tree.specs.declared.fault.CheckFault.{CheckFault}
+use Rattle.p21_grammar_tree.specs.declared.fault.CheckFault.TheVariants as fault
 use Rattle.p21_mapping_values.specs.declared.need.Need.{Need}
 use Rattle.p21_mapping_values.specs.declared.value.Value.{Value}
-use Rattle.p21_mapping_faults.specs.Fault.{fault_number}
+use Rattle.p21_grammar_tree.specs.Fault.{fault_number}
 use Rattle.p21_mapping_values.specs.View.{view}
-use Rattle.p21_schemas.specs.Schema as schema
-use Rattle.p21_schemas.specs.Schema.{Schema, TypeUse, kind_of}
+use Rattle.p21_spec_schema.specs.Schema as schema
+use Rattle.p21_spec_schema.specs.Schema.{Schema, TypeUse, kind_of}
 
 -- ---- answers from answers
 

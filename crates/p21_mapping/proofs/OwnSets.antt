@@ -1,24 +1,24 @@
 -- What holds of the closure of an entity holds of each list with the same members.
 use Rattle.std.specs.Prelude.{ℕ, List}
-use Rattle.p21_basics.proofs.Members.{Contains-flat_map, Contains-one_of, Each-of_members}
-use Rattle.p21_exchange.specs.Record.{Part, simple}
+use Rattle.p21_spec_basics.proofs.Members.{Contains-flat_map, Contains-one_of, Each-of_members}
+use Rattle.p21_spec_exchange.specs.Record.{Part, simple}
 use Rattle.p21_express_tables.specs.OwnSets.{LeavesOpen}
 use Rattle.p21_express_graph.specs.Resolved.{HoldsTogether}
-use Rattle.p21_files.specs.Meaning.{HasPlaceTypes, NamesEntity}
-use Rattle.p21_files.specs.RecordPlaces.{IsEntitySetOf}
+use Rattle.p21_spec_file.specs.Meaning.{HasPlaceTypes, NamesEntity}
+use Rattle.p21_spec_file.specs.RecordPlaces.{IsEntitySetOf}
 use Rattle.p21_mapping.proofs.Redeclaring.{type-there}
 use Rattle.p21_mapping.proofs.Shapes.{leaf-breaks, set-refuses, simple-leaf, simple-set}
 use Rattle.p21_express_graph.specs.Rising.{HaveSame}
 use Rattle.p21_mapping.specs.declared.shape.Listed.{Listed}
 use Rattle.p21_mapping.specs.declared.shape.Listed.TheVariants.{Named, Order}
 use Rattle.p21_mapping.specs.Shape.{AreListed, HasOpenPlace, IsOwnClosure, PassesOwnSet, PassesSet, Refuses, RefusesOwnSet, own_of}
-use Rattle.p21_mapping_faults.specs.declared.fault.CheckFault.{CheckFault}
-use Rattle.p21_mapping_faults.specs.declared.fault.CheckFault.TheVariants.{Abstract, OneOf, TwoRedeclarations}
-use Rattle.p21_schemas.specs.OneOf.{Clashes}
-use Rattle.p21_schemas.specs.Order.{order, own_places}
-use Rattle.p21_schemas.specs.PlaceType.{PlaceType, TypeAt, two_redeclarations}
-use Rattle.p21_schemas.specs.Schema.{Schema, Place}
-use Rattle.p21_schemas.specs.WellFormed.{HasDistinctEntities}
+use Rattle.p21_grammar_tree.specs.declared.fault.CheckFault.{CheckFault}
+use Rattle.p21_grammar_tree.specs.declared.fault.CheckFault.TheVariants.{Abstract, OneOf, TwoRedeclarations}
+use Rattle.p21_spec_schema.specs.OneOf.{Clashes}
+use Rattle.p21_spec_schema.specs.Order.{order, own_places}
+use Rattle.p21_spec_schema.specs.PlaceType.{PlaceType, TypeAt, two_redeclarations}
+use Rattle.p21_spec_schema.specs.Schema.{Schema, Place}
+use Rattle.p21_spec_schema.specs.WellFormed.{HasDistinctEntities}
 
 -- an entity whose closure the set is, is one of the schema
 pub own-listed : (s : Schema) (listed : Listed) (entities : List ℕ) → IsOwnClosure s (own_of listed) entities → AreListed s listed

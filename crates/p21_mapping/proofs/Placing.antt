@@ -5,10 +5,10 @@ use Rattle.std.specs.Ordering.{nat_cmp}
 use Rattle.std.proofs.Common.{arith, ap, sym, ◌∙◌, subst, inl, inr}
 use Rattle.std.proofs.lemmas.Bool.Decides.{eqb_tells, leb_tells}
 use Rattle.std.proofs.lemmas.Option.{slice_get_within}
-use Rattle.p21_basics.proofs.Members.{Contains-at}
+use Rattle.p21_spec_basics.proofs.Members.{Contains-at}
 use Rattle.p21_mapping.specs.Positions.{AreFirstPositions, FindsFirst}
 use Rattle.p21_mapping.proofs.GrownLists.{map-take, take-at}
-use Rattle.p21_basics.proofs.Comparing.{is_at-other}
+use Rattle.p21_spec_basics.proofs.Comparing.{is_at-other}
 
 -- the first place of a number from a place on, if it stands at one
 abbrev pub FindsFrom : List ℕ → ℕ → ℕ → Option ℕ → Type 0

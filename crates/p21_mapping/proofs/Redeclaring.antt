@@ -3,16 +3,16 @@ use Rattle.std.specs.Prelude.{◌≡◌, ◌↔◌, ◌+◌, ◌<◌, ℕ, List,
 use Rattle.std.proofs.Common.{inl, inr, ap, sym, ◌∙◌, subst, get_or}
 use Rattle.std.proofs.lemmas.List.{map-append}
 use Rattle.std.proofs.lemmas.List.Elements.{Contains-append_left, Contains-append_right, Contains-push_cases}
-use Rattle.p21_basics.proofs.Members.{Contains-none, Contains-first}
+use Rattle.p21_spec_basics.proofs.Members.{Contains-none, Contains-first}
 use Rattle.p21_express_graph.proofs.Lookups.{numbers-more}
 use Rattle.p21_express_graph.specs.Orders.{numbers}
-use Rattle.p21_express_types.specs.declared.number.EntityId.{EntityId}
+use Rattle.p21_express_graph.specs.declared.number.EntityId.{EntityId}
 use Rattle.p21_express_graph.specs.Lookups.{AreEntities}
 use Rattle.p21_express_tables.specs.Redeclarers.{RedeclaresPlace}
 use Rattle.p21_mapping.proofs.Shapes.{stored-not_open}
 use Rattle.p21_mapping.specs.Redeclaring.{AreThoseAmong}
-use Rattle.p21_schemas.specs.PlaceType.{PlaceType, TypeAt, derived_place, stored_place, two_redeclarations, IsDerivedIn, IsRedeclared, Decides}
-use Rattle.p21_schemas.specs.Schema.{Schema, Place, Redeclared}
+use Rattle.p21_spec_schema.specs.PlaceType.{PlaceType, TypeAt, derived_place, stored_place, two_redeclarations, IsDerivedIn, IsRedeclared, Decides}
+use Rattle.p21_spec_schema.specs.Schema.{Schema, Place, Redeclared}
 
 module _ (s : Schema) (es fs : List ℕ) (place : Place) (same : (e : ℕ) → RedeclaresPlace s e place → Contains es e ↔ Contains fs e) where
   derived-there : IsDerivedIn s es place → IsDerivedIn s fs place

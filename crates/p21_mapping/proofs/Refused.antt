@@ -3,24 +3,24 @@ use Rattle.std.specs.Prelude.{◌≡◌, ℕ, ◌<◌, List, [], length, map, Co
 use Rattle.std.specs.List.{AllByRecursion as Each, flat_map, zip}
 use Rattle.std.proofs.Common.{ap, sym, ◌∙◌, subst, Vec, Global}
 use Rattle.std.proofs.lemmas.List.{append-nil}
-use Rattle.p21_basics.proofs.Members.{Contains-first, Each-member, Each-of_members}
-use Rattle.p21_exchange.specs.Parameter.{Param, listed}
-use Rattle.p21_exchange.specs.Record.{Part, Record, simple, complex}
+use Rattle.p21_spec_basics.proofs.Members.{Contains-first, Each-member, Each-of_members}
+use Rattle.p21_spec_exchange.specs.Parameter.{Param, listed}
+use Rattle.p21_spec_exchange.specs.Record.{Part, Record, simple, complex}
 use Rattle.p21_express_graph.specs.Lookups.{AreEntities}
 use Rattle.p21_express_graph.proofs.Lookups.{rising-known}
-use Rattle.p21_files.specs.BrokenRule.{Breaks, at_place}
-use Rattle.p21_files.specs.Meaning.{HasPlaceTypes}
-use Rattle.p21_files.specs.RecordPlaces.{HasParamAt}
-use Rattle.p21_files.specs.Reference.{Need}
+use Rattle.p21_spec_file.specs.BrokenRule.{Breaks, at_place}
+use Rattle.p21_spec_file.specs.Meaning.{HasPlaceTypes}
+use Rattle.p21_spec_file.specs.RecordPlaces.{HasParamAt}
+use Rattle.p21_spec_file.specs.Reference.{Need}
 use Rattle.p21_mapping.specs.ArrangedRows.{HasRows}
 use Rattle.p21_mapping.specs.Rows.{BreaksAmong, TakesRows, TakesParts, RefusesAmong, RefusesPart}
 use Rattle.p21_mapping.specs.Shape.{HasShape, Refuses}
-use Rattle.p21_mapping_faults.specs.declared.fault.CheckFault.{CheckFault}
-use Rattle.p21_mapping_faults.specs.Fault.{fault_number}
+use Rattle.p21_grammar_tree.specs.declared.fault.CheckFault.{CheckFault}
+use Rattle.p21_grammar_tree.specs.Fault.{fault_number}
 use Rattle.p21_mapping_values.specs.declared.value.Values.{Values as Stored}
 use Rattle.p21_mapping_values.specs.TypedView.{rows_view}
-use Rattle.p21_schemas.specs.Order.{own_places}
-use Rattle.p21_schemas.specs.Schema.{Schema, Place}
+use Rattle.p21_spec_schema.specs.Order.{own_places}
+use Rattle.p21_spec_schema.specs.Schema.{Schema, Place}
 
 pub listed-within : (s : Schema) (r : Record) (es entities : List ℕ) → HasShape s r es entities → AreEntities s es
 listed-within s r es entities shape e among = rising-known s entities shape.rising e ((shape.same e).0 among)

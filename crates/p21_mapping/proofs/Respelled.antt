@@ -1,11 +1,11 @@
 -- What is read from the canonical spelling of a value is that value.
 use Rattle.std.proofs.Common.{◌≡◌, ℕ, ℤ, Bool, List, Err, refl, sym, subst}
-use Rattle.p21_exchange.proofs.BitSpellings.{bits_once, bits_spell}
-use Rattle.p21_exchange.proofs.RealSpellings.{real_once, real_spells}
-use Rattle.p21_exchange.proofs.WholeSpellings.{whole_once, whole_spells}
-use Rattle.p21_exchange.specs.Binary.{SpellsBits}
-use Rattle.p21_exchange.specs.Number.{Decimal, SpellsReal, SpellsWhole}
-use Rattle.p21_exchange.specs.Spelling.{bits_spelling, real_spelling, whole_spelling}
+use Rattle.p21_spec_exchange.proofs.BitSpellings.{bits_once, bits_spell}
+use Rattle.p21_spec_exchange.proofs.RealSpellings.{real_once, real_spells}
+use Rattle.p21_spec_exchange.proofs.WholeSpellings.{whole_once, whole_spells}
+use Rattle.p21_spec_exchange.specs.Binary.{SpellsBits}
+use Rattle.p21_spec_exchange.specs.Number.{Decimal, SpellsReal, SpellsWhole}
+use Rattle.p21_spec_exchange.specs.Spelling.{bits_spelling, real_spelling, whole_spelling}
 use Rattle.p21_values.specs.Decimal.{IsDecimal, ReadsReal}
 use Rattle.p21_values.specs.Fault.{RefusesAs}
 use Rattle.p21_values.specs.declared.fault.ValueFault.{ValueFault}

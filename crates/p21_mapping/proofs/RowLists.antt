@@ -4,24 +4,24 @@ use Rattle.std.specs.List.{AllByRecursion as Each, flat_map, zip}
 use Rattle.std.proofs.Common.{arith, ap, sym, ◌∙◌, subst, append_assoc}
 use Rattle.std.proofs.lemmas.List.{append-nil, map-append, length-append}
 use Rattle.std.proofs.lemmas.Grind.{flat_map-append}
-use Rattle.p21_basics.proofs.Members.{Contains-first, Contains-later, Each-append}
-use Rattle.p21_claim_values.specs.Needs.{FitPlacesWithNeeds, AreNeedsOfParts}
-use Rattle.p21_exchange.specs.Parameter.{Param, Params, listed, params_of}
-use Rattle.p21_exchange.specs.Record.{Part}
+use Rattle.p21_spec_basics.proofs.Members.{Contains-first, Contains-later, Each-append}
+use Rattle.p21_spec_laws.specs.Needs.{FitPlacesWithNeeds, AreNeedsOfParts}
+use Rattle.p21_spec_exchange.specs.Parameter.{Param, Params, listed, params_of}
+use Rattle.p21_spec_exchange.specs.Record.{Part}
 use Rattle.p21_express_graph.specs.Lookups.{places_from}
 use Rattle.p21_express_graph.proofs.Lookups.{own-places-are, places-more}
-use Rattle.p21_files.specs.Meaning.{Typed, HasValues}
-use Rattle.p21_files.specs.Reference.{Need}
-use Rattle.p21_files.specs.Value.{Value, Values, count, value_at}
+use Rattle.p21_spec_file.specs.Meaning.{Typed, HasValues}
+use Rattle.p21_spec_file.specs.Reference.{Need}
+use Rattle.p21_spec_file.specs.Value.{Value, Values, count, value_at}
 use Rattle.p21_mapping.specs.Rows.{FittedParam, IsFitted, FitsHere, FitsRow, Row, IsRow, FitsRows, RowSoFar, TakesRow}
 use Rattle.p21_mapping.proofs.Shapes.{own-count}
 use Rattle.p21_mapping.specs.Shape.{AreNamed}
 use Rattle.p21_mapping_values.specs.KnownTypes.{HaveKnownTypes}
 use Rattle.p21_mapping_values.specs.View.{row_of_values}
-use Rattle.p21_schemas.specs.Order.{own_places}
-use Rattle.p21_schemas.specs.PlaceType.{TypeAt}
-use Rattle.p21_schemas.specs.Schema.{Schema, Place, attributes_of}
-use Rattle.p21_exchange.proofs.Parameters.{params-listed}
+use Rattle.p21_spec_schema.specs.Order.{own_places}
+use Rattle.p21_spec_schema.specs.PlaceType.{TypeAt}
+use Rattle.p21_spec_schema.specs.Schema.{Schema, Place, attributes_of}
+use Rattle.p21_spec_exchange.proofs.Parameters.{params-listed}
 
 -- ---- rows that grow
 

@@ -4,30 +4,29 @@ use Rattle.std.specs.List.{AllByRecursion as Each}
 use Rattle.std.specs.Char.{IsScalar}
 use denote.Ref.{Bor}
 use Rattle.p21_mapping_values.proofs.SpelledScalars.{item-spelled, real-spelled, text-spelled}
-use Rattle.p21_claim_values.proofs.OfType.{OfType, of_whole, of_real, of_number, of_boolean, of_logical, of_text, of_binary, of_items}
-use Rattle.p21_claim_values.specs.Needs.{FitsWithNeeds, with_whole, with_real, with_number, with_whole_number, with_boolean, with_logical, with_text, with_binary, with_item}
-use Rattle.p21_exchange.specs.Keyword.{IsKeyword}
-use Rattle.p21_exchange.specs.Number.{Decimal, whole_ratio}
-use Rattle.p21_exchange.specs.Parameter as parameter
-use Rattle.p21_exchange.specs.Parameter.{Param}
+use Rattle.p21_spec_laws.proofs.OfType.{OfType, of_whole, of_real, of_number, of_boolean, of_logical, of_text, of_binary, of_items}
+use Rattle.p21_spec_laws.specs.Needs.{FitsWithNeeds, with_whole, with_real, with_number, with_whole_number, with_boolean, with_logical, with_text, with_binary, with_item}
+use Rattle.p21_spec_exchange.specs.Keyword.{IsKeyword}
+use Rattle.p21_spec_exchange.specs.Number.{Decimal, whole_ratio}
+use Rattle.p21_spec_exchange.specs.Parameter as parameter
 use Rattle.p21_express_tables.specs.Base.{IsBase}
 use Rattle.p21_express_tables.specs.declared.base.Base.{Base}
 use Rattle.p21_express_tables.specs.declared.base.Base.TheVariants.{Plain, Items}
-use Rattle.p21_express_types.specs.declared.type_use.TypeUse as code
-use Rattle.p21_express_types.specs.declared.type_use.Width.{Width}
-use Rattle.p21_express_types.specs.Meaning.{type_use, width_option}
-use Rattle.p21_files.specs.BrokenValue.{number_range, wrong_width, unknown_item}
-use Rattle.p21_files.specs.Fits.{IsWithinWidth, boolean_items, logical_items}
-use Rattle.p21_files.specs.ParameterKind.{HasItems, of_boolean as items_of_boolean, of_logical as items_of_logical, of_enumeration}
-use Rattle.p21_files.specs.Value as meant
+use Rattle.p21_express_graph.specs.declared.type_use.TypeUse as code
+use Rattle.p21_express_graph.specs.declared.type_use.Width.{Width}
+use Rattle.p21_express_graph.specs.Meaning.{type_use, width_option}
+use Rattle.p21_spec_file.specs.BrokenValue.{number_range, wrong_width, unknown_item}
+use Rattle.p21_spec_file.specs.Fits.{IsWithinWidth, boolean_items, logical_items}
+use Rattle.p21_spec_file.specs.ParameterKind.{HasItems, of_boolean as items_of_boolean, of_logical as items_of_logical, of_enumeration}
+use Rattle.p21_spec_file.specs.Value as meant
 use Rattle.p21_mapping.proofs.Outcomes.{alone, broken}
 use Rattle.p21_mapping.specs.Outcome.{DecidesItem, FitsAlone, FitsOrBreaks}
 use Rattle.p21_mapping_values.proofs.Views.{view-Whole, view-Real, view-Number, view-Text, view-Bits, view-Item}
-use Rattle.p21_mapping_faults.specs.declared.fault.CheckFault.TheVariants as fault
+use Rattle.p21_grammar_tree.specs.declared.fault.CheckFault.TheVariants as fault
 use Rattle.p21_mapping_values.specs.declared.value.Value as value
-use Rattle.p21_mapping_faults.specs.Fault.{value_fault}
-use Rattle.p21_schemas.specs.Schema as schema
-use Rattle.p21_schemas.specs.Schema.{Schema, TypeUse}
+use Rattle.p21_grammar_tree.specs.Fault.{value_fault}
+use Rattle.p21_spec_schema.specs.Schema as schema
+use Rattle.p21_spec_schema.specs.Schema.{Schema, TypeUse}
 use Rattle.p21_values.specs.Decimal.{IsDecimal, ReducesRatio}
 use Rattle.p21_values.specs.declared.fault.ValueFault.{ValueFault}
 use Rattle.p21_values.specs.declared.fault.ValueFault.TheVariants as of_value

@@ -3,35 +3,35 @@ use Rattle.std.specs.Prelude.{◌≡◌, ℕ, zero, suc, ◌+◌, ◌<◌, Bool,
 use Rattle.std.specs.List.{AllByRecursion as Each, AllZip, IsDistinct, flat_map}
 use Rattle.std.proofs.lemmas.Option.{slice_get_within}
 use Rattle.std.proofs.Common.{arith, ap, sym, ◌∙◌, subst, inl, inr}
-use Rattle.p21_basics.proofs.Members.{AllZip-member, AllZip-second_member, Contains-cases, Contains-none, Contains-first, Contains-later, Contains-found, Each-member}
-use Rattle.p21_exchange.specs.Parameter.{Key, key_of, listed}
-use Rattle.p21_exchange.specs.Record.{Part, Record, simple, complex}
+use Rattle.p21_spec_basics.proofs.Members.{AllZip-member, AllZip-second_member, Contains-cases, Contains-none, Contains-first, Contains-later, Contains-found, Each-member}
+use Rattle.p21_spec_exchange.specs.Parameter.{Key, key_of, listed}
+use Rattle.p21_spec_exchange.specs.Record.{Part, Record, simple, complex}
 use Rattle.p21_express_graph.specs.Lookups.{AreEntities, places_from}
 use Rattle.p21_express_graph.specs.Orders.{numbers}
-use Rattle.p21_express_types.specs.declared.number.EntityId.{EntityId}
+use Rattle.p21_express_graph.specs.declared.number.EntityId.{EntityId}
 use Rattle.p21_express_graph.specs.Resolved.{HoldsTogether, IsEntity}
 use Rattle.p21_express_graph.proofs.Lookups.{map-option, own-places-are, leaves-all}
 use Rattle.p21_express_graph.proofs.OrderTables.{order-tells, IsA-within, are-entities}
-use Rattle.p21_files.proofs.OneMeaning.{EntityNamed-one, NamesEntity-one}
-use Rattle.p21_files.proofs.RecordSets.{internal-set, external-set}
-use Rattle.p21_files.specs.BrokenRule.{Breaks, part_twice, part_missing, abstract_leaf, one_of, open_place, wrong_count}
-use Rattle.p21_files.specs.Meaning.{NamesEntity}
-use Rattle.p21_files.specs.RecordPlaces.{IsEntitySetOf}
+use Rattle.p21_spec_file.proofs.OneMeaning.{EntityNamed-one, NamesEntity-one}
+use Rattle.p21_spec_file.proofs.RecordSets.{internal-set, external-set}
+use Rattle.p21_spec_file.specs.BrokenRule.{Breaks, part_twice, part_missing, abstract_leaf, one_of, open_place, wrong_count}
+use Rattle.p21_spec_file.specs.Meaning.{NamesEntity}
+use Rattle.p21_spec_file.specs.RecordPlaces.{IsEntitySetOf}
 use Rattle.p21_grammar_tree.specs.declared.param.Param.{Param as Parameter}
 use Rattle.p21_grammar_tree.specs.declared.record.Part as tree
 use Rattle.p21_grammar_tree.specs.View.{items_of, part_view, part_views, views}
-use Rattle.p21_mapping_faults.specs.declared.fault.CheckFault.{CheckFault}
-use Rattle.p21_mapping_faults.specs.declared.fault.CheckFault.TheVariants.{PartTwice, PartMissing, OneOf, TwoRedeclarations, NoMemory}
+use Rattle.p21_grammar_tree.specs.declared.fault.CheckFault.{CheckFault}
+use Rattle.p21_grammar_tree.specs.declared.fault.CheckFault.TheVariants.{PartTwice, PartMissing, OneOf, TwoRedeclarations, NoMemory}
 use Rattle.p21_express_graph.specs.Rising.{HaveSame}
 use Rattle.p21_mapping.specs.Shape.{Refuses, AreNamed, HasTwice, IsClosed, LacksSupertype, HasSomeAbstractLeaf, HasNoAbstractLeaf, PassesSet, RefusesMembers, RefusesSet, HasCount, HasOtherCount, HasCounts, HasShape}
 use Rattle.p21_mapping.proofs.GrownLists.{AllZip-at_second, AllZip-at_both}
-use Rattle.p21_schemas.proofs.PlaceTypes.{IsA-antisymmetric}
-use Rattle.p21_schemas.specs.Order.{order, places, own_places}
-use Rattle.p21_schemas.specs.PlaceType.{TypeAt, stored_place, two_redeclarations}
-use Rattle.p21_schemas.specs.Schema.{Schema, Place, TypeUse, Member, Kind, Defined, EntityNamed, IsAbstract, attributes_of, kind_of, AreRisingByName}
-use Rattle.p21_schemas.specs.Select.{Offers, offered, offered_within}
-use Rattle.p21_schemas.specs.Supertype.{itself, IsLeaf, AreLeaves, LeavesAmong, no_more, leaf_next, other_next}
-use Rattle.p21_schemas.specs.WellFormed.{HasDistinctEntities}
+use Rattle.p21_spec_schema.proofs.PlaceTypes.{IsA-antisymmetric}
+use Rattle.p21_spec_schema.specs.Order.{order, places, own_places}
+use Rattle.p21_spec_schema.specs.PlaceType.{TypeAt, stored_place, two_redeclarations}
+use Rattle.p21_spec_schema.specs.Schema.{Schema, Place, TypeUse, Member, Kind, Defined, EntityNamed, IsAbstract, attributes_of, kind_of, AreRisingByName}
+use Rattle.p21_spec_schema.specs.Select.{Offers, offered, offered_within}
+use Rattle.p21_spec_schema.specs.Supertype.{itself, IsLeaf, AreLeaves, LeavesAmong, no_more, leaf_next, other_next}
+use Rattle.p21_spec_schema.specs.WellFormed.{HasDistinctEntities}
 
 -- ---- keywords
 

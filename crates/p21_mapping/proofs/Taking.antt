@@ -5,16 +5,16 @@ use Rattle.std.proofs.Common.{arith, ap, sym, ◌∙◌, subst, inl, inr, append
 use Rattle.std.proofs.lemmas.List.{append-nil, map-append, length-append, take-append-drop, take_all}
 use Rattle.std.proofs.lemmas.Grind.{flat_map-append}
 use Rattle.std.proofs.lemmas.Slice.Zip.{AllZip-long}
-use Rattle.p21_basics.proofs.Members.{Contains-none, Contains-later, Contains-cases, Contains-found}
-use Rattle.p21_exchange.specs.Parameter.{Param, listed}
-use Rattle.p21_exchange.specs.Record.{Part, complex}
+use Rattle.p21_spec_basics.proofs.Members.{Contains-none, Contains-later, Contains-cases, Contains-found}
+use Rattle.p21_spec_exchange.specs.Parameter.{Param, listed}
+use Rattle.p21_spec_exchange.specs.Record.{Part, complex}
 use Rattle.p21_express_graph.proofs.Lookups.{numbers-more}
 use Rattle.p21_express_graph.specs.Orders.{numbers}
-use Rattle.p21_express_types.specs.declared.number.EntityId.{EntityId}
-use Rattle.p21_files.specs.Meaning.{NamesEntity}
-use Rattle.p21_files.specs.RecordPlaces.{HasPart}
-use Rattle.p21_files.specs.Reference.{Need}
-use Rattle.p21_files.specs.Value.{Value, Values}
+use Rattle.p21_express_graph.specs.declared.number.EntityId.{EntityId}
+use Rattle.p21_spec_file.specs.Meaning.{NamesEntity}
+use Rattle.p21_spec_file.specs.RecordPlaces.{HasPart}
+use Rattle.p21_spec_file.specs.Reference.{Need}
+use Rattle.p21_spec_file.specs.Value.{Value, Values}
 use Rattle.p21_mapping.specs.Rows.{Row, IsRow, FitsRows, TakesRow, TakesRows, TakesParts, BreaksAmong}
 use Rattle.p21_mapping.proofs.RowLists.{rows-none, rows-push, row-long}
 use Rattle.p21_mapping.proofs.GrownLists.{flat_map-more, flat_map-front, AllZip-at_both, mapped-at}
@@ -23,8 +23,8 @@ use Rattle.p21_mapping.specs.Shape.{AreNamed}
 use Rattle.p21_mapping_values.specs.declared.value.Values.{Values as Stored}
 use Rattle.p21_mapping_values.specs.TypedView.{rows_view}
 use Rattle.p21_mapping_values.specs.View.{row_of_values, list_of, view}
-use Rattle.p21_schemas.specs.Order.{own_places}
-use Rattle.p21_schemas.specs.Schema.{Schema, Place, attributes_of}
+use Rattle.p21_spec_schema.specs.Order.{own_places}
+use Rattle.p21_spec_schema.specs.Schema.{Schema, Place, attributes_of}
 
 -- the parameters of rows, one behind the other
 abbrev flat : List (List Param) → List Param

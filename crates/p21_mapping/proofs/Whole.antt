@@ -2,36 +2,36 @@
 use Rattle.std.specs.Prelude.{◌≡◌, ◌≢◌, ℕ, suc, List, [], ◌∷◌, ◌++◌, length, map, Contains, refl}
 use Rattle.std.specs.List.{AllByRecursion as Each, AllZip, flat_map, zip}
 use Rattle.std.proofs.Common.{ap, sym, ◌∙◌, subst, inl, inr}
-use Rattle.p21_basics.proofs.Members.{Contains-none, Contains-first, Contains-later, Contains-cases, Contains-mapped, Each-member, Each-of_members, Each-front, Each-back}
-use Rattle.p21_basics.proofs.Shuffles.{NoneTwice, distinct-none_twice, zip-one}
-use Rattle.p21_claim_values.proofs.Needs.{means-served, needs-can_be_served, needs-references, served-means, served-places}
-use Rattle.p21_claim_values.specs.Needs.{FitPlacesWithNeeds, AreNeedsOfParts, AreNeedsOfRecord, MeansWithNeeds}
-use Rattle.p21_exchange.specs.Parameter.{Param, Params, params_of}
-use Rattle.p21_exchange.specs.Record.{Part, Record, simple, complex}
+use Rattle.p21_spec_basics.proofs.Members.{Contains-none, Contains-first, Contains-later, Contains-cases, Contains-mapped, Each-member, Each-of_members, Each-front, Each-back}
+use Rattle.p21_spec_basics.proofs.Shuffles.{NoneTwice, distinct-none_twice, zip-one}
+use Rattle.p21_spec_laws.proofs.Needs.{means-served, needs-can_be_served, needs-references, served-means, served-places}
+use Rattle.p21_spec_laws.specs.Needs.{FitPlacesWithNeeds, AreNeedsOfParts, AreNeedsOfRecord, MeansWithNeeds}
+use Rattle.p21_spec_exchange.specs.Parameter.{Param, Params, params_of}
+use Rattle.p21_spec_exchange.specs.Record.{Part, Record, simple, complex}
 use Rattle.p21_express_graph.specs.Resolved.{HoldsTogether}
 use Rattle.p21_express_graph.proofs.OrderTables.{order-tells}
-use Rattle.p21_files.proofs.BrokenRules.{broken-means_nothing}
-use Rattle.p21_files.proofs.OneMeaning.{NamesEntity-one, RecordMeans-one}
-use Rattle.p21_files.specs.Meaning.{Typed, HasValues, HasOwnCount, FitPlaces, PartMeans, MeansByMapping}
-use Rattle.p21_files.specs.Reference.{EntitySets, Need, IsServed}
-use Rattle.p21_files.specs.Value.{Values, count}
+use Rattle.p21_spec_file.proofs.BrokenRules.{broken-means_nothing}
+use Rattle.p21_spec_file.proofs.OneMeaning.{NamesEntity-one, RecordMeans-one}
+use Rattle.p21_spec_file.specs.Meaning.{Typed, HasValues, HasOwnCount, FitPlaces, PartMeans, MeansByMapping}
+use Rattle.p21_spec_file.specs.Reference.{EntitySets, Need, IsServed}
+use Rattle.p21_spec_file.specs.Value.{Values, count}
 use Rattle.p21_mapping.specs.ArrangedRows.{AreArranged, AreParamsByEntity, HasRows}
 use Rattle.p21_mapping.specs.Checked.{IsChecked, IsRefused}
 use Rattle.p21_mapping.specs.Rows.{Row, IsRow, FitsRows}
 use Rattle.p21_mapping.proofs.RowLists.{HaveValues, row-count, row-known, rows-joined, rows-parts}
 use Rattle.p21_mapping.specs.Shape.{AreNamed, IsEntityList, HasShape, Refuses}
 use Rattle.p21_mapping_values.specs.KnownTypes.{HaveKnownTypes}
-use Rattle.p21_mapping_faults.specs.declared.fault.CheckFault.{CheckFault}
-use Rattle.p21_mapping_faults.specs.declared.fault.CheckFault.TheVariants.{NoMemory}
+use Rattle.p21_grammar_tree.specs.declared.fault.CheckFault.{CheckFault}
+use Rattle.p21_grammar_tree.specs.declared.fault.CheckFault.TheVariants.{NoMemory}
 use Rattle.p21_mapping_values.specs.declared.value.Values.{Values as Stored}
-use Rattle.p21_mapping_faults.specs.Fault.{fault_number}
+use Rattle.p21_grammar_tree.specs.Fault.{fault_number}
 use Rattle.p21_mapping_values.specs.TypedView.{rows_view}
 use Rattle.p21_mapping_values.specs.View.{row_of_values}
-use Rattle.p21_schemas.proofs.OrderedOnce.{order-distinct}
-use Rattle.p21_schemas.specs.Order.{order, places, own_places}
-use Rattle.p21_schemas.specs.Schema.{Schema, attributes_of}
-use Rattle.p21_schemas.specs.WellFormed.{IsWellFormed, HasDistinctEntities}
-use Rattle.p21_exchange.proofs.Parameters.{params-listed}
+use Rattle.p21_spec_schema.proofs.OrderedOnce.{order-distinct}
+use Rattle.p21_spec_schema.specs.Order.{order, places, own_places}
+use Rattle.p21_spec_schema.specs.Schema.{Schema, attributes_of}
+use Rattle.p21_spec_schema.specs.WellFormed.{IsWellFormed, HasDistinctEntities}
+use Rattle.p21_spec_exchange.proofs.Parameters.{params-listed}
 
 pub listed-none_twice : (s : Schema) (r : Record) (es : List ℕ) → IsEntityList s r es → NoneTwice es
 listed-none_twice s (simple part) es (e, named, is) = let P : List ℕ → Type 0 = λ xs. NoneTwice xs in subst P (sym is) (distinct-none_twice (order s e) (order-distinct s e))

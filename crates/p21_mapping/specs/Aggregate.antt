@@ -1,7 +1,7 @@
 -- The value of an aggregate of a type.
-use Rattle.p21_schemas.specs.Schema as schema
-use Rattle.p21_schemas.specs.Schema.{TypeUse}
-use Rattle.p21_files.specs.Value.{Value, Values, list, array, set, bag}
+use Rattle.p21_spec_schema.specs.Schema as schema
+use Rattle.p21_spec_schema.specs.Schema.{TypeUse}
+use Rattle.p21_spec_file.specs.Value.{Value, Values, list, array, set, bag}
 
 -- these elements as a value of the type
 abbrev pub aggregate_value : TypeUse → Values → Value

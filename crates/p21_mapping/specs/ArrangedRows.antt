@@ -1,16 +1,16 @@
 -- Rows put in the order of a set.
 use Rattle.std.specs.Prelude.{◌≡◌, ◌<◌, ℕ, List, ◌++◌, length, map, take, slice_get, Some, nat_eq, Contains}
 use Rattle.std.specs.List.{AllZip, IsDistinct, flat_map, zip}
-use Rattle.p21_exchange.specs.Parameter.{Param, listed}
-use Rattle.p21_exchange.specs.Record.{Part, Record, simple, complex}
+use Rattle.p21_spec_exchange.specs.Parameter.{Param, listed}
+use Rattle.p21_spec_exchange.specs.Record.{Part, Record, simple, complex}
 use Rattle.p21_express_graph.specs.Orders.{numbers}
-use Rattle.p21_express_types.specs.declared.number.EntityId.{EntityId}
-use Rattle.p21_files.specs.Reference.{Need}
-use Rattle.p21_files.specs.Value.{Values}
+use Rattle.p21_express_graph.specs.declared.number.EntityId.{EntityId}
+use Rattle.p21_spec_file.specs.Reference.{Need}
+use Rattle.p21_spec_file.specs.Value.{Values}
 use Rattle.p21_mapping.specs.Rows.{FitsRows}
 use Rattle.p21_mapping_values.specs.declared.value.Values.{Values as Stored}
 use Rattle.p21_mapping_values.specs.TypedView.{rows_view}
-use Rattle.p21_schemas.specs.Schema.{Schema}
+use Rattle.p21_spec_schema.specs.Schema.{Schema}
 
 -- no entity twice
 abbrev pub HasNoEntityTwice : List ℕ → Type 0

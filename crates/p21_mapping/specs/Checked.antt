@@ -2,22 +2,22 @@
 use Rattle.std.specs.Prelude.{◌≡◌, ◌≢◌, ◌↔◌, List, map, Result, Ok, Err, Vec}
 use Rattle.std.specs.Global.{Global}
 use Rattle.std.specs.List.{AllByRecursion as Each}
-use Rattle.p21_claim_values.specs.Needs.{MeansWithNeeds}
-use Rattle.p21_exchange.specs.Record.{Record}
-use Rattle.p21_files.specs.BrokenRule.{Breaks}
-use Rattle.p21_files.specs.Meaning.{RecordMeans}
-use Rattle.p21_files.specs.Meaning as meaning
-use Rattle.p21_files.specs.Reference.{IsServed, EntitySets, record_references}
-use Rattle.p21_files.specs.Reference as reference
+use Rattle.p21_spec_laws.specs.Needs.{MeansWithNeeds}
+use Rattle.p21_spec_exchange.specs.Record.{Record}
+use Rattle.p21_spec_file.specs.BrokenRule.{Breaks}
+use Rattle.p21_spec_file.specs.Meaning.{RecordMeans}
+use Rattle.p21_spec_file.specs.Meaning as meaning
+use Rattle.p21_spec_file.specs.Reference.{IsServed, EntitySets, record_references}
+use Rattle.p21_spec_file.specs.Reference as reference
 pub use Rattle.p21_mapping.specs.Outcome.{needs_view}
 use Rattle.p21_mapping_values.specs.KnownTypes.{HaveKnownTypes}
-use Rattle.p21_mapping_faults.specs.declared.fault.CheckFault.{CheckFault}
-use Rattle.p21_mapping_faults.specs.declared.fault.CheckFault.TheVariants.{NoMemory}
+use Rattle.p21_grammar_tree.specs.declared.fault.CheckFault.{CheckFault}
+use Rattle.p21_grammar_tree.specs.declared.fault.CheckFault.TheVariants.{NoMemory}
 use Rattle.p21_mapping_values.specs.declared.need.Need.{Need}
 use Rattle.p21_mapping_values.specs.declared.typed.Typed.{Typed}
-use Rattle.p21_mapping_faults.specs.Fault.{fault_number}
+use Rattle.p21_grammar_tree.specs.Fault.{fault_number}
 use Rattle.p21_mapping_values.specs.TypedView.{typed_view}
-use Rattle.p21_schemas.specs.Schema.{Schema}
+use Rattle.p21_spec_schema.specs.Schema.{Schema}
 
 -- the record has no meaning, whatever the sets of the instances
 abbrev pub MeansNothing : Schema → Record → Type 0

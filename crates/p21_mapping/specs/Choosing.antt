@@ -1,20 +1,20 @@
 -- What a base has for a name and for a keyword.
 use Rattle.std.specs.Prelude.{◌≡◌, ℕ, ◌<◌, ◌^◌, List, [], ◌∷◌, Option, Some, None}
-use Rattle.p21_claim_values.proofs.OfType.{OfType}
-use Rattle.p21_claim_values.specs.Needs.{FitsWithNeeds}
-use Rattle.p21_exchange.specs.Keyword.{IsKeyword}
-use Rattle.p21_exchange.specs.Parameter as parameter
-use Rattle.p21_exchange.specs.Parameter.{Key, Param, key_of}
+use Rattle.p21_spec_laws.proofs.OfType.{OfType}
+use Rattle.p21_spec_laws.specs.Needs.{FitsWithNeeds}
+use Rattle.p21_spec_exchange.specs.Keyword.{IsKeyword}
+use Rattle.p21_spec_exchange.specs.Parameter as parameter
+use Rattle.p21_spec_exchange.specs.Parameter.{Key, Param, key_of}
 use Rattle.p21_express_tables.specs.Base.{IsBase}
 use Rattle.p21_express_tables.specs.declared.base.Base.{Base}
 use Rattle.p21_express_graph.specs.Resolved.{IsTypeUse}
-use Rattle.p21_express_types.specs.declared.kind.Member.{Member}
-use Rattle.p21_express_types.specs.declared.number.TypeId.{TypeId}
-use Rattle.p21_express_types.specs.Meaning.{member}
-use Rattle.p21_files.specs.ParameterKind.{TakesKind}
-use Rattle.p21_files.specs.Value as meant
-use Rattle.p21_schemas.specs.Schema.{Schema, TypeUse, defined, type_member, TypeNamed}
-use Rattle.p21_schemas.specs.Select.{Offers}
+use Rattle.p21_express_graph.specs.declared.kind.Member.{Member}
+use Rattle.p21_express_graph.specs.declared.number.TypeId.{TypeId}
+use Rattle.p21_express_graph.specs.Meaning.{member}
+use Rattle.p21_spec_file.specs.ParameterKind.{TakesKind}
+use Rattle.p21_spec_file.specs.Value as meant
+use Rattle.p21_spec_schema.specs.Schema.{Schema, TypeUse, defined, type_member, TypeNamed}
+use Rattle.p21_spec_schema.specs.Select.{Offers}
 
 -- some type of the schema comes to this base
 abbrev pub IsBaseIn : Schema → Base → Type 0

@@ -9,15 +9,13 @@ pub mod Rows
 pub mod Checked
 pub mod ArrangedRows
 -- What the clauses of its calls cite, for callers who name this crate alone
-pub use Rattle.p21_basics.specs as p21_basics
-pub use Rattle.p21_exchange.specs as p21_exchange
-pub use Rattle.p21_schemas.specs as p21_schemas
-pub use Rattle.p21_files.specs as p21_files
-pub use Rattle.p21_claim_values.specs as p21_claim_values
+pub use Rattle.p21_spec_basics.specs as p21_spec_basics
+pub use Rattle.p21_spec_exchange.specs as p21_spec_exchange
+pub use Rattle.p21_spec_schema.specs as p21_spec_schema
+pub use Rattle.p21_spec_file.specs as p21_spec_file
+pub use Rattle.p21_spec_laws.specs as p21_spec_laws
 pub use Rattle.p21_values.specs as p21_values
 pub use Rattle.p21_grammar_tree.specs as p21_grammar_tree
-pub use Rattle.p21_express_types.specs as p21_express_types
 pub use Rattle.p21_express_graph.specs as p21_express_graph
 pub use Rattle.p21_express_tables.specs as p21_express_tables
-pub use Rattle.p21_mapping_faults.specs as p21_mapping_faults
 pub use Rattle.p21_mapping_values.specs as p21_mapping_values

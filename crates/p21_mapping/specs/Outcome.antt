@@ -1,28 +1,28 @@
 -- What the check of a parameter answers.
 use Rattle.std.specs.Prelude.{◌≡◌, ◌≢◌, ◌⊎◌, ℕ, Bool, true, List, ◌++◌, map, Result, Ok, Err, Contains, Vec, IsTrue, ◌↔◌}
 use Rattle.std.specs.Global.{Global}
-use Rattle.p21_claim_values.proofs.OfType.{OfType, EachOf}
-use Rattle.p21_claim_values.specs.Needs.{FitsWithNeeds, FitEachWithNeeds, FitsAtWithNeeds}
-use Rattle.p21_exchange.specs.Parameter as parameter
-use Rattle.p21_exchange.specs.Parameter.{Param, Params, listed}
+use Rattle.p21_spec_laws.proofs.OfType.{OfType, EachOf}
+use Rattle.p21_spec_laws.specs.Needs.{FitsWithNeeds, FitEachWithNeeds, FitsAtWithNeeds}
+use Rattle.p21_spec_exchange.specs.Parameter as parameter
+use Rattle.p21_spec_exchange.specs.Parameter.{Param, Params, listed}
 use Rattle.p21_express_tables.specs.Base.{IsBase}
 use Rattle.p21_express_tables.specs.declared.base.Base.{Base}
-use Rattle.p21_files.specs.BrokenValue.{BreaksAt, BreaksWithin, BreaksAtPlace, IsOfWrongKind}
-use Rattle.p21_files.specs.ParameterKind.{HasItems, IsUnique}
-use Rattle.p21_files.specs.SameValue.{AreDistinct}
-use Rattle.p21_files.specs.Reference as reference
-use Rattle.p21_files.specs.Value as meant
+use Rattle.p21_spec_file.specs.BrokenValue.{BreaksAt, BreaksWithin, BreaksAtPlace, IsOfWrongKind}
+use Rattle.p21_spec_file.specs.ParameterKind.{HasItems, IsUnique}
+use Rattle.p21_spec_file.specs.SameValue.{AreDistinct}
+use Rattle.p21_spec_file.specs.Reference as reference
+use Rattle.p21_spec_file.specs.Value as meant
 use Rattle.p21_mapping_values.specs.KnownTypes.{HasKnownTypes, HaveKnownTypes}
-use Rattle.p21_mapping_faults.specs.declared.fault.CheckFault.{CheckFault}
-use Rattle.p21_mapping_faults.specs.declared.fault.CheckFault.TheVariants.{NoMemory}
+use Rattle.p21_grammar_tree.specs.declared.fault.CheckFault.{CheckFault}
+use Rattle.p21_grammar_tree.specs.declared.fault.CheckFault.TheVariants.{NoMemory}
 use Rattle.p21_mapping_values.specs.declared.need.Need.{Need}
 use Rattle.p21_mapping_values.specs.declared.value.Value.{Value}
-use Rattle.p21_mapping_faults.specs.Fault.{fault_number}
+use Rattle.p21_grammar_tree.specs.Fault.{fault_number}
 use Rattle.p21_mapping_values.specs.TypedView.{need_view}
 use Rattle.p21_mapping_values.specs.View.{view, views}
 use Rattle.p21_express_graph.specs.Resolved.{IsTypeUse}
-use Rattle.p21_schemas.specs.PlaceType.{PlaceType, derived_place, stored_place, two_redeclarations}
-use Rattle.p21_schemas.specs.Schema.{Schema, TypeUse}
+use Rattle.p21_spec_schema.specs.PlaceType.{PlaceType, derived_place, stored_place, two_redeclarations}
+use Rattle.p21_spec_schema.specs.Schema.{Schema, TypeUse}
 
 -- what is needed
 abbrev pub needs_view : List Need → List reference.Need

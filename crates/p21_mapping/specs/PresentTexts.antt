@@ -1,8 +1,8 @@
 -- The texts of the values in a row, those that are missing apart.
 use Rattle.std.specs.Prelude.{ℕ, List, [], ◌∷◌}
-use Rattle.p21_schemas.specs.Schema.{Schema}
-use Rattle.p21_files.specs.Value.{Value, Values, missing, no_values, value}
-use Rattle.p21_files.specs.ValueText.{value_text}
+use Rattle.p21_spec_schema.specs.Schema.{Schema}
+use Rattle.p21_spec_file.specs.Value.{Value, Values, missing, no_values, value}
+use Rattle.p21_spec_file.specs.ValueText.{value_text}
 
 -- one value in a row
 abbrev pub one : Value → Values

@@ -1,24 +1,24 @@
 -- Parameters at the places of entities, with the values that they stand for there and what these need.
 use Rattle.std.specs.Prelude.{◌≡◌, ◌≢◌, ℕ, List, ◌++◌, map, reverse, Contains}
 use Rattle.std.specs.List.{AllByRecursion as Each, flat_map, zip}
-use Rattle.p21_claim_values.specs.Needs.{FitsAtWithNeeds}
-use Rattle.p21_exchange.specs.Parameter.{Param, listed}
-use Rattle.p21_exchange.specs.Record.{Part, complex}
+use Rattle.p21_spec_laws.specs.Needs.{FitsAtWithNeeds}
+use Rattle.p21_spec_exchange.specs.Parameter.{Param, listed}
+use Rattle.p21_spec_exchange.specs.Record.{Part, complex}
 use Rattle.p21_express_graph.specs.Lookups.{places_from}
-use Rattle.p21_files.specs.BrokenValue.{BreaksAtPlace}
-use Rattle.p21_files.specs.RecordPlaces.{HasPart}
-use Rattle.p21_files.specs.Reference.{Need}
-use Rattle.p21_files.specs.Value.{Value, Values}
+use Rattle.p21_spec_file.specs.BrokenValue.{BreaksAtPlace}
+use Rattle.p21_spec_file.specs.RecordPlaces.{HasPart}
+use Rattle.p21_spec_file.specs.Reference.{Need}
+use Rattle.p21_spec_file.specs.Value.{Value, Values}
 use Rattle.p21_grammar_tree.specs.declared.param.Param.{Param as Parameter}
 use Rattle.p21_grammar_tree.specs.View as tree
 use Rattle.p21_mapping_values.specs.KnownTypes.{HasKnownTypes}
-use Rattle.p21_mapping_faults.specs.declared.fault.CheckFault.{CheckFault}
-use Rattle.p21_mapping_faults.specs.declared.fault.CheckFault.TheVariants.{NoMemory}
-use Rattle.p21_mapping_faults.specs.Fault.{fault_number}
+use Rattle.p21_grammar_tree.specs.declared.fault.CheckFault.{CheckFault}
+use Rattle.p21_grammar_tree.specs.declared.fault.CheckFault.TheVariants.{NoMemory}
+use Rattle.p21_grammar_tree.specs.Fault.{fault_number}
 use Rattle.p21_mapping_values.specs.View.{row_of_values}
-use Rattle.p21_schemas.specs.Order.{own_places}
-use Rattle.p21_schemas.specs.PlaceType.{PlaceType, TypeAt}
-use Rattle.p21_schemas.specs.Schema.{Schema, Place}
+use Rattle.p21_spec_schema.specs.Order.{own_places}
+use Rattle.p21_spec_schema.specs.PlaceType.{PlaceType, TypeAt}
+use Rattle.p21_spec_schema.specs.Schema.{Schema, Place}
 
 -- a parameter at a place, its value there, and its needs
 pub record FittedParam : Type 0 where

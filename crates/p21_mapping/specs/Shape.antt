@@ -1,27 +1,27 @@
 -- What is known of a record once its keywords and the numbers of its parameters are looked at.
 use Rattle.std.specs.Prelude.{◌≡◌, ◌≢◌, ℕ, List, length, nat_eq, slice_get, Option, Some, None, Contains}
 use Rattle.std.specs.List.{AllByRecursion as Each, AllZip, IsDistinct}
-use Rattle.p21_exchange.specs.Parameter.{listed}
-use Rattle.p21_exchange.specs.Record.{Part, Record, simple, complex}
+use Rattle.p21_spec_exchange.specs.Parameter.{listed}
+use Rattle.p21_spec_exchange.specs.Record.{Part, Record, simple, complex}
 use Rattle.p21_express_graph.specs.Orders.{numbers}
 use Rattle.p21_express_tables.specs.OwnSets.{LeavesOpen}
 use Rattle.p21_express_graph.specs.Resolved.{IsEntity}
 use Rattle.p21_express_graph.specs.Rising.{HaveSame}
-use Rattle.p21_express_types.specs.declared.number.EntityId.{EntityId}
-use Rattle.p21_files.specs.BrokenRule.{Breaks}
-use Rattle.p21_files.specs.Meaning.{HasPlaceTypes, NamesEntity}
-use Rattle.p21_files.specs.RecordPlaces.{HasPart, IsEntitySetOf, part_places}
+use Rattle.p21_express_graph.specs.declared.number.EntityId.{EntityId}
+use Rattle.p21_spec_file.specs.BrokenRule.{Breaks}
+use Rattle.p21_spec_file.specs.Meaning.{HasPlaceTypes, NamesEntity}
+use Rattle.p21_spec_file.specs.RecordPlaces.{HasPart, IsEntitySetOf, part_places}
 use Rattle.p21_mapping.specs.declared.shape.Listed.{Listed}
 use Rattle.p21_mapping.specs.declared.shape.Listed.TheVariants.{Named, Order}
 use Rattle.p21_mapping.specs.declared.shape.Shape.{Shape}
-use Rattle.p21_mapping_faults.specs.Fault.{fault_number}
-use Rattle.p21_mapping_faults.specs.declared.fault.CheckFault.{CheckFault}
-use Rattle.p21_mapping_faults.specs.declared.fault.CheckFault.TheVariants.{PartTwice, PartMissing, Abstract, OneOf, TwoRedeclarations, NoMemory}
-use Rattle.p21_schemas.specs.OneOf.{Clashes}
-use Rattle.p21_schemas.specs.Order.{order, own_places}
-use Rattle.p21_schemas.specs.PlaceType.{TypeAt, two_redeclarations}
-use Rattle.p21_schemas.specs.Schema.{Schema, Place, IsAbstract, AreRisingByName}
-use Rattle.p21_schemas.specs.Supertype.{InClosure, IsLeaf}
+use Rattle.p21_grammar_tree.specs.Fault.{fault_number}
+use Rattle.p21_grammar_tree.specs.declared.fault.CheckFault.{CheckFault}
+use Rattle.p21_grammar_tree.specs.declared.fault.CheckFault.TheVariants.{PartTwice, PartMissing, Abstract, OneOf, TwoRedeclarations, NoMemory}
+use Rattle.p21_spec_schema.specs.OneOf.{Clashes}
+use Rattle.p21_spec_schema.specs.Order.{order, own_places}
+use Rattle.p21_spec_schema.specs.PlaceType.{TypeAt, two_redeclarations}
+use Rattle.p21_spec_schema.specs.Schema.{Schema, Place, IsAbstract, AreRisingByName}
+use Rattle.p21_spec_schema.specs.Supertype.{InClosure, IsLeaf}
 
 -- a refusal other than want of memory has the number of a rule that the record breaks
 abbrev pub Refuses : Schema → Record → CheckFault → Type 0

@@ -1,11 +1,11 @@
 ghost use Rattle.std.specs.Prelude.{◌≡◌, ◌↔◌, Bool, None, Some, IsTrue, MatchOption};
-ghost use Rattle.p21_files.specs.ParameterKind.{AllowsCount, IsUnique, element_type};
-ghost use Rattle.p21_express_types.specs.Meaning.{type_use};
+ghost use Rattle.p21_spec_file.specs.ParameterKind.{AllowsCount, IsUnique, element_type};
+ghost use Rattle.p21_express_graph.specs.Meaning.{type_use};
 ghost use Rattle.p21_mapping_values.specs.View.{list_of, view, views};
 ghost use Rattle.p21_mapping.specs.Aggregate.{aggregate_value};
 
 use crate::bounds::{is_array_count, is_bounded};
-use p21_express_types::TypeUse;
+use p21_express_graph::TypeUse;
 use p21_mapping_values::{Value, Values};
 
 /// Of an aggregate whether places may be empty, and the type of its elements (ISO 10303-11, Aggregation data types).

@@ -3,13 +3,13 @@ ghost use Rattle.std.specs.Prelude.{IfOk};
 ghost use Rattle.p21_express_graph.specs.Lookups.{AreEntities};
 ghost use Rattle.p21_express_graph.specs.Orders.{numbers};
 ghost use Rattle.p21_express_graph.specs.Resolved.{IsPlace};
-ghost use Rattle.p21_express_types.specs.Meaning.{place as place_of, place_type};
+ghost use Rattle.p21_express_graph.specs.Meaning.{place as place_of, place_type};
 ghost use Rattle.p21_mapping.specs.Redeclaring.{AreThoseAmong};
-ghost use Rattle.p21_schemas.specs.PlaceType.{TypeAt};
+ghost use Rattle.p21_spec_schema.specs.PlaceType.{TypeAt};
 
 use crate::positions::Positions;
+use p21_express_graph::{EntityId, Place, PlaceType};
 use p21_express_tables::Schema;
-use p21_express_types::{EntityId, Place, PlaceType};
 use p21_values::NoMemory;
 use std::alloc::Global;
 

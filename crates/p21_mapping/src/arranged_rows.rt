@@ -4,7 +4,7 @@ ghost use Rattle.p21_mapping.specs.ArrangedRows.{AreArranged, HasNoEntityTwice};
 ghost use Rattle.p21_mapping_values.specs.TypedView.{rows_view};
 
 use crate::positions::Positions;
-use p21_express_types::EntityId;
+use p21_express_graph::EntityId;
 use p21_mapping_values::Values;
 use p21_values::NoMemory;
 use std::alloc::Global;

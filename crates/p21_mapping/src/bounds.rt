@@ -1,8 +1,8 @@
 ghost use Rattle.std.specs.Prelude.{◌≡◌, ◌+◌, ◌↔◌, Contains, IsTrue};
-ghost use Rattle.p21_files.specs.Fits.{IsWithinBounds, IsWithinWidth, boolean_items, logical_items};
-ghost use Rattle.p21_express_types.specs.Meaning.{width_option};
+ghost use Rattle.p21_spec_file.specs.Fits.{IsWithinBounds, IsWithinWidth, boolean_items, logical_items};
+ghost use Rattle.p21_express_graph.specs.Meaning.{width_option};
 
-use p21_express_types::Width;
+use p21_express_graph::Width;
 use p21_values::Word;
 
 /// Whether a width allows so many characters or bits (ISO 10303-11, String data type, Binary data type). It takes no memory.

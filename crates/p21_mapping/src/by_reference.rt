@@ -4,8 +4,7 @@ ghost use Rattle.p21_mapping.specs.Checked.{ChecksRecord};
 use crate::check::check_owned_record;
 use crate::record::copied_record;
 use p21_express_tables::Schema;
-use p21_grammar_tree::Record;
-use p21_mapping_faults::CheckFault;
+use p21_grammar_tree::{CheckFault, Record};
 use p21_mapping_values::{Need, Typed};
 use std::alloc::Global;
 

@@ -1,15 +1,15 @@
 ghost use Rattle.std.specs.Prelude.{◌≡◌, ◌↔◌, ◌++◌, IfOk, IsTrue, OnOk};
-ghost use Rattle.p21_files.specs.SameValue.{AreDistinct};
+ghost use Rattle.p21_spec_file.specs.SameValue.{AreDistinct};
 ghost use Rattle.p21_mapping_values.specs.KnownTypes.{HasKnownTypes, HaveKnownTypes};
 ghost use Rattle.p21_mapping_values.specs.View.{view, views};
 ghost use Rattle.p21_mapping.specs.Outcome.{AreTyped, KeepsUnique};
-ghost use Rattle.p21_express_types.specs.Meaning.{type_use};
+ghost use Rattle.p21_express_graph.specs.Meaning.{type_use};
 ghost use Rattle.p21_mapping_values.specs.SplitTexts.{joined, lengths_of};
 ghost use Rattle.p21_mapping.specs.PresentTexts.{one, present_texts};
 
 use crate::aggregate::is_unique;
+use p21_express_graph::TypeUse;
 use p21_express_tables::Schema;
-use p21_express_types::TypeUse;
 use p21_mapping_values::{Value, are_distinct, write_value};
 use p21_values::NoMemory;
 use std::alloc::Global;

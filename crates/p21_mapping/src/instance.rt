@@ -1,4 +1,4 @@
-ghost use Rattle.p21_exchange.specs.Parameter as parameter;
+ghost use Rattle.p21_spec_exchange.specs.Parameter as parameter;
 ghost use Rattle.p21_express_tables.specs.Base.{IsBase};
 ghost use Rattle.p21_express_graph.specs.Resolved.{IsType};
 ghost use Rattle.p21_grammar_tree.specs.View.{key_view};
@@ -7,10 +7,9 @@ ghost use Rattle.p21_mapping.specs.Outcome.{FitsFrom};
 ghost use Rattle.std.specs.Prelude.{IfSome};
 
 use crate::scalar::other_kind;
+use p21_express_graph::{Member, TypeId, TypeUse};
 use p21_express_tables::{Base, Schema};
-use p21_express_types::{Member, TypeId, TypeUse};
-use p21_grammar_tree::Key;
-use p21_mapping_faults::CheckFault;
+use p21_grammar_tree::{CheckFault, Key};
 use p21_mapping_values::{Need, Value};
 use p21_values::Name;
 

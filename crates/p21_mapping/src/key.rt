@@ -1,14 +1,13 @@
 ghost use Rattle.std.specs.Prelude.{ℕ, MatchOption, MatchResult};
-ghost use Rattle.p21_exchange.specs.Record.{complex};
+ghost use Rattle.p21_spec_exchange.specs.Record.{complex};
 ghost use Rattle.p21_express_graph.specs.Orders.{numbers};
-ghost use Rattle.p21_files.specs.Meaning.{NamesEntity};
+ghost use Rattle.p21_spec_file.specs.Meaning.{NamesEntity};
 ghost use Rattle.p21_grammar_tree.specs.View.{key_view, part_views};
 ghost use Rattle.p21_mapping.specs.Shape.{AreNamed, Refuses};
 
+use p21_express_graph::EntityId;
 use p21_express_tables::Schema;
-use p21_express_types::EntityId;
-use p21_grammar_tree::{Key, Part};
-use p21_mapping_faults::CheckFault;
+use p21_grammar_tree::{CheckFault, Key, Part};
 use std::alloc::Global;
 
 /// The entity that a keyword names. A user-defined keyword names none.

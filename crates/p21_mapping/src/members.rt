@@ -5,8 +5,8 @@ ghost use Rattle.p21_express_graph.specs.Orders.{numbers};
 ghost use Rattle.p21_mapping.specs.Shape.{HasTwice, IsClosed, LacksSupertype};
 
 use crate::positions::Positions;
+use p21_express_graph::EntityId;
 use p21_express_tables::Schema;
-use p21_express_types::EntityId;
 
 /// Whether an entity is among others.
 pub(crate) fn has(entities: &[EntityId], entity: EntityId) -> bool

@@ -1,13 +1,13 @@
 ghost use Rattle.std.specs.Prelude.{◌↔◌, IsTrue};
 ghost use Rattle.p21_express_graph.specs.Orders.{numbers};
-ghost use Rattle.p21_express_types.specs.Meaning.{member};
-ghost use Rattle.p21_files.specs.Reference.{Serves};
+ghost use Rattle.p21_express_graph.specs.Meaning.{member};
+ghost use Rattle.p21_spec_file.specs.Reference.{Serves};
 ghost use Rattle.p21_mapping_values.specs.TypedView.{ids_view};
-ghost use Rattle.p21_schemas.specs.Schema.{type_member};
+ghost use Rattle.p21_spec_schema.specs.Schema.{type_member};
 
 use crate::members::has;
+use p21_express_graph::{EntityId, Member, TypeId};
 use p21_express_tables::Schema;
-use p21_express_types::{EntityId, Member, TypeId};
 use p21_mapping_values::Need;
 
 /// Whether an instance with these entities may stand where the need is (ISO 10303-21, Mapping of EXPRESS data types: entity,

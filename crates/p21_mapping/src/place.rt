@@ -1,10 +1,10 @@
 ghost use Rattle.std.specs.Prelude.{◌≡◌, ◌↔◌, ◌++◌, ◌∷◌, [], IsTrue, MatchOption};
-ghost use Rattle.p21_files.specs.BrokenValue.{IsLeftOut};
+ghost use Rattle.p21_spec_file.specs.BrokenValue.{IsLeftOut};
 ghost use Rattle.p21_express_tables.specs.Base.{HasBase};
 ghost use Rattle.p21_express_graph.specs.Resolved.{IsTypeUse};
-ghost use Rattle.p21_express_types.specs.Meaning.{place_type, type_use};
+ghost use Rattle.p21_express_graph.specs.Meaning.{place_type, type_use};
 ghost use Rattle.p21_grammar_tree.specs.View.{items_of, key_view, view, views};
-ghost use Rattle.p21_exchange.specs.Parameter as parameter;
+ghost use Rattle.p21_spec_exchange.specs.Parameter as parameter;
 ghost use Rattle.p21_mapping.specs.Choosing.{IsBaseIn};
 ghost use Rattle.p21_mapping.specs.Outcome.{ElementOrBreaks, ElementsOrBreak, FitsFrom, FitsOrBreaks, FitsPlaceOrBreaks, IsStoredIn};
 
@@ -12,10 +12,9 @@ use crate::aggregate::{aggregate_of, allows_count, element};
 use crate::distinct::keeps_unique;
 use crate::instance::{chosen, fit_name};
 use crate::scalar::{fit_bits, fit_item, fit_real, fit_text, fit_whole, other_kind};
+use p21_express_graph::{PlaceType, TypeUse};
 use p21_express_tables::{Base, Schema};
-use p21_express_types::{PlaceType, TypeUse};
-use p21_grammar_tree::{Key, Param, Params};
-use p21_mapping_faults::CheckFault;
+use p21_grammar_tree::{CheckFault, Key, Param, Params};
 use p21_mapping_values::{Need, Value, Values};
 use std::alloc::Global;
 

@@ -4,14 +4,14 @@ ghost use Rattle.std.specs.Ordering.{nat_cmp};
 ghost use Rattle.p21_express_graph.specs.Orders.{numbers};
 ghost use Rattle.p21_mapping.specs.Positions.{AreFirstPositions, FindsFirst};
 
-use p21_express_types::EntityId;
+use p21_express_graph::EntityId;
 use p21_values::NoMemory;
 use std::alloc::Global;
 use std::collections::BTreeMap;
 use std::marker::Model;
 
 /// So many entities are looked at one by one.
-const FEW: usize = 16;
+const MOST_ENTITIES_IN_TURN: usize = 16;
 
 /// Entities in a row, and where each of them stands first: where they are many, this is kept.
 #[derive(Drop)]
@@ -41,7 +41,7 @@ impl<'a> Positions<'a> {
     pub fn of(alloc: Global, entities: &'a [EntityId]) -> Result<Positions<'a>, NoMemory>
         ensures { IfOk result (λ positions. positions ≡ numbers entities.now) }
     {
-        if entities.len() <= FEW {
+        if entities.len() <= MOST_ENTITIES_IN_TURN {
             return Ok(Positions {
                 entities,
                 places: None,

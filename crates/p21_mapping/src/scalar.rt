@@ -1,11 +1,11 @@
 ghost use Rattle.std.specs.Prelude.{IfErr, IfOk};
-ghost use Rattle.p21_exchange.specs.Parameter as parameter;
+ghost use Rattle.p21_spec_exchange.specs.Parameter as parameter;
 ghost use Rattle.p21_mapping.specs.Outcome.{DecidesItem, FitsAlone, IsKindFault, RefusesItem};
 
 use crate::bounds::{is_boolean, is_logical, is_within};
+use p21_express_graph::TypeUse;
 use p21_express_tables::Base;
-use p21_express_types::TypeUse;
-use p21_mapping_faults::CheckFault;
+use p21_grammar_tree::CheckFault;
 use p21_mapping_values::Value;
 use p21_values::{Bits, Decimal, Text, Whole, Word};
 use std::alloc::Global;

@@ -1,21 +1,20 @@
 ghost use Rattle.std.specs.Prelude.{◌≡◌, ℕ, Contains, MatchBool, MatchResult, IfOk};
-ghost use Rattle.p21_exchange.specs.Record.{simple, complex};
+ghost use Rattle.p21_spec_exchange.specs.Record.{simple, complex};
 ghost use Rattle.p21_express_graph.specs.Lookups.{AreEntities};
 ghost use Rattle.p21_express_graph.specs.Orders.{numbers};
 ghost use Rattle.p21_express_graph.specs.Resolved.{IsEntity};
 ghost use Rattle.p21_grammar_tree.specs.View.{part_view, part_views, record_view};
-ghost use Rattle.p21_schemas.specs.Schema.{IsAbstract};
-ghost use Rattle.p21_schemas.specs.WellFormed.{IsWellFormed};
+ghost use Rattle.p21_spec_schema.specs.Schema.{IsAbstract};
+ghost use Rattle.p21_spec_schema.specs.WellFormed.{IsWellFormed};
 ghost use Rattle.p21_mapping.specs.Shape.{AreMembers, HasSomeAbstractLeaf, HasNoAbstractLeaf, IsShape, PassesOwnSet, PassesSet, Refuses, RefusesMembers, RefusesOwnSet, RefusesSet, listed_in, own_of, AreListed};
 
 use crate::key::{named, named_entities};
 use crate::members::{has_twice, is_closed};
 use crate::places::{has_count, has_open_place, have_counts};
 use crate::positions::Positions;
+use p21_express_graph::EntityId;
 use p21_express_tables::{Ids, Schema};
-use p21_express_types::EntityId;
-use p21_grammar_tree::{Part, Record};
-use p21_mapping_faults::CheckFault;
+use p21_grammar_tree::{CheckFault, Part, Record};
 use p21_values::NoMemory;
 use std::alloc::Global;
 

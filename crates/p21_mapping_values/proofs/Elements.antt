@@ -4,16 +4,16 @@ use Rattle.std.proofs.lemmas.List.{append-nil, take_all, take_more, map-append}
 use Rattle.std.proofs.Math.Seq.{take-append_seam, drop-append_seam}
 use Rattle.std.specs.List.{fold}
 use Rattle.std.specs.Result.{OnErr}
-use Rattle.p21_schemas.specs.Schema.{Schema}
-use Rattle.p21_files.specs.Sorting.{sort_texts}
-use Rattle.p21_files.specs.ValueText.{value_text, value_texts, with_commas, with_commas_between}
+use Rattle.p21_spec_schema.specs.Schema.{Schema}
+use Rattle.p21_spec_file.specs.Sorting.{sort_texts}
+use Rattle.p21_spec_file.specs.ValueText.{value_text, value_texts, with_commas, with_commas_between}
 use Rattle.p21_mapping_values.specs.declared.value.Value.{Value}
 use Rattle.p21_mapping_values.specs.View.{view, views}
 use Rattle.p21_mapping_values.specs.KnownTypes.{HasKnownTypes, HaveKnownTypes}
 use Rattle.p21_mapping_values.specs.SplitTexts.{element_text, joined, split_texts}
 use Rattle.p21_values.specs.Canonical.{Continues}
 use Rattle.p21_values.proofs.Continuing.{continues-same}
-use Rattle.p21_files.proofs.Commas.{with_commas-push}
+use Rattle.p21_spec_file.proofs.Commas.{with_commas-push}
 
 -- the text of each value
 abbrev pub texts : Schema → List Value → List (List ℕ)

@@ -2,20 +2,20 @@
 use Rattle.std.proofs.Common.{◌≡◌, ℕ, ◌+◌, ◌<◌, ◌≤◌, Bool, true, false, List, [], ◌∷◌, ◌++◌, length, take, get_or, if◌then◌else◌, codes, refl, ap, sym, ◌∙◌, subst, append_assoc, Result}
 use Rattle.std.proofs.lemmas.List.{take_all, take_more}
 use Rattle.std.specs.Result.{OnOk}
-use Rattle.p21_claim_values.proofs.CanonicalParam.{canonical_param, canonical_params, insert_param, sort_params}
-use Rattle.p21_claim_values.proofs.CanonicalValue.{named-is}
-use Rattle.p21_claim_values.proofs.OfType.{AreWritten}
-use Rattle.p21_claim_values.specs.Written.{IsWritten}
+use Rattle.p21_spec_laws.proofs.CanonicalParam.{canonical_param, canonical_params, insert_param, sort_params}
+use Rattle.p21_spec_laws.proofs.CanonicalValue.{named-is}
+use Rattle.p21_spec_laws.proofs.OfType.{AreWritten}
+use Rattle.p21_spec_laws.specs.Written.{IsWritten}
 use Rattle.p21_mapping_values.proofs.WrittenParams.{list-said, on_any, typed-said}
-use Rattle.p21_exchange.specs.CanonicalText.{param_text}
-use Rattle.p21_exchange.specs.Parameter.{Param, key_of, params_of}
-use Rattle.p21_files.specs.Sorting.{is_below}
-use Rattle.p21_files.specs.Value.{Value, whole, real, number, text, bits, item, reference, derived, missing, list, array, set, bag, typed, Values, no_values, value}
-use Rattle.p21_files.specs.ValueText.{type_name, value_text}
+use Rattle.p21_spec_exchange.specs.CanonicalText.{param_text}
+use Rattle.p21_spec_exchange.specs.Parameter.{Param, key_of, params_of}
+use Rattle.p21_spec_file.specs.Sorting.{is_below}
+use Rattle.p21_spec_file.specs.Value.{Value, whole, real, number, text, bits, item, reference, derived, missing, list, array, set, bag, typed, Values, no_values, value}
+use Rattle.p21_spec_file.specs.ValueText.{type_name, value_text}
 use Rattle.p21_mapping_values.specs.declared.value.Value as stored
 use Rattle.p21_mapping_values.specs.View.{view, views}
 use Rattle.p21_mapping_values.specs.Spelled.{AreSpelled, IsSpelledValue}
-use Rattle.p21_schemas.specs.Schema.{Schema, TypeNamed}
+use Rattle.p21_spec_schema.specs.Schema.{Schema, TypeNamed}
 
 insert-written : (p : Param) (ps : List Param) → IsWritten p → AreWritten (params_of ps) → AreWritten (params_of (insert_param p ps))
 insert-written p [] first rest = (first, tt)

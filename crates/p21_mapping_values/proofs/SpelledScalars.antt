@@ -1,17 +1,17 @@
 -- The tokens of scalars have spellings.
 use Rattle.std.proofs.Common.{ℕ, ◌<◌, ◌^◌, ℤ, Bool, List, refl}
 use Rattle.std.specs.List.{AllByRecursion as Each}
-use Rattle.p21_exchange.specs.Token.{IsSpelled}
-use Rattle.p21_exchange.proofs.BitSpellings.{bits_spell}
-use Rattle.p21_exchange.proofs.Names.{name_spells}
-use Rattle.p21_exchange.proofs.RealSpellings.{real_spells}
-use Rattle.p21_exchange.proofs.Texts.{text_spells}
-use Rattle.p21_exchange.proofs.WholeSpellings.{whole_spells}
-use Rattle.p21_exchange.specs.Keyword.{IsKeyword}
-use Rattle.p21_exchange.specs.Number.{Decimal}
-use Rattle.p21_exchange.specs.Spelling.{spelling}
+use Rattle.p21_spec_exchange.specs.Token.{IsSpelled}
+use Rattle.p21_spec_exchange.proofs.BitSpellings.{bits_spell}
+use Rattle.p21_spec_exchange.proofs.Names.{name_spells}
+use Rattle.p21_spec_exchange.proofs.RealSpellings.{real_spells}
+use Rattle.p21_spec_exchange.proofs.Texts.{text_spells}
+use Rattle.p21_spec_exchange.proofs.WholeSpellings.{whole_spells}
+use Rattle.p21_spec_exchange.specs.Keyword.{IsKeyword}
+use Rattle.p21_spec_exchange.specs.Number.{Decimal}
+use Rattle.p21_spec_exchange.specs.Spelling.{spelling}
 use Rattle.std.specs.Char.{IsScalar}
-use Rattle.p21_exchange.specs.Token as token
+use Rattle.p21_spec_exchange.specs.Token as token
 use Rattle.p21_values.specs.Decimal.{IsDecimal}
 
 pub whole-spelled : (z : ℤ) → IsSpelled (token.whole z)

@@ -4,9 +4,9 @@ use Rattle.p21_mapping_values.specs.declared.value.Value.{Value}
 use Rattle.p21_mapping_values.specs.declared.value.Value as value
 use Rattle.p21_mapping_values.specs.declared.value.Values.{Values}
 use Rattle.p21_mapping_values.specs.View.{view, views, list_of}
-use Rattle.p21_express_types.specs.declared.number.TypeId.{TypeId}
-use Rattle.p21_exchange.specs.Number.{Decimal}
-use Rattle.p21_files.specs.Value as meant
+use Rattle.p21_express_graph.specs.declared.number.TypeId.{TypeId}
+use Rattle.p21_spec_exchange.specs.Number.{Decimal}
+use Rattle.p21_spec_file.specs.Value as meant
 
 pub view-Whole : (z : ℤ) → view (value.Whole z) ≡ meant.whole z
 view-Whole z = search (rules, value.the_lemmas)

@@ -1,16 +1,16 @@
 -- Lists, typed parameters and records whose tokens have spellings.
 use Rattle.std.proofs.Common.{◌≡◌, Bool, true, false, [], ◌∷◌, codes, refl, subst, sym, Result, Ok, Err}
 use Rattle.std.specs.Result.{OnOk}
-use Rattle.p21_basics.proofs.Members.{Each-append}
-use Rattle.p21_claim_values.proofs.OfType.{AreWritten}
-use Rattle.p21_claim_values.specs.Written.{IsWritten, IsWrittenStatement}
-use Rattle.p21_exchange.specs.Token.{IsSpelled}
-use Rattle.p21_claim_values.proofs.Printing.{written-tokens}
-use Rattle.p21_exchange.specs.Keyword.{IsKeyword}
-use Rattle.p21_exchange.specs.Parameter.{Key, Param, Params, list, typed, key_token, param_tokens, params_tokens}
-use Rattle.p21_exchange.specs.Record.{Part}
-use Rattle.p21_exchange.specs.Statement.{header}
-use Rattle.p21_exchange.specs.Token as token
+use Rattle.p21_spec_basics.proofs.Members.{Each-append}
+use Rattle.p21_spec_laws.proofs.OfType.{AreWritten}
+use Rattle.p21_spec_laws.specs.Written.{IsWritten, IsWrittenStatement}
+use Rattle.p21_spec_exchange.specs.Token.{IsSpelled}
+use Rattle.p21_spec_laws.proofs.Printing.{written-tokens}
+use Rattle.p21_spec_exchange.specs.Keyword.{IsKeyword}
+use Rattle.p21_spec_exchange.specs.Parameter.{Key, Param, Params, list, typed, key_token, param_tokens, params_tokens}
+use Rattle.p21_spec_exchange.specs.Record.{Part}
+use Rattle.p21_spec_exchange.specs.Statement.{header}
+use Rattle.p21_spec_exchange.specs.Token as token
 use Rattle.p21_mapping_values.proofs.SpelledScalars.{keyword-spelled, user_keyword-spelled}
 
 -- what holds anyhow

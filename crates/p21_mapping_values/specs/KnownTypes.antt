@@ -1,7 +1,7 @@
 -- Values whose keywords name types of a schema.
-use Rattle.p21_schemas.specs.Schema.{Schema}
+use Rattle.p21_spec_schema.specs.Schema.{Schema}
 use Rattle.p21_express_graph.specs.Resolved.{IsType}
-use Rattle.p21_files.specs.Value.{Value, list, array, set, bag, typed, Values, no_values, value}
+use Rattle.p21_spec_file.specs.Value.{Value, list, array, set, bag, typed, Values, no_values, value}
 
 -- each type in the value is one of the schema
 abbrev mutual

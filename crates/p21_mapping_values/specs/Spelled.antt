@@ -1,9 +1,9 @@
 -- Values that can be written.
-use Rattle.p21_exchange.specs.Token.{IsSpelled}
-use Rattle.p21_exchange.specs.Token as token
-use Rattle.p21_files.specs.Value.{Value, whole, real, number, text, bits, item, reference, derived, missing, list, array, set, bag, typed, Values, no_values, value}
-use Rattle.p21_files.specs.ValueText.{type_name}
-use Rattle.p21_schemas.specs.Schema.{Schema}
+use Rattle.p21_spec_exchange.specs.Token.{IsSpelled}
+use Rattle.p21_spec_exchange.specs.Token as token
+use Rattle.p21_spec_file.specs.Value.{Value, whole, real, number, text, bits, item, reference, derived, missing, list, array, set, bag, typed, Values, no_values, value}
+use Rattle.p21_spec_file.specs.ValueText.{type_name}
+use Rattle.p21_spec_schema.specs.Schema.{Schema}
 
 -- each token in the text of the value has a spelling
 abbrev mutual

@@ -1,14 +1,14 @@
 -- The typed record that is meant, without addresses.
 use Rattle.std.specs.Prelude.{ℕ, List, map}
-use Rattle.p21_express_types.specs.declared.number.EntityId.{EntityId}
-use Rattle.p21_express_types.specs.Meaning.{member}
+use Rattle.p21_express_graph.specs.declared.number.EntityId.{EntityId}
+use Rattle.p21_express_graph.specs.Meaning.{member}
 use Rattle.p21_mapping_values.specs.declared.value.Values.{Values}
 use Rattle.p21_mapping_values.specs.declared.typed.Typed.{Typed}
 use Rattle.p21_mapping_values.specs.declared.need.Need.{Need}
 use Rattle.p21_mapping_values.specs.View.{list_of, views}
-use Rattle.p21_files.specs.Value as meant
-use Rattle.p21_files.specs.Meaning as meaning
-use Rattle.p21_files.specs.Reference as reference
+use Rattle.p21_spec_file.specs.Value as meant
+use Rattle.p21_spec_file.specs.Meaning as meaning
+use Rattle.p21_spec_file.specs.Reference as reference
 
 -- the entities by their numbers
 abbrev pub ids_view : List EntityId → List ℕ

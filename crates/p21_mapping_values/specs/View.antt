@@ -3,7 +3,7 @@ use Rattle.std.specs.Prelude.{List, [], ◌∷◌, map}
 use Rattle.p21_mapping_values.specs.declared.value.Values.{Values, Values-F}
 use Rattle.p21_mapping_values.specs.declared.value.Value.{Value, fold-Value}
 use Rattle.p21_mapping_values.specs.declared.value.Value.TheOpen.{Value-F}
-use Rattle.p21_files.specs.Value as meant
+use Rattle.p21_spec_file.specs.Value as meant
 
 -- the values, as a list
 abbrev pub list_of : Values → List Value

@@ -1,4 +1,4 @@
-use p21_express_types::Member;
+use p21_express_graph::Member;
 use p21_values::Name;
 
 /// A reference: the instance name, and the entity or select that is wanted there.

@@ -1,6 +1,6 @@
 //! Small pieces of canonical text: one byte, a comma between two texts, an enumeration item.
 ghost use Rattle.std.specs.Prelude.{◌≡◌, ◌++◌, ◌∷◌, [], OnErr, OnOk};
-ghost use Rattle.p21_exchange.specs.Keyword.{IsKeyword};
+ghost use Rattle.p21_spec_exchange.specs.Keyword.{IsKeyword};
 ghost use Rattle.p21_values.specs.Canonical.{Continues};
 ghost use Rattle.p21_mapping_values.specs.Row.{separator};
 

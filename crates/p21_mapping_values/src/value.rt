@@ -1,6 +1,6 @@
 ghost use Rattle.std.specs.Prelude.{◌≡◌};
 
-use p21_express_types::TypeId;
+use p21_express_graph::TypeId;
 use p21_values::{Bits, Decimal, Name, Text, Whole, Word};
 
 /// A value of an attribute: `Number` at a NUMBER, `Item` at an enumeration, BOOLEAN or LOGICAL, `Derived` at a derived

@@ -1,6 +1,6 @@
 ghost use Rattle.std.specs.Prelude.{◌≡◌, ◌++◌, OnErr, OnOk};
-ghost use Rattle.p21_files.specs.Sorting.{sort_texts};
-ghost use Rattle.p21_files.specs.ValueText.{list_text, value_text, value_texts};
+ghost use Rattle.p21_spec_file.specs.Sorting.{sort_texts};
+ghost use Rattle.p21_spec_file.specs.ValueText.{list_text, value_text, value_texts};
 ghost use Rattle.p21_values.specs.Canonical.{Continues};
 ghost use Rattle.p21_mapping_values.specs.View.{view, views};
 ghost use Rattle.p21_mapping_values.specs.KnownTypes.{HasKnownTypes, HaveKnownTypes};

@@ -2,15 +2,15 @@
 use Rattle.std.proofs.Common.{◌≡◌, ◌↔◌, ℕ, Bool, IsTrue, List, length, Option, refl, sym, subst}
 use Rattle.std.proofs.KnownBytes.{Keeps-refl}
 use Rattle.std.specs.Io.KnownBytes.{Appends}
-use Rattle.p21_basics.specs.Limits.{AreLimits, Limits}
-use Rattle.p21_claim.proofs.FileOnce.{file-once}
-use Rattle.p21_claim.proofs.OneAccepted.{Means-one}
-use Rattle.p21_claim.proofs.Theorems.{files-tell, is-accepted, is-own, means-the_same, one-lexemes, one-meaning, one-tree}
-use Rattle.p21_files.proofs.SameFiles.{SameFileMeaning-symmetric, SameFileMeaning-transitive}
-use Rattle.p21_files.specs.Accepted.{IsCanonicalFile}
-use Rattle.p21_files.specs.SameFile.{SameFileMeaning}
-use Rattle.p21_schemas.specs.Schema.{Schema}
-use Rattle.p21_schemas.specs.WellFormed.{IsWellFormed}
+use Rattle.p21_spec_basics.specs.Limits.{AreLimits, Limits}
+use Rattle.p21_spec_laws.proofs.FileOnce.{file-once}
+use Rattle.p21_spec_laws.proofs.OneAccepted.{Means-one}
+use Rattle.p21_spec_laws.proofs.FileTheorems.{files-tell, is-accepted, is-own, means-the_same, one-lexemes, one-meaning, one-tree}
+use Rattle.p21_spec_file.proofs.SameFiles.{SameFileMeaning-symmetric, SameFileMeaning-transitive}
+use Rattle.p21_spec_file.specs.Accepted.{IsCanonicalFile}
+use Rattle.p21_spec_file.specs.SameFile.{SameFileMeaning}
+use Rattle.p21_spec_schema.specs.Schema.{Schema}
+use Rattle.p21_spec_schema.specs.WellFormed.{IsWellFormed}
 use Rattle.p21_stream.specs.Answers.{AreReadInOneWay, Compares, FailsToWrite, IsCanonicalOfRead, IsOnlyCanonicalFile, IsPartWritten, IsWritten}
 use Rattle.p21_stream.specs.ReaderInput.{IsAcceptedInput, RefusesRead, write_failures}
 use Rattle.p21_stream_output.specs.Output.{Output, output_text}

@@ -1,19 +1,19 @@
 -- Statements that end in the bytes taken are checked.
 use Rattle.std.proofs.Common.{◌≡◌, ℕ, List, [], ◌∷◌, ◌++◌, inl, inr, refl, sym, ap, subst, ◌∙◌}
 use Rattle.std.specs.List.{flat_map, AllByRecursion as Each}
-use Rattle.p21_basics.proofs.Members.{Each-mapped, Each-member, Each-weaker}
-use Rattle.p21_basics.specs.Limits.{Limits}
-use Rattle.p21_claim.proofs.OneReading.{one_lexemes}
-use Rattle.p21_claim.specs.CompleteFile.{Entry, entries_in, written_in}
-use Rattle.p21_claim.specs.Taken.{BeginsWith}
-use Rattle.p21_claim_steps.specs.UnrefusedStatements.{IsFitting, IsFound}
-use Rattle.p21_claim_steps.specs.Keeping.{Kept}
-use Rattle.p21_exchange.specs.Laying.{Laid, Lexeme, tokens_in}
-use Rattle.p21_exchange.specs.OpenNesting.{IsNoSemicolon}
-use Rattle.p21_exchange.specs.Record.{Record}
-use Rattle.p21_exchange.specs.Statement.{header, statement_tokens}
-use Rattle.p21_exchange.specs.Token.{Token, semicolon}
-use Rattle.p21_schemas.specs.Schema.{Schema}
+use Rattle.p21_spec_basics.proofs.Members.{Each-mapped, Each-member, Each-weaker}
+use Rattle.p21_spec_basics.specs.Limits.{Limits}
+use Rattle.p21_spec_laws.proofs.OneReading.{one_lexemes}
+use Rattle.p21_spec_laws.specs.CompleteFile.{Entry, entries_in, written_in}
+use Rattle.p21_spec_laws.specs.Taken.{BeginsWith}
+use Rattle.p21_spec_laws.specs.UnrefusedStatements.{IsFitting, IsFound}
+use Rattle.p21_spec_laws.specs.Keeping.{Kept}
+use Rattle.p21_spec_exchange.specs.Laying.{Laid, Lexeme, tokens_in}
+use Rattle.p21_spec_exchange.specs.OpenNesting.{IsNoSemicolon}
+use Rattle.p21_spec_exchange.specs.Record.{Record}
+use Rattle.p21_spec_exchange.specs.Statement.{header, statement_tokens}
+use Rattle.p21_spec_exchange.specs.Token.{Token, semicolon}
+use Rattle.p21_spec_schema.specs.Schema.{Schema}
 use Rattle.p21_stream_statements.specs.StatementReader as statements
 use Rattle.p21_stream_statements.specs.StatementReader.{StatementHistory}
 use Rattle.p21_stream.proofs.Within.{nothing-taken, tokens-given}

@@ -1,13 +1,13 @@
 -- The claim, from the laws of canonical files.
-use Rattle.std.proofs.Common.{◌≡◌, ◌≢◌, ◌⊎◌, ◌∙◌, ℕ, List, [], ◌++◌, append_assoc, append-nil, take, drop, take-append-drop, Option, Some, None, Err, inl, inr, refl, sym, ap, subst}
+use Rattle.std.proofs.Common.{◌≡◌, ◌≢◌, ◌⊎◌, ◌∙◌, ℕ, List, ◌++◌, append_assoc, append-nil, take, drop, take-append-drop, Option, Some, None, Err, inl, inr, refl, sym, ap, subst}
 use Rattle.std.specs.List.{AllByRecursion as Each}
-use Rattle.p21_basics.proofs.Members.{Each-append, Each-back}
-use Rattle.p21_basics.specs.Digits.{IsByte}
-use Rattle.p21_basics.specs.Limits.{AreLimits, Limits}
-use Rattle.p21_claim.proofs.Theorems.{files-tell, one-file}
-use Rattle.p21_files.specs.Accepted.{IsAccepted}
-use Rattle.p21_schemas.specs.Schema.{Schema}
-use Rattle.p21_schemas.specs.WellFormed.{IsWellFormed}
+use Rattle.p21_spec_basics.proofs.Members.{Each-append, Each-back}
+use Rattle.p21_spec_basics.specs.Digits.{IsByte}
+use Rattle.p21_spec_basics.specs.Limits.{AreLimits, Limits}
+use Rattle.p21_spec_laws.proofs.FileTheorems.{files-tell, one-file}
+use Rattle.p21_spec_file.specs.Accepted.{IsAccepted}
+use Rattle.p21_spec_schema.specs.Schema.{Schema}
+use Rattle.p21_spec_schema.specs.WellFormed.{IsWellFormed}
 use Rattle.p21_stream.proofs.Canonicals.{in-one_way, only-canonical}
 use Rattle.p21_stream.specs.Claim.{Claim, IsFailure, IsOpen}
 use Rattle.p21_stream.specs.ReaderInput.{IsRefused, RefusesRead}

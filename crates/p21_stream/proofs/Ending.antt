@@ -1,21 +1,21 @@
 -- The end of the bytes, by the histories that a session stands for.
-use Rattle.std.proofs.Common.{◌≡◌, ℕ, List, Option, Some, None, Result, Ok, Err, refl, sym, ap, subst, ◌∙◌}
+use Rattle.std.proofs.Common.{◌≡◌, ℕ, true, List, Option, Some, None, Result, Ok, Err, refl, sym, ap, subst, ◌∙◌}
 use Rattle.std.specs.List.{AllByRecursion as Each}
-use Rattle.p21_basics.specs.Limits.{Limits}
-use Rattle.p21_claim.proofs.Ending.{dead-refused}
-use Rattle.p21_claim.specs.CompleteFile.{Block}
-use Rattle.p21_claim_steps.proofs.Keeps.{keeps-accepted}
-use Rattle.p21_claim_steps.specs.Keeping.{AreBlocksOf, IsServedBy, Keeps, Kept, text_with_header}
-use Rattle.p21_claim_steps.specs.Stored.{StoredEntry}
-use Rattle.p21_claim_steps.specs.Waiting.{Reference}
-use Rattle.p21_exchange.specs.Laying.{AreStatementsWithin, Laid}
-use Rattle.p21_exchange.specs.Statement.{Statement}
-use Rattle.p21_exchange.specs.Structure.{tokens_of}
-use Rattle.p21_exchange.specs.Token.{Token}
-use Rattle.p21_files.specs.Accepted.{IsCanonicalFile}
-use Rattle.p21_files.specs.Reference.{Need}
-use Rattle.p21_schemas.specs.Schema.{Schema}
-use Rattle.p21_schemas.specs.WellFormed.{IsWellFormed}
+use Rattle.p21_spec_basics.specs.Limits.{Limits}
+use Rattle.p21_spec_laws.proofs.Ending.{dead-refused}
+use Rattle.p21_spec_laws.specs.CompleteFile.{Block}
+use Rattle.p21_spec_laws.proofs.Keeps.{keeps-accepted}
+use Rattle.p21_spec_laws.specs.Keeping.{AreBlocksOf, IsServedBy, Keeps, Kept, text_with_header}
+use Rattle.p21_spec_laws.specs.Stored.{StoredEntry}
+use Rattle.p21_spec_laws.specs.Waiting.{Reference}
+use Rattle.p21_spec_exchange.specs.Laying.{AreStatementsWithin, Laid}
+use Rattle.p21_spec_exchange.specs.Statement.{Statement}
+use Rattle.p21_spec_exchange.specs.Structure.{tokens_of}
+use Rattle.p21_spec_exchange.specs.Token.{Token}
+use Rattle.p21_spec_file.specs.Accepted.{IsCanonicalFile}
+use Rattle.p21_spec_file.specs.Reference.{Need}
+use Rattle.p21_spec_schema.specs.Schema.{Schema}
+use Rattle.p21_spec_schema.specs.WellFormed.{IsWellFormed}
 use Rattle.p21_stream_output.specs.Output.{Output}
 use Rattle.p21_stream_output.specs.Ending.{IsFileOfKept}
 use Rattle.p21_stream_statements.specs.Source.{IsOfBytes}
@@ -36,32 +36,32 @@ use Rattle.p21_stream.specs.Session.{IsLive}
 
 -- a whole file whose references are served is accepted, and its lines are its canonical file
 pub whole-accepted : (s : Schema) → IsWellFormed s → (limits : Limits) (held : statements.Held) (kept : Kept) (reading : StatementHistory) → IsLive s limits held kept reading → reading.seen ≡ None → AreWholeStatements reading.taken reading.given
-    → Each (λ (r : Reference). IsServedBy s kept.stored r.1) kept.waiting → (blocks : List Block) → AreBlocksOf kept blocks → IsCanonicalFile s limits reading.taken (text_with_header kept.header blocks)
-whole-accepted s formed limits held kept reading live none w served blocks are =
+    → Each (λ (r : Reference). IsServedBy s kept.stored r.1) kept.waiting → kept.lines ≡ true → (blocks : List Block) → AreBlocksOf kept blocks → IsCanonicalFile s limits reading.taken (text_with_header kept.header blocks)
+whole-accepted s formed limits held kept reading live none w served lines blocks are =
     let within : AreStatementsWithin limits.record_source 0 w.laid.lexemes = subst (λ (most : ℕ). AreStatementsWithin most 0 w.laid.lexemes) (ap (λ p. p.0) live.limits_are) (statements-within held reading live.reads none w) in
     let short = source-within held reading live.reads in
     let limit : (limits_of held).1 ≡ limits.file_source = ap (λ p. p.1) live.limits_are in
-    keeps-accepted s formed limits reading.taken reading.given kept live.keeps w.whole.structure w.whole.text w.whole.is_file w.whole.statements_are w.found w.whole.tokens_are w.laid within (rw (← limit) short) served blocks are
+    keeps-accepted s formed limits reading.taken reading.given kept live.keeps w.whole.structure w.whole.text w.whole.is_file w.whole.statements_are w.found w.whole.tokens_are w.laid within (rw (← limit) short) served lines blocks are
 
 pub tokens-laid : (taken : List ℕ) (given : List Statement) (w : AreWholeStatements taken given) → Laid taken (tokens_of w.whole.structure)
 tokens-laid taken given w = subst (λ (ts : List Token). Laid taken ts) (sym w.whole.tokens_are) w.laid
 
-pub end-accepted : (s : Schema) → IsWellFormed s → (held : statements.Held) (kept : Kept) (output : Output) → statements.FinishGives held (Ok tt) → Each (λ (r : Reference). IsServedBy s kept.stored r.1) kept.waiting
+pub end-accepted : (s : Schema) → IsWellFormed s → (held : statements.Held) (kept : Kept) (output : Output) → statements.FinishGives held (Ok tt) → Each (λ (r : Reference). IsServedBy s kept.stored r.1) kept.waiting → kept.lines ≡ true
     → ((s : Schema) (limits : Limits) (given : List Statement) → Keeps s limits given kept → IsFileOfKept kept output) → EndGives s held kept (Ok output)
-end-accepted s formed held kept output ends served end limits taken given live =
+end-accepted s formed held kept output ends served lines end limits taken given live =
     let reading : StatementHistory = record { taken = taken; seen = None; given = given } in
     let w = ends reading live.reads refl in
     let file = end s limits given live.keeps in
     record {
-      is_canonical = subst (λ (text : List ℕ). IsCanonicalFile s limits taken text) (sym file.text_is) (whole-accepted s formed limits held kept reading live refl w served file.blocks file.are_blocks);
-      instances_are = are-instances s limits taken given kept live.keeps w.whole.structure w.whole.text (record { laid = tokens-laid taken given w; is_file = w.whole.is_file }) w.whole.statements_are output.kept file.lines_are;
+      is_canonical = subst (λ (text : List ℕ). IsCanonicalFile s limits taken text) (sym file.text_is) (whole-accepted s formed limits held kept reading live refl w served lines file.blocks file.are_blocks);
+      instances_are = are-instances s limits taken given kept live.keeps w.whole.structure w.whole.text (record { laid = tokens-laid taken given w; is_file = w.whole.is_file }) w.whole.statements_are lines output.kept file.lines_are;
     }
 
 -- what is kept where the statement reader takes the end is that of a whole file
-pub whole-kept : (s : Schema) (held : statements.Held) (kept : Kept) → statements.FinishGives held (Ok tt) → IsBetweenPieces s held kept → IsKeptOfFile kept
-whole-kept s held kept ends is =
+pub whole-kept : (s : Schema) (held : statements.Held) (kept : Kept) → statements.FinishGives held (Ok tt) → IsBetweenPieces s held kept → kept.lines ≡ true → IsKeptOfFile kept
+whole-kept s held kept ends is lines =
     let w = ends is.reading is.live.reads is.none_seen in
-    record { schema = s; limits = is.limits; given = is.reading.given; keeps = is.live.keeps; structure = w.whole.structure; text = w.whole.text; is_file = w.whole.is_file; statements_are = w.whole.statements_are }
+    record { schema = s; limits = is.limits; given = is.reading.given; keeps = is.live.keeps; structure = w.whole.structure; text = w.whole.text; is_file = w.whole.is_file; statements_are = w.whole.statements_are; lines = lines }
 
 -- ---- refusals
 

@@ -3,13 +3,13 @@ use Rattle.std.proofs.Common.{◌≡◌, ◌≢◌, ◌≤◌, ◌+◌, ◌-◌,
 use Rattle.std.proofs.KnownBytes.{Consumes-nil, Consumes-trans}
 use Rattle.std.specs.Io.KnownBytes.{Consumes}
 use Rattle.std.specs.List.{AllByRecursion as Each}
-use Rattle.p21_basics.proofs.Members.{Each-back}
-use Rattle.p21_basics.specs.Digits.{IsByte}
-use Rattle.p21_basics.specs.History.{empty}
-use Rattle.p21_basics.specs.Limits.{Limits}
-use Rattle.p21_files.proofs.Dead.{dead_further}
-use Rattle.p21_files.specs.Accepted.{IsAccepted, IsDead}
-use Rattle.p21_schemas.specs.Schema.{Schema}
+use Rattle.p21_spec_basics.proofs.Members.{Each-back}
+use Rattle.p21_spec_basics.specs.Digits.{IsByte}
+use Rattle.p21_spec_basics.specs.History.{empty}
+use Rattle.p21_spec_basics.specs.Limits.{Limits}
+use Rattle.p21_spec_file.proofs.Dead.{dead_further}
+use Rattle.p21_spec_file.specs.Accepted.{IsAccepted, IsDead}
+use Rattle.p21_spec_schema.specs.Schema.{Schema}
 use Rattle.p21_stream.specs.Feeding.{FeedsMore, IsFedFrom, IsFedWhole, RefusesFedBytes, RefusesPiece, TakesAtMost, taken_history}
 use Rattle.p21_stream.specs.ReaderInput.{ConsumesAtMost, IsAcceptedInput, IsOfBytes, IsRefused, RefusesRead}
 use Rattle.p21_stream_output.specs.Output.{Output}

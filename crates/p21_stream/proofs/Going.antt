@@ -1,15 +1,15 @@
 -- The laws of a session while bytes come.
 use Rattle.std.proofs.Common.{◌≡◌, ◌≢◌, ◌≤◌, ◌+◌, ℕ, List, [], ◌∷◌, ◌++◌, length, take, Some, None, Err, sym, ap, subst, ◌∙◌}
 use Rattle.std.proofs.lemmas.List.{append-nil}
-use Rattle.p21_basics.specs.Limits.{Limits}
-use Rattle.p21_claim.specs.Taken.{AreStatementsTaken}
-use Rattle.p21_claim_steps.proofs.Keeps.{keeps-at_start, keeps-held, keeps-size}
-use Rattle.p21_claim_steps.proofs.Offenders.{offender-dead}
-use Rattle.p21_claim_steps.specs.Keeping.{Keeps, Kept}
-use Rattle.p21_exchange.specs.Statement.{Statement}
-use Rattle.p21_files.specs.Accepted.{IsDead}
-use Rattle.p21_schemas.specs.Schema.{Schema}
-use Rattle.p21_schemas.specs.WellFormed.{IsWellFormed}
+use Rattle.p21_spec_basics.specs.Limits.{Limits}
+use Rattle.p21_spec_laws.specs.Taken.{AreStatementsTaken}
+use Rattle.p21_spec_laws.proofs.Keeps.{keeps-at_start, keeps-held, keeps-size}
+use Rattle.p21_spec_laws.proofs.Offenders.{offender-dead}
+use Rattle.p21_spec_laws.specs.Keeping.{Keeps, Kept}
+use Rattle.p21_spec_exchange.specs.Statement.{Statement}
+use Rattle.p21_spec_file.specs.Accepted.{IsDead}
+use Rattle.p21_spec_schema.specs.Schema.{Schema}
+use Rattle.p21_spec_schema.specs.WellFormed.{IsWellFormed}
 use Rattle.p21_stream_statements.specs.Fault.{fault_number}
 use Rattle.p21_stream_statements.specs.declared.fault.Fault.{Fault}
 use Rattle.p21_stream_statements.specs.declared.fault.Fault.TheVariants.{NoMemory}

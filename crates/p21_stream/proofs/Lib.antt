@@ -5,6 +5,7 @@ pub mod PieceFeeding
 pub mod Ending
 pub mod Checking
 pub mod Instances
+pub mod Counts
 pub mod Passed
 pub mod Canonicals
 pub mod Claiming
@@ -13,3 +14,8 @@ pub mod Texts
 pub mod SurveySteps
 pub mod SurveyFeeding
 pub mod SurveyEnding
+pub mod RefusedNames
+pub mod Sifted
+pub mod SieveTaking
+pub mod UnservedListing
+pub mod SieveEnding

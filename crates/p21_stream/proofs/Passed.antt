@@ -1,36 +1,31 @@
 -- Instances that are taken straight from their bytes.
 use Rattle.std.proofs.Common.{◌≡◌, ◌≤◌, ◌-◌, ◌⊎◌, ℕ, suc, List, [], ◌∷◌, ◌++◌, length, take, drop, map, Option, Some, Result, Ok, Err, inl, inr, refl, sym, ap, subst, ◌∙◌, append_assoc, length-append, arith}
 use Rattle.std.proofs.lemmas.List.{append-nil, length-take-le, take-append-drop, take-append-le, take_all}
-use Rattle.std.proofs.lemmas.Option.{slice_get_within}
 use Rattle.std.specs.List.{slice_range}
-use Rattle.p21_basics.proofs.Members.{AllZip-member, Each-back, Each-front, some_is}
-use Rattle.p21_basics.specs.Limits.{Limits}
-use Rattle.p21_claim_steps.specs.Keeping.{Kept}
-use Rattle.p21_claim_values.specs.Needs.{MeansWithNeeds}
-use Rattle.p21_exchange.proofs.FirstBytes.{spelling_begins}
-use Rattle.p21_exchange.specs.Laying.{Laid, LaidAs, Lexeme, tokens_in}
-use Rattle.p21_exchange.specs.Pending.{BeginsWithNoSeparator}
-use Rattle.p21_exchange.specs.Record.{Record, record_tokens}
-use Rattle.p21_exchange.specs.Separator.{IsSeparator, blank}
-use Rattle.p21_exchange.specs.Statement.{instance, statement_tokens}
-use Rattle.p21_exchange.specs.Token.{IsFollowed, Token, equals, name, semicolon}
-use Rattle.p21_express_graph.proofs.OrderTables.{order-tells}
-use Rattle.p21_express_graph.specs.Resolved.{HoldsTogether, IsEntity}
+use Rattle.p21_spec_basics.proofs.Members.{Each-back, Each-front, some_is}
+use Rattle.p21_spec_basics.specs.Limits.{Limits}
+use Rattle.p21_spec_laws.specs.Keeping.{Kept}
+use Rattle.p21_spec_laws.specs.Needs.{MeansWithNeeds}
+use Rattle.p21_spec_exchange.proofs.FirstBytes.{spelling_begins}
+use Rattle.p21_spec_exchange.specs.Laying.{Laid, LaidAs, Lexeme, tokens_in}
+use Rattle.p21_spec_exchange.specs.Pending.{BeginsWithNoSeparator}
+use Rattle.p21_spec_exchange.specs.Record.{Record, record_tokens}
+use Rattle.p21_spec_exchange.specs.Separator.{IsSeparator, blank}
+use Rattle.p21_spec_exchange.specs.Statement.{instance, statement_tokens}
+use Rattle.p21_spec_exchange.specs.Token.{IsFollowed, Token, equals, name, semicolon}
 use Rattle.p21_express_graph.specs.Rising.{IsOwnRising}
-use Rattle.p21_files.proofs.OneMeaning.{rising-one}
-use Rattle.p21_files.specs.CanonicalTexts.{IsInstanceText}
-use Rattle.p21_files.specs.Reference as meant
+use Rattle.p21_spec_file.proofs.OneMeaning.{rising-one}
+use Rattle.p21_spec_file.specs.CanonicalTexts.{IsInstanceText}
+use Rattle.p21_spec_file.specs.Reference as meant
 use Rattle.p21_mapping_values.specs.TypedView.{need_view}
 use Rattle.p21_mapping_values.specs.declared.need.Need.{Need}
-use Rattle.p21_schemas.specs.Schema.{EntityNamed, Schema}
-use Rattle.p21_schemas.specs.Supertype.{itself}
-use Rattle.p21_schemas.specs.WellFormed.{IsWellFormed}
+use Rattle.p21_spec_schema.specs.Schema.{Schema}
+use Rattle.p21_spec_schema.specs.WellFormed.{IsWellFormed}
 use Rattle.p21_stream_statements.specs.declared.fault.Fault.{Fault}
 use Rattle.p21_stream_statements.specs.declared.refusal.Refusal.{Refusal}
 use Rattle.p21_stream_statements.specs.StatementReader as statements
-use Rattle.p21_stream_statements.specs.StatementReader.{IsSeenAt, StatementHistory, limits_of}
+use Rattle.p21_stream_statements.specs.StatementReader.{StatementHistory, limits_of}
 use Rattle.p21_stream_statements.specs.PassingOver.{GivesPassed, PassesInstances, instance_tokens, with_instances}
-use Rattle.p21_stream_kept.specs.Found.{HasFound}
 use Rattle.p21_stream_kept.specs.Steps.{FoundGives}
 use Rattle.p21_stream_kept.specs.Taking.{FollowsFound}
 use Rattle.p21_stream.proofs.Going.{dead-behind}

@@ -1,9 +1,10 @@
 -- A piece, by the histories that a session stands for.
 use Rattle.std.proofs.Common.{◌≡◌, ◌≢◌, ◌<◌, ◌^◌, ◌⊎◌, ℕ, List, [], ◌++◌, Option, Some, None, Ok, Err, inl, inr, refl, sym, ap, subst, ◌∙◌, arith}
-use Rattle.p21_basics.specs.Limits.{Limits}
-use Rattle.p21_claim_steps.specs.Keeping.{Kept, nothing_kept}
-use Rattle.p21_files.specs.Held.{IsHeld}
-use Rattle.p21_schemas.specs.Schema.{Schema}
+use Rattle.p21_spec_basics.specs.Limits.{Limits}
+use Rattle.p21_spec_laws.proofs.Keeps.{counts-at_start, keeps-at_start}
+use Rattle.p21_spec_laws.specs.Keeping.{Keeps, Kept, nothing_kept}
+use Rattle.p21_spec_file.specs.Held.{IsHeld}
+use Rattle.p21_spec_schema.specs.Schema.{Schema}
 use Rattle.p21_stream_statements.specs.Source.{IsOfBytes}
 use Rattle.p21_stream_statements.specs.declared.fault.Fault.{Fault}
 use Rattle.p21_stream_statements.specs.declared.fault.Fault.TheVariants.{Token, Grammar, Check, SchemaName, SectionTwice, DuplicateName, CanonicalTooLong, Dangling, WrongTarget, NoMemory, Read, Write}
@@ -12,9 +13,9 @@ use Rattle.p21_stream_statements.specs.StatementReader as statements
 use Rattle.p21_stream_statements.specs.StatementReader.{nothing_read}
 use Rattle.p21_stream_kept.specs.Steps.{StepKeepsBound}
 use Rattle.p21_stream.proofs.Checking.{checks-statements}
-use Rattle.p21_stream.proofs.Going.{held-while_live, live-at_start}
+use Rattle.p21_stream.proofs.Going.{held-while_live}
 use Rattle.p21_stream.proofs.Within.{references-within}
-use Rattle.p21_stream.specs.Bounds.{IsBounded}
+use Rattle.p21_stream.specs.Bounds.{IsBounded, IsNothing}
 use Rattle.p21_stream.specs.Held.{SessionHeld}
 use Rattle.p21_stream.specs.Histories.{FeedChecks, FeedGives, FeedNeedsNoMemory, HoldsFor, Stands, nothing_taken}
 use Rattle.p21_stream.specs.Pieces.{IsUnderWay, NeedsNoMemory, ReadGives}
@@ -40,9 +41,15 @@ none-some refusal o none some = let clash : None ≡ Some refusal = none ∙ som
 
 -- ---- nothing taken
 
-module _ (s : Schema) (limits : Limits) (held : statements.Held) (kept : Kept) (refused : Option Refusal) (live : statements.IsLive held nothing_read) (counted : limits.file_source < 2 ^ 64) (are : statements.limits_of held ≡ (limits.record_source, limits.file_source)) (nothing : kept ≡ nothing_kept) (none : refused ≡ None) where
+pub nothing-is : (kept new : Kept) → new ≡ kept → IsNothing kept → IsNothing new
+nothing-is kept new same nothing = subst IsNothing (sym same) nothing
+
+module _ (s : Schema) (limits : Limits) (held : statements.Held) (kept : Kept) (refused : Option Refusal) (live : statements.IsLive held nothing_read) (counted : limits.file_source < 2 ^ 64) (are : statements.limits_of held ≡ (limits.record_source, limits.file_source)) (nothing : IsNothing kept) (none : refused ≡ None) where
   live-new : IsLive s limits held kept nothing_read
-  live-new = subst (λ (k : Kept). IsLive s limits held k nothing_read) (sym nothing) (live-at_start s limits held live are)
+  live-new = record { reads = live; limits_are = are; keeps = start nothing } where
+    start : IsNothing kept → Keeps s limits [] kept
+    start (inl is) = subst (λ (k : Kept). Keeps s limits [] k) (sym is) (keeps-at_start s limits)
+    start (inr is) = subst (λ (k : Kept). Keeps s limits [] k) (sym is) (counts-at_start s limits)
 
   pub stands-new : Stands (record { schema = s; limits = limits; statements = held; kept = kept; refused = refused }) nothing_taken
   unfolding Stands
@@ -50,8 +57,8 @@ module _ (s : Schema) (limits : Limits) (held : statements.Held) (kept : Kept) (
 
   pub bounded-new : IsBounded (record { schema = s; limits = limits; statements = held; kept = kept; refused = refused })
   bounded-new =
-      let bytes : kept.bytes ≡ 0 = ap (λ (k : Kept). k.bytes) nothing in
-      let references : kept.references ≡ 0 = ap (λ (k : Kept). k.references) nothing in
+      let bytes : kept.bytes ≡ 0 = elim nothing [ inl is ↦ ap (λ (k : Kept). k.bytes) is | inr is ↦ ap (λ (k : Kept). k.bytes) is ] in
+      let references : kept.references ≡ 0 = elim nothing [ inl is ↦ ap (λ (k : Kept). k.references) is | inr is ↦ ap (λ (k : Kept). k.references) is ] in
       record { counted = counted; limits_are = are; kept_within = omega (arith, bytes); needs_within = omega (arith, references); reads = λ same. (nothing_read, refl, live-new); of_bytes = λ r is. absurd (none-some r refused (sym none) is) }
 
 -- ---- a piece that is read

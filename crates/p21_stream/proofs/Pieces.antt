@@ -2,15 +2,15 @@
 use Rattle.std.proofs.Common.{◌≡◌, ◌+◌, ◌-◌, ◌^◌, ◌≤◌, ◌<◌, ℕ, zero, suc, List, [], ◌∷◌, ◌++◌, length, take, drop, Option, Some, None, Result, Ok, Err, refl, sym, ap, subst, ◌∙◌, append_assoc, arith}
 use Rattle.std.proofs.lemmas.List.{length-drop, take-append-drop}
 use Rattle.std.specs.List.{flat_map, slice_get}
-use Rattle.p21_basics.specs.Limits.{Limits}
-use Rattle.p21_claim_steps.specs.Keeping.{Keeps, Kept}
-use Rattle.p21_exchange.specs.Statement.{Statement, statement_tokens}
-use Rattle.p21_exchange.specs.Structure.{AreFirstStatements}
-use Rattle.p21_files.specs.Accepted.{IsDead}
+use Rattle.p21_spec_basics.specs.Limits.{Limits}
+use Rattle.p21_spec_laws.specs.Keeping.{Keeps, Kept}
+use Rattle.p21_spec_exchange.specs.Statement.{Statement, statement_tokens}
+use Rattle.p21_spec_exchange.specs.Structure.{AreFirstStatements}
+use Rattle.p21_spec_file.specs.Accepted.{IsDead}
 use Rattle.p21_grammar.specs.Statements.{statement_of}
 use Rattle.p21_grammar.specs.declared.event.Event.{Event}
-use Rattle.p21_schemas.specs.Schema.{Schema}
-use Rattle.p21_schemas.specs.WellFormed.{IsWellFormed}
+use Rattle.p21_spec_schema.specs.Schema.{Schema}
+use Rattle.p21_spec_schema.specs.WellFormed.{IsWellFormed}
 use Rattle.p21_stream_statements.specs.declared.fault.Fault.{Fault}
 use Rattle.p21_stream_statements.specs.declared.refusal.Refusal.{Refusal}
 use Rattle.p21_stream_statements.specs.StatementReader as statements
@@ -130,6 +130,7 @@ statement-follows s limits held next kept piece count event way gives same =
 pub record IsRest (s : Schema) (limits : Limits) (old : Progress) (piece : List ℕ) (now : Progress) (rest : List ℕ) (rounds : ℕ) : Type 0 where
   pub gives : (result : Result (Unit {0}) Refusal) (last : statements.Held) (end : Kept) → ReadGives s limits now.statements now.kept rest result last end → ReadGives s limits old.statements old.kept piece result last end
   pub bound : StepKeepsBound limits old.kept now.kept
+  pub lines_are : now.kept.lines ≡ old.kept.lines
   pub limits_are : limits_of now.statements ≡ limits_of old.statements
   pub refused_is : now.refused ≡ old.refused
   pub quiet : (result : Result (Unit {0}) Refusal) → NeedsNoMemory s limits now.statements now.kept rest result → NeedsNoMemory s limits old.statements old.kept piece result
@@ -138,11 +139,11 @@ pub record IsRest (s : Schema) (limits : Limits) (old : Progress) (piece : List 
 
 pub rest-first : (s : Schema) (limits : Limits) (old : Progress) (piece : List ℕ) → IsUnderWay s limits old.statements old.kept piece → IsRest s limits old piece old piece 0
 rest-first s limits old piece way =
-    record { gives = λ result last end reads. reads; bound = λ within. within; limits_are = refl; refused_is = refl; quiet = λ result needs. needs; under_way = way; rounds_few = omega arith }
+    record { gives = λ result last end reads. reads; bound = λ within. within; lines_are = refl; limits_are = refl; refused_is = refl; quiet = λ result needs. needs; under_way = way; rounds_few = omega arith }
 
 pub rest-on : (s : Schema) (limits : Limits) (old now next : Progress) (piece rest : List ℕ) (count rounds : ℕ) → IsRest s limits old piece now rest rounds → StepGives s limits now.statements now.kept rest (Ok (Some count)) next.statements next.kept → count ≤ length rest
-    → StepKeepsBound limits now.kept next.kept → limits_of next.statements ≡ limits_of now.statements → next.refused ≡ now.refused → EndsNoToken s limits now.statements now.kept rest (Ok (Some count)) → IsRest s limits old piece next (drop count rest) (rounds + 1)
-rest-on s limits old now next piece rest count rounds so_far gives within bound same refused none =
+    → StepKeepsBound limits now.kept next.kept → next.kept.lines ≡ now.kept.lines → limits_of next.statements ≡ limits_of now.statements → next.refused ≡ now.refused → EndsNoToken s limits now.statements now.kept rest (Ok (Some count)) → IsRest s limits old piece next (drop count rest) (rounds + 1)
+rest-on s limits old now next piece rest count rounds so_far gives within bound lines same refused none =
     let way = so_far.under_way in
     let on = gives way.reading way.live way.seen_at in
     let few = so_far.rounds_few in
@@ -150,6 +151,7 @@ rest-on s limits old now next piece rest count rounds so_far gives within bound 
     record {
       gives = λ result last end reads. so_far.gives result last end (read-on s limits now.statements next.statements last now.kept next.kept end rest count gives within result reads);
       bound = λ first. bound (so_far.bound first);
+      lines_are = lines ∙ so_far.lines_are;
       limits_are = same ∙ so_far.limits_are;
       refused_is = refused ∙ so_far.refused_is;
       quiet = λ result needs. so_far.quiet result (λ reading live at pending are. absurd (none reading live at pending are));

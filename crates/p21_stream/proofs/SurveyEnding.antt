@@ -1,31 +1,31 @@
 -- What a survey has found where the reading stopped, and at the end of the bytes.
-use Rattle.std.proofs.Common.{◌≡◌, ◌≢◌, ◌≤◌, ◌<◌, ◌⊎◌, ℕ, false, true, List, [], ◌∷◌, ◌++◌, length, map, Option, None, Result, Ok, Err, IfOk, OnOk, inl, inr, refl, sym, ap, subst, ◌∙◌, append-nil, arith}
+use Rattle.std.proofs.Common.{◌≡◌, ◌≢◌, ◌≤◌, ◌<◌, ◌⊎◌, ℕ, false, true, List, [], ◌∷◌, ◌++◌, length, Option, None, Result, Ok, Err, IfOk, OnOk, inl, inr, refl, sym, ap, subst, ◌∙◌, append-nil, arith}
 use Rattle.std.specs.BTreeSet.{BTreeSet, contains}
 use Rattle.std.proofs.KnownBytes.{Consumes-kept}
 use Rattle.std.specs.Io.KnownBytes.{Consumes, IsAtEnd, Keeps as KeepsBytes}
 use Rattle.std.specs.List.{AllByRecursion as Each}
 use Rattle.std.specs.Ordering.{nat_cmp}
 use Rattle.std.specs.Prelude.{Contains}
-use Rattle.p21_basics.proofs.Members.{Contains-first, Contains-none, Each-member, Each-of_members, Each-weaker}
-use Rattle.p21_basics.specs.Limits.{Limits}
-use Rattle.p21_claim.specs.CompleteFile.{Entry, IsMeant, SectionEntries, entries_in, entity_sets_in, written_in}
-use Rattle.p21_claim.specs.Taken.{AreStatementsTaken, instances_among}
-use Rattle.p21_claim_steps.proofs.Keeps.{keeps-unserved}
-use Rattle.p21_claim_steps.proofs.Storing.{none-stored_unknown, stored-serves, stored-unfit}
-use Rattle.p21_claim_steps.specs.Keeping.{IsServedBy, IsServedByNone, Keeps, Kept}
-use Rattle.p21_claim_steps.specs.Offending.{IsUnserved}
-use Rattle.p21_claim_steps.specs.Stored.{StoredEntry}
-use Rattle.p21_claim_steps.specs.UnrefusedStatements.{IsFound}
-use Rattle.p21_claim_steps.specs.Waiting.{Reference, references_in}
-use Rattle.p21_exchange.specs.Record.{Record}
-use Rattle.p21_exchange.specs.Statement.{Statement}
-use Rattle.p21_exchange.specs.Grammar.{InGrammar}
-use Rattle.p21_exchange.specs.Structure.{Structure}
-use Rattle.p21_exchange.specs.Structure.{statements as statements_of}
-use Rattle.p21_files.specs.Accepted.{IsAccepted, IsDead}
-use Rattle.p21_files.specs.Reference.{IsServed}
-use Rattle.p21_schemas.specs.Schema.{Schema}
-use Rattle.p21_schemas.specs.WellFormed.{IsWellFormed}
+use Rattle.p21_spec_basics.proofs.Members.{Contains-first, Contains-none, Each-member, Each-of_members, Each-weaker}
+use Rattle.p21_spec_basics.specs.Limits.{Limits}
+use Rattle.p21_spec_laws.specs.CompleteFile.{Entry, IsMeant, entries_in, entity_sets_in}
+use Rattle.p21_spec_laws.specs.Taken.{AreStatementsTaken, instances_among}
+use Rattle.p21_spec_laws.proofs.Keeps.{keeps-unserved}
+use Rattle.p21_spec_laws.proofs.Storing.{none-stored_unknown, stored-serves, stored-unfit}
+use Rattle.p21_spec_laws.specs.Keeping.{IsServedBy, IsServedByNone, Keeps, Kept}
+use Rattle.p21_spec_laws.specs.Offending.{IsUnserved}
+use Rattle.p21_spec_laws.specs.Stored.{StoredEntry}
+use Rattle.p21_spec_laws.specs.UnrefusedStatements.{IsFound}
+use Rattle.p21_spec_laws.specs.Waiting.{Reference, references_in}
+use Rattle.p21_spec_exchange.specs.Record.{Record}
+use Rattle.p21_spec_exchange.specs.Statement.{Statement}
+use Rattle.p21_spec_exchange.specs.Grammar.{InGrammar}
+use Rattle.p21_spec_exchange.specs.Structure.{Structure}
+use Rattle.p21_spec_exchange.specs.Structure.{statements as statements_of}
+use Rattle.p21_spec_file.specs.Accepted.{IsAccepted, IsDead}
+use Rattle.p21_spec_file.specs.Reference.{IsServed}
+use Rattle.p21_spec_schema.specs.Schema.{Schema}
+use Rattle.p21_spec_schema.specs.WellFormed.{IsWellFormed}
 use Rattle.p21_stream_kept.specs.Served.{RefusesNeed}
 use Rattle.p21_stream_kept.specs.Taking.{IsKeptOfFile}
 use Rattle.p21_stream_output.specs.Ending.{IsFileOfKept}
@@ -38,11 +38,11 @@ use Rattle.p21_stream_statements.specs.declared.fault.Fault.TheVariants.{Canonic
 use Rattle.p21_stream_statements.specs.declared.refusal.Refusal.{Refusal}
 use Rattle.p21_stream_statements.specs.StatementReader as statements
 use Rattle.p21_stream_statements.specs.StatementReader.{StatementHistory}
-use Rattle.p21_stream_survey.proofs.Sifted.{all-passed, each-answered, refused-dead, refusals-of_instances}
-use Rattle.p21_stream_survey.specs.Sifting.{AreSifted, HasRefusal, HaveNames, IsOfInstance, Sifts, at_instance}
-use Rattle.p21_stream_survey.specs.declared.sieve.Sieve.{Sieve}
-use Rattle.p21_stream_survey.specs.Unserved as unserved
-use Rattle.p21_stream_survey.specs.Unserved.{IsRefusalOf}
+use Rattle.p21_stream.proofs.Sifted.{all-passed, each-answered, refused-dead, refusals-of_instances}
+use Rattle.p21_stream.specs.Sifting.{HasRefusal, HaveNames, IsOfInstance, Sifts, at_instance}
+use Rattle.p21_stream.specs.declared.sieve.Sieve.{Sieve}
+use Rattle.p21_stream.specs.Unserved as unserved
+use Rattle.p21_stream.specs.Unserved.{IsRefusalOf}
 use Rattle.p21_stream.proofs.Checking.{records-mean}
 use Rattle.p21_stream.proofs.Ending.{end-accepted, tokens-laid, whole-kept}
 use Rattle.p21_stream.proofs.Feeding.{refused-by}
@@ -50,7 +50,7 @@ use Rattle.p21_stream.specs.Checked.{IsMeaningful}
 use Rattle.p21_stream.specs.Pieces.{IsBetweenPieces}
 use Rattle.p21_stream.specs.Session as session
 use Rattle.p21_stream.specs.ReaderInput.{IsRefused, RefusesRead}
-use Rattle.p21_stream.specs.Survey.{EndsByRead, EndsList, IsAnswered, IsOfReference, IsRefusedFirst, ListsRecords, ListsRefusals, SurveysInput}
+use Rattle.p21_stream.specs.Survey.{EndsByRead, EndsList, IsAnswered, IsOfReference, IsRefusedFirst, ListsRecords, SurveysInput}
 use Rattle.p21_stream.specs.Surveying.{HasSifted, IsLive}
 use Rattle.p21_stream.specs.SurveyReading.{EndsWith, FinishGives, IsExtent, IsLiveBetween, StoppedGives, StopsMore, StopsByRead}
 use Rattle.p21_stream.specs.declared.listing.Extent.{Extent}
@@ -233,7 +233,7 @@ all-served s limits given sieve most new sifts some lists none =
 pub finish-kept : (s : Schema) (surveying : Surveying) (most : ℕ) (new : List Refusal) (kept : Kept) → (limits : Limits) × IsLiveBetween s limits surveying → statements.FinishGives surveying.statements (Ok tt) → unserved.ListsUnserved s surveying.sieve.kept surveying.sieve.names most surveying.sieve.refusals.items new → new ≡ [] → kept ≡ surveying.sieve.kept → IsKeptOfFile kept
 finish-kept s surveying most new kept (limits, (bytes, (given, live))) ends lists none is =
     let no_old = (none-left surveying.sieve.refusals.items lists.added (sym lists.new_is ∙ none)).0 in
-    subst IsKeptOfFile (sym is) (whole-kept s surveying.statements surveying.sieve.kept ends (kept-between s limits surveying.statements surveying.sieve bytes given live no_old))
+    subst IsKeptOfFile (sym is) (whole-kept s surveying.statements surveying.sieve.kept ends (kept-between s limits surveying.statements surveying.sieve bytes given live no_old) live.sifts.lines)
 
 -- there is one, or there is none
 pub some-listed : (list : List Refusal) → ¬ (length list ≡ 0) → (first : Refusal) × (others : List Refusal) × (list ≡ first ∷ others)
@@ -254,14 +254,14 @@ finish-accepted s formed surveying most new output some ends lists none end limi
     record {
       bytes = whole.bytes;
       read = whole.read;
-      accepted = end-accepted s formed surveying.statements sieve.kept output ends (all-served s limits given sieve most new live.sifts some lists none) end limits whole.bytes given (kept-all s limits surveying.statements sieve (record { taken = whole.bytes; seen = None; given = given }) live no_old);
+      accepted = end-accepted s formed surveying.statements sieve.kept output ends (all-served s limits given sieve most new live.sifts some lists none) live.sifts.lines end limits whole.bytes given (kept-all s limits surveying.statements sieve (record { taken = whole.bytes; seen = None; given = given }) live no_old);
     }
 
 -- ---- references
 
 need-number : (s : Schema) (limits : Limits) (given : List Statement) (kept : Kept) (keeps : Keeps s limits given kept) (r : Reference) (fault : Fault) → RefusesNeed s kept.stored r.1 fault → IsUnserved s (entries_in keeps.groups) r (fault_number fault)
-need-number s limits given kept keeps r Dangling none = none-stored_unknown s keeps.groups kept.stored keeps.store r none
-need-number s limits given kept keeps r WrongTarget (x, among, is, unfit) = stored-unfit s keeps.groups kept.stored keeps.store r x among is unfit
+need-number s limits given kept keeps r Dangling none = none-stored_unknown s kept.lines keeps.groups kept.stored keeps.store r none
+need-number s limits given kept keeps r WrongTarget (x, among, is, unfit) = stored-unfit s kept.lines keeps.groups kept.stored keeps.store r x among is unfit
 need-number s limits given kept keeps r other refused = absurd refused
 
 need-of_file : (s : Schema) (stored : List StoredEntry) (r : Reference) (fault : Fault) (limits : Limits) (old new : Option (List ℕ)) → RefusesNeed s stored r.1 fault → IsRefused s limits old new → RefusesRead s limits old new fault
@@ -288,7 +288,7 @@ of-reference s limits given sieve sifts r refusal among (fault, refused, is) = r
 
 answered-by : (s : Schema) (limits : Limits) (given : List Statement) (sieve : Sieve) (sifts : Sifts s limits given sieve) (added : List Refusal) (r : Reference) → Contains (references_in (entries_in sifts.keeps.groups)) r → unserved.IsAnswered s sieve.kept sieve.names added r → IsAnswered s (entries_in sifts.keeps.groups) sieve.refusals.items added r
 answered-by s limits given sieve sifts added r among (inl named) = inr (inl ((sifts.names r.1.target).0 named))
-answered-by s limits given sieve sifts added r among (inr (inl (x, at, is, serves))) = inl (stored-serves s sifts.keeps.groups sieve.kept.stored sifts.keeps.store r.1 x at is serves)
+answered-by s limits given sieve sifts added r among (inr (inl (x, at, is, serves))) = inl (stored-serves s sieve.kept.lines sifts.keeps.groups sieve.kept.stored sifts.keeps.store r.1 x at is serves)
 answered-by s limits given sieve sifts added r among (inr (inr (refusal, listed, of))) = inr (inr (refusal, listed, of-reference s limits given sieve sifts r refusal among of))
 
 -- ---- some are refused

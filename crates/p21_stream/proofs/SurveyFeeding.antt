@@ -1,21 +1,21 @@
 -- A survey that is fed what a reader gives.
-use Rattle.std.proofs.Common.{◌≡◌, ◌≢◌, ◌≤◌, ◌<◌, ◌^◌, ◌+◌, ◌-◌, ℕ, List, [], ◌∷◌, ◌++◌, length, take, drop, append_assoc, Option, None, Result, Ok, Err, inl, refl, sym, ap, subst, ◌∙◌, length-append, slice_index_or, Fits, w8, arith}
+use Rattle.std.proofs.Common.{◌≡◌, ◌≤◌, ◌<◌, ◌^◌, ◌+◌, ◌-◌, ℕ, List, [], ◌++◌, length, take, drop, append_assoc, Option, None, Ok, Err, inl, refl, sym, ap, subst, ◌∙◌, length-append, slice_index_or, Fits, w8, arith}
 use Rattle.std.proofs.KnownBytes.{Consumes-nil, Consumes-trans}
 use Rattle.std.proofs.lemmas.List.{take-append-drop}
 use Rattle.std.specs.Io.KnownBytes.{Consumes}
 use Rattle.std.specs.List.{AllByRecursion as Each}
-use Rattle.p21_basics.proofs.Members.{Each-back}
-use Rattle.p21_basics.specs.Digits.{IsByte}
-use Rattle.p21_basics.specs.Limits.{Limits}
-use Rattle.p21_claim.proofs.TokenPrefixes.{taken-further}
-use Rattle.p21_claim_steps.proofs.Keeps.{keeps-at_start}
-use Rattle.p21_claim_steps.specs.Keeping.{Keeps, Kept, nothing_kept}
-use Rattle.p21_exchange.specs.Statement.{Statement}
-use Rattle.p21_schemas.specs.Schema.{Schema}
+use Rattle.p21_spec_basics.proofs.Members.{Each-back}
+use Rattle.p21_spec_basics.specs.Digits.{IsByte}
+use Rattle.p21_spec_basics.specs.Limits.{Limits}
+use Rattle.p21_spec_laws.proofs.TokenPrefixes.{taken-further}
+use Rattle.p21_spec_laws.proofs.Keeps.{keeps-at_start}
+use Rattle.p21_spec_laws.specs.Keeping.{Keeps, Kept, nothing_kept}
+use Rattle.p21_spec_exchange.specs.Statement.{Statement}
+use Rattle.p21_spec_schema.specs.Schema.{Schema}
 use Rattle.p21_stream_statements.specs.declared.refusal.Refusal.{Refusal}
 use Rattle.p21_stream_statements.specs.StatementReader as statements
 use Rattle.p21_stream_statements.specs.StatementReader.{StatementHistory, nothing_read}
-use Rattle.p21_stream_survey.specs.Sifting.{AreSifted, HaveNames, none}
+use Rattle.p21_stream.specs.Sifting.{AreSifted, HaveNames, none}
 use Rattle.p21_stream.proofs.Feeding.{dead-piece, each-byte, refused-by}
 use Rattle.p21_stream.proofs.Within.{source-within}
 use Rattle.p21_stream.specs.Feeding.{TakesAtMost}
@@ -89,6 +89,7 @@ surveyed-none s limits now surveying live are kept listed names = record {
         passed = [];
         sifted = subst (λ (rs : List Refusal). AreSifted s [] [] rs) (sym listed) none;
         keeps = subst (λ (k : Kept). Keeps s limits [] k) (sym kept) (keeps-at_start s limits);
+        lines = ap (λ (k : Kept). k.lines) kept;
         names = subst (λ (rs : List Refusal). HaveNames surveying.sieve.names rs) (sym listed) names;
       };
     },

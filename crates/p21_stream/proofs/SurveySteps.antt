@@ -1,19 +1,19 @@
 -- A survey, token by token and piece by piece.
-use Rattle.std.proofs.Common.{◌≡◌, ◌≢◌, ◌≤◌, ◌<◌, ◌+◌, ◌-◌, ◌^◌, ℕ, suc, List, [], ◌∷◌, ◌++◌, length, take, drop, Option, Some, None, Result, Ok, Err, refl, sym, ap, subst, ◌∙◌, append_assoc, arith}
+use Rattle.std.proofs.Common.{◌≡◌, ◌≢◌, ◌≤◌, ◌<◌, ◌+◌, ◌-◌, ◌^◌, ℕ, suc, List, [], ◌∷◌, ◌++◌, length, take, drop, Some, None, Result, Ok, Err, refl, sym, ap, subst, ◌∙◌, append_assoc, arith}
 use Rattle.std.proofs.lemmas.List.{append-nil, length-drop, length-take-le, take-append-drop}
 use Rattle.std.specs.List.{flat_map}
-use Rattle.p21_basics.specs.Limits.{Limits}
-use Rattle.p21_claim.specs.Taken.{AreStatementsTaken}
-use Rattle.p21_exchange.specs.Record.{Record, record_tokens}
-use Rattle.p21_exchange.specs.Statement.{Statement, instance, statement_tokens}
-use Rattle.p21_exchange.specs.Structure.{AreFirstStatements}
-use Rattle.p21_exchange.specs.Token.{equals, semicolon}
-use Rattle.p21_files.specs.Accepted.{IsDead}
-use Rattle.p21_files.specs.Reference.{Need}
+use Rattle.p21_spec_basics.specs.Limits.{Limits}
+use Rattle.p21_spec_laws.specs.Taken.{AreStatementsTaken}
+use Rattle.p21_spec_exchange.specs.Record.{Record, record_tokens}
+use Rattle.p21_spec_exchange.specs.Statement.{Statement, instance, statement_tokens}
+use Rattle.p21_spec_exchange.specs.Structure.{AreFirstStatements}
+use Rattle.p21_spec_exchange.specs.Token.{equals, semicolon}
+use Rattle.p21_spec_file.specs.Accepted.{IsDead}
+use Rattle.p21_spec_file.specs.Reference.{Need}
 use Rattle.p21_grammar.specs.Statements.{statement_of}
 use Rattle.p21_grammar.specs.declared.event.Event.{Event}
-use Rattle.p21_schemas.specs.Schema.{Schema}
-use Rattle.p21_schemas.specs.WellFormed.{IsWellFormed}
+use Rattle.p21_spec_schema.specs.Schema.{Schema}
+use Rattle.p21_spec_schema.specs.WellFormed.{IsWellFormed}
 use Rattle.p21_stream_statements.proofs.Seen.{looked-up_to}
 use Rattle.p21_stream_statements.proofs.Stepping.{taken-looked}
 use Rattle.p21_stream_statements.specs.declared.fault.Fault.{Fault}
@@ -22,16 +22,16 @@ use Rattle.p21_stream_statements.specs.declared.refusal.Refusal.{Refusal}
 use Rattle.p21_stream_statements.specs.StatementReader as statements
 use Rattle.p21_stream_statements.specs.StatementReader.{IsSeenAt, StatementHistory, bytes_looked_at, limits_of}
 use Rattle.p21_stream_statements.specs.PassingOver.{GivesPassed, PassesInstances, instance_tokens, with_instances}
-use Rattle.p21_stream_survey.proofs.Ending.{ends-dead}
-use Rattle.p21_stream_survey.specs.Sifting.{Sifts}
-use Rattle.p21_stream_survey.specs.Steps as sieve_steps
-use Rattle.p21_stream_survey.specs.Steps.{Follows, FollowsFound, FoundGives}
-use Rattle.p21_stream_survey.specs.declared.sieve.Sieve.{Sieve}
+use Rattle.p21_stream.proofs.SieveEnding.{ends-dead}
+use Rattle.p21_stream.specs.Sifting.{Sifts}
+use Rattle.p21_stream.specs.SieveSteps as sieve_steps
+use Rattle.p21_stream.specs.SieveSteps.{Follows, FollowsFound, FoundGives}
+use Rattle.p21_stream.specs.declared.sieve.Sieve.{Sieve}
 use Rattle.p21_stream.proofs.Pieces.{seen-first, take-add}
 use Rattle.p21_stream.proofs.Within.{given-few, source-within, statements-few}
 use Rattle.p21_stream.specs.Passing.{IsFoundIn}
 use Rattle.p21_stream.specs.Session.{IsDeadWithin}
-use Rattle.p21_stream.specs.Surveying.{HasSifted, HasSiftedWithin, IsLive, IsUnderWay, ReadGives, StepGives, TakesMoreTokens}
+use Rattle.p21_stream.specs.Surveying.{HasSifted, HasSiftedWithin, IsLive, IsUnderWay, ReadGives, StepGives}
 use Rattle.p21_stream.specs.declared.surveying.Stop.{Stop}
 use Rattle.p21_stream.specs.declared.surveying.Stop.TheVariants.{Most, Refused}
 use Rattle.p21_stream.specs.declared.surveying.Surveying.{Surveying}

@@ -1,9 +1,9 @@
 -- A text that is fed in one piece.
 use Rattle.std.proofs.Common.{◌≡◌, ◌≢◌, ℕ, List, Ok, Err, refl, sym, subst, ◌∙◌, slice_index_or, Fits, w8}
-use Rattle.p21_basics.specs.Limits.{AreLimits, Limits}
-use Rattle.p21_files.specs.Accepted.{IsAccepted, IsCanonicalFile}
-use Rattle.p21_schemas.specs.Schema.{Schema}
-use Rattle.p21_schemas.specs.WellFormed.{IsWellFormed}
+use Rattle.p21_spec_basics.specs.Limits.{AreLimits, Limits}
+use Rattle.p21_spec_file.specs.Accepted.{IsAccepted, IsCanonicalFile}
+use Rattle.p21_spec_schema.specs.Schema.{Schema}
+use Rattle.p21_spec_schema.specs.WellFormed.{IsWellFormed}
 use Rattle.p21_stream.proofs.Canonicals.{only-canonical}
 use Rattle.p21_stream.proofs.Feeding.{dead-text}
 use Rattle.p21_stream.specs.Answers.{IsOnlyCanonicalFile}

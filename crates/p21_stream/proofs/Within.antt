@@ -2,16 +2,16 @@
 use Rattle.std.proofs.Common.{◌≡◌, ◌≤◌, ℕ, List, [], ◌∷◌, ◌++◌, length, Option, Some, None, inl, inr, refl, sym, ap, subst, ◌∙◌, length-append, arith}
 use Rattle.std.proofs.lemmas.List.{append-nil}
 use Rattle.std.specs.List.{flat_map}
-use Rattle.p21_basics.specs.History.{empty, looked_at}
-use Rattle.p21_basics.specs.Limits.{Limits}
-use Rattle.p21_claim.proofs.OneReading.{one_lexemes}
-use Rattle.p21_claim_steps.proofs.Keeps.{keeps-few}
-use Rattle.p21_claim_steps.proofs.Whole.{within-up_to}
-use Rattle.p21_claim_steps.specs.Keeping.{Kept}
-use Rattle.p21_exchange.specs.Laying.{AreStatementsWithin, Laid, LaidAs, Lexeme}
-use Rattle.p21_exchange.specs.Statement.{Statement, statement_tokens}
-use Rattle.p21_exchange.specs.Token.{Token}
-use Rattle.p21_schemas.specs.Schema.{Schema}
+use Rattle.p21_spec_basics.specs.History.{empty, looked_at}
+use Rattle.p21_spec_basics.specs.Limits.{Limits}
+use Rattle.p21_spec_laws.proofs.OneReading.{one_lexemes}
+use Rattle.p21_spec_laws.proofs.Keeps.{keeps-few}
+use Rattle.p21_spec_laws.proofs.Whole.{within-up_to}
+use Rattle.p21_spec_laws.specs.Keeping.{Kept}
+use Rattle.p21_spec_exchange.specs.Laying.{AreStatementsWithin, Laid, LaidAs, Lexeme}
+use Rattle.p21_spec_exchange.specs.Statement.{Statement, statement_tokens}
+use Rattle.p21_spec_exchange.specs.Token.{Token}
+use Rattle.p21_spec_schema.specs.Schema.{Schema}
 use Rattle.p21_stream_statements.proofs.Stepping.{given-first}
 use Rattle.p21_stream_statements.specs.StatementReader.{Held, AreWholeStatements, StatementHistory, limits_of}
 use Rattle.p21_stream_statements.specs.StatementReader as statements

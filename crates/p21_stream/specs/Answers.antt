@@ -1,16 +1,16 @@
 -- What the calls on whole files answer.
 use Rattle.std.specs.Prelude.{Option, ◌≡◌, ◌↔◌, ℕ, Bool, List, length, IsTrue}
 use Rattle.std.specs.Io.KnownBytes.{Appends, Keeps}
-use Rattle.p21_basics.specs.Limits.{Limits}
-use Rattle.p21_claim.specs.CanonicalLaws.{MeanTheSame}
-use Rattle.p21_exchange.specs.Grammar.{InGrammar}
-use Rattle.p21_exchange.specs.Laying.{LaidAs, Lexeme}
-use Rattle.p21_exchange.specs.Structure.{Structure}
-use Rattle.p21_files.specs.Accepted.{IsAccepted, IsCanonicalFile, Means}
-use Rattle.p21_files.specs.Canonical.{Canonical}
-use Rattle.p21_files.specs.File.{FileMeaning, Reads}
-use Rattle.p21_files.specs.SameFile.{SameFileMeaning}
-use Rattle.p21_schemas.specs.Schema.{Schema}
+use Rattle.p21_spec_basics.specs.Limits.{Limits}
+use Rattle.p21_spec_laws.specs.CanonicalLaws.{MeanTheSame}
+use Rattle.p21_spec_exchange.specs.Grammar.{InGrammar}
+use Rattle.p21_spec_exchange.specs.Laying.{LaidAs, Lexeme}
+use Rattle.p21_spec_exchange.specs.Structure.{Structure}
+use Rattle.p21_spec_file.specs.Accepted.{IsAccepted, IsCanonicalFile, Means}
+use Rattle.p21_spec_file.specs.Canonical.{Canonical}
+use Rattle.p21_spec_file.specs.File.{FileMeaning, Reads}
+use Rattle.p21_spec_file.specs.SameFile.{SameFileMeaning}
+use Rattle.p21_spec_schema.specs.Schema.{Schema}
 use Rattle.p21_stream.specs.ReaderInput.{IsReadWhole, RefusesRead, read_failures}
 use Rattle.p21_stream.specs.declared.comparing.Which.{Which}
 use Rattle.p21_stream.specs.declared.comparing.Which.TheVariants.{First, Second}

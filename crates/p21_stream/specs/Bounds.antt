@@ -1,5 +1,6 @@
 -- What each session keeps to, whatever it was fed.
-use Rattle.std.specs.Prelude.{◌≡◌, ◌≤◌, ◌<◌, ◌^◌, None, Some}
+use Rattle.std.specs.Prelude.{◌≡◌, ◌≤◌, ◌<◌, ◌^◌, ◌⊎◌, Option, None, Some, true}
+use Rattle.p21_spec_laws.specs.Keeping.{Kept, nothing_counted, nothing_kept}
 use Rattle.p21_stream_statements.specs.Source.{IsOfBytes}
 use Rattle.p21_stream_statements.specs.declared.refusal.Refusal.{Refusal}
 use Rattle.p21_stream_statements.specs.StatementReader as statements
@@ -16,3 +17,11 @@ pub record IsBounded (held : SessionHeld) : Type 0 where
   pub needs_within : held.kept.references ≤ held.limits.file_source
   pub reads : held.refused ≡ None → (reading : StatementHistory) × (reading.seen ≡ None) × IsLive held.schema held.limits held.statements held.kept reading
   pub of_bytes : (refusal : Refusal) → held.refused ≡ Some refusal → IsOfBytes refusal.fault
+
+-- nothing is taken, and lines will be kept, or counted
+abbrev pub IsNothing : Kept → Type 0
+IsNothing kept = (kept ≡ nothing_kept) ⊎ (kept ≡ nothing_counted)
+
+-- lines are kept where no byte was refused
+abbrev pub KeepsLines : Option Refusal → Kept → Type 0
+KeepsLines refused kept = refused ≡ None → kept.lines ≡ true

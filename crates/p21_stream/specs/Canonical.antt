@@ -1,14 +1,15 @@
 -- What an accepted file is.
-use Rattle.std.specs.Prelude.{ℕ, List, map, Contains}
+use Rattle.std.specs.Prelude.{◌≡◌, ℕ, List, length, map, Contains}
 use Rattle.std.specs.List.Sorted.{IsPermutation}
-use Rattle.p21_basics.specs.Limits.{Limits}
-use Rattle.p21_exchange.specs.DataSection.{instances_in}
-use Rattle.p21_exchange.specs.Grammar.{InGrammar}
-use Rattle.p21_exchange.specs.Record.{Record}
-use Rattle.p21_exchange.specs.Structure.{Structure}
-use Rattle.p21_files.specs.Accepted.{IsCanonicalFile}
-use Rattle.p21_files.specs.CanonicalTexts.{IsInstanceText}
-use Rattle.p21_schemas.specs.Schema.{Schema}
+use Rattle.p21_spec_basics.specs.Limits.{Limits}
+use Rattle.p21_spec_exchange.specs.DataSection.{instances_in}
+use Rattle.p21_spec_exchange.specs.Grammar.{InGrammar}
+use Rattle.p21_spec_exchange.specs.Record.{Record}
+use Rattle.p21_spec_exchange.specs.Structure.{Structure}
+use Rattle.p21_spec_file.specs.Accepted.{IsCanonicalFile}
+use Rattle.p21_spec_file.specs.CanonicalTexts.{IsInstanceText}
+use Rattle.p21_spec_schema.specs.Schema.{Schema}
+use Rattle.p21_stream.specs.declared.counting.Counted.{Counted}
 use Rattle.p21_stream_output.specs.Output.{Output, output_text}
 use Rattle.p21_stream_store.specs.StoredInstance.{StoredInstance, instance_names}
 
@@ -24,3 +25,10 @@ pub record AreInstancesOf (s : Schema) (bytes : List ℕ) (kept : List StoredIns
 pub record IsCanonicalOutput (s : Schema) (limits : Limits) (bytes : List ℕ) (output : Output) : Type 0 where
   pub is_canonical : IsCanonicalFile s limits bytes (output_text output)
   pub instances_are : AreInstancesOf s bytes output.kept
+
+-- what is counted of accepted bytes: as many instances as are written, and the bytes of the canonical file
+pub record IsCounted (s : Schema) (limits : Limits) (bytes : List ℕ) (counted : Counted) : Type 0 where
+  pub output : Output
+  pub accepted : IsCanonicalOutput s limits bytes output
+  pub instances_are : counted.instances ≡ length output.kept
+  pub bytes_are : counted.bytes ≡ length (output_text output)

@@ -2,17 +2,17 @@
 -- exchange structure; mapping from EXPRESS).
 use Rattle.std.specs.Prelude.{◌≡◌, ℕ, List, [], ◌∷◌, ◌++◌, Contains, nat_eq}
 use Rattle.std.specs.List.{IsDistinct, flat_map, AllByRecursion as Each}
-use Rattle.p21_claim.specs.Taken.{BeginsWith, instances_among, names_among}
-use Rattle.p21_exchange.specs.Header.{IsFileSchema}
-use Rattle.p21_exchange.specs.Laying.{Laid}
-use Rattle.p21_exchange.specs.Record.{Part, Record}
-use Rattle.p21_exchange.specs.Statement.{Statement, header, statement_tokens}
-use Rattle.p21_exchange.specs.Token.{Token, semicolon}
-use Rattle.p21_files.specs.Meaning.{RecordMeans, Typed}
-use Rattle.p21_files.specs.Reference.{EntitySets}
+use Rattle.p21_spec_laws.specs.Taken.{BeginsWith, instances_among, names_among}
+use Rattle.p21_spec_exchange.specs.Header.{IsFileSchema}
+use Rattle.p21_spec_exchange.specs.Laying.{Laid}
+use Rattle.p21_spec_exchange.specs.Record.{Part, Record}
+use Rattle.p21_spec_exchange.specs.Statement.{Statement, header, statement_tokens}
+use Rattle.p21_spec_exchange.specs.Token.{Token, semicolon}
+use Rattle.p21_spec_file.specs.Meaning.{RecordMeans, Typed}
+use Rattle.p21_spec_file.specs.Reference.{EntitySets}
 use Rattle.p21_grammar.specs.Histories.{BeginsFile}
-use Rattle.p21_schemas.specs.Schema.{Schema}
-use Rattle.p21_schemas.specs.SchemaName.{NamesSchema}
+use Rattle.p21_spec_schema.specs.Schema.{Schema}
+use Rattle.p21_spec_schema.specs.SchemaName.{NamesSchema}
 
 -- among some instances the record has a meaning
 abbrev pub IsMeaningful : Schema → Record → Type 0

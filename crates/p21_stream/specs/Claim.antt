@@ -3,11 +3,11 @@
 -- was fed is the text of an `Output`.
 use Rattle.std.specs.Prelude.{◌≡◌, ◌↔◌, ◌⊎◌, ◌++◌, ℕ, Bool, IsTrue, List, Option, Some, None, Err}
 use Rattle.std.specs.List.{AllByRecursion as Each}
-use Rattle.p21_basics.specs.Digits.{IsByte}
-use Rattle.p21_basics.specs.Limits.{Limits}
-use Rattle.p21_claim.specs.CanonicalLaws.{MeanTheSame}
-use Rattle.p21_files.specs.Accepted.{IsAccepted}
-use Rattle.p21_schemas.specs.Schema.{Schema}
+use Rattle.p21_spec_basics.specs.Digits.{IsByte}
+use Rattle.p21_spec_basics.specs.Limits.{Limits}
+use Rattle.p21_spec_laws.specs.CanonicalLaws.{MeanTheSame}
+use Rattle.p21_spec_file.specs.Accepted.{IsAccepted}
+use Rattle.p21_spec_schema.specs.Schema.{Schema}
 use Rattle.p21_stream.specs.Answers.{AreReadInOneWay, Compares, IsOnlyCanonicalFile}
 use Rattle.p21_stream.specs.ReaderInput.{RefusesRead}
 use Rattle.p21_stream_output.specs.Output.{Output, output_text}

@@ -1,16 +1,17 @@
 -- What a session has taken and refused, and what each call adds to it.
 use Rattle.std.specs.Prelude.{◌≡◌, ◌≢◌, ◌≤◌, ℕ, List, [], ◌++◌, length, take, Option, Some, None, Result, Ok, Err}
-use Rattle.p21_basics.specs.Limits.{Limits}
-use Rattle.p21_exchange.specs.Statement.{Statement}
-use Rattle.p21_exchange.specs.Pending.{IsPending}
-use Rattle.p21_files.specs.Accepted.{IsAccepted, IsDead}
-use Rattle.p21_files.specs.Held as files
-use Rattle.p21_files.specs.Held.{IsHeld}
-use Rattle.p21_schemas.specs.Schema.{Schema}
+use Rattle.p21_spec_basics.specs.Limits.{Limits}
+use Rattle.p21_spec_exchange.specs.Statement.{Statement}
+use Rattle.p21_spec_exchange.specs.Pending.{IsPending}
+use Rattle.p21_spec_file.specs.Accepted.{IsAccepted, IsDead}
+use Rattle.p21_spec_file.specs.Held as files
+use Rattle.p21_spec_file.specs.Held.{IsHeld}
+use Rattle.p21_spec_schema.specs.Schema.{Schema}
 use Rattle.p21_stream_output.specs.Output.{Output}
 use Rattle.p21_stream_statements.specs.declared.fault.Fault.TheVariants.{NoMemory}
 use Rattle.p21_stream_statements.specs.declared.refusal.Refusal.{Refusal}
-use Rattle.p21_stream.specs.Canonical.{IsCanonicalOutput}
+use Rattle.p21_stream.specs.Canonical.{IsCanonicalOutput, IsCounted}
+use Rattle.p21_stream.specs.declared.counting.Counted.{Counted}
 use Rattle.p21_stream.specs.Checked.{ChecksStatements}
 use Rattle.p21_stream.specs.Held.{SessionHeld, limits_of, refusal_of, schema_of}
 use Rattle.p21_stream.specs.Session.{IsLive}
@@ -75,6 +76,11 @@ KeepsSchema old new = (schema_of new ≡ schema_of old) × (limits_of new ≡ li
 abbrev pub FinishGives : SessionHeld → Result Output Refusal → Type 0
 FinishGives held (Ok accepted) = (history : SessionHistory) → Stands held history → (history.refusal ≡ None) × IsCanonicalOutput (schema_of held) (limits_of held) history.taken accepted
 FinishGives held (Err refusal) = refusal.fault ≢ NoMemory → (history : SessionHistory) → Stands held history → ¬ IsAccepted (schema_of held) (limits_of held) history.taken
+
+-- what is counted at the end, for each history that the session stood for
+abbrev pub CountGives : SessionHeld → Result Counted Refusal → Type 0
+CountGives held (Ok counted) = (history : SessionHistory) → Stands held history → (history.refusal ≡ None) × IsCounted (schema_of held) (limits_of held) history.taken counted
+CountGives held (Err refusal) = FinishGives held (Err refusal)
 
 -- a session that has refused answers the same at the end
 abbrev pub RefusesAtEnd : SessionHeld → Result Output Refusal → Type 0

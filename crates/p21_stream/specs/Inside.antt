@@ -1,7 +1,7 @@
 -- What the fields hold.
-use Rattle.p21_basics.specs.Limits.{Limits}
-use Rattle.p21_files.specs.Held as files
-use Rattle.p21_schemas.specs.Schema.{Schema}
+use Rattle.p21_spec_basics.specs.Limits.{Limits}
+use Rattle.p21_spec_file.specs.Held as files
+use Rattle.p21_spec_schema.specs.Schema.{Schema}
 use Rattle.p21_stream.specs.Held.{SessionHeld}
 use Rattle.p21_stream.specs.declared.held.Held.{Held}
 use Rattle.p21_stream.specs.declared.progress.Progress.{Progress}

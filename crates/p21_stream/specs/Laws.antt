@@ -1,11 +1,11 @@
 -- The laws of a session while bytes come.
 use Rattle.std.specs.Prelude.{◌≡◌, ◌≢◌, ◌≤◌, ℕ, List, [], ◌∷◌, ◌++◌, length, None, Ok, Err}
-use Rattle.p21_basics.specs.Limits.{Limits}
-use Rattle.p21_claim_steps.specs.Keeping.{Kept, nothing_kept}
-use Rattle.p21_exchange.specs.Statement.{Statement}
-use Rattle.p21_files.specs.Held.{IsHeld}
-use Rattle.p21_schemas.specs.Schema.{Schema}
-use Rattle.p21_schemas.specs.WellFormed.{IsWellFormed}
+use Rattle.p21_spec_basics.specs.Limits.{Limits}
+use Rattle.p21_spec_laws.specs.Keeping.{Kept, nothing_kept}
+use Rattle.p21_spec_exchange.specs.Statement.{Statement}
+use Rattle.p21_spec_file.specs.Held.{IsHeld}
+use Rattle.p21_spec_schema.specs.Schema.{Schema}
+use Rattle.p21_spec_schema.specs.WellFormed.{IsWellFormed}
 use Rattle.p21_stream_statements.specs.declared.fault.Fault.{Fault}
 use Rattle.p21_stream_statements.specs.declared.fault.Fault.TheVariants.{NoMemory}
 use Rattle.p21_stream_statements.specs.StatementReader as statements

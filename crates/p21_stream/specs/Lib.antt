@@ -16,12 +16,15 @@ pub mod ReaderInput
 pub mod Surveying
 pub mod SurveyReading
 pub mod Survey
+pub mod Sifting
+pub mod SieveSteps
+pub mod Unserved
 -- What the clauses of its calls cite, for callers who name this crate alone
-pub use Rattle.p21_basics.specs as p21_basics
-pub use Rattle.p21_exchange.specs as p21_exchange
-pub use Rattle.p21_schemas.specs as p21_schemas
-pub use Rattle.p21_files.specs as p21_files
-pub use Rattle.p21_claim.specs as p21_claim
+pub use Rattle.p21_spec_basics.specs as p21_spec_basics
+pub use Rattle.p21_spec_exchange.specs as p21_spec_exchange
+pub use Rattle.p21_spec_schema.specs as p21_spec_schema
+pub use Rattle.p21_spec_file.specs as p21_spec_file
+pub use Rattle.p21_spec_laws.specs as p21_spec_laws
 pub use Rattle.p21_values.specs as p21_values
 pub use Rattle.p21_tokens.specs as p21_tokens
 pub use Rattle.p21_grammar.specs as p21_grammar
@@ -29,11 +32,10 @@ pub use Rattle.p21_express.specs as p21_express
 pub use Rattle.p21_express_outline.specs as p21_express_outline
 pub use Rattle.p21_express_graph.specs as p21_express_graph
 pub use Rattle.p21_express_tables.specs as p21_express_tables
-pub use Rattle.p21_mapping_faults.specs as p21_mapping_faults
+pub use Rattle.p21_grammar_tree.specs as p21_grammar_tree
 pub use Rattle.p21_mapping_values.specs as p21_mapping_values
 pub use Rattle.p21_stream_statements.specs as p21_stream_statements
 pub use Rattle.p21_stream_kept.specs as p21_stream_kept
 pub use Rattle.p21_stream_io.specs as p21_stream_io
 pub use Rattle.p21_stream_store.specs as p21_stream_store
 pub use Rattle.p21_stream_output.specs as p21_stream_output
-pub use Rattle.p21_stream_survey.specs as p21_stream_survey

@@ -1,11 +1,11 @@
 -- Instances that are taken straight from their bytes.
 use Rattle.std.specs.Prelude.{◌≡◌, ℕ, List, [], ◌∷◌, Option, Some, None, Result, Ok, Err}
-use Rattle.p21_basics.specs.Limits.{Limits}
-use Rattle.p21_claim_steps.specs.Keeping.{Kept}
-use Rattle.p21_exchange.specs.Record.{Record}
+use Rattle.p21_spec_basics.specs.Limits.{Limits}
+use Rattle.p21_spec_laws.specs.Keeping.{Kept}
+use Rattle.p21_spec_exchange.specs.Record.{Record}
 use Rattle.p21_express_graph.specs.Rising.{IsOwnRising}
-use Rattle.p21_files.specs.Reference.{Need}
-use Rattle.p21_schemas.specs.Schema.{Schema}
+use Rattle.p21_spec_file.specs.Reference.{Need}
+use Rattle.p21_spec_schema.specs.Schema.{Schema}
 use Rattle.p21_stream_statements.specs.declared.refusal.Refusal.{Refusal}
 use Rattle.p21_stream_statements.specs.StatementReader as statements
 use Rattle.p21_stream_statements.specs.PassingOver.{AreInstances}

@@ -1,15 +1,16 @@
 -- What reading a file says of its bytes, where the reader's are known.
 use Rattle.std.specs.Prelude.{Option, ◌≤◌, ◌+◌, ◌⊎◌, ℕ, List, length}
 use Rattle.std.specs.Io.KnownBytes.{Consumes, IsAtEnd}
-use Rattle.p21_basics.specs.Limits.{Limits}
-use Rattle.p21_files.specs.Accepted.{IsAccepted, IsDead}
-use Rattle.p21_schemas.specs.Schema.{Schema}
+use Rattle.p21_spec_basics.specs.Limits.{Limits}
+use Rattle.p21_spec_file.specs.Accepted.{IsAccepted, IsDead}
+use Rattle.p21_spec_schema.specs.Schema.{Schema}
 use Rattle.p21_stream_statements.specs.declared.fault.Fault.{Fault}
 use Rattle.p21_stream_statements.specs.declared.fault.Fault.TheVariants.{Token, NoMemory, Read, Write}
 use Rattle.p21_stream_output.specs.Output.{Output}
 pub use Rattle.p21_stream_statements.specs.Source.{IsOfBytes}
 use Rattle.p21_stream_io.specs.Watch.{one_call_more}
-use Rattle.p21_stream.specs.Canonical.{IsCanonicalOutput}
+use Rattle.p21_stream.specs.Canonical.{IsCanonicalOutput, IsCounted}
+use Rattle.p21_stream.specs.declared.counting.Counted.{Counted}
 use Rattle.p21_tokens.specs.Fault.{IsOfTokens}
 
 -- the reader gave these bytes, and has no more
@@ -22,6 +23,12 @@ pub record IsAcceptedInput (s : Schema) (limits : Limits) (old new : Option (Lis
   pub bytes : List ℕ
   pub read : IsReadWhole old new bytes
   pub accepted : IsCanonicalOutput s limits bytes output
+
+-- the reader was read to its end, and this is counted of the bytes that it gave, which are accepted
+pub record IsCountedInput (s : Schema) (limits : Limits) (old new : Option (List ℕ)) (counted : Counted) : Type 0 where
+  pub bytes : List ℕ
+  pub read : IsReadWhole old new bytes
+  pub is_counted : IsCounted s limits bytes counted
 
 -- no more bytes were taken from the reader than a file may have, and one
 abbrev pub ConsumesAtMost : Limits → Option (List ℕ) → Option (List ℕ) → Type 0

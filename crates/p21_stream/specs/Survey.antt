@@ -1,18 +1,18 @@
 -- What a survey finds of the bytes of a file (this project's own).
 use Rattle.std.specs.Prelude.{◌≡◌, ◌⊎◌, ℕ, List, [], ◌∷◌, ◌++◌, Option, Contains, nat_eq}
-use Rattle.std.specs.Io.KnownBytes.{Consumes, IsAtEnd}
+use Rattle.std.specs.Io.KnownBytes.{Consumes}
 use Rattle.std.specs.List.{IsDistinct, AllByRecursion as Each}
-use Rattle.p21_basics.specs.Limits.{Limits}
-use Rattle.p21_claim.specs.CompleteFile.{Entry, IsMeant, entity_sets_in, written_in}
-use Rattle.p21_claim.specs.Taken.{AreStatementsTaken, instances_among, names_among}
-use Rattle.p21_claim_steps.specs.Offending.{IsUnserved}
-use Rattle.p21_claim_steps.specs.Waiting.{Reference, references_in}
-use Rattle.p21_exchange.specs.Grammar.{InGrammar}
-use Rattle.p21_exchange.specs.Record.{Record}
-use Rattle.p21_exchange.specs.Statement.{Statement}
-use Rattle.p21_exchange.specs.Structure.{Structure, statements}
-use Rattle.p21_files.specs.Reference.{IsServed}
-use Rattle.p21_schemas.specs.Schema.{Schema}
+use Rattle.p21_spec_basics.specs.Limits.{Limits}
+use Rattle.p21_spec_laws.specs.CompleteFile.{Entry, IsMeant, entity_sets_in, written_in}
+use Rattle.p21_spec_laws.specs.Taken.{AreStatementsTaken, instances_among, names_among}
+use Rattle.p21_spec_laws.specs.Offending.{IsUnserved}
+use Rattle.p21_spec_laws.specs.Waiting.{Reference, references_in}
+use Rattle.p21_spec_exchange.specs.Grammar.{InGrammar}
+use Rattle.p21_spec_exchange.specs.Record.{Record}
+use Rattle.p21_spec_exchange.specs.Statement.{Statement}
+use Rattle.p21_spec_exchange.specs.Structure.{Structure, statements}
+use Rattle.p21_spec_file.specs.Reference.{IsServed}
+use Rattle.p21_spec_schema.specs.Schema.{Schema}
 use Rattle.p21_stream.specs.Checked.{IsMeaningful}
 use Rattle.p21_stream.specs.ReaderInput.{IsAcceptedInput, RefusesRead}
 use Rattle.p21_stream.specs.declared.listing.Extent.{Extent}
@@ -22,7 +22,7 @@ use Rattle.p21_stream.specs.declared.listing.Surveyed.TheVariants as survey
 use Rattle.p21_stream_statements.specs.Fault.{fault_number}
 use Rattle.p21_stream_statements.specs.declared.fault.Fault.TheVariants.{Read}
 use Rattle.p21_stream_statements.specs.declared.refusal.Refusal.{Refusal}
-use Rattle.p21_stream_survey.specs.Sifting.{AreSifted, HasRefusal, at_instance}
+use Rattle.p21_stream.specs.Sifting.{AreSifted, HasRefusal, at_instance}
 
 -- The refusal is of a reference of one of these instances: no instance of its target's name was refused, and either no instance
 -- has the name or the one that has it doesn't serve

@@ -1,9 +1,9 @@
 -- A survey that is fed what a reader gives.
 use Rattle.std.specs.Prelude.{Option, None, ◌≡◌, ◌≢◌, ◌≤◌, ◌<◌, ◌+◌, ℕ, List, [], ◌∷◌, ◌++◌, length, Result, Ok, Err}
 use Rattle.std.specs.Io.KnownBytes.{Consumes, IsAtEnd}
-use Rattle.p21_basics.specs.Limits.{Limits}
-use Rattle.p21_exchange.specs.Statement.{Statement}
-use Rattle.p21_schemas.specs.Schema.{Schema}
+use Rattle.p21_spec_basics.specs.Limits.{Limits}
+use Rattle.p21_spec_exchange.specs.Statement.{Statement}
+use Rattle.p21_spec_schema.specs.Schema.{Schema}
 use Rattle.p21_stream_statements.specs.declared.fault.Fault.TheVariants.{NoMemory, Read}
 use Rattle.p21_stream_statements.specs.declared.refusal.Refusal.{Refusal}
 use Rattle.p21_stream.specs.ReaderInput.{IsReadWhole, RefusesRead, read_failures}

@@ -1,17 +1,17 @@
 -- What a survey knows of the bytes that it has taken, and what a token, a piece and a stop owe.
 use Rattle.std.specs.Prelude.{◌≡◌, ◌≢◌, ◌≤◌, ◌<◌, ◌^◌, ℕ, List, ◌++◌, length, take, Option, Some, None, Result, Ok, Err}
-use Rattle.p21_basics.specs.Limits.{Limits}
-use Rattle.p21_claim.specs.Taken.{AreStatementsTaken}
-use Rattle.p21_claim_steps.specs.Keeping.{Keeps, Kept}
-use Rattle.p21_exchange.specs.Statement.{Statement}
-use Rattle.p21_schemas.specs.Schema.{Schema}
+use Rattle.p21_spec_basics.specs.Limits.{Limits}
+use Rattle.p21_spec_laws.specs.Taken.{AreStatementsTaken}
+use Rattle.p21_spec_laws.specs.Keeping.{Keeps, Kept}
+use Rattle.p21_spec_exchange.specs.Statement.{Statement}
+use Rattle.p21_spec_schema.specs.Schema.{Schema}
 use Rattle.p21_stream_statements.specs.Source.{IsOfBytes}
 use Rattle.p21_stream_statements.specs.declared.fault.Fault.TheVariants.{NoMemory}
 use Rattle.p21_stream_statements.specs.declared.refusal.Refusal.{Refusal}
 use Rattle.p21_stream_statements.specs.StatementReader as statements
 use Rattle.p21_stream_statements.specs.StatementReader.{IsSeenAt, StatementHistory, limits_of}
-use Rattle.p21_stream_survey.specs.Sifting.{AreSifted, Sifts}
-use Rattle.p21_stream_survey.specs.declared.sieve.Sieve.{Sieve}
+use Rattle.p21_stream.specs.Sifting.{AreSifted, Sifts}
+use Rattle.p21_stream.specs.declared.sieve.Sieve.{Sieve}
 use Rattle.p21_stream.specs.Session.{IsDeadWithin}
 use Rattle.p21_stream.specs.declared.surveying.Stop.{Stop}
 use Rattle.p21_stream.specs.declared.surveying.Stop.TheVariants.{Most, Refused}

@@ -1,6 +1,6 @@
 //! What is claimed of whole files.
-ghost use Rattle.p21_basics.specs.Limits.{AreLimits};
-ghost use Rattle.p21_schemas.specs.WellFormed.{IsWellFormed};
+ghost use Rattle.p21_spec_basics.specs.Limits.{AreLimits};
+ghost use Rattle.p21_spec_schema.specs.WellFormed.{IsWellFormed};
 ghost use Rattle.p21_stream.specs.Claim.{Claim};
 
 use p21_express_tables::Schema;

@@ -1,7 +1,7 @@
 //! All refusals of a file.
 ghost use Rattle.std.specs.Prelude.{◌≡◌, ◌≢◌, ◌≤◌, ◌<◌, ◌+◌, ◌⊎◌, ◌^◌, length, IfErr, IfOk, OnErr, OnOk};
-ghost use Rattle.p21_basics.specs.Limits.{Limits as MeantLimits};
-ghost use Rattle.p21_schemas.specs.WellFormed.{IsWellFormed};
+ghost use Rattle.p21_spec_basics.specs.Limits.{Limits as MeantLimits};
+ghost use Rattle.p21_spec_schema.specs.WellFormed.{IsWellFormed};
 ghost use Rattle.p21_stream_io.specs.Watch.{one_call_more};
 ghost use Rattle.p21_stream.specs.Feeding.{TakesAtMost};
 ghost use Rattle.p21_stream.specs.ReaderInput.{ConsumesAtMost};
@@ -12,6 +12,7 @@ ghost use Rattle.p21_transcribe_instance.specs.ExternalSet.{AreExternalSets};
 ghost use Rattle.p21_transcribe_instance.specs.Steps.{IsPlanOf};
 
 use crate::progress::refused;
+use crate::read::PIECE;
 use crate::surveying::{Stop, Surveying};
 use p21_express_tables::Schema;
 use p21_stream_io::{Watched, read_piece};
@@ -20,9 +21,6 @@ use p21_stream_statements::{Fault, Refusal};
 use p21_values::{Limits, NoMemory};
 use std::alloc::Global;
 use std::io::Read;
-
-/// The bytes that one read may give.
-const PIECE: usize = 65_536;
 
 /// What a survey finds of a file.
 #[derive(Debug, Drop)]

@@ -1,7 +1,7 @@
 //! Instances that stand whole at the beginning of a piece, taken straight from their bytes (ISO 10303-21, data sections).
 ghost use Rattle.std.specs.Prelude.{◌≡◌, ◌≤◌, ℕ, List, [], length, take, IfErr, IfSome};
 ghost use Rattle.p21_mapping_values.specs.TypedView.{ids_view};
-ghost use Rattle.p21_schemas.specs.Schema.{Schema as Meant};
+ghost use Rattle.p21_spec_schema.specs.Schema.{Schema as Meant};
 ghost use Rattle.p21_mapping.specs.Checked.{needs_view};
 ghost use Rattle.p21_stream_statements.specs.Source.{IsOfBytes};
 ghost use Rattle.p21_stream_statements.specs.StatementReader.{limits_of};
@@ -12,8 +12,8 @@ ghost use Rattle.p21_transcribe_instance.specs.Steps.{IsPlanOf};
 ghost use Rattle.p21_transcribe_instance.specs.ExternalSet.{AreExternalSets};
 
 use crate::progress::{Progress, refused};
+use p21_express_graph::EntityId;
 use p21_express_tables::Schema;
-use p21_express_types::EntityId;
 use p21_mapping_values::Need;
 use p21_stream_kept::FoundInstance;
 use p21_stream_statements::Refusal;
@@ -22,7 +22,7 @@ use p21_transcribe_instance::{Plan, Sets, append_external, append_instance};
 use p21_values::{Limits, Name};
 
 /// The most bytes of a canonical line that is made so.
-const ROOM: usize = 16_384;
+const ROOM_OF_A_LINE: usize = 16_384;
 
 /// An instance that was found: its name, its set, and how many bytes it has with the separators before it.
 #[derive(Clone, Copy)]
@@ -63,6 +63,7 @@ impl Progress {
         ensures kind { IfErr result (λ refusal. IsOfBytes refusal.fault) }
         ensures no_token { EndsNoToken schema.now limits self.old.statements self.old.kept piece.now result }
         ensures bound { StepKeepsBound limits self.old.kept self.new.kept }
+        ensures lines { self.new.kept.lines ≡ self.old.kept.lines }
         ensures limits { limits_of self.new.statements ≡ limits_of self.old.statements }
         ensures refused { self.new.refused ≡ self.old.refused }
         ensures plan { IsPlanOf schema.now self.new.plan }
@@ -123,7 +124,7 @@ pub(crate) fn find(
     ensures plan { IsPlanOf schema.now plan.new }
     ensures sets { AreExternalSets schema.now sets.new }
 {
-    let Ok(()) = draft.make_room(ROOM) else {
+    let Ok(()) = draft.make_room(ROOM_OF_A_LINE) else {
         return None;
     };
     forget(draft, needs);

@@ -1,21 +1,21 @@
-ghost use Rattle.std.specs.Prelude.{◌≡◌, ◌<◌, ◌^◌, [], IfErr, None, Some, Err};
-ghost use Rattle.p21_basics.specs.Limits.{Limits as MeantLimits};
-ghost use Rattle.p21_claim_steps.specs.Keeping.{nothing_kept};
+ghost use Rattle.std.specs.Prelude.{◌≡◌, ◌<◌, ◌^◌, [], IfErr, None, OnOk, Some, Err, true};
+ghost use Rattle.p21_spec_basics.specs.Limits.{Limits as MeantLimits};
 ghost use Rattle.p21_grammar.specs.Statements.{statement_of};
-ghost use Rattle.p21_schemas.specs.Schema.{Schema as Meant};
+ghost use Rattle.p21_spec_schema.specs.Schema.{Schema as Meant};
 ghost use Rattle.p21_stream_statements.specs.StatementReader.{IsLive, limits_of, nothing_read};
 ghost use Rattle.p21_stream_statements.specs.Source.{IsOfBytes};
 ghost use Rattle.p21_stream_statements.specs.declared.refusal.Refusal.{Refusal};
 ghost use Rattle.p21_stream_kept.specs.Steps as kept_steps;
 ghost use Rattle.p21_stream_kept.specs.Steps.{StepKeepsBound};
 ghost use Rattle.p21_stream_kept.specs.Taking.{Follows};
-ghost use Rattle.p21_stream.specs.Bounds.{IsBounded};
-ghost use Rattle.p21_stream.specs.Histories.{FeedChecks, FeedGives, FeedNeedsNoMemory, FinishGives, RefusesAgain, RefusesAtEnd};
+ghost use Rattle.p21_stream.specs.Bounds.{IsBounded, KeepsLines};
+ghost use Rattle.p21_stream.specs.Histories.{CountGives, FeedChecks, FeedGives, FeedNeedsNoMemory, FinishGives, RefusesAgain, RefusesAtEnd};
 ghost use Rattle.p21_stream.specs.Inside.{held_in};
-ghost use Rattle.p21_stream.specs.Pieces.{EndGives, EndsNoToken, IsBetweenPieces, IsUnderWay, NeedsNoMemory, ReadGives, StepGives, TakesWithinPiece};
+ghost use Rattle.p21_stream.specs.Pieces.{CountsEnd, EndGives, EndsNoToken, EndsServed, IsBetweenPieces, IsUnderWay, NeedsNoMemory, ReadGives, StepGives, TakesWithinPiece};
 ghost use Rattle.p21_transcribe_instance.specs.ExternalSet.{AreExternalSets};
 ghost use Rattle.p21_transcribe_instance.specs.Steps.{IsPlanOf};
 
+use crate::counting::Counted;
 use p21_express_tables::Schema;
 use p21_grammar::Event;
 use p21_mapping_values::Need;
@@ -50,11 +50,11 @@ pub(crate) struct Progress {
 }
 
 impl Progress {
-    /// The progress of a file of which nothing is read. It takes no memory.
-    pub(crate) fn new(alloc: Global, limits: Limits) -> Progress
+    /// The progress of a file of which nothing is read, with what keeps its statements. It takes no memory.
+    pub(crate) fn new(alloc: Global, limits: Limits, kept: Kept) -> Progress
         ensures live { IsLive result.statements nothing_read }
         ensures limits { limits_of result.statements ≡ (limits.record_source, limits.file_source) }
-        ensures kept { result.kept ≡ nothing_kept }
+        ensures kept { result.kept ≡ kept }
         ensures refused { result.refused ≡ None }
         ensures counted { limits.file_source < 2 ^ 64 }
         ensures plan { (s : Meant) → IsPlanOf s result.plan }
@@ -65,7 +65,7 @@ impl Progress {
         Progress {
             alloc,
             statements: StatementReader::new(alloc, limits),
-            kept: Kept::new(alloc),
+            kept,
             draft: Draft::new(alloc),
             needs: Vec::new(alloc),
             plan: Plan::new(alloc),
@@ -97,6 +97,7 @@ impl Progress {
         ensures refused { IfErr result (λ refusal. self.new.refused ≡ Some refusal) }
         ensures kind { IfErr result (λ refusal. IsOfBytes refusal.fault) }
         ensures bounded { IsBounded (held_in schema.now limits self.new) }
+        ensures lines { KeepsLines self.old.refused self.old.kept → KeepsLines self.new.refused self.new.kept }
         ensures plan { IsPlanOf schema.now self.new.plan }
         ensures sets { AreExternalSets schema.now self.new.sets }
     {
@@ -113,13 +114,14 @@ impl Progress {
         }
     }
 
-    /// The end of the bytes.
+    /// The end of the bytes, where lines are kept.
     ///
     /// # Errors
     ///
     /// The refusal of an earlier call; else those of `end`.
     pub(crate) fn finish(self, schema: &Schema) -> Result<Accepted, Refusal>
-        requires { (limits : MeantLimits) × IsBounded (held_in schema.now limits self) }
+        requires bounded { (limits : MeantLimits) × IsBounded (held_in schema.now limits self) }
+        requires lines { KeepsLines self.refused self.kept }
         ensures gives { (limits : MeantLimits) → FinishGives (held_in schema.now limits self) result }
         ensures again { (limits : MeantLimits) → RefusesAtEnd (held_in schema.now limits self) result }
         ensures kind { (limits : MeantLimits) → IsBounded (held_in schema.now limits self) → IfErr result (λ refusal. IsOfBytes refusal.fault) }
@@ -135,6 +137,29 @@ impl Progress {
             return Err(refusal);
         }
         end(statements, kept, statement, schema)
+    }
+
+    /// What is counted at the end of the bytes, whether lines are kept or not. It takes no memory for them.
+    ///
+    /// # Errors
+    ///
+    /// The refusal of an earlier call; else those of `check_end`.
+    pub(crate) fn count(self, schema: &Schema) -> Result<Counted, Refusal>
+        requires { (limits : MeantLimits) × IsBounded (held_in schema.now limits self) }
+        ensures gives { (limits : MeantLimits) → CountGives (held_in schema.now limits self) result }
+        ensures kind { (limits : MeantLimits) → IsBounded (held_in schema.now limits self) → IfErr result (λ refusal. IsOfBytes refusal.fault) }
+    {
+        let Progress {
+            statements,
+            kept,
+            statement,
+            refused,
+            ..
+        } = self;
+        if let Some(refusal) = refused {
+            return Err(refusal);
+        }
+        count_end(statements, kept, statement, schema)
     }
 
     /// The refusal that was answered, if there is one.
@@ -160,6 +185,7 @@ impl Progress {
         ensures no_memory { NeedsNoMemory schema.now limits self.old.statements self.old.kept piece.now result }
         ensures kind { IfErr result (λ refusal. IsOfBytes refusal.fault) }
         ensures bound { StepKeepsBound limits self.old.kept self.new.kept }
+        ensures lines { self.new.kept.lines ≡ self.old.kept.lines }
         ensures limits { limits_of self.new.statements ≡ limits_of self.old.statements }
         ensures refused { self.new.refused ≡ self.old.refused }
         ensures plan { IsPlanOf schema.now self.new.plan }
@@ -202,6 +228,7 @@ impl Progress {
         ensures kind { IfErr result (λ refusal. IsOfBytes refusal.fault) }
         ensures no_token { EndsNoToken schema.now limits self.old.statements self.old.kept piece.now result }
         ensures bound { StepKeepsBound limits self.old.kept self.new.kept }
+        ensures lines { self.new.kept.lines ≡ self.old.kept.lines }
         ensures limits { limits_of self.new.statements ≡ limits_of self.old.statements }
         ensures refused { self.new.refused ≡ self.old.refused }
         ensures plan { IsPlanOf schema.now self.new.plan }
@@ -236,6 +263,7 @@ impl Progress {
         ensures kind { IfErr result (λ refusal. IsOfBytes refusal.fault) }
         ensures no_token { EndsNoToken schema.now limits self.old.statements self.old.kept piece.now result }
         ensures bound { StepKeepsBound limits self.old.kept self.new.kept }
+        ensures lines { self.new.kept.lines ≡ self.old.kept.lines }
         ensures limits { limits_of self.new.statements ≡ limits_of self.old.statements }
         ensures refused { self.new.refused ≡ self.old.refused }
         ensures sets { self.new.sets ≡ self.old.sets }
@@ -275,6 +303,7 @@ fn take(
     ensures gives { kept_steps.StepGives schema.now limits kept.old (statement_of event) result kept.new }
     ensures kind { IfErr result (λ fault. IsOfBytes fault) }
     ensures bound { StepKeepsBound limits kept.old kept.new }
+    ensures lines { kept.new.lines ≡ kept.old.lines }
 {
     match event {
         Event::Section(line) => kept.take_line(limits, line),
@@ -286,19 +315,74 @@ fn take(
     }
 }
 
-/// The end of the bytes, where no call was refused.
+/// The end of the bytes, where no call was refused, and lines are kept.
 ///
 /// # Errors
 ///
-/// That of the reader; then the first reference in the file that no instance serves; `NoMemory`.
+/// Those of `check_end`; `NoMemory`.
 fn end(
     statements: StatementReader,
     mut kept: Kept,
     statement: u64,
     schema: &Schema,
 ) -> Result<Accepted, Refusal>
-    requires { IsBetweenPieces schema.now statements kept }
+    requires between { IsBetweenPieces schema.now statements kept }
+    requires lines { kept.lines ≡ true }
     ensures gives { EndGives schema.now statements kept result }
+    ensures kind { IfErr result (λ refusal. IsOfBytes refusal.fault) }
+{
+    schema.well_formed();
+    match check_end(statements, &mut kept, statement, schema) {
+        Ok(()) => {}
+        Err(refusal) => return Err(refusal),
+    }
+    let Ok(accepted) = kept.into_accepted(statement) else {
+        return Err(refused(Fault::NoMemory, None, statement));
+    };
+    Ok(accepted)
+}
+
+/// What is counted at the end of the bytes, where no call was refused.
+///
+/// # Errors
+///
+/// Those of `check_end`.
+fn count_end(
+    statements: StatementReader,
+    mut kept: Kept,
+    statement: u64,
+    schema: &Schema,
+) -> Result<Counted, Refusal>
+    requires { IsBetweenPieces schema.now statements kept }
+    ensures gives { CountsEnd schema.now statements kept result }
+    ensures kind { IfErr result (λ refusal. IsOfBytes refusal.fault) }
+{
+    schema.well_formed();
+    match check_end(statements, &mut kept, statement, schema) {
+        Ok(()) => {}
+        Err(refusal) => return Err(refusal),
+    }
+    Ok(Counted {
+        instances: kept.count(),
+        bytes: kept.len(),
+    })
+}
+
+/// Whether the bytes end with a whole file whose references are served, where no call was refused.
+///
+/// # Errors
+///
+/// That of the reader; then the first reference in the file that no instance serves; `NoMemory`.
+fn check_end(
+    statements: StatementReader,
+    kept: &mut Kept,
+    statement: u64,
+    schema: &Schema,
+) -> Result<(), Refusal>
+    requires { IsBetweenPieces schema.now statements kept.old }
+    ensures ok { OnOk result (EndsServed schema.now statements kept.old) }
+    ensures err { IfErr result (λ refusal. EndGives schema.now statements kept.old (Err refusal)) }
+    ensures kept { kept.new ≡ kept.old }
     ensures kind { IfErr result (λ refusal. IsOfBytes refusal.fault) }
 {
     schema.well_formed();
@@ -312,10 +396,7 @@ fn end(
     if let Some(found) = kept.first_unserved(schema) {
         return Err(unserved(found, statement));
     }
-    let Ok(accepted) = kept.into_accepted(statement) else {
-        return Err(refused(Fault::NoMemory, None, statement));
-    };
-    Ok(accepted)
+    Ok(())
 }
 
 /// The refusal of a reference, by the instance that has it.

@@ -1,11 +1,12 @@
 //! Reading a file to its end.
 ghost use Rattle.std.specs.Prelude.{◌≡◌, ◌≤◌, ◌+◌, ◌<◌, length, IfErr, IfOk, Ok, OnOk};
+ghost use Rattle.p21_stream.specs.Bounds.{KeepsLines};
 ghost use Rattle.p21_stream.specs.Feeding.{FeedsMore, IsFedWhole, RefusesFedBytes, RefusesPiece, TakesAtMost};
 ghost use Rattle.p21_stream.specs.ReaderInput.{ConsumesAtMost, IsAcceptedInput, IsOfBytes, RefusesRead, read_failures};
 ghost use Rattle.p21_stream.specs.Held.{limits_of, schema_of};
 ghost use Rattle.p21_stream.specs.Histories.{FeedGives, KeepsSchema, Stands, nothing_taken};
 
-use crate::session::Session;
+use crate::any_session::AnySession;
 use p21_express_tables::Schema;
 use p21_stream_io::{Watched, read_piece};
 use p21_stream_output::Accepted;
@@ -15,7 +16,7 @@ use std::alloc::Global;
 use std::io::Read;
 
 /// The bytes that one read may give.
-const PIECE: usize = 65_536;
+pub(crate) const PIECE: usize = 65_536;
 
 /// Reads a file to its end, and never more than one byte past the limit of a file.
 ///
@@ -38,7 +39,7 @@ pub fn accept<R: Read>(
     ensures read { OnOk result (reader.new.failures ≡ reader.old.failures) }
     ensures failed { IfErr result (λ refusal. reader.new.failures ≡ read_failures reader.old.failures refusal.fault) }
 {
-    let mut session = Session::new(alloc, schema, limits);
+    let mut session = AnySession::keeping(alloc, schema, limits);
     match feed_all(&mut session, reader, limits.file_source()) {
         Ok(()) => {}
         Err(refusal) => return Err(refusal),
@@ -50,8 +51,8 @@ pub fn accept<R: Read>(
 }
 
 /// Feeds a session that is new all that a reader has.
-fn feed_all<R: Read>(
-    session: &mut Session<'_>,
+pub(crate) fn feed_all<R: Read>(
+    session: &mut AnySession<'_>,
     reader: &mut Watched<R>,
     most: u64,
 ) -> Result<(), Refusal>
@@ -63,6 +64,7 @@ fn feed_all<R: Read>(
     ensures consumed { ConsumesAtMost (limits_of session.old) (R.remaining reader.old.inner) (R.remaining reader.new.inner) }
 
     ensures schema { KeepsSchema session.old session.new }
+    ensures lines { KeepsLines session.old.refused session.old.kept → KeepsLines session.new.refused session.new.kept }
     ensures moved { reader.new.moved ≤ reader.old.moved + (most + 1) }
     ensures read { OnOk result (reader.new.failures ≡ reader.old.failures) }
     ensures failed { IfErr result (λ refusal. reader.new.failures ≡ read_failures reader.old.failures refusal.fault) }
@@ -83,7 +85,7 @@ fn feed_all<R: Read>(
 
 /// Feeds a session what a reader gives at once, and says how many bytes: 0 at the end alone.
 fn feed_piece<R: Read>(
-    session: &mut Session<'_>,
+    session: &mut AnySession<'_>,
     reader: &mut Watched<R>,
     piece: &mut [u8],
     most: u64,
@@ -94,6 +96,7 @@ fn feed_piece<R: Read>(
     ensures consumed { TakesAtMost (most + 1) (R.remaining reader.old.inner) (R.remaining reader.new.inner) }
 
     ensures schema { KeepsSchema session.old session.new }
+    ensures lines { KeepsLines session.old.refused session.old.kept → KeepsLines session.new.refused session.new.kept }
     ensures moved { IfOk result (λ count. reader.new.moved ≤ reader.old.moved + count) }
     ensures moved_once { reader.new.moved ≤ reader.old.moved + 1 }
     ensures read { OnOk result (reader.new.failures ≡ reader.old.failures) }
@@ -110,9 +113,10 @@ fn feed_piece<R: Read>(
 
 /// Feeds a session a piece. It stands by itself since the prover knows of a parameter, and of no part of one, that it holds
 /// bytes.
-fn feed(session: &mut Session<'_>, piece: &[u8]) -> Result<(), Refusal>
+fn feed(session: &mut AnySession<'_>, piece: &[u8]) -> Result<(), Refusal>
     ensures gives { OnOk result (FeedGives session.old piece.now (Ok tt) session.new) }
     ensures schema { KeepsSchema session.old session.new }
+    ensures lines { KeepsLines session.old.refused session.old.kept → KeepsLines session.new.refused session.new.kept }
     ensures refuses { IfErr result (λ refusal. RefusesPiece session.old piece.now refusal.fault) }
     ensures kind { IfErr result (λ refusal. IsOfBytes refusal.fault) }
 {

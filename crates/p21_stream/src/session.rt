@@ -4,8 +4,8 @@ ghost use Rattle.p21_stream.specs.Held.{limits_of, refusal_of, schema_of};
 ghost use Rattle.p21_stream.specs.Histories.{FeedChecks, FeedGives, FeedNeedsNoMemory, FinishGives, HoldsFor, KeepsSchema, RefusesAgain, RefusesAtEnd, Stands, nothing_taken};
 ghost use Rattle.p21_stream.specs.Inside.{held_of};
 
+use crate::any_session::AnySession;
 use crate::held::Held;
-use crate::progress::{Progress, refused};
 use p21_express_tables::Schema;
 use p21_stream_output::Accepted;
 use p21_stream_statements::{Fault, Refusal};
@@ -16,19 +16,13 @@ use std::marker::Model;
 
 /// Reads a file that comes in pieces of any size, checks it against a schema, and keeps its canonical lines.
 pub struct Session<'s> {
-    schema: &'s Schema,
-    limits: Limits,
-    progress: Progress,
+    session: AnySession<'s>,
 }
 
 // Written out: crates above call it, where they would prove a derived one field by field.
 impl Drop for Session<'_> {
     fn drop(self) {
-        let Session {
-            schema: _,
-            limits: _,
-            progress: _,
-        } = self;
+        let Session { session: _ } = self;
     }
 }
 
@@ -46,14 +40,11 @@ impl<'s> Model for Session<'s> {
 
     ghost coded = { held_code };
 
-    ghost use Rattle.p21_stream.specs.Bounds.{IsBounded};
-    ghost use Rattle.p21_stream.specs.Inside.{held_in};
-    ghost use Rattle.p21_transcribe_instance.specs.ExternalSet.{AreExternalSets};
-    ghost use Rattle.p21_transcribe_instance.specs.Steps.{IsPlanOf};
+    ghost use Rattle.p21_stream.specs.Bounds.{KeepsLines};
 
-    ghost view = { λ a. held_in a.schema.now a.limits a.progress };
+    ghost view = { λ a. a.session };
 
-    ghost invariant = { λ a. IsBounded (held_in a.schema.now a.limits a.progress) × IsPlanOf a.schema.now a.progress.plan × AreExternalSets a.schema.now a.progress.sets };
+    ghost invariant = { λ a. KeepsLines a.session.refused a.session.kept };
 }
 
 impl<'s> Session<'s> {
@@ -64,9 +55,7 @@ impl<'s> Session<'s> {
         ensures limits { limits_of result ≡ limits }
     {
         Session {
-            schema,
-            limits,
-            progress: Progress::new(alloc, limits),
+            session: AnySession::keeping(alloc, schema, limits),
         }
     }
 
@@ -84,9 +73,7 @@ impl<'s> Session<'s> {
         ensures kind { IfErr result (λ refusal. IsOfBytes refusal.fault) }
         ensures schema { KeepsSchema self.old self.new }
     {
-        let schema = self.schema;
-        let limits = self.limits;
-        self.progress.feed(schema, limits, piece)
+        self.session.feed(piece)
     }
 
     /// What is held of the bytes taken. It takes no memory.
@@ -97,12 +84,7 @@ impl<'s> Session<'s> {
         ensures kept { result.kept ≤ (limits_of self.now).file_canonical }
         ensures needs { result.needs ≤ (limits_of self.now).file_source }
     {
-        Held {
-            pending: self.progress.statements.pending(),
-            depth: self.progress.statements.depth(),
-            kept: self.progress.kept.size(),
-            needs: self.progress.kept.references(),
-        }
+        self.session.held()
     }
 
     /// The end of the file. It takes memory for the order of the instances, and gives up what only the check needs.
@@ -116,18 +98,14 @@ impl<'s> Session<'s> {
         ensures again { RefusesAtEnd self.entry result }
         ensures kind { IfErr result (λ refusal. IsOfBytes refusal.fault) }
     {
-        let Session {
-            schema,
-            limits: _,
-            progress,
-        } = self;
-        progress.finish(schema)
+        let Session { session } = self;
+        session.finish()
     }
 
     /// A refusal at the open statement, for what is no fault of a byte. It takes no memory.
     pub fn refusal(&self, fault: Fault) -> Refusal
         ensures fault { result.fault ≡ fault }
     {
-        refused(fault, None, self.progress.statement)
+        self.session.refusal(fault)
     }
 }

@@ -8,6 +8,7 @@ ghost use Rattle.std.specs.Arc.{arc_value};
 use crate::held::Held;
 use crate::progress::{Progress, refused};
 use p21_express_tables::Schema;
+use p21_stream_kept::Kept;
 use p21_stream_output::Accepted;
 use p21_stream_statements::{Fault, Refusal};
 use p21_values::Limits;
@@ -49,7 +50,7 @@ impl Model for SharedSession {
 
     ghost coded = { held_code };
 
-    ghost use Rattle.p21_stream.specs.Bounds.{IsBounded};
+    ghost use Rattle.p21_stream.specs.Bounds.{IsBounded, KeepsLines};
     ghost use Rattle.p21_stream.specs.Inside.{held_in};
     ghost use Rattle.p21_transcribe_instance.specs.ExternalSet.{AreExternalSets};
     ghost use Rattle.p21_transcribe_instance.specs.Steps.{IsPlanOf};
@@ -57,7 +58,7 @@ impl Model for SharedSession {
 
     ghost view = { λ a. held_in (arc_value a.schema) a.limits a.progress };
 
-    ghost invariant = { λ a. IsBounded (held_in (arc_value a.schema) a.limits a.progress) × IsPlanOf (arc_value a.schema) a.progress.plan × AreExternalSets (arc_value a.schema) a.progress.sets };
+    ghost invariant = { λ a. IsBounded (held_in (arc_value a.schema) a.limits a.progress) × IsPlanOf (arc_value a.schema) a.progress.plan × AreExternalSets (arc_value a.schema) a.progress.sets × KeepsLines a.progress.refused a.progress.kept };
 }
 
 impl SharedSession {
@@ -67,10 +68,12 @@ impl SharedSession {
         ensures schema { schema_of result ≡ arc_value schema }
         ensures limits { limits_of result ≡ limits }
     {
+        let kept = Kept::new(alloc);
+        let progress = Progress::new(alloc, limits, kept);
         SharedSession {
             schema,
             limits,
-            progress: Progress::new(alloc, limits),
+            progress,
         }
     }
 

@@ -1,11 +1,11 @@
 //! A file that is surveyed piece by piece.
 ghost use Rattle.std.specs.Prelude.{◌≡◌, ◌<◌, ◌^◌, [], IfErr};
-ghost use Rattle.p21_claim_steps.specs.Keeping.{nothing_kept};
-ghost use Rattle.p21_schemas.specs.Schema.{Schema as Meant};
+ghost use Rattle.p21_spec_laws.specs.Keeping.{nothing_kept};
+ghost use Rattle.p21_spec_schema.specs.Schema.{Schema as Meant};
 ghost use Rattle.p21_stream_statements.specs.Source.{IsOfBytes};
 ghost use Rattle.p21_stream_statements.specs.StatementReader.{limits_of, nothing_read};
 ghost use Rattle.p21_stream_statements.specs.StatementReader as reader;
-ghost use Rattle.p21_stream_survey.specs.Sifting.{HaveNames};
+ghost use Rattle.p21_stream.specs.Sifting.{HaveNames};
 ghost use Rattle.p21_stream.specs.Pieces.{TakesWithinPiece};
 ghost use Rattle.p21_stream.specs.Surveying.{IsUnderWay, PassGives, ReadGives, StepGives, StopsByBytes};
 ghost use Rattle.p21_transcribe_instance.specs.ExternalSet.{AreExternalSets};
@@ -13,11 +13,11 @@ ghost use Rattle.p21_transcribe_instance.specs.Steps.{IsPlanOf};
 
 use crate::passing::{entities_of, find};
 use crate::progress::refused;
+use crate::sieve::Sieve;
 use p21_express_tables::Schema;
 use p21_mapping_values::Need;
 use p21_stream_kept::{FoundInstance, Workspace};
 use p21_stream_statements::{Refusal, StatementReader};
-use p21_stream_survey::Sieve;
 use p21_transcribe::Draft;
 use p21_transcribe_instance::{Plan, Sets};
 use p21_values::Limits;

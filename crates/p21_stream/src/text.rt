@@ -1,8 +1,8 @@
 //! The canonical file of a text.
 ghost use Rattle.std.specs.Prelude.{◌≡◌, ◌≢◌, IfErr, IfOk};
-ghost use Rattle.p21_basics.specs.Limits.{AreLimits};
-ghost use Rattle.p21_files.specs.Accepted.{IsAccepted};
-ghost use Rattle.p21_schemas.specs.WellFormed.{IsWellFormed};
+ghost use Rattle.p21_spec_basics.specs.Limits.{AreLimits};
+ghost use Rattle.p21_spec_file.specs.Accepted.{IsAccepted};
+ghost use Rattle.p21_spec_schema.specs.WellFormed.{IsWellFormed};
 ghost use Rattle.p21_stream.specs.Answers.{AreReadInOneWay, IsOnlyCanonicalFile};
 ghost use Rattle.p21_stream.specs.Claim.{Claim};
 ghost use Rattle.p21_stream.specs.ReaderInput.{IsOfBytes};

@@ -11,12 +11,12 @@ use std::io::Write;
 use std::marker::Model;
 
 /// The bytes that may wait.
-const ROOM: usize = 65_536;
+const MOST_WAITING: usize = 65_536;
 
 /// Bytes that wait to be written, so that a writer gets many at once. Whoever lets go of it while bytes wait loses them.
 #[derive(Drop)]
 pub struct Waiting {
-    bytes: [u8; ROOM],
+    bytes: [u8; MOST_WAITING],
     used: usize,
 }
 
@@ -36,21 +36,21 @@ impl Waiting {
         ensures { result ≡ [] }
     {
         Waiting {
-            bytes: [0; ROOM],
+            bytes: [0; MOST_WAITING],
             used: 0,
         }
     }
 
     /// How many more bytes may wait.
     fn room(&self) -> usize
-        ensures { length self.now + result ≡ ROOM }
+        ensures { length self.now + result ≡ MOST_WAITING }
     {
-        ROOM - self.used
+        MOST_WAITING - self.used
     }
 
     /// Has more bytes wait.
     fn keep(&mut self, bytes: &[u8])
-        requires { length self.old + length bytes.now ≤ ROOM }
+        requires { length self.old + length bytes.now ≤ MOST_WAITING }
         ensures { self.new ≡ self.old ++ bytes.now }
     {
         let end = self.used + bytes.len();
@@ -94,7 +94,7 @@ impl Waiting {
         let Ok(()) = self.flush(writer) else {
             return Err(WriteFault);
         };
-        if bytes.len() <= ROOM {
+        if bytes.len() <= MOST_WAITING {
             self.keep(bytes);
             return Ok(());
         }

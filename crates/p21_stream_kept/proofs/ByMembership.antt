@@ -1,12 +1,12 @@
 -- What is stored of instances, where their memberships have numbers.
-use Rattle.std.proofs.Common.{◌≡◌, ◌<◌, ◌∙◌, ℕ, zero, suc, List, [], ◌∷◌, ◌++◌, length, slice_get, Option, Some, Result, Ok, Err, inl, inr, refl, ap, subst, arith}
+use Rattle.std.proofs.Common.{◌≡◌, ◌<◌, ◌≤◌, ◌∙◌, ℕ, zero, suc, List, [], ◌∷◌, ◌++◌, length, slice_get, Option, Some, Result, Ok, Err, inl, inr, refl, ap, subst, arith}
 use Rattle.std.proofs.lemmas.List.Sorted.{IsPermutation-map}
 use Rattle.std.specs.List.{AllByRecursion as Each}
 use Rattle.std.specs.List.Sorted.{IsPermutation}
 use Rattle.std.specs.Prelude.{Contains, OnOk}
-use Rattle.p21_basics.proofs.Members.{Contains-mapped}
-use Rattle.p21_claim_steps.specs.Stored.{StoredEntry}
-use Rattle.p21_stream_kept.specs.Inside.{HaveMemberships, stored_of, stored_with}
+use Rattle.p21_spec_basics.proofs.Members.{Contains-mapped, Each-weaker}
+use Rattle.p21_spec_laws.specs.Stored.{StoredEntry}
+use Rattle.p21_stream_kept.specs.Inside.{AreOfSections, HaveMemberships, stored_of, stored_with}
 use Rattle.p21_stream_store.specs.Memberships.{Membership}
 use Rattle.p21_stream_store.specs.Numbering.{Interns}
 use Rattle.p21_stream_store.specs.StoredInstance as store
@@ -54,3 +54,9 @@ pub stored-found : (memberships : List Membership) (instances : List store.Store
 stored-found memberships instances x membership among is =
     let P : Option Membership → Type 0 = λ k. Contains (stored_of memberships instances) (stored_with k x) in
     subst P is (Contains-mapped (λ (y : store.StoredInstance). stored_with (slice_get memberships y.membership) y) instances x among)
+
+-- ---- sections
+
+-- what is of so many sections is of more
+pub sections_wider : (few many : ℕ) (memberships : List Membership) → few ≤ many → AreOfSections few memberships → AreOfSections many memberships
+sections_wider few many memberships more are = Each-weaker (λ (x : Membership). x.section < few) (λ (x : Membership). x.section < many) (λ x below. omega (arith, below, more)) memberships are

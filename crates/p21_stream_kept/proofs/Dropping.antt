@@ -4,17 +4,17 @@ use Rattle.std.proofs.lemmas.Bool.{cases_lt}
 use Rattle.std.specs.List.{items_where_true, AllByRecursion as Each}
 use Rattle.std.specs.List.Retain.{IsFiltered, ReturnsInTurn}
 use Rattle.std.specs.Prelude.{Contains}
-use Rattle.p21_basics.proofs.Members.{Each-member, Each-of_members, Each-weaker}
-use Rattle.p21_basics.specs.Limits.{Limits}
-use Rattle.p21_claim.specs.CompleteFile.{Entry, SectionEntries, entries_in, entity_sets_in}
-use Rattle.p21_claim_steps.proofs.Storing.{stored-serves}
-use Rattle.p21_claim_steps.specs.Keeping.{IsServedBy, IsServedByNone, Keeps, Kept}
-use Rattle.p21_claim_steps.specs.Stored.{StoredEntry}
-use Rattle.p21_claim_steps.specs.Waiting.{Reference, references_in}
-use Rattle.p21_exchange.specs.Statement.{Statement}
-use Rattle.p21_files.specs.Reference.{IsServed, Need}
+use Rattle.p21_spec_basics.proofs.Members.{Each-member, Each-of_members, Each-weaker}
+use Rattle.p21_spec_basics.specs.Limits.{Limits}
+use Rattle.p21_spec_laws.specs.CompleteFile.{Entry, SectionEntries, entries_in, entity_sets_in}
+use Rattle.p21_spec_laws.proofs.Storing.{stored-serves}
+use Rattle.p21_spec_laws.specs.Keeping.{IsServedBy, IsServedByNone, Keeps, Kept}
+use Rattle.p21_spec_laws.specs.Stored.{StoredEntry}
+use Rattle.p21_spec_laws.specs.Waiting.{Reference, references_in}
+use Rattle.p21_spec_exchange.specs.Statement.{Statement}
+use Rattle.p21_spec_file.specs.Reference.{IsServed, Need}
 use Rattle.p21_mapping_values.specs.TypedView.{need_view}
-use Rattle.p21_schemas.specs.Schema.{Schema}
+use Rattle.p21_spec_schema.specs.Schema.{Schema}
 use Rattle.p21_stream_kept.proofs.Unserved.{left-among, left-or_served}
 use Rattle.p21_stream_kept.specs.Inside.{references_of}
 use Rattle.p21_stream_kept.specs.Served.{DropsServed, LeavesUnserved}
@@ -81,7 +81,7 @@ keeps-dropped s limits given kept waiting drops keeps =
     let moves : (r : Reference) → Contains kept.waiting r ⊎ S r → Contains waiting r ⊎ S r = λ r it. elim it [
       | inl among ↦ elim (Each-member (λ (q : Reference). Contains waiting q ⊎ IsServedBy s kept.stored q.1) kept.waiting r drops.others_served among) [
         | inl left ↦ inl left
-        | inr by ↦ inr (stored-serves s groups kept.stored keeps.store r.1 by.0 by.1 by.2 by.3)
+        | inr by ↦ inr (stored-serves s kept.lines groups kept.stored keeps.store r.1 by.0 by.1 by.2 by.3)
       ]
       | inr served ↦ inr served
     ] in

@@ -6,14 +6,14 @@ use Rattle.std.proofs.lemmas.Slice.Zip.{all_zipped_more}
 use Rattle.std.specs.List.{AllZip, IsDistinct}
 use Rattle.std.specs.Prelude.{IfOk, Result}
 use Rattle.std.specs.Str.{bytes_eq}
-use Rattle.p21_basics.proofs.Members.{Each-append}
-use Rattle.p21_basics.specs.Limits.{Limits}
-use Rattle.p21_claim_steps.proofs.Keeps.{keeps-section_names, keeps-text_size}
-use Rattle.p21_claim_steps.proofs.Output.{keeps-names_differ}
-use Rattle.p21_claim_steps.specs.Keeping.{Keeps, Kept}
-use Rattle.p21_exchange.specs.DataSection.{Heading}
-use Rattle.p21_exchange.specs.Statement.{Statement}
-use Rattle.p21_schemas.specs.Schema.{Schema}
+use Rattle.p21_spec_basics.proofs.Members.{Each-append}
+use Rattle.p21_spec_basics.specs.Limits.{Limits}
+use Rattle.p21_spec_laws.proofs.Keeps.{keeps-section_names, keeps-text_size}
+use Rattle.p21_spec_laws.proofs.Output.{keeps-names_differ}
+use Rattle.p21_spec_laws.specs.Keeping.{Keeps, Kept}
+use Rattle.p21_spec_exchange.specs.DataSection.{Heading}
+use Rattle.p21_spec_exchange.specs.Statement.{Statement}
+use Rattle.p21_spec_schema.specs.Schema.{Schema}
 use Rattle.p21_stream_output.specs.Ending.{HasNamesOnce, HasSize, IsFileOfKept, IsKeptIn}
 use Rattle.p21_stream_output.specs.NamedSections.{AreEmpty, HasHeading}
 use Rattle.p21_stream_output.specs.declared.named_sections.NamedSection.{NamedSection}
@@ -48,7 +48,7 @@ end-sized kept header parts memberships instances is stands = record {
   kept = kept;
   stands = stands;
   once = keeps-names_once is.schema is.limits is.given kept is.keeps;
-  size_is = keeps-text_size is.schema is.limits is.given kept is.keeps is.structure is.text is.is_file is.statements_are;
+  size_is = keeps-text_size is.schema is.limits is.given kept is.keeps is.structure is.text is.is_file is.statements_are is.lines;
 }
 
 -- what stands in these has this end

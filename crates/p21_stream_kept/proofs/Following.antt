@@ -3,18 +3,18 @@ use Rattle.std.proofs.Common.{◌≡◌, ◌<◌, ◌+◌, ◌^◌, ℕ, List, [
 use Rattle.std.proofs.lemmas.Grind.{flat_map-append}
 use Rattle.std.proofs.lemmas.List.{length-map}
 use Rattle.std.specs.List.{flat_map}
-use Rattle.p21_basics.specs.Limits.{Limits}
-use Rattle.p21_claim_steps.proofs.Holding.{references-counted, references-few}
-use Rattle.p21_claim_steps.proofs.Keeps.{keeps-section}
-use Rattle.p21_claim_steps.specs.Keeping.{Kept}
-use Rattle.p21_claim_values.proofs.RecordTheorems.{needs-are_references}
-use Rattle.p21_claim_values.specs.Needs.{MeansWithNeeds}
-use Rattle.p21_exchange.specs.Record.{Record}
-use Rattle.p21_exchange.specs.Statement.{instance}
-use Rattle.p21_files.specs.Held.{statement_references}
-use Rattle.p21_files.specs.Meaning.{Typed}
-use Rattle.p21_files.specs.Reference.{Need, record_references}
-use Rattle.p21_schemas.specs.Schema.{Schema}
+use Rattle.p21_spec_basics.specs.Limits.{Limits}
+use Rattle.p21_spec_laws.proofs.Holding.{references-counted, references-few}
+use Rattle.p21_spec_laws.proofs.Keeps.{keeps-section}
+use Rattle.p21_spec_laws.specs.Keeping.{Kept}
+use Rattle.p21_spec_laws.proofs.RecordTheorems.{needs-are_references}
+use Rattle.p21_spec_laws.specs.Needs.{MeansWithNeeds}
+use Rattle.p21_spec_exchange.specs.Record.{Record}
+use Rattle.p21_spec_exchange.specs.Statement.{instance}
+use Rattle.p21_spec_file.specs.Held.{statement_references}
+use Rattle.p21_spec_file.specs.Meaning.{Typed}
+use Rattle.p21_spec_file.specs.Reference.{Need, record_references}
+use Rattle.p21_spec_schema.specs.Schema.{Schema}
 use Rattle.p21_stream_kept.specs.Taking.{Follows}
 
 -- the instance stands in a section

@@ -3,22 +3,22 @@ use Rattle.std.proofs.Common.{◌≡◌, ◌+◌, ◌⊎◌, ◌∙◌, ℕ, suc
 use Rattle.std.specs.List.{AllByRecursion as Each}
 use Rattle.std.specs.List.Sorted.{IsPermutation}
 use Rattle.std.specs.Prelude.{◌≢◌, Contains, IfSome, IsNone, is_some}
-use Rattle.p21_basics.proofs.Members.{Contains-mapped, Contains-unmapped}
-use Rattle.p21_basics.specs.Limits.{Limits}
-use Rattle.p21_claim.specs.CompleteFile.{Entry}
-use Rattle.p21_claim.specs.Taken.{names_among}
-use Rattle.p21_claim_steps.proofs.Keeps.{keeps-by_instance, keeps-names}
-use Rattle.p21_claim_steps.specs.UnrefusedStatements.{IsFound}
-use Rattle.p21_claim_steps.specs.Keeping.{IsServedBy, Keeps, Kept, keep_instance}
-use Rattle.p21_claim_steps.specs.Offending.{broken, name_again}
-use Rattle.p21_claim_steps.specs.Stored as claim
-use Rattle.p21_claim_steps.specs.Stored.{StoredEntry}
-use Rattle.p21_exchange.specs.Record.{Record}
-use Rattle.p21_exchange.specs.Statement.{instance}
-use Rattle.p21_files.specs.BrokenRule.{Breaks}
-use Rattle.p21_files.specs.CanonicalTexts.{IsInstanceText}
-use Rattle.p21_files.specs.Reference.{Need}
-use Rattle.p21_schemas.specs.Schema.{Schema}
+use Rattle.p21_spec_basics.proofs.Members.{Contains-mapped, Contains-unmapped}
+use Rattle.p21_spec_basics.specs.Limits.{Limits}
+use Rattle.p21_spec_laws.specs.CompleteFile.{Entry}
+use Rattle.p21_spec_laws.specs.Taken.{names_among}
+use Rattle.p21_spec_laws.proofs.Keeps.{keeps-by_instance, keeps-names}
+use Rattle.p21_spec_laws.specs.UnrefusedStatements.{IsFound}
+use Rattle.p21_spec_laws.specs.Keeping.{IsServedBy, Keeps, Kept, keep_instance}
+use Rattle.p21_spec_laws.specs.Offending.{broken, name_again}
+use Rattle.p21_spec_laws.specs.Stored as claim
+use Rattle.p21_spec_laws.specs.Stored.{StoredEntry}
+use Rattle.p21_spec_exchange.specs.Record.{Record}
+use Rattle.p21_spec_exchange.specs.Statement.{instance}
+use Rattle.p21_spec_file.specs.BrokenRule.{Breaks}
+use Rattle.p21_spec_file.specs.CanonicalTexts.{IsInstanceText}
+use Rattle.p21_spec_file.specs.Reference.{Need}
+use Rattle.p21_spec_schema.specs.Schema.{Schema}
 use Rattle.p21_stream_statements.specs.Fault.{fault_number}
 use Rattle.p21_stream_statements.specs.declared.fault.Fault.{Fault}
 use Rattle.p21_stream_statements.specs.declared.fault.Fault.TheVariants.{CanonicalTooLong, DuplicateName, NoMemory}
@@ -54,7 +54,7 @@ named-none instances n None none among = absurd (none refl among)
 
 pub took-instance : (s : Schema) (limits : Limits) (old new : Kept) (entry : Entry) → IsFound s limits entry → (Contains (map (λ (x : StoredEntry). x.name) old.stored) entry.name → ⊥)
     → (added : List Need) → Each (Contains entry.needs) added → Each (λ (need : Need). Contains added need ⊎ IsServedBy s old.stored need) entry.needs
-    → (number : ℕ) → suc number ≡ length old.headings → (stored : List StoredEntry) → IsPermutation (claim.stored_of (number, entry) ∷ old.stored) stored
+    → (number : ℕ) → suc number ≡ length old.headings → (stored : List StoredEntry) → IsPermutation (claim.stored_of old.lines (number, entry) ∷ old.stored) stored
     → FitsLimits limits (old.bytes + old.framing) (length entry.text) → new ≡ keep_instance old entry added stored → StepGives s limits old (instance entry.name entry.record_) (Ok tt) new
 took-instance s limits old new entry found none added are_needs waits number last stored permuted room is given keeps =
     subst (λ (k : Kept). Keeps s limits (given ++ instance entry.name entry.record_ ∷ []) k) (sym is)

@@ -1,8 +1,8 @@
 -- The longest prefix of letters, digits and `_`.
 use Rattle.std.proofs.Common.{◌≡◌, ◌<◌, ◌↔◌, ℕ, zero, suc, List, [], ◌∷◌, ◌++◌, length, take, drop, get_or, map, refl, sym, ap, subst, ◌∙◌, arith}
 use Rattle.std.specs.List.{AllByRecursion as Each}
-use Rattle.p21_schemas.specs.Express.{IsIdentifierByte, upper}
-use Rattle.p21_schemas.specs.SchemaName.{NamesSchema}
+use Rattle.p21_spec_schema.specs.Express.{IsIdentifierByte, upper}
+use Rattle.p21_spec_schema.specs.SchemaName.{NamesSchema}
 use Rattle.p21_stream_kept.specs.Prefix.{IsLongestPrefix}
 
 -- the prefix of that length, and what stands behind it

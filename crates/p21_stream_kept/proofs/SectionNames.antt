@@ -3,11 +3,11 @@ use Rattle.std.proofs.Common.{◌≡◌, ℕ, List, [], ◌∷◌, ◌++◌, sym
 use Rattle.std.proofs.lemmas.Grind.{flat_map-append}
 use Rattle.std.proofs.lemmas.List.{append-nil, map-append}
 use Rattle.std.specs.BTreeSet.{BTreeSet, insert_key}
-use Rattle.p21_exchange.specs.DataSection.{heading_names, section_names}
+use Rattle.p21_spec_exchange.specs.DataSection.{heading_names, section_names}
 use Rattle.p21_stream_kept.specs.Sections.{HasNames, heading_in, headings_of}
 use Rattle.p21_stream_kept.specs.declared.sections.Section.{Section}
-use Rattle.p21_express_types.proofs.TextSets.{Text, by_text, has_none as no_text, has_added as text_added}
-use Rattle.p21_express_types.specs.TextSet.{HasTexts}
+use Rattle.p21_express_graph.proofs.TextSets.{Text, by_text, has_none as no_text, has_added as text_added}
+use Rattle.p21_express_graph.specs.TextSet.{HasTexts}
 
 names_behind : (all : List Section) (x : Section) → section_names (headings_of (all ++ x ∷ [])) ≡ section_names (headings_of all) ++ heading_names (heading_in x.part)
 names_behind all x =

@@ -1,11 +1,11 @@
 -- One entity that serves a need.
 use Rattle.std.proofs.Common.{◌≡◌, ℕ, List, [], ◌∷◌, slice_get, Some, inl, inr, subst}
 use Rattle.std.specs.List.{Contains}
-use Rattle.p21_basics.proofs.Members.{Contains-cases, Contains-found, Contains-mapped, Contains-none}
-use Rattle.p21_express_types.specs.declared.number.EntityId.{EntityId}
-use Rattle.p21_files.specs.Reference.{Serves}
+use Rattle.p21_spec_basics.proofs.Members.{Contains-cases, Contains-found, Contains-mapped, Contains-none}
+use Rattle.p21_express_graph.specs.declared.number.EntityId.{EntityId}
+use Rattle.p21_spec_file.specs.Reference.{Serves}
 use Rattle.p21_mapping_values.specs.TypedView.{ids_view}
-use Rattle.p21_schemas.specs.Schema.{Member, Schema, entity_member, type_member}
+use Rattle.p21_spec_schema.specs.Schema.{Member, Schema, entity_member, type_member}
 
 serves-among : (s : Schema) (wanted : Member) (some all : List ℕ) → ((e : ℕ) → Contains some e → Contains all e) → Serves s wanted some → Serves s wanted all
 serves-among s (entity_member e) some all are serves = are e serves

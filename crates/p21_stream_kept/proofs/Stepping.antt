@@ -2,23 +2,23 @@
 use Rattle.std.proofs.Common.{◌≡◌, ◌≤◌, ◌<◌, ◌+◌, ◌⊎◌, ℕ, List, [], ◌∷◌, ◌++◌, length, Ok, Err, inl, inr, refl, sym, subst}
 use Rattle.std.proofs.lemmas.Bool.Decides.{leb_tells}
 use Rattle.std.specs.Prelude.{Contains}
-use Rattle.p21_basics.proofs.Members.{Contains-cases, Contains-none}
-use Rattle.p21_basics.specs.Limits.{Limits}
-use Rattle.p21_claim.specs.Taken.{section_names_among}
-use Rattle.p21_claim_steps.proofs.Keeps.{keeps-by_header, keeps-by_line, keeps-section_names}
-use Rattle.p21_claim_steps.specs.UnrefusedStatements.{IsFitting}
-use Rattle.p21_claim_steps.specs.Keeping.{Keeps, Kept, keep_header, keep_section_line}
-use Rattle.p21_claim_steps.specs.Offending.{IsTextOf, Offends, long_file, long_line, other_schema, section_again, section_of_other_schema}
-use Rattle.p21_exchange.specs.CanonicalText.{statement_text}
-use Rattle.p21_exchange.specs.DataSection.{named, section_names}
-use Rattle.p21_exchange.specs.Header.{IsFileSchema}
-use Rattle.p21_exchange.specs.Record.{Part}
-use Rattle.p21_exchange.specs.Statement.{Statement, data_start, header, section}
+use Rattle.p21_spec_basics.proofs.Members.{Contains-cases, Contains-none}
+use Rattle.p21_spec_basics.specs.Limits.{Limits}
+use Rattle.p21_spec_laws.specs.Taken.{section_names_among}
+use Rattle.p21_spec_laws.proofs.Keeps.{keeps-by_header, keeps-by_line, keeps-section_names}
+use Rattle.p21_spec_laws.specs.UnrefusedStatements.{IsFitting}
+use Rattle.p21_spec_laws.specs.Keeping.{Keeps, Kept, keep_header, keep_section_line}
+use Rattle.p21_spec_laws.specs.Offending.{IsTextOf, Offends, long_file, long_line, other_schema, section_again, section_of_other_schema}
+use Rattle.p21_spec_exchange.specs.CanonicalText.{statement_text}
+use Rattle.p21_spec_exchange.specs.DataSection.{named, section_names}
+use Rattle.p21_spec_exchange.specs.Header.{IsFileSchema}
+use Rattle.p21_spec_exchange.specs.Record.{Part}
+use Rattle.p21_spec_exchange.specs.Statement.{Statement, data_start, header, section}
 use Rattle.p21_grammar.specs.Statements.{line_of}
 use Rattle.p21_grammar.specs.declared.event.Line.{Line}
 use Rattle.p21_grammar.specs.declared.event.Line.TheVariants.{Begin, HeaderStart, SectionEnd, DataStart, Finish}
-use Rattle.p21_schemas.specs.Schema.{Schema}
-use Rattle.p21_schemas.specs.SchemaName.{NamesSchema}
+use Rattle.p21_spec_schema.specs.Schema.{Schema}
+use Rattle.p21_spec_schema.specs.SchemaName.{NamesSchema}
 use Rattle.p21_stream_kept.specs.Steps.{FitsLimits, StepGives}
 use Rattle.p21_stream_statements.specs.declared.fault.Fault.TheVariants.{CanonicalTooLong, SchemaName, SectionTwice}
 

@@ -4,20 +4,20 @@ use Rattle.std.proofs.Math.Seq.{drop-cons}
 use Rattle.std.proofs.lemmas.List.{map-append, take_more}
 use Rattle.std.proofs.lemmas.List.Elements.{Contains-append_right}
 use Rattle.std.specs.Prelude.{Contains, is_some}
-use Rattle.p21_basics.proofs.Members.{Contains-first, Contains-later, Each-weaker}
+use Rattle.p21_spec_basics.proofs.Members.{Contains-first, Contains-later, Each-weaker}
 use Rattle.std.specs.List.{AllByRecursion as Each}
-use Rattle.p21_basics.specs.Limits.{Limits}
-use Rattle.p21_claim_steps.proofs.Keeps.{keeps-unserved}
-use Rattle.p21_claim_steps.specs.Keeping.{IsServedBy, IsServedByNone, Keeps, Kept}
-use Rattle.p21_claim_steps.specs.Stored.{StoredEntry}
-use Rattle.p21_claim_steps.specs.Waiting.{Reference}
-use Rattle.p21_exchange.specs.Laying.{Laid}
-use Rattle.p21_exchange.specs.Statement.{Statement}
-use Rattle.p21_exchange.specs.Structure.{Structure, statements, tokens_of}
-use Rattle.p21_files.specs.Accepted.{IsAccepted}
-use Rattle.p21_files.specs.Reference.{Need}
-use Rattle.p21_schemas.specs.Schema.{Schema}
-use Rattle.p21_schemas.specs.WellFormed.{IsWellFormed}
+use Rattle.p21_spec_basics.specs.Limits.{Limits}
+use Rattle.p21_spec_laws.proofs.Keeps.{keeps-unserved}
+use Rattle.p21_spec_laws.specs.Keeping.{IsServedBy, IsServedByNone, Keeps, Kept}
+use Rattle.p21_spec_laws.specs.Stored.{StoredEntry}
+use Rattle.p21_spec_laws.specs.Waiting.{Reference}
+use Rattle.p21_spec_exchange.specs.Laying.{Laid}
+use Rattle.p21_spec_exchange.specs.Statement.{Statement}
+use Rattle.p21_spec_exchange.specs.Structure.{Structure, statements, tokens_of}
+use Rattle.p21_spec_file.specs.Accepted.{IsAccepted}
+use Rattle.p21_spec_file.specs.Reference.{Need}
+use Rattle.p21_spec_schema.specs.Schema.{Schema}
+use Rattle.p21_spec_schema.specs.WellFormed.{IsWellFormed}
 use Rattle.p21_stream_statements.specs.declared.fault.Fault.{Fault}
 use Rattle.p21_stream_statements.specs.declared.fault.Fault.TheVariants.{Dangling, WrongTarget}
 use Rattle.p21_stream_kept.proofs.Instances.{stored-names}

@@ -1,14 +1,14 @@
 -- What is found of an instance.
 use Rattle.std.specs.Prelude.{◌≡◌, ◌≢◌, ℕ, List, Result, Ok, Err}
-use Rattle.p21_claim_values.specs.Needs.{MeansWithNeeds}
-use Rattle.p21_exchange.specs.Record.{Record}
-use Rattle.p21_files.specs.BrokenRule.{Breaks}
-use Rattle.p21_files.specs.CanonicalTexts.{IsInstanceText}
-use Rattle.p21_files.specs.Meaning.{Typed}
-use Rattle.p21_files.specs.Reference.{Need}
+use Rattle.p21_spec_laws.specs.Needs.{MeansWithNeeds}
+use Rattle.p21_spec_exchange.specs.Record.{Record}
+use Rattle.p21_spec_file.specs.BrokenRule.{Breaks}
+use Rattle.p21_spec_file.specs.CanonicalTexts.{IsInstanceText}
+use Rattle.p21_spec_file.specs.Meaning.{Typed}
+use Rattle.p21_spec_file.specs.Reference.{Need}
 use Rattle.p21_mapping.specs.Checked.{needs_view}
 use Rattle.p21_mapping_values.specs.TypedView.{ids_view}
-use Rattle.p21_schemas.specs.Schema.{Schema}
+use Rattle.p21_spec_schema.specs.Schema.{Schema}
 use Rattle.p21_stream_statements.specs.Fault.{fault_number}
 use Rattle.p21_stream_statements.specs.declared.fault.Fault.{Fault}
 use Rattle.p21_stream_statements.specs.declared.fault.Fault.TheVariants.{NoMemory}

@@ -1,10 +1,12 @@
 -- What the fields hold, as pure data.
-use Rattle.std.specs.Prelude.{◌<◌, ◌≤◌, ◌+◌, ◌^◌, List, length, map}
-use Rattle.p21_claim_steps.specs.Keeping.{Kept}
-use Rattle.p21_claim_steps.specs.Waiting as waiting
+use Rattle.std.specs.Prelude.{Bool, ◌≡◌, ◌<◌, ◌≤◌, ◌+◌, ◌^◌, List, length, map, true}
+use Rattle.p21_spec_laws.specs.Keeping.{Kept}
+use Rattle.p21_spec_laws.specs.Waiting as waiting
 use Rattle.p21_mapping_values.specs.TypedView.{need_view}
 use Rattle.p21_stream_kept.specs.declared.kept.Kept.TheInside.{Inside}
 use Rattle.p21_stream_kept.specs.declared.kept.Reference.{Reference}
+use Rattle.p21_stream_store.specs.StoredInstance.{StoredInstance}
+use Rattle.p21_stream_kept.specs.KeptInstances.{instances_of, keeps_lines}
 pub use Rattle.p21_stream_output.specs.Ending.{AreNamed, stored_of, stored_with}
 pub use Rattle.p21_stream_output.specs.Filing.{HaveMemberships, AreOfSections}
 
@@ -16,21 +18,26 @@ references_of all = map reference_of all
 
 abbrev pub kept_of : Inside → Kept
 kept_of a = record {
+  lines = keeps_lines a.instances;
   header = a.header.items;
   headings = a.sections;
-  stored = stored_of a.memberships a.instances;
+  stored = stored_of a.memberships (instances_of a.instances);
   waiting = references_of a.waiting.references.items;
   references = a.references;
   bytes = a.bytes;
   framing = a.framing;
 }
 
--- each instance has the number of a membership, each membership is of a data section, each text begins with the name of its
--- instance, 64 bits count the bytes of all lines, and no more references have come than may before those that wait are looked
+-- where lines are kept, the text of each instance begins with its name
+pub record AreNamedWhereKept (lines : Bool) (instances : List StoredInstance) : Type 0 where
+  pub where_kept : lines ≡ true → AreNamed instances
+
+-- each instance has the number of a membership, each membership is of a data section, each text that is kept begins with the name
+-- of its instance, 64 bits count the bytes of all lines, and no more references have come than may before those that wait are looked
 -- at again
 pub record IsWhole (a : Inside) : Type 0 where
-  pub memberships : HaveMemberships a.memberships a.instances
+  pub memberships : HaveMemberships a.memberships (instances_of a.instances)
   pub sections : AreOfSections (length a.sections) a.memberships
-  pub named : AreNamed a.instances
+  pub named : AreNamedWhereKept (keeps_lines a.instances) (instances_of a.instances)
   pub counted : a.bytes + a.framing < 2 ^ 64
   pub patient : a.references ≤ a.waiting.due

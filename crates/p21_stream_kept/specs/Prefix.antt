@@ -1,6 +1,6 @@
 -- The longest prefix of letters, digits and `_`.
 use Rattle.std.specs.Prelude.{ℕ, zero, suc, List, [], ◌∷◌}
-use Rattle.p21_schemas.specs.Express.{IsIdentifierByte}
+use Rattle.p21_spec_schema.specs.Express.{IsIdentifierByte}
 
 -- the longest prefix has this length
 abbrev pub IsLongestPrefix : List ℕ → ℕ → Type 0

@@ -3,11 +3,11 @@ use Rattle.std.specs.Prelude.{ℕ, List, [], ◌∷◌, map, Option, Some, None}
 use Rattle.std.specs.Prelude as std
 use Rattle.std.specs.BTreeSet.{BTreeSet}
 use Rattle.std.specs.declared.alloc.Global.{Global}
-use Rattle.p21_exchange.specs.DataSection.{Heading, section_names, unnamed, heading_of}
+use Rattle.p21_spec_exchange.specs.DataSection.{Heading, section_names, unnamed, heading_of}
 use Rattle.p21_grammar_tree.specs.View.{items_of, views}
 use Rattle.p21_grammar_tree.specs.declared.record.Part.{Part}
 use Rattle.p21_stream_kept.specs.declared.sections.Section.{Section}
-use Rattle.p21_express_types.specs.TextSet.{HasTexts}
+use Rattle.p21_express_graph.specs.TextSet.{HasTexts}
 
 -- how a section begins
 abbrev pub heading_in : Option Part → Heading

@@ -1,11 +1,11 @@
 -- The needs of instances, by what is stored: those that are served, those that wait, and the first that none serves.
 use Rattle.std.specs.Prelude.{◌≡◌, ◌⊎◌, ℕ, List, [], ◌∷◌, ◌++◌, map, Option, Some, None, Contains}
 use Rattle.std.specs.List.{AllByRecursion as Each}
-use Rattle.p21_claim_steps.specs.Keeping.{IsServedBy, IsServedByNone}
-use Rattle.p21_claim_steps.specs.Stored.{StoredEntry}
-use Rattle.p21_claim_steps.specs.Waiting.{Reference}
-use Rattle.p21_files.specs.Reference.{Need, Serves}
-use Rattle.p21_schemas.specs.Schema.{Schema}
+use Rattle.p21_spec_laws.specs.Keeping.{IsServedBy, IsServedByNone}
+use Rattle.p21_spec_laws.specs.Stored.{StoredEntry}
+use Rattle.p21_spec_laws.specs.Waiting.{Reference}
+use Rattle.p21_spec_file.specs.Reference.{Need, Serves}
+use Rattle.p21_spec_schema.specs.Schema.{Schema}
 use Rattle.p21_stream_statements.specs.declared.fault.Fault.{Fault}
 use Rattle.p21_stream_statements.specs.declared.fault.Fault.TheVariants.{Dangling, WrongTarget}
 

@@ -1,6 +1,6 @@
 -- The texts in header records and in the beginnings of data sections, where they have their shapes.
 use Rattle.std.specs.Prelude.{ℕ, List, Option, Some, None}
-use Rattle.p21_exchange.specs.Parameter.{Param, Params, text, list, no_params, param}
+use Rattle.p21_spec_exchange.specs.Parameter.{Param, Params, text, list, no_params, param}
 
 -- the parameter is a text
 abbrev pub text_of : Param → Option (List ℕ)

@@ -1,14 +1,14 @@
 -- What is known of the statements before one that is taken, and of those of a whole file.
-use Rattle.std.specs.Prelude.{◌≡◌, ◌<◌, ◌^◌, ℕ, List, [], ◌∷◌, ◌++◌, length}
+use Rattle.std.specs.Prelude.{◌≡◌, ◌<◌, ◌^◌, ℕ, true, List, [], ◌∷◌, ◌++◌, length}
 use Rattle.std.specs.List.{flat_map}
-use Rattle.p21_basics.specs.Limits.{Limits}
-use Rattle.p21_claim_steps.specs.Keeping.{Keeps, Kept}
-use Rattle.p21_exchange.specs.Grammar.{IsFile}
-use Rattle.p21_exchange.specs.Record.{Record}
-use Rattle.p21_exchange.specs.Statement.{Statement, instance, statement_tokens}
-use Rattle.p21_exchange.specs.Structure.{AreFirstStatements, Structure, statements}
-use Rattle.p21_files.specs.Reference.{Need}
-use Rattle.p21_schemas.specs.Schema.{Schema}
+use Rattle.p21_spec_basics.specs.Limits.{Limits}
+use Rattle.p21_spec_laws.specs.Keeping.{Keeps, Kept}
+use Rattle.p21_spec_exchange.specs.Grammar.{IsFile}
+use Rattle.p21_spec_exchange.specs.Record.{Record}
+use Rattle.p21_spec_exchange.specs.Statement.{Statement, instance, statement_tokens}
+use Rattle.p21_spec_exchange.specs.Structure.{AreFirstStatements, Structure, statements}
+use Rattle.p21_spec_file.specs.Reference.{Need}
+use Rattle.p21_spec_schema.specs.Schema.{Schema}
 use Rattle.p21_stream_kept.specs.Found.{HasFound}
 
 -- The statement stands in a tree behind those of which this is kept, and 64 bits count the tokens of all of them
@@ -25,7 +25,7 @@ pub record FollowsFound (s : Schema) (limits : Limits) (kept : Kept) (n : ℕ) (
   pub found : HasFound s n record_ entities needs text
   pub follows : Follows s limits kept (instance n record_)
 
--- this is kept of the statements of a whole file
+-- this is kept of the statements of a whole file, with its lines
 pub record IsKeptOfFile (kept : Kept) : Type 0 where
   pub schema : Schema
   pub limits : Limits
@@ -35,3 +35,4 @@ pub record IsKeptOfFile (kept : Kept) : Type 0 where
   pub text : List ℕ
   pub is_file : IsFile structure text
   pub statements_are : statements structure ≡ given
+  pub lines : kept.lines ≡ true

@@ -1,7 +1,7 @@
 //! The data sections of an accepted file.
 ghost use Rattle.std.specs.List.{AllZip};
 ghost use Rattle.std.specs.Prelude.{◌≡◌, [], IfOk};
-ghost use Rattle.p21_exchange.specs.DataSection.{named, unnamed};
+ghost use Rattle.p21_spec_exchange.specs.DataSection.{named, unnamed};
 ghost use Rattle.p21_stream_output.specs.NamedSections.{AreEmpty, HasHeading};
 ghost use Rattle.p21_stream_kept.specs.Sections.{heading_in, headings_of};
 

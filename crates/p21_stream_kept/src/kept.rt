@@ -1,13 +1,13 @@
-ghost use Rattle.std.specs.Prelude.{◌≡◌, ◌≢◌, ◌≤◌, ◌↔◌, Contains, IfErr, IsTrue, OnErr, OnOk, map, vec_capacity};
-ghost use Rattle.p21_basics.specs.Limits.{Limits as MeantLimits};
-ghost use Rattle.p21_claim_steps.specs.Keeping.{Keeps, nothing_kept};
-ghost use Rattle.p21_claim_steps.specs.Stored.{StoredEntry};
-ghost use Rattle.p21_exchange.specs.Statement.{Statement, data_start, header, instance, section};
+ghost use Rattle.std.specs.Prelude.{◌≡◌, ◌≢◌, ◌≤◌, ◌↔◌, ◌+◌, Contains, IfErr, IsTrue, OnErr, OnOk, length, map, vec_capacity};
+ghost use Rattle.p21_spec_basics.specs.Limits.{Limits as MeantLimits};
+ghost use Rattle.p21_spec_laws.specs.Keeping.{Keeps, nothing_counted, nothing_kept};
+ghost use Rattle.p21_spec_laws.specs.Stored.{StoredEntry};
+ghost use Rattle.p21_spec_exchange.specs.Statement.{Statement, data_start, header, instance, section};
 ghost use Rattle.p21_grammar.specs.Statements.{line_of};
 ghost use Rattle.p21_grammar_tree.specs.View.{items_of, part_view, record_view, views};
 ghost use Rattle.p21_mapping.specs.Checked.{needs_view};
 ghost use Rattle.p21_mapping_values.specs.TypedView.{ids_view, need_view};
-ghost use Rattle.p21_schemas.specs.Schema.{Schema as MeantSchema};
+ghost use Rattle.p21_spec_schema.specs.Schema.{Schema as MeantSchema};
 ghost use Rattle.p21_stream_output.specs.Ending.{IsFileOfKept};
 ghost use Rattle.p21_stream_statements.specs.Source.{IsOfBytes};
 ghost use Rattle.p21_stream_kept.specs.Inside.{references_of};
@@ -18,6 +18,7 @@ ghost use Rattle.p21_stream_kept.specs.Taking.{Follows, FollowsFound, IsKeptOfFi
 use crate::canonical_limits::fits_limits;
 use crate::end::named_sections_of;
 use crate::found::{FoundInstance, find_instance};
+use crate::kept_instances::KeptInstances;
 use crate::schema_name::names_schema;
 use crate::sections::Sections;
 use crate::served::{first_unserved, learn_waiting, refusal_of};
@@ -33,7 +34,7 @@ use p21_grammar_tree::{Part, Record};
 use p21_mapping_values::Need;
 use p21_stream_output::{Accepted, accepted_file};
 use p21_stream_statements::Fault;
-use p21_stream_store::{Instances, Memberships};
+use p21_stream_store::Memberships;
 use p21_values::{Canonical, Limits, Name, NoMemory, Text};
 use std::alloc::Global;
 use std::marker::Model;
@@ -46,7 +47,8 @@ pub struct Kept {
     pub(crate) header: Vec<u8>,
     pub(crate) sections: Sections,
     pub(crate) memberships: Memberships,
-    pub(crate) instances: Instances,
+    // With their lines, where these are kept.
+    pub(crate) instances: KeptInstances,
     pub(crate) waiting: Waiting,
     pub(crate) servers: Servers,
     // All references, those that don't wait among them.
@@ -83,7 +85,7 @@ pub struct Reference {
 }
 
 impl Model for Kept {
-    ghost use Rattle.p21_claim_steps.specs.Keeping.{Kept as Meant};
+    ghost use Rattle.p21_spec_laws.specs.Keeping.{Kept as Meant};
     ghost use Rattle.p21_stream_kept.specs.Inside.{IsWhole, kept_of};
 
     ghost Value = { Meant };
@@ -98,12 +100,26 @@ impl Kept {
     pub fn new(alloc: Global) -> Kept
         ensures { result ≡ nothing_kept }
     {
+        Kept::nothing(alloc, true)
+    }
+
+    /// The same where the lines of instances won't be kept, but counted. It takes no memory.
+    pub fn counting(alloc: Global) -> Kept
+        ensures { result ≡ nothing_counted }
+    {
+        Kept::nothing(alloc, false)
+    }
+
+    /// What is kept where nothing was taken.
+    fn nothing(alloc: Global, lines: bool) -> Kept
+        ensures { result ≡ record nothing_kept { lines = lines } }
+    {
         Kept {
             alloc,
             header: Vec::new(alloc),
             sections: Sections::new(alloc),
             memberships: Memberships::new(alloc),
-            instances: Instances::new(alloc),
+            instances: KeptInstances::new(alloc, lines),
             waiting: Waiting::new(alloc),
             servers: Servers::new(alloc),
             references: 0,
@@ -120,6 +136,7 @@ impl Kept {
     pub fn take_line(&mut self, limits: Limits, line: Line) -> Result<(), Fault>
         ensures gives { TakesLine limits self.old (line_of line) result self.new }
         ensures bound { StepKeepsBound limits self.old self.new }
+        ensures lines { self.new.lines ≡ self.old.lines }
         ensures kind { IfErr result (λ fault. IsOfBytes fault) }
     {
         let size = line_size(line);
@@ -139,9 +156,11 @@ impl Kept {
     ///
     /// `SchemaName` where its text doesn't name the schema, `SectionTwice` where a section before it has its name,
     /// `CanonicalTooLong`, `NoMemory`.
+    #[tactic(auto, using(crate::proofs::ByMembership::sections_wider))]
     pub fn take_heading(&mut self, schema: &Schema, limits: Limits, part: Part) -> Result<(), Fault>
         ensures gives { StepGives schema.now limits self.old (section (data_start (heading_of (views (items_of part.params))))) result self.new }
         ensures bound { StepKeepsBound limits self.old self.new }
+        ensures lines { self.new.lines ≡ self.old.lines }
         ensures kind { IfErr result (λ fault. IsOfBytes fault) }
     {
         let Some((name, text)) = heading(&part) else {
@@ -175,6 +194,7 @@ impl Kept {
     pub fn take_header(&mut self, schema: &Schema, limits: Limits, part: &Part) -> Result<(), Fault>
         ensures gives { StepGives schema.now limits self.old (header (part_view part.now)) result self.new }
         ensures bound { StepKeepsBound limits self.old self.new }
+        ensures lines { self.new.lines ≡ self.old.lines }
         ensures kind { IfErr result (λ fault. IsOfBytes fault) }
     {
         if !has_schema_name(part, schema.name()) {
@@ -208,6 +228,7 @@ impl Kept {
         requires { Follows schema.now limits self.old (instance name (record_view of)) }
         ensures gives { StepGives schema.now limits self.old (instance name (record_view of)) result self.new }
         ensures bound { StepKeepsBound limits self.old self.new }
+        ensures lines { self.new.lines ≡ self.old.lines }
         ensures kind { IfErr result (λ fault. IsOfBytes fault) }
         ensures unchanged { IfErr result (λ fault. fault ≢ Fault.NoMemory → self.new ≡ self.old) }
         ensures short { vec_capacity workspace.new.line ≤ 65536 }
@@ -229,6 +250,7 @@ impl Kept {
         requires { Follows schema.now limits self.old (instance name (record_view of)) }
         ensures gives { StepGives schema.now limits self.old (instance name (record_view of)) result self.new }
         ensures bound { StepKeepsBound limits self.old self.new }
+        ensures lines { self.new.lines ≡ self.old.lines }
         ensures kind { IfErr result (λ fault. IsOfBytes fault) }
         ensures unchanged { IfErr result (λ fault. fault ≢ Fault.NoMemory → self.new ≡ self.old) }
     {
@@ -262,6 +284,7 @@ impl Kept {
         requires { FollowsFound schema.now limits self.old found.now.name (ids_view found.now.entities.now) (needs_view found.now.needs.now) found.now.line.now }
         ensures gives { FoundGives schema.now limits self.old found.now.name (ids_view found.now.entities.now) (needs_view found.now.needs.now) found.now.line.now result self.new }
         ensures bound { StepKeepsBound limits self.old self.new }
+        ensures lines { self.new.lines ≡ self.old.lines }
         ensures kind { IfErr result (λ fault. IsOfBytes fault) }
         ensures unchanged { IfErr result (λ fault. fault ≢ Fault.NoMemory → self.new ≡ self.old) }
     {
@@ -293,6 +316,7 @@ impl Kept {
         requires found { FollowsFound schema.now limits self.old found.now.name (ids_view found.now.entities.now) (needs_view found.now.needs.now) found.now.line.now }
         ensures gives { FoundGives schema.now limits self.old found.now.name (ids_view found.now.entities.now) (needs_view found.now.needs.now) found.now.line.now result self.new }
         ensures bound { StepKeepsBound limits self.old self.new }
+        ensures lines { self.new.lines ≡ self.old.lines }
         ensures kind { IfErr result (λ fault. IsOfBytes fault) }
         ensures unchanged { IfErr result (λ fault. fault ≢ Fault.NoMemory → self.new ≡ self.old) }
     {
@@ -343,6 +367,20 @@ impl Kept {
         ensures { result ≡ self.now.bytes }
     {
         self.bytes
+    }
+
+    /// How many instances there are.
+    pub fn count(&self) -> u64
+        ensures { result ≡ length self.now.stored }
+    {
+        self.instances.len() as u64
+    }
+
+    /// The bytes of all canonical lines, with their line feeds.
+    pub fn len(&self) -> u64
+        ensures { result ≡ self.now.bytes + self.now.framing }
+    {
+        self.bytes + self.framing
     }
 
     /// How many references the instances have.
@@ -398,7 +436,7 @@ impl Kept {
         refusal_of(schema, &self.memberships, &self.instances, need)
     }
 
-    /// The accepted file of what is kept, where all references are served. The statements are those of a whole file, and the
+    /// The accepted file of what is kept, where lines are, and where all references are served. The statements are those of a whole file, and the
     /// number is that of the one that is open behind them.
     ///
     /// # Errors
@@ -424,6 +462,7 @@ impl Kept {
         // The references that waited have no use any more, and their room is given back before more is asked for.
         drop(waiting);
         drop(servers);
+        let instances = instances.into_lines();
         let parts = named_sections_of(alloc, sections.items())?;
         accepted_file(
             alloc,
@@ -437,10 +476,10 @@ impl Kept {
     }
 }
 
-ghost use Rattle.std.specs.Prelude.{◌++◌, ℕ, List, IfOk, false, length};
-ghost use Rattle.p21_exchange.specs.CanonicalText.{line, statement_text};
-ghost use Rattle.p21_exchange.specs.Header.{IsFileSchema};
-ghost use Rattle.p21_schemas.specs.SchemaName.{NamesSchema};
+ghost use Rattle.std.specs.Prelude.{◌++◌, ℕ, List, IfOk, false};
+ghost use Rattle.p21_spec_exchange.specs.CanonicalText.{line, statement_text};
+ghost use Rattle.p21_spec_exchange.specs.Header.{IsFileSchema};
+ghost use Rattle.p21_spec_schema.specs.SchemaName.{NamesSchema};
 
 /// Whether the text of a `FILE_SCHEMA` names the schema; true of any other record.
 fn has_schema_name(part: &Part, name: &[u8]) -> bool
@@ -465,7 +504,7 @@ fn append_record(part: &Part, out: &mut Vec<u8>) -> Result<u64, NoMemory>
     Ok(size)
 }
 
-ghost use Rattle.p21_exchange.specs.DataSection.{named, heading_of};
+ghost use Rattle.p21_spec_exchange.specs.DataSection.{named, heading_of};
 
 /// The canonical line that begins a data section with a name, its line feed apart.
 pub(crate) fn heading_line(alloc: Global, name: &Text, text: &Text) -> Result<Vec<u8>, NoMemory>

@@ -5,6 +5,7 @@ mod canonical_limits;
 mod end;
 mod found;
 mod kept;
+mod kept_instances;
 mod schema_name;
 mod sections;
 mod served;

@@ -1,6 +1,6 @@
 ghost use Rattle.std.specs.Prelude.{◌≡◌, ◌↔◌, ◌<◌, ◌≤◌, ◌⊎◌, ℕ, IsTrue, length, take, map};
-ghost use Rattle.p21_schemas.specs.Express.{IsIdentifierByte, upper};
-ghost use Rattle.p21_schemas.specs.SchemaName.{NamesSchema};
+ghost use Rattle.p21_spec_schema.specs.Express.{IsIdentifierByte, upper};
+ghost use Rattle.p21_spec_schema.specs.SchemaName.{NamesSchema};
 ghost use Rattle.p21_stream_kept.specs.Prefix.{IsLongestPrefix};
 
 /// Whether a text names a schema: the longest prefix of letters, digits and `_` is its name, without case.

@@ -1,7 +1,7 @@
 //! The data sections of a file, with their names.
 ghost use Rattle.std.specs.Prelude.{◌≡◌, ◌<◌, ◌≤◌, ◌+◌, ◌++◌, ◌∷◌, ◌↔◌, [], length, Contains, IfOk, IsTrue, OnOk, option_to_list};
-ghost use Rattle.p21_claim_steps.specs.Keeping.{headings_behind};
-ghost use Rattle.p21_exchange.specs.DataSection.{heading_names, section_names, heading_of};
+ghost use Rattle.p21_spec_laws.specs.Keeping.{headings_behind};
+ghost use Rattle.p21_spec_exchange.specs.DataSection.{heading_names, section_names, heading_of};
 ghost use Rattle.p21_grammar.specs.Statements.{line_of};
 ghost use Rattle.p21_grammar_tree.specs.View.{items_of, views};
 ghost use Rattle.p21_stream_kept.specs.Sections.{headings_of, names_in};
@@ -29,7 +29,7 @@ pub(crate) struct Sections {
 
 impl Model for Sections {
     ghost use Rattle.std.specs.Prelude.{List};
-    ghost use Rattle.p21_exchange.specs.DataSection.{Heading};
+    ghost use Rattle.p21_spec_exchange.specs.DataSection.{Heading};
     ghost use Rattle.p21_stream_kept.specs.Sections.{HasNames, headings_of};
 
     ghost Value = { List Heading };

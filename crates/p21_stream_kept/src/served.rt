@@ -1,29 +1,31 @@
 //! The needs of instances, and the instances that serve them.
 ghost use Rattle.std.specs.Prelude.{◌≡◌, [], ◌∷◌, IsTrue, OnOk, false, true};
-ghost use Rattle.p21_claim_steps.specs.Keeping.{IsServedBy, IsServedByNone};
+ghost use Rattle.p21_spec_laws.specs.Keeping.{IsServedBy, IsServedByNone};
 ghost use Rattle.p21_mapping.specs.Checked.{needs_view};
 ghost use Rattle.p21_mapping_values.specs.TypedView.{need_view};
 ghost use Rattle.p21_stream_kept.specs.Inside.{HaveMemberships, references_of, stored_of};
+ghost use Rattle.p21_stream_kept.specs.KeptInstances.{instances_of};
 ghost use Rattle.p21_stream_kept.specs.Served.{AddsWaiting, AnswersNeed, AnswersUnserved, DropsServed};
 
 use crate::kept::Reference;
+use crate::kept_instances::KeptInstances;
 use crate::servers::Servers;
 use p21_express_tables::Schema;
 use p21_mapping::serves;
 use p21_mapping_values::Need;
 use p21_stream_statements::Fault;
-use p21_stream_store::{Instances, Memberships};
+use p21_stream_store::Memberships;
 use p21_values::{Name, NoMemory};
 
 /// Why no instance serves a need: none has its name, or the one that has it isn't of the type. It takes no memory.
 pub(crate) fn refusal_of(
     schema: &Schema,
     memberships: &Memberships,
-    instances: &Instances,
+    instances: &KeptInstances,
     need: &Need,
 ) -> Option<Fault>
-    requires { HaveMemberships memberships.now instances.now }
-    ensures { AnswersNeed schema.now (stored_of memberships.now instances.now) (need_view need.now) result }
+    requires { HaveMemberships memberships.now (instances_of instances.now) }
+    ensures { AnswersNeed schema.now (stored_of memberships.now (instances_of instances.now)) (need_view need.now) result }
 {
     let Some(membership) = instances.membership_of(need.target.0) else {
         return Some(Fault::Dangling);
@@ -41,12 +43,12 @@ pub(crate) fn refusal_of(
 fn refusal_with(
     schema: &Schema,
     memberships: &Memberships,
-    instances: &Instances,
+    instances: &KeptInstances,
     servers: &Servers,
     need: &Need,
 ) -> Option<Fault>
-    requires { HaveMemberships memberships.now instances.now }
-    ensures { AnswersNeed schema.now (stored_of memberships.now instances.now) (need_view need.now) result }
+    requires { HaveMemberships memberships.now (instances_of instances.now) }
+    ensures { AnswersNeed schema.now (stored_of memberships.now (instances_of instances.now)) (need_view need.now) result }
 {
     if servers.has_large_sets() && is_served(schema, memberships, instances, servers, need) {
         return None;
@@ -59,12 +61,12 @@ fn refusal_with(
 fn is_served(
     schema: &Schema,
     memberships: &Memberships,
-    instances: &Instances,
+    instances: &KeptInstances,
     servers: &Servers,
     need: &Need,
 ) -> bool
-    requires { HaveMemberships memberships.now instances.now }
-    ensures { IsTrue result → IsServedBy schema.now (stored_of memberships.now instances.now) (need_view need.now) }
+    requires { HaveMemberships memberships.now (instances_of instances.now) }
+    ensures { IsTrue result → IsServedBy schema.now (stored_of memberships.now (instances_of instances.now)) (need_view need.now) }
 {
     let Some(membership) = instances.membership_of(need.target.0) else {
         return false;
@@ -78,11 +80,11 @@ fn is_served(
 fn learn(
     schema: &Schema,
     memberships: &Memberships,
-    instances: &Instances,
+    instances: &KeptInstances,
     servers: &mut Servers,
     need: &Need,
 ) -> Result<(), NoMemory>
-    requires { HaveMemberships memberships.now instances.now }
+    requires { HaveMemberships memberships.now (instances_of instances.now) }
 {
     let Some(membership) = instances.membership_of(need.target.0) else {
         return Ok(());
@@ -95,11 +97,11 @@ fn learn(
 pub(crate) fn learn_waiting(
     schema: &Schema,
     memberships: &Memberships,
-    instances: &Instances,
+    instances: &KeptInstances,
     servers: &mut Servers,
     waiting: &[Reference],
 ) -> Result<(), NoMemory>
-    requires { HaveMemberships memberships.now instances.now }
+    requires { HaveMemberships memberships.now (instances_of instances.now) }
 {
     if !servers.has_large_sets() {
         return Ok(());
@@ -114,14 +116,14 @@ pub(crate) fn learn_waiting(
 pub(crate) fn add_waiting(
     schema: &Schema,
     memberships: &Memberships,
-    instances: &Instances,
+    instances: &KeptInstances,
     servers: &mut Servers,
     holder: Name,
     needs: &[Need],
     waiting: &mut Vec<Reference>,
 ) -> Result<(), NoMemory>
-    requires { HaveMemberships memberships.now instances.now }
-    ensures { OnOk result (AddsWaiting schema.now (stored_of memberships.now instances.now) holder (needs_view needs.now) (references_of waiting.old.items) (references_of waiting.new.items)) }
+    requires { HaveMemberships memberships.now (instances_of instances.now) }
+    ensures { OnOk result (AddsWaiting schema.now (stored_of memberships.now (instances_of instances.now)) holder (needs_view needs.now) (references_of waiting.old.items) (references_of waiting.new.items)) }
 {
     for need in needs {
         if servers.has_large_sets() {
@@ -144,14 +146,14 @@ pub(crate) fn add_waiting(
 fn add_waiting_need(
     schema: &Schema,
     memberships: &Memberships,
-    instances: &Instances,
+    instances: &KeptInstances,
     servers: &Servers,
     holder: Name,
     need: &Need,
     waiting: &mut Vec<Reference>,
 ) -> Result<(), NoMemory>
-    requires { HaveMemberships memberships.now instances.now }
-    ensures { OnOk result (AddsWaiting schema.now (stored_of memberships.now instances.now) holder (need_view need.now ∷ []) (references_of waiting.old.items) (references_of waiting.new.items)) }
+    requires { HaveMemberships memberships.now (instances_of instances.now) }
+    ensures { OnOk result (AddsWaiting schema.now (stored_of memberships.now (instances_of instances.now)) holder (need_view need.now ∷ []) (references_of waiting.old.items) (references_of waiting.new.items)) }
 {
     if refusal_with(schema, memberships, instances, servers, need).is_none() {
         return Ok(());
@@ -168,19 +170,19 @@ fn add_waiting_need(
 pub(crate) fn drop_served(
     schema: &Schema,
     memberships: &Memberships,
-    instances: &Instances,
+    instances: &KeptInstances,
     servers: &Servers,
     waiting: &mut Vec<Reference>,
 )
-    requires { HaveMemberships memberships.now instances.now }
-    ensures { DropsServed schema.now (stored_of memberships.now instances.now) (references_of waiting.old.items) (references_of waiting.new.items) }
+    requires { HaveMemberships memberships.now (instances_of instances.now) }
+    ensures { DropsServed schema.now (stored_of memberships.now (instances_of instances.now)) (references_of waiting.old.items) (references_of waiting.new.items) }
 {
     waiting.retain(|reference| is_unserved(schema, memberships, instances, servers, reference));
     give_back(waiting);
 }
 
 /// So many references may have room in any file.
-const ROOM: usize = 2048;
+const ROOM_OF_REFERENCES: usize = 2048;
 
 /// Gives back room where there is much, and less than half of it is used. Half as much again as is used stays, so that the next
 /// references that wait don't ask for it anew.
@@ -188,7 +190,7 @@ fn give_back(waiting: &mut Vec<Reference>)
     ensures { waiting.new.items ≡ waiting.old.items }
 {
     let used = waiting.len();
-    if waiting.capacity() > ROOM && waiting.capacity() / 2 > used {
+    if waiting.capacity() > ROOM_OF_REFERENCES && waiting.capacity() / 2 > used {
         waiting.shrink_to(used + used / 2);
     }
 }
@@ -197,13 +199,13 @@ fn give_back(waiting: &mut Vec<Reference>)
 fn is_unserved(
     schema: &Schema,
     memberships: &Memberships,
-    instances: &Instances,
+    instances: &KeptInstances,
     servers: &Servers,
     reference: &Reference,
 ) -> bool
-    requires { HaveMemberships memberships.now instances.now }
-    ensures served { result ≡ false → IsServedBy schema.now (stored_of memberships.now instances.now) (need_view reference.now.need) }
-    ensures unserved { result ≡ true → IsServedByNone schema.now (stored_of memberships.now instances.now) (need_view reference.now.need) }
+    requires { HaveMemberships memberships.now (instances_of instances.now) }
+    ensures served { result ≡ false → IsServedBy schema.now (stored_of memberships.now (instances_of instances.now)) (need_view reference.now.need) }
+    ensures unserved { result ≡ true → IsServedByNone schema.now (stored_of memberships.now (instances_of instances.now)) (need_view reference.now.need) }
 {
     refusal_with(schema, memberships, instances, servers, &reference.need).is_some()
 }
@@ -212,12 +214,12 @@ fn is_unserved(
 pub(crate) fn first_unserved(
     schema: &Schema,
     memberships: &Memberships,
-    instances: &Instances,
+    instances: &KeptInstances,
     servers: &Servers,
     waiting: &[Reference],
 ) -> Option<(Name, Fault)>
-    requires { HaveMemberships memberships.now instances.now }
-    ensures { AnswersUnserved schema.now (stored_of memberships.now instances.now) (references_of waiting.now) result }
+    requires { HaveMemberships memberships.now (instances_of instances.now) }
+    ensures { AnswersUnserved schema.now (stored_of memberships.now (instances_of instances.now)) (references_of waiting.now) result }
 {
     for reference in waiting {
         let need = &reference.need;

@@ -1,11 +1,11 @@
 //! Which entity of a large set serves a need, as it was found before.
 ghost use Rattle.std.specs.Prelude.{IsTrue};
-ghost use Rattle.p21_express_types.specs.Meaning.{member};
-ghost use Rattle.p21_files.specs.Reference.{Serves};
+ghost use Rattle.p21_express_graph.specs.Meaning.{member};
+ghost use Rattle.p21_spec_file.specs.Reference.{Serves};
 ghost use Rattle.p21_mapping_values.specs.TypedView.{ids_view};
 
+use p21_express_graph::{EntityId, Member};
 use p21_express_tables::Schema;
-use p21_express_types::{EntityId, Member};
 use p21_mapping::serves;
 use p21_mapping_values::Need;
 use p21_values::NoMemory;
@@ -14,7 +14,7 @@ use std::collections::BTreeMap;
 use std::slice::from_ref;
 
 /// A set of so many entities is looked through for each reference.
-const FEW: usize = 16;
+const MOST_LOOKED_THROUGH: usize = 16;
 
 /// By the number of a set and by that of an entity or a select that is wanted, where the entity stands in the set that serves;
 /// none where no entity serves.
@@ -42,7 +42,7 @@ impl Servers {
     /// Notes that an instance has so many entities.
     #[inline(always)]
     pub(crate) fn note_size(&mut self, entities: usize) {
-        if entities > FEW {
+        if entities > MOST_LOOKED_THROUGH {
             self.has_large_sets = true;
         }
     }
@@ -65,7 +65,7 @@ impl Servers {
         set: usize,
         entities: &[EntityId],
     ) -> Result<(), NoMemory> {
-        if entities.len() <= FEW || self.remembered(need, set).is_some() {
+        if entities.len() <= MOST_LOOKED_THROUGH || self.remembered(need, set).is_some() {
             return Ok(());
         }
         let place = first_server(schema, need, entities);
@@ -85,7 +85,7 @@ impl Servers {
     ) -> bool
         ensures { IsTrue result → Serves schema.now (member need.now.wanted) (ids_view entities.now) }
     {
-        if entities.len() <= FEW {
+        if entities.len() <= MOST_LOOKED_THROUGH {
             return serves(schema, need, entities);
         }
         match self.remembered(need, set) {

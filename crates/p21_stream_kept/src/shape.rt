@@ -1,9 +1,9 @@
 ghost use Rattle.std.specs.Prelude.{◌≡◌, ◌↔◌, IsTrue, List, ℕ, length, IfSome, IsNone, IsSome, None};
 ghost use Rattle.std.specs.Option.{option_copied};
-ghost use Rattle.p21_exchange.specs.CanonicalText.{statement_text};
-ghost use Rattle.p21_exchange.specs.DataSection.{named, unnamed, heading_of};
-ghost use Rattle.p21_exchange.specs.Header.{IsFileSchema};
-ghost use Rattle.p21_exchange.specs.Statement.{section};
+ghost use Rattle.p21_spec_exchange.specs.CanonicalText.{statement_text};
+ghost use Rattle.p21_spec_exchange.specs.DataSection.{named, unnamed, heading_of};
+ghost use Rattle.p21_spec_exchange.specs.Header.{IsFileSchema};
+ghost use Rattle.p21_spec_exchange.specs.Statement.{section};
 ghost use Rattle.p21_grammar.specs.Statements.{line_of};
 ghost use Rattle.p21_grammar_tree.specs.View.{items_of, part_view, view, views};
 ghost use Rattle.p21_stream_kept.specs.Shape.{listed_text, only_listed_text, only_text, text_of};

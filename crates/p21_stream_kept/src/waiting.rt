@@ -2,14 +2,16 @@
 ghost use Rattle.std.specs.Prelude.{◌≡◌, ◌<◌, ◌≤◌, ◌+◌, ◌-◌, ◌^◌, [], length, max, min, OnOk};
 ghost use Rattle.p21_mapping.specs.Checked.{needs_view};
 ghost use Rattle.p21_stream_kept.specs.Inside.{HaveMemberships, references_of, stored_of};
+ghost use Rattle.p21_stream_kept.specs.KeptInstances.{instances_of};
 ghost use Rattle.p21_stream_kept.specs.Served.{AddsWaiting, DropsServed};
 
 use crate::kept::Reference;
+use crate::kept_instances::KeptInstances;
 use crate::served::{add_waiting, drop_served, learn_waiting};
 use crate::servers::Servers;
 use p21_express_tables::Schema;
 use p21_mapping_values::Need;
-use p21_stream_store::{Instances, Memberships};
+use p21_stream_store::Memberships;
 use p21_values::{Name, NoMemory};
 use std::alloc::Global;
 
@@ -48,13 +50,13 @@ impl Waiting {
         &mut self,
         schema: &Schema,
         memberships: &Memberships,
-        instances: &Instances,
+        instances: &KeptInstances,
         servers: &mut Servers,
         holder: Name,
         needs: &[Need],
     ) -> Result<(), NoMemory>
-        requires { HaveMemberships memberships.now instances.now }
-        ensures ok { OnOk result (AddsWaiting schema.now (stored_of memberships.now instances.now) holder (needs_view needs.now) (references_of self.old.references.items) (references_of self.new.references.items)) }
+        requires { HaveMemberships memberships.now (instances_of instances.now) }
+        ensures ok { OnOk result (AddsWaiting schema.now (stored_of memberships.now (instances_of instances.now)) holder (needs_view needs.now) (references_of self.old.references.items) (references_of self.new.references.items)) }
         ensures due { self.new.due ≡ self.old.due }
     {
         add_waiting(
@@ -79,13 +81,13 @@ impl Waiting {
         &mut self,
         schema: &Schema,
         memberships: &Memberships,
-        instances: &Instances,
+        instances: &KeptInstances,
         servers: &mut Servers,
         come: u64,
     ) -> Result<(), NoMemory>
-        requires { HaveMemberships memberships.now instances.now }
+        requires { HaveMemberships memberships.now (instances_of instances.now) }
         ensures early { come ≤ self.old.due → self.new.references.items ≡ self.old.references.items }
-        ensures left { self.old.due < come → DropsServed schema.now (stored_of memberships.now instances.now) (references_of self.old.references.items) (references_of self.new.references.items) }
+        ensures left { self.old.due < come → DropsServed schema.now (stored_of memberships.now (instances_of instances.now)) (references_of self.old.references.items) (references_of self.new.references.items) }
         ensures next { self.old.due < come → self.new.due ≡ min (come + max 1024 (length self.new.references.items)) (2 ^ 64 - 1) }
         ensures ahead { come ≤ self.new.due }
     {

@@ -2,7 +2,7 @@
 use Rattle.std.proofs.Common.{◌≡◌, ℕ, List, [], ◌∷◌, ◌++◌, codes, sym, ap, subst, ◌∙◌, inl, inr}
 use Rattle.std.proofs.lemmas.List.{append_assoc}
 use Rattle.std.specs.Prelude.{Contains}
-use Rattle.p21_basics.proofs.Members.{Contains-cases, Contains-none}
+use Rattle.p21_spec_basics.proofs.Members.{Contains-cases, Contains-none}
 use Rattle.p21_stream_output.specs.Output.{Output, IsWholeLine, WrittenSection, header_text, line_of, lines_of, output_text, section_text, sections_text}
 
 -- ---- with more in front of it, or behind it

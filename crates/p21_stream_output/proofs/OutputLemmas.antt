@@ -2,10 +2,10 @@
 use Rattle.std.proofs.Common.{◌≡◌, ℕ, List, [], ◌∷◌, ◌++◌, codes, map, refl, ap, ◌∙◌}
 use Rattle.std.proofs.lemmas.List.{append_assoc}
 use Rattle.std.specs.List.{AllZip, flat_map}
-use Rattle.p21_claim.specs.CompleteFile.{Block, Line, block_bytes, line_bytes}
-use Rattle.p21_claim_steps.specs.Keeping.{text_with_header}
-use Rattle.p21_exchange.specs.CanonicalText.{statement_text}
-use Rattle.p21_exchange.specs.Statement.{data_start, section}
+use Rattle.p21_spec_laws.specs.CompleteFile.{Block, Line, block_bytes, line_bytes}
+use Rattle.p21_spec_laws.specs.Keeping.{text_with_header}
+use Rattle.p21_spec_exchange.specs.CanonicalText.{statement_text}
+use Rattle.p21_spec_exchange.specs.Statement.{data_start, section}
 use Rattle.p21_stream_output.specs.Output.{WrittenSection, line_of, lines_of, section_text, sections_text, written_text}
 use Rattle.p21_stream_output.specs.Writing.{IsWrittenBlock}
 

@@ -5,7 +5,7 @@ use Rattle.std.specs.Prelude.{filter}
 use Rattle.std.proofs.lemmas.List.{append_assoc, append-nil, take_more}
 use Rattle.std.proofs.lemmas.Option.{get_or_from_slice_get, slice_get_within}
 use Rattle.std.specs.Prelude.{slice_get, Some}
-use Rattle.p21_basics.proofs.Members.{Each-at}
+use Rattle.p21_spec_basics.proofs.Members.{Each-at}
 use Rattle.p21_stream_output.specs.Filing.{AreOfSections, filed_rows, heads_of, section_positions, section_at, section_of_membership, with_position}
 use Rattle.p21_stream_output.specs.NamedSections.{AreEmpty}
 use Rattle.p21_stream_output.specs.declared.named_sections.NamedSection.{NamedSection}

@@ -8,11 +8,11 @@ use Rattle.std.specs.List.{IsDistinct}
 use Rattle.std.specs.List.Sorted.{IsNonDecreasingBy, IsPermutation, IsStrictlySortedBy}
 use Rattle.std.specs.Ordering.{nat_cmp}
 use Rattle.std.specs.Prelude.{Contains, filter}
-use Rattle.p21_basics.proofs.Comparing.{nat_eq-turned}
-use Rattle.p21_claim.specs.CompleteFile.{Line}
-use Rattle.p21_claim_steps.proofs.Output.{lines-by_section}
-use Rattle.p21_claim_steps.specs.OutputLaws.{lines_of, stored_at}
-use Rattle.p21_claim_steps.specs.Stored.{AreLinesOf, StoredEntry}
+use Rattle.p21_spec_basics.proofs.Comparing.{nat_eq-turned}
+use Rattle.p21_spec_laws.specs.CompleteFile.{Line}
+use Rattle.p21_spec_laws.proofs.Output.{lines-by_section}
+use Rattle.p21_spec_laws.specs.OutputLaws.{lines_of, stored_at}
+use Rattle.p21_spec_laws.specs.Stored.{AreLinesOf, StoredEntry}
 
 mapped-rises_on : {X Y : Type 0} (f : X → Y) (n : Y → ℕ) (xs : List X) → IsNonDecreasingBy (λ (x : X). n (f x)) xs → IsNonDecreasingBy n (map f xs)
 mapped-rises_on f n [] rises i j d before below = absurd (omega (arith, below))

@@ -5,9 +5,9 @@ use Rattle.std.proofs.lemmas.List.Sorted.{IsPermutation-map}
 use Rattle.std.specs.List.{range_with_len}
 use Rattle.std.specs.List.Sorted.{IsNonDecreasingBy, IsPermutation}
 use Rattle.std.specs.Prelude.{filter}
-use Rattle.p21_claim.specs.CompleteFile.{Line}
-use Rattle.p21_claim_steps.specs.OutputLaws.{lines_of}
-use Rattle.p21_claim_steps.specs.Stored.{StoredEntry}
+use Rattle.p21_spec_laws.specs.CompleteFile.{Line}
+use Rattle.p21_spec_laws.specs.OutputLaws.{lines_of}
+use Rattle.p21_spec_laws.specs.Stored.{StoredEntry}
 use Rattle.p21_stream_output.specs.Stored.{text_at, texts_at}
 use Rattle.p21_stream_output.specs.Ending.{line_of, stored_of, stored_with}
 use Rattle.p21_stream_output.specs.Filing.{section_at, section_of_membership}

@@ -6,15 +6,15 @@ use Rattle.std.specs.Char.{IsScalar}
 use Rattle.std.specs.List.{AllZip, range_with_len, AllByRecursion as Each}
 use Rattle.std.specs.List.Sorted.{IsPermutation}
 use Rattle.std.specs.Prelude.{Contains, filter}
-use Rattle.p21_basics.proofs.Members.{Contains-at, Contains-unfiltered, Each-member, Each-of_members}
-use Rattle.p21_claim.specs.CompleteFile.{AreLinesRising, Block, Line, block_headings}
-use Rattle.p21_claim_steps.specs.Keeping.{IsBlockAt, Kept, text_with_header}
-use Rattle.p21_claim_steps.specs.OutputLaws.{lines_of}
-use Rattle.p21_claim_steps.specs.Stored.{AreLinesOf, StoredEntry}
-use Rattle.p21_exchange.specs.CanonicalText.{statement_text}
-use Rattle.p21_exchange.specs.DataSection.{Heading, heading_names, unnamed}
-use Rattle.p21_exchange.specs.Statement.{data_start, section}
-use Rattle.p21_files.specs.Canonical.{AreSectionsRising}
+use Rattle.p21_spec_basics.proofs.Members.{Contains-at, Contains-unfiltered, Each-member, Each-of_members}
+use Rattle.p21_spec_laws.specs.CompleteFile.{AreLinesRising, Block, Line, block_headings}
+use Rattle.p21_spec_laws.specs.Keeping.{IsBlockAt, Kept, text_with_header}
+use Rattle.p21_spec_laws.specs.OutputLaws.{lines_of}
+use Rattle.p21_spec_laws.specs.Stored.{AreLinesOf, StoredEntry}
+use Rattle.p21_spec_exchange.specs.CanonicalText.{statement_text}
+use Rattle.p21_spec_exchange.specs.DataSection.{Heading, heading_names, unnamed}
+use Rattle.p21_spec_exchange.specs.Statement.{data_start, section}
+use Rattle.p21_spec_file.specs.Canonical.{AreSectionsRising}
 use Rattle.p21_stream_output.specs.Stored.{HavePositions, ArePositions, output_of, texts_at, written_section}
 use Rattle.p21_stream_output.specs.declared.accepted.Section.{Section}
 use Rattle.p21_stream_output.proofs.Blocks.{blocks-sorted}

@@ -8,7 +8,7 @@ use Rattle.std.proofs.lemmas.Option.{slice_get_cases, slice_get_within}
 use Rattle.std.specs.List.{range_with_len}
 use Rattle.std.specs.List.Sorted.{IsPermutation}
 use Rattle.std.specs.Prelude.{Contains}
-use Rattle.p21_basics.proofs.Members.{Contains-at, Contains-filter, Contains-found, Contains-mapped, Contains-unmapped, Each-at, Each-of_members}
+use Rattle.p21_spec_basics.proofs.Members.{Contains-at, Contains-filter, Contains-found, Contains-mapped, Contains-unmapped, Each-at, Each-of_members}
 use Rattle.p21_stream_output.proofs.Lines.{alone-in_file}
 use Rattle.p21_stream_output.specs.Output.{HasLines, IsLineOf, IsNamed, output_text}
 use Rattle.p21_stream_output.specs.Stored.{output_of, text_at, texts_at, written_section}

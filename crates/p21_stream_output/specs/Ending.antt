@@ -2,11 +2,11 @@
 use Rattle.std.specs.List.{AllZip, IsDistinct, AllByRecursion as Each}
 use Rattle.std.specs.Prelude.{◌≡◌, ℕ, List, [], length, map, nat_eq, slice_get, Option, Some, None}
 use Rattle.std.specs.Str.{bytes_eq}
-use Rattle.p21_claim.specs.CompleteFile.{Block, Line}
-use Rattle.p21_claim_steps.specs.Keeping.{AreBlocksOf, Kept, text_with_header}
-use Rattle.p21_claim_steps.specs.OutputLaws.{lines_of}
-use Rattle.p21_claim_steps.specs.Stored.{StoredEntry}
-use Rattle.p21_exchange.specs.DataSection.{section_names}
+use Rattle.p21_spec_laws.specs.CompleteFile.{Block, Line}
+use Rattle.p21_spec_laws.specs.Keeping.{AreBlocksOf, Kept, text_with_header}
+use Rattle.p21_spec_laws.specs.OutputLaws.{lines_of}
+use Rattle.p21_spec_laws.specs.Stored.{StoredEntry}
+use Rattle.p21_spec_exchange.specs.DataSection.{section_names}
 use Rattle.p21_stream_output.specs.Output.{IsNamed, Output, output_text}
 use Rattle.p21_stream_output.specs.NamedSections.{HasHeading}
 use Rattle.p21_stream_output.specs.declared.named_sections.NamedSection.{NamedSection}

@@ -1,8 +1,8 @@
 -- The bytes of a canonical file from its lines.
 use Rattle.std.specs.Prelude.{◌≡◌, ℕ, List, [], ◌∷◌, ◌++◌, codes}
 use Rattle.std.specs.List.{flat_map, AllByRecursion as Each}
-use Rattle.p21_exchange.specs.Spelling.{name_spelling}
-use Rattle.p21_exchange.specs.Text.{IsGraphic}
+use Rattle.p21_spec_exchange.specs.Spelling.{name_spelling}
+use Rattle.p21_spec_exchange.specs.Text.{IsGraphic}
 use Rattle.p21_stream_store.specs.StoredInstance.{StoredInstance}
 
 -- a data section: its DATA with its `;`, and the statements of its instances

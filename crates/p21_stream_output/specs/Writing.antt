@@ -1,8 +1,8 @@
 -- A data section that is written, and the block that it is.
 use Rattle.std.specs.Prelude.{◌≡◌, map}
-use Rattle.p21_claim.specs.CompleteFile.{Block, Line}
-use Rattle.p21_exchange.specs.CanonicalText.{statement_text}
-use Rattle.p21_exchange.specs.Statement.{data_start, section}
+use Rattle.p21_spec_laws.specs.CompleteFile.{Block, Line}
+use Rattle.p21_spec_exchange.specs.CanonicalText.{statement_text}
+use Rattle.p21_spec_exchange.specs.Statement.{data_start, section}
 use Rattle.p21_stream_output.specs.Output.{WrittenSection}
 
 -- its line begins the section, and its texts are those of the block's lines

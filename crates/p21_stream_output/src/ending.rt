@@ -1,5 +1,5 @@
 ghost use Rattle.std.specs.Prelude.{◌≡◌, IfOk, length};
-ghost use Rattle.p21_claim_steps.specs.Keeping.{Kept};
+ghost use Rattle.p21_spec_laws.specs.Keeping.{Kept};
 ghost use Rattle.p21_stream_output.specs.Ending.{AreNamed, HasNamesOnce, HasSize, IsFileOfKept, IsKeptIn};
 ghost use Rattle.p21_stream_output.specs.Filing.{HaveMemberships, AreOfSections};
 ghost use Rattle.p21_stream_output.specs.NamedSections.{AreEmpty};

@@ -1,18 +1,18 @@
 -- The end of the bytes, by the histories that are stood for.
 use Rattle.std.proofs.Common.{◌≡◌, ◌≢◌, ◌+◌, ℕ, List, [], ◌∷◌, ◌++◌, length, Some, None, Ok, Err, inl, inr, refl, sym, ap, subst, ◌∙◌, length-append, arith}
 use Rattle.std.proofs.lemmas.List.{append-nil}
-use Rattle.p21_basics.specs.Limits.{Limits}
-use Rattle.p21_claim.proofs.Ending.{no-laying_at_end, no-tree}
-use Rattle.p21_exchange.proofs.Semicolons.{statements-end}
-use Rattle.p21_exchange.specs.Laying.{Laid, LaidAs, Lexeme, tokens_in}
-use Rattle.p21_exchange.specs.OpenNesting.{EndsWithSemicolon}
-use Rattle.p21_exchange.specs.Statement.{Statement}
-use Rattle.p21_exchange.specs.Structure.{statements}
-use Rattle.p21_exchange.specs.Token.{Spells, Token, semicolon}
-use Rattle.p21_files.specs.Accepted.{IsAccepted}
+use Rattle.p21_spec_basics.specs.Limits.{Limits}
+use Rattle.p21_spec_laws.proofs.Ending.{no-laying_at_end, no-tree}
+use Rattle.p21_spec_exchange.proofs.Semicolons.{statements-end}
+use Rattle.p21_spec_exchange.specs.Laying.{Laid, LaidAs, Lexeme, tokens_in}
+use Rattle.p21_spec_exchange.specs.OpenNesting.{EndsWithSemicolon}
+use Rattle.p21_spec_exchange.specs.Statement.{Statement}
+use Rattle.p21_spec_exchange.specs.Structure.{statements}
+use Rattle.p21_spec_exchange.specs.Token.{Spells, Token, semicolon}
+use Rattle.p21_spec_file.specs.Accepted.{IsAccepted}
 use Rattle.p21_grammar.specs.Histories as grammar
 use Rattle.p21_grammar.specs.declared.fault.GrammarFault.{GrammarFault}
-use Rattle.p21_schemas.specs.Schema.{Schema}
+use Rattle.p21_spec_schema.specs.Schema.{Schema}
 use Rattle.p21_stream_statements.specs.Fault.{fault_of_grammar, fault_of_token}
 use Rattle.p21_stream_statements.specs.declared.fault.Fault.{Fault}
 use Rattle.p21_stream_statements.specs.declared.fault.Fault.TheVariants.{NoMemory}

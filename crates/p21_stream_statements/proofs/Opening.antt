@@ -1,8 +1,8 @@
 -- The statement that is open.
 use Rattle.std.proofs.Common.{◌≡◌, ℕ, List, subst, ◌∙◌, sym}
-use Rattle.p21_exchange.specs.Laying.{tokens_in}
-use Rattle.p21_exchange.specs.Pending.{IsPending, LaidUpTo}
-use Rattle.p21_exchange.specs.Token.{Token}
+use Rattle.p21_spec_exchange.specs.Laying.{tokens_in}
+use Rattle.p21_spec_exchange.specs.Pending.{IsPending, LaidUpTo}
+use Rattle.p21_spec_exchange.specs.Token.{Token}
 use Rattle.p21_stream_statements.specs.StatementReader.{HasOpenStatement, Held, IsEndedBy, IsLive, StatementHistory}
 use Rattle.p21_tokens.specs.Histories as tokens
 

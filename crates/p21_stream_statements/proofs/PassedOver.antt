@@ -1,10 +1,10 @@
 -- Bytes of whole instances, which a lexer with a parser behind it passes over.
 use Rattle.std.proofs.Common.{◌≡◌, ℕ, List, ◌++◌, Option, None, inr, sym, ap, subst, ◌∙◌, length-append}
 use Rattle.std.specs.List.{flat_map}
-use Rattle.p21_basics.specs.History.{extended, first_refusal}
-use Rattle.p21_exchange.proofs.Semicolons.{statements-end}
-use Rattle.p21_exchange.specs.Statement.{Statement, statement_tokens}
-use Rattle.p21_exchange.specs.Token.{Token}
+use Rattle.p21_spec_basics.specs.History.{extended, first_refusal}
+use Rattle.p21_spec_exchange.proofs.Semicolons.{statements-end}
+use Rattle.p21_spec_exchange.specs.Statement.{Statement, statement_tokens}
+use Rattle.p21_spec_exchange.specs.Token.{Token}
 use Rattle.p21_grammar.specs.Between.{StandsForMore, instances_call, instances_of}
 use Rattle.p21_grammar.specs.Held as grammar_held
 use Rattle.p21_grammar.specs.Histories as grammar

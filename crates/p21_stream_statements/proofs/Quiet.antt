@@ -3,13 +3,13 @@ use Rattle.std.proofs.Common.{◌≡◌, ◌≢◌, ◌+◌, ◌<◌, ◌⊎◌,
 use Rattle.std.proofs.lemmas.Grind.{flat_map-append}
 use Rattle.std.proofs.lemmas.List.{length-map}
 use Rattle.std.specs.List.{flat_map}
-use Rattle.p21_basics.proofs.Members.{Each-append, head_is, tail_is}
-use Rattle.p21_exchange.proofs.FirstBytes.{spelling_begins, no-spelling, slash-first}
-use Rattle.p21_exchange.proofs.OneGap.{HasNoSeparator, gap-one, nothing-first, begins-on}
-use Rattle.p21_exchange.specs.Laying.{Lexeme, count_behind, open_bytes, tokens_in}
-use Rattle.p21_exchange.specs.Pending.{Tail, nothing, unfinished, slash, open_comment, tail_bytes, tail_size, BeginsWithNoSeparator, IsPending, IsTail, LaidUpTo}
-use Rattle.p21_exchange.specs.Separator.{blank, comment, IsSeparator, IsSeparatorText, separator_bytes}
-use Rattle.p21_exchange.specs.Token.{Token, begin, finish, keyword, user_keyword, name, whole, real, text, item, bits, left, right, comma, semicolon, equals, dollar, star, Spells, IsFollowed}
+use Rattle.p21_spec_basics.proofs.Members.{Each-append, head_is, tail_is}
+use Rattle.p21_spec_exchange.proofs.FirstBytes.{spelling_begins, no-spelling, slash-first}
+use Rattle.p21_spec_exchange.proofs.OneGap.{HasNoSeparator, gap-one, nothing-first, begins-on}
+use Rattle.p21_spec_exchange.specs.Laying.{Lexeme, count_behind, open_bytes, tokens_in}
+use Rattle.p21_spec_exchange.specs.Pending.{Tail, nothing, unfinished, slash, open_comment, tail_bytes, tail_size, BeginsWithNoSeparator, IsPending, IsTail, LaidUpTo}
+use Rattle.p21_spec_exchange.specs.Separator.{blank, comment, IsSeparator, IsSeparatorText, separator_bytes}
+use Rattle.p21_spec_exchange.specs.Token.{Token, begin, finish, keyword, user_keyword, name, whole, real, text, item, bits, left, right, comma, semicolon, equals, dollar, star, Spells, IsFollowed}
 use Rattle.p21_grammar.specs.declared.event.Event.{Event}
 use Rattle.p21_stream_statements.specs.Fault.{fault_of_token}
 use Rattle.p21_stream_statements.specs.declared.fault.Fault.{Fault}

@@ -3,7 +3,7 @@ use Rattle.std.proofs.Common.{◌≡◌, ◌+◌, ◌≤◌, ◌⊎◌, ℕ, zer
 use Rattle.std.proofs.lemmas.List.{append-nil}
 use Rattle.std.proofs.lemmas.Option.{slice_get_within}
 use Rattle.std.specs.List.{slice_get}
-use Rattle.p21_basics.specs.History.{IsOfferedFirst, seen_behind}
+use Rattle.p21_spec_basics.specs.History.{IsOfferedFirst, seen_behind}
 use Rattle.p21_stream_statements.specs.StatementReader.{IsSeenAt}
 use Rattle.p21_tokens.proofs.Extending.{take-one}
 

@@ -2,15 +2,15 @@
 use Rattle.std.proofs.Common.{◌≡◌, ◌≢◌, ◌+◌, ◌≤◌, ◌<◌, ◌⊎◌, ℕ, Bool, true, false, List, [], ◌∷◌, ◌++◌, length, take, Option, Some, None, Ok, Err, inl, inr, refl, sym, ap, subst, ◌∙◌, append_assoc, length-append, if◌then◌else◌, arith}
 use Rattle.std.proofs.lemmas.List.{append-nil}
 use Rattle.std.specs.List.{flat_map, slice_get}
-use Rattle.p21_basics.specs.History.{empty, extended, first_refusal, looked_at}
-use Rattle.p21_basics.specs.Limits.{Limits}
-use Rattle.p21_claim.proofs.TokenPrefixes.{prefix-taken, long-source, no-front, no-laying}
-use Rattle.p21_claim.proofs.LongStatements.{full-statement}
-use Rattle.p21_claim.specs.Taken.{AreTokensTaken, AreStatementsTaken}
-use Rattle.p21_exchange.specs.Statement.{Statement, statement_tokens}
-use Rattle.p21_exchange.specs.Structure.{statements}
-use Rattle.p21_exchange.specs.Token.{Token}
-use Rattle.p21_files.specs.Accepted.{IsDead}
+use Rattle.p21_spec_basics.specs.History.{empty, extended, first_refusal, looked_at}
+use Rattle.p21_spec_basics.specs.Limits.{Limits}
+use Rattle.p21_spec_laws.proofs.TokenPrefixes.{prefix-taken, long-source, no-front, no-laying}
+use Rattle.p21_spec_laws.proofs.LongStatements.{full-statement}
+use Rattle.p21_spec_laws.specs.Taken.{AreTokensTaken, AreStatementsTaken}
+use Rattle.p21_spec_exchange.specs.Statement.{Statement, statement_tokens}
+use Rattle.p21_spec_exchange.specs.Structure.{statements}
+use Rattle.p21_spec_exchange.specs.Token.{Token}
+use Rattle.p21_spec_file.specs.Accepted.{IsDead}
 use Rattle.p21_grammar.proofs.Theorems.{begin_file}
 use Rattle.p21_grammar.specs.Held as grammar_held
 use Rattle.p21_grammar.specs.Histories as grammar
@@ -20,7 +20,7 @@ use Rattle.p21_grammar.specs.declared.event.Event.{Event}
 use Rattle.p21_grammar.specs.declared.fault.GrammarFault.{GrammarFault}
 use Rattle.p21_grammar.specs.declared.fault.GrammarFault.TheVariants as grammar_fault
 use Rattle.p21_grammar.specs.declared.stage.Stage.TheVariants.{Start}
-use Rattle.p21_schemas.specs.Schema.{Schema}
+use Rattle.p21_spec_schema.specs.Schema.{Schema}
 use Rattle.p21_stream_statements.specs.Fault.{fault_of_grammar, fault_of_token}
 use Rattle.p21_stream_statements.specs.declared.fault.Fault.{Fault}
 use Rattle.p21_stream_statements.specs.declared.fault.Fault.TheVariants.{NoMemory}

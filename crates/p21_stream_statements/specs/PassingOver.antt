@@ -2,12 +2,12 @@
 -- given by them (ISO 10303-21, tokens; data sections).
 use Rattle.std.specs.Prelude.{◌≡◌, ◌+◌, ℕ, List, ◌++◌, length, None}
 use Rattle.std.specs.List.{flat_map, AllByRecursion as Each}
-use Rattle.p21_exchange.specs.Grammar.{IsDataRecord}
-use Rattle.p21_exchange.specs.Laying.{Laid}
-use Rattle.p21_exchange.specs.Pending.{IsPending}
-use Rattle.p21_exchange.specs.Record.{Record}
-use Rattle.p21_exchange.specs.Statement.{statement_tokens}
-use Rattle.p21_exchange.specs.Token.{Token}
+use Rattle.p21_spec_exchange.specs.Grammar.{IsDataRecord}
+use Rattle.p21_spec_exchange.specs.Laying.{Laid}
+use Rattle.p21_spec_exchange.specs.Pending.{IsPending}
+use Rattle.p21_spec_exchange.specs.Record.{Record}
+use Rattle.p21_spec_exchange.specs.Statement.{statement_tokens}
+use Rattle.p21_spec_exchange.specs.Token.{Token}
 use Rattle.p21_grammar.specs.Between as grammar
 use Rattle.p21_grammar.specs.Between.{instances_of}
 use Rattle.p21_stream_statements.specs.StatementReader.{Held, IsLive, StatementHistory}

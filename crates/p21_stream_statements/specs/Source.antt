@@ -1,7 +1,7 @@
 -- Where a fault comes from.
 use Rattle.std.specs.Prelude.{◌≢◌}
 use Rattle.p21_grammar.specs.declared.fault.GrammarFault.TheVariants as grammar_fault
-use Rattle.p21_mapping_faults.specs.declared.fault.CheckFault.TheVariants as check_fault
+use Rattle.p21_grammar_tree.specs.declared.fault.CheckFault.TheVariants as check_fault
 use Rattle.p21_stream_statements.specs.declared.fault.Fault.{Fault}
 use Rattle.p21_stream_statements.specs.declared.fault.Fault.TheVariants.{Check, Grammar, Token, Read, Write}
 use Rattle.p21_tokens.specs.Fault.{IsOfTokens}

@@ -2,20 +2,20 @@
 -- structure).
 use Rattle.std.specs.Prelude.{◌≡◌, ◌≢◌, ◌≤◌, ◌+◌, ◌⊎◌, ℕ, List, [], ◌∷◌, ◌++◌, length, take, slice_get, Option, Some, None, Result, Ok, Err}
 use Rattle.std.specs.List.{flat_map}
-use Rattle.p21_basics.specs.History.{empty}
-use Rattle.p21_basics.specs.Limits.{Limits}
-use Rattle.p21_exchange.specs.Laying.{Laid, tokens_in}
-use Rattle.p21_exchange.specs.OpenNesting.{IsDepth}
-use Rattle.p21_exchange.specs.Pending.{IsPending}
-use Rattle.p21_exchange.specs.Statement.{Statement, statement_tokens}
-use Rattle.p21_exchange.specs.Token.{Token}
-use Rattle.p21_files.specs.Accepted.{IsAccepted, IsDead}
+use Rattle.p21_spec_basics.specs.History.{empty}
+use Rattle.p21_spec_basics.specs.Limits.{Limits}
+use Rattle.p21_spec_exchange.specs.Laying.{Laid, tokens_in}
+use Rattle.p21_spec_exchange.specs.OpenNesting.{IsDepth}
+use Rattle.p21_spec_exchange.specs.Pending.{IsPending}
+use Rattle.p21_spec_exchange.specs.Statement.{Statement, statement_tokens}
+use Rattle.p21_spec_exchange.specs.Token.{Token}
+use Rattle.p21_spec_file.specs.Accepted.{IsAccepted, IsDead}
 use Rattle.p21_grammar.specs.Held as grammar_held
 use Rattle.p21_grammar.specs.Histories as grammar
 use Rattle.p21_grammar.specs.Histories.{GrammarHistory, BeginsFile, IsWholeFile}
 use Rattle.p21_grammar.specs.Statements.{statements_of}
 use Rattle.p21_grammar.specs.declared.event.Event.{Event}
-use Rattle.p21_schemas.specs.Schema.{Schema}
+use Rattle.p21_spec_schema.specs.Schema.{Schema}
 use Rattle.p21_stream_statements.specs.declared.fault.Fault.{Fault}
 use Rattle.p21_stream_statements.specs.declared.fault.Fault.TheVariants.{NoMemory}
 use Rattle.p21_tokens.specs.Held as tokens_held

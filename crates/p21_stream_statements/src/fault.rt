@@ -2,7 +2,7 @@ ghost use Rattle.std.specs.Prelude.{◌≡◌};
 ghost use Rattle.p21_stream_statements.specs.Fault.{fault_number, fault_name};
 
 use p21_grammar::GrammarFault;
-use p21_mapping_faults::CheckFault;
+use p21_grammar_tree::CheckFault;
 use p21_tokens::TokenFault;
 use p21_values::NoMemory;
 use thiserror::Error;

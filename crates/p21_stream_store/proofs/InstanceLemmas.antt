@@ -7,8 +7,8 @@ use Rattle.std.proofs.lemmas.List.FromFn.{get_or-range_with_len, length-range_wi
 use Rattle.std.proofs.lemmas.Option.{get_or_from_slice_get, slice_get-get_or, slice_get_within, unwrap_or-slice_get}
 use Rattle.std.specs.List.{Contains, range_with_len, slice_get}
 use Rattle.std.specs.List.Sorted.{IsNonDecreasingBy, IsPermutation, IsStrictlyIncreasing}
-use Rattle.p21_basics.proofs.Members.{Contains-found, at-behind, at-front}
-use Rattle.p21_basics.proofs.RisingLists.{never-fall}
+use Rattle.p21_spec_basics.proofs.Members.{Contains-found, at-behind, at-front}
+use Rattle.p21_spec_basics.proofs.RisingLists.{never-fall}
 use Rattle.p21_stream_store.specs.StoredInstance.{StoredInstance, instance_names, stored_instances, name_at}
 use Rattle.p21_stream_store.specs.Seen.{MayHaveCome}
 

@@ -1,12 +1,13 @@
 -- Memberships by the numbers of their sections and of their sets.
-use Rattle.std.proofs.Common.{◌≡◌, ◌<◌, ℕ, List, [], ◌∷◌, ◌++◌, length, get_or, slice_get, Some, None, inl, inr, refl, sym, ap, subst, ◌∙◌, arith}
+use Rattle.std.proofs.Common.{◌≡◌, ◌<◌, ℕ, List, [], ◌∷◌, ◌++◌, length, get_or, slice_get, Option, Some, None, IfSome, inl, inr, refl, sym, ap, subst, ◌∙◌, arith}
 use Rattle.std.proofs.lemmas.List.{get_or_append_left, length-append, map-append}
 use Rattle.std.proofs.lemmas.Map.Lookups.{CmpEqualImpliesEq, exact_pairs, exact_unsigned}
 use Rattle.std.proofs.lemmas.Option.{get_or_from_slice_get, slice_get-get_or, slice_get_within}
 use Rattle.std.specs.BTreeMap.{BTreeMap, IsEmpty, Updates, get_by}
 use Rattle.std.specs.List.{Contains}
+use Rattle.std.specs.Option.{IsSome}
 use Rattle.std.specs.Ordering.{nat_cmp}
-use Rattle.p21_basics.proofs.Members.{Contains-unmapped, Each-append, Each-member, Each-weaker}
+use Rattle.p21_spec_basics.proofs.Members.{Contains-unmapped, Each-append, Each-member, Each-weaker}
 use Rattle.p21_stream_store.proofs.Numbering.{behind, is-absent, known, mapped-at, none-numbered, one-more}
 use Rattle.p21_stream_store.specs.Memberships.{AreNumberedRows, HaveSets, Membership, by_pair, membership_in, memberships_in}
 use Rattle.p21_stream_store.specs.Numbering.{AreNumbered, AreOnce, Interns}
@@ -47,6 +48,12 @@ membership-at sets rows number row membership at section set =
     let entities : get_or sets row.1 [] ≡ membership.entities = get_or_from_slice_get sets row.1 membership.entities [] set in
     let same : membership_in sets row ≡ membership = λ i. record { section = section i; entities = entities i } in
     mapped-at (membership_in sets) rows number row at ∙ ap (λ (m : Membership). Some m) same
+
+-- a membership that is remembered, with its row
+pub remembered-interned : (sets : List (List ℕ)) (rows : List Row) (number : ℕ) (row : Option Row) (membership : Membership) → IfSome row (λ r. slice_get rows number ≡ Some r) → IfSome row (λ r. r.0 ≡ membership.section)
+    → IfSome row (λ r. slice_get sets r.1 ≡ Some membership.entities) → IsSome row → Interns (memberships_in sets rows) membership number (memberships_in sets rows)
+remembered-interned sets rows number None membership at section set some = cc
+remembered-interned sets rows number (Some row) membership at section set some = known (memberships_in sets rows) membership number (membership-at sets rows number row membership at section set)
 
 -- sets that come behind change no membership
 same-memberships : (sets more : List (List ℕ)) (rows : List Row) → HaveSets (length sets) rows → memberships_in (sets ++ more) rows ≡ memberships_in sets rows

@@ -6,9 +6,11 @@ mod NameLemmas
 mod NumberLemmas
 mod SeenLemmas
 mod NotedLemmas
+mod NamedMembershipLemmas
 mod RoomLemmas
 mod TextLemmas
 pub mod OrderLemmas
 mod Numbering
 mod SetNumbers
+mod LaneLemmas
 mod Interning

@@ -5,7 +5,7 @@ use Rattle.std.proofs.lemmas.Grind.{get_or_default_zero}
 use Rattle.std.proofs.lemmas.Option.{get_or_from_slice_get, slice_get-get_or, slice_get_within}
 use Rattle.std.specs.List.{Contains, slice_get}
 use Rattle.std.specs.List.Sorted.{IsStrictlyIncreasing}
-use Rattle.p21_basics.proofs.RisingLists.{never-fall}
+use Rattle.p21_spec_basics.proofs.RisingLists.{never-fall}
 
 same_at : (a b : ℕ) → eqb a b ≡ true → a ≡ b
 same_at a b e = grind (arith, nat_tests)

@@ -1,17 +1,34 @@
 -- Memberships that are noted.
-use Rattle.std.proofs.Common.{ℕ, List, ◌∷◌, Option, inl, inr, refl, sym, subst, ◌∙◌, arith}
+use Rattle.std.proofs.Common.{◌≡◌, ◌⊎◌, ℕ, Bool, true, false, List, ◌∷◌, Option, Some, MatchBool, inl, inr, refl, sym, ap, subst, ◌∙◌, arith}
+use Rattle.std.proofs.lemmas.Bool.Decides.{eqb_tells}
 use Rattle.std.proofs.lemmas.List.Sorted.{Contains-permutation}
 use Rattle.std.specs.List.{Contains}
 use Rattle.std.specs.List.Sorted.{IsPermutation}
-use Rattle.p21_basics.proofs.Members.{Contains-later}
-use Rattle.p21_stream_store.specs.Noted.{AreNoted, IsStoredWith, NotesAtMost}
-use Rattle.p21_stream_store.specs.Positions.{IsSame}
+use Rattle.p21_spec_basics.proofs.Members.{Contains-later}
+use Rattle.p21_stream_store.specs.Noted.{AreNoted, IsStoredWith}
+use Rattle.p21_stream_store.specs.Positions.{Changes, IsSame, position_marked}
 use Rattle.p21_stream_store.specs.StoredInstance.{StoredInstance, stored_instance}
 
+-- what is noted now was noted before, or is the membership of this name
+abbrev NotesAtMost : (ℕ → Option ℕ) → ℕ → ℕ → (ℕ → Option ℕ) → Type 0
+NotesAtMost old name membership new =
+    (other number : ℕ) → new other ≡ Some number → (old other ≡ Some number) ⊎ ((other ≡ name) × (number ≡ membership))
+
+notes-at_most : (done : Bool) (old new : List ℕ) (name membership : ℕ) → MatchBool done (Changes (position_marked old) name (Some membership) (position_marked new)) (new ≡ old) → NotesAtMost (position_marked old) name membership (position_marked new)
+notes-at_most true old new name membership changes other number e = elim (eqb_tells other name) [
+  | inl same ↦ (
+      let value : position_marked new name ≡ Some number = subst (λ (n : ℕ). position_marked new n ≡ Some number) same.1 e in
+      let there = changes.0 in
+      let is : number ≡ membership = cc in
+      inr (same.1, is))
+  | inr differs ↦ inl (sym (changes.1 other differs.1) ∙ e)
+]
+notes-at_most false old new name membership is other number e = inl (ap (λ (marks : List ℕ). position_marked marks other) (sym is) ∙ e)
+
 -- where one more instance is stored, and what is noted besides is its membership, that is noted rightly
-pub still_noted : (old grown new : ℕ → Option ℕ) (name membership : ℕ) (text : List ℕ) (stored more : List StoredInstance) → AreNoted old stored → IsSame old grown → NotesAtMost grown name membership new
-    → IsPermutation (stored_instance name (membership, text) ∷ stored) more → AreNoted new more
-still_noted old grown new name membership text stored more are same notes added other number e = elim (notes other number e) [
+pub still_noted : (old grown new : List ℕ) (done : Bool) (name membership : ℕ) (text : List ℕ) (stored more : List StoredInstance) → AreNoted (position_marked old) stored → IsSame (position_marked old) (position_marked grown)
+    → MatchBool done (Changes (position_marked grown) name (Some membership) (position_marked new)) (new ≡ grown) → IsPermutation (stored_instance name (membership, text) ∷ stored) more → AreNoted (position_marked new) more
+still_noted old grown new done name membership text stored more are same notes added other number e = elim (notes-at_most done grown new name membership notes other number e) [
   | inl before ↦
       let found = are other number (sym (same other) ∙ before) in
       (found.0, Contains-permutation _ _ _ added (Contains-later _ stored _ found.1))

@@ -8,7 +8,7 @@ use Rattle.std.specs.Map.{lookup}
 use Rattle.std.specs.Ordering.{is_eq}
 use Rattle.std.specs.declared.cmp.Ordering.{Ordering}
 use Rattle.std.specs.declared.cmp.Ordering.TheVariants.{Equal, Greater, Less}
-use Rattle.p21_basics.proofs.Members.{Contains-at, at-front}
+use Rattle.p21_spec_basics.proofs.Members.{Contains-at, at-front}
 use Rattle.p21_stream_store.specs.Numbering.{AreNumbered, AreOnce, Interns}
 
 -- ---- lists

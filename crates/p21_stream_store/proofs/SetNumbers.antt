@@ -14,12 +14,14 @@ use Rattle.std.specs.declared.alloc.Global.{Global}
 use Rattle.std.specs.declared.cmp.Ordering.{Ordering}
 use Rattle.std.specs.declared.cmp.Ordering.TheVariants.{Equal, Greater, Less}
 use Rattle.std.specs.declared.sync.ArcSlice.{ArcSlice}
-use Rattle.p21_basics.proofs.Members.{Contains-unmapped}
-use Rattle.p21_express_types.specs.declared.number.EntityId.{EntityId}
+use Rattle.p21_spec_basics.proofs.Members.{Contains-unmapped}
+use Rattle.p21_express_graph.specs.declared.number.EntityId.{EntityId}
 use Rattle.p21_mapping_values.specs.TypedView.{ids_view}
 use Rattle.p21_stream_store.proofs.Numbering.{are-once, behind, is-absent, known, mapped-at, none-numbered, one-more, unmapped-at}
-use Rattle.p21_stream_store.specs.EntitySets.{AreNumberedSets, by_entities, lists_of, sets_of}
+use Rattle.p21_stream_store.specs.EntitySets.{AreNumberedSets, key_items, lists_of, sets_of}
 use Rattle.p21_stream_store.specs.Numbering.{AreNumbered, AreOnce, Interns}
+use Rattle.p21_stream_store.specs.SetOrder.{by_entities, by_size}
+use Rattle.p21_stream_store.specs.declared.set_key.SetKey.{SetKey}
 
 abbrev Shared : Type 0
 Shared = ArcSlice EntityId Global
@@ -46,6 +48,16 @@ same-entity a b same = λ i. record { 0 = same i }
 exact-entities : CmpEqualImpliesEq by_entities
 exact-entities = exact-lists (λ (a b : EntityId). nat_cmp a.0 b.0) (λ a b e. same-entity a b (exact_unsigned a.0 b.0 e))
 
+exact-sizes : CmpEqualImpliesEq by_size
+exact-sizes xs ys e = by (nat_cmp (length xs) (length ys)) refl where
+  now : (r : Ordering) → nat_cmp (length xs) (length ys) ≡ r → ordering_then r (by_entities xs ys) ≡ Equal
+  now r is = sym (ap (λ (o : Ordering). ordering_then o (by_entities xs ys)) is) ∙ e
+
+  by : (r : Ordering) → nat_cmp (length xs) (length ys) ≡ r → xs ≡ ys
+  by Less is = let no : Less ≡ Equal = now Less is in cc
+  by Equal is = exact-entities xs ys (now Equal is)
+  by Greater is = let no : Greater ≡ Equal = now Greater is in cc
+
 entity-told : (a b : EntityId) → Decides (a.0 == b.0) (a ≡ b)
 entity-told a b = (λ e. same-entity a b ((Decides-eqb a.0 b.0).0 e), λ e. (Decides-eqb a.0 b.0).1 (ap (λ (x : EntityId). x.0) e))
 
@@ -53,7 +65,7 @@ entity-told a b = (λ e. same-entity a b ((Decides-eqb a.0 b.0).0 e), λ e. (Dec
 pub same-listed : (entities others : List EntityId) (r : Bool) → r ≡ pointwise (λ (a b : EntityId). a.0 == b.0) entities others → IsTrue r → entities ≡ others
 same-listed entities others r is equal = (slice_eq-Decides entity-told entities others r is).0 equal
 
-same-entities : (xs ys : List EntityId) → ids_view xs ≡ ids_view ys → xs ≡ ys
+pub same-entities : (xs ys : List EntityId) → ids_view xs ≡ ids_view ys → xs ≡ ys
 same-entities [] [] e = refl
 same-entities [] (y ∷ ys) e = cc
 same-entities (x ∷ xs) [] e = cc
@@ -64,8 +76,8 @@ same-entities (x ∷ xs) (y ∷ ys) e =
     let rest : xs ≡ ys = same-entities xs ys others in
     cc
 
-pub no-sets : (sets : List Shared) (numbers : BTreeMap Shared ℕ) → sets ≡ [] → IsEmpty numbers → AreNumberedSets sets numbers
-no-sets sets numbers no_set empty = none-numbered arc_slice_items by_entities exact-entities (lists_of sets) numbers (ap lists_of no_set) empty
+pub no-sets : (sets : List Shared) (numbers : BTreeMap SetKey ℕ) → sets ≡ [] → IsEmpty numbers → AreNumberedSets sets numbers
+no-sets sets numbers no_set empty = none-numbered key_items by_size exact-sizes (lists_of sets) numbers (ap lists_of no_set) empty
 
 pub count-sets : (sets : List Shared) → length (sets_of sets) ≡ length sets
 count-sets sets = length-map (lists_of sets) ids_view ∙ length-map sets (λ (s : Shared). arc_slice_items s)
@@ -75,18 +87,18 @@ pub set-at : (sets : List Shared) (number : ℕ) (set : Shared) (entities : List
 set-at sets number set entities at is =
     mapped-at ids_view (lists_of sets) number (arc_slice_items set) (mapped-at (λ (s : Shared). arc_slice_items s) sets number set at) ∙ ap (λ (es : List EntityId). Some (ids_view es)) (sym is)
 
-pub sets-once : (sets : List Shared) (numbers : BTreeMap Shared ℕ) → AreNumberedSets sets numbers → AreOnce (sets_of sets)
+pub sets-once : (sets : List Shared) (numbers : BTreeMap SetKey ℕ) → AreNumberedSets sets numbers → AreOnce (sets_of sets)
 sets-once sets numbers are set number other at at_ =
     let (entities, first, is) = listed number at in
     let (others, second, is_) = listed other at_ in
     let same : others ≡ entities = same-entities others entities (is_ ∙ sym is) in
-    are-once arc_slice_items by_entities exact-entities (lists_of sets) numbers are entities number other first (second ∙ ap (λ (es : List EntityId). Some es) same)
+    are-once key_items by_size exact-sizes (lists_of sets) numbers are entities number other first (second ∙ ap (λ (es : List EntityId). Some es) same)
   where
     listed : (k : ℕ) → slice_get (sets_of sets) k ≡ Some set → (entities : List EntityId) × (slice_get (lists_of sets) k ≡ Some entities) × (ids_view entities ≡ set)
     listed k here = unmapped-at ids_view (lists_of sets) k set here
 
 -- a set that is found has the number
-pub set-found : (sets : List Shared) (numbers : BTreeMap Shared ℕ) (listed entities : List EntityId) (number : ℕ) → AreNumberedSets sets numbers → listed ≡ entities → get_by (λ (s : Shared). by_entities listed (arc_slice_items s)) numbers ≡ Some number
+pub set-found : (sets : List Shared) (numbers : BTreeMap SetKey ℕ) (listed entities : List EntityId) (number : ℕ) → AreNumberedSets sets numbers → listed ≡ entities → get_by (λ (k : SetKey). by_size listed (key_items k)) numbers ≡ Some number
     → Interns (sets_of sets) (ids_view entities) number (sets_of sets)
 set-found sets numbers listed entities number are is at =
     known (sets_of sets) (ids_view entities) number (mapped-at ids_view (lists_of sets) number entities (are.found listed number at ∙ ap (λ (es : List EntityId). Some es) is))
@@ -95,21 +107,21 @@ lists-behind : (sets after : List Shared) (set : Shared) → after ≡ sets ++ s
 lists-behind sets after set is = ap lists_of is ∙ map-append (λ (s : Shared). arc_slice_items s) sets (set ∷ [])
 
 -- a set that isn't found stands behind the others
-module _ (sets after : List Shared) (numbers : BTreeMap Shared ℕ) (set copy : Shared) (are : AreNumberedSets sets numbers) (none : get_by (λ (s : Shared). by_entities (arc_slice_items set) (arc_slice_items s)) numbers ≡ None) (is : after ≡ sets ++ copy ∷ []) (copied : arc_slice_items copy ≡ arc_slice_items set) where
-  lists-are : lists_of after ≡ lists_of sets ++ arc_slice_items set ∷ []
+module _ (sets after : List Shared) (numbers : BTreeMap SetKey ℕ) (key : SetKey) (copy : Shared) (are : AreNumberedSets sets numbers) (none : get_by (λ (k : SetKey). by_size (key_items key) (key_items k)) numbers ≡ None) (is : after ≡ sets ++ copy ∷ []) (copied : arc_slice_items copy ≡ key_items key) where
+  lists-are : lists_of after ≡ lists_of sets ++ key_items key ∷ []
   lists-are = lists-behind sets after copy is ∙ ap (λ (es : List EntityId). lists_of sets ++ es ∷ []) copied
 
-  pub set-added : (entities : List EntityId) (number : ℕ) → arc_slice_items set ≡ entities → number ≡ length sets → Interns (sets_of sets) (ids_view entities) number (sets_of after)
+  pub set-added : (entities : List EntityId) (number : ℕ) → key_items key ≡ entities → number ≡ length sets → Interns (sets_of sets) (ids_view entities) number (sets_of after)
   set-added entities number listed last =
       behind (sets_of sets) (sets_of after) (ids_view entities) number (last ∙ sym (count-sets sets))
-      (ap (map ids_view) lists-are ∙ map-append ids_view (lists_of sets) (arc_slice_items set ∷ []) ∙ ap (λ (es : List EntityId). sets_of sets ++ ids_view es ∷ []) listed)
+      (ap (map ids_view) lists-are ∙ map-append ids_view (lists_of sets) (key_items key ∷ []) ∙ ap (λ (es : List EntityId). sets_of sets ++ ids_view es ∷ []) listed)
       (λ there.
       let (found, among, same) = Contains-unmapped ids_view (lists_of sets) (ids_view entities) there in
-      let set_is : found ≡ arc_slice_items set = same-entities found entities same ∙ sym listed in
-      is-absent arc_slice_items by_entities exact-entities (lists_of sets) numbers (arc_slice_items set) are none (subst (λ (es : List EntityId). Contains (lists_of sets) es) set_is among))
+      let set_is : found ≡ key_items key = same-entities found entities same ∙ sym listed in
+      is-absent key_items by_size exact-sizes (lists_of sets) numbers (key_items key) are none (subst (λ (es : List EntityId). Contains (lists_of sets) es) set_is among))
 
-  pub sets-numbered : (new : BTreeMap Shared ℕ) (number : ℕ) → number ≡ length sets → Updates (λ (a b : Shared). by_entities (arc_slice_items a) (arc_slice_items b)) numbers new set (Some number) → AreNumberedSets after new
+  pub sets-numbered : (new : BTreeMap SetKey ℕ) (number : ℕ) → number ≡ length sets → Updates (λ (a b : SetKey). by_size (key_items a) (key_items b)) numbers new key (Some number) → AreNumberedSets after new
   sets-numbered new number last updates =
-      let P : ℕ → Type 0 = λ n. Updates (λ (a b : Shared). by_entities (arc_slice_items a) (arc_slice_items b)) numbers new set (Some n) in
-      let more = one-more arc_slice_items by_entities exact-entities (lists_of sets) numbers new set are none (subst P (last ∙ sym (length-map sets (λ (s : Shared). arc_slice_items s))) updates) in
-      subst (λ (ls : List (List EntityId)). AreNumbered arc_slice_items by_entities ls new) (sym lists-are) more
+      let P : ℕ → Type 0 = λ n. Updates (λ (a b : SetKey). by_size (key_items a) (key_items b)) numbers new key (Some n) in
+      let more = one-more key_items by_size exact-sizes (lists_of sets) numbers new key are none (subst P (last ∙ sym (length-map sets (λ (s : Shared). arc_slice_items s))) updates) in
+      subst (λ (ls : List (List EntityId)). AreNumbered key_items by_size ls new) (sym lists-are) more

@@ -3,7 +3,7 @@ use Rattle.std.proofs.Common.{◌≡◌, ◌+◌, ◌-◌, ◌≤◌, ◌<◌, �
 use Rattle.std.proofs.lemmas.List.{length-append, length-drop, length-take, take-append-le, drop-append-le}
 use Rattle.std.proofs.Math.Seq.{drop-append_seam, take-append_seam}
 use Rattle.std.specs.List.{slice_get}
-use Rattle.p21_basics.proofs.Members.{rest_is}
+use Rattle.p21_spec_basics.proofs.Members.{rest_is}
 use Rattle.p21_stream_store.specs.Texts.{texts_of, AreStarts, AreStartsFrom}
 
 pub length-texts_of : (starts bytes : List ℕ) → length (texts_of starts bytes) ≡ length starts

@@ -5,7 +5,9 @@ pub mod NamedLines
 pub mod StoredInstance
 pub mod Positions
 pub mod Noted
+pub mod NamedMemberships
 pub mod Seen
+pub mod SetOrder
 pub mod Numbering
 pub mod EntitySets
 pub mod Memberships

@@ -4,7 +4,7 @@ use Rattle.std.specs.BTreeMap.{BTreeMap}
 use Rattle.std.specs.List.{AllByRecursion as Each}
 use Rattle.std.specs.Ordering.{nat_cmp, ordering_then}
 use Rattle.std.specs.declared.cmp.Ordering.{Ordering}
-use Rattle.p21_express_types.specs.declared.number.EntityId.{EntityId}
+use Rattle.p21_express_graph.specs.declared.number.EntityId.{EntityId}
 use Rattle.p21_mapping_values.specs.TypedView.{ids_view}
 use Rattle.p21_stream_store.specs.Numbering.{AreNumbered}
 

@@ -1,11 +1,6 @@
 -- What is noted of the memberships of names.
-use Rattle.std.specs.Prelude.{◌≡◌, ◌⊎◌, ℕ, List, Option, Some, Contains}
+use Rattle.std.specs.Prelude.{◌≡◌, ℕ, List, Option, Some, Contains}
 use Rattle.p21_stream_store.specs.StoredInstance.{StoredInstance}
-
--- what is noted now was noted before, or is the membership of this name
-abbrev pub NotesAtMost : (ℕ → Option ℕ) → ℕ → ℕ → (ℕ → Option ℕ) → Type 0
-NotesAtMost old name membership new =
-    (other number : ℕ) → new other ≡ Some number → (old other ≡ Some number) ⊎ ((other ≡ name) × (number ≡ membership))
 
 -- an instance of this name and this membership is stored
 abbrev pub IsStoredWith : List StoredInstance → ℕ → ℕ → Type 0

@@ -3,7 +3,9 @@ ghost use Rattle.std.specs.Prelude.{◌≡◌, ◌<◌, [], length, slice_get, I
 ghost use Rattle.p21_mapping_values.specs.TypedView.{ids_view};
 ghost use Rattle.p21_stream_store.specs.Numbering.{AreOnce, Interns};
 
-use p21_express_types::EntityId;
+use crate::room;
+use crate::set_key::SetKey;
+use p21_express_graph::EntityId;
 use p21_values::NoMemory;
 use std::alloc::Global;
 use std::collections::BTreeMap;
@@ -15,7 +17,7 @@ use std::sync::ArcSlice;
 #[derive(Drop)]
 pub struct EntitySets {
     all: Vec<ArcSlice<EntityId>>,
-    numbers: BTreeMap<ArcSlice<EntityId>, usize>,
+    numbers: BTreeMap<SetKey, usize>,
 }
 
 impl Model for EntitySets {
@@ -65,15 +67,14 @@ impl EntitySets {
         ensures err { OnErr result (self.new ≡ self.old) }
     {
         let set = ArcSlice::from_slice(alloc, entities)?;
-        if let Some(number) = self.numbers.get(&set).copied() {
+        let key = SetKey(set);
+        if let Some(number) = self.numbers.get(&key).copied() {
             return Ok(number);
         }
         let number = self.all.len();
-        let shared = set.clone()?;
-        let Ok(()) = self.all.push(shared) else {
-            return Err(NoMemory);
-        };
-        let Ok(_) = self.numbers.insert(set, number) else {
+        let shared = key.0.clone()?;
+        room::add(&mut self.all, shared)?;
+        let Ok(_) = self.numbers.insert(key, number) else {
             self.all.pop();
             return Err(NoMemory);
         };

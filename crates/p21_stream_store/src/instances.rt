@@ -131,7 +131,7 @@ impl Instances {
         let Ok(()) = self.lines.push(name, membership, text) else {
             return Err(NoMemory);
         };
-        note_membership(&mut self.noted, name, membership);
+        let _ = note_membership(&mut self.noted, name, membership);
         Ok(())
     }
 }

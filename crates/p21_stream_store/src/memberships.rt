@@ -1,10 +1,11 @@
-ghost use Rattle.std.specs.Prelude.{◌≡◌, ◌<◌, [], length, slice_get, Some, IfOk, IfSome, IsSome, IsTrue, OnErr};
+ghost use Rattle.std.specs.Prelude.{◌≡◌, ◌+◌, ◌<◌, [], length, slice_get, Some, IfOk, IfSome, IsSome, IsTrue, OnErr};
 ghost use Rattle.p21_mapping_values.specs.TypedView.{ids_view};
 ghost use Rattle.p21_stream_store.specs.Memberships.{AreNumberedRows, HaveSets, membership_of};
 ghost use Rattle.p21_stream_store.specs.Numbering.{Interns};
 
 use crate::entity_sets::EntitySets;
-use p21_express_types::EntityId;
+use crate::same_front::are_same;
+use p21_express_graph::EntityId;
 use p21_values::NoMemory;
 use std::alloc::Global;
 use std::collections::BTreeMap;
@@ -12,6 +13,9 @@ use std::marker::Model;
 
 /// So many memberships are remembered.
 const GUESSES: usize = 64;
+
+/// They stand in so many pairs.
+const PAIRS: usize = 32;
 
 /// Memberships by number, each once.
 #[derive(Drop)]
@@ -21,7 +25,8 @@ pub struct Memberships {
     rows: Vec<(usize, usize)>,
     // The number of each.
     numbers: BTreeMap<(usize, usize), usize>,
-    // Memberships that were asked for, each at the index that `guess_of` says. What stands there is compared before it counts.
+    // Memberships that were asked for, each in the pair from the index on that `guess_of` says, the later one first. What
+    // stands there is compared before it counts.
     guesses: [usize; GUESSES],
 }
 
@@ -80,8 +85,7 @@ impl Memberships {
         ensures err { OnErr result (self.new ≡ self.old) }
     {
         let guess = guess_of(entities);
-        let guessed = self.guesses[guess];
-        let row = row_of(&self.sets, &self.rows, guessed, entities);
+        let (guessed, row) = remembered(&self.sets, &self.rows, &self.guesses, guess, entities);
         if is_of(row, section) {
             return Ok(guessed);
         }
@@ -94,22 +98,48 @@ impl Memberships {
             Ok(number) => number,
             Err(fault) => return Err(fault),
         };
+        self.guesses[guess + 1] = self.guesses[guess];
         self.guesses[guess] = number;
         Ok(number)
     }
 }
 
-/// Where a membership with these entities is remembered.
+/// Where the pair begins in which a membership with these entities is remembered.
 fn guess_of(entities: &[EntityId]) -> usize
-    ensures { result < 64 }
+    ensures { result + 1 < 64 }
 {
     let (Some(first), Some(last)) = (entities.first(), entities.last()) else {
         return 0;
     };
-    (first.0 as usize * 3 + last.0 as usize * 5 + entities.len()) % GUESSES
+    (first.0 as usize * 3 + last.0 as usize * 5 + entities.len()) % PAIRS * 2
+}
+
+/// The number of the membership with these entities that is remembered in the pair from there on, with its section and its
+/// set. Without a row there is none. Of two in turn each stays remembered.
+#[inline(always)]
+fn remembered(
+    sets: &EntitySets,
+    rows: &[(usize, usize)],
+    guesses: &[usize; 64],
+    guess: usize,
+    entities: &[EntityId],
+) -> (usize, Option<(usize, usize)>)
+    requires sets { HaveSets (length sets.now) rows.now }
+    requires guess { guess + 1 < 64 }
+    ensures row { IfSome result.1 (λ row. slice_get rows.now result.0 ≡ Some row) }
+    ensures set { IfSome result.1 (λ row. slice_get sets.now row.1 ≡ Some (ids_view entities.now)) }
+{
+    let first = guesses[guess];
+    let row = row_of(sets, rows, first, entities);
+    if row.is_some() {
+        return (first, row);
+    }
+    let second = guesses[guess + 1];
+    (second, row_of(sets, rows, second, entities))
 }
 
 /// The section and the set of the membership of this number, where its set has these entities.
+#[inline(always)]
 fn row_of(
     sets: &EntitySets,
     rows: &[(usize, usize)],
@@ -154,13 +184,6 @@ fn set_of(
         Some((_, set)) => Ok(set),
         None => sets.add(alloc, entities),
     }
-}
-
-/// Whether the entities are the same, one by one.
-fn are_same(entities: &[EntityId], others: &[EntityId]) -> bool
-    ensures { IsTrue result → entities.now ≡ others.now }
-{
-    entities == others
 }
 
 /// The number of a section and a set, which are added where they aren't there yet. An `Err` changes nothing.

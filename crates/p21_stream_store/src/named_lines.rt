@@ -1,5 +1,5 @@
 //! Lines of instances by name.
-ghost use Rattle.std.specs.Prelude.{◌≡◌, ◌<◌, ℕ, List, [], ◌∷◌, ◌++◌, length, slice_get, Contains, IfSome, IsNone, IsPermutation, IsTrue, OnErr, OnOk, Some};
+ghost use Rattle.std.specs.Prelude.{◌≡◌, ◌+◌, ◌<◌, ◌^◌, ℕ, List, [], ◌∷◌, ◌++◌, length, slice_get, Contains, IfSome, IsNone, IsPermutation, IsTrue, OnErr, OnOk, Some};
 ghost use Rattle.std.specs.List.Sorted.{IsStrictlyIncreasing};
 ghost use Rattle.p21_stream_store.specs.StoredInstance.{StoredInstance, stored_instance, instance_names, name_at};
 
@@ -67,6 +67,14 @@ impl NamedLines {
     /// How many instances there are.
     pub fn len(&self) -> usize
         ensures { result ≡ length self.now }
+    {
+        self.count()
+    }
+
+    /// How many instances there are, as `len` says, and that with 32 bits more a sum stays in 64 bits.
+    pub(crate) fn count(&self) -> usize
+        ensures len { result ≡ length self.now }
+        ensures small { result + 2 ^ 32 < 2 ^ 64 }
     {
         self.rising.count() + self.late.len()
     }

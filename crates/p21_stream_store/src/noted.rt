@@ -1,14 +1,13 @@
 //! The memberships of small names, a byte for each name, so that most references take one look.
-ghost use Rattle.std.specs.Prelude.{◌≡◌, ◌≤◌, ◌*◌, ℕ, vec_capacity};
-ghost use Rattle.p21_stream_store.specs.Positions.{IsSame, position_marked};
-ghost use Rattle.p21_stream_store.specs.Noted.{NotesAtMost};
+ghost use Rattle.std.specs.Prelude.{◌≡◌, ◌≤◌, ◌*◌, ℕ, MatchBool, Some, vec_capacity};
+ghost use Rattle.p21_stream_store.specs.Positions.{Changes, IsSame, position_marked};
 
 use crate::late::small_names;
 use crate::room::reach;
 use p21_values::NoMemory;
 
 /// Memberships with numbers below this are noted.
-const MOST: usize = 255;
+const NOTED_MEMBERSHIPS: usize = 255;
 
 /// The number of the membership that is noted of a name.
 pub fn noted_membership(noted: &[u8], name: u64) -> Option<usize>
@@ -38,13 +37,14 @@ pub fn make_place(noted: &mut Vec<u8>, name: u64, count: usize) -> Result<(), No
     reach(noted, name as usize, small as usize, 0)
 }
 
-/// Notes the membership of a name, if there is a place for it, and the byte holds its number.
-pub fn note_membership(noted: &mut Vec<u8>, name: u64, membership: usize)
-    ensures noted { NotesAtMost (position_marked noted.old.items) name membership (position_marked noted.new.items) }
+/// Notes the membership of a name, if there is a place for it, and the byte holds its number; says whether it did.
+pub fn note_membership(noted: &mut Vec<u8>, name: u64, membership: usize) -> bool
+    ensures noted { MatchBool result (Changes (position_marked noted.old.items) name (Some membership) (position_marked noted.new.items)) (noted.new.items ≡ noted.old.items) }
     ensures room { vec_capacity noted.new ≡ vec_capacity noted.old }
 {
-    if membership >= MOST || name >= noted.len() as u64 {
-        return;
+    if membership >= NOTED_MEMBERSHIPS || name >= noted.len() as u64 {
+        return false;
     }
     noted[name as usize] = membership as u8 + 1;
+    true
 }

@@ -1,5 +1,5 @@
 //! Numbers of any size, in as few bytes as hold them.
-ghost use Rattle.std.specs.Prelude.{◌≡◌, ◌<◌, ◌≤◌, ◌-◌, ◌^◌, [], ◌∷◌, ◌++◌, length, slice_get, take, OnErr, OnOk, Some};
+ghost use Rattle.std.specs.Prelude.{◌≡◌, ◌+◌, ◌<◌, ◌≤◌, ◌-◌, ◌^◌, [], ◌∷◌, ◌++◌, length, slice_get, take, OnErr, OnOk, Some};
 
 use crate::rows::{Layer, Row};
 use crate::runs::Run;
@@ -48,7 +48,7 @@ impl Numbers {
     /// How many numbers there are, as `len` says, and that sums of such counts stay in 64 bits.
     pub(crate) fn count(&self) -> usize
         ensures len { result ≡ length self.now }
-        ensures small { result < 2 ^ 63 }
+        ensures small { result + 2 ^ 32 < 2 ^ 63 }
     {
         self.run.len() + self.behind.len()
     }

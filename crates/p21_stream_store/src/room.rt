@@ -1,8 +1,48 @@
-//! Lists that grow to an index, with room for no more elements than are stated. Of the library's calls `reserve_exact` and
-//! `push_reserved` say how much room a list has at most; a `push` may make as much as it likes.
-ghost use Rattle.std.specs.Prelude.{◌≡◌, ◌+◌, ◌<◌, ◌≤◌, ℕ, length, slice_index_or, vec_capacity, vec_len, OnErr, OnOk};
+//! Lists that grow by an element or to an index, with room for no more elements than are stated. Of the library's calls
+//! `reserve_exact` and `push_reserved` say how much room a list has at most; a `push` may make as much as it likes.
+ghost use Rattle.std.specs.Prelude.{◌≡◌, ◌+◌, ◌*◌, ◌<◌, ◌≤◌, ℕ, [], ◌∷◌, ◌++◌, length, slice_index_or, vec_capacity, vec_len, OnErr, OnOk};
 
 use p21_values::NoMemory;
+
+/// A list that grows has room for so many elements at least.
+const FEWEST: usize = 16;
+
+/// Adds an element.
+///
+/// # Errors
+///
+/// `NoMemory`, which changes no element.
+#[inline]
+pub fn add<T: Drop>(list: &mut Vec<T>, element: T) -> Result<(), NoMemory>
+    ensures ok { OnOk result (list.new.items ≡ list.old.items ++ element ∷ []) }
+    ensures err { OnErr result (list.new.items ≡ list.old.items) }
+    ensures room { (m : ℕ) → vec_capacity list.old ≤ m → 32 ≤ m → 2 * vec_len list.old ≤ m → vec_capacity list.new ≤ m }
+{
+    make_room(list)?;
+    list.push_reserved(element);
+    Ok(())
+}
+
+/// Makes room for one element more, where there is none: for as many again as the list has, or for some.
+///
+/// # Errors
+///
+/// `NoMemory`, which changes nothing.
+#[inline]
+pub fn make_room<T>(list: &mut Vec<T>) -> Result<(), NoMemory>
+    ensures items { list.new.items ≡ list.old.items }
+    ensures ok { OnOk result (vec_len list.new + 1 ≤ vec_capacity list.new) }
+    ensures room { (m : ℕ) → vec_capacity list.old ≤ m → 32 ≤ m → 2 * vec_len list.old ≤ m → vec_capacity list.new ≤ m }
+{
+    let count = list.len();
+    if count < list.capacity() {
+        return Ok(());
+    }
+    let Ok(()) = list.reserve_exact(count.max(FEWEST)) else {
+        return Err(NoMemory);
+    };
+    Ok(())
+}
 
 /// Adds elements of this value until there is one at an index, where there is none yet; and further ones, so that a list grows
 /// twofold. It gets room for no more elements than the most.

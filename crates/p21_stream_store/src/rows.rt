@@ -1,6 +1,7 @@
 //! Numbers one behind the other, each in a width that holds it.
 ghost use Rattle.std.specs.Prelude.{◌≡◌, ◌<◌, ◌≤◌, ◌-◌, ◌^◌, ◌+◌, ℕ, List, [], ◌∷◌, ◌++◌, length, map, slice_get, take, OnErr, OnOk, Some, false, true};
 
+use crate::room::add;
 use crate::widths::Width;
 use p21_values::NoMemory;
 use std::alloc::Global;
@@ -68,10 +69,7 @@ impl Row for Vec<usize> {
     }
 
     fn push(&mut self, number: usize) -> Result<(), NoMemory> {
-        let Ok(()) = Vec::push(self, number) else {
-            return Err(NoMemory);
-        };
-        Ok(())
+        add(self, number)
     }
 
     fn pop(&mut self) {
@@ -80,7 +78,7 @@ impl Row for Vec<usize> {
 }
 
 /// So many numbers stand in one width at most, which is more than memory holds. So the sum of lengths stays in 64 bits.
-const MOST: usize = 1 << 60;
+const MOST_OF_A_WIDTH: usize = 1 << 60;
 
 /// Numbers of one width, and behind them wider ones: the first that the width doesn't hold, and those behind it.
 #[derive(Drop)]
@@ -119,12 +117,9 @@ impl<T: Width + Drop, R: Row> Row for Layer<T, R> {
     }
 
     fn push(&mut self, number: usize) -> Result<(), NoMemory> {
-        if self.wide.is_empty() && self.narrow.len() < MOST {
+        if self.wide.is_empty() && self.narrow.len() < MOST_OF_A_WIDTH {
             if let Some(narrow) = T::of(number) {
-                let Ok(()) = self.narrow.push(narrow) else {
-                    return Err(NoMemory);
-                };
-                return Ok(());
+                return add(&mut self.narrow, narrow);
             }
         }
         self.wide.push(number)

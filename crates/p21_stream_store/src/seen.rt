@@ -7,7 +7,7 @@ use crate::room::reach;
 use p21_values::NoMemory;
 
 /// Names below this have a bit, so that the bits take a megabyte at most.
-const MOST: u64 = 8_388_608;
+const NAMES_WITH_A_BIT: u64 = 8_388_608;
 /// So many bits stand in one word.
 const WORD: u64 = 64;
 
@@ -15,7 +15,7 @@ const WORD: u64 = 64;
 pub fn may_have_come(words: &[u64], name: u64) -> bool
     ensures { result ≡ false → MayHaveCome words.now name → ⊥ }
 {
-    if name >= MOST {
+    if name >= NAMES_WITH_A_BIT {
         return true;
     }
     let index = (name / WORD) as usize;
@@ -31,7 +31,7 @@ pub fn note(words: &mut Vec<u64>, name: u64) -> Result<(), NoMemory>
     ensures others { (other : ℕ) → MayHaveCome words.old.items other → MayHaveCome words.new.items other }
     ensures room { (m : ℕ) → vec_capacity words.old ≤ m → 131072 ≤ m → vec_capacity words.new ≤ m }
 {
-    if name >= MOST {
+    if name >= NAMES_WITH_A_BIT {
         return Ok(());
     }
     let index = (name / WORD) as usize;
@@ -49,7 +49,7 @@ fn make_word(words: &mut Vec<u64>, index: usize) -> Result<(), NoMemory>
     ensures same { (other : ℕ) → slice_index_or words.new.items other 0 ≡ slice_index_or words.old.items other 0 }
     ensures room { (m : ℕ) → vec_capacity words.old ≤ m → 131072 ≤ m → vec_capacity words.new ≤ m }
 {
-    reach(words, index, (MOST / WORD) as usize, 0)
+    reach(words, index, (NAMES_WITH_A_BIT / WORD) as usize, 0)
 }
 
 /// Sets a bit of a word.

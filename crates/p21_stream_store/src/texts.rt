@@ -1,8 +1,9 @@
 //! Texts by number. They lie in blocks that don't move when more come.
-ghost use Rattle.std.specs.Prelude.{◌≡◌, ◌<◌, ◌^◌, [], ◌∷◌, ◌++◌, length, slice_get, IfOk, IfSome, OnErr, OnOk, MatchBool, Some, is_some, true};
+ghost use Rattle.std.specs.Prelude.{◌≡◌, ◌+◌, ◌*◌, ◌<◌, ◌≤◌, ◌^◌, ℕ, [], ◌∷◌, ◌++◌, length, slice_get, vec_capacity, vec_len, IfOk, IfSome, OnErr, OnOk, MatchBool, Some, is_some, true};
 ghost use Rattle.p21_stream_store.specs.Blocks.{AreFirsts, block_texts};
 ghost use Rattle.p21_stream_store.specs.Texts.{AreStartsFrom, texts_of};
 
+use crate::room::{add, make_room};
 use p21_values::NoMemory;
 use std::alloc::Global;
 use std::marker::Model;
@@ -16,6 +17,7 @@ fn put(starts: &mut Vec<u16>, bytes: &mut Vec<u8>, start: u16, text: &[u8]) -> R
     ensures starts { OnOk result (starts.new.items ≡ starts.old.items ++ start ∷ []) }
     ensures bytes { OnOk result (bytes.new.items ≡ bytes.old.items ++ text.now) }
     ensures err { OnErr result ((starts.new.items ≡ starts.old.items) × (bytes.new.items ≡ bytes.old.items)) }
+    ensures room_of_starts { (m : ℕ) → vec_capacity starts.old ≤ m → 32 ≤ m → 2 * vec_len starts.old ≤ m → vec_capacity starts.new ≤ m }
 {
     let size = if starts.is_empty() {
         BLOCK.max(text.len())
@@ -23,7 +25,7 @@ fn put(starts: &mut Vec<u16>, bytes: &mut Vec<u8>, start: u16, text: &[u8]) -> R
         text.len()
     };
     bytes.reserve(size)?;
-    starts.push(start)?;
+    add(starts, start)?;
     if bytes.extend_from_slice(text).is_err() {
         starts.pop();
         return Err(NoMemory);
@@ -220,21 +222,14 @@ impl Texts {
             Ok(false) => unreachable!(),
             Err(fault) => return Err(fault),
         }
+        make_room(&mut self.full)?;
         let size = self.last.len();
         self.last.close();
-        let full = FullBlock {
+        self.full.push_reserved(FullBlock {
             first: self.end,
             block: mem::replace(&mut self.last, block),
-        };
-        match self.full.push(full) {
-            Ok(()) => {
-                self.end += size;
-                Ok(())
-            }
-            Err(failed) => {
-                self.last = failed.value.block;
-                Err(NoMemory)
-            }
-        }
+        });
+        self.end += size;
+        Ok(())
     }
 }

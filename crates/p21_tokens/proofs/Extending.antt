@@ -5,10 +5,10 @@ use Rattle.std.specs.Option.{option_map}
 use Rattle.std.proofs.lemmas.List.{append_cancel_left, length-take-le, take_more}
 use Rattle.std.proofs.lemmas.Option.{slice_get-get_or}
 use Rattle.std.proofs.Math.Seq.{take-length}
-use Rattle.p21_basics.specs.History.{extended, seen_behind, first_refusal, IsOfferedFirst, empty}
-use Rattle.p21_exchange.specs.Laying.{Lexeme, Laid, tokens_in, open_bytes, count_behind, AreStatementsWithin}
-use Rattle.p21_exchange.specs.Pending.{Tail, nothing, unfinished, slash, open_comment, tail_size, LaidUpTo, IsTokenByte, BeginsWithNoSeparator}
-use Rattle.p21_exchange.specs.Token.{Token}
+use Rattle.p21_spec_basics.specs.History.{extended, seen_behind, first_refusal, IsOfferedFirst, empty}
+use Rattle.p21_spec_exchange.specs.Laying.{Lexeme, Laid, tokens_in, open_bytes, count_behind, AreStatementsWithin}
+use Rattle.p21_spec_exchange.specs.Pending.{Tail, nothing, unfinished, slash, open_comment, tail_size, LaidUpTo, IsTokenByte, BeginsWithNoSeparator}
+use Rattle.p21_spec_exchange.specs.Token.{Token}
 use Rattle.p21_tokens_automaton.proofs.Complete.{all_tokens-after}
 use Rattle.p21_tokens_automaton.proofs.Sound.{TailIs, UpTo, FirstFits}
 use Rattle.p21_tokens_automaton.proofs.Fits.{ModeFits, StepFits}
@@ -40,7 +40,7 @@ use Rattle.p21_tokens.specs.Token.{meant, waits}
 use Rattle.p21_tokens.specs.declared.fault.TokenFault.{TokenFault}
 use Rattle.p21_tokens.specs.declared.fault.TokenFault.TheVariants as fault
 use Rattle.p21_tokens.specs.declared.token.Token.{Token as TokenRead}
-use Rattle.p21_basics.specs.Digits.{is_digit}
+use Rattle.p21_spec_basics.specs.Digits.{is_digit}
 
 -- ---- a new lexer
 

@@ -2,10 +2,10 @@
 use Rattle.std.proofs.Common.{◌≡◌, ℕ, zero, suc, ◌<◌, true, List, [], ◌∷◌, ◌++◌, inl, inr, length, take, refl, sym, ap, ◌∙◌, subst, append-nil, arith, Option, Some, None, Result, Ok, Err}
 use Rattle.std.specs.List.{slice_get}
 use Rattle.std.proofs.lemmas.Bool.Decides.{nat_tests}
-use Rattle.p21_exchange.specs.Laying.{Lexeme, LaidAs, Laid}
-use Rattle.p21_exchange.specs.Pending.{Tail, nothing, unfinished, slash, open_comment, tail_bytes, BeginsWithNoSeparator}
-use Rattle.p21_exchange.specs.Separator.{blank, IsSeparator}
-use Rattle.p21_exchange.specs.Token.{Token}
+use Rattle.p21_spec_exchange.specs.Laying.{Lexeme, LaidAs, Laid}
+use Rattle.p21_spec_exchange.specs.Pending.{Tail, nothing, unfinished, slash, open_comment, tail_bytes, BeginsWithNoSeparator}
+use Rattle.p21_spec_exchange.specs.Separator.{blank, IsSeparator}
+use Rattle.p21_spec_exchange.specs.Token.{Token}
 use Rattle.p21_tokens_automaton.proofs.Fits.{ModeFits}
 use Rattle.p21_tokens_automaton.proofs.Prefixes.{ended_token-laid}
 use Rattle.p21_tokens_automaton.proofs.Gaps.{gap}

@@ -1,9 +1,9 @@
 -- What follows of what a lexer stands for.
 use Rattle.std.proofs.Common.{◌≡◌, ℕ, suc, ◌+◌, ◌≤◌, List, [], ◌∷◌, ◌++◌, inl, inr, length, refl, sym, ap, ◌∙◌, subst, append_assoc, append-nil, arith, Option, Some, None}
-use Rattle.p21_basics.specs.History.{looked_at}
-use Rattle.p21_exchange.specs.Laying.{Lexeme, LaidAs, tokens_in, open_bytes, count_behind, AreStatementsWithin}
-use Rattle.p21_exchange.specs.Pending.{nothing, tail_bytes, IsPending}
-use Rattle.p21_exchange.specs.Token.{Token, semicolon, IsWholeAtOnce}
+use Rattle.p21_spec_basics.specs.History.{looked_at}
+use Rattle.p21_spec_exchange.specs.Laying.{Lexeme, LaidAs, tokens_in, open_bytes, count_behind, AreStatementsWithin}
+use Rattle.p21_spec_exchange.specs.Pending.{nothing, tail_bytes, IsPending}
+use Rattle.p21_spec_exchange.specs.Token.{Token, semicolon, IsWholeAtOnce}
 use Rattle.p21_tokens_automaton.proofs.Complete.{all_tokens-after}
 use Rattle.p21_tokens_automaton.proofs.Sound.{LaidTo, UpTo, read}
 use Rattle.p21_tokens_automaton.proofs.Steps.{lex-nil}

@@ -6,14 +6,14 @@ use Rattle.std.proofs.lemmas.Bool.Decides.{nat_tests}
 use Rattle.std.proofs.lemmas.List.{length-take-le, take_more, get_or-drop}
 use Rattle.std.proofs.lemmas.Option.{slice_get_within, slice_get-get_or}
 use Rattle.std.proofs.Math.Seq.{take-add}
-use Rattle.p21_exchange.specs.Laying.{count_behind}
-use Rattle.p21_exchange.specs.Token as meaning
-use Rattle.p21_basics.specs.Digits.{IsDigit, is_digit}
+use Rattle.p21_spec_exchange.specs.Laying.{count_behind}
+use Rattle.p21_spec_exchange.specs.Token as meaning
+use Rattle.p21_spec_basics.specs.Digits.{IsDigit, is_digit}
 use Rattle.std.specs.List.{AllByRecursion as Each}
-use Rattle.p21_exchange.specs.Keyword.{IsUpper, IsKeywordByte, IsKeyword}
-use Rattle.p21_exchange.specs.Number as number
-use Rattle.p21_exchange.specs.Number.{SpellsReal, SpellsWhole}
-use Rattle.p21_exchange.specs.Token.{Spells, MayFollow}
+use Rattle.p21_spec_exchange.specs.Keyword.{IsUpper, IsKeywordByte, IsKeyword}
+use Rattle.p21_spec_exchange.specs.Number as number
+use Rattle.p21_spec_exchange.specs.Number.{SpellsReal, SpellsWhole}
+use Rattle.p21_spec_exchange.specs.Token.{Spells, MayFollow}
 use Rattle.p21_tokens_automaton.proofs.Once.{spells-means}
 use Rattle.p21_tokens_automaton.proofs.Classes.{digit-decides, keyword_byte-decides, false_from_not}
 use Rattle.p21_tokens_automaton.proofs.Runs.{run-names, run-puts}

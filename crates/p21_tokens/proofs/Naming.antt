@@ -1,8 +1,8 @@
 -- Which fault a refusal has.
 use Rattle.std.proofs.Common.{◌≡◌, ◌≢◌, ◌↔◌, ℕ, List, [], ◌∷◌, ◌++◌, inl, inr, refl, sym, ap, ◌∙◌, subst, Option, Some, None}
-use Rattle.p21_exchange.specs.Number.{RealForm}
-use Rattle.p21_exchange.specs.Pending.{Tail, nothing, unfinished, slash, open_comment}
-use Rattle.p21_exchange.specs.Token.{Token}
+use Rattle.p21_spec_exchange.specs.Number.{RealForm}
+use Rattle.p21_spec_exchange.specs.Pending.{Tail, nothing, unfinished, slash, open_comment}
+use Rattle.p21_spec_exchange.specs.Token.{Token}
 use Rattle.p21_tokens_automaton.proofs.Fits.{StepFits}
 use Rattle.p21_tokens_automaton.proofs.Sound.{TailIs}
 use Rattle.p21_tokens_automaton.proofs.Theorems.{form-found, steps-on}

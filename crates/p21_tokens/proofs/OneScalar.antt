@@ -2,15 +2,15 @@
 use Rattle.std.proofs.Common.{◌≡◌, ℕ, zero, suc, ◌+◌, ◌-◌, ◌^◌, ◌≤◌, ◌<◌, Bool, true, false, cond, List, [], ◌∷◌, ◌++◌, ◌⊎◌, inl, inr, length, length-append, length-drop, take, drop, refl, sym, ap, ◌∙◌, subst, append_assoc, append-nil, arith, take_all, Option, Some, None, Result, Ok, Err}
 use Rattle.std.specs.List.{slice_get, slice_range}
 use Rattle.std.proofs.lemmas.List.{take-append-drop}
-use Rattle.p21_basics.specs.History.{extended, seen_behind, first_refusal, looked_at, IsOfferedFirst}
-use Rattle.p21_exchange.specs.Laying.{Lexeme, Laid, LaidAs, HoldsScalar, open_bytes, count_behind, tokens_in}
-use Rattle.p21_basics.specs.Limits.{text_limit}
-use Rattle.p21_exchange.specs.Pending.{Tail, nothing, unfinished, slash, open_comment, tail_bytes, tail_size, LaidUpTo}
-use Rattle.p21_exchange.specs.Token.{Token, IsScalarToken, Spells, IsSpelled}
+use Rattle.p21_spec_basics.specs.History.{extended, seen_behind, first_refusal, looked_at, IsOfferedFirst}
+use Rattle.p21_spec_exchange.specs.Laying.{Lexeme, Laid, LaidAs, HoldsScalar, open_bytes, count_behind, tokens_in}
+use Rattle.p21_spec_basics.specs.Limits.{text_limit}
+use Rattle.p21_spec_exchange.specs.Pending.{Tail, nothing, unfinished, slash, open_comment, tail_bytes, tail_size, LaidUpTo}
+use Rattle.p21_spec_exchange.specs.Token.{Token, IsScalarToken, Spells, IsSpelled}
 use Rattle.p21_tokens_automaton.proofs.Theorems.{one-laying}
 use Rattle.p21_tokens.specs.Finding.{FindsScalar, FindsOnlyScalar}
-use Rattle.p21_exchange.specs.Spelling.{spelling}
-use Rattle.p21_exchange.proofs.CanonicalSpellings.{spells-itself}
+use Rattle.p21_spec_exchange.specs.Spelling.{spelling}
+use Rattle.p21_spec_exchange.proofs.CanonicalSpellings.{spells-itself}
 use Rattle.p21_tokens_automaton.proofs.Spellings.{same-spelling}
 use Rattle.p21_tokens.specs.Parameter.{AreNoScalar, HoldsOtherTokens, stand_first, are_all, EndsUnfinished, IsRefusedFor, at_byte, at_end, IsAnswer, IsRefusal}
 use Rattle.p21_tokens.proofs.Extending.{stands-laid, take-one}

@@ -2,10 +2,10 @@
 use Rattle.std.proofs.Common.{◌≡◌, ℕ, ◌+◌, ◌≤◌, ◌<◌, true, false, nat_eq, List, [], ◌∷◌, ◌++◌, inl, inr, length, length-append, refl, sym, ap, ◌∙◌, subst, append_assoc, arith, Option, Some, None}
 use Rattle.std.proofs.lemmas.Bool.{eqb-true}
 use Rattle.std.specs.Option.{is_some}
-use Rattle.p21_basics.specs.History.{extended, first_refusal, seen_behind}
-use Rattle.p21_exchange.specs.Laying.{Lexeme, LaidAs, Laid, tokens_in, open_bytes, count_behind, AreStatementsWithin}
-use Rattle.p21_exchange.specs.OpenNesting.{EndsWithSemicolon}
-use Rattle.p21_exchange.specs.Token.{Token, IsFollowed, IsWholeAtOnce}
+use Rattle.p21_spec_basics.specs.History.{extended, first_refusal, seen_behind}
+use Rattle.p21_spec_exchange.specs.Laying.{Lexeme, LaidAs, Laid, tokens_in, open_bytes, count_behind, AreStatementsWithin}
+use Rattle.p21_spec_exchange.specs.OpenNesting.{EndsWithSemicolon}
+use Rattle.p21_spec_exchange.specs.Token.{Token, IsFollowed, IsWholeAtOnce}
 use Rattle.p21_tokens_automaton.proofs.Prefixes.{laid-few, spelling-some}
 use Rattle.p21_tokens_automaton.proofs.Gaps.{gap-run}
 use Rattle.p21_tokens_automaton.proofs.Once.{spells-means}

@@ -2,8 +2,8 @@
 use Rattle.std.proofs.Common.{eqb, cond, ◌≡◌, ℕ, ◌+◌, ◌<◌, true, false, List, [], ◌∷◌, ◌++◌, refl, sym, ap, ◌∙◌, subst, arith, Option, Some, None, Ok, Err}
 use Rattle.std.proofs.lemmas.Bool.{cond_both}
 use Rattle.std.proofs.lemmas.Option.{same_Some}
-use Rattle.p21_exchange.specs.Laying.{Lexeme, count_behind}
-use Rattle.p21_exchange.specs.Token as meaning
+use Rattle.p21_spec_exchange.specs.Laying.{Lexeme, count_behind}
+use Rattle.p21_spec_exchange.specs.Token as meaning
 use Rattle.p21_tokens_automaton.proofs.Steps.{lex-pass, lex-skip, lex-keep, lex-put, lex-give, lex-close, lex-dash, lex-end, lex-byte}
 use Rattle.p21_tokens_automaton.specs.Bytes.{is_blank}
 use Rattle.p21_tokens_automaton.specs.Meaning.{Means, MeanAll}

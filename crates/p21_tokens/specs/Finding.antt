@@ -1,7 +1,7 @@
 -- What the search for the one scalar of a text owes.
 use Rattle.std.specs.Prelude.{◌≡◌, ◌≢◌, ℕ, List, Option, Some, None, Result, Ok, Err}
-use Rattle.p21_exchange.specs.Laying.{HoldsScalar}
-use Rattle.p21_exchange.specs.Token.{IsScalarToken}
+use Rattle.p21_spec_exchange.specs.Laying.{HoldsScalar}
+use Rattle.p21_spec_exchange.specs.Token.{IsScalarToken}
 use Rattle.p21_tokens.specs.Parameter.{HoldsNoScalar, RefusesText}
 use Rattle.p21_tokens.specs.Token.{meant}
 use Rattle.p21_tokens.specs.declared.fault.TokenFault.{TokenFault}

@@ -2,12 +2,12 @@
 use Rattle.std.specs.Prelude.{◌≡◌, ◌≢◌, ◌↔◌, ℕ, ◌+◌, ◌≤◌, ◌<◌, ◌⊎◌, false, if◌then◌else◌, List, [], ◌∷◌, ◌++◌, length, take, slice_get, Option, Some, None, Result, Ok, Err}
 use Rattle.std.specs.Option.{option_map}
 use Rattle.std.specs.List.{AllByRecursion as Each}
-use Rattle.p21_basics.specs.History.{History, extended, looked_at, IsOfferedFirst}
-use Rattle.p21_exchange.specs.Laying.{Lexeme, Laid, tokens_in, open_bytes, AreStatementsWithin}
-use Rattle.p21_exchange.specs.Pending.{Tail, nothing, unfinished, slash, open_comment, tail_size, LaidUpTo, IsPending, IsTokenByte}
-use Rattle.p21_exchange.specs.Number.{Decimal, RealForm, SpellsReal}
-use Rattle.p21_exchange.specs.Separator.{blank, IsSeparator}
-use Rattle.p21_exchange.specs.Token.{Token, Spells, MayFollow, IsWholeAtOnce}
+use Rattle.p21_spec_basics.specs.History.{History, extended, looked_at, IsOfferedFirst}
+use Rattle.p21_spec_exchange.specs.Laying.{Lexeme, Laid, tokens_in, open_bytes, AreStatementsWithin}
+use Rattle.p21_spec_exchange.specs.Pending.{Tail, nothing, unfinished, slash, open_comment, tail_size, LaidUpTo, IsPending, IsTokenByte}
+use Rattle.p21_spec_exchange.specs.Number.{Decimal, RealForm, SpellsReal}
+use Rattle.p21_spec_exchange.specs.Separator.{blank, IsSeparator}
+use Rattle.p21_spec_exchange.specs.Token.{Token, Spells, MayFollow, IsWholeAtOnce}
 use Rattle.p21_tokens_automaton.specs.Meaning.{IsOutOfRange, MeanAll}
 use Rattle.p21_tokens_automaton.specs.Reading.{State, start, without_tokens, open_at, FoundToken, SizedToken, ended_token, after, lex}
 use Rattle.p21_tokens_automaton.specs.Step.{advance}

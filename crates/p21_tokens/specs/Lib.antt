@@ -8,7 +8,7 @@ pub mod Finding
 pub mod Prefix
 pub mod Passing
 -- What the clauses of its calls cite, for callers who name this crate alone
-pub use Rattle.p21_basics.specs as p21_basics
-pub use Rattle.p21_exchange.specs as p21_exchange
+pub use Rattle.p21_spec_basics.specs as p21_spec_basics
+pub use Rattle.p21_spec_exchange.specs as p21_spec_exchange
 pub use Rattle.p21_values.specs as p21_values
 pub use Rattle.p21_tokens_automaton.specs as p21_tokens_automaton

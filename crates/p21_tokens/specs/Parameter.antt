@@ -1,10 +1,10 @@
 -- One scalar parameter between separators (ISO 10303-21, tokens and parameters), and its canonical spelling.
 use Rattle.std.specs.Prelude.{◌≡◌, ◌≢◌, ◌↔◌, ◌⊎◌, ℕ, ◌<◌, ◌≤◌, List, [], ◌∷◌, ◌++◌, length}
-use Rattle.p21_exchange.specs.Laying.{Lexeme, Laid, tokens_in, HoldsScalar}
-use Rattle.p21_exchange.specs.Pending.{Tail, LaidUpTo}
-use Rattle.p21_basics.specs.Limits.{text_limit}
-use Rattle.p21_exchange.specs.Spelling.{spelling}
-use Rattle.p21_exchange.specs.Token.{Token, Spells, IsScalarToken, IsSpelled}
+use Rattle.p21_spec_exchange.specs.Laying.{Lexeme, Laid, tokens_in, HoldsScalar}
+use Rattle.p21_spec_exchange.specs.Pending.{Tail, LaidUpTo}
+use Rattle.p21_spec_basics.specs.Limits.{text_limit}
+use Rattle.p21_spec_exchange.specs.Spelling.{spelling}
+use Rattle.p21_spec_exchange.specs.Token.{Token, Spells, IsScalarToken, IsSpelled}
 use Rattle.p21_tokens_automaton.specs.SameToken.{SameToken}
 use Rattle.p21_tokens.specs.Histories.{NamesFaultAtByte, NamesFaultAtEnd}
 use Rattle.p21_tokens.specs.declared.fault.TokenFault.{TokenFault}

@@ -1,9 +1,9 @@
 -- Whole statements that a lexer passes over: they were read elsewhere, and are as good as given by it (ISO 10303-21, tokens).
 use Rattle.std.specs.Prelude.{◌≡◌, ℕ, ◌-◌, min, List, length, None}
-use Rattle.p21_basics.specs.History.{extended}
-use Rattle.p21_exchange.specs.Laying.{Laid}
-use Rattle.p21_exchange.specs.OpenNesting.{EndsWithSemicolon}
-use Rattle.p21_exchange.specs.Token.{Token}
+use Rattle.p21_spec_basics.specs.History.{extended}
+use Rattle.p21_spec_exchange.specs.Laying.{Laid}
+use Rattle.p21_spec_exchange.specs.OpenNesting.{EndsWithSemicolon}
+use Rattle.p21_spec_exchange.specs.Token.{Token}
 use Rattle.p21_tokens_automaton.specs.Reading.{start}
 use Rattle.p21_tokens.specs.Held.{Held, state_of}
 use Rattle.p21_tokens.specs.Histories.{TokenHistory, IsPendingBehind, Stands, Answers}

@@ -1,9 +1,9 @@
 -- What the parts of the lexer owe: how a byte, a run of bytes and a piece change what is held.
 use Rattle.std.specs.Prelude.{◌≡◌, ◌≢◌, ℕ, ◌+◌, ◌≤◌, ◌<◌, Bool, true, false, if◌then◌else◌, List, [], ◌∷◌, ◌++◌, length, take, slice_get, Option, Some, None, Result, Ok, Err, OnErr}
 use Rattle.std.specs.Option.{option_map}
-use Rattle.p21_exchange.specs.Number.{RealForm}
-use Rattle.p21_exchange.specs.Token as meaning
-use Rattle.p21_exchange.specs.Laying.{Lexeme, count_behind}
+use Rattle.p21_spec_exchange.specs.Number.{RealForm}
+use Rattle.p21_spec_exchange.specs.Token as meaning
+use Rattle.p21_spec_exchange.specs.Laying.{Lexeme, count_behind}
 use Rattle.p21_tokens_automaton.specs.declared.mode.Mode.{Mode}
 use Rattle.p21_tokens_automaton.specs.declared.mode.Mode.TheVariants.{Between, Slash, Comment, Star, Text}
 use Rattle.p21_tokens_automaton.specs.declared.mode.Action.{Action}

@@ -1,6 +1,6 @@
 -- Which token of the definitions a token of the code stands for, and which tokens wait for the byte behind them.
 use Rattle.std.specs.Prelude.{Bool, true, false, List, [], ◌∷◌, Option, Some, None}
-use Rattle.p21_exchange.specs.Token as meaning
+use Rattle.p21_spec_exchange.specs.Token as meaning
 use Rattle.p21_tokens.specs.declared.token.Token.{Token}
 use Rattle.p21_tokens.specs.declared.token.Token.TheVariants.{Begin, Finish, Keyword, UserKeyword, Name, Whole, Real, Text, Item, Bits, Left, Right, Comma, Semicolon, Equals, Dollar, Star}
 

@@ -1,6 +1,6 @@
 ghost use Rattle.std.specs.Prelude.{◌≡◌, ℕ, List};
-ghost use Rattle.p21_exchange.specs.Laying.{Laid};
-ghost use Rattle.p21_exchange.specs.Token as meaning;
+ghost use Rattle.p21_spec_exchange.specs.Laying.{Laid};
+ghost use Rattle.p21_spec_exchange.specs.Token as meaning;
 
 /// One list of tokens at most is laid in bytes (ISO 10303-21, tokens). It does nothing.
 pub fn one_laying()

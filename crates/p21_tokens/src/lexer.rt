@@ -1,6 +1,6 @@
 ghost use Rattle.std.specs.Prelude.{◌≡◌, ◌≢◌, ◌+◌, ◌<◌, ◌≤◌, [], ◌∷◌, ◌++◌, length, take, true, false, Option, None, Some, OnOk, OnErr, IfOk, IfErr};
 ghost use Rattle.std.specs.Str.{IsUtf8, chars};
-ghost use Rattle.p21_exchange.specs.Laying.{count_behind};
+ghost use Rattle.p21_spec_exchange.specs.Laying.{count_behind};
 ghost use Rattle.p21_tokens_automaton.specs.Reading.{closed_token, ended_token, single_token, start};
 ghost use Rattle.p21_tokens_automaton.specs.declared.mode.Mode.TheVariants.{Between, Name};
 ghost use Rattle.p21_tokens_automaton.specs.declared.mode.NameMode.TheVariants.{Digits};
@@ -8,7 +8,7 @@ ghost use Rattle.p21_tokens.specs.Fault.{IsOfTokens};
 ghost use Rattle.p21_tokens.specs.Prefix.{TakesLeadingToken};
 ghost use Rattle.p21_tokens.specs.Held.{file_limit_of, pending_of, record_limit_of, refusal_of, state_of};
 ghost use Rattle.p21_tokens_automaton.specs.Step.{advance};
-ghost use Rattle.p21_basics.specs.History.{empty};
+ghost use Rattle.p21_spec_basics.specs.History.{empty};
 ghost use Rattle.p21_tokens.specs.declared.fault.TokenFault.{TokenFault};
 ghost use Rattle.p21_tokens.specs.Histories.{FinishGives, FinishNamesFault, IsPendingBehind, KeepsLimits, NeedsNoMemory, NextGives, RefusesAgain, Stands, TakesNoMore, TakesWithinPiece, TokenHistory};
 ghost use Rattle.p21_tokens.specs.Steps.{ClosesToken, EndsToken, LacksMemory, Runs, Scans, Steps, Walks, behind_token, is_token_byte, with_characters, with_pending_bytes};

@@ -1,6 +1,6 @@
 ghost use Rattle.std.specs.Prelude.{◌≡◌, ◌≤◌, ◌↔◌, ◌++◌, ◌∷◌, [], length, IsTrue, OnOk, IfOk, MatchResult};
-ghost use Rattle.p21_basics.specs.Limits.{text_limit};
-ghost use Rattle.p21_exchange.specs.Token.{IsScalarToken};
+ghost use Rattle.p21_spec_basics.specs.Limits.{text_limit};
+ghost use Rattle.p21_spec_exchange.specs.Token.{IsScalarToken};
 ghost use Rattle.p21_tokens.specs.Finding.{FindsScalar, FindsOnlyScalar};
 ghost use Rattle.p21_tokens.specs.Parameter.{IsAnswer, IsRefusal};
 ghost use Rattle.p21_tokens.specs.Token.{meant};
@@ -12,7 +12,7 @@ use p21_values::{Canonical, Limits};
 use std::alloc::Global;
 
 /// The most bytes of a text.
-const LONGEST: usize = 16_777_216;
+const LONGEST_PARAMETER: usize = 16_777_216;
 
 /// The canonical spelling of the one scalar parameter between separators: `$`, `*`, an INTEGER, REAL, STRING,
 /// ENUMERATION or BINARY, or an instance name.
@@ -25,7 +25,7 @@ const LONGEST: usize = 16_777_216;
 pub fn canonical_param(alloc: Global, text: &[u8]) -> Result<Vec<u8>, TokenFault>
     ensures { MatchResult result (λ answer. IsAnswer text.now answer.items) (λ fault. IsRefusal text.now fault) }
 {
-    if text.len() > LONGEST {
+    if text.len() > LONGEST_PARAMETER {
         return Err(TokenFault::FileTooLong);
     }
     let token = match one_scalar(alloc, text) {

@@ -1,6 +1,6 @@
 //! Tokens that stand whole at the front of bytes, read without a state.
 ghost use Rattle.std.specs.Prelude.{◌≡◌, ◌≤◌, false, IfOk, IfSome, OnErr, get_or};
-ghost use Rattle.p21_exchange.specs.Keyword.{IsUpper};
+ghost use Rattle.p21_spec_exchange.specs.Keyword.{IsUpper};
 ghost use Rattle.p21_tokens_automaton.specs.Bytes.{is_blank};
 ghost use Rattle.p21_tokens_automaton.specs.Step.{advance};
 ghost use Rattle.p21_tokens_automaton.specs.declared.mode.Mode.TheVariants.{Between};

@@ -1,5 +1,5 @@
 ghost use Rattle.std.specs.Prelude.{◌≡◌, ◌++◌, ◌∷◌, [], OnOk, OnErr};
-ghost use Rattle.p21_exchange.specs.Spelling.{spelling};
+ghost use Rattle.p21_spec_exchange.specs.Spelling.{spelling};
 ghost use Rattle.p21_tokens.specs.Token.{meant};
 ghost use Rattle.p21_values.specs.Canonical.{Continues};
 

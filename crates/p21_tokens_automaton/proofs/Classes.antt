@@ -3,9 +3,9 @@ use Rattle.std.proofs.Common.{◌≡◌, ℕ, ◌<◌, ◌≤◌, Bool, true, fa
 use Rattle.std.proofs.lemmas.Bool.{false_from_ne_true}
 use Rattle.std.proofs.lemmas.Bool.Decides.{nat_tests, Decides-and, Decides-or, Decides-eqb}
 use Rattle.std.specs.Bool.{Decides}
-use Rattle.p21_basics.specs.Digits.{IsDigit, hex_digit, is_digit}
-use Rattle.p21_exchange.specs.Keyword.{IsUpper, IsKeywordByte}
-use Rattle.p21_exchange.specs.Separator.{IsSeparator, blank}
+use Rattle.p21_spec_basics.specs.Digits.{IsDigit, hex_digit, is_digit}
+use Rattle.p21_spec_exchange.specs.Keyword.{IsUpper, IsKeywordByte}
+use Rattle.p21_spec_exchange.specs.Separator.{IsSeparator, blank}
 use Rattle.p21_tokens_automaton.specs.Bytes.{is_upper, is_keyword_byte, is_hex, hex_value, is_blank}
 
 Decides-leb : (a b : ℕ) → Decides (leb a b) (a ≤ b)

@@ -1,7 +1,7 @@
 -- What is laid is read: the tokens laid in bytes are those that the reading finds.
 use Rattle.std.proofs.Common.{◌≡◌, ℕ, List, [], ◌∷◌, ◌++◌, ◌⊎◌, inl, inr, length, refl, sym, ap, ◌∙◌, append_assoc, append-nil, Option, Some, None}
-use Rattle.p21_exchange.specs.Token.{Token, Spells, IsFollowed}
-use Rattle.p21_exchange.specs.Laying.{Lexeme, LaidAs}
+use Rattle.p21_spec_exchange.specs.Token.{Token, Spells, IsFollowed}
+use Rattle.p21_spec_exchange.specs.Laying.{Lexeme, LaidAs}
 use Rattle.p21_tokens_automaton.specs.Meaning.{Means, found_of, MeanAll}
 use Rattle.p21_tokens_automaton.specs.Reading.{start, Answer, open_at, before, after, FoundToken, SizedToken, tokens_at_end, at_end, with_last_tokens, all_tokens, lex}
 use Rattle.p21_tokens_automaton.proofs.Gaps.{gap-run}

@@ -1,10 +1,10 @@
 -- The bytes of an open token that lead to a state: what each state says of the bytes behind it.
 use Rattle.std.proofs.Common.{◌≡◌, ℕ, ◌^◌, ◌<◌, ◌≤◌, List, [], ◌∷◌, ◌++◌, length, take, Some}
-use Rattle.p21_basics.specs.Digits.{AllDigits, number}
-use Rattle.p21_exchange.specs.Token.{Token, Spells, MayFollow}
+use Rattle.p21_spec_basics.specs.Digits.{AllDigits, number}
+use Rattle.p21_spec_exchange.specs.Token.{Token, Spells, MayFollow}
 use Rattle.p21_tokens_automaton.proofs.TextFits.{TextFits}
-use Rattle.p21_exchange.specs.Keyword.{IsKeyword}
-use Rattle.p21_exchange.specs.Number.{Sign, sign_bytes}
+use Rattle.p21_spec_exchange.specs.Keyword.{IsKeyword}
+use Rattle.p21_spec_exchange.specs.Number.{Sign, sign_bytes}
 use Rattle.p21_tokens_automaton.specs.Meaning.{Means, IsOutOfRange}
 use Rattle.p21_tokens_automaton.specs.Step.{marker_text}
 use Rattle.p21_tokens_automaton.specs.Reading.{FoundToken, ended_token, closed_token, marker_of}

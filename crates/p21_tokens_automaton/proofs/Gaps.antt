@@ -3,8 +3,8 @@ use Rattle.std.proofs.Common.{◌≡◌, ℕ, ◌≤◌, List, [], ◌∷◌, �
 use Rattle.std.specs.List.{flat_map, AllByRecursion as Each}
 use Rattle.std.proofs.lemmas.Bool.{cases_eq}
 use Rattle.std.proofs.lemmas.Bool.Decides.{nat_tests}
-use Rattle.p21_exchange.specs.Separator.{Separator, blank, comment, IsCommentText, IsSeparator, separator_bytes, IsSeparatorText}
-use Rattle.p21_exchange.proofs.OneGap.{EndsOnce-tail}
+use Rattle.p21_spec_exchange.specs.Separator.{Separator, blank, comment, IsCommentText, IsSeparator, separator_bytes, IsSeparatorText}
+use Rattle.p21_spec_exchange.proofs.OneGap.{EndsOnce-tail}
 use Rattle.p21_tokens_automaton.proofs.Steps.{lex-pass}
 use Rattle.p21_tokens_automaton.specs.Step.{advance}
 use Rattle.p21_tokens_automaton.specs.Reading.{State, start, pass, lex}

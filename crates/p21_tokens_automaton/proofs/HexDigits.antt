@@ -2,7 +2,7 @@
 use Rattle.std.proofs.Common.{◌≡◌, ℕ, ◌+◌, ◌*◌, ◌/◌, ◌%◌, ◌^◌, ◌<◌, ◌≤◌, [], ◌∷◌, ◌++◌, true, refl, sym, ap, ◌∙◌, arith, add-one, lit<}
 use Rattle.std.proofs.Math.Nat.{pow-suc, pow-le-pow_right}
 use Rattle.std.proofs.lemmas.Bool.Decides.{nat_tests}
-use Rattle.p21_basics.specs.Digits.{hex_digit, hex_digits}
+use Rattle.p21_spec_basics.specs.Digits.{hex_digit, hex_digits}
 use Rattle.p21_tokens_automaton.specs.Bytes.{is_hex, hex_value}
 
 pub hex_value-small : (byte : ℕ) → is_hex byte ≡ true → hex_value byte < 16

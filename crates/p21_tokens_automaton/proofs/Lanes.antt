@@ -4,7 +4,7 @@ use Rattle.std.proofs.lemmas.Bool.{cases_order}
 use Rattle.std.proofs.lemmas.List.{length-map, map-id}
 use Rattle.std.proofs.lemmas.Simd.{mask_l-mod}
 use lib.Lanes.{mask_l, top, Each1}
-use Rattle.p21_basics.proofs.Comparing.{both}
+use Rattle.p21_spec_basics.proofs.Comparing.{both}
 
 -- the lanes of a comparison
 abbrev pub equal : ℕ → ℕ → ℕ

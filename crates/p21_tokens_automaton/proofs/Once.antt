@@ -1,14 +1,14 @@
 -- What is found of a spelling means one token, and the token that is spelled is meant.
 use Rattle.std.proofs.Common.{◌≡◌, ℕ, ℤ, Bool, List, [], ◌∷◌, ◌++◌, refl, sym, ap, ◌∙◌}
 use Rattle.std.proofs.lemmas.List.{append_cancel_right}
-use Rattle.p21_exchange.proofs.BitSpellings.{bits_once}
-use Rattle.p21_basics.proofs.Members.{tail_is}
-use Rattle.p21_exchange.proofs.RealSpellings.{real_once}
-use Rattle.p21_exchange.proofs.WholeSpellings.{whole_once}
-use Rattle.p21_exchange.specs.Binary.{SpellsBits}
-use Rattle.p21_exchange.specs.Number.{Decimal, SpellsReal, SpellsWhole}
-use Rattle.p21_exchange.specs.Token.{Token, Spells}
-use Rattle.p21_exchange.specs.Token as token
+use Rattle.p21_spec_exchange.proofs.BitSpellings.{bits_once}
+use Rattle.p21_spec_basics.proofs.Members.{tail_is}
+use Rattle.p21_spec_exchange.proofs.RealSpellings.{real_once}
+use Rattle.p21_spec_exchange.proofs.WholeSpellings.{whole_once}
+use Rattle.p21_spec_exchange.specs.Binary.{SpellsBits}
+use Rattle.p21_spec_exchange.specs.Number.{Decimal, SpellsReal, SpellsWhole}
+use Rattle.p21_spec_exchange.specs.Token.{Token, Spells}
+use Rattle.p21_spec_exchange.specs.Token as token
 use Rattle.p21_tokens_automaton.specs.Meaning.{IsOfTokenClass, Means, found_of}
 use Rattle.p21_tokens_automaton.specs.Reading.{TokenClass, keyword, user_keyword, whole, real, item, bits, FoundToken, known, spelled}
 

@@ -1,12 +1,12 @@
 -- The pending count of bytes is one, whatever laying it is counted by.
 use Rattle.std.proofs.Common.{◌≡◌, ℕ, ◌+◌, List, [], ◌∷◌, ◌++◌, length, refl, sym, ap, ◌∙◌, subst, append_assoc, append-nil, Some, inl, inr, arith}
-use Rattle.p21_exchange.specs.Laying.{Lexeme, count_behind, open_bytes}
-use Rattle.p21_exchange.specs.Pending.{Tail, nothing, unfinished, slash, open_comment, tail_bytes, tail_size, BeginsWithNoSeparator, IsTail, LaidUpTo, IsPending}
-use Rattle.p21_exchange.specs.Separator.{blank, comment}
-use Rattle.p21_exchange.specs.Token.{Token, begin, finish, keyword, user_keyword, name, whole, real, text, item, bits, left, right, comma, semicolon, equals, dollar, star, Spells, IsFollowed, IsWholeAtOnce}
-use Rattle.p21_exchange.proofs.FirstBytes.{spelling_begins, no-spelling, slash-first}
-use Rattle.p21_exchange.proofs.OneGap.{HasNoSeparator, gap-one, begins-on}
-use Rattle.p21_basics.proofs.Members.{head_is, tail_is}
+use Rattle.p21_spec_exchange.specs.Laying.{Lexeme, count_behind, open_bytes}
+use Rattle.p21_spec_exchange.specs.Pending.{Tail, nothing, unfinished, slash, open_comment, tail_bytes, tail_size, BeginsWithNoSeparator, IsTail, LaidUpTo, IsPending}
+use Rattle.p21_spec_exchange.specs.Separator.{blank, comment}
+use Rattle.p21_spec_exchange.specs.Token.{Token, begin, finish, keyword, user_keyword, name, whole, real, text, item, bits, left, right, comma, semicolon, equals, dollar, star, Spells, IsFollowed, IsWholeAtOnce}
+use Rattle.p21_spec_exchange.proofs.FirstBytes.{spelling_begins, no-spelling, slash-first}
+use Rattle.p21_spec_exchange.proofs.OneGap.{HasNoSeparator, gap-one, begins-on}
+use Rattle.p21_spec_basics.proofs.Members.{head_is, tail_is}
 use Rattle.p21_tokens_automaton.specs.Meaning.{Means, found_of}
 use Rattle.p21_tokens_automaton.specs.Reading.{State, start, Answer, FoundToken, without_tokens, open_at, before, SizedToken, ended_token, lex}
 use Rattle.p21_tokens_automaton.proofs.Once.{means-once, spells-means}

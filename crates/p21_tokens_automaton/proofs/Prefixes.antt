@@ -1,10 +1,10 @@
 -- Fronts of bytes: the token that their end leaves, how many tokens they have, and those that need no byte behind them.
 use Rattle.std.proofs.Common.{◌≡◌, ℕ, ◌≤◌, ◌<◌, List, [], ◌∷◌, ◌++◌, inl, inr, length, length-append, refl, sym, ap, ◌∙◌, subst, append_assoc, Option, Some, None, arith}
-use Rattle.p21_exchange.specs.Token.{Token, begin, finish, keyword, user_keyword, name, whole, real, text, item, bits, left, right, comma, semicolon, equals, dollar, star, Spells, IsFollowed, IsWholeAtOnce}
-use Rattle.p21_exchange.specs.Keyword.{IsKeyword}
-use Rattle.p21_exchange.specs.Number.{sign_bytes, exponent_bytes}
-use Rattle.p21_exchange.specs.Laying.{Lexeme, LaidAs}
-use Rattle.p21_exchange.specs.Pending.{Tail, nothing, unfinished, slash, open_comment, tail_bytes}
+use Rattle.p21_spec_exchange.specs.Token.{Token, begin, finish, keyword, user_keyword, name, whole, real, text, item, bits, left, right, comma, semicolon, equals, dollar, star, Spells, IsFollowed, IsWholeAtOnce}
+use Rattle.p21_spec_exchange.specs.Keyword.{IsKeyword}
+use Rattle.p21_spec_exchange.specs.Number.{sign_bytes, exponent_bytes}
+use Rattle.p21_spec_exchange.specs.Laying.{Lexeme, LaidAs}
+use Rattle.p21_spec_exchange.specs.Pending.{Tail, nothing, unfinished, slash, open_comment, tail_bytes}
 use Rattle.p21_tokens_automaton.specs.Meaning.{Means, MeanAll, found_of}
 use Rattle.p21_tokens_automaton.specs.Reading.{State, start, Answer, before, after, FoundToken, SizedToken, ended_token, all_tokens, lex}
 use Rattle.p21_tokens_automaton.proofs.Gaps.{gap, gap-run}

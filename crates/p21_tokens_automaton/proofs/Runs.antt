@@ -11,7 +11,7 @@ use Rattle.p21_tokens_automaton.specs.declared.mode.NameMode.TheVariants.{Digits
 use Rattle.p21_tokens_automaton.specs.declared.mode.Action.{Action}
 use Rattle.p21_tokens_automaton.specs.declared.mode.Action.TheVariants.{Pass, Skip, Keep, Put}
 use Rattle.p21_tokens_automaton.proofs.Steps.{lex-pass, lex-skip, lex-keep, lex-put}
-use Rattle.p21_basics.specs.Digits.{is_digit}
+use Rattle.p21_spec_basics.specs.Digits.{is_digit}
 
 rest-does : (mode : Mode) (does : ℕ → Action) (b : ℕ) (bytes : List ℕ) (count : ℕ) → EachHasAction mode (b ∷ bytes) (suc count) does → EachHasAction mode bytes count does
 rest-does mode does b bytes count h = record { within = let w = h.within in omega arith; each = λ k l. h.each (suc k) (omega arith) }

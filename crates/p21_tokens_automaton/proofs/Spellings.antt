@@ -1,12 +1,12 @@
 -- The canonical spelling of a token spells it, and is that of the same tokens alone.
 use Rattle.std.proofs.Common.{◌≡◌, ◌↔◌, ℕ, List, [], ◌∷◌, length, refl, sym, ap, subst, append-nil}
-use Rattle.p21_exchange.proofs.ReducedDecimals.{reduced_once}
-use Rattle.p21_exchange.specs.Laying.{Laid}
-use Rattle.p21_exchange.specs.Spelling.{spelling}
-use Rattle.p21_exchange.specs.Token.{Token, real, Spells, IsSpelled}
+use Rattle.p21_spec_exchange.proofs.ReducedDecimals.{reduced_once}
+use Rattle.p21_spec_exchange.specs.Laying.{Laid}
+use Rattle.p21_spec_exchange.specs.Spelling.{spelling}
+use Rattle.p21_spec_exchange.specs.Token.{Token, real, Spells, IsSpelled}
 use Rattle.p21_tokens_automaton.proofs.Theorems.{one-laying}
 use Rattle.p21_tokens_automaton.specs.SameToken.{SameToken}
-use Rattle.p21_exchange.proofs.CanonicalSpellings.{spells-itself}
+use Rattle.p21_spec_exchange.proofs.CanonicalSpellings.{spells-itself}
 
 -- a spelling by itself is laid
 laid-alone : (token : Token) (bytes : List ℕ) → Spells token bytes → Laid bytes (token ∷ [])

@@ -2,8 +2,8 @@
 use Rattle.std.proofs.Common.{◌≡◌, ℕ, ◌^◌, ◌<◌, ◌≤◌, List, [], ◌∷◌, ◌++◌, length}
 use Rattle.std.specs.Char.{IsScalar, encode_utf8}
 use Rattle.std.specs.List.{flat_map, AllByRecursion as Each}
-use Rattle.p21_basics.specs.Digits.{hex_digit, hex_digits}
-use Rattle.p21_exchange.specs.Text.{StringUnit, IsStringUnit, unit_bytes, unit_characters, utf16_groups, Encodes}
+use Rattle.p21_spec_basics.specs.Digits.{hex_digit, hex_digits}
+use Rattle.p21_spec_exchange.specs.Text.{StringUnit, IsStringUnit, unit_bytes, unit_characters, utf16_groups, Encodes}
 use Rattle.p21_tokens_automaton.specs.Step.{utf8_value}
 use Rattle.p21_tokens_automaton.specs.declared.mode.TextMode.{TextMode}
 use Rattle.p21_tokens_automaton.specs.declared.mode.TextMode.TheVariants as text_mode

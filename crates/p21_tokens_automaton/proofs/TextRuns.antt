@@ -7,8 +7,8 @@ use Rattle.std.proofs.Math.Nat.{pow-suc}
 use Rattle.std.proofs.lemmas.Bool.{cases_lt, cases_eq}
 use Rattle.std.proofs.lemmas.Bool.Decides.{nat_tests}
 use lib.Utf8.{scalar_cases}
-use Rattle.p21_basics.specs.Digits.{hex_digit, hex_digits}
-use Rattle.p21_exchange.specs.Text.{StringUnit, ignored, plain, doubled, high_codepoint, page, alphabet_a, arbitrary, extended2, extended4, IsApostropheOrBackslash, IsStringUnit, end_extended, unit_bytes, unit_characters, utf16_groups, Encodes}
+use Rattle.p21_spec_basics.specs.Digits.{hex_digit, hex_digits}
+use Rattle.p21_spec_exchange.specs.Text.{StringUnit, ignored, plain, doubled, high_codepoint, page, alphabet_a, arbitrary, extended2, extended4, IsApostropheOrBackslash, IsStringUnit, end_extended, unit_bytes, unit_characters, utf16_groups, Encodes}
 use Rattle.p21_tokens_automaton.specs.Step.{text_action, utf8_action, utf8_value, group_action, low_group_action, put_scalar, group_value, long_value}
 use Rattle.p21_tokens_automaton.specs.Reading.{State, start, skip, lex}
 use Rattle.p21_tokens_automaton.specs.declared.mode.Mode.TheVariants.{Text}

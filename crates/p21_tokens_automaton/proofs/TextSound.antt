@@ -6,9 +6,9 @@ use Rattle.std.specs.List.{flat_map, AllByRecursion as Each}
 use Rattle.std.proofs.lemmas.Bool.{cond_both, leb-true, ltb-true, ltb-false, eqb-true, eqb-false, or_cases, or_parts, and_parts}
 use Rattle.std.proofs.lemmas.List.{flat_map_more}
 use Rattle.std.proofs.lemmas.Option.{none-some, same_Some}
-use Rattle.p21_basics.specs.Digits.{hex_digit, hex_digits}
-use Rattle.p21_exchange.specs.Text.{StringUnit, ignored, plain, doubled, high_codepoint, page, alphabet_a, arbitrary, extended2, extended4, IsApostropheOrBackslash, IsStringUnit, unit_bytes, unit_characters, utf16_groups, Encodes}
-use Rattle.p21_exchange.specs.Token.{text, Spells, MayFollow}
+use Rattle.p21_spec_basics.specs.Digits.{hex_digit, hex_digits}
+use Rattle.p21_spec_exchange.specs.Text.{StringUnit, ignored, plain, doubled, high_codepoint, page, alphabet_a, arbitrary, extended2, extended4, IsApostropheOrBackslash, IsStringUnit, unit_bytes, unit_characters, utf16_groups, Encodes}
+use Rattle.p21_spec_exchange.specs.Token.{text, Spells, MayFollow}
 use Rattle.p21_tokens_automaton.specs.Meaning.{Means}
 use Rattle.p21_tokens_automaton.specs.Reading.{known}
 use Rattle.p21_tokens_automaton.specs.Bytes.{is_hex, hex_value}
@@ -24,7 +24,7 @@ use Rattle.p21_tokens_automaton.proofs.Utf16.{groups-one, groups-from_pair}
 use Rattle.p21_tokens_automaton.proofs.Utf8.{two-lead, three-lead, four-lead}
 use Rattle.p21_tokens_automaton.proofs.TextFits.{InString, InGroups, BehindGroup, InEnd, IsPart, IsHighSurrogate, LeadsToLast, LeadsToSecond, LeadsToThird, TextFits}
 use Rattle.p21_tokens_automaton.proofs.Fits.{EndFits, StepFits}
-use Rattle.p21_basics.proofs.Members.{Each-append}
+use Rattle.p21_spec_basics.proofs.Members.{Each-append}
 
 -- one more unit
 pub Encodes-more : (inside characters : List ℕ) → Encodes inside characters → (unit : StringUnit) → IsStringUnit unit → Encodes (inside ++ unit_bytes unit) (characters ++ unit_characters unit)

@@ -1,9 +1,9 @@
 -- The two theorems that join the reading to the tokens laid in bytes, and what follows of them.
 use Rattle.std.proofs.Common.{◌≡◌, ◌≢◌, ℕ, pos, ◌+◌, List, [], ◌∷◌, ◌++◌, ◌⊎◌, inl, inr, length, length-append, refl, sym, ap, ◌∙◌, subst, append_assoc, append-nil, Some, arith}
 use Rattle.std.proofs.lemmas.Bool.{ne_eqb}
-use Rattle.p21_exchange.specs.Token.{Token, begin, finish, keyword, user_keyword, name, whole, real, text, item, bits, left, right, comma, semicolon, equals, dollar, star, Spells, MayFollow, HasNoExponent, IsWholeAtOnce}
-use Rattle.p21_exchange.specs.Laying.{Lexeme, LaidAs, Laid, tokens_in}
-use Rattle.p21_exchange.specs.Pending.{Tail, nothing, unfinished, slash, open_comment, tail_bytes, tail_size, IsKnownWhole, IsTail, LaidUpTo}
+use Rattle.p21_spec_exchange.specs.Token.{Token, begin, finish, keyword, user_keyword, name, whole, real, text, item, bits, left, right, comma, semicolon, equals, dollar, star, Spells, MayFollow, HasNoExponent, IsWholeAtOnce}
+use Rattle.p21_spec_exchange.specs.Laying.{Lexeme, LaidAs, Laid, tokens_in}
+use Rattle.p21_spec_exchange.specs.Pending.{Tail, nothing, unfinished, slash, open_comment, tail_bytes, tail_size, IsKnownWhole, IsTail, LaidUpTo}
 use Rattle.p21_tokens_automaton.specs.Meaning.{MeanAll, found_of}
 use Rattle.p21_tokens_automaton.specs.Reading.{State, start, skip, Answer, without_tokens, open_at, before, SizedToken, ended_token, all_tokens, lex}
 use Rattle.p21_tokens_automaton.specs.Step.{advance}
@@ -13,8 +13,8 @@ use Rattle.p21_tokens_automaton.specs.declared.mode.TextMode.TheVariants as text
 use Rattle.p21_tokens_automaton.specs.declared.mode.Single.TheVariants as single
 use Rattle.p21_tokens_automaton.proofs.Complete.{laid-read}
 use Rattle.p21_tokens_automaton.proofs.Fits.{StepFits}
-use Rattle.p21_basics.specs.Digits.{IsDigit}
-use Rattle.p21_exchange.specs.Number.{Decimal, RealForm}
+use Rattle.p21_spec_basics.specs.Digits.{IsDigit}
+use Rattle.p21_spec_exchange.specs.Number.{Decimal, RealForm}
 use Rattle.p21_tokens_automaton.proofs.Once.{means-once, spells-means}
 use Rattle.p21_tokens_automaton.proofs.Sound.{LaidTo, TailIs, UpTo, read, read-laid}
 use Rattle.p21_tokens_automaton.proofs.Steps.{lex-nil, lex-skip, lex-end}

@@ -5,13 +5,13 @@ use Rattle.std.proofs.lemmas.Bool.Decides.{nat_tests}
 use Rattle.std.proofs.lemmas.List.{length_push}
 use Rattle.std.specs.List.{flat_map, AllByRecursion as Each}
 use Rattle.std.proofs.Math.Nat.{one-le-pow, mul-le-mul_left}
-use Rattle.p21_basics.proofs.PlainDigits.{number_append}
-use Rattle.p21_exchange.specs.Binary.{four_bits, has_bit}
-use Rattle.p21_basics.specs.Digits.{IsDigit, AllDigits, number as number_of, hex_digit}
-use Rattle.p21_exchange.specs.Keyword.{IsUpper, IsKeyword, IsKeywordByte}
-use Rattle.p21_exchange.specs.Number.{Sign, none, plus, minus, sign_bytes, no_exponent, exponent, exponent_bytes, Exponent, IsExponent, RealForm, Decimal}
-use Rattle.p21_exchange.specs.Token.{Token, Spells, MayFollow}
-use Rattle.p21_exchange.specs.Token as token
+use Rattle.p21_spec_basics.proofs.PlainDigits.{number_append}
+use Rattle.p21_spec_exchange.specs.Binary.{four_bits, has_bit}
+use Rattle.p21_spec_basics.specs.Digits.{IsDigit, AllDigits, number as number_of, hex_digit}
+use Rattle.p21_spec_exchange.specs.Keyword.{IsUpper, IsKeyword, IsKeywordByte}
+use Rattle.p21_spec_exchange.specs.Number.{Sign, none, plus, minus, sign_bytes, no_exponent, exponent, exponent_bytes, Exponent, IsExponent, RealForm, Decimal}
+use Rattle.p21_spec_exchange.specs.Token.{Token, Spells, MayFollow}
+use Rattle.p21_spec_exchange.specs.Token as token
 use Rattle.p21_tokens_automaton.specs.Meaning.{found_of}
 use Rattle.p21_tokens_automaton.specs.Step.{advance, mode_behind_digit, has_zero_padding}
 use Rattle.p21_tokens_automaton.specs.Reading.{State, start, Answer, before, FoundToken, known, spelled, item, bits, single_token, ended_token, closed_token, lex}

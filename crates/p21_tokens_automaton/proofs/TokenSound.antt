@@ -7,13 +7,13 @@ use Rattle.std.proofs.lemmas.Option.{slice_get_within, get_or_from_slice_get}
 use Rattle.std.proofs.lemmas.Slice.Eq.{bytes_eq-Decides}
 use Rattle.std.specs.List.{AllByRecursion as Each}
 use Rattle.std.proofs.lemmas.Option.{none-some, same_Some}
-use Rattle.p21_basics.proofs.PlainDigits.{digits_append}
-use Rattle.p21_basics.specs.Digits.{IsDigit, AllDigits, number as number_of, is_digit}
-use Rattle.p21_exchange.specs.Keyword.{IsKeyword, IsKeywordByte}
-use Rattle.p21_exchange.specs.Name.{SpellsName}
-use Rattle.p21_exchange.specs.Number.{Sign, none, plus, minus, sign_bytes, is_minus, signed, exponent, no_exponent, exponent_bytes, RealForm, SpellsReal, SpellsWhole}
-use Rattle.p21_exchange.specs.Token.{Token, Spells, MayFollow, HasNoExponent}
-use Rattle.p21_exchange.specs.Token as token
+use Rattle.p21_spec_basics.proofs.PlainDigits.{digits_append}
+use Rattle.p21_spec_basics.specs.Digits.{IsDigit, AllDigits, number as number_of, is_digit}
+use Rattle.p21_spec_exchange.specs.Keyword.{IsKeyword, IsKeywordByte}
+use Rattle.p21_spec_exchange.specs.Name.{SpellsName}
+use Rattle.p21_spec_exchange.specs.Number.{Sign, none, plus, minus, sign_bytes, is_minus, signed, exponent, no_exponent, exponent_bytes, RealForm, SpellsReal, SpellsWhole}
+use Rattle.p21_spec_exchange.specs.Token.{Token, Spells, MayFollow, HasNoExponent}
+use Rattle.p21_spec_exchange.specs.Token as token
 use Rattle.p21_tokens_automaton.specs.Bytes.{is_upper, is_keyword_byte, is_hex, hex_value, is_blank}
 use Rattle.p21_tokens_automaton.specs.Meaning.{IsOfTokenClass, Means}
 use Rattle.p21_tokens_automaton.specs.Step.{mode_behind_digit, non_digit_action, number_action, marker_text, marker_action, word_action, name_digit_action, name_action, has_zero_padding, binary_action, punctuation_action, between_action, text_action, advance}

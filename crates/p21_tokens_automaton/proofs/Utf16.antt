@@ -2,8 +2,8 @@
 use Rattle.std.proofs.Common.{◌≡◌, ℕ, ◌+◌, ◌-◌, ◌*◌, ◌/◌, ◌%◌, ◌<◌, ◌≤◌, [], ◌∷◌, ◌++◌, refl, ap, ap₂, ◌∙◌, arith, lt-ltb, le-ltb, append-nil}
 use Rattle.std.specs.Char.Escape.{encode_utf16}
 use Rattle.std.specs.List.{flat_map}
-use Rattle.p21_basics.specs.Digits.{hex_digits}
-use Rattle.p21_exchange.specs.Text.{utf16_groups}
+use Rattle.p21_spec_basics.specs.Digits.{hex_digits}
+use Rattle.p21_spec_exchange.specs.Text.{utf16_groups}
 
 encode-one : (c : ℕ) → c < 65536 → encode_utf16 c ≡ c ∷ []
 encode-one c h = rw (lt-ltb c 65536 h) refl

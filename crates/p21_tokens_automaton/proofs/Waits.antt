@@ -1,6 +1,6 @@
 -- How the spelling of a token is read.
 use Rattle.std.proofs.Common.{◌≡◌, ℕ, List, ◌++◌, length, Some}
-use Rattle.p21_exchange.specs.Token.{Token, MayFollow}
+use Rattle.p21_spec_exchange.specs.Token.{Token, MayFollow}
 use Rattle.p21_tokens_automaton.specs.Meaning.{found_of}
 use Rattle.p21_tokens_automaton.specs.Step.{advance}
 use Rattle.p21_tokens_automaton.specs.Reading.{State, start, before, ended_token, lex}

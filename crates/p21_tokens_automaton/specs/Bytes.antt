@@ -1,6 +1,6 @@
 -- Classes of bytes, as tests.
 use Rattle.std.specs.Prelude.{ℕ, ◌-◌, Bool, nat_le, ◌==◌, ◌&&◌, ◌||◌, if◌then◌else◌}
-use Rattle.p21_basics.specs.Digits.{is_digit}
+use Rattle.p21_spec_basics.specs.Digits.{is_digit}
 
 abbrev pub is_upper : ℕ → Bool
 is_upper byte = nat_le 65 byte && nat_le byte 90 || byte == 95

@@ -1,9 +1,9 @@
 -- Which token is found: one that is known, or one of a kind that its bytes spell.
 use Rattle.std.specs.Prelude.{◌≡◌, ◌≢◌, ℕ, List, [], ◌∷◌}
-use Rattle.p21_basics.specs.Digits.{IsDigit}
-use Rattle.p21_exchange.specs.Token.{Token, keyword as keyword_token, user_keyword as user_keyword_token, whole as whole_token, real as real_token, item as item_token, bits as bits_token, Spells, HasNoExponent}
-use Rattle.p21_exchange.specs.Laying.{Lexeme}
-use Rattle.p21_exchange.specs.Number.{Decimal, RealForm, SpellsReal}
+use Rattle.p21_spec_basics.specs.Digits.{IsDigit}
+use Rattle.p21_spec_exchange.specs.Token.{Token, keyword as keyword_token, user_keyword as user_keyword_token, whole as whole_token, real as real_token, item as item_token, bits as bits_token, Spells, HasNoExponent}
+use Rattle.p21_spec_exchange.specs.Laying.{Lexeme}
+use Rattle.p21_spec_exchange.specs.Number.{Decimal, RealForm, SpellsReal}
 use Rattle.p21_tokens_automaton.specs.Reading.{TokenClass, keyword, user_keyword, whole, real, item, bits, FoundToken, known, spelled, SizedToken}
 
 abbrev pub IsOfTokenClass : TokenClass → Token → Type 0

@@ -2,7 +2,7 @@
 -- tokens that are laid in the bytes, which nobody has to believe.
 use Rattle.std.specs.Prelude.{ℕ, ◌+◌, List, [], ◌∷◌, ◌++◌, if◌then◌else◌, Option, Some, None, codes}
 use Rattle.std.specs.Str.{bytes_eq}
-use Rattle.p21_exchange.specs.Token.{Token, begin, finish, name, text, left, right, comma, semicolon, equals, dollar, star}
+use Rattle.p21_spec_exchange.specs.Token.{Token, begin, finish, name, text, left, right, comma, semicolon, equals, dollar, star}
 use Rattle.p21_tokens_automaton.specs.Step.{advance}
 use Rattle.p21_tokens_automaton.specs.declared.mode.Mode.{Mode}
 use Rattle.p21_tokens_automaton.specs.declared.mode.Mode.TheVariants.{Between, Number, Word, Name, Binary, Text}

@@ -12,7 +12,7 @@ use Rattle.p21_tokens_automaton.specs.declared.run.Class.{Class}
 use Rattle.p21_tokens_automaton.specs.declared.run.Class.TheVariants.{Blank, Commented, Digit, KeywordByte, HexDigit, Plain, CharacterByte}
 use Rattle.p21_tokens_automaton.specs.declared.run.Run.{Run}
 use Rattle.p21_tokens_automaton.specs.declared.run.Run.TheVariants.{Passed, PendingBytes, Characters, Named, Utf8}
-use Rattle.p21_basics.specs.Digits.{is_digit}
+use Rattle.p21_spec_basics.specs.Digits.{is_digit}
 
 -- the byte may be one of a character of a string in UTF-8
 abbrev pub is_character_byte : ℕ → Bool

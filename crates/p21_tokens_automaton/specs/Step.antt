@@ -22,7 +22,7 @@ use Rattle.p21_tokens_automaton.specs.declared.mode.Absent.TheVariants.{Scope, V
 use Rattle.p21_tokens_automaton.specs.declared.mode.Wrong.TheVariants as wrong
 use Rattle.p21_tokens_automaton.specs.declared.mode.Action.{Action}
 use Rattle.p21_tokens_automaton.specs.declared.mode.Action.TheVariants.{Pass, Skip, Keep, Put, Give, Close, End, Dash, Refuse}
-use Rattle.p21_basics.specs.Digits.{is_digit}
+use Rattle.p21_spec_basics.specs.Digits.{is_digit}
 
 -- the part of a number that a digit belongs to
 abbrev pub mode_behind_digit : NumberMode → NumberMode

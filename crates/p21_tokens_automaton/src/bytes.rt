@@ -1,4 +1,4 @@
-ghost use Rattle.p21_basics.specs.Digits.{is_digit};
+ghost use Rattle.p21_spec_basics.specs.Digits.{is_digit};
 ghost use Rattle.std.specs.Prelude.{◌≡◌, ◌<◌, IsTrue};
 ghost use Rattle.p21_tokens_automaton.specs.Bytes.{is_upper, is_keyword_byte, is_hex, hex_value, is_blank};
 

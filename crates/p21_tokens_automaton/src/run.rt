@@ -1,4 +1,4 @@
-ghost use Rattle.p21_basics.specs.Digits.{is_digit};
+ghost use Rattle.p21_spec_basics.specs.Digits.{is_digit};
 ghost use Rattle.std.specs.Prelude.{◌≡◌, ◌^◌, ◌<◌, ◌≤◌, ◌⊎◌, false, length, slice_index};
 ghost use Rattle.p21_tokens_automaton.specs.Run.{IsRun, AreNameDigits, AreOfClass, EachHasAction, is_of_class};
 ghost use Rattle.p21_tokens_automaton.specs.declared.mode.Action.TheVariants.{Keep, Pass, Put};

@@ -5,9 +5,9 @@ use Rattle.std.proofs.lemmas.List.{length-map, take-append-drop, take_more}
 use Rattle.std.proofs.lemmas.List.Elements.{All-append, All-cons, All-nil}
 use Rattle.std.proofs.Math.Seq.{take-add}
 use Rattle.std.specs.Prelude.{All, IsTrue, nat_lt}
-use Rattle.p21_exchange.proofs.BitSpellings.{bits_spelled_once, length_spelled}
-use Rattle.p21_exchange.specs.Binary.{SpellsBits}
-use Rattle.p21_exchange.specs.Token.{IsFollowed, bits}
+use Rattle.p21_spec_exchange.proofs.BitSpellings.{bits_spelled_once, length_spelled}
+use Rattle.p21_spec_exchange.specs.Binary.{SpellsBits}
+use Rattle.p21_spec_exchange.specs.Token.{IsFollowed, bits}
 use Rattle.p21_values.specs.Bits.{bits_of_digits, hex_value, is_hex_digit}
 use Rattle.p21_transcribe.specs.Bits.{AreHexDigits, IsPadded}
 use Rattle.p21_transcribe.specs.LeadingToken.{IsCanonicalLeadingToken}

@@ -4,8 +4,8 @@ use Rattle.std.proofs.lemmas.Simd.{trailing_mask_l, run_in_chunk_fails, run_in_c
 use lib.Count.{count_trailing_zeros}
 use lib.Lanes.{chunk, mask_l}
 use mathlib.Core.Bool.{not}
-use Rattle.p21_basics.specs.Digits.{AllDigits, IsDigit, is_digit}
-use Rattle.p21_exchange.proofs.Forms.{NoDigitFirst}
+use Rattle.p21_spec_basics.specs.Digits.{AllDigits, IsDigit, is_digit}
+use Rattle.p21_spec_exchange.proofs.Forms.{NoDigitFirst}
 use Rattle.p21_tokens_automaton.proofs.Classes.{digit-decides}
 use Rattle.p21_transcribe.specs.Runs.{IsDigitRun}
 

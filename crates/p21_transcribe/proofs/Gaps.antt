@@ -2,9 +2,9 @@
 use Rattle.std.proofs.Common.{◌≡◌, ℕ, ◌+◌, ◌-◌, ◌<◌, ◌≤◌, List, [], ◌∷◌, ◌++◌, length, take, drop, get_or, refl, ap, sym, subst, ◌∙◌, append_assoc, length-append, length-take-le, arith}
 use Rattle.std.proofs.lemmas.List.{get_or-append-add, get_or-take, take_more, take-append-drop}
 use Rattle.std.proofs.Math.Seq.{get_or-append_seam}
-use Rattle.p21_basics.proofs.Members.{head_is, tail_is}
-use Rattle.p21_exchange.proofs.OneGap.{HasNoSeparator, nothing-first}
-use Rattle.p21_exchange.specs.Separator.{IsCommentText, IsSeparator, Separator, blank, comment, separator_bytes}
+use Rattle.p21_spec_basics.proofs.Members.{head_is, tail_is}
+use Rattle.p21_spec_exchange.proofs.OneGap.{HasNoSeparator, nothing-first}
+use Rattle.p21_spec_exchange.specs.Separator.{IsCommentText, IsSeparator, Separator, blank, comment, separator_bytes}
 use Rattle.p21_transcribe.specs.Gaps.{BeginsComment, HasNoLeadingBlank, PassesBlank, PassesSeparator, PassesSeparators}
 
 -- ---- no separator

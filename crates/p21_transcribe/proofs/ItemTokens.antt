@@ -1,8 +1,8 @@
 -- Enumeration items.
 use Rattle.std.proofs.Common.{◌≡◌, ℕ, suc, ◌+◌, ◌≤◌, List, [], ◌∷◌, ◌++◌, length, take, drop, get_or, ap, sym, subst, ◌∙◌, arith, length-drop}
 use Rattle.std.proofs.Math.Seq.{take-add}
-use Rattle.p21_exchange.specs.Keyword.{IsKeyword, IsUpper}
-use Rattle.p21_exchange.specs.Token.{IsFollowed, item}
+use Rattle.p21_spec_exchange.specs.Keyword.{IsKeyword, IsUpper}
+use Rattle.p21_spec_exchange.specs.Token.{IsFollowed, item}
 use Rattle.p21_transcribe.specs.LeadingToken.{IsCanonicalLeadingToken}
 
 followed-item : (word spelling rest : List ℕ) → IsFollowed (item word) spelling rest

@@ -1,8 +1,8 @@
 -- Keywords.
 use Rattle.std.proofs.Common.{◌≡◌, ℕ, ◌<◌, false, List, [], ◌∷◌, length, take, drop, get_or, refl, ap, sym, subst, ◌∙◌, arith, length-drop, length-take-le, add-zero}
 use Rattle.std.proofs.lemmas.List.{get_or-drop}
-use Rattle.p21_exchange.specs.Keyword.{IsUpper}
-use Rattle.p21_exchange.specs.Token.{IsFollowed, keyword}
+use Rattle.p21_spec_exchange.specs.Keyword.{IsUpper}
+use Rattle.p21_spec_exchange.specs.Token.{IsFollowed, keyword}
 use Rattle.p21_tokens.proofs.LeadingTokens.{keyword-is}
 use Rattle.p21_tokens_automaton.proofs.Classes.{keyword_byte-decides}
 use Rattle.p21_tokens_automaton.specs.Bytes.{is_keyword_byte}
@@ -11,7 +11,7 @@ use Rattle.p21_tokens_automaton.specs.declared.mode.Action.TheVariants.{Keep}
 use Rattle.p21_tokens_automaton.specs.declared.mode.Mode.TheVariants.{Word}
 use Rattle.p21_tokens_automaton.specs.declared.mode.WordMode.TheVariants.{Keyword}
 use Rattle.p21_transcribe.specs.LeadingToken.{IsCanonicalLeadingToken}
-use Rattle.p21_transcribe.specs.Runs.{BeginsWithoutByte}
+use Rattle.p21_scan.specs.Digits.{BeginsWithoutByte}
 
 followed-keyword : (word spelling rest : List ℕ) → (0 < length rest → is_keyword_byte (get_or rest 0 0) ≡ false) → BeginsWithoutByte 45 rest → IsFollowed (keyword word) spelling rest
 followed-keyword word spelling [] ends other = tt

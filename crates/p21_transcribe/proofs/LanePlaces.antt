@@ -6,12 +6,11 @@ use Rattle.std.proofs.lemmas.Bool.{cases_lt, cases_eq, lt-ltb, le-ltb}
 use Rattle.std.proofs.lemmas.Bool.Decides.{nat_tests}
 use Rattle.std.proofs.lemmas.List.{drop_more, drop-drop, get_or-append-add, get_or_append_left, get_or-drop, get_or-take, take_all, take-append-le, take-take}
 use Rattle.std.proofs.Math.Seq.{take-append-add}
-use Rattle.p21_basics.proofs.PlainDigits.{digits_append}
-use Rattle.p21_basics.specs.Digits.{AllDigits, IsDigit, is_digit, number}
-use Rattle.p21_lanes.specs.Places.{HasPlaces}
-use Rattle.p21_values.proofs.DigitRuns.{digit_at}
-use Rattle.p21_values.proofs.DigitRuns as runs
-use Rattle.p21_values.specs.Digits.{WithoutTrailingZeros}
+use Rattle.p21_spec_basics.proofs.PlainDigits.{digits_append}
+use Rattle.p21_spec_basics.specs.Digits.{AllDigits, IsDigit, is_digit, number}
+use Rattle.p21_transcribe.specs.Places.{HasPlaces}
+use Rattle.p21_scan.proofs.DigitRuns as runs
+use Rattle.p21_scan.specs.Digits.{WithoutTrailingZeros}
 use Rattle.p21_transcribe.proofs.DigitLanes.{digits-front, fails, passes, run_ended}
 use Rattle.p21_transcribe.proofs.Zeros.{end_cut, zeros_ended, zeros_whole}
 use Rattle.p21_transcribe.specs.Significands.{further_digits}

@@ -19,3 +19,7 @@ pub mod TextTokens
 pub mod WholeTokens
 pub mod WideWrites
 pub mod Zeros
+pub mod MaskBits
+pub mod MaskPlaces
+pub mod MaskLanes
+pub mod RealPlaces

@@ -1,10 +1,10 @@
 -- Names of instances with no zero in front.
 use Rattle.std.proofs.Common.{◌≡◌, ◌≢◌, ℕ, zero, suc, ◌+◌, ◌<◌, ◌≤◌, List, [], ◌∷◌, length, take, drop, get_or, refl, ap, sym, subst, arith, length-take-le}
 use Rattle.std.proofs.Math.Nat.{pow-le-pow_right}
-use Rattle.p21_basics.proofs.PlainDigits.{ArePlain, number_below, plain_digits-number}
-use Rattle.p21_basics.specs.Digits.{AllDigits, number}
-use Rattle.p21_exchange.proofs.Forms.{NoDigitFirst}
-use Rattle.p21_exchange.specs.Token.{IsFollowed, name}
+use Rattle.p21_spec_basics.proofs.PlainDigits.{ArePlain, number_below, plain_digits-number}
+use Rattle.p21_spec_basics.specs.Digits.{AllDigits, number}
+use Rattle.p21_spec_exchange.proofs.Forms.{NoDigitFirst}
+use Rattle.p21_spec_exchange.specs.Token.{IsFollowed, name}
 use Rattle.p21_transcribe.specs.LeadingToken.{IsCanonicalLeadingToken}
 use Rattle.p21_transcribe.specs.Runs.{IsDigitRun}
 

@@ -1,10 +1,10 @@
 -- The number that is written of a real whose parts stand at known places.
 use Rattle.std.proofs.Common.{◌≡◌, ℕ, ◌+◌, ◌-◌, ◌<◌, ◌≤◌, ℤ, pos, ◌+ℤ◌, ◌-ℤ◌, Bool, true, false, inl, inr, List, [], ◌∷◌, ◌++◌, take, drop, get_or, if◌then◌else◌, refl, ap, sym, subst, ◌∙◌, arith, append-nil}
 use Rattle.std.proofs.lemmas.Bool.{cases_lt}
-use Rattle.p21_basics.proofs.Members.{rest_is}
-use Rattle.p21_exchange.specs.Spelling.{exponent_spelling}
-use Rattle.p21_lanes.specs.Places.{HasPlaces}
-use Rattle.p21_values.specs.Digits.{WithoutTrailingZeros}
+use Rattle.p21_spec_basics.proofs.Members.{rest_is}
+use Rattle.p21_spec_exchange.specs.Spelling.{exponent_spelling}
+use Rattle.p21_transcribe.specs.Places.{HasPlaces}
+use Rattle.p21_scan.specs.Digits.{WithoutTrailingZeros}
 use Rattle.p21_transcribe.proofs.LanePlaces.{all-zeros, first-apart, fraction, kept-before_point, kept-behind_point, spelled-before_point, spelled-behind_point, whole, whole-zeros, zeros-before_point, zeros-behind_point}
 use Rattle.p21_transcribe.proofs.RealTokens.{with_fraction, with_whole, with_zeros}
 use Rattle.p21_transcribe.specs.Appending.{AppendsAllOrNone}

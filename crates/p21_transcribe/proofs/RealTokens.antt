@@ -1,31 +1,33 @@
 -- Reals: the digits that are written, and the token that they are of.
-use Rattle.std.proofs.Common.{◌≡◌, ◌≢◌, ℕ, zero, suc, ◌+◌, ◌-◌, ◌<◌, ◌≤◌, ℤ, pos, ◌+ℤ◌, ◌-ℤ◌, Bool, true, false, List, [], ◌∷◌, ◌++◌, length, take, drop, get_or, replicate, Ok, if◌then◌else◌, refl, ap, ap₂, sym, subst, ◌∙◌, arith, append_assoc, append-nil, length-append, length-drop, length-take-le}
+use Rattle.std.proofs.Common.{◌≡◌, ◌≢◌, ℕ, zero, suc, ◌+◌, ◌-◌, ◌<◌, ◌≤◌, ℤ, pos, ◌+ℤ◌, ◌-ℤ◌, Bool, true, false, List, [], ◌∷◌, ◌++◌, length, take, drop, get_or, replicate, Ok, Some, if◌then◌else◌, refl, ap, ap₂, sym, subst, ◌∙◌, arith, append_assoc, append-nil, length-append, length-drop, length-take-le}
 use Rattle.std.proofs.lemmas.Int.{ints}
-use Rattle.std.proofs.lemmas.List.{drop-take, take-append-drop}
+use Rattle.std.proofs.lemmas.List.{drop-take, take-append-drop, take_all}
 use Rattle.std.proofs.Math.Seq.{drop-append_seam, take-append_seam}
-use Rattle.p21_basics.proofs.PlainDigits.{digits_append}
-use Rattle.p21_basics.specs.Digits.{AllDigits, IsDigit, number}
-use Rattle.p21_basics.proofs.Members.{rest_is}
-use Rattle.p21_exchange.proofs.Forms.{NoDigitFirst, behind_sign, first_sign}
-use Rattle.p21_exchange.proofs.Exponents.{in_range_of_same}
-use Rattle.p21_exchange.proofs.Ratios.{ratio-positive}
-use Rattle.p21_exchange.specs.Number.{Decimal, IsExponentInRange, IsInRange, IsReduced, SameRatio, exponent_bytes, is_minus, ratio_of, whole_ratio}
-use Rattle.p21_exchange.specs.Spelling.{exponent_spelling}
-use Rattle.p21_exchange.specs.Token.{IsFollowed, real}
-use Rattle.p21_values.proofs.DigitRuns.{digits_parts}
-use Rattle.p21_values.proofs.Readings.{front_real}
+use Rattle.p21_spec_basics.proofs.PlainDigits.{digits_append}
+use Rattle.p21_spec_basics.specs.Digits.{AllDigits, IsDigit, number}
+use Rattle.p21_spec_basics.proofs.Members.{rest_is}
+use Rattle.p21_spec_exchange.proofs.Forms.{NoDigitFirst, behind_sign, first_sign}
+use Rattle.p21_spec_exchange.proofs.Exponents.{in_range_of_same}
+use Rattle.p21_spec_exchange.proofs.Ratios.{ratio-positive}
+use Rattle.p21_spec_exchange.specs.Number.{Decimal, Exponent, IsExponentInRange, IsInRange, IsReduced, SameRatio, is_minus, ratio_of, whole_ratio}
+use Rattle.p21_spec_exchange.specs.Spelling.{exponent_spelling}
+use Rattle.p21_spec_exchange.specs.Token.{IsFollowed, real}
+use Rattle.p21_scan.proofs.DigitRuns.{digits_parts}
+use Rattle.p21_scan.proofs.Numbers.{integer_at, real_front}
+use Rattle.p21_scan.specs.Number.{IsRealAt, ReadsExponent}
+use Rattle.p21_values.proofs.Readings.{reads_front}
 use Rattle.p21_values.proofs.Significands.{end_empty, end_kept, first_kept}
 use Rattle.p21_values.proofs.StoredDecimals.{reads_digits, reads_zero, stored_of_digits, stored_spelling}
 use Rattle.p21_values.specs.Decimal.{ReducesRatio}
-use Rattle.p21_values.specs.Digits.{HasNoLeadingZero, WithoutTrailingZeros, WithoutLeadingZeros}
+use Rattle.p21_scan.specs.Digits.{BeginsWithoutByte, HasNoLeadingZero, WithoutLeadingZeros, WithoutTrailingZeros}
 use Rattle.p21_values.specs.RealComponents.{digits_ratio}
 use Rattle.p21_values.specs.Stored.{stored_decimal}
-use Rattle.p21_transcribe.proofs.Splits.{behind-count, unsigned-front}
+use Rattle.p21_transcribe.proofs.Splits.{behind-count}
 use Rattle.p21_transcribe.proofs.WholeTokens.{number-zeros}
 use Rattle.p21_transcribe.specs.Appending.{AppendsAllOrNone, AppendsAllOrSome}
 use Rattle.p21_transcribe.specs.LeadingToken.{IsLeadingToken}
 use Rattle.p21_transcribe.specs.Numbers.{AppendsNormalised, AppendsNumber, AppendsWithoutExponent, EndsReal, signed_significand}
-use Rattle.p21_transcribe.specs.Runs.{AreDigits, AreLeadingZeros, IsDigitRun, BeginsWithoutByte}
+use Rattle.p21_transcribe.specs.Runs.{AreDigits, AreLeadingZeros, IsDigitRun}
 
 -- ---- the digits behind the point, without the zeros at their end
 
@@ -104,6 +106,10 @@ module _ (bytes : List ℕ) (count zeros : ℕ) (digits : AreDigits bytes count)
   pub kept_within : count - zeros ≤ length (drop zeros bytes)
   kept_within = let w = digits.within in omega (arith, length-drop zeros bytes)
 
+-- digits that are all of their bytes
+pub are-all : (ds : List ℕ) → AllDigits ds → AreDigits ds (length ds)
+are-all ds p = record { within = omega arith; digits = subst AllDigits (sym (take_all (length ds) ds (omega arith))) p }
+
 first_back : (xs : List ℕ) (n : ℕ) → 0 < n → HasNoLeadingZero (take n xs) → HasNoLeadingZero xs
 first_back [] n some h = tt
 first_back (x ∷ xs) zero some h = absurd (omega arith)
@@ -181,29 +187,34 @@ module _ (n : Bool) (w f : List ℕ) (cw cf zw : ℕ) (written k : ℤ) (old new
 
 -- ---- the token
 
-further : (bytes a r b t : List ℕ) → bytes ≡ a ++ r → r ≡ b ++ t → bytes ≡ (a ++ b) ++ t
-further bytes a r b t e f = e ∙ (ap (λ (x : List ℕ). a ++ x) f ∙ sym (append_assoc a b t))
-
 followed-real : (d : Decimal) (spelling rest : List ℕ) → NoDigitFirst rest → BeginsWithoutByte 69 rest → IsFollowed (real d) spelling rest
 followed-real d spelling [] h k = tt
 followed-real d spelling (byte ∷ rest) h k = (h, λ _. k)
 
+pub real-token : (bytes whole fraction rest : List ℕ) (negative : Bool) (power : Exponent) (k : ℤ) (d : Decimal) → IsRealAt bytes negative whole fraction power rest → ReadsExponent power (Some k) → BeginsWithoutByte 69 rest → ReducesRatio (digits_ratio negative whole fraction k) (Ok d)
+    → IsLeadingToken bytes (length bytes - length rest) (real d)
+real-token bytes whole fraction rest negative power k d x value other keeps = record {
+  within = omega arith;
+  spells = reads_front bytes whole fraction rest negative power x k (Ok d) value keeps;
+  followed = subst (IsFollowed (real d) (take (length bytes - length rest) bytes)) (sym (behind-count bytes _ rest (real_front bytes whole fraction rest negative power x))) (followed-real d _ rest x.power_at.ends other);
+}
+
+-- a real whose parts stand at known places
 module _ (bytes unsigned decimals rest : List ℕ) (count places : ℕ) (negative : Bool) (k : ℤ) (d : Decimal) (minus : negative ≡ is_minus (first_sign bytes)) (is : unsigned ≡ behind_sign bytes) (whole : IsDigitRun unsigned count) (some : 0 < count) (point : drop count unsigned ≡ 46 ∷ decimals) (fraction : IsDigitRun decimals places) (end : EndsReal (drop places decimals) k rest) where
-  behind : drop (length bytes - length rest) bytes ≡ rest
-  behind =
-      let start = unsigned-front bytes unsigned count is in
-      let x = end.begins in
-      let digits_with_point = further bytes start.0 (drop count unsigned) (46 ∷ []) decimals start.1 point in
-      let decimal = further bytes (start.0 ++ 46 ∷ []) decimals (take places decimals) (drop places decimals) digits_with_point (sym (take-append-drop places decimals)) in
-      let all = further bytes ((start.0 ++ 46 ∷ []) ++ take places decimals) (drop places decimals) (exponent_bytes x.exponent) rest decimal x.bytes_are in
-      behind-count bytes (((start.0 ++ 46 ∷ []) ++ take places decimals) ++ exponent_bytes x.exponent) rest all
+  placed : IsRealAt bytes negative (take count unsigned) (take places decimals) end.power rest
+  placed =
+      let split = take-append-drop places decimals in
+      let all : behind_sign bytes ≡ take count unsigned ++ (46 ∷ (take places decimals ++ drop places decimals)) = sym is ∙ (sym (take-append-drop count unsigned) ∙ ap (λ (x : List ℕ). take count unsigned ++ x) (point ∙ ap (λ (x : List ℕ). 46 ∷ x) (sym split))) in
+      record {
+        behind = drop places decimals;
+        whole_at = integer_at bytes (take count unsigned) _ negative minus all (omega (arith, length-take-le count unsigned whole.within)) whole.digits (λ d. omega (arith, d));
+        are_digits = fraction.digits;
+        no_digit = fraction.ends;
+        power_at = end.power_at;
+      }
 
   pub real-at_front : ReducesRatio (digits_ratio negative (take count unsigned) (take places decimals) k) (Ok d) → IsLeadingToken bytes (length bytes - length rest) (real d)
-  real-at_front keeps = record {
-    within = omega arith;
-    spells = front_real bytes (take count unsigned) (drop count unsigned) (sym is ∙ sym (take-append-drop count unsigned)) (omega (arith, length-take-le count unsigned whole.within)) whole.digits negative decimals (take places decimals) (drop places decimals) rest k d minus point (sym (take-append-drop places decimals)) fraction.digits end.begins keeps;
-    followed = subst (IsFollowed (real d) (take (length bytes - length rest) bytes)) (sym behind) (followed-real d _ rest end.no_digit end.no_exponent);
-  }
+  real-at_front keeps = real-token bytes (take count unsigned) (take places decimals) rest negative end.power k d placed end.value_is end.no_exponent keeps
 
 -- a whole number, and the real of the same ratio
 pub whole_number : (z : ℤ) (d : Decimal) → ReducesRatio (whole_ratio z) (Ok d) → IsReduced d × IsInRange (ratio_of d) × SameRatio (ratio_of d) (whole_ratio z)

@@ -5,10 +5,10 @@ use Rattle.std.proofs.lemmas.List.{flat_map_more}
 use Rattle.std.proofs.Math.Seq.{take-add}
 use Rattle.std.specs.Char.{IsScalar}
 use Rattle.std.specs.List.{flat_map, AllByRecursion as Each}
-use Rattle.p21_basics.proofs.Members.{rest_is}
-use Rattle.p21_exchange.specs.Spelling.{character_spelling}
-use Rattle.p21_exchange.specs.Text.{extended2, IsStringUnit, unit_bytes, unit_characters, utf16_groups, end_extended, Encodes}
-use Rattle.p21_exchange.specs.Token.{text}
+use Rattle.p21_spec_basics.proofs.Members.{rest_is}
+use Rattle.p21_spec_exchange.specs.Spelling.{character_spelling}
+use Rattle.p21_spec_exchange.specs.Text.{extended2, IsStringUnit, unit_bytes, unit_characters, utf16_groups, end_extended, Encodes}
+use Rattle.p21_spec_exchange.specs.Token.{text}
 use Rattle.p21_tokens_automaton.proofs.Fits.{ModeFits, NameFits, StepFits}
 use Rattle.p21_tokens_automaton.proofs.TextFits.{TextFits}
 use Rattle.p21_tokens_automaton.proofs.TextSound.{text-fits}

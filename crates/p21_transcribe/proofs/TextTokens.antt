@@ -8,11 +8,11 @@ use Rattle.std.specs.Char.{IsScalar}
 use Rattle.std.specs.List.{flat_map, AllByRecursion as Each}
 use Rattle.std.specs.Prelude.{if◌then◌else◌, nat_le, nat_lt}
 use lib.Utf8.{low_scalar}
-use Rattle.p21_basics.specs.Digits.{hex_digits}
-use Rattle.p21_exchange.proofs.Texts.{text_spells}
-use Rattle.p21_exchange.specs.Spelling.{character_spelling}
-use Rattle.p21_exchange.specs.Text.{IsApostropheOrBackslash, end_extended, Encodes}
-use Rattle.p21_exchange.specs.Token.{IsFollowed, text}
+use Rattle.p21_spec_basics.specs.Digits.{hex_digits}
+use Rattle.p21_spec_exchange.proofs.Texts.{text_spells}
+use Rattle.p21_spec_exchange.specs.Spelling.{character_spelling}
+use Rattle.p21_spec_exchange.specs.Text.{IsApostropheOrBackslash, end_extended, Encodes}
+use Rattle.p21_spec_exchange.specs.Token.{IsFollowed, text}
 use Rattle.p21_tokens_automaton.specs.Run.{EachHasAction}
 use Rattle.p21_tokens_automaton.specs.Step.{advance, inside_action, utf8_action}
 use Rattle.p21_tokens_automaton.specs.declared.mode.Action.TheVariants.{Put, Refuse, Skip}
@@ -22,8 +22,8 @@ use Rattle.p21_tokens_automaton.specs.declared.mode.TextMode.TheVariants.{Inside
 use Rattle.p21_tokens_automaton.specs.declared.mode.Wrong.TheVariants as wrong
 use Rattle.p21_transcribe.specs.Characters.{AreCharacters, EndsText, IsDoubled, IsExtendedCharacter, IsExtendedDirective}
 use Rattle.p21_transcribe.specs.LeadingToken.{IsLeadingToken, IsCanonicalLeadingToken}
-use Rattle.p21_transcribe.specs.Runs.{BeginsWithoutByte}
-use Rattle.p21_basics.proofs.Members.{Each-append, rest_is}
+use Rattle.p21_scan.specs.Digits.{BeginsWithoutByte}
+use Rattle.p21_spec_basics.proofs.Members.{Each-append, rest_is}
 
 pub no_characters : (bytes : List ℕ) → AreCharacters bytes 0 0
 no_characters bytes = record { characters = []; are_scalars = tt; size_is = refl; within = omega arith; bytes_are = refl }

@@ -1,21 +1,23 @@
 -- Whole numbers, and their digits without the zeros in front.
-use Rattle.std.proofs.Common.{◌≡◌, ◌≢◌, ℕ, zero, suc, ◌+◌, ◌-◌, ◌^◌, ◌<◌, ◌≤◌, ℤ, pos, neg_ℤ, Bool, true, false, List, [], ◌∷◌, ◌++◌, length, take, drop, get_or, replicate, refl, ap, sym, subst, ◌∙◌, arith, length-drop, length-take-le}
+use Rattle.std.proofs.Common.{◌≡◌, ◌≢◌, ℕ, zero, suc, ◌+◌, ◌-◌, ◌^◌, ◌<◌, ◌≤◌, ℤ, pos, neg_ℤ, Bool, true, false, List, [], ◌∷◌, ◌++◌, length, take, drop, get_or, replicate, refl, ap, sym, subst, ◌∙◌, arith, append_assoc, length-append, length-drop, length-take-le}
 use Rattle.std.proofs.lemmas.List.{drop-take, get_or-drop, get_or-take, take-append-drop, take-take}
 use Rattle.std.proofs.Math.Nat.{zero-mul, one-le-pow}
-use Rattle.p21_basics.proofs.PlainDigits.{ArePlain, number_first, plain_digits-number}
-use Rattle.p21_basics.specs.Digits.{AllDigits, number, plain_digits}
-use Rattle.p21_basics.proofs.Members.{rest_is}
-use Rattle.p21_exchange.proofs.Forms.{NoDigitFirst, behind_sign, first_sign}
-use Rattle.p21_exchange.specs.Number.{SpellsWhole, is_minus, signed}
-use Rattle.p21_exchange.specs.Spelling.{whole_spelling}
-use Rattle.p21_exchange.specs.Token.{IsFollowed, whole}
-use Rattle.p21_values.proofs.DigitRuns.{digits_parts}
-use Rattle.p21_values.proofs.Readings.{front_whole}
-use Rattle.p21_values.specs.Digits.{HasNoLeadingZero}
+use Rattle.std.proofs.Math.Seq.{take-append_seam}
+use Rattle.p21_spec_basics.proofs.PlainDigits.{ArePlain, number_first, plain_digits-number}
+use Rattle.p21_spec_basics.specs.Digits.{AllDigits, number, plain_digits}
+use Rattle.p21_spec_basics.proofs.Members.{rest_is}
+use Rattle.p21_spec_exchange.proofs.Forms.{NoDigitFirst}
+use Rattle.p21_spec_exchange.specs.Number.{sign_bytes, signed}
+use Rattle.p21_spec_exchange.specs.Spelling.{whole_spelling}
+use Rattle.p21_spec_exchange.specs.Token.{IsFollowed, whole}
+use Rattle.p21_scan.proofs.DigitRuns.{digits_parts}
+use Rattle.p21_scan.proofs.Numbers.{spells_integer}
+use Rattle.p21_scan.specs.Number.{IsIntegerAt}
+use Rattle.p21_scan.specs.Digits.{BeginsWithoutByte, HasNoLeadingZero}
 use Rattle.p21_transcribe.proofs.NameTokens.{plain-front}
-use Rattle.p21_transcribe.proofs.Splits.{behind-count, unsigned-front}
+use Rattle.p21_transcribe.proofs.Splits.{behind-count}
 use Rattle.p21_transcribe.specs.LeadingToken.{IsLeadingToken}
-use Rattle.p21_transcribe.specs.Runs.{AreLeadingZeros, IsDigitRun, BeginsWithoutByte}
+use Rattle.p21_transcribe.specs.Runs.{AreLeadingZeros}
 
 -- ---- zeros in front
 
@@ -118,17 +120,28 @@ followed-whole : (z : ℤ) (spelling rest : List ℕ) → NoDigitFirst rest → 
 followed-whole z spelling [] h k = tt
 followed-whole z spelling (byte ∷ rest) h k = (h, k)
 
-pub whole-at_front : (bytes unsigned rest : List ℕ) (count : ℕ) (negative : Bool) → negative ≡ is_minus (first_sign bytes) → unsigned ≡ behind_sign bytes → IsDigitRun unsigned count → 0 < count → rest ≡ take (length unsigned - count) (drop count unsigned) → BeginsWithoutByte 46 rest
-    → IsLeadingToken bytes (length bytes - length rest) (whole (signed negative (number (take count unsigned))))
-whole-at_front bytes unsigned rest count negative n e run some r point =
-    let value : ℤ = signed negative (number (take count unsigned)) in
-    let behind : rest ≡ drop count unsigned = r ∙ rest_is unsigned count in
-    let start = unsigned-front bytes unsigned count e in
-    let back : drop (length bytes - length rest) bytes ≡ rest = behind-count bytes start.0 rest (start.1 ∙ ap (λ (x : List ℕ). start.0 ++ x) (sym behind)) in
+pub whole-at_front : (bytes digits rest : List ℕ) (negative : Bool) → IsIntegerAt bytes negative digits rest → BeginsWithoutByte 46 rest → IsLeadingToken bytes (length bytes - length rest) (whole (signed negative (number digits)))
+whole-at_front bytes digits rest negative x point =
+    let value : ℤ = signed negative (number digits) in
+    let back : drop (length bytes - length rest) bytes ≡ rest = behind-count bytes (sign_bytes x.sign ++ digits) rest (x.bytes_are ∙ sym (append_assoc (sign_bytes x.sign) digits rest)) in
     record {
       within = omega arith;
-      spells =
-          subst (λ (x : List ℕ). SpellsWhole (take (length bytes - length x) bytes) value) (sym behind)
-          (front_whole bytes (take count unsigned) (drop count unsigned) (sym e ∙ sym (take-append-drop count unsigned)) (omega (arith, length-take-le count unsigned run.within)) run.digits negative value n refl);
-      followed = subst (IsFollowed (whole value) (take (length bytes - length rest) bytes)) (sym back) (followed-whole value (take (length bytes - length rest) bytes) rest (subst NoDigitFirst (sym behind) run.ends) point);
+      spells = spells_integer bytes digits rest negative x;
+      followed = subst (IsFollowed (whole value) (take (length bytes - length rest) bytes)) (sym back) (followed-whole value (take (length bytes - length rest) bytes) rest x.ends point);
     }
+
+pub parts-within : (bytes digits rest : List ℕ) (negative : Bool) → IsIntegerAt bytes negative digits rest → length digits + length rest ≤ length bytes
+parts-within bytes digits rest negative x = omega (arith, ap length x.bytes_are, length-append (sign_bytes x.sign) (digits ++ rest), length-append digits rest)
+
+-- the digits stand behind the sign, and in front of what is left
+module _ (bytes digits rest tail : List ℕ) (negative : Bool) (at : ℕ) (x : IsIntegerAt bytes negative digits rest) (at_is : at ≡ length bytes - length rest - length digits) (tail_is : tail ≡ take (length bytes - at) (drop at bytes)) where
+  pub digits-first : tail ≡ digits ++ rest
+  digits-first =
+      let place : at ≡ length bytes - length (digits ++ rest) = at_is ∙ let l = length-append digits rest in omega arith in
+      tail_is ∙ (rest_is bytes at ∙ (ap (λ (n : ℕ). drop n bytes) place ∙ behind-count bytes (sign_bytes x.sign) (digits ++ rest) x.bytes_are))
+
+  pub digits-front : take (length digits) tail ≡ digits
+  digits-front = ap (λ (l : List ℕ). take (length digits) l) digits-first ∙ take-append_seam digits rest
+
+  pub digits-within : length digits ≤ length tail
+  digits-within = omega (arith, ap length digits-first, length-append digits rest)

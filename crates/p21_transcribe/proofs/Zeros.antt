@@ -1,9 +1,9 @@
 -- Zeros at the front, and none at the end.
-use Rattle.std.proofs.Common.{◌≡◌, ◌≢◌, ℕ, zero, suc, ◌+◌, ◌-◌, ◌*◌, ◌^◌, ◌<◌, ◌≤◌, List, [], ◌∷◌, ◌++◌, length, take, drop, get_or, replicate, refl, ap, ap₂, sym, ◌∙◌, arith, add-one, length-drop, length-take-le}
+use Rattle.std.proofs.Common.{◌≡◌, ◌≢◌, ℕ, zero, suc, ◌+◌, ◌-◌, ◌*◌, ◌^◌, ◌<◌, ◌≤◌, List, [], ◌∷◌, ◌++◌, length, take, drop, get_or, replicate, refl, ap, ap₂, sym, subst, ◌∙◌, arith, add-one, length-drop, length-take-le}
 use Rattle.std.proofs.lemmas.List.{drop-take, take_more, take-take}
-use Rattle.p21_basics.specs.Digits.{AllDigits, number}
-use Rattle.p21_values.proofs.DigitRuns.{no_end_zero}
-use Rattle.p21_values.specs.Digits.{HasNoLeadingZero, WithoutTrailingZeros}
+use Rattle.p21_spec_basics.specs.Digits.{AllDigits, number}
+use Rattle.p21_scan.proofs.DigitRuns.{no_end_zero}
+use Rattle.p21_scan.specs.Digits.{HasNoLeadingZero, WithoutTrailingZeros}
 use Rattle.p21_transcribe.specs.Runs.{AreLeadingZeros}
 
 one_zero_more : (n : ℕ) → (let zeros : List ℕ = replicate n 48 in zeros ++ 48 ∷ []) ≡ replicate (suc n) 48
@@ -55,3 +55,7 @@ module _ (room text : List ℕ) (from used : ℕ) (is : take used room ≡ text)
 
     pub cut-behind : drop from (take (from + kept) room) ≡ take kept (take (used - from) (drop from room))
     cut-behind = drop-take from kept room ∙ sym (take-take kept (used - from) (drop from room) few)
+
+-- what is kept are so many of the digits
+pub kept-front : (digits kept : List ℕ) → WithoutTrailingZeros digits kept → WithoutTrailingZeros digits (take (length kept) digits)
+kept-front digits kept h = subst (λ (x : List ℕ). WithoutTrailingZeros digits x) h.front h

@@ -2,10 +2,10 @@
 use Rattle.std.specs.Prelude.{◌≡◌, ℕ, ◌<◌, ◌≤◌, ◌⊎◌, List, ◌∷◌, ◌++◌, length, take}
 use Rattle.std.specs.Char.{IsScalar}
 use Rattle.std.specs.List.{flat_map, AllByRecursion as Each}
-use Rattle.p21_basics.specs.Digits.{hex_digits}
-use Rattle.p21_exchange.specs.Spelling.{character_spelling}
-use Rattle.p21_exchange.specs.Text.{IsApostropheOrBackslash, end_extended}
-use Rattle.p21_transcribe.specs.Runs.{BeginsWithoutByte}
+use Rattle.p21_spec_basics.specs.Digits.{hex_digits}
+use Rattle.p21_spec_exchange.specs.Spelling.{character_spelling}
+use Rattle.p21_spec_exchange.specs.Text.{IsApostropheOrBackslash, end_extended}
+use Rattle.p21_scan.specs.Digits.{BeginsWithoutByte}
 
 -- so many bytes at the front are so many characters, each in its canonical spelling
 pub record AreCharacters (bytes : List ℕ) (count size : ℕ) : Type 0 where

@@ -1,7 +1,7 @@
 -- What stands between tokens.
 use Rattle.std.specs.Prelude.{◌≡◌, ℕ, List, [], ◌∷◌, ◌++◌}
-use Rattle.p21_exchange.proofs.OneGap.{HasNoSeparator}
-use Rattle.p21_exchange.specs.Separator.{IsSeparator, IsSeparatorText, Separator, blank, separator_bytes}
+use Rattle.p21_spec_exchange.proofs.OneGap.{HasNoSeparator}
+use Rattle.p21_spec_exchange.specs.Separator.{IsSeparator, IsSeparatorText, Separator, blank, separator_bytes}
 
 -- separators stand at the front, and behind them what begins with none
 pub record PassesSeparators (bytes rest : List ℕ) : Type 0 where

@@ -1,7 +1,7 @@
 -- A token that stands at the front of bytes, and what is written of it.
 use Rattle.std.specs.Prelude.{◌≡◌, ℕ, ◌≤◌, List, ◌++◌, length, take, drop}
-use Rattle.p21_exchange.specs.Spelling.{spelling}
-use Rattle.p21_exchange.specs.Token.{Token, Spells, IsFollowed}
+use Rattle.p21_spec_exchange.specs.Spelling.{spelling}
+use Rattle.p21_spec_exchange.specs.Token.{Token, Spells, IsFollowed}
 
 -- so many bytes at the front are exactly this token: they spell it, and what stands behind them doesn't go on with it
 pub record IsLeadingToken (bytes : List ℕ) (count : ℕ) (token : Token) : Type 0 where

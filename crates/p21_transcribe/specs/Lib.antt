@@ -7,3 +7,5 @@ pub mod Numbers
 pub mod Respelling
 pub mod Runs
 pub mod Significands
+pub mod Masks
+pub mod Places

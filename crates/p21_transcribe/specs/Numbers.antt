@@ -1,16 +1,14 @@
 -- Reals, and whole numbers where a NUMBER may stand.
-use Rattle.std.specs.Prelude.{◌≡◌, ℕ, ◌^◌, ◌<◌, ℤ, nat_abs, Bool, true, false, List, [], ◌∷◌, ◌++◌, Ok, if◌then◌else◌}
-use Rattle.p21_exchange.proofs.Forms.{NoDigitFirst}
-use Rattle.p21_exchange.specs.Number.{Decimal, IsExponentInRange, IsReduced, IsInRange, Ratio, SameRatio, ratio_of, whole_ratio}
-use Rattle.p21_exchange.specs.Spelling.{exponent_spelling, spelling}
-use Rattle.p21_exchange.specs.Token.{real, whole}
+use Rattle.std.specs.Prelude.{◌≡◌, ℕ, ◌^◌, ◌<◌, ℤ, nat_abs, Bool, true, false, List, [], ◌∷◌, ◌++◌, Ok, Some, if◌then◌else◌}
+use Rattle.p21_spec_exchange.specs.Number.{Decimal, Exponent, IsExponentInRange, IsReduced, IsInRange, Ratio, SameRatio, ratio_of, whole_ratio}
+use Rattle.p21_spec_exchange.specs.Spelling.{exponent_spelling, spelling}
+use Rattle.p21_spec_exchange.specs.Token.{real, whole}
 use Rattle.p21_values.specs.Canonical.{Continues}
 use Rattle.p21_values.specs.Decimal.{ReducesRatio}
-use Rattle.p21_values.specs.Digits.{WithoutTrailingZeros}
-use Rattle.p21_values.specs.RealComponents.{BeginsExponent}
+use Rattle.p21_scan.specs.Digits.{BeginsWithoutByte, WithoutTrailingZeros}
+use Rattle.p21_scan.specs.Number.{IsExponentAt, ReadsExponent}
 use Rattle.p21_values.specs.Stored.{significand_spelling}
 use Rattle.p21_transcribe.specs.LeadingToken.{IsLeadingToken, Transcribes}
-use Rattle.p21_transcribe.specs.Runs.{BeginsWithoutByte}
 
 -- A real stands at the front, and its canonical spelling is appended. Where whole numbers may stand too, as at a NUMBER
 -- (ISO 10303-21, mapping of EXPRESS data types), one may stand there, and the real of the same ratio is written
@@ -41,7 +39,8 @@ AppendsWithoutExponent false negative digits old new = Continues old new
 
 -- an exponent or none, of this value, and behind it what doesn't go on with the real
 pub record EndsReal (bytes : List ℕ) (value : ℤ) (rest : List ℕ) : Type 0 where
-  pub begins : BeginsExponent bytes value rest
-  pub small : nat_abs value < 10 ^ 6
-  pub no_digit : NoDigitFirst rest
+  pub power : Exponent
+  pub power_at : IsExponentAt bytes power rest
+  pub value_is : ReadsExponent power (Some value)
+  pub small : nat_abs value < 10 ^ 9
   pub no_exponent : BeginsWithoutByte 69 rest

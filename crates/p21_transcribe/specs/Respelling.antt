@@ -2,8 +2,8 @@
 use Rattle.std.specs.Prelude.{◌≡◌, ℕ, ◌≤◌, List, ◌++◌, length, take, drop}
 use Rattle.std.specs.Char.{IsScalar}
 use Rattle.std.specs.List.{flat_map, AllByRecursion as Each}
-use Rattle.p21_exchange.specs.Spelling.{character_spelling}
-use Rattle.p21_exchange.specs.Text.{Encodes, utf16_groups}
+use Rattle.p21_spec_exchange.specs.Spelling.{character_spelling}
+use Rattle.p21_spec_exchange.specs.Text.{Encodes, utf16_groups}
 use Rattle.p21_transcribe.specs.Characters.{EndsText}
 
 -- so many bytes at the front stand for so many characters, whose canonical spellings are appended

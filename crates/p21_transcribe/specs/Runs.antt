@@ -1,8 +1,8 @@
 -- Runs of bytes at the front.
-use Rattle.std.specs.Prelude.{◌≡◌, ℕ, ◌≢◌, ◌≤◌, List, [], ◌∷◌, length, replicate, take, drop}
-use Rattle.p21_basics.specs.Digits.{AllDigits}
-use Rattle.p21_exchange.proofs.Forms.{NoDigitFirst}
-use Rattle.p21_values.specs.Digits.{HasNoLeadingZero}
+use Rattle.std.specs.Prelude.{◌≡◌, ℕ, ◌≤◌, List, length, replicate, take, drop}
+use Rattle.p21_spec_basics.specs.Digits.{AllDigits}
+use Rattle.p21_spec_exchange.proofs.Forms.{NoDigitFirst}
+use Rattle.p21_scan.specs.Digits.{HasNoLeadingZero}
 
 -- so many bytes at the front are digits, and no more of them stand there
 pub record IsDigitRun (bytes : List ℕ) (count : ℕ) : Type 0 where
@@ -20,8 +20,3 @@ pub record AreLeadingZeros (bytes : List ℕ) (count : ℕ) : Type 0 where
   pub within : count ≤ length bytes
   pub zeros : take count bytes ≡ replicate count 48
   pub first : HasNoLeadingZero (drop count bytes)
-
--- the bytes do not begin with this one
-abbrev pub BeginsWithoutByte : ℕ → List ℕ → Type 0
-BeginsWithoutByte first [] = Unit {0}
-BeginsWithoutByte first (byte ∷ bytes) = byte ≢ first

@@ -1,7 +1,7 @@
 -- A real whose parts stand at known places, and the digits that are written of it.
 use Rattle.std.specs.Prelude.{◌≡◌, ℕ, ℤ, ◌+◌, ◌-◌, ◌&&◌, Bool, true, false, List, [], ◌∷◌, ◌++◌, take, drop, nat_lt, slice_index, if◌then◌else◌}
-use Rattle.p21_exchange.specs.Number.{IsExponentInRange, Ratio}
-use Rattle.p21_exchange.specs.Spelling.{exponent_spelling}
+use Rattle.p21_spec_exchange.specs.Number.{IsExponentInRange, Ratio}
+use Rattle.p21_spec_exchange.specs.Spelling.{exponent_spelling}
 use Rattle.p21_values.specs.Canonical.{Continues}
 use Rattle.p21_values.specs.RealComponents.{digits_ratio}
 

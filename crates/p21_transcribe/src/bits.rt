@@ -1,15 +1,15 @@
 //! Binaries (ISO 10303-21, clause 6: tokens, binary).
 ghost use Rattle.std.specs.Prelude.{◌≡◌, ◌<◌, ◌≤◌, Bool, List, All, IsTrue, false, length, replicate, take, IfNone, IfSome, ◌∷◌, ◌+◌};
-ghost use Rattle.p21_exchange.specs.Token.{bits};
+ghost use Rattle.p21_spec_exchange.specs.Token.{bits};
 ghost use Rattle.p21_transcribe.specs.Bits.{AreHexDigits, IsPadded};
 ghost use Rattle.p21_transcribe.specs.LeadingToken.{IsCanonicalLeadingToken, Transcribes};
 ghost use Rattle.p21_values.specs.Bits.{hex_value, is_hex_digit};
 
-use crate::digits::behind;
 use crate::draft::Draft;
+use p21_scan::behind;
 
 /// More hex digits aren't usual.
-const MOST_DIGITS: usize = 65_536;
+const MOST_HEX_DIGITS: usize = 65_536;
 
 /// Appends the binary at the front: how many bytes it has, and how many bits.
 #[inline(never)]
@@ -30,7 +30,7 @@ fn leading_bits(bytes: &[u8]) -> Option<(usize, usize)>
     let inside = behind(b'"', bytes)?;
     let (padding, digits) = split_padding(inside)?;
     let count = hex_run(digits);
-    if count > MOST_DIGITS || !is_padded(padding, &digits[..count]) {
+    if count > MOST_HEX_DIGITS || !is_padded(padding, &digits[..count]) {
         return None;
     }
     let _closed = behind(b'"', &digits[count..])?;

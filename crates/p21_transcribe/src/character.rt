@@ -1,5 +1,5 @@
 //! Characters of a string in their canonical spellings (ISO 10303-21, clause 6: tokens, string).
-ghost use Rattle.p21_exchange.specs.Spelling.{character_spelling};
+ghost use Rattle.p21_spec_exchange.specs.Spelling.{character_spelling};
 ghost use Rattle.p21_transcribe.specs.Appending.{AppendsAllOrNone};
 
 use crate::draft::Draft;

@@ -1,12 +1,11 @@
-//! Bytes at the front: a certain one, or a run of digits, and the number that digits stand for.
-ghost use Rattle.std.specs.Prelude.{◌≡◌, ◌<◌, ◌≤◌, ◌∷◌, false, length, map, not, take, IfNone, IfSome};
+//! Bytes at the front: a certain one, or a run of digits or zeros.
+ghost use Rattle.std.specs.Prelude.{◌≡◌, ◌<◌, ◌≤◌, false, length, map, not};
 ghost use Rattle.std.specs.Simd.Lanes.{mask_l};
-ghost use Rattle.p21_basics.specs.Digits.{AllDigits, number, is_digit};
-ghost use Rattle.p21_exchange.proofs.Forms.{behind_sign, first_sign};
-ghost use Rattle.p21_exchange.specs.Number.{is_minus};
-ghost use Rattle.p21_values.specs.Digits.{WithoutTrailingZeros};
-ghost use Rattle.p21_transcribe.specs.Runs.{AreLeadingZeros, IsDigitRun, BeginsWithoutByte};
+ghost use Rattle.p21_spec_basics.specs.Digits.{is_digit};
+ghost use Rattle.p21_scan.specs.Digits.{BeginsWithoutByte};
+ghost use Rattle.p21_transcribe.specs.Runs.{AreLeadingZeros, IsDigitRun};
 
+use p21_scan::behind;
 use std::simd::prelude::*;
 
 /// How many bytes are tested at once.
@@ -50,7 +49,7 @@ fn no_digits(bytes: u8x16) -> u64
 }
 
 #[inline(never)]
-#[tactic(auto, using(p21_values::proofs::DigitRuns::digits_more, crate::proofs::DigitLanes::run_ended, crate::proofs::DigitLanes::run_whole))]
+#[tactic(auto, using(p21_scan::proofs::DigitRuns::digits_more, crate::proofs::DigitLanes::run_ended, crate::proofs::DigitLanes::run_whole))]
 fn long_run(bytes: &[u8]) -> usize
     ensures { IsDigitRun bytes.now result }
 {
@@ -76,61 +75,10 @@ pub(crate) fn leading_zeros(bytes: &[u8]) -> usize
     bytes.len()
 }
 
-/// How many of the digits stay without the zeros at the end.
-#[inline(always)]
-pub(crate) fn without_trailing_zeros(digits: &[u8]) -> usize
-    requires { AllDigits digits.now }
-    ensures within { result ≤ length digits.now }
-    ensures kept { WithoutTrailingZeros digits.now (take result digits.now) }
-{
-    let mut kept = digits.len();
-    while kept > 0 && digits[kept - 1] == b'0' {
-        kept -= 1;
-    }
-    kept
-}
-
-/// Whether a minus stands first, and what stands behind the sign: all the bytes where there is none.
-#[inline(always)]
-pub(crate) fn split_sign(bytes: &[u8]) -> (bool, &[u8])
-    ensures minus { result.0 ≡ is_minus (first_sign bytes.now) }
-    ensures rest { result.1.now ≡ behind_sign bytes.now }
-{
-    match bytes {
-        [b'+', rest @ ..] => (false, rest),
-        [b'-', rest @ ..] => (true, rest),
-        _ => (false, bytes),
-    }
-}
-
-/// What stands behind the first byte, where that is the one asked for.
-#[inline(always)]
-pub(crate) fn behind(first: u8, bytes: &[u8]) -> Option<&[u8]>
-    ensures none { IfNone result (BeginsWithoutByte first bytes.now) }
-    ensures some { IfSome result (λ rest. bytes.now ≡ first ∷ rest.now) }
-{
-    let (byte, rest) = bytes.split_first()?;
-    if *byte == first { Some(rest) } else { None }
-}
-
 /// Whether this byte stands first.
 #[inline(always)]
 pub(crate) fn begins_with(first: u8, bytes: &[u8]) -> bool
     ensures { result ≡ false → BeginsWithoutByte first bytes.now }
 {
     behind(first, bytes).is_some()
-}
-
-/// The number that at most 18 digits stand for.
-#[inline(always)]
-pub(crate) fn number_of(digits: &[u8]) -> u64
-    requires are_digits { AllDigits digits.now }
-    requires short { length digits.now ≤ 18 }
-    ensures { result ≡ number digits.now }
-{
-    let mut value = 0u64;
-    for digit in digits {
-        value = value * 10 + u64::from(*digit - b'0');
-    }
-    value
 }

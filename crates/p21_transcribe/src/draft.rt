@@ -1,10 +1,10 @@
 //! The text that is written of some statements.
 ghost use Rattle.std.specs.Prelude.{◌≡◌, ℕ, ◌+◌, ◌≤◌, [], ◌∷◌, ◌++◌, length, drop, take, slice_range};
-ghost use Rattle.p21_basics.specs.Digits.{AllDigits};
-ghost use Rattle.p21_values.specs.Digits.{WithoutTrailingZeros};
+ghost use Rattle.p21_spec_basics.specs.Digits.{AllDigits};
+ghost use Rattle.p21_scan.specs.Digits.{WithoutTrailingZeros};
 ghost use Rattle.p21_transcribe.specs.Appending.{AppendsAllOrNone};
 
-use crate::digits::without_trailing_zeros;
+use p21_scan::without_trailing_zeros;
 use p21_values::NoMemory;
 use std::alloc::Global;
 use std::marker::Model;
@@ -87,7 +87,7 @@ impl Draft {
         ensures front { take from self.new ≡ take from self.old }
         ensures behind { WithoutTrailingZeros (drop from self.old) (drop from self.new) }
     {
-        let kept = without_trailing_zeros(&self.room[from..self.used]);
+        let kept = without_trailing_zeros(&self.room[from..self.used]).len();
         self.used = from + kept;
     }
 

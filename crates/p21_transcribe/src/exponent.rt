@@ -1,14 +1,16 @@
 //! The exponent of a real (ISO 10303-21, clause 6: tokens, real).
-ghost use Rattle.std.specs.Prelude.{◌≡◌, ◌^◌, ◌<◌, ◌≤◌, ◌<ℤ◌, ◌≤ℤ◌, pos, true, false, [], ◌∷◌, length, nat_abs, IfSome, if◌then◌else◌};
-ghost use Rattle.p21_basics.specs.Digits.{AllDigits, number};
-ghost use Rattle.p21_exchange.proofs.Forms.{NoDigitFirst};
-ghost use Rattle.p21_exchange.specs.Number.{signed};
-ghost use Rattle.p21_exchange.specs.Spelling.{exponent_spelling};
+ghost use Rattle.std.specs.Prelude.{◌≡◌, ◌+◌, ◌<◌, ◌≤◌, ◌<ℤ◌, ◌≤ℤ◌, pos, true, false, [], ◌∷◌, ◌++◌, length, nat_abs, take, IfSome, if◌then◌else◌};
+ghost use Rattle.p21_spec_exchange.proofs.Forms.{NoDigitFirst};
+ghost use Rattle.p21_spec_exchange.specs.Spelling.{exponent_spelling};
 ghost use Rattle.p21_transcribe.specs.Appending.{AppendsAllOrNone, AppendsAllOrSome};
 ghost use Rattle.p21_transcribe.specs.Numbers.{EndsReal};
 
-use crate::digits::{begins_with, behind, digit_run, number_of, split_sign};
+use crate::digits::begins_with;
 use crate::draft::Draft;
+use p21_scan::{exponent_value, scan_exponent};
+
+/// The most bytes of an exponent of two digits.
+const LONGEST: usize = 4;
 
 /// The exponent at the front, 0 where there is none, and what stands behind it.
 #[inline(always)]
@@ -22,42 +24,17 @@ pub(crate) fn split_exponent(bytes: &[u8]) -> Option<(i32, &[u8])>
     Some((0, bytes))
 }
 
-/// An exponent of at most six digits.
 #[inline(never)]
 fn written_exponent(bytes: &[u8]) -> Option<(i32, &[u8])>
+    requires { NoDigitFirst bytes.now }
     ensures { IfSome result (λ parts. EndsReal bytes.now parts.0 parts.1.now) }
 {
-    let written = behind(b'E', bytes)?;
-    let (negative, unsigned) = split_sign(written);
-    let count = digit_run(unsigned);
-    if count == 0 || count > 6 {
-        return None;
-    }
-    let rest = &unsigned[count..];
+    let (exponent, rest) = scan_exponent(bytes);
     if begins_with(b'E', rest) {
         return None;
     }
-    let value = short_number(&unsigned[..count]);
-    Some((signed_number(negative, value), rest))
-}
-
-/// The number of at most six digits.
-fn short_number(digits: &[u8]) -> u32
-    requires are_digits { AllDigits digits.now }
-    requires short { length digits.now ≤ 6 }
-    ensures value { result ≡ number digits.now }
-    ensures small { result < 10 ^ 6 }
-{
-    number_of(digits) as u32
-}
-
-fn signed_number(negative: bool, value: u32) -> i32
-    requires { value < 10 ^ 6 }
-    ensures value { result ≡ signed negative value }
-    ensures small { nat_abs result < 10 ^ 6 }
-{
-    let value = value as i32;
-    if negative { -value } else { value }
+    let value = exponent_value(exponent)?;
+    Some((value, rest))
 }
 
 /// Appends a minus, or nothing; says whether there was room.
@@ -71,29 +48,54 @@ pub(crate) fn append_minus(negative: bool, draft: &mut Draft) -> bool
     draft.put(b'-')
 }
 
-/// Appends an exponent of at most two digits, or a part of it; says whether it is whole. For 0 nothing is written.
+/// Appends an exponent of at most two digits; says whether there was room. For 0 nothing is written.
+#[inline(always)]
 pub(crate) fn append_exponent(exponent: i32, draft: &mut Draft) -> bool
     requires { nat_abs exponent < 100 }
     ensures { AppendsAllOrSome result (exponent_spelling exponent) draft.old draft.new }
 {
+    let used = draft.used;
+    if draft.room.len() - used < LONGEST {
+        return false;
+    }
+    draft.used = write_exponent(exponent, &mut draft.room, used);
+    true
+}
+
+/// Writes the exponent at a place: where the text ends behind it.
+#[inline(always)]
+fn write_exponent(exponent: i32, room: &mut [u8], at: usize) -> usize
+    requires small { nat_abs exponent < 100 }
+    requires room { at + LONGEST ≤ length room.old }
+    ensures text { take result room.new ≡ take at room.old ++ exponent_spelling exponent }
+    ensures within { result ≤ at + LONGEST }
+    ensures len { length room.new ≡ length room.old }
+{
     if exponent == 0 {
-        return true;
-    }
-    if !draft.put(b'E') {
-        return false;
-    }
-    let negative = is_below_zero(exponent);
-    if !append_minus(negative, draft) {
-        return false;
+        return at;
     }
     let value = exponent.unsigned_abs();
+    let digits = write_mark(is_below_zero(exponent), room, at);
     if value < 10 {
-        return draft.put(b'0' + value as u8);
+        room[digits] = b'0' + value as u8;
+        return digits + 1;
     }
-    if !draft.put(b'0' + (value / 10) as u8) {
-        return false;
-    }
-    draft.put(b'0' + (value % 10) as u8)
+    room[digits] = b'0' + (value / 10) as u8;
+    room[digits + 1] = b'0' + (value % 10) as u8;
+    digits + 2
+}
+
+/// Writes `E`, and a minus or none.
+#[inline(always)]
+fn write_mark(negative: bool, room: &mut [u8], at: usize) -> usize
+    requires { at + 2 ≤ length room.old }
+    ensures text { take result room.new ≡ take at room.old ++ 69 ∷ (if negative then 45 ∷ [] else []) }
+    ensures few { result ≤ at + 2 }
+    ensures len { length room.new ≡ length room.old }
+{
+    room[at] = b'E';
+    room[at + 1] = b'-';
+    at + 1 + negative as usize
 }
 
 #[inline(always)]

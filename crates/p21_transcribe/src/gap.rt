@@ -1,10 +1,10 @@
 //! What separates tokens (ISO 10303-21, clause 5: token separators).
 ghost use Rattle.std.specs.Prelude.{◌≡◌, ◌↔◌, ◌++◌, ◌∷◌, ◌<◌, ℕ, List, false, length, IfNone, IfSome, IsTrue};
-ghost use Rattle.p21_exchange.proofs.OneGap.{HasNoSeparator};
-ghost use Rattle.p21_exchange.specs.Separator.{IsCommentText, IsSeparator, blank};
+ghost use Rattle.p21_spec_exchange.proofs.OneGap.{HasNoSeparator};
+ghost use Rattle.p21_spec_exchange.specs.Separator.{IsCommentText, IsSeparator, blank};
 ghost use Rattle.p21_transcribe.specs.Gaps.{BeginsComment, HasNoLeadingBlank, PassesBlank, PassesSeparator, PassesSeparators};
 
-use crate::digits::behind;
+use p21_scan::behind;
 
 const DELETE: u8 = 127;
 

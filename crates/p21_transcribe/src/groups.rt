@@ -1,7 +1,7 @@
 //! Directives with groups of four digits, each of which is a character by itself (ISO 10303-21, clause 6: tokens,
 //! string).
 ghost use Rattle.std.specs.Prelude.{IfNone, IfSome};
-ghost use Rattle.p21_exchange.specs.Text.{Encodes};
+ghost use Rattle.p21_spec_exchange.specs.Text.{Encodes};
 ghost use Rattle.p21_transcribe.specs.Respelling.{AreGroups, BeginsWithGroup, Respells};
 ghost use Rattle.p21_values.specs.Canonical.{Continues};
 

@@ -1,12 +1,12 @@
 //! Enumeration items and truth values (ISO 10303-21, clause 6: tokens, enumeration).
 ghost use Rattle.std.specs.Prelude.{◌≡◌, ℕ, ◌+◌, List, length, Contains, IfNone, IfSome, IsTrue, [], ◌∷◌, if◌then◌else◌};
-ghost use Rattle.p21_exchange.specs.Keyword.{IsUpper};
-ghost use Rattle.p21_exchange.specs.Token.{item};
-ghost use Rattle.p21_files.specs.Fits.{boolean_items, logical_items};
+ghost use Rattle.p21_spec_exchange.specs.Keyword.{IsUpper};
+ghost use Rattle.p21_spec_exchange.specs.Token.{item};
+ghost use Rattle.p21_spec_file.specs.Fits.{boolean_items, logical_items};
 ghost use Rattle.p21_transcribe.specs.LeadingToken.{IsCanonicalLeadingToken, Transcribes};
 
-use crate::digits::behind;
 use crate::draft::Draft;
+use p21_scan::behind;
 use p21_tokens_automaton::keyword_bytes;
 use p21_values::Word;
 

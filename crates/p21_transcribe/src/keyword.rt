@@ -1,6 +1,6 @@
 //! Keywords (ISO 10303-21, clause 6: tokens, keyword).
 ghost use Rattle.std.specs.Prelude.{◌≡◌, length, IfNone, IfSome};
-ghost use Rattle.p21_exchange.specs.Token.{keyword};
+ghost use Rattle.p21_spec_exchange.specs.Token.{keyword};
 ghost use Rattle.p21_transcribe.specs.LeadingToken.{IsCanonicalLeadingToken, Transcribes};
 
 use crate::digits::begins_with;

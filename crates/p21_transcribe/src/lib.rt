@@ -1,5 +1,6 @@
 //! Tokens taken straight from their bytes to their canonical spellings, with no value made of them (ISO 10303-21,
-//! clause 6: tokens). Only what is usual is taken; all else is left to those who read it byte by byte.
+//! clause 6: tokens). Only what is usual is taken; all else is left to those who read it byte by byte. A real is found in
+//! lanes: where the point stands, where the real ends, and which of its digits count.
 #![tactic(auto)]
 
 mod bits;
@@ -11,8 +12,10 @@ mod gap;
 mod groups;
 mod item;
 mod keyword;
+mod masks;
 mod name;
 mod number;
+mod places;
 mod real;
 mod respelled_text;
 mod significand;

@@ -1,13 +1,14 @@
 //! Names of instances (ISO 10303-21, clause 6: tokens, entity instance name).
 ghost use Rattle.std.specs.Prelude.{◌≡◌, IfNone, IfSome};
-ghost use Rattle.p21_exchange.specs.Token.{name};
+ghost use Rattle.p21_spec_exchange.specs.Token.{name};
 ghost use Rattle.p21_transcribe.specs.LeadingToken.{IsCanonicalLeadingToken, Transcribes};
 
-use crate::digits::{behind, digit_run, number_of};
+use crate::digits::digit_run;
 use crate::draft::Draft;
+use p21_scan::{behind, number_of};
 
 /// A number of so many digits is in range.
-const LONGEST: usize = 18;
+const MOST_DIGITS_OF_A_NAME: usize = 18;
 
 /// Appends the name at the front, where it has no zero in front and at most 18 digits: how many bytes it has, and its
 /// number.
@@ -29,7 +30,7 @@ fn leading_name(bytes: &[u8]) -> Option<(usize, u64)>
 {
     let digits = behind(b'#', bytes)?;
     let count = digit_run(digits);
-    if count == 0 || count > LONGEST {
+    if count == 0 || count > MOST_DIGITS_OF_A_NAME {
         return None;
     }
     if count > 1 && digits[0] == b'0' {

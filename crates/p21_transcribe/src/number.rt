@@ -1,28 +1,29 @@
 //! Whole numbers (ISO 10303-21, clause 6: tokens, integer).
 ghost use Rattle.std.specs.Prelude.{◌<◌, ◌≤◌, ℤ, length, take, IfNone, IfSome};
-ghost use Rattle.p21_basics.specs.Digits.{AllDigits, number};
-ghost use Rattle.p21_exchange.specs.Number.{signed};
-ghost use Rattle.p21_exchange.specs.Spelling.{whole_spelling};
-ghost use Rattle.p21_exchange.specs.Token.{whole};
+ghost use Rattle.p21_spec_basics.specs.Digits.{AllDigits, number};
+ghost use Rattle.p21_spec_exchange.specs.Number.{signed};
+ghost use Rattle.p21_spec_exchange.specs.Spelling.{whole_spelling};
+ghost use Rattle.p21_spec_exchange.specs.Token.{whole};
 ghost use Rattle.p21_values.specs.Canonical.{Continues};
 ghost use Rattle.p21_transcribe.specs.Appending.{AppendsAllOrSome};
 ghost use Rattle.p21_transcribe.specs.LeadingToken.{Transcribes};
 
-use crate::digits::{begins_with, digit_run, leading_zeros, split_sign};
+use crate::digits::{begins_with, leading_zeros};
 use crate::draft::Draft;
+use p21_scan::scan_integer;
 
 /// Appends the whole number at the front: how many bytes it has.
 pub fn append_whole(bytes: &[u8], draft: &mut Draft) -> Option<usize>
     ensures some { IfSome result (λ count. (value : ℤ) × Transcribes bytes.now count (whole value) draft.old draft.new) }
     ensures none { IfNone result (Continues draft.old draft.new) }
 {
-    let (negative, unsigned) = split_sign(bytes);
-    let count = digit_run(unsigned);
-    let rest = &unsigned[count..];
-    if count == 0 || begins_with(b'.', rest) {
+    let (integer, rest) = scan_integer(bytes)?;
+    if begins_with(b'.', rest) {
         return None;
     }
-    if !append_digits(negative, unsigned, count, draft) {
+    let count = integer.digits.len();
+    let start = bytes.len() - rest.len() - count;
+    if !append_digits(integer.negative, &bytes[start..], count, draft) {
         return None;
     }
     Some(bytes.len() - rest.len())

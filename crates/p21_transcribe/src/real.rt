@@ -1,18 +1,19 @@
 //! Reals, and whole numbers where a NUMBER may stand (ISO 10303-21, clause 6: tokens, real and integer).
-ghost use Rattle.std.specs.Prelude.{ℕ, ℤ, ◌+◌, ◌^◌, ◌<◌, ◌≤◌, ◌++◌, length, drop, nat_abs, take, true, IfNone, IfSome};
-ghost use Rattle.p21_lanes.specs.Places.{HasPlaces};
+ghost use Rattle.std.specs.Prelude.{◌≡◌, ℕ, ℤ, ◌+◌, ◌^◌, ◌<◌, ◌≤◌, ◌++◌, length, drop, nat_abs, take, true, IfNone, IfSome};
+ghost use Rattle.p21_transcribe.specs.Places.{HasPlaces};
 ghost use Rattle.p21_values.specs.Canonical.{Continues};
-ghost use Rattle.p21_values.specs.Digits.{HasNoLeadingZero};
+ghost use Rattle.p21_scan.specs.Digits.{HasNoLeadingZero};
 ghost use Rattle.p21_values.specs.RealComponents.{digits_ratio};
 ghost use Rattle.p21_transcribe.specs.Appending.{AppendsAllOrNone};
 ghost use Rattle.p21_transcribe.specs.Numbers.{AppendsNormalised, AppendsNumber, AppendsWithoutExponent, EndsReal, TranscribesNumber};
 ghost use Rattle.p21_transcribe.specs.Runs.{AreDigits};
 ghost use Rattle.p21_transcribe.specs.Significands.{AppendsSignificand, placed_ratio, significand};
 
-use crate::digits::{behind, digit_run, leading_zeros, split_sign};
+use crate::digits::{begins_with, leading_zeros};
 use crate::draft::{Draft, WIDE};
 use crate::exponent::{append_exponent, append_minus, split_exponent};
-use p21_lanes::{Places, real_places};
+use crate::places::{Places, real_places};
+use p21_scan::{exponent_value, scan_number, split_sign};
 
 /// A number with more digits on one side of the point isn't usual.
 const MOST_DIGITS: usize = 65_536;
@@ -25,6 +26,7 @@ struct Digits<'a> {
 }
 
 /// Appends the real at the front: how many bytes it has. Where a whole number may stand too, it is written as a real.
+#[inline(always)]
 pub fn append_real(bytes: &[u8], wholes: bool, draft: &mut Draft) -> Option<usize>
     ensures some { IfSome result (λ count. TranscribesNumber wholes bytes.now count draft.old draft.new) }
     ensures none { IfNone result (Continues draft.old draft.new) }
@@ -43,36 +45,36 @@ fn append_far(bytes: &[u8], wholes: bool, draft: &mut Draft) -> Option<usize>
     ensures some { IfSome result (λ count. TranscribesNumber wholes bytes.now count draft.old draft.new) }
     ensures none { IfNone result (Continues draft.old draft.new) }
 {
-    let (negative, unsigned) = split_sign(bytes);
-    let count = digit_run(unsigned);
-    if count == 0 || count > MOST_DIGITS {
+    let (number, rest) = scan_number(bytes)?;
+    if number.whole.len() > MOST_DIGITS {
         return None;
     }
     let whole = Digits {
-        bytes: unsigned,
-        count,
+        bytes: number.whole,
+        count: number.whole.len(),
     };
-    let tail = &unsigned[count..];
-    let Some(decimals) = behind(b'.', tail) else {
+    let Some(decimals) = number.decimals else {
         let none = Digits {
             bytes: &[],
             count: 0,
         };
-        if !wholes || !append_decimal(negative, whole, none, 0, draft) {
+        if !wholes || !append_decimal(number.negative, whole, none, 0, draft) {
             return None;
         }
-        return Some(bytes.len() - tail.len());
+        return Some(bytes.len() - rest.len());
     };
-    let places = digit_run(decimals);
-    if places > MOST_DIGITS {
+    if decimals.fraction.len() > MOST_DIGITS {
+        return None;
+    }
+    if begins_with(b'E', rest) {
         return None;
     }
     let fraction = Digits {
-        bytes: decimals,
-        count: places,
+        bytes: decimals.fraction,
+        count: decimals.fraction.len(),
     };
-    let (exponent, rest) = split_exponent(&decimals[places..])?;
-    if !append_decimal(negative, whole, fraction, exponent, draft) {
+    let exponent = exponent_value(decimals.exponent)?;
+    if !append_decimal(number.negative, whole, fraction, exponent, draft) {
         return None;
     }
     Some(bytes.len() - rest.len())
@@ -123,7 +125,7 @@ fn append_placed(
 ) -> bool
     requires places { HasPlaces unsigned.now 0 places.now.point places.now.end places.now.first places.now.behind }
     requires room { WIDE + WIDE ≤ length unsigned.now }
-    requires small { nat_abs exponent < 10 ^ 6 }
+    requires small { nat_abs exponent < 10 ^ 9 }
     ensures { AppendsNumber result (placed_ratio negative unsigned.now 0 places.now.point places.now.end exponent) draft.old draft.new }
 {
     if places.behind == 0 {
@@ -174,7 +176,7 @@ fn append_decimal(
     requires whole { AreDigits whole.bytes.now whole.count }
     requires fraction { AreDigits fraction.bytes.now fraction.count }
     requires short { (whole.count ≤ MOST_DIGITS) × (fraction.count ≤ MOST_DIGITS) }
-    requires small { nat_abs exponent < 10 ^ 6 }
+    requires small { nat_abs exponent < 10 ^ 9 }
     ensures { AppendsNumber result (digits_ratio negative (take whole.entry.count whole.entry.bytes.now) (take fraction.entry.count fraction.entry.bytes.now) exponent) draft.old draft.new }
 {
     let zeros = leading_zeros(&whole.bytes[..whole.count]);

@@ -1,8 +1,8 @@
 //! Strings with characters that don't stand in their canonical spellings, as several ones in a directive, or one in UTF-8
 //! (ISO 10303-21, clause 6: tokens, string).
 ghost use Rattle.std.specs.Prelude.{◌≡◌, ℕ, List, length, IfNone, IfSome, IsTrue};
-ghost use Rattle.p21_exchange.specs.Text.{Encodes};
-ghost use Rattle.p21_exchange.specs.Token.{text};
+ghost use Rattle.p21_spec_exchange.specs.Text.{Encodes};
+ghost use Rattle.p21_spec_exchange.specs.Token.{text};
 ghost use Rattle.p21_tokens_automaton.specs.declared.mode.Mode.TheVariants.{Text};
 ghost use Rattle.p21_tokens_automaton.specs.declared.mode.TextMode.TheVariants.{Inside};
 ghost use Rattle.p21_transcribe.specs.LeadingToken.{Transcribes};
@@ -10,10 +10,10 @@ ghost use Rattle.p21_transcribe.specs.Respelling.{Respells, RespellsAll};
 ghost use Rattle.p21_values.specs.Canonical.{Continues};
 
 use crate::character::append_character;
-use crate::digits::behind;
 use crate::draft::Draft;
 use crate::groups::append_extended;
 use crate::text::{is_end, some_characters};
+use p21_scan::behind;
 use p21_tokens_automaton::{Action, Mode, TextMode, advance};
 
 /// Appends the string at the front: how many bytes it has, and how many characters.

@@ -1,14 +1,14 @@
 //! The significand of a real, written by whole rows of bytes, of which some count.
 ghost use Rattle.std.specs.Prelude.{◌≡◌, ◌+◌, ◌<◌, ◌≤◌, [], ◌∷◌, ◌++◌, length, take, slice_index, if◌then◌else◌};
-ghost use Rattle.p21_lanes.specs.Places.{HasPlaces};
+ghost use Rattle.p21_transcribe.specs.Places.{HasPlaces};
 ghost use Rattle.p21_transcribe.specs.Appending.{AppendsAllOrNone};
 ghost use Rattle.p21_transcribe.specs.Significands.{further_digits, significand};
 
 use crate::draft::{Draft, WIDE, write_wide};
-use p21_lanes::Places;
+use crate::places::Places;
 
 /// The room that is asked for: a minus, a digit and the point, and two rows.
-const ROOM: usize = 3 * WIDE;
+const ROOM_OF_A_SIGNIFICAND: usize = 3 * WIDE;
 
 impl Draft {
     /// Appends a minus or none, the first digit that counts, the point, and the others that count; says whether there was
@@ -26,7 +26,7 @@ impl Draft {
         ensures { AppendsAllOrNone result (significand negative bytes.now 0 places.now.point places.now.first places.now.behind) self.old self.new }
     {
         let used = self.used;
-        if self.room.len() - used < ROOM {
+        if self.room.len() - used < ROOM_OF_A_SIGNIFICAND {
             return false;
         }
         self.used = write_significand(negative, bytes, 0, places, &mut self.room, used);

@@ -1,14 +1,14 @@
 //! Strings, of which most have each character in its canonical spelling (ISO 10303-21, clause 6: tokens, string).
 ghost use Rattle.std.specs.Prelude.{◌≡◌, ℕ, ◌<◌, List, length, IfNone, IfSome, IsTrue};
-ghost use Rattle.p21_basics.specs.Digits.{hex_digit, hex_digits};
-ghost use Rattle.p21_exchange.specs.Text.{IsApostropheOrBackslash};
-ghost use Rattle.p21_exchange.specs.Token.{text};
+ghost use Rattle.p21_spec_basics.specs.Digits.{hex_digit, hex_digits};
+ghost use Rattle.p21_spec_exchange.specs.Text.{IsApostropheOrBackslash};
+ghost use Rattle.p21_spec_exchange.specs.Token.{text};
 ghost use Rattle.p21_transcribe.specs.Characters.{AreCharacters, EndsText, IsDoubled, IsExtendedCharacter, IsExtendedDirective};
 ghost use Rattle.p21_transcribe.specs.LeadingToken.{IsCanonicalLeadingToken, Transcribes};
 
-use crate::digits::behind;
 use crate::draft::Draft;
 use crate::respelled_text::append_respelled;
+use p21_scan::behind;
 use p21_tokens_automaton::plain_characters;
 
 /// Appends the string at the front: how many bytes it has, and how many characters. Where each character stands in its

@@ -1,18 +1,18 @@
 -- Elements whose texts differ are distinct.
 use Rattle.std.proofs.Common.{ℕ, false, List, ◌∷◌, sym, subst, Contains}
-use Rattle.p21_basics.proofs.Members.{Contains-first, Contains-later}
-use Rattle.p21_claim_values.proofs.Needs.{assignment, each-servable, served-each}
-use Rattle.p21_claim_values.proofs.OfType.{EachOf, OfType, fit_each-of, of_next, of_none, params-written}
-use Rattle.p21_claim_values.proofs.TextsFromSame.{text-from_same}
-use Rattle.p21_claim_values.specs.Needs.{FitEachWithNeeds}
-use Rattle.p21_exchange.specs.Parameter.{Params, params_tokens}
-use Rattle.p21_files.specs.Reference.{Need}
-use Rattle.p21_files.specs.SameValue.{Among, AreDistinct, here, there}
-use Rattle.p21_files.specs.Value.{Value, Values}
-use Rattle.p21_files.specs.ValueText.{value_text, value_texts}
+use Rattle.p21_spec_basics.proofs.Members.{Contains-first, Contains-later}
+use Rattle.p21_spec_laws.proofs.Needs.{assignment, each-servable, served-each}
+use Rattle.p21_spec_laws.proofs.OfType.{EachOf, OfType, fit_each-of, of_next, of_none, params-written}
+use Rattle.p21_spec_laws.proofs.TextsFromSame.{text-from_same}
+use Rattle.p21_spec_laws.specs.Needs.{FitEachWithNeeds}
+use Rattle.p21_spec_exchange.specs.Parameter.{Params, params_tokens}
+use Rattle.p21_spec_file.specs.Reference.{Need}
+use Rattle.p21_spec_file.specs.SameValue.{Among, AreDistinct, here, there}
+use Rattle.p21_spec_file.specs.Value.{Value, Values}
+use Rattle.p21_spec_file.specs.ValueText.{value_text, value_texts}
 use Rattle.p21_mapping_values.specs.SplitTexts.{NoneTwice}
-use Rattle.p21_schemas.specs.Schema.{Schema, TypeUse}
-use Rattle.p21_schemas.specs.WellFormed.{HasDistinctTypes}
+use Rattle.p21_spec_schema.specs.Schema.{Schema, TypeUse}
+use Rattle.p21_spec_schema.specs.WellFormed.{HasDistinctTypes}
 use Rattle.p21_transcribe_instance.specs.TakenValues.{LaidBefore}
 use Rattle.p21_transcribe_instance.proofs.LaidRuns.{laid-spelled}
 

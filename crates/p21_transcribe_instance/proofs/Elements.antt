@@ -3,30 +3,30 @@ use Rattle.std.proofs.Common.{◌≡◌, ◌∙◌, ℕ, suc, ◌+◌, ◌-◌, 
 use Rattle.std.proofs.Math.Seq.{drop-append_seam, take-append_seam}
 use Rattle.std.proofs.lemmas.List.{append-nil, map-append}
 use denote.Ref.{Bor}
-use Rattle.p21_claim_values.specs.Needs.{FitEachWithNeeds, FitsAtWithNeeds, FitsWithNeeds, with_array, with_bag, with_dollar, with_empty, with_fit, with_list, with_next, with_none, with_set}
-use Rattle.p21_exchange.specs.Parameter as parameter
-use Rattle.p21_exchange.specs.Parameter.{Param, Params, more_tokens, no_params, param, param_tokens, params_tokens}
-use Rattle.p21_exchange.specs.Token as token
-use Rattle.p21_exchange.specs.Token.{Token}
+use Rattle.p21_spec_laws.specs.Needs.{FitEachWithNeeds, FitsAtWithNeeds, FitsWithNeeds, with_array, with_bag, with_dollar, with_empty, with_fit, with_list, with_next, with_none, with_set}
+use Rattle.p21_spec_exchange.specs.Parameter as parameter
+use Rattle.p21_spec_exchange.specs.Parameter.{Param, Params, more_tokens, no_params, param, param_tokens, params_tokens}
+use Rattle.p21_spec_exchange.specs.Token as token
+use Rattle.p21_spec_exchange.specs.Token.{Token}
 use Rattle.p21_express_tables.specs.Base.{HasBase, IsBase}
 use Rattle.p21_express_tables.specs.declared.base.Base.{Base}
 use Rattle.p21_express_tables.specs.declared.base.Base.TheVariants.{Plain}
 use Rattle.p21_express_graph.proofs.Renaming.{comes-is}
 use Rattle.p21_express_graph.specs.Resolved.{HoldsTogether, IsTypeUse}
-use Rattle.p21_express_types.specs.declared.type_use.TypeUse as code
-use Rattle.p21_express_types.specs.Meaning.{type_use}
-use Rattle.p21_files.specs.ParameterKind.{AllowsCount, IsUnique, element_type}
-use Rattle.p21_files.specs.Reference as reference
-use Rattle.p21_files.specs.SameValue.{AreDistinct}
-use Rattle.p21_files.specs.Value as meant
-use Rattle.p21_files.specs.Value.{Value, Values, count, no_values, value}
-use Rattle.p21_files.specs.ValueText.{list_text, value_text, value_texts, with_commas, with_commas_between}
+use Rattle.p21_express_graph.specs.declared.type_use.TypeUse as code
+use Rattle.p21_express_graph.specs.Meaning.{type_use}
+use Rattle.p21_spec_file.specs.ParameterKind.{AllowsCount, IsUnique, element_type}
+use Rattle.p21_spec_file.specs.Reference as reference
+use Rattle.p21_spec_file.specs.SameValue.{AreDistinct}
+use Rattle.p21_spec_file.specs.Value as meant
+use Rattle.p21_spec_file.specs.Value.{Value, Values, count, no_values, value}
+use Rattle.p21_spec_file.specs.ValueText.{list_text, value_text, value_texts, with_commas, with_commas_between}
 use Rattle.p21_mapping_values.specs.declared.need.Need.{Need}
 use Rattle.p21_mapping_values.specs.TypedView.{need_view}
-use Rattle.p21_schemas.specs.PlaceType.{stored_place}
-use Rattle.p21_schemas.specs.Schema as schema
-use Rattle.p21_schemas.specs.Schema.{Schema, TypeUse}
-use Rattle.p21_schemas.specs.WellFormed.{HasDistinctTypes}
+use Rattle.p21_spec_schema.specs.PlaceType.{stored_place}
+use Rattle.p21_spec_schema.specs.Schema as schema
+use Rattle.p21_spec_schema.specs.Schema.{Schema, TypeUse}
+use Rattle.p21_spec_schema.specs.WellFormed.{HasDistinctTypes}
 use Rattle.p21_transcribe.proofs.Parts.{goes-on}
 use Rattle.p21_transcribe.specs.Gaps.{PassesSeparators}
 use Rattle.p21_transcribe_instance.proofs.Laid.{laid-enclosed, laid-join, laid-next, laid-shorter}
@@ -37,7 +37,7 @@ use Rattle.p21_transcribe_instance.specs.Elements.{AddsLength, IsAggregateOf, Ta
 use Rattle.p21_transcribe_instance.specs.TakenValues.{IsBaseInSchema, KeepsNeeds, LaidBefore, PassesDelimiter, TakesWithNeeds}
 use Rattle.p21_values.specs.Canonical.{Continues}
 use Rattle.p21_mapping_values.specs.SplitTexts.{lengths_of}
-use Rattle.p21_basics.proofs.Members.{some_pair_is}
+use Rattle.p21_spec_basics.proofs.Members.{some_pair_is}
 
 -- elements with a comma before each
 abbrev pub TakesMore : Schema → Bool → TypeUse → Bool → ℕ → ℕ → List ℕ → List ℕ → List ℕ → List ℕ → List ℕ → List ℕ → List Need → List Need → Type 0
@@ -151,10 +151,10 @@ module _ (s : Schema) (base : Base) (optional compared : Bool) (most : ℕ) (byt
 
 -- ---- fewer bytes are left
 
-gap-shorter : (bytes inside : List ℕ) → PassesSeparators bytes inside → length inside ≤ length bytes
+pub gap-shorter : (bytes inside : List ℕ) → PassesSeparators bytes inside → length inside ≤ length bytes
 gap-shorter bytes inside passes = omega (arith, ap length passes.bytes_are, length-append passes.gap inside)
 
-mark-shorter : (mark : ℕ) (bytes rest : List ℕ) → PassesDelimiter mark bytes rest → length rest < length bytes
+pub mark-shorter : (mark : ℕ) (bytes rest : List ℕ) → PassesDelimiter mark bytes rest → length rest < length bytes
 mark-shorter mark bytes rest (gap, e, separates) = omega (arith, ap length e, length-append gap (mark ∷ rest))
 
 -- an element leaves no more

@@ -3,25 +3,25 @@ use Rattle.std.proofs.Common.{◌≡◌, ◌∙◌, ℕ, length-append, suc, ◌
 use Rattle.std.proofs.lemmas.Grind.{flat_map-append}
 use Rattle.std.proofs.lemmas.List.{append-nil, map-append, take-append-le, take_all, take_more}
 use Rattle.std.specs.List.{flat_map}
-use Rattle.p21_basics.proofs.Members.{Each-append, Each-at}
-use Rattle.p21_claim_values.specs.Needs.{FitsAtWithNeeds}
-use Rattle.p21_exchange.specs.Parameter.{Params, more_tokens, params_tokens}
-use Rattle.p21_exchange.specs.Record.{part_tokens}
-use Rattle.p21_exchange.specs.Token as token
-use Rattle.p21_exchange.specs.Token.{Token}
+use Rattle.p21_spec_basics.proofs.Members.{Each-append, Each-at}
+use Rattle.p21_spec_laws.specs.Needs.{FitsAtWithNeeds}
+use Rattle.p21_spec_exchange.specs.Parameter.{Params, more_tokens, params_tokens}
+use Rattle.p21_spec_exchange.specs.Record.{part_tokens}
+use Rattle.p21_spec_exchange.specs.Token as token
+use Rattle.p21_spec_exchange.specs.Token.{Token}
 use Rattle.p21_express_graph.proofs.Lookups.{own-places-are, places-more}
 use Rattle.p21_express_graph.proofs.Resolving.{stored-is}
 use Rattle.p21_express_graph.specs.Lookups.{places_from}
 use Rattle.p21_express_graph.specs.Orders.{numbers}
 use Rattle.p21_express_graph.specs.Resolved.{HoldsTogether}
-use Rattle.p21_express_types.specs.declared.number.EntityId.{EntityId}
-use Rattle.p21_files.specs.Reference as meant
-use Rattle.p21_files.specs.ValueText.{value_text, with_commas, with_commas_between}
+use Rattle.p21_express_graph.specs.declared.number.EntityId.{EntityId}
+use Rattle.p21_spec_file.specs.Reference as meant
+use Rattle.p21_spec_file.specs.ValueText.{value_text, with_commas, with_commas_between}
 use Rattle.p21_mapping_values.specs.declared.need.Need.{Need}
 use Rattle.p21_mapping_values.specs.TypedView.{need_view}
-use Rattle.p21_schemas.specs.Order.{own_places}
-use Rattle.p21_schemas.specs.PlaceType.{PlaceType, TypeAt, derived_place, stored_place, two_redeclarations}
-use Rattle.p21_schemas.specs.Schema.{Place, Schema, attributes_of}
+use Rattle.p21_spec_schema.specs.Order.{own_places}
+use Rattle.p21_spec_schema.specs.PlaceType.{PlaceType, TypeAt, derived_place, stored_place, two_redeclarations}
+use Rattle.p21_spec_schema.specs.Schema.{Place, Schema, attributes_of}
 use Rattle.p21_transcribe.specs.Gaps.{PassesSeparators}
 use Rattle.p21_transcribe_instance.proofs.LaidRuns.{takes-join, takes-mark}
 use Rattle.p21_transcribe_instance.proofs.Stepping.{GoOn, first-places, next-places, none-places}

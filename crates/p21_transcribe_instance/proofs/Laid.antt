@@ -3,11 +3,11 @@ use Rattle.std.proofs.Common.{◌≡◌, ◌∙◌, ℕ, ◌≤◌, List, [], �
 use Rattle.std.proofs.lemmas.Grind.{flat_map-append}
 use Rattle.std.proofs.lemmas.List.{take-append-drop}
 use Rattle.std.specs.List.{flat_map}
-use Rattle.p21_basics.proofs.Members.{Each-append}
-use Rattle.p21_exchange.specs.Parameter.{Param, dollar, star, whole, real, text, name, item, bits, list, typed, key_token, param_tokens, params_tokens}
-use Rattle.p21_exchange.specs.Separator.{IsSeparator, IsSeparatorText, separator_bytes}
-use Rattle.p21_exchange.specs.Token as token
-use Rattle.p21_exchange.specs.Token.{Token, IsFollowed, MayFollow, Spells}
+use Rattle.p21_spec_basics.proofs.Members.{Each-append}
+use Rattle.p21_spec_exchange.specs.Parameter.{Param, dollar, star, whole, real, text, name, item, bits, list, typed, key_token, param_tokens, params_tokens}
+use Rattle.p21_spec_exchange.specs.Separator.{IsSeparator, IsSeparatorText, separator_bytes}
+use Rattle.p21_spec_exchange.specs.Token as token
+use Rattle.p21_spec_exchange.specs.Token.{Token, IsFollowed, MayFollow, Spells}
 use Rattle.p21_transcribe.specs.Gaps.{PassesSeparators}
 use Rattle.p21_transcribe.specs.LeadingToken.{IsLeadingToken}
 use Rattle.p21_transcribe_instance.specs.TakenValues.{LaidBefore, PassesDelimiter}

@@ -1,16 +1,16 @@
 -- Tokens at the front, one behind the other.
-use Rattle.std.proofs.Common.{◌≡◌, ◌∙◌, ℕ, List, [], ◌∷◌, ◌++◌, drop, length, take, refl, ap, sym, subst, append_assoc}
-use Rattle.std.proofs.lemmas.List.{take-append-drop}
+use Rattle.std.proofs.Common.{◌≡◌, ◌∙◌, ℕ, ◌<◌, List, [], ◌∷◌, ◌++◌, drop, get_or, length, take, refl, ap, sym, append_assoc, arith}
+use Rattle.std.proofs.lemmas.List.{drop_more, take-append-drop}
 use Rattle.std.specs.List.{AllByRecursion as Each}
-use Rattle.p21_exchange.specs.Token.{IsSpelled, Token, MayFollow, Spells}
-use Rattle.p21_exchange.specs.Spelling.{name_spelling, spelling}
-use Rattle.p21_exchange.specs.Token as token
-use Rattle.p21_schemas.specs.Schema.{EntityNamed, Schema}
+use Rattle.p21_spec_exchange.specs.Token.{IsSpelled, Token, MayFollow, Spells}
+use Rattle.p21_spec_exchange.specs.Spelling.{name_spelling, spelling}
+use Rattle.p21_spec_exchange.specs.Token as token
+use Rattle.p21_spec_schema.specs.Schema.{EntityNamed, Schema}
 use Rattle.p21_transcribe.specs.Gaps.{PassesSeparators}
 use Rattle.p21_transcribe.specs.LeadingToken.{Transcribes}
 use Rattle.p21_transcribe_instance.specs.TakenParameters.{TakesTokens, TakesEntity, TakesDelimiter}
 use Rattle.p21_transcribe_instance.proofs.Laid.{laid-join, laid-next}
-use Rattle.p21_transcribe_instance.specs.TakenValues.{LaidBefore}
+use Rattle.p21_transcribe_instance.specs.TakenValues.{LaidBefore, PassesDelimiter}
 
 -- tokens that are laid have spellings
 pub laid-spelled : (bytes rest : List ℕ) (tokens : List Token) → LaidBefore bytes tokens rest → Each IsSpelled tokens
@@ -27,7 +27,7 @@ takes-join xs ys t u bytes middle rest old between new first second = record {
 
 pub takes-mark : (mark : ℕ) (one : Token) (bytes rest old new : List ℕ) → Spells one (mark ∷ []) → ((byte : ℕ) → MayFollow one (mark ∷ []) byte) → TakesDelimiter mark bytes rest old new → TakesTokens (one ∷ []) (mark ∷ []) bytes rest old new
 takes-mark mark one bytes rest old new spells any h = record {
-  laid = laid-next mark one bytes rest spells any (h.passes.gap, h.passes.bytes_are, h.passes.is_gap);
+  laid = laid-next mark one bytes rest spells any h.passes;
   appended = h.appended;
 }
 
@@ -37,8 +37,8 @@ takes-leaf bytes front rest count one old new passes is h = record {
   appended = h.appended;
 }
 
-pub mark-behind : (mark : ℕ) (bytes front rest old new : List ℕ) → PassesSeparators bytes front → (front ≡ mark ∷ rest) × (new ≡ old ++ mark ∷ []) → TakesDelimiter mark bytes rest old new
-mark-behind mark bytes front rest old new passes (is, appended) = record { passes = subst (PassesSeparators bytes) is passes; appended = appended }
+pub mark-behind : (mark : ℕ) (bytes rest old new : List ℕ) → PassesDelimiter mark bytes rest × (new ≡ old ++ mark ∷ []) → TakesDelimiter mark bytes rest old new
+mark-behind mark bytes rest old new (passes, appended) = record { passes = passes; appended = appended }
 
 -- ---- the parts of an instance
 
@@ -53,3 +53,12 @@ entity-taken s e word bytes front rest old new passes is leaf named = (word, nam
 pub end-taken : (bytes closed rest old middle new : List ℕ) → TakesDelimiter 41 bytes closed old middle → TakesDelimiter 59 closed rest middle new → TakesTokens (token.right ∷ token.semicolon ∷ []) (41 ∷ 59 ∷ []) bytes rest old new
 end-taken bytes closed rest old middle new first second =
     takes-join (token.right ∷ []) (token.semicolon ∷ []) (41 ∷ []) (59 ∷ []) bytes closed rest old middle new (takes-mark 41 token.right bytes closed old middle refl (λ byte. tt) first) (takes-mark 59 token.semicolon closed rest middle new refl (λ byte. tt) second)
+
+-- the same with nothing between them
+pub end-joined : (bytes old new : List ℕ) → get_or bytes 0 0 ≡ 41 → get_or bytes 1 0 ≡ 59 → 1 < length bytes → new ≡ old ++ take 2 bytes → TakesTokens (token.right ∷ token.semicolon ∷ []) (41 ∷ 59 ∷ []) bytes (drop 2 bytes) old new
+end-joined bytes old new first second low appended =
+    let closed : bytes ≡ 41 ∷ drop 1 bytes = drop_more bytes 0 0 (omega (arith, low)) ∙ ap (λ (x : ℕ). x ∷ drop 1 bytes) first in
+    let ended : drop 1 bytes ≡ 59 ∷ drop 2 bytes = drop_more bytes 1 0 low ∙ ap (λ (x : ℕ). x ∷ drop 2 bytes) second in
+    let both : bytes ≡ 41 ∷ 59 ∷ drop 2 bytes = closed ∙ ap (λ (x : List ℕ). 41 ∷ x) ended in
+    end-taken bytes (59 ∷ drop 2 bytes) (drop 2 bytes) old (old ++ 41 ∷ []) new (record { passes = ([], both, ([], tt, refl)); appended = refl })
+    (record { passes = ([], refl, ([], tt, refl)); appended = appended ∙ ap (λ (x : List ℕ). old ++ take 2 x) both ∙ sym (append_assoc old (41 ∷ []) (59 ∷ [])) })

@@ -9,9 +9,11 @@ pub mod Scalars
 pub mod Typed
 pub mod Values
 pub mod Joining
+pub mod Keywords
 pub mod LaidRuns
 pub mod Meaning
 pub mod Plain
+pub mod RealElements
 pub mod Rows
 pub mod Stepping
 pub mod Texts

@@ -3,42 +3,42 @@ use Rattle.std.proofs.Common.{◌≡◌, ℕ, List, [], ◌∷◌, ◌++◌, Con
 use Rattle.std.proofs.lemmas.Option.{slice_get_within}
 use Rattle.std.specs.List.{AllByRecursion as Each}
 use Rattle.std.specs.Prelude.{◌↔◌, codes}
-use Rattle.p21_basics.proofs.Members.{Each-append, Each-front, Each-weaker}
-use Rattle.p21_basics.proofs.Shuffles.{distinct-none_twice}
-use Rattle.p21_claim_values.proofs.CanonicalLaid.{statement_laid}
-use Rattle.p21_claim_values.proofs.Leaves.{closure-leaf}
-use Rattle.p21_claim_values.proofs.Needs.{AreServed, needs-can_be_served, served-places}
-use Rattle.p21_claim_values.proofs.OfType.{AreWritten}
-use Rattle.p21_claim_values.proofs.Printing.{canonical-same_typed, canonical_typed, means-with, part-plain, part-said}
-use Rattle.p21_claim_values.proofs.RecordOnce.{part-written}
-use Rattle.p21_claim_values.specs.Needs.{FitPlacesWithNeeds, MeansWithNeeds, AreNeedsOfRecord}
-use Rattle.p21_claim_values.specs.Written.{IsWrittenStatement}
-use Rattle.p21_exchange.specs.Token.{IsSpelled, Token}
-use Rattle.p21_exchange.specs.CanonicalText.{statement_text}
-use Rattle.p21_exchange.specs.Grammar.{IsDataRecord}
-use Rattle.p21_exchange.specs.Laying.{Laid}
-use Rattle.p21_exchange.specs.Nesting.{IsShallow}
-use Rattle.p21_exchange.specs.Parameter.{key_of, params_tokens}
-use Rattle.p21_exchange.specs.Record.{Part, record_tokens, simple}
-use Rattle.p21_exchange.specs.Spelling.{name_spelling}
-use Rattle.p21_exchange.specs.Statement.{instance, statement_tokens}
-use Rattle.p21_exchange.specs.Token as token
+use Rattle.p21_spec_basics.proofs.Members.{Each-append, Each-front, Each-weaker}
+use Rattle.p21_spec_basics.proofs.Shuffles.{distinct-none_twice}
+use Rattle.p21_spec_laws.proofs.CanonicalLaid.{statement_laid}
+use Rattle.p21_spec_laws.proofs.Leaves.{closure-leaf}
+use Rattle.p21_spec_laws.proofs.Needs.{AreServed, needs-can_be_served, served-places}
+use Rattle.p21_spec_laws.proofs.OfType.{AreWritten}
+use Rattle.p21_spec_laws.proofs.Printing.{canonical-same_typed, canonical_typed, means-with, part-plain, part-said}
+use Rattle.p21_spec_laws.proofs.RecordOnce.{part-written}
+use Rattle.p21_spec_laws.specs.Needs.{FitPlacesWithNeeds, MeansWithNeeds, AreNeedsOfRecord}
+use Rattle.p21_spec_laws.specs.Written.{IsWrittenStatement}
+use Rattle.p21_spec_exchange.specs.Token.{IsSpelled, Token}
+use Rattle.p21_spec_exchange.specs.CanonicalText.{statement_text}
+use Rattle.p21_spec_exchange.specs.Grammar.{IsDataRecord}
+use Rattle.p21_spec_exchange.specs.Laying.{Laid}
+use Rattle.p21_spec_exchange.specs.Nesting.{IsShallow}
+use Rattle.p21_spec_exchange.specs.Parameter.{key_of, params_tokens}
+use Rattle.p21_spec_exchange.specs.Record.{Part, record_tokens, simple}
+use Rattle.p21_spec_exchange.specs.Spelling.{name_spelling}
+use Rattle.p21_spec_exchange.specs.Statement.{instance, statement_tokens}
+use Rattle.p21_spec_exchange.specs.Token as token
 use Rattle.p21_express_graph.proofs.OrderTables.{order-tells}
 use Rattle.p21_express_graph.specs.Resolved.{HoldsTogether, IsEntity}
 use Rattle.p21_express_graph.specs.Rising.{HaveSame, IsOwnRising}
-use Rattle.p21_files.proofs.SameFiles.{SameTyped-symmetric}
-use Rattle.p21_files.specs.CanonicalRecord.{AreCanonicalAt}
-use Rattle.p21_files.specs.CanonicalTexts.{IsInstanceText}
-use Rattle.p21_files.specs.Meaning.{FitPlaces, NamesEntity, RecordMeans, Typed}
-use Rattle.p21_files.specs.Reference.{EntitySets, Need}
+use Rattle.p21_spec_file.proofs.SameFiles.{SameTyped-symmetric}
+use Rattle.p21_spec_file.specs.CanonicalRecord.{AreCanonicalAt}
+use Rattle.p21_spec_file.specs.CanonicalTexts.{IsInstanceText}
+use Rattle.p21_spec_file.specs.Meaning.{FitPlaces, NamesEntity, RecordMeans, Typed}
+use Rattle.p21_spec_file.specs.Reference.{EntitySets, Need}
 use Rattle.p21_mapping.proofs.OwnSets.{own-passes, type-same}
 use Rattle.p21_mapping.proofs.Shapes.{simple-no_leaf}
 use Rattle.p21_mapping_values.specs.declared.need.Need as code
-use Rattle.p21_schemas.proofs.OrderedOnce.{order-distinct}
-use Rattle.p21_schemas.specs.Order.{order, places}
-use Rattle.p21_schemas.specs.Schema.{EntityNamed, Place, Schema}
-use Rattle.p21_schemas.specs.Supertype.{IsA}
-use Rattle.p21_schemas.specs.WellFormed.{IsWellFormed}
+use Rattle.p21_spec_schema.proofs.OrderedOnce.{order-distinct}
+use Rattle.p21_spec_schema.specs.Order.{order, places}
+use Rattle.p21_spec_schema.specs.Schema.{EntityNamed, Place, Schema}
+use Rattle.p21_spec_schema.specs.Supertype.{IsA}
+use Rattle.p21_spec_schema.specs.WellFormed.{IsWellFormed}
 use Rattle.p21_transcribe_instance.proofs.LaidRuns.{laid-spelled, takes-join}
 use Rattle.p21_transcribe_instance.proofs.Plain.{placed-plain}
 use Rattle.p21_transcribe_instance.proofs.Rows.{HasMeaning, has-meaning}

@@ -2,10 +2,10 @@
 use Rattle.std.specs.Prelude.{◌≡◌, ℕ, zero, suc, ◌+◌, ◌<◌, ◌≤◌, List, Contains}
 use Rattle.std.proofs.Common.{arith, subst, inl, inr}
 use Rattle.std.proofs.lemmas.Bool.{cases_lt}
-use Rattle.p21_basics.proofs.Members.{Contains-first, Contains-later, Contains-flat_map}
-use Rattle.p21_schemas.specs.Order.{order, places, own_places}
-use Rattle.p21_schemas.specs.Schema.{Schema, Place}
-use Rattle.p21_schemas.specs.Supertype.{IsA}
+use Rattle.p21_spec_basics.proofs.Members.{Contains-first, Contains-later, Contains-flat_map}
+use Rattle.p21_spec_schema.specs.Order.{order, places, own_places}
+use Rattle.p21_spec_schema.specs.Schema.{Schema, Place}
+use Rattle.p21_spec_schema.specs.Supertype.{IsA}
 use Rattle.p21_express_graph.specs.Lookups.{places_from}
 use Rattle.p21_express_graph.specs.Resolved.{HoldsTogether, IsPlace}
 use Rattle.p21_express_graph.proofs.Lookups.{own-places-are}

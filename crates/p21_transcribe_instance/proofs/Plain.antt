@@ -1,17 +1,17 @@
 -- Parameters that fit have no user keyword.
 use Rattle.std.proofs.Common.{ℕ, Bool, true, false, List, [], ◌∷◌}
 use Rattle.std.specs.List.{AllByRecursion as Each}
-use Rattle.p21_basics.proofs.Members.{Each-append}
-use Rattle.p21_claim_values.proofs.Printing.{ArePlain, IsPlain, list-plain}
-use Rattle.p21_claim_values.specs.Needs.{FitsAtWithNeeds, FitsWithNeeds, FitEachWithNeeds, with_whole, with_real, with_number, with_whole_number, with_boolean, with_logical, with_text, with_binary, with_instance, with_underlying, with_item, with_chosen_instance, with_chosen_type, with_array, with_list, with_set, with_bag, with_none, with_next, with_empty, with_star, with_dollar, with_fit}
-use Rattle.p21_exchange.specs.Grammar.{IsNoUserKeyword}
-use Rattle.p21_exchange.specs.Parameter.{Param, Params, param_tokens}
-use Rattle.p21_exchange.specs.Token as token
-use Rattle.p21_files.specs.Reference.{Need}
-use Rattle.p21_files.specs.Value.{Value, Values}
-use Rattle.p21_schemas.specs.PlaceType.{PlaceType}
-use Rattle.p21_schemas.specs.Schema as schema
-use Rattle.p21_schemas.specs.Schema.{Schema, TypeUse}
+use Rattle.p21_spec_basics.proofs.Members.{Each-append}
+use Rattle.p21_spec_laws.proofs.Printing.{ArePlain, IsPlain, list-plain}
+use Rattle.p21_spec_laws.specs.Needs.{FitsAtWithNeeds, FitsWithNeeds, FitEachWithNeeds, with_whole, with_real, with_number, with_whole_number, with_boolean, with_logical, with_text, with_binary, with_instance, with_underlying, with_item, with_chosen_instance, with_chosen_type, with_array, with_list, with_set, with_bag, with_none, with_next, with_empty, with_star, with_dollar, with_fit}
+use Rattle.p21_spec_exchange.specs.Grammar.{IsNoUserKeyword}
+use Rattle.p21_spec_exchange.specs.Parameter.{Param, Params, param_tokens}
+use Rattle.p21_spec_exchange.specs.Token as token
+use Rattle.p21_spec_file.specs.Reference.{Need}
+use Rattle.p21_spec_file.specs.Value.{Value, Values}
+use Rattle.p21_spec_schema.specs.PlaceType.{PlaceType}
+use Rattle.p21_spec_schema.specs.Schema as schema
+use Rattle.p21_spec_schema.specs.Schema.{Schema, TypeUse}
 use Rattle.p21_transcribe_instance.specs.TakenParameters.{IsPlacedParameter, PlacedParameter, params_at}
 
 mutual

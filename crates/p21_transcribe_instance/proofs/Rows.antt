@@ -2,14 +2,14 @@
 use Rattle.std.proofs.Common.{◌≡◌, ◌∙◌, ℕ, zero, suc, ◌+◌, List, [], ◌∷◌, ◌++◌, length, Contains, refl, ap, sym, subst, arith, inl, inr}
 use Rattle.std.specs.List.{AllByRecursion as Each, AllZip, flat_map, zip}
 use Rattle.std.specs.Prelude.{Some}
-use Rattle.p21_basics.proofs.Members.{AllZip-beside, Contains-cases, Contains-first, Contains-later, Contains-none, Contains-zip, Each-append, Each-weaker}
-use Rattle.p21_basics.proofs.Shuffles.{NoneTwice, zip-one}
+use Rattle.p21_spec_basics.proofs.Members.{AllZip-beside, Contains-cases, Contains-first, Contains-later, Contains-none, Contains-zip, Each-append, Each-weaker}
+use Rattle.p21_spec_basics.proofs.Shuffles.{NoneTwice, zip-one}
 use Rattle.p21_express_graph.proofs.Lookups.{own-places-are}
 use Rattle.p21_express_graph.specs.Lookups.{places_from}
-use Rattle.p21_files.specs.Meaning.{HasOwnCount, HasValueAt}
-use Rattle.p21_files.specs.Value.{Values, no_values, value, count, value_at}
-use Rattle.p21_schemas.specs.Order.{own_places}
-use Rattle.p21_schemas.specs.Schema.{Place, Schema, attributes_of}
+use Rattle.p21_spec_file.specs.Meaning.{HasOwnCount, HasValueAt}
+use Rattle.p21_spec_file.specs.Value.{Values, no_values, value, count, value_at}
+use Rattle.p21_spec_schema.specs.Order.{own_places}
+use Rattle.p21_spec_schema.specs.Schema.{Place, Schema, attributes_of}
 use Rattle.p21_transcribe_instance.specs.TakenParameters.{PlacedParameter, places_at}
 
 none-cons : {X : Type 0} (x : X) (xs : List X) → x ∷ xs ≡ [] → ⊥

@@ -1,14 +1,14 @@
 -- Scalars that stand at the front, at their types.
 use Rattle.std.proofs.Common.{◌≡◌, ℕ, ℤ, Bool, true, false, List, length, Option, Contains, refl, sym, subst}
-use Rattle.p21_claim_values.specs.Needs.{with_whole, with_real, with_number, with_whole_number, with_boolean, with_logical, with_text, with_binary}
-use Rattle.p21_exchange.specs.Parameter as parameter
-use Rattle.p21_exchange.specs.Token as token
-use Rattle.p21_express_types.specs.declared.type_use.TypeUse as code
-use Rattle.p21_express_types.specs.Meaning.{type_use}
-use Rattle.p21_files.specs.Fits.{IsWithinWidth, boolean_items, logical_items}
-use Rattle.p21_files.specs.Value as meant
-use Rattle.p21_schemas.specs.Schema as schema
-use Rattle.p21_schemas.specs.Schema.{Width}
+use Rattle.p21_spec_laws.specs.Needs.{with_whole, with_real, with_number, with_whole_number, with_boolean, with_logical, with_text, with_binary}
+use Rattle.p21_spec_exchange.specs.Parameter as parameter
+use Rattle.p21_spec_exchange.specs.Token as token
+use Rattle.p21_express_graph.specs.declared.type_use.TypeUse as code
+use Rattle.p21_express_graph.specs.Meaning.{type_use}
+use Rattle.p21_spec_file.specs.Fits.{IsWithinWidth, boolean_items, logical_items}
+use Rattle.p21_spec_file.specs.Value as meant
+use Rattle.p21_spec_schema.specs.Schema as schema
+use Rattle.p21_spec_schema.specs.Schema.{Width}
 use Rattle.p21_transcribe.specs.LeadingToken.{Transcribes}
 use Rattle.p21_transcribe.specs.Numbers.{TranscribesNumber, a_real, a_whole}
 use Rattle.p21_transcribe_instance.specs.TakenValues.{TakesScalar}

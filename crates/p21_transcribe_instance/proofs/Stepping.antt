@@ -2,28 +2,29 @@
 use Rattle.std.proofs.Common.{◌≡◌, ◌∙◌, ℕ, zero, suc, ◌+◌, ◌<◌, List, [], ◌∷◌, ◌++◌, length, take, get_or, map, refl, ap, sym, subst, arith, append_assoc, IfNone, Option, Some, None}
 use Rattle.std.proofs.lemmas.Grind.{flat_map-append}
 use Rattle.std.proofs.lemmas.List.{append-nil, map-append, take_more}
-use Rattle.p21_basics.proofs.Members.{Each-append}
-use Rattle.p21_claim_values.specs.Needs.{FitsAtWithNeeds}
-use Rattle.p21_exchange.specs.Parameter.{Params, no_params, more_tokens, param_tokens, params_tokens}
-use Rattle.p21_exchange.specs.Spelling.{spelling}
-use Rattle.p21_exchange.specs.Token as token
-use Rattle.p21_exchange.specs.Token.{Token}
-use Rattle.p21_files.specs.Reference as meant
-use Rattle.p21_files.specs.ValueText.{value_text, with_commas, with_commas_between}
+use Rattle.p21_spec_basics.proofs.Members.{Each-append}
+use Rattle.p21_spec_laws.specs.Needs.{FitsAtWithNeeds}
+use Rattle.p21_spec_exchange.specs.Parameter.{Params, no_params, more_tokens, param_tokens, params_tokens}
+use Rattle.p21_spec_exchange.specs.Spelling.{spelling}
+use Rattle.p21_spec_exchange.specs.Token as token
+use Rattle.p21_spec_exchange.specs.Token.{Token}
+use Rattle.p21_spec_file.specs.Reference as meant
+use Rattle.p21_spec_file.specs.ValueText.{value_text, with_commas, with_commas_between}
 use Rattle.p21_mapping_values.specs.TypedView.{need_view}
 use Rattle.p21_mapping_values.specs.declared.need.Need.{Need}
-use Rattle.p21_schemas.specs.Order.{order, places}
-use Rattle.p21_schemas.specs.PlaceType.{PlaceType, TypeAt}
-use Rattle.p21_schemas.specs.Schema.{Place, Schema}
+use Rattle.p21_spec_schema.specs.Order.{order, places}
+use Rattle.p21_spec_schema.specs.PlaceType.{PlaceType, TypeAt}
+use Rattle.p21_spec_schema.specs.Schema.{Place, Schema}
 use Rattle.p21_transcribe.specs.Gaps.{PassesSeparators}
 use Rattle.p21_transcribe.specs.LeadingToken.{Transcribes}
 use Rattle.p21_transcribe_instance.proofs.LaidRuns.{takes-join, takes-mark}
-use Rattle.p21_transcribe_instance.specs.TakenParameters.{AreStepsIn, IsPlacedParameter, PlacedParameter, TakesTokens, TakesEntity, TakesDelimiter, TakesPlaces, TakesSteps, body_text, body_tokens, needs_at, params_at, texts_at}
+use Rattle.p21_transcribe_instance.specs.TakenParameters.{AreStepsIn, IsPlacedParameter, PlacedParameter, TakesTokens, TakesEntity, TakesDelimiter, TakesInside, TakesOpenedEntity, TakesPlaces, TakesSteps, body_text, body_tokens, needs_at, params_at, texts_at}
 use Rattle.p21_transcribe_instance.specs.Steps.{AreStepsAt, IsStepAt, IsStepForSome, IsStepFor}
 use Rattle.p21_transcribe_instance.specs.declared.step.Step.{Step}
 use Rattle.p21_transcribe_instance.proofs.Laid.{laid-join, param-behind}
 use Rattle.p21_transcribe_instance.specs.TakenValues.{KeepsNeeds, LaidBefore, TakesWithNeeds}
 use Rattle.p21_values.specs.Canonical.{Continues}
+use Rattle.p21_values.proofs.Continuing.{continues-join}
 
 -- ---- steps
 
@@ -174,6 +175,11 @@ enclosed s steps bytes inside behind rest old opened between new before after ma
     let all = takes-join (token.left ∷ []) (ts ++ (token.right ∷ token.semicolon ∷ [])) (40 ∷ []) (t ++ (41 ∷ 59 ∷ [])) bytes inside rest old opened new open_ closed in
     record { placed = h.placed; each = h.each; places_are = h.places_are; added = h.added; needs_are = h.needs_are; added_are = h.added_are; laid = all.laid; text_is = all.appended }
 
+-- behind the parenthesis in front
+pub inside-taken : (s : Schema) (steps : List Step) (bytes behind rest old between new : List ℕ) (before after : List Need) → TakesSteps s params_tokens with_commas_between steps bytes behind old between before after → TakesTokens (token.right ∷ token.semicolon ∷ []) (41 ∷ 59 ∷ []) behind rest between new
+    → TakesInside s steps bytes rest old new before after
+inside-taken s steps bytes behind rest old between new before after takes ended = record { behind = behind; between = between; places = takes; ended = ended }
+
 -- ---- what is appended and added
 
 pub needs-join : (before among after : List Need) → KeepsNeeds before among → KeepsNeeds among after → KeepsNeeds before after
@@ -211,3 +217,6 @@ entity-goes_on s e bytes rest old new (word, named, h) = (word, h.appended)
 
 pub leaf-goes_on : (bytes : List ℕ) (count : ℕ) (one : Token) (old new : List ℕ) → Transcribes bytes count one old new → Continues old new
 leaf-goes_on bytes count one old new h = (spelling one, h.appended)
+
+pub opened-goes_on : (s : Schema) (e : ℕ) (bytes rest old new : List ℕ) → TakesOpenedEntity s e bytes rest old new → Continues old new
+opened-goes_on s e bytes rest old new h = continues-join old h.between new (entity-goes_on s e bytes h.behind old h.between h.entity) (mark-goes_on 40 h.behind rest h.between new h.opened)

@@ -5,7 +5,7 @@ use Rattle.std.proofs.lemmas.List.{get_or_append_left, get_or-set_other, get_or-
 use Rattle.std.proofs.lemmas.Option.{get_or_from_slice_get, slice_get-get_or, slice_get-map, slice_get_within}
 use Rattle.std.proofs.Math.Seq.{get_or-append_seam}
 use Rattle.std.specs.Option.{option_map}
-use Rattle.std.specs.Prelude.{Option, Some, None, slice_get, Contains, Bool, true, false, IsTrue, ◌↔◌}
+use Rattle.std.specs.Prelude.{Option, Some, None, Result, Ok, Err, IfOk, slice_get, Contains, Bool, true, false, IsTrue, ◌↔◌}
 use denote.Ref.{Bor}
 use Rattle.p21_transcribe_instance.proofs.OwnPlaces.{place-among}
 use Rattle.p21_express_graph.proofs.OrderTables.{IsA-within, are-entities, order-tells}
@@ -17,11 +17,11 @@ use Rattle.p21_express_tables.specs.declared.base.Base.TheVariants.{Plain}
 use Rattle.p21_express_tables.specs.OwnSets.{HasOwnFaults, LeavesOpen}
 use Rattle.p21_express_tables.specs.declared.own_sets.OwnFaults.{OwnFaults}
 use Rattle.p21_express_graph.specs.Resolved.{HoldsTogether, IsEntity, IsPlace, IsTypeUse}
-use Rattle.p21_express_types.specs.Meaning.{type_use}
-use Rattle.p21_express_types.specs.declared.type_use.TypeUse as code
-use Rattle.p21_schemas.specs.Order.{order}
-use Rattle.p21_schemas.specs.PlaceType.{TypeAt, two_redeclarations}
-use Rattle.p21_schemas.specs.Schema.{Place, Schema}
+use Rattle.p21_express_graph.specs.Meaning.{type_use}
+use Rattle.p21_express_graph.specs.declared.type_use.TypeUse as code
+use Rattle.p21_spec_schema.specs.Order.{order}
+use Rattle.p21_spec_schema.specs.PlaceType.{TypeAt, two_redeclarations}
+use Rattle.p21_spec_schema.specs.Schema.{Place, Schema}
 use Rattle.p21_transcribe_instance.specs.Prepared.{Prepared}
 use Rattle.p21_transcribe_instance.specs.Steps.{AreStepsAt, IsPlanOf, IsRow, IsStepAt, MayStandAlone, row_view, rows_view}
 use Rattle.p21_transcribe_instance.specs.declared.row.Row.{Row}
@@ -44,6 +44,10 @@ module _ (s : Schema) (holds : HoldsTogether s) (e : ℕ) where
   decided_at place among is decided two = decided (place, (place-among s holds e place is ((order-tells s holds e place.entity).0 among), two))
 
 -- ---- what a type comes down to
+
+pub ok_to : {A E : Type 0} {P Q : A → Type 0} (result : Result A E) → ((x : A) → P x → Q x) → IfOk result P → IfOk result Q
+ok_to (Ok x) follows h = follows x h
+ok_to (Err fault) follows h = tt
 
 -- the type itself, where it is a plain one that was found
 pub reduced_type-plain : (s : Schema) → HoldsTogether s → (of : code.TypeUse) (last : Bor code.TypeUse) (base : Base) → base ≡ Plain last → HasBase s (type_use of) base → IsTypeUse s (type_use of) → (same : code.TypeUse) → type_use same ≡ type_use last.now → IsTypeUse s (type_use same) × ComesTo s (type_use of) (type_use same)

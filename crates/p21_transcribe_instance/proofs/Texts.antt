@@ -1,26 +1,26 @@
 -- The canonical record of values at places, and its text.
 use Rattle.std.proofs.Common.{◌≡◌, ◌∙◌, ℕ, List, [], ◌∷◌, ◌++◌, refl, ap, sym, append_assoc}
 use Rattle.std.specs.List.{AllByRecursion as Each}
-use Rattle.p21_basics.proofs.Members.{Each-front, Each-back, tail_is}
-use Rattle.p21_claim_values.proofs.CanonicalParam.{canonical_param, value_text-is}
-use Rattle.p21_claim_values.proofs.Existence.{canonical_value, canonical-is}
-use Rattle.p21_claim_values.proofs.Needs.{AreServed, served-at}
-use Rattle.p21_claim_values.proofs.OfType.{AreWritten}
-use Rattle.p21_claim_values.proofs.ParamTexts.{list-is, tokens_text-append}
-use Rattle.p21_claim_values.proofs.Printing.{at-fits, canonical_typed, has-canonical_value, at-written}
-use Rattle.p21_exchange.specs.CanonicalText.{param_texts, statement_text, tokens_text}
-use Rattle.p21_exchange.specs.Parameter.{Params, no_params, param, key_of, params_tokens}
-use Rattle.p21_exchange.specs.Record.{simple}
-use Rattle.p21_exchange.specs.Spelling.{name_spelling}
-use Rattle.p21_exchange.specs.Statement.{instance}
-use Rattle.p21_exchange.specs.Token as token
-use Rattle.p21_exchange.specs.Token.{Token}
-use Rattle.p21_files.specs.CanonicalRecord.{AreCanonicalAt}
-use Rattle.p21_files.specs.Fits.{FitsAt}
-use Rattle.p21_files.specs.Meaning.{FitPlaces, HasValueAt, Typed}
-use Rattle.p21_files.specs.Reference.{EntitySets, IsServed}
-use Rattle.p21_files.specs.ValueText.{value_text, with_commas_between}
-use Rattle.p21_schemas.specs.Schema.{Schema}
+use Rattle.p21_spec_basics.proofs.Members.{Each-front, Each-back, tail_is}
+use Rattle.p21_spec_laws.proofs.CanonicalParam.{canonical_param, value_text-is}
+use Rattle.p21_spec_laws.proofs.Existence.{canonical_value, canonical-is}
+use Rattle.p21_spec_laws.proofs.Needs.{AreServed, served-at}
+use Rattle.p21_spec_laws.proofs.OfType.{AreWritten}
+use Rattle.p21_spec_laws.proofs.ParamTexts.{list-is, tokens_text-append}
+use Rattle.p21_spec_laws.proofs.Printing.{at-fits, canonical_typed, has-canonical_value, at-written}
+use Rattle.p21_spec_exchange.specs.CanonicalText.{param_texts, statement_text, tokens_text}
+use Rattle.p21_spec_exchange.specs.Parameter.{Params, no_params, param, key_of, params_tokens}
+use Rattle.p21_spec_exchange.specs.Record.{simple}
+use Rattle.p21_spec_exchange.specs.Spelling.{name_spelling}
+use Rattle.p21_spec_exchange.specs.Statement.{instance}
+use Rattle.p21_spec_exchange.specs.Token as token
+use Rattle.p21_spec_exchange.specs.Token.{Token}
+use Rattle.p21_spec_file.specs.CanonicalRecord.{AreCanonicalAt}
+use Rattle.p21_spec_file.specs.Fits.{FitsAt}
+use Rattle.p21_spec_file.specs.Meaning.{FitPlaces, HasValueAt, Typed}
+use Rattle.p21_spec_file.specs.Reference.{EntitySets, IsServed}
+use Rattle.p21_spec_file.specs.ValueText.{value_text, with_commas_between}
+use Rattle.p21_spec_schema.specs.Schema.{Schema}
 use Rattle.p21_transcribe_instance.specs.TakenParameters.{IsPlacedParameter, PlacedParameter, body_text, needs_at, params_at, places_at, texts_at}
 
 -- the canonical parameters of the values

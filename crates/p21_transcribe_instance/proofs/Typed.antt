@@ -1,20 +1,20 @@
 -- Values that are taken with what stands around them.
 use Rattle.std.proofs.Common.{◌≡◌, ◌∙◌, ℕ, suc, ◌≤◌, List, [], ◌∷◌, ◌++◌, length, drop, codes, refl, ap, sym, subst, arith, append_assoc}
-use Rattle.p21_claim_values.proofs.CanonicalValue.{named-is}
-use Rattle.p21_claim_values.specs.Needs.{FitsWithNeeds, with_chosen_type}
-use Rattle.p21_exchange.specs.Parameter as parameter
-use Rattle.p21_exchange.specs.Parameter.{Param, key_of, param_tokens}
-use Rattle.p21_exchange.specs.Token as token
+use Rattle.p21_spec_laws.proofs.CanonicalValue.{named-is}
+use Rattle.p21_spec_laws.specs.Needs.{FitsWithNeeds, with_chosen_type}
+use Rattle.p21_spec_exchange.specs.Parameter as parameter
+use Rattle.p21_spec_exchange.specs.Parameter.{Param, key_of, param_tokens}
+use Rattle.p21_spec_exchange.specs.Token as token
 use Rattle.p21_express_tables.specs.Base.{HasBase, IsBase}
 use Rattle.p21_express_tables.specs.declared.base.Base.{Base}
-use Rattle.p21_files.specs.Reference as reference
-use Rattle.p21_files.specs.Value as meant
-use Rattle.p21_files.specs.Value.{Value}
-use Rattle.p21_files.specs.ValueText.{value_text}
+use Rattle.p21_spec_file.specs.Reference as reference
+use Rattle.p21_spec_file.specs.Value as meant
+use Rattle.p21_spec_file.specs.Value.{Value}
+use Rattle.p21_spec_file.specs.ValueText.{value_text}
 use Rattle.p21_mapping_values.specs.declared.need.Need.{Need}
-use Rattle.p21_schemas.specs.Schema as schema
-use Rattle.p21_schemas.specs.Schema.{Schema, TypeNamed, TypeUse, type_member}
-use Rattle.p21_schemas.specs.Select.{Offers}
+use Rattle.p21_spec_schema.specs.Schema as schema
+use Rattle.p21_spec_schema.specs.Schema.{Schema, TypeNamed, TypeUse, type_member}
+use Rattle.p21_spec_schema.specs.Select.{Offers}
 use Rattle.p21_transcribe.proofs.Parts.{goes-on}
 use Rattle.p21_transcribe.specs.Gaps.{PassesSeparators}
 use Rattle.p21_transcribe.specs.LeadingToken.{Transcribes}

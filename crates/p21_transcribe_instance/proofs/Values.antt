@@ -2,34 +2,34 @@
 use Rattle.std.proofs.Common.{◌≡◌, ◌∙◌, ℕ, ◌-◌, ◌≤◌, length, Bool, true, List, [], ◌∷◌, ◌++◌, drop, refl, sym, subst, arith, Option, Some, None, Contains, IfNone}
 use Rattle.std.proofs.lemmas.List.{append-nil}
 use denote.Ref.{Bor}
-use Rattle.p21_claim_values.specs.Needs.{FitsAtWithNeeds, FitsWithNeeds, with_chosen_instance, with_dollar, with_fit, with_instance, with_item, with_star, with_underlying}
-use Rattle.p21_exchange.specs.Parameter as parameter
-use Rattle.p21_exchange.specs.Nesting.{depth}
-use Rattle.p21_exchange.specs.Parameter.{Param, param_tokens}
-use Rattle.p21_exchange.specs.Token as token
+use Rattle.p21_spec_laws.specs.Needs.{FitsAtWithNeeds, FitsWithNeeds, with_chosen_instance, with_dollar, with_fit, with_instance, with_item, with_star, with_underlying}
+use Rattle.p21_spec_exchange.specs.Parameter as parameter
+use Rattle.p21_spec_exchange.specs.Nesting.{depth}
+use Rattle.p21_spec_exchange.specs.Parameter.{Param, param_tokens}
+use Rattle.p21_spec_exchange.specs.Token as token
 use Rattle.p21_express_graph.proofs.Resolving.{type-is}
 use Rattle.p21_express_graph.specs.DirectRenaming.{ComesTo, at_itself, through}
 use Rattle.p21_express_tables.specs.Base.{HasBase, IsBase}
 use Rattle.p21_express_tables.specs.declared.base.Base.{Base}
 use Rattle.p21_express_tables.specs.declared.base.Base.TheVariants.{Items, Select}
 use Rattle.p21_express_graph.specs.Resolved.{HoldsTogether, IsEntity, IsPlace, IsType, IsTypeUse}
-use Rattle.p21_express_types.specs.declared.kind.Member.{Member}
-use Rattle.p21_express_types.specs.declared.number.TypeId.{TypeId}
-use Rattle.p21_express_types.specs.declared.number.Place as code_place
-use Rattle.p21_express_types.specs.declared.type_use.TypeUse as code
-use Rattle.p21_express_types.specs.declared.number.EntityId.{EntityId}
-use Rattle.p21_express_types.specs.Meaning.{member, place, type_use}
-use Rattle.p21_files.specs.Reference as reference
-use Rattle.p21_files.specs.Value as meant
-use Rattle.p21_files.specs.Value.{Value}
-use Rattle.p21_files.specs.ValueText.{value_text}
+use Rattle.p21_express_graph.specs.declared.kind.Member.{Member}
+use Rattle.p21_express_graph.specs.declared.number.TypeId.{TypeId}
+use Rattle.p21_express_graph.specs.declared.number.Place as code_place
+use Rattle.p21_express_graph.specs.declared.type_use.TypeUse as code
+use Rattle.p21_express_graph.specs.declared.number.EntityId.{EntityId}
+use Rattle.p21_express_graph.specs.Meaning.{member, place, type_use}
+use Rattle.p21_spec_file.specs.Reference as reference
+use Rattle.p21_spec_file.specs.Value as meant
+use Rattle.p21_spec_file.specs.Value.{Value}
+use Rattle.p21_spec_file.specs.ValueText.{value_text}
 use Rattle.p21_mapping_values.specs.declared.need.Need.{Need}
-use Rattle.p21_schemas.proofs.PlaceTypes.{TypeAt-one}
-use Rattle.p21_schemas.specs.Order.{order}
-use Rattle.p21_schemas.specs.PlaceType.{PlaceType, TypeAt, derived_place, stored_place}
-use Rattle.p21_schemas.specs.Schema as schema
-use Rattle.p21_schemas.specs.Schema.{Schema, TypeUse}
-use Rattle.p21_schemas.specs.Select.{IsSelect, Offers}
+use Rattle.p21_spec_schema.proofs.PlaceTypes.{TypeAt-one}
+use Rattle.p21_spec_schema.specs.Order.{order}
+use Rattle.p21_spec_schema.specs.PlaceType.{PlaceType, TypeAt, derived_place, stored_place}
+use Rattle.p21_spec_schema.specs.Schema as schema
+use Rattle.p21_spec_schema.specs.Schema.{Schema, TypeUse}
+use Rattle.p21_spec_schema.specs.Select.{IsSelect, Offers}
 use Rattle.p21_transcribe.specs.LeadingToken.{IsLeadingToken, Transcribes}
 use Rattle.p21_transcribe_instance.specs.Steps.{IsStepForSome, IsStepFor}
 use Rattle.p21_transcribe_instance.specs.declared.step.Step.{Step}

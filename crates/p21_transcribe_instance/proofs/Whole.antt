@@ -3,35 +3,35 @@ use Rattle.std.proofs.Common.{◌≡◌, ◌∙◌, ℕ, ◌<◌, List, [], ◌�
 use Rattle.std.proofs.lemmas.List.{length-map, map-append}
 use Rattle.std.specs.List.{AllByRecursion as Each, AllZip, flat_map}
 use Rattle.std.specs.Prelude.{codes}
-use Rattle.p21_basics.proofs.Members.{Each-append, Each-apart, Each-back, Each-front}
-use Rattle.p21_basics.proofs.Shuffles.{distinct-none_twice}
-use Rattle.p21_claim_values.proofs.CanonicalLaid.{statement_laid}
-use Rattle.p21_claim_values.proofs.Needs.{AreServed, needs-can_be_served, served-places}
-use Rattle.p21_claim_values.proofs.ParamTexts.{list-is, tokens_text-append}
-use Rattle.p21_claim_values.proofs.Printing.{canonical-same_typed, canonical_typed, means-with, part-plain, part-said}
-use Rattle.p21_claim_values.proofs.RecordOnce.{part-written, words}
-use Rattle.p21_claim_values.specs.Needs.{FitPlacesWithNeeds, MeansWithNeeds, AreNeedsOfParts}
-use Rattle.p21_claim_values.specs.Written.{IsWrittenStatement}
-use Rattle.p21_exchange.specs.Token.{IsSpelled, Token}
-use Rattle.p21_claim_values.proofs.Rising.{strict-rises}
-use Rattle.p21_exchange.specs.CanonicalText.{statement_text, tokens_text}
-use Rattle.p21_exchange.specs.Grammar.{IsDataRecord, IsNoUserKeyword, IsShallowPart}
-use Rattle.p21_exchange.specs.Laying.{Laid}
-use Rattle.p21_exchange.specs.Parameter.{key_of}
-use Rattle.p21_exchange.specs.Record.{Part, complex, part_tokens, record_tokens}
-use Rattle.p21_exchange.specs.Spelling.{name_spelling}
-use Rattle.p21_exchange.specs.Statement.{instance, statement_tokens}
-use Rattle.p21_exchange.specs.Token as token
-use Rattle.p21_files.proofs.OneMeaning.{EntityNamed-one}
-use Rattle.p21_files.proofs.SameFiles.{SameTyped-symmetric}
-use Rattle.p21_files.specs.CanonicalRecord.{AreCanonicalAt, AreTextsRising, HasOneLeaf, IsCanonicalPart}
-use Rattle.p21_files.specs.CanonicalTexts.{IsInstanceText}
-use Rattle.p21_files.specs.Meaning.{FitPlaces, HasValueAt, MeansExternal, PartMeans, RecordMeans, Typed}
-use Rattle.p21_files.specs.Reference.{IsServed, EntitySets, Need}
-use Rattle.p21_files.specs.ValueText.{with_commas_between}
+use Rattle.p21_spec_basics.proofs.Members.{Each-append, Each-apart, Each-back, Each-front}
+use Rattle.p21_spec_basics.proofs.Shuffles.{distinct-none_twice}
+use Rattle.p21_spec_laws.proofs.CanonicalLaid.{statement_laid}
+use Rattle.p21_spec_laws.proofs.Needs.{AreServed, needs-can_be_served, served-places}
+use Rattle.p21_spec_laws.proofs.ParamTexts.{list-is, tokens_text-append}
+use Rattle.p21_spec_laws.proofs.Printing.{canonical-same_typed, canonical_typed, means-with, part-plain, part-said}
+use Rattle.p21_spec_laws.proofs.RecordOnce.{part-written, words}
+use Rattle.p21_spec_laws.specs.Needs.{FitPlacesWithNeeds, MeansWithNeeds, AreNeedsOfParts}
+use Rattle.p21_spec_laws.specs.Written.{IsWrittenStatement}
+use Rattle.p21_spec_exchange.specs.Token.{IsSpelled, Token}
+use Rattle.p21_spec_laws.proofs.RisingTexts.{strict-rises}
+use Rattle.p21_spec_exchange.specs.CanonicalText.{statement_text, tokens_text}
+use Rattle.p21_spec_exchange.specs.Grammar.{IsDataRecord, IsNoUserKeyword, IsShallowPart}
+use Rattle.p21_spec_exchange.specs.Laying.{Laid}
+use Rattle.p21_spec_exchange.specs.Parameter.{key_of}
+use Rattle.p21_spec_exchange.specs.Record.{Part, complex, part_tokens, record_tokens}
+use Rattle.p21_spec_exchange.specs.Spelling.{name_spelling}
+use Rattle.p21_spec_exchange.specs.Statement.{instance, statement_tokens}
+use Rattle.p21_spec_exchange.specs.Token as token
+use Rattle.p21_spec_file.proofs.OneMeaning.{EntityNamed-one}
+use Rattle.p21_spec_file.proofs.SameFiles.{SameTyped-symmetric}
+use Rattle.p21_spec_file.specs.CanonicalRecord.{AreCanonicalAt, AreTextsRising, HasOneLeaf, IsCanonicalPart}
+use Rattle.p21_spec_file.specs.CanonicalTexts.{IsInstanceText}
+use Rattle.p21_spec_file.specs.Meaning.{FitPlaces, HasValueAt, MeansExternal, PartMeans, RecordMeans, Typed}
+use Rattle.p21_spec_file.specs.Reference.{IsServed, EntitySets, Need}
+use Rattle.p21_spec_file.specs.ValueText.{with_commas_between}
 use Rattle.p21_mapping_values.specs.declared.need.Need as code
-use Rattle.p21_schemas.specs.Order.{own_places}
-use Rattle.p21_schemas.specs.Schema.{EntityNamed, Place, Schema}
+use Rattle.p21_spec_schema.specs.Order.{own_places}
+use Rattle.p21_spec_schema.specs.Schema.{EntityNamed, Place, Schema}
 use Rattle.p21_transcribe_instance.proofs.LaidRuns.{laid-spelled, takes-join, takes-mark}
 use Rattle.p21_transcribe_instance.proofs.Meaning.{all-shallow, fit-with}
 use Rattle.p21_transcribe_instance.proofs.Plain.{placed-plain}

@@ -1,15 +1,15 @@
 -- Elements of aggregates that are taken straight from their bytes.
 use Rattle.std.specs.Prelude.{◌≡◌, ℕ, ◌-◌, ◌≤◌, Bool, true, false, List, [], ◌∷◌, ◌++◌, Some, map}
-use Rattle.p21_claim_values.specs.Needs.{FitEachWithNeeds}
-use Rattle.p21_exchange.specs.Nesting.{params_depth}
-use Rattle.p21_exchange.specs.Parameter.{Params, params_tokens}
-use Rattle.p21_exchange.specs.Token.{Token}
-use Rattle.p21_files.specs.ParameterKind.{element_type}
-use Rattle.p21_files.specs.Value.{Values, count}
-use Rattle.p21_files.specs.ValueText.{value_texts, with_commas_between}
+use Rattle.p21_spec_laws.specs.Needs.{FitEachWithNeeds}
+use Rattle.p21_spec_exchange.specs.Nesting.{params_depth}
+use Rattle.p21_spec_exchange.specs.Parameter.{Params, params_tokens}
+use Rattle.p21_spec_exchange.specs.Token.{Token}
+use Rattle.p21_spec_file.specs.ParameterKind.{element_type}
+use Rattle.p21_spec_file.specs.Value.{Values, count}
+use Rattle.p21_spec_file.specs.ValueText.{value_texts, with_commas_between}
 use Rattle.p21_mapping_values.specs.declared.need.Need.{Need}
 use Rattle.p21_mapping_values.specs.TypedView.{need_view}
-use Rattle.p21_schemas.specs.Schema.{Schema, TypeUse}
+use Rattle.p21_spec_schema.specs.Schema.{Schema, TypeUse}
 use Rattle.p21_transcribe_instance.specs.ArrangedElements.{compares_elements}
 use Rattle.p21_transcribe_instance.specs.TakenValues.{LaidBefore}
 use Rattle.p21_mapping_values.specs.SplitTexts.{lengths_of}

@@ -4,11 +4,11 @@ use Rattle.std.specs.Arc.{arc_slice_items}
 use Rattle.std.specs.declared.alloc.Global.{Global}
 use Rattle.std.specs.declared.sync.ArcSlice.{ArcSlice}
 use Rattle.p21_express_graph.specs.Orders.{numbers}
-use Rattle.p21_express_types.specs.declared.number.EntityId.{EntityId}
+use Rattle.p21_express_graph.specs.declared.number.EntityId.{EntityId}
 use Rattle.std.specs.List.{AllByRecursion as Each, IsDistinct}
 use Rattle.p21_mapping.specs.Shape.{HasNoAbstractLeaf, IsClosed, PassesSet}
-use Rattle.p21_schemas.specs.Schema.{AreRisingByName, Schema}
-use Rattle.p21_schemas.specs.Supertype.{IsLeaf}
+use Rattle.p21_spec_schema.specs.Schema.{AreRisingByName, Schema}
+use Rattle.p21_spec_schema.specs.Supertype.{IsLeaf}
 
 -- the set has leaves that differ
 abbrev pub HasSeveralLeaves : Schema → List ℕ → Type 0

@@ -1,14 +1,14 @@
 -- Instances that are taken straight from their bytes.
 use Rattle.std.specs.Prelude.{◌≡◌, ℕ, List, ◌++◌, map}
-use Rattle.p21_claim_values.specs.Needs.{MeansWithNeeds}
-use Rattle.p21_exchange.specs.Grammar.{IsDataRecord}
-use Rattle.p21_exchange.specs.Record.{Record}
-use Rattle.p21_exchange.specs.Statement.{instance, statement_tokens}
-use Rattle.p21_files.specs.CanonicalTexts.{IsInstanceText}
-use Rattle.p21_files.specs.Meaning.{Typed}
+use Rattle.p21_spec_laws.specs.Needs.{MeansWithNeeds}
+use Rattle.p21_spec_exchange.specs.Grammar.{IsDataRecord}
+use Rattle.p21_spec_exchange.specs.Record.{Record}
+use Rattle.p21_spec_exchange.specs.Statement.{instance, statement_tokens}
+use Rattle.p21_spec_file.specs.CanonicalTexts.{IsInstanceText}
+use Rattle.p21_spec_file.specs.Meaning.{Typed}
 use Rattle.p21_mapping_values.specs.declared.need.Need.{Need}
 use Rattle.p21_mapping_values.specs.TypedView.{need_view}
-use Rattle.p21_schemas.specs.Schema.{Schema}
+use Rattle.p21_spec_schema.specs.Schema.{Schema}
 use Rattle.p21_transcribe_instance.specs.TakenValues.{LaidBefore}
 
 -- The statement of an instance of this name is laid at the front, with the rest behind it. Its record may stand in a data

@@ -5,6 +5,7 @@ pub mod Elements
 pub mod TakenValues
 pub mod Instance
 pub mod NumberedInstance
+pub mod Reals
 pub mod Records
 pub mod TakenParameters
 pub mod ExternalSet

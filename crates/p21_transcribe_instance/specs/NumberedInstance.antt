@@ -1,7 +1,7 @@
 -- Instances of external mapping that are taken straight from their bytes.
 use Rattle.std.specs.Prelude.{ℕ, List}
 use Rattle.p21_mapping_values.specs.declared.need.Need.{Need}
-use Rattle.p21_schemas.specs.Schema.{Schema}
+use Rattle.p21_spec_schema.specs.Schema.{Schema}
 use Rattle.p21_transcribe_instance.specs.Instance.{TakesInstance}
 use Rattle.p21_transcribe_instance.specs.ExternalSet.{IsNumberedSet}
 

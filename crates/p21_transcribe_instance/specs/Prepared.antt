@@ -2,7 +2,7 @@
 use Rattle.std.specs.Prelude.{◌≡◌, ℕ, Bool, List, [], ◌∷◌, Option, Some, None, refl}
 use Rattle.std.specs.Coded.{Coded, code_by, coded_ℕ, coded_bool, coded_list, coded_option, coded×}
 use Rattle.p21_express_tables.specs.Coding.{schema_code}
-use Rattle.p21_schemas.specs.Schema.{Defined, Kind, Place, Schema, TypeUse, alias, choice, items, whole}
+use Rattle.p21_spec_schema.specs.Schema.{Defined, Kind, Place, Schema, TypeUse, alias, choice, items, whole}
 
 -- What may stand at an attribute: `*`; a value of a type, which is OPTIONAL or not; or what may stand at a place of an instance
 -- whose set is an entity and its supertypes
@@ -11,10 +11,12 @@ pub data PreparedStep : Type 0 where
   stored_step : Bool → TypeUse → PreparedStep
   placed_step : ℕ → Place → PreparedStep
 
--- the entities of the set, rising by name, and what may stand at the attributes in the order of internal mapping
+-- the entities of the set, rising by name, what may stand at the attributes in the order of internal mapping, and whether the
+-- name of the entity is known to be a keyword
 pub record Prepared : Type 0 where
   pub entities : List ℕ
   pub steps : List PreparedStep
+  pub named_by_keyword : Bool
 
 -- ---- It is stored as numbers and lists, so that two can be told apart. Nothing that is claimed rests on that.
 
@@ -53,7 +55,7 @@ abbrev step_code : Coded PreparedStep
 step_code = code_by (Option (Option (Bool × TypeUse)) × (ℕ × (ℕ × ℕ))) (coded× (coded_option (coded_option (coded× coded_bool type_code))) (coded× coded_ℕ (coded× coded_ℕ coded_ℕ))) step_cases step_from step-back
 
 abbrev prepared_code : Coded Prepared
-prepared_code = code_by (List ℕ × List PreparedStep) (coded× (coded_list coded_ℕ) (coded_list step_code)) (λ p. (p.entities, p.steps)) (λ p. record { entities = p.0; steps = p.1 }) (λ _. refl)
+prepared_code = code_by (List ℕ × (List PreparedStep × Bool)) (coded× (coded_list coded_ℕ) (coded× (coded_list step_code) coded_bool)) (λ p. (p.entities, (p.steps, p.named_by_keyword))) (λ p. record { entities = p.0; steps = p.1.0; named_by_keyword = p.1.1 }) (λ _. refl)
 
 abbrev pub plan_code : Coded (List (Option Prepared))
 plan_code = coded_list (coded_option prepared_code)

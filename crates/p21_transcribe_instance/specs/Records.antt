@@ -1,17 +1,17 @@
 -- The simple records of an instance of external mapping that is taken straight from its bytes.
 use Rattle.std.specs.Prelude.{◌≡◌, ℕ, List, [], ◌∷◌, ◌++◌, map}
 use Rattle.std.specs.List.{AllByRecursion as Each, flat_map}
-use Rattle.p21_claim_values.specs.Needs.{FitsAtWithNeeds}
-use Rattle.p21_exchange.specs.Parameter.{key_of}
-use Rattle.p21_exchange.specs.Record.{Part, part_tokens}
-use Rattle.p21_exchange.specs.Token.{right, semicolon}
-use Rattle.p21_files.specs.Reference as meant
-use Rattle.p21_files.specs.ValueText.{with_commas_between}
+use Rattle.p21_spec_laws.specs.Needs.{FitsAtWithNeeds}
+use Rattle.p21_spec_exchange.specs.Parameter.{key_of}
+use Rattle.p21_spec_exchange.specs.Record.{Part, part_tokens}
+use Rattle.p21_spec_exchange.specs.Token.{right, semicolon}
+use Rattle.p21_spec_file.specs.Reference as meant
+use Rattle.p21_spec_file.specs.ValueText.{with_commas_between}
 use Rattle.p21_mapping_values.specs.declared.need.Need.{Need}
 use Rattle.p21_mapping_values.specs.TypedView.{need_view}
-use Rattle.p21_schemas.specs.Order.{own_places}
-use Rattle.p21_schemas.specs.PlaceType.{PlaceType, TypeAt}
-use Rattle.p21_schemas.specs.Schema.{EntityNamed, Place, Schema}
+use Rattle.p21_spec_schema.specs.Order.{own_places}
+use Rattle.p21_spec_schema.specs.PlaceType.{PlaceType, TypeAt}
+use Rattle.p21_spec_schema.specs.Schema.{EntityNamed, Place, Schema}
 use Rattle.p21_transcribe_instance.specs.TakenParameters.{IsPlacedParameter, PlacedParameter, TakesTokens, needs_at, params_at, places_at, texts_at}
 use Rattle.p21_transcribe_instance.specs.ExternalSet.{IsNumberedSet, IsExternalSet}
 use Rattle.p21_transcribe_instance.specs.TakenValues.{LaidBefore, TakesWithNeeds}

@@ -1,16 +1,17 @@
 -- What is known of the instances of an entity, prepared.
 use Rattle.std.specs.Option.{option_map}
-use Rattle.std.specs.Prelude.{◌≡◌, ℕ, List, [], ◌∷◌, Option, Some, map, slice_get}
+use Rattle.std.specs.Prelude.{◌≡◌, ℕ, List, [], ◌∷◌, IsTrue, Option, Some, map, slice_get}
+use Rattle.p21_spec_exchange.specs.Keyword.{IsKeyword}
 use Rattle.p21_express_graph.specs.DirectRenaming.{ComesTo}
 use Rattle.p21_express_graph.specs.Orders.{numbers}
 use Rattle.p21_express_tables.specs.OwnSets.{LeavesOpen}
 use Rattle.p21_express_graph.specs.Resolved.{IsEntity, IsPlace, IsTypeUse}
 use Rattle.p21_express_graph.specs.Rising.{IsOwnRising}
-use Rattle.p21_express_types.specs.Meaning.{place as place_of, type_use}
-use Rattle.p21_schemas.specs.OneOf.{Clashes}
-use Rattle.p21_schemas.specs.Order.{order, places}
-use Rattle.p21_schemas.specs.PlaceType.{PlaceType, TypeAt, derived_place, stored_place}
-use Rattle.p21_schemas.specs.Schema.{IsAbstract, Place, Schema, TypeUse}
+use Rattle.p21_express_graph.specs.Meaning.{place as place_of, type_use}
+use Rattle.p21_spec_schema.specs.OneOf.{Clashes}
+use Rattle.p21_spec_schema.specs.Order.{order, places}
+use Rattle.p21_spec_schema.specs.PlaceType.{PlaceType, TypeAt, derived_place, stored_place}
+use Rattle.p21_spec_schema.specs.Schema.{EntityNamed, IsAbstract, Place, Schema, TypeUse}
 use Rattle.p21_transcribe_instance.specs.Prepared.{Prepared, PreparedStep, derived_step, placed_step, stored_step}
 use Rattle.p21_transcribe_instance.specs.declared.row.Row.{Row}
 use Rattle.p21_transcribe_instance.specs.declared.step.Step.{Step}
@@ -64,7 +65,7 @@ AreStepsAt s entities places steps = ArePreparedAt s entities places (map step_v
 
 -- what a row stands for
 abbrev pub row_view : Row → Prepared
-row_view row = record { entities = numbers row.entities.items; steps = map step_view row.steps.items }
+row_view row = record { entities = numbers row.entities.items; steps = map step_view row.steps.items; named_by_keyword = row.named_by_keyword }
 
 -- what the rows stand for, where there are some
 abbrev pub rows_view : List (Option Row) → List (Option Prepared)
@@ -76,11 +77,17 @@ pub record MayStandAlone (s : Schema) (e : ℕ) : Type 0 where
   pub decided : LeavesOpen s e → ⊥
   pub agrees : Clashes s (order s e) → ⊥
 
--- it may, and this is what the set is, and what stands at the attributes of such an instance in internal mapping
+-- the name of the entity is a keyword
+abbrev pub IsNamedByKeyword : Schema → ℕ → Type 0
+IsNamedByKeyword s e = (word : List ℕ) × EntityNamed s e word × IsKeyword word
+
+-- it may, and this is what the set is, and what stands at the attributes of such an instance in internal mapping; where the row
+-- says that the name of the entity is a keyword, it is
 pub record IsRow (s : Schema) (e : ℕ) (row : Prepared) : Type 0 where
   pub may : MayStandAlone s e
   pub entities_are : IsOwnRising s e row.entities
   pub steps_are : ArePreparedAt s (order s e) (places s e) row.steps
+  pub keyword : IsTrue row.named_by_keyword → IsNamedByKeyword s e
 
 -- all that is prepared is right for the schema: it is that of the entities of these numbers
 abbrev pub IsPlanOf : Schema → List (Option Prepared) → Type 0

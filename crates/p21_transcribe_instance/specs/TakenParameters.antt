@@ -1,21 +1,20 @@
 -- The parts of an instance that is taken straight from its bytes.
 use Rattle.std.specs.Prelude.{◌≡◌, ℕ, ◌≤◌, List, [], ◌∷◌, ◌++◌, map}
 use Rattle.std.specs.List.{AllByRecursion as Each, flat_map}
-use Rattle.p21_claim_values.specs.Needs.{FitsAtWithNeeds}
-use Rattle.p21_exchange.specs.Nesting.{depth}
-use Rattle.p21_exchange.specs.Parameter.{Param, Params, no_params, param, params_tokens}
-use Rattle.p21_exchange.specs.Token.{Token, keyword, left, right, semicolon}
-use Rattle.p21_files.specs.Reference as meant
-use Rattle.p21_files.specs.Value.{Value}
-use Rattle.p21_files.specs.ValueText.{value_text, with_commas_between}
+use Rattle.p21_spec_laws.specs.Needs.{FitsAtWithNeeds}
+use Rattle.p21_spec_exchange.specs.Nesting.{depth}
+use Rattle.p21_spec_exchange.specs.Parameter.{Param, Params, no_params, param, params_tokens}
+use Rattle.p21_spec_exchange.specs.Token.{Token, keyword, left, right, semicolon}
+use Rattle.p21_spec_file.specs.Reference as meant
+use Rattle.p21_spec_file.specs.Value.{Value}
+use Rattle.p21_spec_file.specs.ValueText.{value_text, with_commas_between}
 use Rattle.p21_mapping_values.specs.declared.need.Need.{Need}
 use Rattle.p21_mapping_values.specs.TypedView.{need_view}
-use Rattle.p21_schemas.specs.PlaceType.{PlaceType, TypeAt}
-use Rattle.p21_schemas.specs.Schema.{EntityNamed, Place, Schema}
-use Rattle.p21_transcribe.specs.Gaps.{PassesSeparators}
+use Rattle.p21_spec_schema.specs.PlaceType.{PlaceType, TypeAt}
+use Rattle.p21_spec_schema.specs.Schema.{EntityNamed, Place, Schema}
 use Rattle.p21_transcribe_instance.specs.Steps.{AreStepsAt}
 use Rattle.p21_transcribe_instance.specs.declared.step.Step.{Step}
-use Rattle.p21_transcribe_instance.specs.TakenValues.{LaidBefore}
+use Rattle.p21_transcribe_instance.specs.TakenValues.{LaidBefore, PassesDelimiter}
 
 -- the tokens are laid at the front, with the rest behind them, and this text is appended
 pub record TakesTokens (tokens : List Token) (text bytes rest old new : List ℕ) : Type 0 where
@@ -24,12 +23,19 @@ pub record TakesTokens (tokens : List Token) (text bytes rest old new : List ℕ
 
 -- the byte stands first behind separators, and is appended
 pub record TakesDelimiter (mark : ℕ) (bytes rest old new : List ℕ) : Type 0 where
-  pub passes : PassesSeparators bytes (mark ∷ rest)
+  pub passes : PassesDelimiter mark bytes rest
   pub appended : new ≡ old ++ mark ∷ []
 
 -- the keyword of the entity is laid at the front, and appended
 abbrev pub TakesEntity : Schema → ℕ → List ℕ → List ℕ → List ℕ → List ℕ → Type 0
 TakesEntity s e bytes rest old new = (word : List ℕ) × EntityNamed s e word × TakesTokens (keyword word ∷ []) word bytes rest old new
+
+-- the same with a `(` behind it
+pub record TakesOpenedEntity (s : Schema) (e : ℕ) (bytes rest old new : List ℕ) : Type 0 where
+  pub behind : List ℕ
+  pub between : List ℕ
+  pub entity : TakesEntity s e bytes behind old between
+  pub opened : TakesDelimiter 40 behind rest between new
 
 -- a parameter at a place, the value that it stands for there, and what it needs
 pub record PlacedParameter : Type 0 where
@@ -86,3 +92,10 @@ body_tokens ps = left ∷ (params_tokens ps ++ (right ∷ semicolon ∷ []))
 
 abbrev pub body_text : List (List ℕ) → List ℕ
 body_text texts = 40 ∷ (with_commas_between texts ++ (41 ∷ 59 ∷ []))
+
+-- the same behind the `(`
+pub record TakesInside (s : Schema) (steps : List Step) (bytes rest old new : List ℕ) (before after : List Need) : Type 0 where
+  pub behind : List ℕ
+  pub between : List ℕ
+  pub places : TakesSteps s params_tokens with_commas_between steps bytes behind old between before after
+  pub ended : TakesTokens (right ∷ semicolon ∷ []) (41 ∷ 59 ∷ []) behind rest between new

@@ -1,23 +1,23 @@
 -- Values that are taken straight from their bytes.
 use Rattle.std.specs.Prelude.{◌≡◌, ℕ, ◌≤◌, List, [], ◌∷◌, ◌++◌, codes, drop, length, map}
-use Rattle.p21_claim_values.specs.Needs.{FitsWithNeeds}
-use Rattle.p21_exchange.specs.Nesting.{depth}
-use Rattle.p21_exchange.specs.Parameter as parameter
-use Rattle.p21_exchange.specs.Parameter.{Param, param_tokens}
-use Rattle.p21_exchange.specs.Separator.{IsSeparatorText}
-use Rattle.p21_exchange.specs.Token as token
-use Rattle.p21_exchange.specs.Token.{Token, Spells, IsFollowed}
+use Rattle.p21_spec_laws.specs.Needs.{FitsWithNeeds}
+use Rattle.p21_spec_exchange.specs.Nesting.{depth}
+use Rattle.p21_spec_exchange.specs.Parameter as parameter
+use Rattle.p21_spec_exchange.specs.Parameter.{Param, param_tokens}
+use Rattle.p21_spec_exchange.specs.Separator.{IsSeparatorText}
+use Rattle.p21_spec_exchange.specs.Token as token
+use Rattle.p21_spec_exchange.specs.Token.{Token, Spells, IsFollowed}
 use Rattle.p21_express_tables.specs.Base.{HasBase}
 use Rattle.p21_express_tables.specs.declared.base.Base.{Base}
 use Rattle.p21_express_graph.specs.Resolved.{IsTypeUse}
-use Rattle.p21_files.specs.Reference as meant
-use Rattle.p21_files.specs.Value.{Value, reference}
-use Rattle.p21_files.specs.ValueText.{value_text}
+use Rattle.p21_spec_file.specs.Reference as meant
+use Rattle.p21_spec_file.specs.Value.{Value, reference}
+use Rattle.p21_spec_file.specs.ValueText.{value_text}
 use Rattle.p21_mapping_values.specs.declared.need.Need.{Need}
 use Rattle.p21_mapping_values.specs.TypedView.{need_view}
-use Rattle.p21_schemas.specs.PlaceType.{PlaceType, stored_place}
-use Rattle.p21_schemas.specs.Schema.{Member, Schema, TypeNamed, TypeUse, type_member}
-use Rattle.p21_schemas.specs.Select.{Offers}
+use Rattle.p21_spec_schema.specs.PlaceType.{PlaceType, stored_place}
+use Rattle.p21_spec_schema.specs.Schema.{Member, Schema, TypeNamed, TypeUse, type_member}
+use Rattle.p21_spec_schema.specs.Select.{Offers}
 use Rattle.p21_transcribe.specs.LeadingToken.{IsLeadingToken}
 
 -- the tokens are laid at the front of the bytes, separator text before each, and behind the last one stands the rest

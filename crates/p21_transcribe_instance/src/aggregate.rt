@@ -1,10 +1,10 @@
 //! What is known of aggregates (ISO 10303-11, Aggregation data types).
 ghost use Rattle.std.specs.Prelude.{◌≡◌, IfSome};
-ghost use Rattle.p21_express_types.specs.Meaning.{type_use};
+ghost use Rattle.p21_express_graph.specs.Meaning.{type_use};
 ghost use Rattle.p21_transcribe_instance.specs.ArrangedElements.{compares_elements};
 ghost use Rattle.p21_transcribe_instance.specs.Elements.{IsAggregateOf};
 
-use p21_express_types::TypeUse;
+use p21_express_graph::TypeUse;
 
 /// Of an aggregate whether places may be empty, and the type of its elements. Where none may be equal and places may be empty,
 /// it isn't taken this way.

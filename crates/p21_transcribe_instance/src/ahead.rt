@@ -4,8 +4,8 @@ ghost use Rattle.p21_express_graph.specs.Lookups.{AreEntities};
 ghost use Rattle.p21_express_graph.specs.Orders.{numbers};
 ghost use Rattle.p21_express_graph.specs.Resolved.{IsEntity};
 
+use p21_express_graph::EntityId;
 use p21_express_tables::Schema;
-use p21_express_types::EntityId;
 use p21_transcribe::{behind_separators, leading_keyword};
 use p21_values::NoMemory;
 use std::alloc::Global;

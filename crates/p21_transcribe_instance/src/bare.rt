@@ -1,14 +1,14 @@
 //! Values with no keyword in front (ISO 10303-21, mapping of EXPRESS data types).
 ghost use Rattle.std.specs.Prelude.{◌≡◌, IfNone, IfSome};
-ghost use Rattle.p21_claim_values.specs.Needs.{FitsWithNeeds};
-ghost use Rattle.p21_express_types.specs.Meaning.{type_use};
-ghost use Rattle.p21_schemas.specs.Schema.{Schema as Meant};
+ghost use Rattle.p21_spec_laws.specs.Needs.{FitsWithNeeds};
+ghost use Rattle.p21_express_graph.specs.Meaning.{type_use};
+ghost use Rattle.p21_spec_schema.specs.Schema.{Schema as Meant};
 ghost use Rattle.p21_transcribe_instance.specs.TakenValues.{TakesWithNeeds};
 ghost use Rattle.p21_values.specs.Canonical.{Continues};
 
 use crate::reference::append_reference;
 use crate::scalar::append_scalar;
-use p21_express_types::{Member, TypeUse};
+use p21_express_graph::{Member, TypeUse};
 use p21_mapping_values::Need;
 use p21_transcribe::Draft;
 

@@ -1,7 +1,7 @@
 //! The parameters of an instance in their parentheses, and the end of its statement (ISO 10303-21, data sections).
-ghost use Rattle.std.specs.Prelude.{[], ◌∷◌, IfNone, IfSome};
-ghost use Rattle.p21_exchange.specs.Token.{right, semicolon};
-ghost use Rattle.p21_transcribe_instance.specs.TakenParameters.{AreStepsIn, TakesTokens, TakesSteps, body_text, body_tokens};
+ghost use Rattle.std.specs.Prelude.{◌≡◌, [], ◌∷◌, IfNone, IfSome};
+ghost use Rattle.p21_spec_exchange.specs.Token.{right, semicolon};
+ghost use Rattle.p21_transcribe_instance.specs.TakenParameters.{AreStepsIn, TakesInside, TakesTokens};
 ghost use Rattle.p21_transcribe_instance.specs.TakenValues.{KeepsNeeds};
 ghost use Rattle.p21_values.specs.Canonical.{Continues};
 
@@ -12,8 +12,8 @@ use p21_express_tables::Schema;
 use p21_mapping_values::Need;
 use p21_transcribe::Draft;
 
-/// Appends the parameters at the front in their parentheses, by what may stand at their attributes, and the `;` behind them,
-/// and adds their references: what stands behind the `;`.
+/// Appends the parameters at the front, by what may stand at their attributes, and the `)` and `;` behind them, and adds their
+/// references: what stands behind the `;`.
 #[inline(always)]
 pub(crate) fn append_body<'a>(
     schema: &Schema,
@@ -23,18 +23,44 @@ pub(crate) fn append_body<'a>(
     needs: &mut Vec<Need>,
 ) -> Option<&'a [u8]>
     requires { AreStepsIn schema.now steps.now }
-    ensures some { IfSome result (λ rest. TakesSteps schema.now body_tokens body_text steps.now bytes.now rest.now draft.old draft.new needs.old.items needs.new.items) }
+    ensures some { IfSome result (λ rest. TakesInside schema.now steps.now bytes.now rest.now draft.old draft.new needs.old.items needs.new.items) }
     ensures draft { IfNone result (Continues draft.old draft.new) }
     ensures needs { IfNone result (KeepsNeeds needs.old.items needs.new.items) }
 {
-    let inside = append_delimiter(b'(', bytes, draft)?;
-    let behind = append_places(schema, steps, inside, draft, needs)?;
+    let behind = append_places(schema, steps, bytes, draft, needs)?;
     append_end(behind, draft)
 }
 
 /// Appends `)` and `;`: what stands behind them.
 #[inline(always)]
 pub(crate) fn append_end<'a>(bytes: &'a [u8], draft: &mut Draft) -> Option<&'a [u8]>
+    ensures some { IfSome result (λ rest. TakesTokens (right ∷ semicolon ∷ []) (41 ∷ 59 ∷ []) bytes.now rest.now draft.old draft.new) }
+    ensures none { IfNone result (Continues draft.old draft.new) }
+{
+    match append_joined_end(bytes, draft) {
+        Some(rest) => Some(rest),
+        None => append_separated_end(bytes, draft),
+    }
+}
+
+/// The same where nothing stands before them or between them.
+#[inline(always)]
+fn append_joined_end<'a>(bytes: &'a [u8], draft: &mut Draft) -> Option<&'a [u8]>
+    ensures some { IfSome result (λ rest. TakesTokens (right ∷ semicolon ∷ []) (41 ∷ 59 ∷ []) bytes.now rest.now draft.old draft.new) }
+    ensures none { IfNone result (draft.new ≡ draft.old) }
+{
+    let [b')', b';', ..] = bytes else {
+        return None;
+    };
+    if !draft.append_prefix(bytes, 2) {
+        return None;
+    }
+    Some(&bytes[2..])
+}
+
+/// The same with separators.
+#[inline(never)]
+fn append_separated_end<'a>(bytes: &'a [u8], draft: &mut Draft) -> Option<&'a [u8]>
     ensures some { IfSome result (λ rest. TakesTokens (right ∷ semicolon ∷ []) (41 ∷ 59 ∷ []) bytes.now rest.now draft.old draft.new) }
     ensures none { IfNone result (Continues draft.old draft.new) }
 {

@@ -1,14 +1,14 @@
 //! Values of selects (ISO 10303-21, mapping of EXPRESS select data types).
 ghost use Rattle.std.specs.Prelude.{◌≡◌, IfNone, IfSome};
-ghost use Rattle.p21_claim_values.specs.Needs.{FitsWithNeeds};
-ghost use Rattle.p21_schemas.specs.Schema.{TypeNamed, defined, type_member};
-ghost use Rattle.p21_schemas.specs.Select.{IsSelect, Offers};
+ghost use Rattle.p21_spec_laws.specs.Needs.{FitsWithNeeds};
+ghost use Rattle.p21_spec_schema.specs.Schema.{TypeNamed, defined, type_member};
+ghost use Rattle.p21_spec_schema.specs.Select.{IsSelect, Offers};
 ghost use Rattle.p21_transcribe_instance.specs.TakenValues.{TakesFront, TakesKeyword};
 ghost use Rattle.p21_values.specs.Canonical.{Continues};
 
 use crate::reference::append_reference;
+use p21_express_graph::{Member, TypeId};
 use p21_express_tables::Schema;
-use p21_express_types::{Member, TypeId};
 use p21_mapping_values::Need;
 use p21_transcribe::{Draft, append_keyword};
 

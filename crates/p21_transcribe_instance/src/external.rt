@@ -55,8 +55,8 @@ pub fn append_external<'a>(
     })
 }
 
-/// Appends the simple records of an instance, by the set that was taken last, else by that which their keywords name: the
-/// number of the set, and what stands behind the `;`.
+/// Appends the simple records of an instance, by a guess of their set, else by that which their keywords name: the number of the
+/// set, and what stands behind the `;`.
 fn append_records<'a>(
     schema: &Schema,
     sets: &mut Sets,
@@ -71,14 +71,14 @@ fn append_records<'a>(
     ensures sets { AreExternalSets schema.now sets.new }
     ensures one { length sets.new ≤ length sets.old + 1 }
 {
-    match append_by_last_set(schema, sets, bytes, draft, needs) {
+    match append_by_guess(schema, sets, bytes, draft, needs) {
         Some(found) => Some(found),
         None => append_by_keywords(schema, sets, bytes, draft, needs),
     }
 }
 
-/// The same by the set that was taken last. None where the simple records aren't taken so; then nothing is appended.
-fn append_by_last_set<'a>(
+/// The same by a guess. None where the simple records aren't taken so; then nothing is appended.
+fn append_by_guess<'a>(
     schema: &Schema,
     sets: &Sets,
     bytes: &'a [u8],
@@ -92,9 +92,9 @@ fn append_by_last_set<'a>(
 {
     let start = draft.len();
     let before = needs.len();
-    let last = sets.last();
-    match append_by_set(schema, sets, last, bytes, draft, needs) {
-        Some(rest) => Some((last, rest)),
+    let guess = sets.guess(bytes);
+    match append_by_set(schema, sets, guess, bytes, draft, needs) {
+        Some(rest) => Some((guess, rest)),
         None => {
             draft.cut(start);
             needs.truncate(before);
@@ -119,7 +119,7 @@ fn append_by_keywords<'a>(
     ensures one { length sets.new ≤ length sets.old + 1 }
 {
     let at = set_ahead(*needs.allocator(), schema, sets, bytes)?;
-    sets.take(at);
+    sets.expect(bytes, at);
     let rest = append_by_set(schema, sets, at, bytes, draft, needs)?;
     Some((at, rest))
 }
@@ -143,7 +143,7 @@ fn append_by_set<'a>(
 }
 
 /// The number of the set of the instance whose simple records stand at the front. Where it isn't kept yet, it is looked at and
-/// kept. None where it isn't one of external mapping, or was taken last.
+/// kept. None where it isn't one of external mapping, or was guessed.
 #[inline(never)]
 fn set_ahead(alloc: Global, schema: &Schema, sets: &mut Sets, bytes: &[u8]) -> Option<usize>
     requires { AreExternalSets schema.now sets.old }
@@ -155,7 +155,11 @@ fn set_ahead(alloc: Global, schema: &Schema, sets: &mut Sets, bytes: &[u8]) -> O
         return None;
     };
     if let Some(at) = sets.find(&set) {
-        return if at == sets.last() { None } else { Some(at) };
+        return if at == sets.guess(bytes) {
+            None
+        } else {
+            Some(at)
+        };
     }
     if !is_external_set(alloc, schema, set.as_slice()) {
         return None;

@@ -6,10 +6,10 @@ ghost use Rattle.p21_express_graph.specs.Orders.{numbers};
 ghost use Rattle.p21_transcribe_instance.specs.ExternalSet.{HasSeveralLeaves, IsExternalSet};
 
 use crate::sets::are_same;
+use p21_express_graph::EntityId;
 use p21_express_tables::Schema;
-use p21_express_types::EntityId;
+use p21_grammar_tree::CheckFault;
 use p21_mapping::{check_members, check_set, has_abstract_leaf};
-use p21_mapping_faults::CheckFault;
 use p21_values::NoMemory;
 use std::alloc::Global;
 

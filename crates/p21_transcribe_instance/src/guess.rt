@@ -1,10 +1,10 @@
 //! Guesses of the entities that keywords name.
 ghost use Rattle.std.specs.Prelude.{IfSome, IsTrue};
-ghost use Rattle.p21_schemas.specs.Schema.{EntityNamed};
+ghost use Rattle.p21_spec_schema.specs.Schema.{EntityNamed};
 
 use crate::same::are_same;
+use p21_express_graph::EntityId;
 use p21_express_tables::Schema;
-use p21_express_types::EntityId;
 use std::alloc::Global;
 
 /// How many guesses are kept.
@@ -23,6 +23,12 @@ impl Guesses {
         Guesses {
             entities: Vec::new(alloc),
         }
+    }
+
+    /// An entity that may have this name. It takes no memory.
+    #[inline(always)]
+    pub(crate) fn guess(&self, name: &[u8]) -> Option<EntityId> {
+        self.entities.get(place_of(name)).copied()
     }
 
     /// The entity of this name, in upper case, mostly by a guess.
@@ -78,7 +84,7 @@ fn place_of(name: &[u8]) -> usize {
 
 /// Whether there is such an entity, of this name.
 #[inline(always)]
-fn has_name(schema: &Schema, entity: EntityId, name: &[u8]) -> bool
+pub(crate) fn has_name(schema: &Schema, entity: EntityId, name: &[u8]) -> bool
     ensures { IsTrue result → EntityNamed schema.now entity.0 name.now }
 {
     if entity.0 as usize >= schema.entities() {

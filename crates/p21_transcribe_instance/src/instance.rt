@@ -1,6 +1,5 @@
 //! The statement of an instance (ISO 10303-21, data sections; mapping of EXPRESS entity data types: internal mapping).
 ghost use Rattle.std.specs.Prelude.{ℕ, IfNone, IfSome, List};
-ghost use Rattle.p21_express_graph.specs.Resolved.{IsEntity};
 ghost use Rattle.p21_express_graph.specs.Rising.{IsOwnRising};
 ghost use Rattle.p21_transcribe_instance.specs.Instance.{TakesInstance};
 ghost use Rattle.p21_transcribe_instance.specs.Steps.{IsPlanOf};
@@ -8,10 +7,11 @@ ghost use Rattle.p21_transcribe_instance.specs.TakenValues.{KeepsNeeds};
 ghost use Rattle.p21_values.specs.Canonical.{Continues};
 
 use crate::body::append_body;
-use crate::head::{append_entity, append_head};
+use crate::entity::append_entity;
+use crate::head::append_head;
 use crate::plan::Plan;
+use p21_express_graph::EntityId;
 use p21_express_tables::Schema;
-use p21_express_types::EntityId;
 use p21_mapping_values::Need;
 use p21_transcribe::Draft;
 use p21_values::Name;
@@ -44,31 +44,12 @@ pub fn append_instance<'a>(
     schema.well_formed();
     schema.holds_together();
     let (number, keyed) = append_head(bytes, draft)?;
-    let (entity, behind) = append_entity(schema, plan, keyed, draft)?;
-    if !is_prepared(plan, schema, entity) {
-        return None;
-    }
+    let (entity, inside) = append_entity(schema, plan, keyed, draft)?;
     let row = plan.row(entity)?;
-    let rest = append_body(schema, &row.steps, behind, draft, needs)?;
+    let rest = append_body(schema, &row.steps, inside, draft, needs)?;
     Some(Instance {
         name: Name(number),
         entity,
         rest,
     })
-}
-
-/// Prepares an entity, where it isn't, and says whether instances may have its closure as their set. Want of memory counts as
-/// no.
-#[inline(always)]
-fn is_prepared(plan: &mut Plan, schema: &Schema, entity: EntityId) -> bool
-    requires { IsEntity schema.now entity.0 }
-    ensures { IsPlanOf schema.now plan.old → IsPlanOf schema.now plan.new }
-{
-    if plan.row(entity).is_some() {
-        return true;
-    }
-    match plan.prepare(schema, entity) {
-        Ok(may) => may,
-        Err(_) => false,
-    }
 }

@@ -1,14 +1,14 @@
 //! The parameters of a simple record of external mapping, at the attributes that its entity declares itself (ISO 10303-21,
 //! mapping of EXPRESS entity data types: external mapping).
 ghost use Rattle.std.specs.Prelude.{◌≡◌, ◌-◌, ◌≤◌, length, IfNone, IfSome};
-ghost use Rattle.p21_exchange.specs.Parameter.{more_tokens, params_tokens};
+ghost use Rattle.p21_spec_exchange.specs.Parameter.{more_tokens, params_tokens};
 ghost use Rattle.p21_express_graph.specs.Lookups.{AreEntities, places_from};
 ghost use Rattle.p21_express_graph.specs.Orders.{numbers};
 ghost use Rattle.p21_express_graph.specs.Resolved.{IsEntity, IsPlace};
-ghost use Rattle.p21_express_types.specs.Meaning.{place as place_of};
-ghost use Rattle.p21_files.specs.ValueText.{with_commas, with_commas_between};
-ghost use Rattle.p21_schemas.specs.Order.{own_places};
-ghost use Rattle.p21_schemas.specs.Schema.{attributes_of};
+ghost use Rattle.p21_express_graph.specs.Meaning.{place as place_of};
+ghost use Rattle.p21_spec_file.specs.ValueText.{with_commas, with_commas_between};
+ghost use Rattle.p21_spec_schema.specs.Order.{own_places};
+ghost use Rattle.p21_spec_schema.specs.Schema.{attributes_of};
 ghost use Rattle.p21_transcribe_instance.specs.Records.{TakesAtPlace};
 ghost use Rattle.p21_transcribe_instance.specs.TakenParameters.{TakesPlaces};
 ghost use Rattle.p21_transcribe_instance.specs.TakenValues.{KeepsNeeds};
@@ -16,13 +16,13 @@ ghost use Rattle.p21_values.specs.Canonical.{Continues};
 
 use crate::separated_delimiter::append_delimiter;
 use crate::value::append_placed;
+use p21_express_graph::{EntityId, Place};
 use p21_express_tables::Schema;
-use p21_express_types::{EntityId, Place};
 use p21_mapping_values::Need;
 use p21_transcribe::{Draft, behind_separators};
 
 /// In a set of more entities a redeclared attribute is left to those who read the instance token by token.
-const FEW: usize = 16;
+const MOST_OF_A_REDECLARING_SET: usize = 16;
 
 /// An entity, and how many attributes it declares itself.
 #[derive(Clone, Copy)]
@@ -126,5 +126,5 @@ fn append_parameter_at<'a>(
 
 /// Whether a walk through many entities would say what may stand at a place.
 fn is_dear(schema: &Schema, set: &[EntityId], place: Place) -> bool {
-    set.len() > FEW && !schema.redeclarers_of(place).is_empty()
+    set.len() > MOST_OF_A_REDECLARING_SET && !schema.redeclarers_of(place).is_empty()
 }

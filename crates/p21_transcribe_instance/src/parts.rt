@@ -11,9 +11,10 @@ ghost use Rattle.p21_values.specs.Canonical.{Continues};
 
 use crate::body::append_end;
 use crate::own_parameters::append_own_parameters;
+use crate::same::are_same;
 use crate::separated_delimiter::append_delimiter;
+use p21_express_graph::EntityId;
 use p21_express_tables::Schema;
-use p21_express_types::EntityId;
 use p21_mapping_values::Need;
 use p21_transcribe::{Draft, append_keyword, behind_separators};
 
@@ -102,5 +103,5 @@ fn append_name_of<'a>(
 fn is_word(word: &[u8], other: &[u8]) -> bool
     ensures { IsTrue result → word.now ≡ other.now }
 {
-    word == other
+    are_same(word, other)
 }

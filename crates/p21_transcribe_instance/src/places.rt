@@ -1,10 +1,10 @@
 //! The parameters of an instance, at the attributes of its entity in their order (ISO 10303-21, mapping of EXPRESS entity
 //! data types: internal mapping).
 ghost use Rattle.std.specs.Prelude.{IfNone, IfSome};
-ghost use Rattle.p21_claim_values.specs.Needs.{FitsAtWithNeeds};
-ghost use Rattle.p21_exchange.specs.Parameter.{more_tokens, params_tokens};
-ghost use Rattle.p21_files.specs.ValueText.{with_commas, with_commas_between};
-ghost use Rattle.p21_schemas.specs.PlaceType.{PlaceType};
+ghost use Rattle.p21_spec_laws.specs.Needs.{FitsAtWithNeeds};
+ghost use Rattle.p21_spec_exchange.specs.Parameter.{more_tokens, params_tokens};
+ghost use Rattle.p21_spec_file.specs.ValueText.{with_commas, with_commas_between};
+ghost use Rattle.p21_spec_schema.specs.PlaceType.{PlaceType};
 ghost use Rattle.p21_transcribe_instance.specs.TakenParameters.{AreStepsIn, TakesSteps};
 ghost use Rattle.p21_transcribe_instance.specs.Steps.{IsStepForSome, IsStepFor};
 ghost use Rattle.p21_transcribe_instance.specs.TakenValues.{KeepsNeeds, TakesWithNeeds};

@@ -1,12 +1,12 @@
 ghost use Rattle.std.specs.Prelude.{◌↔◌, false, ◌≡◌, IfOk, IfSome, IsTrue};
 ghost use Rattle.p21_express_graph.specs.Resolved.{IsEntity};
-ghost use Rattle.p21_schemas.specs.Schema.{EntityNamed, Schema as Meant};
+ghost use Rattle.p21_spec_schema.specs.Schema.{EntityNamed, Schema as Meant};
 ghost use Rattle.p21_transcribe_instance.specs.Steps.{IsPlanOf, IsRow, MayStandAlone, row_view, rows_view};
 
 use crate::guess::Guesses;
 use crate::row::{Row, find_row};
+use p21_express_graph::EntityId;
 use p21_express_tables::{OwnFaults, Schema};
-use p21_express_types::EntityId;
 use p21_values::NoMemory;
 use std::alloc::Global;
 use std::marker::Model;
@@ -63,6 +63,12 @@ impl Plan {
         ensures plan { IsPlanOf schema.now self.old → IsPlanOf schema.now self.new }
     {
         self.guesses.entity(schema, name)
+    }
+
+    /// An entity that may have this name. It takes no memory.
+    #[inline(always)]
+    pub(crate) fn guess(&self, name: &[u8]) -> Option<EntityId> {
+        self.guesses.guess(name)
     }
 
     /// What is known of the instances whose set is the entity and its supertypes: none where that isn't prepared.

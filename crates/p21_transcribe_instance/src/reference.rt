@@ -1,12 +1,12 @@
 //! References (ISO 10303-21, mapping of EXPRESS entity data types and of selects).
 ghost use Rattle.std.specs.Prelude.{◌≡◌, ◌≤◌, length, IfNone, IfSome, drop};
-ghost use Rattle.p21_claim_values.specs.Needs.{FitsWithNeeds};
-ghost use Rattle.p21_express_types.specs.Meaning.{member};
-ghost use Rattle.p21_schemas.specs.Schema.{Schema as Meant, TypeUse};
+ghost use Rattle.p21_spec_laws.specs.Needs.{FitsWithNeeds};
+ghost use Rattle.p21_express_graph.specs.Meaning.{member};
+ghost use Rattle.p21_spec_schema.specs.Schema.{Schema as Meant, TypeUse};
 ghost use Rattle.p21_transcribe_instance.specs.TakenValues.{TakesReferencesTo, TakesWithNeeds};
 ghost use Rattle.p21_values.specs.Canonical.{Continues};
 
-use p21_express_types::Member;
+use p21_express_graph::Member;
 use p21_mapping_values::Need;
 use p21_transcribe::{Draft, append_name};
 use p21_values::Name;

@@ -1,12 +1,13 @@
 //! Scalars, which need no instance (ISO 10303-21, mapping of EXPRESS simple data types and of enumerations).
 ghost use Rattle.std.specs.Prelude.{◌≡◌, ◌≤◌, ℕ, [], length, IfNone, IfSome, Some, drop};
-ghost use Rattle.p21_claim_values.specs.Needs.{FitsWithNeeds};
-ghost use Rattle.p21_express_types.specs.Meaning.{type_use, width_option};
-ghost use Rattle.p21_schemas.specs.Schema as schema;
+ghost use Rattle.p21_spec_laws.specs.Needs.{FitsWithNeeds};
+ghost use Rattle.p21_express_graph.specs.Meaning.{type_use, width_option};
+ghost use Rattle.p21_spec_schema.specs.Schema as schema;
+ghost use Rattle.p21_transcribe.specs.Numbers.{TranscribesNumber};
 ghost use Rattle.p21_transcribe_instance.specs.TakenValues.{TakesScalar, TakesValue};
 ghost use Rattle.p21_values.specs.Canonical.{Continues};
 
-use p21_express_types::{TypeUse, Width, Words};
+use p21_express_graph::{TypeUse, Width, Words};
 use p21_mapping::is_within;
 use p21_transcribe::{
     Draft, append_bits, append_item, append_logical, append_real, append_text, append_whole,
@@ -50,14 +51,23 @@ fn append_simple(of: &TypeUse, bytes: &[u8], draft: &mut Draft) -> Option<usize>
 {
     match of {
         TypeUse::Whole => append_whole(bytes, draft),
-        TypeUse::Real => append_real(bytes, false, draft),
-        TypeUse::Number => append_real(bytes, true, draft),
+        TypeUse::Real => append_single_real(bytes, false, draft),
+        TypeUse::Number => append_single_real(bytes, true, draft),
         TypeUse::Boolean => append_logical(bytes, false, draft),
         TypeUse::Logical => append_logical(bytes, true, draft),
         TypeUse::Text(width) => append_string(*width, bytes, draft),
         TypeUse::Bits(width) => append_binary(*width, bytes, draft),
         _ => None,
     }
+}
+
+/// Appends the real at the front, or the whole number where one may stand: how many bytes it has.
+#[inline(never)]
+fn append_single_real(bytes: &[u8], wholes: bool, draft: &mut Draft) -> Option<usize>
+    ensures some { IfSome result (λ count. TranscribesNumber wholes bytes.now count draft.old draft.new) }
+    ensures none { IfNone result (Continues draft.old draft.new) }
+{
+    append_real(bytes, wholes, draft)
 }
 
 /// Appends the string at the front, if the width allows its characters: how many bytes it has.

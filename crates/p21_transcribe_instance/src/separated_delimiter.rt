@@ -1,8 +1,9 @@
 //! A byte that is a token (ISO 10303-21, clause 6: tokens).
-ghost use Rattle.std.specs.Prelude.{◌≡◌, [], ◌∷◌, ◌++◌, IfNone, IfSome};
+ghost use Rattle.std.specs.Prelude.{◌≡◌, IfNone, IfSome};
 ghost use Rattle.p21_transcribe_instance.specs.TakenParameters.{TakesDelimiter};
 
-use p21_transcribe::{Draft, behind_separators};
+use crate::delimiter::append_next_delimiter;
+use p21_transcribe::Draft;
 
 /// Appends the byte, if it stands first behind separators: what stands behind it.
 #[inline(always)]
@@ -10,18 +11,5 @@ pub(crate) fn append_delimiter<'a>(mark: u8, bytes: &'a [u8], draft: &mut Draft)
     ensures some { IfSome result (λ rest. TakesDelimiter mark bytes.now rest.now draft.old draft.new) }
     ensures none { IfNone result (draft.new ≡ draft.old) }
 {
-    append_first(mark, behind_separators(bytes), draft)
-}
-
-/// Appends the byte, if it stands first: what stands behind it.
-#[inline(always)]
-fn append_first<'a>(mark: u8, bytes: &'a [u8], draft: &mut Draft) -> Option<&'a [u8]>
-    ensures some { IfSome result (λ rest. (bytes.now ≡ mark ∷ rest.now) × (draft.new ≡ draft.old ++ mark ∷ [])) }
-    ensures none { IfNone result (draft.new ≡ draft.old) }
-{
-    let (first, rest) = bytes.split_first()?;
-    if *first != mark || !draft.put(mark) {
-        return None;
-    }
-    Some(rest)
+    append_next_delimiter(mark, bytes, draft)
 }

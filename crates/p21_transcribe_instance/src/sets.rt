@@ -1,24 +1,28 @@
 //! Sets of entities that instances of external mapping had (ISO 10303-21, mapping of EXPRESS entity data types: external
 //! mapping).
 ghost use Rattle.std.specs.Arc.{arc_slice_items};
-ghost use Rattle.std.specs.Prelude.{◌≡◌, ◌+◌, ◌≤◌, [], List, ℕ, Some, length, slice_get, IfSome, IsTrue};
+ghost use Rattle.std.specs.Prelude.{◌≡◌, ◌+◌, ◌<◌, ◌≤◌, [], List, ℕ, Some, length, slice_get, IfSome, IsTrue};
 ghost use Rattle.p21_express_graph.specs.Orders.{numbers};
-ghost use Rattle.p21_schemas.specs.Schema.{Schema as Meant};
+ghost use Rattle.p21_spec_schema.specs.Schema.{Schema as Meant};
 ghost use Rattle.p21_transcribe_instance.specs.ExternalSet.{AreExternalSets, IsExternalSet};
 
-use p21_express_types::EntityId;
+use p21_express_graph::EntityId;
 use std::alloc::Global;
 use std::collections::BTreeMap;
 use std::marker::Model;
 use std::sync::ArcSlice;
+
+/// How many guesses are kept.
+const GUESSES: usize = 64;
 
 /// Sets of entities that were found to be ones of external mapping, so that none is looked at again for each of its instances.
 pub struct Sets {
     all: Vec<ArcSlice<EntityId>>,
     // The number of each. What is found so is held against the keywords of the instance.
     numbers: BTreeMap<ArcSlice<EntityId>, usize>,
-    // The number of the one that was taken last.
-    last: usize,
+    // For some bytes at the front of simple records the number of the set that was taken last behind bytes like these. It is a
+    // guess, which is held against the keywords before it counts.
+    guesses: [usize; GUESSES],
 }
 
 // Written out: crates above call it, where they would prove a derived one field by field.
@@ -27,7 +31,7 @@ impl Drop for Sets {
         let Sets {
             all: _,
             numbers: _,
-            last: _,
+            guesses: _,
         } = self;
     }
 }
@@ -49,7 +53,7 @@ impl Sets {
         Sets {
             all: Vec::new(alloc),
             numbers: BTreeMap::new(alloc),
-            last: 0,
+            guesses: [0; GUESSES],
         }
     }
 
@@ -62,17 +66,16 @@ impl Sets {
         Some(set.as_slice())
     }
 
-    /// The number of the set that was taken last, where there is one. It takes no memory.
-    #[inline(always)]
-    pub(crate) fn last(&self) -> usize {
-        self.last
+    /// The number of the set that simple records may have, by their first bytes. It takes no memory.
+    pub(crate) fn guess(&self, records: &[u8]) -> usize {
+        self.guesses[guess_of(records)]
     }
 
-    /// Takes a set, by its number.
-    pub(crate) fn take(&mut self, at: usize)
+    /// Has this number be the guess for simple records like these.
+    pub(crate) fn expect(&mut self, records: &[u8], at: usize)
         ensures { self.new ≡ self.old }
     {
-        self.last = at;
+        self.guesses[guess_of(records)] = at;
     }
 
     /// The number of a set, if it is kept. It takes no memory.
@@ -97,6 +100,21 @@ impl Sets {
             Err(_) => None,
         }
     }
+}
+
+/// Where the guess for simple records is kept: what tells most sets apart stands in their first keyword, or right behind a
+/// short one.
+fn guess_of(records: &[u8]) -> usize
+    ensures { result < GUESSES }
+{
+    let Some((front, _)) = records.split_first_chunk::<14>() else {
+        return 0;
+    };
+    let first = usize::from(front[0]);
+    let fifth = usize::from(front[4]);
+    let tenth = usize::from(front[9]);
+    let last = usize::from(front[13]);
+    (first + fifth * 3 + tenth * 5 + last * 7) % GUESSES
 }
 
 /// Whether the entities are the same, one by one.

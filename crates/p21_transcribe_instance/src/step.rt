@@ -2,14 +2,15 @@ ghost use Rattle.std.specs.Prelude.{◌≡◌, List, ◌++◌, Contains, IfOk, I
 ghost use Rattle.p21_express_graph.specs.DirectRenaming.{ComesTo};
 ghost use Rattle.p21_express_tables.specs.OwnSets.{LeavesOpen};
 ghost use Rattle.p21_express_graph.specs.Resolved.{IsEntity, IsPlace, IsTypeUse};
-ghost use Rattle.p21_express_types.specs.Meaning.{place as place_of, type_use};
-ghost use Rattle.p21_schemas.specs.Order.{order, own_places, places};
-ghost use Rattle.p21_schemas.specs.PlaceType.{TypeAt, stored_place, two_redeclarations};
-ghost use Rattle.p21_schemas.specs.Schema.{Place as MeantPlace};
+ghost use Rattle.p21_express_graph.specs.Meaning.{place as place_of, type_use};
+ghost use Rattle.p21_spec_schema.specs.Order.{order, own_places, places};
+ghost use Rattle.p21_spec_schema.specs.PlaceType.{TypeAt, stored_place, two_redeclarations};
+ghost use Rattle.p21_spec_schema.specs.Schema as meant;
+ghost use Rattle.p21_spec_schema.specs.Schema.{Place as MeantPlace};
 ghost use Rattle.p21_transcribe_instance.specs.Steps.{AreStepsAt, IsStepAt};
 
+use p21_express_graph::{EntityId, Place, PlaceType, TypeUse};
 use p21_express_tables::{Base, Schema};
-use p21_express_types::{EntityId, Place, PlaceType, TypeUse};
 use p21_values::NoMemory;
 use std::alloc::Global;
 
@@ -18,10 +19,10 @@ use std::alloc::Global;
 pub enum Step {
     /// `*`.
     Derived,
-    /// A value of a type that comes down to this one, which is no aggregate, or `$` where it is OPTIONAL.
+    /// A value of a type that comes down to this one, or `$` where it is OPTIONAL. No aggregates stand in it, one in another.
     Stored(bool, TypeUse),
     /// What may stand at this place of an instance whose set is the entity and its supertypes. The schema says it, so that no
-    /// aggregate type is copied.
+    /// type of aggregates in aggregates is copied.
     Placed(EntityId, Place),
 }
 
@@ -88,56 +89,112 @@ fn push_steps(
             entity: owner,
             index,
         };
-        let step = step_at(schema, entity, place);
+        let step = step_at(*steps.allocator(), schema, entity, place)?;
         steps.push(step)?;
     }
     Ok(())
 }
 
 /// What may stand at one of these attributes.
-fn step_at(schema: &Schema, entity: EntityId, place: Place) -> Step
+fn step_at(alloc: Global, schema: &Schema, entity: EntityId, place: Place) -> Result<Step, NoMemory>
     requires entity { IsEntity schema.now entity.0 }
     requires place { IsPlace schema.now (place_of place) }
     requires decided { TypeAt schema.now (order schema.now entity.0) (place_of place) two_redeclarations → ⊥ }
-    ensures { IsStepAt schema.now (order schema.now entity.0) (place_of place) result }
+    ensures { IfOk result (λ step. IsStepAt schema.now (order schema.now entity.0) (place_of place) step) }
 {
     match schema.own_type(entity, place) {
-        PlaceType::Derived => Step::Derived,
-        PlaceType::Stored(optional, of) => stored_step(schema, entity, place, optional, of),
+        PlaceType::Derived => Ok(Step::Derived),
+        PlaceType::Stored(optional, of) => stored_step(alloc, schema, entity, place, optional, of),
         PlaceType::Two => unreachable!(),
     }
 }
 
 /// What may stand at one of these attributes where it is a value of this type.
 fn stored_step(
+    alloc: Global,
     schema: &Schema,
     entity: EntityId,
     place: Place,
     optional: bool,
     of: &TypeUse,
-) -> Step
+) -> Result<Step, NoMemory>
     requires entity { IsEntity schema.now entity.0 }
     requires place { IsPlace schema.now (place_of place) }
     requires type_at { TypeAt schema.now (order schema.now entity.0) (place_of place) (stored_place optional (type_use of.now)) }
-    ensures { IsStepAt schema.now (order schema.now entity.0) (place_of place) result }
+    ensures { IfOk result (λ step. IsStepAt schema.now (order schema.now entity.0) (place_of place) step) }
 {
     schema.holds_together();
-    match reduced_type(schema, of) {
-        Some(last) => Step::Stored(optional, last),
-        None => Step::Placed(entity, place),
+    let found = reduced_type(alloc, schema, of)?;
+    match found {
+        Some(last) => Ok(Step::Stored(optional, last)),
+        None => Ok(Step::Placed(entity, place)),
     }
 }
 
-/// What a type comes down to, where that is no declared type; else the type. None where it is an aggregate.
-fn reduced_type(schema: &Schema, of: &TypeUse) -> Option<TypeUse>
+/// What a type comes down to, where that is no declared type; else the type. None where aggregates stand in it, one in another.
+fn reduced_type(alloc: Global, schema: &Schema, of: &TypeUse) -> Result<Option<TypeUse>, NoMemory>
     requires { IsTypeUse schema.now (type_use of.now) }
-    ensures { IfSome result (λ last. IsTypeUse schema.now (type_use last) × ComesTo schema.now (type_use of.now) (type_use last)) }
+    ensures { IfOk result (λ found. IfSome found (λ last. IsTypeUse schema.now (type_use last) × ComesTo schema.now (type_use of.now) (type_use last))) }
 {
     schema.holds_together();
     match schema.base(of) {
-        Base::Plain(last) => single_type(last),
-        _ => single_type(of),
+        Base::Plain(last) => copied_type(alloc, last),
+        _ => copied_type(alloc, of),
     }
+}
+
+/// The type, where no aggregates stand in it, one in another.
+fn copied_type(alloc: Global, of: &TypeUse) -> Result<Option<TypeUse>, NoMemory>
+    ensures { IfOk result (λ found. IfSome found (λ same. type_use same ≡ type_use of.now)) }
+{
+    match of {
+        TypeUse::List {
+            low,
+            high,
+            unique,
+            element,
+        } => copied_list(alloc, *low, *high, *unique, element),
+        TypeUse::Set { low, high, element } => copied_set(alloc, *low, *high, element),
+        _ => Ok(single_type(of)),
+    }
+}
+
+/// The type of lists with these elements, where they are no aggregates.
+fn copied_list(
+    alloc: Global,
+    low: u32,
+    high: Option<u32>,
+    unique: bool,
+    element: &TypeUse,
+) -> Result<Option<TypeUse>, NoMemory>
+    ensures { IfOk result (λ found. IfSome found (λ same. type_use same ≡ meant.list low high unique (type_use element.now))) }
+{
+    let Some(single) = single_type(element) else {
+        return Ok(None);
+    };
+    let element = Box::new(alloc, single)?;
+    Ok(Some(TypeUse::List {
+        low,
+        high,
+        unique,
+        element,
+    }))
+}
+
+/// The type of sets with these elements, where they are no aggregates.
+fn copied_set(
+    alloc: Global,
+    low: u32,
+    high: Option<u32>,
+    element: &TypeUse,
+) -> Result<Option<TypeUse>, NoMemory>
+    ensures { IfOk result (λ found. IfSome found (λ same. type_use same ≡ meant.set low high (type_use element.now))) }
+{
+    let Some(single) = single_type(element) else {
+        return Ok(None);
+    };
+    let element = Box::new(alloc, single)?;
+    Ok(Some(TypeUse::Set { low, high, element }))
 }
 
 /// A type, where it is no aggregate and so holds no other one.

@@ -1,14 +1,15 @@
 //! A value, by what may stand at its attribute.
-ghost use Rattle.std.specs.Prelude.{◌≡◌, ◌+◌, [], ◌∷◌, ◌++◌, length, true, IfNone, IfSome};
-ghost use Rattle.p21_claim_values.specs.Needs.{FitsAtWithNeeds, FitsWithNeeds};
+ghost use Rattle.std.specs.Prelude.{◌≡◌, ◌+◌, [], ◌∷◌, ◌++◌, length, false, true, IfNone, IfSome, IsTrue};
+ghost use Rattle.p21_spec_laws.specs.Needs.{FitsAtWithNeeds, FitsWithNeeds};
 ghost use Rattle.p21_express_tables.specs.Base.{HasBase, IsBase};
 ghost use Rattle.p21_express_graph.specs.Resolved.{HoldsTogether, IsTypeUse};
-ghost use Rattle.p21_express_types.specs.Meaning.{place_type, type_use};
-ghost use Rattle.p21_schemas.specs.PlaceType.{PlaceType as MeantPlace, stored_place};
-ghost use Rattle.p21_schemas.specs.Schema.{TypeUse as MeantType, defined};
-ghost use Rattle.p21_schemas.specs.Select.{IsSelect};
+ghost use Rattle.p21_express_graph.specs.Meaning.{place_type, type_use};
+ghost use Rattle.p21_spec_schema.specs.PlaceType.{PlaceType as MeantPlace, stored_place};
+ghost use Rattle.p21_spec_schema.specs.Schema.{TypeUse as MeantType, defined};
+ghost use Rattle.p21_spec_schema.specs.Select.{IsSelect};
 ghost use Rattle.p21_transcribe_instance.specs.Steps.{IsStepForSome, IsStepFor};
 ghost use Rattle.p21_transcribe_instance.specs.Elements.{AddsLength, IsAggregateOf, TakesElements};
+ghost use Rattle.p21_transcribe_instance.specs.Reals.{IsRealBase};
 ghost use Rattle.p21_transcribe_instance.specs.TakenValues.{IsBaseInSchema, IsKnownAt, KeepsNeeds, TakesEnclosed, TakesFront, TakesWithNeeds};
 ghost use Rattle.p21_values.specs.Canonical.{Continues};
 
@@ -18,10 +19,11 @@ use crate::choice::{append_chosen, append_offered};
 use crate::delimiter::{append_delimiter, append_next_delimiter};
 use crate::length::add_length;
 use crate::order::append_close;
+use crate::reals::{append_each_real, is_real};
 use crate::scalar::append_listed;
 use crate::step::Step;
+use p21_express_graph::{PlaceType, TypeId, TypeUse};
 use p21_express_tables::{Base, Schema};
-use p21_express_types::{PlaceType, TypeId, TypeUse};
 use p21_mapping::allows_count;
 use p21_mapping_values::Need;
 use p21_transcribe::{Draft, behind_separators};
@@ -348,7 +350,7 @@ fn append_counted<'a>(
     let start = draft.len();
     let compared = are_compared(of);
     let inside = append_delimiter(b'(', bytes, draft)?;
-    let (count, behind) = append_each(at, compared, inside, draft, needs, lengths)?;
+    let (count, behind) = append_elements(at, compared, inside, draft, needs, lengths)?;
     if !allows_count(of, count) {
         return None;
     }
@@ -358,6 +360,36 @@ fn append_counted<'a>(
 
 /// Elements with a comma between each two: how many, and what stands behind them. How long they are is added where they are
 /// compared.
+#[inline(always)]
+#[cycle(append)]
+fn append_elements<'a>(
+    at: &Stored<'_>,
+    compared: bool,
+    bytes: &'a [u8],
+    draft: &mut Draft,
+    needs: &mut Vec<Need>,
+    lengths: &mut Vec<usize>,
+) -> Option<(usize, &'a [u8])>
+    requires { IsBaseInSchema at.now.schema.now at.now.base.now }
+    ensures some { IfSome result (λ found. (element : MeantType) → HasBase at.now.schema.now element at.now.base.now → TakesElements at.now.schema.now at.now.optional element compared at.now.most found.0 bytes.now found.1.now draft.old draft.new lengths.old.items lengths.new.items needs.old.items needs.new.items) }
+    ensures draft { IfNone result (Continues draft.old draft.new) }
+    ensures needs { IfNone result (KeepsNeeds needs.old.items needs.new.items) }
+{
+    if are_reals(at, compared) {
+        return append_each_real(bytes, draft);
+    }
+    append_each(at, compared, bytes, draft, needs, lengths)
+}
+
+/// Whether there stand reals alone, which aren't compared.
+#[inline(always)]
+fn are_reals(at: &Stored<'_>, compared: bool) -> bool
+    ensures { IsTrue result → (compared ≡ false) × (at.now.optional ≡ false) × IsRealBase at.now.base.now }
+{
+    !compared && !at.optional && is_real(at.base)
+}
+
+/// The same of elements of any type.
 #[inline(always)]
 #[cycle(append)]
 fn append_each<'a>(

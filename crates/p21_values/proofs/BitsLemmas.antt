@@ -8,11 +8,11 @@ use Rattle.std.proofs.lemmas.List.{take_at, drop_at, take-append-drop, append_ca
 use Rattle.std.proofs.lemmas.List.Elements.{All-nil, All-cons, All-head, All-tail}
 use Rattle.std.specs.Prelude.{nat_lt}
 use Rattle.std.specs.List.{flat_map, AllByRecursion as Each, All}
-use Rattle.p21_exchange.proofs.BitSpellings.{bits_spelled_once}
-use Rattle.p21_basics.proofs.Members.{head_is, tail_is}
-use Rattle.p21_exchange.specs.Binary.{has_bit, four_bits, SpellsBits}
-use Rattle.p21_basics.specs.Digits.{hex_digit}
-use Rattle.p21_exchange.specs.Spelling.{bits_spelling}
+use Rattle.p21_spec_exchange.proofs.BitSpellings.{bits_spelled_once}
+use Rattle.p21_spec_basics.proofs.Members.{head_is, tail_is}
+use Rattle.p21_spec_exchange.specs.Binary.{has_bit, four_bits, SpellsBits}
+use Rattle.p21_spec_basics.specs.Digits.{hex_digit}
+use Rattle.p21_spec_exchange.specs.Spelling.{bits_spelling}
 use Rattle.p21_values.specs.Bits.{binary_token, is_hex_digit, hex_value, bits_of_digits, bits_of}
 
 hex_back : (c : ℕ) → IsTrue (is_hex_digit c) → (hex_value c < 16) × (hex_digit (hex_value c) ≡ c)

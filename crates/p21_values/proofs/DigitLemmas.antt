@@ -2,8 +2,8 @@
 use Rattle.std.proofs.Common.{◌≡◌, ℕ, zero, suc, ◌+◌, ◌-◌, ◌/◌, ◌%◌, ◌^◌, ◌<◌, ◌≤◌, List, [], ◌∷◌, ◌++◌, length, drop, set, ap, sym, ◌∙◌, arith, append_assoc}
 use Rattle.std.proofs.lemmas.List.{drop-set, drop_all}
 use Rattle.std.proofs.Math.Nat.{pow-succ'}
-use Rattle.p21_basics.proofs.LastDigit.{leading, leading-positive, plain_digits-last}
-use Rattle.p21_basics.specs.Digits.{plain_digits}
+use Rattle.p21_spec_basics.proofs.LastDigit.{leading, leading-positive, plain_digits-last}
+use Rattle.p21_spec_basics.specs.Digits.{plain_digits}
 
 pub last_digit_written : (n at : ℕ) (text : List ℕ) → length text ≡ at + 1 → plain_digits n ≡ leading (n / 10) ++ drop at (set text at (48 + n % 10))
 last_digit_written n at text h =

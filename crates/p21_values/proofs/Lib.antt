@@ -1,7 +1,6 @@
 pub mod BitsLemmas
 mod DigitLemmas
 mod NameLemmas
-pub mod DigitRuns
 pub mod Readings
 pub mod SignificantDigits
 pub mod Significands

@@ -1,11 +1,11 @@
 -- Lemmas on the form of a name.
 use Rattle.std.proofs.Common.{◌≡◌, ℕ, ◌<◌, List, [], ◌∷◌, ◌++◌, length, refl, ap, subst, sym, ◌∙◌}
 use Rattle.std.proofs.lemmas.List.{append-nil}
-use Rattle.p21_exchange.proofs.Forms.{NoDigitFirst}
-use Rattle.p21_basics.proofs.Members.{tail_is}
-use Rattle.p21_basics.specs.Digits.{AllDigits}
-use Rattle.p21_exchange.specs.Name.{NameForm}
-use Rattle.p21_values.proofs.DigitRuns.{digits_parts}
+use Rattle.p21_spec_exchange.proofs.Forms.{NoDigitFirst}
+use Rattle.p21_spec_basics.proofs.Members.{tail_is}
+use Rattle.p21_spec_basics.specs.Digits.{AllDigits}
+use Rattle.p21_spec_exchange.specs.Name.{NameForm}
+use Rattle.p21_scan.proofs.DigitRuns.{digits_parts}
 
 no_rest : (rest : List ℕ) → AllDigits rest → NoDigitFirst rest → rest ≡ []
 no_rest [] p n = refl

@@ -3,10 +3,10 @@ use Rattle.std.proofs.Common.{◌≡◌, ℕ, suc, ◌+◌, ◌-◌, ◌*◌, �
 use Rattle.std.proofs.lemmas.List.{append-nil, take-append-drop, take-append-le}
 use Rattle.std.proofs.Math.Nat.{pow-succ', zero-mul}
 use Rattle.std.proofs.Math.Seq.{take-append-add}
-use Rattle.p21_basics.specs.Digits.{AllDigits, number}
-use Rattle.p21_basics.proofs.PlainDigits.{digits_append, number_append}
-use Rattle.p21_values.specs.Digits.{HasNoLeadingZero, WithoutTrailingZeros, WithoutLeadingZeros}
-use Rattle.p21_values.proofs.DigitRuns.{digits_parts}
+use Rattle.p21_spec_basics.specs.Digits.{AllDigits, number}
+use Rattle.p21_spec_basics.proofs.PlainDigits.{digits_append, number_append}
+use Rattle.p21_scan.specs.Digits.{HasNoLeadingZero, WithoutTrailingZeros, WithoutLeadingZeros}
+use Rattle.p21_scan.proofs.DigitRuns.{digits_parts}
 
 -- ---- in front
 

@@ -1,9 +1,9 @@
 -- Digits of which the first is no zero: none of them for the number zero.
-use Rattle.std.proofs.Common.{◌≡◌, ℕ, ◌^◌, ◌<◌, ◌≤◌, List, [], ◌∷◌, length, refl, arith}
-use Rattle.std.proofs.Math.Nat.{one-le-pow, pow-le-pow_right}
-use Rattle.p21_basics.specs.Digits.{AllDigits, number, plain_digits}
-use Rattle.p21_basics.proofs.PlainDigits.{ArePlain, number_first, plain_digits-number, plain_once}
-use Rattle.p21_values.specs.Digits.{HasNoLeadingZero}
+use Rattle.std.proofs.Common.{◌≡◌, ℕ, ◌<◌, List, [], ◌∷◌, length, refl, arith}
+use Rattle.std.proofs.Math.Nat.{one-le-pow}
+use Rattle.p21_spec_basics.specs.Digits.{AllDigits, number, plain_digits}
+use Rattle.p21_spec_basics.proofs.PlainDigits.{ArePlain, number_first, plain_digits-number, plain_once}
+use Rattle.p21_scan.specs.Digits.{HasNoLeadingZero}
 
 pub significant_plain : (ds : List ℕ) → AllDigits ds → HasNoLeadingZero ds → 0 < length ds → ArePlain ds
 significant_plain [] p n some = absurd (omega arith)
@@ -22,8 +22,3 @@ significant_once [] [] p m q n e = refl
 significant_once [] (d ∷ b) p m q n e = absurd (omega (arith, significant_positive (d ∷ b) q n (omega arith)))
 significant_once (c ∷ a) [] p m q n e = absurd (omega (arith, significant_positive (c ∷ a) p m (omega arith)))
 significant_once (c ∷ a) (d ∷ b) p m q n e = plain_once (c ∷ a) (d ∷ b) (significant_plain (c ∷ a) p m (omega arith)) (significant_plain (d ∷ b) q n (omega arith)) e
-
-pub significant_long : (ds : List ℕ) (k : ℕ) → AllDigits ds → HasNoLeadingZero ds → k < length ds → 10 ^ k ≤ number ds
-significant_long [] k p n long = absurd (omega arith)
-significant_long (c ∷ ds) k p n long =
-    omega (arith, number_first c ds (omega (arith, p.0, n)), pow-le-pow_right {n = 10} (omega arith) {i = k} {j = length ds} (omega arith))

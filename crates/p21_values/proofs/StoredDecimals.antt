@@ -11,19 +11,19 @@ use Rattle.std.specs.Ordering.{int_eq}
 use Rattle.std.proofs.lemmas.Bool.{and_parts}
 use mathlib.Core.Bool.{beq, not}
 use borrow.Author.Differences.{up, down}
-use Rattle.p21_basics.specs.Digits.{AllDigits, number, plain_digits}
-use Rattle.p21_exchange.specs.Number.{Decimal, HasNormalisedExponent, IsExponentInRange, IsInRange, IsReduced, Ratio, SameRatio, ratio_of, scaled, signed, whole_ratio}
-use Rattle.p21_exchange.specs.Spelling.{exponent_spelling, minus_bytes, normalised_exponent, digits_with_point, real_spelling}
-use Rattle.p21_exchange.proofs.Exponents.{exponent_of_same, has_exponent, in_range_by, in_range_of_same, zero_has_no_exponent}
-use Rattle.p21_basics.proofs.PlainDigits.{plain_high, plain_low}
-use Rattle.p21_exchange.proofs.Ratios.{ratio-positive, same_scaled, same_zero}
-use Rattle.p21_exchange.proofs.ReducedDecimals.{reduced_once, same_decimal}
-use Rattle.p21_exchange.proofs.SignedNumbers.{abs_signed, signed-times, signed-zero, signed_once}
+use Rattle.p21_spec_basics.specs.Digits.{AllDigits, number, plain_digits}
+use Rattle.p21_spec_exchange.specs.Number.{Decimal, HasNormalisedExponent, IsExponentInRange, IsInRange, IsReduced, Ratio, SameRatio, ratio_of, scaled, signed, whole_ratio}
+use Rattle.p21_spec_exchange.specs.Spelling.{exponent_spelling, minus_bytes, normalised_exponent, digits_with_point, real_spelling}
+use Rattle.p21_spec_exchange.proofs.Exponents.{exponent_of_same, has_exponent, in_range_by, in_range_of_same, zero_has_no_exponent}
+use Rattle.p21_spec_basics.proofs.PlainDigits.{plain_high, plain_low}
+use Rattle.p21_spec_exchange.proofs.Ratios.{ratio-positive, same_scaled, same_zero}
+use Rattle.p21_spec_exchange.proofs.ReducedDecimals.{reduced_once, same_decimal}
+use Rattle.p21_spec_exchange.proofs.SignedNumbers.{abs_signed, signed-times, signed-zero, signed_once}
 use Rattle.p21_values.specs.Decimal.{IsDecimal, ReducesRatio, decimal_eq}
 use Rattle.p21_values.specs.RealComponents.{digits_ratio}
 use Rattle.p21_values.specs.Stored.{IsStoredDecimal, significand_spelling, stored_decimal}
 use Rattle.p21_values.specs.declared.fault.ValueFault.{ValueFault}
-use Rattle.p21_values.specs.Digits.{HasNoLeadingZero, WithoutTrailingZeros, WithoutLeadingZeros}
+use Rattle.p21_scan.specs.Digits.{HasNoLeadingZero, WithoutTrailingZeros, WithoutLeadingZeros}
 use Rattle.p21_values.proofs.Significands.{kept_digits, kept_first}
 use Rattle.p21_values.proofs.SignificantDigits.{significant_once, significant_plain, significant_positive, significant_spelling}
 

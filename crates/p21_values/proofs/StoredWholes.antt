@@ -5,10 +5,10 @@ use Rattle.std.proofs.lemmas.Slice.Eq.{slice_eq-Decides}
 use Rattle.std.specs.Bool.{Decides}
 use Rattle.std.specs.Cmp.Lexicographic.{pointwise}
 use mathlib.Core.Bool.{beq}
-use Rattle.p21_basics.specs.Digits.{number, plain_digits}
-use Rattle.p21_exchange.specs.Number.{signed}
-use Rattle.p21_exchange.specs.Spelling.{whole_spelling}
-use Rattle.p21_exchange.proofs.SignedNumbers.{signed_once}
+use Rattle.p21_spec_basics.specs.Digits.{number, plain_digits}
+use Rattle.p21_spec_exchange.specs.Number.{signed}
+use Rattle.p21_spec_exchange.specs.Spelling.{whole_spelling}
+use Rattle.p21_spec_exchange.proofs.SignedNumbers.{signed_once}
 use Rattle.p21_values.specs.Stored.{IsStoredWhole}
 use Rattle.p21_values.proofs.SignificantDigits.{significant_once, significant_positive, significant_spelling}
 

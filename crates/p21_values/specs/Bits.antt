@@ -1,7 +1,7 @@
 -- The token of a binary, by its parts.
 use Rattle.std.specs.Prelude.{ℕ, ◌+◌, ◌-◌, ◌&&◌, ◌||◌, Bool, List, [], ◌∷◌, ◌++◌, length, map, take, drop, nat_lt, nat_le, if◌then◌else◌}
 use Rattle.std.specs.List.{flat_map}
-use Rattle.p21_exchange.specs.Binary.{four_bits}
+use Rattle.p21_spec_exchange.specs.Binary.{four_bits}
 
 -- between quotes, the digit that counts the padding, and the hex digits
 abbrev pub binary_token : ℕ → List ℕ → List ℕ

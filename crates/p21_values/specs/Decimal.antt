@@ -1,7 +1,7 @@
 -- What a decimal is, and what its readers owe.
 use Rattle.std.specs.Prelude.{ℕ, Bool, Result, Ok, Err, List}
 use Rattle.std.specs.Ordering.{eq_of_both, int_eq, on}
-use Rattle.p21_exchange.specs.Number.{Decimal, IsInRange, IsReduced, Ratio, RealForm, SameRatio, SpellsReal, ratio_of}
+use Rattle.p21_spec_exchange.specs.Number.{Decimal, IsInRange, IsReduced, Ratio, RealForm, SameRatio, SpellsReal, ratio_of}
 use Rattle.p21_values.specs.declared.fault.ValueFault.{ValueFault}
 use Rattle.p21_values.specs.declared.fault.ValueFault.TheVariants.{BadNumber, NoMemory, NumberRange}
 

@@ -2,7 +2,6 @@ pub mod Bits
 pub mod Canonical
 pub mod Fault
 pub mod Name
-pub mod Digits
 pub mod Decimal
 pub mod RealComponents
 pub mod ByteStorage
@@ -10,5 +9,5 @@ pub mod Stored
 pub mod Word
 pub mod Prefix
 -- What the clauses of its calls cite, for callers who name this crate alone
-pub use Rattle.p21_basics.specs as p21_basics
-pub use Rattle.p21_exchange.specs as p21_exchange
+pub use Rattle.p21_spec_basics.specs as p21_spec_basics
+pub use Rattle.p21_spec_exchange.specs as p21_spec_exchange

@@ -1,7 +1,7 @@
 -- What the reader of instance names owes.
 use Rattle.std.specs.Prelude.{ℕ, ◌^◌, ◌≤◌, List, Result, Ok, Err}
-use Rattle.p21_basics.specs.Digits.{number}
-use Rattle.p21_exchange.specs.Name.{NameForm, SpellsName}
+use Rattle.p21_spec_basics.specs.Digits.{number}
+use Rattle.p21_spec_exchange.specs.Name.{NameForm, SpellsName}
 use Rattle.p21_values.specs.declared.fault.ValueFault.{ValueFault}
 use Rattle.p21_values.specs.declared.fault.ValueFault.TheVariants.{BadName, NameRange}
 

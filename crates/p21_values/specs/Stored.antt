@@ -1,9 +1,9 @@
 -- Numbers as they are stored: a sign, and digits of which the first is no zero. Zero has no digits.
 use Rattle.std.specs.Prelude.{◌≡◌, ℕ, ◌-◌, ◌<◌, ◌%◌, ℤ, pos, ◌-ℤ◌, Bool, true, List, [], ◌∷◌, length}
-use Rattle.p21_basics.specs.Digits.{AllDigits, number}
-use Rattle.p21_exchange.specs.Number.{Decimal, IsExponentInRange, signed}
-use Rattle.p21_exchange.specs.Spelling.{digits_with_point}
-use Rattle.p21_values.specs.Digits.{HasNoLeadingZero}
+use Rattle.p21_spec_basics.specs.Digits.{AllDigits, number}
+use Rattle.p21_spec_exchange.specs.Number.{Decimal, IsExponentInRange, signed}
+use Rattle.p21_spec_exchange.specs.Spelling.{digits_with_point}
+use Rattle.p21_scan.specs.Digits.{HasNoLeadingZero}
 
 pub record IsStoredWhole (negative : Bool) (digits : List ℕ) : Type 0 where
   pub are_digits : AllDigits digits

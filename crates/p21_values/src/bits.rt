@@ -1,5 +1,5 @@
 ghost use Rattle.std.specs.Prelude.{◌≡◌, ℕ, ◌<◌, ◌↔◌, false, List, take, replicate, All, IsTrue, IfNone, IfSome};
-ghost use Rattle.p21_exchange.specs.Binary.{SpellsBits};
+ghost use Rattle.p21_spec_exchange.specs.Binary.{SpellsBits};
 ghost use Rattle.p21_values.specs.Bits.{binary_token, is_hex_digit, hex_value, bits_of_digits, bits_of};
 
 use crate::bytes::Bytes;
@@ -16,7 +16,7 @@ pub struct Bits {
 
 impl Model for Bits {
     ghost use Rattle.std.specs.Prelude.{Bool, List};
-    ghost use Rattle.p21_exchange.specs.Binary.{SpellsBits};
+    ghost use Rattle.p21_spec_exchange.specs.Binary.{SpellsBits};
     ghost use Rattle.p21_values.specs.Bits.{bits_of};
 
     ghost Value = { List Bool };
@@ -28,7 +28,7 @@ impl Model for Bits {
 
 impl Bits {
     ghost use Rattle.std.specs.Prelude.{◌≡◌, length};
-    ghost use Rattle.p21_exchange.specs.Binary.{SpellsBits};
+    ghost use Rattle.p21_spec_exchange.specs.Binary.{SpellsBits};
     ghost use Rattle.p21_values.specs.Fault.{Reads};
     ghost use Rattle.p21_values.specs.declared.fault.ValueFault.TheVariants.{BadBinary};
 
@@ -140,9 +140,9 @@ impl PartialEq for Bits {
 
 impl Canonical for Bits {
     ghost use Rattle.std.specs.Prelude.{◌≡◌};
-    ghost use Rattle.p21_exchange.proofs.BitSpellings.{bits_spell, same_bits};
-    ghost use Rattle.p21_exchange.specs.Binary.{SpellsBits};
-    ghost use Rattle.p21_exchange.specs.Spelling.{bits_spelling};
+    ghost use Rattle.p21_spec_exchange.proofs.BitSpellings.{bits_spell, same_bits};
+    ghost use Rattle.p21_spec_exchange.specs.Binary.{SpellsBits};
+    ghost use Rattle.p21_spec_exchange.specs.Spelling.{bits_spelling};
 
     ghost is_value = { λ _. Unit {0} };
 

@@ -7,12 +7,12 @@ use std::marker::Model;
 use std::ops::DerefSlice;
 
 /// How many bytes lie in place: as many as a list takes.
-const SHORT: usize = 24;
+const BYTES_IN_PLACE: usize = 24;
 
 #[derive(Drop)]
 enum ByteStorage {
     // Their count, in so many bytes that the others are aligned: then they are copied as words.
-    Short(u32, [u8; SHORT]),
+    Short(u32, [u8; BYTES_IN_PLACE]),
     Long(Vec<u8>),
 }
 
@@ -38,7 +38,7 @@ impl Bytes {
         ensures { result ≡ [] }
     {
         Bytes {
-            kept: ByteStorage::Short(0, [0; SHORT]),
+            kept: ByteStorage::Short(0, [0; BYTES_IN_PLACE]),
         }
     }
 
@@ -54,10 +54,10 @@ impl Bytes {
         ensures { IfOk result (λ kept. kept ≡ front.now ++ behind.now) }
     {
         let count = front.len() + behind.len();
-        if count > SHORT {
+        if count > BYTES_IN_PLACE {
             return long(alloc, front, behind);
         }
-        let mut bytes = [0; SHORT];
+        let mut bytes = [0; BYTES_IN_PLACE];
         bytes[..front.len()].copy_from_slice(front);
         bytes[front.len()..count].copy_from_slice(behind);
         Ok(Bytes {
@@ -71,11 +71,11 @@ impl Bytes {
         requires { count ≤ length bytes.now }
         ensures { IfOk result (λ kept. kept ≡ take count bytes.now) }
     {
-        if count > SHORT || bytes.len() < SHORT {
+        if count > BYTES_IN_PLACE || bytes.len() < BYTES_IN_PLACE {
             return Bytes::of(alloc, &bytes[..count]);
         }
-        let mut place = [0; SHORT];
-        place.copy_from_slice(&bytes[..SHORT]);
+        let mut place = [0; BYTES_IN_PLACE];
+        place.copy_from_slice(&bytes[..BYTES_IN_PLACE]);
         Ok(Bytes {
             kept: ByteStorage::Short(count as u32, place),
         })

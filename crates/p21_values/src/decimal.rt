@@ -1,21 +1,18 @@
 ghost use Rattle.std.specs.Prelude.{◌≡◌, ◌-◌, ◌^◌, ◌<◌, ◌≤◌, ◌+ℤ◌, ◌-ℤ◌, pos, [], ◌∷◌, ◌++◌, length, if◌then◌else◌, IfNone, IfOk, IfSome, OnErr, OnOk};
-ghost use Rattle.p21_basics.specs.Digits.{AllDigits, number};
-ghost use Rattle.p21_exchange.specs.Number.{IsExponentInRange, RealForm, signed, whole_ratio};
-ghost use Rattle.p21_exchange.specs.Spelling.{exponent_spelling, real_spelling};
+ghost use Rattle.p21_spec_basics.specs.Digits.{AllDigits, number};
+ghost use Rattle.p21_spec_exchange.specs.Number.{IsExponentInRange, whole_ratio};
+ghost use Rattle.p21_spec_exchange.specs.Spelling.{exponent_spelling, real_spelling};
 ghost use Rattle.p21_values.specs.Canonical.{Continues};
 ghost use Rattle.p21_values.specs.Decimal.{IsDecimal, ReducesRatio, ReadsReal};
-ghost use Rattle.p21_values.specs.RealComponents.{BeginsExponent, BeginsReal, ReadsExponent, SplitsReal, digits_ratio};
+ghost use Rattle.p21_values.specs.RealComponents.{digits_ratio};
 ghost use Rattle.p21_values.specs.Stored.{significand_spelling};
-ghost use Rattle.p21_values.specs.Digits.{WithoutTrailingZeros, WithoutLeadingZeros};
+ghost use Rattle.p21_scan.specs.Digits.{WithoutTrailingZeros, WithoutLeadingZeros};
 
 use crate::bytes::Bytes;
 use crate::canonical::{Canonical, restore_on_failure};
-use crate::digits::{
-    behind, short_number, split_digits, split_integer, split_sign, without_leading_zeros,
-    without_trailing_zeros,
-};
 use crate::fault::{NoMemory, ValueFault};
 use crate::whole::Whole;
+use p21_scan::{exponent_value, scan_number, without_leading_zeros, without_trailing_zeros};
 use std::alloc::{AllocError, Global};
 use std::marker::Model;
 
@@ -30,7 +27,7 @@ pub struct Decimal {
 }
 
 impl Model for Decimal {
-    ghost use Rattle.p21_exchange.specs.Number as numbers;
+    ghost use Rattle.p21_spec_exchange.specs.Number as numbers;
     ghost use Rattle.p21_values.specs.Stored.{IsStoredDecimal, stored_decimal};
 
     ghost Value = { numbers.Decimal };
@@ -59,11 +56,23 @@ impl Decimal {
     pub fn read(alloc: Global, bytes: &[u8]) -> Result<Decimal, ValueFault>
         ensures { ReadsReal bytes.now result }
     {
-        let Some((negative, digits, rest)) = split_real(bytes) else {
+        let Some((number, rest)) = scan_number(bytes) else {
             return Err(ValueFault::BadNumber);
         };
-        let exponent = read_exponent(rest)?;
-        Decimal::of_digits(alloc, negative, digits, exponent)
+        let Some(decimals) = number.decimals else {
+            return Err(ValueFault::BadNumber);
+        };
+        if !rest.is_empty() {
+            return Err(ValueFault::BadNumber);
+        }
+        let Some(exponent) = exponent_value(decimals.exponent) else {
+            return Err(ValueFault::NumberRange);
+        };
+        let digits = Digits {
+            whole: number.whole,
+            fraction: decimals.fraction,
+        };
+        Decimal::of_digits(alloc, number.negative, digits, exponent)
     }
 
     /// The number with the same ratio.
@@ -164,71 +173,6 @@ impl<'a> Digits<'a> {
     }
 }
 
-// Whether a minus stands first, the digits, and what stands behind them, where the bytes begin as a real.
-fn split_real(bytes: &[u8]) -> Option<(bool, Digits<'_>, &[u8])>
-    ensures none { IfNone result (BeginsReal bytes.now → ⊥) }
-    ensures some { IfSome result (λ parts. SplitsReal bytes.now parts.0 parts.1.whole.now parts.1.fraction.now parts.2.now) }
-{
-    let (negative, unsigned) = split_sign(bytes);
-    let (whole, rest) = split_digits(unsigned);
-    if whole.is_empty() {
-        return None;
-    }
-    let rest = behind(b'.', rest)?;
-    let (fraction, rest) = split_digits(rest);
-    Some((negative, Digits { whole, fraction }, rest))
-}
-
-// The exponent that is written: 0 where there is none.
-fn read_exponent(bytes: &[u8]) -> Result<i32, ValueFault>
-    ensures { ReadsExponent bytes.now result }
-{
-    if bytes.is_empty() {
-        return Ok(0);
-    }
-    let Some(written) = behind(b'E', bytes) else {
-        return Err(ValueFault::BadNumber);
-    };
-    let Some((negative, digits)) = split_integer(written) else {
-        return Err(ValueFault::BadNumber);
-    };
-    match short_exponent(negative, digits) {
-        Some(value) => Ok(value),
-        None => Err(ValueFault::NumberRange),
-    }
-}
-
-// The exponent that stands at the front of bytes, 0 where there is none, and what stands behind it.
-pub(crate) fn split_exponent(bytes: &[u8]) -> Option<(i32, &[u8])>
-    ensures { IfSome result (λ parts. BeginsExponent bytes.now parts.0 parts.1.now) }
-{
-    let Some(written) = behind(b'E', bytes) else {
-        return Some((0, bytes));
-    };
-    let (negative, unsigned) = split_sign(written);
-    let (digits, rest) = split_digits(unsigned);
-    if digits.is_empty() {
-        return None;
-    }
-    let value = short_exponent(negative, digits)?;
-    Some((value, rest))
-}
-
-// The number of an exponent's digits, if there are at most nine apart from leading zeros.
-fn short_exponent(negative: bool, digits: &[u8]) -> Option<i32>
-    requires { AllDigits digits.now }
-    ensures none { IfNone result (10 ^ 9 ≤ number digits.now) }
-    ensures short { IfSome result (λ value. number digits.now < 10 ^ 9) }
-    ensures some { IfSome result (λ value. value ≡ signed negative (number digits.now)) }
-{
-    let significant = without_leading_zeros(digits);
-    if significant.len() > 9 {
-        return None;
-    }
-    let value = short_number(significant) as i32;
-    Some(if negative { -value } else { value })
-}
-
 // The exponent of so many digits, `places` of them behind the point, times ten to the exponent that is written.
 fn normalised_exponent(written: i32, digits: usize, places: usize) -> Option<i16>
     requires { 0 < digits }
@@ -248,7 +192,7 @@ impl PartialEq for Decimal {
     ghost use Rattle.std.specs.Cmp.Rules.{comparing};
     ghost use Rattle.std.specs.Prelude.{◌≡◌, ◌↔◌, IsTrue};
     ghost use Rattle.std.specs.Ordering.{eq_of_both, int_eq, on};
-    ghost use Rattle.p21_exchange.specs.Number.{SameRatio, ratio_of};
+    ghost use Rattle.p21_spec_exchange.specs.Number.{SameRatio, ratio_of};
     ghost use Rattle.p21_values.specs.Decimal.{decimal_eq};
 
     ghost eq = { decimal_eq };
@@ -278,9 +222,9 @@ impl Eq for Decimal {
 }
 
 impl Canonical for Decimal {
-    ghost use Rattle.p21_exchange.specs.Number.{SameRatio, SpellsReal, ratio_of};
-    ghost use Rattle.p21_exchange.specs.Spelling.{real_spelling};
-    ghost use Rattle.p21_exchange.proofs.RealSpellings.{real_spelling_same, real_spells};
+    ghost use Rattle.p21_spec_exchange.specs.Number.{SameRatio, SpellsReal, ratio_of};
+    ghost use Rattle.p21_spec_exchange.specs.Spelling.{real_spelling};
+    ghost use Rattle.p21_spec_exchange.proofs.RealSpellings.{real_spelling_same, real_spells};
     ghost use Rattle.p21_values.specs.Decimal.{IsDecimal};
 
     ghost is_value = { IsDecimal };

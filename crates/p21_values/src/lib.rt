@@ -6,7 +6,6 @@ mod bits;
 mod bytes;
 mod canonical;
 mod decimal;
-mod digits;
 mod fault;
 mod limits;
 mod name;

@@ -1,4 +1,4 @@
-ghost use Rattle.p21_basics.specs.Limits.{usual};
+ghost use Rattle.p21_spec_basics.specs.Limits.{usual};
 ghost use Rattle.std.specs.Prelude.{◌≡◌, ◌≤◌, ◌↔◌, IsSome, IfSome};
 
 use std::marker::Model;
@@ -14,7 +14,7 @@ pub struct Limits {
 }
 
 impl Model for Limits {
-    ghost use Rattle.p21_basics.specs.Limits.{Limits as LimitNumbers};
+    ghost use Rattle.p21_spec_basics.specs.Limits.{Limits as LimitNumbers};
     ghost use Rattle.std.specs.Prelude.{◌≤◌};
 
     ghost Value = { LimitNumbers };

@@ -1,11 +1,11 @@
 ghost use Rattle.std.specs.Prelude.{◌≡◌, ◌^◌, ◌<◌, ◌≤◌, ◌∷◌, length, drop, IfNone, IfSome};
-ghost use Rattle.p21_basics.specs.Digits.{AllDigits, number, plain_digits};
-ghost use Rattle.p21_exchange.specs.Name.{NameForm};
+ghost use Rattle.p21_spec_basics.specs.Digits.{AllDigits, number, plain_digits};
+ghost use Rattle.p21_spec_exchange.specs.Name.{NameForm};
 ghost use Rattle.p21_values.specs.Name.{ReadsName};
 
 use crate::canonical::Canonical;
-use crate::digits::{behind, split_digits};
 use crate::fault::{NoMemory, ValueFault};
+use p21_scan::{behind, split_digits};
 use std::marker::Model;
 
 /// The name of an instance, which is a number (ISO 10303-21, tokens: entity instance name).
@@ -63,7 +63,7 @@ fn digits_of_name(bytes: &[u8]) -> Option<&[u8]>
 }
 
 /// The number that digits stand for, if it fits.
-#[tactic(auto, using(crate::proofs::DigitRuns::digit_at))]
+#[tactic(auto, using(p21_scan::proofs::DigitRuns::digit_at))]
 fn number_of(digits: &[u8]) -> Option<u64>
     requires { AllDigits digits.now }
     ensures some { IfSome result (λ n. n ≡ number digits.now) }
@@ -96,9 +96,9 @@ fn fill_digits(text: &mut [u8; 21], number: u64) -> usize
 
 impl Canonical for Name {
     ghost use Rattle.std.specs.Prelude.{◌≡◌, ◌<◌, ◌^◌};
-    ghost use Rattle.p21_exchange.proofs.Names.{name_spells, same_names};
-    ghost use Rattle.p21_exchange.specs.Name.{SpellsName};
-    ghost use Rattle.p21_exchange.specs.Spelling.{name_spelling};
+    ghost use Rattle.p21_spec_exchange.proofs.Names.{name_spells, same_names};
+    ghost use Rattle.p21_spec_exchange.specs.Name.{SpellsName};
+    ghost use Rattle.p21_spec_exchange.specs.Spelling.{name_spelling};
 
     ghost is_value = { λ n. n < 2 ^ 64 };
 

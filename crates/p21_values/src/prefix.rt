@@ -2,10 +2,10 @@
 ghost use Rattle.std.specs.Prelude.{IfOk, IfSome, take};
 ghost use Rattle.p21_values.specs.Prefix.{SpellsNumber};
 
-use crate::decimal::{Decimal, Digits, split_exponent};
-use crate::digits::{behind, split_digits, split_sign};
+use crate::decimal::{Decimal, Digits};
 use crate::fault::{NoMemory, ValueFault};
 use crate::whole::Whole;
+use p21_scan::{exponent_value, scan_number};
 use std::alloc::Global;
 
 /// A whole number or a real.
@@ -26,22 +26,21 @@ pub enum Number {
 pub fn read_number(alloc: Global, bytes: &[u8]) -> Option<Result<(usize, Number), NoMemory>>
     ensures { IfSome result (λ answer. IfOk answer (λ front. SpellsNumber (take front.0 bytes.now) front.1)) }
 {
-    let (negative, unsigned) = split_sign(bytes);
-    let (whole, rest) = split_digits(unsigned);
-    if whole.is_empty() {
-        return None;
-    }
-    let Some(decimals) = behind(b'.', rest) else {
-        return match Whole::of_digits(alloc, negative, whole) {
-            Ok(number) => Some(Ok((bytes.len() - rest.len(), Number::Whole(number)))),
+    let (number, rest) = scan_number(bytes)?;
+    let count = bytes.len() - rest.len();
+    let Some(decimals) = number.decimals else {
+        return match Whole::of_digits(alloc, number.negative, number.whole) {
+            Ok(number) => Some(Ok((count, Number::Whole(number)))),
             Err(_no_memory) => Some(Err(NoMemory)),
         };
     };
-    let (fraction, rest) = split_digits(decimals);
-    let (exponent, rest) = split_exponent(rest)?;
-    let digits = Digits { whole, fraction };
-    match Decimal::of_digits(alloc, negative, digits, exponent) {
-        Ok(number) => Some(Ok((bytes.len() - rest.len(), Number::Real(number)))),
+    let exponent = exponent_value(decimals.exponent)?;
+    let digits = Digits {
+        whole: number.whole,
+        fraction: decimals.fraction,
+    };
+    match Decimal::of_digits(alloc, number.negative, digits, exponent) {
+        Ok(number) => Some(Ok((count, Number::Real(number)))),
         Err(ValueFault::NoMemory) => Some(Err(NoMemory)),
         Err(_out_of_range) => None,
     }

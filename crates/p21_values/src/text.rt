@@ -2,9 +2,9 @@ ghost use Rattle.std.specs.Prelude.{◌≡◌, ◌%◌, [], ◌∷◌, ◌++◌,
 ghost use Rattle.std.specs.Char.{IsScalar};
 ghost use Rattle.std.specs.List.{AllByRecursion, flat_map};
 ghost use Rattle.std.specs.Str.{chars};
-ghost use Rattle.p21_basics.specs.Digits.{hex_digit, hex_digits};
-ghost use Rattle.p21_exchange.specs.Spelling.{character_spelling, text_spelling};
-ghost use Rattle.p21_exchange.specs.Text.{end_extended};
+ghost use Rattle.p21_spec_basics.specs.Digits.{hex_digit, hex_digits};
+ghost use Rattle.p21_spec_exchange.specs.Spelling.{character_spelling, text_spelling};
+ghost use Rattle.p21_spec_exchange.specs.Text.{end_extended};
 ghost use Rattle.p21_values.specs.Canonical.{Continues};
 
 use crate::canonical::{Canonical, restore_on_failure};
@@ -13,7 +13,7 @@ use std::alloc::Global;
 use std::marker::Model;
 
 /// How many characters the first one takes room for: most texts have no more.
-const SHORT: usize = 16;
+const ROOM_OF_A_TEXT: usize = 16;
 
 /// The characters of a string (ISO 10303-21, tokens: string), each a Unicode scalar value.
 #[derive(Debug, Drop)]
@@ -49,7 +49,7 @@ impl Text {
         ensures err { OnErr result (self.new ≡ self.old) }
     {
         if self.characters.is_empty() {
-            self.characters.reserve(SHORT)?;
+            self.characters.reserve(ROOM_OF_A_TEXT)?;
         }
         self.characters.push(character)?;
         Ok(())
@@ -129,9 +129,9 @@ impl Canonical for Text {
     ghost use Rattle.std.specs.Char.{IsScalar};
     ghost use Rattle.std.specs.List.{AllByRecursion};
     ghost use Rattle.std.specs.Prelude.{◌≡◌};
-    ghost use Rattle.p21_exchange.specs.Spelling.{text_spelling};
-    ghost use Rattle.p21_exchange.specs.Text.{SpellsText};
-    ghost use Rattle.p21_exchange.proofs.Texts.{same_texts, text_spells};
+    ghost use Rattle.p21_spec_exchange.specs.Spelling.{text_spelling};
+    ghost use Rattle.p21_spec_exchange.specs.Text.{SpellsText};
+    ghost use Rattle.p21_spec_exchange.proofs.Texts.{same_texts, text_spells};
 
     ghost is_value = { AllByRecursion IsScalar };
 

@@ -1,15 +1,15 @@
 ghost use Rattle.std.specs.Prelude.{◌≡◌, ◌++◌, IfOk, OnErr, OnOk};
-ghost use Rattle.p21_basics.specs.Digits.{AllDigits, number};
-ghost use Rattle.p21_exchange.specs.Number.{SpellsWhole, signed};
-ghost use Rattle.p21_exchange.specs.Spelling.{whole_spelling};
+ghost use Rattle.p21_spec_basics.specs.Digits.{AllDigits, number};
+ghost use Rattle.p21_spec_exchange.specs.Number.{SpellsWhole, signed};
+ghost use Rattle.p21_spec_exchange.specs.Spelling.{whole_spelling};
 ghost use Rattle.p21_values.specs.Canonical.{Continues};
 ghost use Rattle.p21_values.specs.declared.fault.ValueFault.TheVariants.{BadNumber};
 ghost use Rattle.p21_values.specs.Fault.{Reads};
 
 use crate::bytes::Bytes;
 use crate::canonical::{Canonical, restore_on_failure};
-use crate::digits::{split_integer, without_leading_zeros};
 use crate::fault::{NoMemory, ValueFault};
+use p21_scan::{scan_integer, without_leading_zeros};
 use std::alloc::{AllocError, Global};
 use std::marker::Model;
 
@@ -23,8 +23,8 @@ pub struct Whole {
 
 impl Model for Whole {
     ghost use Rattle.std.specs.Prelude.{ℤ};
-    ghost use Rattle.p21_basics.specs.Digits.{number};
-    ghost use Rattle.p21_exchange.specs.Number.{signed};
+    ghost use Rattle.p21_spec_basics.specs.Digits.{number};
+    ghost use Rattle.p21_spec_exchange.specs.Number.{signed};
     ghost use Rattle.p21_values.specs.Stored.{IsStoredWhole};
 
     ghost Value = { ℤ };
@@ -43,10 +43,13 @@ impl Whole {
     pub fn read(alloc: Global, bytes: &[u8]) -> Result<Whole, ValueFault>
         ensures { Reads BadNumber (SpellsWhole bytes.now) result }
     {
-        let Some((negative, digits)) = split_integer(bytes) else {
+        let Some((integer, rest)) = scan_integer(bytes) else {
             return Err(ValueFault::BadNumber);
         };
-        Ok(Whole::of_digits(alloc, negative, digits)?)
+        if !rest.is_empty() {
+            return Err(ValueFault::BadNumber);
+        }
+        Ok(Whole::of_digits(alloc, integer.negative, integer.digits)?)
     }
 
     // The number of the digits.
@@ -103,9 +106,9 @@ impl Eq for Whole {
 
 impl Canonical for Whole {
     ghost use Rattle.std.specs.Prelude.{◌≡◌};
-    ghost use Rattle.p21_exchange.specs.Number.{SpellsWhole};
-    ghost use Rattle.p21_exchange.specs.Spelling.{whole_spelling};
-    ghost use Rattle.p21_exchange.proofs.WholeSpellings.{whole_spelling_same, whole_spells};
+    ghost use Rattle.p21_spec_exchange.specs.Number.{SpellsWhole};
+    ghost use Rattle.p21_spec_exchange.specs.Spelling.{whole_spelling};
+    ghost use Rattle.p21_spec_exchange.proofs.WholeSpellings.{whole_spelling_same, whole_spells};
 
     ghost is_value = { λ _. Unit {0} };
 

@@ -1,5 +1,5 @@
 ghost use Rattle.std.specs.Prelude.{◌≡◌, ◌↔◌, ◌≤◌, IsTrue, IfOk, length, take};
-ghost use Rattle.p21_exchange.specs.Keyword.{IsKeyword, IsKeywordByte, IsUpper};
+ghost use Rattle.p21_spec_exchange.specs.Keyword.{IsKeyword, IsKeywordByte, IsUpper};
 ghost use Rattle.p21_values.specs.declared.fault.ValueFault.TheVariants.{BadWord};
 ghost use Rattle.p21_values.specs.Fault.{Reads};
 ghost use Rattle.p21_values.specs.Word.{SpellsWord};
@@ -18,7 +18,7 @@ pub struct Word {
 
 impl Model for Word {
     ghost use Rattle.std.specs.Prelude.{ℕ, List};
-    ghost use Rattle.p21_exchange.specs.Keyword.{IsKeyword};
+    ghost use Rattle.p21_spec_exchange.specs.Keyword.{IsKeyword};
 
     ghost Value = { List ℕ };
 
@@ -128,7 +128,7 @@ impl Eq for Word {
 
 impl Canonical for Word {
     ghost use Rattle.std.specs.Prelude.{◌≡◌, refl};
-    ghost use Rattle.p21_exchange.specs.Keyword.{IsKeyword};
+    ghost use Rattle.p21_spec_exchange.specs.Keyword.{IsKeyword};
     ghost use Rattle.p21_values.specs.Word.{SpellsWord};
 
     ghost is_value = { IsKeyword };

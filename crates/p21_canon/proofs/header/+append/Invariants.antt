@@ -1,5 +1,5 @@
 use Rattle.std.proofs.Common.{◌≡◌, ◌++◌, ◌∷◌, [], take}
-use Rattle.p21_claim_values.proofs.OfType.{AreWritten}
+use Rattle.p21_spec_laws.proofs.OfType.{AreWritten}
 use Rattle.p21_grammar_tree.specs.View.{views}
 use Rattle.p21_canon.proofs.Listed.{row_text}
 use Rattle.p21_canon.proofs.header.+append.Given as goal

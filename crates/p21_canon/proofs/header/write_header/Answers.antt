@@ -1,6 +1,6 @@
 use Rattle.p21_mapping_values.proofs.WrittenParams.{on_more}
-use Rattle.p21_claim_values.proofs.CanonicalLaid.{statement_laid}
-use Rattle.p21_exchange.specs.Statement.{header}
+use Rattle.p21_spec_laws.proofs.CanonicalLaid.{statement_laid}
+use Rattle.p21_spec_exchange.specs.Statement.{header}
 use Rattle.p21_grammar_tree.specs.View.{part_view}
 use Rattle.p21_canon.proofs.header.write_header.Goals as goal
 

@@ -3,7 +3,7 @@ use Rattle.p21_canon.proofs.Closure.{long-closure, no_order-no_leaf}
 use Rattle.p21_canon.proofs.FoundRows.{each_entity, long-order}
 use Rattle.p21_express_graph.proofs.Gatherings.{numbered-at}
 use Rattle.p21_express_graph.specs.Orders.{numbers}
-use Rattle.p21_express_types.specs.declared.number.EntityId.{EntityId}
+use Rattle.p21_express_graph.specs.declared.number.EntityId.{EntityId}
 use Rattle.p21_canon.proofs.leaf.only_leaf.Goals as goal
 
 pub order_of-requires : goal.order_of-requires

@@ -1,5 +1,5 @@
 use Rattle.std.proofs.Common.{◌≢◌, ℕ, ◌<◌, length, get_or}
-use Rattle.p21_schemas.specs.Order.{order}
+use Rattle.p21_spec_schema.specs.Order.{order}
 use Rattle.p21_canon.proofs.leaf.only_leaf.Given as goal
 
 abbrev pub invariant-loop-entity : goal.invariant-loop-entity

@@ -1,7 +1,7 @@
 use Rattle.std.proofs.Common.{List, subst, sym}
 use Rattle.p21_express_graph.specs.Lookups.{AreEntities}
 use Rattle.p21_express_graph.specs.Orders.{numbers}
-use Rattle.p21_express_types.specs.declared.number.EntityId.{EntityId}
+use Rattle.p21_express_graph.specs.declared.number.EntityId.{EntityId}
 use Rattle.p21_canon.proofs.parts.append_external.Goals as goal
 
 pub append_parts-requires-clause-entities : goal.append_parts-requires-clause-entities

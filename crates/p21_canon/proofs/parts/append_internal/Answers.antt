@@ -4,8 +4,8 @@ use Rattle.p21_canon.specs.StatementTexts.{row_of}
 use Rattle.p21_mapping_values.proofs.WrittenParams.{on_any}
 use Rattle.p21_mapping_values.specs.Spelled.{AreSpelled}
 use Rattle.p21_mapping_values.specs.TypedView.{typed_view}
-use Rattle.p21_schemas.proofs.Orders.{order_within-only}
-use Rattle.p21_schemas.specs.Supertype.{itself}
+use Rattle.p21_spec_schema.proofs.Orders.{order_within-only}
+use Rattle.p21_spec_schema.specs.Supertype.{itself}
 use Rattle.p21_canon.proofs.parts.append_internal.Goals as goal
 
 pub append_keyword-requires : goal.append_keyword-requires

@@ -2,8 +2,8 @@ use Rattle.std.proofs.Common.{List, subst, sym, ◌≡◌, ◌<◌, ◌++◌, �
 use Rattle.p21_canon.proofs.FoundRows.{continues-later, on_err, part-next, part-spelled, rows-known}
 use Rattle.p21_canon.specs.StatementTexts.{IsSpelledPart, part_text}
 use Rattle.p21_express_graph.proofs.Gatherings.{numbered-at}
-use Rattle.p21_express_types.specs.declared.number.EntityId.{EntityId}
-use Rattle.p21_files.specs.ValueText.{value_texts}
+use Rattle.p21_express_graph.specs.declared.number.EntityId.{EntityId}
+use Rattle.p21_spec_file.specs.ValueText.{value_texts}
 use Rattle.p21_mapping_values.specs.KnownTypes.{HaveKnownTypes}
 use Rattle.p21_mapping_values.specs.declared.value.Value.{Value}
 use Rattle.p21_mapping_values.specs.View.{views}

@@ -1,7 +1,7 @@
 use Rattle.std.proofs.Common.{subst, sym}
 use Rattle.p21_canon.proofs.FoundRows.{continues-later, on_err, row-known, row-next, row-spelled, row-still}
 use Rattle.p21_express_graph.proofs.Gatherings.{numbered-at}
-use Rattle.p21_express_types.specs.declared.number.EntityId.{EntityId}
+use Rattle.p21_express_graph.specs.declared.number.EntityId.{EntityId}
 use Rattle.p21_mapping_values.specs.KnownTypes.{HaveKnownTypes}
 use Rattle.p21_mapping_values.specs.TypedView.{ids_view, rows_view, typed_view}
 use Rattle.p21_mapping_values.specs.View.{views}

@@ -2,7 +2,7 @@ use Rattle.std.proofs.Common.{◌≡◌, ◌++◌, true, take}
 use Rattle.std.specs.List.{AllByRecursion as Each}
 use Rattle.p21_canon.specs.StatementTexts.{row_of, rows_texts, still_first}
 use Rattle.p21_express_graph.specs.Orders.{numbers}
-use Rattle.p21_files.specs.ValueText.{with_commas_between}
+use Rattle.p21_spec_file.specs.ValueText.{with_commas_between}
 use Rattle.p21_mapping_values.specs.Spelled.{AreSpelled}
 use Rattle.p21_mapping_values.specs.TypedView.{typed_view}
 use Rattle.p21_canon.proofs.parts.append_rows.Given as goal

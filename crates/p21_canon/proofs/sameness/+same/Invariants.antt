@@ -1,5 +1,5 @@
 use Rattle.std.proofs.Common.{◌≡◌, ◌↔◌, ℕ, ◌≤◌, ◌+◌, ◌*◌, max, length, drop}
-use Rattle.p21_files.specs.SameValue.{Among, EachAmong, SameInOrder}
+use Rattle.p21_spec_file.specs.SameValue.{Among, EachAmong, SameInOrder}
 use Rattle.p21_mapping_values.specs.View.{view, views}
 use Rattle.p21_canon.specs.Occurrences.{Occurs}
 use Rattle.p21_canon.proofs.Pairing.{AreAsOften}

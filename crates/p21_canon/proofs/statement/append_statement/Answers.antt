@@ -4,8 +4,8 @@ use Rattle.p21_canon.proofs.Statements.{external-appends, internal-appends}
 use Rattle.p21_canon.specs.StatementTexts.{IsClosedSet, IsClosureOf}
 use Rattle.p21_express_graph.specs.Lookups.{AreEntities}
 use Rattle.p21_express_graph.specs.Orders.{numbers}
-use Rattle.p21_express_types.specs.declared.number.EntityId.{EntityId}
-use Rattle.p21_files.specs.CanonicalRecord.{HasOneLeaf}
+use Rattle.p21_express_graph.specs.declared.number.EntityId.{EntityId}
+use Rattle.p21_spec_file.specs.CanonicalRecord.{HasOneLeaf}
 use Rattle.p21_mapping_values.specs.TypedView.{typed_view}
 use Rattle.p21_canon.proofs.statement.append_statement.Goals as goal
 use Rattle.p21_values.proofs.Continuing.{continues-same}

@@ -1,4 +1,4 @@
-use Rattle.std.proofs.Common.{◌≡◌, subst, sym}
+use Rattle.std.proofs.Common.{subst, sym}
 use Rattle.p21_commands.specs.Check.{IsChecked}
 use Rattle.p21_commands.specs.Files.{IsRefusedUnder}
 use Rattle.p21_commands.proofs.Reporting.{part_written, written}

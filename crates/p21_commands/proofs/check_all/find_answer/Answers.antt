@@ -1,3 +1,5 @@
+use Rattle.std.proofs.Common.{◌∙◌, ℕ, ap, length}
+use Rattle.p21_commands.specs.Check.{check_answer_line}
 use Rattle.p21_commands.proofs.Surveys.{accepted-under, answers-refused}
 use Rattle.p21_commands.proofs.check_all.find_answer.Goals as goal
 
@@ -5,7 +7,7 @@ pub returns-in-Accepted-clause-ok : goal.returns-in-Accepted-clause-ok
 returns-in-Accepted-clause-ok g c = record {
   output = c.in-Accepted.accepted;
   accepted = accepted-under _ _ _ c.in_ok-schema.schema c.usual.result c.in-Ok.found c.in-Accepted.accepted c.in_ok-schema.ensures.ok c.usual.ensures c.in-Accepted.is c.in-Ok.ensures.surveys;
-  line_is = c.in_ok-answer_line_of-in-Accepted.ensures;
+  line_is = c.in_ok-line-in-Accepted.ensures ∙ ap (λ (n : ℕ). check_answer_line n c.len.result) c.count.ensures ∙ ap (λ (m : ℕ). check_answer_line (length c.in-Accepted.accepted.kept) m) c.len.ensures;
 }
 
 pub returns-clause-ok : goal.returns-clause-ok

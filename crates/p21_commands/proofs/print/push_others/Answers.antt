@@ -1,6 +1,6 @@
 use Rattle.std.proofs.lemmas.List.Elements.{Contains-get_or}
-use Rattle.p21_basics.proofs.Members.{Contains-mapped}
-use Rattle.p21_express_types.specs.Meaning.{place as place_of}
+use Rattle.p21_spec_basics.proofs.Members.{Contains-mapped}
+use Rattle.p21_express_graph.specs.Meaning.{place as place_of}
 use Rattle.p21_commands.specs.Print.{IsPlaceWord}
 use Rattle.p21_commands.proofs.Commas.{others-more}
 use Rattle.p21_commands.proofs.print.push_others.Goals as goal

@@ -1,8 +1,8 @@
 use Rattle.std.proofs.Common.{◌≡◌, ◌++◌, ℕ, List, map, take}
 use Rattle.std.specs.List.{AllZip}
 use Rattle.p21_commands.specs.Print.{IsPlaceWord}
-use Rattle.p21_express_types.specs.Meaning.{place as place_of}
-use Rattle.p21_files.specs.ValueText.{with_commas}
+use Rattle.p21_express_graph.specs.Meaning.{place as place_of}
+use Rattle.p21_spec_file.specs.ValueText.{with_commas}
 use Rattle.p21_commands.proofs.print.push_others.Given as goal
 
 -- the words so far stand there

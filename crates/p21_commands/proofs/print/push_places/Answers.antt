@@ -1,7 +1,7 @@
 use Rattle.std.specs.Prelude.{List, map, Contains}
 use Rattle.std.proofs.Common.{subst, ap, ◌∙◌}
-use Rattle.p21_express_types.specs.Meaning.{place as place_of}
-use Rattle.p21_schemas.specs.Schema.{Place}
+use Rattle.p21_express_graph.specs.Meaning.{place as place_of}
+use Rattle.p21_spec_schema.specs.Schema.{Place}
 use Rattle.p21_commands.proofs.Within.{places-within}
 use Rattle.p21_commands.proofs.print.push_places.Goals as goal
 

@@ -1,8 +1,8 @@
 use Rattle.std.specs.Prelude.{List, map, Contains}
 use Rattle.std.proofs.Common.{subst, sym}
-use Rattle.p21_basics.proofs.Members.{Contains-first, Contains-later}
-use Rattle.p21_express_types.specs.Meaning.{place as place_of}
-use Rattle.p21_express_types.specs.declared.number.Place as code
+use Rattle.p21_spec_basics.proofs.Members.{Contains-first, Contains-later}
+use Rattle.p21_express_graph.specs.Meaning.{place as place_of}
+use Rattle.p21_express_graph.specs.declared.number.Place as code
 use Rattle.p21_commands.specs.Print.{IsPlaceWord}
 use Rattle.p21_commands.proofs.Commas.{words-first}
 use Rattle.p21_commands.proofs.print.push_words.Goals as goal

@@ -1,7 +1,7 @@
 use Rattle.std.specs.Prelude.{map, refl}
 use Rattle.std.proofs.Common.{arith, ap, ◌∙◌}
 use Rattle.std.proofs.lemmas.List.{take_all}
-use Rattle.p21_schemas.specs.Schema.{attributes_of}
+use Rattle.p21_spec_schema.specs.Schema.{attributes_of}
 use Rattle.p21_express_graph.specs.Rising.{texts_of}
 use Rattle.p21_express_outline.proofs.Adding.{text-more}
 use Rattle.p21_express.proofs.PlaceLemmas.{kept-names, name-next}

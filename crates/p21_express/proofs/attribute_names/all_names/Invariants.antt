@@ -1,6 +1,6 @@
 use Rattle.std.proofs.Common.{◌≡◌, map, take}
 use Rattle.p21_express_graph.specs.Rising.{texts_of}
-use Rattle.p21_schemas.specs.Schema.{attributes_of}
+use Rattle.p21_spec_schema.specs.Schema.{attributes_of}
 use Rattle.p21_express.proofs.attribute_names.all_names.Given as goal
 
 -- the names so far

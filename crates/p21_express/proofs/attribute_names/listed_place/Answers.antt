@@ -1,7 +1,7 @@
 use Rattle.std.specs.Prelude.{◌≡◌, true, false}
 use Rattle.std.proofs.Common.{arith, ◌∙◌}
 use Rattle.std.proofs.lemmas.Slice.Eq.{bytes_eq-Decides}
-use Rattle.p21_schemas.specs.Schema.{PlaceNamed}
+use Rattle.p21_spec_schema.specs.Schema.{PlaceNamed}
 use Rattle.p21_express_graph.proofs.Lookups.{up-to}
 use Rattle.p21_express.proofs.PlaceLemmas.{name-one, no-own}
 use Rattle.p21_express.proofs.attribute_names.listed_place.Goals as goal

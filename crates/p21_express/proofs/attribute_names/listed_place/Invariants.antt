@@ -1,5 +1,5 @@
 use Rattle.std.proofs.Common.{ℕ, ◌<◌}
-use Rattle.p21_schemas.specs.Schema.{PlaceNamed}
+use Rattle.p21_spec_schema.specs.Schema.{PlaceNamed}
 use Rattle.p21_express.proofs.attribute_names.listed_place.Given as goal
 
 -- none so far has the name

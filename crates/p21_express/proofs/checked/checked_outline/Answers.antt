@@ -1,4 +1,4 @@
-use Rattle.p21_schemas.specs.Declared.{HasNoCircle, HasSupertype, Renames, HasSelect}
+use Rattle.p21_spec_schema.specs.Declared.{HasNoCircle, HasSupertype, Renames, HasSelect}
 use Rattle.p21_express_outline.specs.DeclaredBy.{RenamesNoSelect}
 use Rattle.p21_express_syntax.specs.Views.{schema_view}
 use Rattle.p21_express_graph.specs.SchemaContents.{schema_of}

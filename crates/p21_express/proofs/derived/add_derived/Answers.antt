@@ -4,7 +4,7 @@ use Rattle.p21_express_outline.specs.Outline.{digest_redeclared_names}
 use Rattle.p21_express_outline.specs.Redeclarations.{DigestDerivedAre, no_more}
 use Rattle.p21_express_syntax.specs.Views.{entity_view}
 use Rattle.p21_express_syntax.specs.declared.attributes.AttributeName.{AttributeName}
-use Rattle.p21_express_types.specs.Meaning.{place as place_of}
+use Rattle.p21_express_graph.specs.Meaning.{place as place_of}
 use Rattle.p21_express.proofs.Deriving.{adds-none, adds-one}
 use Rattle.p21_express.proofs.derived.add_derived.Goals as goal
 

@@ -2,8 +2,8 @@ use Rattle.std.specs.Prelude.{List, [], map}
 use Rattle.std.proofs.Common.{sym, subst}
 use Rattle.p21_express_outline.specs.Redeclarations.{DigestDerivedAre, no_more}
 use Rattle.p21_express_syntax.specs.Views.{entity_view}
-use Rattle.p21_express_types.specs.Meaning.{place as place_of}
-use Rattle.p21_express_types.specs.declared.number.Place.{Place}
+use Rattle.p21_express_graph.specs.Meaning.{place as place_of}
+use Rattle.p21_express_graph.specs.declared.number.Place.{Place}
 use Rattle.p21_express.proofs.Deriving.{derived-more, derived-refused}
 use Rattle.p21_express.proofs.derived.derived_of.Goals as goal
 

@@ -2,7 +2,7 @@ use Rattle.std.proofs.Common.{map, take}
 use Rattle.p21_express_outline.specs.Outline.{digest_redeclared_names}
 use Rattle.p21_express_outline.specs.Redeclarations.{DigestDerivedAre}
 use Rattle.p21_express_syntax.specs.Views.{entity_view}
-use Rattle.p21_express_types.specs.Meaning.{place as place_of}
+use Rattle.p21_express_graph.specs.Meaning.{place as place_of}
 use Rattle.p21_express.proofs.derived.derived_of.Given as goal
 
 -- those so far are found

@@ -3,7 +3,7 @@ use Rattle.std.proofs.Common.{sym, ◌∙◌}
 use Rattle.std.proofs.lemmas.Option.{slice_get_within}
 use Rattle.p21_express_outline.specs.Redeclarations.{no_more, a_place, no_place}
 use Rattle.p21_express_syntax.specs.Views.{entity_view}
-use Rattle.p21_express_types.specs.Meaning.{place as place_of}
+use Rattle.p21_express_graph.specs.Meaning.{place as place_of}
 use Rattle.p21_express.proofs.Deriving.{missing-nothing, unclear-nothing}
 use Rattle.p21_express.proofs.derived.derived_place.Goals as goal
 

@@ -2,12 +2,12 @@ use Rattle.std.specs.Prelude.{List, ◌++◌, map}
 use Rattle.std.specs.List.{IsDistinct}
 use Rattle.std.proofs.Common.{ap, ◌∙◌, subst}
 use Rattle.std.proofs.lemmas.List.{map-append}
-use Rattle.p21_schemas.specs.DeclaredEntity.{same_place}
-use Rattle.p21_schemas.specs.Schema.{Place}
+use Rattle.p21_spec_schema.specs.DeclaredEntity.{same_place}
+use Rattle.p21_spec_schema.specs.Schema.{Place}
 use Rattle.p21_express_outline.specs.Finding.{DecidesClaim}
 use Rattle.p21_express_outline.proofs.Zips.{map-twice}
 use Rattle.p21_express_graph.specs.declared.schema_contents.Redeclared.{Redeclared}
-use Rattle.p21_express_types.specs.Meaning.{place}
+use Rattle.p21_express_graph.specs.Meaning.{place}
 use Rattle.p21_express.proofs.distinct.check_places.Goals as goal
 
 pub returns : goal.returns

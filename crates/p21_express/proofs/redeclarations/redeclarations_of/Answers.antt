@@ -1,6 +1,6 @@
 use Rattle.std.specs.Prelude.{map}
 use Rattle.std.specs.List.{IsDistinct}
-use Rattle.p21_schemas.specs.DeclaredEntity.{same_place}
+use Rattle.p21_spec_schema.specs.DeclaredEntity.{same_place}
 use Rattle.p21_express_outline.specs.Known.{names_of}
 use Rattle.p21_express_syntax.specs.Views.{entity_view}
 use Rattle.p21_express.proofs.Resolving.{found-refused, distinct-all, all-found, code_places}

@@ -1,7 +1,7 @@
 use Rattle.std.specs.Prelude.{[], ◌∷◌, take, drop, ◌+◌, ◌≡◌, List, ◌++◌, map, ℕ, Bool}
 use Rattle.std.specs.List.{AllZip}
 use Rattle.std.proofs.Common.{sym, subst}
-use Rattle.p21_schemas.specs.Schema.{Redeclared}
+use Rattle.p21_spec_schema.specs.Schema.{Redeclared}
 use Rattle.p21_express_outline.specs.Known.{names_of}
 use Rattle.p21_express.specs.Explicit.{redeclared_by}
 use Rattle.p21_express_outline.specs.Redeclarations.{DigestRedeclaredIs}

@@ -1,6 +1,6 @@
 use Rattle.std.proofs.Common.{◌≡◌, List, ◌++◌, map, take}
 use Rattle.std.specs.List.{AllZip}
-use Rattle.p21_schemas.specs.Schema.{Redeclared}
+use Rattle.p21_spec_schema.specs.Schema.{Redeclared}
 use Rattle.p21_express_outline.specs.Known.{names_of}
 use Rattle.p21_express.specs.Explicit.{redeclared_by}
 use Rattle.p21_express_outline.specs.Redeclarations.{DigestRedeclaredIs}

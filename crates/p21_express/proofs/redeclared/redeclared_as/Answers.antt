@@ -1,4 +1,4 @@
-use Rattle.p21_schemas.specs.Redeclaration.{RedeclaresPlace}
+use Rattle.p21_spec_schema.specs.Redeclaration.{RedeclaresPlace}
 use Rattle.p21_express_outline.specs.Known.{names_of}
 use Rattle.p21_express_outline.specs.Outline.{DigestTypeIs}
 use Rattle.p21_express_outline.specs.Redeclarations.{DigestRedeclaredIs}

@@ -1,9 +1,10 @@
 use Rattle.std.specs.Prelude.{◌<◌, ◌∷◌, [], ℕ, List, Contains, length, refl}
 use Rattle.std.proofs.Common.{arith, ap, sym, subst, length-append}
-use Rattle.p21_schemas.proofs.Orders.{order_within-self}
+use Rattle.p21_spec_schema.proofs.Orders.{order_within-self}
 use Rattle.p21_express_graph.specs.Above.{HasAbove}
 use Rattle.p21_express_graph.specs.Prefixes.{lists_in}
 use Rattle.p21_express_graph.specs.SchemaContents.{entity, schema_of}
+use Rattle.p21_express_graph.specs.declared.above.Above.{Above}
 use Rattle.p21_express_graph.proofs.FrontsAbove.{above-more}
 use Rattle.p21_express_graph.proofs.Closures.{order-listed}
 use Rattle.p21_express_graph.proofs.Gatherings.{mapped-length}
@@ -20,8 +21,9 @@ front_above-front-requires-clause-itself c =
 
 pub loop-number-preserved : goal.loop-number-preserved
 loop-number-preserved c =
-    let front = c.front_above-front.result in
-    let P : ℕ → Type 0 = λ n. HasAbove c.args.orders.now n front in (
-      omega (arith, ap length c.in_ok-push.ensures.items, length-append c.loop-number.fronts.items (front ∷ []), c.loop-number.invariant.0),
-      above-more c.args.orders.now c.loop-number.fronts.items c.push.new.self.items front c.in_ok-push.ensures.items c.loop-number.invariant.1 (subst P (sym c.loop-number.invariant.0) c.front_above-front.ensures),
+    let above : Above = record { front = c.front_above-front.result; others = c.new.result } in
+    let P : ℕ → Type 0 = λ n. HasAbove c.args.orders.now n above.front above.others.items in
+    let Q : List ℕ → Type 0 = λ others. HasAbove c.args.orders.now c.loop-number.number above.front others in (
+      omega (arith, ap length c.in_ok-push.ensures.items, length-append c.loop-number.all.items (above ∷ []), c.loop-number.invariant.0),
+      above-more c.args.orders.now c.loop-number.all.items c.push.new.self.items above c.in_ok-push.ensures.items c.loop-number.invariant.1 (subst P (sym c.loop-number.invariant.0) (subst Q (sym c.new.ensures.items) c.front_above-front.ensures)),
     )

@@ -1,8 +1,8 @@
 use Rattle.std.specs.Prelude.{◌≡◌, ℕ, List, Option, Vec, MatchOption, map}
 use Rattle.std.specs.declared.alloc.Global.{Global}
 use Rattle.std.proofs.Common.{ap, sym, ◌∙◌, subst}
-use Rattle.p21_schemas.specs.Declared.{HasNoCircle}
-use Rattle.p21_express_types.specs.Meaning.{kind}
+use Rattle.p21_spec_schema.specs.Declared.{HasNoCircle}
+use Rattle.p21_express_graph.specs.Meaning.{kind}
 use Rattle.p21_express_graph.specs.SchemaContents.{schema_of}
 use Rattle.p21_express_graph.specs.DirectRenaming.{direct_renaming}
 use Rattle.p21_express_graph.specs.SettledOrder.{lists_of, IsNext, IsSettledOrder, AreWithin}

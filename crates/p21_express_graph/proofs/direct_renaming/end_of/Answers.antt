@@ -1,7 +1,7 @@
 use Rattle.std.specs.Prelude.{Some}
 use Rattle.std.proofs.Common.{ap, ◌∙◌, get_or}
-use Rattle.p21_schemas.specs.Declared.{Renames}
-use Rattle.p21_express_types.specs.Meaning.{kind}
+use Rattle.p21_spec_schema.specs.Declared.{Renames}
+use Rattle.p21_express_graph.specs.Meaning.{kind}
 use Rattle.p21_express_graph.specs.SchemaContents.{schema_of}
 use Rattle.p21_express_graph.proofs.direct_renaming.end_of.Goals as goal
 use Rattle.p21_express_graph.proofs.Ends.{end-itself, end-next}

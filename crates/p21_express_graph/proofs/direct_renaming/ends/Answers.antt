@@ -2,7 +2,7 @@ use Rattle.std.specs.Prelude.{◌≡◌, ◌+◌, ℕ, List, Some, suc, slice_ge
 use Rattle.std.proofs.Common.{arith, sym, subst, get_or}
 use Rattle.std.proofs.lemmas.List.{take_all}
 use Rattle.std.proofs.lemmas.Option.{slice_get-get_or}
-use Rattle.p21_basics.proofs.Members.{Contains-found, Contains-none}
+use Rattle.p21_spec_basics.proofs.Members.{Contains-found, Contains-none}
 use Rattle.p21_express_graph.specs.SchemaContents.{defined, schema_of}
 use Rattle.p21_express_graph.specs.DirectRenaming.{IsEnd, direct_renaming}
 use Rattle.p21_express_graph.specs.Resolved.{IsType}

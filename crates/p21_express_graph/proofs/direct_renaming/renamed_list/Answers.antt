@@ -1,6 +1,6 @@
 use Rattle.std.specs.Prelude.{◌++◌, ◌∷◌, []}
 use Rattle.std.proofs.Common.{ap, sym, ◌∙◌}
-use Rattle.p21_express_types.specs.Meaning.{kind}
+use Rattle.p21_express_graph.specs.Meaning.{kind}
 use Rattle.p21_express_graph.specs.DirectRenaming.{direct_renaming}
 use Rattle.p21_express_graph.proofs.direct_renaming.renamed_list.Goals as goal
 use Rattle.p21_express_graph.proofs.direct_renaming.renamed_list.Goals.{in-Some+in_ok-push-in-Some, in-None}

@@ -1,5 +1,5 @@
 use Rattle.std.proofs.Common.{◌≡◌, map, take}
-use Rattle.p21_express_types.specs.Meaning.{kind}
+use Rattle.p21_express_graph.specs.Meaning.{kind}
 use Rattle.p21_express_graph.specs.DirectRenaming.{direct_renaming}
 use Rattle.p21_express_graph.specs.SettledOrder.{lists_of}
 use Rattle.p21_express_graph.proofs.direct_renaming.renamed_lists.Given as goal

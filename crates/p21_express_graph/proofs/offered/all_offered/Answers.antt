@@ -1,8 +1,8 @@
 use Rattle.std.specs.Prelude.{◌≡◌, List, ℕ, map}
 use Rattle.std.proofs.Common.{ap, sym, ◌∙◌, subst}
-use Rattle.p21_schemas.specs.Schema.{entity_member, type_member}
-use Rattle.p21_schemas.specs.Declared.{HasNoCircle}
-use Rattle.p21_express_types.specs.Meaning.{kind}
+use Rattle.p21_spec_schema.specs.Schema.{entity_member, type_member}
+use Rattle.p21_spec_schema.specs.Declared.{HasNoCircle}
+use Rattle.p21_express_graph.specs.Meaning.{kind}
 use Rattle.p21_express_graph.specs.CollectedLists.{AreCollected}
 use Rattle.p21_express_graph.specs.Offered.{members_of, type_numbers, entity_numbers, plain_numbers}
 use Rattle.p21_express_graph.specs.SchemaContents.{schema_of}

@@ -1,5 +1,5 @@
 use Rattle.std.proofs.Common.{◌≡◌, map, take}
-use Rattle.p21_express_types.specs.Meaning.{kind}
+use Rattle.p21_express_graph.specs.Meaning.{kind}
 use Rattle.p21_express_graph.specs.Offered.{members_of, entity_numbers}
 use Rattle.p21_express_graph.specs.SettledOrder.{lists_of}
 use Rattle.p21_express_graph.proofs.offered.entity_lists.Given as goal

@@ -1,8 +1,8 @@
 use Rattle.std.specs.Prelude.{[], ◌∷◌, map, take}
 use Rattle.std.proofs.Common.{ap, ◌∙◌}
-use Rattle.p21_express_types.specs.Meaning.{member}
-use Rattle.p21_express_types.specs.declared.kind.Member.{Member}
-use Rattle.p21_express_types.specs.declared.kind.Member.TheVariants.{Entity}
+use Rattle.p21_express_graph.specs.Meaning.{member}
+use Rattle.p21_express_graph.specs.declared.kind.Member.{Member}
+use Rattle.p21_express_graph.specs.declared.kind.Member.TheVariants.{Entity}
 use Rattle.p21_express_graph.specs.Offered.{entity_numbers}
 use Rattle.p21_express_graph.proofs.offered.entity_numbers.Goals as goal
 use Rattle.p21_express_graph.proofs.offered.entity_numbers.Goals.{in-Entity+in_ok-push-in-Entity, in-Defined}

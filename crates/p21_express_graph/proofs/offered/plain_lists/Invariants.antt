@@ -1,5 +1,5 @@
 use Rattle.std.proofs.Common.{◌≡◌, map, take}
-use Rattle.p21_express_types.specs.Meaning.{kind}
+use Rattle.p21_express_graph.specs.Meaning.{kind}
 use Rattle.p21_express_graph.specs.Offered.{members_of, plain_numbers}
 use Rattle.p21_express_graph.specs.SchemaContents.{schema_of}
 use Rattle.p21_express_graph.specs.SettledOrder.{lists_of}

@@ -1,8 +1,8 @@
 use Rattle.std.specs.Prelude.{cond, [], ◌∷◌, map, take}
 use Rattle.std.proofs.Common.{ap, sym, ◌∙◌}
-use Rattle.p21_express_types.specs.Meaning.{member}
-use Rattle.p21_express_types.specs.declared.kind.Member.{Member}
-use Rattle.p21_express_types.specs.declared.kind.Member.TheVariants.{Entity}
+use Rattle.p21_express_graph.specs.Meaning.{member}
+use Rattle.p21_express_graph.specs.declared.kind.Member.{Member}
+use Rattle.p21_express_graph.specs.declared.kind.Member.TheVariants.{Entity}
 use Rattle.p21_express_graph.specs.Offered.{plain_numbers}
 use Rattle.p21_express_graph.specs.SchemaContents.{schema_of}
 use Rattle.p21_express_graph.proofs.offered.plain_numbers.Goals as goal

@@ -1,5 +1,5 @@
 use Rattle.std.proofs.Common.{◌≡◌, map, take}
-use Rattle.p21_express_types.specs.Meaning.{member}
+use Rattle.p21_express_graph.specs.Meaning.{member}
 use Rattle.p21_express_graph.specs.Offered.{plain_numbers}
 use Rattle.p21_express_graph.specs.SchemaContents.{schema_of}
 use Rattle.p21_express_graph.proofs.offered.plain_numbers.Given as goal

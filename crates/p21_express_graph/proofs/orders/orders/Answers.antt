@@ -3,8 +3,8 @@ use Rattle.std.specs.List.{flat_map}
 use Rattle.std.proofs.Common.{arith, ap, sym, ◌∙◌, subst, get_or}
 use Rattle.std.proofs.lemmas.List.{take_all}
 use Rattle.std.proofs.lemmas.Option.{slice_get-get_or}
-use Rattle.p21_schemas.specs.Order.{order}
-use Rattle.p21_schemas.specs.Schema.{Schema}
+use Rattle.p21_spec_schema.specs.Order.{order}
+use Rattle.p21_spec_schema.specs.Schema.{Schema}
 use Rattle.p21_express_graph.specs.Prefixes.{list_of, lists_in}
 use Rattle.p21_express_graph.specs.Gathering.{add_firsts}
 use Rattle.p21_express_graph.specs.Orders.{numbers, number_lists}
@@ -13,6 +13,7 @@ use Rattle.p21_express_graph.specs.SchemaContents.{entity, schema_of}
 use Rattle.p21_express_graph.specs.declared.prefixes.PrefixLists.{PrefixLists}
 use Rattle.p21_express_graph.proofs.orders.orders.Goals as goal
 use Rattle.p21_express_graph.proofs.Gatherings.{mapped-length}
+use Rattle.p21_express_graph.proofs.AddedOrders.{supertypes-done}
 use Rattle.p21_express_graph.proofs.OrderTables.{AreSoFar, none-so-far, is-entity, next-order, so-far-more, all-orders, are-entities}
 use Rattle.p21_express_graph.proofs.Resolving.{own-entities}
 
@@ -42,10 +43,22 @@ gather-requires-clause-there c e among =
     let below = are-entities (schema_of c.args.parts.now) c.requires.holds (get_or c.args.listed.now c.loop-number.number-index 0) e (subst P c.supertypes_of-supertypes.ensures among) in
     omega (arith, below, as-many (schema_of c.args.parts.now) c.loop-number.orders _ c.loop-number.invariant.0)
 
-pub gather-requires-clause-within : goal.gather-requires-clause-within
-gather-requires-clause-within c x y among =
-    let below = c.loop-number.invariant.0.within x y among in
-    omega (arith, below, ap (λ g. g.count) c.loop-number.invariant.1)
+pub gather-requires-clause-entities : goal.gather-requires-clause-entities
+gather-requires-clause-entities c e among =
+    let P : List ℕ → Type 0 = λ xs. Contains xs e in
+    are-entities (schema_of c.args.parts.now) c.requires.holds (get_or c.args.listed.now c.loop-number.number-index 0) e (subst P c.supertypes_of-supertypes.ensures among)
+
+pub gather-requires-clause-orders : goal.gather-requires-clause-orders
+gather-requires-clause-orders c e among =
+    let P : List ℕ → Type 0 = λ xs. Contains xs e in
+    supertypes-done (schema_of c.args.parts.now) c.args.listed.now c.requires.settled_order (lists_in c.loop-number.orders) c.loop-number.number-index (get_or c.args.listed.now c.loop-number.number-index 0)
+    (slice_get-get_or c.args.listed.now c.loop-number.number-index 0 c.loop-number-test.true) c.loop-number.invariant.0 e (subst P c.supertypes_of-supertypes.ensures among)
+
+pub gather-requires-clause-count : goal.gather-requires-clause-count
+gather-requires-clause-count c = ap (λ g. g.count) c.loop-number.invariant.1
+
+pub gather-requires-clause-none : goal.gather-requires-clause-none
+gather-requires-clause-none c = ap (λ g. g.numbers) c.loop-number.invariant.1
 
 pub gather-requires-clause-entity : goal.gather-requires-clause-entity
 gather-requires-clause-entity c =

@@ -1,7 +1,7 @@
 use Rattle.std.specs.Prelude.{[]}
-use Rattle.p21_schemas.specs.Schema.{EntityNamed}
+use Rattle.p21_spec_schema.specs.Schema.{EntityNamed}
 use Rattle.std.proofs.lemmas.List.Elements.{Contains-get_or}
-use Rattle.p21_basics.proofs.Members.{Contains-mapped}
+use Rattle.p21_spec_basics.proofs.Members.{Contains-mapped}
 use Rattle.p21_express_graph.specs.SchemaContents.{schema_of}
 use Rattle.p21_express_graph.proofs.Pairs.{AllZip-more_second}
 use Rattle.p21_express_graph.proofs.ranking.entities_named.Goals as goal

@@ -3,7 +3,7 @@ use Rattle.std.specs.List.{AllZip}
 use Rattle.p21_express_graph.specs.Orders.{numbers}
 use Rattle.p21_express_graph.specs.SchemaContents.{schema_of}
 use Rattle.p21_express_graph.specs.Rising.{texts_of}
-use Rattle.p21_schemas.specs.Schema.{EntityNamed}
+use Rattle.p21_spec_schema.specs.Schema.{EntityNamed}
 use Rattle.p21_express_graph.proofs.ranking.entities_named.Given as goal
 
 abbrev pub invariant-loop-name : goal.invariant-loop-name

@@ -1,8 +1,8 @@
 use Rattle.std.specs.Prelude.{◌≡◌, ℕ, List, Some, Contains, length, map, slice_get, slice_index_or}
 use Rattle.std.specs.List.{AllZip}
 use Rattle.std.proofs.Common.{arith, ap, sym, ◌∙◌, subst, Bor}
-use Rattle.p21_express_types.specs.declared.number.EntityId.{EntityId}
-use Rattle.p21_schemas.specs.Schema.{EntityNamed}
+use Rattle.p21_express_graph.specs.declared.number.EntityId.{EntityId}
+use Rattle.p21_spec_schema.specs.Schema.{EntityNamed}
 use Rattle.p21_express_graph.specs.Orders.{numbers}
 use Rattle.p21_express_graph.specs.SchemaContents.{entity, schema_of}
 use Rattle.p21_express_graph.specs.Rising.{texts_of}

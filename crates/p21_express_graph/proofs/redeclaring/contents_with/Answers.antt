@@ -1,6 +1,6 @@
 use Rattle.std.specs.Prelude.{List, map, refl}
 use Rattle.std.proofs.Common.{arith, ap, sym, ◌∙◌}
-use Rattle.p21_schemas.specs.Schema.{Schema, Entity}
+use Rattle.p21_spec_schema.specs.Schema.{Schema, Entity}
 use Rattle.p21_express_graph.specs.SchemaContents.{entity, schema_of}
 use Rattle.p21_express_graph.specs.Redeclaring.{redeclaring}
 use Rattle.p21_express_graph.proofs.Gatherings.{mapped-length}

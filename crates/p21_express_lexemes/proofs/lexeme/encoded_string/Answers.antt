@@ -1,5 +1,5 @@
 use Rattle.std.proofs.Common.{sym, ◌∙◌, refl}
-use Rattle.p21_schemas.specs.Express.{encoded_string}
+use Rattle.p21_spec_schema.specs.Express.{encoded_string}
 use Rattle.p21_express_lexemes.specs.Bytes.{front}
 use Rattle.p21_express_lexemes.specs.declared.bytes.Class.TheVariants.{Encoded}
 use Rattle.p21_express_lexemes.proofs.Lexing.{encoded_there}

@@ -1,5 +1,5 @@
 use Rattle.std.proofs.Common.{ap, refl}
-use Rattle.p21_schemas.specs.Express.{simple_string}
+use Rattle.p21_spec_schema.specs.Express.{simple_string}
 use Rattle.p21_express_lexemes.specs.FirstLexeme.{simple_of}
 use Rattle.p21_express_lexemes.proofs.lexeme.simple_string.Goals as goal
 

@@ -1,5 +1,5 @@
 use Rattle.std.proofs.Common.{◌≡◌, map, drop}
-use Rattle.p21_schemas.specs.Express.{upper}
+use Rattle.p21_spec_schema.specs.Express.{upper}
 use Rattle.p21_express_lexemes.specs.Words.{is_among}
 use Rattle.p21_express_lexemes.specs.Words.{all_bytes_seen}
 use Rattle.p21_express_lexemes.proofs.reserved.is_among.Given as goal

@@ -1,5 +1,5 @@
 use Rattle.std.proofs.Common.{◌≡◌, ℕ, ◌-◌, ◌<◌, ◌≤◌, length, get_or}
-use Rattle.p21_schemas.specs.Express.{upper}
+use Rattle.p21_spec_schema.specs.Express.{upper}
 use Rattle.p21_express_lexemes.proofs.reserved.is_same_word.Given as goal
 
 -- the bytes so far are those of the word

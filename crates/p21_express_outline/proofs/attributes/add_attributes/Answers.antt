@@ -1,7 +1,7 @@
 use Rattle.std.specs.Prelude.{[], ◌∷◌, take, drop, ◌+◌, ◌≡◌, List, ◌++◌, map, ℕ, Bool}
 use Rattle.std.specs.List.{AllZip}
 use Rattle.std.proofs.Common.{sym, subst}
-use Rattle.p21_schemas.specs.Schema.{Attribute}
+use Rattle.p21_spec_schema.specs.Schema.{Attribute}
 use Rattle.p21_express_outline.specs.Attributes.{own_of}
 use Rattle.p21_express_outline.specs.Known.{names_of}
 use Rattle.p21_express_outline.specs.Outline.{DigestAttributeIs}

@@ -1,6 +1,6 @@
 use Rattle.std.proofs.Common.{◌≡◌, List, ◌++◌, map, take}
 use Rattle.std.specs.List.{AllZip}
-use Rattle.p21_schemas.specs.Schema.{Attribute}
+use Rattle.p21_spec_schema.specs.Schema.{Attribute}
 use Rattle.p21_express_outline.specs.Attributes.{own_of}
 use Rattle.p21_express_outline.specs.Known.{names_of}
 use Rattle.p21_express_outline.specs.Outline.{DigestAttributeIs}

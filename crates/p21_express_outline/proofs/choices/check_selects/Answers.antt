@@ -4,7 +4,7 @@ use Rattle.p21_express_graph.specs.Offered.{members_of, type_numbers}
 use Rattle.p21_express_graph.specs.SchemaContents.{schema_of}
 use Rattle.p21_express_graph.specs.SettledOrder.{AreWithin, lists_of}
 use Rattle.p21_express_graph.proofs.Offering.{listed-types, select_types}
-use Rattle.p21_express_types.specs.Meaning.{kind}
+use Rattle.p21_express_graph.specs.Meaning.{kind}
 use Rattle.p21_express_outline.proofs.Choosing.{members-within, selects-checked}
 use Rattle.p21_express_outline.proofs.choices.check_selects.Goals as goal
 

@@ -1,16 +1,16 @@
 use Rattle.std.specs.Prelude.{List, map, refl}
 use Rattle.std.specs.List.{AllZip}
 use Rattle.std.proofs.Common.{subst}
-use Rattle.p21_schemas.specs.Schema.{Member}
+use Rattle.p21_spec_schema.specs.Schema.{Member}
 use Rattle.p21_express_syntax.specs.Digest.{select, underlying}
 use Rattle.p21_express_syntax.specs.Views.{type_view}
 use Rattle.p21_express_outline.specs.Known.{names_of}
 use Rattle.p21_express_outline.specs.Outline.{DigestKindIs, DigestTypeIs, MemberIs, IsNoEntity}
 use Rattle.p21_express_outline.proofs.TypeDigests.{type-one}
-use Rattle.p21_express_types.specs.Meaning.{kind, member, type_use}
+use Rattle.p21_express_graph.specs.Meaning.{kind, member, type_use}
 use Rattle.p21_express_outline.proofs.Finding.{find-refused, check-refused}
 use Rattle.p21_express_outline.proofs.defined.resolve_kind.Goals as goal
-use Rattle.p21_basics.proofs.Members.{AllZip-turned}
+use Rattle.p21_spec_basics.proofs.Members.{AllZip-turned}
 
 pub returns-in_err-members-in-Select : goal.returns-in_err-members-in-Select
 returns-in_err-members-in-Select c =

@@ -2,7 +2,7 @@ use Rattle.std.specs.Prelude.{◌≡◌, ℕ, List, map}
 use Rattle.std.proofs.Common.{ap, sym, ◌∙◌, subst}
 use Rattle.p21_express_graph.specs.SchemaContents.{schema_of}
 use Rattle.p21_express_graph.specs.SettledOrder.{AreWithin, lists_of}
-use Rattle.p21_express_types.specs.Meaning.{kind}
+use Rattle.p21_express_graph.specs.Meaning.{kind}
 use Rattle.p21_express_outline.proofs.Settling.{renamed-are, renamed-checked, renamed-within, renamed_lists}
 use Rattle.p21_express_outline.proofs.direct_renaming.check_renaming.Goals as goal
 use Rattle.p21_express_graph.specs.DirectRenaming.{direct_renaming}

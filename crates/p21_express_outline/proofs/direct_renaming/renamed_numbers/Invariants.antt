@@ -1,6 +1,6 @@
 use Rattle.std.proofs.Common.{◌≡◌, map, take}
 use Rattle.p21_express_graph.specs.SettledOrder.{lists_of}
-use Rattle.p21_express_types.specs.Meaning.{kind}
+use Rattle.p21_express_graph.specs.Meaning.{kind}
 use Rattle.p21_express_outline.proofs.direct_renaming.renamed_numbers.Given as goal
 use Rattle.p21_express_graph.specs.DirectRenaming.{direct_renaming}
 

@@ -6,10 +6,10 @@ use Rattle.p21_express_outline.specs.Known.{names_of}
 use Rattle.p21_express_outline.specs.Outline.{IsNamed}
 use Rattle.p21_express_syntax.specs.Views.{entity_view}
 use Rattle.p21_express_graph.specs.SchemaContents.{entity, redeclared}
-use Rattle.p21_express_types.specs.Meaning.{place}
+use Rattle.p21_express_graph.specs.Meaning.{place}
 use Rattle.p21_express_outline.proofs.Finding.{find-refused}
 use Rattle.p21_express_outline.proofs.entity.resolve_entity.Goals as goal
-use Rattle.p21_basics.proofs.Members.{AllZip-turned}
+use Rattle.p21_spec_basics.proofs.Members.{AllZip-turned}
 
 pub returns-in_err-supertypes : goal.returns-in_err-supertypes
 returns-in_err-supertypes c =

@@ -1,6 +1,6 @@
 use Rattle.p21_express_outline.specs.Known.{names_of}
 use Rattle.p21_express_outline.specs.Outline.{MemberIs}
-use Rattle.p21_express_types.specs.Meaning.{member}
+use Rattle.p21_express_graph.specs.Meaning.{member}
 use Rattle.p21_express_outline.proofs.Finding.{each-refused, zip-more}
 use Rattle.p21_express_outline.proofs.lists.members_named.Goals as goal
 

@@ -1,4 +1,4 @@
-use Rattle.p21_basics.proofs.Members.{Contains-found}
+use Rattle.p21_spec_basics.proofs.Members.{Contains-found}
 use Rattle.p21_express_outline.proofs.Adding.{no-others, others-more}
 use Rattle.p21_express_outline.proofs.names.check_apart.Goals as goal
 

@@ -6,7 +6,7 @@ use Rattle.p21_express_outline.specs.Outline.{IsNamed, DigestOneOfIs, one_of_lis
 use Rattle.p21_express_syntax.specs.Views.{some_list}
 use Rattle.p21_express_outline.proofs.Finding.{adds-refused, one-none, push-one}
 use Rattle.p21_express_outline.proofs.outlines.add_list.Goals as goal
-use Rattle.p21_basics.proofs.Members.{AllZip-turned}
+use Rattle.p21_spec_basics.proofs.Members.{AllZip-turned}
 
 pub returns-in_err-found-in-Some : goal.returns-in_err-found-in-Some
 returns-in_err-found-in-Some c =

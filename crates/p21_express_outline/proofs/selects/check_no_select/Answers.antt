@@ -1,7 +1,7 @@
 use Rattle.std.specs.Prelude.{◌≡◌, ℕ, true, false, List, Contains}
 use Rattle.std.proofs.Common.{arith, sym, ◌∙◌, subst}
-use Rattle.p21_schemas.specs.Declared.{Renames}
-use Rattle.p21_schemas.specs.Select.{IsSelect}
+use Rattle.p21_spec_schema.specs.Declared.{Renames}
+use Rattle.p21_spec_schema.specs.Select.{IsSelect}
 use Rattle.p21_express_graph.specs.SchemaContents.{schema_of}
 use Rattle.p21_express_graph.proofs.Lookups.{up-to}
 use Rattle.p21_express_outline.proofs.Selecting.{renames-at, renames-of, renames-within}

@@ -1,6 +1,6 @@
 use Rattle.std.proofs.Common.{ℕ, ◌<◌}
-use Rattle.p21_schemas.specs.Declared.{Renames}
-use Rattle.p21_schemas.specs.Select.{IsSelect}
+use Rattle.p21_spec_schema.specs.Declared.{Renames}
+use Rattle.p21_spec_schema.specs.Select.{IsSelect}
 use Rattle.p21_express_graph.specs.SchemaContents.{schema_of}
 use Rattle.p21_express_outline.proofs.selects.check_no_select.Given as goal
 

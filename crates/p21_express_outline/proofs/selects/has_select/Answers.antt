@@ -1,6 +1,6 @@
 use Rattle.std.specs.Prelude.{◌≡◌, ℕ, true, false, slice_index_or, Contains}
 use Rattle.std.proofs.Common.{arith, sym, ◌∙◌}
-use Rattle.p21_schemas.specs.Select.{IsSelect}
+use Rattle.p21_spec_schema.specs.Select.{IsSelect}
 use Rattle.p21_express_graph.specs.SchemaContents.{schema_of}
 use Rattle.p21_express_graph.proofs.Lookups.{up-to}
 use Rattle.p21_express_outline.proofs.Selecting.{none-of, said-none}

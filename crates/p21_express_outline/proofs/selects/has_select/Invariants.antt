@@ -1,5 +1,5 @@
 use Rattle.std.proofs.Common.{ℕ, ◌<◌, slice_index_or}
-use Rattle.p21_schemas.specs.Select.{IsSelect}
+use Rattle.p21_spec_schema.specs.Select.{IsSelect}
 use Rattle.p21_express_graph.specs.SchemaContents.{schema_of}
 use Rattle.p21_express_outline.proofs.selects.has_select.Given as goal
 

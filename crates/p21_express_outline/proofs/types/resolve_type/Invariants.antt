@@ -1,8 +1,8 @@
 use Rattle.std.proofs.Common.{◌≡◌, ◌≤◌, length, drop}
-use Rattle.p21_schemas.specs.Schema.{TypeUse}
+use Rattle.p21_spec_schema.specs.Schema.{TypeUse}
 use Rattle.p21_express_outline.specs.Known.{names_of}
 use Rattle.p21_express_outline.specs.Outline.{SimpleIs, aggregates_of}
-use Rattle.p21_express_types.specs.Meaning.{type_use}
+use Rattle.p21_express_graph.specs.Meaning.{type_use}
 use Rattle.p21_express_outline.proofs.types.resolve_type.Given as goal
 
 -- the aggregates behind those that are left stand around the element

@@ -1,5 +1,5 @@
 use Rattle.std.proofs.Common.{◌≡◌, ◌-◌, ◌≤◌, map, take, length}
-use Rattle.p21_schemas.specs.Express.{upper}
+use Rattle.p21_spec_schema.specs.Express.{upper}
 use Rattle.p21_express_syntax.proofs.names.word_of.Given as goal
 
 -- the bytes so far, in upper case

@@ -1,5 +1,5 @@
 use Rattle.std.proofs.Common.{◌+◌, arith}
-use Rattle.p21_values.proofs.DigitRuns.{number_more, number_take}
+use Rattle.p21_scan.proofs.DigitRuns.{number_more, number_take}
 use Rattle.p21_express_syntax.proofs.numbers.number_of.Goals as goal
 
 pub returns-in_err-checked_mul : goal.returns-in_err-checked_mul

@@ -1,7 +1,7 @@
 use Rattle.std.specs.Prelude.{map}
 use Rattle.std.proofs.Common.{ap, ◌∙◌}
 use Rattle.std.proofs.lemmas.List.{take_all}
-use Rattle.p21_express_types.specs.Meaning.{place}
+use Rattle.p21_express_graph.specs.Meaning.{place}
 use Rattle.p21_express_graph.specs.SchemaContents.{redeclared}
 use Rattle.p21_express_graph.proofs.Gatherings.{map-map}
 use Rattle.p21_express_tables.proofs.Owners.{place-next}

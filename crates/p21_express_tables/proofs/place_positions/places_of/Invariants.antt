@@ -1,5 +1,5 @@
 use Rattle.std.proofs.Common.{◌≡◌, map, take}
-use Rattle.p21_express_types.specs.Meaning.{place}
+use Rattle.p21_express_graph.specs.Meaning.{place}
 use Rattle.p21_express_tables.proofs.place_positions.places_of.Given as goal
 
 abbrev pub invariant-loop-other : goal.invariant-loop-other

@@ -1,6 +1,6 @@
 use Rattle.std.specs.Prelude.{List, map}
 use Rattle.std.proofs.Common.{ap, subst}
-use Rattle.p21_schemas.specs.Schema.{Entity}
+use Rattle.p21_spec_schema.specs.Schema.{Entity}
 use Rattle.p21_express_graph.specs.SchemaContents.{entity, schema_of}
 use Rattle.p21_express_tables.specs.Redeclarers.{ArePlacesOfEach, AreRedeclarersOf}
 use Rattle.p21_express_tables.proofs.Owners.{are-redeclarers}

@@ -1,7 +1,7 @@
 use Rattle.std.specs.Prelude.{◌≡◌, ◌++◌, ◌∷◌, [], ℕ, List, length, map, take}
 use Rattle.std.proofs.Common.{arith, ap, sym, ◌∙◌, subst}
 use Rattle.std.proofs.lemmas.List.{length-take-le, take_all}
-use Rattle.p21_schemas.specs.Schema.{Entity}
+use Rattle.p21_spec_schema.specs.Schema.{Entity}
 use Rattle.p21_express_graph.specs.SchemaContents.{entity}
 use Rattle.p21_express_graph.specs.declared.schema_contents.Entity.{Entity as Declared}
 use Rattle.p21_express_graph.proofs.Gatherings.{mapped-length}

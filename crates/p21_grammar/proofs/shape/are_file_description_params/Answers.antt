@@ -1,5 +1,5 @@
 use Rattle.std.proofs.Common.{[], ◌∷◌, arith}
-use Rattle.p21_exchange.specs.Header.{string, strings}
+use Rattle.p21_spec_exchange.specs.Header.{string, strings}
 use Rattle.p21_grammar.proofs.ShapeTests.{have-short, have-long}
 use Rattle.p21_grammar.proofs.shape.are_file_description_params.Goals as goal
 

@@ -1,8 +1,8 @@
-use Rattle.std.specs.Prelude.{◌≡◌, [], List, Contains, true, false}
-use Rattle.std.proofs.Common.{ap, arith, sym, ◌∙◌, subst, get_or, take}
+use Rattle.std.specs.Prelude.{◌≡◌, List, true, false}
+use Rattle.std.proofs.Common.{ap, arith, sym, ◌∙◌, subst}
 use Rattle.std.proofs.lemmas.List.{take_all}
 use Rattle.p21_express_graph.specs.Orders.{numbers}
-use Rattle.p21_express_types.specs.declared.number.EntityId.{EntityId}
+use Rattle.p21_express_graph.specs.declared.number.EntityId.{EntityId}
 use Rattle.p21_mapping.proofs.Redeclaring.{none-among, one-among, one-apart}
 use Rattle.p21_mapping.proofs.among.those_among.Goals as goal
 use Rattle.p21_mapping.proofs.among.those_among.Goals.{then-has+in_ok-push, else-has}

@@ -2,12 +2,12 @@ use Rattle.std.specs.Prelude.{ℕ, List}
 use Rattle.std.proofs.Common.{subst, sym}
 use Rattle.p21_express_graph.specs.Lookups.{AreEntities}
 use Rattle.p21_express_graph.specs.Orders.{numbers}
-use Rattle.p21_express_types.specs.declared.number.EntityId.{EntityId}
-use Rattle.p21_express_types.specs.Meaning.{place, place_type}
+use Rattle.p21_express_graph.specs.declared.number.EntityId.{EntityId}
+use Rattle.p21_express_graph.specs.Meaning.{place, place_type}
 use Rattle.p21_mapping.proofs.Redeclaring.{members-within, type-all}
 use Rattle.p21_mapping.proofs.among.type_among.Goals as goal
 use Rattle.p21_mapping.specs.Redeclaring.{AreThoseAmong}
-use Rattle.p21_schemas.specs.PlaceType.{TypeAt}
+use Rattle.p21_spec_schema.specs.PlaceType.{TypeAt}
 
 pub type_at-requires-clause-entities : goal.type_at-requires-clause-entities
 type_at-requires-clause-entities c = subst (AreEntities c.args.schema.now) (sym c.entities-then-redeclarers-entities.ensures) c.requires.entities

@@ -1,10 +1,10 @@
 use Rattle.std.specs.Prelude.{List, [], nat_eq}
 use Rattle.std.specs.List.{IsDistinct}
 use Rattle.std.proofs.Common.{ap, sym, ◌∙◌, subst}
-use Rattle.p21_basics.proofs.Shuffles.{none_twice-distinct}
+use Rattle.p21_spec_basics.proofs.Shuffles.{none_twice-distinct}
 use Rattle.p21_express_graph.specs.Orders.{numbers}
-use Rattle.p21_express_types.specs.declared.number.EntityId.{EntityId}
-use Rattle.p21_files.proofs.OneMeaning.{rising-none_twice}
+use Rattle.p21_express_graph.specs.declared.number.EntityId.{EntityId}
+use Rattle.p21_spec_file.proofs.OneMeaning.{rising-none_twice}
 use Rattle.p21_grammar_tree.specs.View.{record_view}
 use Rattle.p21_mapping.proofs.OwnSets.{own-listed}
 use Rattle.p21_mapping.proofs.Whole.{checked, refused, rows-count}

@@ -1,6 +1,6 @@
 use Rattle.std.specs.Prelude.{◌<◌, List, [], length, MatchResult}
 use Rattle.std.proofs.Common.{arith, ap, sym, ◌∙◌, subst}
-use Rattle.p21_exchange.specs.Record.{complex}
+use Rattle.p21_spec_exchange.specs.Record.{complex}
 use Rattle.p21_express_graph.specs.Orders.{numbers}
 use Rattle.p21_express_graph.proofs.Lookups.{rising-known}
 use Rattle.p21_grammar_tree.specs.declared.record.Part.{Part}

@@ -3,23 +3,23 @@ use Rattle.std.proofs.Common.{arith, ap, sym, ◌∙◌, subst, get_or, reverse}
 use Rattle.std.proofs.lemmas.List.{reverse-reverse}
 use Rattle.std.specs.Vec.Iter.{into_iter_items}
 use Rattle.std.specs.List.{zip}
-use Rattle.p21_basics.proofs.Members.{Each-member}
-use Rattle.p21_exchange.specs.Parameter.{Param, listed}
-use Rattle.p21_exchange.specs.Record.{complex}
+use Rattle.p21_spec_basics.proofs.Members.{Each-member}
+use Rattle.p21_spec_exchange.specs.Parameter.{Param, listed}
+use Rattle.p21_spec_exchange.specs.Record.{complex}
 use Rattle.p21_express_graph.proofs.Gatherings.{numbered-at}
 use Rattle.p21_express_graph.specs.Orders.{numbers}
-use Rattle.p21_files.specs.Meaning.{HasPlaceTypes}
-use Rattle.p21_files.specs.RecordPlaces.{HasPart}
+use Rattle.p21_spec_file.specs.Meaning.{HasPlaceTypes}
+use Rattle.p21_spec_file.specs.RecordPlaces.{HasPart}
 use Rattle.p21_grammar_tree.specs.View.{part_view, part_views}
 use Rattle.p21_mapping.proofs.Here.{param_views-length, part-params}
 use Rattle.p21_mapping.proofs.Taking.{parts-begin, parts-more, parts-room, parts-next, parts-end, row-whole}
 use Rattle.p21_mapping.specs.Outcome.{needs_view}
 use Rattle.p21_mapping.specs.Rows.{BreaksAmong, TakesRow, param_views}
 use Rattle.p21_mapping.proofs.Shapes.{named-within, own-count, views-length}
-use Rattle.p21_mapping_faults.specs.Fault.{fault_number}
+use Rattle.p21_grammar_tree.specs.Fault.{fault_number}
 use Rattle.p21_mapping_values.specs.TypedView.{rows_view}
 use Rattle.p21_mapping_values.specs.View.{list_of, view}
-use Rattle.p21_schemas.specs.Order.{own_places}
+use Rattle.p21_spec_schema.specs.Order.{own_places}
 use Rattle.p21_mapping.proofs.fitted.complex_rows.Goals as goal
 
 pub loop-owner-init : goal.loop-owner-init

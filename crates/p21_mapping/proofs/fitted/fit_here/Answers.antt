@@ -1,4 +1,4 @@
-use Rattle.p21_express_types.specs.Meaning.{place, place_type}
+use Rattle.p21_express_graph.specs.Meaning.{place, place_type}
 use Rattle.p21_grammar_tree.specs.View.{view}
 use Rattle.p21_mapping.proofs.Here.{here}
 use Rattle.p21_mapping.proofs.fitted.fit_here.Goals as goal

@@ -1,7 +1,7 @@
 use Rattle.std.specs.Prelude.{[], ◌∷◌, map, reverse}
 use Rattle.std.proofs.Common.{arith, ap, ◌∙◌}
 use Rattle.std.proofs.lemmas.List.{length-reverse, map-append}
-use Rattle.p21_basics.proofs.Members.{Each-member}
+use Rattle.p21_spec_basics.proofs.Members.{Each-member}
 use Rattle.p21_grammar_tree.specs.View.{view as tree}
 use Rattle.p21_mapping.proofs.Here.{row-room}
 use Rattle.p21_mapping.proofs.Lists.{next-one}
@@ -9,10 +9,10 @@ use Rattle.p21_mapping.proofs.RowLists.{row-begins, row-more, row-ends, row-next
 use Rattle.p21_mapping.specs.Outcome.{needs_view}
 use Rattle.p21_mapping.specs.Rows.{param_views}
 use Rattle.p21_mapping_values.specs.View.{view}
-use Rattle.p21_schemas.specs.Order.{own_places}
-use Rattle.p21_schemas.specs.PlaceType.{TypeAt, two_redeclarations}
+use Rattle.p21_spec_schema.specs.Order.{own_places}
+use Rattle.p21_spec_schema.specs.PlaceType.{TypeAt, two_redeclarations}
 use Rattle.p21_mapping.proofs.fitted.fit_row.Goals as goal
-use Rattle.p21_schemas.proofs.OwnPlaces.{own_places-has}
+use Rattle.p21_spec_schema.proofs.OwnPlaces.{own_places-has}
 
 pub loop-index-init : goal.loop-index-init
 loop-index-init c = rw c.in_ok-values.ensures.items (row-begins c.args.set.now.schema.now c.args.set.now.entities c.args.owner.0 (param_views (reverse c.args.params.now.items)) (needs_view c.args.needs.now.items))

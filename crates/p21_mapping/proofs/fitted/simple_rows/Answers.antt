@@ -1,14 +1,14 @@
 use Rattle.std.proofs.Common.{arith, ◌∙◌, reverse}
 use Rattle.std.proofs.lemmas.List.{reverse-reverse}
-use Rattle.p21_basics.proofs.Members.{Each-member}
+use Rattle.p21_spec_basics.proofs.Members.{Each-member}
 use Rattle.p21_express_graph.proofs.Gatherings.{numbered-at}
 use Rattle.p21_express_graph.specs.Orders.{numbers}
-use Rattle.p21_files.specs.Meaning.{HasPlaceTypes}
+use Rattle.p21_spec_file.specs.Meaning.{HasPlaceTypes}
 use Rattle.p21_mapping.proofs.Here.{param_views-length}
 use Rattle.p21_mapping.proofs.Taking.{rows-begin, rows-more, rows-enough, rows-end, rows-break}
 use Rattle.p21_mapping.specs.Outcome.{needs_view}
 use Rattle.p21_mapping.specs.Rows.{param_views}
-use Rattle.p21_mapping_faults.specs.Fault.{fault_number}
+use Rattle.p21_grammar_tree.specs.Fault.{fault_number}
 use Rattle.p21_mapping_values.specs.TypedView.{rows_view}
 use Rattle.p21_mapping.proofs.fitted.simple_rows.Goals as goal
 

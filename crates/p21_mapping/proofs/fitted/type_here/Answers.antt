@@ -1,11 +1,11 @@
 use Rattle.std.specs.Prelude.{Option}
 use Rattle.std.proofs.Common.{subst}
-use Rattle.p21_express_types.specs.declared.number.EntityId.{EntityId}
-use Rattle.p21_express_types.specs.Meaning.{place, place_type}
+use Rattle.p21_express_graph.specs.declared.number.EntityId.{EntityId}
+use Rattle.p21_express_graph.specs.Meaning.{place, place_type}
 use Rattle.p21_mapping.proofs.fitted.type_here.Goals as goal
 use Rattle.p21_mapping.proofs.OwnSets.{type-same}
 use Rattle.p21_mapping.specs.Shape.{IsOwnClosure}
-use Rattle.p21_schemas.specs.Order.{order}
+use Rattle.p21_spec_schema.specs.Order.{order}
 
 pub returns-in-Some : goal.returns-in-Some
 returns-in-Some c =

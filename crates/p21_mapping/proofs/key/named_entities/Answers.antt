@@ -1,7 +1,7 @@
 use Rattle.std.proofs.Common.{subst}
-use Rattle.p21_exchange.specs.Record.{Part}
-use Rattle.p21_files.specs.BrokenRule.{unknown_entity}
-use Rattle.p21_files.specs.Meaning.{NamesEntity}
+use Rattle.p21_spec_exchange.specs.Record.{Part}
+use Rattle.p21_spec_file.specs.BrokenRule.{unknown_entity}
+use Rattle.p21_spec_file.specs.Meaning.{NamesEntity}
 use Rattle.p21_grammar_tree.specs.declared.record.Part as tree
 use Rattle.p21_grammar_tree.specs.View.{part_view}
 use Rattle.p21_express_graph.proofs.Pairs.{AllZip-more}

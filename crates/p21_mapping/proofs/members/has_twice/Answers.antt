@@ -1,7 +1,7 @@
 use Rattle.std.specs.Prelude.{List, ℕ, slice_get, Contains}
 use Rattle.std.proofs.Common.{arith, sym, ◌∙◌, ap, subst, get_or}
 use Rattle.std.proofs.lemmas.List.{take_all}
-use Rattle.p21_basics.proofs.Shuffles.{NoneTwice, none_twice-distinct}
+use Rattle.p21_spec_basics.proofs.Shuffles.{NoneTwice, none_twice-distinct}
 use Rattle.p21_express_graph.specs.Orders.{numbers}
 use Rattle.p21_mapping.proofs.Placing.{not-earlier}
 use Rattle.p21_mapping.proofs.GrownLists.{mapped-at, numbered, NoneTwice-more}

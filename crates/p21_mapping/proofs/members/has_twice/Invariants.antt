@@ -1,5 +1,5 @@
 use Rattle.std.proofs.Common.{take}
-use Rattle.p21_basics.proofs.Shuffles.{NoneTwice}
+use Rattle.p21_spec_basics.proofs.Shuffles.{NoneTwice}
 use Rattle.p21_express_graph.specs.Orders.{numbers}
 use Rattle.p21_mapping.proofs.members.has_twice.Given as goal
 

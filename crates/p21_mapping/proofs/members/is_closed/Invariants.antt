@@ -1,5 +1,5 @@
 use Rattle.std.proofs.Common.{ℕ, ◌<◌, slice_index_or, Contains}
-use Rattle.p21_schemas.specs.Declared.{HasSupertype}
+use Rattle.p21_spec_schema.specs.Declared.{HasSupertype}
 use Rattle.p21_mapping.proofs.members.is_closed.Given as goal
 
 abbrev pub invariant-loop-entity : goal.invariant-loop-entity

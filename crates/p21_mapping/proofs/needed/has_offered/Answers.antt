@@ -2,8 +2,8 @@ use Rattle.std.specs.Prelude.{◌≡◌, ℕ, true, false, refl}
 use Rattle.std.proofs.Common.{arith, sym, ◌∙◌, get_or}
 use Rattle.p21_express_graph.proofs.Gatherings.{numbered-at}
 use Rattle.p21_express_graph.proofs.Lookups.{each-number, up-to}
-use Rattle.p21_schemas.specs.Schema.{entity_member}
-use Rattle.p21_schemas.specs.Select.{Offers}
+use Rattle.p21_spec_schema.specs.Schema.{entity_member}
+use Rattle.p21_spec_schema.specs.Select.{Offers}
 use Rattle.p21_mapping.proofs.Shapes.{offers-within}
 use Rattle.p21_mapping.proofs.needed.has_offered.Goals as goal
 

@@ -1,6 +1,6 @@
 use Rattle.std.proofs.Common.{ℕ, ◌<◌, slice_index_or}
-use Rattle.p21_schemas.specs.Schema.{entity_member}
-use Rattle.p21_schemas.specs.Select.{Offers}
+use Rattle.p21_spec_schema.specs.Schema.{entity_member}
+use Rattle.p21_spec_schema.specs.Select.{Offers}
 use Rattle.p21_mapping.proofs.needed.has_offered.Given as goal
 
 abbrev pub invariant-loop-part : goal.invariant-loop-part

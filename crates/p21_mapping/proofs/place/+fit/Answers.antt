@@ -1,13 +1,13 @@
 use Rattle.std.proofs.Common.{◌∙◌, sym, ap, rules, [], length}
 use Rattle.std.proofs.lemmas.Result.{err_from_is_err_and}
-use Rattle.p21_exchange.specs.Parameter as parameter
-use Rattle.p21_files.specs.BrokenValue.{missing, star_not_derived}
+use Rattle.p21_spec_exchange.specs.Parameter as parameter
+use Rattle.p21_spec_file.specs.BrokenValue.{missing, star_not_derived}
 use denote.Param.Weighed.{most}
 use Rattle.p21_grammar_tree.proofs.param.Param.TheLaws.{the_size}
 use Rattle.p21_grammar_tree.specs.declared.param.Param as param
 use Rattle.p21_grammar_tree.proofs.Views.{view-Dollar, view-Star, view-Whole, view-Real, view-Text, view-Bits, view-Item, view-Name, view-List, view-Tagged}
 use Rattle.p21_grammar_tree.specs.View.{items_of, key_view, view, views}
-use Rattle.p21_express_types.specs.Meaning.{type_use}
+use Rattle.p21_express_graph.specs.Meaning.{type_use}
 use Rattle.p21_mapping.proofs.Chains.{broken_at, from_base, left_out, not_left_out, refused_from}
 use Rattle.p21_mapping.proofs.Lists.{aggregate_at, bounds_broken, all_taken, broken_next, chosen_at, chosen_broken, element_broken, element-known, key_refused, none_taken, one_taken, plain-known, same_broken, size_below, takes-elements}
 use Rattle.p21_mapping.proofs.Outcomes.{at_declared, at_other}

@@ -1,5 +1,5 @@
 use Rattle.std.proofs.Common.{length}
-use Rattle.p21_express_types.specs.Meaning.{type_use}
+use Rattle.p21_express_graph.specs.Meaning.{type_use}
 use Rattle.p21_mapping.proofs.Lists.{Halfway}
 use Rattle.p21_mapping.proofs.place.+fit.Given as goal
 

@@ -1,4 +1,4 @@
-use Rattle.p21_express_types.specs.Meaning.{type_use}
+use Rattle.p21_express_graph.specs.Meaning.{type_use}
 use Rattle.p21_mapping.proofs.Chains.{base_in}
 use Rattle.p21_mapping.proofs.place.base_of.Goals as goal
 

@@ -1,6 +1,6 @@
 use Rattle.std.proofs.Common.{sym, subst, rules, Ok}
-use Rattle.p21_express_types.specs.Meaning.{place_type, type_use}
-use Rattle.p21_files.specs.BrokenValue.{BreaksAtPlace, derived_not_star}
+use Rattle.p21_express_graph.specs.Meaning.{place_type, type_use}
+use Rattle.p21_spec_file.specs.BrokenValue.{BreaksAtPlace, derived_not_star}
 use Rattle.p21_grammar_tree.specs.View.{view}
 use Rattle.p21_mapping.proofs.Chains.{as_place, star_at_derived}
 use Rattle.p21_mapping.specs.Outcome.{FitsPlaceOrBreaks}

@@ -1,7 +1,7 @@
 use Rattle.std.specs.Prelude.{◌≡◌, ◌+◌, true, false}
 use Rattle.std.proofs.Common.{arith, get_or}
 use Rattle.p21_express_graph.proofs.Gatherings.{numbered-at}
-use Rattle.p21_schemas.specs.Order.{own_places}
+use Rattle.p21_spec_schema.specs.Order.{own_places}
 use Rattle.p21_mapping.proofs.GrownLists.{flat_map-more, flat_map-front}
 use Rattle.p21_mapping.proofs.Shapes.{own-count}
 use Rattle.p21_mapping.proofs.places.has_count.Goals as goal

@@ -1,10 +1,10 @@
 use Rattle.std.specs.Prelude.{ℕ, List, Contains}
 use Rattle.std.proofs.Common.{arith, get_or, sym, subst}
 use Rattle.std.proofs.lemmas.Bool.{MatchBool-at_false, MatchBool-at_true}
-use Rattle.p21_basics.proofs.Members.{Each-of_members}
+use Rattle.p21_spec_basics.proofs.Members.{Each-of_members}
 use Rattle.p21_express_graph.proofs.Gatherings.{numbered-at}
 use Rattle.p21_express_graph.proofs.Lookups.{each-number, up-to}
-use Rattle.p21_files.specs.Meaning.{HasPlaceTypes}
+use Rattle.p21_spec_file.specs.Meaning.{HasPlaceTypes}
 use Rattle.p21_mapping.proofs.places.has_open_place.Goals as goal
 
 pub has_open_place_of-requires-clause-entity : goal.has_open_place_of-requires-clause-entity

@@ -1,5 +1,5 @@
 use Rattle.std.proofs.Common.{ℕ, ◌<◌, slice_index_or}
-use Rattle.p21_files.specs.Meaning.{HasPlaceTypes}
+use Rattle.p21_spec_file.specs.Meaning.{HasPlaceTypes}
 use Rattle.p21_mapping.proofs.places.has_open_place.Given as goal
 
 abbrev pub invariant-loop-entity : goal.invariant-loop-entity

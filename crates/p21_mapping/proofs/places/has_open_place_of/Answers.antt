@@ -1,12 +1,12 @@
 use Rattle.std.specs.Prelude.{◌≡◌, true, false}
 use Rattle.std.proofs.Common.{arith, sym, ◌∙◌, subst}
 use Rattle.p21_express_graph.proofs.Lookups.{up-to}
-use Rattle.p21_express_types.specs.Meaning.{place_type}
-use Rattle.p21_schemas.specs.PlaceType.{TypeAt, two_redeclarations}
+use Rattle.p21_express_graph.specs.Meaning.{place_type}
+use Rattle.p21_spec_schema.specs.PlaceType.{TypeAt, two_redeclarations}
 use Rattle.p21_mapping.proofs.Redeclaring.{only-open}
 use Rattle.p21_mapping.proofs.Shapes.{own-each}
 use Rattle.p21_mapping.proofs.places.has_open_place_of.Goals as goal
-use Rattle.p21_schemas.proofs.OwnPlaces.{own_places-has}
+use Rattle.p21_spec_schema.proofs.OwnPlaces.{own_places-has}
 
 pub returns-then-is_open : goal.returns-then-is_open
 returns-then-is_open c = (

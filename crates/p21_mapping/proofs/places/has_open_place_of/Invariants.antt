@@ -1,5 +1,5 @@
 use Rattle.std.proofs.Common.{ℕ, ◌<◌}
-use Rattle.p21_schemas.specs.PlaceType.{TypeAt, two_redeclarations}
+use Rattle.p21_spec_schema.specs.PlaceType.{TypeAt, two_redeclarations}
 use Rattle.p21_mapping.proofs.places.has_open_place_of.Given as goal
 
 abbrev pub invariant-loop-index : goal.invariant-loop-index

@@ -1,4 +1,4 @@
-use Rattle.p21_exchange.specs.Parameter as parameter
+use Rattle.p21_spec_exchange.specs.Parameter as parameter
 use Rattle.p21_mapping.proofs.Outcomes.{at_declared, at_other}
 use Rattle.p21_mapping.proofs.Scalars.{number_at, real_at}
 use Rattle.p21_mapping.proofs.BaseKinds.{real-nowhere}

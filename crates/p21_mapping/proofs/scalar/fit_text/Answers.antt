@@ -1,5 +1,5 @@
 use Rattle.std.proofs.Common.{rules}
-use Rattle.p21_exchange.specs.Parameter as parameter
+use Rattle.p21_spec_exchange.specs.Parameter as parameter
 use Rattle.p21_mapping.proofs.Outcomes.{at_declared, at_other}
 use Rattle.p21_mapping.proofs.Scalars.{text_at, text_too_wide}
 use Rattle.p21_mapping.proofs.BaseKinds.{text-nowhere}

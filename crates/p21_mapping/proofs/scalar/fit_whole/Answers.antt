@@ -1,5 +1,5 @@
 use Rattle.std.proofs.lemmas.Result.{err_from_is_err_and}
-use Rattle.p21_exchange.specs.Parameter as parameter
+use Rattle.p21_spec_exchange.specs.Parameter as parameter
 use Rattle.p21_mapping.proofs.Outcomes.{at_declared, at_other}
 use Rattle.p21_mapping.proofs.Scalars.{number_of_whole, number_out_of_range, whole_at}
 use Rattle.p21_mapping.proofs.BaseKinds.{whole-nowhere}

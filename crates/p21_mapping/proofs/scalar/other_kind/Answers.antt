@@ -1,7 +1,7 @@
 use Rattle.std.proofs.Common.{sym, subst}
 use Rattle.p21_mapping.proofs.Outcomes.{kind_fault-items, kind_fault-plain, kind_fault-select}
 use Rattle.p21_mapping.specs.Outcome.{IsKindFault}
-use Rattle.p21_mapping_faults.specs.declared.fault.CheckFault.TheVariants.{SelectType, WrongKind}
+use Rattle.p21_grammar_tree.specs.declared.fault.CheckFault.TheVariants.{SelectType, WrongKind}
 use Rattle.p21_mapping.proofs.scalar.other_kind.Goals as goal
 
 pub returns-in-Select : goal.returns-in-Select

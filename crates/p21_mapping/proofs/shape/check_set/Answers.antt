@@ -3,7 +3,7 @@ use Rattle.std.specs.List.{AllByRecursion as Each}
 use Rattle.std.proofs.Common.{sym, ◌∙◌, subst}
 use Rattle.std.proofs.lemmas.Bool.{MatchBool-at_false, MatchBool-at_true}
 use Rattle.p21_express_graph.specs.Lookups.{AreEntities}
-use Rattle.p21_files.specs.Meaning.{HasPlaceTypes}
+use Rattle.p21_spec_file.specs.Meaning.{HasPlaceTypes}
 use Rattle.p21_mapping.proofs.shape.check_set.Goals as goal
 use Rattle.p21_mapping.specs.Shape.{HasOpenPlace}
 

@@ -4,10 +4,10 @@ use Rattle.std.proofs.Common.{ap, sym, ◌∙◌, subst}
 use Rattle.std.proofs.lemmas.Bool.{MatchBool-at_true, MatchBool-at_false}
 use Rattle.std.proofs.lemmas.Result.{err_from_is_err_and}
 use Rattle.std.proofs.lemmas.Slice.Zip.{AllZip-long}
-use Rattle.p21_exchange.specs.Record.{Part, complex}
+use Rattle.p21_spec_exchange.specs.Record.{Part, complex}
 use Rattle.p21_express_graph.specs.Orders.{numbers}
-use Rattle.p21_express_types.specs.declared.number.EntityId.{EntityId}
-use Rattle.p21_files.specs.Meaning.{NamesEntity}
+use Rattle.p21_express_graph.specs.declared.number.EntityId.{EntityId}
+use Rattle.p21_spec_file.specs.Meaning.{NamesEntity}
 use Rattle.p21_grammar_tree.specs.View.{part_views}
 use Rattle.p21_express_graph.specs.Rising.{HaveSame}
 use Rattle.p21_mapping.specs.Shape.{AreMembers, IsClosed, HasSomeAbstractLeaf, HasNoAbstractLeaf, PassesSet, RefusesSet, HasCount, HasOtherCount, HasShape}

@@ -2,7 +2,7 @@ use Rattle.std.specs.Prelude.{◌≡◌, true, false}
 use Rattle.std.proofs.Common.{arith, get_or, sym, ◌∙◌}
 use Rattle.p21_express_graph.proofs.Gatherings.{numbered-at}
 use Rattle.p21_express_graph.proofs.Lookups.{each-number, up-to}
-use Rattle.p21_schemas.specs.Schema.{IsAbstract}
+use Rattle.p21_spec_schema.specs.Schema.{IsAbstract}
 use Rattle.p21_mapping.proofs.shape.has_abstract.Goals as goal
 
 pub is_abstract-requires : goal.is_abstract-requires

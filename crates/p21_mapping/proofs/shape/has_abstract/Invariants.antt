@@ -1,5 +1,5 @@
 use Rattle.std.proofs.Common.{ℕ, ◌<◌, slice_index_or}
-use Rattle.p21_schemas.specs.Schema.{IsAbstract}
+use Rattle.p21_spec_schema.specs.Schema.{IsAbstract}
 use Rattle.p21_mapping.proofs.shape.has_abstract.Given as goal
 
 abbrev pub invariant-loop-entity : goal.invariant-loop-entity

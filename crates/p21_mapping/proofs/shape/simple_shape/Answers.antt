@@ -1,14 +1,14 @@
 use Rattle.std.specs.Prelude.{◌≡◌, [], true, false, length, refl}
 use Rattle.std.specs.List.{flat_map}
 use Rattle.std.proofs.Common.{ap, sym, ◌∙◌}
-use Rattle.p21_basics.proofs.Members.{Contains-first}
+use Rattle.p21_spec_basics.proofs.Members.{Contains-first}
 use Rattle.p21_express_graph.specs.Orders.{numbers}
-use Rattle.p21_files.specs.BrokenRule.{unknown_entity}
+use Rattle.p21_spec_file.specs.BrokenRule.{unknown_entity}
 use Rattle.p21_grammar_tree.specs.View.{part_view}
 use Rattle.p21_mapping.proofs.OwnSets.{own-passes, own-refuses}
 use Rattle.p21_mapping.proofs.Shapes.{named-within, order-within, simple-miscount, simple-shape, part-length}
 use Rattle.p21_mapping.proofs.shape.simple_shape.Goals as goal
-use Rattle.p21_schemas.specs.Order.{order, own_places}
+use Rattle.p21_spec_schema.specs.Order.{order, own_places}
 
 pub returns-in_default : goal.returns-in_default
 returns-in_default c = λ _. unknown_entity (part_view c.args.part.now, Contains-first (part_view c.args.part.now) [], λ e named. c.in_default.ensures e named)

@@ -1,5 +1,5 @@
 use Rattle.std.proofs.Common.{◌≡◌, ap, ◌∙◌, arith, refl, rules}
-use Rattle.p21_files.specs.Value.{typed}
+use Rattle.p21_spec_file.specs.Value.{typed}
 use Rattle.p21_mapping_values.specs.declared.value.Value.{Value}
 use Rattle.std.proofs.lemmas.Result.{err_from_is_err_and}
 use Rattle.p21_mapping_values.proofs.SpelledScalars.{bits-spelled, name-spelled, real-spelled, text-spelled, whole-spelled}

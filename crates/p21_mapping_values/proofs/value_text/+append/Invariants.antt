@@ -1,5 +1,5 @@
 use Rattle.std.proofs.Common.{◌≡◌, ◌++◌, ◌∷◌, [], ℕ, List, length, map, take}
-use Rattle.p21_files.specs.ValueText.{with_commas_between}
+use Rattle.p21_spec_file.specs.ValueText.{with_commas_between}
 use Rattle.p21_mapping_values.specs.View.{views}
 use Rattle.p21_mapping_values.specs.SplitTexts.{joined}
 use Rattle.p21_mapping_values.proofs.Elements.{texts}

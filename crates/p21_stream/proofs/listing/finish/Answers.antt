@@ -1,13 +1,13 @@
 use Rattle.std.proofs.Common.{List, IfOk, ap, subst, sym, ◌≡◌, ◌∙◌, ℕ, length, arith}
 use Rattle.std.proofs.lemmas.Bool.{eqb-false, eqb-true}
 use Rattle.std.specs.Prelude.{vec_len}
-use Rattle.p21_basics.specs.Limits.{Limits}
-use Rattle.p21_claim_steps.specs.Keeping.{Keeps, Kept}
-use Rattle.p21_exchange.specs.Statement.{Statement}
-use Rattle.p21_schemas.specs.Schema.{Schema}
+use Rattle.p21_spec_basics.specs.Limits.{Limits}
+use Rattle.p21_spec_laws.specs.Keeping.{Keeps, Kept}
+use Rattle.p21_spec_exchange.specs.Statement.{Statement}
+use Rattle.p21_spec_schema.specs.Schema.{Schema}
 use Rattle.p21_stream_output.specs.Ending.{IsFileOfKept}
 use Rattle.p21_stream_statements.specs.declared.refusal.Refusal.{Refusal}
-use Rattle.p21_stream_survey.specs.Unserved.{ListsUnserved}
+use Rattle.p21_stream.specs.Unserved.{ListsUnserved}
 use Rattle.p21_stream.proofs.SurveyEnding.{finish-accepted, finish-ended, finish-kept, finish-listed, none-listed, some-listed}
 use Rattle.p21_stream.specs.SurveyReading.{EndsWith, IsExtent}
 use Rattle.p21_stream.proofs.listing.finish.Goals as goal

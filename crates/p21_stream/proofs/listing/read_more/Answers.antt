@@ -1,4 +1,4 @@
-use Rattle.std.proofs.Common.{arith, rules}
+use Rattle.std.proofs.Common.{rules}
 use Rattle.std.proofs.lemmas.List.{length-take-le}
 use Rattle.p21_stream.proofs.SurveyEnding.{read-stops}
 use Rattle.p21_stream.proofs.SurveyFeeding.{surveyed-more}

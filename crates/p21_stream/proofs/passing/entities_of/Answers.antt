@@ -1,7 +1,7 @@
 use Rattle.std.proofs.Common.{List, subst, sym}
 use Rattle.p21_express_graph.specs.Orders.{numbers}
 use Rattle.p21_express_graph.specs.Rising.{IsOwnRising}
-use Rattle.p21_express_types.specs.declared.number.EntityId.{EntityId}
+use Rattle.p21_express_graph.specs.declared.number.EntityId.{EntityId}
 use Rattle.p21_mapping_values.specs.TypedView.{ids_view}
 use Rattle.p21_stream.specs.Passing.{HasEntities}
 use Rattle.p21_stream.specs.declared.passing.Set.{Set}

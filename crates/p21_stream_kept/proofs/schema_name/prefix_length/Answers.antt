@@ -1,6 +1,6 @@
 use Rattle.std.proofs.Common.{◌∙◌, ◌≡◌, arith, subst, sym, true}
 use Rattle.std.proofs.lemmas.Grind.{get_or_default_zero}
-use Rattle.p21_schemas.specs.Express.{IsIdentifierByte}
+use Rattle.p21_spec_schema.specs.Express.{IsIdentifierByte}
 use Rattle.p21_stream_kept.proofs.Prefixes.{longest-all, longest-at}
 use Rattle.p21_stream_kept.proofs.schema_name.prefix_length.Goals as goal
 

@@ -1,5 +1,5 @@
 use Rattle.std.proofs.Common.{◌<◌, ℕ, get_or}
-use Rattle.p21_schemas.specs.Express.{IsIdentifierByte}
+use Rattle.p21_spec_schema.specs.Express.{IsIdentifierByte}
 use Rattle.p21_stream_kept.proofs.schema_name.prefix_length.Given as goal
 
 abbrev pub invariant-loop-place : goal.invariant-loop-place

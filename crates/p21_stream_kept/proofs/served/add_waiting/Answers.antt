@@ -1,16 +1,17 @@
 use Rattle.std.proofs.Common.{List, [], ◌∷◌, subst, sym, take}
-use Rattle.p21_files.specs.Reference.{Need}
+use Rattle.p21_spec_file.specs.Reference.{Need}
 use Rattle.p21_mapping.specs.Checked.{needs_view}
 use Rattle.p21_mapping_values.specs.TypedView.{need_view}
 use Rattle.p21_stream_kept.proofs.Unserved.{needs-more, waiting-joined}
 use Rattle.p21_stream_kept.specs.Inside.{references_of, stored_of}
 use Rattle.p21_stream_kept.specs.Served.{AddsWaiting}
+use Rattle.p21_stream_kept.specs.KeptInstances.{instances_of}
 use Rattle.p21_stream_kept.proofs.served.add_waiting.Goals as goal
 
 pub loop-need-preserved : goal.loop-need-preserved
 loop-need-preserved c =
     let s = c.args.schema.now in
-    let stored = stored_of c.args.memberships.now c.args.instances.now in
+    let stored = stored_of c.args.memberships.now (instances_of c.args.instances.now) in
     let old = references_of c.args.waiting.now.items in
     let new = references_of c.add_waiting_need.new.waiting.items in
     let P : List Need → Type 0 = λ needs. AddsWaiting s stored c.args.holder needs old new in

@@ -1,8 +1,8 @@
 use Rattle.std.proofs.Common.{List, length, refl, subst}
 use Rattle.std.proofs.lemmas.Option.{slice_get_read}
-use Rattle.p21_express_types.specs.Meaning.{member}
-use Rattle.p21_express_types.specs.declared.number.EntityId.{EntityId}
-use Rattle.p21_files.specs.Reference.{Serves}
+use Rattle.p21_express_graph.specs.Meaning.{member}
+use Rattle.p21_express_graph.specs.declared.number.EntityId.{EntityId}
+use Rattle.p21_spec_file.specs.Reference.{Serves}
 use Rattle.p21_mapping_values.specs.TypedView.{ids_view}
 use Rattle.p21_stream_kept.proofs.Serving.{serves-by_one}
 use Rattle.p21_stream_kept.proofs.servers.serves_at.Goals as goal

@@ -1,5 +1,5 @@
 use Rattle.std.proofs.Common.{ℕ, ◌<◌, ◌∙◌, ap, sym, length, arith}
-use Rattle.p21_basics.proofs.Members.{Each-at}
+use Rattle.p21_spec_basics.proofs.Members.{Each-at}
 use Rattle.p21_stream_output.proofs.Putting.{all_put, more_put, part_put, text-placed}
 use Rattle.p21_stream_output.specs.Output.{line_of}
 use Rattle.p21_stream_output.specs.Stored.{text_at}

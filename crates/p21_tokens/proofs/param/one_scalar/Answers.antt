@@ -1,7 +1,7 @@
 use Rattle.std.proofs.Common.{◌≡◌, ◌<◌, ℕ, length, IsTrue, true, false, arith, List, ◌==◌, refl, Option, Some, None, Ok, Err, subst}
 use Rattle.std.proofs.lemmas.Bool.Decides.{nat_tests}
 use Rattle.std.specs.Option.{is_some}
-use Rattle.p21_exchange.specs.Token.{IsScalarToken}
+use Rattle.p21_spec_exchange.specs.Token.{IsScalarToken}
 use Rattle.p21_tokens.proofs.OneScalar.{pending_bytes-none, pending_bytes-some, second-token, no-scalar, finds-refused, finds-end, ends-unfinished, tokens-are, finds-only_scalar}
 use Rattle.p21_tokens.specs.Finding.{FindsScalar}
 use Rattle.p21_tokens.specs.declared.fault.TokenFault.TheVariants.{NotOneParameter}

@@ -1,5 +1,5 @@
 use Rattle.std.proofs.Common.{sym, subst}
-use Rattle.p21_exchange.specs.Token as meaning
+use Rattle.p21_spec_exchange.specs.Token as meaning
 use Rattle.p21_tokens.proofs.LeadingTokens.{keyword-is, leads_keyword}
 use Rattle.p21_tokens.specs.Prefix.{ReachesWaitingToken}
 use Rattle.p21_tokens.proofs.prefix.leading_keyword.Goals as goal

@@ -1,5 +1,5 @@
 use Rattle.std.proofs.Common.{ap, sym, ◌∙◌}
-use Rattle.p21_exchange.specs.Token as meaning
+use Rattle.p21_spec_exchange.specs.Token as meaning
 use Rattle.p21_tokens_automaton.specs.Reading.{known, ended_token_in, ended_text}
 use Rattle.p21_tokens_automaton.specs.declared.mode.Mode.{Mode}
 use Rattle.p21_tokens_automaton.specs.declared.mode.TextMode.{TextMode}

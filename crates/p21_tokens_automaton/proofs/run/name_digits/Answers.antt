@@ -5,7 +5,7 @@ use Rattle.p21_tokens_automaton.specs.declared.mode.NameMode.TheVariants.{Digits
 use Rattle.p21_tokens_automaton.proofs.Classes.{digit-decides}
 use Rattle.p21_tokens_automaton.proofs.Runs.{digits-more}
 use Rattle.p21_tokens_automaton.proofs.run.name_digits.Goals as goal
-use Rattle.p21_basics.specs.Digits.{is_digit}
+use Rattle.p21_spec_basics.specs.Digits.{is_digit}
 
 pub loop-number-preserved : goal.loop-number-preserved
 loop-number-preserved c =

@@ -1,5 +1,5 @@
 use Rattle.std.proofs.Common.{refl, sym, ◌∙◌}
-use Rattle.p21_basics.proofs.Members.{rest_is}
+use Rattle.p21_spec_basics.proofs.Members.{rest_is}
 use Rattle.p21_transcribe.proofs.BitTokens.{bits-at_front}
 use Rattle.p21_transcribe.proofs.bits.leading_bits.Goals as goal
 

@@ -1,5 +1,5 @@
 use Rattle.std.proofs.Common.{take}
-use Rattle.p21_basics.specs.Digits.{AllDigits}
+use Rattle.p21_spec_basics.specs.Digits.{AllDigits}
 use Rattle.p21_transcribe.proofs.digits.long_run.Given as goal
 
 -- what was passed are digits

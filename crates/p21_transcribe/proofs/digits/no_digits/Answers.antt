@@ -3,7 +3,7 @@ use Rattle.std.proofs.lemmas.Simd.{zip2_of_maps, splat_is_map}
 use mathlib.Core.Bool.{not}
 use Rattle.p21_tokens_automaton.proofs.Lanes.{at_most, minus, itself, mask-tests}
 use Rattle.p21_transcribe.proofs.digits.no_digits.Goals as goal
-use Rattle.p21_basics.specs.Digits.{is_digit}
+use Rattle.p21_spec_basics.specs.Digits.{is_digit}
 
 pub returns : goal.returns
 returns c =

@@ -1,5 +1,5 @@
 use Rattle.std.proofs.Common.{◌+◌, arith}
-use Rattle.p21_basics.proofs.Members.{rest_is}
+use Rattle.p21_spec_basics.proofs.Members.{rest_is}
 use Rattle.p21_transcribe.proofs.Gaps.{ends_at, no_end}
 use Rattle.p21_transcribe.proofs.gap.behind_end.Goals as goal
 

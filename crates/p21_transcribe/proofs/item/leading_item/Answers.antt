@@ -1,6 +1,6 @@
 use Rattle.std.proofs.Common.{refl, ℕ, ◌+◌, take, ◌∙◌, subst, sym, length-take-le}
-use Rattle.p21_basics.proofs.Members.{rest_is}
-use Rattle.p21_exchange.specs.Token.{item}
+use Rattle.p21_spec_basics.proofs.Members.{rest_is}
+use Rattle.p21_spec_exchange.specs.Token.{item}
 use Rattle.p21_tokens.proofs.LeadingTokens.{keyword-is}
 use Rattle.p21_transcribe.proofs.ItemTokens.{item-between}
 use Rattle.p21_transcribe.specs.LeadingToken.{IsCanonicalLeadingToken}

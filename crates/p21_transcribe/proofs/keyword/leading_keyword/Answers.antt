@@ -1,8 +1,8 @@
 use Rattle.std.proofs.Common.{ℕ, List, ap, get_or, refl, subst, sym}
-use Rattle.p21_basics.proofs.Members.{rest_is}
-use Rattle.p21_exchange.specs.Keyword.{IsUpper}
+use Rattle.p21_spec_basics.proofs.Members.{rest_is}
+use Rattle.p21_spec_exchange.specs.Keyword.{IsUpper}
 use Rattle.p21_transcribe.proofs.KeywordTokens.{keyword-at_front}
-use Rattle.p21_transcribe.specs.Runs.{BeginsWithoutByte}
+use Rattle.p21_scan.specs.Digits.{BeginsWithoutByte}
 use Rattle.p21_transcribe.proofs.keyword.leading_keyword.Goals as goal
 
 pub returns : goal.returns

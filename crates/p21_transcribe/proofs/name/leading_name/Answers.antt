@@ -1,5 +1,5 @@
 use Rattle.std.proofs.Common.{◌≢◌, ℕ, ◌+◌, ◌<◌, get_or, subst, sym, arith}
-use Rattle.p21_exchange.specs.Token.{name}
+use Rattle.p21_spec_exchange.specs.Token.{name}
 use Rattle.p21_transcribe.proofs.NameTokens.{name-at_front}
 use Rattle.p21_transcribe.specs.LeadingToken.{IsCanonicalLeadingToken}
 use Rattle.p21_transcribe.proofs.name.leading_name.Goals as goal

@@ -1,7 +1,7 @@
 use Rattle.std.proofs.Common.{◌≡◌, ℕ, ◌-◌, Bool, [], ◌∷◌, List, length, take, drop, refl, ap, ◌∙◌}
-use Rattle.p21_basics.specs.Digits.{number}
-use Rattle.p21_exchange.specs.Number.{signed}
-use Rattle.p21_exchange.specs.Spelling.{whole_spelling}
+use Rattle.p21_spec_basics.specs.Digits.{number}
+use Rattle.p21_spec_exchange.specs.Number.{signed}
+use Rattle.p21_spec_exchange.specs.Spelling.{whole_spelling}
 use Rattle.p21_transcribe.proofs.Parts.{part_alone, part_behind}
 use Rattle.p21_transcribe.proofs.WholeTokens.{as_negative, as_unsigned, as_zero}
 use Rattle.p21_transcribe.proofs.number.append_digits.Goals as goal

@@ -1,7 +1,7 @@
-use Rattle.std.proofs.Common.{◌≡◌, ℤ, true, length, drop, subst, to_z, of_z, arith}
+use Rattle.std.proofs.Common.{◌≡◌, ℤ, true, drop, subst, to_z, of_z, arith}
 use Rattle.std.proofs.lemmas.Int.{ints}
 use mir.Syntax.{w32}
-use Rattle.p21_basics.proofs.Members.{rest_is}
+use Rattle.p21_spec_basics.proofs.Members.{rest_is}
 use Rattle.p21_transcribe.specs.Numbers.{AppendsNumber, EndsReal}
 use Rattle.p21_transcribe.specs.Significands.{placed_ratio}
 use Rattle.p21_transcribe.proofs.real.append_near.Goals as goal

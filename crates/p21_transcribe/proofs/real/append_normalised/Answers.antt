@@ -1,7 +1,7 @@
 use Rattle.std.proofs.Common.{◌≡◌, ℤ, subst, arith, to_z, of_z}
 use Rattle.std.proofs.lemmas.Int.{ints}
 use mir.Syntax.{w32}
-use Rattle.p21_exchange.specs.Spelling.{exponent_spelling}
+use Rattle.p21_spec_exchange.specs.Spelling.{exponent_spelling}
 use Rattle.p21_transcribe.proofs.RealTokens.{normalised-part}
 use Rattle.p21_transcribe.specs.Appending.{AppendsAllOrSome}
 use Rattle.p21_transcribe.proofs.real.append_normalised.Goals as goal

@@ -1,4 +1,4 @@
-use Rattle.std.proofs.Common.{◌≡◌, ℤ, pos, ◌+ℤ◌, ◌-ℤ◌, ◌-◌, to_z, of_z, arith, sym, subst, ◌∙◌}
+use Rattle.std.proofs.Common.{◌≡◌, pos, ◌+ℤ◌, ◌-ℤ◌, ◌-◌, to_z, arith, ◌∙◌}
 use Rattle.std.proofs.lemmas.Int.{ints}
 use mir.Syntax.{w32}
 use Rattle.p21_transcribe.proofs.PlacedReals.{placed-zeros, placed-before_point, placed-behind_point}

@@ -1,7 +1,7 @@
 use Rattle.std.proofs.Common.{◌≡◌, ◌≤◌, ◌-◌, ℕ, List, [], ◌∷◌, ◌++◌, length, take, drop, get_or, refl, ap, sym, subst, ◌∙◌, append_assoc, true, if◌then◌else◌}
-use Rattle.p21_basics.proofs.PlainDigits.{digits_append}
-use Rattle.p21_basics.specs.Digits.{AllDigits}
-use Rattle.p21_values.specs.Digits.{WithoutTrailingZeros}
+use Rattle.p21_spec_basics.proofs.PlainDigits.{digits_append}
+use Rattle.p21_spec_basics.specs.Digits.{AllDigits}
+use Rattle.p21_scan.specs.Digits.{WithoutTrailingZeros}
 use Rattle.p21_values.proofs.Continuing.{continues-same}
 use Rattle.p21_transcribe.proofs.Parts.{goes-on, stays-behind}
 use Rattle.p21_transcribe.proofs.RealTokens.{behind-text, first-digit, first-significant, first-split, further-digits, pointed-part, text-within}

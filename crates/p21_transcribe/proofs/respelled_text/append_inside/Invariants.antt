@@ -1,5 +1,5 @@
 use Rattle.std.proofs.Common.{◌-◌, length}
-use Rattle.p21_exchange.specs.Text.{Encodes}
+use Rattle.p21_spec_exchange.specs.Text.{Encodes}
 use Rattle.p21_transcribe.specs.Respelling.{Respells}
 use Rattle.p21_transcribe.proofs.respelled_text.append_inside.Given as goal
 

@@ -1,5 +1,5 @@
 use Rattle.std.proofs.Common.{◌+◌, ◌-◌, ◌++◌, ◌∷◌, [], List, ℕ, take, arith, ap, ◌∙◌, if◌then◌else◌, slice_index}
-use Rattle.p21_basics.proofs.Members.{rest_is}
+use Rattle.p21_spec_basics.proofs.Members.{rest_is}
 use Rattle.p21_transcribe.proofs.SecondRow.{joined, rows}
 use Rattle.p21_transcribe.specs.Significands.{further_digits}
 use Rattle.p21_transcribe.proofs.significand.write_significand.Goals as goal

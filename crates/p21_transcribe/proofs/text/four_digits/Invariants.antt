@@ -1,5 +1,5 @@
 use Rattle.std.proofs.Common.{◌≡◌, ◌<◌, ◌^◌, take}
-use Rattle.p21_basics.specs.Digits.{hex_digits}
+use Rattle.p21_spec_basics.specs.Digits.{hex_digits}
 use Rattle.p21_transcribe.proofs.text.four_digits.Given as goal
 
 -- the number of the digits so far

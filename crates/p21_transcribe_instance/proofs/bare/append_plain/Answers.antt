@@ -1,4 +1,4 @@
-use Rattle.p21_basics.proofs.Members.{rest_is}
+use Rattle.p21_spec_basics.proofs.Members.{rest_is}
 use Rattle.p21_transcribe.proofs.Found.{some_to}
 use Rattle.p21_transcribe_instance.proofs.Values.{entity-at, rest-taken, scalar-at}
 use Rattle.p21_transcribe_instance.proofs.bare.append_plain.Goals as goal

@@ -1,4 +1,4 @@
-use Rattle.p21_basics.proofs.Members.{rest_is}
+use Rattle.p21_spec_basics.proofs.Members.{rest_is}
 use Rattle.p21_transcribe_instance.proofs.Typed.{keyword-taken}
 use Rattle.p21_transcribe_instance.proofs.choice.append_offered.Goals as goal
 

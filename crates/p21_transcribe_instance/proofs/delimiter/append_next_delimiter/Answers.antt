@@ -1,6 +1,11 @@
-use Rattle.p21_transcribe.proofs.Found.{some_to}
-use Rattle.p21_transcribe_instance.proofs.Laid.{mark-passed}
+use Rattle.std.proofs.Common.{[], refl}
 use Rattle.p21_transcribe_instance.proofs.delimiter.append_next_delimiter.Goals as goal
 
-pub returns-clause-some : goal.returns-clause-some
-returns-clause-some c = some_to _ (λ rest. mark-passed c.args.mark c.args.bytes.now _ rest.now _ _ c.behind_separators.ensures) c.append_delimiter.ensures.some
+pub returns-in-Some-clause-some : goal.returns-in-Some-clause-some
+returns-in-Some-clause-some c = (([], c.in-Some.ensures.some.0, ([], tt, refl)), c.in-Some.ensures.some.1)
+
+pub returns-in-None-clause-some : goal.returns-in-None-clause-some
+returns-in-None-clause-some c = rw c.in-None.ensures.none at c.append_distant_delimiter.ensures.some
+
+pub returns-in-None-clause-none : goal.returns-in-None-clause-none
+returns-in-None-clause-none c = rw c.in-None.ensures.none at c.append_distant_delimiter.ensures.none

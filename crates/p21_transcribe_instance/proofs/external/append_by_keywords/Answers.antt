@@ -6,7 +6,7 @@ use Rattle.p21_transcribe_instance.proofs.external.append_by_keywords.Goals as g
 use Rattle.p21_values.proofs.Continuing.{continues-same}
 
 pub append_by_set-requires : goal.append_by_set-requires
-append_by_set-requires c = subst (AreExternalSets c.args.schema.now) (sym c.take.ensures) c.set_ahead.ensures.sets
+append_by_set-requires c = subst (AreExternalSets c.args.schema.now) (sym c.expect.ensures) c.set_ahead.ensures.sets
 
 pub returns-in_err-at-clause-draft : goal.returns-in_err-at-clause-draft
 returns-in_err-at-clause-draft c = none_from _ (continues-same _ _ refl)

@@ -1,7 +1,7 @@
 use Rattle.std.proofs.Common.{List, subst, sym, ◌∙◌}
 use Rattle.p21_express_graph.specs.Lookups.{AreEntities}
 use Rattle.p21_express_graph.specs.Orders.{numbers}
-use Rattle.p21_express_types.specs.declared.number.EntityId.{EntityId}
+use Rattle.p21_express_graph.specs.declared.number.EntityId.{EntityId}
 use Rattle.p21_transcribe_instance.specs.ExternalSet.{IsExternalSet}
 use Rattle.p21_transcribe_instance.proofs.external.set_ahead.Goals as goal
 

@@ -1,7 +1,7 @@
 use Rattle.std.proofs.Common.{ap, sym, subst, ◌∙◌}
 use Rattle.std.proofs.lemmas.Bool.{MatchBool-at_false}
 use Rattle.p21_express_graph.specs.Orders.{numbers}
-use Rattle.p21_schemas.specs.Schema.{AreRisingByName}
+use Rattle.p21_spec_schema.specs.Schema.{AreRisingByName}
 use Rattle.p21_transcribe_instance.proofs.external_set.check_external_set.Goals as goal
 
 pub returns : goal.returns

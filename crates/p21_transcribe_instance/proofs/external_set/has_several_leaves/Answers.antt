@@ -1,7 +1,7 @@
 use Rattle.std.proofs.Common.{◌≢◌, Contains, List, subst, ℕ}
 use Rattle.p21_express_graph.specs.Orders.{numbers}
 use Rattle.p21_express_graph.proofs.Lookups.{leaves-all}
-use Rattle.p21_express_types.specs.declared.number.EntityId.{EntityId}
+use Rattle.p21_express_graph.specs.declared.number.EntityId.{EntityId}
 use Rattle.p21_transcribe_instance.proofs.external_set.has_several_leaves.Goals as goal
 
 pub returns : goal.returns

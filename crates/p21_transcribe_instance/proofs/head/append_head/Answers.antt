@@ -1,4 +1,4 @@
-use Rattle.p21_basics.proofs.Members.{rest_is}
+use Rattle.p21_spec_basics.proofs.Members.{rest_is}
 use Rattle.p21_transcribe.proofs.Parts.{stays-behind}
 use Rattle.p21_transcribe_instance.proofs.LaidRuns.{head-taken}
 use Rattle.p21_transcribe_instance.proofs.Stepping.{leaf-goes_on, none_from}

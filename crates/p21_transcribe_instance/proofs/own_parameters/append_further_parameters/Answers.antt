@@ -1,8 +1,8 @@
 use Rattle.std.proofs.Common.{◌≡◌, ◌-◌, ℕ, refl, subst, arith}
-use Rattle.p21_exchange.specs.Parameter.{more_tokens}
+use Rattle.p21_spec_exchange.specs.Parameter.{more_tokens}
 use Rattle.p21_express_graph.specs.Lookups.{places_from}
 use Rattle.p21_express_graph.specs.Orders.{numbers}
-use Rattle.p21_files.specs.ValueText.{with_commas}
+use Rattle.p21_spec_file.specs.ValueText.{with_commas}
 use Rattle.p21_transcribe.proofs.Parts.{stays-behind}
 use Rattle.p21_transcribe_instance.proofs.Joining.{at-goes_on, own-next}
 use Rattle.p21_transcribe_instance.proofs.Stepping.{mark-goes_on, needs-join, none-places, none_from}

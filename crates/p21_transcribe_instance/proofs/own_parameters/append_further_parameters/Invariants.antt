@@ -1,8 +1,8 @@
 use Rattle.std.proofs.Common.{◌-◌, ◌≤◌}
-use Rattle.p21_exchange.specs.Parameter.{more_tokens}
+use Rattle.p21_spec_exchange.specs.Parameter.{more_tokens}
 use Rattle.p21_express_graph.specs.Lookups.{places_from}
 use Rattle.p21_express_graph.specs.Orders.{numbers}
-use Rattle.p21_files.specs.ValueText.{with_commas}
+use Rattle.p21_spec_file.specs.ValueText.{with_commas}
 use Rattle.p21_transcribe_instance.specs.TakenParameters.{TakesPlaces}
 use Rattle.p21_transcribe_instance.specs.TakenValues.{KeepsNeeds}
 use Rattle.p21_values.specs.Canonical.{Continues}

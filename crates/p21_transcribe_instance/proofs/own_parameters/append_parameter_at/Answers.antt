@@ -1,6 +1,6 @@
 use Rattle.std.proofs.Common.{refl}
-use Rattle.p21_express_types.specs.Meaning.{place, place_type}
-use Rattle.p21_basics.proofs.Members.{rest_is}
+use Rattle.p21_express_graph.specs.Meaning.{place, place_type}
+use Rattle.p21_spec_basics.proofs.Members.{rest_is}
 use Rattle.p21_express_graph.specs.Orders.{numbers}
 use Rattle.p21_transcribe_instance.proofs.Joining.{at-behind, known-at}
 use Rattle.p21_transcribe_instance.proofs.Values.{needs-same, rest-taken}

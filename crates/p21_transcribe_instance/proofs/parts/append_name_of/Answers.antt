@@ -1,6 +1,6 @@
 use Rattle.std.proofs.Common.{length, subst, sym}
-use Rattle.p21_basics.proofs.Members.{rest_is}
-use Rattle.p21_schemas.specs.Schema.{EntityNamed}
+use Rattle.p21_spec_basics.proofs.Members.{rest_is}
+use Rattle.p21_spec_schema.specs.Schema.{EntityNamed}
 use Rattle.p21_transcribe_instance.proofs.LaidRuns.{entity-taken}
 use Rattle.p21_transcribe_instance.proofs.parts.append_name_of.Goals as goal
 

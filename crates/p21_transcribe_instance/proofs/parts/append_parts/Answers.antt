@@ -2,7 +2,7 @@ use Rattle.std.proofs.Common.{List, arith, refl, subst}
 use Rattle.std.proofs.lemmas.List.{take_all}
 use Rattle.p21_express_graph.proofs.Gatherings.{numbered-at}
 use Rattle.p21_express_graph.specs.Orders.{numbers}
-use Rattle.p21_express_types.specs.declared.number.EntityId.{EntityId}
+use Rattle.p21_express_graph.specs.declared.number.EntityId.{EntityId}
 use Rattle.p21_transcribe_instance.proofs.Joining.{next-part, no-parts, parts-go_on}
 use Rattle.p21_transcribe_instance.proofs.Stepping.{needs-join, none_from}
 use Rattle.p21_transcribe_instance.specs.Records.{TakesParts}

@@ -1,7 +1,7 @@
 use Rattle.std.proofs.Common.{List, refl, subst, arith, take}
 use Rattle.std.proofs.lemmas.List.{take_all}
-use Rattle.p21_exchange.specs.Parameter.{more_tokens}
-use Rattle.p21_files.specs.ValueText.{with_commas}
+use Rattle.p21_spec_exchange.specs.Parameter.{more_tokens}
+use Rattle.p21_spec_file.specs.ValueText.{with_commas}
 use Rattle.p21_transcribe.proofs.Parts.{stays-behind}
 use Rattle.p21_transcribe_instance.proofs.Stepping.{each-in, mark-goes_on, needs-join, next-step, no-steps, none_from, step-goes_on}
 use Rattle.p21_transcribe_instance.specs.TakenParameters.{TakesSteps}

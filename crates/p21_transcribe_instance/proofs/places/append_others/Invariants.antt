@@ -1,6 +1,6 @@
 use Rattle.std.proofs.Common.{take}
-use Rattle.p21_exchange.specs.Parameter.{more_tokens}
-use Rattle.p21_files.specs.ValueText.{with_commas}
+use Rattle.p21_spec_exchange.specs.Parameter.{more_tokens}
+use Rattle.p21_spec_file.specs.ValueText.{with_commas}
 use Rattle.p21_transcribe_instance.specs.TakenParameters.{TakesSteps}
 use Rattle.p21_transcribe_instance.specs.TakenValues.{KeepsNeeds}
 use Rattle.p21_values.specs.Canonical.{Continues}

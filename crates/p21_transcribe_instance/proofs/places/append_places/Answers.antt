@@ -1,6 +1,6 @@
 use Rattle.std.proofs.Common.{refl, subst}
-use Rattle.p21_exchange.specs.Parameter.{params_tokens}
-use Rattle.p21_files.specs.ValueText.{with_commas_between}
+use Rattle.p21_spec_exchange.specs.Parameter.{params_tokens}
+use Rattle.p21_spec_file.specs.ValueText.{with_commas_between}
 use Rattle.p21_transcribe.proofs.Found.{none_to, some_to}
 use Rattle.p21_transcribe_instance.proofs.Stepping.{first-in, first-steps, needs-join, no-steps, others-in, step-goes_on}
 use Rattle.p21_transcribe_instance.specs.TakenParameters.{AreStepsIn}

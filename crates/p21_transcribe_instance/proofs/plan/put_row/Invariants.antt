@@ -1,5 +1,5 @@
 use Rattle.std.proofs.Common.{◌+◌, ◌-◌, length}
-use Rattle.p21_schemas.specs.Schema.{Schema}
+use Rattle.p21_spec_schema.specs.Schema.{Schema}
 use Rattle.p21_transcribe_instance.specs.Steps.{IsPlanOf, rows_view}
 use Rattle.p21_transcribe_instance.proofs.plan.put_row.Given as goal
 

@@ -2,10 +2,15 @@ use Rattle.std.specs.Prelude.{List}
 use Rattle.std.proofs.Common.{subst, sym, ◌∙◌}
 use Rattle.p21_express_graph.specs.Orders.{numbers}
 use Rattle.p21_express_graph.specs.Rising.{IsOwnRising}
-use Rattle.p21_express_types.specs.declared.number.EntityId.{EntityId}
+use Rattle.p21_express_graph.specs.declared.number.EntityId.{EntityId}
 use Rattle.p21_transcribe_instance.proofs.row.find_row.Goals as goal
 
 pub returns : goal.returns
 returns c =
     let R : List EntityId → Type 0 = λ xs. IsOwnRising c.args.schema.now c.args.entity.0 (numbers xs) in
-    record { may = c.requires.may; entities_are = subst R (sym (c.in_ok-entities.ensures.items ∙ c.items.ensures)) c.in_ok-found.ensures.ok; steps_are = c.in_ok-steps.ensures }
+    record {
+      may = c.requires.may;
+      entities_are = subst R (sym (c.in_ok-entities.ensures.items ∙ c.items.ensures)) c.in_ok-found.ensures.ok;
+      steps_are = c.in_ok-steps.ensures;
+      keyword = λ known. (_, c.entity_name.ensures, c.is_keyword-named_by_keyword.ensures known);
+    }

@@ -1,4 +1,4 @@
-use Rattle.p21_basics.proofs.Members.{rest_is}
+use Rattle.p21_spec_basics.proofs.Members.{rest_is}
 use Rattle.p21_transcribe_instance.proofs.Values.{scalar-value}
 use Rattle.p21_transcribe_instance.proofs.scalar.append_scalar.Goals as goal
 

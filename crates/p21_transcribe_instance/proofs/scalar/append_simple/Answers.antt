@@ -7,10 +7,10 @@ pub returns-in-Whole-clause-some : goal.returns-in-Whole-clause-some
 returns-in-Whole-clause-some c = some_to _ (λ count h. at-type _ _ _ count _ _ c.in-Whole.is (whole-taken _ count _ _ h.0 h.1)) c.append_whole.ensures.some
 
 pub returns-in-Real-clause-some : goal.returns-in-Real-clause-some
-returns-in-Real-clause-some c = some_to _ (λ count h. at-type _ _ _ count _ _ c.in-Real.is (real-taken _ count _ _ h)) c.append_real.ensures.some
+returns-in-Real-clause-some c = some_to _ (λ count h. at-type _ _ _ count _ _ c.in-Real.is (real-taken _ count _ _ h)) c.append_single_real.ensures.some
 
 pub returns-in-Number-clause-some : goal.returns-in-Number-clause-some
-returns-in-Number-clause-some c = some_to _ (λ count h. at-type _ _ _ count _ _ c.in-Number.is (number-taken _ count _ _ h)) c.append_real-in-Number.ensures.some
+returns-in-Number-clause-some c = some_to _ (λ count h. at-type _ _ _ count _ _ c.in-Number.is (number-taken _ count _ _ h)) c.append_single_real-in-Number.ensures.some
 
 pub returns-in-Boolean-clause-some : goal.returns-in-Boolean-clause-some
 returns-in-Boolean-clause-some c = some_to _ (λ count h. at-type _ _ _ count _ _ c.in-Boolean.is (boolean-taken _ count _ _ h.0 h.1 h.2)) c.append_logical.ensures.some

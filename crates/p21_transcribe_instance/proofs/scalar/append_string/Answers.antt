@@ -1,6 +1,6 @@
 use Rattle.std.proofs.Common.{refl, subst}
-use Rattle.p21_files.specs.Fits.{IsWithinWidth}
-use Rattle.p21_express_types.specs.Meaning.{width_option}
+use Rattle.p21_spec_file.specs.Fits.{IsWithinWidth}
+use Rattle.p21_express_graph.specs.Meaning.{width_option}
 use Rattle.p21_transcribe_instance.proofs.Scalars.{text-taken}
 use Rattle.p21_transcribe_instance.proofs.scalar.append_string.Goals as goal
 

@@ -1,7 +1,7 @@
 use Rattle.std.proofs.Common.{take}
 use Rattle.std.specs.List.{flat_map}
 use Rattle.p21_express_graph.specs.Orders.{numbers}
-use Rattle.p21_schemas.specs.Order.{order, own_places}
+use Rattle.p21_spec_schema.specs.Order.{order, own_places}
 use Rattle.p21_transcribe_instance.specs.Steps.{AreStepsAt}
 use Rattle.p21_transcribe_instance.proofs.step.find_steps.Given as goal
 

@@ -1,7 +1,7 @@
 use Rattle.std.proofs.Common.{List, ◌++◌}
 use Rattle.p21_express_graph.specs.Lookups.{places_from}
-use Rattle.p21_schemas.specs.Order.{order}
-use Rattle.p21_schemas.specs.Schema.{Place}
+use Rattle.p21_spec_schema.specs.Order.{order}
+use Rattle.p21_spec_schema.specs.Schema.{Place}
 use Rattle.p21_transcribe_instance.specs.Steps.{AreStepsAt}
 use Rattle.p21_transcribe_instance.proofs.step.push_steps.Given as goal
 

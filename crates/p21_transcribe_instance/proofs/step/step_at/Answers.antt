@@ -1,8 +1,8 @@
 use Rattle.std.proofs.Common.{subst}
-use Rattle.p21_express_types.specs.Meaning.{place, place_type}
-use Rattle.p21_express_types.specs.declared.place_type.PlaceType.{PlaceType}
-use Rattle.p21_schemas.specs.Order.{order}
-use Rattle.p21_schemas.specs.PlaceType.{TypeAt}
+use Rattle.p21_express_graph.specs.Meaning.{place, place_type}
+use Rattle.p21_express_graph.specs.declared.place_type.PlaceType.{PlaceType}
+use Rattle.p21_spec_schema.specs.Order.{order}
+use Rattle.p21_spec_schema.specs.PlaceType.{TypeAt}
 use Rattle.p21_transcribe_instance.proofs.step.step_at.Goals as goal
 
 pub stored_step-requires-clause-type_at : goal.stored_step-requires-clause-type_at

@@ -1,15 +1,16 @@
 use Rattle.std.proofs.Common.{◌+◌, ◌-◌, [], ◌∷◌, refl, arith}
-use Rattle.p21_basics.proofs.Members.{rest_is}
+use Rattle.p21_spec_basics.proofs.Members.{rest_is}
 use Rattle.p21_express_graph.proofs.Lookups.{type-named}
 use Rattle.p21_transcribe.proofs.Found.{none_to, some_to}
 use Rattle.p21_transcribe.proofs.Parts.{goes-on, stays-behind}
 use Rattle.p21_transcribe_instance.proofs.Elements.{aggregate-at, aggregate-taken, along-ends, along-first, along-needs, along-next, along-text, close-refused, compared-as, element-known, element-refused, element-shorter, elements-held, elements-refused, next-shorter, no-elements, plain-known, start-within, undeclared-at}
+use Rattle.p21_transcribe_instance.proofs.RealElements.{reals-at}
 use Rattle.p21_transcribe_instance.proofs.Typed.{enclosed-refused, enclosed-taken, typed-taken}
 use Rattle.p21_transcribe_instance.proofs.Values.{base-select, front-deep, item-deep, left-out, needs-kept, needs-same, plain-deep, rest-taken, select-at, stored-taken, taken-front, taken-shorter}
-use Rattle.p21_express_types.specs.Meaning.{type_use}
+use Rattle.p21_express_graph.specs.Meaning.{type_use}
 use Rattle.p21_transcribe_instance.proofs.value.+append.Goals as goal
 use Rattle.p21_transcribe_instance.proofs.Stepping.{needs-join}
-use Rattle.p21_values.proofs.Continuing.{continues-same, continues-join}
+use Rattle.p21_values.proofs.Continuing.{continues-join}
 
 pub append_stored-returns-in-Some-clause-some : goal.append_stored-returns-in-Some-clause-some
 append_stored-returns-in-Some-clause-some t c = λ type has. left-out c.args.at.now.schema.now c.args.at.now.optional type c.args.at.now.most c.args.bytes.now _ _ _ _ c.in-Some.ensures.some.0 c.in-Some.ensures.some.1 c.in-Some.ensures.some.2
@@ -118,8 +119,8 @@ append_aggregate-overflow_sub-result t c =
 
 -- ---- the elements of an aggregate
 
-pub append_counted-append_each-requires : goal.append_counted-append_each-requires
-append_counted-append_each-requires t c = (omega arith, c.requires.base)
+pub append_counted-append_elements-requires : goal.append_counted-append_elements-requires
+append_counted-append_elements-requires t c = (omega arith, c.requires.base)
 
 pub append_counted-append_close-requires : goal.append_counted-append_close-requires
 append_counted-append_close-requires t c =
@@ -152,6 +153,16 @@ append_counted-returns-clause-needs t c =
     none_to _ (λ same. refused.1) c.append_close.ensures.none
 
 -- ---- elements
+
+pub append_elements-append_each-requires : goal.append_elements-append_each-requires
+append_elements-append_each-requires t c = (omega arith, c.requires)
+
+pub append_elements-returns-then-are_reals-clause-some : goal.append_elements-returns-then-are_reals-clause-some
+append_elements-returns-then-are_reals-clause-some t c =
+    some_to _ (λ found. reals-at c.args.at.now.schema.now c.args.at.now.base.now c.args.at.now.optional c.args.compared c.args.at.now.most found.0 c.args.bytes.now found.1.now _ _ c.args.lengths.now.items c.args.needs.now.items (c.if-are_reals.ensures refl)) c.append_each_real.ensures.some
+
+pub append_elements-returns-then-are_reals-clause-needs : goal.append_elements-returns-then-are_reals-clause-needs
+append_elements-returns-then-are_reals-clause-needs t c = needs-kept c.append_each_real.result c.args.needs.now.items
 
 pub append_each-append_element-requires : goal.append_each-append_element-requires
 append_each-append_element-requires t c = (omega arith, c.requires)

@@ -1,4 +1,4 @@
-use Rattle.p21_basics.proofs.Members.{rest_is}
+use Rattle.p21_spec_basics.proofs.Members.{rest_is}
 use Rattle.p21_transcribe.proofs.Found.{none_to, some_to}
 use Rattle.p21_transcribe_instance.proofs.Joining.{known-at}
 use Rattle.p21_transcribe_instance.proofs.Values.{needs-kept, placed-known, placed-taken, rest-taken, star-taken, step-known, step-taken}

@@ -2,7 +2,7 @@ use Rattle.std.proofs.Common.{◌≡◌, ◌≤ℤ◌, ◌<ℤ◌, pos, nat_abs,
 use Rattle.std.proofs.lemmas.Grind.{common_steps}
 use Rattle.std.proofs.lemmas.Int.{ints}
 use mir.Syntax.{w16}
-use Rattle.p21_basics.specs.Digits.{number}
+use Rattle.p21_spec_basics.specs.Digits.{number}
 use Rattle.p21_values.proofs.StoredDecimals.{negative_exponent, positive_exponent}
 use Rattle.p21_values.proofs.decimal.append_exponent.Goals as goal
 use Rattle.p21_values.proofs.decimal.append_exponent.Goals.{then-exponent-lt0+in_ok-push-2, else-exponent-lt0}

@@ -1,6 +1,6 @@
 use Rattle.std.proofs.Common.{◌≡◌, ◌-◌, ◌^◌, ◌<◌, ◌≤◌, ◌++◌, drop}
-use Rattle.p21_basics.proofs.LastDigit.{leading}
-use Rattle.p21_basics.specs.Digits.{plain_digits}
+use Rattle.p21_spec_basics.proofs.LastDigit.{leading}
+use Rattle.p21_spec_basics.specs.Digits.{plain_digits}
 use Rattle.p21_values.proofs.name.fill_digits.Given as goal
 
 -- what is left has at most as many digits as there is room, and stands before the digits so far

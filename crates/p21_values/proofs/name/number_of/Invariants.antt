@@ -1,5 +1,5 @@
 use Rattle.std.proofs.Common.{◌≡◌, take}
-use Rattle.p21_basics.specs.Digits.{number}
+use Rattle.p21_spec_basics.specs.Digits.{number}
 use Rattle.p21_values.proofs.name.number_of.Given as goal
 
 -- the number of the digits so far

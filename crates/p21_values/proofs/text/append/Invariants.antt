@@ -1,6 +1,6 @@
 use Rattle.std.proofs.Common.{◌≡◌, ◌++◌, ◌∷◌, take}
 use Rattle.std.specs.List.{flat_map}
-use Rattle.p21_exchange.specs.Spelling.{character_spelling}
+use Rattle.p21_spec_exchange.specs.Spelling.{character_spelling}
 use Rattle.p21_values.proofs.text.append.Given as goal
 
 abbrev pub invariant-loop-character : goal.invariant-loop-character

@@ -1,8 +1,8 @@
 use Rattle.std.proofs.Common.{◌≡◌, ◌≤◌, ◌++◌, ◌∷◌, ℕ, arith}
 use Rattle.std.proofs.lemmas.Bool.Decides.{nat_tests}
-use Rattle.p21_basics.specs.Digits.{hex_digits}
-use Rattle.p21_exchange.specs.Text.{end_extended}
-use Rattle.p21_exchange.specs.Spelling.{character_spelling}
+use Rattle.p21_spec_basics.specs.Digits.{hex_digits}
+use Rattle.p21_spec_exchange.specs.Text.{end_extended}
+use Rattle.p21_spec_exchange.specs.Spelling.{character_spelling}
 use Rattle.p21_values.proofs.text.append_character.Goals as goal
 
 past_four_digits : (c : ℕ) → 0x1_0000 ≤ c → character_spelling c ≡ 92 ∷ 88 ∷ 52 ∷ 92 ∷ (hex_digits 8 c ++ end_extended)

@@ -1,5 +1,5 @@
 use Rattle.std.proofs.Common.{arith, ap}
-use Rattle.p21_basics.proofs.Members.{Each-weaker}
+use Rattle.p21_spec_basics.proofs.Members.{Each-weaker}
 use Rattle.p21_express_graph.specs.Orders.{numbers, number_lists}
 use Rattle.p21_express_graph.proofs.prefixes.PrefixLists.new.Goals as goal
 use Rattle.p21_express_graph.proofs.Gatherings.{mapped-length}

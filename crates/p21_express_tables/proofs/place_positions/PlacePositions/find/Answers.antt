@@ -1,5 +1,5 @@
 use Rattle.std.proofs.Common.{sym, ◌∙◌}
-use Rattle.p21_express_types.specs.Meaning.{place}
+use Rattle.p21_express_graph.specs.Meaning.{place}
 use Rattle.p21_express_tables.proofs.Places.{finds-option}
 use Rattle.p21_express_tables.proofs.place_positions.PlacePositions.find.Goals as goal
 

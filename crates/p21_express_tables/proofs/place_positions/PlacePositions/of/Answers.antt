@@ -3,9 +3,9 @@ use Rattle.std.specs.BTreeMap.{is_at}
 use Rattle.std.specs.Map.{lookup}
 use Rattle.std.proofs.Common.{arith, ap, sym, ◌∙◌, subst, get_or}
 use Rattle.std.proofs.lemmas.List.{length-take-le, take_all}
-use Rattle.p21_schemas.specs.Schema.{Place}
-use Rattle.p21_express_types.specs.Meaning.{place}
-use Rattle.p21_express_types.specs.declared.number.Place.{Place as Numbered}
+use Rattle.p21_spec_schema.specs.Schema.{Place}
+use Rattle.p21_express_graph.specs.Meaning.{place}
+use Rattle.p21_express_graph.specs.declared.number.Place.{Place as Numbered}
 use Rattle.p21_express_graph.proofs.Gatherings.{mapped-length}
 use Rattle.p21_express_graph.proofs.Lookups.{numbers-more}
 use Rattle.p21_express_tables.specs.PlacePositions.{FindsPlaces, pair_cmp}

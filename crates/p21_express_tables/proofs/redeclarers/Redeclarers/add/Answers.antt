@@ -1,7 +1,7 @@
 use Rattle.std.specs.Prelude.{◌∷◌, [], ◌++◌}
 use Rattle.std.proofs.Common.{ap, ◌∙◌}
 use Rattle.std.proofs.lemmas.List.{map-append}
-use Rattle.p21_express_types.specs.Meaning.{place}
+use Rattle.p21_express_graph.specs.Meaning.{place}
 use Rattle.p21_express_graph.specs.Orders.{numbers}
 use Rattle.p21_express_tables.proofs.Owners.{adds-one}
 use Rattle.p21_express_tables.proofs.redeclarers.Redeclarers.add.Goals as goal

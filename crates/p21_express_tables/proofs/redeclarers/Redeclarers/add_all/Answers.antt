@@ -1,9 +1,9 @@
 use Rattle.std.specs.Prelude.{ℕ, ◌∷◌, [], List, map, take}
 use Rattle.std.proofs.Common.{sym, subst, get_or}
 use Rattle.std.proofs.lemmas.List.{take_all}
-use Rattle.p21_schemas.specs.Schema.{Place}
-use Rattle.p21_express_types.specs.Meaning.{place}
-use Rattle.p21_express_types.specs.declared.number.Place.{Place as Numbered}
+use Rattle.p21_spec_schema.specs.Schema.{Place}
+use Rattle.p21_express_graph.specs.Meaning.{place}
+use Rattle.p21_express_graph.specs.declared.number.Place.{Place as Numbered}
 use Rattle.p21_express_graph.proofs.Lookups.{numbers-more}
 use Rattle.p21_express_tables.specs.Redeclarers.{AddsRedeclarer}
 use Rattle.p21_express_tables.proofs.Owners.{adds-both, adds-none}

@@ -1,5 +1,5 @@
 use Rattle.std.proofs.Common.{map, take}
-use Rattle.p21_express_types.specs.Meaning.{place}
+use Rattle.p21_express_graph.specs.Meaning.{place}
 use Rattle.p21_express_tables.specs.Redeclarers.{AddsRedeclarer}
 use Rattle.p21_express_tables.proofs.redeclarers.Redeclarers.add_all.Given as goal
 

@@ -1,7 +1,7 @@
 use Rattle.std.specs.Prelude.{List, map}
 use Rattle.std.proofs.Common.{ap, ◌∙◌, subst}
-use Rattle.p21_schemas.specs.Schema.{Place}
-use Rattle.p21_express_types.specs.Meaning.{place}
+use Rattle.p21_spec_schema.specs.Schema.{Place}
+use Rattle.p21_express_graph.specs.Meaning.{place}
 use Rattle.p21_express_graph.specs.SchemaContents.{entity, redeclared}
 use Rattle.p21_express_tables.specs.Redeclarers.{AddsRedeclarer, explicit_places}
 use Rattle.p21_express_tables.proofs.Owners.{adds-both}

@@ -1,8 +1,8 @@
 use Rattle.std.specs.Prelude.{◌↔◌, ◌∷◌, [], ℕ, Bool, IsTrue, length}
 use Rattle.std.proofs.Common.{arith, ap, sym, subst, ◌∙◌}
 use Rattle.std.proofs.lemmas.List.{length-append}
-use Rattle.p21_schemas.specs.OneOf.{Clashes}
-use Rattle.p21_schemas.specs.Order.{order}
+use Rattle.p21_spec_schema.specs.OneOf.{Clashes}
+use Rattle.p21_spec_schema.specs.Order.{order}
 use Rattle.p21_express_tables.specs.OwnSets.{AreOwnClashes}
 use Rattle.p21_express_tables.proofs.schema.Schema.all_own_clashes.Goals as goal
 use Rattle.p21_express_tables.proofs.HeldLists.{none-next}

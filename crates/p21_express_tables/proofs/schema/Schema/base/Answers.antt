@@ -1,5 +1,5 @@
 use Rattle.std.specs.Prelude.{refl}
-use Rattle.p21_express_types.specs.Meaning.{type_use}
+use Rattle.p21_express_graph.specs.Meaning.{type_use}
 use Rattle.p21_express_graph.specs.DirectRenaming.{at_itself}
 use Rattle.p21_express_tables.proofs.schema.Schema.base.Goals as goal
 

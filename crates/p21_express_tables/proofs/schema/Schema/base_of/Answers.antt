@@ -1,7 +1,7 @@
 use Rattle.std.specs.Prelude.{◌≡◌, Some, refl}
 use Rattle.std.proofs.Common.{ap, ◌∙◌}
-use Rattle.p21_schemas.specs.Schema.{alias, defined, kind_of}
-use Rattle.p21_express_types.specs.Meaning.{type_use, kind}
+use Rattle.p21_spec_schema.specs.Schema.{alias, defined, kind_of}
+use Rattle.p21_express_graph.specs.Meaning.{type_use, kind}
 use Rattle.p21_express_graph.proofs.Renaming.{comes-further}
 use Rattle.p21_express_tables.proofs.schema.Schema.base_of.Goals as goal
 

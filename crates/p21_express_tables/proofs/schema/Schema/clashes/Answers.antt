@@ -1,6 +1,6 @@
 use Rattle.std.specs.Prelude.{◌≡◌, ℕ, List, Contains, Some, true, false, refl}
 use Rattle.std.proofs.Common.{arith, sym, ◌∙◌, subst, get_or}
-use Rattle.p21_basics.proofs.Members.{Contains-at, Contains-found}
+use Rattle.p21_spec_basics.proofs.Members.{Contains-at, Contains-found}
 use Rattle.p21_express_graph.specs.Orders.{numbers}
 use Rattle.p21_express_graph.proofs.Gatherings.{numbered-at}
 use Rattle.p21_express_graph.proofs.Lookups.{each-number, up-to}

@@ -1,5 +1,5 @@
 use Rattle.std.proofs.Common.{◌≡◌, ap, subst, inl}
-use Rattle.p21_express_types.specs.Meaning.{place}
+use Rattle.p21_express_graph.specs.Meaning.{place}
 use Rattle.p21_express_graph.specs.SchemaContents.{redeclared}
 use Rattle.p21_express_tables.specs.Decisions.{IsDecision}
 use Rattle.p21_express_tables.specs.declared.place_types.Decision.{Decision}

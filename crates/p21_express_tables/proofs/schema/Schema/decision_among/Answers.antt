@@ -1,6 +1,6 @@
 use Rattle.std.specs.Prelude.{◌≡◌, true, false}
 use Rattle.std.proofs.Common.{sym, ◌∙◌}
-use Rattle.p21_express_types.specs.Meaning.{place}
+use Rattle.p21_express_graph.specs.Meaning.{place}
 use Rattle.p21_express_graph.specs.Orders.{numbers}
 use Rattle.p21_express_tables.proofs.schema.Schema.decision_among.Goals as goal
 use Rattle.p21_express_tables.proofs.Decisions.{derived-in, derived-of, none-redeclared}

@@ -2,7 +2,7 @@ use Rattle.std.specs.Prelude.{◌≡◌, ℕ, List, take, true, false, refl}
 use Rattle.std.proofs.Common.{ap, sym, subst, get_or, ◌∙◌}
 use Rattle.std.proofs.lemmas.Bool.{MatchBool-at_true, MatchBool-at_false}
 use Rattle.std.proofs.lemmas.List.{take_all}
-use Rattle.p21_schemas.specs.OneOf.{Clashes}
+use Rattle.p21_spec_schema.specs.OneOf.{Clashes}
 use Rattle.p21_express_graph.specs.Orders.{numbers}
 use Rattle.p21_express_graph.proofs.Gatherings.{numbered-at}
 use Rattle.p21_express_graph.proofs.Lookups.{numbers-more}

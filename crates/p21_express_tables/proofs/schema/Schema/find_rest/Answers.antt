@@ -1,7 +1,7 @@
 use Rattle.std.specs.Prelude.{◌≡◌, ◌↔◌, ◌⊎◌, ◌<◌, ℕ, List, Some, Contains, length, slice_get, refl}
 use Rattle.std.proofs.Common.{arith, subst}
 use Rattle.std.proofs.lemmas.Option.{slice_get_read}
-use Rattle.p21_basics.proofs.Members.{Contains-found}
+use Rattle.p21_spec_basics.proofs.Members.{Contains-found}
 use Rattle.p21_express_graph.proofs.OrderTables.{are-entities}
 use Rattle.p21_express_tables.proofs.Ascents.{found-kept, found-many, found-within, goes-on, stays, up-all, up-more, up-none}
 use Rattle.p21_express_tables.proofs.schema.Schema.find_rest.Goals as goal

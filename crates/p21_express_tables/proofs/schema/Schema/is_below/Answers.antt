@@ -1,7 +1,7 @@
 use Rattle.std.specs.Prelude.{◌≡◌, ℕ, true, false, refl}
 use Rattle.std.proofs.Common.{arith, sym, ◌∙◌, get_or}
-use Rattle.p21_schemas.specs.Supertype.{IsA}
-use Rattle.p21_express_types.specs.Meaning.{place}
+use Rattle.p21_spec_schema.specs.Supertype.{IsA}
+use Rattle.p21_express_graph.specs.Meaning.{place}
 use Rattle.p21_express_graph.proofs.Gatherings.{numbered-at}
 use Rattle.p21_express_graph.proofs.Lookups.{each-number, up-to}
 use Rattle.p21_express_tables.specs.Decisions.{IsRedeclaring}

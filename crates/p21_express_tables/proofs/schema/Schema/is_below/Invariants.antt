@@ -1,6 +1,6 @@
 use Rattle.std.proofs.Common.{ℕ, ◌<◌, slice_index_or}
-use Rattle.p21_schemas.specs.Supertype.{IsA}
-use Rattle.p21_express_types.specs.Meaning.{place}
+use Rattle.p21_spec_schema.specs.Supertype.{IsA}
+use Rattle.p21_express_graph.specs.Meaning.{place}
 use Rattle.p21_express_tables.specs.Decisions.{IsRedeclaring}
 use Rattle.p21_express_tables.proofs.schema.Schema.is_below.Given as goal
 

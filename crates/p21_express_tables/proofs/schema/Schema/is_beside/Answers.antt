@@ -2,7 +2,7 @@ use Rattle.std.specs.Prelude.{◌≡◌, ℕ, List, Some, Contains, take}
 use Rattle.std.proofs.Common.{arith, sym, subst, get_or, ◌∙◌}
 use Rattle.std.proofs.lemmas.List.{take_all, take_more}
 use Rattle.std.proofs.lemmas.List.Elements.{Contains-get_or}
-use Rattle.p21_basics.proofs.Members.{Contains-none}
+use Rattle.p21_spec_basics.proofs.Members.{Contains-none}
 use Rattle.p21_express_tables.specs.NotedEntities.{noted_in}
 use Rattle.p21_express_tables.proofs.schema.Schema.is_beside.Goals as goal
 use Rattle.p21_express_tables.proofs.HeldLists.{list-within, notes-none, notes-further}

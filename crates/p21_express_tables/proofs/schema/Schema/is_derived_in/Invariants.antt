@@ -1,5 +1,5 @@
 use Rattle.std.proofs.Common.{ℕ, ◌<◌, slice_index_or}
-use Rattle.p21_express_types.specs.Meaning.{place}
+use Rattle.p21_express_graph.specs.Meaning.{place}
 use Rattle.p21_express_tables.specs.Decisions.{IsDeriving}
 use Rattle.p21_express_tables.proofs.schema.Schema.is_derived_in.Given as goal
 

@@ -1,7 +1,7 @@
 use Rattle.std.specs.Prelude.{◌≡◌, true, false, refl}
 use Rattle.std.proofs.Common.{subst}
-use Rattle.p21_schemas.specs.Order.{order}
-use Rattle.p21_express_types.specs.Meaning.{place}
+use Rattle.p21_spec_schema.specs.Order.{order}
+use Rattle.p21_express_graph.specs.Meaning.{place}
 use Rattle.p21_express_tables.specs.Decisions.{IsDecision}
 use Rattle.p21_express_tables.specs.declared.place_types.Decision.{Decision}
 use Rattle.p21_express_tables.proofs.OwnSets.{two-only}

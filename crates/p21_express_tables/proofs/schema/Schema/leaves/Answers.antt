@@ -1,7 +1,7 @@
 use Rattle.std.specs.Prelude.{◌≡◌, ◌+◌, ℕ, List, [], Contains, take, true, false}
 use Rattle.std.proofs.Common.{ap, sym, ◌∙◌, subst, get_or}
-use Rattle.p21_express_types.specs.declared.number.EntityId.{EntityId}
-use Rattle.p21_schemas.specs.Supertype.{LeavesAmong, no_more}
+use Rattle.p21_express_graph.specs.declared.number.EntityId.{EntityId}
+use Rattle.p21_spec_schema.specs.Supertype.{LeavesAmong, no_more}
 use Rattle.p21_express_graph.specs.Orders.{numbers}
 use Rattle.p21_express_graph.proofs.Gatherings.{numbered-at}
 use Rattle.p21_express_graph.proofs.Lookups.{leaves-then, leaves-else}

@@ -1,5 +1,5 @@
 use Rattle.std.proofs.Common.{take}
-use Rattle.p21_schemas.specs.Supertype.{LeavesAmong}
+use Rattle.p21_spec_schema.specs.Supertype.{LeavesAmong}
 use Rattle.p21_express_graph.specs.Orders.{numbers}
 use Rattle.p21_express_tables.proofs.schema.Schema.leaves.Given as goal
 

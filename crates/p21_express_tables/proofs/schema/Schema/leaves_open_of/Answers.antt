@@ -1,9 +1,9 @@
-use Rattle.std.specs.Prelude.{◌≡◌, ℕ, true, false, refl}
+use Rattle.std.specs.Prelude.{◌≡◌, true, false, refl}
 use Rattle.std.proofs.Common.{arith, sym, ◌∙◌, subst}
-use Rattle.p21_schemas.specs.Order.{order}
-use Rattle.p21_schemas.specs.PlaceType.{TypeAt, two_redeclarations}
-use Rattle.p21_schemas.specs.Schema.{Place}
-use Rattle.p21_schemas.proofs.OwnPlaces.{own_places-has}
+use Rattle.p21_spec_schema.specs.Order.{order}
+use Rattle.p21_spec_schema.specs.PlaceType.{TypeAt, two_redeclarations}
+use Rattle.p21_spec_schema.specs.Schema.{Place}
+use Rattle.p21_spec_schema.proofs.OwnPlaces.{own_places-has}
 use Rattle.p21_express_graph.proofs.Lookups.{up-to}
 use Rattle.p21_express_tables.proofs.OwnSets.{own-place-at}
 use Rattle.p21_express_tables.proofs.schema.Schema.leaves_open_of.Goals as goal

@@ -1,6 +1,6 @@
 use Rattle.std.proofs.Common.{ℕ, ◌<◌}
-use Rattle.p21_schemas.specs.Order.{order}
-use Rattle.p21_schemas.specs.PlaceType.{TypeAt, two_redeclarations}
+use Rattle.p21_spec_schema.specs.Order.{order}
+use Rattle.p21_spec_schema.specs.PlaceType.{TypeAt, two_redeclarations}
 use Rattle.p21_express_tables.proofs.schema.Schema.leaves_open_of.Given as goal
 
 abbrev pub invariant-loop-index : goal.invariant-loop-index

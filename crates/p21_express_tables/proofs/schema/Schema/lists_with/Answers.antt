@@ -2,7 +2,7 @@ use Rattle.std.specs.Prelude.{◌≡◌, ◌↔◌, ◌≤◌, ℕ, List, [], le
 use Rattle.std.proofs.Common.{arith, ap, sym, ◌∙◌, subst, inl, inr}
 use Rattle.std.proofs.lemmas.Bool.{cases_lt}
 use Rattle.std.specs.List.Sorted.{IsStrictlyIncreasing}
-use Rattle.p21_schemas.specs.Schema.{Schema}
+use Rattle.p21_spec_schema.specs.Schema.{Schema}
 use Rattle.p21_express_graph.specs.SettledOrder.{lists_of, nexts_of}
 use Rattle.p21_express_graph.proofs.Gatherings.{mapped-length}
 use Rattle.p21_express_graph.proofs.Inverting.{nothing-past}

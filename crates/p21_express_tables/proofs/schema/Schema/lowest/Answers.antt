@@ -1,10 +1,10 @@
 use Rattle.std.specs.Prelude.{◌≡◌, ℕ, ◌∷◌, [], ◌++◌, List, Option, take, true, false}
 use Rattle.std.proofs.Common.{sym, ◌∙◌, subst, get_or}
 use Rattle.std.proofs.lemmas.List.{take_all}
-use Rattle.p21_express_types.specs.Meaning.{place}
-use Rattle.p21_express_types.specs.declared.number.EntityId.{EntityId}
+use Rattle.p21_express_graph.specs.Meaning.{place}
+use Rattle.p21_express_graph.specs.declared.number.EntityId.{EntityId}
 use Rattle.p21_express_graph.specs.Orders.{numbers}
-use Rattle.p21_basics.proofs.Members.{Contains-none}
+use Rattle.p21_spec_basics.proofs.Members.{Contains-none}
 use Rattle.p21_express_graph.proofs.Gatherings.{numbered-at}
 use Rattle.p21_express_graph.proofs.Lookups.{numbers-more}
 use Rattle.p21_express_tables.proofs.Decisions.{IsLowestSeen, lower-seen, other-seen, seen-all}

@@ -1,8 +1,8 @@
 use Rattle.std.proofs.Common.{sym, subst}
-use Rattle.p21_schemas.specs.Schema.{entity_member, type_member}
-use Rattle.p21_schemas.specs.Select.{Offers}
-use Rattle.p21_express_types.specs.Meaning.{member}
-use Rattle.p21_express_types.specs.declared.kind.Member.{Member}
+use Rattle.p21_spec_schema.specs.Schema.{entity_member, type_member}
+use Rattle.p21_spec_schema.specs.Select.{Offers}
+use Rattle.p21_express_graph.specs.Meaning.{member}
+use Rattle.p21_express_graph.specs.declared.kind.Member.{Member}
 use Rattle.p21_express_graph.specs.SchemaContents.{schema_of}
 use Rattle.p21_express_graph.proofs.Offering.{offered-list, offered-rises}
 use Rattle.p21_express_tables.proofs.schema.Schema.offers.Goals as goal

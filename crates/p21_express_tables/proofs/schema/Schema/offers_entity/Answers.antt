@@ -1,5 +1,5 @@
 use Rattle.std.specs.Prelude.{refl, vec_len}
-use Rattle.p21_schemas.specs.Schema.{entity_member}
+use Rattle.p21_spec_schema.specs.Schema.{entity_member}
 use Rattle.p21_express_graph.specs.SchemaContents.{schema_of}
 use Rattle.p21_express_graph.proofs.Offering.{offered-some}
 use Rattle.p21_express_tables.proofs.schema.Schema.offers_entity.Goals as goal

@@ -1,12 +1,13 @@
-use Rattle.std.specs.Prelude.{◌≡◌, List, Some, ℕ, length}
+use Rattle.std.specs.Prelude.{List, Some, ℕ, length}
 use Rattle.std.proofs.Common.{sym, subst, ◌∙◌}
 use Rattle.std.proofs.lemmas.Bool.{eqb-true}
-use Rattle.p21_schemas.specs.Order.{order}
-use Rattle.p21_express_types.specs.Meaning.{place}
+use Rattle.p21_spec_schema.specs.Order.{order}
+use Rattle.p21_express_graph.specs.Meaning.{place}
 use Rattle.p21_express_graph.specs.Orders.{numbers}
 use Rattle.p21_express_graph.proofs.Resolving.{own-entities}
 use Rattle.p21_express_tables.specs.Decisions.{AreMembers}
 use Rattle.p21_express_tables.proofs.Decisions.{members-order, members-redeclarers}
+use Rattle.p21_express_tables.proofs.OnlyRedeclarers.{one-among, one-redeclarer}
 use Rattle.p21_express_tables.proofs.Owners.{no-redeclarer, none-derives, none-redeclares}
 use Rattle.p21_express_tables.proofs.schema.Schema.own_decision.Goals as goal
 
@@ -18,6 +19,12 @@ returns-then-is_empty c =
     let found = c.redeclarers_of-redeclarers in
     let none = no-redeclarer s p found.result.now (eqb-true (length found.result.now) 0 (sym c.is_empty.ensures ∙ c.if-is_empty.true)) found.ensures.all in
     (none-derives s p none own, none-redeclares s p none own)
+
+pub decision_of_one-requires-clause-only_is : goal.decision_of_one-requires-clause-only_is
+decision_of_one-requires-clause-only_is c = c.redeclarers_of-redeclarers.ensures.within _ (one-among c.redeclarers_of-redeclarers.result.now record { 0 = 0 } c.if-redeclarers-eq1.true)
+
+pub decision_of_one-requires-clause-only : goal.decision_of_one-requires-clause-only
+decision_of_one-requires-clause-only c e is = one-redeclarer c.redeclarers_of-redeclarers.result.now record { 0 = 0 } c.if-redeclarers-eq1.true e (c.redeclarers_of-redeclarers.ensures.all e is)
 
 pub decision_among-requires-else-redeclarers-order-clause-entities : goal.decision_among-requires-else-redeclarers-order-clause-entities
 decision_among-requires-else-redeclarers-order-clause-entities c = own-entities c.args.self.now c.holds_together.ensures c.args.entity.0 c.requires (numbers c.order_of-order.result.now) c.order_of-order.ensures

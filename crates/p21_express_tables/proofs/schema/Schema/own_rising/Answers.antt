@@ -1,7 +1,7 @@
 use Rattle.std.specs.Prelude.{List}
 use Rattle.std.proofs.Common.{subst, sym, ◌∙◌}
 use Rattle.std.proofs.lemmas.Result.{err_from_is_err_and}
-use Rattle.p21_express_types.specs.declared.number.EntityId.{EntityId}
+use Rattle.p21_express_graph.specs.declared.number.EntityId.{EntityId}
 use Rattle.p21_express_graph.specs.Orders.{numbers}
 use Rattle.p21_express_graph.specs.Rising.{IsOwnRising}
 use Rattle.p21_express_tables.proofs.RisingSets.{set-kept}

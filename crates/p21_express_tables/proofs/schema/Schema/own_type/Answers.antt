@@ -1,4 +1,4 @@
-use Rattle.p21_schemas.specs.Order.{order}
+use Rattle.p21_spec_schema.specs.Order.{order}
 use Rattle.p21_express_tables.proofs.schema.Schema.own_type.Goals as goal
 
 pub decided_type-requires-clause-decided : goal.decided_type-requires-clause-decided

@@ -1,6 +1,6 @@
 use Rattle.std.specs.Prelude.{ℕ, List, Contains, length}
 use Rattle.std.proofs.Common.{subst, get_or}
-use Rattle.p21_schemas.proofs.Orders.{order_within-only}
+use Rattle.p21_spec_schema.proofs.Orders.{order_within-only}
 use Rattle.p21_express_graph.proofs.Gatherings.{numbered-at}
 use Rattle.p21_express_graph.proofs.OrderTables.{IsA-within, are-entities}
 use Rattle.p21_express_tables.proofs.schema.Schema.places.Goals as goal

@@ -1,7 +1,7 @@
 use Rattle.std.proofs.Common.{◌≡◌, map, take}
 use Rattle.std.specs.List.{flat_map}
-use Rattle.p21_express_types.specs.Meaning.{place}
-use Rattle.p21_schemas.specs.Order.{own_places}
+use Rattle.p21_express_graph.specs.Meaning.{place}
+use Rattle.p21_spec_schema.specs.Order.{own_places}
 use Rattle.p21_express_graph.specs.Orders.{numbers}
 use Rattle.p21_express_tables.proofs.schema.Schema.places.Given as goal
 

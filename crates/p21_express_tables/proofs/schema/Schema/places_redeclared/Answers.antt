@@ -1,7 +1,7 @@
 use Rattle.std.specs.Prelude.{length, refl}
 use Rattle.std.proofs.Common.{arith, subst}
 use Rattle.std.proofs.lemmas.Option.{slice_get_read}
-use Rattle.p21_schemas.specs.Schema.{Schema}
+use Rattle.p21_spec_schema.specs.Schema.{Schema}
 use Rattle.p21_express_tables.specs.Redeclarers.{AreRedeclared}
 use Rattle.p21_express_tables.proofs.schema.Schema.places_redeclared.Goals as goal
 

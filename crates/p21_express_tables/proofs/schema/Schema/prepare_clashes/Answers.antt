@@ -1,5 +1,5 @@
 use Rattle.std.proofs.Common.{sym, subst}
-use Rattle.p21_schemas.specs.Schema.{Schema}
+use Rattle.p21_spec_schema.specs.Schema.{Schema}
 use Rattle.p21_express_graph.specs.SchemaContents.{schema_of}
 use Rattle.p21_express_tables.specs.OwnSets.{AreOwnClashes}
 use Rattle.p21_express_tables.proofs.OwnSets.{with-clashes}

@@ -1,7 +1,7 @@
 use Rattle.std.specs.Prelude.{◌≡◌, ◌++◌, length, map, refl}
 use Rattle.std.proofs.Common.{arith, ap, ◌∙◌}
-use Rattle.p21_express_types.specs.Meaning.{place}
-use Rattle.p21_schemas.specs.Schema.{attributes_of}
+use Rattle.p21_express_graph.specs.Meaning.{place}
+use Rattle.p21_spec_schema.specs.Schema.{attributes_of}
 use Rattle.p21_express_graph.specs.Lookups.{places_from}
 use Rattle.p21_express_graph.proofs.Lookups.{place-more, own-places-are}
 use Rattle.p21_express_tables.proofs.schema.Schema.push_own_places.Goals as goal

@@ -1,4 +1,4 @@
-use Rattle.p21_express_types.specs.Meaning.{place}
+use Rattle.p21_express_graph.specs.Meaning.{place}
 use Rattle.p21_express_tables.proofs.schema.Schema.redeclaration.Goals as goal
 use Rattle.p21_express_tables.proofs.Owners.{redeclares-option}
 

@@ -1,7 +1,7 @@
 use Rattle.std.specs.Prelude.{ℕ, List, Contains}
 use Rattle.std.proofs.Common.{sym, subst}
-use Rattle.p21_schemas.specs.Schema.{Schema}
-use Rattle.p21_express_types.specs.Meaning.{place}
+use Rattle.p21_spec_schema.specs.Schema.{Schema}
+use Rattle.p21_express_graph.specs.Meaning.{place}
 use Rattle.p21_express_tables.specs.Redeclarers.{AreRedeclared}
 use Rattle.p21_express_tables.proofs.schema.Schema.redeclarers_of.Goals as goal
 

@@ -1,5 +1,5 @@
 use Rattle.std.specs.Prelude.{◌≡◌, true, false}
-use Rattle.p21_express_types.specs.Meaning.{place}
+use Rattle.p21_express_graph.specs.Meaning.{place}
 use Rattle.p21_express_tables.proofs.schema.Schema.redeclares.Goals as goal
 use Rattle.p21_express_tables.proofs.Owners.{redeclarer-at}
 

@@ -6,7 +6,7 @@ use Rattle.std.proofs.lemmas.List.{take_all, take_more}
 use Rattle.std.proofs.lemmas.List.Elements.{Contains-get_or}
 use Rattle.p21_express_tables.proofs.schema.Schema.stands_beside.Goals as goal
 use Rattle.p21_express_tables.proofs.Noted.{IsNoted, clash-found, noted_more, none-more, noted-next, noted-none}
-use Rattle.p21_basics.proofs.Members.{Contains-none}
+use Rattle.p21_spec_basics.proofs.Members.{Contains-none}
 
 pub loop-number-init : goal.loop-number-init
 loop-number-init c = (noted-none c.args.entity.0 (get nat_cmp c.args.holders.now), λ k among. absurd (Contains-none k among))

@@ -1,6 +1,6 @@
 use Rattle.std.specs.Prelude.{ℕ, List, [], Option, Some, None}
 use Rattle.std.proofs.Common.{ap, sym, ◌∙◌}
-use Rattle.p21_schemas.specs.Schema.{Entity}
+use Rattle.p21_spec_schema.specs.Schema.{Entity}
 use Rattle.p21_express_graph.specs.Orders.{numbers}
 use Rattle.p21_express_tables.proofs.schema.Schema.supertypes.Goals as goal
 

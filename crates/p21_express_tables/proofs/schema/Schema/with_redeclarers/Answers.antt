@@ -1,6 +1,6 @@
 use Rattle.std.specs.Prelude.{◌≡◌, length, map}
 use Rattle.std.proofs.Common.{ap, sym, ◌∙◌, subst}
-use Rattle.p21_schemas.specs.Schema.{Schema}
+use Rattle.p21_spec_schema.specs.Schema.{Schema}
 use Rattle.p21_express_graph.specs.SchemaContents.{entity, schema_of}
 use Rattle.p21_express_graph.specs.Redeclaring.{redeclaring, redeclaring_schema}
 use Rattle.p21_express_graph.specs.Resolved.{HoldsTogether}

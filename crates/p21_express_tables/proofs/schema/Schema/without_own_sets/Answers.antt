@@ -1,12 +1,12 @@
 use Rattle.std.specs.Prelude.{◌≡◌, List, Some, Vec, length, slice_get, Contains}
 use Rattle.std.proofs.Common.{arith, ap, subst}
 use Rattle.std.specs.declared.alloc.Global.{Global}
-use Rattle.p21_express_types.specs.declared.number.EntityId.{EntityId}
+use Rattle.p21_express_graph.specs.declared.above.Above.{Above}
+use Rattle.p21_express_graph.specs.declared.number.EntityId.{EntityId}
 use Rattle.p21_express_graph.specs.Indexes.{AreIndexes}
-use Rattle.p21_express_graph.specs.Orders.{number_lists}
+use Rattle.p21_express_graph.specs.Orders.{number_lists, numbers}
 use Rattle.p21_express_graph.specs.SchemaContents.{entity, schema_of}
 use Rattle.p21_express_graph.specs.SettledOrder.{nexts_of}
-use Rattle.p21_express_graph.specs.declared.prefixes.RunPrefix.{RunPrefix}
 use Rattle.p21_express_graph.proofs.Gatherings.{mapped-length}
 use Rattle.p21_express_tables.proofs.OwnSets.{none-prepared}
 use Rattle.p21_express_tables.proofs.schema.Schema.without_own_sets.Goals as goal
@@ -18,10 +18,10 @@ indexes_of-requires-clause-below c r e among =
     omega (arith, below, c.len.ensures, mapped-length entity c.args.parts.entities.items, c.args.parts.entities.ok.0)
 
 pub indexes_of-requires-clause-within : goal.indexes_of-requires-clause-within
-indexes_of-requires-clause-within c k front at =
-    let P : List RunPrefix → Type 0 = λ fronts. slice_get fronts k ≡ Some front in
-    let has = c.in_ok-above.ensures.each k front (subst P c.deref-2.ensures.value at) in
-    omega (arith, has.0, ap length c.deref.ensures.value)
+indexes_of-requires-clause-within c k above at =
+    let P : List Above → Type 0 = λ all. slice_get all k ≡ Some above in
+    let has = c.in_ok-above.ensures.each k above (subst P c.deref-2.ensures.value at) in
+    omega (arith, has.within.0, mapped-length (λ x. numbers x.items) c.in_ok-orders.orders.runs.items, ap length c.deref.ensures.value)
 
 pub invariant_of-result : goal.invariant_of-result
 invariant_of-result c = (
@@ -33,7 +33,7 @@ invariant_of-result c = (
     above_are = c.in_ok-above.ensures;
     indexes_are =
         let P : List (Vec EntityId Global) → Type 0 = λ runs. AreIndexes (number_lists runs) c.deref-2.result.now c.in_ok-indexes.indexes.items in
-        let Q : List RunPrefix → Type 0 = λ fronts. AreIndexes (number_lists c.in_ok-orders.orders.runs.items) fronts c.in_ok-indexes.indexes.items in
+        let Q : List Above → Type 0 = λ all. AreIndexes (number_lists c.in_ok-orders.orders.runs.items) all c.in_ok-indexes.indexes.items in
         subst Q c.deref-2.ensures.value (subst P c.deref.ensures.value c.in_ok-indexes.ensures);
     listed_are = c.in_ok-listed_in.ensures;
     redeclared_are = c.in_ok-redeclared.ensures;

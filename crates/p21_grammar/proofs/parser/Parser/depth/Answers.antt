@@ -1,5 +1,5 @@
 use Rattle.std.proofs.Common.{ap, sym, subst}
-use Rattle.p21_exchange.specs.OpenNesting.{IsDepth}
+use Rattle.p21_spec_exchange.specs.OpenNesting.{IsDepth}
 use Rattle.p21_grammar.proofs.Holding.{stands_depth}
 use Rattle.p21_grammar.specs.Held.{Held}
 use Rattle.p21_grammar.proofs.parser.Parser.depth.Goals as goal

@@ -1,5 +1,5 @@
 use Rattle.std.specs.Prelude.{◌≡◌, true, false, refl}
-use Rattle.p21_basics.proofs.Members.{Contains-found}
+use Rattle.p21_spec_basics.proofs.Members.{Contains-found}
 use Rattle.p21_mapping.proofs.positions.Positions.has.Goals as goal
 
 pub returns-in-Some : goal.returns-in-Some

@@ -1,5 +1,5 @@
 use Rattle.std.proofs.Common.{◌≡◌, ℕ, Ok, Option, subst, sym}
-use Rattle.p21_claim_steps.specs.Keeping.{Kept}
+use Rattle.p21_spec_laws.specs.Keeping.{Kept}
 use Rattle.p21_stream_statements.specs.StatementReader as statements
 use Rattle.p21_stream_kept.specs.Steps.{StepKeepsBound}
 use Rattle.p21_stream.proofs.Passed.{as-before}
@@ -47,6 +47,12 @@ returns-clause-bound c =
     let same : (c.pass.new.self.statements ≡ c.args.self.now.statements) × (c.pass.new.self.kept ≡ c.args.self.now.kept) =
     subst (λ (o : Option ℕ). PassGives c.args.schema.now c.args.limits c.args.self.now.statements c.args.self.now.kept c.args.piece.now (Ok o) c.pass.new.self.statements c.pass.new.self.kept) c.in_default.is c.in-Ok.ensures.gives in
     as-before (λ (h : statements.Held) (k : Kept). StepKeepsBound c.args.limits k c.step.new.self.kept) c.args.self.now.statements c.pass.new.self.statements c.args.self.now.kept c.pass.new.self.kept same.0 same.1 c.step.ensures.bound
+
+pub returns-clause-lines : goal.returns-clause-lines
+returns-clause-lines c =
+    let same : (c.pass.new.self.statements ≡ c.args.self.now.statements) × (c.pass.new.self.kept ≡ c.args.self.now.kept) =
+    subst (λ (o : Option ℕ). PassGives c.args.schema.now c.args.limits c.args.self.now.statements c.args.self.now.kept c.args.piece.now (Ok o) c.pass.new.self.statements c.pass.new.self.kept) c.in_default.is c.in-Ok.ensures.gives in
+    as-before (λ (h : statements.Held) (k : Kept). c.step.new.self.kept.lines ≡ k.lines) c.args.self.now.statements c.pass.new.self.statements c.args.self.now.kept c.pass.new.self.kept same.0 same.1 c.step.ensures.lines
 
 pub returns-clause-plan : goal.returns-clause-plan
 returns-clause-plan c = subst (IsPlanOf c.args.schema.now) (sym c.step.ensures.plan) c.in-Ok.ensures.plan

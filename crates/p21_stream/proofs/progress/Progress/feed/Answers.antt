@@ -1,4 +1,5 @@
-use Rattle.std.proofs.Common.{◌≡◌, IfErr, Result, Some, refl, sym, subst}
+use Rattle.std.proofs.Common.{◌≡◌, ◌∙◌, IfErr, Result, Some, ap, refl, sym, subst}
+use Rattle.p21_spec_laws.specs.Keeping.{Kept}
 use Rattle.p21_stream_statements.specs.Source.{IsOfBytes}
 use Rattle.p21_stream_statements.specs.declared.refusal.Refusal.{Refusal}
 use Rattle.p21_stream.proofs.PieceFeeding.{again-quiet, bounded-refused, bounded-whole, fed-again, fed-checks, fed-quiet, fed-refused, fed-whole, under-way}
@@ -53,3 +54,9 @@ read-requires-clause-way c = under-way c.args.schema.now c.args.limits c.args.se
 
 pub returns-in-Err-clause-refused : goal.returns-in-Err-clause-refused
 returns-in-Err-clause-refused c = subst (λ (r : Result (Unit {0}) Refusal). IfErr r (λ refusal. Some c.in-Err.refusal ≡ Some refusal)) (sym (c.answered.ensures c.in-Err.refusal refl)) refl
+
+pub returns-in-Ok-clause-lines : goal.returns-in-Ok-clause-lines
+returns-in-Ok-clause-lines c keeps none = c.in-Ok.ensures.lines ∙ keeps (sym c.in-Ok.ensures.refused ∙ none)
+
+pub returns-in-Err-clause-lines : goal.returns-in-Err-clause-lines
+returns-in-Err-clause-lines c keeps none = ap (λ (k : Kept). k.lines) c.new.ensures

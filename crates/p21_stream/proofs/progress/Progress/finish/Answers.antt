@@ -14,7 +14,10 @@ returns-in-Some-clause-kind c = λ limits bounded. bounded.of_bytes c.in-Some.re
 pub returns-clause-kind : goal.returns-clause-kind
 returns-clause-kind c = λ limits bounded. c.end.ensures.kind
 
-pub end-requires : goal.end-requires
-end-requires c =
-    let (reading, none, live) = c.requires.1.reads c.in_default.is in
-    record { limits = c.requires.0; reading = reading; live = live; none_seen = none }
+pub end-requires-clause-between : goal.end-requires-clause-between
+end-requires-clause-between c =
+    let (reading, none, live) = c.requires.bounded.1.reads c.in_default.is in
+    record { limits = c.requires.bounded.0; reading = reading; live = live; none_seen = none }
+
+pub end-requires-clause-lines : goal.end-requires-clause-lines
+end-requires-clause-lines c = c.requires.lines c.in_default.is

@@ -18,7 +18,7 @@ loop-taken-preserved c = (
       (rest-on c.args.schema.now c.args.limits c.args.self.now c.loop-taken.self c.advance.new.self c.args.piece.now c.loop-taken.rest.now c.in-Some.count c.loop-taken.rounds c.loop-taken.invariant.0
       (subst (λ (o : Option ℕ). StepGives c.args.schema.now c.args.limits c.loop-taken.self.statements c.loop-taken.self.kept c.loop-taken.rest.now (Ok o) c.advance.new.self.statements c.advance.new.self.kept) c.in-Some.is c.in-Ok.ensures.gives)
       (subst (λ (o : Option ℕ). TakesWithinPiece c.loop-taken.rest.now (Ok o)) c.in-Some.is c.in-Ok.ensures.takes)
-      c.in-Ok.ensures.bound c.in-Ok.ensures.limits c.in-Ok.ensures.refused
+      c.in-Ok.ensures.bound c.in-Ok.ensures.lines c.in-Ok.ensures.limits c.in-Ok.ensures.refused
       (subst (λ (o : Option ℕ). EndsNoToken c.args.schema.now c.args.limits c.loop-taken.self.statements c.loop-taken.self.kept c.loop-taken.rest.now (Ok o)) c.in-Some.is c.in-Ok.ensures.no_token)),
   c.in-Ok.ensures.plan,
   c.in-Ok.ensures.sets,

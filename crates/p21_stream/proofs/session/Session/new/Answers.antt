@@ -1,11 +1,4 @@
-use Rattle.std.proofs.Common.{subst, sym}
-use Rattle.p21_stream.proofs.PieceFeeding.{bounded-new, stands-new}
-use Rattle.p21_transcribe_instance.specs.ExternalSet.{AreExternalSets}
 use Rattle.p21_stream.proofs.session.Session.new.Goals as goal
 
 pub invariant_of-result : goal.invariant_of-result
-invariant_of-result c =
-    (bounded-new c.args.schema.now c.args.limits c.new.result.statements c.new.result.kept c.new.result.refused c.new.ensures.live c.new.ensures.counted c.new.ensures.limits c.new.ensures.kept c.new.ensures.refused, c.new.ensures.plan c.args.schema.now, subst (AreExternalSets c.args.schema.now) (sym c.new.ensures.sets) tt)
-
-pub returns-clause-stands : goal.returns-clause-stands
-returns-clause-stands c = stands-new c.args.schema.now c.args.limits c.new.result.statements c.new.result.kept c.new.result.refused c.new.ensures.live c.new.ensures.counted c.new.ensures.limits c.new.ensures.kept c.new.ensures.refused
+invariant_of-result c = c.keeping.ensures.lines

@@ -1,5 +1,5 @@
 use Rattle.std.proofs.Common.{sym, subst}
-use Rattle.p21_schemas.specs.Schema.{Schema}
+use Rattle.p21_spec_schema.specs.Schema.{Schema}
 use Rattle.p21_stream.specs.Bounds.{IsBounded}
 use Rattle.p21_stream.specs.Held.{SessionHeld}
 use Rattle.p21_stream.specs.Histories.{FinishGives, RefusesAtEnd}
@@ -17,5 +17,8 @@ returns-clause-again c = subst (λ (h : SessionHeld). RefusesAtEnd h c.finish.re
 pub returns-clause-kind : goal.returns-clause-kind
 returns-clause-kind c = c.finish.ensures.kind c.self.inside.limits (subst (λ (s : Schema). IsBounded (held_in s c.self.inside.limits c.self.inside.progress)) (sym c.deref.ensures) c.self.invariant.0)
 
-pub finish-requires : goal.finish-requires
-finish-requires c = (c.self.inside.limits, subst (λ (s : Schema). IsBounded (held_in s c.self.inside.limits c.self.inside.progress)) (sym c.deref.ensures) c.self.invariant.0)
+pub finish-requires-clause-lines : goal.finish-requires-clause-lines
+finish-requires-clause-lines c = c.self.invariant.3
+
+pub finish-requires-clause-bounded : goal.finish-requires-clause-bounded
+finish-requires-clause-bounded c = (c.self.inside.limits, subst (λ (s : Schema). IsBounded (held_in s c.self.inside.limits c.self.inside.progress)) (sym c.deref.ensures) c.self.invariant.0)

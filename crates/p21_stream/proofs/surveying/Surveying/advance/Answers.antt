@@ -1,6 +1,6 @@
 use Rattle.std.proofs.Common.{◌≡◌, ℕ, Ok, Option, subst, sym}
 use Rattle.p21_stream_statements.specs.StatementReader as statements
-use Rattle.p21_stream_survey.specs.declared.sieve.Sieve.{Sieve}
+use Rattle.p21_stream.specs.declared.sieve.Sieve.{Sieve}
 use Rattle.p21_stream.proofs.SurveySteps.{as-before}
 use Rattle.p21_stream.specs.Pieces.{TakesWithinPiece}
 use Rattle.p21_stream.specs.Surveying.{IsUnderWay, PassGives, StepGives}

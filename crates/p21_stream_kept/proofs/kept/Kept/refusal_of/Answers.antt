@@ -1,5 +1,5 @@
 use Rattle.std.proofs.Common.{subst}
-use Rattle.p21_claim_steps.specs.Keeping.{Kept}
+use Rattle.p21_spec_laws.specs.Keeping.{Kept}
 use Rattle.p21_mapping_values.specs.TypedView.{need_view}
 use Rattle.p21_stream_kept.specs.Served.{AnswersNeed}
 use Rattle.p21_stream_kept.proofs.kept.Kept.refusal_of.Goals as goal

@@ -1,8 +1,8 @@
 use Rattle.std.proofs.Common.{◌≡◌, ◌+◌, true, ap, subst, sym, Ok, Err}
-use Rattle.p21_claim_steps.specs.Keeping.{Kept}
-use Rattle.p21_exchange.specs.Statement.{header}
+use Rattle.p21_spec_laws.specs.Keeping.{Kept}
+use Rattle.p21_spec_exchange.specs.Statement.{header}
 use Rattle.p21_grammar_tree.specs.View.{part_view}
-use Rattle.p21_schemas.specs.SchemaName.{NamesSchema}
+use Rattle.p21_spec_schema.specs.SchemaName.{NamesSchema}
 use Rattle.p21_stream_statements.specs.declared.fault.Fault.TheVariants.{CanonicalTooLong}
 use Rattle.p21_stream_kept.proofs.Stepping.{other-header, refused-header, took-header}
 use Rattle.p21_stream_kept.specs.Inside.{kept_of}

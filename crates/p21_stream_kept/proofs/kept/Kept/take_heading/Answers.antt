@@ -1,10 +1,10 @@
 use Rattle.std.proofs.Common.{◌≡◌, ◌+◌, ◌++◌, ◌∷◌, [], ℕ, List, true, ap, length, subst, sym, ◌∙◌, Ok, Err, arith}
 use Rattle.std.specs.Prelude.{vec_len}
-use Rattle.p21_claim_steps.specs.Keeping.{Kept}
-use Rattle.p21_exchange.specs.DataSection.{Heading, heading_of}
-use Rattle.p21_exchange.specs.Statement.{data_start, section}
+use Rattle.p21_spec_laws.specs.Keeping.{Kept}
+use Rattle.p21_spec_exchange.specs.DataSection.{Heading, heading_of}
+use Rattle.p21_spec_exchange.specs.Statement.{data_start, section}
 use Rattle.p21_grammar_tree.specs.View.{items_of, views}
-use Rattle.p21_schemas.specs.SchemaName.{NamesSchema}
+use Rattle.p21_spec_schema.specs.SchemaName.{NamesSchema}
 use Rattle.p21_stream_statements.specs.declared.fault.Fault.TheVariants.{CanonicalTooLong, SchemaName, SectionTwice}
 use Rattle.p21_stream_kept.proofs.Stepping.{heading-again, other-heading, refused-heading, took-heading}
 use Rattle.p21_stream_kept.specs.Inside.{kept_of}

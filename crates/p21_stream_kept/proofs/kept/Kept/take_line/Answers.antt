@@ -1,8 +1,9 @@
-use Rattle.std.proofs.Common.{◌≡◌, ◌+◌, true, ap, subst, sym, Ok, Err}
-use Rattle.p21_claim_steps.specs.Keeping.{Kept}
-use Rattle.p21_exchange.specs.Statement.{section}
+use Rattle.std.proofs.Common.{◌≡◌, ◌+◌, true, ap, arith, length, subst, sym, Ok, Err}
+use Rattle.p21_spec_laws.specs.Keeping.{Kept}
+use Rattle.p21_spec_exchange.specs.Statement.{section}
 use Rattle.p21_grammar.specs.Statements.{line_of}
 use Rattle.p21_stream_statements.specs.declared.fault.Fault.TheVariants.{CanonicalTooLong}
+use Rattle.p21_stream_kept.proofs.ByMembership.{sections_wider}
 use Rattle.p21_stream_kept.proofs.Stepping.{refused-line, took-line}
 use Rattle.p21_stream_kept.specs.Inside.{kept_of}
 use Rattle.p21_stream_kept.specs.Steps.{FitsLimits, StepGives}
@@ -30,3 +31,21 @@ returns-clause-gives c = λ s.
     (subst (λ n. FitsLimits c.args.limits (old.bytes + old.framing) n) c.line_size-size.ensures (c.fits_limits.ensures.decides.0 c.if-not-fits_limits.false))
     (λ i. record old { headings = headings i; framing = framing i })
     s)
+
+pub invariant_of-self : goal.invariant_of-self
+invariant_of-self c = record {
+  memberships = c.self.invariant.memberships;
+  sections = sections_wider (length c.self.inside.sections) (length c.begin.new.self) c.self.inside.memberships c.begin.ensures.more c.self.invariant.sections;
+  named = c.self.invariant.named;
+  counted = c.self.invariant.counted;
+  patient = c.self.invariant.patient;
+}
+
+pub invariant_of-self-2 : goal.invariant_of-self-2
+invariant_of-self-2 c = record {
+  memberships = c.self.invariant.memberships;
+  sections = sections_wider (length c.self.inside.sections) (length c.begin.new.self) c.self.inside.memberships c.begin.ensures.more c.self.invariant.sections;
+  named = c.self.invariant.named;
+  counted = let fits = c.fits_limits.ensures.fits c.if-not-fits_limits.false in omega (arith, fits);
+  patient = c.self.invariant.patient;
+}

@@ -1,7 +1,7 @@
 use Rattle.std.proofs.Common.{◌≡◌, List, ap, subst, sym, ◌∙◌}
 use Rattle.std.specs.List.{Contains}
-use Rattle.p21_exchange.specs.DataSection.{Heading, section_names}
-use Rattle.p21_express_types.specs.TextSet.{has_text}
+use Rattle.p21_spec_exchange.specs.DataSection.{Heading, section_names}
+use Rattle.p21_express_graph.specs.TextSet.{has_text}
 use Rattle.p21_stream_kept.proofs.sections.Sections.has_name.Goals as goal
 
 pub returns : goal.returns

@@ -2,7 +2,6 @@ use Rattle.std.proofs.Common.{List, ℕ, length, map, ap, sym, ◌∙◌, ◌+�
 use Rattle.std.proofs.lemmas.List.{length-map}
 use Rattle.p21_stream_output.proofs.Reading.{end-at, length-section}
 use Rattle.p21_stream_output.specs.Stored.{written_section}
-use Rattle.p21_stream_output.specs.declared.accepted.Section.{Section}
 use Rattle.p21_stream_output.proofs.cursor.Parts.last_line.Goals as goal
 
 pub returns-then-part-self : goal.returns-then-part-self

@@ -1,5 +1,5 @@
 use Rattle.std.proofs.Common.{List, ℕ, arith, ap, get_or, length}
-use Rattle.p21_exchange.proofs.BitSpellings.{length_spelled}
+use Rattle.p21_spec_exchange.proofs.BitSpellings.{length_spelled}
 use Rattle.p21_values.proofs.BitsLemmas.{length_token}
 use Rattle.p21_values.proofs.bits.Bits.len.Goals as goal
 

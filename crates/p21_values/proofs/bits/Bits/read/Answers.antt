@@ -1,5 +1,5 @@
 use Rattle.std.proofs.Common.{refl, subst, sym}
-use Rattle.p21_exchange.specs.Binary.{SpellsBits}
+use Rattle.p21_spec_exchange.specs.Binary.{SpellsBits}
 use Rattle.p21_values.proofs.BitsLemmas.{bits_of-spelled}
 use Rattle.p21_values.proofs.bits.Bits.read.Goals as goal
 

@@ -1,6 +1,6 @@
 use Rattle.std.proofs.Common.{◌++◌, ◌∙◌, List, ℕ, ap}
-use Rattle.p21_exchange.proofs.BitSpellings.{bits_spelled_once}
-use Rattle.p21_exchange.specs.Spelling.{bits_spelling}
+use Rattle.p21_spec_exchange.proofs.BitSpellings.{bits_spelled_once}
+use Rattle.p21_spec_exchange.specs.Spelling.{bits_spelling}
 use Rattle.p21_values.proofs.bits.BitsCanonical.write_canonical.Goals as goal
 
 pub returns-clause-ok : goal.returns-clause-ok

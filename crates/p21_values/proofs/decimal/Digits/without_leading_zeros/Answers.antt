@@ -1,6 +1,6 @@
 use Rattle.std.proofs.Common.{arith}
 use Rattle.std.proofs.lemmas.Bool.Decides.{nat_tests}
-use Rattle.p21_values.proofs.DigitRuns.{digits_parts}
+use Rattle.p21_scan.proofs.DigitRuns.{digits_parts}
 use Rattle.p21_values.proofs.Significands.{front_empty, front_kept}
 use Rattle.p21_values.proofs.decimal.Digits.without_leading_zeros.Goals as goal
 use Rattle.p21_values.proofs.decimal.Digits.without_leading_zeros.Goals.{then-is_empty, else-is_empty}

@@ -1,2 +1,0 @@
--- What the calls of C answer.
-pub mod Answers

@@ -1,6 +1,0 @@
--- The laws, from the theorems.
-use Rattle.p21_claim_steps.proofs.held_laws.Goals as goal
-use Rattle.p21_claim_steps.proofs.Holding.{unrefused-held, references-counted, references-few, statements-ended}
-
-pub returns : goal.returns
-returns c = record { held = unrefused-held; ended = statements-ended; references = references-counted; few = references-few }

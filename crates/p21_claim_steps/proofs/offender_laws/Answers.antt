@@ -1,6 +1,0 @@
--- The laws, from the theorems.
-use Rattle.p21_claim_steps.proofs.offender_laws.Goals as goal
-use Rattle.p21_claim_steps.proofs.Offenders.{given-taken, unrefused-has_size, no-file_dead, offender-dead, unlaid-dead}
-
-pub returns : goal.returns
-returns c = record { given = given-taken; unlaid = unlaid-dead; no_file = no-file_dead; offender = offender-dead; unrefused = unrefused-has_size }

@@ -1,6 +1,0 @@
--- The laws, from the theorems.
-use Rattle.p21_claim_values.proofs.header_laws.Goals as goal
-use Rattle.p21_claim_values.proofs.HeaderOnce.{params-tell, lines-tell}
-
-pub returns : goal.returns
-returns c = record { texts_tell = params-tell; lines_tell = lines-tell }

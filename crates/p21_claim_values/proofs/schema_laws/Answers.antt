@@ -1,6 +1,0 @@
--- The law, from the theorem.
-use Rattle.p21_claim_values.proofs.schema_laws.Goals as goal
-use Rattle.p21_schemas.proofs.DeclaredSchemas.{declared-well_formed}
-
-pub returns : goal.returns
-returns c = record { well_formed = declared-well_formed }

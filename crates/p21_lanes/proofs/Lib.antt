@@ -1,4 +1,0 @@
-pub mod Bits
-pub mod Showing
-pub mod Lanes
-pub mod Finding

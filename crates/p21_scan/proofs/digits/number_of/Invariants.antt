@@ -1,0 +1,10 @@
+use Rattle.std.proofs.Common.{◌≡◌, ◌<◌, ◌^◌, take}
+use Rattle.p21_spec_basics.specs.Digits.{number}
+use Rattle.p21_scan.proofs.digits.number_of.Given as goal
+
+-- the number of the digits so far
+abbrev pub invariant-loop-digit : goal.invariant-loop-digit
+invariant-loop-digit l = record {
+  value : l.value ≡ number (take l.digit-index l.digits);
+  small : l.value < 10 ^ l.digit-index;
+}

@@ -1,0 +1,51 @@
+//! What a file has, without its lines.
+ghost use Rattle.std.specs.Prelude.{◌≡◌, ◌≤◌, ◌+◌, IfErr, IfOk, OnOk};
+ghost use Rattle.p21_stream.specs.ReaderInput.{ConsumesAtMost, IsCountedInput, RefusesRead, read_failures};
+
+use crate::any_session::AnySession;
+use crate::read::feed_all;
+use p21_express_tables::Schema;
+use p21_stream_io::Watched;
+use p21_stream_statements::Refusal;
+use p21_values::Limits;
+use std::alloc::Global;
+use std::io::Read;
+
+/// How many instances an accepted file has, and how many bytes its canonical file.
+#[derive(Clone, Copy, Debug, PartialEq, Eq)]
+pub struct Counted {
+    pub instances: u64,
+    pub bytes: u64,
+}
+
+/// Reads a file to its end, as `accept` does, and keeps none of its lines.
+///
+/// # Errors
+///
+/// Those of `accept`.
+pub fn count<R: Read>(
+    alloc: Global,
+    schema: &Schema,
+    limits: Limits,
+    reader: &mut Watched<R>,
+) -> Result<Counted, Refusal>
+    ensures ok { IfOk result (λ counted.
+        IsCountedInput schema.now limits (R.remaining reader.old.inner) (R.remaining reader.new.inner) counted) }
+    ensures err { IfErr result (λ refusal.
+        RefusesRead schema.now limits (R.remaining reader.old.inner) (R.remaining reader.new.inner) refusal.fault) }
+    ensures consumed { ConsumesAtMost limits (R.remaining reader.old.inner) (R.remaining reader.new.inner) }
+
+    ensures moved { reader.new.moved ≤ reader.old.moved + (limits.file_source + 1) }
+    ensures read { OnOk result (reader.new.failures ≡ reader.old.failures) }
+    ensures failed { IfErr result (λ refusal. reader.new.failures ≡ read_failures reader.old.failures refusal.fault) }
+{
+    let mut session = AnySession::counting(alloc, schema, limits);
+    match feed_all(&mut session, reader, limits.file_source()) {
+        Ok(()) => {}
+        Err(refusal) => return Err(refusal),
+    }
+    match session.count() {
+        Ok(counted) => Ok(counted),
+        Err(refusal) => Err(refusal),
+    }
+}

@@ -1,0 +1,81 @@
+ghost use Rattle.std.specs.Prelude.{◌≡◌, ℕ, List, [], ◌∷◌, length, Contains, IfSome, IsNone, IsPermutation, OnErr, OnOk, true};
+ghost use Rattle.p21_spec_laws.specs.Stored.{kept_text};
+ghost use Rattle.p21_stream_kept.specs.KeptInstances.{instances_of, keeps_lines};
+ghost use Rattle.p21_stream_store.specs.StoredInstance.{instance_names};
+
+use p21_stream_store::{Instances, NamedMemberships};
+use p21_values::NoMemory;
+use std::alloc::Global;
+
+/// The instances that were taken, each with its name and its membership.
+#[derive(Drop)]
+pub enum KeptInstances {
+    /// With their lines.
+    WithLines(Instances),
+    /// Without, where they are counted alone.
+    Counted(NamedMemberships),
+}
+
+impl KeptInstances {
+    /// None. It takes no memory.
+    pub(crate) fn new(alloc: Global, lines: bool) -> KeptInstances
+        ensures none { instances_of result ≡ [] }
+        ensures lines { keeps_lines result ≡ lines }
+    {
+        if lines {
+            KeptInstances::WithLines(Instances::new(alloc))
+        } else {
+            KeptInstances::Counted(NamedMemberships::new(alloc))
+        }
+    }
+
+    /// How many instances there are.
+    pub(crate) fn len(&self) -> usize
+        ensures { result ≡ length (instances_of self.now) }
+    {
+        match self {
+            KeptInstances::WithLines(instances) => instances.len(),
+            KeptInstances::Counted(names) => names.len(),
+        }
+    }
+
+    /// The number of the membership of the instance of this name, if there is one.
+    #[inline(always)]
+    pub(crate) fn membership_of(&self, name: u64) -> Option<usize>
+        ensures some { IfSome result (λ membership. (text : List ℕ) × Contains (instances_of self.now) (record { name = name; membership = membership; text = text })) }
+        ensures none { IsNone result → Contains (instance_names (instances_of self.now)) name → ⊥ }
+    {
+        match self {
+            KeptInstances::WithLines(instances) => instances.membership_of(name),
+            KeptInstances::Counted(names) => names.membership_of(name),
+        }
+    }
+
+    /// Adds an instance whose name no instance has yet, with the number of its membership, and with its line where lines are kept.
+    ///
+    /// # Errors
+    ///
+    /// `NoMemory`, which changes nothing.
+    pub(crate) fn push(&mut self, name: u64, membership: usize, line: &[u8]) -> Result<(), NoMemory>
+        requires { Contains (instance_names (instances_of self.old)) name → ⊥ }
+        ensures ok { OnOk result (IsPermutation (record { name = name; membership = membership; text = kept_text (keeps_lines self.old) line.now } ∷ instances_of self.old) (instances_of self.new)) }
+        ensures err { OnErr result (instances_of self.new ≡ instances_of self.old) }
+        ensures lines { keeps_lines self.new ≡ keeps_lines self.old }
+    {
+        match self {
+            KeptInstances::WithLines(instances) => instances.push(name, membership, line),
+            KeptInstances::Counted(names) => names.push(name, membership),
+        }
+    }
+
+    /// The instances with their lines, where lines are kept.
+    pub(crate) fn into_lines(self) -> Instances
+        requires { keeps_lines self ≡ true }
+        ensures { result ≡ instances_of self }
+    {
+        match self {
+            KeptInstances::WithLines(instances) => instances,
+            KeptInstances::Counted(_) => unreachable!(),
+        }
+    }
+}

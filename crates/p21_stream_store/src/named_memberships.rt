@@ -1,0 +1,107 @@
+//! Memberships of instances by name, where no lines are kept.
+ghost use Rattle.std.specs.Prelude.{◌≡◌, ◌+◌, ℕ, List, [], ◌∷◌, length, Contains, IfSome, IsNone, IsPermutation, MatchBool, OnErr, OnOk, Some};
+ghost use Rattle.p21_stream_store.specs.Positions.{Changes, position_marked};
+ghost use Rattle.p21_stream_store.specs.StoredInstance.{StoredInstance, instance_names};
+
+use crate::named_lines::NamedLines;
+use crate::noted::{make_place, note_membership, noted_membership};
+use p21_values::NoMemory;
+use std::alloc::Global;
+use std::marker::Model;
+
+/// The names of instances, each with the number of its membership and with no text. A small name takes the byte at its number,
+/// whatever order names come in; those that have no byte stand among the others.
+pub struct NamedMemberships {
+    // At each small name one more than the number of its membership, if that is noted, or 0.
+    noted: Vec<u8>,
+    // So many names are noted; in 32 bits, so that a sum of counts stays in 64.
+    count: u32,
+    others: NamedLines,
+}
+
+// Written out: crates above call it, where they would prove a derived one field by field.
+impl Drop for NamedMemberships {
+    fn drop(self) {
+        let NamedMemberships {
+            noted: _,
+            count: _,
+            others: _,
+        } = self;
+    }
+}
+
+impl Model for NamedMemberships {
+    ghost use Rattle.std.specs.Prelude.{◌≡◌, ◌++◌, List, length};
+    ghost use Rattle.p21_stream_store.specs.NamedMemberships.{noted_from};
+    ghost use Rattle.p21_stream_store.specs.StoredInstance.{StoredInstance};
+
+    ghost Value = { List StoredInstance };
+
+    ghost view = { λ a. noted_from 0 a.noted.items ++ a.others };
+
+    ghost invariant = { λ a. a.count ≡ length (noted_from 0 a.noted.items) };
+}
+
+impl NamedMemberships {
+    /// No names. It takes no memory.
+    pub fn new(alloc: Global) -> NamedMemberships
+        ensures { result ≡ [] }
+    {
+        NamedMemberships {
+            noted: Vec::new(alloc),
+            count: 0,
+            others: NamedLines::new(alloc),
+        }
+    }
+
+    /// How many names there are.
+    pub fn len(&self) -> usize
+        ensures { result ≡ length self.now }
+    {
+        self.count as usize + self.others.count()
+    }
+
+    /// The number of the membership of the instance of this name, if there is one. A small name costs no search, nor does one
+    /// that rises.
+    pub fn membership_of(&self, name: u64) -> Option<usize>
+        ensures some { IfSome result (λ membership. (text : List ℕ) × Contains self.now (record { name = name; membership = membership; text = text })) }
+        ensures none { IsNone result → Contains (instance_names self.now) name → ⊥ }
+    {
+        if let Some(membership) = noted_membership(&self.noted, name) {
+            return Some(membership);
+        }
+        self.others.membership_of(name)
+    }
+
+    /// Adds a name that isn't there yet, with the number of its membership.
+    ///
+    /// # Errors
+    ///
+    /// `NoMemory`, which changes nothing.
+    pub fn push(&mut self, name: u64, membership: usize) -> Result<(), NoMemory>
+        requires { Contains (instance_names self.old) name → ⊥ }
+        ensures ok { OnOk result (IsPermutation (record { name = name; membership = membership; text = [] } ∷ self.old) self.new) }
+        ensures err { OnErr result (self.new ≡ self.old) }
+    {
+        let count = self.len();
+        let Ok(()) = make_place(&mut self.noted, name, count) else {
+            return Err(NoMemory);
+        };
+        if note(&mut self.noted, &mut self.count, name, membership) {
+            return Ok(());
+        }
+        self.others.push(name, membership, b"")
+    }
+}
+
+/// Notes the membership of a name of which nothing is noted, if there is a byte for it, and counts it; says whether it did.
+fn note(noted: &mut Vec<u8>, count: &mut u32, name: u64, membership: usize) -> bool
+    ensures noted { MatchBool result (Changes (position_marked noted.old.items) name (Some membership) (position_marked noted.new.items)) (noted.new.items ≡ noted.old.items) }
+    ensures count { MatchBool result (count.new ≡ count.old + 1) (count.new ≡ count.old) }
+{
+    if *count == u32::MAX || !note_membership(noted, name, membership) {
+        return false;
+    }
+    *count += 1;
+    true
+}

@@ -1,5 +1,0 @@
-pub mod Names
-pub mod Sifted
-pub mod Taking
-pub mod Listing
-pub mod Ending

@@ -1,3 +1,0 @@
-pub mod Sifting
-pub mod Steps
-pub mod Unserved

@@ -1,0 +1,98 @@
+use super::schemas::DEMO;
+use super::*;
+use p21_express_graph::EntityId;
+use p21_mapping_values::Need;
+use p21_transcribe::Draft;
+use p21_transcribe_instance::{Plan, Sets, append_external, append_instance};
+
+/// No canonical line here has more bytes.
+const ROOM: usize = 64;
+
+/// Whether the plan has a row of the entity, which is named so.
+fn is_known(schema: &Schema, plan: &mut Plan, entity: EntityId) -> bool {
+    plan.row(entity).is_some() && plan.entity(schema, b"POINT") == Some(entity)
+}
+
+/// Appends an instance of internal mapping whose entity is named POINT: whether it is taken whole.
+fn append_point(
+    alloc: Global,
+    schema: &Schema,
+    text: &[u8],
+    draft: &mut Draft,
+    needs: &mut Vec<Need>,
+) -> bool {
+    let mut plan = Plan::new(alloc);
+    match append_instance(schema, &mut plan, text, draft, needs) {
+        Some(found) => found.rest.is_empty() && is_known(schema, &mut plan, found.entity),
+        None => false,
+    }
+}
+
+/// Appends an instance of external mapping: whether it is taken whole, and its set is kept.
+fn append_several(
+    alloc: Global,
+    schema: &Schema,
+    text: &[u8],
+    draft: &mut Draft,
+    needs: &mut Vec<Need>,
+) -> bool {
+    let mut sets = Sets::new(alloc);
+    match append_external(schema, &mut sets, text, draft, needs) {
+        Some(found) => found.rest.is_empty() && sets.get(found.set).is_some(),
+        None => false,
+    }
+}
+
+/// Appends an instance of either mapping.
+fn append_either(
+    alloc: Global,
+    schema: &Schema,
+    text: &[u8],
+    draft: &mut Draft,
+    needs: &mut Vec<Need>,
+) -> bool {
+    if append_point(alloc, schema, text, draft, needs) {
+        return true;
+    }
+    draft.cut(0);
+    append_several(alloc, schema, text, draft, needs)
+}
+
+/// Whether an instance is taken straight from its bytes, with this canonical line.
+fn is_taken(alloc: Global, schema: &Schema, text: &[u8], wanted: &[u8]) -> bool {
+    let mut draft = Draft::new(alloc);
+    let mut needs = Vec::new(alloc);
+    draft.make_room(ROOM).is_ok()
+        && append_either(alloc, schema, text, &mut draft, &mut needs)
+        && draft.between(0, draft.len()) == wanted
+}
+
+fn first_left_of(alloc: Global, schema: &Schema, rows: Rows) -> &'static str {
+    for (text, wanted) in rows {
+        if !is_taken(alloc, schema, text.as_bytes(), wanted.as_bytes()) {
+            return text;
+        }
+    }
+    "none"
+}
+
+/// The first instance that isn't taken so.
+fn first_left(rt: &HostRuntime, schema: &str, rows: Rows) -> &'static str {
+    match read_schema(rt.alloc(), schema.as_bytes()) {
+        Ok(schema) => first_left_of(rt.alloc(), &schema, rows),
+        Err(_) => "the schema",
+    }
+}
+
+const USUAL: Rows = &[
+    ("#2 = POINT($, 1.0, 10.E-1);", "#2=POINT($,1.,1.);"),
+    (
+        "#1=(MARKED(.RED.)POINT(1.0,2.)SHAPE($));",
+        "#1=(MARKED(.RED.)POINT(1.,2.)SHAPE($));",
+    ),
+];
+
+#[test]
+fn usual_instances_are_taken_from_their_bytes(rt: HostRuntime) {
+    assert_eq!(rt; first_left(&rt, DEMO, USUAL), "none");
+}

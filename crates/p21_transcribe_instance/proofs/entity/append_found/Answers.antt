@@ -1,0 +1,22 @@
+use Rattle.p21_transcribe.proofs.Parts.{stays-behind}
+use Rattle.p21_transcribe_instance.proofs.Meaning.{entity-is}
+use Rattle.p21_transcribe_instance.proofs.Stepping.{entity-goes_on, none_from}
+use Rattle.p21_transcribe_instance.proofs.entity.append_found.Goals as goal
+
+pub is_prepared-requires : goal.is_prepared-requires
+is_prepared-requires c = let (word, named, takes) = c.in_ok-entity.ensures.some in entity-is c.args.schema.now c.in_ok-entity.entity.0 word named
+
+pub returns-clause-some : goal.returns-clause-some
+returns-clause-some c = record { behind = c.in_ok-entity.behind.now; between = _; entity = c.in_ok-entity.ensures.some; opened = c.in_ok-inside.ensures.some }
+
+pub returns-in_err-entity-clause-plan : goal.returns-in_err-entity-clause-plan
+returns-in_err-entity-clause-plan c = c.append_named.ensures.plan c.requires
+
+pub returns-then-not-is_prepared-clause-plan : goal.returns-then-not-is_prepared-clause-plan
+returns-then-not-is_prepared-clause-plan c = c.is_prepared.ensures (c.in_ok-entity.ensures.plan c.requires)
+
+pub returns-in_err-inside-clause-plan : goal.returns-in_err-inside-clause-plan
+returns-in_err-inside-clause-plan c = c.is_prepared.ensures (c.in_ok-entity.ensures.plan c.requires)
+
+pub returns-clause-plan : goal.returns-clause-plan
+returns-clause-plan c = c.is_prepared.ensures (c.in_ok-entity.ensures.plan c.requires)

@@ -1,0 +1,136 @@
+//! The keyword of an instance of internal mapping (ISO 10303-21, mapping of EXPRESS entity data types: internal mapping).
+ghost use Rattle.std.specs.Prelude.{◌≡◌, ◌<◌, IfNone, IfSome, length, slice_index};
+ghost use Rattle.p21_express_graph.specs.Resolved.{IsEntity};
+ghost use Rattle.p21_transcribe_instance.specs.TakenParameters.{TakesEntity, TakesOpenedEntity};
+ghost use Rattle.p21_transcribe_instance.specs.Steps.{IsPlanOf};
+ghost use Rattle.p21_values.specs.Canonical.{Continues};
+
+use crate::guess::has_name;
+use crate::plan::Plan;
+use crate::separated_delimiter::append_delimiter;
+use p21_express_graph::EntityId;
+use p21_express_tables::Schema;
+use p21_transcribe::{Draft, append_keyword, behind_separators};
+use std::simd::prelude::*;
+
+/// Appends the keyword at the front and the `(` behind it, where the keyword is the name of an entity that instances of internal
+/// mapping may have: the entity, and what stands behind the `(`. An entity that isn't prepared is.
+#[inline(always)]
+pub(crate) fn append_entity<'a>(
+    schema: &Schema,
+    plan: &mut Plan,
+    bytes: &'a [u8],
+    draft: &mut Draft,
+) -> Option<(EntityId, &'a [u8])>
+    requires { IsPlanOf schema.now plan.old }
+    ensures some { IfSome result (λ found. TakesOpenedEntity schema.now found.0.0 bytes.now found.1.now draft.old draft.new) }
+    ensures none { IfNone result (Continues draft.old draft.new) }
+    ensures plan { IsPlanOf schema.now plan.new }
+{
+    match append_guessed(schema, plan, bytes, draft) {
+        Some(found) => Some(found),
+        None => append_found(schema, plan, bytes, draft),
+    }
+}
+
+/// The same by a guess, where the entity is prepared, and no separator stands before the keyword or behind it.
+#[inline(always)]
+fn append_guessed<'a>(
+    schema: &Schema,
+    plan: &Plan,
+    bytes: &'a [u8],
+    draft: &mut Draft,
+) -> Option<(EntityId, &'a [u8])>
+    requires { IsPlanOf schema.now plan.now }
+    ensures some { IfSome result (λ found. TakesOpenedEntity schema.now found.0.0 bytes.now found.1.now draft.old draft.new) }
+    ensures none { IfNone result (draft.new ≡ draft.old) }
+{
+    let count = parenthesis_in(bytes)?;
+    let name = &bytes[..count];
+    let guess = plan.guess(name)?;
+    let row = plan.row(guess)?;
+    if !row.named_by_keyword {
+        return None;
+    }
+    if !has_name(schema, guess, name) {
+        return None;
+    }
+    if !draft.append_prefix(bytes, count + 1) {
+        return None;
+    }
+    Some((guess, &bytes[count + 1..]))
+}
+
+/// How many bytes are searched for a `(`.
+const NEAR: usize = 32;
+
+/// Where the first `(` stands, within the bytes that are searched.
+#[inline(always)]
+fn parenthesis_in(bytes: &[u8]) -> Option<usize>
+    ensures { IfSome result (λ count. (count < length bytes.now) × (slice_index bytes.now count ≡ 40)) }
+{
+    if bytes.len() < NEAR {
+        return None;
+    }
+    let marks = u8x32::from_slice(bytes)
+        .simd_eq(u8x32::splat(b'('))
+        .to_bitmask();
+    let count = marks.trailing_zeros() as usize;
+    if count >= NEAR || bytes[count] != b'(' {
+        return None;
+    }
+    Some(count)
+}
+
+/// The same by a look-up.
+#[inline(never)]
+fn append_found<'a>(
+    schema: &Schema,
+    plan: &mut Plan,
+    bytes: &'a [u8],
+    draft: &mut Draft,
+) -> Option<(EntityId, &'a [u8])>
+    requires { IsPlanOf schema.now plan.old }
+    ensures some { IfSome result (λ found. TakesOpenedEntity schema.now found.0.0 bytes.now found.1.now draft.old draft.new) }
+    ensures none { IfNone result (Continues draft.old draft.new) }
+    ensures plan { IsPlanOf schema.now plan.new }
+{
+    let (entity, behind) = append_named(schema, plan, bytes, draft)?;
+    if !is_prepared(plan, schema, entity) {
+        return None;
+    }
+    let inside = append_delimiter(b'(', behind, draft)?;
+    Some((entity, inside))
+}
+
+/// Appends the keyword at the front, where it is the name of an entity: that, and what stands behind the keyword.
+fn append_named<'a>(
+    schema: &Schema,
+    plan: &mut Plan,
+    bytes: &'a [u8],
+    draft: &mut Draft,
+) -> Option<(EntityId, &'a [u8])>
+    ensures some { IfSome result (λ found. TakesEntity schema.now found.0.0 bytes.now found.1.now draft.old draft.new) }
+    ensures none { IfNone result (Continues draft.old draft.new) }
+    ensures plan { IsPlanOf schema.now plan.old → IsPlanOf schema.now plan.new }
+{
+    let front = behind_separators(bytes);
+    let word = append_keyword(front, draft)?;
+    let entity = plan.entity(schema, word)?;
+    Some((entity, &front[word.len()..]))
+}
+
+/// Prepares an entity, where it isn't, and says whether instances may have its closure as their set. Want of memory counts as
+/// no.
+fn is_prepared(plan: &mut Plan, schema: &Schema, entity: EntityId) -> bool
+    requires { IsEntity schema.now entity.0 }
+    ensures { IsPlanOf schema.now plan.old → IsPlanOf schema.now plan.new }
+{
+    if plan.row(entity).is_some() {
+        return true;
+    }
+    match plan.prepare(schema, entity) {
+        Ok(may) => may,
+        Err(_) => false,
+    }
+}

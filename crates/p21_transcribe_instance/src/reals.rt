@@ -1,0 +1,62 @@
+//! Reals one behind the other, as the coordinates of a point (ISO 10303-21, mapping of EXPRESS aggregation data types).
+ghost use Rattle.std.specs.Prelude.{◌≤◌, List, ℕ, length, IfNone, IfSome, IsTrue};
+ghost use Rattle.p21_transcribe.specs.Gaps.{PassesSeparators};
+ghost use Rattle.p21_spec_schema.specs.Schema.{real};
+ghost use Rattle.p21_transcribe_instance.specs.Reals.{IsRealBase, TakesReal, TakesReals};
+ghost use Rattle.p21_transcribe_instance.specs.TakenValues.{TakesScalar};
+ghost use Rattle.p21_values.specs.Canonical.{Continues};
+
+use crate::delimiter::append_next_delimiter;
+use p21_express_graph::TypeUse;
+use p21_express_tables::Base;
+use p21_transcribe::{Draft, append_real, behind_separators};
+
+/// Whether a type comes down to REAL.
+#[inline(always)]
+pub(crate) fn is_real(base: &Base<'_>) -> bool
+    ensures { IsTrue result → IsRealBase base.now }
+{
+    match base {
+        Base::Plain(of) => matches!(*of, TypeUse::Real),
+        _ => false,
+    }
+}
+
+/// Reals with a comma between each two: how many, and what stands behind them.
+#[inline(always)]
+pub(crate) fn append_each_real<'a>(bytes: &'a [u8], draft: &mut Draft) -> Option<(usize, &'a [u8])>
+    ensures some { IfSome result (λ found. TakesReals found.0 bytes.now found.1.now draft.old draft.new) }
+    ensures none { IfNone result (Continues draft.old draft.new) }
+{
+    if let Some(b')') = bytes.first() {
+        return Some((0, bytes));
+    }
+    let mut behind = append_next_real(bytes, draft)?;
+    let mut count = 1;
+    while let Some(next) = append_next_delimiter(b',', behind, draft) {
+        behind = append_next_real(next, draft)?;
+        count += 1;
+    }
+    Some((count, behind))
+}
+
+/// The real at the front, behind separators: what stands behind it.
+#[inline(always)]
+fn append_next_real<'a>(bytes: &'a [u8], draft: &mut Draft) -> Option<&'a [u8]>
+    ensures some { IfSome result (λ rest. (inside : List ℕ) × PassesSeparators bytes.now inside × TakesReal inside rest.now draft.old draft.new) }
+    ensures shorter { IfSome result (λ rest. length rest.now ≤ length bytes.now) }
+    ensures draft { Continues draft.old draft.new }
+{
+    let front = behind_separators(bytes);
+    let count = append_first_real(front, draft)?;
+    Some(&front[count..])
+}
+
+/// The real at the front: how many bytes it has.
+#[inline(always)]
+fn append_first_real(bytes: &[u8], draft: &mut Draft) -> Option<usize>
+    ensures some { IfSome result (λ count. TakesScalar real bytes.now count draft.old draft.new) }
+    ensures draft { Continues draft.old draft.new }
+{
+    append_real(bytes, false, draft)
+}

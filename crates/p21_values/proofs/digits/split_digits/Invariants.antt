@@ -1,7 +1,0 @@
-use Rattle.std.proofs.Common.{take}
-use Rattle.p21_basics.specs.Digits.{AllDigits}
-use Rattle.p21_values.proofs.digits.split_digits.Given as goal
-
--- what was passed are digits
-abbrev pub invariant-loop-i : goal.invariant-loop-i
-invariant-loop-i l = AllDigits (take l.i l.bytes)
