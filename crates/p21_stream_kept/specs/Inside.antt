@@ -1,10 +1,12 @@
 -- What the fields hold, as pure data.
 use Rattle.std.specs.Prelude.{Bool, ◌≡◌, ◌<◌, ◌≤◌, ◌+◌, ◌^◌, List, length, map, true}
 use Rattle.p21_spec_laws.specs.Keeping.{Kept}
+use Rattle.p21_spec_laws.specs.Stored.{StoredEntry}
 use Rattle.p21_spec_laws.specs.Waiting as waiting
 use Rattle.p21_mapping_values.specs.TypedView.{need_view}
 use Rattle.p21_stream_kept.specs.declared.kept.Kept.TheInside.{Inside}
 use Rattle.p21_stream_kept.specs.declared.kept.Reference.{Reference}
+use Rattle.p21_stream_kept.specs.declared.stored.Stored.{Stored}
 use Rattle.p21_stream_store.specs.StoredInstance.{StoredInstance}
 use Rattle.p21_stream_kept.specs.KeptInstances.{instances_of, keeps_lines}
 pub use Rattle.p21_stream_output.specs.Ending.{AreNamed, stored_of, stored_with}
@@ -16,12 +18,19 @@ reference_of r = (r.holder, need_view r.need)
 abbrev pub references_of : List Reference → List waiting.Reference
 references_of all = map reference_of all
 
+abbrev pub stored_in : Stored → List StoredEntry
+stored_in a = stored_of a.memberships (instances_of a.instances)
+
+-- each instance has the number of a membership
+abbrev pub AreStored : Stored → Type 0
+AreStored a = HaveMemberships a.memberships (instances_of a.instances)
+
 abbrev pub kept_of : Inside → Kept
 kept_of a = record {
-  lines = keeps_lines a.instances;
+  lines = keeps_lines a.stored.instances;
   header = a.header.items;
   headings = a.sections;
-  stored = stored_of a.memberships (instances_of a.instances);
+  stored = stored_in a.stored;
   waiting = references_of a.waiting.references.items;
   references = a.references;
   bytes = a.bytes;
@@ -36,8 +45,8 @@ pub record AreNamedWhereKept (lines : Bool) (instances : List StoredInstance) : 
 -- of its instance, 64 bits count the bytes of all lines, and no more references have come than may before those that wait are looked
 -- at again
 pub record IsWhole (a : Inside) : Type 0 where
-  pub memberships : HaveMemberships a.memberships (instances_of a.instances)
-  pub sections : AreOfSections (length a.sections) a.memberships
-  pub named : AreNamedWhereKept (keeps_lines a.instances) (instances_of a.instances)
+  pub memberships : AreStored a.stored
+  pub sections : AreOfSections (length a.sections) a.stored.memberships
+  pub named : AreNamedWhereKept (keeps_lines a.stored.instances) (instances_of a.stored.instances)
   pub counted : a.bytes + a.framing < 2 ^ 64
   pub patient : a.references ≤ a.waiting.due

@@ -18,13 +18,12 @@ ghost use Rattle.p21_stream_kept.specs.Taking.{Follows, FollowsFound, IsKeptOfFi
 use crate::canonical_limits::fits_limits;
 use crate::end::named_sections_of;
 use crate::found::{FoundInstance, find_instance};
-use crate::kept_instances::KeptInstances;
 use crate::schema_name::names_schema;
 use crate::sections::Sections;
 use crate::served::{first_unserved, learn_waiting, refusal_of};
 use crate::servers::Servers;
 use crate::shape::{heading, line_size, schema_text};
-use crate::stored::{has_instance, store};
+use crate::stored::Stored;
 use crate::waiting::Waiting;
 use crate::workspace::Workspace;
 use p21_canon::write_header;
@@ -34,7 +33,6 @@ use p21_grammar_tree::{Part, Record};
 use p21_mapping_values::Need;
 use p21_stream_output::{Accepted, accepted_file};
 use p21_stream_statements::Fault;
-use p21_stream_store::Memberships;
 use p21_values::{Canonical, Limits, Name, NoMemory, Text};
 use std::alloc::Global;
 use std::marker::Model;
@@ -46,9 +44,8 @@ pub struct Kept {
     // The canonical lines of the header records, each with its line feed.
     pub(crate) header: Vec<u8>,
     pub(crate) sections: Sections,
-    pub(crate) memberships: Memberships,
     // With their lines, where these are kept.
-    pub(crate) instances: KeptInstances,
+    pub(crate) stored: Stored,
     pub(crate) waiting: Waiting,
     pub(crate) servers: Servers,
     // All references, those that don't wait among them.
@@ -66,8 +63,7 @@ impl Drop for Kept {
             alloc: _,
             header: _,
             sections: _,
-            memberships: _,
-            instances: _,
+            stored: _,
             waiting: _,
             servers: _,
             references: _,
@@ -118,8 +114,7 @@ impl Kept {
             alloc,
             header: Vec::new(alloc),
             sections: Sections::new(alloc),
-            memberships: Memberships::new(alloc),
-            instances: KeptInstances::new(alloc, lines),
+            stored: Stored::new(alloc, lines),
             waiting: Waiting::new(alloc),
             servers: Servers::new(alloc),
             references: 0,
@@ -298,7 +293,7 @@ impl Kept {
     fn has_name(&self, name: Name) -> bool
         ensures { IsTrue result ↔ Contains (map (λ (x : StoredEntry). x.name) self.now.stored) name }
     {
-        has_instance(&self.instances, name)
+        self.stored.has_name(name)
     }
 
     /// Keeps an instance whose name none has before it, by what is found of it.
@@ -325,37 +320,22 @@ impl Kept {
             return Err(Fault::CanonicalTooLong);
         }
         let section = self.sections.last();
-        let Ok(()) = self.waiting.add(
-            schema,
-            &self.memberships,
-            &self.instances,
-            &mut self.servers,
-            found.name,
-            found.needs,
-        )
+        let Ok(()) = self
+            .waiting
+            .add(schema, &self.stored, &mut self.servers, found)
         else {
             return Err(Fault::NoMemory);
         };
-        let Ok(()) = store(
-            self.alloc,
-            &mut self.memberships,
-            &mut self.instances,
-            section,
-            found,
-        ) else {
+        let Ok(()) = self.stored.push(self.alloc, section, found) else {
             return Err(Fault::NoMemory);
         };
         self.servers.note_size(found.entities.len());
         self.references += found.needs.len() as u64;
         self.bytes += size;
         self.framing += 1;
-        let Ok(()) = self.waiting.look_again(
-            schema,
-            &self.memberships,
-            &self.instances,
-            &mut self.servers,
-            self.references,
-        )
+        let Ok(()) = self
+            .waiting
+            .look_again(schema, &self.stored, &mut self.servers, self.references)
         else {
             return Err(Fault::NoMemory);
         };
@@ -373,7 +353,7 @@ impl Kept {
     pub fn count(&self) -> u64
         ensures { result ≡ length self.now.stored }
     {
-        self.instances.len() as u64
+        self.stored.instances.len() as u64
     }
 
     /// The bytes of all canonical lines, with their line feeds.
@@ -400,8 +380,7 @@ impl Kept {
     {
         learn_waiting(
             schema,
-            &self.memberships,
-            &self.instances,
+            &self.stored,
             &mut self.servers,
             self.waiting.items(),
         )
@@ -412,13 +391,7 @@ impl Kept {
     pub fn first_unserved(&self, schema: &Schema) -> Option<(Name, Fault)>
         ensures { AnswersUnserved schema.now self.now.stored self.now.waiting result }
     {
-        first_unserved(
-            schema,
-            &self.memberships,
-            &self.instances,
-            &self.servers,
-            self.waiting.items(),
-        )
+        first_unserved(schema, &self.stored, &self.servers, self.waiting.items())
     }
 
     /// The references that wait, in the order of the file. It takes no memory.
@@ -433,7 +406,7 @@ impl Kept {
     pub fn refusal_of(&self, schema: &Schema, need: &Need) -> Option<Fault>
         ensures { AnswersNeed schema.now self.now.stored (need_view need.now) result }
     {
-        refusal_of(schema, &self.memberships, &self.instances, need)
+        refusal_of(schema, &self.stored, need)
     }
 
     /// The accepted file of what is kept, where lines are, and where all references are served. The statements are those of a whole file, and the
@@ -451,8 +424,7 @@ impl Kept {
             alloc,
             header,
             sections,
-            memberships,
-            instances,
+            stored,
             waiting,
             servers,
             references: _,
@@ -462,6 +434,10 @@ impl Kept {
         // The references that waited have no use any more, and their room is given back before more is asked for.
         drop(waiting);
         drop(servers);
+        let Stored {
+            memberships,
+            instances,
+        } = stored;
         let instances = instances.into_lines();
         let parts = named_sections_of(alloc, sections.items())?;
         accepted_file(

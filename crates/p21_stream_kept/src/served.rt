@@ -3,34 +3,28 @@ ghost use Rattle.std.specs.Prelude.{◌≡◌, [], ◌∷◌, IsTrue, OnOk, fals
 ghost use Rattle.p21_spec_laws.specs.Keeping.{IsServedBy, IsServedByNone};
 ghost use Rattle.p21_mapping.specs.Checked.{needs_view};
 ghost use Rattle.p21_mapping_values.specs.TypedView.{need_view};
-ghost use Rattle.p21_stream_kept.specs.Inside.{HaveMemberships, references_of, stored_of};
-ghost use Rattle.p21_stream_kept.specs.KeptInstances.{instances_of};
+ghost use Rattle.p21_stream_kept.specs.Inside.{AreStored, references_of, stored_in};
 ghost use Rattle.p21_stream_kept.specs.Served.{AddsWaiting, AnswersNeed, AnswersUnserved, DropsServed};
 
+use crate::found::FoundInstance;
 use crate::kept::Reference;
-use crate::kept_instances::KeptInstances;
 use crate::servers::Servers;
+use crate::stored::Stored;
 use p21_express_tables::Schema;
 use p21_mapping::serves;
 use p21_mapping_values::Need;
 use p21_stream_statements::Fault;
-use p21_stream_store::Memberships;
 use p21_values::{Name, NoMemory};
 
 /// Why no instance serves a need: none has its name, or the one that has it isn't of the type. It takes no memory.
-pub(crate) fn refusal_of(
-    schema: &Schema,
-    memberships: &Memberships,
-    instances: &KeptInstances,
-    need: &Need,
-) -> Option<Fault>
-    requires { HaveMemberships memberships.now (instances_of instances.now) }
-    ensures { AnswersNeed schema.now (stored_of memberships.now (instances_of instances.now)) (need_view need.now) result }
+pub(crate) fn refusal_of(schema: &Schema, stored: &Stored, need: &Need) -> Option<Fault>
+    requires { AreStored stored.now }
+    ensures { AnswersNeed schema.now (stored_in stored.now) (need_view need.now) result }
 {
-    let Some(membership) = instances.membership_of(need.target.0) else {
+    let Some(membership) = stored.instances.membership_of(need.target.0) else {
         return Some(Fault::Dangling);
     };
-    let (_, entities) = memberships.get(membership);
+    let (_, entities) = stored.memberships.get(membership);
     if serves(schema, need, entities) {
         None
     } else {
@@ -40,74 +34,60 @@ pub(crate) fn refusal_of(
 
 /// The same by what is remembered of large sets.
 #[inline(always)]
-fn refusal_with(
-    schema: &Schema,
-    memberships: &Memberships,
-    instances: &KeptInstances,
-    servers: &Servers,
-    need: &Need,
-) -> Option<Fault>
-    requires { HaveMemberships memberships.now (instances_of instances.now) }
-    ensures { AnswersNeed schema.now (stored_of memberships.now (instances_of instances.now)) (need_view need.now) result }
+fn refusal_with(schema: &Schema, stored: &Stored, servers: &Servers, need: &Need) -> Option<Fault>
+    requires { AreStored stored.now }
+    ensures { AnswersNeed schema.now (stored_in stored.now) (need_view need.now) result }
 {
-    if servers.has_large_sets() && is_served(schema, memberships, instances, servers, need) {
+    if servers.has_large_sets() && is_served(schema, stored, servers, need) {
         return None;
     }
-    refusal_of(schema, memberships, instances, need)
+    refusal_of(schema, stored, need)
 }
 
 /// Whether an instance is known to serve a need, by what is remembered of large sets. It takes no memory.
 #[inline(never)]
-fn is_served(
-    schema: &Schema,
-    memberships: &Memberships,
-    instances: &KeptInstances,
-    servers: &Servers,
-    need: &Need,
-) -> bool
-    requires { HaveMemberships memberships.now (instances_of instances.now) }
-    ensures { IsTrue result → IsServedBy schema.now (stored_of memberships.now (instances_of instances.now)) (need_view need.now) }
+fn is_served(schema: &Schema, stored: &Stored, servers: &Servers, need: &Need) -> bool
+    requires { AreStored stored.now }
+    ensures { IsTrue result → IsServedBy schema.now (stored_in stored.now) (need_view need.now) }
 {
-    let Some(membership) = instances.membership_of(need.target.0) else {
+    let Some(membership) = stored.instances.membership_of(need.target.0) else {
         return false;
     };
-    let (_, entities) = memberships.get(membership);
-    servers.serve(schema, need, memberships.set(membership), entities)
+    let (_, entities) = stored.memberships.get(membership);
+    servers.serve(schema, need, stored.memberships.set(membership), entities)
 }
 
 /// Has it remembered which entity of a large set serves a need.
 #[inline(never)]
 fn learn(
     schema: &Schema,
-    memberships: &Memberships,
-    instances: &KeptInstances,
+    stored: &Stored,
     servers: &mut Servers,
     need: &Need,
 ) -> Result<(), NoMemory>
-    requires { HaveMemberships memberships.now (instances_of instances.now) }
+    requires { AreStored stored.now }
 {
-    let Some(membership) = instances.membership_of(need.target.0) else {
+    let Some(membership) = stored.instances.membership_of(need.target.0) else {
         return Ok(());
     };
-    let (_, entities) = memberships.get(membership);
-    servers.learn(schema, need, memberships.set(membership), entities)
+    let (_, entities) = stored.memberships.get(membership);
+    servers.learn(schema, need, stored.memberships.set(membership), entities)
 }
 
 /// The same for the references that wait.
 pub(crate) fn learn_waiting(
     schema: &Schema,
-    memberships: &Memberships,
-    instances: &KeptInstances,
+    stored: &Stored,
     servers: &mut Servers,
     waiting: &[Reference],
 ) -> Result<(), NoMemory>
-    requires { HaveMemberships memberships.now (instances_of instances.now) }
+    requires { AreStored stored.now }
 {
     if !servers.has_large_sets() {
         return Ok(());
     }
     for waits in waiting {
-        learn(schema, memberships, instances, servers, &waits.need)?;
+        learn(schema, stored, servers, &waits.need)?;
     }
     Ok(())
 }
@@ -115,53 +95,41 @@ pub(crate) fn learn_waiting(
 /// Adds the needs of an instance that none serves yet.
 pub(crate) fn add_waiting(
     schema: &Schema,
-    memberships: &Memberships,
-    instances: &KeptInstances,
+    stored: &Stored,
     servers: &mut Servers,
-    holder: Name,
-    needs: &[Need],
+    found: &FoundInstance<'_>,
     waiting: &mut Vec<Reference>,
 ) -> Result<(), NoMemory>
-    requires { HaveMemberships memberships.now (instances_of instances.now) }
-    ensures { OnOk result (AddsWaiting schema.now (stored_of memberships.now (instances_of instances.now)) holder (needs_view needs.now) (references_of waiting.old.items) (references_of waiting.new.items)) }
+    requires { AreStored stored.now }
+    ensures { OnOk result (AddsWaiting schema.now (stored_in stored.now) found.now.name (needs_view found.now.needs.now) (references_of waiting.old.items) (references_of waiting.new.items)) }
 {
-    for need in needs {
+    for need in found.needs {
         if servers.has_large_sets() {
-            learn(schema, memberships, instances, servers, need)?;
+            learn(schema, stored, servers, need)?;
         }
-        add_waiting_need(
-            schema,
-            memberships,
-            instances,
-            servers,
-            holder,
-            need,
-            waiting,
-        )?;
+        let reference = Reference {
+            holder: found.name,
+            need: *need,
+        };
+        add_unserved(schema, stored, servers, reference, waiting)?;
     }
     Ok(())
 }
 
-/// Adds a need where none serves it yet.
-fn add_waiting_need(
+/// Adds a reference where no instance serves it yet.
+fn add_unserved(
     schema: &Schema,
-    memberships: &Memberships,
-    instances: &KeptInstances,
+    stored: &Stored,
     servers: &Servers,
-    holder: Name,
-    need: &Need,
+    reference: Reference,
     waiting: &mut Vec<Reference>,
 ) -> Result<(), NoMemory>
-    requires { HaveMemberships memberships.now (instances_of instances.now) }
-    ensures { OnOk result (AddsWaiting schema.now (stored_of memberships.now (instances_of instances.now)) holder (need_view need.now ∷ []) (references_of waiting.old.items) (references_of waiting.new.items)) }
+    requires { AreStored stored.now }
+    ensures { OnOk result (AddsWaiting schema.now (stored_in stored.now) reference.holder (need_view reference.need ∷ []) (references_of waiting.old.items) (references_of waiting.new.items)) }
 {
-    if refusal_with(schema, memberships, instances, servers, need).is_none() {
+    if !is_unserved(schema, stored, servers, &reference) {
         return Ok(());
     }
-    let reference = Reference {
-        holder,
-        need: *need,
-    };
     waiting.push(reference)?;
     Ok(())
 }
@@ -169,15 +137,14 @@ fn add_waiting_need(
 /// Drops the references that an instance serves by now. Those that are left stay in their order.
 pub(crate) fn drop_served(
     schema: &Schema,
-    memberships: &Memberships,
-    instances: &KeptInstances,
+    stored: &Stored,
     servers: &Servers,
     waiting: &mut Vec<Reference>,
 )
-    requires { HaveMemberships memberships.now (instances_of instances.now) }
-    ensures { DropsServed schema.now (stored_of memberships.now (instances_of instances.now)) (references_of waiting.old.items) (references_of waiting.new.items) }
+    requires { AreStored stored.now }
+    ensures { DropsServed schema.now (stored_in stored.now) (references_of waiting.old.items) (references_of waiting.new.items) }
 {
-    waiting.retain(|reference| is_unserved(schema, memberships, instances, servers, reference));
+    waiting.retain(|reference| is_unserved(schema, stored, servers, reference));
     give_back(waiting);
 }
 
@@ -196,34 +163,27 @@ fn give_back(waiting: &mut Vec<Reference>)
 }
 
 /// Whether no instance serves a reference yet.
-fn is_unserved(
-    schema: &Schema,
-    memberships: &Memberships,
-    instances: &KeptInstances,
-    servers: &Servers,
-    reference: &Reference,
-) -> bool
-    requires { HaveMemberships memberships.now (instances_of instances.now) }
-    ensures served { result ≡ false → IsServedBy schema.now (stored_of memberships.now (instances_of instances.now)) (need_view reference.now.need) }
-    ensures unserved { result ≡ true → IsServedByNone schema.now (stored_of memberships.now (instances_of instances.now)) (need_view reference.now.need) }
+fn is_unserved(schema: &Schema, stored: &Stored, servers: &Servers, reference: &Reference) -> bool
+    requires { AreStored stored.now }
+    ensures served { result ≡ false → IsServedBy schema.now (stored_in stored.now) (need_view reference.now.need) }
+    ensures unserved { result ≡ true → IsServedByNone schema.now (stored_in stored.now) (need_view reference.now.need) }
 {
-    refusal_with(schema, memberships, instances, servers, &reference.need).is_some()
+    refusal_with(schema, stored, servers, &reference.need).is_some()
 }
 
 /// The first reference that no instance serves, by the name of the instance that has it, and why. It takes no memory.
 pub(crate) fn first_unserved(
     schema: &Schema,
-    memberships: &Memberships,
-    instances: &KeptInstances,
+    stored: &Stored,
     servers: &Servers,
     waiting: &[Reference],
 ) -> Option<(Name, Fault)>
-    requires { HaveMemberships memberships.now (instances_of instances.now) }
-    ensures { AnswersUnserved schema.now (stored_of memberships.now (instances_of instances.now)) (references_of waiting.now) result }
+    requires { AreStored stored.now }
+    ensures { AnswersUnserved schema.now (stored_in stored.now) (references_of waiting.now) result }
 {
     for reference in waiting {
         let need = &reference.need;
-        if let Some(fault) = refusal_with(schema, memberships, instances, servers, need) {
+        if let Some(fault) = refusal_with(schema, stored, servers, need) {
             return Some((reference.holder, fault));
         }
     }

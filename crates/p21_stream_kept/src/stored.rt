@@ -1,8 +1,9 @@
-ghost use Rattle.std.specs.Prelude.{◌≡◌, ◌↔◌, ◌<◌, ◌∷◌, ℕ, Contains, IsPermutation, IsTrue, OnOk};
+//! The instances that were taken, each with its membership.
+ghost use Rattle.std.specs.Prelude.{◌≡◌, ◌↔◌, ◌<◌, [], ◌∷◌, ℕ, Contains, IsPermutation, IsTrue, OnOk};
 ghost use Rattle.p21_spec_laws.specs.Stored.{kept_text};
 ghost use Rattle.p21_mapping_values.specs.TypedView.{ids_view};
 ghost use Rattle.p21_stream_output.specs.Output.{IsNamed};
-ghost use Rattle.p21_stream_kept.specs.Inside.{HaveMemberships, AreNamed, AreOfSections, stored_of};
+ghost use Rattle.p21_stream_kept.specs.Inside.{AreNamed, AreOfSections, AreStored, stored_in};
 ghost use Rattle.p21_stream_kept.specs.KeptInstances.{instances_of, keeps_lines};
 ghost use Rattle.p21_stream_store.specs.StoredInstance.{instance_names};
 
@@ -12,34 +13,54 @@ use p21_stream_store::Memberships;
 use p21_values::{Name, NoMemory};
 use std::alloc::Global;
 
-/// Whether an instance has this name.
-pub(crate) fn has_instance(instances: &KeptInstances, name: Name) -> bool
-    ensures { IsTrue result ↔ Contains (instance_names (instances_of instances.now)) name }
-{
-    instances.membership_of(name.0).is_some()
+/// The instances that were taken, and the memberships that they have.
+#[derive(Drop)]
+pub struct Stored {
+    pub(crate) memberships: Memberships,
+    pub(crate) instances: KeptInstances,
 }
 
-/// Adds an instance of a data section, by what is found of it, with its line where lines are kept. It has a name that none has
-/// before it.
-pub(crate) fn store(
-    alloc: Global,
-    memberships: &mut Memberships,
-    instances: &mut KeptInstances,
-    section: usize,
-    found: &FoundInstance<'_>,
-) -> Result<(), NoMemory>
-    requires memberships { HaveMemberships memberships.old (instances_of instances.old) }
-    requires another { Contains (instance_names (instances_of instances.old)) found.now.name → ⊥ }
-    ensures memberships { HaveMemberships memberships.new (instances_of instances.new) }
-    ensures sections { (many : ℕ) → section < many → AreOfSections many memberships.old → AreOfSections many memberships.new }
-    ensures named { AreNamed (instances_of instances.old) → IsNamed found.now.name (kept_text (keeps_lines instances.old) found.now.line.now) → AreNamed (instances_of instances.new) }
-    ensures lines { keeps_lines instances.new ≡ keeps_lines instances.old }
-    ensures ok { OnOk result (IsPermutation (record { name = found.now.name; section = section; entities = ids_view found.now.entities.now; text = kept_text (keeps_lines instances.old) found.now.line.now } ∷ stored_of memberships.old (instances_of instances.old)) (stored_of memberships.new (instances_of instances.new))) }
-{
-    let name = found.name;
-    let membership = match memberships.add(alloc, section, found.entities) {
-        Ok(membership) => membership,
-        Err(fault) => return Err(fault),
-    };
-    instances.push(name.0, membership, found.line)
+impl Stored {
+    /// None, which will be kept with their lines or without. It takes no memory.
+    pub(crate) fn new(alloc: Global, lines: bool) -> Stored
+        ensures memberships { result.memberships ≡ [] }
+        ensures none { instances_of result.instances ≡ [] }
+        ensures lines { keeps_lines result.instances ≡ lines }
+    {
+        Stored {
+            memberships: Memberships::new(alloc),
+            instances: KeptInstances::new(alloc, lines),
+        }
+    }
+
+    /// Whether an instance has this name.
+    pub(crate) fn has_name(&self, name: Name) -> bool
+        ensures { IsTrue result ↔ Contains (instance_names (instances_of self.now.instances)) name }
+    {
+        self.instances.membership_of(name.0).is_some()
+    }
+
+    /// Adds an instance of a data section, by what is found of it, with its line where lines are kept. It has a name that none has
+    /// before it.
+    pub(crate) fn push(
+        &mut self,
+        alloc: Global,
+        section: usize,
+        found: &FoundInstance<'_>,
+    ) -> Result<(), NoMemory>
+        requires memberships { AreStored self.old }
+        requires another { Contains (instance_names (instances_of self.old.instances)) found.now.name → ⊥ }
+        ensures memberships { AreStored self.new }
+        ensures sections { (many : ℕ) → section < many → AreOfSections many self.old.memberships → AreOfSections many self.new.memberships }
+        ensures named { AreNamed (instances_of self.old.instances) → IsNamed found.now.name (kept_text (keeps_lines self.old.instances) found.now.line.now) → AreNamed (instances_of self.new.instances) }
+        ensures lines { keeps_lines self.new.instances ≡ keeps_lines self.old.instances }
+        ensures ok { OnOk result (IsPermutation (record { name = found.now.name; section = section; entities = ids_view found.now.entities.now; text = kept_text (keeps_lines self.old.instances) found.now.line.now } ∷ stored_in self.old) (stored_in self.new)) }
+    {
+        let name = found.name;
+        let membership = match self.memberships.add(alloc, section, found.entities) {
+            Ok(membership) => membership,
+            Err(fault) => return Err(fault),
+        };
+        self.instances.push(name.0, membership, found.line)
+    }
 }

@@ -1,18 +1,16 @@
 //! References that wait for the instances that serve them.
 ghost use Rattle.std.specs.Prelude.{◌≡◌, ◌<◌, ◌≤◌, ◌+◌, ◌-◌, ◌^◌, [], length, max, min, OnOk};
 ghost use Rattle.p21_mapping.specs.Checked.{needs_view};
-ghost use Rattle.p21_stream_kept.specs.Inside.{HaveMemberships, references_of, stored_of};
-ghost use Rattle.p21_stream_kept.specs.KeptInstances.{instances_of};
+ghost use Rattle.p21_stream_kept.specs.Inside.{AreStored, references_of, stored_in};
 ghost use Rattle.p21_stream_kept.specs.Served.{AddsWaiting, DropsServed};
 
+use crate::found::FoundInstance;
 use crate::kept::Reference;
-use crate::kept_instances::KeptInstances;
 use crate::served::{add_waiting, drop_served, learn_waiting};
 use crate::servers::Servers;
+use crate::stored::Stored;
 use p21_express_tables::Schema;
-use p21_mapping_values::Need;
-use p21_stream_store::Memberships;
-use p21_values::{Name, NoMemory};
+use p21_values::NoMemory;
 use std::alloc::Global;
 
 /// So many references may come, in any file, before the waiting ones are looked at again.
@@ -49,25 +47,15 @@ impl Waiting {
     pub(crate) fn add(
         &mut self,
         schema: &Schema,
-        memberships: &Memberships,
-        instances: &KeptInstances,
+        stored: &Stored,
         servers: &mut Servers,
-        holder: Name,
-        needs: &[Need],
+        found: &FoundInstance<'_>,
     ) -> Result<(), NoMemory>
-        requires { HaveMemberships memberships.now (instances_of instances.now) }
-        ensures ok { OnOk result (AddsWaiting schema.now (stored_of memberships.now (instances_of instances.now)) holder (needs_view needs.now) (references_of self.old.references.items) (references_of self.new.references.items)) }
+        requires { AreStored stored.now }
+        ensures ok { OnOk result (AddsWaiting schema.now (stored_in stored.now) found.now.name (needs_view found.now.needs.now) (references_of self.old.references.items) (references_of self.new.references.items)) }
         ensures due { self.new.due ≡ self.old.due }
     {
-        add_waiting(
-            schema,
-            memberships,
-            instances,
-            servers,
-            holder,
-            needs,
-            &mut self.references,
-        )
+        add_waiting(schema, stored, servers, found, &mut self.references)
     }
 
     /// Drops the references that an instance serves by now, where more references of the file have come than are due. Then as
@@ -80,28 +68,21 @@ impl Waiting {
     pub(crate) fn look_again(
         &mut self,
         schema: &Schema,
-        memberships: &Memberships,
-        instances: &KeptInstances,
+        stored: &Stored,
         servers: &mut Servers,
         come: u64,
     ) -> Result<(), NoMemory>
-        requires { HaveMemberships memberships.now (instances_of instances.now) }
+        requires { AreStored stored.now }
         ensures early { come ≤ self.old.due → self.new.references.items ≡ self.old.references.items }
-        ensures left { self.old.due < come → DropsServed schema.now (stored_of memberships.now (instances_of instances.now)) (references_of self.old.references.items) (references_of self.new.references.items) }
+        ensures left { self.old.due < come → DropsServed schema.now (stored_in stored.now) (references_of self.old.references.items) (references_of self.new.references.items) }
         ensures next { self.old.due < come → self.new.due ≡ min (come + max 1024 (length self.new.references.items)) (2 ^ 64 - 1) }
         ensures ahead { come ≤ self.new.due }
     {
         if come <= self.due {
             return Ok(());
         }
-        let learned = learn_waiting(schema, memberships, instances, servers, &self.references);
-        drop_served(
-            schema,
-            memberships,
-            instances,
-            servers,
-            &mut self.references,
-        );
+        let learned = learn_waiting(schema, stored, servers, &self.references);
+        drop_served(schema, stored, servers, &mut self.references);
         self.due = next_due(come, self.references.len());
         learned
     }

@@ -3,15 +3,14 @@ use Rattle.std.proofs.lemmas.List.{drop_all}
 use Rattle.p21_spec_laws.specs.Waiting.{Reference}
 use Rattle.p21_mapping_values.specs.TypedView.{need_view}
 use Rattle.p21_stream_kept.proofs.Unserved.{references-from, unserved-behind, unserved-here}
-use Rattle.p21_stream_kept.specs.Inside.{reference_of, references_of, stored_of}
+use Rattle.p21_stream_kept.specs.Inside.{reference_of, references_of, stored_in}
 use Rattle.p21_stream_kept.specs.Served.{AnswersUnserved}
-use Rattle.p21_stream_kept.specs.KeptInstances.{instances_of}
 use Rattle.p21_stream_kept.proofs.served.first_unserved.Goals as goal
 
 pub returns-in-Some : goal.returns-in-Some
 returns-in-Some c =
     let s = c.args.schema.now in
-    let stored = stored_of c.args.memberships.now (instances_of c.args.instances.now) in
+    let stored = stored_in c.args.stored.now in
     let item = c.reference-item.result in
     let P : List Reference → Type 0 = λ rs. AnswersUnserved s stored rs (Some (item.holder, c.in-Some.fault)) in
     c.loop-reference.invariant (Some (item.holder, c.in-Some.fault))
@@ -21,7 +20,7 @@ returns-in-Some c =
 pub loop-reference-preserved : goal.loop-reference-preserved
 loop-reference-preserved c = λ result answers.
     let s = c.args.schema.now in
-    let stored = stored_of c.args.memberships.now (instances_of c.args.instances.now) in
+    let stored = stored_in c.args.stored.now in
     let item = c.reference-item.result in
     let P : List Reference → Type 0 = λ rs. AnswersUnserved s stored rs result in
     c.loop-reference.invariant result
@@ -30,5 +29,5 @@ loop-reference-preserved c = λ result answers.
 
 pub returns : goal.returns
 returns c =
-    let P : List Reference → Type 0 = λ rs. AnswersUnserved c.args.schema.now (stored_of c.args.memberships.now (instances_of c.args.instances.now)) rs None in
+    let P : List Reference → Type 0 = λ rs. AnswersUnserved c.args.schema.now (stored_in c.args.stored.now) rs None in
     c.loop-reference.invariant None (subst P (sym (ap references_of (drop_all c.loop-reference.reference-index c.args.waiting.now c.loop-reference-test.false))) tt)

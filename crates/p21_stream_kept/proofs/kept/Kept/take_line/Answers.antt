@@ -35,7 +35,7 @@ returns-clause-gives c = λ s.
 pub invariant_of-self : goal.invariant_of-self
 invariant_of-self c = record {
   memberships = c.self.invariant.memberships;
-  sections = sections_wider (length c.self.inside.sections) (length c.begin.new.self) c.self.inside.memberships c.begin.ensures.more c.self.invariant.sections;
+  sections = sections_wider (length c.self.inside.sections) (length c.begin.new.self) c.self.inside.stored.memberships c.begin.ensures.more c.self.invariant.sections;
   named = c.self.invariant.named;
   counted = c.self.invariant.counted;
   patient = c.self.invariant.patient;
@@ -44,7 +44,7 @@ invariant_of-self c = record {
 pub invariant_of-self-2 : goal.invariant_of-self-2
 invariant_of-self-2 c = record {
   memberships = c.self.invariant.memberships;
-  sections = sections_wider (length c.self.inside.sections) (length c.begin.new.self) c.self.inside.memberships c.begin.ensures.more c.self.invariant.sections;
+  sections = sections_wider (length c.self.inside.sections) (length c.begin.new.self) c.self.inside.stored.memberships c.begin.ensures.more c.self.invariant.sections;
   named = c.self.invariant.named;
   counted = let fits = c.fits_limits.ensures.fits c.if-not-fits_limits.false in omega (arith, fits);
   patient = c.self.invariant.patient;
