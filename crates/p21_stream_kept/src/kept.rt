@@ -330,9 +330,9 @@ impl Kept {
             return Err(Fault::NoMemory);
         };
         self.servers.note_size(found.entities.len());
-        self.references += found.needs.len() as u64;
         self.bytes += size;
         self.framing += 1;
+        self.references += found.needs.len() as u64;
         let Ok(()) = self
             .waiting
             .look_again(schema, &self.stored, &mut self.servers, self.references)

@@ -41,8 +41,8 @@ push-requires-clause-another c =
     let P : List ℕ → Type 0 = λ names. Contains names c.args.found.now.name in
     λ among. c.requires.another (subst (λ (k : Kept). P (map (λ (x : StoredEntry). x.name) k.stored)) c.self.view_is (subst P (sym (stored-names c.self.inside.stored.memberships (instances_of c.self.inside.stored.instances))) among))
 
-pub overflow_add-self : goal.overflow_add-self
-overflow_add-self c =
+pub overflow_add-self-3 : goal.overflow_add-self-3
+overflow_add-self-3 c =
     let is = c.requires.found.found in
     let needs = length-map c.args.found.now.needs.now need_view in
     let few = follows-few c.args.schema.now c.args.limits c.args.self.now c.args.found.now.name c.requires.found.record_ c.requires.found.follows is.meaning (needs_view c.args.found.now.needs.now) is.meant in
