@@ -2,13 +2,23 @@
 //! parts, and what stands behind the token, are borrowed from the bytes.
 #![tactic(auto)]
 
+mod bytes;
+mod class;
 mod digits;
+mod name;
 mod number;
+mod row;
+mod wide;
+mod word;
 
+pub use class::{Class, rare_prefix, short_prefix};
 pub use digits::{
     behind, number_of, short_number, split_digits, split_sign, without_leading_zeros,
     without_trailing_zeros,
 };
+pub use name::{name_number, scan_name};
 pub use number::{
     Decimals, Integer, Number, exponent_value, scan_exponent, scan_integer, scan_number,
 };
+pub use wide::long_prefix;
+pub use word::{scan_item, scan_keyword, scan_user_keyword};

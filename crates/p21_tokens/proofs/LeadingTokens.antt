@@ -1,37 +1,36 @@
 -- Tokens that stand whole at the front of bytes.
-use Rattle.std.proofs.Common.{◌≡◌, ℤ, Bool, false, ◌==◌, if◌then◌else◌, inl, ◌≢◌, ℕ, zero, suc, ◌+◌, ◌-◌, ◌*◌, ◌^◌, ◌≤◌, ◌<◌, true, lt-ltb, append_assoc, List, [], ◌∷◌, ◌++◌, length, length-drop, get_or, take, drop, refl, sym, ap, ◌∙◌, subst, arith, append-nil, Some, Ok, Err}
+use Rattle.std.proofs.Common.{◌≡◌, ℤ, Bool, false, ◌==◌, if◌then◌else◌, inl, inr, ◌≢◌, ℕ, zero, suc, ◌+◌, ◌-◌, ◌*◌, ◌^◌, ◌≤◌, ◌<◌, true, lt-ltb, append_assoc, List, [], ◌∷◌, ◌++◌, length, length-append, length-drop, get_or, take, drop, refl, sym, ap, ◌∙◌, subst, arith, append-nil, Some, Ok, Err}
 use Rattle.std.specs.List.{slice_range}
 use Rattle.std.proofs.lemmas.Bool.{ne_eqb}
 use Rattle.std.proofs.lemmas.Bool.Decides.{nat_tests}
 use Rattle.std.proofs.lemmas.List.{length-take-le, take_more, get_or-drop}
 use Rattle.std.proofs.lemmas.Option.{slice_get_within, slice_get-get_or}
-use Rattle.std.proofs.Math.Seq.{take-add}
+use Rattle.std.proofs.Math.Seq.{take-add, take-append_seam}
 use Rattle.p21_spec_exchange.specs.Laying.{count_behind}
 use Rattle.p21_spec_exchange.specs.Token as meaning
-use Rattle.p21_spec_basics.specs.Digits.{IsDigit, is_digit}
-use Rattle.std.specs.List.{AllByRecursion as Each}
-use Rattle.p21_spec_exchange.specs.Keyword.{IsUpper, IsKeywordByte, IsKeyword}
+use Rattle.p21_spec_basics.specs.Digits.{IsDigit, number as value_of}
+use Rattle.p21_spec_exchange.proofs.Forms.{NoDigitFirst}
+use Rattle.p21_scan.proofs.NamesAt.{name-spells}
+use Rattle.p21_scan.specs.Name.{IsNameAt}
+use Rattle.p21_scan.specs.Word.{IsTokenAt}
+use Rattle.p21_spec_exchange.specs.Keyword.{IsKeyword, IsUpper}
 use Rattle.p21_spec_exchange.specs.Number as number
 use Rattle.p21_spec_exchange.specs.Number.{SpellsReal, SpellsWhole}
 use Rattle.p21_spec_exchange.specs.Token.{Spells, MayFollow}
 use Rattle.p21_tokens_automaton.proofs.Once.{spells-means}
-use Rattle.p21_tokens_automaton.proofs.Classes.{digit-decides, keyword_byte-decides, false_from_not}
-use Rattle.p21_tokens_automaton.proofs.Runs.{run-names, run-puts}
+use Rattle.p21_tokens_automaton.proofs.Runs.{run-puts}
 use Rattle.p21_tokens_automaton.proofs.Steps.{lex-nil, lex-pass, lex-skip, lex-give, lex-end}
-use Rattle.p21_tokens_automaton.proofs.TokenRuns.{waits-keyword, waits-whole, waits-real}
+use Rattle.p21_tokens_automaton.proofs.TokenRuns.{waits-keyword, waits-name, waits-whole, waits-real}
 use Rattle.p21_tokens_automaton.proofs.Waits.{Waits}
-use Rattle.p21_tokens_automaton.specs.Bytes.{is_blank, is_keyword_byte}
+use Rattle.p21_tokens_automaton.specs.Bytes.{is_blank}
 use Rattle.p21_tokens_automaton.specs.Meaning.{found_of}
 use Rattle.p21_tokens_automaton.specs.Reading.{known, State, start, before, FoundToken, single_token, ended_token, lex}
 use Rattle.p21_tokens_automaton.specs.Step.{advance}
-use Rattle.p21_tokens_automaton.specs.Run.{AreNameDigits, EachHasAction}
-use Rattle.p21_tokens_automaton.specs.declared.mode.Mode.TheVariants.{Between, Name, Text, Word}
-use Rattle.p21_tokens_automaton.specs.declared.mode.NameMode.TheVariants as name_mode
-use Rattle.p21_tokens_automaton.specs.declared.mode.NameMode.TheVariants.{Digits}
+use Rattle.p21_tokens_automaton.specs.Run.{EachHasAction}
+use Rattle.p21_tokens_automaton.specs.declared.mode.Mode.TheVariants.{Between, Text}
 use Rattle.p21_tokens_automaton.specs.declared.mode.TextMode.TheVariants.{Inside, Apostrophe}
 use Rattle.p21_tokens_automaton.specs.declared.mode.Single.{Single}
-use Rattle.p21_tokens_automaton.specs.declared.mode.Action.TheVariants.{Pass, Give, Keep, Dash, End}
-use Rattle.p21_tokens_automaton.specs.declared.mode.WordMode.TheVariants.{Keyword}
+use Rattle.p21_tokens_automaton.specs.declared.mode.Action.TheVariants.{Pass, Give, End}
 use Rattle.p21_tokens.specs.Prefix.{ReachesWaitingToken, ReachesToken, single, leads, ArePlain, TakesLeadingToken}
 use Rattle.p21_tokens.specs.Held.{Held, pending_of, state_of}
 use Rattle.p21_tokens.specs.Steps.{AreBlank, SameCounts, SameLimits, TakesRun, GivesToken, HandsOverToken, Steps, Scans, handed}
@@ -165,29 +164,6 @@ module _ (v w u : Held) (piece : List ℕ) (n : ℕ) (a : Along v w piece n) whe
 pub along-no_front : (v w u : Held) (piece : List ℕ) (n : ℕ) → Along v w piece n → u ≡ w → Along v u piece n
 along-no_front v w u piece n a e = subst (λ (x : Held). Along v x piece n) (sym e) a
 
--- ---- keywords
-
-pending_bytes-byte : (b : ℕ) → advance (Word Keyword) b ≡ Keep (Word Keyword) → IsKeywordByte b
-pending_bytes-byte b e = at (is_keyword_byte b) refl
-  where
-    at : (t : Bool) → is_keyword_byte b ≡ t → IsKeywordByte b
-    at true k = (keyword_byte-decides b).0 k
-    at false k = absurd (other (b == 45) (rw k at e))
-      where
-        other : (take_dash : Bool) → (if take_dash then Dash else End) ≡ Keep (Word Keyword) → ⊥
-        other true f = cc
-        other false f = cc
-
-keyword_bytes-are : (bytes : List ℕ) (count : ℕ) → EachHasAction (Word Keyword) bytes count (λ byte. Keep (Word Keyword)) → Each IsKeywordByte (take count bytes)
-keyword_bytes-are bytes zero h = tt
-keyword_bytes-are [] (suc count) h = tt
-keyword_bytes-are (b ∷ bytes) (suc count) h = (pending_bytes-byte b (h.each 0 (omega arith)), keyword_bytes-are bytes count (record { within = let w = h.within in omega arith; each = λ k l. h.each (suc k) (omega arith) }))
-
-pub keyword-is : (bytes : List ℕ) (count : ℕ) → IsUpper (get_or bytes 0 0) → EachHasAction (Word Keyword) bytes count (λ byte. Keep (Word Keyword)) → (count < length bytes → is_keyword_byte (get_or bytes count 0) ≡ false) → IsKeyword (take count bytes)
-keyword-is [] count u h ends = absurd (omega (arith, u))
-keyword-is (b ∷ bytes) zero u h ends = absurd (let n = ends (omega arith) in let y = (keyword_byte-decides b).1 (inl u) in cc)
-keyword-is (b ∷ bytes) (suc count) u h ends = (u, (keyword_bytes-are (b ∷ bytes) (suc count) h).1)
-
 -- ---- which tokens stand there
 
 module _ (bytes : List ℕ) (count byte : ℕ) (found : (count < length bytes) × ((d : ℕ) → byte ≡ get_or bytes count d)) where
@@ -212,52 +188,61 @@ module _ (bytes : List ℕ) (count byte : ℕ) (found : (count < length bytes) �
   pub leads_real : (z : number.Decimal) → SpellsReal (take count bytes) z → ¬ IsDigit byte → byte ≢ 69 → ReachesWaitingToken bytes count (meaning.real z)
   leads_real z s d e = waits-leads (meaning.real z) s (waits-real z (take count bytes) s) (d, λ _. e)
 
-  pub leads_keyword : IsUpper (get_or bytes 0 0) → EachHasAction (Word Keyword) bytes count (λ b. Keep (Word Keyword)) → (count < length bytes → is_keyword_byte (get_or bytes count 0) ≡ false) → byte ≢ 45 → ReachesWaitingToken bytes count (meaning.keyword (take count bytes))
-  leads_keyword u h ends d = waits-leads (meaning.keyword (take count bytes)) spells (waits-keyword (take count bytes) (take count bytes) spells) (other, d)
-    where
-      spells : Spells (meaning.keyword (take count bytes)) (take count bytes)
-      spells = (refl, keyword-is bytes count u h ends)
+-- ---- tokens by their spellings
 
-      other : ¬ IsKeywordByte byte
-      other k = let y = (keyword_byte-decides byte).1 k in let n = ends found.0 in let same = found.1 0 in cc
+behind-seam : (front tail : List ℕ) (byte : ℕ) → get_or (front ++ byte ∷ tail) (length front) 0 ≡ byte
+behind-seam [] tail byte = refl
+behind-seam (x ∷ front) tail byte = behind-seam front tail byte
 
--- ---- instance names
-
-abbrev hash : State
-hash = record { mode = Name name_mode.Hash; pending_bytes = []; characters = []; size = 1 }
-
--- behind `#` a digit does what it does behind zero
-hash-is_zero : (b : ℕ) (bytes : List ℕ) → is_digit b ≡ true → lex hash (b ∷ bytes) ≡ lex (record hash { mode = Name (Digits 0) }) (b ∷ bytes)
-hash-is_zero b bytes d =
-    let small : 0 * 10 + (b - 48) < 2 ^ 64 = digit-small b d in
-    lex-skip hash (Name (Digits (0 * 10 + (b - 48)))) b bytes (rw (d, lt-ltb (0 * 10 + (b - 48)) (2 ^ 64) small) refl)
-    ∙ sym (lex-skip (record hash { mode = Name (Digits 0) }) (Name (Digits (0 * 10 + (b - 48)))) b bytes (rw (d, lt-ltb (0 * 10 + (b - 48)) (2 ^ 64) small) refl))
-  where
-    digit-small : (b : ℕ) → is_digit b ≡ true → 0 * 10 + (b - 48) < 2 ^ 64
-    digit-small b d = grind (arith, nat_tests)
-
-name-reaches : (digits rest : List ℕ) (count value : ℕ) → 0 < count → AreNameDigits (Name (Digits 0)) digits count value → lex start (35 ∷ (take count digits ++ rest)) ≡ lex (record hash { mode = Name (Digits value); size = 1 + count }) rest
-name-reaches digits rest zero value z h = absurd (omega arith)
-name-reaches [] rest (suc count) value z h = absurd (let w = h.within in omega arith)
-name-reaches (b ∷ digits) rest (suc count) value z h =
-    lex-skip start (Name name_mode.Hash) 35 (take (suc count) (b ∷ digits) ++ rest) refl
-    ∙ (hash-is_zero b (take count digits ++ rest) (h.digits 0 (omega arith)) ∙ run-names (record hash { mode = Name (Digits 0) }) (b ∷ digits) rest (suc count) value h)
-
-pub leads_name : (digits bytes : List ℕ) (count value byte : ℕ) → bytes ≡ 35 ∷ digits → 0 < count → AreNameDigits (Name (Digits 0)) digits count value → (count < length digits) × ((d : ℕ) → byte ≡ get_or digits count d) → ¬ IsDigit byte → ReachesWaitingToken bytes (count + 1) (meaning.name value)
-leads_name digits bytes count value byte e z h found n =
-    let more : suc count ≡ count + 1 = omega arith in
-    let fronts : ReachesWaitingToken (35 ∷ digits) (suc count) (meaning.name value) = record {
+-- a spelling, and a byte that may stand behind it
+front-leads : (bytes spelling tail : List ℕ) (byte : ℕ) (t : meaning.Token) → bytes ≡ spelling ++ byte ∷ tail → Spells t spelling → Waits t spelling → MayFollow t spelling byte → ReachesWaitingToken bytes (length spelling) t
+front-leads bytes spelling tail byte t e s w m =
+    let count = length spelling in
+    let front : take count bytes ≡ spelling = ap (λ (x : List ℕ). take count x) e ∙ take-append_seam spelling (byte ∷ tail) in
+    let room : count < length bytes = omega (arith, ap (λ (x : List ℕ). length x) e, length-append spelling (byte ∷ tail)) in
+    record {
       byte = byte;
-      behind = slice_get-get_or digits count 0 found.0 ∙ ap (λ (b : ℕ). Some b) (sym (found.1 0));
-      state = record hash { mode = Name (Digits value); size = 1 + count };
-      reaches = λ rest. name-reaches digits rest count value z h;
-      size_is = omega arith;
-      found = known (meaning.name value);
-      ended_is = refl;
-      means = refl;
-      ends = rw (false_from_not _ (digit-decides byte) n) refl;
-    } in
-    subst (λ (x : List ℕ). ReachesWaitingToken x (count + 1) (meaning.name value)) (sym e) (subst (λ (k : ℕ). ReachesWaitingToken (35 ∷ digits) k (meaning.name value)) more fronts)
+      behind = slice_get-get_or bytes count 0 room ∙ ap (λ (b : ℕ). Some b) (ap (λ (x : List ℕ). get_or x count 0) e ∙ behind-seam spelling tail byte);
+      state = w.state;
+      reaches = λ rest. ap (λ (x : List ℕ). lex start (x ++ rest)) front ∙ w.reaches rest;
+      size_is = w.size_is;
+      found = found_of t spelling;
+      ended_is = w.ended_is;
+      means = spells-means t spelling s;
+      ends = w.ends byte m;
+    }
+
+pub leads_keyword : (bytes word rest tail : List ℕ) (byte : ℕ) → IsTokenAt bytes (meaning.keyword word) rest → rest ≡ byte ∷ tail → ReachesWaitingToken bytes (length word) (meaning.keyword word)
+leads_keyword bytes word rest tail byte x e =
+    let t = meaning.keyword word in
+    front-leads bytes word tail byte t (x.bytes_are ∙ ap (λ (r : List ℕ). word ++ r) e) x.spells (waits-keyword word word x.spells) (subst (meaning.IsFollowed t word) e x.followed)
+
+-- the word is the front of the bytes, and no separator is its first byte
+module _ (bytes word rest : List ℕ) (x : IsTokenAt bytes (meaning.keyword word) rest) where
+  pub keyword-within : length word ≤ length bytes
+  keyword-within = omega (arith, ap (λ (b : List ℕ). length b) x.bytes_are, length-append word rest)
+
+  pub keyword-front : take (length word) bytes ≡ word
+  keyword-front = ap (λ (b : List ℕ). take (length word) b) x.bytes_are ∙ take-append_seam word rest
+
+  pub keyword-no_blank : is_blank (get_or bytes 0 0) ≡ false
+  keyword-no_blank = ap (λ (b : List ℕ). is_blank (get_or b 0 0)) x.bytes_are ∙ first word x.spells.1
+    where
+      upper : (byte : ℕ) → IsUpper byte → is_blank byte ≡ false
+      upper byte (inl letter) = grind (arith, nat_tests)
+      upper byte (inr line) = grind (arith, nat_tests)
+
+      first : (w : List ℕ) → IsKeyword w → is_blank (get_or (w ++ rest) 0 0) ≡ false
+      first [] is = absurd is
+      first (byte ∷ bytes) is = upper byte is.0
+
+pub leads_name : (bytes digits rest tail : List ℕ) (byte : ℕ) → IsNameAt bytes digits rest → rest ≡ byte ∷ tail → value_of digits < 2 ^ 64 → ReachesWaitingToken bytes (length digits + 1) (meaning.name (value_of digits))
+leads_name bytes digits rest tail byte x e small =
+    let t = meaning.name (value_of digits) in
+    let spells = name-spells bytes digits rest x small in
+    let more : suc (length digits) ≡ length digits + 1 = omega arith in
+    subst (λ (k : ℕ). ReachesWaitingToken bytes k t) more
+    (front-leads bytes (35 ∷ digits) tail byte t (x.bytes_are ∙ ap (λ (r : List ℕ). 35 ∷ (digits ++ r)) e) spells (waits-name (value_of digits) (35 ∷ digits) spells) (subst NoDigitFirst e x.ends))
 
 -- ---- strings of plain characters
 

@@ -8,3 +8,4 @@ pub mod Extending
 pub mod Finishing
 pub mod OneScalar
 pub mod Passing
+pub mod WholeWords

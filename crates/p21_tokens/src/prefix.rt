@@ -1,6 +1,5 @@
 //! Tokens that stand whole at the front of bytes, read without a state.
 ghost use Rattle.std.specs.Prelude.{◌≡◌, ◌≤◌, false, IfOk, IfSome, OnErr, get_or};
-ghost use Rattle.p21_spec_exchange.specs.Keyword.{IsUpper};
 ghost use Rattle.p21_tokens_automaton.specs.Bytes.{is_blank};
 ghost use Rattle.p21_tokens_automaton.specs.Step.{advance};
 ghost use Rattle.p21_tokens_automaton.specs.declared.mode.Mode.TheVariants.{Between};
@@ -8,9 +7,10 @@ ghost use Rattle.p21_tokens_automaton.specs.declared.mode.Action.TheVariants.{Gi
 ghost use Rattle.p21_tokens.specs.Prefix.{ArePlain, ReachesWaitingToken, ReadsLeadingToken, ReadsWaitingToken};
 ghost use Rattle.p21_tokens.specs.Token.{meant};
 
-use crate::read_token::{behind, single_token};
+use crate::read_token::single_token;
 use crate::token::Token;
-use p21_tokens_automaton::{Single, keyword_bytes, name_digits, plain_characters};
+use p21_scan::{behind, name_number, scan_keyword, scan_name};
+use p21_tokens_automaton::{Single, plain_characters};
 use p21_values::{Name, NoMemory, Number, Text, Word, read_number};
 use std::alloc::Global;
 
@@ -54,8 +54,7 @@ fn waiting_token(alloc: Global, first: u8, bytes: &[u8]) -> LeadingToken
         b'#' => Some(Ok(leading_name(bytes)?)),
         b'\'' => leading_text(alloc, bytes),
         b'0'..=b'9' | b'+' | b'-' => leading_number(alloc, bytes),
-        b'A'..=b'Z' | b'_' => leading_keyword(alloc, bytes),
-        _ => None,
+        _ => leading_keyword(alloc, bytes),
     }
 }
 
@@ -88,16 +87,13 @@ fn leading_number(alloc: Global, bytes: &[u8]) -> LeadingToken
 }
 
 fn leading_keyword(alloc: Global, bytes: &[u8]) -> LeadingToken
-    requires { IsUpper (get_or bytes.now 0 0) }
-    ensures { ReadsWaitingToken bytes.now result }
+    ensures token { ReadsWaitingToken bytes.now result }
+    ensures no_memory { IfSome result (λ front. OnErr front (is_blank (get_or bytes.now 0 0) ≡ false)) }
 {
-    let count = keyword_bytes(bytes);
-    let byte = *bytes.get(count)?;
-    if byte == b'-' {
-        return None;
-    }
-    match Word::of_prefix(alloc, bytes, count) {
-        Ok(word) => Some(Ok((count, Token::Keyword(word)))),
+    let (word, rest) = scan_keyword(bytes)?;
+    let (_byte, _more) = rest.split_first()?;
+    match Word::of_prefix(alloc, bytes, word.len()) {
+        Ok(kept) => Some(Ok((word.len(), Token::Keyword(kept)))),
         Err(fault) => Some(Err(fault)),
     }
 }
@@ -105,13 +101,10 @@ fn leading_keyword(alloc: Global, bytes: &[u8]) -> LeadingToken
 fn leading_name(bytes: &[u8]) -> Option<(usize, Token)>
     ensures { IfSome result (λ front. ReachesWaitingToken bytes.now front.0 (meant front.1)) }
 {
-    let digits = behind(b'#', bytes)?;
-    let (count, value) = name_digits(0, digits);
-    let byte = *digits.get(count)?;
-    if count == 0 || byte.is_ascii_digit() {
-        return None;
-    }
-    Some((count + 1, Token::Name(Name(value))))
+    let (digits, rest) = scan_name(bytes)?;
+    let (_byte, _more) = rest.split_first()?;
+    let number = name_number(digits)?;
+    Some((digits.len() + 1, Token::Name(Name(number))))
 }
 
 fn leading_text(alloc: Global, bytes: &[u8]) -> LeadingToken

@@ -1,12 +1,14 @@
-ghost use Rattle.std.specs.Prelude.{◌≡◌, [], OnErr, Some};
+ghost use Rattle.std.specs.Prelude.{◌≡◌, IfOk, OnErr, Some};
+ghost use Rattle.p21_spec_exchange.specs.Keyword.{IsKeyword};
 ghost use Rattle.p21_tokens_automaton.specs.Reading.{closed_token, ended_token_in, ended_number, ended_word, single_token, marker_of};
 ghost use Rattle.p21_tokens.specs.Steps.{ReadsFound, ReadsEnd};
 ghost use Rattle.p21_tokens.specs.Token.{meant};
 
 use crate::fault::{TokenFault, value_fault};
 use crate::token::Token;
+use p21_scan::{scan_item, scan_user_keyword};
 use p21_tokens_automaton::{Marker, Mode, NameMode, NumberMode, Single, TextMode, WordMode};
-use p21_values::{Bits, Decimal, Name, Text, Whole, Word};
+use p21_values::{Bits, Decimal, Name, NoMemory, Text, Whole, Word};
 use std::alloc::Global;
 use std::mem;
 
@@ -105,38 +107,29 @@ pub(crate) fn read_word(
     }
 }
 
-/// A keyword behind its `!`.
+/// A user-defined keyword.
 fn read_user_keyword(alloc: Global, pending_bytes: &[u8]) -> Result<Token, TokenFault>
     ensures { ReadsFound (Some (spelled user_keyword pending_bytes.now)) result }
 {
-    let Some(word) = behind(b'!', pending_bytes) else {
+    let Some((word, rest)) = scan_user_keyword(pending_bytes) else {
         return Err(TokenFault::BadByte);
     };
-    match Word::read(alloc, word) {
+    if !rest.is_empty() {
+        return Err(TokenFault::BadByte);
+    }
+    match word_of(alloc, word) {
         Ok(word) => Ok(Token::UserKeyword(word)),
-        Err(fault) => Err(value_fault(fault)),
+        Err(_no_memory) => Err(TokenFault::NoMemory),
     }
 }
 
-/// What stands behind a first byte, if it is this one.
-pub(crate) fn behind(first: u8, bytes: &[u8]) -> Option<&[u8]>
-    ensures none { IfNone result ((rest : List ℕ) → bytes.now ≡ first ∷ rest → ⊥) }
-    ensures some { IfSome result (λ rest. bytes.now ≡ first ∷ rest.now) }
+fn word_of(alloc: Global, characters: &[u8]) -> Result<Word, NoMemory>
+    requires { IsKeyword characters.now }
+    ensures { IfOk result (λ word. word ≡ characters.now) }
 {
-    let (byte, rest) = bytes.split_first()?;
-    if *byte == first { Some(rest) } else { None }
+    Word::of_prefix(alloc, characters, characters.len())
 }
 
-/// What stands before a last byte, if it is this one.
-fn before(last: u8, bytes: &[u8]) -> Option<&[u8]>
-    ensures none { IfNone result ((rest : List ℕ) → bytes.now ≡ rest ++ last ∷ [] → ⊥) }
-    ensures some { IfSome result (λ rest. bytes.now ≡ rest.now ++ last ∷ []) }
-{
-    let (byte, rest) = bytes.split_last()?;
-    if *byte == last { Some(rest) } else { None }
-}
-
-ghost use Rattle.std.specs.Prelude.{ℕ, List, ◌∷◌, ◌++◌, IfNone, IfSome};
 ghost use Rattle.p21_tokens_automaton.specs.Reading.{spelled, whole, real, user_keyword, item, bits};
 
 /// The token of pending bytes whose last one ends it: an enumeration item or a binary.
@@ -158,15 +151,15 @@ pub(crate) fn read_closed_token(
 fn read_item(alloc: Global, pending_bytes: &[u8]) -> Result<Token, TokenFault>
     ensures { ReadsFound (Some (spelled item pending_bytes.now)) result }
 {
-    let Some(rest) = behind(b'.', pending_bytes) else {
+    let Some((word, rest)) = scan_item(pending_bytes) else {
         return Err(TokenFault::BadByte);
     };
-    let Some(word) = before(b'.', rest) else {
+    if !rest.is_empty() {
         return Err(TokenFault::BadByte);
-    };
-    match Word::read(alloc, word) {
+    }
+    match word_of(alloc, word) {
         Ok(word) => Ok(Token::Item(word)),
-        Err(fault) => Err(value_fault(fault)),
+        Err(_no_memory) => Err(TokenFault::NoMemory),
     }
 }
 

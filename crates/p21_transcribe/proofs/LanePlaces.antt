@@ -11,7 +11,7 @@ use Rattle.p21_spec_basics.specs.Digits.{AllDigits, IsDigit, is_digit, number}
 use Rattle.p21_transcribe.specs.Places.{HasPlaces}
 use Rattle.p21_scan.proofs.DigitRuns as runs
 use Rattle.p21_scan.specs.Digits.{WithoutTrailingZeros}
-use Rattle.p21_transcribe.proofs.DigitLanes.{digits-front, fails, passes, run_ended}
+use Rattle.p21_scan.proofs.DigitRows.{digits-front, fails, no_digit-behind, passes}
 use Rattle.p21_transcribe.proofs.Zeros.{end_cut, zeros_ended, zeros_whole}
 use Rattle.p21_transcribe.specs.Significands.{further_digits}
 use Rattle.p21_transcribe.specs.Runs.{AreLeadingZeros, IsDigitRun}
@@ -31,6 +31,11 @@ same-by (suc m) digits k whole zeros =
 
 pub zeros-cut : (digits : List ℕ) (kept : ℕ) → AllDigits digits → kept ≤ length digits → ((j : ℕ) → kept ≤ j → j < length digits → get_or digits j 0 ≡ 48) → (0 < kept → get_or digits (kept - 1) 0 ≢ 48) → WithoutTrailingZeros digits (take kept digits)
 zeros-cut digits kept are within zeros last = end_cut digits kept are within (same-by (length digits - kept) digits kept (omega arith) zeros) last
+
+-- ---- digits up to a byte that is none
+
+run_ended : (bytes : List ℕ) (n : ℕ) → n < length bytes → AllDigits (take n bytes) → (IsDigit (get_or bytes n 0) → ⊥) → IsDigitRun bytes n
+run_ended bytes n room h other = record { within = omega arith; digits = h; ends = no_digit-behind bytes n (λ _. other) }
 
 -- ---- zeros at the front
 

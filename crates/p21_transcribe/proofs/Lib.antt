@@ -1,11 +1,9 @@
 pub mod BitTokens
-pub mod DigitLanes
 pub mod ExponentParts
 pub mod ExponentSpellings
 pub mod Found
 pub mod Gaps
 pub mod ItemTokens
-pub mod KeywordTokens
 pub mod LanePlaces
 pub mod LeadingTokens
 pub mod NameTokens

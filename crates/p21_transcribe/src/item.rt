@@ -6,8 +6,7 @@ ghost use Rattle.p21_spec_file.specs.Fits.{boolean_items, logical_items};
 ghost use Rattle.p21_transcribe.specs.LeadingToken.{IsCanonicalLeadingToken, Transcribes};
 
 use crate::draft::Draft;
-use p21_scan::behind;
-use p21_tokens_automaton::keyword_bytes;
+use p21_scan::scan_item;
 use p21_values::Word;
 
 /// Appends the item at the front, if its word is one of these: how many bytes it has.
@@ -54,21 +53,8 @@ fn is_truth_value(letter: u8, unknown: bool) -> bool
 fn leading_item(bytes: &[u8]) -> Option<&[u8]>
     ensures { IfSome result (λ word. IsCanonicalLeadingToken bytes.now (length word.now + 2) (item word.now)) }
 {
-    let inside = behind(b'.', bytes)?;
-    let count = keyword_bytes(inside);
-    if count == 0 || !is_upper(inside[0]) {
-        return None;
-    }
-    let _closed = behind(b'.', &inside[count..])?;
-    Some(&inside[..count])
-}
-
-/// An upper-case letter or `_`.
-#[inline(always)]
-pub(crate) fn is_upper(byte: u8) -> bool
-    ensures { IsTrue result → IsUpper byte }
-{
-    byte.is_ascii_uppercase() || byte == b'_'
+    let (word, _rest) = scan_item(bytes)?;
+    Some(word)
 }
 
 /// Whether the bytes are those of one of the words.

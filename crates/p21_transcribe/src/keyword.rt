@@ -3,10 +3,8 @@ ghost use Rattle.std.specs.Prelude.{◌≡◌, length, IfNone, IfSome};
 ghost use Rattle.p21_spec_exchange.specs.Token.{keyword};
 ghost use Rattle.p21_transcribe.specs.LeadingToken.{IsCanonicalLeadingToken, Transcribes};
 
-use crate::digits::begins_with;
 use crate::draft::Draft;
-use crate::item::is_upper;
-use p21_tokens_automaton::keyword_bytes;
+use p21_scan::scan_keyword;
 
 /// Appends the keyword at the front: its word.
 #[inline(always)]
@@ -26,13 +24,6 @@ pub fn append_keyword<'a>(bytes: &'a [u8], draft: &mut Draft) -> Option<&'a [u8]
 pub fn leading_keyword(bytes: &[u8]) -> Option<&[u8]>
     ensures { IfSome result (λ word. IsCanonicalLeadingToken bytes.now (length word.now) (keyword word.now)) }
 {
-    let (first, _rest) = bytes.split_first()?;
-    if !is_upper(*first) {
-        return None;
-    }
-    let count = keyword_bytes(bytes);
-    if begins_with(b'-', &bytes[count..]) {
-        return None;
-    }
-    Some(&bytes[..count])
+    let (word, _rest) = scan_keyword(bytes)?;
+    Some(word)
 }

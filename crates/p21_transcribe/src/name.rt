@@ -3,15 +3,10 @@ ghost use Rattle.std.specs.Prelude.{◌≡◌, IfNone, IfSome};
 ghost use Rattle.p21_spec_exchange.specs.Token.{name};
 ghost use Rattle.p21_transcribe.specs.LeadingToken.{IsCanonicalLeadingToken, Transcribes};
 
-use crate::digits::digit_run;
 use crate::draft::Draft;
-use p21_scan::{behind, number_of};
+use p21_scan::{name_number, scan_name};
 
-/// A number of so many digits is in range.
-const MOST_DIGITS_OF_A_NAME: usize = 18;
-
-/// Appends the name at the front, where it has no zero in front and at most 18 digits: how many bytes it has, and its
-/// number.
+/// Appends the name at the front, where it has no zero in front: how many bytes it has, and its number.
 #[inline(always)]
 pub fn append_name(bytes: &[u8], draft: &mut Draft) -> Option<(usize, u64)>
     ensures some { IfSome result (λ front. Transcribes bytes.now front.0 (name front.1) draft.old draft.new) }
@@ -28,13 +23,11 @@ pub fn append_name(bytes: &[u8], draft: &mut Draft) -> Option<(usize, u64)>
 fn leading_name(bytes: &[u8]) -> Option<(usize, u64)>
     ensures { IfSome result (λ front. IsCanonicalLeadingToken bytes.now front.0 (name front.1)) }
 {
-    let digits = behind(b'#', bytes)?;
-    let count = digit_run(digits);
-    if count == 0 || count > MOST_DIGITS_OF_A_NAME {
-        return None;
-    }
+    let (digits, _rest) = scan_name(bytes)?;
+    let count = digits.len();
     if count > 1 && digits[0] == b'0' {
         return None;
     }
-    Some((count + 1, number_of(&digits[..count])))
+    let number = name_number(digits)?;
+    Some((count + 1, number))
 }

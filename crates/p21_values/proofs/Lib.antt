@@ -1,6 +1,5 @@
 pub mod BitsLemmas
 mod DigitLemmas
-mod NameLemmas
 pub mod Readings
 pub mod SignificantDigits
 pub mod Significands

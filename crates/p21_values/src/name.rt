@@ -1,11 +1,10 @@
-ghost use Rattle.std.specs.Prelude.{◌≡◌, ◌^◌, ◌<◌, ◌≤◌, ◌∷◌, length, drop, IfNone, IfSome};
-ghost use Rattle.p21_spec_basics.specs.Digits.{AllDigits, number, plain_digits};
-ghost use Rattle.p21_spec_exchange.specs.Name.{NameForm};
+ghost use Rattle.std.specs.Prelude.{◌≡◌, ◌^◌, ◌<◌, drop};
+ghost use Rattle.p21_spec_basics.specs.Digits.{plain_digits};
 ghost use Rattle.p21_values.specs.Name.{ReadsName};
 
 use crate::canonical::Canonical;
 use crate::fault::{NoMemory, ValueFault};
-use p21_scan::{behind, split_digits};
+use p21_scan::{name_number, scan_name};
 use std::marker::Model;
 
 /// The name of an instance, which is a number (ISO 10303-21, tokens: entity instance name).
@@ -38,44 +37,17 @@ impl Name {
     pub fn read(bytes: &[u8]) -> Result<Name, ValueFault>
         ensures { ReadsName bytes.now result }
     {
-        let Some(digits) = digits_of_name(bytes) else {
+        let Some((digits, rest)) = scan_name(bytes) else {
             return Err(ValueFault::BadName);
         };
-        match number_of(digits) {
+        if !rest.is_empty() {
+            return Err(ValueFault::BadName);
+        }
+        match name_number(digits) {
             Some(number) => Ok(Name(number)),
             None => Err(ValueFault::NameRange),
         }
     }
-}
-
-/// The digits of an instance name, where the form is right.
-fn digits_of_name(bytes: &[u8]) -> Option<&[u8]>
-    ensures none { IfNone result (NameForm bytes.now → ⊥) }
-    ensures form { IfSome result (λ digits. bytes.now ≡ 35 ∷ digits.now) }
-    ensures some_digits { IfSome result (λ digits. 0 < length digits.now) }
-    ensures are_digits { IfSome result (λ digits. AllDigits digits.now) }
-{
-    let (digits, rest) = split_digits(behind(b'#', bytes)?);
-    if digits.is_empty() || !rest.is_empty() {
-        return None;
-    }
-    Some(digits)
-}
-
-/// The number that digits stand for, if it fits.
-#[tactic(auto, using(p21_scan::proofs::DigitRuns::digit_at))]
-fn number_of(digits: &[u8]) -> Option<u64>
-    requires { AllDigits digits.now }
-    ensures some { IfSome result (λ n. n ≡ number digits.now) }
-    ensures none { IfNone result (2 ^ 64 ≤ number digits.now) }
-{
-    let mut number = 0u64;
-    for digit in digits {
-        number = number
-            .checked_mul(10)?
-            .checked_add(u64::from(*digit - b'0'))?;
-    }
-    Some(number)
 }
 
 /// Writes the digits of a number at the end of the text, and says where they begin.

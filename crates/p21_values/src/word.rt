@@ -1,5 +1,5 @@
-ghost use Rattle.std.specs.Prelude.{◌≡◌, ◌↔◌, ◌≤◌, IsTrue, IfOk, length, take};
-ghost use Rattle.p21_spec_exchange.specs.Keyword.{IsKeyword, IsKeywordByte, IsUpper};
+ghost use Rattle.std.specs.Prelude.{◌≡◌, ◌≤◌, IfOk, length, take};
+ghost use Rattle.p21_spec_exchange.specs.Keyword.{IsKeyword};
 ghost use Rattle.p21_values.specs.declared.fault.ValueFault.TheVariants.{BadWord};
 ghost use Rattle.p21_values.specs.Fault.{Reads};
 ghost use Rattle.p21_values.specs.Word.{SpellsWord};
@@ -7,6 +7,7 @@ ghost use Rattle.p21_values.specs.Word.{SpellsWord};
 use crate::bytes::Bytes;
 use crate::canonical::Canonical;
 use crate::fault::{NoMemory, ValueFault};
+use p21_scan::scan_keyword;
 use std::alloc::Global;
 use std::marker::Model;
 
@@ -37,11 +38,14 @@ impl Word {
     pub fn read(alloc: Global, bytes: &[u8]) -> Result<Word, ValueFault>
         ensures { Reads BadWord (SpellsWord bytes.now) result }
     {
-        if !is_keyword(bytes) {
+        let Some((word, rest)) = scan_keyword(bytes) else {
+            return Err(ValueFault::BadWord);
+        };
+        if !rest.is_empty() {
             return Err(ValueFault::BadWord);
         }
         Ok(Word {
-            bytes: Bytes::of(alloc, bytes)?,
+            bytes: Bytes::of(alloc, word)?,
         })
     }
 
@@ -74,30 +78,6 @@ impl Word {
     {
         &self.bytes
     }
-}
-
-fn is_keyword(bytes: &[u8]) -> bool
-    ensures { IsTrue result ↔ IsKeyword bytes.now }
-{
-    match bytes.split_first() {
-        Some((first, rest)) => is_upper(*first) && rest.iter().all(|byte| is_keyword_byte(*byte)),
-        None => false,
-    }
-}
-
-fn is_upper(byte: u8) -> bool
-    ensures { IsTrue result ↔ IsUpper byte }
-{
-    matches!(byte, b'A'..=b'Z' | b'_')
-}
-
-fn is_keyword_byte(byte: u8) -> bool
-    ensures { IsTrue result ↔ IsKeywordByte byte }
-{
-    if b'A' <= byte && byte <= b'Z' {
-        return true;
-    }
-    matches!(byte, b'_' | b'0'..=b'9')
 }
 
 impl PartialEq for Word {

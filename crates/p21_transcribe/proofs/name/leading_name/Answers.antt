@@ -1,4 +1,4 @@
-use Rattle.std.proofs.Common.{◌≢◌, ℕ, ◌+◌, ◌<◌, get_or, subst, sym, arith}
+use Rattle.std.proofs.Common.{◌≢◌, ℕ, ◌+◌, ◌<◌, get_or, length, subst, sym, arith}
 use Rattle.p21_spec_exchange.specs.Token.{name}
 use Rattle.p21_transcribe.proofs.NameTokens.{name-at_front}
 use Rattle.p21_transcribe.specs.LeadingToken.{IsCanonicalLeadingToken}
@@ -8,10 +8,9 @@ use Rattle.p21_transcribe.proofs.name.leading_name.Goals.{else-count-gt1-via-the
 pub returns : goal.returns
 returns c =
     let digits = c.in_ok-digits.digits.now in
-    let count = c.digit_run-count.result in
-    let first : 1 < count → get_or digits 0 0 ≢ 48 = λ more. elim c.else-count-gt1.branch [
+    let first : 1 < length digits → get_or digits 0 0 ≢ 48 = λ more. elim c.else-count-gt1.branch [
       | else-count-gt1-via-then-count-gt1+else-digits-eq48 w ↦ w.if-digits-eq48.false
       | else-count-gt1-via-else-count-gt1 w ↦ absurd (omega arith)
     ] in
-    subst (λ (n : ℕ). IsCanonicalLeadingToken c.args.bytes.now (count + 1) (name n)) (sym c.number_of.ensures)
-    (name-at_front c.args.bytes.now digits count c.in_ok-digits.ensures.some c.digit_run-count.ensures (omega arith) (omega arith) first)
+    subst (λ (n : ℕ). IsCanonicalLeadingToken c.args.bytes.now (length digits + 1) (name n)) (sym c.in_ok-number.ensures.some)
+    (name-at_front c.args.bytes.now digits _ c.in_ok-digits.ensures.some (omega (arith, c.in_ok-number.ensures.some)) first)

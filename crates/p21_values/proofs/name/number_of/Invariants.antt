@@ -1,7 +1,0 @@
-use Rattle.std.proofs.Common.{◌≡◌, take}
-use Rattle.p21_spec_basics.specs.Digits.{number}
-use Rattle.p21_values.proofs.name.number_of.Given as goal
-
--- the number of the digits so far
-abbrev pub invariant-loop-digit : goal.invariant-loop-digit
-invariant-loop-digit l = l.number ≡ number (take l.digit-index l.digits)
