@@ -1,4 +1,7 @@
+pub mod Binaries
 pub mod DigitRuns
+pub mod Directives
+pub mod HexRuns
 pub mod Numbers
 pub mod Classes
 pub mod Lanes

@@ -1,6 +1,9 @@
+pub mod Binary
 pub mod Digits
+pub mod Hex
 pub mod Number
 pub mod Bytes
 pub mod Class
 pub mod Name
+pub mod Text
 pub mod Word

@@ -1,13 +1,20 @@
 -- Characters that are read in any spelling, and appended in their canonical ones.
-use Rattle.std.proofs.Common.{◌≡◌, ℕ, ◌+◌, ◌-◌, ◌<◌, ◌≤◌, List, [], ◌∷◌, ◌++◌, length, take, drop, refl, ap, ap₂, sym, subst, ◌∙◌, arith, append-nil, append_assoc, length-append, length-drop}
+use Rattle.std.proofs.Common.{◌≡◌, ℕ, suc, ◌+◌, ◌-◌, ◌^◌, ◌<◌, ◌≤◌, true, List, [], ◌∷◌, ◌++◌, length, take, drop, refl, ap, ap₂, sym, subst, ◌∙◌, arith, append-nil, append_assoc, length-append, length-drop}
 use Rattle.std.proofs.lemmas.Grind.{flat_map-append}
-use Rattle.std.proofs.lemmas.List.{flat_map_more}
+use Rattle.std.proofs.lemmas.Bool.Decides.{nat_tests}
+use Rattle.std.proofs.lemmas.List.{flat_map_more, take_at}
+use Rattle.std.specs.Prelude.{nat_lt}
 use Rattle.std.proofs.Math.Seq.{take-add}
 use Rattle.std.specs.Char.{IsScalar}
 use Rattle.std.specs.List.{flat_map, AllByRecursion as Each}
 use Rattle.p21_spec_basics.proofs.Members.{rest_is}
 use Rattle.p21_spec_exchange.specs.Spelling.{character_spelling}
-use Rattle.p21_spec_exchange.specs.Text.{extended2, IsStringUnit, unit_bytes, unit_characters, utf16_groups, end_extended, Encodes}
+use Rattle.p21_spec_basics.proofs.HexDigits.{length-hex_digits}
+use Rattle.p21_spec_basics.specs.Digits.{hex_digits}
+use Rattle.p21_scan.proofs.Numbers.{front_take}
+use Rattle.p21_scan.specs.Hex.{IsGroupAt}
+use Rattle.p21_scan.specs.Text.{IsLatinAt, IsUnitAt, by_digits, by_page}
+use Rattle.p21_spec_exchange.specs.Text.{StringUnit, alphabet_a, arbitrary, extended2, extended4, page, IsStringUnit, unit_bytes, unit_characters, utf16_groups, end_extended, Encodes}
 use Rattle.p21_spec_exchange.specs.Token.{text}
 use Rattle.p21_tokens_automaton.proofs.Fits.{ModeFits, NameFits, StepFits}
 use Rattle.p21_tokens_automaton.proofs.TextFits.{TextFits}
@@ -24,7 +31,7 @@ use Rattle.p21_tokens_automaton.specs.declared.mode.TextMode.TheVariants.{Inside
 use Rattle.p21_transcribe.proofs.TextTokens.{characters-encoded, size-within, text-stands}
 use Rattle.p21_transcribe.specs.Characters.{AreCharacters}
 use Rattle.p21_transcribe.specs.LeadingToken.{Transcribes}
-use Rattle.p21_transcribe.specs.Respelling.{AreGroups, BeginsWithGroup, Respells, RespellsAll}
+use Rattle.p21_transcribe.specs.Respelling.{AreExtended, AreGroups, Respells, RespellsAll}
 
 both : {A : Type 0} (P : A → Type 0) (xs ys : List A) → Each P xs → Each P ys → Each P (xs ++ ys)
 both P [] ys p q = q
@@ -38,8 +45,12 @@ encodes-both a b cs ds e f = record {
   characters_are = ap₂ (λ (x y : List ℕ). x ++ y) e.characters_are f.characters_are ∙ sym (flat_map-append unit_characters e.units f.units);
 }
 
-groups-both : (a b cs ds : List ℕ) → AreGroups a cs → AreGroups b ds → AreGroups (a ++ b) (cs ++ ds)
-groups-both a b cs ds g h = (both IsScalar cs ds g.0 h.0, ap₂ (λ (x y : List ℕ). x ++ y) g.1 h.1 ∙ sym (flat_map-append utf16_groups cs ds))
+groups-both : (width : ℕ) (a b cs ds : List ℕ) → AreGroups width a cs → AreGroups width b ds → AreGroups width (a ++ b) (cs ++ ds)
+groups-both width a b cs ds g h = record {
+  scalars = both IsScalar cs ds g.scalars h.scalars;
+  small = both (λ c. c < 16 ^ width) cs ds g.small h.small;
+  bytes_are = ap₂ (λ (x y : List ℕ). x ++ y) g.bytes_are h.bytes_are ∙ sym (flat_map-append (hex_digits width) cs ds);
+}
 
 module _ (StandFor : List ℕ → List ℕ → Type 0) where
   -- some, and more behind them
@@ -64,36 +75,118 @@ more-respelled bytes count size more many old middle new a b =
     further Encodes encodes-both bytes count size more many old middle new a (subst (λ (x : List ℕ). Respells Encodes x more many middle new) (rest_is bytes count) b)
 
 -- one group more
-pub more-groups : (bytes : List ℕ) (count size character : ℕ) (old middle new : List ℕ) → Respells AreGroups bytes count size old middle → BeginsWithGroup (take (length bytes - count) (drop count bytes)) character → new ≡ middle ++ character_spelling character
-    → Respells AreGroups bytes (count + 4) (size + 1) old new
-more-groups bytes count size character old middle new a group e =
-    let g = subst (λ (x : List ℕ). BeginsWithGroup x character) (rest_is bytes count) group in
-    further AreGroups groups-both bytes count size 4 1 old middle new a (record {
+pub more_groups : (width : ℕ) (bytes behind : List ℕ) (count size character : ℕ) (old middle new : List ℕ) → 0 < width → Respells (AreGroups width) bytes count size old middle → IsScalar character
+    → IsGroupAt width (take (length bytes - count) (drop count bytes)) character behind → new ≡ middle ++ character_spelling character → Respells (AreGroups width) bytes (count + width) (size + 1) old new
+more_groups width bytes behind count size character old middle new some a scalar group e =
+    let front : drop count bytes ≡ hex_digits width character ++ behind = sym (rest_is bytes count) ∙ group.bytes_are in
+    let long : length (hex_digits width character) ≡ width = length-hex_digits width character in
+    further (AreGroups width) (groups-both width) bytes count size width 1 old middle new a (record {
       characters = character ∷ [];
       size_is = refl;
-      fewer = omega arith;
-      within = g.within;
-      stand_for = ((g.scalar, tt), g.bytes_are ∙ sym (append-nil (utf16_groups character)));
+      fewer = omega (arith, some);
+      within = omega (arith, ap length front, length-append (hex_digits width character) behind, long);
+      stand_for = record {
+        scalars = (scalar, tt);
+        small = (group.small, tt);
+        bytes_are = ap (take width) front ∙ take_at (hex_digits width character) behind width long ∙ sym (append-nil (hex_digits width character));
+      };
       appended = e ∙ ap (λ (x : List ℕ). middle ++ x) (sym (append-nil (character_spelling character)));
     })
 
--- groups between the bytes that begin a directive, and those that end it
-pub extended-respelled : (bytes : List ℕ) (count size : ℕ) (old new : List ℕ) → take 4 bytes ≡ 92 ∷ 88 ∷ 50 ∷ 92 ∷ [] → Respells AreGroups (drop 4 bytes) count size old new → take 4 (drop count (drop 4 bytes)) ≡ end_extended → count + 8 ≤ length bytes → 0 < size
-    → Respells Encodes bytes (count + 8) size old new
-extended-respelled bytes count size old new start r end within some =
+-- one group or more, and the end of their directive
+pub extended_groups : (width : ℕ) (bytes behind : List ℕ) (count size : ℕ) (old new : List ℕ) → Respells (AreGroups width) bytes count size old new → take (length bytes - count) (drop count bytes) ≡ end_extended ++ behind → 0 < size
+    → Respells (AreExtended width) bytes (count + 4) size old new
+extended_groups width bytes behind count size old new r ends some =
     let size_is = r.size_is in
-    let whole : take (4 + (count + 4)) bytes ≡ 92 ∷ 88 ∷ 50 ∷ 92 ∷ (flat_map utf16_groups r.characters ++ end_extended) =
-    take-add 4 (count + 4) bytes ∙ ap₂ (λ (x y : List ℕ). x ++ y) start (take-add count 4 (drop 4 bytes) ∙ ap₂ (λ (x y : List ℕ). x ++ y) r.stand_for.1 end) in
-    let bytes_are : take (count + 8) bytes ≡ unit_bytes (extended2 r.characters) ++ [] =
-    ap (λ (n : ℕ). take n bytes) (omega arith) ∙ (whole ∙ sym (append-nil (unit_bytes (extended2 r.characters)))) in
+    let within = r.within in
+    let end : drop count bytes ≡ end_extended ++ behind = sym (rest_is bytes count) ∙ ends in
     record {
       characters = r.characters;
       size_is = r.size_is;
       fewer = omega (arith, r.fewer);
-      within = within;
-      stand_for = record { units = extended2 r.characters ∷ []; are_units = ((omega (arith, size_is), r.stand_for.0), tt); bytes_are = bytes_are; characters_are = sym (append-nil r.characters) };
+      within = omega (arith, ap length end, length-drop count bytes);
+      stand_for = record { front = take count bytes; groups = r.stand_for; some = omega (arith, size_is); bytes_are = take-add count 4 bytes ∙ ap (λ (x : List ℕ). take count bytes ++ take 4 x) end };
       appended = r.appended;
     }
+
+-- ---- directives
+
+four_more : (a b c d : ℕ) (bytes groups : List ℕ) (count : ℕ) → bytes ≡ a ∷ b ∷ c ∷ d ∷ groups → take (count + 4) bytes ≡ a ∷ b ∷ c ∷ d ∷ take count groups
+four_more a b c d bytes groups count e = ap₂ (λ (n : ℕ) (x : List ℕ). take n x) (let more : count + 4 ≡ suc (suc (suc (suc count))) = omega arith in more) e
+
+-- what a unit alone stands for
+one-unit : (bytes characters : List ℕ) (unit : StringUnit) → IsStringUnit unit → bytes ≡ unit_bytes unit → characters ≡ unit_characters unit → Encodes bytes characters
+one-unit bytes characters unit is e f = record { units = unit ∷ []; are_units = (is, tt); bytes_are = e ∙ sym (append-nil (unit_bytes unit)); characters_are = f ∙ sym (append-nil (unit_characters unit)) }
+
+in-utf16 : (characters : List ℕ) → Each (λ c. c < 16 ^ 4) characters → flat_map (hex_digits 4) characters ≡ flat_map utf16_groups characters
+in-utf16 [] small = refl
+in-utf16 (c ∷ cs) small = ap₂ (λ (x y : List ℕ). x ++ y) (alone c small.0) (in-utf16 cs small.1)
+  where
+    alone : (c : ℕ) → c < 0x1_0000 → hex_digits 4 c ≡ utf16_groups c
+    alone c h = let low : nat_lt c 0x1_0000 ≡ true = grind (arith, nat_tests) in rw low (sym (append-nil (hex_digits 4 c)))
+
+module _ (bytes groups : List ℕ) (count size : ℕ) (old new : List ℕ) where
+  pub extended2_respelled : bytes ≡ 92 ∷ 88 ∷ 50 ∷ 92 ∷ groups → Respells (AreExtended 4) groups count size old new → Respells Encodes bytes (count + 4) size old new
+  extended2_respelled begins r =
+      let e = r.stand_for in
+      record {
+        characters = r.characters;
+        size_is = r.size_is;
+        fewer = omega (arith, r.fewer);
+        within = omega (arith, r.within, ap length begins);
+        stand_for =
+            one-unit (take (count + 4) bytes) r.characters (extended2 r.characters) (e.some, e.groups.scalars)
+            (four_more 92 88 50 92 bytes groups count begins ∙ ap (λ (x : List ℕ). 92 ∷ 88 ∷ 50 ∷ 92 ∷ x) (e.bytes_are ∙ ap (λ (x : List ℕ). x ++ end_extended) (e.groups.bytes_are ∙ in-utf16 r.characters e.groups.small))) refl;
+        appended = r.appended;
+      }
+
+  pub extended4_respelled : bytes ≡ 92 ∷ 88 ∷ 52 ∷ 92 ∷ groups → Respells (AreExtended 8) groups count size old new → Respells Encodes bytes (count + 4) size old new
+  extended4_respelled begins r =
+      let e = r.stand_for in
+      record {
+        characters = r.characters;
+        size_is = r.size_is;
+        fewer = omega (arith, r.fewer);
+        within = omega (arith, r.within, ap length begins);
+        stand_for =
+            one-unit (take (count + 4) bytes) r.characters (extended4 r.characters) (e.some, e.groups.scalars)
+            (four_more 92 88 52 92 bytes groups count begins ∙ ap (λ (x : List ℕ). 92 ∷ 88 ∷ 52 ∷ 92 ∷ x) (e.bytes_are ∙ ap (λ (x : List ℕ). x ++ end_extended) e.groups.bytes_are)) refl;
+        appended = r.appended;
+      }
+
+-- a unit that stands for one character
+one-character : (bytes behind : List ℕ) (unit : StringUnit) (character : ℕ) (old new : List ℕ) → IsUnitAt bytes unit behind → unit_characters unit ≡ character ∷ [] → 0 < length (unit_bytes unit) → new ≡ old ++ character_spelling character
+    → Respells Encodes bytes (length bytes - length behind) 1 old new
+one-character bytes behind unit character old new x character_is some e =
+    let long = ap length x.bytes_are ∙ length-append (unit_bytes unit) behind in
+    record {
+      characters = character ∷ [];
+      size_is = refl;
+      fewer = omega (arith, long, some);
+      within = omega arith;
+      stand_for = one-unit (take (length bytes - length behind) bytes) (character ∷ []) unit x.is_unit (front_take bytes (unit_bytes unit) behind x.bytes_are) (sym character_is);
+      appended = e ∙ ap (λ (y : List ℕ). old ++ y) (sym (append-nil (character_spelling character)));
+    }
+
+-- `\S\` or `\X\`
+pub latin_respelled : (bytes behind : List ℕ) (character : ℕ) (old new : List ℕ) → IsLatinAt bytes character behind → new ≡ old ++ character_spelling character → Respells Encodes bytes (length bytes - length behind) 1 old new
+latin_respelled bytes behind character old new (by_page byte is x) e = one-character bytes behind (page byte) character old new x (ap (λ (c : ℕ). c ∷ []) (sym is)) (omega arith) e
+latin_respelled bytes behind character old new (by_digits x) e = one-character bytes behind (arbitrary character) character old new x refl (omega arith) e
+
+pub latin_shorter : (bytes behind : List ℕ) (character : ℕ) → IsLatinAt bytes character behind → length behind ≤ length bytes
+latin_shorter bytes behind character (by_page byte is x) = omega (arith, ap length x.bytes_are ∙ length-append (unit_bytes (page byte)) behind)
+latin_shorter bytes behind character (by_digits x) = omega (arith, ap length x.bytes_are ∙ length-append (unit_bytes (arbitrary character)) behind)
+
+-- `\PA\`
+pub alphabet_respelled : (bytes behind old : List ℕ) → IsUnitAt bytes alphabet_a behind → Respells Encodes bytes 4 0 old old
+alphabet_respelled bytes behind old x = record {
+  characters = [];
+  size_is = refl;
+  fewer = omega arith;
+  within = let l = ap (λ (y : List ℕ). length y) x.bytes_are in omega arith;
+  stand_for = one-unit (take 4 bytes) [] alphabet_a tt (ap (λ (y : List ℕ). take 4 y) x.bytes_are) refl;
+  appended = sym (append-nil old);
+}
 
 -- ---- characters in their canonical spellings
 

@@ -1,17 +1,18 @@
 -- Strings whose characters stand in their canonical spellings.
-use Rattle.std.proofs.Common.{◌≡◌, ◌≢◌, ℕ, zero, suc, ◌+◌, ◌-◌, ◌%◌, ◌<◌, ◌≤◌, Bool, true, false, ◌&&◌, ◌||◌, eqb, List, [], ◌∷◌, ◌++◌, length, take, drop, get_or, refl, ap, ap₂, sym, subst, ◌∙◌, arith, append-nil, inl, inr, ◌⊎◌, length-append, length-drop}
+use Rattle.std.proofs.Common.{◌≡◌, ◌≢◌, ℕ, zero, suc, ◌+◌, ◌-◌, ◌%◌, ◌<◌, ◌≤◌, Bool, true, false, ◌&&◌, ◌||◌, eqb, List, [], ◌∷◌, ◌++◌, length, take, drop, refl, ap, ap₂, sym, subst, ◌∙◌, arith, append-nil, inl, inr, ◌⊎◌, length-append, length-drop}
 use Rattle.std.proofs.lemmas.Bool.Decides.{nat_tests}
 use Rattle.std.proofs.lemmas.Grind.{flat_map-append}
-use Rattle.std.proofs.lemmas.List.{append_cancel_right, length-take-le, drop-drop}
+use Rattle.std.proofs.lemmas.List.{append_cancel_right, drop_at, length-take-le, drop-drop}
 use Rattle.std.proofs.Math.Seq.{take-add}
 use Rattle.std.specs.Char.{IsScalar}
 use Rattle.std.specs.List.{flat_map, AllByRecursion as Each}
 use Rattle.std.specs.Prelude.{if◌then◌else◌, nat_le, nat_lt}
 use lib.Utf8.{low_scalar}
+use Rattle.p21_spec_basics.proofs.HexDigits.{length-hex_digits}
 use Rattle.p21_spec_basics.specs.Digits.{hex_digits}
 use Rattle.p21_spec_exchange.proofs.Texts.{text_spells}
 use Rattle.p21_spec_exchange.specs.Spelling.{character_spelling}
-use Rattle.p21_spec_exchange.specs.Text.{IsApostropheOrBackslash, end_extended, Encodes}
+use Rattle.p21_spec_exchange.specs.Text.{IsApostropheOrBackslash, doubled, end_extended, Encodes}
 use Rattle.p21_spec_exchange.specs.Token.{IsFollowed, text}
 use Rattle.p21_tokens_automaton.specs.Run.{EachHasAction}
 use Rattle.p21_tokens_automaton.specs.Step.{advance, inside_action, utf8_action}
@@ -20,7 +21,9 @@ use Rattle.p21_tokens_automaton.specs.declared.mode.Mode.{Mode}
 use Rattle.p21_tokens_automaton.specs.declared.mode.Mode.TheVariants.{Text}
 use Rattle.p21_tokens_automaton.specs.declared.mode.TextMode.TheVariants.{Inside, Utf8Last, Utf8Second, Utf8Third}
 use Rattle.p21_tokens_automaton.specs.declared.mode.Wrong.TheVariants as wrong
-use Rattle.p21_transcribe.specs.Characters.{AreCharacters, EndsText, IsDoubled, IsExtendedCharacter, IsExtendedDirective}
+use Rattle.p21_scan.specs.Hex.{IsGroupAt}
+use Rattle.p21_scan.specs.Text.{EndsText, IsUnitAt}
+use Rattle.p21_transcribe.specs.Characters.{AreCharacters, IsLoneGroup}
 use Rattle.p21_transcribe.specs.LeadingToken.{IsLeadingToken, IsCanonicalLeadingToken}
 use Rattle.p21_scan.specs.Digits.{BeginsWithoutByte}
 use Rattle.p21_spec_basics.proofs.Members.{Each-append, rest_is}
@@ -122,23 +125,24 @@ quoted-spelling : (byte : ℕ) → IsApostropheOrBackslash byte → character_sp
 quoted-spelling byte (inl e) = subst (λ (b : ℕ). character_spelling b ≡ b ∷ b ∷ []) (sym e) refl
 quoted-spelling byte (inr e) = subst (λ (b : ℕ). character_spelling b ≡ b ∷ b ∷ []) (sym e) refl
 
-pub doubled : (bytes : List ℕ) → IsDoubled bytes → AreCharacters bytes 2 1
-doubled bytes h =
-    one_character bytes 2 h.byte (quoted-scalar h.byte h.is) (let l = ap (λ (x : List ℕ). length x) h.bytes_are in omega arith) (ap (λ (x : List ℕ). take 2 x) h.bytes_are ∙ sym (quoted-spelling h.byte h.is))
-
--- the first two bytes are the same
-pub doubled-front : (bytes : List ℕ) → 2 ≤ length bytes → get_or bytes 0 0 ≡ get_or bytes 1 0 → IsApostropheOrBackslash (get_or bytes 0 0) → IsDoubled bytes
-doubled-front [] room e h = absurd (omega arith)
-doubled-front (x ∷ []) room e h = absurd (omega arith)
-doubled-front (x ∷ y ∷ bytes) room e h = record { byte = x; rest = bytes; bytes_are = ap (λ (b : ℕ). x ∷ b ∷ bytes) (sym e); is = h }
+pub doubled_at : (bytes rest : List ℕ) (byte : ℕ) → IsUnitAt bytes (doubled byte) rest → AreCharacters bytes 2 1
+doubled_at bytes rest byte h =
+    one_character bytes 2 byte (quoted-scalar byte h.is_unit) (let l = ap (λ (x : List ℕ). length x) h.bytes_are in omega arith) (ap (λ (x : List ℕ). take 2 x) h.bytes_are ∙ sym (quoted-spelling byte h.is_unit))
 
 -- a character from 7F on or below 20 has a directive of its own
 directive_of : (character : ℕ) → (character < 32) ⊎ (127 ≤ character) → character < 0x1_0000 → character_spelling character ≡ 92 ∷ 88 ∷ 50 ∷ 92 ∷ (hex_digits 4 character ++ end_extended)
 directive_of character (inl low) small = search (nat_tests, arith)
 directive_of character (inr high) small = search (nat_tests, arith)
 
-pub extended : (bytes : List ℕ) (character : ℕ) → IsExtendedDirective bytes character → IsExtendedCharacter character → AreCharacters bytes 12 1
-extended bytes character d h = one_character bytes 12 character h.scalar d.within (d.bytes_are ∙ sym (directive_of character h.no_graphic h.small))
+pub lone_group_at : (groups behind rest : List ℕ) (character : ℕ) → IsScalar character → IsGroupAt 4 groups character behind → take (length groups - 4) (drop 4 groups) ≡ end_extended ++ rest → IsLoneGroup groups character
+lone_group_at groups behind rest character scalar group end =
+    let back : drop 4 groups ≡ behind = ap (λ (x : List ℕ). drop 4 x) group.bytes_are ∙ drop_at (hex_digits 4 character) behind 4 (length-hex_digits 4 character) in
+    record { scalar = scalar; small = group.small; behind = rest; bytes_are = group.bytes_are ∙ ap (λ (x : List ℕ). hex_digits 4 character ++ x) (sym back ∙ (sym (rest_is groups 4) ∙ end)) }
+
+pub lone_character : (bytes groups : List ℕ) (character : ℕ) → bytes ≡ 92 ∷ 88 ∷ 50 ∷ 92 ∷ groups → IsLoneGroup groups character → (character < 32) ⊎ (127 ≤ character) → AreCharacters bytes 12 1
+lone_character bytes groups character begins alone no_graphic =
+    let whole : bytes ≡ 92 ∷ 88 ∷ 50 ∷ 92 ∷ (hex_digits 4 character ++ (end_extended ++ alone.behind)) = begins ∙ ap (λ (x : List ℕ). 92 ∷ 88 ∷ 50 ∷ 92 ∷ x) alone.bytes_are in
+    one_character bytes 12 character alone.scalar (let l = ap (λ (x : List ℕ). length x) whole in omega arith) (ap (λ (x : List ℕ). take 12 x) whole ∙ sym (directive_of character no_graphic alone.small))
 
 -- ---- the whole string
 

@@ -1,5 +1,4 @@
 pub mod Appending
-pub mod Bits
 pub mod Characters
 pub mod Gaps
 pub mod LeadingToken

@@ -6,6 +6,7 @@
 mod bits;
 mod character;
 mod digits;
+mod directive;
 mod draft;
 mod exponent;
 mod gap;

@@ -10,10 +10,10 @@ ghost use Rattle.p21_transcribe.specs.Respelling.{Respells, RespellsAll};
 ghost use Rattle.p21_values.specs.Canonical.{Continues};
 
 use crate::character::append_character;
+use crate::directive::append_directive;
 use crate::draft::Draft;
-use crate::groups::append_extended;
-use crate::text::{is_end, some_characters};
-use p21_scan::behind;
+use crate::text::some_characters;
+use p21_scan::{behind, ends_text};
 use p21_tokens_automaton::{Action, Mode, TextMode, advance};
 
 /// Appends the string at the front: how many bytes it has, and how many characters.
@@ -53,7 +53,7 @@ fn append_inside(inside: &[u8], draft: &mut Draft) -> Option<(usize, usize)>
     let mut count = 0;
     let mut characters = 0;
     while count < inside.len() {
-        if is_end(&inside[count..]) {
+        if ends_text(&inside[count..]) {
             return Some((count, characters));
         }
         let (bytes, more) = append_some(&inside[count..], draft)?;
@@ -90,7 +90,7 @@ fn append_unit(rest: &[u8], draft: &mut Draft) -> Option<(usize, usize)>
         return None;
     }
     let before = draft.len();
-    let found = append_extended(rest, draft);
+    let found = append_directive(rest, draft);
     if found.is_some() {
         return found;
     }

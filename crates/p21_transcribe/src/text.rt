@@ -1,14 +1,12 @@
 //! Strings, of which most have each character in its canonical spelling (ISO 10303-21, clause 6: tokens, string).
-ghost use Rattle.std.specs.Prelude.{◌≡◌, ℕ, ◌<◌, List, length, IfNone, IfSome, IsTrue};
-ghost use Rattle.p21_spec_basics.specs.Digits.{hex_digit, hex_digits};
-ghost use Rattle.p21_spec_exchange.specs.Text.{IsApostropheOrBackslash};
+ghost use Rattle.std.specs.Prelude.{◌≡◌, ℕ, ◌<◌, ◌≤◌, ◌⊎◌, List, length, IfNone, IfSome, IsTrue};
 ghost use Rattle.p21_spec_exchange.specs.Token.{text};
-ghost use Rattle.p21_transcribe.specs.Characters.{AreCharacters, EndsText, IsDoubled, IsExtendedCharacter, IsExtendedDirective};
+ghost use Rattle.p21_transcribe.specs.Characters.{AreCharacters, IsLoneGroup};
 ghost use Rattle.p21_transcribe.specs.LeadingToken.{IsCanonicalLeadingToken, Transcribes};
 
 use crate::draft::Draft;
 use crate::respelled_text::append_respelled;
-use p21_scan::behind;
+use p21_scan::{Directive, behind, behind_extended, ends_text, scan_character, scan_directive};
 use p21_tokens_automaton::plain_characters;
 
 /// Appends the string at the front: how many bytes it has, and how many characters. Where each character stands in its
@@ -35,7 +33,7 @@ fn leading_text(bytes: &[u8]) -> Option<(usize, usize)>
 {
     let inside = behind(b'\'', bytes)?;
     let (count, characters) = inside_text(inside);
-    if !is_end(&inside[count..]) {
+    if !ends_text(&inside[count..]) {
         return None;
     }
     Some((count + 2, characters))
@@ -47,7 +45,7 @@ fn leading_text(bytes: &[u8]) -> Option<(usize, usize)>
 fn inside_text(inside: &[u8]) -> (usize, usize)
     ensures { AreCharacters inside.now result.0 result.1 }
 {
-    if is_end(inside) {
+    if ends_text(inside) {
         return (0, 0);
     }
     long_text(inside)
@@ -70,17 +68,6 @@ fn long_text(inside: &[u8]) -> (usize, usize)
     (count, characters)
 }
 
-/// An apostrophe that ends a string.
-#[inline(always)]
-pub(crate) fn is_end(rest: &[u8]) -> bool
-    ensures { IsTrue result → EndsText rest.now }
-{
-    match behind(b'\'', rest) {
-        Some(next) => behind(b'\'', next).is_none(),
-        None => false,
-    }
-}
-
 /// Some of the characters at the front: a run of plain ones, or one that has a spelling of more bytes. None where the first
 /// doesn't stand in its canonical spelling.
 #[inline(always)]
@@ -97,75 +84,42 @@ pub(crate) fn some_characters(rest: &[u8]) -> (usize, usize)
 }
 
 /// The character at the front that is doubled, or has a directive.
+#[tactic(auto, using(crate::proofs::TextTokens::doubled_at, crate::proofs::TextTokens::lone_character, crate::proofs::TextTokens::no_characters))]
 fn long_character(rest: &[u8]) -> (usize, usize)
     ensures { AreCharacters rest.now result.0 result.1 }
 {
-    if is_doubled(rest) {
-        return (2, 1);
-    }
-    match extended_code(rest) {
-        Some(code) if is_extended(code) => (EXTENDED, 1),
+    match scan_directive(rest) {
+        Some((Directive::Doubled(_byte), _behind)) => (2, 1),
+        Some((Directive::Extended2, groups)) => match lone_group(groups) {
+            Some(character) if is_extended(character) => (EXTENDED, 1),
+            _ => (0, 0),
+        },
         _ => (0, 0),
     }
-}
-
-/// An apostrophe or a backslash that stands twice.
-#[inline(always)]
-fn is_doubled(rest: &[u8]) -> bool
-    ensures { IsTrue result → IsDoubled rest.now }
-{
-    if rest.len() < 2 || rest[0] != rest[1] {
-        return false;
-    }
-    is_apostrophe_or_backslash(rest[0])
-}
-
-#[inline(always)]
-fn is_apostrophe_or_backslash(byte: u8) -> bool
-    ensures { IsTrue result → IsApostropheOrBackslash byte }
-{
-    byte == b'\'' || byte == b'\\'
 }
 
 /// The bytes of an extended directive of one character with four hex digits.
 const EXTENDED: usize = 12;
 
-/// The number in such a directive at the front.
-fn extended_code(rest: &[u8]) -> Option<u32>
-    ensures { IfSome result (λ code. IsExtendedDirective rest.now code) }
-{
-    let behind = rest.strip_prefix(b"\\X2\\")?;
-    let (digits, end) = behind.split_first_chunk::<4>()?;
-    let _end = end.strip_prefix(b"\\X0\\")?;
-    let code = four_digits(digits)?;
-    Some(code)
-}
+/// The digits of its group.
+const GROUP: usize = 4;
 
-/// The number that hex digits stand for.
-pub(crate) fn four_digits(digits: &[u8; 4]) -> Option<u32>
-    ensures { IfSome result (λ code. (code < 0x1_0000) × (digits.now ≡ hex_digits 4 code)) }
+/// The character of the group at the front, where it is the only one of its directive.
+#[tactic(auto, using(crate::proofs::TextTokens::lone_group_at))]
+fn lone_group(groups: &[u8]) -> Option<char>
+    ensures { IfSome result (λ character. IsLoneGroup groups.now character) }
 {
-    let mut code = 0;
-    for digit in digits {
-        code = code * 16 + hex_value(*digit)?;
+    if groups.len() < GROUP {
+        return None;
     }
-    Some(code)
-}
-
-/// The value of a hex digit.
-fn hex_value(byte: u8) -> Option<u32>
-    ensures { IfSome result (λ value. (value < 16) × (byte ≡ hex_digit value)) }
-{
-    match byte {
-        b'0'..=b'9' => Some(u32::from(byte - b'0')),
-        b'A'..=b'F' => Some(u32::from(byte - b'A') + 10),
-        _ => None,
-    }
+    let _rest = behind_extended(&groups[GROUP..])?;
+    let (character, _behind) = scan_character(GROUP, groups)?;
+    Some(character)
 }
 
 /// A character that isn't written as itself.
-fn is_extended(code: u32) -> bool
-    ensures { IsTrue result → IsExtendedCharacter code }
+fn is_extended(character: char) -> bool
+    ensures { IsTrue result → (character < 32) ⊎ (127 ≤ character) }
 {
-    code < 32 || (127 <= code && code < 0xD800) || (0xE000 <= code && code < 0x1_0000)
+    !matches!(character, ' '..='~')
 }

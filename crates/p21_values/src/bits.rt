@@ -1,10 +1,11 @@
-ghost use Rattle.std.specs.Prelude.{◌≡◌, ℕ, ◌<◌, ◌↔◌, false, List, take, replicate, All, IsTrue, IfNone, IfSome};
+ghost use Rattle.std.specs.Prelude.{◌↔◌, IsTrue};
 ghost use Rattle.p21_spec_exchange.specs.Binary.{SpellsBits};
-ghost use Rattle.p21_values.specs.Bits.{binary_token, is_hex_digit, hex_value, bits_of_digits, bits_of};
+ghost use Rattle.p21_values.specs.Bits.{bits_of};
 
 use crate::bytes::Bytes;
 use crate::canonical::Canonical;
 use crate::fault::{NoMemory, ValueFault};
+use p21_scan::scan_binary;
 use std::alloc::Global;
 use std::marker::Model;
 
@@ -61,60 +62,9 @@ impl Bits {
 fn is_binary(bytes: &[u8]) -> bool
     ensures { IsTrue result ↔ SpellsBits bytes.now (bits_of bytes.now) }
 {
-    let Some((padding, digits)) = split_token(bytes) else {
-        return false;
-    };
-    are_hex_digits(digits) && is_padded(padding, digits)
-}
-
-/// How many bits are padding, and the hex digits.
-fn split_token(bytes: &[u8]) -> Option<(u8, &[u8])>
-    ensures none { IfNone result ((padding : ℕ) (digits : List ℕ) → padding < 4 → bytes.now ≡ binary_token padding digits → ⊥) }
-    ensures padding { IfSome result (λ parts. parts.0 < 4) }
-    ensures parts { IfSome result (λ parts. bytes.now ≡ binary_token parts.0 parts.1.now) }
-{
-    let (open, rest) = bytes.split_first()?;
-    let (padding, rest) = rest.split_first()?;
-    let (close, digits) = rest.split_last()?;
-    if *open != b'"' || *close != b'"' || !matches!(*padding, b'0'..=b'3') {
-        return None;
-    }
-    Some((*padding - b'0', digits))
-}
-
-fn are_hex_digits(bytes: &[u8]) -> bool
-    ensures { IsTrue result ↔ All (λ byte. IsTrue (is_hex_digit byte)) bytes.now }
-{
-    bytes.iter().all(|byte| is_hex_digit(*byte))
-}
-
-fn is_hex_digit(byte: u8) -> bool
-    ensures { result ≡ is_hex_digit byte }
-{
-    matches!(byte, b'0'..=b'9' | b'A'..=b'F')
-}
-
-fn hex_value(digit: u8) -> u8
-    requires { IsTrue (is_hex_digit digit) }
-    ensures value { result ≡ hex_value digit }
-    ensures small { result < 16 }
-{
-    if digit <= b'9' {
-        digit - b'0'
-    } else {
-        digit - b'A' + 10
-    }
-}
-
-/// Whether the padding is zero bits of the first hex digit.
-fn is_padded(padding: u8, digits: &[u8]) -> bool
-    requires padding { padding < 4 }
-    requires digits { All (λ byte. IsTrue (is_hex_digit byte)) digits.now }
-    ensures { IsTrue result ↔ (take padding (bits_of_digits digits.now) ≡ replicate padding false) }
-{
-    match digits.split_first() {
-        Some((first, _)) => hex_value(*first) < 16 >> padding,
-        None => padding == 0,
+    match scan_binary(bytes) {
+        Some((_binary, rest)) => rest.is_empty(),
+        None => false,
     }
 }
 

@@ -1,13 +1,14 @@
-use Rattle.std.proofs.Common.{refl}
-use Rattle.p21_values.proofs.BitsLemmas.{parts_decide}
+use Rattle.std.proofs.Common.{ap, length, arith}
+use Rattle.std.proofs.lemmas.Bool.Decides.{nat_tests}
+use Rattle.p21_scan.proofs.Binaries.{no_binary, whole_binary}
+use Rattle.p21_values.proofs.BitsLemmas.{spells_alone}
 use Rattle.p21_values.proofs.bits.is_binary.Goals as goal
 
-pub returns-then-are_hex_digits : goal.returns-then-are_hex_digits
-returns-then-are_hex_digits c =
-    let own = parts_decide _ _ _ c.in-Some.ensures.parts c.in-Some.ensures.padding in
-    (λ yes. own.0 (c.if-are_hex_digits.ensures.0 refl, c.is_padded.ensures.0 yes), λ s. c.is_padded.ensures.1 (own.1 s).1)
+pub returns-in-Some : goal.returns-in-Some
+returns-in-Some c = (
+  λ yes. spells_alone _ _ _ _ c.in-Some.ensures.some (grind (arith, nat_tests)),
+  λ s. let none_left = ap length (whole_binary _ _ _ _ _ c.in-Some.ensures.some s) in grind (arith, nat_tests),
+)
 
-pub returns-else-are_hex_digits : goal.returns-else-are_hex_digits
-returns-else-are_hex_digits c =
-    let own = parts_decide _ _ _ c.in-Some.ensures.parts c.in-Some.ensures.padding in
-    (λ yes. let not_hex = c.if-are_hex_digits.false in cc, λ s. c.are_hex_digits.ensures.1 (own.1 s).0)
+pub returns-in-None : goal.returns-in-None
+returns-in-None c = (λ yes. cc, λ s. absurd (no_binary _ _ c.in-None.ensures.none s))

@@ -1,6 +1,6 @@
 use Rattle.std.proofs.Common.{◌≡◌, ◌<◌, ◌^◌, take}
 use Rattle.p21_spec_basics.specs.Digits.{hex_digits}
-use Rattle.p21_transcribe.proofs.text.four_digits.Given as goal
+use Rattle.p21_scan.proofs.hex_digits.hex_number.Given as goal
 
 -- the number of the digits so far
 abbrev pub invariant-loop-digit : goal.invariant-loop-digit
