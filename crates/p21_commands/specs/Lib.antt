@@ -15,3 +15,4 @@ pub mod Files
 pub mod Refusals
 pub mod Same
 pub mod Show
+pub mod OwnTexts

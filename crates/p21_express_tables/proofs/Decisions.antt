@@ -1,5 +1,5 @@
 -- What decides on the type at a place.
-use Rattle.std.specs.Prelude.{◌≡◌, ℕ, ◌⊎◌, List, [], ◌∷◌, ◌++◌, Option, Some, None, MatchOption, Contains, slice_get, refl}
+use Rattle.std.specs.Prelude.{◌≡◌, ◌↔◌, ℕ, ◌⊎◌, List, [], ◌∷◌, ◌++◌, Option, Some, None, MatchOption, Contains, slice_get, refl}
 use Rattle.std.proofs.Common.{ap, sym, ◌∙◌, subst, inl, inr}
 use Rattle.std.proofs.lemmas.List.Elements.{Contains-append_cases}
 use Rattle.p21_spec_basics.proofs.Members.{Contains-none, Contains-cases, Contains-found}
@@ -9,6 +9,7 @@ use Rattle.p21_spec_schema.specs.Schema.{Schema, Place, Redeclared}
 use Rattle.p21_spec_schema.specs.Supertype.{IsA}
 use Rattle.p21_spec_schema.proofs.PlaceTypes.{IsA-antisymmetric}
 use Rattle.p21_express_graph.specs.declared.number.EntityId.{EntityId}
+use Rattle.p21_express_graph.specs.Lookups.{DerivesPlace}
 use Rattle.p21_express_graph.specs.Resolved.{HoldsTogether}
 use Rattle.p21_express_graph.proofs.OrderTables.{order-tells}
 use Rattle.p21_express_tables.specs.Decisions.{AreMembers, IsBelowAll, IsBelowLast, IsDecision, IsDeriving, IsLowest, IsRedeclaredAs, IsRedeclaring}
@@ -114,6 +115,14 @@ module _ (s : Schema) (holds : HoldsTogether s) (own : EntityId) (place : Place)
 
   pub members-redeclarers : (redeclarers : List ℕ) → ((e : ℕ) → RedeclaresPlace s e place → Contains redeclarers e) → AreMembers s redeclarers (Some own) place (order s own.0)
   members-redeclarers redeclarers all = record { counting = λ e among redeclares. (all e redeclares, (order-tells s holds own.0 e).0 among); within = λ e among counts. (order-tells s holds own.0 e).1 counts }
+
+  -- whether it derives the place, of entities among which are all of it that do
+  pub own-derived : (entities : List ℕ) → ((e : ℕ) → IsA s own.0 e → DerivesPlace s e place → Contains entities e)
+      → ((e : ℕ) × Contains entities e × IsDeriving s (Some own) place e) ↔ IsDerivedIn s (order s own.0) place
+  own-derived entities all = (
+    λ (e, among, ((x, at, derives), counts)). (e, x, (order-tells s holds own.0 e).1 counts, at, derives),
+    λ (e, x, among, at, derives). let is_a = (order-tells s holds own.0 e).0 among in (e, all e is_a (x, at, derives), ((x, at, derives), is_a)),
+  )
 
 -- what stands at a place of a list is one
 pub redeclared-one : (s : Schema) (e at : ℕ) (r q : Redeclared) → IsRedeclaredAs s e at r → IsRedeclaredAs s e at q → r ≡ q

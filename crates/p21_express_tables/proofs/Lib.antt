@@ -12,3 +12,4 @@ pub mod RisingSets
 pub mod OneOfLists
 pub mod OnlyRedeclarers
 pub mod Fronts
+pub mod ListsAt

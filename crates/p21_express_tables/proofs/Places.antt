@@ -41,10 +41,6 @@ same-or p q = elim (cases_eq q.entity p.entity) [
   | inr differ ↦ inr (λ is. differ (ap (λ r. r.entity) is))
 ]
 
--- what a map has at other places than the one that was written
-pub at-other : {X : Type 0} (before after : BTreeMap (ℕ × ℕ) X) (p : Place) (w : Option X) → Updates pair_cmp before after (p.entity, p.index) w → (q : Place) → q ≢ p → at_place after q ≡ at_place before q
-at-other before after p w updates q other = elim (place-cases p q) [ inl same ↦ absurd (other same) | inr differ ↦ updates.2 (q.entity, q.index) differ ]
-
 pub places-none : (found : BTreeMap (ℕ × ℕ) ℕ) → ((p : Place) → at_place found p ≡ None) → FindsPlaces found []
 places-none found none = record {
   right = λ p at is. (let no : None ≡ Some at = sym (none p) ∙ is in cc);

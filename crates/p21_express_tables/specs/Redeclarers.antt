@@ -3,12 +3,11 @@ use Rattle.std.specs.Prelude.{◌≡◌, ◌<◌, ◌⊎◌, ◌++◌, ℕ, List
 use Rattle.std.specs.Prelude as std
 use Rattle.std.specs.declared.alloc.Global.{Global}
 use Rattle.p21_spec_schema.specs.Schema.{Schema, Place, Entity}
-use Rattle.p21_express_graph.specs.declared.number.EntityId.{EntityId}
 use Rattle.p21_express_graph.specs.Lookups.{DerivesPlace}
 use Rattle.p21_express_graph.specs.Orders.{numbers}
 use Rattle.p21_express_graph.specs.Resolved.{IsEntity}
 use Rattle.p21_express_tables.specs.Decisions.{IsRedeclarer}
-use Rattle.p21_express_tables.specs.PlacePositions.{HavePositions, at_place}
+use Rattle.p21_express_tables.specs.PlacePositions.{HavePositions}
 use Rattle.p21_express_tables.specs.declared.redeclarers.EntityPlaces.{EntityPlaces}
 use Rattle.p21_express_tables.specs.declared.redeclarers.RedeclaredPlaces.{RedeclaredPlaces}
 use Rattle.p21_express_tables.specs.declared.redeclarers.Redeclarers.{Redeclarers}
@@ -34,13 +33,13 @@ pub record ArePlacesOfEach (entities : List Entity) (of_each : List EntityPlaces
   pub size : length of_each ≡ length entities
   pub each : (e : ℕ) (x : Entity) (places : EntityPlaces) → slice_get entities e ≡ Some x → slice_get of_each e ≡ Some places → ArePlacesOf x places
 
-abbrev pub listed : Option (std.Vec EntityId Global) → List ℕ
-listed None = []
-listed (Some entities) = numbers entities.items
+-- the list at an index; none behind the last one
+abbrev pub items_at : {T : Type 0} → List (std.Vec T Global) → ℕ → List T
+items_at lists k = elim (slice_get lists k) [ Some list ↦ list.items | None ↦ [] ]
 
 -- the entities that the table has for a place
 abbrev pub redeclarers_in : Redeclarers → Place → List ℕ
-redeclarers_in all p = listed (at_place all.of_places p)
+redeclarers_in all p = numbers (items_at (items_at all.of_owners.items p.entity) p.index)
 
 -- the table has for each place those that redeclare it
 pub record AreRedeclarers (s : Schema) (redeclarers : Redeclarers) : Type 0 where

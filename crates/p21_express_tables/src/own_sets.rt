@@ -2,8 +2,9 @@ ghost use Rattle.std.specs.Prelude.{◌≡◌, ◌<◌, ◌↔◌, ℕ, IsTrue, 
 ghost use Rattle.p21_spec_schema.specs.Schema.{Place as MeantPlace};
 ghost use Rattle.p21_spec_schema.specs.OneOf.{Clashes};
 ghost use Rattle.p21_spec_schema.specs.Order.{order, own_places};
-ghost use Rattle.p21_spec_schema.specs.PlaceType.{TypeAt, two_redeclarations};
+ghost use Rattle.p21_spec_schema.specs.PlaceType.{IsDerivedIn, TypeAt, two_redeclarations};
 ghost use Rattle.p21_spec_schema.specs.Supertype.{IsA};
+ghost use Rattle.p21_express_graph.specs.Lookups.{DerivesPlace};
 ghost use Rattle.p21_express_graph.specs.Meaning.{place as place_of, place_type};
 ghost use Rattle.p21_express_graph.specs.Orders.{numbers};
 ghost use Rattle.p21_express_graph.specs.Resolved.{IsEntity, IsPlace};
@@ -71,6 +72,29 @@ impl Schema {
         ensures { TypeAt self.now (order self.now entity.0) (place_of place) (place_type result) }
     {
         self.decided_type(place, self.own_decision(entity, place))
+    }
+
+    /// Whether a place of such an instance is derived. It takes no memory.
+    pub fn own_derives(&self, entity: EntityId, place: Place) -> bool
+        requires { IsEntity self.now entity.0 }
+        ensures { IsTrue result ↔ IsDerivedIn self.now (order self.now entity.0) (place_of place) }
+    {
+        self.holds_together();
+        let redeclarers = self.redeclarers_of(place);
+        let order = self.order_of(entity);
+        if redeclarers.len() < order.len() {
+            self.is_derived_in(redeclarers, Some(entity), place)
+        } else {
+            self.is_derived_in(order, Some(entity), place)
+        }
+    }
+
+    /// Whether an entity of the schema redeclares a place as a derived attribute (ISO 10303-11, Attribute redeclaration).
+    /// It takes no memory.
+    pub fn is_derived(&self, place: Place) -> bool
+        ensures { IsTrue result ↔ ((e : ℕ) × DerivesPlace self.now e (place_of place)) }
+    {
+        self.is_derived_in(self.redeclarers_of(place), None, place)
     }
 
     /// What decides on that type: of the entities that redeclare the place and those of the set, the fewer are looked at.

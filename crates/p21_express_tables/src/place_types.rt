@@ -122,7 +122,12 @@ impl Schema {
     }
 
     /// Whether an entity that counts derives a place.
-    fn is_derived_in(&self, entities: &[EntityId], own: Option<EntityId>, place: Place) -> bool
+    pub(crate) fn is_derived_in(
+        &self,
+        entities: &[EntityId],
+        own: Option<EntityId>,
+        place: Place,
+    ) -> bool
         requires entities { AreEntities self.now (numbers entities.now) }
         requires own { IfSome own (λ e. IsEntity self.now e.0) }
         ensures { IsTrue result ↔ ((e : ℕ) × Contains (numbers entities.now) e × IsDeriving self.now own (place_of place) e) }

@@ -4,14 +4,13 @@ ghost use Rattle.p21_express_graph.specs.Meaning.{place as place_of};
 ghost use Rattle.p21_express_graph.specs.Orders.{numbers};
 ghost use Rattle.p21_express_graph.specs.SchemaContents.{schema_of, entity as entity_of};
 ghost use Rattle.p21_express_graph.specs.Resolved.{HoldsTogether, IsEntity};
-ghost use Rattle.p21_express_tables.specs.Redeclarers.{AddsRedeclarer, AreNone, ArePlacesOf, ArePlacesOfEach, AreRedeclared, AreRedeclarers, AreRedeclarersOf, RedeclaresPlace, places_redeclared, redeclarers_in};
+ghost use Rattle.p21_express_tables.specs.Redeclarers.{AddsRedeclarer, AreNone, ArePlacesOf, ArePlacesOfEach, AreRedeclared, AreRedeclarers, AreRedeclarersOf, RedeclaresPlace, items_at, places_redeclared, redeclarers_in};
 
 use crate::place_positions::{PlacePositions, places_of};
 use crate::schema::Schema;
 use p21_express_graph::{Entity, EntityId, Place, SchemaContents};
 use p21_values::NoMemory;
 use std::alloc::Global;
-use std::collections::BTreeMap;
 
 /// The places that entities redeclare.
 #[derive(Drop)]
@@ -31,8 +30,8 @@ pub(crate) struct EntityPlaces {
 #[derive(Drop)]
 pub(crate) struct Redeclarers {
     alloc: Global,
-    // By the entity that declares a place, and the number of the place there.
-    of_places: BTreeMap<(u32, u32), Vec<EntityId>>,
+    // By the entity that declares a place, and then by its number there; nothing stands behind the last one with entities.
+    of_owners: Vec<Vec<Vec<EntityId>>>,
 }
 
 impl Schema {
@@ -60,7 +59,7 @@ impl Redeclarers {
     {
         Redeclarers {
             alloc,
-            of_places: BTreeMap::new(alloc),
+            of_owners: Vec::new(alloc),
         }
     }
 
@@ -68,44 +67,19 @@ impl Redeclarers {
     fn of(&self, place: Place) -> &[EntityId]
         ensures { numbers result.now ≡ redeclarers_in self.now (place_of place) }
     {
-        match self.of_places.get(&(place.entity.0, place.index)) {
-            Some(entities) => entities,
+        match self.of_owners.get(place.entity.0 as usize) {
+            Some(places) => entities_at(places, place.index),
             None => &[],
         }
-    }
-
-    /// Takes out the entities that redeclare a place.
-    fn take(&mut self, place: Place) -> Vec<EntityId>
-        ensures taken { numbers result.items ≡ redeclarers_in self.old (place_of place) }
-        ensures others { (q : MeantPlace) → q ≢ place_of place → redeclarers_in self.new q ≡ redeclarers_in self.old q }
-    {
-        match self.of_places.remove(&(place.entity.0, place.index)) {
-            Some(entities) => entities,
-            None => Vec::new(self.alloc),
-        }
-    }
-
-    /// Puts in the entities that redeclare a place.
-    fn put(&mut self, place: Place, entities: Vec<EntityId>) -> Result<(), NoMemory>
-        ensures there { OnOk result (redeclarers_in self.new (place_of place) ≡ numbers entities.items) }
-        ensures others { OnOk result ((q : MeantPlace) → q ≢ place_of place → redeclarers_in self.new q ≡ redeclarers_in self.old q) }
-    {
-        let Ok(_) = self
-            .of_places
-            .insert((place.entity.0, place.index), entities)
-        else {
-            return Err(NoMemory);
-        };
-        Ok(())
     }
 
     /// Adds an entity that redeclares a place.
     fn add(&mut self, entity: EntityId, place: Place) -> Result<(), NoMemory>
         ensures { OnOk result (AddsRedeclarer entity.0 (place_of place ∷ []) self.old self.new) }
     {
-        let mut entities = self.take(place);
-        entities.push(entity)?;
-        self.put(place, entities)?;
+        let owner = place.entity.0 as usize;
+        reach(self.alloc, owner, &mut self.of_owners)?;
+        add_at(self.alloc, place.index, entity, &mut self.of_owners[owner])?;
         Ok(())
     }
 
@@ -128,6 +102,43 @@ impl Redeclarers {
         self.add_all(number, &entity.derived)?;
         Ok(())
     }
+}
+
+/// The entities at an index; none behind the last list.
+fn entities_at(lists: &[Vec<EntityId>], index: u32) -> &[EntityId]
+    ensures { result.now ≡ items_at lists.now index }
+{
+    match lists.get(index as usize) {
+        Some(entities) => entities,
+        None => &[],
+    }
+}
+
+/// Adds an entity at an index.
+fn add_at(
+    alloc: Global,
+    index: u32,
+    entity: EntityId,
+    lists: &mut Vec<Vec<EntityId>>,
+) -> Result<(), NoMemory>
+    ensures there { OnOk result (items_at lists.new.items index ≡ items_at lists.old.items index ++ entity ∷ []) }
+    ensures others { OnOk result ((k : ℕ) → k ≢ index → items_at lists.new.items k ≡ items_at lists.old.items k) }
+{
+    let at = index as usize;
+    reach(alloc, at, lists)?;
+    lists[at].push(entity)?;
+    Ok(())
+}
+
+/// Appends empty lists until there is one at an index.
+fn reach<T: Drop>(alloc: Global, index: usize, lists: &mut Vec<Vec<T>>) -> Result<(), NoMemory>
+    ensures there { OnOk result (index < length lists.new.items) }
+    ensures same { OnOk result ((k : ℕ) → items_at lists.new.items k ≡ items_at lists.old.items k) }
+{
+    while lists.len() <= index {
+        lists.push(Vec::new(alloc))?;
+    }
+    Ok(())
 }
 
 /// The places that the entities of a schema redeclare.
